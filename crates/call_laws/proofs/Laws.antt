@@ -1,0 +1,139 @@
+-- The laws of calls, each from the laws of edits.
+use Rattle.std.proofs.Common.{◌≡◌, ◌≢◌, ℕ, Bool, true, List, [], ◌∷◌, flat_map, sum_by, Result, Ok, Err, IfOk, inl, refl, sym, ap, subst, ◌∙◌}
+use Rattle.std.specs.List.{AllByRecursion}
+use Rattle.model.specs.State.{Kernel}
+use Rattle.model.specs.Aspects.{Aspect, Keeps, KeepsAll}
+use Rattle.model.specs.Plan.{Errno}
+use Rattle.model.specs.Changes.{Edit, news, marks, applied, all_applied, tidy}
+use Rattle.model.specs.Calls.{Call, Done, own}
+use Rattle.model.specs.Plans.{Change}
+use Rattle.model.specs.Steps.{reads, outcome, edits, edits_of}
+use Rattle.model.specs.Entries.{is_inside}
+use Rattle.model.specs.Moments.{is_alive}
+use Rattle.model.proofs.Lists.{all-append}
+use Rattle.model.proofs.Law.{depends_on_what_it_saw}
+use Rattle.call_laws.specs.Objects.{IsThere, LeavesAlone}
+use Rattle.call_laws.specs.WellFormed.{WellFormed}
+use Rattle.call_laws.specs.CallLaws.{CallLaws, IsReady, changed}
+use Rattle.call_laws.proofs.Fits.{FitsAll, IsBy, IsAlive, OwnAlike}
+use Rattle.call_laws.proofs.Maps.{all-mapped}
+use Rattle.call_laws.proofs.Keeping.{edit_keeps, edit_marks}
+use Rattle.call_laws.proofs.Coverage.{keeps_on, keeps_self}
+use Rattle.call_laws.proofs.Own.{own_stays_alike, own_is_left_alone, own_trans}
+use Rattle.call_laws.proofs.OwnBack.{alike_of_own, own_inside}
+use Rattle.call_laws.proofs.Grows.{edit_grows, all_grow, there_stays, there_came}
+use Rattle.call_laws.proofs.Well.{well_stays, all_well, some_alive, alive_some}
+use Rattle.call_laws.proofs.Alive.{alive_stays, all_alive, alive_tidy}
+use Rattle.call_laws.proofs.Nowhere.{nowhere_stays, nowhere_alike}
+use Rattle.call_laws.proofs.CallFits.{WillFit, call_fits}
+use Rattle.call_laws.proofs.Tidied.{well_tidy, nowhere_tidy}
+use Rattle.call_laws.proofs.Alike.{alike_tidied, tidied_alike, all_alike}
+use Rattle.call_laws.proofs.Seen.{left_there, calls_see, tidying_is_unseen}
+use Rattle.call_laws.proofs.Start.{well_start, tidy_start}
+
+-- a refused call changes nothing, which fits
+will_fit : (k : Kernel) (pid : ℕ) (inside : Bool) (chosen : List ℕ) (r : Result Change Errno) → IfOk r (WillFit k pid inside chosen) → WillFit k pid inside chosen (record { reply = Done; edits = edits_of r })
+will_fit k pid inside chosen (Ok c) h = record { fits = h.fits; by = h.by; there = h.there }
+will_fit k pid inside chosen (Err e) h = record { fits = λ can. tt; by = tt; there = tt }
+
+-- the edits of a call fit where its numbers can be chosen, are the caller's own, and mark what is there
+pub fit : (k : Kernel) (pid : ℕ) (call : Call) (chosen : List ℕ) → WellFormed k → is_alive k pid ≡ true → WillFit k pid (is_inside call) chosen (record { reply = Done; edits = edits k pid call })
+fit k pid call chosen well alive = will_fit k pid (is_inside call) chosen (outcome k pid call) (call_fits k pid call chosen well (alive_some k pid alive))
+
+pub fits : (k : Kernel) (pid : ℕ) (call : Call) (chosen : List ℕ) → IsReady WellFormed k pid call chosen → FitsAll chosen k (edits k pid call)
+fits k pid call chosen ready = (fit k pid call chosen ready.well ready.alive).fits ready.numbers
+
+-- coverage, along edits in a row
+pub edits_mark : (chosen : List ℕ) (es : List Edit) (k : Kernel) → FitsAll chosen k es → (a : Aspect) → IsThere k a → AllByRecursion (λ w. LeavesAlone w a) (flat_map marks es) → Keeps k (all_applied chosen es k) a
+edits_mark chosen [] k f a there alone = keeps_self k a
+edits_mark chosen (e ∷ es) k f a there alone =
+    let parts = all-append (λ w. LeavesAlone w a) (marks e) (flat_map marks es) alone in
+    keeps_on k (applied chosen e k) (all_applied chosen es (applied chosen e k)) a (edit_marks chosen k e f.0 a there parts.0)
+    (edits_mark chosen es (applied chosen e k) f.1 a (there_stays chosen k (applied chosen e k) (edit_grows chosen k e f.0) a there) parts.1)
+
+-- what two states have alike after edits in a row
+pub record AlikeAfter (now later now' later' : Kernel) (pid : ℕ) : Type 0 where
+  pub kept : (a : Aspect) → Keeps now later a → Keeps now' later' a
+  pub own : OwnAlike now' later' pid
+
+pub edits_keep : (chosen : List ℕ) (es : List Edit) (now later : Kernel) (pid : ℕ) (inside : Bool) → AllByRecursion (IsBy pid inside) es → OwnAlike now later pid → FitsAll chosen now es → FitsAll chosen later es → KeepsAll now later (flat_map marks es)
+    → AlikeAfter now later (all_applied chosen es now) (all_applied chosen es later) pid
+edits_keep chosen [] now later pid inside by own f g marked = record { kept = λ a h. h; own = own }
+edits_keep chosen (e ∷ es) now later pid inside by own f g marked =
+    let parts = all-append (Keeps now later) (marks e) (flat_map marks es) marked in
+    let step = edit_keeps chosen now later e pid inside by.0 own f.0 g.0 parts.0 in
+    let rest : AlikeAfter (applied chosen e now) (applied chosen e later) (all_applied chosen es (applied chosen e now)) (all_applied chosen es (applied chosen e later)) pid =
+    edits_keep chosen es (applied chosen e now) (applied chosen e later) pid inside by.1 (own_stays_alike chosen now later e pid inside by.0 f.0 g.0 own) f.1 g.1 (all-mapped (flat_map marks es) step parts.1) in
+    record { kept = λ a h. rest.kept a (step a h); own = rest.own }
+
+-- the process's own part alone stays alike, whatever is marked
+edits_own : (chosen : List ℕ) (es : List Edit) (now later : Kernel) (pid : ℕ) (inside : Bool) → AllByRecursion (IsBy pid inside) es → OwnAlike now later pid → FitsAll chosen now es → FitsAll chosen later es → OwnAlike (all_applied chosen es now) (all_applied chosen es later) pid
+edits_own chosen [] now later pid inside by own f g = own
+edits_own chosen (e ∷ es) now later pid inside by own f g =
+    edits_own chosen es (applied chosen e now) (applied chosen e later) pid inside by.1 (own_stays_alike chosen now later e pid inside by.0 f.0 g.0 own) f.1 g.1
+
+-- another's edits leave it alone
+others_alone : (chosen : List ℕ) (es : List Edit) (k : Kernel) (pid other : ℕ) (inside : Bool) → AllByRecursion (IsBy other inside) es → pid ≢ other → IsAlive k pid → WellFormed k → FitsAll chosen k es → OwnAlike k (all_applied chosen es k) pid
+others_alone chosen [] k pid other inside by away alive well f = record { root = refl; table = refl; fixed = λ f d is. refl }
+others_alone chosen (e ∷ es) k pid other inside by away alive well f =
+    own_trans k (applied chosen e k) (all_applied chosen es (applied chosen e k)) pid
+    (own_is_left_alone chosen k e pid other inside by.0 away alive well f.0)
+    (others_alone chosen es (applied chosen e k) pid other inside by.1 away (alive_stays chosen k e other inside pid by.0 (inl away) f.0 alive) (well_stays chosen k e well f.0) f.1)
+
+-- the same call in another state that keeps what it saw makes the same edits there
+same_edits : (k l : Kernel) (pid : ℕ) (call : Call) → own l pid call ≡ own k pid call → KeepsAll k l (reads k pid call) → edits l pid call ≡ edits k pid call
+same_edits k l pid call same kept = (depends_on_what_it_saw k l pid call same kept).edits
+
+fits_too : (k l : Kernel) (pid : ℕ) (call : Call) (chosen : List ℕ) → IsReady WellFormed l pid call chosen → edits l pid call ≡ edits k pid call → FitsAll chosen l (edits k pid call)
+fits_too k l pid call chosen ready same = subst (FitsAll chosen l) same (fits l pid call chosen ready)
+
+-- to tidy before the edits too changes nothing
+tidied_later : (k : Kernel) (pid : ℕ) (call : Call) (chosen : List ℕ) → IsReady WellFormed k pid call chosen → tidy (all_applied chosen (edits k pid call) (tidy k)) ≡ tidy (changed k pid call chosen)
+tidied_later k pid call chosen ready =
+    let same : edits (tidy k) pid call ≡ edits k pid call = (tidying_is_unseen k pid call ready.well).edits in
+    let ready_too : IsReady WellFormed (tidy k) pid call chosen = record {
+      well = well_tidy k ready.well;
+      alive = alive_tidy k pid ready.alive;
+      numbers = record {
+        count = ready.numbers.count ∙ ap (sum_by news) (sym same);
+        unused = all-mapped chosen (λ n h. nowhere_tidy k n h) ready.numbers.unused;
+        different = ready.numbers.different;
+      };
+    } in
+    alike_tidied (changed k pid call chosen) (all_applied chosen (edits k pid call) (tidy k))
+    (all_alike chosen (edits k pid call) k (tidy k) (tidied_alike k ready.well) (fits k pid call chosen ready) (fits_too k (tidy k) pid call chosen ready_too same))
+
+pub calls_are_lawful_lem : CallLaws WellFormed
+calls_are_lawful_lem = record {
+  local = depends_on_what_it_saw;
+  marks = λ k pid call chosen ready a there alone. edits_mark chosen (edits k pid call) k (fits k pid call chosen ready) a there alone;
+  alike = λ k l pid call chosen ready ready_too inside same saw marked a kept.
+      let made = same_edits k l pid call same saw in
+      subst (λ es. Keeps (changed k pid call chosen) (all_applied chosen es l) a) (sym made)
+      ((edits_keep chosen (edits k pid call) k l pid (is_inside call) (fit k pid call chosen ready.well ready.alive).by (alike_of_own k l pid call ready.well ready_too.well same) (fits k pid call chosen ready) (fits_too k l pid call chosen ready_too made) marked).kept a kept);
+  own_alike = λ k l pid call chosen ready ready_too inside same saw c c_inside same_c.
+      let made = same_edits k l pid call same saw in
+      own_inside (changed k pid call chosen) (changed l pid call chosen) pid c c_inside
+      (subst (λ es. OwnAlike (changed k pid call chosen) (all_applied chosen es l) pid) (sym made)
+      (edits_own chosen (edits k pid call) k l pid (is_inside call) (fit k pid call chosen ready.well ready.alive).by (alike_of_own k l pid call ready.well ready_too.well same) (fits k pid call chosen ready) (fits_too k l pid call chosen ready_too made)));
+  own_left = λ k pid call chosen ready q away alive c c_inside.
+      own_inside k (changed k pid call chosen) q c c_inside
+      (others_alone chosen (edits k pid call) k q pid (is_inside call) (fit k pid call chosen ready.well ready.alive).by away (alive_some k q alive) ready.well (fits k pid call chosen ready));
+  touches_there = λ k pid call well alive. (all-mapped (reads k pid call) (left_there k) (calls_see k pid call well), (fit k pid call [] well alive).there);
+  there_before = λ k pid call chosen ready a there. there_came chosen k (changed k pid call chosen) (all_grow chosen (edits k pid call) k (fits k pid call chosen ready)) a there;
+  there_after = λ k pid call chosen ready a there. there_stays chosen k (changed k pid call chosen) (all_grow chosen (edits k pid call) k (fits k pid call chosen ready)) a there;
+  nowhere_after = λ k pid call chosen ready n out nowhere.
+      nowhere_stays chosen k (changed k pid call chosen) (all_grow chosen (edits k pid call) k (fits k pid call chosen ready)) (all_well chosen (edits k pid call) k ready.well (fits k pid call chosen ready)) n out nowhere;
+  nowhere_alike = nowhere_alike;
+  well_after = λ k pid call chosen ready. all_well chosen (edits k pid call) k ready.well (fits k pid call chosen ready);
+  alive_after = λ k pid call chosen ready q other alive.
+      some_alive (changed k pid call chosen) q (all_alive chosen (edits k pid call) k pid (is_inside call) q (fit k pid call chosen ready.well ready.alive).by other (fits k pid call chosen ready) (alive_some k q alive));
+  alive_counted = λ k well. well.counted;
+  well_tidy = well_tidy;
+  tidy_unseen = tidying_is_unseen;
+  tidy_later = tidied_later;
+  tidy_twice = λ k well. alike_tidied k (tidy k) (tidied_alike k well);
+  nowhere_tidy = nowhere_tidy;
+  well_start = well_start;
+  tidy_start = tidy_start;
+}

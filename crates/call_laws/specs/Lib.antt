@@ -1,0 +1,6 @@
+pub mod Objects
+pub mod WellFormed
+pub mod CallLaws
+pub mod Numbers
+pub mod Exceptions
+pub mod Trees

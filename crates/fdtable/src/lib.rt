@@ -1,0 +1,118 @@
+//! A process's table of descriptors: which of the descriptors 0 to 63 are open, and on which
+//! description. Contracts see it as a finite map. No call takes memory.
+#![tactic(auto)]
+
+ghost use Rattle.std.specs.Prelude.{◌≡◌, ◌+◌, ◌-◌, ◌<◌, ◌≤◌, MatchOption, IfSome, IsSome, [], ◌∷◌};
+ghost use Rattle.model.specs.FiniteMap as map;
+ghost use Rattle.fdtable.specs.Free.{free, free_from, first_of, first_two};
+
+use ids::{Fd, Num};
+use std::marker::Model;
+
+/// How many descriptors a process has at most.
+pub const DESCRIPTORS: usize = 64;
+
+/// The open descriptors, with the numbers of their descriptions.
+#[derive(Drop)]
+pub struct FdTable {
+    slots: [Option<Num>; 64],
+}
+
+impl Model for FdTable {
+    ghost use Rattle.std.specs.Prelude.{◌≡◌, ℕ, length};
+    ghost use Rattle.std.specs.Ordering.{nat_cmp};
+    ghost use Rattle.std.specs.Coded.{coded_ℕ};
+    ghost use Rattle.model.specs.FiniteMap as map;
+    ghost use Rattle.model.specs.Places.{placed};
+
+    ghost Value = { map.FinMap nat_cmp ℕ };
+
+    ghost coded = { map.code coded_ℕ coded_ℕ };
+
+    ghost view = { λ t. map.from_entries (placed 0 t.slots) };
+
+    ghost invariant = { λ t. length t.slots ≡ 64 };
+}
+
+impl FdTable {
+    /// No open descriptor.
+    pub fn new() -> FdTable
+        ensures { result ≡ map.empty }
+    {
+        FdTable { slots: [None; 64] }
+    }
+
+    /// The description of a descriptor, `None` where it is not open. Those above 63 never are.
+    pub fn get(&self, fd: Fd) -> Option<Num>
+        ensures value { result ≡ map.get self.now fd }
+        ensures small { IsSome result → fd < 64 }
+    {
+        if fd.0 < 64 {
+            self.slots[fd.0 as usize]
+        } else {
+            None
+        }
+    }
+
+    /// Opens a descriptor on a description. It has to be one of 0 to 63.
+    pub fn set(&mut self, fd: Fd, description: Num)
+        requires { fd < 64 }
+        ensures { self.new ≡ map.insert self.old fd description }
+    {
+        self.slots[fd.0 as usize] = Some(description);
+    }
+
+    /// Closes a descriptor. One that is not open stays so.
+    pub fn clear(&mut self, fd: Fd)
+        ensures { self.new ≡ map.remove self.old fd }
+    {
+        if fd.0 < 64 {
+            self.slots[fd.0 as usize] = None;
+        }
+    }
+
+    // The lowest free descriptor from this one on.
+    fn free_from(&self, first: u32) -> Option<Fd>
+        requires { first ≤ 64 }
+        ensures { MatchOption result (free_from self.now first (64 - first) ≡ []) (λ f.
+            (first ≤ f) × (f < 64)
+            × (free_from self.now first (64 - first) ≡ f ∷ free_from self.now (f + 1) (63 - f))) }
+    {
+        for number in first..64 {
+            if self.slots[number as usize].is_none() {
+                return Some(Fd(number));
+            }
+        }
+        None
+    }
+
+    /// The lowest free descriptor, `None` exactly where all of 0 to 63 are open.
+    pub fn lowest(&self) -> Option<Fd>
+        ensures value { result ≡ first_of (free self.now) }
+        ensures small { IfSome result (λ fd. fd < 64) }
+    {
+        self.free_from(0)
+    }
+
+    /// The two lowest free descriptors, the lower one first; `None` exactly where fewer are free.
+    pub fn two_lowest(&self) -> Option<(Fd, Fd)>
+        ensures value { result ≡ first_two (free self.now) }
+        ensures small { IfSome result (λ pair. (pair.0 < pair.1) × (pair.1 < 64)) }
+    {
+        let lower = self.free_from(0)?;
+        let upper = self.free_from(lower.0 + 1)?;
+        Some((lower, upper))
+    }
+
+    /// The same descriptors on the same descriptions.
+    pub fn copy(&self) -> FdTable
+        ensures { result ≡ self.now }
+    {
+        let mut slots = [None; 64];
+        slots.copy_from_slice(&self.slots);
+        FdTable { slots }
+    }
+}
+
+#[cfg(test)]
+mod tests;

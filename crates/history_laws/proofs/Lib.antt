@@ -1,0 +1,26 @@
+mod Premise
+mod Members
+mod Tame
+mod Touched
+mod Goes
+mod Sound
+mod Next
+mod Steps
+mod Right
+mod Shapes
+mod Places
+mod Legality
+mod Entered
+mod Staying
+mod Grown
+mod Stood
+mod Processes
+mod Chosen
+mod Born
+mod Beginnings
+mod Existing
+mod Marks
+mod Told
+pub mod Laws
+mod Replied
+mod Headlines

@@ -1,0 +1,5 @@
+use Rattle.history_laws.proofs.Laws.{own_entries_grow}
+use Rattle.history_laws.proofs.own_entries_grow.Goals as goal
+
+pub returns : goal.returns
+returns c = own_entries_grow

@@ -1,0 +1,10 @@
+pub mod Each
+pub mod Histories
+pub mod Doings
+pub mod Standing
+pub mod Entered
+pub mod Processes
+pub mod Choices
+pub mod Beginnings
+pub mod Marks
+pub mod Causes

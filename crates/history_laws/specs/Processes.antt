@@ -1,0 +1,63 @@
+-- What one right entry does to the table of processes.
+use Rattle.std.specs.Prelude.{◌≡◌, ◌≢◌, ℕ, suc, ◌+◌, ◌<◌, Bool, true, false, ◌⊎◌, List, Option, Some, None, length, get_or}
+use Rattle.std.specs.List.{AllByRecursion}
+use Rattle.model.specs.Calls.{Call, Exit, Child}
+use Rattle.model.specs.Entries.{Op, Do, Reply, Answers, NoProcess, Entry}
+use Rattle.model.specs.Moments.{idle, Moment, is_alive, next, after, start, at_start, priority_of}
+use Rattle.model.specs.Legal.{Legal, mine}
+use Rattle.history_laws.specs.Each.{AtEach}
+
+-- the process that an entry makes
+abbrev pub child_in : Reply → Option ℕ
+child_in (Answers (Child pid)) = Some pid
+child_in _ = None
+
+abbrev pub born : Reply → ℕ
+born (Answers (Child pid)) = 1
+born _ = 0
+
+abbrev pub is_exit : Call → Bool
+is_exit Exit = true
+is_exit _ = false
+
+-- whether the operation with its reply is an exit that was executed
+abbrev pub is_ended : Op → Reply → Bool
+is_ended (Do call) (Answers answer) = is_exit call
+is_ended _ _ = false
+
+-- A child has the number that comes next, lives, is idle, and has its parent's priority.
+pub record IsBorn (m : Moment) (e : Entry) (child : ℕ) : Type 0 where
+  pub number : child ≡ suc m.committed.made
+  pub unmade : is_alive m.committed child ≡ false
+  pub alive : is_alive (next m e).committed child ≡ true
+  pub phase : (next m e).phase child ≡ idle
+  pub priority : priority_of (next m e) child ≡ priority_of m e.pid
+
+pub record IsAsBefore (m : Moment) (e : Entry) (q : ℕ) : Type 0 where
+  pub alive : is_alive (next m e).committed q ≡ is_alive m.committed q
+  pub priority : priority_of (next m e) q ≡ priority_of m q
+
+-- Processes are made by forks and ended by exits alone, and each priority stays.
+pub record ProcessesMove (m : Moment) (e : Entry) : Type 0 where
+  pub made : (next m e).committed.made ≡ m.committed.made + born e.reply
+  pub born : (child : ℕ) → child_in e.reply ≡ Some child → IsBorn m e child
+  pub ended : is_ended e.op e.reply ≡ true → is_alive (next m e).committed e.pid ≡ false
+  pub others : (q : ℕ) → child_in e.reply ≢ Some q → (is_ended e.op e.reply ≡ false) ⊎ (q ≢ e.pid) → IsAsBefore m e q
+
+abbrev pub ForksAndExitsMove : Type 0
+ForksAndExitsMove = AtEach ProcessesMove
+
+-- The entries of a process that was never made are refused.
+abbrev pub UnmadeAreRefused : Type 0
+UnmadeAreRefused = (root : ℕ) (priorities : List ℕ) (limit : ℕ) (es : List Entry) → Legal root priorities limit es
+    → (q : ℕ) → (after root priorities es).committed.made < q → AllByRecursion (λ e. e.reply ≡ NoProcess) (mine q es)
+
+-- The first processes live, with the priorities given; and no others.
+pub record StartsWith (root : ℕ) (priorities : List ℕ) : Type 0 where
+  pub made : (start root priorities).made ≡ length priorities
+  pub alive : (i : ℕ) → i < length priorities → is_alive (start root priorities) (suc i) ≡ true
+  pub priority : (i : ℕ) → i < length priorities → priority_of (at_start root priorities) (suc i) ≡ get_or priorities i 0
+  pub none : (q : ℕ) → (q ≡ 0) ⊎ (length priorities < q) → is_alive (start root priorities) q ≡ false
+
+abbrev pub FirstProcessesLive : Type 0
+FirstProcessesLive = (root : ℕ) (priorities : List ℕ) → StartsWith root priorities

@@ -1,0 +1,2 @@
+pub mod Errnos
+pub mod Flags

@@ -1,0 +1,123 @@
+// The calls and the other operations of a process.
+ghost use Rattle.std.specs.Prelude.{◌≡◌, IfOk};
+
+use crate::bytes::Bytes;
+use crate::flags::{BeginFlags, OpenFlags};
+use crate::number::Fd;
+use std::alloc::AllocError;
+
+/// From where `lseek` counts.
+#[derive(Clone, Copy, Debug, PartialEq, Eq)]
+pub enum Whence {
+    /// From the first byte.
+    Set,
+    /// From the offset.
+    Cur,
+    /// From the end.
+    End,
+}
+
+/// A call (POSIX.1-2017, by the function of each name). Paths are bytes as they were given.
+#[derive(Debug, Drop)]
+pub enum Call {
+    /// Opens the file of a path.
+    Open(Bytes, OpenFlags),
+    /// Closes a descriptor.
+    Close(Fd),
+    /// Reads up to so many bytes.
+    Read(Fd, u32),
+    /// Writes these bytes.
+    Write(Fd, Bytes),
+    /// Moves the offset.
+    Lseek(Fd, i64, Whence),
+    /// Cuts or grows a file to a length.
+    Ftruncate(Fd, u32),
+    /// Tells about the object of a path.
+    Stat(Bytes),
+    /// Tells about the object of a descriptor.
+    Fstat(Fd),
+    /// Gives the file of the first path the second path too.
+    Link(Bytes, Bytes),
+    /// Takes a file's name away.
+    Unlink(Bytes),
+    /// Moves what the first path gives to the second.
+    Rename(Bytes, Bytes),
+    /// Makes an empty directory.
+    Mkdir(Bytes),
+    /// Removes an empty directory.
+    Rmdir(Bytes),
+    /// Lists the names of a directory.
+    List(Bytes),
+    /// Shares a description with the lowest free descriptor.
+    Dup(Fd),
+    /// Shares the first one's description with the second.
+    Dup2(Fd, Fd),
+    /// Makes a pipe.
+    Pipe,
+    /// Makes a child with the same descriptors.
+    Fork,
+    /// Ends the process.
+    Exit,
+}
+
+impl Call {
+    /// A copy on the same allocator. Refused memory changes nothing.
+    pub fn try_clone(&self) -> Result<Call, AllocError>
+        ensures { IfOk result (λ copy. copy ≡ self.now) }
+    {
+        match self {
+            Call::Open(path, flags) => Ok(Call::Open(path.try_clone()?, *flags)),
+            Call::Close(fd) => Ok(Call::Close(*fd)),
+            Call::Read(fd, count) => Ok(Call::Read(*fd, *count)),
+            Call::Write(fd, bytes) => Ok(Call::Write(*fd, bytes.try_clone()?)),
+            Call::Lseek(fd, offset, whence) => Ok(Call::Lseek(*fd, *offset, *whence)),
+            Call::Ftruncate(fd, length) => Ok(Call::Ftruncate(*fd, *length)),
+            Call::Stat(path) => Ok(Call::Stat(path.try_clone()?)),
+            Call::Fstat(fd) => Ok(Call::Fstat(*fd)),
+            Call::Link(old, new) => Ok(Call::Link(old.try_clone()?, new.try_clone()?)),
+            Call::Unlink(path) => Ok(Call::Unlink(path.try_clone()?)),
+            Call::Rename(old, new) => Ok(Call::Rename(old.try_clone()?, new.try_clone()?)),
+            Call::Mkdir(path) => Ok(Call::Mkdir(path.try_clone()?)),
+            Call::Rmdir(path) => Ok(Call::Rmdir(path.try_clone()?)),
+            Call::List(path) => Ok(Call::List(path.try_clone()?)),
+            Call::Dup(fd) => Ok(Call::Dup(*fd)),
+            Call::Dup2(old, new) => Ok(Call::Dup2(*old, *new)),
+            Call::Pipe => Ok(Call::Pipe),
+            Call::Fork => Ok(Call::Fork),
+            Call::Exit => Ok(Call::Exit),
+        }
+    }
+}
+
+/// What a process asks of the kernel: a call, or to begin, end or give up a transaction (TxOS,
+/// `sys_xbegin`, `sys_xend`, `sys_xabort`).
+#[derive(Debug, Drop)]
+pub enum Op {
+    /// A call, inside a transaction or outside.
+    Call(Call),
+    /// Begins a transaction.
+    Begin(BeginFlags),
+    /// Commits it.
+    End,
+    /// Gives it up.
+    Abort {
+        /// Whether it is not begun anew, whatever its flags say.
+        no_restart: bool,
+    },
+}
+
+impl Op {
+    /// A copy on the same allocator. Refused memory changes nothing.
+    pub fn try_clone(&self) -> Result<Op, AllocError>
+        ensures { IfOk result (λ copy. copy ≡ self.now) }
+    {
+        match self {
+            Op::Call(call) => Ok(Op::Call(call.try_clone()?)),
+            Op::Begin(flags) => Ok(Op::Begin(*flags)),
+            Op::End => Ok(Op::End),
+            Op::Abort { no_restart } => Ok(Op::Abort {
+                no_restart: *no_restart,
+            }),
+        }
+    }
+}

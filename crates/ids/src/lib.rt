@@ -1,0 +1,28 @@
+//! The vocabulary of the kernel: numbers, names, flags, touches, operations, replies and entries.
+//!
+//! Collections are on a [`heap::Heap`]. A type that owns memory has a fallible copy, `try_clone`,
+//! which is equal to its source.
+#![tactic(auto)]
+
+mod aspect;
+mod bytes;
+mod call;
+mod entry;
+mod errno;
+mod flags;
+mod lists;
+mod number;
+mod reply;
+
+pub use aspect::{Aspect, Cause, Touch, Why};
+pub use bytes::{Bytes, Name, NameList};
+pub use call::{Call, Op, Whence};
+pub use entry::{Entry, ListMode, Rank};
+pub use errno::{Errno, Refusal};
+pub use flags::{BeginFlags, OpenFlags};
+pub use lists::{Nums, Pids};
+pub use number::{Age, Fd, Num, Pid, Priority};
+pub use reply::{Answer, Kind, Reply, Stat};
+
+#[cfg(test)]
+mod tests;

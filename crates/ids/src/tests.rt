@@ -1,0 +1,63 @@
+// Each public function once, with ample memory, against what it should give.
+use super::*;
+use bitflags::Flags;
+use std::test::Fail;
+
+#[test]
+fn copies_are_equal_to_their_source(rt: HostRuntime) -> Result<(), Fail> {
+    let heap = heap::open(rt.alloc())?;
+    let touch = Touch {
+        aspect: Aspect::Entry(Num(3), Name::copy(heap, b"a")?),
+        write: true,
+    };
+    let cause = Cause {
+        touch,
+        other: Pid(2),
+    };
+    let reply = Reply::Aborted {
+        why: Why::Clash(cause),
+        restarted: true,
+    };
+    let mut doomed = Pids::new(heap);
+    doomed.push(Pid(7))?;
+    let entry = Entry {
+        pid: Pid(1),
+        op: Op::Call(Call::Mkdir(Bytes::copy(heap, b"/a")?)),
+        reply,
+        chosen: Nums::new(heap),
+        doomed,
+    };
+    let copy = entry.try_clone()?;
+    let told = format!(in rt.alloc(); "{copy:?}")?;
+    assert_eq!(rt; told, format!(in rt.alloc(); "{entry:?}")?);
+    assert_eq!(rt; copy.doomed.as_slice(), [Pid(7)].as_slice());
+    Ok(())
+}
+
+#[test]
+fn a_refused_copy_says_so(rt: HostRuntime) -> Result<(), Fail> {
+    let heap = heap::open(rt.alloc())?;
+    let path = Bytes::copy(heap, b"/a")?;
+    heap.refuse(1);
+    assert!(rt; path.try_clone().is_err());
+    assert!(rt; path.try_clone().is_ok());
+    Ok(())
+}
+
+#[test]
+fn flags_have_their_bits(rt: HostRuntime) {
+    let flags = OpenFlags::READ
+        .with(OpenFlags::WRITE)
+        .with(OpenFlags::CREAT);
+    assert_eq!(rt; flags.bits(), 7);
+    assert!(rt; flags.reads() && flags.writes() && flags.creates());
+    assert!(rt; !flags.is_exclusive() && !flags.truncates() && !flags.appends());
+    assert!(rt; BeginFlags::RESTART.restarts() && !BeginFlags::none().restarts());
+    assert!(rt; BeginFlags::ABORT_UNSUPPORTED.aborts_unsupported());
+}
+
+#[test]
+fn priorities_are_below_eight(rt: HostRuntime) {
+    assert_eq!(rt; Priority::new(7).map(|p| p.level()), Some(7));
+    assert!(rt; Priority::new(8).is_none());
+}

@@ -1,0 +1,5 @@
+mod Files
+mod Directories
+mod Pipes
+mod Touches
+mod Transactions

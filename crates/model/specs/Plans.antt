@@ -1,0 +1,266 @@
+-- The plan of each call: its tests in order, its answer, and its edits (POSIX.1-2017, the function of each name).
+use Rattle.std.specs.Prelude.{ℕ, suc, ◌+◌, ◌-◌, ℤ, pos, negsuc, ◌+ℤ◌, List, [], ◌∷◌, ◌++◌, Bool, true, false, not, ◌&&◌, ◌||◌, Option, Some, None, ◌==◌, nat_lt, nat_le, if◌then◌else◌, length, take, ⊤}
+use Rattle.std.specs.List.{flat_map, list_any}
+use Rattle.std.specs.Map.{lookup}
+use Rattle.model.specs.State.{Name, Kind, A_file, A_directory, A_pipe}
+use Rattle.model.specs.Plan.{EAGAIN, EBADF, EBUSY, EEXIST, EFBIG, EINVAL, EISDIR, EMFILE, ENOENT, ENOTDIR, ENOTEMPTY, EPERM, EPIPE, ESPIPE, List_names, Measure, Read_file, Count_links, Count_ends, Find_offset, Read_pipe, Fit, Plan, Give, Refuse, ◌>>=◌, ◌>>◌, ask, refuse_if, or_refuse}
+use Rattle.model.specs.Paths.{is_empty, is_below}
+use Rattle.model.specs.Walks.{parsed, walk, last_of, Last, Place, is_directory}
+use Rattle.model.specs.Changes.{There, Made, Mode, Edit, Make_directory, Make_file, Name_file, Unname_file, Unname_directory, Move, Put_bytes, Cut, Take, Append, Set_offset, Open_inode, Make_pipe, Share_slot, Clear_slot, New_process, End_process}
+use Rattle.ids.specs.Flags.{is_reading, is_writing, is_creating, is_exclusive, is_truncating, is_appending}
+use Rattle.model.specs.Calls.{OpenFlags, Whence, From_start, From_offset, From_end, Call, Open, Close, Read, Write, Lseek, Ftruncate, Stat, Fstat, Link, Unlink, Rename, Mkdir, Rmdir, List_directory, Dup, Dup2, Open_pipe, Fork, Exit, Answer, Done, Descriptor, Count, New_place, Bytes, Pair, Stated, Listing, Child, Slot, Own}
+
+-- what a call answers and changes
+pub record Change : Type 0 where
+  pub reply : Answer
+  pub edits : List Edit
+
+abbrev pub changed : Answer → List Edit → Plan Change
+changed reply edits = Give (record { reply = reply; edits = edits })
+
+abbrev pub unchanged : Answer → Plan Change
+unchanged reply = changed reply []
+
+abbrev pub largest : ℕ
+largest = 1048576
+
+-- the descriptors from f on, so many, that the table does not have
+abbrev pub free_from : List (ℕ × Slot) → ℕ → ℕ → List ℕ
+free_from table f ℕ.zero = []
+free_from table f (suc more) = if list_any (λ e. e.0 == f) table then free_from table (suc f) more else f ∷ free_from table (suc f) more
+
+abbrev pub free : Own → List ℕ
+free own = free_from own.table 0 64
+
+abbrev pub first_of_free : List ℕ → Plan ℕ
+first_of_free [] = Refuse EMFILE
+first_of_free (f ∷ fs) = Give f
+
+abbrev pub slot_at : Own → ℕ → Option Slot
+slot_at own f = lookup (λ g. g == f) own.table
+
+abbrev pub slot : Own → ℕ → Plan Slot
+slot own f = or_refuse EBADF (slot_at own f)
+
+abbrev pub is_pipe : Option Kind → Bool
+is_pipe (Some A_pipe) = true
+is_pipe _ = false
+
+-- its pipe, where it is a description of one
+abbrev pub pipe_in : Option Slot → List ℕ
+pipe_in (Some s) = if is_pipe s.kind then s.inode ∷ [] else []
+pipe_in None = []
+
+-- each number once, where it stands first
+abbrev pub each_once : List ℕ → List ℕ → List ℕ
+each_once before [] = []
+each_once before (n ∷ ns) = if list_any (λ m. m == n) before then each_once before ns else n ∷ each_once (n ∷ before) ns
+
+abbrev pub pipes_in : Own → List ℕ
+pipes_in own = each_once [] (flat_map (λ e. pipe_in (Some e.1)) own.table)
+
+abbrev pub status : Place → Plan Change
+status (n, Some A_file) = do
+  size ← ask (Measure n)
+  links ← ask (Count_links n)
+  unchanged (Stated (record { kind = A_file; num = n; size = size; links = links }))
+status (n, Some A_directory) = unchanged (Stated (record { kind = A_directory; num = n; size = 0; links = 1 }))
+status (n, Some A_pipe) = unchanged (Stated (record { kind = A_pipe; num = n; size = 0; links = 0 }))
+-- a number that stands for nothing, which no well-formed state has
+status (n, None) = Refuse ENOENT
+
+abbrev pub mode : OpenFlags → Mode
+mode flags = record { reading = is_reading flags; writing = is_writing flags; appending = is_appending flags }
+
+abbrev pub cut_to : ℕ → ℕ → Plan (List Edit)
+cut_to n len = do
+  size ← ask (Measure n)
+  Give (Cut n size len ∷ [])
+
+abbrev pub opened : Own → OpenFlags → ℕ → Last → Option Place → Plan Change
+opened own flags f at None = do
+  refuse_if (not (is_creating flags)) ENOENT
+  changed (Descriptor f) (Make_file at.parent at.name 0 ∷ Open_inode 1 (Made 0) (mode flags) own.pid f ∷ [])
+opened own flags f at (Some place) = do
+  refuse_if (is_creating flags && is_exclusive flags) EEXIST
+  refuse_if (is_directory place) EISDIR
+  cut ← if is_truncating flags then cut_to place.0 0 else Give []
+  changed (Descriptor f) (cut ++ Open_inode 0 (There place.0) (mode flags) own.pid f ∷ [])
+
+abbrev pub read_pipe : ℕ → List ℕ → Plan Change
+read_pipe p [] = do
+  ends ← ask (Count_ends p)
+  refuse_if (nat_lt 0 ends.1) EAGAIN
+  unchanged (Bytes [])
+read_pipe p (b ∷ bytes) = changed (Bytes (b ∷ bytes)) (Take p (length (b ∷ bytes)) ∷ [])
+
+abbrev pub read_some : Slot → ℕ → Plan Change
+read_some it count =
+    if is_pipe it.kind then (do
+      bytes ← ask (Read_pipe it.inode count)
+      read_pipe it.inode bytes)
+    else (do
+      offset ← ask (Find_offset it.description)
+      bytes ← ask (Read_file it.inode offset count)
+      changed (Bytes bytes) (if is_empty bytes then [] else Set_offset it.description (offset + length bytes) ∷ []))
+
+abbrev pub place_to_write : Slot → Bool → Plan ℕ
+place_to_write it true = ask (Measure it.inode)
+place_to_write it false = ask (Find_offset it.description)
+
+abbrev pub write_some : Slot → List ℕ → Plan Change
+write_some it bytes =
+    if is_pipe it.kind then (do
+      ends ← ask (Count_ends it.inode)
+      refuse_if (ends.0 == 0) EPIPE
+      fitting ← ask (Fit it.inode (length bytes))
+      refuse_if (nat_lt fitting (length bytes) && nat_le (length bytes) 512) EAGAIN
+      refuse_if (fitting == 0) EAGAIN
+      changed (Count fitting) (Append it.inode (take fitting bytes) ∷ []))
+    else (do
+      place ← place_to_write it it.appending
+      refuse_if (nat_le largest place) EFBIG
+      size ← ask (Measure it.inode)
+      changed (Count (length (take (largest - place) bytes))) (Put_bytes it.inode place (take (largest - place) bytes) size ∷ Set_offset it.description (place + length (take (largest - place) bytes)) ∷ []))
+
+abbrev pub sought : Slot → ℤ → Plan Change
+sought it (pos place) = do
+  refuse_if (nat_lt largest place) EINVAL
+  changed (New_place place) (Set_offset it.description place ∷ [])
+sought it (negsuc place) = Refuse EINVAL
+
+abbrev pub base : Slot → Whence → Plan ℕ
+base it From_start = Give 0
+base it From_offset = ask (Find_offset it.description)
+base it From_end = ask (Measure it.inode)
+
+-- the file whose name goes, or the directory, which must be empty
+abbrev pub replaced_by_name : ℕ → Bool → Plan (List ℕ)
+replaced_by_name n true = do
+  names ← ask (List_names n)
+  refuse_if (not (is_empty names)) ENOTEMPTY
+  Give []
+replaced_by_name n false = Give (n ∷ [])
+
+abbrev pub move_onto : Last → Place → Last → Place → Plan Change
+move_onto from what to old =
+    if what.0 == old.0 then unchanged Done else (do
+      refuse_if (not (is_directory what) && is_directory old) EISDIR
+      refuse_if (is_directory what && not (is_directory old)) ENOTDIR
+      replaced ← replaced_by_name old.0 (is_directory old)
+      changed Done (Move from.parent from.name to.parent to.name what.0 replaced ∷ []))
+
+abbrev pub moved : Last → Place → Last → Option Place → Plan Change
+moved from what to None = changed Done (Move from.parent from.name to.parent to.name what.0 [] ∷ [])
+moved from what to (Some old) = move_onto from what to old
+
+-- a name that must not be there
+abbrev pub absent : Option Place → Plan ⊤
+absent None = Give tt
+absent (Some place) = Refuse EEXIST
+
+abbrev pub duplicated : Own → Slot → List ℕ → Plan Change
+duplicated own it [] = Refuse EMFILE
+duplicated own it (f ∷ fs) = changed (Descriptor f) (Share_slot own.pid f it.description (pipe_in (Some it)) ∷ [])
+
+abbrev pub piped : Own → List ℕ → Plan Change
+piped own (f ∷ g ∷ fs) = changed (Pair f g) (Make_pipe 0 own.pid f g ∷ [])
+piped own _ = Refuse EMFILE
+
+abbrev pub forked : Own → Option (ℕ × ℕ) → Plan Change
+forked own (Some (made, priority)) = do
+  refuse_if (nat_le 4096 made) EAGAIN
+  changed (Child (suc made)) (New_process (suc made) own.pid (pipes_in own) ∷ [])
+forked own None = Refuse EAGAIN
+
+abbrev pub plan : Own → Call → Plan Change
+plan own (Open path flags) = do
+  refuse_if (not (is_reading flags || is_writing flags)) EINVAL
+  refuse_if (is_exclusive flags && not (is_creating flags)) EINVAL
+  refuse_if (is_truncating flags && not (is_writing flags)) EINVAL
+  names ← parsed path
+  f ← first_of_free (free own)
+  at ← last_of own.root (if is_creating flags && is_exclusive flags then EEXIST else EISDIR) names
+  opened own flags f at at.found
+plan own (Close f) = do
+  it ← slot own f
+  changed Done (Clear_slot own.pid f (pipe_in (Some it)) ∷ [])
+plan own (Read f count) = do
+  it ← slot own f
+  refuse_if (not it.reading) EBADF
+  if count == 0 then unchanged (Bytes []) else read_some it count
+plan own (Write f bytes) = do
+  it ← slot own f
+  refuse_if (not it.writing) EBADF
+  if is_empty bytes then unchanged (Count 0) else write_some it bytes
+plan own (Lseek f move whence) = do
+  it ← slot own f
+  refuse_if (is_pipe it.kind) ESPIPE
+  place ← base it whence
+  sought it (pos place +ℤ move)
+plan own (Ftruncate f len) = do
+  it ← slot own f
+  refuse_if (not it.writing) EBADF
+  refuse_if (is_pipe it.kind) EINVAL
+  refuse_if (nat_lt largest len) EFBIG
+  cut ← cut_to it.inode len
+  changed Done cut
+plan own (Stat path) = do
+  names ← parsed path
+  place ← walk (own.root, Some A_directory) names
+  status place
+plan own (Fstat f) = do
+  it ← slot own f
+  status (it.inode, it.kind)
+plan own (Link old path) = do
+  from ← parsed old
+  to ← parsed path
+  what ← walk (own.root, Some A_directory) from
+  refuse_if (is_directory what) EPERM
+  at ← last_of own.root EEXIST to
+  absent at.found
+  changed Done (Name_file at.parent at.name what.0 ∷ [])
+plan own (Unlink path) = do
+  names ← parsed path
+  at ← last_of own.root EPERM names
+  what ← or_refuse ENOENT at.found
+  refuse_if (is_directory what) EPERM
+  changed Done (Unname_file at.parent at.name what.0 ∷ [])
+plan own (Rename old path) = do
+  from ← parsed old
+  to ← parsed path
+  refuse_if (is_empty from || is_empty to) EBUSY
+  at ← last_of own.root EBUSY from
+  what ← or_refuse ENOENT at.found
+  refuse_if (is_directory what && is_below from to) EINVAL
+  onto ← last_of own.root EBUSY to
+  moved at what onto onto.found
+plan own (Mkdir path) = do
+  names ← parsed path
+  at ← last_of own.root EEXIST names
+  absent at.found
+  changed Done (Make_directory at.parent at.name 0 ∷ [])
+plan own (Rmdir path) = do
+  names ← parsed path
+  at ← last_of own.root EBUSY names
+  what ← or_refuse ENOENT at.found
+  refuse_if (not (is_directory what)) ENOTDIR
+  entries ← ask (List_names what.0)
+  refuse_if (not (is_empty entries)) ENOTEMPTY
+  changed Done (Unname_directory at.parent at.name ∷ [])
+plan own (List_directory path) = do
+  names ← parsed path
+  place ← walk (own.root, Some A_directory) names
+  refuse_if (not (is_directory place)) ENOTDIR
+  entries ← ask (List_names place.0)
+  unchanged (Listing entries)
+plan own (Dup f) = do
+  it ← slot own f
+  duplicated own it (free own)
+plan own (Dup2 f g) = do
+  it ← slot own f
+  refuse_if (nat_lt 63 g) EBADF
+  if f == g then unchanged (Descriptor f) else changed (Descriptor g) (Share_slot own.pid g it.description (pipe_in (Some it) ++ pipe_in (slot_at own g)) ∷ [])
+plan own Open_pipe = piped own (free own)
+plan own Fork = forked own own.birth
+plan own Exit = changed Done (End_process own.pid (pipes_in own) ∷ [])

@@ -1,0 +1,63 @@
+-- Operations in a row on a fresh kernel, to check worked rows by. All of it computes.
+use Rattle.std.specs.Prelude.{ℕ, List, [], ◌∷◌, Bool, true, false, Result, ⊤}
+use Rattle.model.specs.FiniteMap.{computes}
+use Rattle.model.specs.State.{Kernel, A_file, A_directory, A_pipe, links, ends}
+use Rattle.model.specs.Plan.{Errno}
+use Rattle.model.specs.Changes.{all_applied, applied, tidy, holders, openings}
+use Rattle.model.specs.Calls.{OpenFlags, Call, Answer, Stated}
+use Rattle.model.specs.Steps.{reply, edits}
+use Rattle.model.specs.Entries.{BeginFlags, Op, Do, Cause, Reply}
+use Rattle.model.specs.Moments.{Moment, start, at_start}
+use Rattle.model.specs.Replies.{Asked, Spoken}
+
+-- what a run of calls goes through, opened
+unfoldable pub runs : ⊤
+unfolding computes applied tidy links ends holders openings
+runs = tt
+
+-- a kernel with two processes and the root alone, whose number is 0
+abbrev pub fresh : Kernel
+fresh = start 0 (0 ∷ 0 ∷ [])
+
+-- a line: who calls what, and the numbers of the new objects
+abbrev pub Line : Type 0
+Line = ℕ × Call × List ℕ
+
+abbrev pub after_line : Kernel → Line → Kernel
+after_line k c = tidy (all_applied c.2 (edits k c.0 c.1) k)
+
+abbrev pub last_state : Kernel → List Line → Kernel
+last_state k [] = k
+last_state k (c ∷ cs) = last_state (after_line k c) cs
+
+abbrev pub script_replies : Kernel → List Line → List (Result Answer Errno)
+script_replies k [] = []
+script_replies k (c ∷ cs) = reply k c.0 c.1 ∷ script_replies (after_line k c) cs
+
+abbrev pub flags : ℕ → OpenFlags
+flags bits = record { 0 = bits }
+
+abbrev pub rdonly : OpenFlags
+rdonly = flags 1
+
+abbrev pub wronly : OpenFlags
+wronly = flags 2
+
+abbrev pub rdwr : OpenFlags
+rdwr = flags 3
+
+abbrev pub wronly_creat : OpenFlags
+wronly_creat = flags 6
+
+abbrev pub rdwr_creat : OpenFlags
+rdwr_creat = flags 7
+
+-- what `stat` tells of a file, a directory and a pipe
+abbrev pub a_file : ℕ → ℕ → ℕ → Answer
+a_file n size links = Stated (record { kind = A_file; num = n; size = size; links = links })
+
+abbrev pub a_directory : ℕ → Answer
+a_directory n = Stated (record { kind = A_directory; num = n; size = 0; links = 1 })
+
+abbrev pub a_pipe : ℕ → Answer
+a_pipe n = Stated (record { kind = A_pipe; num = n; size = 0; links = 0 })

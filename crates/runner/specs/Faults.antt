@@ -1,0 +1,24 @@
+-- The faults of a run and the program's exit statuses.
+use Rattle.std.specs.Prelude.{ℕ}
+use Rattle.runner.specs.declared.fault.RunFault.{RunFault}
+use Rattle.runner.specs.declared.fault.RunFault.TheVariants.{Script, Schedule, Read, Write, HistoryFull, NoMemory}
+use Rattle.script.specs.declared.faults.ScriptFault.{ScriptFault}
+use Rattle.script.specs.declared.faults.ScriptFault.TheVariants.{TooLong, NotEnded, PrioritiesExpected, ProcessExpected, UnknownOperation, BadArguments, NoMemory as NoScriptMemory}
+use Rattle.script.specs.declared.faults.ScheduleFault.{ScheduleFault}
+use Rattle.script.specs.declared.faults.ScheduleFault.TheVariants.{BadList, NoLine, NoMemory as NoScheduleMemory}
+
+abbrev pub fault_of_script : ScriptFault → RunFault
+fault_of_script NoScriptMemory = NoMemory
+fault_of_script fault = Script fault
+
+abbrev pub fault_of_schedule : ScheduleFault → RunFault
+fault_of_schedule NoScheduleMemory = NoMemory
+fault_of_schedule fault = Schedule fault
+
+abbrev pub status_of : RunFault → ℕ
+status_of (Script fault) = 1
+status_of (Schedule fault) = 1
+status_of Read = 1
+status_of Write = 5
+status_of HistoryFull = 3
+status_of NoMemory = 3

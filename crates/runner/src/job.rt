@@ -1,0 +1,54 @@
+// The program from the opened file on.
+ghost use Rattle.std.specs.Prelude.{◌≡◌, ◌<◌, ◌≤◌, ◌-◌, ◌^◌};
+
+use crate::RunFault;
+use crate::run::run_schedule;
+use device::{Sink, Source, write_all};
+use heap::Heap;
+use words::{Job, LineFault, Way};
+
+/// Does a job: runs its schedule of the script that the source spells. The transcript goes to `out`, and where the run ends
+/// early the fault's line to `err`. It answers the program's status: 0 when all is done, else that of the fault. A failure of
+/// `err` changes no status.
+pub fn run_job<I: Source, O: Sink, E: Sink>(
+    heap: Heap,
+    job: &Job,
+    source: &mut I,
+    out: &mut O,
+    err: &mut E,
+) -> u8
+    requires reads { I.failures source.old < 2 ^ 64 - 1 }
+    requires writes { O.failures out.old < 2 ^ 64 - 1 }
+    requires tells { E.failures err.old < 2 ^ 64 - 1 }
+    requires limited { job.now.limit ≤ 1048576 }
+{
+    let Way::Schedule(list) = &job.way;
+    let done = run_schedule(heap, source, list.as_str(), job.limit as usize, out);
+    match done.err() {
+        None => 0,
+        Some(fault) => {
+            tell_fault(heap, &fault, err);
+            fault.status()
+        }
+    }
+}
+
+/// Writes a fault's line. Where memory for its text is refused, that is told.
+pub fn tell_fault<E: Sink>(heap: Heap, fault: &RunFault, err: &mut E)
+    requires { E.failures err.old < 2 ^ 64 - 1 }
+{
+    let _ = match format!(in heap; "txsh: {fault}\n") {
+        Ok(line) => write_all(err, line.as_bytes()),
+        Err(_) => write_all(err, b"txsh: no memory\n".as_slice()),
+    };
+}
+
+/// Writes the line of a command line's fault. Where memory for its text is refused, that is told.
+pub fn tell_line<E: Sink>(heap: Heap, fault: &LineFault, err: &mut E)
+    requires { E.failures err.old < 2 ^ 64 - 1 }
+{
+    let _ = match format!(in heap; "txsh: {fault}\n") {
+        Ok(line) => write_all(err, line.as_bytes()),
+        Err(_) => write_all(err, b"txsh: no memory\n".as_slice()),
+    };
+}

@@ -1,0 +1,12 @@
+//! From a script and a schedule to a kernel and its transcript.
+#![tactic(auto)]
+
+mod fault;
+mod job;
+mod run;
+
+pub use fault::RunFault;
+pub use job::{run_job, tell_fault, tell_line};
+pub use run::{print, run_schedule};
+pub use script::{read_schedule, read_script};
+pub use words::read_words;

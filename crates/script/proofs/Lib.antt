@@ -1,0 +1,6 @@
+pub mod Cuts
+pub mod Spelled
+pub mod Escapes
+pub mod Reading
+pub mod Counts
+pub mod Queues

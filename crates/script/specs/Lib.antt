@@ -1,0 +1,11 @@
+pub mod Flags
+pub mod Numbers
+pub mod Operations
+pub mod Pieces
+pub mod Schedules
+pub mod Scripts
+pub mod Spelled
+pub mod Steps
+pub mod Texts
+pub mod There
+pub mod Verbs

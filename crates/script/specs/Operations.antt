@@ -1,0 +1,79 @@
+-- How operations are spelled.
+use Rattle.std.specs.Prelude.{ℕ, List, [], ◌∷◌, Bool, true, false, Option, Some, None, codes, replicate, option_map, if◌then◌else◌}
+use Rattle.std.specs.Option.{option_and_then}
+use Rattle.std.specs.Str.{bytes_eq}
+use Rattle.script.specs.Pieces.{one_of, two_of, three_of}
+use Rattle.script.specs.Numbers.{decimal_in, offset_in, byte_in}
+use Rattle.script.specs.Texts.{text_in}
+use Rattle.script.specs.Flags.{flags_in, begin_flags, begin_flags_in, whence_in}
+use Rattle.script.specs.There.{flags_are_there}
+use Rattle.ids.specs.declared.flags.BeginFlags.{BeginFlags}
+use Rattle.ids.specs.declared.call.Op.{Op}
+use Rattle.ids.specs.declared.call.Op.TheVariants as op
+use Rattle.ids.specs.declared.call.Call.TheVariants as call
+use Rattle.script.specs.declared.verb.Verb.{Verb}
+use Rattle.script.specs.declared.verb.Verb.TheVariants as verb
+
+abbrev pub pair : {A B : Type 0} → Option A → Option B → Option (A × B)
+pair (Some a) (Some b) = Some (a, b)
+pair (Some a) None = None
+pair None _ = None
+
+abbrev pub triple : {A B C : Type 0} → Option A → Option B → Option C → Option (A × B × C)
+triple (Some a) (Some b) (Some c) = Some (a, b, c)
+triple (Some a) (Some b) None = None
+triple (Some a) None _ = None
+triple None _ _ = None
+
+-- exactly one argument, two or three, each in its form
+abbrev pub one : {A : Type 0} → (List ℕ → Option A) → List (List ℕ) → Option A
+one f args = option_and_then f (one_of args)
+
+abbrev pub two : {A B : Type 0} → (List ℕ → Option A) → (List ℕ → Option B) → List (List ℕ) → Option (A × B)
+two f g args = option_and_then (λ p. pair (f p.0) (g p.1)) (two_of args)
+
+abbrev pub three : {A B C : Type 0} → (List ℕ → Option A) → (List ℕ → Option B) → (List ℕ → Option C) → List (List ℕ) → Option (A × B × C)
+three f g h args = option_and_then (λ p. triple (f p.0) (g p.1) (h p.2)) (three_of args)
+
+abbrev pub fd_in : List ℕ → Option ℕ
+fd_in word = decimal_in 4294967295 word
+
+abbrev pub no_arguments : {A : Type 0} → A → List (List ℕ) → Option A
+no_arguments x [] = Some x
+no_arguments x (_ ∷ _) = None
+
+abbrev pub begin_of : List (List ℕ) → Option BeginFlags
+begin_of [] = Some (begin_flags 0)
+begin_of (word ∷ []) = option_and_then (λ flags. if flags_are_there flags then Some flags else None) (begin_flags_in word)
+begin_of (_ ∷ _ ∷ _) = None
+
+abbrev pub abort_of : List (List ℕ) → Option Bool
+abort_of [] = Some false
+abort_of (word ∷ []) = if bytes_eq word (codes "no_restart") then Some true else None
+abort_of (_ ∷ _ ∷ _) = None
+
+-- the operation of a word with these arguments
+abbrev pub arguments : Verb → List (List ℕ) → Option Op
+arguments verb.Open args = option_map (λ p. op.Call (call.Open p.0 p.1)) (two text_in flags_in args)
+arguments verb.Close args = option_map (λ fd. op.Call (call.Close fd)) (one fd_in args)
+arguments verb.Fstat args = option_map (λ fd. op.Call (call.Fstat fd)) (one fd_in args)
+arguments verb.Dup args = option_map (λ fd. op.Call (call.Dup fd)) (one fd_in args)
+arguments verb.Read args = option_map (λ p. op.Call (call.Read p.0 p.1)) (two fd_in (decimal_in 1048576) args)
+arguments verb.Write args = option_map (λ p. op.Call (call.Write p.0 p.1)) (two fd_in text_in args)
+arguments verb.Fill args = option_map (λ p. op.Call (call.Write p.0 (replicate p.1 p.2))) (three fd_in (decimal_in 1048576) byte_in args)
+arguments verb.Lseek args = option_map (λ p. op.Call (call.Lseek p.0 p.1 p.2)) (three fd_in offset_in whence_in args)
+arguments verb.Ftruncate args = option_map (λ p. op.Call (call.Ftruncate p.0 p.1)) (two fd_in (decimal_in 4294967295) args)
+arguments verb.Dup2 args = option_map (λ p. op.Call (call.Dup2 p.0 p.1)) (two fd_in fd_in args)
+arguments verb.Stat args = option_map (λ path. op.Call (call.Stat path)) (one text_in args)
+arguments verb.Unlink args = option_map (λ path. op.Call (call.Unlink path)) (one text_in args)
+arguments verb.Mkdir args = option_map (λ path. op.Call (call.Mkdir path)) (one text_in args)
+arguments verb.Rmdir args = option_map (λ path. op.Call (call.Rmdir path)) (one text_in args)
+arguments verb.List args = option_map (λ path. op.Call (call.List path)) (one text_in args)
+arguments verb.Link args = option_map (λ p. op.Call (call.Link p.0 p.1)) (two text_in text_in args)
+arguments verb.Rename args = option_map (λ p. op.Call (call.Rename p.0 p.1)) (two text_in text_in args)
+arguments verb.Pipe args = no_arguments (op.Call call.Pipe) args
+arguments verb.Fork args = no_arguments (op.Call call.Fork) args
+arguments verb.Exit args = no_arguments (op.Call call.Exit) args
+arguments verb.End args = no_arguments op.End args
+arguments verb.Begin args = option_map (λ flags. op.Begin flags) (begin_of args)
+arguments verb.Abort args = option_map (λ no_restart. op.Abort no_restart) (abort_of args)

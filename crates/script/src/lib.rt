@@ -1,0 +1,27 @@
+//! Scripts and schedules, read from bytes.
+//!
+//! A script is lines, each ended by a line feed. Empty lines and lines that begin with `#` are
+//! skipped. The first of the others is `priorities` and a number for each process that is made at
+//! the start; every further one is a process number and an operation. A schedule is process
+//! numbers with commas: the k-th time that a number stands there it runs that process's k-th line.
+#![tactic(auto)]
+
+mod faults;
+mod flags;
+mod number;
+mod operation;
+mod pieces;
+mod read;
+mod schedule;
+mod steps;
+mod text;
+mod there;
+mod verb;
+
+pub use faults::{ScheduleFault, ScriptFault};
+pub use read::{Line, Script, read_script};
+pub use schedule::read_schedule;
+pub use steps::steps_of;
+
+#[cfg(test)]
+mod tests;

@@ -1,0 +1,84 @@
+// Numbers in their spelling.
+ghost use Rattle.std.specs.Prelude.{◌≡◌, ◌≤◌, IfSome};
+ghost use Rattle.script.specs.Numbers.{hex_in, byte_in, decimal_in, offset_in};
+
+use itoa::Buffer;
+
+// The number whose decimal the text is, if it is at most that.
+fn number_of(text: &str, most: u64) -> Option<u64>
+    ensures value { result ≡ decimal_in most text.now }
+    ensures small { IfSome result (λ n. n ≤ most) }
+{
+    match text.parse::<u64>() {
+        Ok(n) => {
+            if n <= most && Buffer::new().format(n) == text {
+                Some(n)
+            } else {
+                None
+            }
+        }
+        Err(_) => None,
+    }
+}
+
+// The same of bytes.
+fn decimal_in(word: &[u8], most: u64) -> Option<u64>
+    ensures value { result ≡ decimal_in most word.now }
+    ensures small { IfSome result (λ n. n ≤ most) }
+{
+    match str::from_utf8(word) {
+        Ok(text) => number_of(text, most),
+        Err(_) => None,
+    }
+}
+
+// The same for at most 32 bits.
+pub(crate) fn number_in(word: &[u8], most: u32) -> Option<u32>
+    ensures value { result ≡ decimal_in most word.now }
+    ensures small { IfSome result (λ n. n ≤ most) }
+{
+    match decimal_in(word, u64::from(most)) {
+        Some(n) => Some(n as u32),
+        None => None,
+    }
+}
+
+// An offset from -9223372036854775808 to 9223372036854775807.
+pub(crate) fn offset_in(word: &[u8]) -> Option<i64>
+    ensures { result ≡ offset_in word.now }
+{
+    match word {
+        [] => None,
+        [b'-', digits @ ..] => match decimal_in(digits, 1 << 63) {
+            Some(n) if n > 0 => Some(-1 - (n - 1) as i64),
+            _ => None,
+        },
+        _ => match decimal_in(word, (1 << 63) - 1) {
+            Some(n) => Some(n as i64),
+            None => None,
+        },
+    }
+}
+
+// The value of a hexadecimal digit in lower case.
+pub(crate) fn hex_in(digit: u8) -> Option<u8>
+    ensures { result ≡ hex_in digit }
+{
+    if digit >= b'0' && digit <= b'9' {
+        Some(digit - b'0')
+    } else if digit >= b'a' && digit <= b'f' {
+        Some(digit - b'a' + 10)
+    } else {
+        None
+    }
+}
+
+// The byte that two hexadecimal digits say.
+pub(crate) fn byte_in(word: &[u8]) -> Option<u8>
+    ensures { result ≡ byte_in word.now }
+{
+    let [high, low] = word else {
+        return None;
+    };
+    Some(hex_in(*high)? * 16 + hex_in(*low)?)
+}

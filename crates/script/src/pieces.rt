@@ -1,0 +1,100 @@
+// A text, piece by piece.
+ghost use Rattle.std.specs.Prelude.{◌≡◌, ◌==◌, ◌<◌, ◌++◌, ◌+◌, [], length, eqb, IfSome, IfNone, option_map, option_to_list, is_none};
+ghost use Rattle.std.specs.List.{slice_split};
+ghost use Rattle.script.specs.Pieces.{behind, one_of, three_of, two_of, up_to};
+
+use std::marker::Model;
+
+// The text up to the first byte of this kind and the text behind it, if there is one.
+fn cut_at(text: &[u8], byte: u8) -> (&[u8], Option<&[u8]>)
+    ensures front { result.0.now ≡ up_to byte text.now }
+    ensures back { option_map (λ s. s.now) result.1 ≡ behind byte text.now }
+    ensures shorter { IfSome result.1 (λ s. length s.now < length text.now) }
+{
+    for (index, b) in text.iter().enumerate() {
+        if *b == byte {
+            return (&text[..index], Some(&text[index + 1..]));
+        }
+    }
+    (text, None)
+}
+
+// The pieces of a text that are still to come: what stands before, between and behind the bytes of one kind.
+#[derive(Drop)]
+pub(crate) struct Pieces<'a> {
+    byte: u8,
+    rest: Option<&'a [u8]>,
+}
+
+impl<'a> Model for Pieces<'a> {
+    ghost use Rattle.std.specs.Prelude.{List, ℕ, option_map};
+    ghost use Rattle.script.specs.Pieces.{pieces_of};
+
+    ghost Value = { List (List ℕ) };
+
+    ghost view = { λ p. pieces_of p.byte (option_map (λ s. s.now) p.rest) };
+}
+
+impl<'a> Pieces<'a> {
+    pub(crate) fn new(text: &'a [u8], byte: u8) -> Self
+        ensures { result ≡ slice_split (λ b. eqb b byte) text.now }
+    {
+        Pieces {
+            byte,
+            rest: Some(text),
+        }
+    }
+
+    // The next piece.
+    pub(crate) fn next(&mut self) -> Option<&'a [u8]>
+        ensures pieces { self.old ≡ option_to_list (option_map (λ s. s.now) result) ++ self.new }
+        ensures none { IfNone result (self.new ≡ []) }
+    {
+        let rest = self.rest?;
+        let (front, behind) = cut_at(rest, self.byte);
+        self.rest = behind;
+        Some(front)
+    }
+
+    pub(crate) fn is_empty(&self) -> bool
+        ensures { result ≡ (length self.now == 0) }
+    {
+        self.rest.is_none()
+    }
+
+    // The piece, where there is exactly one.
+    pub(crate) fn one(mut self) -> Option<&'a [u8]>
+        ensures { option_map (λ s. s.now) result ≡ one_of self.entry }
+    {
+        let first = self.next()?;
+        if self.next().is_some() {
+            return None;
+        }
+        Some(first)
+    }
+
+    // The pieces, where there are exactly two.
+    pub(crate) fn two(mut self) -> Option<(&'a [u8], &'a [u8])>
+        ensures { option_map (λ p. (p.0.now, p.1.now)) result ≡ two_of self.entry }
+    {
+        let first = self.next()?;
+        let second = self.next()?;
+        if self.next().is_some() {
+            return None;
+        }
+        Some((first, second))
+    }
+
+    // The pieces, where there are exactly three.
+    pub(crate) fn three(mut self) -> Option<(&'a [u8], &'a [u8], &'a [u8])>
+        ensures { option_map (λ p. (p.0.now, p.1.now, p.2.now)) result ≡ three_of self.entry }
+    {
+        let first = self.next()?;
+        let second = self.next()?;
+        let third = self.next()?;
+        if self.next().is_some() {
+            return None;
+        }
+        Some((first, second, third))
+    }
+}

@@ -1,0 +1,17 @@
+-- Lines that grow by one.
+use Rattle.std.proofs.Common.{◌≡◌, ℕ, ◌+◌, ◌<◌, List, [], ◌∷◌, ◌++◌, sym, ap, ◌∙◌, append_assoc, append-nil, take, length, get_or, arith, length-take}
+use Rattle.std.proofs.lemmas.List.{take_more}
+use Rattle.ids.specs.declared.entry.Entry.{Entry}
+use Rattle.transcript.specs.Line.{line_of, lines_from}
+
+-- the lines of entries and of one more
+pub lines_from-push : (first place : ℕ) (xs : List Entry) (x : Entry) → place ≡ first + length xs → lines_from first (xs ++ x ∷ []) ≡ lines_from first xs ++ line_of place x
+lines_from-push first place [] x e = append-nil (line_of first x) ∙ ap (λ (k : ℕ). line_of k x) (let same : first ≡ place = omega arith in same)
+lines_from-push first place (y ∷ ys) x e =
+    ap (λ (t : List ℕ). line_of first y ++ t) (lines_from-push (first + 1) place ys x (omega arith))
+    ∙ sym (append_assoc (line_of first y) (lines_from (first + 1) ys) (line_of place x))
+
+pub lines_from-more : (first i : ℕ) (xs : List Entry) (x : Entry) → i < length xs → x ≡ get_or xs i x → lines_from first (take (i + 1) xs) ≡ lines_from first (take i xs) ++ line_of (first + i) x
+lines_from-more first i xs x below is =
+    ap (lines_from first) (take_more xs i x below ∙ ap (λ (y : Entry). take i xs ++ y ∷ []) (sym is))
+    ∙ lines_from-push first (first + i) (take i xs) x (omega (arith, length-take {A = Entry} i xs))

@@ -1,0 +1,8 @@
+use Rattle.std.proofs.Common.{rules}
+use Rattle.transcript.specs.Line.{line_of}
+use Rattle.transcript.proofs.Printing.{Prints-as, Prints-then}
+use Rattle.transcript.proofs.line.put_line.Goals as goal
+
+pub returns : goal.returns
+unfolding line_of
+returns g c = Prints-as (Prints-then _ _ (Prints-then _ _ (Prints-then _ _ (Prints-then _ _ (Prints-then _ _ (Prints-then _ _ (Prints-then _ _ (Prints-then _ _ c.put_decimal.ensures c.put.ensures) c.put_decimal-2.ensures) c.put-2.ensures) c.put_op.ensures) c.put-3.ensures) c.put_reply.ensures) c.put_dooms.ensures) c.put-4.ensures) (search rules)

@@ -1,0 +1,13 @@
+use Rattle.std.proofs.Common.{rules}
+use Rattle.transcript.specs.Reply.{name_text}
+use Rattle.transcript.proofs.Printing.{CanPrint-after, Prints-as, Prints-none, Prints-next, Prints-then}
+use Rattle.transcript.proofs.reply.put_each_name.Goals as goal
+
+pub loop-name-init : goal.loop-name-init
+loop-name-init g c = (c.requires, Prints-none _ _ _)
+
+pub loop-name-preserved : goal.loop-name-preserved
+loop-name-preserved g c =
+    let one = Prints-then _ _ c.put.ensures c.put_text.ensures in
+    let printed = Prints-next name_text c.args.names.now c.loop-name.name-index _ c.loop-name-test.true c.name-item.is c.loop-name.invariant.1 (Prints-as one (search rules)) in
+    (CanPrint-after printed c.requires, printed)

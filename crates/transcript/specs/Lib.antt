@@ -1,0 +1,6 @@
+pub mod Flags
+pub mod Line
+pub mod Operation
+pub mod Printer
+pub mod Reply
+pub mod Text

@@ -1,0 +1,76 @@
+// Sets of flags in their spelling.
+ghost use Rattle.std.specs.Prelude.{◌≡◌, ◌||◌};
+ghost use Rattle.transcript.specs.Flags.{access_names, begin_flags_text, flags_text, next_name, with_commas};
+ghost use Rattle.transcript.specs.Printer.{CanPrint, Prints};
+
+use crate::printer::Printer;
+use device::Sink;
+use ids::{BeginFlags, OpenFlags};
+
+// The name of an access. Answers whether there is one.
+fn put_access<S: Sink>(out: &mut Printer<'_, S>, reads: bool, writes: bool) -> bool
+    requires { CanPrint S.failures out.old }
+    ensures text { Prints S.written S.failures out.old out.new (with_commas (access_names reads writes)) }
+    ensures any { result ≡ (reads || writes) }
+{
+    if reads {
+        if writes {
+            out.put(b"RDWR");
+        } else {
+            out.put(b"RDONLY");
+        }
+    } else if writes {
+        out.put(b"WRONLY");
+    }
+    reads || writes
+}
+
+// A name, where the set has its flag, behind a comma where a name stands there already. Answers
+// whether a name stands there now.
+fn put_name<S: Sink>(out: &mut Printer<'_, S>, any: bool, has: bool, name: &[u8]) -> bool
+    requires { CanPrint S.failures out.old }
+    ensures text { Prints S.written S.failures out.old out.new (next_name any has name.now) }
+    ensures any { result ≡ (any || has) }
+{
+    if !has {
+        return any;
+    }
+    if !any {
+        out.put(name);
+        return true;
+    }
+    out.put(b",");
+    out.put(name);
+    true
+}
+
+// The flags of an open.
+pub(crate) fn put_flags<S: Sink>(out: &mut Printer<'_, S>, flags: OpenFlags)
+    requires { CanPrint S.failures out.old }
+    ensures { Prints S.written S.failures out.old out.new (flags_text flags) }
+{
+    let access = put_access(out, flags.reads(), flags.writes());
+    let creates = put_name(out, access, flags.creates(), b"CREAT");
+    let exclusive = put_name(out, creates, flags.is_exclusive(), b"EXCL");
+    let truncates = put_name(out, exclusive, flags.truncates(), b"TRUNC");
+    let any = put_name(out, truncates, flags.appends(), b"APPEND");
+    if !any {
+        out.put(b"-");
+    }
+}
+
+// The flags of a begin.
+pub(crate) fn put_begin_flags<S: Sink>(out: &mut Printer<'_, S>, flags: BeginFlags)
+    requires { CanPrint S.failures out.old }
+    ensures { Prints S.written S.failures out.old out.new (begin_flags_text flags) }
+{
+    if flags.restarts() {
+        if flags.aborts_unsupported() {
+            out.put(b" RESTART,ABORT_UNSUPPORTED");
+        } else {
+            out.put(b" RESTART");
+        }
+    } else if flags.aborts_unsupported() {
+        out.put(b" ABORT_UNSUPPORTED");
+    }
+}

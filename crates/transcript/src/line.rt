@@ -1,0 +1,101 @@
+// One line, and all lines.
+ghost use Rattle.std.specs.Prelude.{◌≡◌, ◌+◌, ◌-◌, ◌<◌, ◌^◌, flat_map, length, OnErr, OnOk};
+ghost use Rattle.std.specs.Io.KnownBytes.{append_known};
+ghost use Rattle.device.specs.Device.{IsPart};
+ghost use Rattle.transcript.specs.Line.{dooms_text, line_of, lines_from, more_text};
+ghost use Rattle.transcript.specs.Printer.{CanPrint, Prints};
+
+use crate::operation::put_op;
+use crate::printer::Printer;
+use crate::reply::put_reply;
+use device::{DeviceFailed, Sink};
+use ids::{Entry, Pid};
+
+fn put_pids<S: Sink>(out: &mut Printer<'_, S>, pids: &[Pid])
+    requires { CanPrint S.failures out.old }
+    ensures { Prints S.written S.failures out.old out.new (flat_map more_text pids.now) }
+{
+    for pid in pids {
+        out.put(b",P");
+        out.put_decimal(u64::from(pid.0));
+    }
+}
+
+fn put_dooms<S: Sink>(out: &mut Printer<'_, S>, doomed: &[Pid])
+    requires { CanPrint S.failures out.old }
+    ensures { Prints S.written S.failures out.old out.new (dooms_text doomed.now) }
+{
+    if let Some((first, others)) = doomed.split_first() {
+        out.put(b" dooms P");
+        out.put_decimal(u64::from(first.0));
+        put_pids(out, others);
+    }
+}
+
+#[tactic(auto, unfolding(crate::specs::Line::line_of))]
+fn put_line<S: Sink>(out: &mut Printer<'_, S>, place: usize, entry: &Entry)
+    requires { CanPrint S.failures out.old }
+    ensures { Prints S.written S.failures out.old out.new (line_of place entry.now) }
+{
+    out.put_decimal(place as u64);
+    out.put(b" P");
+    out.put_decimal(u64::from(entry.pid.0));
+    out.put(b" ");
+    put_op(out, &entry.op);
+    out.put(b" -> ");
+    put_reply(out, &entry.reply);
+    put_dooms(out, entry.doomed.as_slice());
+    out.put(b"\n");
+}
+
+fn put_lines<S: Sink>(out: &mut Printer<'_, S>, first: usize, entries: &[Entry])
+    requires can { CanPrint S.failures out.old }
+    requires small { first + length entries.now < 2 ^ 64 }
+    ensures { Prints S.written S.failures out.old out.new (lines_from first entries.now) }
+{
+    for (index, entry) in entries.iter().enumerate() {
+        put_line(out, first + index, entry);
+    }
+}
+
+/// Prints the line of one entry, which has this place in its history.
+///
+/// Where the sink fails it holds a beginning of the line.
+pub fn print_line<S: Sink>(place: usize, entry: &Entry, sink: &mut S) -> Result<(), DeviceFailed>
+    requires { S.failures sink.old < 2 ^ 64 - 1 }
+    ensures ok { OnOk result (S.written sink.new ≡ append_known (S.written sink.old) (line_of place entry.now)) }
+    ensures no_failure { OnOk result (S.failures sink.new ≡ S.failures sink.old) }
+    ensures part { IsPart (S.written sink.old) (S.written sink.new) (line_of place entry.now) }
+    ensures failure { OnErr result (S.failures sink.old < S.failures sink.new) }
+{
+    let mut out = Printer::new(sink);
+    put_line(&mut out, place, entry);
+    out.flush();
+    if out.has_failed() {
+        Err(DeviceFailed)
+    } else {
+        Ok(())
+    }
+}
+
+/// Prints the lines of entries that follow each other in a history, of which the first has this
+/// place. Entries are numbered from 1.
+///
+/// Where the sink fails it holds a beginning of the lines.
+pub fn print<S: Sink>(first: usize, entries: &[Entry], sink: &mut S) -> Result<(), DeviceFailed>
+    requires device { S.failures sink.old < 2 ^ 64 - 1 }
+    requires small { first + length entries.now < 2 ^ 64 }
+    ensures ok { OnOk result (S.written sink.new ≡ append_known (S.written sink.old) (lines_from first entries.now)) }
+    ensures no_failure { OnOk result (S.failures sink.new ≡ S.failures sink.old) }
+    ensures part { IsPart (S.written sink.old) (S.written sink.new) (lines_from first entries.now) }
+    ensures failure { OnErr result (S.failures sink.old < S.failures sink.new) }
+{
+    let mut out = Printer::new(sink);
+    put_lines(&mut out, first, entries);
+    out.flush();
+    if out.has_failed() {
+        Err(DeviceFailed)
+    } else {
+        Ok(())
+    }
+}

@@ -1,0 +1,59 @@
+// Bytes that are printed and not yet written.
+ghost use Rattle.std.specs.Prelude.{◌≡◌, ◌<◌, ◌≤◌, ◌++◌, ◌∷◌, ◌==◌, [], length};
+
+use std::marker::Model;
+
+// Up to 512 bytes, in order.
+#[derive(Drop)]
+pub(crate) struct Pending {
+    bytes: [u8; 512],
+    len: usize,
+}
+
+impl Model for Pending {
+    ghost use Rattle.std.specs.Prelude.{ℕ, ◌≤◌, List, take};
+
+    ghost Value = { List ℕ };
+
+    ghost view = { λ p. take p.len p.bytes };
+
+    ghost invariant = { λ p. p.len ≤ 512 };
+}
+
+impl Pending {
+    pub(crate) fn new() -> Pending
+        ensures { result ≡ [] }
+    {
+        Pending {
+            bytes: [0; 512],
+            len: 0,
+        }
+    }
+
+    pub(crate) fn is_full(&self) -> bool
+        ensures value { result ≡ (length self.now == 512) }
+        ensures within { length self.now ≤ 512 }
+    {
+        self.len == 512
+    }
+
+    pub(crate) fn push(&mut self, byte: u8)
+        requires { length self.old < 512 }
+        ensures { self.new ≡ self.old ++ byte ∷ [] }
+    {
+        self.bytes[self.len] = byte;
+        self.len += 1;
+    }
+
+    pub(crate) fn clear(&mut self)
+        ensures { self.new ≡ [] }
+    {
+        self.len = 0;
+    }
+
+    pub(crate) fn as_slice(&self) -> &[u8]
+        ensures { result.now ≡ self.now }
+    {
+        &self.bytes[..self.len]
+    }
+}

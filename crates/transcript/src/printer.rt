@@ -1,0 +1,91 @@
+// Texts printed one after another, until the sink fails.
+ghost use Rattle.std.specs.Prelude.{◌≡◌, ◌-◌, ◌<◌, ◌^◌, ◌∷◌, [], false, decimal};
+ghost use Rattle.std.specs.Fmt.{signed_decimal};
+
+use crate::pending::Pending;
+use device::{Sink, write_all};
+use itoa::Buffer;
+
+// Prints to a sink until the sink fails, and then no more.
+#[derive(Drop)]
+pub(crate) struct Printer<'a, S: Sink> {
+    sink: &'a mut S,
+    failed: bool,
+    pending: Pending,
+}
+
+impl<'a, S: Sink> Printer<'a, S> {
+    ghost use Rattle.transcript.specs.Printer.{CanPrint, Prints};
+
+    pub(crate) fn new(sink: &'a mut S) -> Self
+        requires { S.failures sink.old < 2 ^ 64 - 1 }
+        ensures same_sink { result.sink.ghost_name ≡ sink.entry.ghost_name }
+        ensures sink { result.sink.now ≡ sink.old }
+        ensures failed { result.failed ≡ false }
+        ensures pending { result.pending ≡ [] }
+    {
+        Printer {
+            sink,
+            failed: false,
+            pending: Pending::new(),
+        }
+    }
+
+    // Whether the sink has failed.
+    pub(crate) fn has_failed(&self) -> bool
+        ensures { result ≡ self.now.failed }
+    {
+        self.failed
+    }
+
+    // Writes what is printed and not yet written.
+    pub(crate) fn flush(&mut self)
+        requires { CanPrint S.failures self.old }
+        ensures prints { Prints S.written S.failures self.old self.new [] }
+        ensures pending { self.new.pending ≡ [] }
+    {
+        if !self.failed && write_all(self.sink, self.pending.as_slice()).is_err() {
+            self.failed = true;
+        }
+        self.pending.clear();
+    }
+
+    // Prints one byte.
+    pub(crate) fn put_byte(&mut self, byte: u8)
+        requires { CanPrint S.failures self.old }
+        ensures { Prints S.written S.failures self.old self.new (byte ∷ []) }
+    {
+        if self.pending.is_full() {
+            self.flush();
+        }
+        self.pending.push(byte);
+    }
+
+    // Prints bytes as they are.
+    pub(crate) fn put(&mut self, text: &[u8])
+        requires { CanPrint S.failures self.old }
+        ensures { Prints S.written S.failures self.old self.new text.now }
+    {
+        for byte in text {
+            self.put_byte(*byte);
+        }
+    }
+
+    // Prints a number in decimal.
+    pub(crate) fn put_decimal(&mut self, n: u64)
+        requires { CanPrint S.failures self.old }
+        ensures { Prints S.written S.failures self.old self.new (decimal n) }
+    {
+        let mut buffer = Buffer::new();
+        self.put(buffer.format(n).as_bytes());
+    }
+
+    // Prints a number that may be below 0.
+    pub(crate) fn put_signed(&mut self, n: i64)
+        requires { CanPrint S.failures self.old }
+        ensures { Prints S.written S.failures self.old self.new (signed_decimal n) }
+    {
+        let mut buffer = Buffer::new();
+        self.put(buffer.format(n).as_bytes());
+    }
+}

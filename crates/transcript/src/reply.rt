@@ -1,0 +1,171 @@
+// Replies in their spelling.
+ghost use Rattle.std.specs.Prelude.{◌≡◌, flat_map};
+ghost use Rattle.transcript.specs.Printer.{CanPrint, Prints};
+ghost use Rattle.transcript.specs.Reply.{access_text, answer_text, aspect_text, cause_text, kind_text, name_text, names_text, reply_text, restarted_text, stat_text, why_text};
+
+use crate::printer::Printer;
+use crate::text::put_text;
+use device::Sink;
+use ids::{Answer, Aspect, Cause, Kind, Name, Reply, Stat, Why};
+
+fn put_aspect<S: Sink>(out: &mut Printer<'_, S>, aspect: &Aspect)
+    requires { CanPrint S.failures out.old }
+    ensures { Prints S.written S.failures out.old out.new (aspect_text aspect.now) }
+{
+    match aspect {
+        Aspect::Entry(_, name) => {
+            out.put(b"entry ");
+            put_text(out, name.as_slice());
+        }
+        Aspect::Names(_) => out.put(b"names"),
+        Aspect::Size(_) => out.put(b"size"),
+        Aspect::Block(_, block) => {
+            out.put(b"block ");
+            out.put_decimal(u64::from(*block));
+        }
+        Aspect::Links(_) => out.put(b"links"),
+        Aspect::Ends(_) => out.put(b"ends"),
+        Aspect::Offset(_) => out.put(b"offset"),
+        Aspect::Front(_) => out.put(b"front"),
+        Aspect::Back(_) => out.put(b"back"),
+    }
+}
+
+fn put_access<S: Sink>(out: &mut Printer<'_, S>, write: bool)
+    requires { CanPrint S.failures out.old }
+    ensures { Prints S.written S.failures out.old out.new (access_text write) }
+{
+    if write {
+        out.put(b" write");
+    } else {
+        out.put(b" read");
+    }
+}
+
+fn put_cause<S: Sink>(out: &mut Printer<'_, S>, cause: &Cause)
+    requires { CanPrint S.failures out.old }
+    ensures { Prints S.written S.failures out.old out.new (cause_text cause.now) }
+{
+    put_aspect(out, &cause.touch.aspect);
+    put_access(out, cause.touch.write);
+    out.put(b" by P");
+    out.put_decimal(u64::from(cause.other.0));
+}
+
+fn put_why<S: Sink>(out: &mut Printer<'_, S>, why: &Why)
+    requires { CanPrint S.failures out.old }
+    ensures { Prints S.written S.failures out.old out.new (why_text why.now) }
+{
+    match why {
+        Why::Clash(cause) => put_cause(out, cause),
+        Why::Unsupported => out.put(b"unsupported"),
+    }
+}
+
+fn put_restarted<S: Sink>(out: &mut Printer<'_, S>, restarted: bool)
+    requires { CanPrint S.failures out.old }
+    ensures { Prints S.written S.failures out.old out.new (restarted_text restarted) }
+{
+    if restarted {
+        out.put(b" restarted");
+    }
+}
+
+fn put_kind<S: Sink>(out: &mut Printer<'_, S>, kind: Kind)
+    requires { CanPrint S.failures out.old }
+    ensures { Prints S.written S.failures out.old out.new (kind_text kind) }
+{
+    match kind {
+        Kind::File => out.put(b"file"),
+        Kind::Dir => out.put(b"dir"),
+        Kind::Pipe => out.put(b"pipe"),
+    }
+}
+
+fn put_stat<S: Sink>(out: &mut Printer<'_, S>, stat: &Stat)
+    requires { CanPrint S.failures out.old }
+    ensures { Prints S.written S.failures out.old out.new (stat_text stat.now) }
+{
+    put_kind(out, stat.kind);
+    out.put(b" size ");
+    out.put_decimal(u64::from(stat.size));
+    out.put(b" links ");
+    out.put_decimal(u64::from(stat.links));
+}
+
+fn put_each_name<S: Sink>(out: &mut Printer<'_, S>, names: &[Name])
+    requires { CanPrint S.failures out.old }
+    ensures { Prints S.written S.failures out.old out.new (flat_map name_text names.now) }
+{
+    for name in names {
+        out.put(b" ");
+        put_text(out, name.as_slice());
+    }
+}
+
+fn put_names<S: Sink>(out: &mut Printer<'_, S>, names: &[Name])
+    requires { CanPrint S.failures out.old }
+    ensures { Prints S.written S.failures out.old out.new (names_text names.now) }
+{
+    out.put(b"names ");
+    out.put_decimal(names.len() as u64);
+    put_each_name(out, names);
+}
+
+fn put_answer<S: Sink>(out: &mut Printer<'_, S>, answer: &Answer)
+    requires { CanPrint S.failures out.old }
+    ensures { Prints S.written S.failures out.old out.new (answer_text answer.now) }
+{
+    match answer {
+        Answer::Done => out.put(b"ok"),
+        Answer::Fd(fd) => out.put_decimal(u64::from(fd.0)),
+        Answer::Count(count) => out.put_decimal(u64::from(*count)),
+        Answer::Place(place) => out.put_decimal(u64::from(*place)),
+        Answer::Bytes(bytes) => {
+            out.put_decimal(bytes.as_slice().len() as u64);
+            out.put(b" ");
+            put_text(out, bytes.as_slice());
+        }
+        Answer::Pair(reader, writer) => {
+            out.put_decimal(u64::from(reader.0));
+            out.put(b" ");
+            out.put_decimal(u64::from(writer.0));
+        }
+        Answer::Stat(stat) => put_stat(out, stat),
+        Answer::Names(names) => put_names(out, names.as_slice()),
+        Answer::Child(pid) => {
+            out.put(b"child ");
+            out.put_decimal(u64::from(pid.0));
+        }
+    }
+}
+
+pub(crate) fn put_reply<S: Sink>(out: &mut Printer<'_, S>, reply: &Reply)
+    requires { CanPrint S.failures out.old }
+    ensures { Prints S.written S.failures out.old out.new (reply_text reply.now) }
+{
+    match reply {
+        Reply::Answer(answer) => put_answer(out, answer),
+        Reply::Errno(errno) => out.put(errno.name().as_bytes()),
+        Reply::Begun => out.put(b"begun"),
+        Reply::Committed => out.put(b"committed"),
+        Reply::GivenUp { restarted } => {
+            out.put(b"given up");
+            put_restarted(out, *restarted);
+        }
+        Reply::Aborted { why, restarted } => {
+            out.put(b"aborted ");
+            put_why(out, why);
+            put_restarted(out, *restarted);
+        }
+        Reply::Busy(cause) => {
+            out.put(b"busy ");
+            put_cause(out, cause);
+        }
+        Reply::InTransaction => out.put(b"InTransaction"),
+        Reply::NotInTransaction => out.put(b"NotInTransaction"),
+        Reply::HistoryFull => out.put(b"HistoryFull"),
+        Reply::NoMemory => out.put(b"NoMemory"),
+        Reply::NoProcess => out.put(b"NoProcess"),
+    }
+}

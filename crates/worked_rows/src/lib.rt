@@ -1,0 +1,5 @@
+//! Worked runs of a kernel. They stand apart from it, so that its own check need not wait for them.
+#![tactic(auto)]
+
+#[cfg(test)]
+mod tests;
