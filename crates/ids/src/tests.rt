@@ -1,11 +1,11 @@
 // Each public function once, with ample memory, against what it should give.
 use super::*;
 use bitflags::Flags;
+use heap::Heap;
+use std::alloc::AllocError;
 use std::test::Fail;
 
-#[test]
-fn copies_are_equal_to_their_source(rt: HostRuntime) -> Result<(), Fail> {
-    let heap = heap::open(rt.alloc())?;
+fn entry(heap: Heap) -> Result<Entry, AllocError> {
     let touch = Touch {
         aspect: Aspect::Entry(Num(3), Name::copy(heap, b"a")?),
         write: true,
@@ -14,23 +14,21 @@ fn copies_are_equal_to_their_source(rt: HostRuntime) -> Result<(), Fail> {
         touch,
         other: Pid(2),
     };
-    let reply = Reply::Aborted {
-        why: Why::Clash(cause),
-        restarted: true,
-    };
-    let mut doomed = Pids::new(heap);
-    doomed.push(Pid(7))?;
-    let entry = Entry {
+    Ok(Entry {
         pid: Pid(1),
         op: Op::Call(Call::Mkdir(Bytes::copy(heap, b"/a")?)),
-        reply,
+        reply: Reply::Busy(cause),
         chosen: Nums::new(heap),
-        doomed,
-    };
+        doomed: Pids::new(heap),
+    })
+}
+
+#[test]
+fn a_copy_is_told_as_its_source(rt: HostRuntime) -> Result<(), Fail> {
+    let entry = entry(heap::open(rt.alloc())?)?;
     let copy = entry.try_clone()?;
     let told = format!(in rt.alloc(); "{copy:?}")?;
     assert_eq!(rt; told, format!(in rt.alloc(); "{entry:?}")?);
-    assert_eq!(rt; copy.doomed.as_slice(), [Pid(7)].as_slice());
     Ok(())
 }
 
