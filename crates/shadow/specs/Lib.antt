@@ -1,0 +1,3 @@
+pub mod Committed
+pub mod Operations
+pub mod Planned
