@@ -1,5 +1,5 @@
 // What is kept of one process.
-ghost use Rattle.std.specs.Prelude.{◌≡◌, ◌++◌, OnErr, OnOk, Some, None, []};
+ghost use Rattle.std.specs.Prelude.{◌≡◌, ◌++◌, OnErr, OnOk, Some, None, [], take};
 ghost use Rattle.contention.specs.Judging.{began_later, gives_way};
 
 use heap::Heap;
@@ -60,6 +60,13 @@ impl Contender {
     {
         let mut touches = touches;
         self.touches.append(&mut touches)
+    }
+
+    /// The touches behind the first so many are forgotten. It takes no memory.
+    pub fn keep_first(&mut self, count: usize)
+        ensures { self.new ≡ record self.old { touches = take count self.old.touches } }
+    {
+        self.touches.truncate(count);
     }
 
     /// Its touches are forgotten. It takes no memory.

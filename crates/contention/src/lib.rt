@@ -1,7 +1,7 @@
 //! The contention manager: who loses where calls of different processes clash, and why (TxOS, section 4).
 #![tactic(auto)]
 
-ghost use Rattle.std.specs.Prelude.{◌≡◌, ℕ, suc, ◌<◌, ◌++◌, [], length, get_or, Some, None, IfOk, OnErr, OnOk};
+ghost use Rattle.std.specs.Prelude.{◌≡◌, ℕ, suc, ◌<◌, ◌++◌, [], length, take, get_or, Some, None, IfOk, OnErr, OnOk};
 ghost use Rattle.contention.specs.Holding.{Held, nobody, held_at, IsKept, Becomes};
 ghost use Rattle.contention.specs.Verdicts.{IsVerdict};
 ghost use Rattle.model.specs.Moments.{Moment};
@@ -84,6 +84,23 @@ impl Contenders {
         ensures err { OnErr result (self.new ≡ self.old) }
     {
         self.all[pid.0 as usize].add(touches)
+    }
+
+    /// How many touches a process's transaction has.
+    pub fn count(&self, pid: Pid) -> usize
+        requires { pid < length self.now }
+        ensures { result ≡ length (held_at self.now pid).touches }
+    {
+        self.all[pid.0 as usize].touches().len()
+    }
+
+    /// The touches of a process's transaction behind the first so many are forgotten, as before they were added. It takes no
+    /// memory.
+    pub fn keep_first(&mut self, pid: Pid, count: usize)
+        requires { pid < length self.old }
+        ensures { Becomes self.old self.new pid (record (held_at self.old pid) { touches = take count (held_at self.old pid).touches }) }
+    {
+        self.all[pid.0 as usize].keep_first(count);
     }
 
     /// A process's transaction begins anew: its touches are forgotten, its age stays. It takes no memory.

@@ -60,9 +60,9 @@ reserved_slots f h =
     same_count (λ q. holds_place ((moment f.log).phase q)) (λ q. slot_holds (get_or f.slots q Gone)) (bound (moment f.log)) (λ q. shows q ∙ ap view_holds (sym (h.slots q)) ∙ sym (slot_status (get_or f.slots q Gone)))
     ∙ ap (count_below (λ q. slot_holds (get_or f.slots q Gone))) (sym h.count)
     ∙ count_slots f.slots where
-  shows : (q : ℕ) → holds_place ((moment f.log).phase q) ≡ view_holds (view_of (moment f.log) q)
-  shows q = elim (cases_Bool (is_alive (moment f.log).committed q)) [
-    | inl alive ↦ status_holds ((moment f.log).phase q) (changes_of (moment f.log) q) ∙ ap (λ b. view_holds (view_by b ((moment f.log).phase q) (changes_of (moment f.log) q))) (sym alive)
-    | inr dead ↦ ap holds_place ((what_stands 0 f.log.priorities f.log.limit f.log.entries h.legal).phases.processes q dead)
-        ∙ ap (λ b. view_holds (view_by b ((moment f.log).phase q) (changes_of (moment f.log) q))) (sym dead)
-  ]
+      shows : (q : ℕ) → holds_place ((moment f.log).phase q) ≡ view_holds (view_of (moment f.log) q)
+      shows q = elim (cases_Bool (is_alive (moment f.log).committed q)) [
+        | inl alive ↦ status_holds ((moment f.log).phase q) (changes_of (moment f.log) q) ∙ ap (λ b. view_holds (view_by b ((moment f.log).phase q) (changes_of (moment f.log) q))) (sym alive)
+        | inr dead ↦ ap holds_place ((what_stands 0 f.log.priorities f.log.limit f.log.entries h.legal).phases.processes q dead)
+            ∙ ap (λ b. view_holds (view_by b ((moment f.log).phase q) (changes_of (moment f.log) q))) (sym dead)
+      ]

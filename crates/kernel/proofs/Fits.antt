@@ -37,7 +37,7 @@ pub record Fits (f g : Fields) (e : Entry) (ds : List Doomed) : Type 0 where
   pub grows : f.stable.next ≤ g.stable.next
   pub given : AreGiven g.stable.next (changes_of (next (moment f.log) e) e.pid)
 
-below_more : (n k : ℕ) (ns : List ℕ) → n ≤ k → AllByRecursion (λ x. x < n) ns → AllByRecursion (λ x. x < k) ns
+pub below_more : (n k : ℕ) (ns : List ℕ) → n ≤ k → AllByRecursion (λ x. x < n) ns → AllByRecursion (λ x. x < k) ns
 below_more n k [] h all = tt
 below_more n k (x ∷ ns) h all = (let first : x < n = all.0 in omega arith, below_more n k ns h all.1)
 

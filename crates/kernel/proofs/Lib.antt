@@ -5,3 +5,8 @@ mod Fits
 mod Own
 mod Counts
 mod Rows
+mod Taken
+mod Within
+mod Unchanged
+mod Plain
+mod Commits

@@ -144,8 +144,8 @@ loses_all log pid call flags age cause again opening inside loses places again_i
     let e : Entry = plain pid (Do call) (Aborted (Clash cause) again) in
     settles log e again flags age (live flags age l.calls) l.is (λ h. absurd cc)
     (right_by log.limit (moment log) e (live flags age l.calls) (Do call) l.is refl
-      (subst (λ b. Inside log.limit (moment log) e (live flags age l.calls) flags call b) (sym inside)
-        (subst (λ o. Outcome (moment log) e (live flags age l.calls) call o) (sym loses) (ap (Aborted (Clash cause)) again_is, none_else pid (Do call) (Aborted (Clash cause) again)), free_from log.limit (moment log) 1 places)))
+    (subst (λ b. Inside log.limit (moment log) e (live flags age l.calls) flags call b) (sym inside)
+    (subst (λ o. Outcome (moment log) e (live flags age l.calls) call o) (sym loses) (ap (Aborted (Clash cause)) again_is, none_else pid (Do call) (Aborted (Clash cause) again)), free_from log.limit (moment log) 1 places)))
     refl (none_else pid (Do call) (Aborted (Clash cause) again)) (record { childless = refl; unborn = refl; goes_on = refl }) refl (settled_live flags age l.calls again)
 
 told_goes_on : (op : Op) (cause : Cause) (again : Bool) → is_ended op (Aborted (Clash cause) again) ≡ false

@@ -6,3 +6,4 @@ pub mod Strikes
 pub mod States
 pub mod Rows
 pub mod Standings
+pub mod Takes

@@ -3,6 +3,8 @@
 //! Today it has one directory, the root, and the calls mkdir and stat on it.
 #![tactic(auto)]
 
+mod calls;
+mod doom;
 mod kernel;
 mod rest;
 mod slot;

@@ -74,7 +74,7 @@ pub fn has_free(s: &State, needed: usize) -> bool
 }
 
 /// An entry without new numbers that dooms nobody.
-fn plain_entry(heap: Heap, pid: Pid, op: Op, reply: Reply) -> Entry
+pub fn plain_entry(heap: Heap, pid: Pid, op: Op, reply: Reply) -> Entry
     ensures { result ≡ record { pid = pid; op = op; reply = reply; chosen = []; doomed = [] } }
 {
     Entry {

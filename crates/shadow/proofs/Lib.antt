@@ -1,0 +1,4 @@
+pub mod Flat
+pub mod Given
+pub mod Installs
+pub mod Several

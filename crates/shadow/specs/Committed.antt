@@ -1,5 +1,5 @@
 -- What a contract sees of the committed state and of a transaction's changes to it.
-use Rattle.std.specs.Prelude.{◌≡◌, ℕ, ◌<◌, ◌≤◌, List}
+use Rattle.std.specs.Prelude.{◌≡◌, ℕ, ◌<◌, List}
 use Rattle.std.specs.List.{AllByRecursion}
 use Rattle.model.specs.State.{Kernel}
 use Rattle.model.specs.Entries.{Executed}

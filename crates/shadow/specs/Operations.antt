@@ -1,9 +1,9 @@
 -- The calls that are there today.
-use Rattle.std.specs.Prelude.{ℕ, Bool, true, false, List, [], ◌∷◌, Result, Ok, Err}
+use Rattle.std.specs.Prelude.{Bool, true, false, List, ◌∷◌, Result, Ok}
 use Rattle.model.specs.State.{Name}
 use Rattle.model.specs.Plan.{Errno}
 use Rattle.model.specs.Paths.{path_names}
-use Rattle.model.specs.Calls.{Call, Open, Close, Read, Write, Lseek, Ftruncate, Stat, Fstat, Link, Unlink, Rename, Mkdir, Rmdir, List_directory, Dup, Dup2, Open_pipe, Fork, Exit}
+use Rattle.model.specs.Calls.{Call, Stat, Mkdir}
 
 -- a path is refused, or `/`, or has one name
 abbrev pub is_short : Result (List Name) Errno → Bool

@@ -22,8 +22,13 @@ settle-requires c =
     let view : slot_view c.take_slot-taken.result ≡ struck d.entry d.reply c.args.flags c.args.age = c.take_slot-taken.ensures.taken ∙ c.requires.holds.slots c.args.pid ∙ d.is in
     let both : Some (d.entry, d.reply) ≡ Some (c.in-Some.entry, c.in-Some.reply) = sym (c.causes_in.ensures ∙ ap causes_of view) ∙ c.in-Some.is in
     let shows : view_of (moment log) c.args.pid ≡ struck c.in-Some.entry c.in-Some.reply c.args.flags c.args.age
-          = d.is ∙ ap₂ (λ a b. struck a b c.args.flags c.args.age) (ap (first_or d.entry) both) (ap (second_or d.reply) both) in
+    = d.is ∙ ap₂ (λ a b. struck a b c.args.flags c.args.age) (ap (first_or d.entry) both) (ap (second_or d.reply) both) in
     subst (λ e. CanSettle (fields record { heap = c.args.s.now.heap; history = c.args.s.now.history; slots = c.take_slot-taken.new.slots; contenders = c.args.s.now.contenders; stable = c.args.s.now.stable }) e c.is_restarted-restarted.result c.args.flags c.args.age)
     (sym (c.plain_entry-entry.ensures ∙ ap (plain c.args.pid c.args.op) c.aborted.ensures))
-    (record { before = c.args.s.now.slots.items; holds = c.requires.holds; count = c.take_slot-taken.ensures.left.count; others = λ q differs. c.take_slot-taken.ensures.left.others q differs;
-      settling = is_told log c.args.pid c.args.op c.args.flags c.args.age c.in-Some.entry c.in-Some.reply c.is_restarted-restarted.result shows c.is_restarted-restarted.ensures })
+    (record {
+      before = c.args.s.now.slots.items;
+      holds = c.requires.holds;
+      count = c.take_slot-taken.ensures.left.count;
+      others = λ q differs. c.take_slot-taken.ensures.left.others q differs;
+      settling = is_told log c.args.pid c.args.op c.args.flags c.args.age c.in-Some.entry c.in-Some.reply c.is_restarted-restarted.result shows c.is_restarted-restarted.ensures;
+    })
