@@ -10,3 +10,5 @@ mod Within
 mod Unchanged
 mod Plain
 mod Commits
+mod Judged
+mod First

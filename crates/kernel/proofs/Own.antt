@@ -52,23 +52,23 @@ pub closing_holds : (f g : Fields) (e : Entry) (again : Bool) (flags : BeginFlag
     → length g.held ≡ length f.held → held_at g.held e.pid ≡ record (held_at f.held e.pid) { age = if again then Some age else None; touches = [] } → ((q : ℕ) → q ≢ e.pid → held_at g.held q ≡ held_at f.held q)
     → g.stable.state ≡ (next (moment f.log) e).committed → f.stable.next ≤ g.stable.next → Holds g
 closing_holds f g e again flags age holds right alone steady phase alive log count own others held_count held_own held_others state grows = fits_hold f g e [] holds (record {
-    right = right;
-    steady = steady;
-    dooms = sym alone.doomed;
-    causes = tt;
-    log = log;
-    count = count;
-    own = own ∙ sym (views_alike _ true _ _ _ _ (before.alive ∙ alive) phase none);
-    others = others;
-    held_count = held_count;
-    held_own = held_own ∙ ap (λ p. record { priority = p; age = if again then Some age else None; touches = [] }) (ap (λ h. h.priority) (holds.held.each e.pid))
-        ∙ ap (λ a. record { priority = Rattle.model.specs.Moments.priority_of (moment f.log) e.pid; age = a; touches = [] }) (its_age again flags age)
-        ∙ sym (held_alike _ _ _ _ _ _ before.priority phase touched);
-    held_others = held_others;
-    state = state;
-    grows = grows;
-    given = subst (AreGiven g.stable.next) (sym none) tt;
-  }) where
+  right = right;
+  steady = steady;
+  dooms = sym alone.doomed;
+  causes = tt;
+  log = log;
+  count = count;
+  own = own ∙ sym (views_alike _ true _ _ _ _ (before.alive ∙ alive) phase none);
+  others = others;
+  held_count = held_count;
+  held_own = held_own ∙ ap (λ p. record { priority = p; age = if again then Some age else None; touches = [] }) (ap (λ h. h.priority) (holds.held.each e.pid))
+      ∙ ap (λ a. record { priority = Rattle.model.specs.Moments.priority_of (moment f.log) e.pid; age = a; touches = [] }) (its_age again flags age)
+      ∙ sym (held_alike _ _ _ _ _ _ before.priority phase touched);
+  held_others = held_others;
+  state = state;
+  grows = grows;
+  given = subst (AreGiven g.stable.next) (sym none) tt;
+}) where
   before : Rattle.history_laws.specs.Processes.IsAsBefore (moment f.log) e e.pid
   before = as_before f.log e holds.legal right steady e.pid
 

@@ -69,7 +69,7 @@ module _ (f : Fields) (pid : ℕ) (call : Call) (flags : BeginFlags) (age : ℕ)
 
   pub within_right : Right f.log.limit m e
   within_right = right_by f.log.limit m e (live flags age is_open.calls) (Do call) is_open.is refl
-    (subst (λ b. Inside f.log.limit m e (live flags age is_open.calls) flags call b) (sym (inside call there))
+      (subst (λ b. Inside f.log.limit m e (live flags age is_open.calls) flags call b) (sym (inside call there))
       (subst (λ o. Outcome m e (live flags age is_open.calls) call o) (sym none) is_taken, free_from f.log.limit m 1 places))
 
   goes_in : CallGoesIn m e call flags age (reply (sees f pid) pid call)

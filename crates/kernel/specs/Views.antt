@@ -1,5 +1,5 @@
 -- What the kernel keeps of each process, and what it has to keep after a history.
-use Rattle.std.specs.Prelude.{◌≡◌, ◌≢◌, ℕ, Bool, true, false, List, [], get_or, length}
+use Rattle.std.specs.Prelude.{◌≡◌, ◌≢◌, ◌<◌, ℕ, suc, Bool, true, false, List, [], get_or, length}
 use Rattle.model.specs.Entries.{BeginFlags, Cause}
 use Rattle.model.specs.Moments.{Status, gone, idle, live, doomed, Moment, is_alive, calls_at}
 use Rattle.history_laws.specs.Doings.{Doing, doings}
@@ -53,3 +53,8 @@ pub record Shows (old new : List Slot) (pid : ℕ) (v : View) : Type 0 where
   pub count : length new ≡ length old
   pub own : view_at new pid ≡ v
   pub others : (q : ℕ) → q ≢ pid → view_at new q ≡ view_at old q
+
+-- the first slots: of no process, and then of so many idle ones
+pub record AreFirst (slots : List Slot) (count : ℕ) : Type 0 where
+  pub none : view_at slots 0 ≡ absent
+  pub made : (q : ℕ) → q < count → view_at slots (suc q) ≡ resting

@@ -225,3 +225,43 @@ pub fn commit(s: &mut State, pid: Pid, flags: BeginFlags, age: Age) -> Reply
     s.history.push_placed(entry);
     Reply::Committed
 }
+
+/// A call of an idle process. Refused memory changes nothing.
+pub fn run_plain(s: &mut State, pid: Pid, call: Call) -> Result<Reply, AllocError>
+    requires holds { Holds (fields s.old) }
+    requires idle { view_of (moment s.old.history) pid ≡ resting }
+    requires there { can_call call ≡ true }
+    requires places { has_places s.old.history 1 ≡ true }
+    ensures holds { Holds (fields s.new) }
+    ensures ok { IfOk result (IsStep (shown (fields s.old)) (shown (fields s.new)) pid (entries.Do call)) }
+    ensures err { OnErr result (shown (fields s.new) ≡ shown (fields s.old)) }
+{
+    let mut plan = Shadow::new(s.heap).plan(s.heap, &s.stable, pid, &call)?;
+    keep_writes(&mut plan.touches);
+    match s.contenders.verdict(s.heap, pid, plan.touches.as_slice())? {
+        Verdict::Lose(entry, reply) => Ok(put_off(s, pid, call, (entry, reply))),
+        Verdict::Go(doomed) => take_plain(s, pid, call, plan, doomed),
+    }
+}
+
+/// A call of a live process. Refused memory changes nothing.
+pub fn run_within(
+    s: &mut State,
+    pid: Pid,
+    within: (BeginFlags, Age),
+    call: Call,
+) -> Result<Reply, AllocError>
+    requires holds { Holds (fields s.old) }
+    requires live { StandsSo (Standing.Live within.0 within.1) (view_of (moment s.old.history) pid) }
+    requires there { can_call call ≡ true }
+    requires places { has_places s.old.history 1 ≡ true }
+    ensures holds { Holds (fields s.new) }
+    ensures ok { IfOk result (IsStep (shown (fields s.old)) (shown (fields s.new)) pid (entries.Do call)) }
+    ensures err { OnErr result (shown (fields s.new) ≡ shown (fields s.old)) }
+{
+    let plan = plan_within(s, pid, &call)?;
+    match s.contenders.verdict(s.heap, pid, plan.touches.as_slice())? {
+        Verdict::Lose(entry, reply) => Ok(lose(s, pid, call, within.0, within.1, (entry, reply))),
+        Verdict::Go(doomed) => take_within(s, pid, within, call, plan, doomed),
+    }
+}

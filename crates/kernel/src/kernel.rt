@@ -1,33 +1,37 @@
 // The kernel, and one step of it.
-ghost use Rattle.std.specs.Prelude.{◌≡◌, ◌<◌, ◌≤◌, [], true, length, IfOk, OnErr};
+ghost use Rattle.std.specs.Prelude.{◌≡◌, ◌<◌, ◌≤◌, [], suc, true, length, IfOk, OnErr};
 ghost use Rattle.model.specs.Moments.{is_alive};
 ghost use Rattle.kernel.specs.Operations.{can_run, CanRunAll};
 ghost use Rattle.kernel.specs.Shown.{Kept};
 ghost use Rattle.kernel.specs.Steps.{IsStep, Steps};
+ghost use Rattle.kernel.specs.Views.{AreFirst};
 
+use crate::slot::Slot;
+use crate::state::State;
+use crate::step::step;
+use contention::Contenders;
 use heap::Heap;
 use history::History;
 use ids::{Op, Pid, Priority, Reply};
+use shadow::Stable;
 use std::alloc::AllocError;
 use std::marker::Model;
-
-#[derive(Drop)]
-enum Never {}
 
 /// A kernel: its history, what the processes have committed, and what their open transactions hold.
 #[derive(Drop)]
 pub struct Kernel {
-    never: Never,
+    state: State,
 }
 
 impl Model for Kernel {
-    ghost use Rattle.std.specs.Prelude.{[]};
-    ghost use Rattle.model.specs.Moments.{start};
     ghost use Rattle.kernel.specs.Shown.{Shown};
+    ghost use Rattle.kernel.specs.States.{Holds, fields, shown};
 
     ghost Value = { Shown };
 
-    ghost view = { λ k. record { log = record { entries = []; priorities = []; limit = 0 }; state = start 0 [] } };
+    ghost view = { λ k. shown (fields k.state) };
+
+    ghost invariant = { λ k. Holds (fields k.state) };
 }
 
 impl Kernel {
@@ -40,7 +44,19 @@ impl Kernel {
         ensures kept { IfOk result Kept }
         ensures log { IfOk result (λ k. k.log ≡ record { entries = []; priorities = priorities.now; limit = limit }) }
     {
-        Err(AllocError)
+        let history = History::new(heap, priorities, limit)?;
+        let slots = first_slots(heap, priorities.len())?;
+        let contenders = Contenders::new(heap, priorities)?;
+        let stable = Stable::new(heap, priorities)?;
+        Ok(Kernel {
+            state: State {
+                heap,
+                history,
+                slots,
+                contenders,
+                stable,
+            },
+        })
     }
 
     /// The history. It is legal, and what it committed is the state.
@@ -48,21 +64,21 @@ impl Kernel {
         ensures value { result.now ≡ self.now.log }
         ensures kept { Kept self.now }
     {
-        match self.never {}
+        &self.state.history
     }
 
     /// How many processes were ever made: their numbers are 1, 2, and so on.
     pub fn made(&self) -> usize
         ensures { result ≡ self.now.state.made }
     {
-        match self.never {}
+        self.state.stable.made()
     }
 
     /// Whether there is such a process: it was made and has not ended.
     pub fn is_living(&self, pid: Pid) -> bool
         ensures { result ≡ is_alive self.now.state pid }
     {
-        match self.never {}
+        self.state.stable.is_living(pid)
     }
 
     /// One operation of one process. HistoryFull and NoMemory change nothing; each other reply is that of one new entry.
@@ -71,7 +87,7 @@ impl Kernel {
         ensures kept { Kept self.new }
         ensures step { IsStep self.old self.new pid op result }
     {
-        match self.never {}
+        step(&mut self.state, pid, op)
     }
 
     /// Steps in a row. Refused memory for the replies means that nothing has run; a later refusal stands among the replies.
@@ -81,6 +97,26 @@ impl Kernel {
         ensures steps { IfOk result (λ replies. Steps self.old ops.entry.items replies.items self.new) }
         ensures err { OnErr result (self.new ≡ self.old) }
     {
-        match self.never {}
+        let _ = self.history();
+        let mut replies = Vec::with_capacity(self.state.heap, ops.len())?;
+        for (pid, op) in ops {
+            let reply = self.step(pid, op);
+            let _ = replies.push(reply);
+        }
+        Ok(replies)
     }
+}
+
+/// A slot of no process, and behind it those of so many idle ones.
+fn first_slots(heap: Heap, count: usize) -> Result<Vec<Slot, Heap>, AllocError>
+    requires { count ≤ 4096 }
+    ensures count { IfOk result (λ slots. length slots.items ≡ suc count) }
+    ensures views { IfOk result (λ slots. AreFirst slots.items count) }
+{
+    let mut slots = Vec::with_capacity(heap, count + 1)?;
+    let _ = slots.push(Slot::Gone);
+    for _i in 0..count {
+        let _ = slots.push(Slot::Idle);
+    }
+    Ok(slots)
 }

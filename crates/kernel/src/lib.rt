@@ -6,8 +6,11 @@
 mod calls;
 mod doom;
 mod kernel;
+mod operation;
 mod rest;
 mod slot;
 mod state;
+mod step;
 
 pub use kernel::Kernel;
+pub use operation::is_there;

@@ -1,5 +1,5 @@
 -- Changes of calls that can run make of the committed state the one whose places have the changes' names, and tidying leaves it.
-use Rattle.std.proofs.Common.{◌≡◌, ℕ, zero, suc, ◌+◌, ◌-◌, ◌<◌, Bool, true, false, cond, List, [], ◌∷◌, map, length, get_or, set, Option, Some, None, Result, Ok, Err, IfOk, refl, sym, ap, ap₂, subst, ◌∙◌, arith, nat_cmp, is_some, inl, inr, length-set}
+use Rattle.std.proofs.Common.{◌≡◌, ℕ, zero, suc, ◌+◌, ◌-◌, ◌<◌, Bool, true, false, cond, List, [], ◌∷◌, map, length, get_or, set, Option, Some, None, refl, sym, ap, ap₂, subst, ◌∙◌, arith, nat_cmp, inl, inr, length-set}
 use Rattle.std.specs.Ordering.{eq_by_cmp, is_eq}
 use Rattle.std.specs.Cmp.{nat_cmp_total, tied_itself}
 use Rattle.std.specs.List.{AllByRecursion}
@@ -9,16 +9,13 @@ use Rattle.std.proofs.lemmas.List.{get_or-set_same, get_or-set_other}
 use Rattle.model.specs.FiniteMap.{FinMap, get, empty, insert, retain_keys, find, from_entries, get-insert, same_map, nat_cmp-IsAntisymmetric}
 use Rattle.model.specs.State.{Name, name_cmp, Inode, Directory, Kernel, names_of, names_of_inode}
 use Rattle.model.specs.Places.{placed}
-use Rattle.model.specs.Plan.{Errno}
-use Rattle.model.specs.Plans.{Change}
 use Rattle.model.specs.Changes.{Edit, Make_directory, set_inode, applied, all_applied, is_held, tidy}
-use Rattle.model.specs.Steps.{CanBeChosen, outcome, edits, edits_of}
-use Rattle.model.specs.Entries.{Executed, is_inside}
+use Rattle.model.specs.Steps.{edits}
+use Rattle.model.specs.Entries.{Executed}
 use Rattle.model.specs.Moments.{after_one}
 use Rattle.model.proofs.Inodes.{name_exact, get_other}
 use Rattle.model.proofs.Places.{insert-placed}
 use Rattle.call_laws.specs.WellFormed.{WellFormed}
-use Rattle.call_laws.specs.CallLaws.{IsReady}
 use Rattle.call_laws.proofs.Fits.{FitsAll}
 use Rattle.call_laws.proofs.Laws.{fits}
 use Rattle.call_laws.proofs.Maps.{not_none, some_same, true_is_false, get_retained}

@@ -5,6 +5,7 @@ ghost use Rattle.model.specs.Moments.{is_alive};
 ghost use Rattle.shadow.specs.Operations.{can_call};
 
 use super::*;
+use std::process::Abort;
 use std::test::Fail;
 
 const PID: Pid = Pid(1);
@@ -59,12 +60,26 @@ fn first_stable(heap: Heap) -> Result<Stable, Fail>
     Ok(Stable::new(heap, &priorities)?)
 }
 
-fn call_of(heap: Heap, makes: bool, path: &[u8]) -> Result<Call, AllocError> {
-    if makes {
-        mkdir(heap, path)
+// The same of a path: a directory that is made, or a look at it.
+fn done(
+    rt: &impl Abort,
+    heap: Heap,
+    stable: &mut Stable,
+    makes: bool,
+    path: &[u8],
+) -> Result<Result<Option<Num>, Errno>, AllocError>
+    requires well { WellFormed stable.old.state }
+    requires alive { is_alive stable.old.state 1 ≡ true }
+    ensures well { WellFormed stable.new.state }
+    ensures alive { is_alive stable.new.state 1 ≡ true }
+{
+    let call = if makes {
+        mkdir(heap, path)?
     } else {
-        stat(heap, path)
-    }
+        stat(heap, path)?
+    };
+    assert!(rt; is_there(&call));
+    committed(heap, stable, &call)
 }
 
 #[test]
@@ -81,11 +96,43 @@ fn commits_names_and_tells_their_numbers(rt: HostRuntime) -> Result<(), Fail> {
         (false, b"/", Ok(Some(Num(0)))),
     ];
     for (makes, path, want) in rows {
-        let call = call_of(heap, makes, path)?;
-        assert!(rt; is_there(&call));
-        assert_eq!(rt; committed(heap, &mut stable, &call)?, want);
+        assert_eq!(rt; done(&rt, heap, &mut stable, makes, path)?, want);
     }
     Ok(())
+}
+
+// A directory that is made in a shadow.
+fn added(
+    rt: &impl Abort,
+    heap: Heap,
+    shadow: &mut Shadow,
+    stable: &mut Stable,
+    path: &[u8],
+) -> Result<(), AllocError> {
+    let call = mkdir(heap, path)?;
+    assert!(rt; is_there(&call));
+    let plan = shadow.plan(heap, stable, PID, &call)?;
+    let chosen = stable.number(&plan.edits)?;
+    let Plan {
+        answer: _,
+        touches: _,
+        edits,
+    } = plan;
+    shadow.edit(stable, edits, &chosen)
+}
+
+// A look through a shadow.
+fn looked(
+    rt: &impl Abort,
+    heap: Heap,
+    shadow: &Shadow,
+    stable: &Stable,
+    path: &[u8],
+) -> Result<Result<Option<Num>, Errno>, AllocError> {
+    let call = stat(heap, path)?;
+    assert!(rt; is_there(&call));
+    let plan = shadow.plan(heap, stable, PID, &call)?;
+    Ok(told(&plan.answer))
 }
 
 #[test]
@@ -93,22 +140,13 @@ fn a_shadow_alone_sees_its_changes(rt: HostRuntime) -> Result<(), Fail> {
     let heap = heap::open(rt.alloc())?;
     let mut stable = first_stable(heap)?;
     let mut shadow = Shadow::new(heap);
-    let make = mkdir(heap, b"/a")?;
-    let look = stat(heap, b"/a")?;
-    assert!(rt; is_there(&make) && is_there(&look));
-    let plan = shadow.plan(heap, &stable, PID, &make)?;
-    let chosen = stable.number(&plan.edits)?;
-    let Plan {
-        answer: _,
-        touches: _,
-        edits,
-    } = plan;
-    shadow.edit(&mut stable, edits, &chosen)?;
-    let inside = shadow.plan(heap, &stable, PID, &look)?;
-    let outside = Shadow::new(heap).plan(heap, &stable, PID, &look)?;
-    assert_eq!(rt; told(&inside.answer), Ok(Some(Num(1))));
-    assert_eq!(rt; told(&outside.answer), Err(Errno::ENOENT));
+    let other = Shadow::new(heap);
+    added(&rt, heap, &mut shadow, &mut stable, b"/a")?;
+    let inside = looked(&rt, heap, &shadow, &stable, b"/a")?;
+    let outside = looked(&rt, heap, &other, &stable, b"/a")?;
     shadow.drop_into(&mut stable);
+    assert_eq!(rt; inside, Ok(Some(Num(1))));
+    assert_eq!(rt; outside, Err(Errno::ENOENT));
     Ok(())
 }
 
@@ -116,17 +154,15 @@ fn a_shadow_alone_sees_its_changes(rt: HostRuntime) -> Result<(), Fail> {
 fn refused_memory_commits_nothing(rt: HostRuntime) -> Result<(), Fail> {
     let heap = heap::open(rt.alloc())?;
     let mut stable = first_stable(heap)?;
-    let make = mkdir(heap, b"/a")?;
-    let look = stat(heap, b"/a")?;
-    assert!(rt; is_there(&make) && is_there(&look) && stable.is_living(PID));
+    assert!(rt; stable.is_living(PID));
     for number in 1..7 {
         heap.refuse(number);
-        assert!(rt;
-            committed(heap, &mut stable, &make).is_err(),
-            "request {number}"
-        );
+        assert!(rt; done(&rt, heap, &mut stable, true, b"/a").is_err());
         heap.refuse(0);
-        assert_eq!(rt; committed(heap, &mut stable, &look)?, Err(Errno::ENOENT));
+        assert_eq!(rt;
+            done(&rt, heap, &mut stable, false, b"/a")?,
+            Err(Errno::ENOENT)
+        );
     }
     Ok(())
 }

@@ -47,7 +47,7 @@ commit_into-requires-clause-can c =
     let b = (goal.at.commit_into-requires-clause-can c).After-doom_all-arg-1 in
     subst (λ k. CanCommit k c.edit.new.self) (sym (ap (λ x. x.state) (c.doom_all.ensures.stable ∙ c.edit.ensures.stable) ∙ c.number.ensures.same))
     (subst (CanCommit c.args.s.now.stable.state) (sym (change b))
-      (plain_commits (fields c.args.s.now) c.args.pid c.args.call c.in_ok-chosen.chosen c.args.doomed.items c.requires.holds c.requires.idle c.requires.there c.requires.places c.requires.wins.0 c.requires.wins.1 c.requires.wins.2 (new b)))
+    (plain_commits (fields c.args.s.now) c.args.pid c.args.call c.in_ok-chosen.chosen c.args.doomed.items c.requires.holds c.requires.idle c.requires.there c.requires.places c.requires.wins.0 c.requires.wins.1 c.requires.wins.2 (new b)))
 
 pub commit_into-requires-clause-given : goal.commit_into-requires-clause-given
 commit_into-requires-clause-given c =
