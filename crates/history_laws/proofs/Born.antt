@@ -39,7 +39,7 @@ answer_or other (Some r) = r
 answer_or other None = other
 
 -- an executed reply makes the child that its answer does
-said_child : (said : Reply) (answer : Result Answer Errno) → answer_in said ≡ Some answer → (child_in said ≡ child_of answer) × (born said ≡ born_of answer)
+pub said_child : (said : Reply) (answer : Result Answer Errno) → answer_in said ≡ Some answer → (child_in said ≡ child_of answer) × (born said ≡ born_of answer)
 said_child (Answers a) answer h = (let is : Ok a ≡ answer = ap (answer_or answer) h in (answer_child a ∙ ap child_of is, answer_born a ∙ ap born_of is))
 said_child (Refuses e) answer h = by (is_unsupported e) h where
   by : (b : Bool) → (if b then None else Some (Err e)) ≡ Some answer → (None ≡ child_of answer) × (0 ≡ born_of answer)

@@ -1,14 +1,15 @@
 -- The laws as the crates above cite them.
-use Rattle.std.proofs.Common.{◌≡◌, ◌≢◌, ℕ, ◌<◌, Bool, true, false, List, [], ◌∷◌, ◌++◌, refl, sym, ap, ap₂, subst, leb-true}
+use Rattle.std.proofs.Common.{◌≡◌, ◌≢◌, ℕ, ◌<◌, Bool, true, false, Option, Some, None, List, [], ◌∷◌, ◌++◌, refl, sym, ◌∙◌, ap, ap₂, subst, leb-true}
 use Rattle.std.proofs.lemmas.Bool.{le-leb}
 use Rattle.std.specs.Prelude.{if◌then◌else◌}
 use Rattle.model.specs.State.{Kernel}
-use Rattle.model.specs.Steps.{Touch, touches, edits}
+use Rattle.model.specs.Steps.{Touch, touches, edits, reply, IsNowhere}
 use Rattle.model.specs.Clashes.{clash}
-use Rattle.model.specs.Entries.{Op, Entry, Executed}
-use Rattle.model.specs.Moments.{Status, gone, Moment, is_alive, is_in, status, all_below, after_one, loose, loose_touches, has_free}
+use Rattle.model.specs.Entries.{Op, Entry, Executed, answer_in, is_inside}
+use Rattle.model.specs.Moments.{Status, gone, Moment, is_alive, is_in, status, all_below, after_one, loose, loose_touches, has_free, numbers, calls_at, seen_by, after}
 use Rattle.model.specs.Legal.{Free, RightAt, Right, Legal}
-use Rattle.model.specs.Replies.{entry_for}
+use Rattle.model.specs.Replies.{entry_for, answered}
+use Rattle.model.specs.Calls.{Call}
 use Rattle.call_laws.proofs.Laws.{calls_are_lawful_lem}
 use Rattle.history_laws.specs.Beginnings.{BeforeIsAnOrder, OwnEntriesFollow, LegalityFollows}
 use Rattle.history_laws.specs.Causes.{DoomedAreToldTheirs, LosersAreToldTheirs}
@@ -17,7 +18,8 @@ use Rattle.history_laws.specs.Doings.{doings, ListsAreTheirDoings}
 use Rattle.history_laws.specs.Entered.{PhasesMove, OwnAndDoomedMove, ReservedPlacesMove, RestartsBeginAnew, CommitsRunTheList, PlainCallsRun, CallsGoIn, ListsStay}
 use Rattle.history_laws.specs.Histories.{RightEntriesKeepHistoriesLegal, CommittedIsSerial, PlacesSuffice, RepliesAreAFunction, RightEntriesHavePlaces, BeginningsAreLegal, OwnEntriesGrow, AfterOneMore, ViewsMayBeLoose, TouchedObjectsStay}
 use Rattle.history_laws.specs.Marks.{ModesFollowMarks}
-use Rattle.history_laws.specs.Processes.{ForksAndExitsMove, UnmadeAreRefused, FirstProcessesLive}
+use Rattle.history_laws.specs.Processes.{child_in, ForksAndExitsMove, UnmadeAreRefused, FirstProcessesLive}
+use Rattle.history_laws.specs.Processes.{born as makes}
 use Rattle.history_laws.specs.Standing.{WhatStands}
 use Rattle.history_laws.proofs.Beginnings as beginnings
 use Rattle.history_laws.proofs.Born as born
@@ -27,11 +29,15 @@ use Rattle.history_laws.proofs.Grown as grown
 use Rattle.history_laws.proofs.Headlines as headlines
 use Rattle.history_laws.proofs.Marks as marks
 use Rattle.history_laws.proofs.Next as nexts
+use Rattle.history_laws.proofs.Processes as processes
 use Rattle.history_laws.proofs.Replied as replied
 use Rattle.history_laws.proofs.Sound as sound
 use Rattle.history_laws.proofs.Staying as staying
 use Rattle.history_laws.proofs.Stood as stood
+use Rattle.history_laws.proofs.Tame as tame
 use Rattle.history_laws.proofs.Told as told
+use Rattle.history_laws.proofs.Goes as goes
+use Rattle.call_laws.specs.WellFormed.{WellFormed}
 
 -- the empty history is legal
 pub legal_start : (root : ℕ) (priorities : List ℕ) (limit : ℕ) → Legal root priorities limit []
@@ -184,3 +190,23 @@ doomed_are_told_theirs = told.doomed_are_told_theirs
 
 pub losers_are_told_theirs : LosersAreToldTheirs
 losers_are_told_theirs = told.losers_are_told_theirs
+
+-- the reply of a call that was made says its answer, since no plan refuses as unsupported
+pub executed_again : (k : Kernel) (pid : ℕ) (call : Call) → answer_in (answered (reply k pid call)) ≡ Some (reply k pid call)
+executed_again = tame.executed_again
+
+-- a number that is nowhere in the committed state and not among those of a process's list is nowhere in what the process sees
+pub nowhere_seen : (root : ℕ) (priorities : List ℕ) (limit : ℕ) (es : List Entry) → Legal root priorities limit es → (q n : ℕ) → IsNowhere (after root priorities es).committed n
+    → is_in n (numbers (calls_at (after root priorities es) q)) ≡ false → IsNowhere (seen_by (after root priorities es) q) n
+nowhere_seen root priorities limit es legal q n none out =
+    let m = after root priorities es in
+    let stands = (what_stands root priorities limit es legal).lists q in
+    let seen = (views_may_be_loose root priorities limit es legal q).seen in
+    subst (λ k. IsNowhere k n) (sym seen) (calls_are_lawful_lem.nowhere_tidy _ n (goes.goes_nowhere WellFormed calls_are_lawful_lem q m.committed (calls_at m q) n out none stands.goes))
+
+-- a call that transactions support makes no process
+pub childless : (k : Kernel) (pid : ℕ) (call : Call) → is_inside call ≡ true → (child_in (answered (reply k pid call)) ≡ None) × (makes (answered (reply k pid call)) ≡ 0)
+childless k pid call inside =
+    let said = born.said_child (answered (reply k pid call)) (reply k pid call) (tame.executed_again k pid call) in
+    let none = processes.inside_childless k pid call inside in
+    (said.0 ∙ none, said.1 ∙ processes.born_none (reply k pid call) none)

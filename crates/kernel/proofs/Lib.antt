@@ -1,0 +1,14 @@
+mod Steps
+mod Struck
+mod Others
+mod Fits
+mod Own
+mod Counts
+mod Rows
+mod Taken
+mod Within
+mod Unchanged
+mod Plain
+mod Commits
+mod Judged
+mod First

@@ -3,12 +3,14 @@
 //! Today it has one directory, the root, and the calls mkdir and stat on it.
 #![tactic(auto)]
 
-mod call;
-mod clash;
+mod calls;
+mod doom;
 mod kernel;
-mod names;
 mod operation;
+mod rest;
 mod slot;
+mod state;
+mod step;
 
 pub use kernel::Kernel;
-pub use operation::{is_there, is_there_call};
+pub use operation::is_there;

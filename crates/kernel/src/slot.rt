@@ -1,7 +1,8 @@
 // What the kernel keeps of each process.
-use crate::names::NameEdit;
-use heap::Heap;
-use ids::{Age, BeginFlags, Cause, Touch};
+ghost use Rattle.std.specs.Prelude.{◌≡◌};
+
+use ids::{Age, BeginFlags, Cause};
+use shadow::Shadow;
 
 /// A live transaction.
 #[derive(Drop)]
@@ -10,10 +11,8 @@ pub struct Transaction {
     pub flags: BeginFlags,
     /// When it began first.
     pub age: Age,
-    /// All that its calls have touched, in order.
-    pub touches: Vec<Touch, Heap>,
-    /// The changes that its calls have made, in order.
-    pub edits: Vec<NameEdit, Heap>,
+    /// What it has changed.
+    pub shadow: Shadow,
 }
 
 /// A transaction that was doomed by another process and has not been told yet.
@@ -32,29 +31,12 @@ pub struct Doom {
 /// The state of one process.
 #[derive(Drop)]
 pub enum Slot {
+    /// No process.
+    Gone,
     /// In no transaction.
     Idle,
     /// In a transaction.
     Live(Transaction),
     /// In a transaction that was doomed.
     Doomed(Doom),
-}
-
-impl Slot {
-    /// Whether its transaction has a place of the history reserved.
-    pub fn holds_place(&self) -> bool {
-        match self {
-            Slot::Idle => false,
-            Slot::Live(_) => true,
-            Slot::Doomed(_) => true,
-        }
-    }
-
-    /// The transaction, where it is live.
-    pub fn live(&self) -> Option<&Transaction> {
-        match self {
-            Slot::Live(transaction) => Some(transaction),
-            _ => None,
-        }
-    }
 }

@@ -3,9 +3,9 @@ use Rattle.std.specs.Prelude.{ℕ}
 use Rattle.runner.specs.declared.fault.RunFault.{RunFault}
 use Rattle.runner.specs.declared.fault.RunFault.TheVariants.{Script, Schedule, Read, Write, HistoryFull, NoMemory}
 use Rattle.script.specs.declared.faults.ScriptFault.{ScriptFault}
-use Rattle.script.specs.declared.faults.ScriptFault.TheVariants.{TooLong, NotEnded, PrioritiesExpected, ProcessExpected, UnknownOperation, BadArguments, NoMemory as NoScriptMemory}
+use Rattle.script.specs.declared.faults.ScriptFault.TheVariants.{NoMemory as NoScriptMemory}
 use Rattle.script.specs.declared.faults.ScheduleFault.{ScheduleFault}
-use Rattle.script.specs.declared.faults.ScheduleFault.TheVariants.{BadList, NoLine, NoMemory as NoScheduleMemory}
+use Rattle.script.specs.declared.faults.ScheduleFault.TheVariants.{NoMemory as NoScheduleMemory}
 
 abbrev pub fault_of_script : ScriptFault → RunFault
 fault_of_script NoScriptMemory = NoMemory

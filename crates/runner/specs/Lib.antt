@@ -1,1 +1,5 @@
 pub mod Faults
+pub mod Jobs
+pub mod Runs
+pub mod Steps
+pub mod There

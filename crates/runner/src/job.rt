@@ -1,5 +1,6 @@
 // The program from the opened file on.
-ghost use Rattle.std.specs.Prelude.{◌≡◌, ◌<◌, ◌≤◌, ◌-◌, ◌^◌};
+ghost use Rattle.std.specs.Prelude.{◌≡◌, ◌⊎◌, ◌<◌, ◌≤◌, ◌-◌, ◌^◌};
+ghost use Rattle.runner.specs.Jobs.{IsDone, IsFaulted};
 
 use crate::RunFault;
 use crate::run::run_schedule;
@@ -21,16 +22,17 @@ pub fn run_job<I: Source, O: Sink, E: Sink>(
     requires writes { O.failures out.old < 2 ^ 64 - 1 }
     requires tells { E.failures err.old < 2 ^ 64 - 1 }
     requires limited { job.now.limit ≤ 1048576 }
+    ensures { IsDone job.now (I.remaining source.old) (I.remaining source.new) (O.written out.old) (O.written out.new) result
+        ⊎ IsFaulted job.now (I.remaining source.old) (I.remaining source.new) (O.written out.old) (O.written out.new)
+        (I.failures source.old < I.failures source.new) (O.failures out.old < O.failures out.new) result }
 {
     let Way::Schedule(list) = &job.way;
-    let done = run_schedule(heap, source, list.as_str(), job.limit as usize, out);
-    match done.err() {
-        None => 0,
-        Some(fault) => {
-            tell_fault(heap, &fault, err);
-            fault.status()
-        }
-    }
+    let fault = match run_schedule(heap, source, list.as_str(), job.limit as usize, out) {
+        Ok(_kernel) => return 0,
+        Err(fault) => fault,
+    };
+    tell_fault(heap, &fault, err);
+    fault.status()
 }
 
 /// Writes a fault's line. Where memory for its text is refused, that is told.

@@ -7,5 +7,4 @@ pub mod Scripts
 pub mod Spelled
 pub mod Steps
 pub mod Texts
-pub mod There
 pub mod Verbs

@@ -6,7 +6,6 @@ use Rattle.script.specs.Pieces.{one_of, two_of, three_of}
 use Rattle.script.specs.Numbers.{decimal_in, offset_in, byte_in}
 use Rattle.script.specs.Texts.{text_in}
 use Rattle.script.specs.Flags.{flags_in, begin_flags, begin_flags_in, whence_in}
-use Rattle.script.specs.There.{flags_are_there}
 use Rattle.ids.specs.declared.flags.BeginFlags.{BeginFlags}
 use Rattle.ids.specs.declared.call.Op.{Op}
 use Rattle.ids.specs.declared.call.Op.TheVariants as op
@@ -44,7 +43,7 @@ no_arguments x (_ ∷ _) = None
 
 abbrev pub begin_of : List (List ℕ) → Option BeginFlags
 begin_of [] = Some (begin_flags 0)
-begin_of (word ∷ []) = option_and_then (λ flags. if flags_are_there flags then Some flags else None) (begin_flags_in word)
+begin_of (word ∷ []) = begin_flags_in word
 begin_of (_ ∷ _ ∷ _) = None
 
 abbrev pub abort_of : List (List ℕ) → Option Bool

@@ -5,8 +5,7 @@ use Rattle.std.specs.Option.{option_and_then}
 use Rattle.std.specs.Str.{bytes_eq}
 use Rattle.script.specs.Numbers.{decimal_in}
 use Rattle.script.specs.Operations.{arguments}
-use Rattle.script.specs.Spelled.{Spelled}
-use Rattle.script.specs.There.{is_there, top_priority}
+use Rattle.script.specs.Spelled.{Spelled, top_priority}
 use Rattle.script.specs.Verbs.{verb_in}
 use Rattle.ids.specs.declared.call.Op.{Op}
 use Rattle.script.specs.declared.verb.Verb.{Verb}
@@ -43,11 +42,11 @@ pid_in word = if_not_zero (decimal_in 4096 word)
 
 abbrev pub with_op : ℕ → ℕ → Option Op → Result Line ScriptFault
 with_op number process None = Err (fault.BadArguments number)
-with_op number process (Some operation) = Ok (record { pid = process; op = operation })
+with_op number process (Some operation) = Ok (record { pid = process; op = operation; number = number })
 
 abbrev pub with_verb : ℕ → ℕ → Option Verb → List (List ℕ) → Result Line ScriptFault
 with_verb number process None words = Err (fault.UnknownOperation number)
-with_verb number process (Some verb) words = if is_there verb then with_op number process (arguments verb words) else Err (fault.UnknownOperation number)
+with_verb number process (Some verb) words = with_op number process (arguments verb words)
 
 abbrev pub with_pid : ℕ → Option ℕ → List (List ℕ) → Result Line ScriptFault
 with_pid number None words = Err (fault.ProcessExpected number)

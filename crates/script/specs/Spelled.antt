@@ -1,7 +1,10 @@
 -- What a script says.
 use Rattle.std.specs.Prelude.{ℕ, ◌<◌, ◌≤◌, List, length, All}
-use Rattle.script.specs.There.{top_priority}
 use Rattle.script.specs.declared.read.Line.{Line}
+
+-- the highest priority
+abbrev pub top_priority : ℕ
+top_priority = 7
 
 -- the priorities of the processes that are made at the start, and the lines
 pub record Spelled : Type 0 where

@@ -15,7 +15,6 @@ mod read;
 mod schedule;
 mod steps;
 mod text;
-mod there;
 mod verb;
 
 pub use faults::{ScheduleFault, ScriptFault};

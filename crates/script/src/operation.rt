@@ -9,7 +9,6 @@ use crate::flags::{begin_flags_in, flags_in, whence_in};
 use crate::number::{byte_in, number_in, offset_in};
 use crate::pieces::Pieces;
 use crate::text::text_in;
-use crate::there::flags_are_there;
 use crate::verb::Verb;
 use heap::Heap;
 use ids::{BeginFlags, Bytes, Call, Fd, Op, OpenFlags, Whence};
@@ -135,12 +134,7 @@ fn begin_of(args: Pieces<'_>) -> Option<BeginFlags>
     if args.is_empty() {
         return Some(BeginFlags::none());
     }
-    let flags = begin_flags_in(args.one()?)?;
-    if flags_are_there(flags) {
-        Some(flags)
-    } else {
-        None
-    }
+    begin_flags_in(args.one()?)
 }
 
 // Whether an abort says `no_restart`.

@@ -8,12 +8,14 @@ use crate::faults::ScriptFault;
 use crate::number::number_in;
 use crate::operation::arguments;
 use crate::pieces::Pieces;
-use crate::there::{TOP_PRIORITY, is_there};
 use crate::verb::verb_in;
 use heap::Heap;
 use ids::{Op, Pid, Priority};
 use std::alloc::AllocError;
 use std::marker::Model;
+
+// The highest priority that there is.
+const TOP_PRIORITY: u32 = 7;
 
 /// A line of a script: what a process does next.
 #[derive(Debug, Drop)]
@@ -22,6 +24,8 @@ pub struct Line {
     pub pid: Pid,
     /// Its operation.
     pub op: Op,
+    /// Its number in the text, counted from 1, skipped lines too.
+    pub number: usize,
 }
 
 /// The priorities of the processes that are made at the start, and the lines.
@@ -42,7 +46,7 @@ impl Model for Script {
 }
 
 impl Script {
-    /// The priorities, from process 1 on: 1 to 4,096 of them.
+    /// The priorities, from process 1 on: 1 to 4,096 of them, each at most 7.
     pub fn priorities(&self) -> &[Priority]
         ensures value { result.now ≡ self.now.priorities }
         ensures lawful { AreLawful result.now }
@@ -129,11 +133,8 @@ fn line_of(
     let Some(verb) = verb_in(second) else {
         return Ok(Err(ScriptFault::UnknownOperation(number)));
     };
-    if !is_there(verb) {
-        return Ok(Err(ScriptFault::UnknownOperation(number)));
-    }
     match arguments(heap, verb, words)? {
-        Some(op) => Ok(Ok(Line { pid, op })),
+        Some(op) => Ok(Ok(Line { pid, op, number })),
         None => Ok(Err(ScriptFault::BadArguments(number))),
     }
 }

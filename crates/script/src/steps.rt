@@ -67,7 +67,7 @@ fn add(queues: &mut Vec<Queue, Heap>, line: Line) -> Result<(), AllocError>
     ensures len { vec_len queues.new ≡ 4097 }
     ensures ok { OnOk result ((p : ℕ) → p < 4097 → slice_index_or queues.new.items p [] ≡ slice_index_or queues.old.items p [] ++ ops_for p (line ∷ [])) }
 {
-    let Line { pid, op } = line;
+    let Line { pid, op, number: _ } = line;
     let place = pid.0 as usize;
     if place < 4097 {
         queues[place].push(op)?;

@@ -11,7 +11,7 @@ fn fault_of(heap: Heap, text: &[u8]) -> Option<ScriptFault> {
     read_script(heap, text).err()
 }
 
-// The operation that words spell, whether it is there yet or not.
+// The operation that words spell.
 fn op_of(heap: Heap, text: &[u8]) -> Result<Option<Op>, Fail> {
     let mut words = Pieces::new(text, b' ');
     let Some(word) = words.next() else {
@@ -27,7 +27,7 @@ static FIRST_LINES: [(&str, Option<ScriptFault>); 8] = [
     ("", Some(ScriptFault::PrioritiesExpected(1))),
     ("# c\n", Some(ScriptFault::PrioritiesExpected(2))),
     ("priorities 8\n", Some(ScriptFault::PrioritiesExpected(1))),
-    ("priorities 1\n", Some(ScriptFault::PrioritiesExpected(1))),
+    ("priorities 7\n", None),
     ("priorities 00\n", Some(ScriptFault::PrioritiesExpected(1))),
     ("priorities\n", Some(ScriptFault::PrioritiesExpected(1))),
     ("1 end\n", Some(ScriptFault::PrioritiesExpected(1))),
@@ -82,12 +82,12 @@ static FURTHER_LINES: [(&str, Option<ScriptFault>); 14] = [
         Some(ScriptFault::BadArguments(2)),
     ),
     (
-        "priorities 0\n1 begin RESTART\n",
+        "priorities 0\n1 begin restart\n",
         Some(ScriptFault::BadArguments(2)),
     ),
     (
         "priorities 0\n# 1\n1 fork\n1 frob\n",
-        Some(ScriptFault::UnknownOperation(3)),
+        Some(ScriptFault::UnknownOperation(4)),
     ),
     (
         "priorities 0\n1 abort no_restart\n1 stat \\e\n4096 mkdir \\x00\\xff!~\n",
@@ -180,7 +180,7 @@ static READ: [&str; 27] = [
     "fork",
     "exit",
     "end",
-    "begin",
+    "begin ABORT_UNSUPPORTED,RESTART",
     "abort",
     "abort no_restart",
 ];

@@ -4,8 +4,7 @@ ghost use Rattle.kernel.specs.Operations.{can_run};
 
 use heap::Heap;
 use ids::{Answer, Aspect, BeginFlags, Bytes, Call, Cause, Errno, Op, Pid, Priority, Reply, Why};
-use kernel::Kernel;
-use std::alloc::AllocError;
+use kernel::{Kernel, is_there};
 use std::test::Fail;
 
 // One operation.
@@ -104,15 +103,20 @@ fn kernel_of_two(heap: Heap, limit: usize) -> Result<Kernel, Fail>
     Ok(Kernel::new(heap, &[zero, zero], limit)?)
 }
 
-fn op_of(heap: Heap, step: Step) -> Result<Op, AllocError>
+fn op_of(heap: Heap, step: Step) -> Result<Op, Fail>
     ensures { IfOk result (λ op. can_run op ≡ true) }
 {
-    match step {
-        Step::Begin => Ok(Op::Begin(BeginFlags::none())),
-        Step::End => Ok(Op::End),
-        Step::Abort => Ok(Op::Abort { no_restart: false }),
-        Step::Mkdir(path) => Ok(Op::Call(Call::Mkdir(Bytes::copy(heap, path.as_bytes())?))),
-        Step::Stat(path) => Ok(Op::Call(Call::Stat(Bytes::copy(heap, path.as_bytes())?))),
+    let op = match step {
+        Step::Begin => Op::Begin(BeginFlags::none()),
+        Step::End => Op::End,
+        Step::Abort => Op::Abort { no_restart: false },
+        Step::Mkdir(path) => Op::Call(Call::Mkdir(Bytes::copy(heap, path.as_bytes())?)),
+        Step::Stat(path) => Op::Call(Call::Stat(Bytes::copy(heap, path.as_bytes())?)),
+    };
+    if is_there(&op) {
+        Ok(op)
+    } else {
+        Err(Fail::from("the kernel has no such operation"))
     }
 }
 
@@ -137,7 +141,7 @@ fn letter(reply: &Reply) -> char {
     }
 }
 
-fn step_in(kernel: &mut Kernel, heap: Heap, step: (u32, Step)) -> Result<char, AllocError> {
+fn step_in(kernel: &mut Kernel, heap: Heap, step: (u32, Step)) -> Result<char, Fail> {
     let op = op_of(heap, step.1)?;
     Ok(letter(&kernel.step(Pid(step.0), op)))
 }

@@ -1,6 +1,6 @@
 use Rattle.std.proofs.Common.{◌≡◌, ◌≤◌, [], length, All}
 use Rattle.script.specs.Scripts.{priorities_after}
-use Rattle.script.specs.There.{top_priority}
+use Rattle.script.specs.Spelled.{top_priority}
 use Rattle.script.proofs.read.priorities_of.Given as goal
 
 abbrev pub invariant-loop-word : goal.invariant-loop-word

@@ -1,13 +1,15 @@
-use Rattle.std.proofs.Common.{◌≡◌, ◌≤◌, ◌+◌, length}
-use Rattle.std.specs.Vec.{vec_capacity}
+use Rattle.std.proofs.Common.{◌≡◌, ◌≤◌, ◌+◌, ◌++◌, List, length, vec_capacity}
 use Rattle.std.specs.Vec.Iter.{into_iter_items}
-use Rattle.kernel.specs.Steps.{SameFrame}
+use Rattle.model.specs.Entries.{Reply}
+use Rattle.kernel.specs.Shown.{Shown, Kept}
+use Rattle.kernel.specs.Steps.{Steps}
 use Rattle.kernel.proofs.kernel.Kernel.run.Given as goal
 
--- as many replies as operations are done, in room that was made before the first
+-- whatever steps the other operations are, with those done they are steps of all
 abbrev pub invariant-loop-pid : goal.invariant-loop-pid
 invariant-loop-pid l = record {
-  frame : SameFrame l.fn.self l.self;
+  goes_on : (rest : List Reply) (last : Shown) → Steps l.self (into_iter_items l.pid-iterator) rest last → Steps l.fn.self l.fn.ops.items (l.replies.items ++ rest) last;
+  kept : Kept l.self;
   count : length l.replies.items + length (into_iter_items l.pid-iterator) ≡ length l.fn.ops.items;
   room : length l.fn.ops.items ≤ vec_capacity l.replies;
 }

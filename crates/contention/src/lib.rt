@@ -1,0 +1,134 @@
+//! The contention manager: who loses where calls of different processes clash, and why (TxOS, section 4).
+#![tactic(auto)]
+
+ghost use Rattle.std.specs.Prelude.{◌≡◌, ℕ, suc, ◌<◌, ◌++◌, [], length, take, get_or, Some, None, IfOk, OnErr, OnOk};
+ghost use Rattle.contention.specs.Holding.{Held, nobody, held_at, IsKept, Becomes};
+ghost use Rattle.contention.specs.Verdicts.{IsVerdict};
+ghost use Rattle.model.specs.Moments.{Moment};
+
+mod contender;
+mod judge;
+
+use contender::Contender;
+use heap::Heap;
+use ids::{Age, Cause, Pid, Priority, Touch};
+use judge::judge;
+use std::alloc::AllocError;
+use std::marker::Model;
+
+/// A process that a call dooms.
+#[derive(Drop)]
+pub struct Doomed {
+    /// The process.
+    pub pid: Pid,
+    /// Why, for the entry of its notice.
+    pub entry: Cause,
+    /// Why, for the reply to its notice.
+    pub reply: Cause,
+}
+
+/// What a call's clashes come to.
+#[derive(Drop)]
+pub enum Verdict {
+    /// The call loses, with its cause for the entry and for the reply. Nobody is doomed.
+    Lose(Cause, Cause),
+    /// It takes effect, and dooms these, in the order of their numbers.
+    Go(Vec<Doomed, Heap>),
+}
+
+/// The priority of each process, and the age and the touches of each live transaction.
+#[derive(Drop)]
+pub struct Contenders {
+    all: Vec<Contender, Heap>,
+}
+
+impl Model for Contenders {
+    ghost use Rattle.std.specs.Prelude.{List};
+    ghost use Rattle.contention.specs.Holding.{Held};
+    ghost use Rattle.contention.specs.Judging.{IsNumbered};
+
+    ghost Value = { List Held };
+
+    ghost view = { λ c. c.all.items };
+
+    ghost invariant = { λ c. IsNumbered c.all.items };
+}
+
+impl Contenders {
+    /// A process for each of these priorities, numbered from 1, none in a transaction. Refused memory gives nothing.
+    pub fn new(heap: Heap, priorities: &[Priority]) -> Result<Contenders, AllocError>
+        ensures count { IfOk result (λ c. length c ≡ suc (length priorities.now)) }
+        ensures first { IfOk result (λ c. held_at c 0 ≡ nobody) }
+        ensures each { IfOk result (λ c. (i : ℕ) → i < length priorities.now → held_at c (suc i) ≡ record { priority = get_or priorities.now i 0; age = None; touches = [] }) }
+    {
+        let mut all = Vec::new(heap);
+        all.push(Contender::new(heap, Priority::new(0).unwrap()))?;
+        for priority in priorities {
+            all.push(Contender::new(heap, *priority))?;
+        }
+        Ok(Contenders { all })
+    }
+
+    /// A process's transaction begins at this age.
+    pub fn begin(&mut self, pid: Pid, age: Age)
+        requires { pid < length self.old }
+        ensures { Becomes self.old self.new pid (record (held_at self.old pid) { age = Some age }) }
+    {
+        self.all[pid.0 as usize].begin(age);
+    }
+
+    /// A process's transaction touches these too. Refused memory changes nothing.
+    pub fn add(&mut self, pid: Pid, touches: Vec<Touch, Heap>) -> Result<(), AllocError>
+        requires { pid < length self.old }
+        ensures ok { OnOk result (Becomes self.old self.new pid (record (held_at self.old pid) { touches = (held_at self.old pid).touches ++ touches.entry.items })) }
+        ensures err { OnErr result (self.new ≡ self.old) }
+    {
+        self.all[pid.0 as usize].add(touches)
+    }
+
+    /// How many touches a process's transaction has.
+    pub fn count(&self, pid: Pid) -> usize
+        requires { pid < length self.now }
+        ensures { result ≡ length (held_at self.now pid).touches }
+    {
+        self.all[pid.0 as usize].touches().len()
+    }
+
+    /// The touches of a process's transaction behind the first so many are forgotten, as before they were added. It takes no
+    /// memory.
+    pub fn keep_first(&mut self, pid: Pid, count: usize)
+        requires { pid < length self.old }
+        ensures { Becomes self.old self.new pid (record (held_at self.old pid) { touches = take count (held_at self.old pid).touches }) }
+    {
+        self.all[pid.0 as usize].keep_first(count);
+    }
+
+    /// A process's transaction begins anew: its touches are forgotten, its age stays. It takes no memory.
+    pub fn restart(&mut self, pid: Pid)
+        requires { pid < length self.old }
+        ensures { Becomes self.old self.new pid (record (held_at self.old pid) { touches = [] }) }
+    {
+        self.all[pid.0 as usize].restart();
+    }
+
+    /// A process's transaction ends: its age and touches are forgotten. It takes no memory.
+    pub fn release(&mut self, pid: Pid)
+        requires { pid < length self.old }
+        ensures { Becomes self.old self.new pid (record (held_at self.old pid) { age = None; touches = [] }) }
+    {
+        self.all[pid.0 as usize].release();
+    }
+
+    /// What a call of a process comes to that touches these: of a live process all that it touches, of an idle one what it
+    /// writes. It loses against a process of a higher priority, or of its own where both are live and the other began earlier.
+    /// Refused memory changes nothing.
+    pub fn verdict(&self, heap: Heap, pid: Pid, touches: &[Touch]) -> Result<Verdict, AllocError>
+        requires { pid < length self.now }
+        ensures { (m : Moment) → IsKept m self.now → IfOk result (IsVerdict m pid touches.now) }
+    {
+        judge(heap, self.all.as_slice(), pid, touches)
+    }
+}
+
+#[cfg(test)]
+mod tests;

@@ -1,0 +1,61 @@
+-- A live transaction that is committed.
+use Rattle.std.proofs.Common.{◌≡◌, ◌≢◌, ℕ, ◌≤◌, List, [], Some, None, length, refl, sym, ◌∙◌, ap, subst, true, false, Bool}
+use Rattle.model.specs.State.{Kernel}
+use Rattle.model.specs.Changes.{tidy}
+use Rattle.model.specs.Entries.{BeginFlags, End, Committed, Entry}
+use Rattle.model.specs.Moments.{Moment, live, status, is_alive, loose, calls_at, next}
+use Rattle.model.specs.Legal.{Right, Alone}
+use Rattle.call_laws.specs.WellFormed.{WellFormed}
+use Rattle.history_laws.specs.Doings.{Goes, Doing, doings, all_done}
+use Rattle.history_laws.proofs.Laws.{right_by, alive_is, commits_run_the_list, lists_are_their_doings, what_stands}
+use Rattle.contention.specs.Holding.{held_at}
+use Rattle.shadow.specs.Committed.{CanCommit}
+use Rattle.kernel.specs.Shown.{moment}
+use Rattle.kernel.specs.Rows.{IsSteady}
+use Rattle.kernel.specs.Standings.{IsOpen}
+use Rattle.kernel.specs.States.{Fields, Holds, with_entry}
+use Rattle.kernel.specs.Views.{resting, view_at, view_of, changes_of}
+use Rattle.kernel.proofs.Others.{moves}
+use Rattle.kernel.proofs.Own.{closing_holds}
+use Rattle.kernel.proofs.Rows.{IsLive, is_live, plain}
+
+module _ (f : Fields) (pid : ℕ) (flags : BeginFlags) (age : ℕ) (holds : Holds f) (opening : IsOpen (view_of (moment f.log) pid) flags age) where
+  abbrev m : Moment
+  m = moment f.log
+
+  abbrev e : Entry
+  e = plain pid End Committed
+
+  alone : Alone e
+  alone = record { chosen = refl; doomed = refl }
+
+  calm : IsSteady e
+  calm = record { childless = refl; unborn = refl; goes_on = refl }
+
+  is_open : IsLive (status m pid) flags age opening.changes (changes_of m pid)
+  is_open = is_live m pid flags age opening.changes opening.is
+
+  pub its_changes : opening.changes ≡ changes_of m pid
+  its_changes = is_open.same
+
+  pub commit_right : Right f.log.limit m e
+  commit_right = right_by f.log.limit m e (live flags age is_open.calls) End is_open.is refl (refl, alone)
+
+  pub can_commit : CanCommit f.stable.state (changes_of m pid)
+  can_commit = record {
+    pid = pid;
+    calls = calls_at m pid;
+    goes = subst (λ k. Goes WellFormed k pid (calls_at m pid)) (sym holds.state) ((what_stands 0 f.log.priorities f.log.limit f.log.entries holds.legal).lists pid).goes;
+    same = ap (doings pid (calls_at m pid)) holds.state;
+  }
+
+  committed : (next m e).committed ≡ tidy (all_done (changes_of m pid) f.stable.state)
+  committed = commits_run_the_list 0 f.log.priorities f.log.limit f.log.entries e holds.legal commit_right refl ∙ ap tidy (lists_are_their_doings pid (calls_at m pid) m.committed)
+      ∙ ap (λ k. tidy (all_done (changes_of m pid) k)) (sym holds.state)
+
+  pub commit_holds : (g : Fields) → g.log ≡ with_entry f.log e → length g.slots ≡ length f.slots → view_at g.slots pid ≡ resting → ((q : ℕ) → q ≢ pid → view_at g.slots q ≡ view_at f.slots q)
+      → length g.held ≡ length f.held → held_at g.held pid ≡ record (held_at f.held pid) { age = None; touches = [] } → ((q : ℕ) → q ≢ pid → held_at g.held q ≡ held_at f.held q)
+      → g.stable.state ≡ tidy (all_done (changes_of m pid) f.stable.state) → f.stable.next ≤ g.stable.next → Holds g
+  commit_holds g log count own others held_count held_own held_others state grows =
+      closing_holds f g e false flags age holds commit_right alone calm (moves f.log e holds.legal commit_right calm).own (alive_is m pid (live flags age is_open.calls) is_open.is (λ h. absurd cc))
+      log count own others held_count held_own held_others (state ∙ sym committed) grows

@@ -1,0 +1,34 @@
+use Rattle.std.proofs.Common.{◌≡◌, ℕ, List, sym, ap, subst, ◌∙◌, filter}
+use Rattle.std.specs.Prelude.{IfOk}
+use Rattle.model.specs.Moments.{counted_touches}
+use Rattle.model.specs.Steps.{touches}
+use Rattle.history_laws.specs.Doings.{all_done}
+use Rattle.contention.specs.Verdicts.{IsVerdict}
+use Rattle.kernel.specs.Shown.{moment}
+use Rattle.kernel.specs.States.{fields}
+use Rattle.kernel.proofs.Judged.{plain_counted}
+use Rattle.kernel.proofs.calls.run_plain.Goals as goal
+use Rattle.kernel.proofs.calls.run_plain.Goals.{After-branch-entry}
+
+-- the verdict on the touches that count
+judged : (c : After-branch-entry) → IfOk c.verdict.result (IsVerdict (moment c.args.s.now.history) c.args.pid (counted_touches (moment c.args.s.now.history) c.args.pid c.args.call))
+judged c =
+    let m = moment c.args.s.now.history in
+    let writes = c.as_slice.ensures.value ∙ c.keep_writes.ensures ∙ ap (filter (λ t. t.write)) c.in_ok-plan.ensures.touches
+    ∙ ap (λ ds. filter (λ t. t.write) (touches (all_done ds c.args.s.now.stable.state) c.args.pid c.args.call)) c.new.ensures ∙ plain_counted (fields c.args.s.now) c.args.pid c.args.call c.requires.holds c.requires.idle in
+    subst (λ ts. IfOk c.verdict.result (IsVerdict m c.args.pid ts)) writes (c.verdict.ensures m c.requires.holds.held)
+
+pub put_off-requires-clause-lost : goal.put_off-requires-clause-lost
+put_off-requires-clause-lost c =
+    let m = moment c.args.s.now.history in
+    (subst (IsVerdict m c.args.pid (counted_touches m c.args.pid c.args.call)) c.in-Lose.is (subst (λ r. IfOk r (IsVerdict m c.args.pid (counted_touches m c.args.pid c.args.call))) c.in_ok-entry.was (judged (goal.at.put_off-requires-clause-lost c).After-branch-entry))).0
+
+pub put_off-requires-clause-twice : goal.put_off-requires-clause-twice
+put_off-requires-clause-twice c =
+    let m = moment c.args.s.now.history in
+    (subst (IsVerdict m c.args.pid (counted_touches m c.args.pid c.args.call)) c.in-Lose.is (subst (λ r. IfOk r (IsVerdict m c.args.pid (counted_touches m c.args.pid c.args.call))) c.in_ok-entry.was (judged (goal.at.put_off-requires-clause-twice c).After-branch-entry))).1
+
+pub take_plain-requires-clause-wins : goal.take_plain-requires-clause-wins
+take_plain-requires-clause-wins c =
+    let m = moment c.args.s.now.history in
+    subst (IsVerdict m c.args.pid (counted_touches m c.args.pid c.args.call)) c.in-Go.is (subst (λ r. IfOk r (IsVerdict m c.args.pid (counted_touches m c.args.pid c.args.call))) c.in_ok-entry.was (judged (goal.at.take_plain-requires-clause-wins c).After-branch-entry))

@@ -1,0 +1,35 @@
+use Rattle.std.proofs.Common.{rules, ◌≡◌, ◌≤◌, ◌+◌, ℕ, List, [], ◌∷◌, ◌++◌, length, refl, sym, ap, subst, ◌∙◌, arith}
+use Rattle.std.proofs.lemmas.List.{append_assoc, append-nil}
+use Rattle.std.specs.Vec.{vec_capacity}
+use Rattle.std.specs.Vec.Iter.{into_iter_items}
+use Rattle.model.specs.Entries.{Reply}
+use Rattle.kernel.specs.Shown.{Shown}
+use Rattle.kernel.specs.Steps.{Steps}
+use Rattle.kernel.proofs.kernel.Kernel.run.Goals as goal
+
+empty_of : {A : Type 0} (xs : List A) → length xs ≡ 0 → xs ≡ []
+empty_of [] h = refl
+empty_of (x ∷ xs) h = absurd (omega (arith, h))
+
+pub loop-pid-preserved : goal.loop-pid-preserved
+loop-pid-preserved c =
+    let before = c.loop-pid.invariant in
+    let first = c.in-Some.ensures.steps.0 in
+    let pushed : c.push.new.self.items ≡ c.loop-pid.replies.items ++ c.step-reply.result ∷ [] = search rules in
+    let count : length c.push.new.self.items + length (into_iter_items c.next.new.self) ≡ length c.args.ops.items = search rules in
+    let room : length c.args.ops.items ≤ vec_capacity c.push.new.self = search rules in
+    record {
+      goes_on = λ rest last steps.
+          subst (λ replies. Steps c.args.self.now c.args.ops.items replies last) (sym (ap (λ rs. rs ++ rest) pushed ∙ append_assoc c.loop-pid.replies.items (c.step-reply.result ∷ []) rest))
+          (before.goes_on (c.step-reply.result ∷ rest) last (subst (λ ops. Steps c.loop-pid.self ops (c.step-reply.result ∷ rest) last) (sym first) (c.step-reply.new.self, c.step-reply.ensures.step, c.step-reply.ensures.kept, steps)));
+      kept = c.step-reply.ensures.kept;
+      count = count;
+      room = room;
+    }
+
+pub returns-clause-steps : goal.returns-clause-steps
+returns-clause-steps c =
+    let zero : length (into_iter_items c.loop-pid.pid-iterator) ≡ 0 = search rules in
+    let none : into_iter_items c.loop-pid.pid-iterator ≡ [] = empty_of _ zero in
+    subst (λ replies. Steps c.args.self.now c.args.ops.items replies c.loop-pid.self) (append-nil c.loop-pid.replies.items)
+    (c.loop-pid.invariant.goes_on [] c.loop-pid.self (subst (λ ops. Steps c.loop-pid.self ops [] c.loop-pid.self) (sym none) refl))

@@ -1,0 +1,20 @@
+-- What a contract sees of a kernel, and what holds of each.
+use Rattle.std.specs.Prelude.{◌≡◌}
+use Rattle.history.specs.Log.{Log}
+use Rattle.model.specs.State.{Kernel as State}
+use Rattle.model.specs.Moments.{Moment, after}
+use Rattle.model.specs.Legal.{Legal}
+
+-- its history, and the committed state
+pub record Shown : Type 0 where
+  pub log : Log
+  pub state : State
+
+-- what the history comes to: the committed state, and the status of each process. The root is number 0.
+abbrev pub moment : Log → Moment
+moment log = after 0 log.priorities log.entries
+
+-- The history is legal, and the state is what it committed.
+pub record Kept (v : Shown) : Type 0 where
+  pub legal : Legal 0 v.log.priorities v.log.limit v.log.entries
+  pub state : v.state ≡ (moment v.log).committed

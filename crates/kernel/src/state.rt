@@ -1,0 +1,87 @@
+// The fields of a kernel, and the entries that change them.
+ghost use Rattle.std.specs.Prelude.{◌≡◌, ◌<◌, [], length, Some, None, if◌then◌else◌};
+ghost use Rattle.contention.specs.Holding.{held_at, Becomes};
+ghost use Rattle.kernel.specs.Rows.{IsQuiet, settled_as};
+ghost use Rattle.kernel.specs.States.{CanSettle, Holds, fields, shown};
+ghost use Rattle.kernel.specs.Steps.{IsStep};
+ghost use Rattle.kernel.specs.Views.{Shows, slot_view, shown_by};
+
+use crate::slot::{Slot, Transaction};
+use contention::Contenders;
+use heap::Heap;
+use history::History;
+use ids::{Age, BeginFlags, Entry, Pid};
+use shadow::{Shadow, Stable};
+
+/// The fields of a kernel. A process's number is the place of its slot; the first slot is of no process.
+#[derive(Drop)]
+pub struct State {
+    /// Where all memory comes from.
+    pub heap: Heap,
+    /// All entries so far.
+    pub history: History,
+    /// What each process is.
+    pub slots: Vec<Slot, Heap>,
+    /// What each live transaction touches.
+    pub contenders: Contenders,
+    /// What is committed.
+    pub stable: Stable,
+}
+
+/// Adds an entry that dooms nobody, commits nothing and leaves its process as it was.
+pub fn note(s: &mut State, entry: Entry)
+    requires holds { Holds (fields s.old) }
+    requires quiet { IsQuiet s.old.history entry }
+    ensures holds { Holds (fields s.new) }
+    ensures step { IsStep (shown (fields s.old)) (shown (fields s.new)) entry.pid entry.op entry.reply }
+{
+    s.history.push_placed(entry);
+}
+
+/// Adds an entry that dooms nobody and commits nothing, and after which its process's transaction begins, or begins anew, or
+/// is gone. Its slot before may have been taken already.
+pub fn settle(s: &mut State, entry: Entry, again: bool, flags: BeginFlags, age: Age)
+    requires { CanSettle (fields s.old) entry again flags age }
+    ensures holds { Holds (fields s.new) }
+    ensures step { IsStep (shown (fields s.old)) (shown (fields s.new)) entry.pid entry.op entry.reply }
+{
+    let slot = settled_slot(s.heap, again, flags, age);
+    let pid = entry.pid;
+    settle_held(&mut s.contenders, pid, again, age);
+    set_slot(&mut s.slots, pid, slot);
+    s.history.push_placed(entry);
+}
+
+/// Puts a process's slot in the place of the one before.
+pub fn set_slot(slots: &mut Vec<Slot, Heap>, pid: Pid, slot: Slot)
+    requires { pid < length slots.old.items }
+    ensures { Shows slots.old.items slots.new.items pid (slot_view slot) }
+{
+    slots[pid.0 as usize] = slot;
+}
+
+/// The slot of a process that is in a transaction without calls, or in none.
+fn settled_slot(heap: Heap, again: bool, flags: BeginFlags, age: Age) -> Slot
+    ensures { slot_view result ≡ shown_by (settled_as again flags age) [] }
+{
+    if again {
+        Slot::Live(Transaction {
+            flags,
+            age,
+            shadow: Shadow::new(heap),
+        })
+    } else {
+        Slot::Idle
+    }
+}
+
+/// What such a process holds.
+fn settle_held(contenders: &mut Contenders, pid: Pid, again: bool, age: Age)
+    requires { pid < length contenders.old }
+    ensures { Becomes contenders.old contenders.new pid (record (held_at contenders.old pid) { age = if again then Some age else None; touches = [] }) }
+{
+    contenders.release(pid);
+    if again {
+        contenders.begin(pid, age);
+    }
+}

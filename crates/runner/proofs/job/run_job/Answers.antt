@@ -1,0 +1,5 @@
+use Rattle.std.proofs.Common.{inl, refl, rules}
+use Rattle.runner.proofs.job.run_job.Goals as goal
+
+pub returns-in-Ok : goal.returns-in-Ok
+returns-in-Ok g c = inl (record { kernel = c.in-Ok._kernel; ran = search rules; success = refl })

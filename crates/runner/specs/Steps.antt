@@ -1,0 +1,63 @@
+-- How far a run has come with its steps.
+use Rattle.std.specs.Prelude.{◌≡◌, ◌≢◌, ℕ, ◌+◌, List, [], ◌∷◌, ◌++◌, length, map, take, slice_get, true, false, Option, Some}
+use Rattle.std.specs.Io.KnownBytes.{append_known}
+use Rattle.device.specs.Device.{IsPart}
+use Rattle.ids.specs.declared.call.Op.{Op}
+use Rattle.ids.specs.declared.entry.Entry.{Entry}
+use Rattle.kernel.specs.Shown.{Shown, Kept, moment}
+use Rattle.history.specs.Log.{Log}
+use Rattle.kernel.specs.Steps.{Added, has_place}
+use Rattle.model.specs.Entries.{Reply}
+use Rattle.model.specs.Moments.{status}
+use Rattle.model.specs.Replies.{needed}
+use Rattle.transcript.specs.Line.{line_of, transcript}
+use Rattle.runner.specs.declared.fault.RunFault.{RunFault}
+use Rattle.runner.specs.declared.fault.RunFault.TheVariants.{Write, HistoryFull, NoMemory}
+
+-- the process and the operation of each entry, in order
+abbrev pub operations : List Entry → List (ℕ × Op)
+operations entries = map (λ e. (e.pid, e.op)) entries
+
+-- A kernel with these priorities and this limit has a legal history, and its operations are these steps.
+pub record HasDone (priorities : List ℕ) (limit : ℕ) (steps : List (ℕ × Op)) (kernel : Shown) : Type 0 where
+  pub kept : Kept kernel
+  pub same_priorities : kernel.log.priorities ≡ priorities
+  pub same_limit : kernel.log.limit ≡ limit
+  pub done : operations kernel.log.entries ≡ steps
+
+-- One entry more, of this process and this operation.
+pub record Took (old new : Log) (pid : ℕ) (op : Op) : Type 0 where
+  pub reply : Reply
+  pub added : Added old new pid op reply
+
+-- Why a step was refused: its places are not free, or they are, and it needs one, and memory was refused.
+abbrev pub Refused : Log → ℕ → Op → RunFault → Type 0
+Refused log pid op HistoryFull = has_place log pid op ≡ false
+Refused log pid op NoMemory = (has_place log pid op ≡ true) × (needed (status (moment log) pid) op ≢ 0)
+Refused log pid op _ = ⊥
+
+-- The first `count` steps are done, and their transcript is written behind what stood there before. The next one was refused.
+pub record StopsBefore (fault : RunFault) (priorities : List ℕ) (limit : ℕ) (steps : List (ℕ × Op)) (old new : Option (List ℕ)) : Type 0 where
+  pub count : ℕ
+  pub kernel : Shown
+  pub done : HasDone priorities limit (take count steps) kernel
+  pub written : new ≡ append_known old (transcript kernel.log.entries)
+  pub pid : ℕ
+  pub op : Op
+  pub next : slice_get steps count ≡ Some (pid, op)
+  pub refused : Refused kernel.log pid op fault
+
+-- The first `count` steps are done. All lines but that of the last are written, and a beginning of that one.
+pub record StopsWriting (priorities : List ℕ) (limit : ℕ) (steps : List (ℕ × Op)) (old new : Option (List ℕ)) : Type 0 where
+  pub count : ℕ
+  pub kernel : Shown
+  pub done : HasDone priorities limit (take count steps) kernel
+  pub before : List Entry
+  pub last : Entry
+  pub entries : kernel.log.entries ≡ before ++ last ∷ []
+  pub part : IsPart (append_known old (transcript before)) new (line_of (length before + 1) last)
+
+-- how far the steps have come where a fault stops them
+abbrev pub Stops : RunFault → List ℕ → ℕ → List (ℕ × Op) → Option (List ℕ) → Option (List ℕ) → Type 0
+Stops Write priorities limit steps old new = StopsWriting priorities limit steps old new
+Stops fault priorities limit steps old new = StopsBefore fault priorities limit steps old new

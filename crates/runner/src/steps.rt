@@ -1,0 +1,53 @@
+// The steps of a run.
+ghost use Rattle.std.specs.Prelude.{◌≡◌, ◌≢◌, ◌<◌, ◌-◌, ◌^◌, [], true, IfErr, OnErr, OnOk};
+ghost use Rattle.std.specs.Io.KnownBytes.{append_known};
+ghost use Rattle.kernel.specs.Operations.{can_run, CanRunAll};
+ghost use Rattle.kernel.specs.Shown.{Kept};
+ghost use Rattle.transcript.specs.Line.{transcript};
+ghost use Rattle.runner.specs.Steps.{HasDone, Refused, Stops, Took};
+
+use crate::RunFault;
+use crate::printing::print_from;
+use device::Sink;
+use heap::Heap;
+use ids::{Op, Pid, Reply};
+use kernel::Kernel;
+
+// One step. HistoryFull and NoMemory mean that nothing has changed.
+fn do_step(kernel: &mut Kernel, pid: Pid, op: Op) -> Result<(), RunFault>
+    requires { can_run op ≡ true }
+    ensures kept { Kept kernel.new }
+    ensures ok { OnOk result (Took kernel.old.log kernel.new.log pid op) }
+    ensures unchanged { OnErr result (kernel.new ≡ kernel.old) }
+    ensures fault { IfErr result (Refused kernel.old.log pid op) }
+{
+    match kernel.step(pid, op) {
+        Reply::HistoryFull => Err(RunFault::HistoryFull),
+        Reply::NoMemory => Err(RunFault::NoMemory),
+        _ => Ok(()),
+    }
+}
+
+// Does steps in a row on a kernel that has done none. After each the line of its entry is written.
+pub(crate) fn do_steps<S: Sink>(
+    kernel: &mut Kernel,
+    steps: Vec<(Pid, Op), Heap>,
+    sink: &mut S,
+) -> Result<(), RunFault>
+    requires there { CanRunAll steps.items }
+    requires kept { Kept kernel.old }
+    requires fresh { kernel.old.log.entries ≡ [] }
+    requires device { S.failures sink.old < 2 ^ 64 - 1 }
+    ensures done { OnOk result (HasDone kernel.old.log.priorities kernel.old.log.limit steps.entry.items kernel.new) }
+    ensures written { OnOk result (S.written sink.new ≡ append_known (S.written sink.old) (transcript kernel.new.log.entries)) }
+    ensures fault { IfErr result (λ fault. Stops fault kernel.old.log.priorities kernel.old.log.limit steps.entry.items (S.written sink.old) (S.written sink.new)) }
+    ensures write { result ≡ Err RunFault.Write → S.failures sink.old < S.failures sink.new }
+    ensures no_failure { result ≢ Err RunFault.Write → S.failures sink.new ≡ S.failures sink.old }
+{
+    for (pid, op) in steps {
+        let before = kernel.history().entries().len();
+        do_step(kernel, pid, op)?;
+        print_from(kernel.history(), before, sink)?;
+    }
+    Ok(())
+}

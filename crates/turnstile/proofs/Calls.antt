@@ -1,0 +1,103 @@
+-- One call: the kernel is taken, makes a step and is given back.
+use Rattle.std.proofs.Common.{◌≡◌, ℕ, Bool, true, false, MatchBool, IfSome, IfNone, Option, Some, None, List, [], ◌∷◌, ◌++◌, refl, sym, ap, ◌∙◌, subst}
+use Rattle.atomic_table.specs.Table.{Me, rest}
+use Rattle.atomic_table.specs.Seated.{TableId}
+use Rattle.history.specs.Log.{Log}
+use Rattle.kernel.specs.declared.kernel.Kernel.{Kernel}
+use Rattle.kernel.specs.Shown.{Shown}
+use Rattle.kernel.specs.Steps.{is_no_entry, has_place, Added, IsStep}
+use Rattle.model.specs.Entries.{Op, Reply}
+use Rattle.turnstile.specs.Histories.{IsLegal, Begins, own, shown}
+use Rattle.turnstile.specs.Rule.{sees, Follows, Learns}
+use Rattle.turnstile.specs.Passes.{seen_by, own_of}
+use Rattle.turnstile.specs.Calls.{IsSamePass, Called, Ends}
+use Rattle.turnstile.specs.Holding.{Place, HasTaken, Stepped, taker_of}
+use Rattle.turnstile.specs.declared.rule.Own.{Own}
+use Rattle.turnstile.specs.declared.rule.Role.{Role}
+use Rattle.turnstile.specs.declared.rule.Role.TheVariants.{Takes}
+use Rattle.turnstile.proofs.Beginnings.{before_self, before_trans, last, before_added, own_added, own_other}
+
+abbrev pub history : Kernel → Log
+history k = k.log
+
+pub same_seat : (p q : Place) → q.table_id ≡ p.table_id → q.id ≡ p.id → q.me ≡ p.me → q ≡ p
+same_seat p q t i m = λ k. record { marker = q.marker; table_id = t k; id = i k; me = m k }
+
+-- a step is told by the histories alone
+pub step_shown : (k k' : Shown) (pid : ℕ) (op : Op) (reply : Reply) → IsStep k k' pid op reply → IsStep (shown k.log) (shown k'.log) pid op reply
+step_shown k k' pid op reply s = record { entry = go (is_no_entry reply) s.entry; full = s.full; memory = s.memory }
+  where
+    go : (b : Bool) → MatchBool b (k' ≡ k) (Added k.log k'.log pid op reply) → MatchBool b (shown k'.log ≡ shown k.log) (Added k.log k'.log pid op reply)
+    go true e = ap (λ (k : Shown). shown k.log) e
+    go false a = a
+
+abbrev log_is : (old new : Log) → shown new ≡ shown old → new ≡ old
+log_is old new e = ap (λ (k : Shown). k.log) e
+
+-- a step of a process changes the history by an entry of its own, or not at all
+pub step_follows : (old new : Log) (pid : ℕ) (op : Op) (reply : Reply) → IsStep (shown old) (shown new) pid op reply → Follows pid old new
+step_follows old new pid op reply s = go (is_no_entry reply) s.entry
+  where
+    go : (b : Bool) → MatchBool b (shown new ≡ shown old) (Added old new pid op reply) → Follows pid old new
+    go true e = subst (λ x. Follows pid old x) (sym (log_is old new e)) record { longer = before_self old; others = λ q ne. refl }
+    go false a = record { longer = before_added old new pid op reply a; others = λ q ne. own_other old new pid op reply a q ne }
+
+step_called : (z : TableId) (o : Own) (old new : Log) (op : Op) (reply : Reply) → Begins o.seen old → own o.pid old ≡ own o.pid o.seen → IsStep (shown old) (shown new) o.pid op reply
+    → Called (seen_by z o) op reply (seen_by z (sees o new))
+step_called z o old new op reply before same s = record {
+  found = old;
+  longer = before;
+  own_found = same;
+  step = s;
+  own_after = go (is_no_entry reply) s.entry;
+  full = λ e. ap (λ x. has_place x o.pid op) (log_is old new (subst (λ r. MatchBool (is_no_entry r) (shown new ≡ shown old) (Added old new o.pid op r)) e s.entry)) ∙ s.full.0 e;
+}
+  where
+    go : (b : Bool) → MatchBool b (shown new ≡ shown old) (Added old new o.pid op reply) → MatchBool b (own o.pid new ≡ own o.pid o.seen) (Ends (seen_by z o) op reply (seen_by z (sees o new)))
+    go true e = ap (own o.pid) (log_is old new e) ∙ same
+    go false a = record {
+      entry = last old new o.pid op reply a;
+      of_pid = refl;
+      of_op = refl;
+      of_reply = refl;
+      before = old.entries;
+      last = ap (λ (l : Log). l.entries) a.is;
+      own_grew = own_added old new o.pid op reply a ∙ ap (λ x. x ++ last old new o.pid op reply a ∷ []) same;
+    }
+
+-- what the pass of a seat has seen after the call
+pub called_pass : (p q r : Place) (log : Log) (op : Op) (reply : Reply) → HasTaken p log q → Stepped q op reply r
+    → IsSamePass (seen_by p.table_id (own_of p.me.0)) (seen_by r.table_id (own_of r.me.0)) × Called (seen_by p.table_id (own_of p.me.0)) op reply (seen_by r.table_id (own_of r.me.0))
+called_pass p q r log op reply taken stepped = let o : Own = own_of p.me.0 in let new : Log = stepped.log in
+    let taker : taker_of q.me.0 ≡ sees o log = ap (λ (m : Me (Option Kernel) Role). taker_of m.0) taken.me in
+    let step : IsStep (shown log) (shown new) o.pid op reply = subst (λ (x : Own). IsStep (shown x.seen) (shown new) x.pid op reply) taker stepped.step in
+    let own_is : own_of r.me.0 ≡ sees o new = ap (λ (m : Me (Option Kernel) Role). own_of m.0) stepped.me ∙ ap (λ (x : Own). sees x new) taker in
+    let table : r.table_id ≡ p.table_id = stepped.same.0 ∙ taken.same.0 in
+    let P : TableId × Own → Type 0 = λ x. IsSamePass (seen_by p.table_id o) (seen_by x.0 x.1) × Called (seen_by p.table_id o) op reply (seen_by x.0 x.1) in
+    subst P (λ i. (sym table i, sym own_is i)) (
+      record {
+        gate = refl;
+        pid = refl;
+        legal = stepped.legal;
+        longer = before_trans o.seen log new taken.learns.before (step_follows log new o.pid op reply step).longer;
+      },
+      step_called p.table_id o log new op reply taken.learns.before taken.learns.entries step,
+    )
+
+-- the kernel that comes out of the slot
+pub takes_out : (p q r : Place) (x : Option Kernel) (k : Kernel) → q.table_id ≡ p.table_id → q.id ≡ p.id → q.me ≡ (Takes (sees (own_of p.me.0) k.log), (0, Some k) ∷ []) → Learns (λ (k : Kernel). k.log) IsLegal (own_of p.me.0) k.log
+    → r.table_id ≡ q.table_id → r.id ≡ q.id → q.me.1 ≡ (0, x) ∷ rest q.me.1 → r.me ≡ (q.me.0, (0, None) ∷ rest q.me.1)
+    → IfSome x (λ k. HasTaken p k.log r) × IfNone x (r ≡ p)
+takes_out p q r x k t i is learns t' i' out me = let e : x ≡ Some k = ap head (sym out ∙ ap (λ (m : Me (Option Kernel) Role). m.1) is) in
+    subst (λ (x : Option Kernel). IfSome x (λ k. HasTaken p k.log r) × IfNone x (r ≡ p)) (sym e) (
+      record {
+        same = (t' ∙ t, i' ∙ i);
+        me = me ∙ ap (λ (m : Me (Option Kernel) Role). (m.0, (0, None) ∷ rest m.1)) is;
+        learns = learns;
+      },
+      tt,
+    )
+  where
+    head : List (ℕ × Option Kernel) → Option Kernel
+    head [] = None
+    head (y ∷ ys) = y.1

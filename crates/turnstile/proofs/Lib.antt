@@ -1,0 +1,6 @@
+pub mod Beginnings
+pub mod Steps
+pub mod Calls
+pub mod Closing
+pub mod Meeting
+pub mod Living

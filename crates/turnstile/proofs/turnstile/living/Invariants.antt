@@ -1,0 +1,10 @@
+use Rattle.std.proofs.Common.{◌≡◌, ◌<◌, ℕ, length}
+use Rattle.turnstile.specs.Calls.{has_pass}
+use Rattle.turnstile.specs.Holding.{is_set}
+use Rattle.turnstile.proofs.turnstile.living.Given as goal
+
+abbrev pub invariant-loop-number : goal.invariant-loop-number
+invariant-loop-number l = record {
+  len : length l.living.items ≡ l.number;
+  each : (i : ℕ) → i < l.number → is_set l.living.items i ≡ has_pass l.kernel.state i;
+}

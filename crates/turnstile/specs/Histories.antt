@@ -1,0 +1,24 @@
+-- Histories: which are legal, which begins which, and what is a process's own.
+use Rattle.std.specs.Prelude.{◌≡◌, ℕ, List}
+use Rattle.history.specs.Log.{Log}
+use Rattle.model.specs.Entries.{Entry}
+use Rattle.model.specs.Legal.{Legal, IsBefore, mine}
+use Rattle.kernel.specs.Shown.{Shown, moment}
+
+-- the root is number 0
+pub record IsLegal (log : Log) : Type 0 where
+  pub legal : Legal 0 log.priorities log.limit log.entries
+
+-- the second history begins with the first
+pub record Begins (first whole : Log) : Type 0 where
+  pub priorities : whole.priorities ≡ first.priorities
+  pub limit : whole.limit ≡ first.limit
+  pub entries : IsBefore first.entries whole.entries
+
+-- the entries of one process, in order
+abbrev pub own : ℕ → Log → List Entry
+own pid log = mine pid log.entries
+
+-- what contracts see of a kernel with a legal history
+abbrev pub shown : Log → Shown
+shown log = record { log = log; state = (moment log).committed }

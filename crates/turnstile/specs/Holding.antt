@@ -1,0 +1,68 @@
+-- A seat at rest, and one that has the kernel; and the marks of living processes.
+use Rattle.std.specs.Prelude.{◌≡◌, ℕ, suc, ◌<◌, Bool, false, List, [], ◌∷◌, length, get_or, Option, None}
+use Rattle.atomic_table.specs.Table.{Me}
+use Rattle.atomic_table.specs.declared.shared.Seat.{Seat}
+use Rattle.history.specs.Log.{Log}
+use Rattle.kernel.specs.declared.kernel.Kernel.{Kernel}
+use Rattle.kernel.specs.Steps.{IsStep}
+use Rattle.model.specs.Entries.{Op, Reply}
+use Rattle.model.specs.State.{Kernel as State}
+use Rattle.turnstile.specs.Histories.{IsLegal, shown}
+use Rattle.turnstile.specs.Calls.{has_pass}
+use Rattle.turnstile.specs.Rule.{sees, Learns, Taken}
+use Rattle.turnstile.specs.Passes.{own_of, nobody, no_log}
+use Rattle.turnstile.specs.declared.rule.Own.{Own}
+use Rattle.turnstile.specs.declared.rule.Role.{Role}
+use Rattle.turnstile.specs.declared.rule.Role.TheVariants.{Process, Takes, Closes}
+
+abbrev pub Place : Type 0
+Place = Seat (Option Kernel) Role
+
+abbrev pub taker_of : Role → Own
+taker_of (Takes o) = o
+taker_of _ = nobody
+
+abbrev pub IsAtRest : Me (Option Kernel) Role → Type 0
+IsAtRest m = m ≡ (Process (own_of m.0), [])
+
+-- it has the kernel in hand, and the slot is empty
+abbrev pub IsTaking : Me (Option Kernel) Role → Type 0
+IsTaking m = m ≡ (Takes (taker_of m.0), (0, None) ∷ [])
+
+abbrev pub IsSameSeat : Place → Place → Type 0
+IsSameSeat p q = (q.table_id ≡ p.table_id) × (q.id ≡ p.id)
+
+abbrev pub closer_of : Role → Log
+closer_of (Closes h) = h
+closer_of _ = no_log
+
+-- it has the kernel for ever
+abbrev pub IsClosing : Me (Option Kernel) Role → Type 0
+IsClosing m = m.0 ≡ Closes (closer_of m.0)
+
+-- the seat took the kernel, and has seen its history
+pub record HasTaken (p : Place) (log : Log) (q : Place) : Type 0 where
+  pub same : IsSameSeat p q
+  pub me : q.me ≡ (Takes (sees (own_of p.me.0) log), (0, None) ∷ [])
+  pub learns : Learns (λ (k : Kernel). k.log) IsLegal (own_of p.me.0) log
+
+-- the seat gave the kernel back after a step of its process
+pub record Stepped (p : Place) (op : Op) (reply : Reply) (q : Place) : Type 0 where
+  pub log : Log
+  pub same : IsSameSeat p q
+  pub me : q.me ≡ (Process (sees (taker_of p.me.0) log), [])
+  pub legal : IsLegal log
+  pub step : IsStep (shown (taker_of p.me.0).seen) (shown log) (taker_of p.me.0).pid op reply
+
+-- the turnstile can be, by its rule, in a state in which the word is not free
+abbrev pub WasTaken : Log → Type 0
+WasTaken start = Taken {K = Kernel} (λ (k : Kernel). k.log) IsLegal start
+
+-- whether the number i is marked in a list
+abbrev pub is_set : List Bool → ℕ → Bool
+is_set marks i = get_or marks i false
+
+-- the list marks the numbers of the living processes
+pub record Lives (k : State) (marks : List Bool) : Type 0 where
+  pub whole : length marks ≡ suc k.made
+  pub each : (i : ℕ) → i < suc k.made → is_set marks i ≡ has_pass k i

@@ -1,0 +1,5 @@
+pub mod Histories
+pub mod Rule
+pub mod Passes
+pub mod Calls
+pub mod Holding

@@ -1,0 +1,38 @@
+// What one process carries from call to call.
+ghost use Rattle.std.specs.Prelude.{◌≡◌};
+
+use crate::rule::Role;
+use atomic_table::Seat;
+use ids::Pid;
+use kernel::Kernel;
+use std::marker::Model;
+
+/// The right to make the steps of one process at one turnstile. Contracts see the process, and what the pass has seen of the
+/// history.
+#[derive(Drop)]
+pub struct Pass {
+    pub(crate) pid: Pid,
+    pub(crate) seat: Seat<Option<Kernel>, Role>,
+}
+
+impl Model for Pass {
+    ghost use Rattle.std.specs.Prelude.{◌≡◌, []};
+    ghost use Rattle.turnstile.specs.Histories.{IsLegal};
+    ghost use Rattle.turnstile.specs.Passes.{Seen, seen_by, own_of};
+    ghost use Rattle.turnstile.specs.declared.rule.Role.TheVariants.{Process};
+
+    ghost Value = { Seen };
+
+    ghost view = { λ p. seen_by p.seat.table_id (own_of p.seat.me.0) };
+
+    ghost invariant = { λ p. (p.seat.me ≡ (Process (own_of p.seat.me.0), [])) × (p.pid ≡ (own_of p.seat.me.0).pid) × IsLegal (own_of p.seat.me.0).seen };
+}
+
+impl Pass {
+    /// The process whose steps it makes.
+    pub fn pid(&self) -> Pid
+        ensures { result ≡ self.now.pid }
+    {
+        self.pid
+    }
+}

@@ -1,0 +1,263 @@
+// The turnstile, and the calls through it.
+ghost use Rattle.std.specs.Prelude.{◌≡◌, ◌<◌, ℕ, true, [], length, map, All, IfOk, IfErr, IfSome, IfNone, vec_capacity};
+ghost use Rattle.kernel.specs.Operations.{can_run};
+ghost use Rattle.model.specs.Moments.{all_below};
+ghost use Rattle.turnstile.specs.Histories.{IsLegal};
+ghost use Rattle.turnstile.specs.Calls.{Called, IsSamePass, KeepsPass, Met, has_pass, first_pass, first_passes};
+ghost use Rattle.turnstile.specs.Rule.{sees, Follows, Compares};
+ghost use Rattle.turnstile.specs.Holding.{IsAtRest, IsTaking, IsClosing, IsSameSeat, HasTaken, Stepped, WasTaken, Lives, is_set, taker_of, closer_of};
+ghost use Rattle.turnstile.specs.declared.rule.Role.TheVariants.{Deals, Process};
+ghost use Rattle.turnstile.specs.Passes.{gate_of, own_of};
+
+use crate::pass::Pass;
+use crate::rule::{Close, Compare, Copied, Deal, Give, Hear, Inform, OneLock, Role, Take, Tell};
+use atomic_table::{Refused, Seat, Table};
+use heap::Heap;
+use history::History;
+use ids::{Op, Pid, Reply};
+use kernel::Kernel;
+use std::alloc::AllocError;
+use std::marker::Model;
+use std::snapshot::Snapshot;
+use std::sync::Wait;
+
+const FREE: u64 = 0;
+
+const TAKEN: u64 = 1;
+
+type Place = Seat<Option<Kernel>, Role>;
+
+type Lock = Table<Option<Kernel>, Role, Snapshot<History>, OneLock, Heap>;
+
+/// The one lock around a kernel. Threads share it by reference, each with passes of its own. Contracts see which one it is,
+/// and the history with which it was made.
+#[derive(Drop)]
+pub struct Turnstile {
+    table: Lock,
+}
+
+impl Model for Turnstile {
+    ghost use Rattle.std.specs.Prelude.{◌≡◌};
+    ghost use Rattle.turnstile.specs.Passes.{Gate, gate_of};
+
+    ghost Value = { Gate };
+
+    ghost view = { λ t. gate_of t.table.shared.table_id t.table.shared.key.value };
+
+    ghost invariant = { λ t. (t.table.shared.table_id.words ≡ 1) × (t.table.shared.table_id.slots ≡ 1) };
+}
+
+// Whether this is the number of a living process.
+fn lives(kernel: &Kernel, number: usize) -> bool
+    ensures { result ≡ has_pass kernel.now.state number }
+{
+    match u32::try_from(number) {
+        Ok(number) => kernel.is_living(Pid(number)),
+        Err(_) => false,
+    }
+}
+
+// Of each number up to that of the process made last, whether it is that of a living process.
+fn living(heap: Heap, kernel: &Kernel) -> Result<Vec<bool, Heap>, AllocError>
+    ensures { IfOk result (λ l. Lives kernel.now.state l.items) }
+{
+    let mut living = Vec::new(heap);
+    for number in 0..=kernel.made() {
+        living.push(lives(kernel, number))?;
+    }
+    Ok(living)
+}
+
+// A pass for each number that is marked. There is room for them.
+fn deal(
+    lock: &Lock,
+    mut dealer: Place,
+    mut passes: Vec<Pass, Heap>,
+    living: &[bool],
+) -> Vec<Pass, Heap>
+    requires lock { (lock.now.shared.table_id.words ≡ 1) × IsLegal lock.now.shared.key.value }
+    requires dealer { (dealer.table_id ≡ lock.now.shared.table_id) × (dealer.me ≡ (Deals 0 lock.now.shared.key.value, [])) }
+    requires room { (passes.items ≡ []) × (vec_capacity passes ≡ length living.now) }
+    requires small { (i : ℕ) → is_set living.now i ≡ true → i < 4294967296 }
+    ensures { result.items ≡ map (first_pass (gate_of lock.now.shared.table_id lock.now.shared.key.value)) (all_below (is_set living.now) (length living.now)) }
+{
+    for i in 0..living.len() {
+        let seat = lock.shared.split_seat::<Deal>(&mut dealer);
+        if living[i] {
+            passes.push_reserved(Pass {
+                pid: Pid(i as u32),
+                seat,
+            });
+        }
+    }
+    passes
+}
+
+// Holds the history of the seat, which has the kernel for ever, against what the passes had seen.
+fn hear(lock: &Lock, seat: &mut Place, mut passes: Vec<Pass, Heap>)
+    requires lock { lock.now.shared.table_id.words ≡ 1 }
+    requires seat { (seat.old.table_id ≡ lock.now.shared.table_id) × IsClosing seat.old.me }
+    requires passes { All (λ p. p.gate ≡ gate_of lock.now.shared.table_id lock.now.shared.key.value) passes.items }
+    ensures seat { IsSameSeat seat.old seat.new × (seat.new.me ≡ seat.old.me) }
+    ensures passes { All (KeepsPass (closer_of seat.old.me.0)) passes.entry.items }
+{
+    while let Some(pass) = passes.pop() {
+        let Pass {
+            pid: _,
+            seat: other,
+        } = pass;
+        lock.shared.join_seat::<Tell>(seat, other);
+        lock.shared.load::<Hear>(seat, 0);
+    }
+}
+
+impl Turnstile {
+    /// A pass for each living process, rising; each has seen the kernel's history. Refused memory gives the same kernel back.
+    pub fn new(heap: Heap, kernel: Kernel) -> Result<(Turnstile, Vec<Pass, Heap>), Kernel>
+        ensures start { IfOk result (λ t. (t.0.start ≡ kernel.log) × IsLegal t.0.start) }
+        ensures passes { IfOk result (λ t. t.1.items ≡ first_passes t.0 kernel.state) }
+        ensures gates { IfOk result (λ t. All (λ p. p.gate ≡ t.0) t.1.items) }
+        ensures err { IfErr result (λ k. k ≡ kernel) }
+    {
+        let start = Snapshot::of(kernel.history());
+        let Ok(living) = living(heap, &kernel) else {
+            return Err(kernel);
+        };
+        let Ok(passes) = Vec::with_capacity(heap, living.len()) else {
+            return Err(kernel);
+        };
+        let Ok(mut slots) = Vec::with_capacity(heap, 1) else {
+            return Err(kernel);
+        };
+        slots.push_reserved(Some(kernel));
+        match Table::new(heap, &[FREE], slots, &start) {
+            Ok((table, dealer)) => {
+                let passes = deal(&table, dealer, passes, living.as_slice());
+                Ok((Turnstile { table }, passes))
+            }
+            Err(Refused { mut slots }) => match slots.pop() {
+                Some(Some(kernel)) => Err(kernel),
+                _ => unreachable!(),
+            },
+        }
+    }
+
+    /// The kernel, once no thread shares the turnstile. Its history begins with what each of these passes had seen, and has
+    /// just that pass's own entries of its process. `None` stands only where the kernel was taken and not given back, as by
+    /// a thread that ended in the midst of a call.
+    pub fn close(self, passes: Vec<Pass, Heap>) -> Option<Kernel>
+        requires { All (λ p. p.gate ≡ self) passes.items }
+        ensures legal { IfSome result (λ kernel. IsLegal kernel.log) }
+        ensures passes { IfSome result (λ kernel. All (KeepsPass kernel.log) passes.entry.items) }
+        ensures none { IfNone result (WasTaken self.start) }
+    {
+        let Turnstile { table } = self;
+        let (found, mut seat) = table.shared.swap_new_seat::<Close>(0, TAKEN);
+        if found != FREE {
+            return None;
+        }
+        hear(&table, &mut seat, passes);
+        table.shared.exchange(&mut seat, 0, None)
+    }
+
+    // The kernel, where it is free.
+    pub(crate) fn take(&self, seat: &mut Place) -> Option<Kernel>
+        requires { (seat.old.table_id ≡ self.now.table) × IsAtRest seat.old.me }
+        ensures some { IfSome result (λ k. HasTaken seat.old k.log seat.new) }
+        ensures none { IfNone result (seat.new ≡ seat.old) }
+    {
+        let shared = &self.table.shared;
+        if shared.compare_exchange::<Take>(seat, 0, FREE, TAKEN) != FREE {
+            return None;
+        }
+        shared.exchange(seat, 0, None)
+    }
+
+    // The kernel, once it is free. The thread sleeps while it is not.
+    fn wait_and_take<R: Wait>(&self, rt: &R, seat: &mut Place) -> Kernel
+        requires { (seat.old.table_id ≡ self.now.table) × IsAtRest seat.old.me }
+        ensures { HasTaken seat.old result.log seat.new }
+    {
+        for _ in rt.forever() {
+            if let Some(kernel) = self.take(seat) {
+                return kernel;
+            }
+            self.table.shared.park(rt, 0, TAKEN as u32);
+        }
+        unreachable!()
+    }
+
+    // Gives the kernel back after one step of the seat's process.
+    fn give(&self, seat: &mut Place, kernel: Kernel)
+        requires seat { (seat.old.table_id ≡ self.now.table) × IsTaking seat.old.me }
+        requires kernel { IsLegal kernel.log × Follows (taker_of seat.old.me.0).pid (taker_of seat.old.me.0).seen kernel.log }
+        ensures { IsSameSeat seat.old seat.new × (seat.new.me ≡ (Process (sees (taker_of seat.old.me.0) kernel.log), [])) }
+    {
+        let shared = &self.table.shared;
+        let None = shared.exchange(seat, 0, Some(kernel)) else {
+            unreachable!()
+        };
+        shared.store::<Give>(seat, 0, FREE);
+        shared.wake_one(0);
+    }
+
+    // One step of the process whose seat has the kernel.
+    fn step(&self, seat: &mut Place, pid: Pid, mut kernel: Kernel, op: Op) -> Reply
+        requires seat { (seat.old.table_id ≡ self.now.table) × IsTaking seat.old.me }
+        requires kernel { ((taker_of seat.old.me.0).seen ≡ kernel.log) × ((taker_of seat.old.me.0).pid ≡ pid) }
+        requires op { can_run op ≡ true }
+        ensures { Stepped seat.old op result seat.new }
+    {
+        let reply = kernel.step(pid, op);
+        self.give(seat, kernel);
+        reply
+    }
+
+    /// One operation of the pass's process, where the kernel is free. It waits for nobody: `None` stands where the kernel was
+    /// taken, and then nothing has changed.
+    pub fn try_call(&self, pass: &mut Pass, op: Op) -> Option<Reply>
+        requires gate { pass.old.gate ≡ self.now }
+        requires op { can_run op ≡ true }
+        ensures same { IsSamePass pass.old pass.new }
+        ensures some { IfSome result (λ reply. Called pass.old op reply pass.new) }
+        ensures none { IfNone result (pass.new ≡ pass.old) }
+    {
+        let kernel = self.take(&mut pass.seat)?;
+        Some(self.step(&mut pass.seat, pass.pid, kernel, op))
+    }
+
+    /// One operation of the pass's process. It may wait for other threads.
+    pub fn call<R: Wait>(&self, rt: &R, pass: &mut Pass, op: Op) -> Reply
+        requires gate { pass.old.gate ≡ self.now }
+        requires op { can_run op ≡ true }
+        ensures same { IsSamePass pass.old pass.new }
+        ensures called { Called pass.old op result pass.new }
+    {
+        let kernel = self.wait_and_take(rt, &mut pass.seat);
+        self.step(&mut pass.seat, pass.pid, kernel, op)
+    }
+
+    // Tells the first seat what the second has seen, and compares.
+    fn compare(&self, seat: &mut Place, other: &mut Place)
+        requires seat { (seat.old.table_id ≡ self.now.table) × IsAtRest seat.old.me }
+        requires other { (other.old.table_id ≡ self.now.table) × IsAtRest other.old.me }
+        ensures same { (seat.new ≡ seat.old) × (other.new ≡ other.old) }
+        ensures compared { Compares (own_of seat.old.me.0) (own_of other.old.me.0).seen }
+    {
+        let shared = &self.table.shared;
+        let copy = shared.split_seat::<Copied>(other);
+        shared.join_seat::<Inform>(seat, copy);
+        shared.load::<Compare>(seat, 0);
+    }
+
+    /// What one of the two passes has seen begins what the other has seen. Both stay as they are, and it waits for nobody.
+    pub fn meet(&self, first: &mut Pass, second: &mut Pass)
+        requires { (first.old.gate ≡ self.now) × (second.old.gate ≡ self.now) }
+        ensures same { (first.new ≡ first.old) × (second.new ≡ second.old) }
+        ensures legal { IsLegal first.new.seen × IsLegal second.new.seen }
+        ensures met { Met first.old second.old }
+    {
+        self.compare(&mut first.seat, &mut second.seat);
+        self.compare(&mut second.seat, &mut first.seat);
+    }
+}
