@@ -1,0 +1,7 @@
+use Rattle.kernel.specs.Operations.{CanRunAll}
+use Rattle.worked_rows.proofs.tests.ops_of.Given as goal
+
+abbrev pub invariant-loop-step : goal.invariant-loop-step
+invariant-loop-step l = record {
+  can : CanRunAll l.ops.items;
+}
