@@ -1,5 +1,5 @@
 // Faults of runs, and devices that fail in their midst.
-ghost use Rattle.std.specs.Prelude.{◌≡◌};
+ghost use Rattle.std.specs.Prelude.{◌≡◌, ◌≤◌, IfOk};
 
 use super::*;
 use device::{Failing, Halting, Portions};
@@ -8,6 +8,7 @@ use history::History;
 use ids::{Entry, Nums, Op, Pid, Pids, Priority, Reply};
 use script::{ScheduleFault, ScriptFault};
 use std::test::Fail;
+use words::{Job, Way};
 
 static FIRST_RUN: &str = "priorities 0 0\n1 begin\n1 mkdir /a\n1 end\n2 stat /a\n2 stat /a\n";
 
@@ -110,5 +111,95 @@ fn a_history_is_printed(rt: HostRuntime) -> Result<(), Fail> {
     let mut sink = halting(heap, 3);
     assert_eq!(rt; print(&history, &mut sink), Err(RunFault::Write));
     assert_eq!(rt; sink.bytes.as_slice(), b"1 P".as_slice());
+    Ok(())
+}
+
+// A script, its schedule and limit, and what the program writes of it on standard output and on standard error, with its
+// status.
+struct Told {
+    text: &'static str,
+    list: &'static str,
+    limit: u32,
+    out: &'static str,
+    err: &'static str,
+    status: u8,
+}
+
+static TOLD: [Told; 5] = [
+    Told {
+        text: "priorities 0 0\n1 begin\n2 stat /a\n",
+        list: "1,2",
+        limit: 100,
+        out: "1 P1 begin -> begun\n2 P2 stat /a -> ENOENT\n",
+        err: "",
+        status: 0,
+    },
+    Told {
+        text: "priorities 0",
+        list: "",
+        limit: 100,
+        out: "",
+        err: "txsh: line 1: not ended\n",
+        status: 1,
+    },
+    Told {
+        text: "priorities 0\n1 end\n",
+        list: "1,1",
+        limit: 100,
+        out: "",
+        err: "txsh: schedule: process 1 has no line left\n",
+        status: 1,
+    },
+    Told {
+        text: "priorities 0\n1 begin\n1 stat /\n",
+        list: "1,1",
+        limit: 2,
+        out: "1 P1 begin -> begun\n",
+        err: "txsh: history full\n",
+        status: 3,
+    },
+    Told {
+        text: "",
+        list: "",
+        limit: 100,
+        out: "",
+        err: "txsh: line 1: priorities expected\n",
+        status: 1,
+    },
+];
+
+fn job_of(heap: Heap, told: &Told) -> Result<Job, Fail>
+    ensures { IfOk result (λ job. job.limit ≤ 1048576) }
+{
+    Ok(Job {
+        way: Way::Schedule(String::from_str(heap, told.list)?),
+        limit: told.limit.min(100),
+        check: false,
+        file: String::new(heap),
+    })
+}
+
+fn is_told(heap: Heap, told: &Told) -> Result<bool, Fail> {
+    let job = job_of(heap, told)?;
+    let mut source = Portions {
+        bytes: told.text.as_bytes(),
+        most: 7,
+    };
+    let mut out = halting(heap, 1000);
+    let mut err = halting(heap, 1000);
+    let status = run_job(heap, &job, &mut source, &mut out, &mut err);
+    Ok(
+        status == told.status
+            && out.bytes.as_slice() == told.out.as_bytes()
+            && err.bytes.as_slice() == told.err.as_bytes(),
+    )
+}
+
+#[test]
+fn jobs_have_their_texts_and_statuses(rt: HostRuntime) -> Result<(), Fail> {
+    let heap = heap::open(rt.alloc())?;
+    for told in &TOLD {
+        assert!(rt; is_told(heap, told)?);
+    }
     Ok(())
 }

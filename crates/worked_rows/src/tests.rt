@@ -375,3 +375,29 @@ fn each_refused_request_leaves_all_as_it_was(rt: HostRuntime) -> Result<(), Fail
     }
     Ok(())
 }
+
+// A call of a transaction asks for memory too. Whichever request is refused, it is answered NoMemory and nothing has changed:
+// the same call then goes through, and is committed once.
+#[test]
+fn each_refused_request_leaves_a_transaction(rt: HostRuntime) -> Result<(), Fail> {
+    let heap = heap::open(rt.alloc())?;
+    for number in 1..64u64 {
+        let mut kernel = kernel_of(heap, &[0, 0], 100)?;
+        let _ = step_in(&mut kernel, heap, (1, Step::Begin))?;
+        let op = op_of(heap, Step::Mkdir("/a"))?;
+        heap.refuse(number);
+        let first = letter(&kernel.step(Pid(1), op));
+        heap.refuse(0);
+        if first == 'm' {
+            assert!(rt; step_in(&mut kernel, heap, (1, Step::Mkdir("/a")))? == 'd');
+        }
+        assert!(rt; step_in(&mut kernel, heap, (1, Step::End))? == 'c');
+        assert!(rt; step_in(&mut kernel, heap, (2, Step::Stat("/a")))? == 's');
+        assert!(rt; kernel.history().entries().len() == 4);
+        if first == 'd' {
+            assert!(rt; number > 5);
+            return Ok(());
+        }
+    }
+    Err(Fail::from("the call was always refused"))
+}
