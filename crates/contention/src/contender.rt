@@ -69,19 +69,12 @@ impl Contender {
         self.touches.truncate(count);
     }
 
-    /// Its touches are forgotten. It takes no memory.
-    pub fn restart(&mut self)
-        ensures { self.new ≡ record self.old { touches = [] } }
-    {
-        self.touches.clear();
-    }
-
     /// Its age and its touches are forgotten. It takes no memory.
     pub fn release(&mut self)
         ensures { self.new ≡ record self.old { age = None; touches = [] } }
     {
         self.age = None;
-        self.restart();
+        self.touches.clear();
     }
 
     /// Whether it loses where it clashes with the other: the other has a higher priority, or the same one and both are live

@@ -103,14 +103,6 @@ impl Contenders {
         self.all[pid.0 as usize].keep_first(count);
     }
 
-    /// A process's transaction begins anew: its touches are forgotten, its age stays. It takes no memory.
-    pub fn restart(&mut self, pid: Pid)
-        requires { pid < length self.old }
-        ensures { Becomes self.old self.new pid (record (held_at self.old pid) { touches = [] }) }
-    {
-        self.all[pid.0 as usize].restart();
-    }
-
     /// A process's transaction ends: its age and touches are forgotten. It takes no memory.
     pub fn release(&mut self, pid: Pid)
         requires { pid < length self.old }

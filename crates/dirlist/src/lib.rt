@@ -1,7 +1,7 @@
 //! One directory: its names in byte order with the numbers that they give, and room that is promised to later additions.
 #![tactic(auto)]
 
-ghost use Rattle.std.specs.Prelude.{◌≡◌, ◌+◌, ◌<◌, ◌==◌, IfOk, MatchResult, OnOk, OnErr, IsTrue, None};
+ghost use Rattle.std.specs.Prelude.{◌≡◌, ◌+◌, ◌<◌, ◌==◌, nat_lt, IfOk, MatchResult, OnOk, OnErr, IsTrue, None};
 ghost use Rattle.model.specs.FiniteMap as map;
 ghost use Rattle.model.specs.State.{name_cmp};
 ghost use Rattle.dirlist.specs.Places.{IsPlaceOf, IsPlaceFor};
@@ -73,6 +73,16 @@ impl Dir {
         Ok(NameList::new(names))
     }
 
+    /// A copy of the names, with no room promised. Refused memory changes nothing.
+    pub fn copy(&self, heap: Heap) -> Result<Dir, AllocError>
+        ensures { IfOk result (λ d. d.names ≡ self.now.names) }
+    {
+        Ok(Dir {
+            slots: copy_slots(heap, self.slots.as_slice())?,
+            promised: 0,
+        })
+    }
+
     /// How many names there are.
     pub fn len(&self) -> usize
         ensures { result ≡ map.len self.now.names }
@@ -85,6 +95,13 @@ impl Dir {
         ensures { result ≡ (map.len self.now.names == 0) }
     {
         self.len() == 0
+    }
+
+    /// Whether room for an addition is promised.
+    pub fn is_promised(&self) -> bool
+        ensures { result ≡ nat_lt 0 self.now.promised }
+    {
+        self.promised > 0
     }
 
     /// Promises room for one more addition. Refused memory changes nothing.
@@ -145,6 +162,16 @@ impl Dir {
             Err(_at) => None,
         }
     }
+}
+
+fn copy_slots(heap: Heap, slots: &[(Name, Num)]) -> Result<Vec<(Name, Num), Heap>, AllocError>
+    ensures { IfOk result (λ copy. copy.items ≡ slots.now) }
+{
+    let mut copy = Vec::with_capacity(heap, slots.len())?;
+    for slot in slots {
+        copy.push((slot.0.try_clone()?, slot.1))?;
+    }
+    Ok(copy)
 }
 
 /// Where a name stands in a list whose names rise, or where it would, by halving.

@@ -81,9 +81,11 @@ fn promised_room_takes_no_memory(rt: HostRuntime) -> Result<(), Fail> {
     if dir.lookup(&first).is_none() {
         dir.insert_promised(first, Num(1));
     }
+    assert!(rt; dir.is_promised());
     if dir.lookup(&second).is_none() {
         dir.insert_promised(second, Num(2));
     }
+    assert!(rt; !dir.is_promised());
     assert_eq!(rt; heap.made(), 0);
     assert_eq!(rt; dir.len(), 3);
     Ok(())

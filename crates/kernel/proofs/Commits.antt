@@ -1,16 +1,16 @@
 -- A live transaction that is committed.
-use Rattle.std.proofs.Common.{◌≡◌, ◌≢◌, ℕ, ◌≤◌, List, [], Some, None, length, refl, sym, ◌∙◌, ap, subst, true, false, Bool}
-use Rattle.model.specs.State.{Kernel}
+use Rattle.std.proofs.Common.{◌≡◌, ◌≢◌, ℕ, [], None, length, refl, sym, ◌∙◌, ap, subst, false}
 use Rattle.model.specs.Changes.{tidy}
 use Rattle.model.specs.Entries.{BeginFlags, End, Committed, Entry}
-use Rattle.model.specs.Moments.{Moment, live, status, is_alive, loose, calls_at, next}
+use Rattle.model.specs.Moments.{Moment, live, status, calls_at, next}
 use Rattle.model.specs.Legal.{Right, Alone}
 use Rattle.call_laws.specs.WellFormed.{WellFormed}
-use Rattle.history_laws.specs.Doings.{Goes, Doing, doings, all_done}
+use Rattle.history_laws.specs.Doings.{Goes, doings, all_done}
 use Rattle.history_laws.proofs.Laws.{right_by, alive_is, commits_run_the_list, lists_are_their_doings, what_stands}
 use Rattle.contention.specs.Holding.{held_at}
 use Rattle.shadow.specs.Committed.{CanCommit}
 use Rattle.kernel.specs.Shown.{moment}
+use Rattle.kernel.specs.Claims.{AreCovered}
 use Rattle.kernel.specs.Rows.{IsSteady}
 use Rattle.kernel.specs.Standings.{IsOpen}
 use Rattle.kernel.specs.States.{Fields, Holds, with_entry}
@@ -55,7 +55,7 @@ module _ (f : Fields) (pid : ℕ) (flags : BeginFlags) (age : ℕ) (holds : Hold
 
   pub commit_holds : (g : Fields) → g.log ≡ with_entry f.log e → length g.slots ≡ length f.slots → view_at g.slots pid ≡ resting → ((q : ℕ) → q ≢ pid → view_at g.slots q ≡ view_at f.slots q)
       → length g.held ≡ length f.held → held_at g.held pid ≡ record (held_at f.held pid) { age = None; touches = [] } → ((q : ℕ) → q ≢ pid → held_at g.held q ≡ held_at f.held q)
-      → g.stable.state ≡ tidy (all_done (changes_of m pid) f.stable.state) → f.stable.next ≤ g.stable.next → Holds g
-  commit_holds g log count own others held_count held_own held_others state grows =
+      → g.stable.state ≡ tidy (all_done (changes_of m pid) f.stable.state) → AreCovered g.slots g.stable → Holds g
+  commit_holds g log count own others held_count held_own held_others state covered =
       closing_holds f g e false flags age holds commit_right alone calm (moves f.log e holds.legal commit_right calm).own (alive_is m pid (live flags age is_open.calls) is_open.is (λ h. absurd cc))
-      log count own others held_count held_own held_others (state ∙ sym committed) grows
+      log count own others held_count held_own held_others (state ∙ sym committed) covered

@@ -1,15 +1,15 @@
 -- The places that the slots hold are those that the history reserves.
-use Rattle.std.proofs.Common.{◌≡◌, ℕ, zero, suc, ◌+◌, ◌≤◌, List, [], ◌∷◌, refl, sym, ◌∙◌, ap, true, false, Bool, inl, inr, arith, cond, length, get_or}
+use Rattle.std.proofs.Common.{◌≡◌, ℕ, zero, suc, ◌+◌, List, ◌∷◌, refl, sym, ◌∙◌, ap, true, false, Bool, inl, inr, arith, cond, length, get_or}
 use Rattle.std.specs.Prelude.{if◌then◌else◌, count_by}
 use Rattle.std.proofs.lemmas.Bool.{cases_Bool}
 use Rattle.std.proofs.lemmas.List.Recursion.{is_count_by}
-use Rattle.model.specs.Moments.{Status, gone, idle, live, doomed, Moment, is_alive, holds_place, bound, reserved, count_below}
+use Rattle.model.specs.Moments.{Status, gone, idle, live, doomed, is_alive, holds_place, bound, reserved, count_below}
 use Rattle.history_laws.specs.Doings.{Doing}
 use Rattle.history_laws.proofs.Laws.{what_stands}
 use Rattle.kernel.specs.Shown.{moment}
 use Rattle.kernel.specs.States.{Fields, Holds}
 use Rattle.kernel.specs.Standings.{slot_holds}
-use Rattle.kernel.specs.Views.{View, absent, resting, open_view, struck, slot_view, shown_by, view_by, view_at, view_of, changes_of}
+use Rattle.kernel.specs.Views.{View, absent, resting, open_view, struck, slot_view, shown_by, view_by, view_of, changes_of}
 use Rattle.kernel.specs.declared.slot.Slot.{Slot}
 use Rattle.kernel.specs.declared.slot.Slot.TheVariants.{Gone, Idle, Live, Doomed}
 

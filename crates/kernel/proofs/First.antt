@@ -1,25 +1,28 @@
 -- What the fields of a new kernel show.
-use Rattle.std.proofs.Common.{◌≡◌, ℕ, zero, suc, ◌+◌, ◌<◌, ◌≤◌, List, [], Option, Some, None, is_some, length, get_or, refl, sym, ◌∙◌, ap, subst, true, false, Bool, inl, inr, arith}
+use Rattle.std.proofs.Common.{◌≡◌, ℕ, zero, suc, ◌<◌, List, [], Option, Some, None, is_some, length, get_or, refl, sym, ◌∙◌, ap, subst, true, false, Bool, inl, inr, arith}
 use Rattle.std.proofs.lemmas.Bool.{cases_lt, false≢true}
 use Rattle.std.proofs.lemmas.List.{get_or_past}
-use Rattle.history.specs.Log.{Log}
 use Rattle.model.specs.FiniteMap.{get}
-use Rattle.model.specs.State.{Kernel, Process}
-use Rattle.model.specs.Changes.{or_new, process_of}
-use Rattle.model.specs.Moments.{Moment, idle, is_alive, start, at_start, priority_of, bound}
+use Rattle.model.specs.State.{Process}
+use Rattle.model.specs.Changes.{or_new}
+use Rattle.model.specs.Moments.{Moment, idle, is_alive, start, at_start}
+use Rattle.history_laws.specs.Doings.{Doing}
 use Rattle.history_laws.specs.Processes.{StartsWith}
 use Rattle.history_laws.proofs.Laws.{legal_start, first_processes_live}
-use Rattle.contention.specs.Holding.{Held, nobody, held_at, holding, IsKept}
-use Rattle.kernel.specs.Shown.{moment}
+use Rattle.contention.specs.Holding.{nobody, held_at, holding}
 use Rattle.kernel.specs.States.{Fields, Holds}
-use Rattle.kernel.specs.Views.{AreFirst, absent, resting, slot_view, shown_by, view_by, view_at, view_of}
-use Rattle.kernel.specs.declared.slot.Slot.{Slot}
+use Rattle.kernel.specs.Views.{AreFirst, absent, slot_view, view_by, view_at, view_of, changes_in, changes_of}
 use Rattle.kernel.specs.declared.slot.Slot.TheVariants.{Gone}
+use Rattle.kernel.proofs.Claims.{covers_none}
 use Rattle.kernel.proofs.Others.{views_alike, held_alike}
 
 no_priority : (o : Option Process) → is_some o ≡ false → (or_new o).priority ≡ 0
 no_priority None h = refl
 no_priority (Some process) h = absurd (false≢true (sym h))
+
+nothing_changed : (alive : Bool) (ds : List Doing) → changes_in (view_by alive idle ds) ≡ []
+nothing_changed true ds = refl
+nothing_changed false ds = refl
 
 module _ (priorities : List ℕ) (limit : ℕ) (f : Fields) (log : f.log ≡ record { entries = []; priorities = priorities; limit = limit })
     (slot_count : length f.slots ≡ suc (length priorities)) (slots : AreFirst f.slots (length priorities))
@@ -59,5 +62,5 @@ module _ (priorities : List ℕ) (limit : ℕ) (f : Fields) (log : f.log ≡ rec
     held = record { count = held_count; each = held };
     count = slot_count;
     slots = views;
-    given = λ q. tt;
+    covered = covers_none f.slots f.stable (λ q. ap changes_in (views q) ∙ nothing_changed (is_alive m.committed q) (changes_of m q));
   })

@@ -1,24 +1,22 @@
 -- New fields hold where each shows what one right entry does.
-use Rattle.std.proofs.Common.{◌≡◌, ◌≢◌, ℕ, ◌<◌, ◌≤◌, List, [], ◌∷◌, ◌++◌, length, refl, sym, ◌∙◌, ap, subst, true, false, Bool, eqb, inl, inr, arith}
+use Rattle.std.proofs.Common.{◌≡◌, ◌≢◌, ℕ, ◌<◌, ◌≤◌, List, [], ◌∷◌, length, sym, ◌∙◌, ap, subst, true, false, Bool, eqb, inl, inr, arith}
 use Rattle.std.specs.List.{AllByRecursion}
-use Rattle.std.proofs.lemmas.Bool.{cases_Bool, false≢true, eqb-true, eqb-false}
-use Rattle.history.specs.Log.{Log}
+use Rattle.std.proofs.lemmas.Bool.{cases_Bool, eqb-true, eqb-false}
 use Rattle.model.specs.Entries.{Entry}
-use Rattle.model.specs.Moments.{Moment, after, bound, dooming_touches, is_in, next}
+use Rattle.model.specs.Moments.{Moment, bound, dooming_touches, is_in, next}
 use Rattle.model.specs.Legal.{Legal, Right}
-use Rattle.history_laws.specs.Doings.{Doing}
 use Rattle.history_laws.proofs.Laws.{legal_push, after_one_more}
-use Rattle.contention.specs.Holding.{Held, IsKept, held_at, holding}
+use Rattle.contention.specs.Holding.{IsKept, held_at, holding}
 use Rattle.contention.specs.Verdicts.{IsDoomedBy}
 use Rattle.contention.specs.declared.Doomed.{Doomed}
-use Rattle.shadow.specs.Committed.{Committed, AreGiven}
 use Rattle.kernel.specs.Shown.{moment}
+use Rattle.kernel.specs.Claims.{AreCovered}
 use Rattle.kernel.specs.Rows.{IsSteady}
 use Rattle.kernel.specs.States.{Fields, Holds, with_entry}
 use Rattle.kernel.specs.Strikes.{struck_by, freed, freed_by}
-use Rattle.kernel.specs.Views.{View, open_view, view_at, view_of, changes_of}
+use Rattle.kernel.specs.Views.{view_at, view_of, changes_of}
 use Rattle.kernel.proofs.Struck.{pids, is_struck, not_struck, is_freed, not_freed}
-use Rattle.kernel.proofs.Others.{same_bound, other_view, other_held, other_changes, doomed_before, doomed_later, doomed_held, doomed_changes, moves}
+use Rattle.kernel.proofs.Others.{same_bound, other_view, other_held, doomed_before, doomed_later, doomed_held, moves}
 
 -- the fields after the entry: its own process's, and those of the processes that are doomed
 pub record Fits (f g : Fields) (e : Entry) (ds : List Doomed) : Type 0 where
@@ -34,16 +32,11 @@ pub record Fits (f g : Fields) (e : Entry) (ds : List Doomed) : Type 0 where
   pub held_own : held_at g.held e.pid ≡ holding (next (moment f.log) e) e.pid
   pub held_others : (q : ℕ) → q ≢ e.pid → held_at g.held q ≡ freed_by ds q (held_at f.held q)
   pub state : g.stable.state ≡ (next (moment f.log) e).committed
-  pub grows : f.stable.next ≤ g.stable.next
-  pub given : AreGiven g.stable.next (changes_of (next (moment f.log) e) e.pid)
+  pub covered : AreCovered g.slots g.stable
 
 pub below_more : (n k : ℕ) (ns : List ℕ) → n ≤ k → AllByRecursion (λ x. x < n) ns → AllByRecursion (λ x. x < k) ns
 below_more n k [] h all = tt
 below_more n k (x ∷ ns) h all = (let first : x < n = all.0 in omega arith, below_more n k ns h all.1)
-
-pub given_more : (n k : ℕ) (ds : List Doing) → n ≤ k → AreGiven n ds → AreGiven k ds
-given_more n k [] h all = tt
-given_more n k (d ∷ ds) h all = (below_more n k d.chosen h all.0, given_more n k ds h all.1)
 
 module _ (f g : Fields) (e : Entry) (ds : List Doomed) (holds : Holds f) (fits : Fits f g e ds) where
   abbrev m : Moment
@@ -77,12 +70,6 @@ module _ (f g : Fields) (e : Entry) (ds : List Doomed) (holds : Holds f) (fits :
     | inr spared ↦ fits.held_others q differs ∙ not_freed ds q _ (among q false spared) ∙ holds.held.each q ∙ sym (other_held f.log e holds.legal fits.right fits.steady q differs spared)
   ]
 
-  other_given : (q : ℕ) → q ≢ e.pid → AreGiven g.stable.next (changes_of (next m e) q)
-  other_given q differs = elim (cases_Bool (is_in q e.doomed)) [
-    | inl doomed ↦ subst (AreGiven g.stable.next) (sym (doomed_changes f.log e holds.legal fits.right fits.steady q ((moves f.log e holds.legal fits.right fits.steady).dooms q doomed))) tt
-    | inr spared ↦ subst (AreGiven g.stable.next) (sym (other_changes f.log e holds.legal fits.right fits.steady q differs spared)) (given_more f.stable.next g.stable.next (changes_of m q) fits.grows (holds.given q))
-  ]
-
   each : (P : ℕ → Type 0) → P e.pid → ((q : ℕ) → q ≢ e.pid → P q) → (q : ℕ) → P q
   each P own others q = elim (cases_Bool (eqb q e.pid)) [
     | inl same ↦ subst P (sym (eqb-true q e.pid same)) own
@@ -99,5 +86,5 @@ module _ (f g : Fields) (e : Entry) (ds : List Doomed) (holds : Holds f) (fits :
     });
     count = fits.count ∙ holds.count ∙ sym (ap bound moment_is ∙ same_bound f.log e holds.legal fits.right fits.steady);
     slots = subst (λ x. (q : ℕ) → view_at g.slots q ≡ view_of x q) (sym moment_is) (each (λ q. view_at g.slots q ≡ view_of (next m e) q) fits.own other_slot);
-    given = subst (λ x. (q : ℕ) → AreGiven g.stable.next (changes_of x q)) (sym moment_is) (each (λ q. AreGiven g.stable.next (changes_of (next m e) q)) fits.given other_given);
+    covered = fits.covered;
   }

@@ -1,23 +1,26 @@
 -- The touches that are judged are those that count.
-use Rattle.std.proofs.Common.{◌≡◌, ◌≢◌, ℕ, List, refl, sym, ◌∙◌, ap, filter}
-use Rattle.model.specs.State.{Kernel}
+use Rattle.std.proofs.Common.{◌≡◌, ℕ, sym, ◌∙◌, ap, filter}
 use Rattle.model.specs.Calls.{Call}
-use Rattle.model.specs.Steps.{Touch, touches}
+use Rattle.model.specs.Steps.{touches}
 use Rattle.model.specs.Entries.{BeginFlags}
-use Rattle.model.specs.Moments.{Moment, idle, live, after_list, calls_of, calls_at, seen_by, counted, counted_touches}
+use Rattle.model.specs.Moments.{idle, live, after_list, calls_of, calls_at, seen_by, counted, counted_touches}
 use Rattle.history_laws.specs.Doings.{all_done}
 use Rattle.history_laws.proofs.Laws.{phase_is, lists_are_their_doings, views_may_be_loose}
 use Rattle.kernel.specs.Shown.{moment}
 use Rattle.kernel.specs.Standings.{IsOpen}
 use Rattle.kernel.specs.States.{Fields, Holds}
-use Rattle.kernel.specs.Views.{resting, open_view, view_at, view_of, changes_in, changes_of}
-use Rattle.kernel.proofs.Rows.{IsLive, is_idle, is_live}
+use Rattle.kernel.specs.Views.{resting, view_at, view_of, changes_in, changes_of}
+use Rattle.kernel.proofs.Rows.{is_idle, is_live}
 
 pub plain_counted : (f : Fields) (pid : ℕ) (call : Call) → Holds f → view_of (moment f.log) pid ≡ resting → filter (λ t. t.write) (touches f.stable.state pid call) ≡ counted_touches (moment f.log) pid call
 plain_counted f pid call holds rests =
     let m = moment f.log in
     let phase = phase_is m pid idle (is_idle m pid rests) (λ h. absurd cc) in
     sym (ap (λ s. counted s (touches (seen_by m pid) pid call)) phase ∙ ap (λ k. filter (λ t. t.write) (touches k pid call)) (ap (λ s. after_list pid (calls_of s) m.committed) phase ∙ sym holds.state))
+
+-- what an idle process sees
+pub plain_sees : (f : Fields) (pid : ℕ) → Holds f → view_of (moment f.log) pid ≡ resting → all_done (changes_in (view_at f.slots pid)) f.stable.state ≡ f.stable.state
+plain_sees f pid holds rests = ap (λ v. all_done (changes_in v) f.stable.state) (holds.slots pid ∙ rests)
 
 -- what a live process sees
 pub live_sees : (f : Fields) (pid : ℕ) (flags : BeginFlags) (age : ℕ) → Holds f → IsOpen (view_of (moment f.log) pid) flags age

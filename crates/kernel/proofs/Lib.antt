@@ -5,6 +5,8 @@ mod Fits
 mod Own
 mod Counts
 mod Rows
+mod Claims
+mod Slots
 mod Taken
 mod Within
 mod Unchanged

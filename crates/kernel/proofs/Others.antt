@@ -1,19 +1,19 @@
 -- What has to be kept of the processes after one right entry that is no fork and no exit.
-use Rattle.std.proofs.Common.{◌≡◌, ◌≢◌, ℕ, suc, ◌+◌, List, [], ◌∷◌, Some, None, refl, sym, ◌∙◌, ap, ap₂, subst, true, false, Bool, inl, arith}
+use Rattle.std.proofs.Common.{◌≡◌, ◌≢◌, ℕ, suc, ◌+◌, List, [], Some, None, refl, ◌∙◌, ap, true, false, Bool, inl, arith}
 use Rattle.std.specs.List.{AllByRecursion}
 use Rattle.history.specs.Log.{Log}
-use Rattle.model.specs.Entries.{BeginFlags, Cause, Entry, Executed}
+use Rattle.model.specs.Entries.{Cause, Entry}
 use Rattle.model.specs.Steps.{Touch}
 use Rattle.model.specs.Moments.{Status, live, doomed, Moment, is_alive, after, bound, holds_place, priority_of, calls_of, calls_at, held_by, doom_cause, dooming_touches, is_in, next}
 use Rattle.model.specs.Legal.{Legal, Right}
-use Rattle.history_laws.specs.Doings.{Doing, doings}
+use Rattle.history_laws.specs.Doings.{Doing}
 use Rattle.history_laws.specs.Entered.{IsDoomed, PhasesMove, ListStays}
 use Rattle.history_laws.specs.Processes.{IsAsBefore, ProcessesMove}
 use Rattle.history_laws.proofs.Laws.{phases_move, lists_stay, forks_and_exits_move, what_stands}
 use Rattle.contention.specs.Holding.{Held, live_age, holding}
 use Rattle.kernel.specs.Shown.{moment}
 use Rattle.kernel.specs.Rows.{IsSteady}
-use Rattle.kernel.specs.Views.{View, open_view, struck, shown_by, view_by, changes_of, view_of}
+use Rattle.kernel.specs.Views.{open_view, struck, view_by, changes_of, view_of}
 
 -- what a process shows, by its parts
 pub views_alike : (a b : Bool) (s t : Status) (ds es : List Doing) → a ≡ b → s ≡ t → ds ≡ es → view_by a s ds ≡ view_by b t es
@@ -55,9 +55,6 @@ module _ (log : Log) (e : Entry) (legal : Legal 0 log.priorities log.limit log.e
   pub other_held : (q : ℕ) → q ≢ e.pid → is_in q e.doomed ≡ false → holding (next m e) q ≡ holding m q
   other_held q differs spared = held_alike _ _ _ _ _ _ (as_before q).priority (moves.others q differs spared) (other_stays q differs spared).held
 
-  pub other_changes : (q : ℕ) → q ≢ e.pid → is_in q e.doomed ≡ false → changes_of (next m e) q ≡ changes_of m q
-  other_changes q differs spared = (other_stays q differs spared).doings
-
   -- one that is doomed
   abbrev told : ℕ → Cause
   told q = doom_cause m e.pid (dooming_touches m e.pid e.op) q
@@ -73,6 +70,3 @@ module _ (log : Log) (e : Entry) (legal : Legal 0 log.priorities log.limit log.e
 
   pub doomed_held : (q : ℕ) → (d : IsDoomed m e q) → holding (next m e) q ≡ record { priority = priority_of m q; age = None; touches = [] }
   doomed_held q d = held_alike _ _ _ _ _ _ (as_before q).priority d.later (ap (λ s. Rattle.model.specs.Moments.list_touches q (calls_of s) (next m e).committed) d.later)
-
-  pub doomed_changes : (q : ℕ) → (d : IsDoomed m e q) → changes_of (next m e) q ≡ []
-  doomed_changes q d = ap (λ s. doings q (calls_of s) (next m e).committed) d.later

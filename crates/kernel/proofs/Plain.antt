@@ -1,5 +1,5 @@
 -- A call of an idle process that takes effect.
-use Rattle.std.proofs.Common.{◌≡◌, ◌≢◌, ℕ, ◌<◌, ◌≤◌, List, [], ◌∷◌, ◌++◌, Some, None, Result, Ok, Err, length, refl, sym, ◌∙◌, ap, subst, true, false, Bool, inl, inr}
+use Rattle.std.proofs.Common.{◌≡◌, ℕ, List, [], ◌∷◌, Some, None, Result, Ok, Err, length, refl, sym, ◌∙◌, ap, subst, true, false, Bool, inl, inr}
 use Rattle.std.specs.Prelude.{if◌then◌else◌, ◌+◌}
 use Rattle.std.specs.List.{AllByRecursion}
 use Rattle.std.proofs.lemmas.Bool.{cases_Bool}
@@ -7,8 +7,8 @@ use Rattle.model.specs.State.{Kernel}
 use Rattle.model.specs.Plan.{Errno}
 use Rattle.model.specs.Changes.{tidy, all_applied}
 use Rattle.model.specs.Calls.{Call, Answer}
-use Rattle.model.specs.Steps.{reply, edits, touches, CanBeChosen}
-use Rattle.model.specs.Entries.{Do, Entry, Executed, answer_in, is_unsupported}
+use Rattle.model.specs.Steps.{reply, edits}
+use Rattle.model.specs.Entries.{Do, Entry, is_unsupported}
 use Rattle.model.specs.Moments.{Moment, Status, idle, status, is_alive, after_list, calls_of, calls_at, seen_by, own_next, counted_touches, clashes_with, losing_cause, all_below, bound, is_in, next}
 use Rattle.model.specs.Legal.{Right, Outcome, Taken}
 use Rattle.model.specs.Replies.{answered}
@@ -21,15 +21,16 @@ use Rattle.history_laws.proofs.Laws.{right_by, free_from, phase_is, alive_is, pl
 use Rattle.contention.specs.Holding.{held_at}
 use Rattle.contention.specs.Verdicts.{IsDoomedBy}
 use Rattle.contention.specs.declared.Doomed.{Doomed}
-use Rattle.shadow.specs.Committed.{AreGiven, CanCommit}
-use Rattle.shadow.specs.Operations.{can_call}
+use Rattle.shadow.specs.Committed.{CanCommit}
+use Rattle.calls.specs.Operations.{can_call}
+use Rattle.kernel.specs.Claims.{AreCovered}
 use Rattle.kernel.specs.Shown.{moment}
 use Rattle.kernel.specs.Standings.{has_places}
 use Rattle.kernel.specs.States.{Fields, Holds, with_entry}
 use Rattle.kernel.specs.Strikes.{struck_by, freed_by}
 use Rattle.kernel.specs.Takes.{made_entry}
-use Rattle.kernel.specs.Views.{resting, view_at, view_of, changes_of}
-use Rattle.kernel.proofs.Fits.{Fits, fits_hold, given_more}
+use Rattle.kernel.specs.Views.{resting, view_at, view_of}
+use Rattle.kernel.proofs.Fits.{fits_hold}
 use Rattle.kernel.proofs.Others.{views_alike, held_alike, as_before, moves, list_stays}
 use Rattle.kernel.proofs.Rows.{is_idle}
 use Rattle.kernel.proofs.Struck.{pids, not_struck, not_freed}
@@ -99,8 +100,8 @@ module _ (f : Fields) (pid : ℕ) (call : Call) (chosen : List ℕ) (ds : List D
   committed = plain_calls_run m e call (reply k pid call) is_resting refl (executed_again k pid call) ∙ ap (λ x. tidy (all_applied chosen (edits x pid call) x)) (sym holds.state)
 
   pub plain_holds : (g : Fields) → g.log ≡ with_entry f.log e → length g.slots ≡ length f.slots → ((q : ℕ) → view_at g.slots q ≡ struck_by ds q (view_at f.slots q))
-      → length g.held ≡ length f.held → ((q : ℕ) → held_at g.held q ≡ freed_by ds q (held_at f.held q)) → g.stable.state ≡ tidy (all_done (change ∷ []) k) → f.stable.next ≤ g.stable.next → Holds g
-  plain_holds g log count views held_count held state grows = fits_hold f g e ds holds (record {
+      → length g.held ≡ length f.held → ((q : ℕ) → held_at g.held q ≡ freed_by ds q (held_at f.held q)) → g.stable.state ≡ tidy (all_done (change ∷ []) k) → AreCovered g.slots g.stable → Holds g
+  plain_holds g log count views held_count held state covered = fits_hold f g e ds holds (record {
     right = plain_right;
     steady = steady k pid call chosen ds there;
     dooms = refl;
@@ -113,8 +114,7 @@ module _ (f : Fields) (pid : ℕ) (call : Call) (chosen : List ℕ) (ds : List D
     held_own = held pid ∙ not_freed ds pid _ spared ∙ holds.held.each pid ∙ sym (held_alike _ _ _ _ _ _ before.priority same_phase stay.held);
     held_others = λ q differs. held q;
     state = state ∙ sym committed;
-    grows = grows;
-    given = subst (AreGiven g.stable.next) (sym stay.doings) (given_more f.stable.next g.stable.next (changes_of m pid) grows (holds.given pid));
+    covered = covered;
   }) where
     before : IsAsBefore m e pid
     before = as_before f.log e holds.legal plain_right (steady k pid call chosen ds there) pid

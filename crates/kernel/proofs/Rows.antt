@@ -1,21 +1,20 @@
 -- Which entries are right by what the kernel keeps of their process.
-use Rattle.std.proofs.Common.{◌≡◌, ◌≢◌, ℕ, ◌+◌, ◌<◌, List, [], ◌∷◌, Option, Some, None, length, refl, sym, ◌∙◌, ap, subst, true, false, Bool, arith}
+use Rattle.std.proofs.Common.{◌≡◌, ◌≢◌, ℕ, ◌+◌, List, [], Some, length, refl, sym, ◌∙◌, ap, subst, true, false, Bool}
 use Rattle.std.specs.Prelude.{if◌then◌else◌}
 use Rattle.history.specs.Log.{Log}
 use Rattle.ids.specs.Flags.{is_restarting}
 use Rattle.model.specs.Calls.{Call}
 use Rattle.model.specs.Entries.{BeginFlags, Op, Do, Begin, End, Abort, Cause, Clash, Reply, Begun, GivenUp, Aborted, Entry, Executed, is_inside}
-use Rattle.model.specs.Moments.{Status, gone, idle, live, doomed, Moment, status, is_alive, settled, own_next, run_by, after_list, counted_touches, losing_cause, next, calls_at}
-use Rattle.model.specs.Legal.{Legal, Right, RightAt, Inside, Outcome, Alone, restarts}
+use Rattle.model.specs.Moments.{Status, gone, idle, live, doomed, Moment, status, is_alive, settled, own_next, run_by, after_list, counted_touches, losing_cause}
+use Rattle.model.specs.Legal.{Right, Inside, Outcome, Alone, restarts}
 use Rattle.history_laws.specs.Doings.{Doing}
-use Rattle.history_laws.specs.Processes.{child_in, is_ended}
+use Rattle.history_laws.specs.Processes.{is_ended}
 use Rattle.history_laws.proofs.Laws.{right_by, free_from, phase_is, alive_is, phases_move}
 use Rattle.kernel.specs.Shown.{moment}
 use Rattle.kernel.specs.Rows.{IsSteady, IsSettling, settled_as}
-use Rattle.kernel.specs.Standings.{IsOpen, IsStruck, has_places}
-use Rattle.kernel.specs.States.{Fields, Holds}
+use Rattle.kernel.specs.Standings.{IsOpen, has_places}
 use Rattle.kernel.specs.Steps.{is_no_entry}
-use Rattle.kernel.specs.Views.{View, absent, resting, open_view, struck, view_by, view_of, changes_of}
+use Rattle.kernel.specs.Views.{View, resting, open_view, struck, view_by, view_of, changes_of}
 use Rattle.kernel.proofs.Steps.{entries_count}
 
 -- the status of a process by what it shows

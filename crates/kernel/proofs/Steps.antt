@@ -1,12 +1,11 @@
 -- A right entry has its place, and adding it is a step.
-use Rattle.std.proofs.Common.{◌≡◌, ◌≢◌, ℕ, ◌+◌, ◌<◌, ◌≤◌, ◌∷◌, [], ◌++◌, length, refl, sym, ◌∙◌, ap, subst, true, false, Bool, arith}
+use Rattle.std.proofs.Common.{◌≡◌, ◌≢◌, ◌+◌, ◌<◌, ◌≤◌, ◌∷◌, [], ◌++◌, length, refl, sym, ◌∙◌, ap, subst, true, false, arith}
 use Rattle.std.specs.Prelude.{MatchBool}
 use Rattle.std.proofs.lemmas.Bool.{false≢true, le-leb}
 use Rattle.std.proofs.lemmas.List.{length-append}
 use Rattle.history.specs.Log.{Log}
 use Rattle.model.specs.Entries.{Entry, Reply, HistoryFull, NoMemory}
-use Rattle.model.specs.Moments.{Moment, reserved, after, has_free, status}
-use Rattle.model.specs.Replies.{needed}
+use Rattle.model.specs.Moments.{reserved, after}
 use Rattle.model.specs.Legal.{Legal, Right}
 use Rattle.history_laws.proofs.Laws.{legal_push, places_suffice, right_entries_have_places, legality_follows}
 use Rattle.kernel.specs.Shown.{Shown, moment}

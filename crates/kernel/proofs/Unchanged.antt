@@ -1,24 +1,21 @@
 -- Fields that show the same hold.
-use Rattle.std.proofs.Common.{◌≡◌, ℕ, ◌≤◌, List, length, refl, sym, ◌∙◌, subst, eqb, inl, inr}
+use Rattle.std.proofs.Common.{◌≡◌, ℕ, List, length, sym, ◌∙◌, subst, eqb, inl, inr}
 use Rattle.std.proofs.lemmas.Bool.{cases_Bool, eqb-true, eqb-false}
-use Rattle.model.specs.Legal.{Legal}
 use Rattle.contention.specs.Holding.{Held, held_at, Becomes}
-use Rattle.shadow.specs.Committed.{AreGiven}
-use Rattle.kernel.specs.Shown.{moment}
+use Rattle.kernel.specs.Claims.{AreCovered}
 use Rattle.kernel.specs.States.{Fields, Holds}
-use Rattle.kernel.specs.Views.{Shows, view_at, changes_of}
+use Rattle.kernel.specs.Views.{Shows, view_at}
 use Rattle.kernel.specs.declared.slot.Slot.{Slot}
-use Rattle.kernel.proofs.Fits.{given_more}
 
 pub unchanged_holds : (f g : Fields) → Holds f → g.log ≡ f.log → length g.slots ≡ length f.slots → ((q : ℕ) → view_at g.slots q ≡ view_at f.slots q)
-    → length g.held ≡ length f.held → ((q : ℕ) → held_at g.held q ≡ held_at f.held q) → g.stable.state ≡ f.stable.state → f.stable.next ≤ g.stable.next → Holds g
-unchanged_holds f g holds log count views held_count held state grows = subst (λ l. Holds (record g { log = l })) (sym log) (record {
+    → length g.held ≡ length f.held → ((q : ℕ) → held_at g.held q ≡ held_at f.held q) → g.stable.state ≡ f.stable.state → AreCovered g.slots g.stable → Holds g
+unchanged_holds f g holds log count views held_count held state covered = subst (λ l. Holds (record g { log = l })) (sym log) (record {
   legal = holds.legal;
   state = state ∙ holds.state;
   held = record { count = held_count ∙ holds.held.count; each = λ q. held q ∙ holds.held.each q };
   count = count ∙ holds.count;
   slots = λ q. views q ∙ holds.slots q;
-  given = λ q. given_more f.stable.next g.stable.next (changes_of (moment f.log) q) grows (holds.given q);
+  covered = covered;
 })
 
 -- a process's part that was put back as it was

@@ -1,7 +1,7 @@
 -- The operations that the kernel has today.
 use Rattle.std.specs.Prelude.{◌≡◌, ℕ, Bool, true, List, All}
 use Rattle.model.specs.Entries.{Op, Do, Begin, End, Abort}
-use Rattle.shadow.specs.Operations.{can_call}
+use Rattle.calls.specs.Operations.{can_call}
 
 abbrev pub can_run : Op → Bool
 can_run (Do call) = can_call call

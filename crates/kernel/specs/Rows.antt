@@ -1,13 +1,12 @@
 -- Entries that doom nobody and commit nothing.
-use Rattle.std.specs.Prelude.{◌≡◌, ◌≢◌, ℕ, Bool, true, false, Option, None, [], if◌then◌else◌}
+use Rattle.std.specs.Prelude.{◌≡◌, ℕ, Bool, true, false, None, [], if◌then◌else◌}
 use Rattle.history.specs.Log.{Log}
-use Rattle.model.specs.Entries.{BeginFlags, Op, Reply, Entry}
-use Rattle.model.specs.Moments.{Status, idle, live, doomed, Moment, is_alive, next}
+use Rattle.model.specs.Entries.{BeginFlags, Entry}
+use Rattle.model.specs.Moments.{Status, idle, live, is_alive, next}
 use Rattle.model.specs.Legal.{Right, Alone}
 use Rattle.history_laws.specs.Processes.{child_in, born, is_ended}
 use Rattle.kernel.specs.Shown.{moment}
 use Rattle.kernel.specs.Steps.{is_no_entry}
-use Rattle.kernel.specs.Views.{View, absent, resting, open_view, struck}
 
 -- no fork and no exit
 pub record IsSteady (e : Entry) : Type 0 where

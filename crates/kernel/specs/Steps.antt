@@ -1,9 +1,9 @@
 -- What one step does, and what steps in a row do.
 use Rattle.std.specs.Prelude.{◌≡◌, ◌≢◌, ◌↔◌, ℕ, Bool, true, false, List, [], ◌∷◌, ◌++◌, MatchBool}
 use Rattle.history.specs.Log.{Log}
-use Rattle.model.specs.Moments.{Moment, status, has_free}
+use Rattle.model.specs.Moments.{status, has_free}
 use Rattle.model.specs.Replies.{needed}
-use Rattle.model.specs.Entries.{Op, Reply, HistoryFull, NoMemory, Entry}
+use Rattle.model.specs.Entries.{Op, Reply, HistoryFull, NoMemory}
 use Rattle.kernel.specs.Shown.{Shown, Kept, moment}
 
 -- whether a reply stands for no entry

@@ -1,5 +1,5 @@
 -- What dooming does to what is kept of the processes.
-use Rattle.std.specs.Prelude.{ℕ, Bool, true, false, List, [], ◌∷◌, Option, None, ◌==◌, if◌then◌else◌}
+use Rattle.std.specs.Prelude.{ℕ, List, [], ◌∷◌, None, ◌==◌, if◌then◌else◌}
 use Rattle.contention.specs.Holding.{Held}
 use Rattle.contention.specs.declared.Doomed.{Doomed}
 use Rattle.kernel.specs.Views.{View, absent, resting, open_view, struck}

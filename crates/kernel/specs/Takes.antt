@@ -1,11 +1,12 @@
 -- Calls that take effect.
-use Rattle.std.specs.Prelude.{◌≡◌, ℕ, List, [], ◌∷◌, ◌++◌, Result, Ok, Err, map}
-use Rattle.model.specs.Plan.{Errno}
-use Rattle.model.specs.Calls.{Call, Answer}
+use Rattle.std.specs.Prelude.{◌≤◌, ℕ, ◌+◌, List, [], ◌∷◌, ◌++◌, map}
+use Rattle.model.specs.Calls.{Call}
 use Rattle.model.specs.Entries.{Do, Reply, Entry}
 use Rattle.contention.specs.declared.Doomed.{Doomed}
 use Rattle.history_laws.specs.Doings.{Doing}
-use Rattle.kernel.specs.Views.{View, absent, resting, open_view, struck}
+use Rattle.shadow.specs.Claims.{Claim, Room, claimed, reserved}
+use Rattle.shadow.specs.Committed.{Committed}
+use Rattle.kernel.specs.Views.{View, absent, resting, open_view, struck, changes_in}
 
 -- one change more
 abbrev pub with_change : Doing → View → View
@@ -16,3 +17,11 @@ with_change d (struck entry reply flags age) = struck entry reply flags age
 
 abbrev pub made_entry : ℕ → Call → Reply → List ℕ → List Doomed → Entry
 made_entry pid call reply chosen doomed = record { pid = pid; op = Do call; reply = reply; chosen = chosen; doomed = map (λ d. d.pid) doomed }
+
+-- no claim has less to meet it
+abbrev pub Grows : Committed → Committed → Type 0
+Grows s t = (c : Claim) → reserved s c ≤ reserved t c
+
+-- where a view takes one change more, room for the names that it adds has come
+abbrev pub HasRoom : Committed → Committed → Doing → View → Type 0
+HasRoom s t d v = (r : ℕ) → reserved s (Room r) + claimed (Room r) (changes_in (with_change d v)) ≤ reserved t (Room r) + claimed (Room r) (changes_in v)

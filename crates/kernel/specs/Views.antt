@@ -48,6 +48,13 @@ changes_in resting = []
 changes_in (open_view flags age changes) = changes
 changes_in (struck entry reply flags age) = []
 
+-- whether it is a live transaction's
+abbrev pub is_open : View → Bool
+is_open (open_view flags age changes) = true
+is_open absent = false
+is_open resting = false
+is_open (struck entry reply flags age) = false
+
 -- one process's slot shows this now, and the others' as before
 pub record Shows (old new : List Slot) (pid : ℕ) (v : View) : Type 0 where
   pub count : length new ≡ length old

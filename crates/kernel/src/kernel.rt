@@ -1,19 +1,21 @@
 // The kernel, and one step of it.
-ghost use Rattle.std.specs.Prelude.{◌≡◌, ◌<◌, ◌≤◌, [], suc, true, length, IfOk, OnErr};
-ghost use Rattle.model.specs.Moments.{is_alive};
+ghost use Rattle.std.specs.Prelude.{◌≡◌, ◌<◌, ◌≤◌, [], suc, true, length, is_some, IfOk, IfSome, OnErr};
+ghost use Rattle.model.specs.Changes.{tidy};
+ghost use Rattle.model.specs.Moments.{is_alive, seen_by};
+ghost use Rattle.history_laws.specs.Doings.{all_done};
 ghost use Rattle.kernel.specs.Operations.{can_run, CanRunAll};
-ghost use Rattle.kernel.specs.Shown.{Kept};
+ghost use Rattle.kernel.specs.Shown.{Kept, moment, is_live};
 ghost use Rattle.kernel.specs.Steps.{IsStep, Steps};
 ghost use Rattle.kernel.specs.Views.{AreFirst};
 
-use crate::slot::Slot;
+use crate::slot::{Slot, shadow_of};
 use crate::state::State;
 use crate::step::step;
 use contention::Contenders;
 use heap::Heap;
 use history::History;
 use ids::{Op, Pid, Priority, Reply};
-use shadow::Stable;
+use shadow::{Shadow, Stable};
 use std::alloc::AllocError;
 use std::marker::Model;
 
@@ -79,6 +81,22 @@ impl Kernel {
         ensures { result ≡ is_alive self.now.state pid }
     {
         self.state.stable.is_living(pid)
+    }
+
+    /// What is committed. A process in no transaction sees it.
+    pub fn stable(&self) -> &Stable
+        ensures { result.now.state ≡ self.now.state }
+    {
+        &self.state.stable
+    }
+
+    /// What a process has changed in its live transaction, if it is in one. With these changes on top of the committed state,
+    /// and what nothing leads to freed, it sees what the history says.
+    pub fn shadow(&self, pid: Pid) -> Option<&Shadow>
+        ensures live { is_some result ≡ is_live (moment self.now.log) pid }
+        ensures sees { IfSome result (λ s. tidy (all_done s.now self.now.state) ≡ seen_by (moment self.now.log) pid) }
+    {
+        shadow_of(&self.state.slots, pid)
     }
 
     /// One operation of one process. HistoryFull and NoMemory change nothing; each other reply is that of one new entry.

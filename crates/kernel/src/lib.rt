@@ -1,10 +1,10 @@
 //! The kernel: one step of one process at a time, with transactions.
 //!
-//! Today it has one directory, the root, and the calls mkdir and stat on it.
+//! Today there are directories, and the calls mkdir, stat, rmdir and list on them.
 #![tactic(auto)]
 
-mod calls;
 mod doom;
+mod execute;
 mod kernel;
 mod operation;
 mod rest;

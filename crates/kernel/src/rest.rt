@@ -1,5 +1,5 @@
 // The operations that execute no call: begins, aborts, notices and refusals.
-ghost use Rattle.std.specs.Prelude.{◌≡◌, ◌<◌, [], true, length, count_by, Some};
+ghost use Rattle.std.specs.Prelude.{◌≡◌, [], true, count_by, Some};
 ghost use Rattle.model.specs.Entries as entries;
 ghost use Rattle.model.specs.Moments.{losing_cause, counted_touches};
 ghost use Rattle.model.specs.Entries.{is_inside};
@@ -8,13 +8,12 @@ ghost use Rattle.kernel.specs.Standings.{StandsSo, slot_holds, has_places, cause
 ghost use Rattle.kernel.specs.Shown.{moment};
 ghost use Rattle.kernel.specs.States.{Holds, fields, shown};
 ghost use Rattle.kernel.specs.Steps.{IsStep};
-ghost use Rattle.kernel.specs.Views.{Shows, absent, resting, slot_view, view_at, view_of};
+ghost use Rattle.kernel.specs.Views.{absent, resting, slot_view, view_of};
 
-use crate::slot::{Doom, Slot};
+use crate::slot::{Doom, Slot, take_slot};
 use crate::state::{State, note, settle};
 use heap::Heap;
 use ids::{Age, BeginFlags, Call, Cause, Entry, Nums, Op, Pid, Pids, Reply, Why};
-use std::mem::replace;
 
 /// What a process is, in short.
 #[derive(Clone, Copy)]
@@ -97,15 +96,6 @@ fn is_restarted(s: &State, flags: BeginFlags, op: &Op) -> bool
         Op::End => flags.restarts() && has_free(s, 1),
         Op::Abort { no_restart } => flags.restarts() && (!*no_restart && has_free(s, 1)),
     }
-}
-
-/// Takes a slot, which is idle then.
-pub fn take_slot(slots: &mut Vec<Slot, Heap>, pid: Pid) -> Slot
-    requires { pid < length slots.old.items }
-    ensures taken { slot_view result ≡ view_at slots.old.items pid }
-    ensures left { Shows slots.old.items slots.new.items pid resting }
-{
-    replace(&mut slots[pid.0 as usize], Slot::Idle)
 }
 
 /// Answers that there is no such process.

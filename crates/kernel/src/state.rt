@@ -4,9 +4,9 @@ ghost use Rattle.contention.specs.Holding.{held_at, Becomes};
 ghost use Rattle.kernel.specs.Rows.{IsQuiet, settled_as};
 ghost use Rattle.kernel.specs.States.{CanSettle, Holds, fields, shown};
 ghost use Rattle.kernel.specs.Steps.{IsStep};
-ghost use Rattle.kernel.specs.Views.{Shows, slot_view, shown_by};
+ghost use Rattle.kernel.specs.Views.{slot_view, shown_by};
 
-use crate::slot::{Slot, Transaction};
+use crate::slot::{Slot, Transaction, drop_slot, set_slot, take_slot};
 use contention::Contenders;
 use heap::Heap;
 use history::History;
@@ -39,25 +39,19 @@ pub fn note(s: &mut State, entry: Entry)
 }
 
 /// Adds an entry that dooms nobody and commits nothing, and after which its process's transaction begins, or begins anew, or
-/// is gone. Its slot before may have been taken already.
+/// is gone. What it had changed is forgotten. Its slot before may have been taken already.
 pub fn settle(s: &mut State, entry: Entry, again: bool, flags: BeginFlags, age: Age)
     requires { CanSettle (fields s.old) entry again flags age }
     ensures holds { Holds (fields s.new) }
     ensures step { IsStep (shown (fields s.old)) (shown (fields s.new)) entry.pid entry.op entry.reply }
 {
-    let slot = settled_slot(s.heap, again, flags, age);
     let pid = entry.pid;
     settle_held(&mut s.contenders, pid, again, age);
+    let before = take_slot(&mut s.slots, pid);
+    drop_slot(before, &mut s.stable);
+    let slot = settled_slot(s.heap, again, flags, age);
     set_slot(&mut s.slots, pid, slot);
     s.history.push_placed(entry);
-}
-
-/// Puts a process's slot in the place of the one before.
-pub fn set_slot(slots: &mut Vec<Slot, Heap>, pid: Pid, slot: Slot)
-    requires { pid < length slots.old.items }
-    ensures { Shows slots.old.items slots.new.items pid (slot_view slot) }
-{
-    slots[pid.0 as usize] = slot;
 }
 
 /// The slot of a process that is in a transaction without calls, or in none.

@@ -7,7 +7,7 @@ ghost use Rattle.kernel.specs.States.{Holds, fields, shown};
 ghost use Rattle.kernel.specs.Steps.{IsStep};
 ghost use Rattle.kernel.specs.Views.{resting, view_of};
 
-use crate::calls::{commit, run_plain, run_within};
+use crate::execute::{commit, run_plain, run_within};
 use crate::rest::{
     Standing, begin, give_up, has_free, notice, refuse_begin, refuse_outside, refuse_process,
     standing_of,

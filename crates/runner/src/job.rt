@@ -1,5 +1,6 @@
 // The program from the opened file on.
-ghost use Rattle.std.specs.Prelude.{◌≡◌, ◌⊎◌, ◌<◌, ◌≤◌, ◌-◌, ◌^◌};
+ghost use Rattle.std.specs.Prelude.{List, ℕ, ◌≡◌, ◌⊎◌, ◌<◌, ◌≤◌, ◌-◌, ◌^◌};
+ghost use Rattle.device.specs.Device.{IsPart};
 ghost use Rattle.runner.specs.Jobs.{IsDone, IsFaulted};
 
 use crate::RunFault;
@@ -38,6 +39,7 @@ pub fn run_job<I: Source, O: Sink, E: Sink>(
 /// Writes a fault's line. Where memory for its text is refused, that is told.
 pub fn tell_fault<E: Sink>(heap: Heap, fault: &RunFault, err: &mut E)
     requires { E.failures err.old < 2 ^ 64 - 1 }
+    ensures { (line : List ℕ) × IsPart (E.written err.old) (E.written err.new) line }
 {
     let _ = match format!(in heap; "txsh: {fault}\n") {
         Ok(line) => write_all(err, line.as_bytes()),
@@ -48,6 +50,7 @@ pub fn tell_fault<E: Sink>(heap: Heap, fault: &RunFault, err: &mut E)
 /// Writes the line of a command line's fault. Where memory for its text is refused, that is told.
 pub fn tell_line<E: Sink>(heap: Heap, fault: &LineFault, err: &mut E)
     requires { E.failures err.old < 2 ^ 64 - 1 }
+    ensures { (line : List ℕ) × IsPart (E.written err.old) (E.written err.new) line }
 {
     let _ = match format!(in heap; "txsh: {fault}\n") {
         Ok(line) => write_all(err, line.as_bytes()),

@@ -1,5 +1,12 @@
-pub mod Flat
-pub mod Given
-pub mod Installs
-pub mod Several
-pub mod Tried
+pub mod Tidies
+pub mod Going
+pub mod Noted
+pub mod Views
+pub mod Agreeing
+pub mod Meets
+pub mod Taking
+pub mod Plugs
+pub mod Living
+pub mod Unshown
+pub mod Changing
+pub mod Committing

@@ -1,37 +1,45 @@
--- What a transaction's changes stand for, and what they make of the places of the committed state.
-use Rattle.std.specs.Prelude.{ℕ, ◌-◌, ◌<◌, ◌≤◌, List, [], ◌∷◌, Option, Some, None, ⊤, set, if◌then◌else◌, ◌==◌}
-use Rattle.std.specs.Ordering.{eq_by_cmp}
-use Rattle.model.specs.State.{Name, name_cmp}
-use Rattle.model.specs.Changes.{Edit, Make_directory}
-use Rattle.history_laws.specs.Doings.{Doing}
-use Rattle.shadow.specs.declared.Made.{Made}
+-- What a transaction's changes stand for.
+use Rattle.std.specs.Prelude.{◌≡◌, ℕ, ◌<◌, true, List, [], ◌∷◌, Option, Some, None, map, if◌then◌else◌}
+use Rattle.std.specs.List.{flat_map}
+use Rattle.model.specs.FiniteMap.{get, empty}
+use Rattle.model.specs.State.{Name, Kernel, names_of}
+use Rattle.model.specs.Changes.{Edit, Make_directory, Unname_directory}
+use Rattle.model.specs.Moments.{is_in}
+use Rattle.history_laws.specs.Doings.{Doing, all_done}
+use Rattle.shadow.specs.declared.edits.Change.{Change}
+use Rattle.shadow.specs.declared.steps.Step.{Step}
+use Rattle.shadow.specs.declared.steps.Step.TheVariants.{Nothing, Make, Unname}
+use Rattle.shadow.specs.Claims.{Room, claimed}
+use Rattle.shadow.specs.Index.{Given, given_at}
 
--- nothing, or a new empty directory with this name in the root
-abbrev pub edits_of : Option Name → List Edit
-edits_of None = []
-edits_of (Some x) = Make_directory 0 x 0 ∷ []
+-- what a change of a name stands for, before its new object has a number
+abbrev pub edits_of : Change → List Edit
+edits_of c = if c.makes then Make_directory c.parent c.name 0 ∷ [] else Unname_directory c.parent c.name ∷ []
 
-abbrev pub doing_of : Option Made → Doing
-doing_of None = record { chosen = []; edits = [] }
-doing_of (Some m) = record { chosen = m.num ∷ []; edits = edits_of (Some m.name) }
+abbrev pub edits_in : Option Change → List Edit
+edits_in (Some c) = edits_of c
+edits_in None = []
 
--- What a name gives after one change, by what it gave before. A directory that had the root's number would take its names away.
-abbrev pub given_after : Option Made → Name → Option ℕ → Option ℕ
-given_after None x before = before
-given_after (Some m) x before = if eq_by_cmp name_cmp x m.name then Some m.num else if m.num == 0 then None else before
+abbrev pub doing_of : Step → Doing
+doing_of Nothing = record { chosen = []; edits = [] }
+doing_of (Make d x n) = record { chosen = n ∷ []; edits = Make_directory d x 0 ∷ [] }
+doing_of (Unname d x) = record { chosen = []; edits = Unname_directory d x ∷ [] }
 
--- and after several, in order
-abbrev pub given_by : List (Option Made) → Name → Option ℕ → Option ℕ
-given_by [] x before = before
-given_by (c ∷ cs) x before = given_by cs x (given_after c x before)
+abbrev pub doings_of : List Step → List Doing
+doings_of steps = map doing_of steps
 
--- a change whose number is that of a place
-abbrev pub HasPlace : ℕ → Option Made → Type 0
-HasPlace count None = ⊤
-HasPlace count (Some m) = (0 < m.num) × (m.num ≤ count)
+-- the numbers of new directories
+abbrev pub made_by : List Doing → List ℕ
+made_by ds = flat_map (λ d. d.chosen) ds
 
--- the places with the changes' names
-abbrev pub installed : List (Option Made) → List (Option Name) → List (Option Name)
-installed [] places = places
-installed (None ∷ cs) places = installed cs places
-installed (Some m ∷ cs) places = installed cs (set places (m.num - 1) (Some m.name))
+-- what was noted last, or else what was before
+abbrev pub or_before : Option (Option ℕ) → Option ℕ → Option ℕ
+or_before (Some now) before = now
+or_before None before = before
+
+-- What is noted of names is what they give after the changes, in each state in which the new directories are not there yet. No name
+-- is noted to give something in a directory to which no change adds a name.
+pub record Agrees (ds : List Doing) (index : List Given) : Type 0 where
+  pub names : (k : Kernel) → ((n : ℕ) → is_in n (made_by ds) ≡ true → names_of k n ≡ empty) → (d : ℕ) (x : Name) → get (names_of (all_done ds k) d) x ≡ or_before (given_at index d x) (get (names_of k d) x)
+  pub adds : (d : ℕ) (x : Name) (n : ℕ) → given_at index d x ≡ Some (Some n) → 0 < claimed (Room d) ds
+  pub numbers : (d : ℕ) (x : Name) (n : ℕ) → given_at index d x ≡ Some (Some n) → is_in n (made_by ds) ≡ true

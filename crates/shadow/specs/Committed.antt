@@ -1,15 +1,21 @@
--- What a contract sees of the committed state and of a transaction's changes to it.
-use Rattle.std.specs.Prelude.{◌≡◌, ℕ, ◌<◌, List}
-use Rattle.std.specs.List.{AllByRecursion}
+-- What a contract sees of the committed state, and when a transaction's changes can be committed into it.
+use Rattle.std.specs.Prelude.{◌≡◌, ℕ, Bool, List, Option, Some, None, if◌then◌else◌}
+use Rattle.std.specs.Ordering.{nat_cmp}
+use Rattle.model.specs.FiniteMap.{FinMap, get}
 use Rattle.model.specs.State.{Kernel}
 use Rattle.model.specs.Entries.{Executed}
 use Rattle.call_laws.specs.WellFormed.{WellFormed}
 use Rattle.history_laws.specs.Doings.{Doing, doings, Goes}
 
--- the plain kernel's state, and the number from which on none was given yet
+-- what is kept of a number that is in use: whether its object is still to come, and for how many further names room is promised
+pub record Reserve : Type 0 where
+  pub coming : Bool
+  pub promised : ℕ
+
+-- the plain kernel's state, and what is kept for transactions that may commit
 pub record Committed : Type 0 where
   pub state : Kernel
-  pub next : ℕ
+  pub reserves : FinMap nat_cmp Reserve
 
 -- changes that a list of calls makes from this state, each call answered as it was
 pub record CanCommit (k : Kernel) (changes : List Doing) : Type 0 where
@@ -17,7 +23,3 @@ pub record CanCommit (k : Kernel) (changes : List Doing) : Type 0 where
   pub calls : List Executed
   pub goes : Goes WellFormed k pid calls
   pub same : doings pid calls k ≡ changes
-
--- all new numbers of these changes were given
-abbrev pub AreGiven : ℕ → List Doing → Type 0
-AreGiven next = AllByRecursion (λ d. AllByRecursion (λ n. n < next) d.chosen)

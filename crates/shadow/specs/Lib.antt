@@ -1,7 +1,7 @@
 pub mod Committed
-pub mod Operations
-pub mod Planned
-pub mod Flat
+pub mod Claims
+pub mod Looks
+pub mod Index
 pub mod Changes
-pub mod Targets
-pub mod Names
+pub mod Stored
+pub mod Effects

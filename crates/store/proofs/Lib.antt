@@ -1,3 +1,5 @@
+pub mod Names
 pub mod Rows
 pub mod Chosen
 pub mod Changes
+pub mod Listings

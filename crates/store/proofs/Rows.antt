@@ -1,15 +1,21 @@
--- A change of one place of a slab, as a change of the map of its places.
-use Rattle.std.proofs.Common.{◌≡◌, ◌≢◌, ℕ, cond, get_or, Option, Some, None, nat_cmp, sym, ap, ◌∙◌, inl, inr}
+-- A change of one place of a slab, as a change of the map of its places and of the store.
+use Rattle.std.proofs.Common.{◌≡◌, ◌≢◌, ℕ, cond, get_or, Option, Some, None, nat_cmp, refl, sym, ap, subst, ◌∙◌, inl, inr}
+use Rattle.std.specs.Option.{option_map}
 use Rattle.std.specs.Ordering.{eq_by_cmp, is_eq}
 use Rattle.std.specs.Cmp.{nat_cmp_total, tied_itself}
 use Rattle.std.proofs.lemmas.Bool.{cases_eq}
 use Rattle.slab.specs.Slab.{Slab, Updates}
+use Rattle.slab.specs.Slab as slab
 use Rattle.model.specs.FiniteMap.{FinMap, get, insert, remove, from_entries, get-insert, get-remove, same_map, nat_cmp-IsAntisymmetric}
 use Rattle.model.specs.Places.{placed}
 use Rattle.model.proofs.Inodes.{apart}
 use Rattle.model.proofs.Places.{get-placed}
+use Rattle.dirlist.specs.Listing.{Listing}
 use Rattle.store.specs.Numbers.{Numbers}
+use Rattle.store.specs.Places.{installed_place, installed_by, installed_at, hidden_place, hidden_by, hidden_at, changed_place, changed_by, changed_listing}
 use Rattle.store.specs.declared.Place.{Place}
+use Rattle.store.specs.declared.Place.TheVariants.{Coming, Held}
+use Rattle.store.proofs.Chosen.{remove-absent, insert-held}
 
 module _ {X : Type 0} where
   pub tied : (q k : ℕ) (x y : Option X) → q ≡ k → cond (eq_by_cmp nat_cmp q k) x y ≡ x
@@ -37,5 +43,56 @@ module _ {X : Type 0} where
   row-remove old new n u = same_map nat_cmp_total nat_cmp-IsAntisymmetric _ _ (λ q.
       get-placed new.slots q ∙ at_each old new n None u q ∙ sym (get-remove nat_cmp_total (row old) n q ∙ ap (cond (eq_by_cmp nat_cmp q n) None) (get-placed old.slots q)))
 
+  pub row-same : (old new : Slab X) (n : ℕ) → Updates old new n (slab.get old n) → row new ≡ row old
+  row-same old new n u = same_map nat_cmp_total nat_cmp-IsAntisymmetric _ _ (λ q. get-placed new.slots q ∙ same q ∙ sym (get-placed old.slots q))
+    where
+      same : (q : ℕ) → get_or new.slots q None ≡ get_or old.slots q None
+      same q = elim (cases_eq q n) [ inl e ↦ ap (λ q. get_or new.slots q None) e ∙ u.changed ∙ ap (λ q. get_or old.slots q None) (sym e) | inr away ↦ u.others q away ]
+
 abbrev pub with_places : ℕ → FinMap nat_cmp Place → Numbers
 with_places root places = record { places = places; root = root }
+
+-- what the slab of a store has at a number
+pub slot : (root : ℕ) (old : Slab Place) (s : Numbers) → with_places root (row old) ≡ s → (key n : ℕ) → key ≡ n → slab.get old key ≡ get s.places n
+slot root old s is key n at = ap (λ k. get_or old.slots k None) at ∙ sym (get-placed old.slots n) ∙ ap (λ (s : Numbers). get s.places n) is
+
+-- a store whose slab was changed at one key, where s is the store before
+module _ (root : ℕ) (old new : Slab Place) (s : Numbers) (is : with_places root (row old) ≡ s) (key n : ℕ) (at : key ≡ n) where
+  updated : (o : Option Place) → Updates old new key o → (p : Option Place) → o ≡ p → Updates old new n p
+  updated o u p same = subst (λ (k : ℕ). Updates old new k p) at (subst (λ (o : Option Place). Updates old new key o) same u)
+
+  inserted : (place : Place) → Updates old new n (Some place) → with_places root (row new) ≡ record s { places = insert s.places n place }
+  inserted place u = ap (with_places root) (row-insert old new n place u) ∙ ap (λ (s : Numbers). record s { places = insert s.places n place }) is
+
+  removed : Updates old new n None → get s.places n ≡ None → with_places root (row new) ≡ s
+  removed u none = ap (with_places root) (row-remove old new n u) ∙ ap (λ (s : Numbers). record s { places = remove s.places n }) is ∙ ap (with_places s.root) (remove-absent s.places n none)
+
+  pub store-same : Updates old new key (slab.get old key) → with_places root (row new) ≡ s
+  store-same u = ap (with_places root) (row-same old new key u) ∙ is
+
+  -- a change of each place that is in use
+  by_slot : (f : Place → Place) → Updates old new key (option_map f (slab.get old key)) → (o : Option Place) → get s.places n ≡ o → Updates old new n (option_map f o)
+  by_slot f u o there = updated _ u _ (ap (option_map f) (slot root old s is key n at ∙ there))
+
+  pub store-changed : (f : Listing → Listing) → Updates old new key (option_map (changed_place f) (slab.get old key)) → with_places root (row new) ≡ changed_listing f s n
+  store-changed f u = by_place (get s.places n) refl
+    where
+      by_place : (o : Option Place) → get s.places n ≡ o → with_places root (row new) ≡ record s { places = changed_by f o s.places n }
+      by_place (Some place) there = inserted _ (by_slot (changed_place f) u (Some place) there)
+      by_place None there = removed (by_slot (changed_place f) u None there) there
+
+  pub store-installed : Updates old new key (option_map installed_place (slab.get old key)) → with_places root (row new) ≡ record s { places = installed_at s.places n }
+  store-installed u = by_place (get s.places n) refl
+    where
+      by_place : (o : Option Place) → get s.places n ≡ o → with_places root (row new) ≡ record s { places = installed_by o s.places n }
+      by_place (Some (Coming object)) there = inserted _ (by_slot installed_place u (Some (Coming object)) there)
+      by_place (Some (Held object)) there = inserted _ (by_slot installed_place u (Some (Held object)) there) ∙ ap (with_places s.root) (insert-held s.places n (Held object) there)
+      by_place None there = removed (by_slot installed_place u None there) there
+
+  pub store-hidden : Updates old new key (option_map hidden_place (slab.get old key)) → with_places root (row new) ≡ record s { places = hidden_at s.places n }
+  store-hidden u = by_place (get s.places n) refl
+    where
+      by_place : (o : Option Place) → get s.places n ≡ o → with_places root (row new) ≡ record s { places = hidden_by o s.places n }
+      by_place (Some (Held object)) there = inserted _ (by_slot hidden_place u (Some (Held object)) there)
+      by_place (Some (Coming object)) there = inserted _ (by_slot hidden_place u (Some (Coming object)) there) ∙ ap (with_places s.root) (insert-held s.places n (Coming object) there)
+      by_place None there = removed (by_slot hidden_place u None there) there

@@ -1,11 +1,11 @@
--- The inodes of a store, as a plain kernel has them: without reserved numbers, and without promised room.
+-- The inodes of a store, as a plain kernel has them: without objects to come, and without promised room.
 use Rattle.std.specs.Prelude.{ℕ, List, [], ◌∷◌, Option, Some, None}
 use Rattle.std.specs.Ordering.{nat_cmp}
-use Rattle.model.specs.FiniteMap.{FinMap, entries, insert, remove, from_entries}
-use Rattle.model.specs.State.{Inode, Directory}
+use Rattle.model.specs.FiniteMap.{FinMap, entries, get, insert, remove, from_entries}
+use Rattle.model.specs.State.{Inode, Directory, name_cmp}
 use Rattle.store.specs.Numbers.{Numbers}
 use Rattle.store.specs.declared.Place.{Place}
-use Rattle.store.specs.declared.Place.TheVariants.{Reserved, Held}
+use Rattle.store.specs.declared.Place.TheVariants.{Coming, Held}
 use Rattle.store.specs.declared.Object.{Object}
 use Rattle.store.specs.declared.Object.TheVariants.{Directory as Kept_directory}
 
@@ -13,7 +13,7 @@ abbrev pub inode_of : Object → Option Inode
 inode_of (Kept_directory listing) = Some (Directory listing.names)
 
 abbrev pub inode_in : Place → Option Inode
-inode_in Reserved = None
+inode_in (Coming object) = None
 inode_in (Held object) = inode_of object
 
 abbrev pub in_front : {Y : Type 0} → ℕ → Option Y → List (ℕ × Y) → List (ℕ × Y)
@@ -36,3 +36,12 @@ inodes s = chosen inode_in s.places
 abbrev pub with_inode : FinMap nat_cmp Inode → ℕ → Option Inode → FinMap nat_cmp Inode
 with_inode m n (Some inode) = insert m n inode
 with_inode m n None = remove m n
+
+-- a change of the names of the directory that an inode is, if it is one
+abbrev pub with_names_by : (FinMap name_cmp ℕ → FinMap name_cmp ℕ) → Option Inode → FinMap nat_cmp Inode → ℕ → FinMap nat_cmp Inode
+with_names_by f (Some (Directory names)) m n = insert m n (Directory (f names))
+with_names_by f _ m n = m
+
+-- the inodes, with the names of the directory of this number changed by f, where there is one
+abbrev pub with_names : (FinMap name_cmp ℕ → FinMap name_cmp ℕ) → FinMap nat_cmp Inode → ℕ → FinMap nat_cmp Inode
+with_names f m n = with_names_by f (get m n) m n

@@ -1,4 +1,4 @@
-use Rattle.std.proofs.Common.{◌≡◌, ◌≤◌, suc, length, vec_len, vec_capacity}
+use Rattle.std.proofs.Common.{◌≡◌, ◌≤◌, suc, length, vec_capacity}
 use Rattle.kernel.specs.Views.{AreFirst}
 use Rattle.kernel.proofs.kernel.first_slots.Given as goal
 

@@ -1,4 +1,4 @@
-use Rattle.std.proofs.Common.{◌≡◌, refl, sym, subst}
+use Rattle.std.proofs.Common.{refl, sym, subst}
 use Rattle.kernel.specs.States.{fields, CanSettle}
 use Rattle.kernel.proofs.Rows.{gives_up}
 use Rattle.kernel.proofs.rest.give_up.Goals as goal
@@ -11,5 +11,6 @@ settle-requires c =
       holds = c.requires.holds;
       count = refl;
       others = λ q differs. refl;
+      covered = c.requires.holds.covered;
       settling = gives_up c.args.s.now.history c.args.pid c.args.flags c.args.age c.args.no_restart c.is_restarted-restarted.result c.requires.live c.is_restarted-restarted.ensures;
     })

@@ -1,7 +1,7 @@
-use Rattle.std.proofs.Common.{◌≡◌, ◌+◌, ◌≤◌, ℕ, length, ◌∙◌, sym, ap, arith}
+use Rattle.std.proofs.Common.{◌≡◌, ◌+◌, ◌≤◌, length, ◌∙◌, sym, ap, arith}
 use Rattle.std.specs.Prelude.{count_by}
 use Rattle.std.proofs.lemmas.Bool.Decides.{nat_tests}
-use Rattle.model.specs.Moments.{Moment, reserved}
+use Rattle.model.specs.Moments.{reserved}
 use Rattle.kernel.specs.Shown.{moment}
 use Rattle.kernel.specs.Standings.{slot_holds}
 use Rattle.kernel.specs.States.{fields}

@@ -1,4 +1,4 @@
-use Rattle.std.proofs.Common.{◌≡◌, refl, sym, ap, subst, ◌∙◌}
+use Rattle.std.proofs.Common.{refl, sym, ap, subst, ◌∙◌}
 use Rattle.model.specs.Entries.{Do}
 use Rattle.kernel.specs.States.{fields, CanSettle}
 use Rattle.kernel.proofs.Rows.{plain, loses_all}
@@ -12,5 +12,6 @@ settle-requires c =
       holds = c.requires.holds;
       count = refl;
       others = λ q differs. refl;
+      covered = c.requires.holds.covered;
       settling = loses_all c.args.s.now.history c.args.pid c.args.call c.args.flags c.args.age c.args.causes.0 c.restarts-restarted.result c.requires.live c.requires.inside c.requires.lost c.requires.places c.restarts-restarted.ensures;
     })

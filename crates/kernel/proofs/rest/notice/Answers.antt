@@ -3,7 +3,8 @@ use Rattle.model.specs.Entries.{Cause}
 use Rattle.kernel.specs.Shown.{moment}
 use Rattle.kernel.specs.Standings.{causes_of}
 use Rattle.kernel.specs.States.{fields, CanSettle}
-use Rattle.kernel.specs.Views.{View, slot_view, view_of, struck}
+use Rattle.kernel.specs.Views.{resting, slot_view, view_of, struck}
+use Rattle.kernel.proofs.Claims.{covered_without}
 use Rattle.kernel.proofs.Rows.{plain, is_told}
 use Rattle.kernel.proofs.rest.notice.Goals as goal
 
@@ -30,5 +31,6 @@ settle-requires c =
       holds = c.requires.holds;
       count = c.take_slot-taken.ensures.left.count;
       others = λ q differs. c.take_slot-taken.ensures.left.others q differs;
+      covered = covered_without c.args.s.now.slots.items c.take_slot-taken.new.slots.items c.args.pid resting c.args.s.now.stable c.take_slot-taken.ensures.left refl c.requires.holds.covered;
       settling = is_told log c.args.pid c.args.op c.args.flags c.args.age c.in-Some.entry c.in-Some.reply c.is_restarted-restarted.result shows c.is_restarted-restarted.ensures;
     })

@@ -1,5 +1,3 @@
-use Rattle.std.proofs.Common.{◌≡◌, ℕ, List, [], suc, length, refl, sym, ap, subst, ◌∙◌}
-use Rattle.history.specs.Log.{Log}
 use Rattle.kernel.proofs.First.{first_holds}
 use Rattle.kernel.proofs.kernel.Kernel.new.Goals as goal
 

@@ -1,0 +1,65 @@
+-- What a transaction's changes need of the committed state to be committed without memory: room for each name that they add, and
+-- their new numbers.
+use Rattle.std.specs.Prelude.{◌≡◌, ◌≢◌, ℕ, ◌≤◌, Bool, false, List, Option, Some, None, ◌==◌, if◌then◌else◌, ⊤}
+use Rattle.std.specs.Ordering.{nat_cmp}
+use Rattle.std.specs.List.{AllByRecursion, count_by, sum_by}
+use Rattle.model.specs.FiniteMap.{FinMap, get}
+use Rattle.model.specs.Changes.{Edit, Make_directory}
+use Rattle.history_laws.specs.Doings.{Doing}
+use Rattle.shadow.specs.Committed.{Committed, Reserve}
+
+-- room for one more name in a directory, or a number for a new object
+pub data Claim : Type 0 where
+  Room : ℕ → Claim
+  Number : ℕ → Claim
+
+abbrev pub number_of : Claim → ℕ
+number_of (Room d) = d
+number_of (Number n) = n
+
+-- whether an edit adds a name to a directory
+abbrev pub adds_to : ℕ → Edit → Bool
+adds_to r (Make_directory d x i) = d == r
+adds_to r _ = false
+
+-- how often a change makes this claim, and how often changes do
+abbrev pub claimed_by : Claim → Doing → ℕ
+claimed_by (Room r) d = count_by (adds_to r) d.edits
+claimed_by (Number n) d = count_by (λ m. m == n) d.chosen
+
+-- whether a claim is for room in this directory, as a count
+abbrev pub room_in : ℕ → Claim → ℕ
+room_in d (Room r) = if d == r then 1 else 0
+room_in d (Number n) = 0
+
+abbrev pub claimed : Claim → List Doing → ℕ
+claimed c ds = sum_by (claimed_by c) ds
+
+abbrev pub promised_in : Option Reserve → ℕ
+promised_in (Some r) = r.promised
+promised_in None = 0
+
+abbrev pub coming_in : Option Reserve → ℕ
+coming_in (Some r) = if r.coming then 1 else 0
+coming_in None = 0
+
+-- how often a claim can be met
+abbrev pub reserved : Committed → Claim → ℕ
+reserved s (Room d) = promised_in (get s.reserves d)
+reserved s (Number n) = coming_in (get s.reserves n)
+
+-- all that these changes claim is there
+abbrev pub Covers : Committed → List Doing → Type 0
+Covers s ds = (c : Claim) → claimed c ds ≤ reserved s c
+
+-- a number of an object that is there or to come
+abbrev pub IsInUse : FinMap nat_cmp Reserve → ℕ → Type 0
+IsInUse reserves n = get reserves n ≢ None
+
+-- the directory to which an edit adds a name, if it adds one, is there or to come
+abbrev pub HasParent : FinMap nat_cmp Reserve → Edit → Type 0
+HasParent reserves (Make_directory d x i) = IsInUse reserves d
+HasParent reserves _ = ⊤
+
+abbrev pub HaveParents : FinMap nat_cmp Reserve → List Edit → Type 0
+HaveParents reserves = AllByRecursion (HasParent reserves)
