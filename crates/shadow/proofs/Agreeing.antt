@@ -1,5 +1,5 @@
 -- What is noted of names agrees with the changes, and still does after one change more.
-use Rattle.std.proofs.Common.{◌≡◌, ℕ, ◌+◌, ◌<◌, Bool, true, false, cond, ◌||◌, count_by, List, [], ◌∷◌, ◌++◌, map, flat_map, Option, Some, None, IfSome, refl, sym, ap, ◌∙◌, arith, ◌==◌, eq-eqb, eqb-true, inl, inr, ◌⊎◌}
+use Rattle.std.proofs.Common.{◌≡◌, ℕ, ◌+◌, ◌<◌, Bool, true, false, cond, ◌||◌, count_by, List, [], ◌∷◌, ◌++◌, map, Option, Some, None, IfSome, refl, sym, ap, ◌∙◌, arith, ◌==◌, eq-eqb, eqb-true, inl, inr, ◌⊎◌}
 use Rattle.std.specs.List.{AllByRecursion}
 use Rattle.std.proofs.lemmas.List.Sums.{sum_by_push, sum_by-cons}
 use Rattle.std.specs.List.{list_any}
@@ -7,19 +7,18 @@ use Rattle.std.proofs.lemmas.List.Folds.{list_any-append}
 use Rattle.std.proofs.lemmas.Grind.{flat_map-append}
 use Rattle.model.specs.FiniteMap.{FinMap, get, empty, get-empty}
 use Rattle.model.specs.State.{Name, name_cmp, Kernel, names_of, entry_of}
-use Rattle.model.specs.Changes.{Make_directory, Unname_directory}
 use Rattle.model.specs.Moments.{is_in}
-use Rattle.call_laws.proofs.Maps.{not_none, some_same, true_is_false}
+use Rattle.call_laws.proofs.Maps.{not_none, some_same}
 use Rattle.call_laws.proofs.Reached.{or_left, or_right}
 use Rattle.history_laws.specs.Doings.{Doing, all_done}
 use Rattle.shadow.specs.declared.steps.Step.{Step}
 use Rattle.shadow.specs.declared.steps.Step.TheVariants.{Nothing, Make, Unname}
-use Rattle.shadow.specs.Claims.{Claim, Room, Number, claimed, claimed_by, adds_to}
+use Rattle.shadow.specs.Claims.{Claim, Room, Number, claimed, claimed_by}
 use Rattle.shadow.specs.Index.{Given, is_place, given_at}
 use Rattle.shadow.specs.Changes.{doing_of, made_by, or_before, Agrees}
 use Rattle.shadow.proofs.Noted.{place_same}
 use Rattle.shadow.specs.Looks.{NamesAreDirectories, directory_at}
-use Rattle.shadow.proofs.Views.{found, after_step, one_done, found_after, done_more, directories_all, entry_told}
+use Rattle.shadow.proofs.Views.{found, after_step, found_after, done_more, directories_all, entry_told}
 
 pub in_left : (n : ℕ) (xs ys : List ℕ) → is_in n xs ≡ true → is_in n (xs ++ ys) ≡ true
 in_left n xs ys h = list_any-append (λ m. n == m) xs ys ∙ or_left (list_any (λ m. n == m) xs) (list_any (λ m. n == m) ys) h
@@ -73,6 +72,7 @@ agrees_after ds index after s a unused noted = record { names = names; adds = ad
         cleared same = none_noted (given_at index e y) (found k e y)
             (ap (λ (ns : FinMap name_cmp ℕ). get ns y) (ap (names_of k) same ∙ none n (or_left (n == n) false (eq-eqb n n refl))) ∙ get-empty name_cmp y)
             (λ m is. let some : 0 < claimed (Room e) ds = a.adds e y m is in let zero : claimed (Room e) ds ≡ 0 = ap (λ t. claimed (Room t) ds) same ∙ unused.0 in absurd (omega arith))
+
         by_place : (b c : Bool) → (e == n) ≡ c → cond b (Some n) (cond c None (or_before (given_at index e y) (found k e y))) ≡ or_before (cond b (Some (Some n)) (given_at index e y)) (found k e y)
         by_place true c is = refl
         by_place false false is = refl

@@ -1,10 +1,10 @@
 -- The stored state: its processes, its first form, its directories, and the numbers that are nowhere in it.
-use Rattle.std.proofs.Common.{◌≡◌, ◌≢◌, ℕ, zero, suc, ◌+◌, ◌≤◌, ◌<◌, Bool, true, false, List, length, get_or, Option, Some, None, refl, sym, ap, subst, ◌∙◌, arith, nat_cmp, ◌⊎◌, inl, inr}
+use Rattle.std.proofs.Common.{◌≡◌, ℕ, zero, suc, ◌≤◌, ◌<◌, Bool, true, false, List, length, get_or, Option, Some, None, refl, sym, ap, subst, ◌∙◌, arith, nat_cmp, ◌⊎◌, inl, inr}
 use Rattle.std.specs.Prelude.{nat_le}
 use Rattle.std.specs.Option.{option_and_then}
 use Rattle.std.proofs.lemmas.Bool.{cases_eq, leb-true, leb-false}
 use Rattle.model.specs.FiniteMap.{FinMap, get, empty, insert, get-empty}
-use Rattle.model.specs.State.{Name, Kind, A_file, A_directory, A_pipe, Inode, Directory, Kernel, kind, mapped, names_of, kind_of}
+use Rattle.model.specs.State.{Kind, A_directory, Inode, Directory, Kernel, kind, mapped, kind_of}
 use Rattle.model.specs.Changes.{process_of, tidy}
 use Rattle.model.specs.Steps.{IsNowhere}
 use Rattle.model.specs.Moments.{start, is_alive}

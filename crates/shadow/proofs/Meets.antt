@@ -1,23 +1,18 @@
 -- How often a store meets a claim, and how its changes change that.
-use Rattle.std.proofs.Common.{◌≡◌, ◌≢◌, ℕ, ◌+◌, ◌-◌, ◌<◌, ◌≤◌, Bool, true, false, cond, List, Option, Some, None, refl, sym, ap, subst, ◌∙◌, arith, ◌==◌, eq-eqb, ne_eqb, inl, inr, ◌⊎◌}
+use Rattle.std.proofs.Common.{◌≡◌, ◌≢◌, ℕ, ◌+◌, ◌≤◌, cond, List, Option, Some, None, refl, sym, ap, ◌∙◌, arith, ◌==◌, eq-eqb, ne_eqb, inl, inr}
 use Rattle.std.specs.Option.{option_map, option_and_then}
-use Rattle.std.specs.Ordering.{nat_cmp}
 use Rattle.std.proofs.lemmas.Bool.{cases_eq}
-use Rattle.model.specs.FiniteMap.{FinMap, get, insert, remove}
-use Rattle.model.proofs.Inodes.{get_same, get_other}
-use Rattle.call_laws.proofs.Maps.{not_none, removed_same, removed_other}
+use Rattle.model.specs.FiniteMap.{get}
+use Rattle.call_laws.proofs.Maps.{not_none, removed_other}
 use Rattle.dirlist.specs.Listing.{Listing}
 use Rattle.store.specs.Numbers.{Numbers}
-use Rattle.store.specs.Places.{installed_place, hidden_place, listing_in, listing_at, listing_of, changed_place, changed_listing, more_room, less_room}
-use Rattle.store.specs.Shown.{inodes, chosen}
+use Rattle.store.specs.Places.{installed_place, hidden_place, listing_in, listing_at, changed_place, changed_listing, more_room}
 use Rattle.store.specs.declared.Place.{Place}
 use Rattle.store.specs.declared.Place.TheVariants.{Coming, Held}
-use Rattle.store.specs.declared.Object.{Object}
 use Rattle.store.specs.declared.Object.TheVariants.{Directory as Kept_directory}
 use Rattle.store.proofs.Chosen.{get-chosen}
-use Rattle.store.proofs.Changes.{installed_in, hidden_in, with_place, without_place}
-use Rattle.store.proofs.Listings.{place-changed, place-other, listing-changed, listing-other, place-installed, place-installed-other, place-hidden, place-hidden-other, listing-installed, listing-hidden}
-use Rattle.shadow.specs.Committed.{Committed, Reserve}
+use Rattle.store.proofs.Changes.{installed_in, hidden_in, without_place}
+use Rattle.store.proofs.Listings.{place-changed, place-other, listing-changed, listing-other, place-installed-other, place-hidden, place-hidden-other, listing-installed, listing-hidden}
 use Rattle.shadow.specs.Claims.{Claim, Room, Number, promised_in, coming_in, reserved, IsInUse, room_in, number_of}
 use Rattle.shadow.specs.Stored.{promised_of, reserve_in, committed_of}
 

@@ -1,19 +1,19 @@
 -- What one change makes of the store.
-use Rattle.std.proofs.Common.{◌≡◌, ◌≢◌, ℕ, ◌+◌, ◌-◌, ◌<◌, ◌≤◌, Bool, true, false, cond, List, [], ◌∷◌, Option, Some, None, refl, sym, ap, subst, ◌∙◌, arith, ◌==◌, nat_lt, eq-eqb, ne_eqb, ltb-false, inl, inr, ◌⊎◌}
+use Rattle.std.proofs.Common.{◌≡◌, ◌≢◌, ℕ, ◌+◌, ◌<◌, ◌≤◌, Bool, true, false, cond, List, [], ◌∷◌, Option, Some, None, refl, sym, ap, subst, ◌∙◌, arith, eq-eqb, ltb-false, inl, inr}
 use Rattle.std.specs.Option.{option_map, option_and_then}
 use Rattle.std.specs.Cmp.Lexicographic.{nat_list_cmp_total}
 use Rattle.std.proofs.lemmas.Bool.{cases_eq}
-use Rattle.model.specs.FiniteMap.{FinMap, get, empty, insert, remove, keys, same_map, get-empty}
-use Rattle.model.specs.State.{Name, name_cmp, Kind, A_directory, Kernel, Inode, File, Directory, Pipe, kind, mapped, names_of, names_of_inode, kind_of}
+use Rattle.model.specs.FiniteMap.{get, empty, insert, remove, same_map, get-empty}
+use Rattle.model.specs.State.{Name, name_cmp, A_directory, Kernel, Inode, File, Directory, Pipe, kind, mapped, names_of, names_of_inode, kind_of}
 use Rattle.model.specs.Changes.{Make_directory, Unname_directory, set_inode, set_name, clear_name, applied, all_applied, tidy}
-use Rattle.model.proofs.Inodes.{name_exact, get_same, get_other}
+use Rattle.model.proofs.Inodes.{name_exact}
 use Rattle.call_laws.specs.WellFormed.{WellFormed}
 use Rattle.call_laws.proofs.Fits.{Fits}
 use Rattle.call_laws.proofs.Maps.{not_none, removed_same, removed_other, none_by_keys}
 use Rattle.call_laws.proofs.NameEdits.{kept_kind}
 use Rattle.dirlist.specs.Listing.{Listing}
 use Rattle.store.specs.Numbers.{Numbers}
-use Rattle.store.specs.Places.{installed_place, hidden_place, listing_in, listing_at, listing_of, number_in, has_room, with_name, without_name, changed_place, changed_listing}
+use Rattle.store.specs.Places.{installed_place, hidden_place, listing_in, listing_at, number_in, has_room, with_name, without_name, changed_place, changed_listing}
 use Rattle.store.specs.Shown.{inodes, inode_in, with_names}
 use Rattle.store.specs.declared.Place.{Place}
 use Rattle.store.specs.declared.Place.TheVariants.{Coming, Held}
@@ -21,11 +21,11 @@ use Rattle.store.specs.declared.Object.TheVariants.{Directory as Kept_directory}
 use Rattle.store.proofs.Changes.{get-inodes_by, installed_in, hidden_in, without_place, inodes-installed, inodes-hidden, inodes-freed, inodes-changed, with_names-there}
 use Rattle.store.proofs.Listings.{place-changed, place-other, place-installed, place-installed-other, place-hidden, place-hidden-other, listing-installed}
 use Rattle.shadow.specs.declared.steps.Step.TheVariants.{Make, Unname}
-use Rattle.shadow.specs.Claims.{Claim, Room, Number, claimed_by, room_in, number_of}
+use Rattle.shadow.specs.Claims.{Claim, Room, Number, claimed_by, room_in}
 use Rattle.shadow.specs.Changes.{doing_of}
 use Rattle.shadow.specs.Stored.{stored, promised_of, IsBare, Sound, lost}
 use Rattle.shadow.specs.Effects.{CanTake}
-use Rattle.shadow.proofs.Meets.{met, coming_by, cond_number, installs, hides, takes_one, takes_none, frees_other, number_changed}
+use Rattle.shadow.proofs.Meets.{met, coming_by, cond_number, installs, hides, takes_one, takes_none, frees_other}
 use Rattle.shadow.proofs.Tidies.{made_tidy, unnamed_tidy}
 
 -- an inode that is a directory, by its names
@@ -210,7 +210,7 @@ module _ (ps : List ℕ) (s : Numbers) (d : ℕ) (x : Name) (sound : Sound ps s)
   hidden_bare : (m : ℕ) → IsBare (get (hidden_in unnamed gone).places m)
   hidden_bare m = elim (cases_eq m gone) [
     | inl same ↦ subst IsBare (sym (ap (get (hidden_in unnamed gone).places) same ∙ place-hidden unnamed gone)) (bare_hidden (get unnamed.places gone)
-      (λ y. ap (λ o. number_in (listing_in o) y) gone_place ∙ shown_number ps s gone y fitting.1.kind ∙ empty_names y))
+        (λ y. ap (λ o. number_in (listing_in o) y) gone_place ∙ shown_number ps s gone y fitting.1.kind ∙ empty_names y))
     | inr away ↦ subst IsBare (sym (place-hidden-other unnamed gone m away)) (bare_unnamed m)
   ]
 

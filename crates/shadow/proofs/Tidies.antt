@@ -1,19 +1,18 @@
 -- What tidying does after one change of a tidied state without open descriptions: nothing after a name came, and after a directory's
 -- name went, that directory goes.
-use Rattle.std.proofs.Common.{◌≡◌, ◌≢◌, ℕ, zero, suc, ◌+◌, ◌<◌, ◌≤◌, Bool, true, false, cond, List, [], ◌∷◌, Option, Some, None, refl, sym, ap, subst, ◌∙◌, arith, ◌==◌, nat_lt, eq-eqb, ne_eqb, lt-ltb, ltb-true, sum_by, count_by, ◌⊎◌, inl, inr}
-use Rattle.std.specs.Prelude.{◌||◌}
+use Rattle.std.proofs.Common.{◌≡◌, ◌≢◌, ℕ, ◌+◌, ◌<◌, ◌≤◌, Bool, true, false, cond, [], ◌∷◌, Option, Some, None, refl, sym, ap, subst, ◌∙◌, arith, ◌==◌, nat_lt, eq-eqb, ne_eqb, lt-ltb, ltb-true, count_by, ◌⊎◌, inl, inr}
 use Rattle.std.specs.Cmp.{nat_cmp_total}
 use Rattle.std.specs.Ordering.{nat_cmp}
 use Rattle.std.proofs.lemmas.Bool.{cases_eq}
-use Rattle.model.specs.FiniteMap.{FinMap, get, empty, insert, remove, keys, values, retain_keys, same_map, nat_cmp-IsAntisymmetric, get-empty}
-use Rattle.model.specs.State.{Name, Kind, A_directory, A_file, A_pipe, Kernel, Inode, Directory, Description, kind, mapped, names_of, kind_of, links}
-use Rattle.model.specs.Changes.{Make_directory, Unname_directory, set_inode, set_name, clear_name, applied, all_applied, tidy, openings, is_held, is_reached, without_descriptions}
-use Rattle.model.proofs.Inodes.{get_same, get_other}
-use Rattle.call_laws.specs.WellFormed.{WellFormed, IsRooted, CanBeOpened}
-use Rattle.call_laws.proofs.Fits.{Fits, IsFree, Gives}
+use Rattle.model.specs.FiniteMap.{FinMap, get, empty, remove, values, retain_keys, same_map, nat_cmp-IsAntisymmetric, get-empty}
+use Rattle.model.specs.State.{Name, A_directory, Kernel, Inode, Directory, Description, kind, mapped, names_of, kind_of, links}
+use Rattle.model.specs.Changes.{Make_directory, Unname_directory, set_inode, set_name, clear_name, applied, tidy, openings, is_held, is_reached, without_descriptions}
+use Rattle.model.proofs.Inodes.{get_other}
+use Rattle.call_laws.specs.WellFormed.{WellFormed}
+use Rattle.call_laws.proofs.Fits.{Fits, Gives}
 use Rattle.call_laws.proofs.Maps.{not_none, true_is_false, sum-empty, get_retained, retained_none, removed_same, removed_other}
 use Rattle.call_laws.proofs.Names.{HasNames, has_names, links_unnamed, one, counted, named_counted}
-use Rattle.call_laws.proofs.NameEdits.{IsNew, is_new, kept_kind, not_new}
+use Rattle.call_laws.proofs.NameEdits.{IsNew, is_new, kept_kind}
 use Rattle.call_laws.proofs.NamesWell.{same_links}
 use Rattle.call_laws.proofs.Reached.{or_left, or_right, either_of, get_tidy}
 
@@ -36,7 +35,7 @@ not_open k n bare = ap (λ m. count_by (λ d. d.inode == n) (values m)) (no_desc
 -- without open descriptions what is reached is the root or has a name
 pub why_reached : (k : Kernel) (n : ℕ) → k.descriptions ≡ empty → reached k n ≡ true → (n ≡ k.root) ⊎ (0 < links k n)
 why_reached k n bare r = either_of (n == k.root) (nat_lt 0 (links (without_descriptions k) n)) (nat_lt 0 (openings (without_descriptions k) n)) ((n ≡ k.root) ⊎ (0 < links k n)) r
-    (λ root. elim (cases_eq n k.root) [ | inl e ↦ inl e | inr away ↦ absurd (true_is_false (sym root ∙ ne_eqb n k.root away)) ])
+    (λ root. elim (cases_eq n k.root) [ inl e ↦ inl e | inr away ↦ absurd (true_is_false (sym root ∙ ne_eqb n k.root away)) ])
     (λ named. inr (subst (λ c. 0 < c) (same_count k n) (ltb-true 0 (links (without_descriptions k) n) named)))
     (λ opened. absurd (let some : 0 < openings (without_descriptions k) n = ltb-true 0 (openings (without_descriptions k) n) opened in let none : openings (without_descriptions k) n ≡ 0 = not_open k n bare in omega arith))
 
@@ -69,6 +68,7 @@ all_reached k bare all = tidy_is k k.inodes bare (λ n. by_test n (reached k n) 
     none : (n : ℕ) (x : Option Inode) → get k.inodes n ≡ x → (get k.inodes n ≢ None → ⊥) → x ≡ None
     none n None e h = refl
     none n (Some x) e h = absurd (h (λ is. not_none x (sym e ∙ is)))
+
     by_test : (n : ℕ) (b : Bool) → reached k n ≡ b → get k.inodes n ≡ cond b (get k.inodes n) None
     by_test n true e = refl
     by_test n false e = none n (get k.inodes n) refl (λ there. true_is_false (sym (all n there) ∙ e))
@@ -166,6 +166,7 @@ module _ (k : Kernel) (d : ℕ) (x : Name) (bare : k.descriptions ≡ empty) (ti
       absent : (m : ℕ) (o : Option Inode) → get cleared.inodes m ≡ o → (get cleared.inodes m ≢ None → ⊥) → o ≡ None
       absent m None e h = refl
       absent m (Some v) e h = absurd (h (λ is. not_none v (sym e ∙ is)))
+
       by_test : (m : ℕ) (b : Bool) → reached cleared m ≡ b → (get cleared.inodes m ≢ None → reached cleared m ≡ true) → get cleared.inodes m ≡ cond b (get cleared.inodes m) None
       by_test m true e h = refl
       by_test m false e h = absent m (get cleared.inodes m) refl (λ there. true_is_false (sym (h there) ∙ e))

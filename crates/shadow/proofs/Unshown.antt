@@ -1,29 +1,27 @@
 -- Changes of the store that are not shown: promises, and numbers that are reserved and given back.
-use Rattle.std.proofs.Common.{◌≡◌, ◌≢◌, ℕ, ◌+◌, ◌≤◌, List, Option, Some, None, refl, sym, ap, subst, ◌∙◌, arith, inl, inr, ◌⊎◌}
+use Rattle.std.proofs.Common.{◌≡◌, ◌≢◌, ℕ, ◌≤◌, List, Option, Some, None, refl, sym, ap, subst, ◌∙◌, arith, inl, inr}
 use Rattle.std.specs.Option.{option_map, option_and_then}
-use Rattle.std.specs.Ordering.{nat_cmp}
 use Rattle.std.proofs.lemmas.Bool.{cases_eq}
 use Rattle.model.specs.FiniteMap.{FinMap, get, insert, remove, empty, get-empty, same_map, nat_cmp-IsAntisymmetric}
 use Rattle.std.specs.Cmp.{nat_cmp_total}
-use Rattle.model.specs.State.{Name, name_cmp, Kernel, Inode}
+use Rattle.model.specs.State.{name_cmp}
 use Rattle.model.specs.Changes.{tidy}
 use Rattle.model.proofs.Inodes.{get_same, get_other}
 use Rattle.call_laws.specs.WellFormed.{WellFormed}
 use Rattle.call_laws.proofs.Maps.{not_none, removed_same, removed_other}
 use Rattle.dirlist.specs.Listing.{Listing}
 use Rattle.store.specs.Numbers.{Numbers, object_at, held}
-use Rattle.store.specs.Places.{listing_in, listing_at, listing_of, number_in, has_room, changed_place, changed_listing}
+use Rattle.store.specs.Places.{listing_in, changed_place, changed_listing}
 use Rattle.store.specs.Shown.{inodes, inode_in}
 use Rattle.store.specs.declared.Place.{Place}
 use Rattle.store.specs.declared.Place.TheVariants.{Coming, Held}
-use Rattle.store.specs.declared.Object.{Object}
 use Rattle.store.specs.declared.Object.TheVariants.{Directory as Kept_directory}
 use Rattle.store.proofs.Chosen.{remove-absent}
 use Rattle.store.proofs.Changes.{get-inodes_by, with_place, without_place, inodes-reserved, inodes-freed, inodes-kept}
 use Rattle.store.proofs.Listings.{place-changed, place-other}
 use Rattle.shadow.specs.Claims.{Claim, Room, Number, number_of}
 use Rattle.shadow.specs.Stored.{stored, promised_of, IsBare, Sound}
-use Rattle.shadow.proofs.Meets.{met, coming_by, frees_other}
+use Rattle.shadow.proofs.Meets.{met, coming_by}
 
 pub same_sound : (ps : List ℕ) (s after : Numbers) → Sound ps s → after.root ≡ s.root → inodes after ≡ inodes s → ((n : ℕ) → IsBare (get after.places n)) → Sound ps after
 same_sound ps s after sound root is bare = record {

@@ -1,21 +1,19 @@
 -- What names give after changes, by what is noted of them.
-use Rattle.std.proofs.Common.{◌≡◌, ◌≢◌, ℕ, ◌+◌, ◌<◌, Bool, true, false, cond, ◌&&◌, ◌||◌, List, [], ◌∷◌, ◌++◌, map, Option, Some, None, refl, sym, ap, ap₂, ◌∙◌, arith, ◌==◌, eq-eqb, ne_eqb, eqb-true, inl, inr, ◌⊎◌}
+use Rattle.std.proofs.Common.{◌≡◌, ℕ, Bool, true, false, cond, ◌&&◌, List, [], ◌∷◌, ◌++◌, map, Option, Some, None, refl, sym, ap, ap₂, ◌∙◌, ◌==◌, eq-eqb, ne_eqb, inl, inr, ◌⊎◌}
 use Rattle.std.specs.Ordering.{eq_by_cmp}
 use Rattle.std.specs.Cmp.Lexicographic.{nat_list_cmp_total}
 use Rattle.std.proofs.lemmas.Bool.{cases_eq}
 use Rattle.model.specs.FiniteMap.{FinMap, get, empty, insert, remove, get-insert, get-remove, get-empty}
 use Rattle.model.specs.State.{Name, name_cmp, Kind, A_directory, Kernel, Directory, kind, mapped, names_of, names_of_inode, kind_of, entry_of}
-use Rattle.model.specs.Changes.{Make_directory, Unname_directory, set_inode, set_name, clear_name, applied, all_applied}
-use Rattle.model.specs.Moments.{is_in}
+use Rattle.model.specs.Changes.{set_inode, set_name, clear_name, applied, all_applied}
 use Rattle.model.proofs.Inodes.{get_same, get_other}
-use Rattle.call_laws.proofs.Maps.{not_none, some_same, true_is_false}
+use Rattle.call_laws.proofs.Maps.{not_none, some_same}
 use Rattle.history_laws.specs.Doings.{Doing, all_done}
 use Rattle.shadow.specs.declared.steps.Step.{Step}
 use Rattle.shadow.specs.declared.steps.Step.TheVariants.{Nothing, Make, Unname}
-use Rattle.shadow.specs.Claims.{Room, claimed}
 use Rattle.shadow.specs.Looks.{NamesAreDirectories, directory_at}
-use Rattle.shadow.specs.Index.{Given, is_place, given_at}
-use Rattle.shadow.specs.Changes.{doing_of, or_before}
+use Rattle.shadow.specs.Index.{is_place}
+use Rattle.shadow.specs.Changes.{doing_of}
 
 abbrev pub found : Kernel → ℕ → Name → Option ℕ
 found k e y = get (names_of k e) y
@@ -77,7 +75,7 @@ done_more (x ∷ ds) d k = done_more ds d (all_applied x.chosen x.edits k)
 kind_set : (k : Kernel) (d : ℕ) (names : FinMap name_cmp ℕ) (m : ℕ) → (m ≡ d) ⊎ (kind_of k m ≡ Some A_directory) → kind_of (set_inode d (Directory names) k) m ≡ Some A_directory
 kind_set k d names m h = elim (cases_eq m d) [
   | inl same ↦ ap (λ t. kind_of (set_inode d (Directory names) k) t) same ∙ ap (mapped kind) (get_same k.inodes d (Directory names))
-  | inr away ↦ ap (mapped kind) (get_other k.inodes d m (Directory names) away) ∙ elim h [ | inl same ↦ absurd (away same) | inr is ↦ is ]
+  | inr away ↦ ap (mapped kind) (get_other k.inodes d m (Directory names) away) ∙ elim h [ inl same ↦ absurd (away same) | inr is ↦ is ]
 ]
 
 kind_made : (k : Kernel) (d : ℕ) (x : Name) (n m : ℕ) → (m ≡ n) ⊎ (kind_of k m ≡ Some A_directory) → kind_of (one_done (Make d x n) k) m ≡ Some A_directory

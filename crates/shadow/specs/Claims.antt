@@ -1,6 +1,6 @@
 -- What a transaction's changes need of the committed state to be committed without memory: room for each name that they add, and
 -- their new numbers.
-use Rattle.std.specs.Prelude.{◌≡◌, ◌≢◌, ℕ, ◌≤◌, Bool, false, List, Option, Some, None, ◌==◌, if◌then◌else◌, ⊤}
+use Rattle.std.specs.Prelude.{◌≢◌, ℕ, ◌≤◌, Bool, false, List, Option, Some, None, ◌==◌, if◌then◌else◌, ⊤}
 use Rattle.std.specs.Ordering.{nat_cmp}
 use Rattle.std.specs.List.{AllByRecursion, count_by, sum_by}
 use Rattle.model.specs.FiniteMap.{FinMap, get}

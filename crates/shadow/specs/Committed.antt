@@ -1,7 +1,7 @@
 -- What a contract sees of the committed state, and when a transaction's changes can be committed into it.
-use Rattle.std.specs.Prelude.{◌≡◌, ℕ, Bool, List, Option, Some, None, if◌then◌else◌}
+use Rattle.std.specs.Prelude.{◌≡◌, ℕ, Bool, List}
 use Rattle.std.specs.Ordering.{nat_cmp}
-use Rattle.model.specs.FiniteMap.{FinMap, get}
+use Rattle.model.specs.FiniteMap.{FinMap}
 use Rattle.model.specs.State.{Kernel}
 use Rattle.model.specs.Entries.{Executed}
 use Rattle.call_laws.specs.WellFormed.{WellFormed}

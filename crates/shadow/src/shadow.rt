@@ -77,12 +77,7 @@ impl Shadow {
     }
 
     /// One call that changes a name.
-    fn add(
-        &mut self,
-        stable: &mut Stable,
-        change: Change,
-        chosen: &Nums,
-    ) -> Result<(), AllocError>
+    fn add(&mut self, stable: &mut Stable, change: Change, chosen: &Nums) -> Result<(), AllocError>
         requires count { length chosen.now ≡ sum_by news (edits_of change) }
         requires unused { AllByRecursion (λ n. claimed (Room n) self.old ≡ 0) chosen.now }
         requires parents { HaveParents stable.old.reserves (edits_of change) }
@@ -214,7 +209,10 @@ impl Shadow {
         ensures state { stable.new.state ≡ stable.old.state }
         ensures keeps { (c : Claim) → reserved stable.old c ≤ reserved stable.new c + claimed c self }
     {
-        let Shadow { mut steps, index: _ } = self;
+        let Shadow {
+            mut steps,
+            index: _,
+        } = self;
         while let Some(step) = steps.pop() {
             stable.release(&step);
         }

@@ -1,7 +1,7 @@
-use Rattle.std.proofs.Common.{◌≡◌, ◌∷◌, ◌+◌, ◌≤◌, [], ℕ, List, Result, Ok, Err, OnOk, Bool, true, if◌then◌else◌, sym, subst, ap, refl, count_by, arith}
+use Rattle.std.proofs.Common.{◌≡◌, ◌∷◌, ◌+◌, ◌≤◌, [], ℕ, List, Result, Ok, Err, OnOk, Bool, if◌then◌else◌, sym, subst, ap, refl, count_by, arith}
 use Rattle.model.specs.Changes.{Edit, Make_directory, Unname_directory}
 use Rattle.shadow.specs.Committed.{Committed}
-use Rattle.shadow.specs.Claims.{Claim, Room, reserved, room_in, adds_to}
+use Rattle.shadow.specs.Claims.{Room, reserved, room_in, adds_to}
 use Rattle.shadow.specs.Changes.{edits_of}
 use Rattle.shadow.proofs.shadow.Shadow.add.Goals as goal
 

@@ -1,4 +1,4 @@
-use Rattle.std.proofs.Common.{◌≡◌, ◌++◌, ◌∷◌, [], sym, subst, refl, rules, ap, ◌∙◌, ℕ, List, Some, None, Option, cond, if◌then◌else◌}
+use Rattle.std.proofs.Common.{◌≡◌, ◌++◌, ◌∷◌, [], sym, subst, rules, ap, ◌∙◌, ℕ, List, Some, cond, if◌then◌else◌}
 use Rattle.shadow.specs.declared.steps.Step.TheVariants as steps
 use Rattle.history_laws.specs.Doings.{Doing}
 use Rattle.shadow.specs.Claims.{Room, claimed}

@@ -1,4 +1,4 @@
-use Rattle.std.proofs.Common.{◌≡◌, ◌++◌, ◌∷◌, [], sym, subst, refl, rules, ap, ◌∙◌, ℕ, List, Some, None, Option, cond}
+use Rattle.std.proofs.Common.{◌≡◌, ◌++◌, ◌∷◌, [], sym, subst, rules, ap, ◌∙◌, Some, None, cond}
 use Rattle.shadow.specs.declared.steps.Step.TheVariants as steps
 use Rattle.shadow.specs.Index.{given_at, is_place}
 use Rattle.shadow.specs.Changes.{doing_of, doings_of, Agrees}

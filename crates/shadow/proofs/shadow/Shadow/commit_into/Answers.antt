@@ -1,7 +1,7 @@
-use Rattle.std.proofs.Common.{◌≡◌, ◌∷◌, List, sym, subst, ap, ◌∙◌, rules}
+use Rattle.std.proofs.Common.{◌≡◌, ◌∷◌, sym, subst, ap, ◌∙◌, rules}
 use Rattle.std.specs.Vec.Iter.{into_iter_items}
 use Rattle.model.specs.Changes.{tidy}
-use Rattle.history_laws.specs.Doings.{Doing, all_done}
+use Rattle.history_laws.specs.Doings.{all_done}
 use Rattle.shadow.specs.Changes.{doing_of, doings_of}
 use Rattle.shadow.proofs.Committing.{Commits, begins, can_take, goes_on}
 use Rattle.shadow.proofs.shadow.Shadow.commit_into.Goals as goal

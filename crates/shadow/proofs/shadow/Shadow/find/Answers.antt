@@ -3,7 +3,7 @@ use Rattle.std.specs.Option.{unwrap_or}
 use Rattle.model.specs.FiniteMap.{get}
 use Rattle.model.specs.State.{entry_of, names_of}
 use Rattle.history_laws.specs.Doings.{Doing, all_done}
-use Rattle.shadow.specs.Committed.{Committed, Reserve}
+use Rattle.shadow.specs.Committed.{Committed}
 use Rattle.shadow.specs.Claims.{Number, Covers, IsInUse, claimed, reserved, coming_in}
 use Rattle.shadow.specs.Index.{given_at}
 use Rattle.shadow.specs.Looks.{directory_at}
@@ -41,4 +41,3 @@ returns-clause-there c =
     let is : c.unwrap_or.result ≡ or_before (given_at c.self.inside.index d x) c.find-stored.result = told c.in_ok-look.field-0 c.unwrap_or.result (given_at c.self.inside.index d x) c.find-stored.result c.find-stored.result c.in_ok-look.ensures refl c.unwrap_or.ensures in
     subst (λ o. IfSome o (IsInUse v.reserves)) (sym is)
     (seen_there (doings_of steps) c.self.inside.index c.self.invariant (IsInUse v.reserves) (λ n some. coming_used v n (covered v (doings_of steps) covers n some)) d x c.find-stored.result c.find-stored.ensures.there)
-

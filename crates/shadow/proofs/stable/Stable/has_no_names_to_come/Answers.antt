@@ -1,5 +1,5 @@
-use Rattle.std.proofs.Common.{subst, ◌≡◌, ◌<◌, ℕ, ap, ◌∙◌, sym, arith, None, Some, Option}
-use Rattle.model.specs.FiniteMap.{get, empty}
+use Rattle.std.proofs.Common.{◌≡◌, ap, ◌∙◌, sym, arith}
+use Rattle.model.specs.FiniteMap.{get}
 use Rattle.model.specs.State.{names_of, names_of_inode}
 use Rattle.store.proofs.Changes.{get-inodes_by}
 use Rattle.shadow.specs.Committed.{Committed}

@@ -1,14 +1,14 @@
-use Rattle.std.proofs.Common.{[], ◌∷◌, sym, subst, ap, ◌∙◌, ℕ, ◌≤◌, ◌+◌}
+use Rattle.std.proofs.Common.{sym, subst, ap, ◌∙◌, ◌≤◌, ◌+◌}
 use Rattle.model.specs.Changes.{all_applied, tidy}
 use Rattle.store.specs.Numbers.{Numbers}
 use Rattle.store.specs.Places.{listing_at, with_name, changed_listing}
 use Rattle.store.specs.Shown.{inodes}
 use Rattle.shadow.specs.declared.steps.Step.TheVariants as steps
 use Rattle.shadow.specs.Changes.{doing_of}
-use Rattle.shadow.specs.Claims.{Claim, claimed_by}
+use Rattle.shadow.specs.Claims.{claimed_by}
 use Rattle.shadow.specs.Stored.{Sound, stored}
 use Rattle.shadow.proofs.Meets.{met}
-use Rattle.shadow.proofs.Taking.{made, made_room, made_state, made_keeps, made_sound}
+use Rattle.shadow.proofs.Taking.{made_room, made_state, made_keeps, made_sound}
 use Rattle.shadow.proofs.Plugs.{can_of, covers_of, state_of, keeps_of}
 use Rattle.shadow.proofs.stable.Stable.make.Goals as goal
 

@@ -1,7 +1,7 @@
-use Rattle.std.proofs.Common.{sym, subst, refl, ◌≤◌, ◌+◌, arith, rules, ◌≡◌, ap}
+use Rattle.std.proofs.Common.{sym, subst, refl, ◌≤◌, ◌+◌, arith, rules, ◌≡◌}
 use Rattle.store.specs.Places.{more_room, changed_listing}
 use Rattle.shadow.specs.Committed.{Committed}
-use Rattle.shadow.specs.Claims.{Claim, IsInUse, reserved, room_in}
+use Rattle.shadow.specs.Claims.{IsInUse, reserved, room_in}
 use Rattle.shadow.specs.Stored.{Sound, committed_of}
 use Rattle.shadow.proofs.Meets.{met, met_is, gives_one, use_of}
 use Rattle.shadow.proofs.Unshown.{kept_sound}

@@ -1,4 +1,4 @@
-use Rattle.std.proofs.Common.{sym, subst, ap, ◌∙◌, ◌≡◌, ◌≤◌, ◌+◌, ℕ, cond, arith, inl, inr, ◌⊎◌, ◌==◌, eq-eqb, rules, Bool, false, List, refl}
+use Rattle.std.proofs.Common.{sym, subst, ap, ◌∙◌, ◌≡◌, ◌≤◌, ◌+◌, ℕ, cond, arith, inl, inr, ◌⊎◌, eq-eqb, false, List, refl}
 use Rattle.model.specs.FiniteMap.{get}
 use Rattle.store.specs.Places.{has_room, listing_at}
 use Rattle.shadow.specs.declared.steps.Step.{Step}
@@ -6,7 +6,7 @@ use Rattle.shadow.specs.declared.steps.Step.TheVariants.{Make}
 use Rattle.shadow.specs.Claims.{Claim, Room, Number, claimed_by, room_in, number_of, reserved}
 use Rattle.shadow.specs.Committed.{Committed}
 use Rattle.shadow.specs.Changes.{doing_of}
-use Rattle.shadow.proofs.Meets.{met, one_at_most}
+use Rattle.shadow.proofs.Meets.{one_at_most}
 use Rattle.shadow.proofs.Taking.{no_room}
 use Rattle.shadow.proofs.Plugs.{met_of}
 use Rattle.shadow.proofs.stable.Stable.release.Goals as goal

@@ -1,6 +1,5 @@
-use Rattle.std.proofs.Common.{sym, subst, refl, ◌≤◌, ◌<◌, ◌+◌, arith, rules, ◌≡◌, ◌≢◌, ap, ◌∙◌, ℕ, List, [], ◌∷◌, Bool, true, false, ◌||◌, ◌==◌, eqb-true, None}
+use Rattle.std.proofs.Common.{sym, subst, refl, ◌≤◌, ◌<◌, ◌+◌, arith, rules, ◌≡◌, ap, ◌∙◌, ℕ, List, [], ◌∷◌, Bool, true, false, ◌||◌, ◌==◌, eqb-true, None}
 use Rattle.std.specs.List.{AllByRecursion}
-use Rattle.model.specs.State.{Kernel}
 use Rattle.model.specs.FiniteMap.{get}
 use Rattle.model.specs.Steps.{IsNowhere}
 use Rattle.model.specs.Moments.{is_in}
@@ -10,7 +9,7 @@ use Rattle.store.specs.declared.Place.TheVariants.{Coming}
 use Rattle.store.specs.declared.Object.TheVariants.{Directory as Kept_directory}
 use Rattle.store.proofs.Changes.{with_place, without_place}
 use Rattle.shadow.specs.Committed.{Committed}
-use Rattle.shadow.specs.Claims.{Claim, Number, IsInUse, number_of, reserved}
+use Rattle.shadow.specs.Claims.{Number, IsInUse, number_of, reserved}
 use Rattle.shadow.specs.Stored.{Sound, committed_of}
 use Rattle.shadow.proofs.Living.{unused_nowhere}
 use Rattle.shadow.proofs.Meets.{met, met_is, use_of, of_use}

@@ -1,4 +1,4 @@
-use Rattle.std.proofs.Common.{sym, subst, ap, ◌∙◌, ◌≡◌, ◌≢◌, ℕ, None}
+use Rattle.std.proofs.Common.{sym, subst, ap, ◌∙◌, ◌≢◌, None}
 use Rattle.model.specs.FiniteMap.{get}
 use Rattle.model.specs.State.{A_directory, kind, mapped}
 use Rattle.call_laws.proofs.Maps.{not_none}
