@@ -64,14 +64,9 @@ fn faults_come_before_any_step(rt: HostRuntime) -> Result<(), Fail> {
             RunFault::Script(ScriptFault::PrioritiesExpected(1)),
         ),
         (
-            "priorities 0\n\n1 stat /a/b\n",
+            "priorities 0\n\n1 stat /a/b\n1 unlink /a\n",
             "1",
-            RunFault::Script(ScriptFault::UnknownOperation(3)),
-        ),
-        (
-            "priorities 0\n1 fork\n",
-            "1",
-            RunFault::Script(ScriptFault::UnknownOperation(2)),
+            RunFault::Script(ScriptFault::UnknownOperation(4)),
         ),
         (
             "priorities 0\n1 end\n",
@@ -87,6 +82,44 @@ fn faults_come_before_any_step(rt: HostRuntime) -> Result<(), Fail> {
         let mut sink = halting(heap, 1000);
         let told = run_schedule(heap, &mut source, list, 100, &mut sink).err();
         assert_eq!(rt; told, Some(fault));
+        assert!(rt; sink.bytes.is_empty());
+    }
+    Ok(())
+}
+
+// A line with each call that is not there.
+static MISSING: [&str; 16] = [
+    "open /a RDONLY",
+    "close 0",
+    "read 0 1",
+    "write 0 a",
+    "fill 0 1 00",
+    "lseek 0 0 SET",
+    "ftruncate 0 0",
+    "fstat 0",
+    "link /a /b",
+    "unlink /a",
+    "rename /a /b",
+    "dup 0",
+    "dup2 0 1",
+    "pipe",
+    "fork",
+    "exit",
+];
+
+#[test]
+fn calls_that_are_not_there_are_told(rt: HostRuntime) -> Result<(), Fail> {
+    let heap = heap::open(rt.alloc())?;
+    for line in &MISSING {
+        let text = format!(in heap; "priorities 0\n1 {line}\n")?;
+        let mut source = Portions {
+            bytes: text.as_bytes(),
+            most: 7,
+        };
+        let mut sink = halting(heap, 1000);
+        let told = run_schedule(heap, &mut source, "1", 100, &mut sink).err();
+        let missing = RunFault::Script(ScriptFault::UnknownOperation(2));
+        assert_eq!(rt; told, Some(missing), "{line}");
         assert!(rt; sink.bytes.is_empty());
     }
     Ok(())
@@ -125,12 +158,20 @@ struct Told {
     status: u8,
 }
 
-static TOLD: [Told; 5] = [
+static TOLD: [Told; 6] = [
     Told {
         text: "priorities 0 0\n1 begin\n2 stat /a\n",
         list: "1,2",
         limit: 100,
         out: "1 P1 begin -> begun\n2 P2 stat /a -> ENOENT\n",
+        err: "",
+        status: 0,
+    },
+    Told {
+        text: "priorities 0\n1 mkdir /a\n1 mkdir /a/b\n1 list /a\n1 rmdir /a/b\n1 list /a\n",
+        list: "1,1,1,1,1",
+        limit: 100,
+        out: "1 P1 mkdir /a -> ok\n2 P1 mkdir /a/b -> ok\n3 P1 list /a -> names 1 b\n4 P1 rmdir /a/b -> ok\n5 P1 list /a -> names 0\n",
         err: "",
         status: 0,
     },

@@ -1,5 +1,5 @@
 // Runs through a turnstile.
-ghost use Rattle.std.specs.Prelude.{◌≡◌, ◌≢◌, ◌+◌, ◌/◌, ◌%◌, true, [], ◌∷◌, All, IfOk, IfSome};
+ghost use Rattle.std.specs.Prelude.{◌≡◌, true, All, IfOk, IfSome};
 ghost use Rattle.kernel.specs.Operations.{can_run};
 
 use super::*;
@@ -13,16 +13,13 @@ use std::test::*;
 use std::thread::{Threads, join};
 
 // A path of one name: the letter, and two digits.
-fn path(letter: u8, number: u64) -> [u8; 4]
-    ensures { result ≡ 47 ∷ letter ∷ (48 + number / 10 % 10) ∷ (48 + number % 10) ∷ [] }
-{
+fn path(letter: u8, number: u64) -> [u8; 4] {
     let tens = number / 10 % 10;
     let ones = number % 10;
     [b'/', letter, b'0' + tens as u8, b'0' + ones as u8]
 }
 
 fn mkdir(heap: Heap, letter: u8, number: u64) -> Result<Op, AllocError>
-    requires { letter ≢ 47 }
     ensures { IfOk result (λ op. can_run op ≡ true) }
 {
     let bytes = path(letter, number);
@@ -43,8 +40,7 @@ fn worked<R: Wait + Abort>(
     mut pass: Pass,
     letter: u8,
 ) -> Pass
-    requires pass { pass.gate ≡ turnstile.now }
-    requires letter { letter ≢ 47 }
+    requires { pass.gate ≡ turnstile.now }
     ensures { result.gate ≡ pass.gate }
 {
     for number in 0..100u64 {

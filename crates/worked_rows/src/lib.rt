@@ -2,4 +2,10 @@
 #![tactic(auto)]
 
 #[cfg(test)]
+mod refused;
+#[cfg(test)]
+mod row;
+#[cfg(test)]
 mod tests;
+#[cfg(test)]
+mod trees;

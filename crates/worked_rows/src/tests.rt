@@ -1,31 +1,7 @@
-// Runs of operations whose replies are known from the rules.
-ghost use Rattle.std.specs.Prelude.{◌≡◌, ◌≤◌, true, IfOk};
-ghost use Rattle.kernel.specs.Operations.{can_run, CanRunAll};
-
-use heap::Heap;
-use ids::{Answer, Aspect, BeginFlags, Bytes, Call, Cause, Errno, Op, Pid, Priority, Reply, Why};
-use kernel::{Kernel, is_there};
+// Runs of operations whose replies are known from the rules: transactions, and who wins.
+use crate::row::{Row, Step, dooms_in, kernel_of, ops_of, tell, tell_steps};
+use crate::trees::TREES;
 use std::test::Fail;
-
-// One operation.
-#[derive(Clone, Copy)]
-enum Step {
-    Begin,
-    Restarting,
-    End,
-    Abort,
-    Leave,
-    Mkdir(&'static str),
-    Stat(&'static str),
-}
-
-// The priorities, the limit of a history, who does what, and a letter for each reply.
-struct Row {
-    priorities: &'static [u8],
-    limit: usize,
-    steps: &'static [(u32, Step)],
-    replies: &'static str,
-}
 
 static ROWS: [Row; 13] = [
     // What a transaction makes is seen after its end.
@@ -40,6 +16,7 @@ static ROWS: [Row; 13] = [
             (2, Step::Stat("/a")),
         ],
         replies: "bdecs",
+        dooms: &[],
     },
     // No operation has no reply.
     Row {
@@ -47,6 +24,7 @@ static ROWS: [Row; 13] = [
         limit: 4,
         steps: &[],
         replies: "",
+        dooms: &[],
     },
     // Who has looked for a name is doomed by who makes it.
     Row {
@@ -59,6 +37,7 @@ static ROWS: [Row; 13] = [
             (1, Step::End),
         ],
         replies: "beda",
+        dooms: &[(3, 1)],
     },
     // The later transaction loses.
     Row {
@@ -72,6 +51,7 @@ static ROWS: [Row; 13] = [
             (1, Step::End),
         ],
         replies: "bdbac",
+        dooms: &[],
     },
     // The end of a transaction has its place in a full history.
     Row {
@@ -86,6 +66,7 @@ static ROWS: [Row; 13] = [
             (1, Step::Stat("/")),
         ],
         replies: "bddfcf",
+        dooms: &[],
     },
     // Begin in a transaction; what is given up is gone; no transaction to end, and no such process.
     Row {
@@ -101,6 +82,7 @@ static ROWS: [Row; 13] = [
             (3, Step::End),
         ],
         replies: "bidgenp",
+        dooms: &[],
     },
     // A plain call is put off by a higher priority.
     Row {
@@ -114,6 +96,7 @@ static ROWS: [Row; 13] = [
             (2, Step::Mkdir("/a")),
         ],
         replies: "beycd",
+        dooms: &[],
     },
     // A higher priority wins against an earlier transaction.
     Row {
@@ -128,6 +111,7 @@ static ROWS: [Row; 13] = [
             (2, Step::End),
         ],
         replies: "bbdeac",
+        dooms: &[(4, 1)],
     },
     // Who loses against one dooms nobody.
     Row {
@@ -143,6 +127,7 @@ static ROWS: [Row; 13] = [
             (2, Step::End),
         ],
         replies: "bebeycc",
+        dooms: &[],
     },
     // A restart forgets the calls.
     Row {
@@ -159,6 +144,7 @@ static ROWS: [Row; 13] = [
             (1, Step::Stat("/c")),
         ],
         replies: "bdedrsce",
+        dooms: &[(4, 1)],
     },
     // An abort that leaves is not begun anew.
     Row {
@@ -172,6 +158,7 @@ static ROWS: [Row; 13] = [
             (1, Step::End),
         ],
         replies: "bedan",
+        dooms: &[(3, 1)],
     },
     // A restart needs a free place.
     Row {
@@ -184,6 +171,7 @@ static ROWS: [Row; 13] = [
             (1, Step::End),
         ],
         replies: "beda",
+        dooms: &[(3, 1)],
     },
     Row {
         priorities: &[0, 0],
@@ -196,115 +184,19 @@ static ROWS: [Row; 13] = [
             (1, Step::End),
         ],
         replies: "bedrc",
+        dooms: &[(3, 1)],
     },
 ];
-
-// A kernel whose processes have these priorities.
-fn kernel_of(heap: Heap, priorities: &[u8], limit: usize) -> Result<Kernel, Fail>
-    requires { limit ≤ 1048576 }
-{
-    let mut all = Vec::new(heap);
-    for level in priorities {
-        all.push(Priority::new(*level).ok_or("no priority")?)?;
-    }
-    if all.is_empty() || all.len() > 4096 {
-        return Err(Fail::from("no such kernel"));
-    }
-    Ok(Kernel::new(heap, all.as_slice(), limit)?)
-}
-
-fn op_of(heap: Heap, step: Step) -> Result<Op, Fail>
-    ensures { IfOk result (λ op. can_run op ≡ true) }
-{
-    let op = match step {
-        Step::Begin => Op::Begin(BeginFlags::none()),
-        Step::Restarting => Op::Begin(BeginFlags::RESTART),
-        Step::End => Op::End,
-        Step::Abort => Op::Abort { no_restart: false },
-        Step::Leave => Op::Abort { no_restart: true },
-        Step::Mkdir(path) => Op::Call(Call::Mkdir(Bytes::copy(heap, path.as_bytes())?)),
-        Step::Stat(path) => Op::Call(Call::Stat(Bytes::copy(heap, path.as_bytes())?)),
-    };
-    if is_there(&op) {
-        Ok(op)
-    } else {
-        Err(Fail::from("the kernel has no such operation"))
-    }
-}
-
-// The operations of steps, for one run.
-fn ops_of(heap: Heap, steps: &[(u32, Step)]) -> Result<Vec<(Pid, Op), Heap>, Fail>
-    ensures { IfOk result (λ ops. CanRunAll ops.items) }
-{
-    let mut ops = Vec::new(heap);
-    for step in steps {
-        let op = op_of(heap, step.1)?;
-        ops.push((Pid(step.0), op))?;
-    }
-    Ok(ops)
-}
-
-fn letter(reply: &Reply) -> char {
-    match reply {
-        Reply::Answer(Answer::Done) => 'd',
-        Reply::Answer(Answer::Stat(_)) => 's',
-        Reply::Errno(Errno::ENOENT) => 'e',
-        Reply::Begun => 'b',
-        Reply::Committed => 'c',
-        Reply::GivenUp { restarted: false } => 'g',
-        Reply::Aborted {
-            why: _,
-            restarted: false,
-        } => 'a',
-        Reply::Aborted {
-            why: _,
-            restarted: true,
-        } => 'r',
-        Reply::Busy(_) => 'y',
-        Reply::InTransaction => 'i',
-        Reply::NotInTransaction => 'n',
-        Reply::HistoryFull => 'f',
-        Reply::NoMemory => 'm',
-        Reply::NoProcess => 'p',
-        _ => '?',
-    }
-}
-
-fn step_in(kernel: &mut Kernel, heap: Heap, step: (u32, Step)) -> Result<char, Fail> {
-    let op = op_of(heap, step.1)?;
-    Ok(letter(&kernel.step(Pid(step.0), op)))
-}
-
-// Whether a reply tells that this process won by the name `a` of the root, which was only read.
-fn tells_the_reader(reply: &Reply, other: Pid) -> bool {
-    match reply {
-        Reply::Aborted {
-            why: Why::Clash(cause),
-            restarted: _,
-        } => is_cause(cause, other),
-        _ => false,
-    }
-}
-
-fn is_cause(cause: &Cause, other: Pid) -> bool {
-    match &cause.touch.aspect {
-        Aspect::Entry(_, name) => {
-            name.as_slice() == b"a".as_slice() && !cause.touch.write && cause.other == other
-        }
-        _ => false,
-    }
-}
 
 #[test]
 fn rows_are_answered_as_the_rules_say(rt: HostRuntime) -> Result<(), Fail> {
     let heap = heap::open(rt.alloc())?;
-    for row in &ROWS {
+    for row in ROWS.iter().chain(TREES.iter()) {
         let mut kernel = kernel_of(heap, row.priorities, row.limit.min(100))?;
-        let mut replies = String::new(rt.alloc());
-        for step in row.steps {
-            replies.push(step_in(&mut kernel, heap, *step)?)?;
-        }
-        assert_eq!(rt; replies.as_str(), row.replies);
+        let mut told = Vec::new(heap);
+        tell_steps(&mut kernel, heap, row.steps, &mut told)?;
+        assert_eq!(rt; told.as_slice(), row.replies.as_bytes());
+        assert_eq!(rt; dooms_in(heap, &kernel)?.as_slice(), row.dooms);
     }
     Ok(())
 }
@@ -312,92 +204,14 @@ fn rows_are_answered_as_the_rules_say(rt: HostRuntime) -> Result<(), Fail> {
 #[test]
 fn a_run_is_answered_as_its_steps_are(rt: HostRuntime) -> Result<(), Fail> {
     let heap = heap::open(rt.alloc())?;
-    for row in &ROWS {
+    for row in ROWS.iter().chain(TREES.iter()) {
         let mut kernel = kernel_of(heap, row.priorities, row.limit.min(100))?;
-        let answered = kernel.run(ops_of(heap, row.steps)?)?;
-        let mut replies = String::new(rt.alloc());
-        for reply in &answered {
-            replies.push(letter(reply))?;
+        let mut told = Vec::new(heap);
+        for reply in &kernel.run(ops_of(heap, row.steps)?)? {
+            tell(&mut told, reply)?;
         }
-        assert_eq!(rt; replies.as_str(), row.replies);
+        assert_eq!(rt; told.as_slice(), row.replies.as_bytes());
+        assert_eq!(rt; dooms_in(heap, &kernel)?.as_slice(), row.dooms);
     }
     Ok(())
-}
-
-// A run that is refused the room for its replies has not begun.
-#[test]
-fn a_refused_run_has_not_begun(rt: HostRuntime) -> Result<(), Fail> {
-    let heap = heap::open(rt.alloc())?;
-    let mut kernel = kernel_of(heap, &[0, 0], 100)?;
-    let ops = ops_of(heap, &[(1, Step::Begin), (1, Step::End)])?;
-    heap.refuse(1);
-    assert!(rt; kernel.run(ops).is_err() && kernel.history().entries().is_empty());
-    Ok(())
-}
-
-// Each request of a new kernel is refused once.
-#[test]
-fn a_refused_kernel_is_not_made(rt: HostRuntime) -> Result<(), Fail> {
-    let heap = heap::open(rt.alloc())?;
-    for number in 1..64u64 {
-        let zero = Priority::new(0).ok_or("no priority")?;
-        heap.refuse(number);
-        let made = Kernel::new(heap, &[zero, zero], 10).is_ok();
-        heap.refuse(0);
-        if made {
-            assert!(rt; number > 4);
-            return Ok(());
-        }
-    }
-    Err(Fail::from("no kernel was made"))
-}
-
-// The step that dooms a reader asks for memory several times. Whichever request is refused, it is answered NoMemory and
-// nothing has changed: the same step then goes through, and the reader is told why it was doomed.
-#[test]
-fn each_refused_request_leaves_all_as_it_was(rt: HostRuntime) -> Result<(), Fail> {
-    let heap = heap::open(rt.alloc())?;
-    for number in 1..64u64 {
-        let mut kernel = kernel_of(heap, &[0, 0], 100)?;
-        let _ = step_in(&mut kernel, heap, (1, Step::Begin))?;
-        let _ = step_in(&mut kernel, heap, (1, Step::Stat("/a")))?;
-        let op = op_of(heap, Step::Mkdir("/a"))?;
-        heap.refuse(number);
-        let first = letter(&kernel.step(Pid(2), op));
-        heap.refuse(0);
-        if first == 'd' {
-            let told = kernel.step(Pid(1), Op::End);
-            assert!(rt; number > 5 && tells_the_reader(&told, Pid(2)));
-            return Ok(());
-        }
-        let again = step_in(&mut kernel, heap, (2, Step::Mkdir("/a")))?;
-        assert!(rt; first == 'm' && again == 'd' && kernel.history().entries().len() == 3);
-    }
-    Ok(())
-}
-
-// A call of a transaction asks for memory too. Whichever request is refused, it is answered NoMemory and nothing has changed:
-// the same call then goes through, and is committed once.
-#[test]
-fn each_refused_request_leaves_a_transaction(rt: HostRuntime) -> Result<(), Fail> {
-    let heap = heap::open(rt.alloc())?;
-    for number in 1..64u64 {
-        let mut kernel = kernel_of(heap, &[0, 0], 100)?;
-        let _ = step_in(&mut kernel, heap, (1, Step::Begin))?;
-        let op = op_of(heap, Step::Mkdir("/a"))?;
-        heap.refuse(number);
-        let first = letter(&kernel.step(Pid(1), op));
-        heap.refuse(0);
-        if first == 'm' {
-            assert!(rt; step_in(&mut kernel, heap, (1, Step::Mkdir("/a")))? == 'd');
-        }
-        assert!(rt; step_in(&mut kernel, heap, (1, Step::End))? == 'c');
-        assert!(rt; step_in(&mut kernel, heap, (2, Step::Stat("/a")))? == 's');
-        assert!(rt; kernel.history().entries().len() == 4);
-        if first == 'd' {
-            assert!(rt; number > 5);
-            return Ok(());
-        }
-    }
-    Err(Fail::from("the call was always refused"))
 }

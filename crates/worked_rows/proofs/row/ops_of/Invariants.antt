@@ -1,5 +1,5 @@
 use Rattle.kernel.specs.Operations.{CanRunAll}
-use Rattle.worked_rows.proofs.tests.ops_of.Given as goal
+use Rattle.worked_rows.proofs.row.ops_of.Given as goal
 
 abbrev pub invariant-loop-step : goal.invariant-loop-step
 invariant-loop-step l = record {
