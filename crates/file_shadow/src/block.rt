@@ -1,5 +1,5 @@
 // A block of a file.
-ghost use Rattle.std.specs.Prelude.{◌≡◌, ◌+◌, ◌≤◌, IfOk, length, take};
+ghost use Rattle.std.specs.Prelude.{◌≡◌, ◌+◌, ◌≤◌, IfOk, length, replicate, take};
 ghost use Rattle.model.specs.Changes.{sized};
 ghost use Rattle.objects.specs.Contents.{pasted};
 
@@ -28,7 +28,9 @@ impl Model for Block {
 
 impl Block {
     /// Zero bytes.
-    pub fn new(heap: Heap) -> Result<Block, AllocError> {
+    pub fn new(heap: Heap) -> Result<Block, AllocError>
+        ensures { IfOk result (λ block. block ≡ replicate 1024 0) }
+    {
         let mut bytes = Vec::with_capacity(heap, BLOCK_LEN)?;
         bytes.resize(BLOCK_LEN, 0)?;
         Ok(Block { bytes })
