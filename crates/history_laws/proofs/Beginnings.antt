@@ -3,7 +3,7 @@ use Rattle.std.proofs.Common.{◌≡◌, ℕ, List, [], ◌∷◌, ◌++◌, ref
 use Rattle.std.specs.Prelude.{if◌then◌else◌}
 use Rattle.model.specs.Entries.{Entry}
 use Rattle.model.specs.Moments.{Moment, next, after_from, at_start}
-use Rattle.model.specs.Legal.{ListsRun, LegalFrom, mine, IsBefore}
+use Rattle.model.specs.Legal.{ListsRun, LegalFrom, Legal, mine, IsBefore}
 use Rattle.history_laws.specs.Beginnings.{BeforeIsAnOrder, OwnEntriesFollow, LegalityFollows}
 
 through : (es fs gs : List Entry) → IsBefore es fs → IsBefore fs gs → IsBefore es gs
@@ -92,6 +92,7 @@ legal_joined limit m [] fs h g = g
 legal_joined limit m (e ∷ es) fs h g = (h.0, h.1, legal_joined limit (next m e) es fs h.2 g)
 
 pub legality_follows : LegalityFollows
+unfolding Legal
 legality_follows = record {
   moments = λ root priorities es fs. after_append (at_start root priorities) es fs;
   entries = λ root priorities es. (let count : (after_from (at_start root priorities) es).entries ≡ 0 + length es = entries_after (at_start root priorities) es in omega arith);

@@ -12,7 +12,7 @@ use Rattle.model.specs.Calls.{Call, Exit, Answer, Child}
 use Rattle.model.specs.Steps.{reply}
 use Rattle.model.specs.Entries.{Op, Do, Begin, End, Abort, Reply, Answers, Refuses, Begun, Committed, GivenUp, Aborted, Busy, InTransaction, NotInTransaction, HistoryFull, NoMemory, NoProcess, Entry, answer_in, is_inside, is_unsupported}
 use Rattle.model.specs.Moments.{gone, idle, live, Moment, status, is_alive, with_processes, at_start, after, after_from, next, loose, calls_at, seen_by}
-use Rattle.model.specs.Legal.{RightAt, Right, LegalFrom, mine}
+use Rattle.model.specs.Legal.{RightAt, Right, LegalFrom, Legal, mine}
 use Rattle.model.proofs.Inodes.{get_same, get_other}
 use Rattle.call_laws.specs.WellFormed.{WellFormed}
 use Rattle.call_laws.specs.CallLaws.{CallLaws}
@@ -161,6 +161,7 @@ module _ (limit : ℕ) (m : Moment) (e : Entry) (right : Right limit m e) (s : S
     by (Rests some left) = still (unmoved left.committed) (unsaid_child e.reply left.unanswered) (unsaid_ended e.op e.reply left.unanswered)
 
 pub forks_and_exits_move : FromCallLaws ForksAndExitsMove
+unfolding Legal
 forks_and_exits_move laws root priorities limit es e legal right =
     processes_move limit (after root priorities es) e right (steady_after WellFormed laws limit (at_start root priorities) es legal (steady_start WellFormed laws limit root priorities)) laws
 
@@ -194,6 +195,7 @@ refused_from laws limit m (e ∷ es) legal s q high = by (eqb e.pid q) refl (ref
   by false is rest = rest
 
 pub unmade_are_refused : FromCallLaws UnmadeAreRefused
+unfolding Legal
 unmade_are_refused laws root priorities limit es legal q high = refused_from laws limit (at_start root priorities) es legal (steady_start WellFormed laws limit root priorities) q high
 
 -- the processes that are there at the start

@@ -7,7 +7,7 @@ use Rattle.model.specs.Steps.{Touch}
 use Rattle.model.specs.Laws.{GoesTheSame}
 use Rattle.model.specs.Entries.{Entry}
 use Rattle.model.specs.Moments.{Moment, next, after_from, after, at_start, loose, loose_touches, calls_at, held_by, numbers, is_in}
-use Rattle.model.specs.Legal.{LegalFrom, mine}
+use Rattle.model.specs.Legal.{LegalFrom, Legal, mine}
 use Rattle.call_laws.specs.CallLaws.{CallLaws, object_of}
 use Rattle.call_laws.specs.WellFormed.{WellFormed}
 use Rattle.history_laws.proofs.Premise.{FromCallLaws}
@@ -22,18 +22,22 @@ entries_after m [] = omega arith
 entries_after m (e ∷ es) = entries_after (next m e) es ∙ (let n = m.entries in omega arith)
 
 pub legal : FromCallLaws RightEntriesKeepHistoriesLegal
+unfolding Legal
 legal laws root priorities limit es e is right = legal_more WellFormed laws limit (at_start root priorities) es e (steady_start WellFormed laws limit root priorities) is right
 
 pub serial_is : FromCallLaws CommittedIsSerial
+unfolding Legal
 serial_is laws root priorities limit es is = serial_after WellFormed laws limit (at_start root priorities) es is (steady_start WellFormed laws limit root priorities)
 
 pub places : FromCallLaws PlacesSuffice
+unfolding Legal
 places laws root priorities limit es is =
     let steady = steady_after WellFormed laws limit (at_start root priorities) es is (steady_start WellFormed laws limit root priorities) in
     let count : (after root priorities es).entries ≡ 0 + length es = entries_after (at_start root priorities) es in
     omega (arith, steady.placed)
 
 pub beginnings : BeginningsAreLegal
+unfolding Legal
 beginnings root priorities limit es fs before is = legal_before limit (at_start root priorities) es before.0 (subst (LegalFrom limit (at_start root priorities)) before.1 is)
 
 pub own_entries : OwnEntriesGrow
@@ -58,6 +62,7 @@ loose_view laws m sound q = record {
 }
 
 pub views : FromCallLaws ViewsMayBeLoose
+unfolding Legal
 views laws root priorities limit es is q = loose_view laws (after root priorities es) (steady_after WellFormed laws limit (at_start root priorities) es is (steady_start WellFormed laws limit root priorities)).sound q
 
 abbrev Stays : Moment → ℕ → List Touch → Type 0
@@ -68,4 +73,5 @@ touched_there laws m sound q = subst (Stays m q) (sym (held_is WellFormed laws m
     (all_from (λ t. IsThere m.committed t.aspect ⊎ (is_in (object_of t.aspect) (numbers (calls_at m q)) ≡ true)) (loose_touches q (calls_at m q) m.committed) (goes_there WellFormed laws q m.committed (calls_at m q) (sound.lists.goes q)))
 
 pub touched : FromCallLaws TouchedObjectsStay
+unfolding Legal
 touched laws root priorities limit es is q = touched_there laws (after root priorities es) (steady_after WellFormed laws limit (at_start root priorities) es is (steady_start WellFormed laws limit root priorities)).sound q

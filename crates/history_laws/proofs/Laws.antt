@@ -41,6 +41,7 @@ use Rattle.call_laws.specs.WellFormed.{WellFormed}
 
 -- the empty history is legal
 pub legal_start : (root : ℕ) (priorities : List ℕ) (limit : ℕ) → Legal root priorities limit []
+unfolding Legal
 legal_start root priorities limit q = refl
 
 -- a history with one entry more comes to the next moment

@@ -55,6 +55,7 @@ kept_start laws limit root priorities = record {
 }
 
 kept_legal : (laws : CallLaws WellFormed) (root : ℕ) (priorities : List ℕ) (limit : ℕ) (es : List Entry) → Legal root priorities limit es → Kept limit (after root priorities es)
+unfolding Legal
 kept_legal laws root priorities limit es legal = kept_after laws limit (at_start root priorities) es legal (kept_start laws limit root priorities)
 
 pub sound_legal : (laws : CallLaws WellFormed) (root : ℕ) (priorities : List ℕ) (limit : ℕ) (es : List Entry) → Legal root priorities limit es → Sound WellFormed (after root priorities es)

@@ -22,14 +22,14 @@ ghost use Rattle.kernel.specs.Views.{Shows, resting, view_at, view_of, changes_i
 
 use crate::doom::doom_all;
 use crate::rest::{Standing, lose, plain_entry, put_off};
-use crate::slot::{Slot, shadow_in, shadow_of, take_slot};
-use crate::state::State;
+use crate::slot::{Slot, shadow_in, take_slot};
+use crate::state::{State, view_for};
 use calls::{Plan, plan_of};
 use conflict::keep_writes;
 use contention::{Doomed, Verdict};
 use heap::Heap;
 use ids::{Age, Answer, BeginFlags, Call, Entry, Errno, Nums, Op, Pid, Pids, Reply, Touch};
-use shadow::{Edits, Shadow, Stable, View};
+use shadow::{Edits, Shadow, Stable};
 use std::alloc::AllocError;
 
 /// The answer as a reply.
@@ -80,7 +80,7 @@ fn plan_for(s: &State, pid: Pid, call: &Call) -> Result<Plan, AllocError>
     ensures is { IfOk result (IsPlan (all_done (changes_in (view_at s.now.slots.items pid)) s.now.stable.state) pid call.now) }
     ensures parents { IfOk result (λ p. HaveParents s.now.stable.reserves p.edits) }
 {
-    let view = View::new(&s.stable, shadow_of(&s.slots, pid));
+    let view = view_for(s, pid);
     plan_of(s.heap, &view, pid, call)
 }
 

@@ -9,13 +9,13 @@ ghost use Rattle.kernel.specs.Steps.{IsStep, Steps};
 ghost use Rattle.kernel.specs.Views.{AreFirst};
 
 use crate::slot::{Slot, shadow_of};
-use crate::state::State;
+use crate::state::{State, view_for};
 use crate::step::step;
 use contention::Contenders;
 use heap::Heap;
 use history::History;
 use ids::{Op, Pid, Priority, Reply};
-use shadow::{Shadow, Stable};
+use shadow::{Shadow, Stable, View};
 use std::alloc::AllocError;
 use std::marker::Model;
 
@@ -97,6 +97,14 @@ impl Kernel {
         ensures sees { IfSome result (λ s. tidy (all_done s.now self.now.state) ≡ seen_by (moment self.now.log) pid) }
     {
         shadow_of(&self.state.slots, pid)
+    }
+
+    /// What a process sees: what is committed, with the changes of its live transaction on top, if it is in one. With what
+    /// nothing leads to freed, it is what the history says.
+    pub fn view(&self, pid: Pid) -> View<'_>
+        ensures { tidy result.state ≡ seen_by (moment self.now.log) pid }
+    {
+        view_for(&self.state, pid)
     }
 
     /// One operation of one process. HistoryFull and NoMemory change nothing; each other reply is that of one new entry.

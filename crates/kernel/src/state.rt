@@ -1,17 +1,19 @@
 // The fields of a kernel, and the entries that change them.
 ghost use Rattle.std.specs.Prelude.{◌≡◌, ◌<◌, [], length, Some, None, if◌then◌else◌};
 ghost use Rattle.contention.specs.Holding.{held_at, Becomes};
+ghost use Rattle.history_laws.specs.Doings.{all_done};
+ghost use Rattle.kernel.specs.Claims.{AreCovered};
 ghost use Rattle.kernel.specs.Rows.{IsQuiet, settled_as};
 ghost use Rattle.kernel.specs.States.{CanSettle, Holds, fields, shown};
 ghost use Rattle.kernel.specs.Steps.{IsStep};
-ghost use Rattle.kernel.specs.Views.{slot_view, shown_by};
+ghost use Rattle.kernel.specs.Views.{slot_view, shown_by, view_at, changes_in};
 
-use crate::slot::{Slot, Transaction, drop_slot, set_slot, take_slot};
+use crate::slot::{Slot, Transaction, drop_slot, set_slot, shadow_of, take_slot};
 use contention::Contenders;
 use heap::Heap;
 use history::History;
 use ids::{Age, BeginFlags, Entry, Pid};
-use shadow::{Shadow, Stable};
+use shadow::{Shadow, Stable, View};
 
 /// The fields of a kernel. A process's number is the place of its slot; the first slot is of no process.
 #[derive(Drop)]
@@ -26,6 +28,14 @@ pub struct State {
     pub contenders: Contenders,
     /// What is committed.
     pub stable: Stable,
+}
+
+/// What a process sees: what is committed, with what its live transaction has changed on top.
+pub fn view_for(s: &State, pid: Pid) -> View<'_>
+    requires { AreCovered s.now.slots.items s.now.stable }
+    ensures { result ≡ record s.now.stable { state = all_done (changes_in (view_at s.now.slots.items pid)) s.now.stable.state } }
+{
+    View::new(&s.stable, shadow_of(&s.slots, pid))
 }
 
 /// Adds an entry that dooms nobody, commits nothing and leaves its process as it was.

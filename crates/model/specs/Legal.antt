@@ -90,8 +90,9 @@ abbrev pub LegalFrom : ℕ → Moment → List Entry → Type 0
 LegalFrom limit m [] = ListsRun m
 LegalFrom limit m (e ∷ es) = ListsRun m × Right limit m e × LegalFrom limit (next m e) es
 
--- a history of a kernel with this root number, these priorities and this limit is legal
-abbrev pub Legal : ℕ → List ℕ → ℕ → List Entry → Type 0
+-- A history of a kernel with this root number, these priorities and this limit is legal. Only the laws look into it: crates above
+-- carry it, and take what it gives from the laws.
+unfoldable pub Legal : ℕ → List ℕ → ℕ → List Entry → Type 0
 Legal root priorities limit es = LegalFrom limit (at_start root priorities) es
 
 -- the serial list: executed plain calls at their entries, and a transaction's calls together at its committed end

@@ -147,7 +147,7 @@ pub(crate) fn letter(reply: &Reply) -> u8 {
 }
 
 // Names in brackets, with a blank between two.
-fn tell_names(told: &mut Vec<u8, Heap>, names: &NameList) -> Result<(), AllocError> {
+pub(crate) fn tell_names(told: &mut Vec<u8, Heap>, names: &NameList) -> Result<(), AllocError> {
     told.push(b'[')?;
     for (i, name) in names.as_slice().iter().enumerate() {
         if i > 0 {

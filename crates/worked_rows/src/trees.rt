@@ -1,7 +1,8 @@
 // Rows of directories in directories, and of paths.
-use crate::row::{Row, Step, kernel_of, step_in, tells_the_lister, tells_the_reader};
+use crate::row::{Row, Step, kernel_of, step_in, tell_names, tells_the_lister, tells_the_reader};
 use heap::Heap;
-use ids::{Pid, Reply};
+use ids::{Name, Pid, Reply};
+use kernel::Kernel;
 use std::test::Fail;
 
 pub(crate) static TREES: [Row; 12] = [
@@ -234,5 +235,31 @@ fn readers_are_told_what_they_have_read(rt: HostRuntime) -> Result<(), Fail> {
     assert!(rt; tells_the_reader(&told_after(heap, Step::Stat("/d/a"))?, Pid(2)));
     assert!(rt; tells_the_lister(&told_after(heap, Step::List("/d"))?, Pid(2)));
     assert!(rt; tells_the_lister(&told_after(heap, Step::Rmdir("/d"))?, Pid(2)));
+    Ok(())
+}
+
+// The names of `/d` in what a process sees.
+fn seen_names(heap: Heap, kernel: &Kernel, pid: Pid) -> Result<Vec<u8, Heap>, Fail> {
+    let view = kernel.view(pid);
+    let found = view.find(view.root(), &Name::copy(heap, b"d")?)?;
+    let dir = found.ok_or("no directory")?;
+    let mut told = Vec::new(heap);
+    tell_names(&mut told, &view.names(heap, dir)?)?;
+    Ok(told)
+}
+
+// Two transactions add to one directory: each sees its own name there, and nothing of them is committed.
+#[test]
+fn each_sees_its_own_name(rt: HostRuntime) -> Result<(), Fail> {
+    let heap = heap::open(rt.alloc())?;
+    let mut kernel = kernel_of(heap, &[0, 0, 0], 100)?;
+    let _ = step_in(&mut kernel, heap, (1, Step::Mkdir("/d")))?;
+    let _ = step_in(&mut kernel, heap, (1, Step::Begin))?;
+    let _ = step_in(&mut kernel, heap, (2, Step::Begin))?;
+    let _ = step_in(&mut kernel, heap, (1, Step::Mkdir("/d/a")))?;
+    let _ = step_in(&mut kernel, heap, (2, Step::Mkdir("/d/b")))?;
+    assert_eq!(rt; seen_names(heap, &kernel, Pid(1))?.as_slice(), b"[a]");
+    assert_eq!(rt; seen_names(heap, &kernel, Pid(2))?.as_slice(), b"[b]");
+    assert_eq!(rt; seen_names(heap, &kernel, Pid(3))?.as_slice(), b"[]");
     Ok(())
 }
