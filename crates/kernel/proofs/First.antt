@@ -10,7 +10,8 @@ use Rattle.history_laws.specs.Doings.{Doing}
 use Rattle.history_laws.specs.Processes.{StartsWith}
 use Rattle.history_laws.proofs.Laws.{legal_start, first_processes_live}
 use Rattle.contention.specs.Holding.{nobody, held_at, holding}
-use Rattle.kernel.specs.States.{Fields, Holds}
+use Rattle.kernel.specs.Shown.{Kept}
+use Rattle.kernel.specs.States.{Fields, Holds, shown}
 use Rattle.kernel.specs.Views.{AreFirst, absent, slot_view, view_by, view_at, view_of, changes_in, changes_of}
 use Rattle.kernel.specs.declared.slot.Slot.TheVariants.{Gone}
 use Rattle.kernel.proofs.Claims.{covers_none}
@@ -64,3 +65,6 @@ module _ (priorities : List ℕ) (limit : ℕ) (f : Fields) (log : f.log ≡ rec
     slots = views;
     covered = covers_none f.slots f.stable (λ q. ap changes_in (views q) ∙ nothing_changed (is_alive m.committed q) (changes_of m q));
   })
+
+pub holds_kept : (f : Fields) → Holds f → Kept (shown f)
+holds_kept f holds = record { legal = holds.legal; state = holds.state }
