@@ -1,5 +1,5 @@
 // A block of a file.
-ghost use Rattle.std.specs.Prelude.{◌≡◌, ◌+◌, ◌≤◌, IfOk, length, replicate, take};
+ghost use Rattle.std.specs.Prelude.{◌≡◌, ◌+◌, ◌≤◌, IfOk, [], length, take};
 ghost use Rattle.model.specs.Changes.{sized};
 ghost use Rattle.objects.specs.Contents.{pasted};
 
@@ -29,7 +29,7 @@ impl Model for Block {
 impl Block {
     /// Zero bytes.
     pub fn new(heap: Heap) -> Result<Block, AllocError>
-        ensures { IfOk result (λ block. block ≡ replicate 1024 0) }
+        ensures { IfOk result (λ block. block ≡ sized 1024 []) }
     {
         let mut bytes = Vec::with_capacity(heap, BLOCK_LEN)?;
         bytes.resize(BLOCK_LEN, 0)?;
