@@ -258,8 +258,17 @@ fn each_sees_its_own_name(rt: HostRuntime) -> Result<(), Fail> {
     let _ = step_in(&mut kernel, heap, (2, Step::Begin))?;
     let _ = step_in(&mut kernel, heap, (1, Step::Mkdir("/d/a")))?;
     let _ = step_in(&mut kernel, heap, (2, Step::Mkdir("/d/b")))?;
-    assert_eq!(rt; seen_names(heap, &kernel, Pid(1))?.as_slice(), b"[a]");
-    assert_eq!(rt; seen_names(heap, &kernel, Pid(2))?.as_slice(), b"[b]");
-    assert_eq!(rt; seen_names(heap, &kernel, Pid(3))?.as_slice(), b"[]");
+    assert_eq!(rt;
+        seen_names(heap, &kernel, Pid(1))?.as_slice(),
+        "[a]".as_bytes()
+    );
+    assert_eq!(rt;
+        seen_names(heap, &kernel, Pid(2))?.as_slice(),
+        "[b]".as_bytes()
+    );
+    assert_eq!(rt;
+        seen_names(heap, &kernel, Pid(3))?.as_slice(),
+        "[]".as_bytes()
+    );
     Ok(())
 }
