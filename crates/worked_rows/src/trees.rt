@@ -1,7 +1,7 @@
 // Rows of directories in directories, and of paths.
 use crate::row::{Row, Step, kernel_of, step_in, tell_names, tells_the_lister, tells_the_reader};
 use heap::Heap;
-use ids::{Name, Pid, Reply};
+use ids::{Answer, Name, Pid, Reply};
 use kernel::Kernel;
 use std::test::Fail;
 
@@ -270,5 +270,40 @@ fn each_sees_its_own_name(rt: HostRuntime) -> Result<(), Fail> {
         seen_names(heap, &kernel, Pid(3))?.as_slice(),
         "[]".as_bytes()
     );
+    Ok(())
+}
+
+// Whether a stat tells one of the numbers after the root's and below this one.
+fn tells_number_below(reply: &Reply, end: usize) -> bool {
+    match reply {
+        Reply::Answer(Answer::Stat(stat)) => 0 < stat.num.0 && stat.num.0 < end,
+        _ => false,
+    }
+}
+
+// How many requests for memory a transaction makes that adds names and gives them up.
+fn requests_of_giving_up(heap: Heap, kernel: &mut Kernel) -> Result<u64, Fail> {
+    heap.refuse(0);
+    let _ = step_in(kernel, heap, (1, Step::Begin))?;
+    let _ = step_in(kernel, heap, (1, Step::Mkdir("/a")))?;
+    let _ = step_in(kernel, heap, (1, Step::Mkdir("/a/b")))?;
+    let _ = step_in(kernel, heap, (1, Step::Abort))?;
+    Ok(heap.made())
+}
+
+// What is given up gives its numbers and its room back: the numbers are given again, and no transaction after the first needs
+// more memory than the one before.
+#[test]
+fn what_is_given_up_is_given_back(rt: HostRuntime) -> Result<(), Fail> {
+    let heap = heap::open(rt.alloc())?;
+    let mut kernel = kernel_of(heap, &[0], 200)?;
+    let _ = requests_of_giving_up(heap, &mut kernel)?;
+    let requests = requests_of_giving_up(heap, &mut kernel)?;
+    for _i in 0..30 {
+        assert_eq!(rt; requests_of_giving_up(heap, &mut kernel)?, requests);
+    }
+    let _ = step_in(&mut kernel, heap, (1, Step::Mkdir("/a")))?;
+    let told = step_in(&mut kernel, heap, (1, Step::Stat("/a")))?;
+    assert!(rt; tells_number_below(&told, 3));
     Ok(())
 }
