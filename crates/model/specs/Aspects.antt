@@ -4,7 +4,7 @@ use Rattle.model.specs.FiniteMap.{keys}
 use Rattle.std.specs.List.{AllByRecursion}
 pub use Rattle.ids.specs.declared.aspect.Aspect.{Aspect}
 pub use Rattle.ids.specs.declared.aspect.Aspect.TheVariants.{Entry, Names, Size, Block, Links, Ends, Offset, Front, Back}
-use Rattle.model.specs.State.{Name, Kernel, names_of, file_of, pipe_of, entry_of, offset_of, links, ends}
+use Rattle.model.specs.State.{Kernel, names_of, file_of, pipe_of, entry_of, offset_of, links, ends}
 
 -- the bytes of one block, those past the end counted as zero
 abbrev pub SameBlock : ℕ → List ℕ → List ℕ → Type 0

@@ -9,7 +9,7 @@ pub use Rattle.ids.specs.declared.call.Call.TheVariants.{Open, Close, Read, Writ
 pub use Rattle.ids.specs.declared.reply.Stat.{Stat as Status}
 pub use Rattle.ids.specs.declared.reply.Answer.{Answer}
 pub use Rattle.ids.specs.declared.reply.Answer.TheVariants.{Done, Fd as Descriptor, Count, Place as New_place, Bytes, Pair, Stat as Stated, Names as Listing, Child}
-use Rattle.model.specs.State.{Name, Kind, Kernel, Description, kind_of}
+use Rattle.model.specs.State.{Kind, Kernel, Description, kind_of}
 use Rattle.model.specs.Changes.{process_of}
 
 -- what never changes of a description while it lives, with its inode's kind

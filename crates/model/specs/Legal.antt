@@ -1,12 +1,12 @@
 -- When a history is legal: each entry is right after the entries before it.
 use Rattle.std.specs.Prelude.{◌≡◌, ℕ, ◌+◌, ◌≤◌, Bool, true, false, not, ◌&&◌, List, [], ◌∷◌, ◌++◌, Option, Some, None, if◌then◌else◌, filter, ◌==◌}
-use Rattle.std.specs.List.{AllByRecursion, list_any}
+use Rattle.std.specs.List.{AllByRecursion}
 use Rattle.ids.specs.Flags.{is_restarting, is_aborting_unsupported}
 use Rattle.model.specs.Plan.{ENOTSUP}
 use Rattle.model.specs.Calls.{Call}
-use Rattle.model.specs.Steps.{Touch, edits, reply, CanBeChosen, IsNowhere, Item, Run}
+use Rattle.model.specs.Steps.{edits, reply, CanBeChosen, IsNowhere, Item, Run}
 use Rattle.model.specs.Entries.{BeginFlags, Op, Do, Begin, End, Abort, Cause, Clash, Unsupported, Reply, Refuses, Begun, Committed, GivenUp, Aborted, Busy, InTransaction, NotInTransaction, NoProcess, Entry, Executed, answer_in, is_inside}
-use Rattle.model.specs.Moments.{Status, gone, idle, live, doomed, Moment, status, at_start, numbers, calls_at, seen_by, held_by, counted_touches, all_below, bound, losing_cause, clashes_with, is_in, run_by, next, reserved, has_free}
+use Rattle.model.specs.Moments.{Status, gone, idle, live, doomed, Moment, status, at_start, numbers, calls_at, seen_by, counted_touches, all_below, bound, losing_cause, clashes_with, is_in, run_by, next, reserved, has_free}
 
 -- at least so many places are free
 abbrev pub Free : ℕ → Moment → ℕ → Type 0

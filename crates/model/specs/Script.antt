@@ -1,14 +1,12 @@
 -- Operations in a row on a fresh kernel, to check worked rows by. All of it computes.
-use Rattle.std.specs.Prelude.{ℕ, List, [], ◌∷◌, Bool, true, false, Result, ⊤}
+use Rattle.std.specs.Prelude.{ℕ, List, [], ◌∷◌, Result, ⊤}
 use Rattle.model.specs.FiniteMap.{computes}
 use Rattle.model.specs.State.{Kernel, A_file, A_directory, A_pipe, links, ends}
 use Rattle.model.specs.Plan.{Errno}
 use Rattle.model.specs.Changes.{all_applied, applied, tidy, holders, openings}
 use Rattle.model.specs.Calls.{OpenFlags, Call, Answer, Stated}
 use Rattle.model.specs.Steps.{reply, edits}
-use Rattle.model.specs.Entries.{BeginFlags, Op, Do, Cause, Reply}
-use Rattle.model.specs.Moments.{Moment, start, at_start}
-use Rattle.model.specs.Replies.{Asked, Spoken}
+use Rattle.model.specs.Moments.{start}
 
 -- what a run of calls goes through, opened
 unfoldable pub runs : ⊤

@@ -1,5 +1,5 @@
 -- What a call touches, and the steps and runs of a plain kernel.
-use Rattle.std.specs.Prelude.{◌≡◌, ℕ, List, [], ◌∷◌, ◌++◌, Bool, true, false, map, Some, None, Result, Ok, Err, ◌≢◌, ⊤, length}
+use Rattle.std.specs.Prelude.{◌≡◌, ℕ, List, [], ◌∷◌, ◌++◌, true, false, map, Some, None, Result, Ok, Err, ◌≢◌, ⊤, length}
 use Rattle.std.specs.List.{flat_map, sum_by, AllByRecursion}
 use Rattle.model.specs.FiniteMap.{get}
 use Rattle.model.specs.State.{Name, Kernel, names_of}

@@ -1,5 +1,5 @@
 -- What the names from a place on decide.
-use Rattle.std.proofs.Common.{◌≡◌, ℕ, zero, suc, ◌+◌, ◌<◌, ◌≤◌, Bool, true, false, ◌&&◌, List, [], ◌∷◌, length, get_or, drop, refl, ap, arith, ◌==◌}
+use Rattle.std.proofs.Common.{◌≡◌, ℕ, zero, suc, ◌<◌, ◌≤◌, true, false, ◌&&◌, List, [], ◌∷◌, length, get_or, drop, refl, ap, arith, ◌==◌}
 use lib.Pointwise.{pointwise}
 use lib.Dec.{eqb}
 use Rattle.model.specs.State.{Name}

@@ -1,5 +1,5 @@
 -- Names that were read from the left, and those that are left.
-use Rattle.std.proofs.Common.{◌≡◌, ℕ, suc, ◌+◌, ◌<◌, ◌≤◌, Bool, true, false, cond, not, List, [], ◌∷◌, ◌++◌, length, take, drop, Option, Some, None, Result, Ok, Err, nat_lt, refl, sym, ap, ◌∙◌, arith, ◌==◌, if◌then◌else◌}
+use Rattle.std.proofs.Common.{◌≡◌, ℕ, suc, ◌+◌, ◌<◌, ◌≤◌, Bool, true, false, cond, not, List, [], ◌∷◌, ◌++◌, length, take, drop, Some, None, Result, Ok, Err, nat_lt, refl, sym, ap, ◌∙◌, arith, ◌==◌, if◌then◌else◌}
 use Rattle.std.specs.List.{position, position_or_len, slice_split, onto_first}
 use Rattle.std.proofs.lemmas.List.Splits.{slice_split_first}
 use Rattle.std.proofs.lemmas.Bool.Decides.{nat_tests}
@@ -7,7 +7,7 @@ use Rattle.ids.specs.declared.errno.Refusal.{Refusal}
 use Rattle.ids.specs.declared.errno.Refusal.TheVariants.{Errno as Refused, NoMemory}
 use Rattle.model.specs.Plan.{Errno}
 use Rattle.model.specs.State.{Name}
-use Rattle.model.specs.Paths.{pieces, in_front, names_in, with_first}
+use Rattle.model.specs.Paths.{pieces, in_front, with_first}
 use Rattle.path.specs.Parsing.{after, IsRefusalBy}
 
 abbrev pub is_slash : ℕ → Bool

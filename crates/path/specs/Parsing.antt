@@ -1,5 +1,5 @@
 -- How far the names of a path were read, and what a refusal says of them.
-use Rattle.std.specs.Prelude.{◌≡◌, ℕ, suc, List, [], ◌∷◌, length, Option, Some, None, Result, Ok, Err, ⊤}
+use Rattle.std.specs.Prelude.{◌≡◌, ℕ, suc, List, [], ◌∷◌, length, Option, Some, None, Result, Err, ⊤}
 use Rattle.std.specs.Borrow.{Bor}
 use Rattle.model.specs.State.{Name}
 use Rattle.model.specs.Plan.{Errno as Refused}

@@ -1,7 +1,7 @@
-use Rattle.std.proofs.Common.{rules, refl}
+use Rattle.std.proofs.Common.{rules}
 use Rattle.std.proofs.lemmas.Fn.{always_returns_same}
 use Rattle.model.specs.State.{name_cmp}
-use Rattle.dirlist.proofs.Names.{name_total, name_exact}
+use Rattle.dirlist.proofs.Names.{name_total}
 use Rattle.dirlist.proofs.Halved.{searched_place}
 use Rattle.dirlist.proofs.place.Goals as goal
 

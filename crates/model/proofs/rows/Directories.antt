@@ -1,8 +1,7 @@
 -- Worked rows of directories, names and paths.
-use Rattle.std.proofs.Common.{◌≡◌, ℕ, List, [], ◌∷◌, ◌++◌, Some, Ok, Err, refl, replicate}
+use Rattle.std.proofs.Common.{◌≡◌, ℕ, List, [], ◌∷◌, ◌++◌, Ok, Err, refl, replicate}
 use Rattle.std.specs.Prelude.{codes}
 use Rattle.model.specs.FiniteMap.{keys}
-use Rattle.model.specs.State.{A_file, A_directory}
 use Rattle.model.specs.Plan.{EBUSY, EEXIST, EINVAL, EISDIR, ENAMETOOLONG, ENOENT, ENOTDIR, ENOTEMPTY, EPERM}
 use Rattle.model.specs.Calls.{Open, Close, Stat, Fstat, Link, Unlink, Rename, Mkdir, Rmdir, List_directory, Done, Listing, Descriptor}
 use Rattle.model.specs.Script.{runs, fresh, script_replies, last_state, rdwr_creat, wronly_creat, a_file, a_directory}

@@ -1,8 +1,7 @@
 -- Worked rows of files, by running the model.
-use Rattle.std.proofs.Common.{◌≡◌, pos, negsuc, List, [], ◌∷◌, ◌++◌, true, false, Some, Ok, Err, refl, replicate, map}
+use Rattle.std.proofs.Common.{◌≡◌, pos, negsuc, List, [], ◌∷◌, ◌++◌, Ok, Err, refl, replicate, map}
 use Rattle.std.specs.Prelude.{codes}
 use Rattle.model.specs.FiniteMap.{keys}
-use Rattle.model.specs.State.{A_file}
 use Rattle.model.specs.Plan.{EBADF, EFBIG, EINVAL, EISDIR, EMFILE, ENOENT, EEXIST, rising}
 use Rattle.model.specs.Calls.{From_start, From_offset, From_end, Open, Close, Read, Write, Lseek, Ftruncate, Stat, Fstat, Unlink, Dup, Dup2, Done, Bytes, Descriptor, Count, New_place}
 use Rattle.model.specs.Steps.{reply}

@@ -1,8 +1,7 @@
 -- Worked rows of pipes, children and ends of processes.
-use Rattle.std.proofs.Common.{◌≡◌, pos, List, [], ◌∷◌, ◌++◌, Some, Ok, Err, refl, replicate}
+use Rattle.std.proofs.Common.{◌≡◌, pos, List, [], ◌∷◌, ◌++◌, Ok, Err, refl, replicate}
 use Rattle.std.specs.Prelude.{codes}
 use Rattle.model.specs.FiniteMap.{keys}
-use Rattle.model.specs.State.{A_pipe}
 use Rattle.model.specs.Plan.{EAGAIN, EINVAL, EPIPE, ESPIPE}
 use Rattle.model.specs.Calls.{From_start, Close, Read, Write, Lseek, Ftruncate, Fstat, Dup2, Open_pipe, Fork, Exit, Done, Bytes, Pair, Child, Count}
 use Rattle.model.specs.Moments.{start}

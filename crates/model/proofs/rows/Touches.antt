@@ -1,5 +1,5 @@
 -- What the calls of worked rows touch.
-use Rattle.std.proofs.Common.{◌≡◌, List, [], ◌∷◌, ◌++◌, true, false, map, pos, refl, replicate}
+use Rattle.std.proofs.Common.{◌≡◌, List, [], ◌∷◌, ◌++◌, map, pos, refl, replicate}
 use Rattle.std.specs.Prelude.{codes}
 use Rattle.model.specs.Aspects.{Entry, Names, Size, Block, Links, Ends, Offset, Front, Back}
 use Rattle.model.specs.Plan.{rising}

@@ -4,10 +4,9 @@ use Rattle.std.specs.Prelude.{codes}
 use Rattle.model.specs.Aspects.{Entry as EntryOf, Names, Size}
 use Rattle.model.specs.Plan.{EAGAIN, ENOENT, ENOTSUP}
 use Rattle.model.specs.Calls.{From_start, Call, Close, Lseek, Fstat, Unlink, Rename, Open_pipe, Pair, Child, Open, Read, Write, Stat, List_directory, Mkdir, Fork, Exit, Done, Descriptor, Count, New_place, Bytes, Listing}
-use Rattle.model.specs.Steps.{Touch}
 use Rattle.model.specs.Entries.{BeginFlags, Op, Do, Begin, End, Abort, Cause, Clash, Unsupported, Reply, Answers, Refuses, Begun, Committed, GivenUp, Aborted, Busy, InTransaction, NotInTransaction, HistoryFull, NoProcess}
 use Rattle.model.specs.Moments.{live, Moment, at_start, reserved}
-use Rattle.model.specs.Modes.{mode_of, Write as Write_mode, Exclusive}
+use Rattle.model.specs.Modes.{mode_of, Write as Write_mode}
 use Rattle.model.specs.Replies.{Spoken, alone, Asked, all_said, moment_for}
 use Rattle.model.specs.Script.{runs, rdwr, rdwr_creat, wronly_creat, a_file, a_directory}
 

@@ -1,6 +1,5 @@
-use Rattle.std.proofs.Common.{◌≡◌, ◌∷◌, ◌+◌, ◌-◌, List, ℕ, length, take, drop, sym, ap, ◌∙◌, arith, length-drop}
+use Rattle.std.proofs.Common.{◌≡◌, ◌+◌, ◌-◌, length, take, drop, sym, arith, length-drop}
 use Rattle.std.proofs.lemmas.List.{take_all}
-use Rattle.model.specs.Paths.{pieces}
 use Rattle.path.proofs.Read.{pieces-slash, pieces-whole}
 use Rattle.path.proofs.cut_at_slash.Goals as goal
 

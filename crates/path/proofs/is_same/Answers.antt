@@ -1,4 +1,3 @@
-use Rattle.std.proofs.Common.{sym, ◌∙◌}
 use Rattle.path.proofs.Below.{same_name-same}
 use Rattle.path.proofs.is_same.Goals as goal
 

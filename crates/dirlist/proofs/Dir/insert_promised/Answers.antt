@@ -1,10 +1,10 @@
-use Rattle.std.proofs.Common.{◌≡◌, ◌+◌, ◌∷◌, [], None, Ok, Err, vec_len, refl, sym, ap, subst, ◌∙◌, arith, ℕ, List}
+use Rattle.std.proofs.Common.{◌≡◌, ◌+◌, None, vec_len, sym, ap, subst, ◌∙◌, arith, ℕ, List}
 use Rattle.std.specs.List.{insert}
-use Rattle.std.specs.Result.{IsErr, MatchResult}
+use Rattle.std.specs.Result.{MatchResult}
 use Rattle.model.specs.FiniteMap as map
 use Rattle.model.specs.State.{Name, name_cmp}
 use Rattle.dirlist.specs.Places.{IsPlaceOf, IsPlaceFor}
-use Rattle.dirlist.proofs.Names.{name_total, name_exact}
+use Rattle.dirlist.proofs.Names.{name_total}
 use Rattle.dirlist.proofs.Kept.{is_err_where, no_place, is_sorted-insert, from_sorted-insert}
 use Rattle.dirlist.proofs.Dir.insert_promised.Goals as goal
 

@@ -1,7 +1,7 @@
-use Rattle.std.proofs.Common.{◌≡◌, ℕ, true, false, List, get_or, Some, sym, subst}
+use Rattle.std.proofs.Common.{ℕ, List, sym, subst}
 use Rattle.model.specs.State.{Name, name_cmp}
 use Rattle.dirlist.specs.Places.{IsPlaceOf, IsPlaceFor}
-use Rattle.dirlist.proofs.Names.{name_total, name_exact}
+use Rattle.dirlist.proofs.Names.{name_total}
 use Rattle.dirlist.proofs.Kept.{get-place, get-no_place}
 use Rattle.dirlist.proofs.Dir.lookup.Goals as goal
 

@@ -1,4 +1,4 @@
-use Rattle.std.proofs.Common.{◌≡◌, ℕ, None, get_or, sym, ap, subst, ◌∙◌, arith, List}
+use Rattle.std.proofs.Common.{◌≡◌, ℕ, None, sym, ap, subst, ◌∙◌, arith, List}
 use Rattle.model.specs.FiniteMap as map
 use Rattle.model.specs.State.{Name, name_cmp}
 use Rattle.dirlist.specs.Listing.{Listing}
