@@ -66,5 +66,6 @@ module _ (priorities : List ℕ) (limit : ℕ) (f : Fields) (log : f.log ≡ rec
     covered = covers_none f.slots f.stable (λ q. ap changes_in (views q) ∙ nothing_changed (is_alive m.committed q) (changes_of m q));
   })
 
+-- what a kernel shows is kept
 pub holds_kept : (f : Fields) → Holds f → Kept (shown f)
 holds_kept f holds = record { legal = holds.legal; state = holds.state }
