@@ -5,7 +5,7 @@ use Rattle.model.specs.FiniteMap.{FinMap, get, empty, insert, remove, values, re
 use Rattle.std.proofs.lemmas.Bool.{cases_eq}
 use Rattle.model.specs.State.{Name, name_cmp, A_directory, Kernel, Inode, File, Directory, Pipe, Description, Process, kind, names_of, names_of_inode, file_of, file_of_inode, pipe_of, pipe_of_inode, kind_of, links}
 use Rattle.model.specs.Changes.{Edit, Make_directory, Make_file, Name_file, Unname_file, Unname_directory, Move, Put_bytes, Cut, Take, Append, Set_offset, Open_inode, Make_pipe, Share_slot, Clear_slot, New_process, End_process, Mode, number, to_read, to_write, at_offset, at_start, open_at, set_process, with_slot, without_slot, process_of, or_new, applied, all_applied, set_inode, set_name, clear_name, set_offset, sized, written, holders, openings, is_held, without_descriptions, tidy}
-use Rattle.call_laws.proofs.Fits.{Fits, FitsAll, table_of}
+use Rattle.call_laws.specs.Fits.{Fits, FitsAll, table_of}
 use Rattle.call_laws.specs.WellFormed.{IsRooted, WellFormed}
 use Rattle.model.proofs.Sums.{weight, sum-insert, sum-remove}
 use Rattle.model.proofs.Inodes.{get_same, get_other}

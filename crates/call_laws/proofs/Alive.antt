@@ -5,7 +5,7 @@ use Rattle.model.specs.FiniteMap.{insert}
 use Rattle.model.specs.State.{Kernel}
 use Rattle.model.specs.Changes.{Edit, Make_directory, Make_file, Name_file, Unname_file, Unname_directory, Move, Put_bytes, Cut, Take, Append, Set_offset, Open_inode, Make_pipe, Share_slot, Clear_slot, New_process, End_process, applied, all_applied, tidy}
 use Rattle.model.specs.Moments.{is_alive}
-use Rattle.call_laws.proofs.Fits.{Fits, FitsAll, IsBy, IsAlive}
+use Rattle.call_laws.specs.Fits.{Fits, FitsAll, IsBy, IsAlive}
 use Rattle.call_laws.proofs.Maps.{true_is_false, stays_inserted, removed_other}
 use Rattle.call_laws.proofs.Offsets.{set_there}
 

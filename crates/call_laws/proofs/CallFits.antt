@@ -17,7 +17,7 @@ use Rattle.model.specs.Moments.{is_in}
 use Rattle.model.proofs.Lists.{append-all}
 use Rattle.call_laws.specs.Objects.{IsThere}
 use Rattle.call_laws.specs.WellFormed.{descriptor_limit, CanBeNamed, Leads, WellFormed}
-use Rattle.call_laws.proofs.Fits.{FitsAll, IsBy, CanMove, CanBeReplaced, CanShare, IsOpenSlot, IsUnused, IsAlive, ListsPipe, table_of}
+use Rattle.call_laws.specs.Fits.{FitsAll, IsBy, CanMove, CanBeReplaced, CanShare, IsOpenSlot, IsUnused, IsAlive, ListsPipe, table_of}
 use Rattle.call_laws.proofs.Maps.{not_none, true_is_false, some_same}
 use Rattle.call_laws.proofs.Names.{with_kind, has_names, named_counted}
 use Rattle.call_laws.proofs.Contents.{has_bytes, no_names_file}

@@ -13,7 +13,7 @@ use Rattle.model.specs.Plan.{blocks}
 use Rattle.model.specs.Changes.{Put_bytes, Cut, marks, set_inode, set_name, clear_name, sized, written}
 use Rattle.model.specs.Steps.{IsNowhere}
 use Rattle.call_laws.specs.Objects.{IsThere, LeavesAlone}
-use Rattle.call_laws.proofs.Fits.{CanBeReplaced}
+use Rattle.call_laws.specs.Fits.{CanBeReplaced}
 use Rattle.model.proofs.Lists.{all-append, all-map, in_blocks}
 use Rattle.model.proofs.Inodes.{name_exact, tie, get_same, get_other, unchanged_by}
 use Rattle.call_laws.proofs.Names.{with_kind, has_names, one, counted, links_named, links_unnamed, entry_named, entry_unnamed, entry_there}

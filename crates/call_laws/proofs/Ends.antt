@@ -5,7 +5,7 @@ use Rattle.model.specs.FiniteMap.{FinMap, get, insert, remove, values, nat_cmp-I
 use Rattle.model.specs.State.{Kernel, Description, Process, is_end, ends, mapped}
 use Rattle.model.specs.Changes.{Mode, process_of, or_new, with_slot, set_process, set_description, at_start, open_at}
 use Rattle.model.specs.Calls.{Slot, slot_of}
-use Rattle.call_laws.proofs.Fits.{table_of, fixed_of, IsUnused}
+use Rattle.call_laws.specs.Fits.{table_of, fixed_of, IsUnused}
 use Rattle.model.proofs.Sums.{weight, sum-insert, sum-remove}
 use Rattle.model.proofs.Inodes.{get_same, get_other}
 use Rattle.call_laws.proofs.Maps.{sum-alike, sum-zero, sum-empty}

@@ -8,7 +8,7 @@ use Rattle.model.specs.Changes.{Edit, Made, number, Mode, Make_directory, Make_f
 use Rattle.model.specs.Moments.{is_in}
 use Rattle.call_laws.specs.Objects.{IsThere}
 use Rattle.call_laws.specs.CallLaws.{object_of}
-use Rattle.call_laws.proofs.Fits.{Fits, FitsAll}
+use Rattle.call_laws.specs.Fits.{Fits, FitsAll}
 use Rattle.model.proofs.Inodes.{get_other, unchanged_by}
 use Rattle.call_laws.proofs.Maps.{not_none, stays_inserted}
 use Rattle.call_laws.proofs.Names.{has_names}

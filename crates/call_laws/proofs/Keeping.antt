@@ -7,7 +7,7 @@ use Rattle.model.specs.State.{A_file, A_directory, A_pipe, Kernel, File, Directo
 use Rattle.model.specs.Aspects.{Links, Ends}
 use Rattle.model.specs.Changes.{Edit, Make_directory, Make_file, Name_file, Unname_file, Unname_directory, Move, Put_bytes, Cut, Take, Append, Set_offset, Open_inode, Make_pipe, Share_slot, Clear_slot, New_process, End_process, applied, process_of, set_name, clear_name, with_slot, without_slot}
 use Rattle.call_laws.specs.Objects.{IsThere, LeavesAlone}
-use Rattle.call_laws.proofs.Fits.{table_of, OwnAlike, EditKeeps, EditMarks}
+use Rattle.call_laws.specs.Fits.{table_of, OwnAlike, EditKeeps, EditMarks}
 use Rattle.model.proofs.Sums.{weight}
 use Rattle.call_laws.proofs.Maps.{not_none}
 use Rattle.call_laws.proofs.Contents.{take_keeps, append_keeps}

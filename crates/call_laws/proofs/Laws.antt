@@ -15,7 +15,7 @@ use Rattle.model.proofs.Law.{depends_on_what_it_saw}
 use Rattle.call_laws.specs.Objects.{IsThere, LeavesAlone}
 use Rattle.call_laws.specs.WellFormed.{WellFormed}
 use Rattle.call_laws.specs.CallLaws.{CallLaws, IsReady, changed}
-use Rattle.call_laws.proofs.Fits.{FitsAll, IsBy, IsAlive, OwnAlike}
+use Rattle.call_laws.specs.Fits.{FitsAll, IsBy, IsAlive, OwnAlike}
 use Rattle.call_laws.proofs.Maps.{all-mapped}
 use Rattle.call_laws.proofs.Keeping.{edit_keeps, edit_marks}
 use Rattle.call_laws.proofs.Coverage.{keeps_on, keeps_self}

@@ -1,4 +1,3 @@
-pub mod Fits
 pub mod Maps
 pub mod Names
 pub mod Contents
@@ -35,3 +34,4 @@ pub mod Exceptions
 pub mod Trees
 pub mod Binds
 pub mod Rows
+pub mod First

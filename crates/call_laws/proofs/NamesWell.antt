@@ -8,7 +8,7 @@ use Rattle.std.proofs.lemmas.Bool.{cases_eq}
 use Rattle.model.specs.State.{Name, name_cmp, Kind, A_file, A_directory, Kernel, Inode, File, Directory, Pipe, kind, mapped, names_of, names_of_inode, kind_of, links}
 use Rattle.model.specs.Changes.{set_inode, set_name, clear_name}
 use Rattle.model.specs.Steps.{IsNowhere}
-use Rattle.call_laws.proofs.Fits.{CanBeReplaced}
+use Rattle.call_laws.specs.Fits.{CanBeReplaced}
 use Rattle.call_laws.specs.WellFormed.{CanBeNamed, IsRooted, WellFormed}
 use Rattle.model.proofs.Inodes.{given_in}
 use Rattle.call_laws.proofs.Names.{has_names, one, counted, links_named, links_unnamed}

@@ -6,7 +6,7 @@ use Rattle.std.proofs.lemmas.Bool.{cases_eq}
 use Rattle.model.specs.State.{Name, Kind, A_directory, Kernel, Inode, File, Directory, Pipe, Description, Process, kind, kind_of, mapped}
 use Rattle.model.specs.Calls.{Slot, slot_of, Call, own, birth_of}
 use Rattle.model.specs.Changes.{Edit, Made, number, Mode, Make_directory, Make_file, Name_file, Unname_file, Unname_directory, Move, Put_bytes, Cut, Take, Append, Set_offset, Open_inode, Make_pipe, Share_slot, Clear_slot, New_process, End_process, applied, process_of, set_inode, set_name, clear_name, set_offset, at_offset, set_process, set_description, at_start, with_slot, without_slot, open_at, to_read, to_write}
-use Rattle.call_laws.proofs.Fits.{table_of, fixed_of, IsAlive, IsUnused, OwnAlike, Fits, IsBy}
+use Rattle.call_laws.specs.Fits.{table_of, fixed_of, IsAlive, IsUnused, OwnAlike, Fits, IsBy}
 use Rattle.call_laws.specs.WellFormed.{WellFormed, CanBeOpened}
 use Rattle.model.proofs.Inodes.{get_same, get_other, unchanged_by}
 use Rattle.call_laws.proofs.Maps.{not_none, from_insert, removed_same, removed_other, maps_alike}

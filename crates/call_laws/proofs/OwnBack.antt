@@ -6,7 +6,7 @@ use Rattle.model.specs.Calls.{Call, Fork, Slot, Own, slot_of, own, birth_of}
 use Rattle.model.specs.Plans.{slot_at}
 use Rattle.model.specs.Entries.{is_inside}
 use Rattle.call_laws.specs.WellFormed.{WellFormed}
-use Rattle.call_laws.proofs.Fits.{table_of, fixed_of, OwnAlike}
+use Rattle.call_laws.specs.Fits.{table_of, fixed_of, OwnAlike}
 use Rattle.call_laws.proofs.Own.{own_of_alike}
 use Rattle.call_laws.proofs.OwnTable.{slot_in, slot_at_is, number_in_slot}
 

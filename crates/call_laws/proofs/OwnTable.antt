@@ -11,7 +11,7 @@ use Rattle.model.specs.State.{Kernel, Description, mapped}
 use Rattle.model.specs.Calls.{Slot, slot_of, Call, own}
 use Rattle.model.specs.Plans.{free_from, slot_at, is_pipe, pipe_in, each_once, pipes_in}
 use Rattle.model.specs.Steps.{AllDifferent}
-use Rattle.call_laws.proofs.Fits.{table_of, IsAmong, ListsPipe, ListsPipes}
+use Rattle.call_laws.specs.Fits.{table_of, IsAmong, ListsPipe, ListsPipes}
 use Rattle.model.proofs.Inodes.{apart}
 use Rattle.model.proofs.Lists.{all-append}
 use Rattle.call_laws.proofs.Maps.{all-mapped, true_is_false}

@@ -3,7 +3,7 @@ use Rattle.std.proofs.Common.{◌≡◌, ◌≢◌, ℕ, Option, ap, nat_cmp}
 use Rattle.model.specs.FiniteMap.{FinMap}
 use Rattle.model.specs.State.{Kernel, Process}
 use Rattle.model.specs.Changes.{or_new, set_process}
-use Rattle.call_laws.proofs.Fits.{table_of}
+use Rattle.call_laws.specs.Fits.{table_of}
 use Rattle.model.proofs.Inodes.{get_same, get_other}
 
 abbrev pub table_in : Option Process → FinMap nat_cmp ℕ

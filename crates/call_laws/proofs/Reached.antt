@@ -5,7 +5,7 @@ use Rattle.model.specs.FiniteMap.{FinMap, get, remove, values, nat_cmp-IsAntisym
 use Rattle.model.specs.State.{Name, Kernel, Inode, Description, Process, names_of, links}
 use Rattle.model.specs.Changes.{is_reached, is_held, holders, openings, or_new, without_descriptions, tidy}
 use Rattle.model.proofs.Sums.{weight, sum-remove}
-use Rattle.call_laws.proofs.Fits.{table_of}
+use Rattle.call_laws.specs.Fits.{table_of}
 use Rattle.call_laws.proofs.Maps.{sum-empty, get_retained}
 use Rattle.call_laws.proofs.Names.{named_counted}
 

@@ -5,7 +5,7 @@ use Rattle.std.proofs.lemmas.Bool.{cases_eq}
 use Rattle.model.specs.State.{Kernel, Pipe, Description, Process, links, ends, offset_in}
 use Rattle.model.specs.Aspects.{Aspect, Entry, Names, Size, Block, Links, Ends, Offset, Front, Back, Keeps}
 use Rattle.model.specs.Changes.{Mode, to_read, to_write, process_of, with_slot, set_inode, set_process, set_description, at_start, open_at}
-use Rattle.call_laws.proofs.Fits.{table_of, IsUnused, CanPipe, OwnAlike, fixed_of}
+use Rattle.call_laws.specs.Fits.{table_of, IsUnused, CanPipe, OwnAlike, fixed_of}
 use Rattle.model.proofs.Inodes.{get_same, get_other}
 use Rattle.call_laws.proofs.Maps.{not_none, from_insert, from_remove}
 use Rattle.call_laws.proofs.Processes.{table_in, table_here, table_there}

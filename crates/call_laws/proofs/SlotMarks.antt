@@ -6,7 +6,7 @@ use Rattle.model.specs.State.{Kind, A_pipe, Kernel, Pipe, Description, Process, 
 use Rattle.model.specs.Aspects.{Aspect, Entry, Names, Size, Block, Links, Ends, Offset, Front, Back, Keeps}
 use Rattle.model.specs.Changes.{Mode, to_read, to_write, set_inode, set_process, open_at, at_start}
 use Rattle.call_laws.specs.Objects.{IsThere, LeavesAlone}
-use Rattle.call_laws.proofs.Fits.{table_of, IsUnused, ListsPipe, CanPipe}
+use Rattle.call_laws.specs.Fits.{table_of, IsUnused, ListsPipe, CanPipe}
 use Rattle.call_laws.proofs.Coverage.{keeps_on, new_marks}
 use Rattle.model.proofs.Lists.{all-map}
 use Rattle.model.proofs.Sums.{weight}

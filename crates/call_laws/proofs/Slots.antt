@@ -9,7 +9,7 @@ use Rattle.model.specs.Calls.{Call, Slot, slot_of, own}
 use Rattle.model.specs.Plans.{slot, slot_at, is_pipe, pipe_in, each_once, pipes_in}
 use Rattle.model.proofs.Lists.{append-all}
 use Rattle.call_laws.specs.WellFormed.{CanBeOpened, WellFormed}
-use Rattle.call_laws.proofs.Fits.{table_of}
+use Rattle.call_laws.specs.Fits.{table_of}
 use Rattle.call_laws.proofs.Reached.{reached, held_by, open_reached}
 use Rattle.call_laws.proofs.OwnTable.{slot_in, Held, held_at, slot_at_is}
 

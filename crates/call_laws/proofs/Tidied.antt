@@ -10,7 +10,7 @@ use Rattle.model.specs.Steps.{IsNowhere}
 use Rattle.model.proofs.Sums.{sum-retain_keys}
 use Rattle.model.proofs.Inodes.{given_in}
 use Rattle.call_laws.specs.WellFormed.{CanBeNamed, CanBeOpened, IsRooted, WellFormed}
-use Rattle.call_laws.proofs.Fits.{OwnAlike}
+use Rattle.call_laws.specs.Fits.{OwnAlike}
 use Rattle.call_laws.proofs.Maps.{not_none, true_is_false, empty_gives, sum-zero, sum-alike, retained_some, retained_none}
 use Rattle.call_laws.proofs.Reached.{reached, root_reached, rooted_reached, named_reached, get_tidy, at_reached, held_by, held_stays, open_reached}
 use Rattle.call_laws.proofs.Own.{own_of_alike}

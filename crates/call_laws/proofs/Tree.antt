@@ -7,7 +7,7 @@ use Rattle.model.specs.FiniteMap.{FinMap, get, insert, remove, get-insert, get-r
 use Rattle.std.proofs.lemmas.Bool.{cases_eq}
 use Rattle.model.specs.State.{Name, name_cmp, A_file, A_directory, Kernel, Inode, kind, names_of, kind_of, links}
 use Rattle.model.specs.Changes.{set_inode, set_name, clear_name}
-use Rattle.call_laws.proofs.Fits.{CanBeReplaced}
+use Rattle.call_laws.specs.Fits.{CanBeReplaced}
 use Rattle.call_laws.specs.WellFormed.{IsRooted, Leads, WellFormed}
 use Rattle.model.proofs.Inodes.{name_exact, tie}
 use Rattle.call_laws.proofs.Names.{has_names, one, counted, links_named, links_unnamed, named_counted}

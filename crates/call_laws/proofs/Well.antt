@@ -7,7 +7,7 @@ use Rattle.model.specs.State.{Name, Kind, A_file, A_directory, A_pipe, Kernel, I
 use Rattle.model.specs.Moments.{is_alive}
 use Rattle.model.specs.Changes.{Edit, Made, number, Mode, Make_directory, Make_file, Name_file, Unname_file, Unname_directory, Move, Put_bytes, Cut, Take, Append, Set_offset, Open_inode, Make_pipe, Share_slot, Clear_slot, New_process, End_process, applied, all_applied, process_of, set_inode, set_name, clear_name, set_process, set_description, at_offset, at_start, with_slot, without_slot, open_at, to_read, to_write, sized, written}
 use Rattle.call_laws.specs.WellFormed.{WellFormed, CanBeOpened, descriptor_limit}
-use Rattle.call_laws.proofs.Fits.{Fits, FitsAll, table_of, IsAlive, CanPipe}
+use Rattle.call_laws.specs.Fits.{Fits, FitsAll, table_of, IsAlive, CanPipe}
 use Rattle.model.proofs.Inodes.{get_same, get_other}
 use Rattle.call_laws.proofs.Maps.{not_none, from_insert, from_remove, removed_same, removed_other, empty_gives, none_by_keys}
 use Rattle.call_laws.proofs.Names.{has_names}

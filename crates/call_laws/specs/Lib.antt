@@ -4,3 +4,5 @@ pub mod CallLaws
 pub mod Numbers
 pub mod Exceptions
 pub mod Trees
+pub mod Fits
+pub mod Processes

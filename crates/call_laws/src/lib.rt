@@ -7,6 +7,7 @@
 ghost use Rattle.call_laws.specs.CallLaws.{CallLaws};
 ghost use Rattle.call_laws.specs.Exceptions.{ExceptionsAreNeeded};
 ghost use Rattle.call_laws.specs.Numbers.{UnusedNumbersAreNowhere, EveryCallCanBeMade};
+ghost use Rattle.call_laws.specs.Processes.{FirstProcessesLive};
 ghost use Rattle.call_laws.specs.Trees.{DirectoriesAreATree};
 ghost use Rattle.call_laws.specs.WellFormed.{WellFormed};
 
@@ -34,4 +35,9 @@ pub fn directories_are_a_tree()
 /// process's fork sees, and tidying drops what was there.
 pub fn exceptions_are_needed()
     ensures { ExceptionsAreNeeded }
+{}
+
+/// The first processes live, each with its priority, and no others.
+pub fn first_processes_live()
+    ensures { FirstProcessesLive }
 {}

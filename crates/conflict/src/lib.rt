@@ -11,6 +11,3 @@ pub use clash::{
     any_clash_between, clashes_with_any, do_clash, first_clash, is_same_aspect, keep_writes,
 };
 pub use told::told_touch;
-
-#[cfg(test)]
-mod tests;

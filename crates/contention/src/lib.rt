@@ -121,6 +121,3 @@ impl Contenders {
         judge(heap, self.all.as_slice(), pid, touches)
     }
 }
-
-#[cfg(test)]
-mod tests;

@@ -14,6 +14,3 @@ pub use counted::Counted;
 pub use memory::{Failing, Halting, Portions, Trickling};
 pub use sink::{DeviceFailed, Sink, write_all};
 pub use source::{ReadFault, Source, read_all};
-
-#[cfg(test)]
-mod tests;

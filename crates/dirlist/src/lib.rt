@@ -187,6 +187,3 @@ fn compare(name: &Name, other: &Name) -> Ordering
 {
     name.as_slice().cmp(&other.as_slice())
 }
-
-#[cfg(test)]
-mod tests;

@@ -113,6 +113,3 @@ impl FdTable {
         FdTable { slots }
     }
 }
-
-#[cfg(test)]
-mod tests;

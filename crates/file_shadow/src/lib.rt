@@ -13,6 +13,3 @@ mod shadow;
 
 pub use block::BLOCK_LEN;
 pub use shadow::{FileShadow, Lengths};
-
-#[cfg(test)]
-mod tests;

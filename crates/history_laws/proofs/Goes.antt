@@ -17,8 +17,8 @@ use Rattle.model.specs.Moments.{after_one, after_step, after_list, list_touches,
 use Rattle.model.specs.Legal.{items}
 use Rattle.call_laws.specs.CallLaws.{IsReady, CallLaws, object_of}
 pub use Rattle.model.specs.Moments.{loose, loose_touches}
-pub use Rattle.history_laws.specs.Doings.{Goes}
-use Rattle.history_laws.specs.Doings.{Doing, doings}
+pub use Rattle.history_laws.specs.Untidied.{Goes}
+use Rattle.model.specs.Effects.{Effect, effects}
 use Rattle.history_laws.proofs.Members.{In, In-left, In-right, In-cases, all_from, all_to, not_both, out_left, out_right, in_left, in_right, in_is, is_in_in}
 use Rattle.history_laws.proofs.Touched.{written, read, IsPlain, leaves_alone, keeps_self, keeps_through, Alike, reads_alike, writes_alike, In-write, of_touches}
 
@@ -56,18 +56,18 @@ pub simulated : (Well : Kernel → Type 0) (laws : CallLaws Well) (pid : ℕ) (R
     → ((k l : Kernel) (e : Executed) (es : List Executed) → IsReady Well k pid e.call e.chosen → Well l → is_inside e.call ≡ true → R k l (e ∷ es)
     → GoesTheSame k l pid e.call × (IsReady Well l pid e.call e.chosen → R (after_one pid e k) (after_one pid e l) es))
     → (k l : Kernel) (es : List Executed) → Well l → is_alive l pid ≡ true → AllInside es → Fresh l es → R k l es → Goes Well k pid es
-    → Goes Well l pid es × (loose_touches pid es l ≡ loose_touches pid es k) × (doings pid es l ≡ doings pid es k)
+    → Goes Well l pid es × (loose_touches pid es l ≡ loose_touches pid es k) × (effects pid es l ≡ effects pid es k)
 simulated Well laws pid R step k l [] well alive inside fresh r goes = (tt, refl, refl)
 simulated Well laws pid R step k l (e ∷ es) well alive inside fresh r goes =
     let can : CanBeChosen l (edits k pid e.call) e.chosen = can_again k l (edits k pid e.call) e.chosen goes.0.0.numbers (λ n h. fresh.nowhere n (in_left n e.chosen (numbers es) h)) in
     let way = step k l e es goes.0.0 well inside.0 r in
     let ready : IsReady Well l pid e.call e.chosen = record { well = well; alive = alive; numbers = subst (λ x. CanBeChosen l x e.chosen) (sym way.0.edits) can } in
     let rest = simulated Well laws pid R step (after_one pid e k) (after_one pid e l) es (laws.well_after l pid e.call e.chosen ready) (laws.alive_after l pid e.call e.chosen ready pid (inr inside.0) alive) inside.1 (fresh_after Well laws l pid e es ready fresh) (way.1 ready) goes.1 in
-    (((ready, goes.0.1 ∙ sym way.0.reply), rest.0), ap₂ (λ (s t : List Touch). s ++ t) way.0.touches rest.1, ap₂ (λ (x : List Edit) (ds : List Doing). record { chosen = e.chosen; edits = x } ∷ ds) way.0.edits rest.2)
+    (((ready, goes.0.1 ∙ sym way.0.reply), rest.0), ap₂ (λ (s t : List Touch). s ++ t) way.0.touches rest.1, ap₂ (λ (x : List Edit) (ds : List Effect). record { chosen = e.chosen; edits = x } ∷ ds) way.0.edits rest.2)
 
 -- from a state that is alike in all that the list touched
 pub goes_again : (Well : Kernel → Type 0) (laws : CallLaws Well) (pid : ℕ) (k l : Kernel) (es : List Executed) → Well l → is_alive l pid ≡ true → AllInside es → Fresh l es
-    → OwnAlike k l pid → Alike k l (loose_touches pid es k) → Goes Well k pid es → Goes Well l pid es × (loose_touches pid es l ≡ loose_touches pid es k) × (doings pid es l ≡ doings pid es k)
+    → OwnAlike k l pid → Alike k l (loose_touches pid es k) → Goes Well k pid es → Goes Well l pid es × (loose_touches pid es l ≡ loose_touches pid es k) × (effects pid es l ≡ effects pid es k)
 goes_again Well laws pid k l es well alive inside fresh own_same alike goes = simulated Well laws pid (λ k l es. OwnAlike k l pid × Alike k l (loose_touches pid es k)) step k l es well alive inside fresh (own_same, alike) goes where
   step : (k l : Kernel) (e : Executed) (es : List Executed) → IsReady Well k pid e.call e.chosen → Well l → is_inside e.call ≡ true → OwnAlike k l pid × Alike k l (loose_touches pid (e ∷ es) k)
       → GoesTheSame k l pid e.call × (IsReady Well l pid e.call e.chosen → OwnAlike (after_one pid e k) (after_one pid e l) pid × Alike (after_one pid e k) (after_one pid e l) (loose_touches pid es (after_one pid e k)))
@@ -84,7 +84,7 @@ goes_again Well laws pid k l es well alive inside fresh own_same alike goes = si
 
 -- from a state that tidies to the same
 pub goes_tidied : (Well : Kernel → Type 0) (laws : CallLaws Well) (pid : ℕ) (k l : Kernel) (es : List Executed) → Well l → is_alive l pid ≡ true → AllInside es → Fresh l es
-    → tidy l ≡ tidy k → Goes Well k pid es → Goes Well l pid es × (loose_touches pid es l ≡ loose_touches pid es k) × (doings pid es l ≡ doings pid es k)
+    → tidy l ≡ tidy k → Goes Well k pid es → Goes Well l pid es × (loose_touches pid es l ≡ loose_touches pid es k) × (effects pid es l ≡ effects pid es k)
 goes_tidied Well laws pid k l es well alive inside fresh same goes = simulated Well laws pid (λ k l es. tidy l ≡ tidy k) step k l es well alive inside fresh same goes where
   step : (k l : Kernel) (e : Executed) (es : List Executed) → IsReady Well k pid e.call e.chosen → Well l → is_inside e.call ≡ true → tidy l ≡ tidy k
       → GoesTheSame k l pid e.call × (IsReady Well l pid e.call e.chosen → tidy (after_one pid e l) ≡ tidy (after_one pid e k))

@@ -8,7 +8,7 @@ use Rattle.model.specs.Steps.{touches, edits, reply}
 use Rattle.model.specs.Entries.{BeginFlags, Op, Do, Begin, End, Abort, Reply, Answers, Refuses, Begun, Committed, GivenUp, Aborted, Entry, Executed, answer_in}
 use Rattle.model.specs.Moments.{Status, gone, idle, live, doomed, Moment, after_one, calls_of, calls_at, seen_by, settled, is_in, next, holds_place}
 use Rattle.call_laws.specs.CallLaws.{CallLaws}
-use Rattle.history_laws.specs.Doings.{doings}
+use Rattle.model.specs.Effects.{effects}
 use Rattle.history_laws.specs.Standing.{age_of, AgesStand}
 use Rattle.history_laws.specs.Entered.{restarts_by, PhasesMove, IsBegunAnew, view, CallGoesIn}
 use Rattle.history_laws.proofs.Goes.{loose, loose_touches}
@@ -22,9 +22,9 @@ pub loose_more : (p : ℕ) (es : List Executed) (d : Executed) (k : Kernel) → 
 loose_more p [] d k = refl
 loose_more p (e ∷ es) d k = loose_more p es d (after_one p e k)
 
-pub doings_more : (p : ℕ) (es : List Executed) (d : Executed) (k : Kernel) → doings p (es ++ d ∷ []) k ≡ doings p es k ++ record { chosen = d.chosen; edits = edits (loose p es k) p d.call } ∷ []
-doings_more p [] d k = refl
-doings_more p (e ∷ es) d k = ap (λ ds. record { chosen = e.chosen; edits = edits k p e.call } ∷ ds) (doings_more p es d (after_one p e k))
+pub effects_more : (p : ℕ) (es : List Executed) (d : Executed) (k : Kernel) → effects p (es ++ d ∷ []) k ≡ effects p es k ++ record { chosen = d.chosen; edits = edits (loose p es k) p d.call } ∷ []
+effects_more p [] d k = refl
+effects_more p (e ∷ es) d k = ap (λ ds. record { chosen = e.chosen; edits = edits k p e.call } ∷ ds) (effects_more p es d (after_one p e k))
 
 abbrev call_or : Call → Op → Call
 call_or other (Do call) = call
@@ -59,7 +59,7 @@ module _ (Well : Kernel → Type 0) (laws : CallLaws Well) (m : Moment) (e : Ent
         phase = phase;
         held = held_is Well laws (next m e) later e.pid ∙ ap (loose_touches e.pid (calls_at (next m e) e.pid)) same ∙ ap (λ es. loose_touches e.pid es m.committed) grown
             ∙ touches_more m.committed e.pid (calls_at m e.pid) done ∙ ap (λ ts. ts ++ touches (view m e.pid) e.pid call) (sym (held_is Well laws m sound e.pid));
-        does = ap (doings e.pid (calls_at (next m e) e.pid)) same ∙ ap (λ es. doings e.pid es m.committed) grown ∙ doings_more e.pid (calls_at m e.pid) done m.committed;
+        does = ap (effects e.pid (calls_at (next m e) e.pid)) same ∙ ap (λ es. effects e.pid es m.committed) grown ∙ effects_more e.pid (calls_at m e.pid) done m.committed;
         sees = ap (loose e.pid (calls_at (next m e) e.pid)) same ∙ ap (λ es. loose e.pid es m.committed) grown ∙ loose_more e.pid (calls_at m e.pid) done m.committed;
       }
 

@@ -14,11 +14,12 @@ use Rattle.call_laws.proofs.Laws.{calls_are_lawful_lem}
 use Rattle.history_laws.specs.Beginnings.{BeforeIsAnOrder, OwnEntriesFollow, LegalityFollows}
 use Rattle.history_laws.specs.Causes.{DoomedAreToldTheirs, LosersAreToldTheirs}
 use Rattle.history_laws.specs.Choices.{RightEntriesExist, EndsFindPlaces}
-use Rattle.history_laws.specs.Doings.{doings, ListsAreTheirDoings}
+use Rattle.model.specs.Effects.{effects}
+use Rattle.history_laws.specs.Untidied.{ListsAreTheirEffects}
 use Rattle.history_laws.specs.Entered.{PhasesMove, OwnAndDoomedMove, ReservedPlacesMove, RestartsBeginAnew, CommitsRunTheList, PlainCallsRun, CallsGoIn, ListsStay}
 use Rattle.history_laws.specs.Histories.{RightEntriesKeepHistoriesLegal, CommittedIsSerial, PlacesSuffice, RepliesAreAFunction, RightEntriesHavePlaces, BeginningsAreLegal, OwnEntriesGrow, AfterOneMore, ViewsMayBeLoose, TouchedObjectsStay}
 use Rattle.history_laws.specs.Marks.{ModesFollowMarks}
-use Rattle.history_laws.specs.Processes.{child_in, ForksAndExitsMove, UnmadeAreRefused, FirstProcessesLive}
+use Rattle.history_laws.specs.Processes.{child_in, ForksAndExitsMove, UnmadeAreRefused}
 use Rattle.history_laws.specs.Processes.{born as makes}
 use Rattle.history_laws.specs.Standing.{WhatStands}
 use Rattle.history_laws.proofs.Beginnings as beginnings
@@ -115,8 +116,8 @@ clash_turned = sound.clash_turned
 pub loose_more : (pid : ℕ) (es : List Executed) (d : Executed) (k : Kernel) → loose pid (es ++ d ∷ []) k ≡ after_one pid d (loose pid es k)
 loose_more = grown.loose_more
 
-pub doings_more : (pid : ℕ) (es : List Executed) (d : Executed) (k : Kernel) → doings pid (es ++ d ∷ []) k ≡ doings pid es k ++ record { chosen = d.chosen; edits = edits (loose pid es k) pid d.call } ∷ []
-doings_more = grown.doings_more
+pub effects_more : (pid : ℕ) (es : List Executed) (d : Executed) (k : Kernel) → effects pid (es ++ d ∷ []) k ≡ effects pid es k ++ record { chosen = d.chosen; edits = edits (loose pid es k) pid d.call } ∷ []
+effects_more = grown.effects_more
 
 pub loose_touches_more : (pid : ℕ) (es : List Executed) (d : Executed) (k : Kernel) → loose_touches pid (es ++ d ∷ []) k ≡ loose_touches pid es k ++ touches (loose pid es k) pid d.call
 loose_touches_more pid es d k = sound.touches_more k pid es d
@@ -134,11 +135,8 @@ restarts_begin_anew = stood.restarts_begin_anew
 pub plain_calls_run : PlainCallsRun
 plain_calls_run = staying.plain_calls_run
 
-pub lists_are_their_doings : ListsAreTheirDoings
-lists_are_their_doings = staying.loose_done
-
-pub first_processes_live : FirstProcessesLive
-first_processes_live = born.first_processes_live
+pub lists_are_their_effects : ListsAreTheirEffects
+lists_are_their_effects = staying.loose_done
 
 -- one right entry more keeps a history legal
 pub legal_push : RightEntriesKeepHistoriesLegal

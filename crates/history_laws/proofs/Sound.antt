@@ -12,7 +12,7 @@ use Rattle.model.specs.Entries.{Executed, is_inside}
 use Rattle.model.specs.Clashes.{clash, same_aspect, names_against}
 use Rattle.model.specs.Moments.{after_one, numbers, is_alive, is_in}
 use Rattle.call_laws.specs.CallLaws.{IsReady, CallLaws}
-use Rattle.history_laws.specs.Doings.{doings}
+use Rattle.model.specs.Effects.{effects}
 use Rattle.history_laws.proofs.Members.{In, In-cases, not_both, out_left, out_right, out_both, in_either}
 use Rattle.history_laws.proofs.Touched.{NoClash}
 use Rattle.history_laws.proofs.Goes.{loose, loose_touches, Goes, AllInside, Distinct, Fresh, goes_again, goes_tidied, goes_well, goes_nowhere, others_alive, others_own, left_alike, WritesApart}
@@ -64,7 +64,7 @@ pub record SoundOf (Well : Kernel → Type 0) (k : Kernel) (calls : ℕ → List
 
 -- a list that touches and does the same on the next state
 abbrev pub SameList : Kernel → Kernel → ℕ → List Executed → List Executed → Type 0
-SameList k k2 q es es2 = (loose_touches q es2 k2 ≡ loose_touches q es k) × (doings q es2 k2 ≡ doings q es k)
+SameList k k2 q es es2 = (loose_touches q es2 k2 ≡ loose_touches q es k) × (effects q es2 k2 ≡ effects q es k)
 
 -- how a list stands on the next state
 pub record Stands (Well : Kernel → Type 0) (k k2 : Kernel) (q : ℕ) (es es2 : List Executed) : Type 0 where

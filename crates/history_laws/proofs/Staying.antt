@@ -8,7 +8,7 @@ use Rattle.model.specs.Calls.{Answer}
 use Rattle.model.specs.Entries.{BeginFlags, Begin, Reply, Begun, Committed, Entry, Executed, answer_in}
 use Rattle.model.specs.Moments.{idle, Moment, status, after_one, after_list, run_by, plain_calls, calls_of, calls_at, is_in, next}
 use Rattle.call_laws.specs.CallLaws.{CallLaws}
-use Rattle.history_laws.specs.Doings.{doings, all_done}
+use Rattle.model.specs.Effects.{effects, all_done}
 use Rattle.history_laws.specs.Entered.{view, ListStays, PlainCallsRun}
 use Rattle.history_laws.proofs.Goes.{loose, Goes}
 use Rattle.history_laws.proofs.Sound.{SameList, Spared, stands_on}
@@ -21,8 +21,8 @@ use Rattle.history_laws.proofs.Entered.{ended_phase}
 pub plain_calls_run : PlainCallsRun
 plain_calls_run m e call answer is_s is_op is_answer = ap (λ es. after_list e.pid es m.committed) (ap (λ x. run_by x e.op e.reply e.chosen) is_s ∙ ap (λ x. run_by idle x e.reply e.chosen) is_op ∙ ap (λ o. plain_calls call o e.chosen) is_answer)
 
--- a list done untidied is its doings
-pub loose_done : (pid : ℕ) (es : List Executed) (k : Kernel) → loose pid es k ≡ all_done (doings pid es k) k
+-- a list done untidied is its effects
+pub loose_done : (pid : ℕ) (es : List Executed) (k : Kernel) → loose pid es k ≡ all_done (effects pid es k) k
 loose_done pid [] k = refl
 loose_done pid (e ∷ es) k = loose_done pid es (after_one pid e k)
 
@@ -76,7 +76,7 @@ module _ (Well : Kernel → Type 0) (laws : CallLaws Well) (m : Moment) (e : Ent
   pub stays_after : Sound Well (next m e) → Shape m e → (q : ℕ) → calls_at (next m e) q ≡ calls_at m q → ListStays m e q
   stays_after later is q same =
       let kept = list_stays is q same in
-      record { held = held_is Well laws (next m e) later q ∙ kept.0 ∙ sym (held_is Well laws m sound q); doings = kept.1 }
+      record { held = held_is Well laws (next m e) later q ∙ kept.0 ∙ sym (held_is Well laws m sound q); effects = kept.1 }
 
   -- a committed end runs the list
   pub commit_runs : Shape m e → e.reply ≡ Committed → (next m e).committed ≡ tidy (view m e.pid)

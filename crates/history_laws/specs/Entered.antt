@@ -8,7 +8,7 @@ use Rattle.model.specs.Steps.{touches, edits}
 use Rattle.model.specs.Entries.{BeginFlags, Do, Reply, Begun, Committed, GivenUp, Aborted, Entry, Executed, answer_in}
 use Rattle.model.specs.Moments.{Status, idle, live, doomed, Moment, status, doom_cause, dooming_touches, is_in, own_next, next, reserved, calls_at, held_by, loose}
 use Rattle.history_laws.specs.Each.{AtEach}
-use Rattle.history_laws.specs.Doings.{doings}
+use Rattle.model.specs.Effects.{effects}
 use Rattle.history_laws.specs.Standing.{flags_of, age_of}
 
 -- q's live transaction is doomed by the entry, and keeps its flags and its age
@@ -79,7 +79,7 @@ pub record CallGoesIn (m : Moment) (e : Entry) (call : Call) (flags : BeginFlags
   pub committed : (next m e).committed ≡ m.committed
   pub phase : (next m e).phase e.pid ≡ live flags age (calls_at m e.pid ++ record { call = call; answer = answer; chosen = e.chosen } ∷ [])
   pub held : held_by (next m e) e.pid ≡ held_by m e.pid ++ touches (view m e.pid) e.pid call
-  pub does : doings e.pid (calls_at (next m e) e.pid) (next m e).committed ≡ doings e.pid (calls_at m e.pid) m.committed ++ record { chosen = e.chosen; edits = edits (view m e.pid) e.pid call } ∷ []
+  pub does : effects e.pid (calls_at (next m e) e.pid) (next m e).committed ≡ effects e.pid (calls_at m e.pid) m.committed ++ record { chosen = e.chosen; edits = edits (view m e.pid) e.pid call } ∷ []
   pub sees : view (next m e) e.pid ≡ all_applied e.chosen (edits (view m e.pid) e.pid call) (view m e.pid)
 
 abbrev pub CallsGoIn : Type 0
@@ -89,7 +89,7 @@ CallsGoIn = AtEach (λ m e. (call : Call) (flags : BeginFlags) (age : ℕ) (call
 -- A list that an entry leaves as it was holds the same touches and does the same edits, whatever the entry committed.
 pub record ListStays (m : Moment) (e : Entry) (q : ℕ) : Type 0 where
   pub held : held_by (next m e) q ≡ held_by m q
-  pub doings : doings q (calls_at (next m e) q) (next m e).committed ≡ doings q (calls_at m q) m.committed
+  pub effects : effects q (calls_at (next m e) q) (next m e).committed ≡ effects q (calls_at m q) m.committed
 
 abbrev pub ListsStay : Type 0
 ListsStay = AtEach (λ m e. (q : ℕ) → calls_at (next m e) q ≡ calls_at m q → ListStays m e q)

@@ -1,6 +1,6 @@
 pub mod Each
 pub mod Histories
-pub mod Doings
+pub mod Untidied
 pub mod Standing
 pub mod Entered
 pub mod Processes

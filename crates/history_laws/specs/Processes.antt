@@ -51,13 +51,3 @@ ForksAndExitsMove = AtEach ProcessesMove
 abbrev pub UnmadeAreRefused : Type 0
 UnmadeAreRefused = (root : ℕ) (priorities : List ℕ) (limit : ℕ) (es : List Entry) → Legal root priorities limit es
     → (q : ℕ) → (after root priorities es).committed.made < q → AllByRecursion (λ e. e.reply ≡ NoProcess) (mine q es)
-
--- The first processes live, with the priorities given; and no others.
-pub record StartsWith (root : ℕ) (priorities : List ℕ) : Type 0 where
-  pub made : (start root priorities).made ≡ length priorities
-  pub alive : (i : ℕ) → i < length priorities → is_alive (start root priorities) (suc i) ≡ true
-  pub priority : (i : ℕ) → i < length priorities → priority_of (at_start root priorities) (suc i) ≡ get_or priorities i 0
-  pub none : (q : ℕ) → (q ≡ 0) ⊎ (length priorities < q) → is_alive (start root priorities) q ≡ false
-
-abbrev pub FirstProcessesLive : Type 0
-FirstProcessesLive = (root : ℕ) (priorities : List ℕ) → StartsWith root priorities

@@ -11,11 +11,11 @@
 ghost use Rattle.history_laws.specs.Beginnings.{BeforeIsAnOrder, OwnEntriesFollow, LegalityFollows};
 ghost use Rattle.history_laws.specs.Causes.{DoomedAreToldTheirs, LosersAreToldTheirs};
 ghost use Rattle.history_laws.specs.Choices.{RightEntriesExist, EndsFindPlaces};
-ghost use Rattle.history_laws.specs.Doings.{ListsAreTheirDoings};
+ghost use Rattle.history_laws.specs.Untidied.{ListsAreTheirEffects};
 ghost use Rattle.history_laws.specs.Entered.{OwnAndDoomedMove, ReservedPlacesMove, RestartsBeginAnew, CommitsRunTheList, PlainCallsRun, CallsGoIn, ListsStay};
 ghost use Rattle.history_laws.specs.Histories.{RightEntriesKeepHistoriesLegal, CommittedIsSerial, PlacesSuffice, RepliesAreAFunction, RightEntriesHavePlaces, BeginningsAreLegal, OwnEntriesGrow, AfterOneMore, ViewsMayBeLoose, TouchedObjectsStay};
 ghost use Rattle.history_laws.specs.Marks.{ModesFollowMarks};
-ghost use Rattle.history_laws.specs.Processes.{ForksAndExitsMove, UnmadeAreRefused, FirstProcessesLive};
+ghost use Rattle.history_laws.specs.Processes.{ForksAndExitsMove, UnmadeAreRefused};
 ghost use Rattle.history_laws.specs.Standing.{WhatStands};
 
 /// After a legal history each right entry gives a legal history.
@@ -89,8 +89,8 @@ pub fn views_may_be_loose()
 {}
 
 /// A list of calls run untidied is its edits done one after the other.
-pub fn lists_are_their_doings()
-    ensures { ListsAreTheirDoings }
+pub fn lists_are_their_effects()
+    ensures { ListsAreTheirEffects }
 {}
 
 /// An object that a live list touched does not go away.
@@ -146,11 +146,6 @@ pub fn forks_and_exits_move()
 /// The entries of a process that was never made are refused.
 pub fn unmade_are_refused()
     ensures { UnmadeAreRefused }
-{}
-
-/// The first processes live, each with its priority, and no others.
-pub fn first_processes_live()
-    ensures { FirstProcessesLive }
 {}
 
 /// A directory's list mode follows from whether some live list has read its names and whether some has written an entry of it.

@@ -7,6 +7,7 @@
 mod aspect;
 mod bytes;
 mod call;
+mod edit;
 mod entry;
 mod errno;
 mod flags;
@@ -17,12 +18,10 @@ mod reply;
 pub use aspect::{Aspect, Cause, Touch, Why};
 pub use bytes::{Bytes, Name, NameList};
 pub use call::{Call, Op, Whence};
+pub use edit::{Edit, Mode, Slot, Which};
 pub use entry::{Entry, ListMode, Rank};
 pub use errno::{Errno, Refusal};
 pub use flags::{BeginFlags, OpenFlags};
 pub use lists::{Nums, Pids};
 pub use number::{Age, Fd, Num, Pid, Priority};
 pub use reply::{Answer, Kind, Reply, Stat};
-
-#[cfg(test)]
-mod tests;

@@ -7,7 +7,7 @@ use Rattle.std.proofs.lemmas.List.Sums.{sum_by-cons, sum_by_push}
 use Rattle.model.specs.Changes.{Edit}
 use Rattle.model.specs.Steps.{AllDifferent}
 use Rattle.model.specs.Moments.{is_in}
-use Rattle.history_laws.specs.Doings.{Doing}
+use Rattle.model.specs.Effects.{Effect}
 use Rattle.shadow.specs.Committed.{Committed}
 use Rattle.shadow.specs.Claims.{Claim, Room, Number, Covers, IsInUse, HasParent, HaveParents, number_of, claimed_by, claimed, reserved}
 use Rattle.kernel.specs.Claims.{total, AreCovered, KeepsSpare}
@@ -190,11 +190,11 @@ counted_once n (m ∷ ns) different = by (eqb m n) refl (counted_once n ns diffe
       let count : times n (m ∷ ns) ≡ 0 + times n ns = times_cons n m ns ∙ ap (λ b. cond b 1 0 + times n ns) is in
       omega (arith, rest, count)
 
-pub stands_in : (n : ℕ) (d : Doing) → claimed_by (Number n) d ≡ 0 → is_in n d.chosen ≡ false
+pub stands_in : (n : ℕ) (d : Effect) → claimed_by (Number n) d ≡ 0 → is_in n d.chosen ≡ false
 stands_in n d h = counted_where n d.chosen h
 
 -- new numbers, and room for the new names: all that one change more claims has come
-pub all_came : (s t u : Committed) (d : Doing) → AllDifferent d.chosen → ((c : Claim) → is_in (number_of c) d.chosen ≡ true → reserved s c ≡ 0) → AllByRecursion (λ n. 0 < reserved t (Number n)) d.chosen
+pub all_came : (s t u : Committed) (d : Effect) → AllDifferent d.chosen → ((c : Claim) → is_in (number_of c) d.chosen ≡ true → reserved s c ≡ 0) → AllByRecursion (λ n. 0 < reserved t (Number n)) d.chosen
     → Grows s t → Grows t u → ((r : ℕ) → reserved t (Room r) + claimed_by (Room r) d ≤ reserved u (Room r)) → (c : Claim) → reserved s c + claimed_by c d ≤ reserved u c
 all_came s t u d different unused given grows more room (Room r) =
     let before : reserved s (Room r) ≤ reserved t (Room r) = grows (Room r) in
@@ -214,10 +214,10 @@ all_came s t u d different unused given grows more room (Number n) = elim (cases
       omega (arith, none, before, after)
 ]
 
-claimed_push : (c : Claim) (ds : List Doing) (d : Doing) → claimed c (ds ++ d ∷ []) ≡ claimed c ds + claimed_by c d
+claimed_push : (c : Claim) (ds : List Effect) (d : Effect) → claimed c (ds ++ d ∷ []) ≡ claimed c ds + claimed_by c d
 claimed_push c ds d = sum_by_push (claimed_by c) ds d
 
-pub room_within : (s t : Committed) (d : Doing) (v : View) (ds : List Doing) → changes_in v ≡ ds → changes_in (with_change d v) ≡ ds ++ d ∷ [] → HasRoom s t d v
+pub room_within : (s t : Committed) (d : Effect) (v : View) (ds : List Effect) → changes_in v ≡ ds → changes_in (with_change d v) ≡ ds ++ d ∷ [] → HasRoom s t d v
     → (r : ℕ) → reserved s (Room r) + claimed_by (Room r) d ≤ reserved t (Room r)
 room_within s t d v ds before after room r =
     let here : reserved s (Room r) + claimed (Room r) (changes_in (with_change d v)) ≤ reserved t (Room r) + claimed (Room r) (changes_in v) = room r in
@@ -226,7 +226,7 @@ room_within s t d v ds before after room r =
     omega (arith, here, more)
 
 -- a live transaction changes one thing more, and what that claims has come
-pub spare_within : (old new : List Slot) (s t : Committed) (p : ℕ) (d : Doing) (ds : List Doing) → changes_in (view_at old p) ≡ ds → changes_in (with_change d (view_at old p)) ≡ ds ++ d ∷ []
+pub spare_within : (old new : List Slot) (s t : Committed) (p : ℕ) (d : Effect) (ds : List Effect) → changes_in (view_at old p) ≡ ds → changes_in (with_change d (view_at old p)) ≡ ds ++ d ∷ []
     → Shows old new p (with_change d (view_at old p)) → ((c : Claim) → reserved s c + claimed_by c d ≤ reserved t c) → KeepsSpare old s new t
 spare_within old new s t p d ds before after shows came c =
     let changed : total c new + claimed c (changes_in (view_at old p)) ≡ total c old + claimed c (changes_in (with_change d (view_at old p))) = total_changed c old new p (with_change d (view_at old p)) shows in
@@ -267,26 +267,26 @@ grows_on s t u first second c =
     omega (arith, x, y)
 
 -- what changes beside all slots claim is there too
-abbrev pub Beside : List Doing → List Slot → Committed → Type 0
+abbrev pub Beside : List Effect → List Slot → Committed → Type 0
 Beside ds slots s = (c : Claim) → claimed c ds + total c slots ≤ reserved s c
 
-pub beside_one : (slots : List Slot) (s t : Committed) (d : Doing) → AreCovered slots s → ((c : Claim) → reserved s c + claimed_by c d ≤ reserved t c) → Beside (d ∷ []) slots t
+pub beside_one : (slots : List Slot) (s t : Committed) (d : Effect) → AreCovered slots s → ((c : Claim) → reserved s c + claimed_by c d ≤ reserved t c) → Beside (d ∷ []) slots t
 beside_one slots s t d covered came c =
     let one : claimed c (d ∷ []) ≡ claimed_by c d + 0 = sum_by-cons (claimed_by c) d [] in
     let all : total c slots ≤ reserved s c = covered c in
     let here : reserved s c + claimed_by c d ≤ reserved t c = came c in
     omega (arith, one, all, here)
 
-pub beside_still : (ds : List Doing) (old new : List Slot) (s t : Committed) → KeepsSpare old s new t → Beside ds old s → Beside ds new t
+pub beside_still : (ds : List Effect) (old new : List Slot) (s t : Committed) → KeepsSpare old s new t → Beside ds old s → Beside ds new t
 beside_still ds old new s t spare beside c =
     let more : reserved s c + total c new ≤ reserved t c + total c old = spare c in
     let all : claimed c ds + total c old ≤ reserved s c = beside c in
     omega (arith, more, all)
 
-pub covers_beside : (ds : List Doing) (slots : List Slot) (s : Committed) → Beside ds slots s → Covers s ds
+pub covers_beside : (ds : List Effect) (slots : List Slot) (s : Committed) → Beside ds slots s → Covers s ds
 covers_beside ds slots s beside c = let all : claimed c ds + total c slots ≤ reserved s c = beside c in omega (arith, all)
 
-pub covered_after_commit : (ds : List Doing) (slots : List Slot) (s t : Committed) → Beside ds slots s → ((c : Claim) → reserved s c ≤ reserved t c + claimed c ds) → AreCovered slots t
+pub covered_after_commit : (ds : List Effect) (slots : List Slot) (s t : Committed) → Beside ds slots s → ((c : Claim) → reserved s c ≤ reserved t c + claimed c ds) → AreCovered slots t
 covered_after_commit ds slots s t beside keeps c =
     let all : claimed c ds + total c slots ≤ reserved s c = beside c in
     let kept : reserved s c ≤ reserved t c + claimed c ds = keeps c in

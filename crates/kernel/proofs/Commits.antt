@@ -5,8 +5,9 @@ use Rattle.model.specs.Entries.{BeginFlags, End, Committed, Entry}
 use Rattle.model.specs.Moments.{Moment, live, status, calls_at, next}
 use Rattle.model.specs.Legal.{Right, Alone}
 use Rattle.call_laws.specs.WellFormed.{WellFormed}
-use Rattle.history_laws.specs.Doings.{Goes, doings, all_done}
-use Rattle.history_laws.proofs.Laws.{right_by, alive_is, commits_run_the_list, lists_are_their_doings, what_stands}
+use Rattle.model.specs.Effects.{effects, all_done}
+use Rattle.history_laws.specs.Untidied.{Goes}
+use Rattle.history_laws.proofs.Laws.{right_by, alive_is, commits_run_the_list, lists_are_their_effects, what_stands}
 use Rattle.contention.specs.Holding.{held_at}
 use Rattle.shadow.specs.Committed.{CanCommit}
 use Rattle.kernel.specs.Shown.{moment}
@@ -46,11 +47,11 @@ module _ (f : Fields) (pid : ℕ) (flags : BeginFlags) (age : ℕ) (holds : Hold
     pid = pid;
     calls = calls_at m pid;
     goes = subst (λ k. Goes WellFormed k pid (calls_at m pid)) (sym holds.state) ((what_stands 0 f.log.priorities f.log.limit f.log.entries holds.legal).lists pid).goes;
-    same = ap (doings pid (calls_at m pid)) holds.state;
+    same = ap (effects pid (calls_at m pid)) holds.state;
   }
 
   committed : (next m e).committed ≡ tidy (all_done (changes_of m pid) f.stable.state)
-  committed = commits_run_the_list 0 f.log.priorities f.log.limit f.log.entries e holds.legal commit_right refl ∙ ap tidy (lists_are_their_doings pid (calls_at m pid) m.committed)
+  committed = commits_run_the_list 0 f.log.priorities f.log.limit f.log.entries e holds.legal commit_right refl ∙ ap tidy (lists_are_their_effects pid (calls_at m pid) m.committed)
       ∙ ap (λ k. tidy (all_done (changes_of m pid) k)) (sym holds.state)
 
   pub commit_holds : (g : Fields) → g.log ≡ with_entry f.log e → length g.slots ≡ length f.slots → view_at g.slots pid ≡ resting → ((q : ℕ) → q ≢ pid → view_at g.slots q ≡ view_at f.slots q)

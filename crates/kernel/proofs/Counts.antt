@@ -4,7 +4,7 @@ use Rattle.std.specs.Prelude.{if◌then◌else◌, count_by}
 use Rattle.std.proofs.lemmas.Bool.{cases_Bool}
 use Rattle.std.proofs.lemmas.List.Recursion.{is_count_by}
 use Rattle.model.specs.Moments.{Status, gone, idle, live, doomed, is_alive, holds_place, bound, reserved, count_below}
-use Rattle.history_laws.specs.Doings.{Doing}
+use Rattle.model.specs.Effects.{Effect}
 use Rattle.history_laws.proofs.Laws.{what_stands}
 use Rattle.kernel.specs.Shown.{moment}
 use Rattle.kernel.specs.States.{Fields, Holds}
@@ -22,7 +22,7 @@ view_holds resting = false
 view_holds (open_view flags age changes) = true
 view_holds (struck entry reply flags age) = true
 
-status_holds : (s : Status) (changes : List Doing) → holds_place s ≡ view_holds (shown_by s changes)
+status_holds : (s : Status) (changes : List Effect) → holds_place s ≡ view_holds (shown_by s changes)
 status_holds gone changes = refl
 status_holds idle changes = refl
 status_holds (live flags age calls) changes = refl

@@ -6,9 +6,10 @@ use Rattle.model.specs.FiniteMap.{get}
 use Rattle.model.specs.State.{Process}
 use Rattle.model.specs.Changes.{or_new}
 use Rattle.model.specs.Moments.{Moment, idle, is_alive, start, at_start}
-use Rattle.history_laws.specs.Doings.{Doing}
-use Rattle.history_laws.specs.Processes.{StartsWith}
-use Rattle.history_laws.proofs.Laws.{legal_start, first_processes_live}
+use Rattle.model.specs.Effects.{Effect}
+use Rattle.call_laws.specs.Processes.{StartsWith}
+use Rattle.history_laws.proofs.Laws.{legal_start}
+use Rattle.call_laws.proofs.First.{first_processes_live}
 use Rattle.contention.specs.Holding.{nobody, held_at, holding}
 use Rattle.kernel.specs.Shown.{Kept}
 use Rattle.kernel.specs.States.{Fields, Holds, shown}
@@ -21,7 +22,7 @@ no_priority : (o : Option Process) → is_some o ≡ false → (or_new o).priori
 no_priority None h = refl
 no_priority (Some process) h = absurd (false≢true (sym h))
 
-nothing_changed : (alive : Bool) (ds : List Doing) → changes_in (view_by alive idle ds) ≡ []
+nothing_changed : (alive : Bool) (ds : List Effect) → changes_in (view_by alive idle ds) ≡ []
 nothing_changed true ds = refl
 nothing_changed false ds = refl
 

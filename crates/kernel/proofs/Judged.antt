@@ -4,8 +4,8 @@ use Rattle.model.specs.Calls.{Call}
 use Rattle.model.specs.Steps.{touches}
 use Rattle.model.specs.Entries.{BeginFlags}
 use Rattle.model.specs.Moments.{idle, live, after_list, calls_of, calls_at, seen_by, counted, counted_touches}
-use Rattle.history_laws.specs.Doings.{all_done}
-use Rattle.history_laws.proofs.Laws.{phase_is, lists_are_their_doings, views_may_be_loose}
+use Rattle.model.specs.Effects.{all_done}
+use Rattle.history_laws.proofs.Laws.{phase_is, lists_are_their_effects, views_may_be_loose}
 use Rattle.kernel.specs.Shown.{moment}
 use Rattle.kernel.specs.Standings.{IsOpen}
 use Rattle.kernel.specs.States.{Fields, Holds}
@@ -36,4 +36,4 @@ live_counted f pid call flags age holds opening =
     ap (λ k. touches k pid call) (live_sees f pid flags age holds opening)
     ∙ sym (ap (λ s. counted s (touches (seen_by m pid) pid call)) (phase_is m pid (live flags age l.calls) l.is (λ h. absurd cc))
     ∙ ((views_may_be_loose 0 f.log.priorities f.log.limit f.log.entries holds.legal pid).goes_on call).touches
-    ∙ ap (λ k. touches k pid call) (lists_are_their_doings pid (calls_at m pid) m.committed ∙ ap (all_done (changes_of m pid)) (sym holds.state)))
+    ∙ ap (λ k. touches k pid call) (lists_are_their_effects pid (calls_at m pid) m.committed ∙ ap (all_done (changes_of m pid)) (sym holds.state)))

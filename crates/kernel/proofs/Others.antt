@@ -6,7 +6,7 @@ use Rattle.model.specs.Entries.{Cause, Entry}
 use Rattle.model.specs.Steps.{Touch}
 use Rattle.model.specs.Moments.{Status, live, doomed, Moment, is_alive, after, bound, holds_place, priority_of, calls_of, calls_at, held_by, doom_cause, dooming_touches, is_in, next}
 use Rattle.model.specs.Legal.{Legal, Right}
-use Rattle.history_laws.specs.Doings.{Doing}
+use Rattle.model.specs.Effects.{Effect}
 use Rattle.history_laws.specs.Entered.{IsDoomed, PhasesMove, ListStays}
 use Rattle.history_laws.specs.Processes.{IsAsBefore, ProcessesMove}
 use Rattle.history_laws.proofs.Laws.{phases_move, lists_stay, forks_and_exits_move, what_stands}
@@ -16,7 +16,7 @@ use Rattle.kernel.specs.Rows.{IsSteady}
 use Rattle.kernel.specs.Views.{open_view, struck, view_by, changes_of, view_of}
 
 -- what a process shows, by its parts
-pub views_alike : (a b : Bool) (s t : Status) (ds es : List Doing) → a ≡ b → s ≡ t → ds ≡ es → view_by a s ds ≡ view_by b t es
+pub views_alike : (a b : Bool) (s t : Status) (ds es : List Effect) → a ≡ b → s ≡ t → ds ≡ es → view_by a s ds ≡ view_by b t es
 views_alike a b s t ds es alive phase changes = ap (λ x. view_by x s ds) alive ∙ ap (λ x. view_by b x ds) phase ∙ ap (λ x. view_by b t x) changes
 
 pub held_alike : (p q : ℕ) (s t : Status) (ts us : List Touch) → p ≡ q → s ≡ t → ts ≡ us
@@ -50,7 +50,7 @@ module _ (log : Log) (e : Entry) (legal : Legal 0 log.priorities log.limit log.e
   other_stays q differs spared = list_stays q (ap calls_of (moves.others q differs spared))
 
   pub other_view : (q : ℕ) → q ≢ e.pid → is_in q e.doomed ≡ false → view_of (next m e) q ≡ view_of m q
-  other_view q differs spared = views_alike _ _ _ _ _ _ (as_before q).alive (moves.others q differs spared) (other_stays q differs spared).doings
+  other_view q differs spared = views_alike _ _ _ _ _ _ (as_before q).alive (moves.others q differs spared) (other_stays q differs spared).effects
 
   pub other_held : (q : ℕ) → q ≢ e.pid → is_in q e.doomed ≡ false → holding (next m e) q ≡ holding m q
   other_held q differs spared = held_alike _ _ _ _ _ _ (as_before q).priority (moves.others q differs spared) (other_stays q differs spared).held

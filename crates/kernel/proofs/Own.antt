@@ -4,7 +4,7 @@ use Rattle.std.specs.Prelude.{if◌then◌else◌}
 use Rattle.model.specs.Entries.{BeginFlags, Entry}
 use Rattle.model.specs.Moments.{Status, Moment, is_alive, calls_of, calls_at, list_touches, next}
 use Rattle.model.specs.Legal.{Right, Alone}
-use Rattle.history_laws.specs.Doings.{doings}
+use Rattle.model.specs.Effects.{effects}
 use Rattle.contention.specs.Holding.{held_at, live_age}
 use Rattle.kernel.specs.Claims.{AreCovered}
 use Rattle.kernel.specs.Shown.{moment}
@@ -22,7 +22,7 @@ quiet_holds f g e holds quiet log slots held stable = fits_hold f g e [] holds (
   causes = tt;
   log = log;
   count = ap length slots;
-  own = ap (λ x. view_at x e.pid) slots ∙ holds.slots e.pid ∙ sym (views_alike _ _ _ _ _ _ before.alive quiet.phase stay.doings);
+  own = ap (λ x. view_at x e.pid) slots ∙ holds.slots e.pid ∙ sym (views_alike _ _ _ _ _ _ before.alive quiet.phase stay.effects);
   others = λ q differs. ap (λ x. view_at x q) slots;
   held_count = ap length held;
   held_own = ap (λ x. held_at x e.pid) held ∙ holds.held.each e.pid ∙ sym (held_alike _ _ _ _ _ _ before.priority quiet.phase stay.held);
@@ -73,7 +73,7 @@ closing_holds f g e again flags age holds right alone steady phase alive log cou
   empty = ap calls_of phase ∙ no_calls again flags age
 
   none : changes_of (next (moment f.log) e) e.pid ≡ []
-  none = ap (λ calls. doings e.pid calls (next (moment f.log) e).committed) empty
+  none = ap (λ calls. effects e.pid calls (next (moment f.log) e).committed) empty
 
   touched : Rattle.model.specs.Moments.held_by (next (moment f.log) e) e.pid ≡ []
   touched = ap (λ calls. list_touches e.pid calls (next (moment f.log) e).committed) empty

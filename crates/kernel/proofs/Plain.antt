@@ -14,7 +14,7 @@ use Rattle.model.specs.Legal.{Right, Outcome, Taken}
 use Rattle.model.specs.Replies.{answered}
 use Rattle.call_laws.specs.WellFormed.{WellFormed}
 use Rattle.call_laws.specs.CallLaws.{IsReady}
-use Rattle.history_laws.specs.Doings.{Doing, all_done}
+use Rattle.model.specs.Effects.{Effect, all_done}
 use Rattle.history_laws.specs.Entered.{ListStays}
 use Rattle.history_laws.specs.Processes.{IsAsBefore}
 use Rattle.history_laws.proofs.Laws.{right_by, free_from, phase_is, alive_is, plain_calls_run, executed_again, what_stands}
@@ -73,7 +73,7 @@ module _ (f : Fields) (pid : ℕ) (call : Call) (chosen : List ℕ) (ds : List D
   pub plain_right : Right f.log.limit m e
   plain_right = right_by f.log.limit m e idle (Do call) is_resting refl (subst (λ o. Outcome m e idle call o) (sym none) is_taken, free_from f.log.limit m 1 places)
 
-  abbrev change : Doing
+  abbrev change : Effect
   change = record { chosen = chosen; edits = edits k pid call }
 
   ready : IsReady WellFormed k pid call chosen
@@ -108,7 +108,7 @@ module _ (f : Fields) (pid : ℕ) (call : Call) (chosen : List ℕ) (ds : List D
     causes = causes;
     log = log;
     count = count;
-    own = views pid ∙ not_struck ds pid _ spared ∙ holds.slots pid ∙ sym (views_alike _ _ _ _ _ _ before.alive same_phase stay.doings);
+    own = views pid ∙ not_struck ds pid _ spared ∙ holds.slots pid ∙ sym (views_alike _ _ _ _ _ _ before.alive same_phase stay.effects);
     others = λ q differs. views q;
     held_count = held_count;
     held_own = held pid ∙ not_freed ds pid _ spared ∙ holds.held.each pid ∙ sym (held_alike _ _ _ _ _ _ before.priority same_phase stay.held);

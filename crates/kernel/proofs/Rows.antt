@@ -7,7 +7,7 @@ use Rattle.model.specs.Calls.{Call}
 use Rattle.model.specs.Entries.{BeginFlags, Op, Do, Begin, End, Abort, Cause, Clash, Reply, Begun, GivenUp, Aborted, Entry, Executed, is_inside}
 use Rattle.model.specs.Moments.{Status, gone, idle, live, doomed, Moment, status, is_alive, settled, own_next, run_by, after_list, counted_touches, losing_cause}
 use Rattle.model.specs.Legal.{Right, Inside, Outcome, Alone, restarts}
-use Rattle.history_laws.specs.Doings.{Doing}
+use Rattle.model.specs.Effects.{Effect}
 use Rattle.history_laws.specs.Processes.{is_ended}
 use Rattle.history_laws.proofs.Laws.{right_by, free_from, phase_is, alive_is, phases_move}
 use Rattle.kernel.specs.Shown.{moment}
@@ -18,7 +18,7 @@ use Rattle.kernel.specs.Views.{View, resting, open_view, struck, view_by, view_o
 use Rattle.kernel.proofs.Steps.{entries_count}
 
 -- the status of a process by what it shows
-resting_by : (alive : Bool) (s : Status) (changes : List Doing) → view_by alive s changes ≡ resting → (if alive then s else gone) ≡ idle
+resting_by : (alive : Bool) (s : Status) (changes : List Effect) → view_by alive s changes ≡ resting → (if alive then s else gone) ≡ idle
 resting_by true idle changes h = refl
 resting_by true gone changes h = absurd cc
 resting_by true (live flags age calls) changes h = absurd cc
@@ -29,12 +29,12 @@ pub is_idle : (m : Moment) (q : ℕ) → view_of m q ≡ resting → status m q 
 is_idle m q h = resting_by (is_alive m.committed q) (m.phase q) (changes_of m q) h
 
 -- a live one, with its calls
-pub record IsLive (s : Status) (flags : BeginFlags) (age : ℕ) (shown changes : List Doing) : Type 0 where
+pub record IsLive (s : Status) (flags : BeginFlags) (age : ℕ) (shown changes : List Effect) : Type 0 where
   pub calls : List Executed
   pub is : s ≡ live flags age calls
   pub same : shown ≡ changes
 
-abbrev opened : List Doing → View → List Doing
+abbrev opened : List Effect → View → List Effect
 opened other (open_view flags age changes) = changes
 opened other v = other
 
@@ -46,7 +46,7 @@ abbrev open_age : View → ℕ
 open_age (open_view flags age changes) = age
 open_age v = 0
 
-live_by : (alive : Bool) (s : Status) (flags : BeginFlags) (age : ℕ) (shown changes : List Doing) → view_by alive s changes ≡ open_view flags age shown → IsLive (if alive then s else gone) flags age shown changes
+live_by : (alive : Bool) (s : Status) (flags : BeginFlags) (age : ℕ) (shown changes : List Effect) → view_by alive s changes ≡ open_view flags age shown → IsLive (if alive then s else gone) flags age shown changes
 live_by true (live f a calls) flags age shown changes h = record {
   calls = calls;
   is = ap (λ v. live (open_flags flags v) (open_age v) calls) h;
@@ -57,7 +57,7 @@ live_by true gone flags age shown changes h = absurd cc
 live_by true (doomed cause f a) flags age shown changes h = absurd cc
 live_by false s flags age shown changes h = absurd cc
 
-pub is_live : (m : Moment) (q : ℕ) (flags : BeginFlags) (age : ℕ) (shown : List Doing) → view_of m q ≡ open_view flags age shown → IsLive (status m q) flags age shown (changes_of m q)
+pub is_live : (m : Moment) (q : ℕ) (flags : BeginFlags) (age : ℕ) (shown : List Effect) → view_of m q ≡ open_view flags age shown → IsLive (status m q) flags age shown (changes_of m q)
 is_live m q flags age shown h = live_by (is_alive m.committed q) (m.phase q) flags age shown (changes_of m q) h
 
 pub record IsDoomed (s : Status) (flags : BeginFlags) (age : ℕ) (entry reply : Cause) : Type 0 where
@@ -80,7 +80,7 @@ abbrev struck_age : View → ℕ
 struck_age (struck entry reply flags age) = age
 struck_age v = 0
 
-doomed_by : (alive : Bool) (s : Status) (changes : List Doing) (flags : BeginFlags) (age : ℕ) (entry reply : Cause) → view_by alive s changes ≡ struck entry reply flags age → IsDoomed (if alive then s else gone) flags age entry reply
+doomed_by : (alive : Bool) (s : Status) (changes : List Effect) (flags : BeginFlags) (age : ℕ) (entry reply : Cause) → view_by alive s changes ≡ struck entry reply flags age → IsDoomed (if alive then s else gone) flags age entry reply
 doomed_by true (doomed cause f a) changes flags age entry reply h = record {
   is = ap (λ v. doomed (struck_entry entry v) (struck_flags flags v) (struck_age v)) h;
   twice = sym (ap (struck_reply reply) h) ∙ ap (struck_entry entry) h;

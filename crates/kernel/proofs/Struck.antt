@@ -9,7 +9,7 @@ use Rattle.model.specs.Moments.{Moment, doom_cause, is_in}
 use Rattle.contention.specs.Holding.{Held}
 use Rattle.contention.specs.Verdicts.{IsDoomedBy}
 use Rattle.contention.specs.declared.Doomed.{Doomed}
-use Rattle.history_laws.specs.Doings.{Doing}
+use Rattle.model.specs.Effects.{Effect}
 use Rattle.kernel.specs.Views.{View, open_view, struck}
 use Rattle.kernel.specs.Strikes.{strike, struck_by, freed, freed_by}
 
@@ -33,7 +33,7 @@ stays_struck [] q c d flags age = refl
 stays_struck (one ∷ ds) q c d flags age = ap (struck_by ds q) (same_either (eqb q one.pid) (struck c d flags age)) ∙ stays_struck ds q c d flags age
 
 -- a live one among them is doomed, with its cause
-pub is_struck : (m : Moment) (pid : ℕ) (ts : List Touch) (ds : List Doomed) (q : ℕ) (flags : BeginFlags) (age : ℕ) (changes : List Doing)
+pub is_struck : (m : Moment) (pid : ℕ) (ts : List Touch) (ds : List Doomed) (q : ℕ) (flags : BeginFlags) (age : ℕ) (changes : List Effect)
     → is_in q (pids ds) ≡ true → AllByRecursion (IsDoomedBy m pid ts) ds → struck_by ds q (open_view flags age changes) ≡ struck (doom_cause m pid ts q) (doom_cause m pid ts q) flags age
 is_struck m pid ts [] q flags age changes h causes = absurd (false≢true h)
 is_struck m pid ts (d ∷ ds) q flags age changes h causes = by (eqb q d.pid) refl (λ among. is_struck m pid ts ds q flags age changes among causes.1) where

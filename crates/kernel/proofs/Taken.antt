@@ -14,7 +14,7 @@ use Rattle.model.specs.Entries.{Do, Entry, Executed, is_inside}
 use Rattle.model.specs.Moments.{Moment, after_one, numbers, calls_at, seen_by, counted_touches, clashes_with, all_below, bound, is_in}
 use Rattle.model.specs.Legal.{IsApart, Taken}
 use Rattle.model.specs.Replies.{answered}
-use Rattle.history_laws.specs.Doings.{Doing, doings}
+use Rattle.model.specs.Effects.{Effect, effects}
 use Rattle.history_laws.specs.Processes.{is_ended}
 use Rattle.history_laws.proofs.Laws.{executed_again, nowhere_seen, childless}
 use Rattle.contention.specs.declared.Doomed.{Doomed}
@@ -55,11 +55,11 @@ in_neither n (m ∷ ms) ns a b = by (eqb n m) a (in_neither n ms ns) where
   by false h rest = rest h b
 
 -- what the changes of a list do not claim is not among its numbers
-pub not_numbered : (n pid : ℕ) (es : List Executed) (k : Kernel) → claimed (Number n) (doings pid es k) ≡ 0 → is_in n (numbers es) ≡ false
+pub not_numbered : (n pid : ℕ) (es : List Executed) (k : Kernel) → claimed (Number n) (effects pid es k) ≡ 0 → is_in n (numbers es) ≡ false
 not_numbered n pid [] k h = refl
 not_numbered n pid (e ∷ es) k h =
-    let d : Doing = record { chosen = e.chosen; edits = edits k pid e.call } in
-    let later : List Doing = doings pid es (after_one pid e k) in
+    let d : Effect = record { chosen = e.chosen; edits = edits k pid e.call } in
+    let later : List Effect = effects pid es (after_one pid e k) in
     let sum : claimed (Number n) (d ∷ later) ≡ claimed_by (Number n) d + claimed (Number n) later = sum_by-cons (claimed_by (Number n)) d later in
     let here : claimed_by (Number n) d ≡ 0 = omega (arith, sum, h) in
     let rest : claimed (Number n) later ≡ 0 = omega (arith, sum, h) in

@@ -9,9 +9,9 @@ use Rattle.model.specs.Entries.{BeginFlags, Do, Entry}
 use Rattle.model.specs.Moments.{Moment, live, status, is_alive, loose, after_one, calls_of, calls_at, seen_by, counted, counted_touches, clashes_with, losing_cause, all_below, bound, dooming_touches, is_in, next}
 use Rattle.model.specs.Legal.{Right, Inside, Outcome, Taken}
 use Rattle.model.specs.Replies.{answered}
-use Rattle.history_laws.specs.Doings.{Doing, all_done}
+use Rattle.model.specs.Effects.{Effect, all_done}
 use Rattle.history_laws.specs.Entered.{CallGoesIn, view}
-use Rattle.history_laws.proofs.Laws.{right_by, free_from, phase_is, alive_is, calls_go_in, lists_are_their_doings, views_may_be_loose, executed_again}
+use Rattle.history_laws.proofs.Laws.{right_by, free_from, phase_is, alive_is, calls_go_in, lists_are_their_effects, views_may_be_loose, executed_again}
 use Rattle.contention.specs.Holding.{Held, held_at, holding}
 use Rattle.contention.specs.Verdicts.{IsDoomedBy}
 use Rattle.contention.specs.declared.Doomed.{Doomed}
@@ -38,7 +38,7 @@ abbrev pub sees : Fields → ℕ → Kernel
 sees f pid = all_done (changes_of (moment f.log) pid) f.stable.state
 
 -- one change more is claimed, and what it claims has come
-pub change_spares : (f : Fields) (holds : Holds f) (pid : ℕ) (flags : BeginFlags) (age : ℕ) (opening : IsOpen (view_of (moment f.log) pid) flags age) (slots : List Slot) (s t : Committed) (d : Doing)
+pub change_spares : (f : Fields) (holds : Holds f) (pid : ℕ) (flags : BeginFlags) (age : ℕ) (opening : IsOpen (view_of (moment f.log) pid) flags age) (slots : List Slot) (s t : Committed) (d : Effect)
     → AllDifferent d.chosen → ((c : Claim) → is_in (number_of c) d.chosen ≡ true → reserved f.stable c ≡ 0) → AllByRecursion (λ n. 0 < reserved s (Number n)) d.chosen → Grows f.stable s → Grows s t
     → HasRoom s t d (view_at f.slots pid) → Shows f.slots slots pid (with_change d (view_at f.slots pid)) → KeepsSpare f.slots f.stable slots t
 change_spares f holds pid flags age opening slots s t d different unused given first second room shows =
@@ -71,7 +71,7 @@ module _ (f : Fields) (pid : ℕ) (call : Call) (flags : BeginFlags) (age : ℕ)
   alive = alive_is m pid (live flags age is_open.calls) is_open.is (λ h. absurd cc)
 
   is_view : view m pid ≡ sees f pid
-  is_view = lists_are_their_doings pid (calls_at m pid) m.committed ∙ ap (all_done (changes_of m pid)) (sym holds.state)
+  is_view = lists_are_their_effects pid (calls_at m pid) m.committed ∙ ap (all_done (changes_of m pid)) (sym holds.state)
 
   goes_on : Rattle.model.specs.Laws.GoesTheSame (view m pid) (seen_by m pid) pid call
   goes_on = (views_may_be_loose 0 f.log.priorities f.log.limit f.log.entries holds.legal pid).goes_on call
@@ -96,7 +96,7 @@ module _ (f : Fields) (pid : ℕ) (call : Call) (flags : BeginFlags) (age : ℕ)
     | inr free ↦ free
   ]
 
-  abbrev change : Doing
+  abbrev change : Effect
   change = record { chosen = chosen; edits = edits (sees f pid) pid call }
 
   changes_next : changes_of (next m e) pid ≡ changes_of m pid ++ change ∷ []

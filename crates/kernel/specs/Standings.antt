@@ -3,7 +3,7 @@ use Rattle.std.specs.Prelude.{◌≡◌, ℕ, Bool, true, false, Option, Some, N
 use Rattle.history.specs.Log.{Log}
 use Rattle.model.specs.Entries.{BeginFlags, Op, Do, Begin, End, Abort, Cause}
 use Rattle.model.specs.Moments.{has_free}
-use Rattle.history_laws.specs.Doings.{Doing}
+use Rattle.model.specs.Effects.{Effect}
 use Rattle.std.specs.Prelude.{List}
 use Rattle.kernel.specs.Shown.{moment}
 use Rattle.kernel.specs.Views.{View, absent, resting, open_view, struck}
@@ -13,7 +13,7 @@ use Rattle.kernel.specs.declared.rest.Standing.{Standing}
 use Rattle.kernel.specs.declared.rest.Standing.TheVariants.{Gone as Absent, Idle as Resting, Live as Within, Doomed as Struck}
 
 pub record IsOpen (v : View) (flags : BeginFlags) (age : ℕ) : Type 0 where
-  pub changes : List Doing
+  pub changes : List Effect
   pub is : v ≡ open_view flags age changes
 
 pub record IsStruck (v : View) (flags : BeginFlags) (age : ℕ) : Type 0 where

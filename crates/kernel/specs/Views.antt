@@ -2,7 +2,7 @@
 use Rattle.std.specs.Prelude.{◌≡◌, ◌≢◌, ◌<◌, ℕ, suc, Bool, true, false, List, [], get_or, length}
 use Rattle.model.specs.Entries.{BeginFlags, Cause}
 use Rattle.model.specs.Moments.{Status, gone, idle, live, doomed, Moment, is_alive, calls_at}
-use Rattle.history_laws.specs.Doings.{Doing, doings}
+use Rattle.model.specs.Effects.{Effect, effects}
 use Rattle.kernel.specs.declared.slot.Slot.{Slot}
 use Rattle.kernel.specs.declared.slot.Slot.TheVariants.{Gone, Idle, Live, Doomed}
 
@@ -10,7 +10,7 @@ use Rattle.kernel.specs.declared.slot.Slot.TheVariants.{Gone, Idle, Live, Doomed
 pub data View : Type 0 where
   absent : View
   resting : View
-  open_view : BeginFlags → ℕ → List Doing → View
+  open_view : BeginFlags → ℕ → List Effect → View
   struck : Cause → Cause → BeginFlags → ℕ → View
 
 -- what a slot shows
@@ -24,25 +24,25 @@ abbrev pub view_at : List Slot → ℕ → View
 view_at slots q = slot_view (get_or slots q Gone)
 
 -- what it has to show
-abbrev pub shown_by : Status → List Doing → View
+abbrev pub shown_by : Status → List Effect → View
 shown_by gone changes = absent
 shown_by idle changes = resting
 shown_by (live flags age calls) changes = open_view flags age changes
 shown_by (doomed cause flags age) changes = struck cause cause flags age
 
-abbrev pub view_by : Bool → Status → List Doing → View
+abbrev pub view_by : Bool → Status → List Effect → View
 view_by true s changes = shown_by s changes
 view_by false s changes = absent
 
 -- what a live transaction has changed
-abbrev pub changes_of : Moment → ℕ → List Doing
-changes_of m q = doings q (calls_at m q) m.committed
+abbrev pub changes_of : Moment → ℕ → List Effect
+changes_of m q = effects q (calls_at m q) m.committed
 
 abbrev pub view_of : Moment → ℕ → View
 view_of m q = view_by (is_alive m.committed q) (m.phase q) (changes_of m q)
 
 -- the changes that a view has
-abbrev pub changes_in : View → List Doing
+abbrev pub changes_in : View → List Effect
 changes_in absent = []
 changes_in resting = []
 changes_in (open_view flags age changes) = changes

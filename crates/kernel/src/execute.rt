@@ -8,7 +8,7 @@ ghost use Rattle.std.specs.List.{AllByRecursion, sum_by};
 ghost use Rattle.model.specs.Entries as entries;
 ghost use Rattle.model.specs.Replies.{answered};
 ghost use Rattle.model.specs.Changes.{news};
-ghost use Rattle.history_laws.specs.Doings.{Doing, all_done};
+ghost use Rattle.model.specs.Effects.{Effect, all_done};
 ghost use Rattle.shadow.specs.Claims.{Room, HaveParents, claimed, claimed_by, reserved};
 ghost use Rattle.calls.specs.Operations.{can_call};
 ghost use Rattle.calls.specs.Planned.{IsPlan};

@@ -2,7 +2,7 @@
 ghost use Rattle.std.specs.Prelude.{◌≡◌, ◌<◌, ◌≤◌, [], suc, true, length, is_some, IfOk, IfSome, OnErr};
 ghost use Rattle.model.specs.Changes.{tidy};
 ghost use Rattle.model.specs.Moments.{is_alive, seen_by};
-ghost use Rattle.history_laws.specs.Doings.{all_done};
+ghost use Rattle.model.specs.Effects.{all_done};
 ghost use Rattle.kernel.specs.Operations.{can_run, CanRunAll};
 ghost use Rattle.kernel.specs.Shown.{Kept, moment, is_live};
 ghost use Rattle.kernel.specs.Steps.{IsStep, Steps};

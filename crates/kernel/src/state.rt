@@ -1,7 +1,7 @@
 // The fields of a kernel, and the entries that change them.
 ghost use Rattle.std.specs.Prelude.{◌≡◌, ◌<◌, [], length, Some, None, if◌then◌else◌};
 ghost use Rattle.contention.specs.Holding.{held_at, Becomes};
-ghost use Rattle.history_laws.specs.Doings.{all_done};
+ghost use Rattle.model.specs.Effects.{all_done};
 ghost use Rattle.kernel.specs.Claims.{AreCovered};
 ghost use Rattle.kernel.specs.Rows.{IsQuiet, settled_as};
 ghost use Rattle.kernel.specs.States.{CanSettle, Holds, fields, shown};

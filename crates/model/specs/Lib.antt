@@ -17,3 +17,4 @@ pub mod Replies
 pub mod Script
 pub mod Laws
 pub mod Places
+pub mod Effects

@@ -149,6 +149,3 @@ fn is_dots(piece: &[u8]) -> bool
 {
     matches!(piece, b"." | b"..")
 }
-
-#[cfg(test)]
-mod tests;

@@ -115,6 +115,3 @@ impl PipeShadow {
         pipe.put(appended.as_slice());
     }
 }
-
-#[cfg(test)]
-mod tests;

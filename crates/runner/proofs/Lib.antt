@@ -1,2 +1,2 @@
-mod Doing
+mod Effect
 mod Missing

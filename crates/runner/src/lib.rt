@@ -14,6 +14,3 @@ pub use printing::print;
 pub use run::run_schedule;
 pub use script::{read_schedule, read_script};
 pub use words::read_words;
-
-#[cfg(test)]
-mod tests;

@@ -21,6 +21,3 @@ pub use faults::{ScheduleFault, ScriptFault};
 pub use read::{Line, Script, read_script};
 pub use schedule::read_schedule;
 pub use steps::steps_of;
-
-#[cfg(test)]
-mod tests;

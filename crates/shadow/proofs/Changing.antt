@@ -6,10 +6,10 @@ use Rattle.model.specs.FiniteMap.{FinMap, empty, insert, remove}
 use Rattle.model.specs.State.{Name, name_cmp, Kernel, Directory, names_of, names_of_inode}
 use Rattle.model.specs.Changes.{set_inode, applied, all_applied}
 use Rattle.model.proofs.Inodes.{get_same, get_other}
-use Rattle.history_laws.specs.Doings.{all_done}
+use Rattle.model.specs.Effects.{all_done}
 use Rattle.shadow.specs.declared.steps.Step.{Step}
 use Rattle.shadow.specs.declared.steps.Step.TheVariants.{Nothing, Make, Unname}
-use Rattle.shadow.specs.Changes.{doing_of, doings_of}
+use Rattle.shadow.specs.Changes.{effect_of, effects_of}
 use Rattle.shadow.proofs.Views.{done_more}
 
 -- the names of one directory after the inode of a number becomes a directory
@@ -37,7 +37,7 @@ names_changed (Make d x n) e names = cond (d == e) (insert (cond (n == e) empty 
 names_changed (Unname d x) e names = cond (d == e) (remove names x) names
 
 abbrev pub names_after : Step → Kernel → ℕ → FinMap name_cmp ℕ
-names_after s k e = names_of (all_applied (doing_of s).chosen (doing_of s).edits k) e
+names_after s k e = names_of (all_applied (effect_of s).chosen (effect_of s).edits k) e
 
 changed_is : (s : Step) (k : Kernel) (e : ℕ) → names_after s k e ≡ names_changed s e (names_of k e)
 unfolding applied
@@ -64,10 +64,10 @@ stepped_made s d x n e old cleared new s-is cleared-is is = stepped s e old new
 
 -- one more change, after the first i
 pub stepped_more : (ss : List Step) (i : ℕ) (s : Step) (e : ℕ) (old mid new : FinMap name_cmp ℕ) → i < length ss → s ≡ get_or ss i s
-    → ((k : Kernel) → old ≡ names_of k e → mid ≡ names_of (all_done (doings_of (take i ss)) k) e) → ((k : Kernel) → mid ≡ names_of k e → new ≡ names_after s k e)
-    → (k : Kernel) → old ≡ names_of k e → new ≡ names_of (all_done (doings_of (take (i + 1) ss)) k) e
+    → ((k : Kernel) → old ≡ names_of k e → mid ≡ names_of (all_done (effects_of (take i ss)) k) e) → ((k : Kernel) → mid ≡ names_of k e → new ≡ names_after s k e)
+    → (k : Kernel) → old ≡ names_of k e → new ≡ names_of (all_done (effects_of (take (i + 1) ss)) k) e
 stepped_more ss i s e old mid new low is so_far step k was =
-    step (all_done (doings_of (take i ss)) k) (so_far k was)
-    ∙ ap (λ t. names_of t e) (sym (done_more (doings_of (take i ss)) (doing_of s) k))
-    ∙ ap (λ ds. names_of (all_done ds k) e) (sym (map-append doing_of (take i ss) (s ∷ [])))
-    ∙ ap (λ ts. names_of (all_done (doings_of ts) k) e) (ap (λ t. take i ss ++ t ∷ []) is ∙ sym (take_more ss i s low))
+    step (all_done (effects_of (take i ss)) k) (so_far k was)
+    ∙ ap (λ t. names_of t e) (sym (done_more (effects_of (take i ss)) (effect_of s) k))
+    ∙ ap (λ ds. names_of (all_done ds k) e) (sym (map-append effect_of (take i ss) (s ∷ [])))
+    ∙ ap (λ ts. names_of (all_done (effects_of ts) k) e) (ap (λ t. take i ss ++ t ∷ []) is ∙ sym (take_more ss i s low))

@@ -13,7 +13,7 @@ use Rattle.call_laws.specs.WellFormed.{CanBeNamed, WellFormed}
 use Rattle.call_laws.specs.CallLaws.{CallLaws}
 use Rattle.call_laws.specs.Numbers.{UnusedNumbersAreNowhere}
 use Rattle.call_laws.proofs.Maps.{not_none, true_is_false}
-use Rattle.history_laws.proofs.Laws.{first_processes_live}
+use Rattle.call_laws.proofs.First.{first_processes_live}
 use Rattle.store.specs.Numbers.{Numbers, IsFirstRoot}
 use Rattle.store.specs.Shown.{inodes, inode_in}
 use Rattle.store.specs.declared.Place.{Place}

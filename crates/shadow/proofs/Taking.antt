@@ -8,7 +8,7 @@ use Rattle.model.specs.State.{Name, name_cmp, A_directory, Kernel, Inode, File, 
 use Rattle.model.specs.Changes.{Make_directory, Unname_directory, set_inode, set_name, clear_name, applied, all_applied, tidy}
 use Rattle.model.proofs.Inodes.{name_exact}
 use Rattle.call_laws.specs.WellFormed.{WellFormed}
-use Rattle.call_laws.proofs.Fits.{Fits}
+use Rattle.call_laws.specs.Fits.{Fits}
 use Rattle.call_laws.proofs.Maps.{not_none, removed_same, removed_other, none_by_keys}
 use Rattle.call_laws.proofs.NameEdits.{kept_kind}
 use Rattle.dirlist.specs.Listing.{Listing}
@@ -22,7 +22,7 @@ use Rattle.store.proofs.Changes.{get-inodes_by, installed_in, hidden_in, without
 use Rattle.store.proofs.Listings.{place-changed, place-other, place-installed, place-installed-other, place-hidden, place-hidden-other, listing-installed}
 use Rattle.shadow.specs.declared.steps.Step.TheVariants.{Make, Unname}
 use Rattle.shadow.specs.Claims.{Claim, Room, Number, claimed_by, room_in}
-use Rattle.shadow.specs.Changes.{doing_of}
+use Rattle.shadow.specs.Changes.{effect_of}
 use Rattle.shadow.specs.Stored.{stored, promised_of, IsBare, Sound, lost}
 use Rattle.shadow.specs.Effects.{CanTake}
 use Rattle.shadow.proofs.Meets.{met, coming_by, cond_number, installs, hides, takes_one, takes_none, frees_other}
@@ -86,7 +86,7 @@ module _ (ps : List ℕ) (s : Numbers) where
   shown_number m y e = shown_names (get s.places m) y (shown_there m e) ∙ ap (λ o. get (names_of_inode o) y) (sym (get-inodes_by s m (get s.places m) refl))
 
 -- a new directory with its name
-module _ (ps : List ℕ) (s : Numbers) (d : ℕ) (x : Name) (n : ℕ) (sound : Sound ps s) (can : CanTake (shown ps s) (doing_of (Make d x n))) (covers : (c : Claim) → claimed_by c (doing_of (Make d x n)) ≤ met s c) where
+module _ (ps : List ℕ) (s : Numbers) (d : ℕ) (x : Name) (n : ℕ) (sound : Sound ps s) (can : CanTake (shown ps s) (effect_of (Make d x n))) (covers : (c : Claim) → claimed_by c (effect_of (Make d x n)) ≤ met s c) where
   abbrev pub installed : Numbers
   installed = installed_in s n
 
@@ -100,7 +100,7 @@ module _ (ps : List ℕ) (s : Numbers) (d : ℕ) (x : Name) (n : ℕ) (sound : S
   fits = can.fits.0
 
   coming : (l : Listing) × (get s.places n ≡ Some (Coming (Kept_directory l)))
-  coming = to_come (get s.places n) (let some : claimed_by (Number n) (doing_of (Make d x n)) ≤ met s (Number n) = covers (Number n) in let one : claimed_by (Number n) (doing_of (Make d x n)) ≡ 1 = ap (λ b. 0 + cond b 1 0) (eq-eqb n n refl) in omega arith)
+  coming = to_come (get s.places n) (let some : claimed_by (Number n) (effect_of (Make d x n)) ≤ met s (Number n) = covers (Number n) in let one : claimed_by (Number n) (effect_of (Make d x n)) ≡ 1 = ap (λ b. 0 + cond b 1 0) (eq-eqb n n refl) in omega arith)
 
   no_names : coming.0.names ≡ empty
   no_names = same_map nat_list_cmp_total name_exact coming.0.names empty (λ y. subst IsBare coming.1 (sound.bare n) y ∙ sym (get-empty name_cmp y))
@@ -120,24 +120,24 @@ module _ (ps : List ℕ) (s : Numbers) (d : ℕ) (x : Name) (n : ℕ) (sound : S
   unfolding applied
   applied_is = refl
 
-  pub made_state : stored ps (inodes made) ≡ tidy (all_applied (doing_of (Make d x n)).chosen (doing_of (Make d x n)).edits k)
+  pub made_state : stored ps (inodes made) ≡ tidy (all_applied (effect_of (Make d x n)).chosen (effect_of (Make d x n)).edits k)
   made_state = ap (stored ps) inodes_made ∙ sym applied_is ∙ sym (made_tidy k d x n refl sound.tidied fits)
 
   pub made_room : (l : Listing) → listing_at installed d ≡ Some l → 0 < l.promised
   made_room l is =
-      let some : claimed_by (Room d) (doing_of (Make d x n)) ≤ met s (Room d) = covers (Room d) in
-      let one : claimed_by (Room d) (doing_of (Make d x n)) ≡ 1 = ap (λ b. 0 + cond b 1 0) (eq-eqb d d refl) in
+      let some : claimed_by (Room d) (effect_of (Make d x n)) ≤ met s (Room d) = covers (Room d) in
+      let one : claimed_by (Room d) (effect_of (Make d x n)) ≡ 1 = ap (λ b. 0 + cond b 1 0) (eq-eqb d d refl) in
       let room : met s (Room d) ≡ l.promised = ap promised_of (sym (listing-installed s n d) ∙ is) in omega arith
 
-  pub made_keeps : (c : Claim) → met s c ≤ met made c + claimed_by c (doing_of (Make d x n))
+  pub made_keeps : (c : Claim) → met s c ≤ met made c + claimed_by c (effect_of (Make d x n))
   made_keeps (Room r) =
       let first : met s (Room r) ≤ met installed (Room r) + cond_number n (Room r) = installs s n (Room r) in
       let second : met installed (Room r) ≤ met made (Room r) + room_in d (Room r) = takes_one (with_name x n) (λ l. omega arith) installed d (Room r) in
-      let same : claimed_by (Room r) (doing_of (Make d x n)) ≡ 0 + room_in d (Room r) = refl in omega arith
+      let same : claimed_by (Room r) (effect_of (Make d x n)) ≡ 0 + room_in d (Room r) = refl in omega arith
   made_keeps (Number m) =
       let first : met s (Number m) ≤ met installed (Number m) + cond_number n (Number m) = installs s n (Number m) in
       let second : met installed (Number m) ≤ met made (Number m) + room_in d (Number m) = takes_one (with_name x n) (λ l. omega arith) installed d (Number m) in
-      let same : claimed_by (Number m) (doing_of (Make d x n)) ≡ 0 + cond_number n (Number m) = refl in omega arith
+      let same : claimed_by (Number m) (effect_of (Make d x n)) ≡ 0 + cond_number n (Number m) = refl in omega arith
 
   installed_there : option_and_then inode_in (get installed.places d) ≢ None
   installed_there none = not_none _ (sym parent ∙ ap (λ m. get m d) (sym inodes_installed) ∙ get-inodes_by installed d (get installed.places d) refl ∙ none)
@@ -160,7 +160,7 @@ module _ (ps : List ℕ) (s : Numbers) (d : ℕ) (x : Name) (n : ℕ) (sound : S
   }
 
 -- a directory's name that goes
-module _ (ps : List ℕ) (s : Numbers) (d : ℕ) (x : Name) (sound : Sound ps s) (can : CanTake (shown ps s) (doing_of (Unname d x))) where
+module _ (ps : List ℕ) (s : Numbers) (d : ℕ) (x : Name) (sound : Sound ps s) (can : CanTake (shown ps s) (effect_of (Unname d x))) where
   abbrev pub unnamed : Numbers
   unnamed = changed_listing (without_name x) s d
 
@@ -182,7 +182,7 @@ module _ (ps : List ℕ) (s : Numbers) (d : ℕ) (x : Name) (sound : Sound ps s)
   inodes_unnamed : inodes unnamed ≡ (clear_name d x old).inodes
   inodes_unnamed = inodes-changed (without_name x) (λ names. remove names x) (λ l. refl) s d ∙ with_names-there (λ names. remove names x) (inodes s) d (names_of old d) there
 
-  pub unnamed_state : (after : Numbers) → inodes after ≡ remove (inodes unnamed) gone → stored ps (inodes after) ≡ tidy (all_applied (doing_of (Unname d x)).chosen (doing_of (Unname d x)).edits old)
+  pub unnamed_state : (after : Numbers) → inodes after ≡ remove (inodes unnamed) gone → stored ps (inodes after) ≡ tidy (all_applied (effect_of (Unname d x)).chosen (effect_of (Unname d x)).edits old)
   unnamed_state after is = ap (stored ps) (is ∙ ap (λ m. remove m gone) inodes_unnamed) ∙ sym (unnamed_tidy old d x refl sound.tidied sound.well fitting)
 
   same_met : (c : Claim) → met unnamed c ≡ met s c

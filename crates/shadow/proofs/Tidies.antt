@@ -9,7 +9,7 @@ use Rattle.model.specs.State.{Name, A_directory, Kernel, Inode, Directory, Descr
 use Rattle.model.specs.Changes.{Make_directory, Unname_directory, set_inode, set_name, clear_name, applied, tidy, openings, is_held, is_reached, without_descriptions}
 use Rattle.model.proofs.Inodes.{get_other}
 use Rattle.call_laws.specs.WellFormed.{WellFormed}
-use Rattle.call_laws.proofs.Fits.{Fits, Gives}
+use Rattle.call_laws.specs.Fits.{Fits, Gives}
 use Rattle.call_laws.proofs.Maps.{not_none, true_is_false, sum-empty, get_retained, retained_none, removed_same, removed_other}
 use Rattle.call_laws.proofs.Names.{HasNames, has_names, links_unnamed, one, counted, named_counted}
 use Rattle.call_laws.proofs.NameEdits.{IsNew, is_new, kept_kind}

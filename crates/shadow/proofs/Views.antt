@@ -8,12 +8,12 @@ use Rattle.model.specs.State.{Name, name_cmp, Kind, A_directory, Kernel, Directo
 use Rattle.model.specs.Changes.{set_inode, set_name, clear_name, applied, all_applied}
 use Rattle.model.proofs.Inodes.{get_same, get_other}
 use Rattle.call_laws.proofs.Maps.{not_none, some_same}
-use Rattle.history_laws.specs.Doings.{Doing, all_done}
+use Rattle.model.specs.Effects.{Effect, all_done}
 use Rattle.shadow.specs.declared.steps.Step.{Step}
 use Rattle.shadow.specs.declared.steps.Step.TheVariants.{Nothing, Make, Unname}
 use Rattle.shadow.specs.Looks.{NamesAreDirectories, directory_at}
 use Rattle.shadow.specs.Index.{is_place}
-use Rattle.shadow.specs.Changes.{doing_of}
+use Rattle.shadow.specs.Changes.{effect_of}
 
 abbrev pub found : Kernel → ℕ → Name → Option ℕ
 found k e y = get (names_of k e) y
@@ -59,7 +59,7 @@ after_step (Make d x n) e y before = cond (is_place e y (d, x)) (Some n) (cond (
 after_step (Unname d x) e y before = cond (is_place e y (d, x)) None before
 
 abbrev pub one_done : Step → Kernel → Kernel
-one_done s k = all_applied (doing_of s).chosen (doing_of s).edits k
+one_done s k = all_applied (effect_of s).chosen (effect_of s).edits k
 
 pub found_after : (s : Step) (k : Kernel) (e : ℕ) (y : Name) → found (one_done s k) e y ≡ after_step s e y (found k e y)
 unfolding applied
@@ -67,7 +67,7 @@ found_after Nothing k e y = refl
 found_after (Make d x n) k e y = found_named (set_inode n (Directory empty) k) d x n e y ∙ ap (cond (is_place e y (d, x)) (Some n)) (found_cleared k n e y)
 found_after (Unname d x) k e y = found_unnamed k d x e y
 
-pub done_more : (ds : List Doing) (d : Doing) (k : Kernel) → all_done (ds ++ d ∷ []) k ≡ all_applied d.chosen d.edits (all_done ds k)
+pub done_more : (ds : List Effect) (d : Effect) (k : Kernel) → all_done (ds ++ d ∷ []) k ≡ all_applied d.chosen d.edits (all_done ds k)
 done_more [] d k = refl
 done_more (x ∷ ds) d k = done_more ds d (all_applied x.chosen x.edits k)
 
@@ -102,7 +102,7 @@ directories_after (Make d x n) k h e y m is = elim (from_cond (is_place e y (d, 
 ]
 directories_after (Unname d x) k h e y m is = kind_unnamed k d x m (h e y m (from_none (is_place e y (d, x)) m (found k e y) (sym (found_after (Unname d x) k e y) ∙ is)))
 
-pub directories_all : (steps : List Step) (k : Kernel) → NamesAreDirectories k → NamesAreDirectories (all_done (map doing_of steps) k)
+pub directories_all : (steps : List Step) (k : Kernel) → NamesAreDirectories k → NamesAreDirectories (all_done (map effect_of steps) k)
 directories_all [] k h = h
 directories_all (s ∷ steps) k h = directories_all steps (one_done s k) (directories_after s k h)
 
@@ -117,6 +117,6 @@ root_after Nothing k = refl
 root_after (Make d x n) k = refl
 root_after (Unname d x) k = refl
 
-pub root_all : (steps : List Step) (k : Kernel) → (all_done (map doing_of steps) k).root ≡ k.root
+pub root_all : (steps : List Step) (k : Kernel) → (all_done (map effect_of steps) k).root ≡ k.root
 root_all [] k = refl
 root_all (s ∷ steps) k = root_all steps (one_done s k) ∙ root_after s k

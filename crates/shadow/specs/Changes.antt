@@ -5,7 +5,7 @@ use Rattle.model.specs.FiniteMap.{get, empty}
 use Rattle.model.specs.State.{Name, Kernel, names_of}
 use Rattle.model.specs.Changes.{Edit, Make_directory, Unname_directory}
 use Rattle.model.specs.Moments.{is_in}
-use Rattle.history_laws.specs.Doings.{Doing, all_done}
+use Rattle.model.specs.Effects.{Effect, all_done}
 use Rattle.shadow.specs.declared.edits.Change.{Change}
 use Rattle.shadow.specs.declared.steps.Step.{Step}
 use Rattle.shadow.specs.declared.steps.Step.TheVariants.{Nothing, Make, Unname}
@@ -20,16 +20,16 @@ abbrev pub edits_in : Option Change → List Edit
 edits_in (Some c) = edits_of c
 edits_in None = []
 
-abbrev pub doing_of : Step → Doing
-doing_of Nothing = record { chosen = []; edits = [] }
-doing_of (Make d x n) = record { chosen = n ∷ []; edits = Make_directory d x 0 ∷ [] }
-doing_of (Unname d x) = record { chosen = []; edits = Unname_directory d x ∷ [] }
+abbrev pub effect_of : Step → Effect
+effect_of Nothing = record { chosen = []; edits = [] }
+effect_of (Make d x n) = record { chosen = n ∷ []; edits = Make_directory d x 0 ∷ [] }
+effect_of (Unname d x) = record { chosen = []; edits = Unname_directory d x ∷ [] }
 
-abbrev pub doings_of : List Step → List Doing
-doings_of steps = map doing_of steps
+abbrev pub effects_of : List Step → List Effect
+effects_of steps = map effect_of steps
 
 -- the numbers of new directories
-abbrev pub made_by : List Doing → List ℕ
+abbrev pub made_by : List Effect → List ℕ
 made_by ds = flat_map (λ d. d.chosen) ds
 
 -- what was noted last, or else what was before
@@ -39,7 +39,7 @@ or_before None before = before
 
 -- What is noted of names is what they give after the changes, in each state in which the new directories are not there yet. No name
 -- is noted to give something in a directory to which no change adds a name.
-pub record Agrees (ds : List Doing) (index : List Given) : Type 0 where
+pub record Agrees (ds : List Effect) (index : List Given) : Type 0 where
   pub names : (k : Kernel) → ((n : ℕ) → is_in n (made_by ds) ≡ true → names_of k n ≡ empty) → (d : ℕ) (x : Name) → get (names_of (all_done ds k) d) x ≡ or_before (given_at index d x) (get (names_of k d) x)
   pub adds : (d : ℕ) (x : Name) (n : ℕ) → given_at index d x ≡ Some (Some n) → 0 < claimed (Room d) ds
   pub numbers : (d : ℕ) (x : Name) (n : ℕ) → given_at index d x ≡ Some (Some n) → is_in n (made_by ds) ≡ true

@@ -5,7 +5,7 @@ use Rattle.std.specs.Ordering.{nat_cmp}
 use Rattle.std.specs.List.{AllByRecursion, count_by, sum_by}
 use Rattle.model.specs.FiniteMap.{FinMap, get}
 use Rattle.model.specs.Changes.{Edit, Make_directory}
-use Rattle.history_laws.specs.Doings.{Doing}
+use Rattle.model.specs.Effects.{Effect}
 use Rattle.shadow.specs.Committed.{Committed, Reserve}
 
 -- room for one more name in a directory, or a number for a new object
@@ -23,7 +23,7 @@ adds_to r (Make_directory d x i) = d == r
 adds_to r _ = false
 
 -- how often a change makes this claim, and how often changes do
-abbrev pub claimed_by : Claim → Doing → ℕ
+abbrev pub claimed_by : Claim → Effect → ℕ
 claimed_by (Room r) d = count_by (adds_to r) d.edits
 claimed_by (Number n) d = count_by (λ m. m == n) d.chosen
 
@@ -32,7 +32,7 @@ abbrev pub room_in : ℕ → Claim → ℕ
 room_in d (Room r) = if d == r then 1 else 0
 room_in d (Number n) = 0
 
-abbrev pub claimed : Claim → List Doing → ℕ
+abbrev pub claimed : Claim → List Effect → ℕ
 claimed c ds = sum_by (claimed_by c) ds
 
 abbrev pub promised_in : Option Reserve → ℕ
@@ -49,7 +49,7 @@ reserved s (Room d) = promised_in (get s.reserves d)
 reserved s (Number n) = coming_in (get s.reserves n)
 
 -- all that these changes claim is there
-abbrev pub Covers : Committed → List Doing → Type 0
+abbrev pub Covers : Committed → List Effect → Type 0
 Covers s ds = (c : Claim) → claimed c ds ≤ reserved s c
 
 -- a number of an object that is there or to come

@@ -5,7 +5,8 @@ use Rattle.model.specs.FiniteMap.{FinMap}
 use Rattle.model.specs.State.{Kernel}
 use Rattle.model.specs.Entries.{Executed}
 use Rattle.call_laws.specs.WellFormed.{WellFormed}
-use Rattle.history_laws.specs.Doings.{Doing, doings, Goes}
+use Rattle.model.specs.Effects.{Effect, effects}
+use Rattle.history_laws.specs.Untidied.{Goes}
 
 -- what is kept of a number that is in use: whether its object is still to come, and for how many further names room is promised
 pub record Reserve : Type 0 where
@@ -18,8 +19,8 @@ pub record Committed : Type 0 where
   pub reserves : FinMap nat_cmp Reserve
 
 -- changes that a list of calls makes from this state, each call answered as it was
-pub record CanCommit (k : Kernel) (changes : List Doing) : Type 0 where
+pub record CanCommit (k : Kernel) (changes : List Effect) : Type 0 where
   pub pid : ℕ
   pub calls : List Executed
   pub goes : Goes WellFormed k pid calls
-  pub same : doings pid calls k ≡ changes
+  pub same : effects pid calls k ≡ changes

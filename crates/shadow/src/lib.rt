@@ -14,6 +14,3 @@ pub use edits::Edits;
 pub use shadow::Shadow;
 pub use stable::Stable;
 pub use view::View;
-
-#[cfg(test)]
-mod tests;

@@ -3,10 +3,10 @@ ghost use Rattle.std.specs.Prelude.{ℕ, ◌≡◌, ◌≤◌, ◌+◌, ◌++◌
 ghost use Rattle.std.specs.List.{AllByRecursion, sum_by};
 ghost use Rattle.model.specs.State.{Kernel, entry_of, names_of};
 ghost use Rattle.model.specs.Changes.{news, tidy};
-ghost use Rattle.history_laws.specs.Doings.{all_done};
+ghost use Rattle.model.specs.Effects.{all_done};
 ghost use Rattle.shadow.specs.Committed.{CanCommit};
 ghost use Rattle.shadow.specs.declared.steps.Step.TheVariants as steps;
-ghost use Rattle.shadow.specs.Changes.{doing_of, edits_of};
+ghost use Rattle.shadow.specs.Changes.{effect_of, edits_of};
 ghost use Rattle.shadow.specs.Looks.{directory_at};
 ghost use Rattle.shadow.specs.Claims.{Claim, Room, Covers, HaveParents, IsInUse, claimed, claimed_by, reserved, room_in};
 
@@ -32,14 +32,14 @@ pub struct Shadow {
 
 impl Model for Shadow {
     ghost use Rattle.std.specs.Prelude.{List};
-    ghost use Rattle.history_laws.specs.Doings.{Doing};
-    ghost use Rattle.shadow.specs.Changes.{doings_of, Agrees};
+    ghost use Rattle.model.specs.Effects.{Effect};
+    ghost use Rattle.shadow.specs.Changes.{effects_of, Agrees};
 
-    ghost Value = { List Doing };
+    ghost Value = { List Effect };
 
-    ghost view = { λ s. doings_of s.steps.items };
+    ghost view = { λ s. effects_of s.steps.items };
 
-    ghost invariant = { λ s. Agrees (doings_of s.steps.items) s.index };
+    ghost invariant = { λ s. Agrees (effects_of s.steps.items) s.index };
 }
 
 impl Shadow {
@@ -101,7 +101,7 @@ impl Shadow {
 
     /// One call that changes nothing.
     fn add_nothing(&mut self) -> Result<(), AllocError>
-        ensures ok { OnOk result (self.new ≡ self.old ++ doing_of steps.Nothing ∷ []) }
+        ensures ok { OnOk result (self.new ≡ self.old ++ effect_of steps.Nothing ∷ []) }
         ensures err { OnErr result (self.new ≡ self.old) }
     {
         self.steps.push(Step::Nothing)?;
@@ -118,7 +118,7 @@ impl Shadow {
     ) -> Result<(), AllocError>
         requires unused { claimed (Room num) self.old ≡ 0 }
         requires parent { IsInUse stable.old.reserves parent }
-        ensures ok { OnOk result (self.new ≡ self.old ++ doing_of (steps.Make parent name num) ∷ []) }
+        ensures ok { OnOk result (self.new ≡ self.old ++ effect_of (steps.Make parent name num) ∷ []) }
         ensures room { OnOk result ((c : Claim) → reserved stable.old c + room_in parent c ≤ reserved stable.new c) }
         ensures err { OnErr result (self.new ≡ self.old) }
         ensures state { stable.new.state ≡ stable.old.state }
@@ -137,7 +137,7 @@ impl Shadow {
 
     /// One call that takes a directory's name away.
     fn add_unnamed(&mut self, parent: Num, name: Name) -> Result<(), AllocError>
-        ensures ok { OnOk result (self.new ≡ self.old ++ doing_of (steps.Unname parent name) ∷ []) }
+        ensures ok { OnOk result (self.new ≡ self.old ++ effect_of (steps.Unname parent name) ∷ []) }
         ensures err { OnErr result (self.new ≡ self.old) }
     {
         self.steps.reserve(1)?;

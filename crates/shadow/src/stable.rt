@@ -7,7 +7,7 @@ ghost use Rattle.model.specs.Changes.{all_applied, news, process_of, tidy};
 ghost use Rattle.model.specs.Steps.{AllDifferent, IsNowhere};
 ghost use Rattle.model.specs.Moments.{start, is_alive, is_in};
 ghost use Rattle.shadow.specs.declared.steps.Step.TheVariants as steps;
-ghost use Rattle.shadow.specs.Changes.{doing_of};
+ghost use Rattle.shadow.specs.Changes.{effect_of};
 ghost use Rattle.shadow.specs.Claims.{Claim, Number, Covers, IsInUse, claimed_by, number_of, reserved, room_in};
 ghost use Rattle.shadow.specs.Effects.{CanTake};
 ghost use Rattle.shadow.specs.Looks.{NamesAreDirectories};
@@ -199,10 +199,10 @@ impl Stable {
 
     /// Makes one change. What has no name any more goes. It takes no memory.
     pub(crate) fn take(&mut self, step: Step)
-        requires can { CanTake self.old.state (doing_of step) }
-        requires covers { Covers self.old (doing_of step ∷ []) }
-        ensures state { self.new.state ≡ tidy (all_applied (doing_of step).chosen (doing_of step).edits self.old.state) }
-        ensures keeps { (c : Claim) → reserved self.old c ≤ reserved self.new c + claimed_by c (doing_of step) }
+        requires can { CanTake self.old.state (effect_of step) }
+        requires covers { Covers self.old (effect_of step ∷ []) }
+        ensures state { self.new.state ≡ tidy (all_applied (effect_of step).chosen (effect_of step).edits self.old.state) }
+        ensures keeps { (c : Claim) → reserved self.old c ≤ reserved self.new c + claimed_by c (effect_of step) }
     {
         match step {
             Step::Nothing => {}
@@ -213,10 +213,10 @@ impl Stable {
 
     /// The new directory of a reserved number is there, with its name.
     fn make(&mut self, parent: Num, name: Name, num: Num)
-        requires can { CanTake self.old.state (doing_of (steps.Make parent name num)) }
-        requires covers { Covers self.old (doing_of (steps.Make parent name num) ∷ []) }
-        ensures state { self.new.state ≡ tidy (all_applied (num ∷ []) (doing_of (steps.Make parent name num)).edits self.old.state) }
-        ensures keeps { (c : Claim) → reserved self.old c ≤ reserved self.new c + claimed_by c (doing_of (steps.Make parent name num)) }
+        requires can { CanTake self.old.state (effect_of (steps.Make parent name num)) }
+        requires covers { Covers self.old (effect_of (steps.Make parent name num) ∷ []) }
+        ensures state { self.new.state ≡ tidy (all_applied (num ∷ []) (effect_of (steps.Make parent name num)).edits self.old.state) }
+        ensures keeps { (c : Claim) → reserved self.old c ≤ reserved self.new c + claimed_by c (effect_of (steps.Make parent name num)) }
     {
         self.store.install(num);
         self.store.add_name(parent, name, num);
@@ -224,8 +224,8 @@ impl Stable {
 
     /// A directory's name goes, and the directory with it.
     fn unname(&mut self, parent: Num, name: &Name)
-        requires can { CanTake self.old.state (doing_of (steps.Unname parent name.now)) }
-        ensures state { self.new.state ≡ tidy (all_applied [] (doing_of (steps.Unname parent name.now)).edits self.old.state) }
+        requires can { CanTake self.old.state (effect_of (steps.Unname parent name.now)) }
+        ensures state { self.new.state ≡ tidy (all_applied [] (effect_of (steps.Unname parent name.now)).edits self.old.state) }
         ensures keeps { (c : Claim) → reserved self.old c ≤ reserved self.new c }
     {
         let gone = self.store.remove_name(parent, name).unwrap();
@@ -235,7 +235,7 @@ impl Stable {
     /// Gives back what was kept for one change. It takes no memory.
     pub(crate) fn release(&mut self, step: &Step)
         ensures state { self.new.state ≡ self.old.state }
-        ensures keeps { (c : Claim) → reserved self.old c ≤ reserved self.new c + claimed_by c (doing_of step.now) }
+        ensures keeps { (c : Claim) → reserved self.old c ≤ reserved self.new c + claimed_by c (effect_of step.now) }
     {
         if let Step::Make { parent, num, .. } = step {
             self.unpromise(*parent);

@@ -3,7 +3,7 @@ ghost use Rattle.std.specs.Prelude.{◌≡◌, OnOk};
 ghost use Rattle.model.specs.FiniteMap as map;
 ghost use Rattle.model.specs.State.{Kernel, names_of};
 ghost use Rattle.model.specs.Changes.{all_applied};
-ghost use Rattle.shadow.specs.Changes.{doing_of};
+ghost use Rattle.shadow.specs.Changes.{effect_of};
 
 use dirlist::Dir;
 use heap::Heap;
@@ -41,7 +41,7 @@ impl Step {
         dir: Num,
         names: &mut Dir,
     ) -> Result<(), AllocError>
-        ensures { OnOk result ((k : Kernel) → names.old.names ≡ names_of k dir → names.new.names ≡ names_of (all_applied (doing_of self.now).chosen (doing_of self.now).edits k) dir) }
+        ensures { OnOk result ((k : Kernel) → names.old.names ≡ names_of k dir → names.new.names ≡ names_of (all_applied (effect_of self.now).chosen (effect_of self.now).edits k) dir) }
     {
         match self {
             Step::Nothing => Ok(()),

@@ -2,7 +2,7 @@
 ghost use Rattle.std.specs.Prelude.{◌≡◌, IfOk, IfSome, option_map};
 ghost use Rattle.model.specs.FiniteMap.{keys};
 ghost use Rattle.model.specs.State.{entry_of, names_of};
-ghost use Rattle.history_laws.specs.Doings.{all_done};
+ghost use Rattle.model.specs.Effects.{all_done};
 ghost use Rattle.shadow.specs.Claims.{Covers, IsInUse};
 ghost use Rattle.shadow.specs.Looks.{changes_of, directory_at};
 
@@ -22,7 +22,7 @@ pub struct View<'a> {
 
 impl<'a> Model for View<'a> {
     ghost use Rattle.std.specs.Prelude.{option_map};
-    ghost use Rattle.history_laws.specs.Doings.{all_done};
+    ghost use Rattle.model.specs.Effects.{all_done};
     ghost use Rattle.shadow.specs.Committed.{Committed};
     ghost use Rattle.shadow.specs.Claims.{Covers};
     ghost use Rattle.shadow.specs.Looks.{changes_of};

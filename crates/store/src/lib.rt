@@ -358,6 +358,3 @@ fn remove_name_in(place: &mut Place, name: &Name) -> Option<Num>
         Place::Held(Object::Directory(dir)) => dir.remove(name),
     }
 }
-
-#[cfg(test)]
-mod tests;

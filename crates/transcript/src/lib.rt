@@ -12,6 +12,3 @@ mod reply;
 mod text;
 
 pub use line::{print, print_line};
-
-#[cfg(test)]
-mod tests;

@@ -132,6 +132,3 @@ pub fn read_words<'a>(alloc: Global, heap: Heap, words: &'a [&'a str]) -> Result
     let matches = matches_for(alloc, words)?;
     job_of(heap, &matches)
 }
-
-#[cfg(test)]
-mod tests;

@@ -1,6 +1,6 @@
 use Rattle.std.proofs.Common.{◌≡◌, ◌≤◌, ◌+◌, refl, sym, ap, subst, ◌∙◌}
 use Rattle.model.specs.Changes.{tidy}
-use Rattle.history_laws.specs.Doings.{all_done}
+use Rattle.model.specs.Effects.{all_done}
 use Rattle.shadow.specs.Committed.{CanCommit}
 use Rattle.shadow.specs.Claims.{Covers, claimed, reserved}
 use Rattle.kernel.specs.Shown.{moment}

@@ -3,7 +3,7 @@ use Rattle.std.specs.Prelude.{IfSome}
 use Rattle.std.specs.Borrow.{Bor}
 use Rattle.model.specs.Changes.{tidy}
 use Rattle.model.specs.Moments.{seen_by}
-use Rattle.history_laws.specs.Doings.{all_done}
+use Rattle.model.specs.Effects.{all_done}
 use Rattle.shadow.specs.declared.shadow.Shadow.{Shadow}
 use Rattle.kernel.specs.Shown.{moment, is_live}
 use Rattle.kernel.specs.States.{fields}

@@ -1,0 +1,18 @@
+//! Tests of the edges: scripts, transcripts, words, devices, whole runs, and the one lock. They stand here so that no edge is
+//! proved a second time for its tests.
+#![tactic(auto)]
+
+#[cfg(test)]
+mod halting;
+#[cfg(test)]
+mod of_device;
+#[cfg(test)]
+mod of_runner;
+#[cfg(test)]
+mod of_script;
+#[cfg(test)]
+mod of_transcript;
+#[cfg(test)]
+mod of_turnstile;
+#[cfg(test)]
+mod of_words;

@@ -1,0 +1,32 @@
+//! Tests of the layers below the kernel: each public call once where all goes well, and each refusal of memory. They stand
+//! here so that no layer is proved a second time for its tests.
+#![tactic(auto)]
+
+#[cfg(test)]
+mod names;
+#[cfg(test)]
+mod of_conflict;
+#[cfg(test)]
+mod of_contention;
+#[cfg(test)]
+mod of_dirlist;
+#[cfg(test)]
+mod of_fdtable;
+#[cfg(test)]
+mod of_file_shadow;
+#[cfg(test)]
+mod of_heap;
+#[cfg(test)]
+mod of_history;
+#[cfg(test)]
+mod of_ids;
+#[cfg(test)]
+mod of_objects;
+#[cfg(test)]
+mod of_path;
+#[cfg(test)]
+mod of_pipe_shadow;
+#[cfg(test)]
+mod of_shadow;
+#[cfg(test)]
+mod of_store;

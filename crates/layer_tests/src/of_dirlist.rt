@@ -1,0 +1,91 @@
+// Names in byte order, room that stays promised, and refused memory.
+ghost use Rattle.std.specs.Prelude.{◌≡◌};
+
+use crate::names::joined;
+use dirlist::Dir;
+use heap::Heap;
+use ids::{Name, Num};
+use std::alloc::AllocError;
+use std::test::Fail;
+
+fn name(heap: Heap, bytes: &[u8]) -> Result<Name, Fail> {
+    Ok(Name::copy(heap, bytes)?)
+}
+
+// Adds a name where it is not there yet, as its caller has to.
+fn put(dir: &mut Dir, name: Name, num: Num) -> Result<(), AllocError>
+    ensures { dir.new.promised ≡ dir.old.promised }
+{
+    if dir.lookup(&name).is_none() {
+        dir.insert(name, num)?;
+    }
+    Ok(())
+}
+
+// The names, each with a blank behind it.
+fn told(heap: Heap, dir: &Dir) -> Result<Vec<u8, Heap>, Fail> {
+    let names = dir.names(heap)?;
+    Ok(joined(heap, names.as_slice())?)
+}
+
+#[test]
+fn names_stand_in_byte_order(rt: HostRuntime) -> Result<(), Fail> {
+    let heap = heap::open(rt.alloc())?;
+    let mut dir = Dir::new(heap);
+    assert!(rt; dir.is_empty());
+    put(&mut dir, name(heap, b"b")?, Num(1))?;
+    put(&mut dir, name(heap, b"\xff")?, Num(2))?;
+    put(&mut dir, name(heap, b"a")?, Num(3))?;
+    put(&mut dir, name(heap, b"B")?, Num(4))?;
+    put(&mut dir, name(heap, b"ab")?, Num(5))?;
+    assert_eq!(rt; told(heap, &dir)?.as_slice(), b"B a ab b \xff ".as_slice());
+    assert_eq!(rt; dir.lookup(&name(heap, b"ab")?), Some(Num(5)));
+    assert_eq!(rt; dir.lookup(&name(heap, b"c")?), None);
+    assert_eq!(rt; dir.remove(&name(heap, b"a")?), Some(Num(3)));
+    assert_eq!(rt; dir.remove(&name(heap, b"a")?), None);
+    assert_eq!(rt; dir.len(), 4);
+    assert_eq!(rt; told(heap, &dir)?.as_slice(), b"B ab b \xff ".as_slice());
+    Ok(())
+}
+
+#[test]
+fn refused_memory_changes_nothing(rt: HostRuntime) -> Result<(), Fail> {
+    let heap = heap::open(rt.alloc())?;
+    let mut dir = Dir::new(heap);
+    heap.refuse(1);
+    assert!(rt; dir.promise().is_err());
+    assert!(rt; dir.is_empty());
+    heap.refuse(2);
+    assert!(rt; put(&mut dir, name(heap, b"a")?, Num(1)).is_err());
+    assert!(rt; dir.is_empty());
+    heap.refuse(0);
+    put(&mut dir, name(heap, b"a")?, Num(1))?;
+    heap.refuse(1);
+    assert!(rt; dir.names(heap).is_err());
+    assert_eq!(rt; told(heap, &dir)?.as_slice(), b"a ".as_slice());
+    Ok(())
+}
+
+#[test]
+fn promised_room_takes_no_memory(rt: HostRuntime) -> Result<(), Fail> {
+    let heap = heap::open(rt.alloc())?;
+    let mut dir = Dir::new(heap);
+    let first = name(heap, b"a")?;
+    let second = name(heap, b"b")?;
+    let others = name(heap, b"c")?;
+    dir.promise()?;
+    dir.promise()?;
+    put(&mut dir, others, Num(9))?;
+    heap.refuse(0);
+    if dir.lookup(&first).is_none() {
+        dir.insert_promised(first, Num(1));
+    }
+    assert!(rt; dir.is_promised());
+    if dir.lookup(&second).is_none() {
+        dir.insert_promised(second, Num(2));
+    }
+    assert!(rt; !dir.is_promised());
+    assert_eq!(rt; heap.made(), 0);
+    assert_eq!(rt; dir.len(), 3);
+    Ok(())
+}

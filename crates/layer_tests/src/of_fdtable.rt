@@ -1,0 +1,37 @@
+// The lowest free descriptors as the table fills up, and what one change leaves.
+use fdtable::FdTable;
+use ids::{Fd, Num};
+
+#[test]
+fn the_lowest_free_descriptors_are_given(rt: HostRuntime) {
+    let mut table = FdTable::new();
+    assert_eq!(rt; table.two_lowest(), Some((Fd(0), Fd(1))));
+    for number in 0..64 {
+        assert_eq!(rt; table.lowest(), Some(Fd(number)));
+        table.set(Fd(number), Num(100));
+    }
+    assert!(rt; table.lowest().is_none());
+    table.clear(Fd(5));
+    assert_eq!(rt; table.lowest(), Some(Fd(5)));
+    assert!(rt; table.two_lowest().is_none());
+    table.clear(Fd(63));
+    table.clear(Fd(64));
+    assert_eq!(rt; table.two_lowest(), Some((Fd(5), Fd(63))));
+    table.set(Fd(5), Num(7));
+    assert_eq!(rt; table.get(Fd(5)), Some(Num(7)));
+    assert_eq!(rt; table.get(Fd(6)), Some(Num(100)));
+    assert_eq!(rt; table.get(Fd(63)), None);
+    assert_eq!(rt; table.get(Fd(64)), None);
+    assert_eq!(rt; table.lowest(), Some(Fd(63)));
+}
+
+#[test]
+fn a_copy_is_a_table_of_its_own(rt: HostRuntime) {
+    let mut table = FdTable::new();
+    table.set(Fd(3), Num(9));
+    let copy = table.copy();
+    table.clear(Fd(3));
+    assert_eq!(rt; copy.get(Fd(3)), Some(Num(9)));
+    assert_eq!(rt; table.get(Fd(3)), None);
+    assert_eq!(rt; copy.two_lowest(), Some((Fd(0), Fd(1))));
+}

@@ -1,0 +1,42 @@
+// A history takes its memory when it is made, and none for an entry.
+use heap::Heap;
+use history::History;
+use ids::{Entry, Nums, Op, Pid, Pids, Priority, Reply};
+use std::test::Fail;
+
+fn begun(heap: Heap) -> Entry {
+    Entry {
+        pid: Pid(1),
+        op: Op::End,
+        reply: Reply::NotInTransaction,
+        chosen: Nums::new(heap),
+        doomed: Pids::new(heap),
+    }
+}
+
+#[test]
+fn takes_its_memory_at_the_start(rt: HostRuntime) -> Result<(), Fail> {
+    let heap = heap::open(rt.alloc())?;
+    let zero = Priority::new(0).ok_or("no priority")?;
+    let mut history = History::new(heap, &[zero, zero], 2)?;
+    heap.refuse(0);
+    assert!(rt; history.push(begun(heap)).is_ok());
+    assert!(rt; history.push(begun(heap)).is_ok());
+    assert!(rt; history.push(begun(heap)).is_err());
+    assert_eq!(rt; heap.made(), 0);
+    assert_eq!(rt; history.entries().len(), 2);
+    assert_eq!(rt; history.priorities().len(), 2);
+    assert_eq!(rt; history.limit(), 2);
+    Ok(())
+}
+
+#[test]
+fn refused_memory_gives_nothing(rt: HostRuntime) -> Result<(), Fail> {
+    let heap = heap::open(rt.alloc())?;
+    let zero = Priority::new(0).ok_or("no priority")?;
+    for number in 1..3u64 {
+        heap.refuse(number);
+        assert!(rt; History::new(heap, &[zero], 2).is_err());
+    }
+    Ok(())
+}

@@ -1,0 +1,94 @@
+// Each call once with ample memory and once refused, against bytes written out by hand.
+use ids::Num;
+use objects::{Description, FileData, LARGEST_FILE, PipeData};
+use std::test::Fail;
+
+#[test]
+fn a_file_is_a_list_of_bytes(rt: HostRuntime) -> Result<(), Fail> {
+    let heap = heap::open(rt.alloc())?;
+    let mut file = FileData::new(heap);
+    assert!(rt; file.is_empty());
+    file.write_at(0, b"abc")?;
+    file.write_at(5, b"xy")?;
+    assert_eq!(rt; file.as_slice(), b"abc\0\0xy".as_slice());
+    file.write_at(1, b"B")?;
+    file.cut(3)?;
+    file.cut(5)?;
+    assert_eq!(rt; file.as_slice(), b"aBc\0\0".as_slice());
+    assert_eq!(rt; file.read_at(heap, 1, 3)?.as_slice(), b"Bc\0".as_slice());
+    assert_eq!(rt; file.read_at(heap, 3, 9)?.as_slice(), b"\0\0".as_slice());
+    assert!(rt; file.read_at(heap, 9, 1)?.as_slice().is_empty());
+    file.write_at(LARGEST_FILE - 1, b"z")?;
+    assert_eq!(rt; file.len(), 1_048_576);
+    Ok(())
+}
+
+#[test]
+fn a_file_grows_in_room_that_was_made(rt: HostRuntime) -> Result<(), Fail> {
+    let heap = heap::open(rt.alloc())?;
+    let mut file = FileData::new(heap);
+    file.promise(3000)?;
+    heap.refuse(1);
+    file.write_at(2999, b"z")?;
+    file.cut(10)?;
+    file.cut(3000)?;
+    assert_eq!(rt; heap.made(), 0);
+    assert_eq!(rt; file.len(), 3000);
+    Ok(())
+}
+
+#[test]
+fn a_refused_file_stays(rt: HostRuntime) -> Result<(), Fail> {
+    let heap = heap::open(rt.alloc())?;
+    let mut file = FileData::new(heap);
+    file.write_at(0, b"abc")?;
+    heap.refuse(1);
+    assert!(rt; file.read_at(heap, 0, 3).is_err());
+    heap.refuse(1);
+    assert!(rt; file.write_at(5000, b"z").is_err());
+    heap.refuse(1);
+    assert!(rt; file.cut(5000).is_err());
+    heap.refuse(1);
+    assert!(rt; file.promise(5000).is_err());
+    assert_eq!(rt; file.as_slice(), b"abc".as_slice());
+    file.write_at(5000, b"z")?;
+    assert_eq!(rt; file.len(), 5001);
+    Ok(())
+}
+
+#[test]
+fn a_pipe_is_a_list_of_bytes(rt: HostRuntime) -> Result<(), Fail> {
+    let heap = heap::open(rt.alloc())?;
+    heap.refuse(1);
+    assert!(rt; PipeData::new(heap).is_err());
+    let mut pipe = PipeData::new(heap)?;
+    heap.refuse(0);
+    pipe.put(&[1; 4090]);
+    pipe.skip(4088);
+    pipe.put(b"abcdefghij");
+    assert_eq!(rt; heap.made(), 0);
+    assert_eq!(rt; pipe.room(), 4084);
+    assert_eq!(rt; pipe.read(heap, 3, 7)?.as_slice(), b"bcdefgh".as_slice());
+    heap.refuse(1);
+    assert!(rt; pipe.read(heap, 0, 3).is_err());
+    heap.refuse(1);
+    assert!(rt; pipe.take(heap, 3).is_err());
+    assert_eq!(rt; pipe.len(), 12);
+    assert_eq!(rt; pipe.take(heap, 3)?.as_slice(), b"\x01\x01a".as_slice());
+    assert_eq!(rt; pipe.take(heap, 20)?.as_slice(), b"bcdefghij".as_slice());
+    assert!(rt; pipe.is_empty());
+    Ok(())
+}
+
+#[test]
+fn a_description_is_copied(rt: HostRuntime) {
+    let one = Description {
+        inode: Num(3),
+        reading: true,
+        writing: false,
+        appending: false,
+        offset: 7,
+    };
+    let other = one;
+    assert_eq!(rt; one, other);
+}

@@ -1,0 +1,70 @@
+// Numbers for new directories, and refused memory.
+ghost use Rattle.std.specs.Prelude.{◌≡◌, []};
+
+use heap::Heap;
+use ids::{Name, Num, Priority};
+use shadow::{Edits, Shadow, Stable, View};
+use std::alloc::AllocError;
+use std::test::Fail;
+
+fn first_stable(heap: Heap) -> Result<Stable, Fail> {
+    let priorities = [Priority::new(3).unwrap()];
+    Ok(Stable::new(heap, &priorities)?)
+}
+
+// A new directory in the root, in the shadow of a transaction. Its number is answered.
+fn added(
+    heap: Heap,
+    stable: &mut Stable,
+    shadow: &mut Shadow,
+    name: &[u8],
+) -> Result<Num, AllocError>
+    requires { shadow.old ≡ [] }
+{
+    let root = View::new(stable, None).root();
+    let edits = Edits::make_directory(root, Name::copy(heap, name)?);
+    let chosen = stable.number(&edits)?;
+    let num = chosen.as_slice()[0];
+    if shadow.edit(stable, edits, &chosen).is_err() {
+        stable.forget(&chosen);
+        return Err(AllocError);
+    }
+    Ok(num)
+}
+
+// Whether a new directory can be added where this request for memory is refused.
+fn tried(heap: Heap, stable: &mut Stable, request: u64) -> Result<Num, AllocError> {
+    let mut shadow = Shadow::new(heap);
+    heap.refuse(request);
+    let result = added(heap, stable, &mut shadow, b"a");
+    heap.refuse(0);
+    result
+}
+
+#[test]
+fn refused_memory_gives_numbers_back(rt: HostRuntime) -> Result<(), Fail> {
+    let heap = heap::open(rt.alloc())?;
+    let mut stable = first_stable(heap)?;
+    for request in 1..20 {
+        match tried(heap, &mut stable, request) {
+            Err(_refused) => {}
+            Ok(num) => {
+                assert!(rt; request > 3);
+                assert_eq!(rt; num, Num(1));
+                return Ok(());
+            }
+        }
+    }
+    panic!(rt; "still refused")
+}
+
+#[test]
+fn two_transactions_have_two_numbers(rt: HostRuntime) -> Result<(), Fail> {
+    let heap = heap::open(rt.alloc())?;
+    let mut stable = first_stable(heap)?;
+    let mut first = Shadow::new(heap);
+    let mut second = Shadow::new(heap);
+    assert_eq!(rt; added(heap, &mut stable, &mut first, b"a")?, Num(1));
+    assert_eq!(rt; added(heap, &mut stable, &mut second, b"b")?, Num(2));
+    Ok(())
+}

@@ -1,0 +1,135 @@
+// Numbers that are given out, objects under them, names in them, and refused memory.
+use dirlist::Dir;
+use heap::Heap;
+use ids::{Name, Num};
+use std::alloc::AllocError;
+use std::test::Fail;
+use store::{Object, Store};
+
+fn no_names(heap: Heap) -> Object {
+    Object::Directory(Dir::new(heap))
+}
+
+// A new directory that is shown.
+fn added(heap: Heap, store: &mut Store) -> Result<Num, AllocError> {
+    let num = store.reserve_num(no_names(heap))?;
+    store.install(num);
+    Ok(num)
+}
+
+fn name_count(store: &Store, num: Num) -> Option<usize> {
+    store.directory(num).map(|dir| dir.len())
+}
+
+#[test]
+fn reserved_numbers_differ(rt: HostRuntime) -> Result<(), Fail> {
+    let heap = heap::open(rt.alloc())?;
+    let mut store = Store::new(heap)?;
+    let root = store.root();
+    let first = store.reserve_num(no_names(heap))?;
+    let second = store.reserve_num(no_names(heap))?;
+    assert!(rt; first != second && first != root && second != root);
+    assert_eq!(rt; name_count(&store, root), Some(0));
+    store.free(first);
+    let third = store.reserve_num(no_names(heap))?;
+    assert!(rt; third != second && third != root);
+    Ok(())
+}
+
+#[test]
+fn what_is_installed_is_shown(rt: HostRuntime) -> Result<(), Fail> {
+    let heap = heap::open(rt.alloc())?;
+    let mut store = Store::new(heap)?;
+    let num = store.reserve_num(no_names(heap))?;
+    assert!(rt; store.get(num).is_none());
+    heap.refuse(0);
+    store.install(num);
+    assert_eq!(rt; name_count(&store, num), Some(0));
+    store.hide(num);
+    assert_eq!(rt; name_count(&store, num), None);
+    store.install(num);
+    assert!(rt; store.get(num).is_some());
+    store.free(num);
+    assert_eq!(rt; name_count(&store, num), None);
+    store.install(num);
+    assert_eq!(rt; name_count(&store, num), None);
+    assert_eq!(rt; heap.made(), 0);
+    assert_eq!(rt; name_count(&store, store.root()), Some(0));
+    Ok(())
+}
+
+#[test]
+fn names_are_added_in_promised_room(rt: HostRuntime) -> Result<(), Fail> {
+    let heap = heap::open(rt.alloc())?;
+    let mut store = Store::new(heap)?;
+    let dir = store.reserve_num(no_names(heap))?;
+    let name = Name::copy(heap, b"a")?;
+    let same = Name::copy(heap, b"a")?;
+    let key = Name::copy(heap, b"a")?;
+    assert!(rt; !store.is_promised(dir));
+    store.promise(dir)?;
+    store.promise(dir)?;
+    heap.refuse(0);
+    if store.is_promised(dir) {
+        store.add_name(dir, name, Num(7));
+    }
+    assert_eq!(rt; store.lookup(dir, &key), None);
+    store.install(dir);
+    assert_eq!(rt; store.lookup(dir, &key), Some(Num(7)));
+    if store.is_promised(dir) {
+        store.add_name(dir, same, Num(8));
+    }
+    assert!(rt; !store.is_promised(dir));
+    assert_eq!(rt; store.lookup(dir, &key), Some(Num(8)));
+    assert_eq!(rt; name_count(&store, dir), Some(1));
+    assert_eq!(rt; store.remove_name(dir, &key), Some(Num(8)));
+    assert_eq!(rt; store.remove_name(dir, &key), None);
+    assert_eq!(rt; heap.made(), 0);
+    Ok(())
+}
+
+#[test]
+fn promises_are_counted(rt: HostRuntime) -> Result<(), Fail> {
+    let heap = heap::open(rt.alloc())?;
+    let mut store = Store::new(heap)?;
+    let root = store.root();
+    let other = added(heap, &mut store)?;
+    store.release(root);
+    store.promise(root)?;
+    store.promise(root)?;
+    store.release(root);
+    assert!(rt; store.is_promised(root));
+    assert!(rt; !store.is_promised(other));
+    store.release(root);
+    assert!(rt; !store.is_promised(root));
+    store.free(other);
+    store.promise(other)?;
+    assert!(rt; !store.is_promised(other));
+    Ok(())
+}
+
+#[test]
+fn refused_memory_changes_nothing(rt: HostRuntime) -> Result<(), Fail> {
+    let heap = heap::open(rt.alloc())?;
+    heap.refuse(1);
+    assert!(rt; Store::new(heap).is_err());
+    let mut store = Store::new(heap)?;
+    let root = store.root();
+    let mut refused = false;
+    for _ in 0..20u32 {
+        heap.refuse(1);
+        if store.reserve_num(no_names(heap)).is_err() {
+            refused = true;
+            break;
+        }
+    }
+    assert!(rt; refused);
+    heap.refuse(1);
+    assert!(rt; store.promise(root).is_err());
+    assert!(rt; !store.is_promised(root));
+    assert_eq!(rt; name_count(&store, root), Some(0));
+    heap.refuse(0);
+    assert!(rt; store.reserve_num(no_names(heap)).is_ok());
+    assert!(rt; store.promise(root).is_ok());
+    Ok(())
+}
