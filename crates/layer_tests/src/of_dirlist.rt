@@ -28,21 +28,38 @@ fn told(heap: Heap, dir: &Dir) -> Result<Vec<u8, Heap>, Fail> {
     Ok(joined(heap, names.as_slice())?)
 }
 
+// Five names, added in no order.
+fn five(heap: Heap) -> Result<Dir, Fail> {
+    let mut dir = Dir::new(heap);
+    for (bytes, number) in [
+        (b"b".as_slice(), 1),
+        (b"\xff".as_slice(), 2),
+        (b"a".as_slice(), 3),
+        (b"B".as_slice(), 4),
+        (b"ab".as_slice(), 5),
+    ] {
+        put(&mut dir, name(heap, bytes)?, Num(number))?;
+    }
+    Ok(dir)
+}
+
 #[test]
 fn names_stand_in_byte_order(rt: HostRuntime) -> Result<(), Fail> {
     let heap = heap::open(rt.alloc())?;
-    let mut dir = Dir::new(heap);
-    assert!(rt; dir.is_empty());
-    put(&mut dir, name(heap, b"b")?, Num(1))?;
-    put(&mut dir, name(heap, b"\xff")?, Num(2))?;
-    put(&mut dir, name(heap, b"a")?, Num(3))?;
-    put(&mut dir, name(heap, b"B")?, Num(4))?;
-    put(&mut dir, name(heap, b"ab")?, Num(5))?;
+    let dir = five(heap)?;
     assert_eq!(rt; told(heap, &dir)?.as_slice(), b"B a ab b \xff ".as_slice());
     assert_eq!(rt; dir.lookup(&name(heap, b"ab")?), Some(Num(5)));
     assert_eq!(rt; dir.lookup(&name(heap, b"c")?), None);
-    assert_eq!(rt; dir.remove(&name(heap, b"a")?), Some(Num(3)));
-    assert_eq!(rt; dir.remove(&name(heap, b"a")?), None);
+    Ok(())
+}
+
+#[test]
+fn a_name_is_taken_away_once(rt: HostRuntime) -> Result<(), Fail> {
+    let heap = heap::open(rt.alloc())?;
+    let mut dir = five(heap)?;
+    let gone = name(heap, b"a")?;
+    assert_eq!(rt; dir.remove(&gone), Some(Num(3)));
+    assert_eq!(rt; dir.remove(&gone), None);
     assert_eq!(rt; dir.len(), 4);
     assert_eq!(rt; told(heap, &dir)?.as_slice(), b"B ab b \xff ".as_slice());
     Ok(())

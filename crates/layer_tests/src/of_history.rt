@@ -14,15 +14,20 @@ fn begun(heap: Heap) -> Entry {
     }
 }
 
+// Whether one more entry has a place.
+fn is_taken(heap: Heap, history: &mut History) -> bool {
+    history.push(begun(heap)).is_ok()
+}
+
 #[test]
 fn takes_its_memory_at_the_start(rt: HostRuntime) -> Result<(), Fail> {
     let heap = heap::open(rt.alloc())?;
     let zero = Priority::new(0).ok_or("no priority")?;
     let mut history = History::new(heap, &[zero, zero], 2)?;
     heap.refuse(0);
-    assert!(rt; history.push(begun(heap)).is_ok());
-    assert!(rt; history.push(begun(heap)).is_ok());
-    assert!(rt; history.push(begun(heap)).is_err());
+    assert!(rt; is_taken(heap, &mut history));
+    assert!(rt; is_taken(heap, &mut history));
+    assert!(rt; !is_taken(heap, &mut history));
     assert_eq!(rt; heap.made(), 0);
     assert_eq!(rt; history.entries().len(), 2);
     assert_eq!(rt; history.priorities().len(), 2);
