@@ -6,3 +6,4 @@ pub mod Exceptions
 pub mod Trees
 pub mod Fits
 pub mod Processes
+pub mod Untidied

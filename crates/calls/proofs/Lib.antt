@@ -1,1 +1,4 @@
-pub mod Goes
+pub mod Frees
+pub mod Blocks
+pub mod Ends
+pub mod Seeks

@@ -1,3 +1,3 @@
 pub mod Operations
-pub mod Planned
 pub mod Parts
+pub mod Planned

@@ -1,12 +1,11 @@
 -- What going through the processes finds.
-use Rattle.std.proofs.Common.{◌≡◌, ◌∙◌, sym, refl, ap, ℕ, zero, suc, ◌+◌, ◌<◌, ◌^◌, Bool, true, false, List, [], ◌∷◌, ◌++◌, map, Some, None, inl, inr, add-one, if◌then◌else◌, arith}
+use Rattle.std.proofs.Common.{◌≡◌, ◌∙◌, sym, refl, ap, ℕ, zero, suc, ◌<◌, ◌^◌, Bool, true, false, List, [], ◌∷◌, Some, None, inl, inr, arith}
 use Rattle.std.proofs.lemmas.Bool.{cases_eq, cases_lt, and_parts, false≢true}
-use Rattle.std.proofs.lemmas.List.{map-append}
 use Rattle.model.specs.Steps.{Touch}
 use Rattle.model.specs.Clashes.{clashes, any_clash}
-use Rattle.model.specs.Moments.{lowest_below, or_number, all_below}
+use Rattle.model.specs.Moments.{lowest_below, or_number}
 use Rattle.contention.specs.Holding.{Held, held_at}
-use Rattle.contention.specs.Judging.{IsNumbered, loses_to, is_hit, doomed_as, doomed_below}
+use Rattle.contention.specs.Judging.{IsNumbered, loses_to, is_hit}
 
 -- the lowest number that passes a test, found from below
 pub lowest_found : (p : ℕ → Bool) (n q : ℕ) → lowest_below p q ≡ None → p q ≡ true → q < n → lowest_below p n ≡ Some q
@@ -39,10 +38,3 @@ loses_within all pid t q numbered h = elim (cases_lt q (2 ^ 32)) [
   | inl below ↦ below
   | inr above ↦ absurd (by_one t (held_at all q).touches (numbered.beyond q above) (and_parts _ _ h).1)
 ]
-
--- one process more
-pub doomed_more : (all : List Held) (pid : ℕ) (ts : List Touch) (q : ℕ) → is_hit all pid ts q ≡ true → doomed_below all pid ts (q + 1) ≡ doomed_below all pid ts q ++ doomed_as all pid ts q ∷ []
-doomed_more all pid ts q h = rw add-one (ap (λ b. map (doomed_as all pid ts) (if b then all_below (is_hit all pid ts) q ++ q ∷ [] else all_below (is_hit all pid ts) q)) h ∙ map-append (doomed_as all pid ts) (all_below (is_hit all pid ts) q) (q ∷ []))
-
-pub doomed_same : (all : List Held) (pid : ℕ) (ts : List Touch) (q : ℕ) → is_hit all pid ts q ≡ false → doomed_below all pid ts (q + 1) ≡ doomed_below all pid ts q
-doomed_same all pid ts q h = rw add-one (ap (λ b. map (doomed_as all pid ts) (if b then all_below (is_hit all pid ts) q ++ q ∷ [] else all_below (is_hit all pid ts) q)) h)

@@ -3,6 +3,7 @@
 
 ghost use Rattle.std.specs.Prelude.{◌≡◌, ℕ, suc, ◌<◌, ◌++◌, [], length, take, get_or, Some, None, IfOk, OnErr, OnOk};
 ghost use Rattle.contention.specs.Holding.{Held, nobody, held_at, IsKept, Becomes};
+ghost use Rattle.contention.specs.Judging.{IsJudged};
 ghost use Rattle.contention.specs.Verdicts.{IsVerdict};
 ghost use Rattle.model.specs.Moments.{Moment};
 
@@ -113,10 +114,12 @@ impl Contenders {
 
     /// What a call of a process comes to that touches these: of a live process all that it touches, of an idle one what it
     /// writes. It loses against a process of a higher priority, or of its own where both are live and the other began earlier.
-    /// Refused memory changes nothing.
+    /// So it is for every table; where the table is as a history has it, this is the verdict of the definitions. Refused memory
+    /// changes nothing.
     pub fn verdict(&self, heap: Heap, pid: Pid, touches: &[Touch]) -> Result<Verdict, AllocError>
         requires { pid < length self.now }
-        ensures { (m : Moment) → IsKept m self.now → IfOk result (IsVerdict m pid touches.now) }
+        ensures exact { IfOk result (IsJudged self.now pid touches.now) }
+        ensures verdict { (m : Moment) → IsKept m self.now → IfOk result (IsVerdict m pid touches.now) }
     {
         judge(heap, self.all.as_slice(), pid, touches)
     }

@@ -1,19 +1,16 @@
 -- What one right entry does to the processes, and which live at the start.
-use Rattle.std.proofs.Common.{◌≡◌, ◌≢◌, ℕ, zero, suc, ◌+◌, ◌<◌, ◌≤◌, List, [], ◌∷◌, length, get_or, Option, Some, None, Result, Ok, Err, is_some, refl, sym, ◌∙◌, ap, subst, true, false, Bool, ◌⊎◌, inl, inr, eqb, arith}
+use Rattle.std.proofs.Common.{◌≡◌, ℕ, suc, ◌+◌, ◌<◌, ◌≤◌, List, [], ◌∷◌, Option, Some, None, Result, Ok, Err, refl, sym, ◌∙◌, ap, subst, true, false, Bool, inl, inr, eqb, arith}
 use Rattle.std.specs.Prelude.{if◌then◌else◌}
 use Rattle.std.specs.List.{AllByRecursion}
 use Rattle.std.proofs.lemmas.Bool.{cases_Bool, false≢true, eqb-true}
-use Rattle.model.specs.FiniteMap.{FinMap, get, empty, insert, get-empty}
-use Rattle.std.specs.Ordering.{nat_cmp}
-use Rattle.model.specs.State.{Kernel, Process}
+use Rattle.model.specs.State.{Kernel}
 use Rattle.model.specs.Plan.{Errno}
-use Rattle.model.specs.Changes.{tidy, or_new}
+use Rattle.model.specs.Changes.{tidy}
 use Rattle.model.specs.Calls.{Call, Exit, Answer, Child}
 use Rattle.model.specs.Steps.{reply}
 use Rattle.model.specs.Entries.{Op, Do, Begin, End, Abort, Reply, Answers, Refuses, Begun, Committed, GivenUp, Aborted, Busy, InTransaction, NotInTransaction, HistoryFull, NoMemory, NoProcess, Entry, answer_in, is_inside, is_unsupported}
-use Rattle.model.specs.Moments.{gone, idle, live, Moment, status, is_alive, with_processes, at_start, after, after_from, next, loose, calls_at, seen_by}
+use Rattle.model.specs.Moments.{gone, idle, live, Moment, status, is_alive, at_start, after, after_from, next, loose, calls_at, seen_by}
 use Rattle.model.specs.Legal.{RightAt, Right, LegalFrom, Legal, mine}
-use Rattle.model.proofs.Inodes.{get_same, get_other}
 use Rattle.call_laws.specs.WellFormed.{WellFormed}
 use Rattle.call_laws.specs.CallLaws.{CallLaws}
 use Rattle.history_laws.proofs.Premise.{FromCallLaws}

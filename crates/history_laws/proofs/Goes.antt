@@ -17,7 +17,7 @@ use Rattle.model.specs.Moments.{after_one, after_step, after_list, list_touches,
 use Rattle.model.specs.Legal.{items}
 use Rattle.call_laws.specs.CallLaws.{IsReady, CallLaws, object_of}
 pub use Rattle.model.specs.Moments.{loose, loose_touches}
-pub use Rattle.history_laws.specs.Untidied.{Goes}
+pub use Rattle.call_laws.specs.Untidied.{Goes}
 use Rattle.model.specs.Effects.{Effect, effects}
 use Rattle.history_laws.proofs.Members.{In, In-left, In-right, In-cases, all_from, all_to, not_both, out_left, out_right, in_left, in_right, in_is, is_in_in}
 use Rattle.history_laws.proofs.Touched.{written, read, IsPlain, leaves_alone, keeps_self, keeps_through, Alike, reads_alike, writes_alike, In-write, of_touches}

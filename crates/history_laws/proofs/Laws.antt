@@ -17,26 +17,32 @@ use Rattle.history_laws.specs.Choices.{RightEntriesExist, EndsFindPlaces}
 use Rattle.model.specs.Effects.{effects}
 use Rattle.history_laws.specs.Untidied.{ListsAreTheirEffects}
 use Rattle.history_laws.specs.Entered.{PhasesMove, OwnAndDoomedMove, ReservedPlacesMove, RestartsBeginAnew, CommitsRunTheList, PlainCallsRun, CallsGoIn, ListsStay}
+use Rattle.history_laws.specs.Headline.{IsSerializable, LegalHistoriesAreSerializable}
 use Rattle.history_laws.specs.Histories.{RightEntriesKeepHistoriesLegal, CommittedIsSerial, PlacesSuffice, RepliesAreAFunction, RightEntriesHavePlaces, BeginningsAreLegal, OwnEntriesGrow, AfterOneMore, ViewsMayBeLoose, TouchedObjectsStay}
+use Rattle.history_laws.specs.Limits.{LimitsAreKept}
 use Rattle.history_laws.specs.Marks.{ModesFollowMarks}
 use Rattle.history_laws.specs.Processes.{child_in, ForksAndExitsMove, UnmadeAreRefused}
 use Rattle.history_laws.specs.Processes.{born as makes}
 use Rattle.history_laws.specs.Standing.{WhatStands}
+use Rattle.history_laws.specs.Trees.{IsATree, CommittedDirectoriesAreATree}
 use Rattle.history_laws.proofs.Beginnings as beginnings
 use Rattle.history_laws.proofs.Born as born
 use Rattle.history_laws.proofs.Entered as entered
 use Rattle.history_laws.proofs.Existing as existing
 use Rattle.history_laws.proofs.Grown as grown
 use Rattle.history_laws.proofs.Headlines as headlines
+use Rattle.history_laws.proofs.Limits as limits
 use Rattle.history_laws.proofs.Marks as marks
 use Rattle.history_laws.proofs.Next as nexts
 use Rattle.history_laws.proofs.Processes as processes
 use Rattle.history_laws.proofs.Replied as replied
+use Rattle.history_laws.proofs.Serializable as headline
 use Rattle.history_laws.proofs.Sound as sound
 use Rattle.history_laws.proofs.Staying as staying
 use Rattle.history_laws.proofs.Stood as stood
 use Rattle.history_laws.proofs.Tame as tame
 use Rattle.history_laws.proofs.Told as told
+use Rattle.history_laws.proofs.Trees as trees
 use Rattle.history_laws.proofs.Goes as goes
 use Rattle.call_laws.specs.WellFormed.{WellFormed}
 
@@ -141,6 +147,23 @@ lists_are_their_effects = staying.loose_done
 -- one right entry more keeps a history legal
 pub legal_push : RightEntriesKeepHistoriesLegal
 legal_push = headlines.legal calls_are_lawful_lem
+
+-- the headline: each legal history is strictly serializable
+pub legal_histories_are_serializable : LegalHistoriesAreSerializable
+legal_histories_are_serializable = headline.serializable calls_are_lawful_lem
+
+pub committed_directories_are_a_tree : CommittedDirectoriesAreATree
+committed_directories_are_a_tree = trees.committed_tree calls_are_lawful_lem
+
+-- the same of a state that is known to be the committed one
+pub serializable_at : (root : ℕ) (priorities : List ℕ) (limit : ℕ) (es : List Entry) (state : Kernel) → Legal root priorities limit es → state ≡ (after root priorities es).committed → IsSerializable root priorities limit es state
+serializable_at root priorities limit es state legal is = subst (IsSerializable root priorities limit es) (sym is) (legal_histories_are_serializable root priorities limit es legal)
+
+pub tree_at : (root : ℕ) (priorities : List ℕ) (limit : ℕ) (es : List Entry) (state : Kernel) → Legal root priorities limit es → state ≡ (after root priorities es).committed → IsATree state
+tree_at root priorities limit es state legal is = subst IsATree (sym is) (committed_directories_are_a_tree root priorities limit es legal)
+
+pub limits_are_kept : LimitsAreKept
+limits_are_kept = limits.limits calls_are_lawful_lem
 
 pub the_committed_state_is_serial : CommittedIsSerial
 the_committed_state_is_serial = headlines.serial_is calls_are_lawful_lem

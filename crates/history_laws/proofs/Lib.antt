@@ -24,3 +24,6 @@ mod Told
 pub mod Laws
 mod Replied
 mod Headlines
+mod Serializable
+mod Trees
+mod Limits

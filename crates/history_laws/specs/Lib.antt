@@ -8,3 +8,6 @@ pub mod Choices
 pub mod Beginnings
 pub mod Marks
 pub mod Causes
+pub mod Headline
+pub mod Trees
+pub mod Limits

@@ -1,9 +1,9 @@
 -- What one right entry does to the table of processes.
-use Rattle.std.specs.Prelude.{◌≡◌, ◌≢◌, ℕ, suc, ◌+◌, ◌<◌, Bool, true, false, ◌⊎◌, List, Option, Some, None, length, get_or}
+use Rattle.std.specs.Prelude.{◌≡◌, ◌≢◌, ℕ, suc, ◌+◌, ◌<◌, Bool, true, false, ◌⊎◌, List, Option, Some, None}
 use Rattle.std.specs.List.{AllByRecursion}
 use Rattle.model.specs.Calls.{Call, Exit, Child}
 use Rattle.model.specs.Entries.{Op, Do, Reply, Answers, NoProcess, Entry}
-use Rattle.model.specs.Moments.{idle, Moment, is_alive, next, after, start, at_start, priority_of}
+use Rattle.model.specs.Moments.{idle, Moment, is_alive, next, after, priority_of}
 use Rattle.model.specs.Legal.{Legal, mine}
 use Rattle.history_laws.specs.Each.{AtEach}
 

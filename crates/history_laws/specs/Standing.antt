@@ -8,7 +8,7 @@ use Rattle.model.specs.Clashes.{any_clash}
 use Rattle.model.specs.Moments.{Status, gone, idle, live, doomed, Moment, is_alive, is_in, bound, holds_place, reserved, calls_at, held_by, numbers, loose}
 use Rattle.call_laws.specs.WellFormed.{WellFormed}
 use Rattle.history_laws.specs.Each.{AfterEach}
-use Rattle.history_laws.specs.Untidied.{Goes}
+use Rattle.call_laws.specs.Untidied.{Goes}
 
 -- the flags and the age of a transaction, live or doomed
 abbrev pub flags_of : Status → Option BeginFlags

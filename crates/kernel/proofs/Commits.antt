@@ -6,7 +6,7 @@ use Rattle.model.specs.Moments.{Moment, live, status, calls_at, next}
 use Rattle.model.specs.Legal.{Right, Alone}
 use Rattle.call_laws.specs.WellFormed.{WellFormed}
 use Rattle.model.specs.Effects.{effects, all_done}
-use Rattle.history_laws.specs.Untidied.{Goes}
+use Rattle.call_laws.specs.Untidied.{Goes}
 use Rattle.history_laws.proofs.Laws.{right_by, alive_is, commits_run_the_list, lists_are_their_effects, what_stands}
 use Rattle.contention.specs.Holding.{held_at}
 use Rattle.shadow.specs.Committed.{CanCommit}

@@ -14,3 +14,4 @@ mod Plain
 mod Commits
 mod Judged
 mod First
+mod Planned

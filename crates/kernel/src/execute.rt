@@ -3,12 +3,13 @@ ghost use Rattle.std.specs.Prelude.{◌≡◌, ◌<◌, ◌≤◌, ◌+◌, ◌+
 ghost use Rattle.contention.specs.Holding.{held_at, Becomes};
 ghost use Rattle.contention.specs.Verdicts.{IsVerdict};
 ghost use Rattle.model.specs.Steps.{reply, edits};
-ghost use Rattle.model.specs.Moments.{counted_touches};
+ghost use Rattle.model.specs.Moments.{counted_touches, is_alive};
 ghost use Rattle.std.specs.List.{AllByRecursion, sum_by};
 ghost use Rattle.model.specs.Entries as entries;
 ghost use Rattle.model.specs.Replies.{answered};
 ghost use Rattle.model.specs.Changes.{news};
 ghost use Rattle.model.specs.Effects.{Effect, all_done};
+ghost use Rattle.shadow.specs.Changes.{CanEdit};
 ghost use Rattle.shadow.specs.Claims.{Room, HaveParents, claimed, claimed_by, reserved};
 ghost use Rattle.calls.specs.Operations.{can_call};
 ghost use Rattle.calls.specs.Planned.{IsPlan};
@@ -28,8 +29,8 @@ use calls::{Plan, plan_of};
 use conflict::keep_writes;
 use contention::{Doomed, Verdict};
 use heap::Heap;
-use ids::{Age, Answer, BeginFlags, Call, Entry, Errno, Nums, Op, Pid, Pids, Reply, Touch};
-use shadow::{Edits, Shadow, Stable};
+use ids::{Age, Answer, BeginFlags, Call, Edit, Entry, Errno, Nums, Op, Pid, Pids, Reply, Touch};
+use shadow::{Shadow, Stable};
 use std::alloc::AllocError;
 
 /// The answer as a reply.
@@ -73,14 +74,17 @@ fn entry_of(
     })
 }
 
-/// What a call of a process comes to, over what it sees.
+/// What a call of a living process comes to, over what it sees.
 fn plan_for(s: &State, pid: Pid, call: &Call) -> Result<Plan, AllocError>
-    requires covered { AreCovered s.now.slots.items s.now.stable }
+    requires holds { Holds (fields s.now) }
+    requires alive { is_alive (moment s.now.history).committed pid ≡ true }
     requires there { can_call call.now ≡ true }
     ensures is { IfOk result (IsPlan (all_done (changes_in (view_at s.now.slots.items pid)) s.now.stable.state) pid call.now) }
-    ensures parents { IfOk result (λ p. HaveParents s.now.stable.reserves p.edits) }
+    ensures kinds { IfOk result (λ p. CanEdit p.edits.items) }
+    ensures parents { IfOk result (λ p. HaveParents s.now.stable.reserves p.edits.items) }
 {
     let view = view_for(s, pid);
+    view.names_are_in_use();
     plan_of(s.heap, &view, pid, call)
 }
 
@@ -89,15 +93,16 @@ fn edit_within(
     slots: &mut Vec<Slot, Heap>,
     stable: &mut Stable,
     pid: Pid,
-    edits: Edits,
+    edits: Vec<Edit, Heap>,
     chosen: &Nums,
 ) -> Result<(), AllocError>
     requires made { pid < length slots.old.items }
-    requires count { length chosen.now ≡ sum_by news edits }
+    requires kinds { CanEdit edits.items }
+    requires count { length chosen.now ≡ sum_by news edits.items }
     requires unused { AllByRecursion (λ n. claimed (Room n) (changes_in (view_at slots.old.items pid)) ≡ 0) chosen.now }
-    requires parents { HaveParents stable.old.reserves edits }
-    ensures ok { OnOk result (Shows slots.old.items slots.new.items pid (with_change (record { chosen = chosen.now; edits = edits }) (view_at slots.old.items pid))) }
-    ensures room { OnOk result (HasRoom stable.old stable.new (record { chosen = chosen.now; edits = edits }) (view_at slots.old.items pid)) }
+    requires parents { HaveParents stable.old.reserves edits.items }
+    ensures ok { OnOk result (Shows slots.old.items slots.new.items pid (with_change (record { chosen = chosen.now; edits = edits.entry.items }) (view_at slots.old.items pid))) }
+    ensures room { OnOk result (HasRoom stable.old stable.new (record { chosen = chosen.now; edits = edits.entry.items }) (view_at slots.old.items pid)) }
     ensures err { OnErr result (Shows slots.old.items slots.new.items pid (view_at slots.old.items pid)) }
     ensures state { stable.new.state ≡ stable.old.state }
     ensures grows { Grows stable.old stable.new }
@@ -115,17 +120,18 @@ fn add_within(
     s: &mut State,
     pid: Pid,
     touches: Vec<Touch, Heap>,
-    edits: Edits,
+    edits: Vec<Edit, Heap>,
     chosen: &Nums,
 ) -> Result<(), AllocError>
     requires made { pid < length s.old.slots.items }
     requires kept { pid < length s.old.contenders }
-    requires count { length chosen.now ≡ sum_by news edits }
+    requires kinds { CanEdit edits.items }
+    requires count { length chosen.now ≡ sum_by news edits.items }
     requires unused { AllByRecursion (λ n. claimed (Room n) (changes_in (view_at s.old.slots.items pid)) ≡ 0) chosen.now }
-    requires parents { HaveParents s.old.stable.reserves edits }
-    ensures slots { OnOk result (Shows s.old.slots.items s.new.slots.items pid (with_change (record { chosen = chosen.now; edits = edits }) (view_at s.old.slots.items pid))) }
+    requires parents { HaveParents s.old.stable.reserves edits.items }
+    ensures slots { OnOk result (Shows s.old.slots.items s.new.slots.items pid (with_change (record { chosen = chosen.now; edits = edits.entry.items }) (view_at s.old.slots.items pid))) }
     ensures held { OnOk result (Becomes s.old.contenders s.new.contenders pid (record (held_at s.old.contenders pid) { touches = (held_at s.old.contenders pid).touches ++ touches.entry.items })) }
-    ensures room { OnOk result (HasRoom s.old.stable s.new.stable (record { chosen = chosen.now; edits = edits }) (view_at s.old.slots.items pid)) }
+    ensures room { OnOk result (HasRoom s.old.stable s.new.stable (record { chosen = chosen.now; edits = edits.entry.items }) (view_at s.old.slots.items pid)) }
     ensures err_slots { OnErr result (Shows s.old.slots.items s.new.slots.items pid (view_at s.old.slots.items pid)) }
     ensures err_held { OnErr result (Becomes s.old.contenders s.new.contenders pid (held_at s.old.contenders pid)) }
     ensures state { s.new.stable.state ≡ s.old.stable.state }
@@ -153,14 +159,15 @@ fn prepare_within(
 ) -> Result<(Entry, Reply), AllocError>
     requires made { pid < length s.old.slots.items }
     requires kept { pid < length s.old.contenders }
-    requires count { length chosen.now ≡ sum_by news plan.edits }
+    requires kinds { CanEdit plan.edits.items }
+    requires count { length chosen.now ≡ sum_by news plan.edits.items }
     requires unused { AllByRecursion (λ n. claimed (Room n) (changes_in (view_at s.old.slots.items pid)) ≡ 0) chosen.now }
-    requires parents { HaveParents s.old.stable.reserves plan.edits }
+    requires parents { HaveParents s.old.stable.reserves plan.edits.items }
     ensures entry { IfOk result (λ r. r.0 ≡ made_entry pid call (answered plan.answer) chosen.now doomed.now) }
     ensures reply { IfOk result (λ r. r.1 ≡ answered plan.answer) }
-    ensures slots { OnOk result (Shows s.old.slots.items s.new.slots.items pid (with_change (record { chosen = chosen.now; edits = plan.edits }) (view_at s.old.slots.items pid))) }
+    ensures slots { OnOk result (Shows s.old.slots.items s.new.slots.items pid (with_change (record { chosen = chosen.now; edits = plan.edits.items }) (view_at s.old.slots.items pid))) }
     ensures held { OnOk result (Becomes s.old.contenders s.new.contenders pid (record (held_at s.old.contenders pid) { touches = (held_at s.old.contenders pid).touches ++ plan.touches.items })) }
-    ensures room { OnOk result (HasRoom s.old.stable s.new.stable (record { chosen = chosen.now; edits = plan.edits }) (view_at s.old.slots.items pid)) }
+    ensures room { OnOk result (HasRoom s.old.stable s.new.stable (record { chosen = chosen.now; edits = plan.edits.items }) (view_at s.old.slots.items pid)) }
     ensures err_slots { OnErr result (Shows s.old.slots.items s.new.slots.items pid (view_at s.old.slots.items pid)) }
     ensures err_held { OnErr result (Becomes s.old.contenders s.new.contenders pid (held_at s.old.contenders pid)) }
     ensures state { s.new.stable.state ≡ s.old.stable.state }
@@ -192,13 +199,14 @@ fn take_within(
     requires there { can_call call ≡ true }
     requires places { has_places s.old.history 1 ≡ true }
     requires planned { IsPlan (all_done (changes_of (moment s.old.history) pid) s.old.stable.state) pid call plan }
-    requires parents { HaveParents s.old.stable.reserves plan.edits }
+    requires kinds { CanEdit plan.edits.items }
+    requires parents { HaveParents s.old.stable.reserves plan.edits.items }
     requires wins { IsVerdict (moment s.old.history) pid (counted_touches (moment s.old.history) pid call) (Verdict.Go doomed) }
     ensures holds { Holds (fields s.new) }
     ensures ok { IfOk result (IsStep (shown (fields s.old)) (shown (fields s.new)) pid (entries.Do call)) }
     ensures err { OnErr result (shown (fields s.new) ≡ shown (fields s.old)) }
 {
-    let chosen = s.stable.number(&plan.edits)?;
+    let chosen = s.stable.number(plan.edits.as_slice())?;
     match prepare_within(s, pid, call, plan, &chosen, &doomed) {
         Ok((entry, reply)) => {
             doom_all(s, doomed);
@@ -222,12 +230,13 @@ fn prepare_plain(
     chosen: &Nums,
     doomed: &[Doomed],
 ) -> Result<(Entry, Reply, Shadow), AllocError>
-    requires count { length chosen.now ≡ sum_by news plan.edits }
-    requires parents { HaveParents stable.old.reserves plan.edits }
+    requires kinds { CanEdit plan.edits.items }
+    requires count { length chosen.now ≡ sum_by news plan.edits.items }
+    requires parents { HaveParents stable.old.reserves plan.edits.items }
     ensures entry { IfOk result (λ r. r.0 ≡ made_entry pid call (answered plan.answer) chosen.now doomed.now) }
     ensures reply { IfOk result (λ r. r.1 ≡ answered plan.answer) }
-    ensures change { IfOk result (λ r. r.2 ≡ record { chosen = chosen.now; edits = plan.edits } ∷ []) }
-    ensures room { OnOk result ((d : ℕ) → reserved stable.old (Room d) + claimed_by (Room d) (record { chosen = chosen.now; edits = plan.edits }) ≤ reserved stable.new (Room d)) }
+    ensures change { IfOk result (λ r. r.2 ≡ record { chosen = chosen.now; edits = plan.edits.items } ∷ []) }
+    ensures room { OnOk result ((d : ℕ) → reserved stable.old (Room d) + claimed_by (Room d) (record { chosen = chosen.now; edits = plan.edits.items }) ≤ reserved stable.new (Room d)) }
     ensures state { stable.new.state ≡ stable.old.state }
     ensures grows { Grows stable.old stable.new }
 {
@@ -252,14 +261,15 @@ fn take_plain(
     requires there { can_call call ≡ true }
     requires places { has_places s.old.history 1 ≡ true }
     requires answer { plan.answer ≡ reply s.old.stable.state pid call }
-    requires edits { plan.edits ≡ edits s.old.stable.state pid call }
-    requires parents { HaveParents s.old.stable.reserves plan.edits }
+    requires edits { plan.edits.items ≡ edits s.old.stable.state pid call }
+    requires kinds { CanEdit plan.edits.items }
+    requires parents { HaveParents s.old.stable.reserves plan.edits.items }
     requires wins { IsVerdict (moment s.old.history) pid (counted_touches (moment s.old.history) pid call) (Verdict.Go doomed) }
     ensures holds { Holds (fields s.new) }
     ensures ok { IfOk result (IsStep (shown (fields s.old)) (shown (fields s.new)) pid (entries.Do call)) }
     ensures err { OnErr result (shown (fields s.new) ≡ shown (fields s.old)) }
 {
-    let chosen = s.stable.number(&plan.edits)?;
+    let chosen = s.stable.number(plan.edits.as_slice())?;
     match prepare_plain(s.heap, &mut s.stable, pid, call, plan, &chosen, &doomed) {
         Ok((entry, reply, shadow)) => {
             doom_all(s, doomed);

@@ -3,6 +3,8 @@ ghost use Rattle.std.specs.Prelude.{◌≡◌, ◌<◌, ◌≤◌, [], suc, true
 ghost use Rattle.model.specs.Changes.{tidy};
 ghost use Rattle.model.specs.Moments.{is_alive, seen_by};
 ghost use Rattle.model.specs.Effects.{all_done};
+ghost use Rattle.history_laws.specs.Headline.{IsSerializable};
+ghost use Rattle.history_laws.specs.Trees.{IsATree};
 ghost use Rattle.kernel.specs.Operations.{can_run, CanRunAll};
 ghost use Rattle.kernel.specs.Shown.{Kept, moment, is_live};
 ghost use Rattle.kernel.specs.Steps.{IsStep, Steps};
@@ -61,10 +63,11 @@ impl Kernel {
         })
     }
 
-    /// The history. It is legal, and what it committed is the state.
+    /// The history. It is legal, what it committed is the state, and it is strictly serializable.
     pub fn history(&self) -> &History
         ensures value { result.now ≡ self.now.log }
         ensures kept { Kept self.now }
+        ensures serial { IsSerializable 0 self.now.log.priorities self.now.log.limit self.now.log.entries self.now.state }
     {
         &self.state.history
     }
@@ -83,9 +86,10 @@ impl Kernel {
         self.state.stable.is_living(pid)
     }
 
-    /// What is committed. A process in no transaction sees it.
+    /// What is committed. A process in no transaction sees it. Its directories are a tree.
     pub fn stable(&self) -> &Stable
-        ensures { result.now.state ≡ self.now.state }
+        ensures state { result.now.state ≡ self.now.state }
+        ensures tree { IsATree self.now.state }
     {
         &self.state.stable
     }
@@ -111,6 +115,7 @@ impl Kernel {
     pub fn step(&mut self, pid: Pid, op: Op) -> Reply
         requires { can_run op ≡ true }
         ensures kept { Kept self.new }
+        ensures serial { IsSerializable 0 self.new.log.priorities self.new.log.limit self.new.log.entries self.new.state }
         ensures step { IsStep self.old self.new pid op result }
     {
         step(&mut self.state, pid, op)
@@ -120,6 +125,7 @@ impl Kernel {
     pub fn run(&mut self, ops: Vec<(Pid, Op), Heap>) -> Result<Vec<Reply, Heap>, AllocError>
         requires { CanRunAll ops.items }
         ensures kept { Kept self.new }
+        ensures serial { IsSerializable 0 self.new.log.priorities self.new.log.limit self.new.log.entries self.new.state }
         ensures steps { IfOk result (λ replies. Steps self.old ops.entry.items replies.items self.new) }
         ensures err { OnErr result (self.new ≡ self.old) }
     {

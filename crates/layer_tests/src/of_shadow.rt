@@ -2,8 +2,9 @@
 ghost use Rattle.std.specs.Prelude.{◌≡◌, []};
 
 use heap::Heap;
-use ids::{Name, Num, Priority};
-use shadow::{Edits, Shadow, Stable, View};
+use ids::{Edit, Name, Num, Priority};
+use look::Look;
+use shadow::{Shadow, Stable, View};
 use std::alloc::AllocError;
 use std::test::Fail;
 
@@ -21,9 +22,12 @@ fn added(
 ) -> Result<Num, AllocError>
     requires { shadow.old ≡ [] }
 {
-    let root = View::new(stable, None).root();
-    let edits = Edits::make_directory(root, Name::copy(heap, name)?);
-    let chosen = stable.number(&edits)?;
+    let view = View::new(stable, None);
+    view.names_are_in_use();
+    let root = view.root();
+    let mut edits = Vec::new(heap);
+    edits.push(Edit::MakeDirectory(root, Name::copy(heap, name)?, 0))?;
+    let chosen = stable.number(edits.as_slice())?;
     let num = chosen.as_slice()[0];
     if shadow.edit(stable, edits, &chosen).is_err() {
         stable.forget(&chosen);

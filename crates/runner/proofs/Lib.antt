@@ -1,2 +1,2 @@
-mod Effect
+mod Stepping
 mod Missing

@@ -10,3 +10,5 @@ pub mod Living
 pub mod Unshown
 pub mod Changing
 pub mod Committing
+pub mod InUse
+pub mod NoFiles

@@ -54,7 +54,7 @@ is_process ps m (suc i) is = by_test (nat_le (suc i) (length ps)) refl
     by_test false le = absurd (true_is_false (sym is ∙ none_living ps m (suc i) (inr (leb-false (suc i) (length ps) le))))
 
 -- all inodes are directories
-directory_kind : (o : Option Place) (what : Kind) → mapped kind (option_and_then inode_in o) ≡ Some what → what ≡ A_directory
+pub directory_kind : (o : Option Place) (what : Kind) → mapped kind (option_and_then inode_in o) ≡ Some what → what ≡ A_directory
 directory_kind None what e = absurd (not_none what (sym e))
 directory_kind (Some (Coming object)) what e = absurd (not_none what (sym e))
 directory_kind (Some (Held (Kept_directory l))) what e = some_kind A_directory what e

@@ -1,24 +1,22 @@
--- What a transaction's changes stand for.
-use Rattle.std.specs.Prelude.{◌≡◌, ℕ, ◌<◌, true, List, [], ◌∷◌, Option, Some, None, map, if◌then◌else◌}
+-- What a transaction's changes stand for, and which there are.
+use Rattle.std.specs.Prelude.{◌≡◌, ℕ, ◌<◌, true, List, [], ◌∷◌, Option, Some, None, map, ⊤}
 use Rattle.std.specs.List.{flat_map}
 use Rattle.model.specs.FiniteMap.{get, empty}
 use Rattle.model.specs.State.{Name, Kernel, names_of}
 use Rattle.model.specs.Changes.{Edit, Make_directory, Unname_directory}
 use Rattle.model.specs.Moments.{is_in}
 use Rattle.model.specs.Effects.{Effect, all_done}
-use Rattle.shadow.specs.declared.edits.Change.{Change}
 use Rattle.shadow.specs.declared.steps.Step.{Step}
 use Rattle.shadow.specs.declared.steps.Step.TheVariants.{Nothing, Make, Unname}
 use Rattle.shadow.specs.Claims.{Room, claimed}
 use Rattle.shadow.specs.Index.{Given, given_at}
 
--- what a change of a name stands for, before its new object has a number
-abbrev pub edits_of : Change → List Edit
-edits_of c = if c.makes then Make_directory c.parent c.name 0 ∷ [] else Unname_directory c.parent c.name ∷ []
-
-abbrev pub edits_in : Option Change → List Edit
-edits_in (Some c) = edits_of c
-edits_in None = []
+-- the changes of a call that are there today: none, or a directory that comes or goes with its name
+abbrev pub CanEdit : List Edit → Type 0
+CanEdit [] = ⊤
+CanEdit (Make_directory d x i ∷ []) = i ≡ 0
+CanEdit (Unname_directory d x ∷ []) = ⊤
+CanEdit _ = ⊥
 
 abbrev pub effect_of : Step → Effect
 effect_of Nothing = record { chosen = []; edits = [] }

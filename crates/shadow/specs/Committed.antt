@@ -6,7 +6,7 @@ use Rattle.model.specs.State.{Kernel}
 use Rattle.model.specs.Entries.{Executed}
 use Rattle.call_laws.specs.WellFormed.{WellFormed}
 use Rattle.model.specs.Effects.{Effect, effects}
-use Rattle.history_laws.specs.Untidied.{Goes}
+use Rattle.call_laws.specs.Untidied.{Goes}
 
 -- what is kept of a number that is in use: whether its object is still to come, and for how many further names room is promised
 pub record Reserve : Type 0 where

@@ -3,14 +3,12 @@
 //! Today there are directories, and the changes that mkdir and rmdir make.
 #![tactic(auto)]
 
-mod edits;
 mod index;
 mod shadow;
 mod stable;
 mod steps;
 mod view;
 
-pub use edits::Edits;
 pub use shadow::Shadow;
 pub use stable::Stable;
 pub use view::View;

@@ -6,17 +6,16 @@ ghost use Rattle.model.specs.Changes.{news, tidy};
 ghost use Rattle.model.specs.Effects.{all_done};
 ghost use Rattle.shadow.specs.Committed.{CanCommit};
 ghost use Rattle.shadow.specs.declared.steps.Step.TheVariants as steps;
-ghost use Rattle.shadow.specs.Changes.{effect_of, edits_of};
-ghost use Rattle.shadow.specs.Looks.{directory_at};
+ghost use Rattle.shadow.specs.Changes.{CanEdit, effect_of};
+ghost use Rattle.shadow.specs.Looks.{HasNoFiles, NamesAreInUse, birth_of, directory_at};
 ghost use Rattle.shadow.specs.Claims.{Claim, Room, Covers, HaveParents, IsInUse, claimed, claimed_by, reserved, room_in};
 
-use crate::edits::{Change, Edits};
 use crate::index::Index;
 use crate::stable::Stable;
 use crate::steps::Step;
 use dirlist::Dir;
 use heap::Heap;
-use ids::{Name, Num, Nums};
+use ids::{Edit, Name, Num, Nums, Pid};
 use std::alloc::AllocError;
 use std::marker::Model;
 
@@ -58,44 +57,43 @@ impl Shadow {
     pub fn edit(
         &mut self,
         stable: &mut Stable,
-        edits: Edits,
+        mut edits: Vec<Edit, Heap>,
         chosen: &Nums,
     ) -> Result<(), AllocError>
-        requires count { length chosen.now ≡ sum_by news edits }
+        requires kinds { CanEdit edits.items }
+        requires count { length chosen.now ≡ sum_by news edits.items }
         requires unused { AllByRecursion (λ n. claimed (Room n) self.old ≡ 0) chosen.now }
-        requires parents { HaveParents stable.old.reserves edits }
-        ensures ok { OnOk result (self.new ≡ self.old ++ record { chosen = chosen.now; edits = edits } ∷ []) }
-        ensures room { OnOk result ((d : ℕ) → reserved stable.old (Room d) + claimed_by (Room d) (record { chosen = chosen.now; edits = edits }) ≤ reserved stable.new (Room d)) }
+        requires parents { HaveParents stable.old.reserves edits.items }
+        ensures ok { OnOk result (self.new ≡ self.old ++ record { chosen = chosen.now; edits = edits.entry.items } ∷ []) }
+        ensures room { OnOk result ((d : ℕ) → reserved stable.old (Room d) + claimed_by (Room d) (record { chosen = chosen.now; edits = edits.entry.items }) ≤ reserved stable.new (Room d)) }
         ensures err { OnErr result (self.new ≡ self.old) }
         ensures state { stable.new.state ≡ stable.old.state }
         ensures keeps { (c : Claim) → reserved stable.old c ≤ reserved stable.new c }
     {
-        match edits.change {
+        match edits.pop() {
             None => self.add_nothing(),
-            Some(change) => self.add(stable, change, chosen),
+            Some(edit) => self.add(stable, edit, chosen),
         }
     }
 
     /// One call that changes a name.
-    fn add(&mut self, stable: &mut Stable, change: Change, chosen: &Nums) -> Result<(), AllocError>
-        requires count { length chosen.now ≡ sum_by news (edits_of change) }
+    fn add(&mut self, stable: &mut Stable, edit: Edit, chosen: &Nums) -> Result<(), AllocError>
+        requires kinds { CanEdit (edit ∷ []) }
+        requires count { length chosen.now ≡ sum_by news (edit ∷ []) }
         requires unused { AllByRecursion (λ n. claimed (Room n) self.old ≡ 0) chosen.now }
-        requires parents { HaveParents stable.old.reserves (edits_of change) }
-        ensures ok { OnOk result (self.new ≡ self.old ++ record { chosen = chosen.now; edits = edits_of change } ∷ []) }
-        ensures room { OnOk result ((d : ℕ) → reserved stable.old (Room d) + claimed_by (Room d) (record { chosen = chosen.now; edits = edits_of change }) ≤ reserved stable.new (Room d)) }
+        requires parents { HaveParents stable.old.reserves (edit ∷ []) }
+        ensures ok { OnOk result (self.new ≡ self.old ++ record { chosen = chosen.now; edits = edit ∷ [] } ∷ []) }
+        ensures room { OnOk result ((d : ℕ) → reserved stable.old (Room d) + claimed_by (Room d) (record { chosen = chosen.now; edits = edit ∷ [] }) ≤ reserved stable.new (Room d)) }
         ensures err { OnErr result (self.new ≡ self.old) }
         ensures state { stable.new.state ≡ stable.old.state }
         ensures keeps { (c : Claim) → reserved stable.old c ≤ reserved stable.new c }
     {
-        let Change {
-            makes,
-            parent,
-            name,
-        } = change;
-        if makes {
-            self.add_made(stable, parent, name, chosen.as_slice()[0])
-        } else {
-            self.add_unnamed(parent, name)
+        match edit {
+            Edit::MakeDirectory(parent, name, _place) => {
+                self.add_made(stable, parent, name, chosen.as_slice()[0])
+            }
+            Edit::UnnameDirectory(parent, name) => self.add_unnamed(parent, name),
+            _ => unreachable!(),
         }
     }
 
@@ -148,8 +146,7 @@ impl Shadow {
 
     /// The root's number, which no change changes.
     pub(crate) fn root(&self, stable: &Stable) -> Num
-        ensures value { result ≡ (all_done self.now stable.now.state).root }
-        ensures there { IsInUse stable.now.reserves result }
+        ensures { result ≡ (all_done self.now stable.now.state).root }
     {
         let _steps = &self.steps;
         stable.root()
@@ -164,12 +161,37 @@ impl Shadow {
         name: &Name,
     ) -> Result<Option<Num>, AllocError>
         requires { Covers stable.now self.now }
-        ensures value { IfOk result (λ found. entry_of (all_done self.now stable.now.state) dir name.now ≡ directory_at found) }
-        ensures there { IfOk result (λ found. IfSome found (IsInUse stable.now.reserves)) }
+        ensures { IfOk result (λ found. entry_of (all_done self.now stable.now.state) dir name.now ≡ directory_at found) }
     {
         stable.has_no_names_to_come();
         let stored = stable.find(dir, name);
         Ok(self.index.look(dir, name)?.unwrap_or(stored))
+    }
+
+    /// What names give in the committed state with these changes on top is there or to come.
+    pub(crate) fn names_are_in_use(&self, stable: &Stable)
+        requires { Covers stable.now self.now }
+        ensures { NamesAreInUse (record stable.now { state = all_done self.now stable.now.state }) }
+    {
+        let _index = &self.index;
+        stable.has_no_names_to_come();
+        stable.names_are_in_use();
+    }
+
+    /// The committed state with these changes on top has no files, no pipes and nothing open.
+    pub(crate) fn has_no_files(&self, stable: &Stable)
+        ensures { HasNoFiles (all_done self.now stable.now.state) }
+    {
+        let _steps = &self.steps;
+        stable.has_no_files();
+    }
+
+    /// How many processes were made, and a process's priority, which no change changes.
+    pub(crate) fn birth(&self, stable: &Stable, pid: Pid) -> Result<(u32, u8), AllocError>
+        ensures { IfOk result (λ b. b ≡ birth_of (all_done self.now stable.now.state) pid) }
+    {
+        let _steps = &self.steps;
+        stable.birth(pid)
     }
 
     /// Makes the changes to the names of one directory. Where memory is refused, some are made.

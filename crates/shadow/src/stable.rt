@@ -1,5 +1,5 @@
 // The committed state.
-ghost use Rattle.std.specs.Prelude.{ℕ, ◌≡◌, ◌≤◌, ◌<◌, ◌+◌, ◌⊎◌, ◌∷◌, [], true, length, IfOk, IfSome, OnErr, OnOk};
+ghost use Rattle.std.specs.Prelude.{ℕ, ◌≡◌, ◌≤◌, ◌<◌, ◌+◌, ◌⊎◌, ◌∷◌, [], true, length, IfOk, OnErr, OnOk};
 ghost use Rattle.std.specs.List.{AllByRecursion, sum_by};
 ghost use Rattle.model.specs.FiniteMap.{empty, get};
 ghost use Rattle.model.specs.State.{names_of};
@@ -7,17 +7,16 @@ ghost use Rattle.model.specs.Changes.{all_applied, news, process_of, tidy};
 ghost use Rattle.model.specs.Steps.{AllDifferent, IsNowhere};
 ghost use Rattle.model.specs.Moments.{start, is_alive, is_in};
 ghost use Rattle.shadow.specs.declared.steps.Step.TheVariants as steps;
-ghost use Rattle.shadow.specs.Changes.{effect_of};
+ghost use Rattle.shadow.specs.Changes.{CanEdit, effect_of};
 ghost use Rattle.shadow.specs.Claims.{Claim, Number, Covers, IsInUse, claimed_by, number_of, reserved, room_in};
 ghost use Rattle.shadow.specs.Effects.{CanTake};
-ghost use Rattle.shadow.specs.Looks.{NamesAreDirectories};
+ghost use Rattle.shadow.specs.Looks.{HasNoFiles, NamesAreDirectories, NamesAreInUse, birth_of};
 ghost use Rattle.shadow.specs.Stored.{lost};
 
-use crate::edits::Edits;
-use crate::steps::Step;
+use crate::steps::{Step, makes};
 use dirlist::Dir;
 use heap::Heap;
-use ids::{Name, Num, Nums, Pid, Priority};
+use ids::{Edit, Name, Num, Nums, Pid, Priority};
 use std::alloc::AllocError;
 use std::marker::Model;
 use store::{Object, Store};
@@ -75,10 +74,31 @@ impl Stable {
         self.priorities[number - 1]
     }
 
+    /// A process's priority as a number; 0 where there is no such process.
+    fn level_of(&self, pid: Pid) -> u8
+        ensures { result ≡ (process_of self.now.state pid).priority }
+    {
+        if self.is_living(pid) {
+            self.priority_of(pid).level()
+        } else {
+            0
+        }
+    }
+
+    /// How many processes were made, and a process's priority. `AllocError` where the count does not fit.
+    pub(crate) fn birth(&self, pid: Pid) -> Result<(u32, u8), AllocError>
+        ensures { IfOk result (λ b. b ≡ birth_of self.now.state pid) }
+    {
+        let made = self.made();
+        if made > u32::MAX as usize {
+            return Err(AllocError);
+        }
+        Ok((made as u32, self.level_of(pid)))
+    }
+
     /// The number of the root.
     pub(crate) fn root(&self) -> Num
-        ensures value { result ≡ self.now.state.root }
-        ensures there { IsInUse self.now.reserves result }
+        ensures { result ≡ self.now.state.root }
     {
         self.store.root()
     }
@@ -87,9 +107,22 @@ impl Stable {
     pub(crate) fn find(&self, dir: Num, name: &Name) -> Option<Num>
         ensures value { result ≡ get (names_of self.now.state dir) name.now }
         ensures directories { NamesAreDirectories self.now.state }
-        ensures there { IfSome result (IsInUse self.now.reserves) }
     {
         self.store.lookup(dir, name)
+    }
+
+    /// What names give is there or to come.
+    pub(crate) fn names_are_in_use(&self)
+        ensures { NamesAreInUse self.now }
+    {
+        let _store = &self.store;
+    }
+
+    /// There are no files, no pipes, and nothing is open.
+    pub(crate) fn has_no_files(&self)
+        ensures { HasNoFiles self.now.state }
+    {
+        let _store = &self.store;
     }
 
     /// What is to come has no names yet.
@@ -117,7 +150,8 @@ impl Stable {
     }
 
     /// New numbers for what these edits make, each reserved: none was in use. Refused memory changes nothing.
-    pub fn number(&mut self, edits: &Edits) -> Result<Nums, AllocError>
+    pub fn number(&mut self, edits: &[Edit]) -> Result<Nums, AllocError>
+        requires { CanEdit edits.now }
         ensures count { IfOk result (λ ns. length ns ≡ sum_by news edits.now) }
         ensures unused { IfOk result (λ ns. (c : Claim) → is_in (number_of c) ns ≡ true → reserved self.old c ≡ 0) }
         ensures given { IfOk result (AllByRecursion (λ n. 0 < reserved self.new (Number n))) }
@@ -129,7 +163,7 @@ impl Stable {
         ensures err { OnErr result (self.new ≡ self.old) }
     {
         let mut chosen = Nums::new(*self.priorities.allocator());
-        if edits.makes() {
+        if makes(edits) {
             self.reserve_one(&mut chosen)?;
         }
         Ok(chosen)

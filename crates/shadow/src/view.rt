@@ -1,17 +1,20 @@
 // What a process sees.
-ghost use Rattle.std.specs.Prelude.{◌≡◌, IfOk, IfSome, option_map};
-ghost use Rattle.model.specs.FiniteMap.{keys};
-ghost use Rattle.model.specs.State.{entry_of, names_of};
+ghost use Rattle.std.specs.Prelude.{◌≡◌, IfOk, option_map};
+ghost use Rattle.model.specs.State.{entry_of};
 ghost use Rattle.model.specs.Effects.{all_done};
-ghost use Rattle.shadow.specs.Claims.{Covers, IsInUse};
-ghost use Rattle.shadow.specs.Looks.{changes_of, directory_at};
+ghost use Rattle.shadow.specs.Claims.{Covers};
+ghost use Rattle.shadow.specs.Looks.{HasNoFiles, NamesAreInUse, changes_of, directory_at};
 
 use crate::shadow::Shadow;
 use crate::stable::Stable;
 use heap::Heap;
-use ids::{Name, NameList, Num};
+use ids::{Bytes, Fd, Kind, Name, NameList, Num, Pid, Slot};
+use look::Look;
 use std::alloc::AllocError;
 use std::marker::Model;
+
+/// How many bytes a pipe holds.
+const PIPE_CAPACITY: usize = 4096;
 
 /// The committed state with a transaction's changes on top.
 #[derive(Drop)]
@@ -43,36 +46,120 @@ impl<'a> View<'a> {
         View { stable, shadow }
     }
 
-    /// The root's number.
-    pub fn root(&self) -> Num
-        ensures value { result ≡ self.now.state.root }
-        ensures there { IsInUse self.now.reserves result }
+    /// What names give is there or to come.
+    pub fn names_are_in_use(&self)
+        ensures { NamesAreInUse self.now }
     {
         match self.shadow {
-            None => self.stable.root(),
-            Some(shadow) => shadow.root(self.stable),
+            None => self.stable.names_are_in_use(),
+            Some(shadow) => shadow.names_are_in_use(self.stable),
         }
     }
 
-    /// The number of the directory that a name in a directory gives. Refused memory changes nothing.
-    pub fn find(&self, dir: Num, name: &Name) -> Result<Option<Num>, AllocError>
-        ensures value { IfOk result (λ found. entry_of self.now.state dir name.now ≡ directory_at found) }
-        ensures there { IfOk result (λ found. IfSome found (IsInUse self.now.reserves)) }
+    // There are no files, no pipes, and nothing is open.
+    fn has_no_files(&self)
+        ensures { HasNoFiles self.now.state }
+    {
+        match self.shadow {
+            None => self.stable.has_no_files(),
+            Some(shadow) => shadow.has_no_files(self.stable),
+        }
+    }
+
+    // The number of the directory that a name gives.
+    fn find_directory(&self, dir: Num, name: &Name) -> Result<Option<Num>, AllocError>
+        ensures { IfOk result (λ found. entry_of self.now.state dir name.now ≡ directory_at found) }
     {
         match self.shadow {
             None => Ok(self.stable.find(dir, name)),
             Some(shadow) => shadow.find(self.stable, dir, name),
         }
     }
+}
 
-    /// A copy of a directory's names, in byte order. Refused memory changes nothing.
-    pub fn names(&self, heap: Heap, dir: Num) -> Result<NameList, AllocError>
-        ensures { IfOk result (λ names. names ≡ keys (names_of self.now.state dir)) }
-    {
+// A directory's number with its kind.
+fn as_directory(found: Option<Num>) -> Option<(Num, Option<Kind>)>
+    ensures { result ≡ directory_at found }
+{
+    match found {
+        Some(num) => Some((num, Some(Kind::Dir))),
+        None => None,
+    }
+}
+
+/// Today there are no files and no pipes, and no process has anything open: so what is asked of them has one answer each.
+impl<'a> Look for View<'a> {
+    ghost state = { λ v. v.state };
+
+    fn root(&self) -> Num {
+        match self.shadow {
+            None => self.stable.root(),
+            Some(shadow) => shadow.root(self.stable),
+        }
+    }
+
+    fn find(&self, dir: Num, name: &Name) -> Result<Option<(Num, Option<Kind>)>, AllocError> {
+        Ok(as_directory(self.find_directory(dir, name)?))
+    }
+
+    fn names(&self, heap: Heap, dir: Num) -> Result<NameList, AllocError> {
         let mut names = self.stable.directory(heap, dir)?;
         if let Some(shadow) = self.shadow {
             shadow.change_names(heap, dir, &mut names)?;
         }
         names.names(heap)
+    }
+
+    fn size(&self, _file: Num) -> Result<u32, AllocError> {
+        self.has_no_files();
+        Ok(0)
+    }
+
+    fn read_file(
+        &self,
+        heap: Heap,
+        _file: Num,
+        _place: u32,
+        _count: u32,
+    ) -> Result<Bytes, AllocError> {
+        self.has_no_files();
+        Ok(Bytes::new(Vec::new(heap)))
+    }
+
+    // The names that give a directory are not counted: plans ask this of files alone, and there are none.
+    fn links(&self, _file: Num) -> Result<u32, AllocError> {
+        Err(AllocError)
+    }
+
+    fn ends(&self, _pipe: Num) -> Result<(u32, u32), AllocError> {
+        self.has_no_files();
+        Ok((0, 0))
+    }
+
+    fn offset(&self, _description: Num) -> Result<u32, AllocError> {
+        self.has_no_files();
+        Ok(0)
+    }
+
+    fn read_pipe(&self, heap: Heap, _pipe: Num, _count: u32) -> Result<Bytes, AllocError> {
+        self.has_no_files();
+        Ok(Bytes::new(Vec::new(heap)))
+    }
+
+    fn fit(&self, _pipe: Num, count: usize) -> Result<u32, AllocError> {
+        self.has_no_files();
+        Ok(count.min(PIPE_CAPACITY) as u32)
+    }
+
+    fn table(&self, heap: Heap, _pid: Pid) -> Result<Vec<(Fd, Slot), Heap>, AllocError> {
+        self.has_no_files();
+        Ok(Vec::new(heap))
+    }
+
+    fn birth(&self, pid: Pid) -> Result<(u32, u8), AllocError> {
+        match self.shadow {
+            None => self.stable.birth(pid),
+            Some(shadow) => shadow.birth(self.stable, pid),
+        }
     }
 }

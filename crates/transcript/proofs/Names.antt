@@ -4,15 +4,10 @@ use Rattle.std.specs.Prelude.{Option, flat_map}
 use Rattle.std.proofs.lemmas.List.Concat.{flat_map-append}
 use Rattle.ids.specs.declared.flags.OpenFlags.{OpenFlags}
 use Rattle.ids.specs.Flags.{is_reading, is_writing, is_creating, is_exclusive, is_truncating, is_appending}
-use Rattle.transcript.specs.Flags.{access_names, flag_names, listed, name_if, next_name, with_comma, with_commas}
+use Rattle.transcript.specs.Flags.{PrintsNames, access_names, flag_names, has_any, listed, name_if, next_name, with_comma, with_commas}
 use Rattle.transcript.specs.Printer.{Prints}
 use Rattle.transcript.specs.declared.printer.Printer.{Printer}
 use Rattle.transcript.proofs.Printing.{Prints-as, Prints-then}
-
--- whether there is a name
-abbrev pub has_any : List (List ℕ) → Bool
-has_any [] = false
-has_any (_ ∷ _) = true
 
 with_commas-next : (names : List (List ℕ)) (has : Bool) (name : List ℕ) → with_commas names ++ next_name (has_any names) has name ≡ with_commas (names ++ name_if has name)
 with_commas-next names false name = append-nil (with_commas names) ∙ ap with_commas (sym (append-nil names))
@@ -33,11 +28,6 @@ has_any-access true false = refl
 has_any-access false true = refl
 has_any-access false false = refl
 
--- names are printed, and it is known whether there is one
-pub record PrintsNames {S : Type 0} (written : S → Option (List ℕ)) (failures : S → ℕ) (old new : Printer S) (names : List (List ℕ)) (any : Bool) : Type 0 where
-  pub printed : Prints written failures old new (with_commas names)
-  pub known : any ≡ has_any names
-
 -- one more name, where the set has its flag
 pub PrintsNames-next : {S : Type 0} {written : S → Option (List ℕ)} {failures : S → ℕ} {a b c : Printer S} (names : List (List ℕ)) (any more has : Bool) (name : List ℕ)
     → PrintsNames written failures a b names any → Prints written failures b c (next_name any has name) → more ≡ (any || has)
@@ -46,6 +36,11 @@ PrintsNames-next names any more has name p q is = record {
   printed = Prints-as (Prints-then _ _ p.printed q) (ap (λ (b : Bool). with_commas names ++ next_name b has name) p.known ∙ with_commas-next names has name);
   known = is ∙ ap (λ (b : Bool). b || has) p.known ∙ sym (has_any-next names has name);
 }
+
+-- the same names in other words
+pub PrintsNames-as : {S : Type 0} {written : S → Option (List ℕ)} {failures : S → ℕ} {a b : Printer S} {names others : List (List ℕ)} {any : Bool}
+    → PrintsNames written failures a b names any → names ≡ others → PrintsNames written failures a b others any
+PrintsNames-as p e = record { printed = Prints-as p.printed (ap with_commas e); known = p.known ∙ ap has_any e }
 
 -- names that are there are listed as they are
 listed-some : (names : List (List ℕ)) → has_any names ≡ true → with_commas names ≡ listed names
@@ -70,12 +65,6 @@ names_by reads writes creates exclusive truncates appends =
     access_names reads writes ++ name_if creates (codes "CREAT") ++ name_if exclusive (codes "EXCL")
     ++ name_if truncates (codes "TRUNC") ++ name_if appends (codes "APPEND")
 
-pub names_by-flags : (flags : OpenFlags) (r w c e t a : Bool) → r ≡ is_reading flags → w ≡ is_writing flags → c ≡ is_creating flags
+pub names_by-flags : (flags : OpenFlags) {r w c e t a : Bool} → r ≡ is_reading flags → w ≡ is_writing flags → c ≡ is_creating flags
     → e ≡ is_exclusive flags → t ≡ is_truncating flags → a ≡ is_appending flags → names_by r w c e t a ≡ flag_names flags
-names_by-flags flags r w c e t a is_r is_w is_c is_e is_t is_a =
-    ap (λ (x : Bool). names_by x w c e t a) is_r
-    ∙ ap (λ (x : Bool). names_by (is_reading flags) x c e t a) is_w
-    ∙ ap (λ (x : Bool). names_by (is_reading flags) (is_writing flags) x e t a) is_c
-    ∙ ap (λ (x : Bool). names_by (is_reading flags) (is_writing flags) (is_creating flags) x t a) is_e
-    ∙ ap (λ (x : Bool). names_by (is_reading flags) (is_writing flags) (is_creating flags) (is_exclusive flags) x a) is_t
-    ∙ ap (λ (x : Bool). names_by (is_reading flags) (is_writing flags) (is_creating flags) (is_exclusive flags) (is_truncating flags) x) is_a
+names_by-flags flags is_r is_w is_c is_e is_t is_a = cc

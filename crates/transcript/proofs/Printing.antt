@@ -1,10 +1,11 @@
 -- Texts printed one after another.
 use Rattle.std.proofs.Common.{◌≡◌, ℕ, ◌+◌, ◌<◌, List, [], ◌∷◌, ◌++◌, Bool, true, false, Option, sym, ap, ◌∙◌, append_assoc, append-nil, refl, take, length, get_or, arith, subst}
-use Rattle.std.specs.Prelude.{flat_map}
+use Rattle.std.specs.Prelude.{Result, Ok, Err, OnErr, OnOk, flat_map}
 use Rattle.std.specs.Io.KnownBytes.{append_known}
 use Rattle.std.proofs.lemmas.List.{get_or_default, take_more}
 use Rattle.std.proofs.lemmas.List.Concat.{flat_map-append}
 use Rattle.device.specs.Device.{IsPart}
+use Rattle.device.specs.declared.DeviceFailed.{DeviceFailed}
 use Rattle.device.proofs.Parts.{append_known-append_known, append_known-nil}
 use Rattle.transcript.specs.Printer.{CanPrint, Prints, Reaches}
 use Rattle.transcript.specs.declared.printer.Printer.{Printer}
@@ -106,17 +107,31 @@ pub CanPrint-after : {S : Type 0} {written : S → Option (List ℕ)} {failures 
 CanPrint-after p can = λ h. let w = p.clean h in let l = can w.1 in omega arith
 
 -- all that was written is a beginning of the text, where nothing was pending before
-pub Prints-part : {S : Type 0} {written : S → Option (List ℕ)} {failures : S → ℕ} {a b : Printer S} {text : List ℕ}
+Prints-part : {S : Type 0} {written : S → Option (List ℕ)} {failures : S → ℕ} {a b : Printer S} {text : List ℕ}
     → Prints written failures a b text → a.failed ≡ false → a.pending ≡ [] → IsPart (written a.sink.now) (written b.sink.now) text
 Prints-part {S} {written} {failures} {a} {b} {text} p h e =
     let r = p.part h in
     record { front = r.front; back = r.back; whole = ap (λ (x : List ℕ). x ++ text) (sym e) ∙ r.whole; appended = r.appended }
 
 -- all of the text is written, where nothing is pending any more
-pub Prints-whole : {S : Type 0} {written : S → Option (List ℕ)} {failures : S → ℕ} {a b : Printer S} {text : List ℕ}
+Prints-whole : {S : Type 0} {written : S → Option (List ℕ)} {failures : S → ℕ} {a b : Printer S} {text : List ℕ}
     → Prints written failures a b text → a.failed ≡ false → b.failed ≡ false → a.pending ≡ [] → b.pending ≡ [] → written b.sink.now ≡ append_known (written a.sink.now) text
 Prints-whole {S} {written} {failures} {a} {b} {text} p h k e f =
     let r = p.part h in
     let all : text ≡ r.front =
     ap (λ (x : List ℕ). x ++ text) (sym e) ∙ r.whole ∙ ap (λ (x : List ℕ). r.front ++ x) (r.kept k ∙ f) ∙ append-nil r.front in
     r.appended ∙ ap (λ (x : List ℕ). append_known (written a.sink.now) x) (sym all)
+
+-- what a printing to the end answers
+pub record Told {S : Type 0} (written : S → Option (List ℕ)) (failures : S → ℕ) (old new : S) (text : List ℕ) (answer : Result Unit DeviceFailed) : Type 0 where
+  pub ok : OnOk answer (written new ≡ append_known (written old) text)
+  pub no_failure : OnOk answer (failures new ≡ failures old)
+  pub part : IsPart (written old) (written new) text
+  pub failure : OnErr answer (failures old < failures new)
+
+-- where nothing was pending before, and nothing is pending any more
+pub Told-by : {S : Type 0} {written : S → Option (List ℕ)} {failures : S → ℕ} {a b : Printer S} {text : List ℕ} (answer : Result Unit DeviceFailed)
+    → Prints written failures a b text → a.failed ≡ false → a.pending ≡ [] → b.pending ≡ [] → OnOk answer (b.failed ≡ false) → OnErr answer (b.failed ≡ true)
+    → Told written failures a.sink.now b.sink.now text answer
+Told-by (Ok done) p h e f ok failed = record { ok = Prints-whole p h ok e f; no_failure = (p.clean ok).0; part = Prints-part p h e; failure = tt }
+Told-by (Err why) p h e f ok failed = record { ok = tt; no_failure = tt; part = Prints-part p h e; failure = p.cause h failed }

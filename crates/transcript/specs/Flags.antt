@@ -1,8 +1,10 @@
 -- How sets of flags are printed.
-use Rattle.std.specs.Prelude.{ℕ, List, [], ◌∷◌, ◌++◌, Bool, codes, flat_map, if◌then◌else◌}
+use Rattle.std.specs.Prelude.{◌≡◌, ℕ, List, [], ◌∷◌, ◌++◌, Option, Bool, true, false, codes, flat_map, if◌then◌else◌}
 use Rattle.ids.specs.declared.flags.OpenFlags.{OpenFlags}
 use Rattle.ids.specs.declared.flags.BeginFlags.{BeginFlags}
 use Rattle.ids.specs.Flags.{is_reading, is_writing, is_creating, is_exclusive, is_truncating, is_appending, is_restarting, is_aborting_unsupported}
+use Rattle.transcript.specs.Printer.{Prints}
+use Rattle.transcript.specs.declared.printer.Printer.{Printer}
 
 -- a name, where the set has its flag
 abbrev pub name_if : Bool → List ℕ → List (List ℕ)
@@ -34,6 +36,16 @@ with_commas (name ∷ names) = name ++ flat_map with_comma names
 -- one more name, where the set has its flag, behind a comma where a name stands there already
 abbrev pub next_name : Bool → Bool → List ℕ → List ℕ
 next_name any has name = if has then (if any then with_comma name else name) else []
+
+-- whether there is a name
+abbrev pub has_any : List (List ℕ) → Bool
+has_any [] = false
+has_any (_ ∷ _) = true
+
+-- names are printed, and it is known whether there is one
+pub record PrintsNames {S : Type 0} (written : S → Option (List ℕ)) (failures : S → ℕ) (old new : Printer S) (names : List (List ℕ)) (any : Bool) : Type 0 where
+  pub printed : Prints written failures old new (with_commas names)
+  pub known : any ≡ has_any names
 
 -- names with commas, or `-` for none
 abbrev pub listed : List (List ℕ) → List ℕ

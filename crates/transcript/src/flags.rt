@@ -1,6 +1,6 @@
 // Sets of flags in their spelling.
 ghost use Rattle.std.specs.Prelude.{◌≡◌, ◌||◌};
-ghost use Rattle.transcript.specs.Flags.{access_names, begin_flags_text, flags_text, next_name, with_commas};
+ghost use Rattle.transcript.specs.Flags.{PrintsNames, access_names, begin_flags_text, flag_names, flags_text, next_name, with_commas};
 ghost use Rattle.transcript.specs.Printer.{CanPrint, Prints};
 
 use crate::printer::Printer;
@@ -44,33 +44,36 @@ fn put_name<S: Sink>(out: &mut Printer<'_, S>, any: bool, has: bool, name: &[u8]
     true
 }
 
-// The flags of an open.
-pub(crate) fn put_flags<S: Sink>(out: &mut Printer<'_, S>, flags: OpenFlags)
+// The names of the flags, with commas. Answers whether there is one.
+fn put_names<S: Sink>(out: &mut Printer<'_, S>, flags: OpenFlags) -> bool
     requires { CanPrint S.failures out.old }
-    ensures { Prints S.written S.failures out.old out.new (flags_text flags) }
+    ensures { PrintsNames S.written S.failures out.old out.new (flag_names flags) result }
 {
     let access = put_access(out, flags.reads(), flags.writes());
     let creates = put_name(out, access, flags.creates(), b"CREAT");
     let exclusive = put_name(out, creates, flags.is_exclusive(), b"EXCL");
     let truncates = put_name(out, exclusive, flags.truncates(), b"TRUNC");
-    let any = put_name(out, truncates, flags.appends(), b"APPEND");
-    if !any {
+    put_name(out, truncates, flags.appends(), b"APPEND")
+}
+
+// The flags of an open.
+pub(crate) fn put_flags<S: Sink>(out: &mut Printer<'_, S>, flags: OpenFlags)
+    requires { CanPrint S.failures out.old }
+    ensures { Prints S.written S.failures out.old out.new (flags_text flags) }
+{
+    if !put_names(out, flags) {
         out.put(b"-");
     }
 }
 
-// The flags of a begin.
-pub(crate) fn put_begin_flags<S: Sink>(out: &mut Printer<'_, S>, flags: BeginFlags)
-    requires { CanPrint S.failures out.old }
-    ensures { Prints S.written S.failures out.old out.new (begin_flags_text flags) }
+// The flags of a begin behind a space, and nothing for none.
+pub(crate) fn begin_flags_text(flags: BeginFlags) -> &'static [u8]
+    ensures { result.now ≡ begin_flags_text flags }
 {
-    if flags.restarts() {
-        if flags.aborts_unsupported() {
-            out.put(b" RESTART,ABORT_UNSUPPORTED");
-        } else {
-            out.put(b" RESTART");
-        }
-    } else if flags.aborts_unsupported() {
-        out.put(b" ABORT_UNSUPPORTED");
+    match (flags.restarts(), flags.aborts_unsupported()) {
+        (true, true) => b" RESTART,ABORT_UNSUPPORTED",
+        (true, false) => b" RESTART",
+        (false, true) => b" ABORT_UNSUPPORTED",
+        (false, false) => b"",
     }
 }

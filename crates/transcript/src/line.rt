@@ -16,8 +16,7 @@ fn put_pids<S: Sink>(out: &mut Printer<'_, S>, pids: &[Pid])
     ensures { Prints S.written S.failures out.old out.new (flat_map more_text pids.now) }
 {
     for pid in pids {
-        out.put(b",P");
-        out.put_decimal(u64::from(pid.0));
+        out.put_number(b",P", pid.0);
     }
 }
 
@@ -26,8 +25,7 @@ fn put_dooms<S: Sink>(out: &mut Printer<'_, S>, doomed: &[Pid])
     ensures { Prints S.written S.failures out.old out.new (dooms_text doomed.now) }
 {
     if let Some((first, others)) = doomed.split_first() {
-        out.put(b" dooms P");
-        out.put_decimal(u64::from(first.0));
+        out.put_number(b" dooms P", first.0);
         put_pids(out, others);
     }
 }
@@ -38,8 +36,7 @@ fn put_line<S: Sink>(out: &mut Printer<'_, S>, place: usize, entry: &Entry)
     ensures { Prints S.written S.failures out.old out.new (line_of place entry.now) }
 {
     out.put_decimal(place as u64);
-    out.put(b" P");
-    out.put_decimal(u64::from(entry.pid.0));
+    out.put_number(b" P", entry.pid.0);
     out.put(b" ");
     put_op(out, &entry.op);
     out.put(b" -> ");
@@ -70,12 +67,7 @@ pub fn print_line<S: Sink>(place: usize, entry: &Entry, sink: &mut S) -> Result<
 {
     let mut out = Printer::new(sink);
     put_line(&mut out, place, entry);
-    out.flush();
-    if out.has_failed() {
-        Err(DeviceFailed)
-    } else {
-        Ok(())
-    }
+    out.finish()
 }
 
 /// Prints the lines of entries that follow each other in a history, of which the first has this
@@ -92,10 +84,5 @@ pub fn print<S: Sink>(first: usize, entries: &[Entry], sink: &mut S) -> Result<(
 {
     let mut out = Printer::new(sink);
     put_lines(&mut out, first, entries);
-    out.flush();
-    if out.has_failed() {
-        Err(DeviceFailed)
-    } else {
-        Ok(())
-    }
+    out.finish()
 }

@@ -1,13 +1,16 @@
 // Operations in their spelling.
-ghost use Rattle.std.specs.Prelude.{◌≡◌};
-ghost use Rattle.transcript.specs.Operation.{call_text, number_text, numbers_text, op_text, path_text, paths_text, whence_text};
+ghost use Rattle.std.specs.Prelude.{◌++◌, codes, decimal};
+ghost use Rattle.std.specs.Fmt.{signed_decimal};
+ghost use Rattle.transcript.specs.Flags.{begin_flags_text, flags_text};
+ghost use Rattle.transcript.specs.Operation.{call_text, numbers_text, op_text, path_text, paths_text, whence_text};
 ghost use Rattle.transcript.specs.Printer.{CanPrint, Prints};
+ghost use Rattle.transcript.specs.Text.{text_of};
 
-use crate::flags::{put_begin_flags, put_flags};
+use crate::flags::{begin_flags_text, put_flags};
 use crate::printer::Printer;
 use crate::text::put_text;
 use device::Sink;
-use ids::{Bytes, Call, Op, Whence};
+use ids::{BeginFlags, Bytes, Call, Op, OpenFlags, Whence};
 
 fn put_whence<S: Sink>(out: &mut Printer<'_, S>, whence: Whence)
     requires { CanPrint S.failures out.old }
@@ -32,28 +35,44 @@ fn put_paths<S: Sink>(out: &mut Printer<'_, S>, word: &[u8], first: &Bytes, seco
     requires { CanPrint S.failures out.old }
     ensures { Prints S.written S.failures out.old out.new (paths_text word.now first.now second.now) }
 {
-    out.put(word);
-    put_text(out, first.as_slice());
-    out.put(b" ");
-    put_text(out, second.as_slice());
-}
-
-fn put_number<S: Sink>(out: &mut Printer<'_, S>, word: &[u8], n: u32)
-    requires { CanPrint S.failures out.old }
-    ensures { Prints S.written S.failures out.old out.new (number_text word.now n) }
-{
-    out.put(word);
-    out.put_decimal(u64::from(n));
+    put_path(out, word, first);
+    put_path(out, b" ", second);
 }
 
 fn put_numbers<S: Sink>(out: &mut Printer<'_, S>, word: &[u8], first: u32, second: u32)
     requires { CanPrint S.failures out.old }
     ensures { Prints S.written S.failures out.old out.new (numbers_text word.now first second) }
 {
-    out.put(word);
-    out.put_decimal(u64::from(first));
+    out.put_number(word, first);
+    out.put_number(b" ", second);
+}
+
+fn put_open<S: Sink>(out: &mut Printer<'_, S>, path: &Bytes, flags: OpenFlags)
+    requires { CanPrint S.failures out.old }
+    ensures { Prints S.written S.failures out.old out.new (codes "open " ++ text_of path.now ++ codes " " ++ flags_text flags) }
+{
+    put_path(out, b"open ", path);
     out.put(b" ");
-    out.put_decimal(u64::from(second));
+    put_flags(out, flags);
+}
+
+fn put_write<S: Sink>(out: &mut Printer<'_, S>, fd: u32, bytes: &Bytes)
+    requires { CanPrint S.failures out.old }
+    ensures { Prints S.written S.failures out.old out.new (codes "write " ++ decimal fd ++ codes " " ++ text_of bytes.now) }
+{
+    out.put_number(b"write ", fd);
+    put_path(out, b" ", bytes);
+}
+
+fn put_lseek<S: Sink>(out: &mut Printer<'_, S>, fd: u32, offset: i64, whence: Whence)
+    requires { CanPrint S.failures out.old }
+    ensures { Prints S.written S.failures out.old out.new (codes "lseek " ++ decimal fd ++ codes " " ++ signed_decimal offset ++ codes " " ++ whence_text whence) }
+{
+    out.put_number(b"lseek ", fd);
+    out.put(b" ");
+    out.put_signed(offset);
+    out.put(b" ");
+    put_whence(out, whence);
 }
 
 fn put_call<S: Sink>(out: &mut Printer<'_, S>, call: &Call)
@@ -61,41 +80,34 @@ fn put_call<S: Sink>(out: &mut Printer<'_, S>, call: &Call)
     ensures { Prints S.written S.failures out.old out.new (call_text call.now) }
 {
     match call {
-        Call::Open(path, flags) => {
-            out.put(b"open ");
-            put_text(out, path.as_slice());
-            out.put(b" ");
-            put_flags(out, *flags);
-        }
-        Call::Close(fd) => put_number(out, b"close ", fd.0),
+        Call::Open(path, flags) => put_open(out, path, *flags),
+        Call::Close(fd) => out.put_number(b"close ", fd.0),
         Call::Read(fd, count) => put_numbers(out, b"read ", fd.0, *count),
-        Call::Write(fd, bytes) => {
-            put_number(out, b"write ", fd.0);
-            out.put(b" ");
-            put_text(out, bytes.as_slice());
-        }
-        Call::Lseek(fd, offset, whence) => {
-            put_number(out, b"lseek ", fd.0);
-            out.put(b" ");
-            out.put_signed(*offset);
-            out.put(b" ");
-            put_whence(out, *whence);
-        }
+        Call::Write(fd, bytes) => put_write(out, fd.0, bytes),
+        Call::Lseek(fd, offset, whence) => put_lseek(out, fd.0, *offset, *whence),
         Call::Ftruncate(fd, size) => put_numbers(out, b"ftruncate ", fd.0, *size),
         Call::Stat(path) => put_path(out, b"stat ", path),
-        Call::Fstat(fd) => put_number(out, b"fstat ", fd.0),
+        Call::Fstat(fd) => out.put_number(b"fstat ", fd.0),
         Call::Link(old, new) => put_paths(out, b"link ", old, new),
         Call::Unlink(path) => put_path(out, b"unlink ", path),
         Call::Rename(old, new) => put_paths(out, b"rename ", old, new),
         Call::Mkdir(path) => put_path(out, b"mkdir ", path),
         Call::Rmdir(path) => put_path(out, b"rmdir ", path),
         Call::List(path) => put_path(out, b"list ", path),
-        Call::Dup(fd) => put_number(out, b"dup ", fd.0),
+        Call::Dup(fd) => out.put_number(b"dup ", fd.0),
         Call::Dup2(old, new) => put_numbers(out, b"dup2 ", old.0, new.0),
         Call::Pipe => out.put(b"pipe"),
         Call::Fork => out.put(b"fork"),
         Call::Exit => out.put(b"exit"),
     }
+}
+
+fn put_begin<S: Sink>(out: &mut Printer<'_, S>, flags: BeginFlags)
+    requires { CanPrint S.failures out.old }
+    ensures { Prints S.written S.failures out.old out.new (codes "begin" ++ begin_flags_text flags) }
+{
+    out.put(b"begin");
+    out.put(begin_flags_text(flags));
 }
 
 pub(crate) fn put_op<S: Sink>(out: &mut Printer<'_, S>, op: &Op)
@@ -104,10 +116,7 @@ pub(crate) fn put_op<S: Sink>(out: &mut Printer<'_, S>, op: &Op)
 {
     match op {
         Op::Call(call) => put_call(out, call),
-        Op::Begin(flags) => {
-            out.put(b"begin");
-            put_begin_flags(out, *flags);
-        }
+        Op::Begin(flags) => put_begin(out, *flags),
         Op::End => out.put(b"end"),
         Op::Abort { no_restart: true } => out.put(b"abort no_restart"),
         Op::Abort { no_restart: false } => out.put(b"abort"),

@@ -1,9 +1,9 @@
 // Texts printed one after another, until the sink fails.
-ghost use Rattle.std.specs.Prelude.{◌≡◌, ◌-◌, ◌<◌, ◌^◌, ◌∷◌, [], false, decimal};
+ghost use Rattle.std.specs.Prelude.{◌≡◌, ◌-◌, ◌<◌, ◌^◌, ◌++◌, ◌∷◌, [], true, false, decimal, OnErr, OnOk};
 ghost use Rattle.std.specs.Fmt.{signed_decimal};
 
 use crate::pending::Pending;
-use device::{Sink, write_all};
+use device::{DeviceFailed, Sink, write_all};
 use itoa::Buffer;
 
 // Prints to a sink until the sink fails, and then no more.
@@ -31,13 +31,6 @@ impl<'a, S: Sink> Printer<'a, S> {
         }
     }
 
-    // Whether the sink has failed.
-    pub(crate) fn has_failed(&self) -> bool
-        ensures { result ≡ self.now.failed }
-    {
-        self.failed
-    }
-
     // Writes what is printed and not yet written.
     pub(crate) fn flush(&mut self)
         requires { CanPrint S.failures self.old }
@@ -48,6 +41,22 @@ impl<'a, S: Sink> Printer<'a, S> {
             self.failed = true;
         }
         self.pending.clear();
+    }
+
+    // Writes the rest. Answers whether the sink has failed.
+    pub(crate) fn finish(&mut self) -> Result<(), DeviceFailed>
+        requires { CanPrint S.failures self.old }
+        ensures prints { Prints S.written S.failures self.old self.new [] }
+        ensures pending { self.new.pending ≡ [] }
+        ensures ok { OnOk result (self.new.failed ≡ false) }
+        ensures failed { OnErr result (self.new.failed ≡ true) }
+    {
+        self.flush();
+        if self.failed {
+            Err(DeviceFailed)
+        } else {
+            Ok(())
+        }
     }
 
     // Prints one byte.
@@ -78,6 +87,15 @@ impl<'a, S: Sink> Printer<'a, S> {
     {
         let mut buffer = Buffer::new();
         self.put(buffer.format(n).as_bytes());
+    }
+
+    // Prints a word and a number behind it.
+    pub(crate) fn put_number(&mut self, word: &[u8], n: u32)
+        requires { CanPrint S.failures self.old }
+        ensures { Prints S.written S.failures self.old self.new (word.now ++ decimal n) }
+    {
+        self.put(word);
+        self.put_decimal(u64::from(n));
     }
 
     // Prints a number that may be below 0.

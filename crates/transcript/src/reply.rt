@@ -1,28 +1,31 @@
 // Replies in their spelling.
-ghost use Rattle.std.specs.Prelude.{◌≡◌, flat_map};
+ghost use Rattle.std.specs.Prelude.{◌++◌, codes, decimal, flat_map, length};
 ghost use Rattle.transcript.specs.Printer.{CanPrint, Prints};
 ghost use Rattle.transcript.specs.Reply.{access_text, answer_text, aspect_text, cause_text, kind_text, name_text, names_text, reply_text, restarted_text, stat_text, why_text};
+ghost use Rattle.transcript.specs.Text.{text_of};
 
 use crate::printer::Printer;
 use crate::text::put_text;
 use device::Sink;
 use ids::{Answer, Aspect, Cause, Kind, Name, Reply, Stat, Why};
 
+fn put_entry<S: Sink>(out: &mut Printer<'_, S>, name: &Name)
+    requires { CanPrint S.failures out.old }
+    ensures { Prints S.written S.failures out.old out.new (codes "entry " ++ text_of name.now) }
+{
+    out.put(b"entry ");
+    put_text(out, name.as_slice());
+}
+
 fn put_aspect<S: Sink>(out: &mut Printer<'_, S>, aspect: &Aspect)
     requires { CanPrint S.failures out.old }
     ensures { Prints S.written S.failures out.old out.new (aspect_text aspect.now) }
 {
     match aspect {
-        Aspect::Entry(_, name) => {
-            out.put(b"entry ");
-            put_text(out, name.as_slice());
-        }
+        Aspect::Entry(_, name) => put_entry(out, name),
         Aspect::Names(_) => out.put(b"names"),
         Aspect::Size(_) => out.put(b"size"),
-        Aspect::Block(_, block) => {
-            out.put(b"block ");
-            out.put_decimal(u64::from(*block));
-        }
+        Aspect::Block(_, block) => out.put_number(b"block ", *block),
         Aspect::Links(_) => out.put(b"links"),
         Aspect::Ends(_) => out.put(b"ends"),
         Aspect::Offset(_) => out.put(b"offset"),
@@ -48,8 +51,7 @@ fn put_cause<S: Sink>(out: &mut Printer<'_, S>, cause: &Cause)
 {
     put_aspect(out, &cause.touch.aspect);
     put_access(out, cause.touch.write);
-    out.put(b" by P");
-    out.put_decimal(u64::from(cause.other.0));
+    out.put_number(b" by P", cause.other.0);
 }
 
 fn put_why<S: Sink>(out: &mut Printer<'_, S>, why: &Why)
@@ -87,10 +89,8 @@ fn put_stat<S: Sink>(out: &mut Printer<'_, S>, stat: &Stat)
     ensures { Prints S.written S.failures out.old out.new (stat_text stat.now) }
 {
     put_kind(out, stat.kind);
-    out.put(b" size ");
-    out.put_decimal(u64::from(stat.size));
-    out.put(b" links ");
-    out.put_decimal(u64::from(stat.links));
+    out.put_number(b" size ", stat.size);
+    out.put_number(b" links ", stat.links);
 }
 
 fn put_each_name<S: Sink>(out: &mut Printer<'_, S>, names: &[Name])
@@ -112,6 +112,24 @@ fn put_names<S: Sink>(out: &mut Printer<'_, S>, names: &[Name])
     put_each_name(out, names);
 }
 
+// Bytes behind their number.
+fn put_counted<S: Sink>(out: &mut Printer<'_, S>, bytes: &[u8])
+    requires { CanPrint S.failures out.old }
+    ensures { Prints S.written S.failures out.old out.new (decimal (length bytes.now) ++ codes " " ++ text_of bytes.now) }
+{
+    out.put_decimal(bytes.len() as u64);
+    out.put(b" ");
+    put_text(out, bytes);
+}
+
+fn put_pair<S: Sink>(out: &mut Printer<'_, S>, reader: u32, writer: u32)
+    requires { CanPrint S.failures out.old }
+    ensures { Prints S.written S.failures out.old out.new (decimal reader ++ codes " " ++ decimal writer) }
+{
+    out.put_decimal(u64::from(reader));
+    out.put_number(b" ", writer);
+}
+
 fn put_answer<S: Sink>(out: &mut Printer<'_, S>, answer: &Answer)
     requires { CanPrint S.failures out.old }
     ensures { Prints S.written S.failures out.old out.new (answer_text answer.now) }
@@ -121,23 +139,37 @@ fn put_answer<S: Sink>(out: &mut Printer<'_, S>, answer: &Answer)
         Answer::Fd(fd) => out.put_decimal(u64::from(fd.0)),
         Answer::Count(count) => out.put_decimal(u64::from(*count)),
         Answer::Place(place) => out.put_decimal(u64::from(*place)),
-        Answer::Bytes(bytes) => {
-            out.put_decimal(bytes.as_slice().len() as u64);
-            out.put(b" ");
-            put_text(out, bytes.as_slice());
-        }
-        Answer::Pair(reader, writer) => {
-            out.put_decimal(u64::from(reader.0));
-            out.put(b" ");
-            out.put_decimal(u64::from(writer.0));
-        }
+        Answer::Bytes(bytes) => put_counted(out, bytes.as_slice()),
+        Answer::Pair(reader, writer) => put_pair(out, reader.0, writer.0),
         Answer::Stat(stat) => put_stat(out, stat),
         Answer::Names(names) => put_names(out, names.as_slice()),
-        Answer::Child(pid) => {
-            out.put(b"child ");
-            out.put_decimal(u64::from(pid.0));
-        }
+        Answer::Child(pid) => out.put_number(b"child ", pid.0),
     }
+}
+
+fn put_given_up<S: Sink>(out: &mut Printer<'_, S>, restarted: bool)
+    requires { CanPrint S.failures out.old }
+    ensures { Prints S.written S.failures out.old out.new (codes "given up" ++ restarted_text restarted) }
+{
+    out.put(b"given up");
+    put_restarted(out, restarted);
+}
+
+fn put_aborted<S: Sink>(out: &mut Printer<'_, S>, why: &Why, restarted: bool)
+    requires { CanPrint S.failures out.old }
+    ensures { Prints S.written S.failures out.old out.new (codes "aborted " ++ why_text why.now ++ restarted_text restarted) }
+{
+    out.put(b"aborted ");
+    put_why(out, why);
+    put_restarted(out, restarted);
+}
+
+fn put_busy<S: Sink>(out: &mut Printer<'_, S>, cause: &Cause)
+    requires { CanPrint S.failures out.old }
+    ensures { Prints S.written S.failures out.old out.new (codes "busy " ++ cause_text cause.now) }
+{
+    out.put(b"busy ");
+    put_cause(out, cause);
 }
 
 pub(crate) fn put_reply<S: Sink>(out: &mut Printer<'_, S>, reply: &Reply)
@@ -149,19 +181,9 @@ pub(crate) fn put_reply<S: Sink>(out: &mut Printer<'_, S>, reply: &Reply)
         Reply::Errno(errno) => out.put(errno.name().as_bytes()),
         Reply::Begun => out.put(b"begun"),
         Reply::Committed => out.put(b"committed"),
-        Reply::GivenUp { restarted } => {
-            out.put(b"given up");
-            put_restarted(out, *restarted);
-        }
-        Reply::Aborted { why, restarted } => {
-            out.put(b"aborted ");
-            put_why(out, why);
-            put_restarted(out, *restarted);
-        }
-        Reply::Busy(cause) => {
-            out.put(b"busy ");
-            put_cause(out, cause);
-        }
+        Reply::GivenUp { restarted } => put_given_up(out, *restarted),
+        Reply::Aborted { why, restarted } => put_aborted(out, why, *restarted),
+        Reply::Busy(cause) => put_busy(out, cause),
         Reply::InTransaction => out.put(b"InTransaction"),
         Reply::NotInTransaction => out.put(b"NotInTransaction"),
         Reply::HistoryFull => out.put(b"HistoryFull"),

@@ -11,7 +11,7 @@ use Rattle.atomic_table.proofs.Lists.{at_set, set_here, set_else}
 use Rattle.history.specs.Log.{Log}
 use Rattle.turnstile.specs.Histories.{Begins, own}
 use Rattle.turnstile.proofs.Beginnings.{before_self, before_trans, before_linear, own_between}
-use Rattle.turnstile.specs.Rule.{Follows, owning, sees, IsOwn, Fits, IsHome, Kept, Learns, Got, took, Missed, closed, gave, Heard, hearing_on, heard, dealt_on, dealt, told, copied, informed, compared}
+use Rattle.turnstile.specs.Rule.{Follows, owning, sees, IsOwn, Fits, IsHome, Kept, Learns, Got, took, closed, gave, Heard, hearing_on, heard, dealt_on, dealt, told, copied, informed, compared}
 use Rattle.turnstile.specs.declared.rule.Own.{Own}
 use Rattle.turnstile.specs.declared.rule.Role.{Role}
 use Rattle.turnstile.specs.declared.rule.Role.TheVariants.{Nobody, Deals, Process, Takes, Knows, Meets, Closes, Hears}
@@ -167,7 +167,7 @@ module _ {K : Type 0} (history : K → Log) (IsLawful : Log → Type 0) (key : L
         home.1,
         kept_still s r (set s.words 0 1) 1 (set s.homes 0 none) (s.views ++ w ∷ []) n r.owner (length-set s.words 0 1 ∙ r.one_word) (set_word s r 1) (λ z. absurd (omega arith))
             (seats_more (Fits key r.log 1 n r.owner) s.views w record { taken = λ z. omega arith; holds = refl; whole = refl } (λ j v _ e. stays s r 1 n j (λ taken _. absurd (taken hit)) v e)),
-        subst (λ b. MatchBool b ((k : K) × (◌≡◌ {A = M} (w, (0, Some home.0) ∷ []) (Closes (history k), (0, Some k) ∷ [])) × IsLawful (history k)) (Missed history IsLawful (Deals 0 key, []))) (sym (eq-eqb (word s) 0 hit))
+        subst (λ b. MatchBool b ((k : K) × (◌≡◌ {A = M} (w, (0, Some home.0) ∷ []) (Closes (history k), (0, Some k) ∷ [])) × IsLawful (history k)) (Unit {0})) (sym (eq-eqb (word s) 0 hit))
             (k, (λ i. (Closes (sym home.2 i), (0, Some k) ∷ [])), subst IsLawful (sym home.2) r.lawful),
       ))
       (λ miss. let w : Role = Nobody in (
@@ -176,7 +176,7 @@ module _ {K : Type 0} (history : K → Log) (IsLawful : Log → Type 0) (key : L
         tt,
         kept_still s r (set s.words 0 1) 1 s.homes (s.views ++ w ∷ []) r.holder r.owner (length-set s.words 0 1 ∙ r.one_word) (set_word s r 1) (λ z. absurd (omega arith))
             (seats_more (Fits key r.log 1 r.holder r.owner) s.views w tt (λ j v _ e. stays s r 1 r.holder j (λ _ holds. (λ z. omega arith, holds)) v e)),
-        subst (λ b. MatchBool b ((k : K) × (◌≡◌ {A = M} (w, []) (Closes (history k), (0, Some k) ∷ [])) × IsLawful (history k)) (Missed history IsLawful (Deals 0 key, []))) (sym (ne_eqb (word s) 0 miss)) (s, r, miss),
+        subst (λ b. MatchBool b ((k : K) × (◌≡◌ {A = M} (w, []) (Closes (history k), (0, Some k) ∷ [])) × IsLawful (history k)) (Unit {0})) (sym (ne_eqb (word s) 0 miss)) tt,
       ))
 
   pub hears : (slots id : ℕ) (h : Log) (o : Own) (cs : List (ℕ × Option K)) → Allows Rule slots id (Hears h o, cs) 0 (λ n. n) (heard (step slots 0 0 0 none) (Hears h o, cs))
@@ -236,10 +236,7 @@ module _ {K : Type 0} (history : K → Log) (IsLawful : Log → Type 0) (key : L
   hears_at slots id m h o is = subst (λ v. Allows Rule slots id (v, m.1) 0 (λ n. n) (heard (step slots 0 0 0 none) (v, m.1))) (sym is) (hears slots id h o m.1)
 
   pub closed_hit : (st : Step (Option K)) (m m' : M) (n : ℕ) → n ≡ 0 → closed history IsLawful st m n m' → (k : K) × (m' ≡ (Closes (history k), (0, Some k) ∷ [])) × IsLawful (history k)
-  closed_hit st m m' n hit then = subst (λ b. MatchBool b ((k : K) × (m' ≡ (Closes (history k), (0, Some k) ∷ [])) × IsLawful (history k)) (Missed history IsLawful m)) (eq-eqb n 0 hit) then
-
-  pub closed_miss : (st : Step (Option K)) (m m' : M) (n : ℕ) → n ≢ 0 → closed history IsLawful st m n m' → Missed history IsLawful m
-  closed_miss st m m' n miss then = subst (λ b. MatchBool b ((k : K) × (m' ≡ (Closes (history k), (0, Some k) ∷ [])) × IsLawful (history k)) (Missed history IsLawful m)) (ne_eqb n 0 miss) then
+  closed_hit st m m' n hit then = subst (λ b. MatchBool b ((k : K) × (m' ≡ (Closes (history k), (0, Some k) ∷ [])) × IsLawful (history k)) (Unit {0})) (eq-eqb n 0 hit) then
 
   copies : (id : ℕ) (o : Own) → Splits Rule id (Process o) (Process o) (Knows o.seen)
   copies id o s r at = let f : IsOwn key r.log r.owner id o = r.each_seat id (Process o) at in let vs : List Role = set s.views id (Process o) in

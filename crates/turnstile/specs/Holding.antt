@@ -9,7 +9,7 @@ use Rattle.model.specs.Entries.{Op, Reply}
 use Rattle.model.specs.State.{Kernel as State}
 use Rattle.turnstile.specs.Histories.{IsLegal, shown}
 use Rattle.turnstile.specs.Calls.{has_pass}
-use Rattle.turnstile.specs.Rule.{sees, Learns, Taken}
+use Rattle.turnstile.specs.Rule.{sees, Learns}
 use Rattle.turnstile.specs.Passes.{own_of, nobody, no_log}
 use Rattle.turnstile.specs.declared.rule.Own.{Own}
 use Rattle.turnstile.specs.declared.rule.Role.{Role}
@@ -53,10 +53,6 @@ pub record Stepped (p : Place) (op : Op) (reply : Reply) (q : Place) : Type 0 wh
   pub me : q.me ≡ (Process (sees (taker_of p.me.0) log), [])
   pub legal : IsLegal log
   pub step : IsStep (shown (taker_of p.me.0).seen) (shown log) (taker_of p.me.0).pid op reply
-
--- the turnstile can be, by its rule, in a state in which the word is not free
-abbrev pub WasTaken : Log → Type 0
-WasTaken start = Taken {K = Kernel} (λ (k : Kernel). k.log) IsLegal start
 
 -- whether the number i is marked in a list
 abbrev pub is_set : List Bool → ℕ → Bool

@@ -75,17 +75,8 @@ module _ {K : Type 0} (history : K → Log) (IsLawful : Log → Type 0) where
   abbrev pub took : Step (Option K) → Me (Option K) Role → ℕ → Me (Option K) Role → Type 0
   took st m n m' = MatchBool (n == 0) (Got m m') (m' ≡ m)
 
-  -- a state that the rule allows, in which the word is not free
-  abbrev pub Taken : Log → Type 0
-  Taken key = (s : State (Option K) Role) × Kept key s × (slice_index s.words 0 ≢ 0)
-
-  -- what a new seat is told where it finds the word not free
-  abbrev pub Missed : Me (Option K) Role → Type 0
-  Missed (Deals next key, c) = Taken key
-  Missed m = Unit {0}
-
   abbrev pub closed : Step (Option K) → Me (Option K) Role → ℕ → Me (Option K) Role → Type 0
-  closed st m n m' = MatchBool (n == 0) ((k : K) × (m' ≡ (Closes (history k), (0, Some k) ∷ [])) × IsLawful (history k)) (Missed m)
+  closed st m n m' = MatchBool (n == 0) ((k : K) × (m' ≡ (Closes (history k), (0, Some k) ∷ [])) × IsLawful (history k)) (Unit {0})
 
 module _ {K : Type 0} (history : K → Log) where
   -- the pass after the kernel was given back

@@ -5,7 +5,7 @@ ghost use Rattle.model.specs.Moments.{all_below};
 ghost use Rattle.turnstile.specs.Histories.{IsLegal};
 ghost use Rattle.turnstile.specs.Calls.{Called, IsSamePass, KeepsPass, Met, has_pass, first_pass, first_passes};
 ghost use Rattle.turnstile.specs.Rule.{sees, Follows, Compares};
-ghost use Rattle.turnstile.specs.Holding.{IsAtRest, IsTaking, IsClosing, IsSameSeat, HasTaken, Stepped, WasTaken, Lives, is_set, taker_of, closer_of};
+ghost use Rattle.turnstile.specs.Holding.{IsAtRest, IsTaking, IsClosing, IsSameSeat, HasTaken, Stepped, Lives, is_set, taker_of, closer_of};
 ghost use Rattle.turnstile.specs.declared.rule.Role.TheVariants.{Deals, Process};
 ghost use Rattle.turnstile.specs.Passes.{gate_of, own_of};
 
@@ -143,13 +143,12 @@ impl Turnstile {
     }
 
     /// The kernel, once no thread shares the turnstile. Its history begins with what each of these passes had seen, and has
-    /// just that pass's own entries of its process. `None` stands only where the kernel was taken and not given back, as by
-    /// a thread that ended in the midst of a call.
+    /// just that pass's own entries of its process. `None` stands where the kernel was taken and not given back, as by a thread
+    /// that ended in the midst of a call; when it comes no clause says.
     pub fn close(self, passes: Vec<Pass, Heap>) -> Option<Kernel>
         requires { All (λ p. p.gate ≡ self) passes.items }
         ensures legal { IfSome result (λ kernel. IsLegal kernel.log) }
         ensures passes { IfSome result (λ kernel. All (KeepsPass kernel.log) passes.entry.items) }
-        ensures none { IfNone result (WasTaken self.start) }
     {
         let Turnstile { table } = self;
         let (found, mut seat) = table.shared.swap_new_seat::<Close>(0, TAKEN);

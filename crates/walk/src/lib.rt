@@ -1,99 +1,131 @@
-//! The walk along a path's names, from the root, in the state that a process sees.
+//! The walk along a path's names, from the root of any state that can be looked at.
 //!
-//! Each name that is looked up is touched, whether it is there or not.
+//! Each name that is looked up is touched, whether it is there or not. The touches are added to those before; where memory
+//! is refused, some may have been added.
 #![tactic(auto)]
 
-ghost use Rattle.std.specs.Prelude.{◌≡◌, ◌++◌, ◌∷◌, [], IfOk, IfSome, OnOk};
-ghost use Rattle.model.specs.Plan.{given, seen};
-ghost use Rattle.model.specs.State.{entry_of};
-ghost use Rattle.model.specs.Aspects.{Entry};
-ghost use Rattle.model.specs.Walks.{walk, last_of};
-ghost use Rattle.shadow.specs.Claims.{IsInUse};
-ghost use Rattle.shadow.specs.Looks.{directory_at};
-ghost use Rattle.walk.specs.Reached.{directory, reached, last_reached, reading};
+mod last;
+mod steps;
+mod touches;
 
-use heap::Heap;
-use ids::{Aspect, Errno, Name, Num, Touch};
-use shadow::View;
-use std::alloc::AllocError;
+ghost use Rattle.model.specs.Plan.{ask, Look as Look_up};
+ghost use Rattle.model.specs.Walks.{look as look_in, walk, last_of};
+ghost use Rattle.look.specs.Asked.{Comes};
+ghost use Rattle.walk.specs.Walking.{next_of, start, look_last};
 
-/// Where the last name of a path stands, and what it gives.
-#[derive(Drop)]
-pub struct Last {
-    /// The directory in which the name stands.
-    pub parent: Num,
-    /// The name.
-    pub name: Name,
-    /// The directory that it gives, if it is there.
-    pub found: Option<Num>,
-}
+use ids::{Aspect, Errno, Kind, Name, Num, Refusal};
+pub use last::Last;
+use look::Look;
+use path::Path;
+pub use steps::{must_be_directory, or_refuse};
+pub use touches::Touches;
 
-/// The directory that all names lead to, from the root on; `ENOENT` where one of them is not there. The touches of the
-/// walk are added to `touches`. `AllocError` says that memory was refused; some touches may have been added then.
-pub fn walk(
-    view: &View,
-    names: &[Name],
-    touches: &mut Vec<Touch, Heap>,
-) -> Result<Result<Num, Errno>, AllocError>
-    ensures place { IfOk result (λ place. given view.now.state (walk (directory view.now.state.root) names.now) ≡ reached place) }
-    ensures there { IfOk result (λ place. IfOk place (IsInUse view.now.reserves)) }
-    ensures touches { OnOk result (touches.new.items ≡ touches.old.items ++ reading (seen view.now.state (walk (directory view.now.state.root) names.now))) }
+/// The place that a path leads to.
+pub fn walk<L: Look>(
+    look: &L,
+    path: &Path,
+    touches: &mut Touches,
+) -> Result<(Num, Option<Kind>), Refusal>
+    ensures { let k = L.state look.now in Comes k (walk (start k) path.now) touches.old result touches.new }
 {
-    let mut place = view.root();
-    for name in names {
-        match look(view, place, name, touches)? {
-            Some(next) => place = next,
-            None => return Ok(Err(Errno::ENOENT)),
-        }
-    }
-    Ok(Ok(place))
+    walk_along(look, path.components(), touches)
 }
 
-/// Where the last of the names stands, and what it gives; `ENOENT` where one of those before it is not there, and
-/// `of_root` where there are no names. The touches of the walk are added to `touches`. `AllocError` says that memory was
-/// refused; some touches may have been added then.
-pub fn walk_to_last(
-    view: &View,
+/// Where the last name of a path stands, and what it gives; `of_root` where the path has no names.
+pub fn walk_to_last<L: Look>(
+    look: &L,
     of_root: Errno,
-    names: &[Name],
-    touches: &mut Vec<Touch, Heap>,
-) -> Result<Result<Last, Errno>, AllocError>
-    ensures last { IfOk result (λ last. given view.now.state (last_of view.now.state.root of_root names.now) ≡ last_reached last) }
-    ensures there { IfOk result (λ last. IfOk last (λ l. IsInUse view.now.reserves l.parent)) }
-    ensures found { IfOk result (λ last. IfOk last (λ l. IfSome l.found (IsInUse view.now.reserves))) }
-    ensures touches { OnOk result (touches.new.items ≡ touches.old.items ++ reading (seen view.now.state (last_of view.now.state.root of_root names.now))) }
+    path: &Path,
+    touches: &mut Touches,
+) -> Result<Last, Refusal>
+    ensures { let k = L.state look.now in Comes k (last_of k.root of_root path.now) touches.old result touches.new }
 {
-    let [parents @ .., last] = names else {
-        return Ok(Err(of_root));
-    };
-    match walk(view, parents, touches)? {
-        Ok(parent) => {
-            let found = look(view, parent, last, touches)?;
-            let name = last.try_clone()?;
-            Ok(Ok(Last {
-                parent,
-                name,
-                found,
-            }))
-        }
-        Err(errno) => Ok(Err(errno)),
-    }
+    walk_to_last_of(look, of_root, path.components(), touches)
 }
 
-// What one name gives, with the touch of the look.
-fn look(
-    view: &View,
+// What a name gives.
+fn find<L: Look>(
+    look: &L,
     dir: Num,
     name: &Name,
-    touches: &mut Vec<Touch, Heap>,
-) -> Result<Option<Num>, AllocError>
-    ensures value { IfOk result (λ found. entry_of view.now.state dir name.now ≡ directory_at found) }
-    ensures there { IfOk result (λ found. IfSome found (IsInUse view.now.reserves)) }
-    ensures touches { OnOk result (touches.new.items ≡ touches.old.items ++ reading (Entry dir name.now ∷ [])) }
+    touches: &mut Touches,
+) -> Result<Option<(Num, Option<Kind>)>, Refusal>
+    ensures { Comes (L.state look.now) (ask (Look_up dir name.now)) touches.old result touches.new }
 {
-    touches.push(Touch {
-        aspect: Aspect::Entry(dir, name.try_clone()?),
-        write: false,
-    })?;
-    view.find(dir, name)
+    touches.read(Aspect::Entry(dir, name.try_clone()?))?;
+    Ok(look.find(dir, name)?)
+}
+
+// One name, where the place that was reached is a directory.
+fn look_up<L: Look>(
+    look: &L,
+    place: &(Num, Option<Kind>),
+    name: &Name,
+    touches: &mut Touches,
+) -> Result<Option<(Num, Option<Kind>)>, Refusal>
+    ensures { Comes (L.state look.now) (look_in place.now name.now) touches.old result touches.new }
+{
+    must_be_directory(place)?;
+    find(look, place.0, name, touches)
+}
+
+// One name that has to be there.
+fn next<L: Look>(
+    look: &L,
+    place: &(Num, Option<Kind>),
+    name: &Name,
+    touches: &mut Touches,
+) -> Result<(Num, Option<Kind>), Refusal>
+    ensures { Comes (L.state look.now) (next_of place.now name.now) touches.old result touches.new }
+{
+    let found = look_up(look, place, name, touches)?;
+    or_refuse(Errno::ENOENT, found)
+}
+
+// The place that all names lead to, from the root on.
+fn walk_along<L: Look>(
+    look: &L,
+    names: &[Name],
+    touches: &mut Touches,
+) -> Result<(Num, Option<Kind>), Refusal>
+    ensures { let k = L.state look.now in Comes k (walk (start k) names.now) touches.old result touches.new }
+{
+    let mut place = (look.root(), Some(Kind::Dir));
+    for name in names {
+        place = next(look, &place, name, touches)?;
+    }
+    Ok(place)
+}
+
+// Where the last of the names stands, and what it gives.
+fn walk_to_last_of<L: Look>(
+    look: &L,
+    of_root: Errno,
+    names: &[Name],
+    touches: &mut Touches,
+) -> Result<Last, Refusal>
+    ensures { let k = L.state look.now in Comes k (last_of k.root of_root names.now) touches.old result touches.new }
+{
+    let [parents @ .., last] = names else {
+        return Err(Refusal::Errno(of_root));
+    };
+    let place = walk_along(look, parents, touches)?;
+    look_at_last(look, place, last, touches)
+}
+
+// The last name, where the others lead here.
+fn look_at_last<L: Look>(
+    look: &L,
+    place: (Num, Option<Kind>),
+    name: &Name,
+    touches: &mut Touches,
+) -> Result<Last, Refusal>
+    ensures { Comes (L.state look.now) (look_last name.now place) touches.old result touches.new }
+{
+    let found = look_up(look, &place, name, touches)?;
+    Ok(Last {
+        parent: place.0,
+        name: name.try_clone()?,
+        found,
+    })
 }

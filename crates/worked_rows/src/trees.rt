@@ -3,6 +3,7 @@ use crate::row::{Row, Step, kernel_of, step_in, tell_names, tells_the_lister, te
 use heap::Heap;
 use ids::{Answer, Name, Pid, Reply};
 use kernel::Kernel;
+use look::Look;
 use std::test::Fail;
 
 pub(crate) static TREES: [Row; 12] = [
@@ -242,7 +243,7 @@ fn readers_are_told_what_they_have_read(rt: HostRuntime) -> Result<(), Fail> {
 fn seen_names(heap: Heap, kernel: &Kernel, pid: Pid) -> Result<Vec<u8, Heap>, Fail> {
     let view = kernel.view(pid);
     let found = view.find(view.root(), &Name::copy(heap, b"d")?)?;
-    let dir = found.ok_or("no directory")?;
+    let (dir, _kind) = found.ok_or("no directory")?;
     let mut told = Vec::new(heap);
     tell_names(&mut told, &view.names(heap, dir)?)?;
     Ok(told)

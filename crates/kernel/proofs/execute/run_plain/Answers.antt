@@ -6,6 +6,7 @@ use Rattle.contention.specs.Verdicts.{IsVerdict}
 use Rattle.kernel.specs.Shown.{moment}
 use Rattle.kernel.specs.States.{fields}
 use Rattle.kernel.proofs.Judged.{plain_counted, plain_sees}
+use Rattle.kernel.proofs.Planned.{resting_lives}
 use Rattle.kernel.proofs.execute.run_plain.Goals as goal
 use Rattle.kernel.proofs.execute.run_plain.Goals.{After-branch-entry}
 
@@ -15,7 +16,7 @@ judged c =
     let m = moment c.args.s.now.history in
     let writes = c.as_slice.ensures.value ∙ c.keep_writes.ensures ∙ ap (filter (λ t. t.write)) c.in_ok-plan.ensures.is.touches
     ∙ ap (λ k. filter (λ t. t.write) (touches k c.args.pid c.args.call)) (plain_sees (fields c.args.s.now) c.args.pid c.requires.holds c.requires.idle) ∙ plain_counted (fields c.args.s.now) c.args.pid c.args.call c.requires.holds c.requires.idle in
-    subst (λ ts. IfOk c.verdict.result (IsVerdict m c.args.pid ts)) writes (c.verdict.ensures m c.requires.holds.held)
+    subst (λ ts. IfOk c.verdict.result (IsVerdict m c.args.pid ts)) writes (c.verdict.ensures.verdict m c.requires.holds.held)
 
 pub put_off-requires-clause-lost : goal.put_off-requires-clause-lost
 put_off-requires-clause-lost c =
@@ -37,3 +38,6 @@ take_plain-requires-clause-answer c = c.in_ok-plan.ensures.is.answer ∙ ap (λ 
 
 pub take_plain-requires-clause-edits : goal.take_plain-requires-clause-edits
 take_plain-requires-clause-edits c = c.in_ok-plan.ensures.is.edits ∙ ap (λ k. edits k c.args.pid c.args.call) (plain_sees (fields c.args.s.now) c.args.pid c.requires.holds c.requires.idle)
+
+pub plan_for-requires-clause-alive : goal.plan_for-requires-clause-alive
+plan_for-requires-clause-alive c = resting_lives (fields c.args.s.now) c.args.pid c.requires.idle

@@ -17,7 +17,7 @@ use Rattle.kernel.proofs.Plain.{plain_right, plain_commits, plain_holds}
 use Rattle.kernel.proofs.execute.take_plain.Goals as goal
 
 pub prepare_plain-requires-clause-parents : goal.prepare_plain-requires-clause-parents
-prepare_plain-requires-clause-parents c = parents_stay c.args.s.now.stable c.number.new.self c.args.plan.edits c.number.ensures.places c.requires.parents
+prepare_plain-requires-clause-parents c = parents_stay c.args.s.now.stable c.number.new.self c.args.plan.edits.items c.number.ensures.places c.requires.parents
 
 pub returns-in-Err-clause-holds : goal.returns-in-Err-clause-holds
 returns-in-Err-clause-holds c = unchanged_holds (fields c.args.s.now) _ c.requires.holds refl refl (λ q. refl) refl (λ q. refl)
@@ -44,7 +44,7 @@ doom_all-requires-clause-covered c = still_covered c.args.s.now.slots.items c.ar
 pub commit_into-requires-clause-can : goal.commit_into-requires-clause-can
 commit_into-requires-clause-can c =
     let f = fields c.args.s.now in
-    let d : Effect = record { chosen = c.in_ok-chosen.chosen; edits = c.args.plan.edits } in
+    let d : Effect = record { chosen = c.in_ok-chosen.chosen; edits = c.args.plan.edits.items } in
     let new : AreNew f (edits f.stable.state c.args.pid c.args.call) c.in_ok-chosen.chosen = record {
       count = c.in_ok-chosen.ensures.count ∙ ap (sum_by news) c.requires.edits;
       unused = c.in_ok-chosen.ensures.unused;
@@ -58,7 +58,7 @@ commit_into-requires-clause-can c =
 pub commit_into-requires-clause-covers : goal.commit_into-requires-clause-covers
 commit_into-requires-clause-covers c =
     let f = fields c.args.s.now in
-    let d : Effect = record { chosen = c.in_ok-chosen.chosen; edits = c.args.plan.edits } in
+    let d : Effect = record { chosen = c.in_ok-chosen.chosen; edits = c.args.plan.edits.items } in
     let beside : Beside (d ∷ []) c.args.s.now.slots.items c.prepare_plain.new.stable
     = beside_one c.args.s.now.slots.items c.args.s.now.stable c.prepare_plain.new.stable d c.requires.holds.covered
     (all_came c.args.s.now.stable c.number.new.self c.prepare_plain.new.stable d c.in_ok-chosen.ensures.different c.in_ok-chosen.ensures.unused c.in_ok-chosen.ensures.given c.number.ensures.keeps c.prepare_plain.ensures.grows c.in-Ok.ensures.room) in
@@ -70,7 +70,7 @@ commit_into-requires-clause-covers c =
 pub push_placed-requires : goal.push_placed-requires
 push_placed-requires c =
     let f = fields c.args.s.now in
-    let d : Effect = record { chosen = c.in_ok-chosen.chosen; edits = c.args.plan.edits } in
+    let d : Effect = record { chosen = c.in_ok-chosen.chosen; edits = c.args.plan.edits.items } in
     let new : AreNew f (edits f.stable.state c.args.pid c.args.call) c.in_ok-chosen.chosen = record {
       count = c.in_ok-chosen.ensures.count ∙ ap (sum_by news) c.requires.edits;
       unused = c.in_ok-chosen.ensures.unused;
@@ -83,7 +83,7 @@ push_placed-requires c =
 pub returns-in-Ok-clause-holds : goal.returns-in-Ok-clause-holds
 returns-in-Ok-clause-holds c =
     let f = fields c.args.s.now in
-    let d : Effect = record { chosen = c.in_ok-chosen.chosen; edits = c.args.plan.edits } in
+    let d : Effect = record { chosen = c.in_ok-chosen.chosen; edits = c.args.plan.edits.items } in
     let new : AreNew f (edits f.stable.state c.args.pid c.args.call) c.in_ok-chosen.chosen = record {
       count = c.in_ok-chosen.ensures.count ∙ ap (sum_by news) c.requires.edits;
       unused = c.in_ok-chosen.ensures.unused;

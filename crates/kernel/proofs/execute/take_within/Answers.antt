@@ -20,7 +20,7 @@ pub prepare_within-requires-clause-unused : goal.prepare_within-requires-clause-
 prepare_within-requires-clause-unused c = rooms_unclaimed c.args.s.now.slots.items c.args.s.now.stable c.in_ok-chosen.chosen c.requires.holds.covered c.in_ok-chosen.ensures.unused c.args.pid
 
 pub prepare_within-requires-clause-parents : goal.prepare_within-requires-clause-parents
-prepare_within-requires-clause-parents c = parents_stay c.args.s.now.stable c.number.new.self c.args.plan.edits c.number.ensures.places c.requires.parents
+prepare_within-requires-clause-parents c = parents_stay c.args.s.now.stable c.number.new.self c.args.plan.edits.items c.number.ensures.places c.requires.parents
 
 pub returns-in-Err-clause-holds : goal.returns-in-Err-clause-holds
 returns-in-Err-clause-holds c =
@@ -35,7 +35,7 @@ returns-in-Err-clause-holds c =
 pub doom_all-requires-clause-covered : goal.doom_all-requires-clause-covered
 doom_all-requires-clause-covered c = still_covered c.args.s.now.slots.items c.prepare_within.new.s.slots.items c.args.s.now.stable c.prepare_within.new.s.stable
     (change_spares (fields c.args.s.now) c.requires.holds c.args.pid c.args.within.0 c.args.within.1 c.requires.live c.prepare_within.new.s.slots.items c.number.new.self c.prepare_within.new.s.stable
-    (record { chosen = c.in_ok-chosen.chosen; edits = c.args.plan.edits }) c.in_ok-chosen.ensures.different c.in_ok-chosen.ensures.unused c.in_ok-chosen.ensures.given c.number.ensures.keeps c.prepare_within.ensures.grows
+    (record { chosen = c.in_ok-chosen.chosen; edits = c.args.plan.edits.items }) c.in_ok-chosen.ensures.different c.in_ok-chosen.ensures.unused c.in_ok-chosen.ensures.given c.number.ensures.keeps c.prepare_within.ensures.grows
     c.in-Ok.ensures.room c.in-Ok.ensures.slots)
     c.requires.holds.covered
 
@@ -75,7 +75,7 @@ returns-in-Ok-clause-holds c =
     let added = c.in-Ok.ensures in
     let state = c.doom_all.ensures.state ∙ c.prepare_within.ensures.state ∙ c.number.ensures.state in
     let spare = change_spares f c.requires.holds pid c.args.within.0 c.args.within.1 c.requires.live c.prepare_within.new.s.slots.items c.number.new.self c.prepare_within.new.s.stable
-    (record { chosen = c.in_ok-chosen.chosen; edits = c.args.plan.edits }) c.in_ok-chosen.ensures.different c.in_ok-chosen.ensures.unused c.in_ok-chosen.ensures.given c.number.ensures.keeps c.prepare_within.ensures.grows
+    (record { chosen = c.in_ok-chosen.chosen; edits = c.args.plan.edits.items }) c.in_ok-chosen.ensures.different c.in_ok-chosen.ensures.unused c.in_ok-chosen.ensures.given c.number.ensures.keeps c.prepare_within.ensures.grows
     added.room added.slots in
     let entry = added.entry ∙ ap₂ (λ answer doomed. made_entry pid c.args.call (answered answer) c.in_ok-chosen.chosen doomed) c.requires.planned.answer c.deref.ensures.value in
     within_holds f pid c.args.call c.args.within.0 c.args.within.1 c.in_ok-chosen.chosen ds c.requires.holds c.requires.live c.requires.there c.requires.places c.requires.wins.0 c.requires.wins.1 c.requires.wins.2 new _

@@ -1,9 +1,9 @@
-use Rattle.std.proofs.Common.{rules, append-nil}
-use Rattle.transcript.proofs.Printing.{Prints-as, Prints-part, Prints-then}
+use Rattle.std.proofs.Common.{append-nil}
+use Rattle.transcript.proofs.Printing.{Prints-as, Prints-then, Told-by}
 use Rattle.transcript.proofs.line.print_line.Goals as goal
 
-pub returns-then-has_failed-clause-part : goal.returns-then-has_failed-clause-part
-returns-then-has_failed-clause-part g c =
-    let all = Prints-as (Prints-then _ _ c.put_line.ensures c.flush.ensures.prints) (append-nil _) in
-    let part = Prints-part all c.new-out.ensures.failed c.new-out.ensures.pending in
-    search (rules, part)
+pub returns : goal.returns
+returns g c =
+    let all = Prints-as (Prints-then _ _ c.put_line.ensures c.finish.ensures.prints) (append-nil _) in
+    let told = Told-by c.finish.result all c.new-out.ensures.failed c.new-out.ensures.pending c.finish.ensures.pending c.finish.ensures.ok c.finish.ensures.failed in
+    record { ok = ?; no_failure = ?; part = ?; failure = ? }

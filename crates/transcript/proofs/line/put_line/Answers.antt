@@ -5,4 +5,7 @@ use Rattle.transcript.proofs.line.put_line.Goals as goal
 
 pub returns : goal.returns
 unfolding line_of
-returns g c = Prints-as (Prints-then _ _ (Prints-then _ _ (Prints-then _ _ (Prints-then _ _ (Prints-then _ _ (Prints-then _ _ (Prints-then _ _ (Prints-then _ _ c.put_decimal.ensures c.put.ensures) c.put_decimal-2.ensures) c.put-2.ensures) c.put_op.ensures) c.put-3.ensures) c.put_reply.ensures) c.put_dooms.ensures) c.put-4.ensures) (search rules)
+returns g c =
+    let named = Prints-then _ _ (Prints-then _ _ c.put_decimal.ensures c.put_number.ensures) c.put.ensures in
+    let told = Prints-then _ _ (Prints-then _ _ (Prints-then _ _ named c.put_op.ensures) c.put-2.ensures) c.put_reply.ensures in
+    Prints-as (Prints-then _ _ (Prints-then _ _ told c.put_dooms.ensures) c.put-3.ensures) (search rules)

@@ -3,4 +3,4 @@ use Rattle.transcript.proofs.Printing.{Prints-as, Prints-then}
 use Rattle.transcript.proofs.operation.put_paths.Goals as goal
 
 pub returns : goal.returns
-returns g c = Prints-as (Prints-then _ _ (Prints-then _ _ (Prints-then _ _ c.put.ensures c.put_text.ensures) c.put-2.ensures) c.put_text-2.ensures) (search rules)
+returns g c = Prints-as (Prints-then _ _ c.put_path.ensures c.put_path-2.ensures) (search rules)

@@ -3,4 +3,4 @@ use Rattle.transcript.proofs.Printing.{Prints-as, Prints-then}
 use Rattle.transcript.proofs.reply.put_cause.Goals as goal
 
 pub returns : goal.returns
-returns g c = Prints-as (Prints-then _ _ (Prints-then _ _ (Prints-then _ _ c.put_aspect.ensures c.put_access.ensures) c.put.ensures) c.put_decimal.ensures) (search rules)
+returns g c = Prints-as (Prints-then _ _ (Prints-then _ _ c.put_aspect.ensures c.put_access.ensures) c.put_number.ensures) (search rules)

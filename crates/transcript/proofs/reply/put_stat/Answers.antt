@@ -3,4 +3,4 @@ use Rattle.transcript.proofs.Printing.{Prints-as, Prints-then}
 use Rattle.transcript.proofs.reply.put_stat.Goals as goal
 
 pub returns : goal.returns
-returns g c = Prints-as (Prints-then _ _ (Prints-then _ _ (Prints-then _ _ (Prints-then _ _ c.put_kind.ensures c.put.ensures) c.put_decimal.ensures) c.put-2.ensures) c.put_decimal-2.ensures) (search rules)
+returns g c = Prints-as (Prints-then _ _ (Prints-then _ _ c.put_kind.ensures c.put_number.ensures) c.put_number-2.ensures) (search rules)

@@ -2,6 +2,7 @@ use Rattle.std.proofs.Common.{rules, ◌≡◌, ◌≤◌, ◌+◌, List, [], �
 use Rattle.std.proofs.lemmas.List.{append_assoc, append-nil}
 use Rattle.std.specs.Vec.{vec_capacity}
 use Rattle.std.specs.Vec.Iter.{into_iter_items}
+use Rattle.history_laws.proofs.Laws.{serializable_at}
 use Rattle.kernel.specs.Steps.{Steps}
 use Rattle.kernel.proofs.kernel.Kernel.run.Goals as goal
 
@@ -31,3 +32,7 @@ returns-clause-steps c =
     let none : into_iter_items c.loop-pid.pid-iterator ≡ [] = empty_of _ zero in
     subst (λ replies. Steps c.args.self.now c.args.ops.items replies c.loop-pid.self) (append-nil c.loop-pid.replies.items)
     (c.loop-pid.invariant.goes_on [] c.loop-pid.self (subst (λ ops. Steps c.loop-pid.self ops [] c.loop-pid.self) (sym none) refl))
+
+-- by the headline of legal histories
+pub returns-clause-serial : goal.returns-clause-serial
+returns-clause-serial c = serializable_at 0 _ _ _ _ c.loop-pid.invariant.kept.legal c.loop-pid.invariant.kept.state

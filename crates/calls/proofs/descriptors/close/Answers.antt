@@ -1,0 +1,13 @@
+use Rattle.std.proofs.Common.{sym}
+use Rattle.std.proofs.Common.{[], ◌∷◌}
+use Rattle.model.specs.Plans.{changed}
+use Rattle.model.specs.Calls.{Done}
+use Rattle.model.specs.Changes.{Clear_slot}
+use Rattle.walk.proofs.Then.{goes, stops, via}
+use Rattle.calls.proofs.descriptors.close.Goals as goal
+
+pub returns-in_err-it : goal.returns-in_err-it
+returns-in_err-it c k before = stops _ c.from_residual.ensures.1 (c.in_err-it.ensures _ _)
+
+pub returns : goal.returns
+returns c k before = goes _ (c.in_ok-it.ensures _ _) (via (λ i. changed Done (Clear_slot (sym c.pid.ensures i) c.args.fd (sym c.in_ok-pipes.ensures i) ∷ [])) (c.changed_by.ensures _ _))

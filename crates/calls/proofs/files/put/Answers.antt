@@ -1,0 +1,10 @@
+use Rattle.std.proofs.Common.{[], ◌∷◌, sym}
+use Rattle.walk.proofs.Then.{via}
+use Rattle.std.proofs.Common.{[], ◌∷◌, ◌+◌, length}
+use Rattle.model.specs.Plans.{changed}
+use Rattle.model.specs.Calls.{Count}
+use Rattle.model.specs.Changes.{Put_bytes, Set_offset}
+use Rattle.calls.proofs.files.put.Goals as goal
+
+pub returns : goal.returns
+returns c k before = via (λ i. changed (Count (length (sym c.as_slice.ensures i))) (Put_bytes c.args.file c.args.place c.args.kept c.args.size ∷ Set_offset c.args.description (c.args.place + length (sym c.as_slice.ensures i)) ∷ [])) (c.changed_by_two.ensures _ _)

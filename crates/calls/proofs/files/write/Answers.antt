@@ -1,0 +1,18 @@
+use Rattle.std.proofs.Common.{sym}
+use Rattle.std.proofs.Common.{ap, ◌∙◌, if◌then◌else◌}
+use Rattle.model.specs.Plans.{unchanged, write_some}
+use Rattle.model.specs.Calls.{Count}
+use Rattle.walk.proofs.Then.{goes, stops, via}
+use Rattle.calls.proofs.files.write.Goals as goal
+
+pub returns-in_err-it : goal.returns-in_err-it
+returns-in_err-it g c = stops _ c.from_residual.ensures.1 (c.in_err-it.ensures _ _)
+
+pub returns-in_err-refuse_if : goal.returns-in_err-refuse_if
+returns-in_err-refuse_if g c = goes _ (c.in_ok-it.ensures _ _) (stops _ c.from_residual-in_err-refuse_if.ensures.1 (c.in_err-refuse_if.ensures _ _))
+
+pub returns-then-is_empty : goal.returns-then-is_empty
+returns-then-is_empty g c = goes _ (c.in_ok-it.ensures _ _) (goes _ (c.in_ok-refuse_if.ensures _ _) (via (ap (λ b. if b then unchanged (Count 0) else write_some c.in_ok-it.it c.args.bytes.now) (sym c.is_empty.ensures ∙ c.if-is_empty.true)) (c.unchanged.ensures _ _)))
+
+pub returns-else-is_empty : goal.returns-else-is_empty
+returns-else-is_empty g c = goes _ (c.in_ok-it.ensures _ _) (goes _ (c.in_ok-refuse_if.ensures _ _) (via (ap (λ b. if b then unchanged (Count 0) else write_some c.in_ok-it.it c.args.bytes.now) (sym c.is_empty.ensures ∙ c.if-is_empty.false)) (c.write_some.ensures)))

@@ -1,0 +1,133 @@
+// The plans of calls on descriptors and processes.
+ghost use Rattle.std.specs.Prelude.{Some, ◌++◌, ◌∷◌, []};
+ghost use Rattle.model.specs.Changes.{Share_slot};
+ghost use Rattle.model.specs.Plans.{plan, changed, duplicated, piped, forked, pipe_in, slot_at};
+ghost use Rattle.model.specs.Calls.{Descriptor, Close, Fstat, Dup, Dup2, Open_pipe, Fork, Exit};
+ghost use Rattle.look.specs.Asked.{Comes, Tells};
+
+use crate::change::{Change, changed_by, unchanged};
+use crate::checks::{must_be_below, must_be_descriptor};
+use crate::own::{Own, is_one, pipe_in, slot, two_of};
+use crate::paths::status;
+use heap::Heap;
+use ids::{Answer, Edit, Errno, Fd, Pid, Refusal, Slot};
+use look::Look;
+use walk::Touches;
+
+pub(crate) fn close(heap: Heap, own: &Own, fd: Fd) -> Result<Change, Refusal>
+    ensures { Tells (plan own.now (Close fd)) result }
+{
+    let it = slot(own, fd)?;
+    let pipes = pipe_in(heap, &it)?;
+    changed_by(heap, Answer::Done, Edit::ClearSlot(own.pid(), fd, pipes))
+}
+
+pub(crate) fn fstat<L: Look>(
+    look: &L,
+    own: &Own,
+    fd: Fd,
+    touches: &mut Touches,
+) -> Result<Change, Refusal>
+    ensures { Comes (L.state look.now) (plan own.now (Fstat fd)) touches.old result touches.new }
+{
+    let it = slot(own, fd)?;
+    status(look, it.inode, it.kind, touches)
+}
+
+pub(crate) fn dup(heap: Heap, own: &Own, fd: Fd) -> Result<Change, Refusal>
+    ensures { Tells (plan own.now (Dup fd)) result }
+{
+    let it = slot(own, fd)?;
+    let free = own.free(heap)?;
+    duplicated(heap, own, &it, free.as_slice())
+}
+
+fn duplicated(heap: Heap, own: &Own, it: &Slot, free: &[Fd]) -> Result<Change, Refusal>
+    ensures { Tells (duplicated own.now it.now free.now) result }
+{
+    match free {
+        [fd, ..] => {
+            let pipes = pipe_in(heap, it)?;
+            changed_by(
+                heap,
+                Answer::Fd(*fd),
+                Edit::ShareSlot(own.pid(), *fd, it.description, pipes),
+            )
+        }
+        [] => Err(Refusal::Errno(Errno::EMFILE)),
+    }
+}
+
+pub(crate) fn dup2(heap: Heap, own: &Own, old: Fd, new: Fd) -> Result<Change, Refusal>
+    ensures { Tells (plan own.now (Dup2 old new)) result }
+{
+    let it = slot(own, old)?;
+    must_be_descriptor(new)?;
+    if is_one(old, new) {
+        unchanged(heap, Answer::Fd(old))
+    } else {
+        replaced(heap, own, &it, new)
+    }
+}
+
+// A descriptor that shares another's description, whatever it was open on.
+fn replaced(heap: Heap, own: &Own, it: &Slot, new: Fd) -> Result<Change, Refusal>
+    ensures { let pipes = pipe_in (Some it.now) ++ pipe_in (slot_at own.now new) in
+        Tells (changed (Descriptor new) (Share_slot own.now.pid new it.now.description pipes ∷ []))
+        result }
+{
+    let pipes = two_of(heap, it, &own.slot_at(new))?;
+    changed_by(
+        heap,
+        Answer::Fd(new),
+        Edit::ShareSlot(own.pid(), new, it.description, pipes),
+    )
+}
+
+pub(crate) fn pipe(heap: Heap, own: &Own) -> Result<Change, Refusal>
+    ensures { Tells (plan own.now Open_pipe) result }
+{
+    let free = own.free(heap)?;
+    piped(heap, own, free.as_slice())
+}
+
+fn piped(heap: Heap, own: &Own, free: &[Fd]) -> Result<Change, Refusal>
+    ensures { Tells (piped own.now free.now) result }
+{
+    match free {
+        [reader, writer, ..] => changed_by(
+            heap,
+            Answer::Pair(*reader, *writer),
+            Edit::MakePipe(0, own.pid(), *reader, *writer),
+        ),
+        _ => Err(Refusal::Errno(Errno::EMFILE)),
+    }
+}
+
+pub(crate) fn fork(heap: Heap, own: &Own) -> Result<Change, Refusal>
+    ensures { Tells (plan own.now Fork) result }
+{
+    match own.birth() {
+        Some(birth) => forked(heap, own, birth),
+        None => Err(Refusal::Errno(Errno::EAGAIN)),
+    }
+}
+
+fn forked(heap: Heap, own: &Own, birth: (u32, u8)) -> Result<Change, Refusal>
+    ensures { Tells (forked own.now (Some birth)) result }
+{
+    must_be_below(birth.0, 4096, Errno::EAGAIN)?;
+    let pipes = own.pipes(heap)?;
+    changed_by(
+        heap,
+        Answer::Child(Pid(birth.0 + 1)),
+        Edit::NewProcess(Pid(birth.0 + 1), own.pid(), pipes),
+    )
+}
+
+pub(crate) fn exit(heap: Heap, own: &Own) -> Result<Change, Refusal>
+    ensures { Tells (plan own.now Exit) result }
+{
+    let pipes = own.pipes(heap)?;
+    changed_by(heap, Answer::Done, Edit::EndProcess(own.pid(), pipes))
+}

@@ -1,0 +1,424 @@
+// The plans of calls on files and pipes.
+ghost use Rattle.std.specs.Prelude.{◌≡◌, ◌<◌, ◌≤◌, ◌^◌, ◌+◌, [], ◌∷◌, length, take, IfOk, Some, None, ◌++◌, if◌then◌else◌};
+ghost use Rattle.model.specs.Paths.{is_empty};
+ghost use Rattle.model.specs.Plan.{Give, ask, Fit};
+ghost use Rattle.model.specs.Walks.{Last};
+ghost use Rattle.model.specs.Changes.{Take, Set_offset, Put_bytes};
+ghost use Rattle.ids.specs.Flags.{is_truncating};
+ghost use Rattle.model.specs.Plans.{plan, changed, mode, opened, cut_to, read_some, read_pipe, write_some, place_to_write};
+ghost use Rattle.model.specs.Calls.{Slot, Count, Bytes as Read_bytes, Open, Read, Write, Ftruncate};
+ghost use Rattle.calls.specs.Parts.{some_of_pipe, some_of_file, some_to_pipe, some_to_file};
+ghost use Rattle.look.specs.Asked.{Comes, Tells};
+
+use crate::asking::{ends, fit, offset, read_file, read_pipe, size};
+use crate::change::{Change, Edits, changed, changed_by, changed_by_two, unchanged};
+use crate::checks::{
+    LARGEST, is_zero, must_be_at_most, must_be_below, must_be_new, must_be_zero, must_create,
+    must_create_to_exclude, must_fit, must_not_be_pipe, must_not_be_zero, must_read_or_write,
+    must_write_to_truncate, refusal_of_root,
+};
+use crate::own::{Own, is_pipe, lowest, slot};
+use crate::steps::{must_not_be_directory, parsed, refuse_if};
+use heap::Heap;
+use ids::{Answer, Bytes, Edit, Errno, Fd, Kind, Mode, Num, OpenFlags, Refusal, Slot, Which};
+use look::Look;
+use std::alloc::AllocError;
+use walk::{Last, Touches, walk_to_last};
+
+pub(crate) fn open<L: Look>(
+    look: &L,
+    own: &Own,
+    path: &Bytes,
+    flags: OpenFlags,
+    touches: &mut Touches,
+) -> Result<Change, Refusal>
+    requires { own.now.root ≡ (L.state look.now).root }
+    ensures { Comes (L.state look.now)
+        (plan own.now (Open path.now flags)) touches.old result touches.new }
+{
+    must_read_or_write(flags)?;
+    must_create_to_exclude(flags)?;
+    must_write_to_truncate(flags)?;
+    let path = parsed(touches.heap(), path)?;
+    let fd = lowest(touches.heap(), own)?;
+    let last = walk_to_last(look, refusal_of_root(flags), &path, touches)?;
+    opened(look, own, flags, fd, last, touches)
+}
+
+fn opened<L: Look>(
+    look: &L,
+    own: &Own,
+    flags: OpenFlags,
+    fd: Fd,
+    last: Last,
+    touches: &mut Touches,
+) -> Result<Change, Refusal>
+    ensures { Comes (L.state look.now)
+        (opened own.now flags fd last last.found) touches.old result touches.new }
+{
+    match last.found() {
+        None => opened_new(touches.heap(), own, flags, fd, last),
+        Some(place) => opened_old(look, own, flags, fd, place, touches),
+    }
+}
+
+// A file that is made.
+fn opened_new(
+    heap: Heap,
+    own: &Own,
+    flags: OpenFlags,
+    fd: Fd,
+    last: Last,
+) -> Result<Change, Refusal>
+    ensures { Tells (opened own.now flags fd last None) result }
+{
+    must_create(flags)?;
+    changed_by_two(
+        heap,
+        Answer::Fd(fd),
+        Edit::MakeFile(last.parent, last.name, 0),
+        Edit::OpenInode(1, Which::Made(0), mode(flags), own.pid(), fd),
+    )
+}
+
+// A file that is there.
+fn opened_old<L: Look>(
+    look: &L,
+    own: &Own,
+    flags: OpenFlags,
+    fd: Fd,
+    place: (Num, Option<Kind>),
+    touches: &mut Touches,
+) -> Result<Change, Refusal>
+    ensures { (at : Last) → Comes (L.state look.now)
+        (opened own.now flags fd at (Some place)) touches.old result touches.new }
+{
+    must_be_new(flags)?;
+    must_not_be_directory(&place, Errno::EISDIR)?;
+    let cut = cut_if(look, flags, place.0, touches)?;
+    let edits = with(
+        cut,
+        Edit::OpenInode(0, Which::There(place.0), mode(flags), own.pid(), fd),
+    )?;
+    changed(Answer::Fd(fd), edits)
+}
+
+// One more change.
+fn with(edits: Edits, edit: Edit) -> Result<Edits, AllocError>
+    ensures { IfOk result (λ all. all ≡ edits ++ edit ∷ []) }
+{
+    let mut all = edits;
+    all.add(edit)?;
+    Ok(all)
+}
+
+// How a description is open.
+fn mode(flags: OpenFlags) -> Mode
+    ensures { result ≡ mode flags }
+{
+    Mode {
+        reading: flags.reads(),
+        writing: flags.writes(),
+        appending: flags.appends(),
+    }
+}
+
+// The cut of a file that is opened anew.
+fn cut_if<L: Look>(
+    look: &L,
+    flags: OpenFlags,
+    file: Num,
+    touches: &mut Touches,
+) -> Result<Edits, Refusal>
+    ensures { Comes (L.state look.now)
+        (if is_truncating flags then cut_to file 0 else Give []) touches.old result touches.new }
+{
+    if flags.truncates() {
+        cut_to(look, file, 0, touches)
+    } else {
+        Ok(Edits::new(touches.heap()))
+    }
+}
+
+// A file's new length.
+fn cut_to<L: Look>(
+    look: &L,
+    file: Num,
+    length: u32,
+    touches: &mut Touches,
+) -> Result<Edits, Refusal>
+    ensures { Comes (L.state look.now) (cut_to file length) touches.old result touches.new }
+{
+    let size = size(look, file, touches)?;
+    let edits = with(Edits::new(touches.heap()), Edit::Cut(file, size, length))?;
+    Ok(edits)
+}
+
+pub(crate) fn ftruncate<L: Look>(
+    look: &L,
+    own: &Own,
+    fd: Fd,
+    length: u32,
+    touches: &mut Touches,
+) -> Result<Change, Refusal>
+    ensures { Comes (L.state look.now)
+        (plan own.now (Ftruncate fd length)) touches.old result touches.new }
+{
+    let it = slot(own, fd)?;
+    refuse_if(!it.writing, Errno::EBADF)?;
+    must_not_be_pipe(it.kind, Errno::EINVAL)?;
+    must_be_at_most(length, LARGEST, Errno::EFBIG)?;
+    let cut = cut_to(look, it.inode, length, touches)?;
+    changed(Answer::Done, cut)
+}
+
+pub(crate) fn read<L: Look>(
+    look: &L,
+    own: &Own,
+    fd: Fd,
+    count: u32,
+    touches: &mut Touches,
+) -> Result<Change, Refusal>
+    ensures { Comes (L.state look.now)
+        (plan own.now (Read fd count)) touches.old result touches.new }
+{
+    let it = slot(own, fd)?;
+    refuse_if(!it.reading, Errno::EBADF)?;
+    if is_zero(count) {
+        unchanged(touches.heap(), Answer::Bytes(no_bytes(touches)))
+    } else {
+        read_some(look, it, count, touches)
+    }
+}
+
+fn no_bytes(touches: &Touches) -> Bytes
+    ensures { result ≡ [] }
+{
+    Bytes::new(Vec::new(touches.heap()))
+}
+
+fn read_some<L: Look>(
+    look: &L,
+    it: Slot,
+    count: u32,
+    touches: &mut Touches,
+) -> Result<Change, Refusal>
+    ensures { Comes (L.state look.now) (read_some it count) touches.old result touches.new }
+{
+    if is_pipe(it.kind) {
+        read_some_pipe(look, it.inode, count, touches)
+    } else {
+        read_some_file(look, it.inode, it.description, count, touches)
+    }
+}
+
+fn read_some_pipe<L: Look>(
+    look: &L,
+    pipe: Num,
+    count: u32,
+    touches: &mut Touches,
+) -> Result<Change, Refusal>
+    ensures { Comes (L.state look.now) (some_of_pipe pipe count) touches.old result touches.new }
+{
+    let bytes = read_pipe(look, pipe, count, touches)?;
+    read_from_pipe(look, pipe, bytes, touches)
+}
+
+fn read_some_file<L: Look>(
+    look: &L,
+    file: Num,
+    description: Num,
+    count: u32,
+    touches: &mut Touches,
+) -> Result<Change, Refusal>
+    ensures { Comes (L.state look.now)
+        (some_of_file file description count) touches.old result touches.new }
+{
+    let offset = offset(look, description, touches)?;
+    let bytes = read_file(look, file, offset, count, touches)?;
+    let edits = moved_on(touches.heap(), description, offset, &bytes)?;
+    changed(Answer::Bytes(bytes), edits)
+}
+
+// The offset behind these bytes.
+fn moved_on(heap: Heap, description: Num, offset: u32, bytes: &Bytes) -> Result<Edits, AllocError>
+    requires { offset + length bytes.now < 2 ^ 32 }
+    ensures { IfOk result (λ edits. edits ≡ (if is_empty bytes.now then []
+        else Set_offset description (offset + length bytes.now) ∷ [])) }
+{
+    if is_empty(bytes) {
+        Ok(Edits::new(heap))
+    } else {
+        with(
+            Edits::new(heap),
+            Edit::SetOffset(description, offset + bytes.as_slice().len() as u32),
+        )
+    }
+}
+
+fn read_from_pipe<L: Look>(
+    look: &L,
+    pipe: Num,
+    bytes: Bytes,
+    touches: &mut Touches,
+) -> Result<Change, Refusal>
+    requires { length bytes < 2 ^ 32 }
+    ensures { Comes (L.state look.now) (read_pipe pipe bytes) touches.old result touches.new }
+{
+    if is_empty(&bytes) {
+        nothing_from_pipe(look, pipe, touches)
+    } else {
+        taken(touches.heap(), pipe, bytes)
+    }
+}
+
+fn nothing_from_pipe<L: Look>(look: &L, pipe: Num, touches: &mut Touches) -> Result<Change, Refusal>
+    ensures { Comes (L.state look.now) (read_pipe pipe []) touches.old result touches.new }
+{
+    let ends = ends(look, pipe, touches)?;
+    must_be_zero(ends.1, Errno::EAGAIN)?;
+    unchanged(touches.heap(), Answer::Bytes(no_bytes(touches)))
+}
+
+fn taken(heap: Heap, pipe: Num, bytes: Bytes) -> Result<Change, Refusal>
+    requires { length bytes < 2 ^ 32 }
+    ensures { Tells (changed (Read_bytes bytes) (Take pipe (length bytes) ∷ [])) result }
+{
+    let count = bytes.as_slice().len() as u32;
+    changed_by(heap, Answer::Bytes(bytes), Edit::Take(pipe, count))
+}
+
+pub(crate) fn write<L: Look>(
+    look: &L,
+    own: &Own,
+    fd: Fd,
+    bytes: &Bytes,
+    touches: &mut Touches,
+) -> Result<Change, Refusal>
+    ensures { Comes (L.state look.now)
+        (plan own.now (Write fd bytes.now)) touches.old result touches.new }
+{
+    let it = slot(own, fd)?;
+    refuse_if(!it.writing, Errno::EBADF)?;
+    if is_empty(bytes) {
+        unchanged(touches.heap(), Answer::Count(0))
+    } else {
+        write_some(look, it, bytes, touches)
+    }
+}
+
+fn is_empty(bytes: &Bytes) -> bool
+    ensures { result ≡ is_empty bytes.now }
+{
+    bytes.as_slice().is_empty()
+}
+
+fn write_some<L: Look>(
+    look: &L,
+    it: Slot,
+    bytes: &Bytes,
+    touches: &mut Touches,
+) -> Result<Change, Refusal>
+    ensures { Comes (L.state look.now) (write_some it bytes.now) touches.old result touches.new }
+{
+    if is_pipe(it.kind) {
+        write_pipe(look, it.inode, bytes, touches)
+    } else {
+        write_file(look, it, bytes, touches)
+    }
+}
+
+fn write_pipe<L: Look>(
+    look: &L,
+    pipe: Num,
+    bytes: &Bytes,
+    touches: &mut Touches,
+) -> Result<Change, Refusal>
+    ensures { Comes (L.state look.now)
+        (some_to_pipe pipe bytes.now) touches.old result touches.new }
+{
+    let ends = ends(look, pipe, touches)?;
+    must_not_be_zero(ends.0, Errno::EPIPE)?;
+    let fitting = fit_bytes(look, pipe, bytes, touches)?;
+    must_fit(fitting, bytes)?;
+    must_not_be_zero(fitting, Errno::EAGAIN)?;
+    let kept = first_bytes(touches.heap(), bytes, fitting)?;
+    changed_by(
+        touches.heap(),
+        Answer::Count(fitting),
+        Edit::Append(pipe, kept),
+    )
+}
+
+fn fit_bytes<L: Look>(
+    look: &L,
+    pipe: Num,
+    bytes: &Bytes,
+    touches: &mut Touches,
+) -> Result<u32, Refusal>
+    ensures { Comes (L.state look.now)
+        (ask (Fit pipe (length bytes.now))) touches.old result touches.new }
+{
+    fit(look, pipe, bytes.as_slice().len(), touches)
+}
+
+fn write_file<L: Look>(
+    look: &L,
+    it: Slot,
+    bytes: &Bytes,
+    touches: &mut Touches,
+) -> Result<Change, Refusal>
+    ensures { Comes (L.state look.now) (some_to_file it bytes.now) touches.old result touches.new }
+{
+    let place = place_to_write(look, &it, touches)?;
+    must_be_below(place, LARGEST, Errno::EFBIG)?;
+    let size = size(look, it.inode, touches)?;
+    let kept = first_bytes(touches.heap(), bytes, LARGEST - place)?;
+    put(touches.heap(), it.inode, it.description, place, kept, size)
+}
+
+fn put(
+    heap: Heap,
+    file: Num,
+    description: Num,
+    place: u32,
+    kept: Bytes,
+    size: u32,
+) -> Result<Change, Refusal>
+    requires { place + length kept < 2 ^ 32 }
+    ensures { Tells (changed (Count (length kept))
+        (Put_bytes file place kept size ∷ Set_offset description (place + length kept) ∷ []))
+        result }
+{
+    let count = kept.as_slice().len() as u32;
+    changed_by_two(
+        heap,
+        Answer::Count(count),
+        Edit::PutBytes(file, place, kept, size),
+        Edit::SetOffset(description, place + count),
+    )
+}
+
+// The first bytes, so many at most.
+fn first_bytes(heap: Heap, bytes: &Bytes, count: u32) -> Result<Bytes, AllocError>
+    ensures { IfOk result (λ kept. kept ≡ take count bytes.now) }
+{
+    let bytes = bytes.as_slice();
+    let count = count as usize;
+    if count < bytes.len() {
+        Bytes::copy(heap, &bytes[..count])
+    } else {
+        Bytes::copy(heap, bytes)
+    }
+}
+
+fn place_to_write<L: Look>(look: &L, it: &Slot, touches: &mut Touches) -> Result<u32, Refusal>
+    ensures { Comes (L.state look.now)
+        (place_to_write it.now it.now.appending) touches.old result touches.new }
+{
+    if it.appending {
+        size(look, it.inode, touches)
+    } else {
+        offset(look, it.description, touches)
+    }
+}

@@ -1,0 +1,270 @@
+// What a process sees of itself without a touch.
+ghost use Rattle.std.specs.Prelude.{◌≡◌, ◌==◌, ◌++◌, ◌∷◌, [], Some, IfOk, OnOk, if◌then◌else◌};
+ghost use Rattle.std.specs.Map.{lookup};
+ghost use Rattle.std.specs.List.{list_any, flat_map};
+ghost use Rattle.model.specs.Plans.{slot, slot_at, free, free_from, each_once, pipes_in, first_of_free, pipe_in, is_pipe};
+ghost use Rattle.model.specs.Calls.{own, Exit, Fork};
+ghost use Rattle.look.specs.Asked.{Tells};
+
+use heap::Heap;
+use ids::{Errno, Fd, Kind, Num, Nums, Pid, Refusal, Slot};
+use look::Look;
+use std::alloc::AllocError;
+use std::marker::Model;
+
+/// What a process sees of itself without a touch.
+#[derive(Drop)]
+pub(crate) struct Own {
+    pub(crate) root: Num,
+    pub(crate) pid: Pid,
+    pub(crate) table: Vec<(Fd, Slot), Heap>,
+    pub(crate) birth: Option<(u32, u8)>,
+}
+
+impl Model for Own {
+    ghost use Rattle.model.specs.Calls.{Own};
+
+    ghost Value = { Own };
+
+    ghost view = { λ o. record { root = o.root; pid = o.pid; table = o.table.items; birth = o.birth } };
+}
+
+// What a process sees of itself in every call but fork.
+pub(crate) fn own_of<L: Look>(heap: Heap, look: &L, pid: Pid) -> Result<Own, AllocError>
+    ensures { IfOk result (λ o. o ≡ own (L.state look.now) pid Exit) }
+{
+    Ok(Own {
+        root: look.root(),
+        pid,
+        table: look.table(heap, pid)?,
+        birth: None,
+    })
+}
+
+impl Own {
+    // The process.
+    pub(crate) fn pid(&self) -> Pid
+        ensures { result ≡ self.now.pid }
+    {
+        self.pid
+    }
+
+    // The open descriptors.
+    fn table(&self) -> &[(Fd, Slot)]
+        ensures { result.now ≡ self.now.table }
+    {
+        self.table.as_slice()
+    }
+
+    // How many processes were made, and its priority, where it forks.
+    pub(crate) fn birth(&self) -> Option<(u32, u8)>
+        ensures { result ≡ self.now.birth }
+    {
+        self.birth
+    }
+
+    // What a descriptor is open on.
+    pub(crate) fn slot_at(&self, fd: Fd) -> Option<Slot>
+        ensures { result ≡ slot_at self.now fd }
+    {
+        find_slot(self.table(), fd)
+    }
+
+    // The descriptors that are free.
+    pub(crate) fn free(&self, heap: Heap) -> Result<Fds, AllocError>
+        ensures { IfOk result (λ fds. fds ≡ free self.now) }
+    {
+        find_free(heap, self.table())
+    }
+
+    // The pipes of the descriptors, each once.
+    pub(crate) fn pipes(&self, heap: Heap) -> Result<Nums, AllocError>
+        ensures { IfOk result (λ pipes. pipes ≡ pipes_in self.now) }
+    {
+        find_pipes(heap, self.table())
+    }
+}
+
+/// Descriptors.
+#[derive(Drop)]
+pub(crate) struct Fds {
+    fds: Vec<Fd, Heap>,
+}
+
+impl Model for Fds {
+    ghost use Rattle.std.specs.Prelude.{List, ℕ};
+
+    ghost Value = { List ℕ };
+
+    ghost view = { λ f. f.fds.items };
+}
+
+impl Fds {
+    // None.
+    fn new(heap: Heap) -> Fds
+        ensures { result ≡ [] }
+    {
+        Fds {
+            fds: Vec::new(heap),
+        }
+    }
+
+    // One more.
+    fn add(&mut self, fd: Fd) -> Result<(), AllocError>
+        ensures { OnOk result (self.new ≡ self.old ++ fd ∷ []) }
+    {
+        self.fds.push(fd)?;
+        Ok(())
+    }
+
+    // All of them, in order.
+    pub(crate) fn as_slice(&self) -> &[Fd]
+        ensures { result.now ≡ self.now }
+    {
+        self.fds.as_slice()
+    }
+}
+
+fn find_slot(table: &[(Fd, Slot)], fd: Fd) -> Option<Slot>
+    ensures { result ≡ lookup (λ g. g == fd) table.now }
+{
+    for entry in table {
+        if is_one(entry.0, fd) {
+            return Some(entry.1);
+        }
+    }
+    None
+}
+
+// Whether two descriptors are one.
+pub(crate) fn is_one(first: Fd, second: Fd) -> bool
+    ensures { result ≡ (first == second) }
+{
+    first == second
+}
+
+fn has(table: &[(Fd, Slot)], fd: Fd) -> bool
+    ensures { result ≡ list_any (λ e. e.0 == fd) table.now }
+{
+    table.iter().any(|entry| entry.0 == fd)
+}
+
+fn find_free(heap: Heap, table: &[(Fd, Slot)]) -> Result<Fds, AllocError>
+    ensures { IfOk result (λ fds. fds ≡ free_from table.now 0 64) }
+{
+    let mut fds = Fds::new(heap);
+    for number in 0..64 {
+        add_if_free(&mut fds, table, Fd(number))?;
+    }
+    Ok(fds)
+}
+
+fn add_if_free(fds: &mut Fds, table: &[(Fd, Slot)], fd: Fd) -> Result<(), AllocError>
+    ensures { OnOk result (fds.new ≡ (if list_any (λ e. e.0 == fd) table.now then fds.old
+        else fds.old ++ fd ∷ [])) }
+{
+    if has(table, fd) { Ok(()) } else { fds.add(fd) }
+}
+
+fn has_num(nums: &[Num], num: Num) -> bool
+    ensures { result ≡ list_any (λ m. m == num) nums.now }
+{
+    nums.iter().any(|entry| *entry == num)
+}
+
+fn find_pipes(heap: Heap, table: &[(Fd, Slot)]) -> Result<Nums, AllocError>
+    ensures { IfOk result
+        (λ pipes. pipes ≡ each_once [] (flat_map (λ e. pipe_in (Some e.1)) table.now)) }
+{
+    let mut pipes = Nums::new(heap);
+    for entry in table {
+        add_pipe(&mut pipes, entry.1.kind, entry.1.inode)?;
+    }
+    Ok(pipes)
+}
+
+fn add_pipe(pipes: &mut Nums, kind: Option<Kind>, inode: Num) -> Result<(), AllocError>
+    ensures { OnOk result (pipes.new ≡ (if is_pipe kind
+        then if list_any (λ m. m == inode) pipes.old then pipes.old else pipes.old ++ inode ∷ []
+        else pipes.old)) }
+{
+    if is_pipe(kind) {
+        if has_num(pipes.as_slice(), inode) {
+            Ok(())
+        } else {
+            pipes.push(inode)
+        }
+    } else {
+        Ok(())
+    }
+}
+
+// What a descriptor is open on, which it has to be.
+pub(crate) fn slot(own: &Own, fd: Fd) -> Result<Slot, Refusal>
+    ensures { Tells (slot own.now fd) result }
+{
+    match own.slot_at(fd) {
+        Some(slot) => Ok(slot),
+        None => Err(Refusal::Errno(Errno::EBADF)),
+    }
+}
+
+// The lowest free descriptor, which there has to be.
+pub(crate) fn lowest(heap: Heap, own: &Own) -> Result<Fd, Refusal>
+    ensures { Tells (first_of_free (free own.now)) result }
+{
+    let fds = own.free(heap)?;
+    first_of(&fds)
+}
+
+fn first_of(fds: &Fds) -> Result<Fd, Refusal>
+    ensures { Tells (first_of_free fds.now) result }
+{
+    match fds.as_slice() {
+        [fd, ..] => Ok(*fd),
+        [] => Err(Refusal::Errno(Errno::EMFILE)),
+    }
+}
+
+// Whether a kind is that of a pipe.
+pub(crate) fn is_pipe(kind: Option<Kind>) -> bool
+    ensures { result ≡ is_pipe kind }
+{
+    matches!(kind, Some(Kind::Pipe))
+}
+
+// The pipe of a description, if it is of one.
+pub(crate) fn pipe_in(heap: Heap, slot: &Slot) -> Result<Nums, AllocError>
+    ensures { IfOk result (λ pipes. pipes ≡ pipe_in (Some slot.now)) }
+{
+    let mut pipes = Nums::new(heap);
+    if is_pipe(slot.kind) {
+        pipes.push(slot.inode)?;
+    }
+    Ok(pipes)
+}
+
+// The pipes of two descriptions, the second of which may not be there.
+pub(crate) fn two_of(heap: Heap, first: &Slot, second: &Option<Slot>) -> Result<Nums, AllocError>
+    ensures { IfOk result (λ pipes. pipes ≡ pipe_in (Some first.now) ++ pipe_in second.now) }
+{
+    let mut pipes = pipe_in(heap, first)?;
+    if let Some(slot) = second {
+        if is_pipe(slot.kind) {
+            pipes.push(slot.inode)?;
+        }
+    }
+    Ok(pipes)
+}
+
+// What a process sees of itself where it forks.
+pub(crate) fn own_to_fork<L: Look>(heap: Heap, look: &L, pid: Pid) -> Result<Own, AllocError>
+    ensures { IfOk result (λ o. o ≡ own (L.state look.now) pid Fork) }
+{
+    Ok(Own {
+        root: look.root(),
+        pid,
+        table: look.table(heap, pid)?,
+        birth: Some(look.birth(pid)?),
+    })
+}

@@ -1,0 +1,312 @@
+// The plans of calls on paths.
+ghost use Rattle.std.specs.Prelude.{◌≡◌, ℕ, Some, true, false};
+ghost use Rattle.model.specs.Changes.{Move};
+ghost use Rattle.calls.specs.Parts.{move_over};
+ghost use Rattle.model.specs.Walks.{is_directory};
+ghost use Rattle.model.specs.Plans.{plan, status, moved, move_onto, replaced_by_name};
+ghost use Rattle.model.specs.Calls.{own, Stat as Stat_path, Mkdir, Rmdir, List_directory, Link, Unlink, Rename};
+ghost use Rattle.look.specs.Asked.{Comes, Tells};
+
+use crate::asking::{links, names, size};
+use crate::change::{Change, changed_by, unchanged};
+use crate::steps::{
+    absent, is_directory, is_same, must_be_directory_for, must_be_empty, must_be_no_directory_for,
+    must_not_be_directory, must_not_be_root, must_not_go_below, parsed,
+};
+use heap::Heap;
+use ids::{Answer, Bytes, Edit, Errno, Kind, Num, Nums, Refusal, Stat};
+use look::Look;
+use walk::{Last, Touches, must_be_directory, or_refuse, walk_to_last};
+
+// What an object is like.
+pub(crate) fn status<L: Look>(
+    look: &L,
+    num: Num,
+    kind: Option<Kind>,
+    touches: &mut Touches,
+) -> Result<Change, Refusal>
+    ensures { Comes (L.state look.now) (status (num, kind)) touches.old result touches.new }
+{
+    match kind {
+        Some(kind) => status_of(look, num, kind, touches),
+        None => Err(Refusal::Errno(Errno::ENOENT)),
+    }
+}
+
+fn status_of<L: Look>(
+    look: &L,
+    num: Num,
+    kind: Kind,
+    touches: &mut Touches,
+) -> Result<Change, Refusal>
+    ensures { Comes (L.state look.now) (status (num, Some kind)) touches.old result touches.new }
+{
+    match kind {
+        Kind::File => {
+            let size = size(look, num, touches)?;
+            let links = links(look, num, touches)?;
+            unchanged(
+                touches.heap(),
+                Answer::Stat(Stat {
+                    kind: Kind::File,
+                    num,
+                    size,
+                    links,
+                }),
+            )
+        }
+        Kind::Dir => unchanged(
+            touches.heap(),
+            Answer::Stat(Stat {
+                kind: Kind::Dir,
+                num,
+                size: 0,
+                links: 1,
+            }),
+        ),
+        Kind::Pipe => unchanged(
+            touches.heap(),
+            Answer::Stat(Stat {
+                kind: Kind::Pipe,
+                num,
+                size: 0,
+                links: 0,
+            }),
+        ),
+    }
+}
+
+pub(crate) fn stat<L: Look>(
+    look: &L,
+    path: &Bytes,
+    touches: &mut Touches,
+) -> Result<Change, Refusal>
+    ensures { (pid : ℕ) → Comes (L.state look.now)
+        (plan (own (L.state look.now) pid (Stat_path path.now)) (Stat_path path.now))
+        touches.old result touches.new }
+{
+    let path = parsed(touches.heap(), path)?;
+    let place = walk::walk(look, &path, touches)?;
+    status(look, place.0, place.1, touches)
+}
+
+pub(crate) fn mkdir<L: Look>(
+    look: &L,
+    path: &Bytes,
+    touches: &mut Touches,
+) -> Result<Change, Refusal>
+    ensures { (pid : ℕ) → Comes (L.state look.now)
+        (plan (own (L.state look.now) pid (Mkdir path.now)) (Mkdir path.now))
+        touches.old result touches.new }
+{
+    let path = parsed(touches.heap(), path)?;
+    let last = walk_to_last(look, Errno::EEXIST, &path, touches)?;
+    absent(last.found())?;
+    changed_by(
+        touches.heap(),
+        Answer::Done,
+        Edit::MakeDirectory(last.parent, last.name, 0),
+    )
+}
+
+pub(crate) fn rmdir<L: Look>(
+    look: &L,
+    path: &Bytes,
+    touches: &mut Touches,
+) -> Result<Change, Refusal>
+    ensures { (pid : ℕ) → Comes (L.state look.now)
+        (plan (own (L.state look.now) pid (Rmdir path.now)) (Rmdir path.now))
+        touches.old result touches.new }
+{
+    let path = parsed(touches.heap(), path)?;
+    let last = walk_to_last(look, Errno::EBUSY, &path, touches)?;
+    let what = or_refuse(Errno::ENOENT, last.found())?;
+    must_be_directory(&what)?;
+    let entries = names(look, what.0, touches)?;
+    must_be_empty(&entries)?;
+    changed_by(
+        touches.heap(),
+        Answer::Done,
+        Edit::UnnameDirectory(last.parent, last.name),
+    )
+}
+
+pub(crate) fn list<L: Look>(
+    look: &L,
+    path: &Bytes,
+    touches: &mut Touches,
+) -> Result<Change, Refusal>
+    ensures { (pid : ℕ) → Comes (L.state look.now)
+        (plan (own (L.state look.now) pid (List_directory path.now)) (List_directory path.now))
+        touches.old result touches.new }
+{
+    let path = parsed(touches.heap(), path)?;
+    let place = walk::walk(look, &path, touches)?;
+    must_be_directory(&place)?;
+    let entries = names(look, place.0, touches)?;
+    unchanged(touches.heap(), Answer::Names(entries))
+}
+
+pub(crate) fn unlink<L: Look>(
+    look: &L,
+    path: &Bytes,
+    touches: &mut Touches,
+) -> Result<Change, Refusal>
+    ensures { (pid : ℕ) → Comes (L.state look.now)
+        (plan (own (L.state look.now) pid (Unlink path.now)) (Unlink path.now))
+        touches.old result touches.new }
+{
+    let path = parsed(touches.heap(), path)?;
+    let last = walk_to_last(look, Errno::EPERM, &path, touches)?;
+    let what = or_refuse(Errno::ENOENT, last.found())?;
+    must_not_be_directory(&what, Errno::EPERM)?;
+    changed_by(
+        touches.heap(),
+        Answer::Done,
+        Edit::UnnameFile(last.parent, last.name, what.0),
+    )
+}
+
+pub(crate) fn link<L: Look>(
+    look: &L,
+    old: &Bytes,
+    path: &Bytes,
+    touches: &mut Touches,
+) -> Result<Change, Refusal>
+    ensures { (pid : ℕ) → Comes (L.state look.now)
+        (plan (own (L.state look.now) pid (Link old.now path.now)) (Link old.now path.now))
+        touches.old result touches.new }
+{
+    let from = parsed(touches.heap(), old)?;
+    let to = parsed(touches.heap(), path)?;
+    let what = walk::walk(look, &from, touches)?;
+    must_not_be_directory(&what, Errno::EPERM)?;
+    let last = walk_to_last(look, Errno::EEXIST, &to, touches)?;
+    absent(last.found())?;
+    changed_by(
+        touches.heap(),
+        Answer::Done,
+        Edit::NameFile(last.parent, last.name, what.0),
+    )
+}
+
+pub(crate) fn rename<L: Look>(
+    look: &L,
+    old: &Bytes,
+    path: &Bytes,
+    touches: &mut Touches,
+) -> Result<Change, Refusal>
+    ensures { (pid : ℕ) → Comes (L.state look.now)
+        (plan (own (L.state look.now) pid (Rename old.now path.now)) (Rename old.now path.now))
+        touches.old result touches.new }
+{
+    let from = parsed(touches.heap(), old)?;
+    let to = parsed(touches.heap(), path)?;
+    must_not_be_root(&from, &to)?;
+    let at = walk_to_last(look, Errno::EBUSY, &from, touches)?;
+    let what = or_refuse(Errno::ENOENT, at.found())?;
+    must_not_go_below(&what, &from, &to)?;
+    let onto = walk_to_last(look, Errno::EBUSY, &to, touches)?;
+    moved(look, at, what, onto, touches)
+}
+
+// The change of a name that moves.
+fn move_edit(from: Last, to: Last, num: Num, replaced: Nums) -> Edit
+    ensures { result ≡ Move from.parent from.name to.parent to.name num replaced }
+{
+    Edit::Move(from.parent, from.name, to.parent, to.name, num, replaced)
+}
+
+// A name that moves to another place.
+fn moved<L: Look>(
+    look: &L,
+    from: Last,
+    what: (Num, Option<Kind>),
+    to: Last,
+    touches: &mut Touches,
+) -> Result<Change, Refusal>
+    ensures { Comes (L.state look.now)
+        (moved from what to to.found) touches.old result touches.new }
+{
+    match to.found() {
+        None => {
+            let none = Nums::new(touches.heap());
+            changed_by(
+                touches.heap(),
+                Answer::Done,
+                move_edit(from, to, what.0, none),
+            )
+        }
+        Some(old) => move_onto(look, from, what, to, old, touches),
+    }
+}
+
+// A name that moves to one that is there.
+fn move_onto<L: Look>(
+    look: &L,
+    from: Last,
+    what: (Num, Option<Kind>),
+    to: Last,
+    old: (Num, Option<Kind>),
+    touches: &mut Touches,
+) -> Result<Change, Refusal>
+    ensures { Comes (L.state look.now) (move_onto from what to old) touches.old result touches.new }
+{
+    if is_same(what.0, old.0) {
+        unchanged(touches.heap(), Answer::Done)
+    } else {
+        move_over(look, from, what, to, old, touches)
+    }
+}
+
+fn move_over<L: Look>(
+    look: &L,
+    from: Last,
+    what: (Num, Option<Kind>),
+    to: Last,
+    old: (Num, Option<Kind>),
+    touches: &mut Touches,
+) -> Result<Change, Refusal>
+    ensures { Comes (L.state look.now) (move_over from what to old) touches.old result touches.new }
+{
+    must_be_no_directory_for(&what, &old)?;
+    must_be_directory_for(&what, &old)?;
+    let replaced = replaced_by_name(look, old, touches)?;
+    changed_by(
+        touches.heap(),
+        Answer::Done,
+        move_edit(from, to, what.0, replaced),
+    )
+}
+
+// The file whose name goes; a directory has to be empty.
+fn replaced_by_name<L: Look>(
+    look: &L,
+    old: (Num, Option<Kind>),
+    touches: &mut Touches,
+) -> Result<Nums, Refusal>
+    ensures { Comes (L.state look.now)
+        (replaced_by_name old.0 (is_directory old)) touches.old result touches.new }
+{
+    if is_directory(&old) {
+        replaced_directory(look, old.0, touches)
+    } else {
+        replaced_file(touches.heap(), old.0)
+    }
+}
+
+fn replaced_directory<L: Look>(look: &L, num: Num, touches: &mut Touches) -> Result<Nums, Refusal>
+    ensures { Comes (L.state look.now) (replaced_by_name num true) touches.old result touches.new }
+{
+    let entries = names(look, num, touches)?;
+    must_be_empty(&entries)?;
+    Ok(Nums::new(touches.heap()))
+}
+
+fn replaced_file(heap: Heap, num: Num) -> Result<Nums, Refusal>
+    ensures { Tells (replaced_by_name num false) result }
+{
+    let mut replaced = Nums::new(heap);
+    replaced.push(num)?;
+    Ok(replaced)
+}

@@ -1,0 +1,71 @@
+// The plan of lseek.
+ghost use Rattle.std.specs.Prelude.{◌≡◌, ℤ, pos, ◌+ℤ◌};
+ghost use Rattle.model.specs.Plans.{plan, base, sought};
+ghost use Rattle.model.specs.Calls.{Lseek};
+ghost use Rattle.look.specs.Asked.{Comes, Tells};
+ghost use Rattle.calls.specs.Parts.{place_in};
+
+use crate::asking::{offset, size};
+use crate::change::{Change, changed_by};
+use crate::checks::must_not_be_pipe;
+use crate::own::{Own, slot};
+use heap::Heap;
+use ids::{Answer, Edit, Errno, Fd, Refusal, Slot, Whence};
+use look::Look;
+use walk::Touches;
+
+pub(crate) fn lseek<L: Look>(
+    look: &L,
+    own: &Own,
+    fd: Fd,
+    distance: i64,
+    whence: Whence,
+    touches: &mut Touches,
+) -> Result<Change, Refusal>
+    ensures { Comes (L.state look.now)
+        (plan own.now (Lseek fd distance whence)) touches.old result touches.new }
+{
+    let it = slot(own, fd)?;
+    must_not_be_pipe(it.kind, Errno::ESPIPE)?;
+    let place = base(look, &it, whence, touches)?;
+    sought(touches.heap(), &it, place_of(place, distance))
+}
+
+// From where it counts.
+fn base<L: Look>(look: &L, it: &Slot, whence: Whence, touches: &mut Touches) -> Result<u32, Refusal>
+    ensures { Comes (L.state look.now) (base it.now whence) touches.old result touches.new }
+{
+    match whence {
+        Whence::Set => Ok(0),
+        Whence::Cur => offset(look, it.description, touches),
+        Whence::End => size(look, it.inode, touches),
+    }
+}
+
+// The new place.
+fn sought(heap: Heap, it: &Slot, found: Option<u32>) -> Result<Change, Refusal>
+    ensures { (sum : ℤ) → place_in sum ≡ found → Tells (sought it.now sum) result }
+{
+    match found {
+        Some(place) => changed_by(
+            heap,
+            Answer::Place(place),
+            Edit::SetOffset(it.description, place),
+        ),
+        None => Err(Refusal::Errno(Errno::EINVAL)),
+    }
+}
+
+// The place that a sum is, if a file may be so long.
+fn place_of(place: u32, distance: i64) -> Option<u32>
+    ensures { result ≡ place_in (pos place +ℤ distance) }
+{
+    let sum = i128::from(place) + i128::from(distance);
+    if sum < 0 {
+        None
+    } else if sum > 1_048_576 {
+        None
+    } else {
+        Some(sum as u32)
+    }
+}

@@ -1,0 +1,27 @@
+-- The headline, from the laws that stand by themselves.
+use Rattle.std.proofs.Common.{◌≡◌, ℕ, List, [], ◌∷◌, ◌++◌, refl, sym, ◌∙◌, ap, subst, append_assoc}
+use Rattle.model.specs.Entries.{Entry}
+use Rattle.model.specs.Moments.{Moment, status, next, at_start, after, after_from, run_by}
+use Rattle.model.specs.Legal.{LegalFrom, Legal, items, serial, serial_from}
+use Rattle.history_laws.proofs.Premise.{FromCallLaws}
+use Rattle.history_laws.specs.Headline.{IsAsAsked, LegalHistoriesAreSerializable}
+use Rattle.history_laws.proofs.Beginnings.{legality_follows}
+use Rattle.history_laws.proofs.Headlines.{serial_is}
+use Rattle.history_laws.proofs.Replied.{replies_are_a_function}
+
+-- the serial list grows at its end alone
+serial_more : (m : Moment) (before later : List Entry) → serial_from m (before ++ later) ≡ serial_from m before ++ serial_from (after_from m before) later
+serial_more m [] later = refl
+serial_more m (e ∷ es) later = ap (λ xs. items e.pid (run_by (status m e.pid) e.op e.reply e.chosen) ++ xs) (serial_more (next m e) es later)
+    ∙ sym (append_assoc (items e.pid (run_by (status m e.pid) e.op e.reply e.chosen)) (serial_from (next m e) es) (serial_from (after_from (next m e) es) later))
+
+asked : (limit : ℕ) (m : Moment) (e : Entry) (later : List Entry) → LegalFrom limit m (e ∷ later) → IsAsAsked limit m e
+asked limit m e later legal = let said = replies_are_a_function limit m e legal.1 in record { reply = said.0; doomed = said.1 }
+
+pub serializable : FromCallLaws LegalHistoriesAreSerializable
+serializable laws root priorities limit es legal = record {
+  run = serial_is laws root priorities limit es legal;
+  strict = λ before later is. ap (serial root priorities) is ∙ serial_more (at_start root priorities) before later;
+  alone = legality_follows.runs root priorities limit es legal;
+  replies = λ before e later is. asked limit (after root priorities before) e later (legality_follows.rest root priorities limit before (e ∷ later) (subst (Legal root priorities limit) is legal));
+}

@@ -1,6 +1,0 @@
-use Rattle.std.proofs.Common.{rules}
-use Rattle.transcript.proofs.Printing.{Prints-as, Prints-then}
-use Rattle.transcript.proofs.operation.put_number.Goals as goal
-
-pub returns : goal.returns
-returns g c = Prints-as (Prints-then _ _ c.put.ensures c.put_decimal.ensures) (search rules)

@@ -1,0 +1,8 @@
+use Rattle.walk.proofs.Then.{goes, stops}
+use Rattle.walk.proofs.look_up.Goals as goal
+
+pub returns-in_err-must_be_directory : goal.returns-in_err-must_be_directory
+returns-in_err-must_be_directory g c = stops _ c.from_residual.ensures.1 (c.in_err-must_be_directory.ensures _ _)
+
+pub returns : goal.returns
+returns g c = goes _ (c.in_ok-must_be_directory.ensures _ _) (c.find.ensures)

@@ -1,0 +1,27 @@
+// Steps of plans that ask nothing.
+ghost use Rattle.std.specs.Prelude.{not};
+ghost use Rattle.model.specs.Plan.{refuse_if, or_refuse, ENOTDIR};
+ghost use Rattle.model.specs.Walks.{is_directory};
+ghost use Rattle.look.specs.Asked.{Tells};
+
+use ids::{Errno, Kind, Num, Refusal};
+
+/// A value that has to be there.
+pub fn or_refuse<T: Drop>(errno: Errno, value: Option<T>) -> Result<T, Refusal>
+    ensures { Tells (or_refuse errno value) result }
+{
+    match value {
+        Some(value) => Ok(value),
+        None => Err(Refusal::Errno(errno)),
+    }
+}
+
+/// A place that has to be a directory.
+pub fn must_be_directory(place: &(Num, Option<Kind>)) -> Result<(), Refusal>
+    ensures { Tells (refuse_if (not (is_directory place.now)) ENOTDIR) result }
+{
+    match place.1 {
+        Some(Kind::Dir) => Ok(()),
+        _ => Err(Refusal::Errno(Errno::ENOTDIR)),
+    }
+}
