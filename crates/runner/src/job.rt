@@ -1,13 +1,13 @@
 // The program from the opened file on.
-ghost use Rattle.std.specs.Prelude.{List, ℕ, ◌≡◌, ◌⊎◌, ◌<◌, ◌≤◌, ◌-◌, ◌^◌};
-ghost use Rattle.device.specs.Device.{IsPart};
+ghost use Rattle.std.specs.Prelude.{◌⊎◌, ◌<◌, ◌≤◌, ◌-◌, ◌^◌};
 ghost use Rattle.runner.specs.Jobs.{IsDone, IsFaulted};
 
 use crate::RunFault;
 use crate::run::run_schedule;
-use device::{Sink, Source, write_all};
+use crate::telling::tell_fault;
+use device::{Sink, Source};
 use heap::Heap;
-use words::{Job, LineFault, Way};
+use words::{Job, Way};
 
 /// Does a job: runs its schedule of the script that the source spells. The transcript goes to `out`, and where the run ends
 /// early the fault's line to `err`. It answers the program's status: 0 when all is done, else that of the fault. A failure of
@@ -34,26 +34,4 @@ pub fn run_job<I: Source, O: Sink, E: Sink>(
     };
     tell_fault(heap, &fault, err);
     fault.status()
-}
-
-/// Writes a fault's line. Where memory for its text is refused, that is told.
-pub fn tell_fault<E: Sink>(heap: Heap, fault: &RunFault, err: &mut E)
-    requires { E.failures err.old < 2 ^ 64 - 1 }
-    ensures { (line : List ℕ) × IsPart (E.written err.old) (E.written err.new) line }
-{
-    let _ = match format!(in heap; "txsh: {fault}\n") {
-        Ok(line) => write_all(err, line.as_bytes()),
-        Err(_) => write_all(err, b"txsh: no memory\n".as_slice()),
-    };
-}
-
-/// Writes the line of a command line's fault. Where memory for its text is refused, that is told.
-pub fn tell_line<E: Sink>(heap: Heap, fault: &LineFault, err: &mut E)
-    requires { E.failures err.old < 2 ^ 64 - 1 }
-    ensures { (line : List ℕ) × IsPart (E.written err.old) (E.written err.new) line }
-{
-    let _ = match format!(in heap; "txsh: {fault}\n") {
-        Ok(line) => write_all(err, line.as_bytes()),
-        Err(_) => write_all(err, b"txsh: no memory\n".as_slice()),
-    };
 }

@@ -82,6 +82,11 @@ pub Prints-as : {S : Type 0} {written : S → Option (List ℕ)} {failures : S �
     → Prints written failures a b s → s ≡ t → Prints written failures a b t
 Prints-as {S} {written} {failures} {a} {b} {s} {t} p e = let P : List ℕ → Type 0 = λ x. Prints written failures a b x in subst P e p
 
+-- a text, and then another of two parts
+pub Prints-on : {S : Type 0} {written : S → Option (List ℕ)} {failures : S → ℕ} {a b c : Printer S} (s t u : List ℕ)
+    → Prints written failures a b s → Prints written failures b c (t ++ u) → Prints written failures a c (s ++ t ++ u)
+Prints-on s t u p q = Prints-as (Prints-then _ _ p q) (sym (append_assoc s t u))
+
 one_more : {X : Type 0} (f : X → List ℕ) (xs : List X) (i : ℕ) (x : X) → i < length xs → x ≡ get_or xs i x → flat_map f (take (i + 1) xs) ≡ flat_map f (take i xs) ++ f x
 one_more {X} f xs i x below is = ap (λ (ys : List X). flat_map f ys) (take_more xs i x below ∙ ap (λ (y : X). take i xs ++ y ∷ []) (sym is))
     ∙ flat_map-append f (take i xs) (x ∷ []) ∙ ap (λ (ys : List ℕ). flat_map f (take i xs) ++ ys) (append-nil (f x))

@@ -12,37 +12,26 @@ use std::process::ExitCode;
 use std::{env, io};
 use words::{Job, LineFault};
 
-// The statuses of a command line that asks for nothing, and of refused memory.
-const COMMAND_LINE: u8 = 2;
-
-const NO_MEMORY: u8 = 3;
-
 fn main(rt: HostRuntime) -> ExitCode {
     ExitCode::from(status(&rt))
 }
 
 /// Reads the command line and does its job. It answers the exit status.
 fn status(rt: &HostRuntime) -> u8 {
+    let mut out = Counted::new(rt.stdout());
     let mut err = Counted::new(rt.stderr());
     let Ok(heap) = heap::open(rt.alloc()) else {
-        return NO_MEMORY;
+        return RunFault::NoMemory.status();
     };
     let job = match job_in(rt, heap) {
         Ok(job) => job,
-        Err(fault) => {
-            tell_line(heap, &fault, &mut err);
-            return match fault {
-                LineFault::NoMemory => NO_MEMORY,
-                _ => COMMAND_LINE,
-            };
-        }
+        Err(fault) => return tell_line(heap, &fault, &mut out, &mut err),
     };
     let Ok(file) = File::open(rt, job.file.as_str()) else {
         tell_fault(heap, &RunFault::Read, &mut err);
         return RunFault::Read.status();
     };
     let mut source = Counted::new(file);
-    let mut out = Counted::new(rt.stdout());
     run_job(heap, &job, &mut source, &mut out, &mut err)
 }
 
@@ -51,9 +40,7 @@ fn job_in(rt: &HostRuntime, heap: Heap) -> Result<Job, LineFault>
     ensures { IfOk result (λ job. job.limit ≤ 1048576) }
 {
     let global = rt.alloc();
-    let Ok(texts) = words_of(rt, global) else {
-        return Err(LineFault::NoMemory);
-    };
+    let texts = words_of(rt, global)?;
     let mut words = Vec::new(global);
     for text in &texts {
         if words.push(text.as_str()).is_err() {
@@ -63,12 +50,17 @@ fn job_in(rt: &HostRuntime, heap: Heap) -> Result<Job, LineFault>
     read_words(global, heap, words.as_slice())
 }
 
-/// The program's words, its name first.
-fn words_of(rt: &HostRuntime, global: Global) -> io::Result<Vec<String>> {
+/// The program's words, its name first. They are read as a whole, so one that is not UTF-8 leaves none.
+fn words_of(rt: &HostRuntime, global: Global) -> Result<Vec<String>, LineFault> {
+    let words = match env::args(rt) {
+        Ok(words) => words,
+        Err(error) if error.kind() == io::ErrorKind::OutOfMemory => return Err(LineFault::NoMemory),
+        Err(_) => return Err(LineFault::NotText),
+    };
     let mut texts = Vec::new(global);
-    for text in env::args(rt)? {
+    for text in words {
         if texts.push(text).is_err() {
-            return Err(io::Error::from(io::ErrorKind::OutOfMemory));
+            return Err(LineFault::NoMemory);
         }
     }
     Ok(texts)

@@ -1,5 +1,6 @@
+use Rattle.std.proofs.Common.{rules}
 use Rattle.transcript.specs.Line.{more_text}
-use Rattle.transcript.proofs.Printing.{CanPrint-after, Prints-none, Prints-next}
+use Rattle.transcript.proofs.Printing.{CanPrint-after, Prints-as, Prints-none, Prints-next}
 use Rattle.transcript.proofs.line.put_pids.Goals as goal
 
 pub loop-pid-init : goal.loop-pid-init
@@ -7,5 +8,5 @@ loop-pid-init g c = (c.requires, Prints-none _ _ _)
 
 pub loop-pid-preserved : goal.loop-pid-preserved
 loop-pid-preserved g c =
-    let printed = Prints-next more_text c.args.pids.now c.loop-pid.pid-index _ c.loop-pid-test.true c.pid-item.is c.loop-pid.invariant.1 c.put_number.ensures in
+    let printed = Prints-next more_text c.args.pids.now c.loop-pid.pid-index _ c.loop-pid-test.true c.pid-item.is c.loop-pid.invariant.1 (Prints-as c.put_number.ensures (search rules)) in
     (CanPrint-after printed c.requires, printed)

@@ -1,6 +1,6 @@
-use Rattle.std.proofs.Common.{rules}
-use Rattle.transcript.proofs.Printing.{Prints-as, Prints-then}
+use Rattle.std.proofs.Common.{rules, codes}
+use Rattle.transcript.proofs.Printing.{Prints-as, Prints-on, Prints-then}
 use Rattle.transcript.proofs.reply.put_cause.Goals as goal
 
 pub returns : goal.returns
-returns g c = Prints-as (Prints-then _ _ (Prints-then _ _ c.put_aspect.ensures c.put_access.ensures) c.put_number.ensures) (search rules)
+returns g c = Prints-as (Prints-on _ (codes " by P") _ (Prints-then _ _ c.put_aspect.ensures c.put_access.ensures) c.put_number.ensures) (search rules)

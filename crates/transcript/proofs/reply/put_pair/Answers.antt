@@ -1,6 +1,6 @@
-use Rattle.std.proofs.Common.{rules}
-use Rattle.transcript.proofs.Printing.{Prints-as, Prints-then}
+use Rattle.std.proofs.Common.{rules, codes}
+use Rattle.transcript.proofs.Printing.{Prints-as, Prints-on}
 use Rattle.transcript.proofs.reply.put_pair.Goals as goal
 
 pub returns : goal.returns
-returns g c = Prints-as (Prints-then _ _ c.put_decimal.ensures c.put_number.ensures) (search rules)
+returns g c = Prints-as (Prints-on _ (codes " ") _ c.put_decimal.ensures c.put_number.ensures) (search rules)

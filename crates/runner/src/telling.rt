@@ -1,0 +1,66 @@
+// What the program tells where it does no job, or not all of it.
+ghost use Rattle.std.specs.Prelude.{List, ℕ, ◌≡◌, ◌<◌, ◌-◌, ◌^◌, IfErr};
+ghost use Rattle.device.specs.Device.{IsPart};
+ghost use Rattle.runner.specs.Lines.{IsLineEnd, NoHelp};
+
+use crate::RunFault;
+use device::{Sink, write_all};
+use heap::Heap;
+use std::fmt::Display;
+use words::LineFault;
+
+// Writes a fault's line. Where memory for its text is refused, that is told.
+fn tell<F: Display, E: Sink>(heap: Heap, fault: &F, err: &mut E)
+    requires { E.failures err.old < 2 ^ 64 - 1 }
+    ensures { (line : List ℕ) × IsPart (E.written err.old) (E.written err.new) line }
+{
+    let _ = match format!(in heap; "txsh: {fault}\n") {
+        Ok(line) => write_all(err, line.as_bytes()),
+        Err(_) => write_all(err, b"txsh: no memory\n".as_slice()),
+    };
+}
+
+/// Writes the line of a run's fault. Where memory for its text is refused, that is told.
+pub fn tell_fault<E: Sink>(heap: Heap, fault: &RunFault, err: &mut E)
+    requires { E.failures err.old < 2 ^ 64 - 1 }
+    ensures { (line : List ℕ) × IsPart (E.written err.old) (E.written err.new) line }
+{
+    tell(heap, fault, err);
+}
+
+// Writes the text of help. Where memory for it is refused, nothing is written.
+fn write_help<O: Sink>(heap: Heap, help: &LineFault, out: &mut O) -> Result<(), RunFault>
+    requires { O.failures out.old < 2 ^ 64 - 1 }
+    ensures part { (text : List ℕ) × IsPart (O.written out.old) (O.written out.new) text }
+    ensures fault { IfErr result (NoHelp (O.written out.old) (O.written out.new) (O.failures out.old < O.failures out.new)) }
+{
+    let Ok(text) = format!(in heap; "{help}") else {
+        return Err(RunFault::NoMemory);
+    };
+    match write_all(out, text.as_bytes()) {
+        Ok(()) => Ok(()),
+        Err(_) => Err(RunFault::Write),
+    }
+}
+
+/// Tells why the words are no job. The text of help goes to `out`, and a fault's line to `err`. It answers the program's
+/// status: 0 where help is written, else that of the fault. A failure of `err` changes no status.
+pub fn tell_line<O: Sink, E: Sink>(heap: Heap, fault: &LineFault, out: &mut O, err: &mut E) -> u8
+    requires writes { O.failures out.old < 2 ^ 64 - 1 }
+    requires tells { E.failures err.old < 2 ^ 64 - 1 }
+    ensures out { (text : List ℕ) × IsPart (O.written out.old) (O.written out.new) text }
+    ensures err { (line : List ℕ) × IsPart (E.written err.old) (E.written err.new) line }
+    ensures end { IsLineEnd fault.now (O.written out.old) (O.written out.new) (E.written err.old) (E.written err.new) (O.failures out.old < O.failures out.new) result }
+{
+    if !matches!(fault, LineFault::Help(_)) {
+        tell(heap, fault, err);
+        return fault.status();
+    }
+    match write_help(heap, fault, out) {
+        Ok(()) => 0,
+        Err(fault) => {
+            tell(heap, &fault, err);
+            fault.status()
+        }
+    }
+}
