@@ -1,9 +1,9 @@
 -- What the calls that are there edit, and that the parents of their new names are there.
-use Rattle.std.proofs.Common.{◌≡◌, ℕ, List, [], ◌∷◌, Bool, true, false, Option, Some, None, Result, Ok, Err, IfOk, refl, sym, ap, subst, ◌∙◌}
+use Rattle.std.proofs.Common.{◌≡◌, ℕ, List, [], ◌∷◌, Bool, true, false, not, Option, Some, None, Result, Ok, Err, IfOk, refl, sym, ap, subst, ◌∙◌}
 use Rattle.std.proofs.lemmas.Bool.{false≢true}
 use Rattle.model.specs.FiniteMap.{get}
 use Rattle.model.specs.State.{Name, Kind, A_file, A_directory, A_pipe, Kernel, names_of}
-use Rattle.model.specs.Plan.{Errno, Plan, given, ◌>>=◌, ENOENT, ENOTDIR, ENOTEMPTY, EEXIST, EBUSY, List_names, ask, refuse_if, or_refuse}
+use Rattle.model.specs.Plan.{Errno, Plan, answer, given, ◌>>=◌, ◌>>◌, ENOENT, ENOTDIR, ENOTEMPTY, EEXIST, EBUSY, List_names, ask, refuse_if, or_refuse}
 use Rattle.model.specs.Paths.{is_empty}
 use Rattle.model.specs.Walks.{Place, Last, parsed, walk, last_of, is_directory}
 use Rattle.model.specs.Changes.{Edit, Make_directory, Unname_directory}
@@ -50,13 +50,25 @@ tells k (n, Some A_directory) = tt
 tells k (n, Some A_pipe) = tt
 tells k (n, None) = tt
 
+unnames : (k : Kernel) (d : ℕ) (x : Name) (refused : Bool) → IfOk (given k (refuse_if refused ENOTEMPTY >> changed Done (Unname_directory d x ∷ []))) Edits
+unnames k d x true = tt
+unnames k d x false = tt
+
+removes : (k : Kernel) (n d : ℕ) (x : Name) (refused : Bool)
+    → IfOk (given k (refuse_if refused ENOTDIR >> (ask (List_names n) >>= (λ entries. refuse_if (not (is_empty entries)) ENOTEMPTY >> changed Done (Unname_directory d x ∷ []))))) Edits
+removes k n d x true = tt
+removes k n d x false = unnames k d x (not (is_empty (answer k (List_names n))))
+
+lists : (k : Kernel) (n : ℕ) (refused : Bool) → IfOk (given k (refuse_if refused ENOTDIR >> (ask (List_names n) >>= (λ entries. unchanged (Listing entries))))) Edits
+lists k n true = tt
+lists k n false = tt
+
 planned : (k : Kernel) (pid : ℕ) (call : Call) → can_call call ≡ true → IfOk (given k (plan (own k pid call) call)) Edits
 planned k pid (Stat path) h = after k (parsed path) _ (λ names. after k (walk (k.root, Some A_directory) names) _ (tells k))
 planned k pid (Mkdir path) h = after k (parsed path) _ (λ names. after k (last_of k.root EEXIST names) _ (λ at. after k (absent at.found) _ (λ _. refl)))
-planned k pid (Rmdir path) h = after k (parsed path) _ (λ names. after k (last_of k.root EBUSY names) _ (λ at. after k (or_refuse ENOENT at.found) _ (λ what.
-    after k (refuse_if _ ENOTDIR) _ (λ _. after k (ask (List_names what.0)) _ (λ entries. after k (refuse_if _ ENOTEMPTY) _ (λ _. tt))))))
-planned k pid (List_directory path) h = after k (parsed path) _ (λ names. after k (walk (k.root, Some A_directory) names) _ (λ place.
-    after k (refuse_if _ ENOTDIR) _ (λ _. after k (ask (List_names place.0)) _ (λ entries. tt))))
+planned k pid (Rmdir path) h =
+    after k (parsed path) _ (λ names. after k (last_of k.root EBUSY names) _ (λ at. after k (or_refuse ENOENT at.found) _ (λ what. removes k what.0 at.parent at.name (not (is_directory what)))))
+planned k pid (List_directory path) h = after k (parsed path) _ (λ names. after k (walk (k.root, Some A_directory) names) _ (λ place. lists k place.0 (not (is_directory place))))
 planned k pid call h = absurd (false≢true h)
 
 pub calls_edit : (k : Kernel) (pid : ℕ) (call : Call) → can_call call ≡ true → CanEdit (edits k pid call)
@@ -68,7 +80,7 @@ calls_edit k pid call h = by (given k (plan (own k pid call) call)) (planned k p
 -- where a path leads to is in use
 led : (P : ℕ → Type 0) (k : Kernel) → ((d : ℕ) (x : Name) (n : ℕ) → get (names_of k d) x ≡ Some n → P n) → (path : List Name) (a b : ℕ) → P a → Leads k a path b → P b
 led P k names [] a b here leads = subst P leads here
-led P k names (x ∷ xs) a b here leads = led P k names xs leads.0 b (names a x leads.0 leads.1.0) leads.1.1
+led P k names (x ∷ xs) a b here leads = led P k names xs leads.0 b (names a x leads.0 leads.1) leads.2
 
 -- a call's new name stands in a directory that a path leads to
 pub have_parents : (v : Committed) (pid : ℕ) (call : Call) → WellFormed v.state → is_alive v.state pid ≡ true → NamesAreInUse v → can_call call ≡ true → HaveParents v.reserves (edits v.state pid call)

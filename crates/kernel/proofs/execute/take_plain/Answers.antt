@@ -46,7 +46,7 @@ commit_into-requires-clause-can c =
     let f = fields c.args.s.now in
     let d : Effect = record { chosen = c.in_ok-chosen.chosen; edits = c.args.plan.edits.items } in
     let new : AreNew f (edits f.stable.state c.args.pid c.args.call) c.in_ok-chosen.chosen = record {
-      count = c.in_ok-chosen.ensures.count ∙ ap (sum_by news) c.requires.edits;
+      count = c.in_ok-chosen.ensures.count ∙ ap (sum_by news) (c.as_slice.ensures.value ∙ c.requires.edits);
       unused = c.in_ok-chosen.ensures.unused;
       different = c.in_ok-chosen.ensures.different;
       nowhere = c.in_ok-chosen.ensures.nowhere;
@@ -72,7 +72,7 @@ push_placed-requires c =
     let f = fields c.args.s.now in
     let d : Effect = record { chosen = c.in_ok-chosen.chosen; edits = c.args.plan.edits.items } in
     let new : AreNew f (edits f.stable.state c.args.pid c.args.call) c.in_ok-chosen.chosen = record {
-      count = c.in_ok-chosen.ensures.count ∙ ap (sum_by news) c.requires.edits;
+      count = c.in_ok-chosen.ensures.count ∙ ap (sum_by news) (c.as_slice.ensures.value ∙ c.requires.edits);
       unused = c.in_ok-chosen.ensures.unused;
       different = c.in_ok-chosen.ensures.different;
       nowhere = c.in_ok-chosen.ensures.nowhere;
@@ -85,7 +85,7 @@ returns-in-Ok-clause-holds c =
     let f = fields c.args.s.now in
     let d : Effect = record { chosen = c.in_ok-chosen.chosen; edits = c.args.plan.edits.items } in
     let new : AreNew f (edits f.stable.state c.args.pid c.args.call) c.in_ok-chosen.chosen = record {
-      count = c.in_ok-chosen.ensures.count ∙ ap (sum_by news) c.requires.edits;
+      count = c.in_ok-chosen.ensures.count ∙ ap (sum_by news) (c.as_slice.ensures.value ∙ c.requires.edits);
       unused = c.in_ok-chosen.ensures.unused;
       different = c.in_ok-chosen.ensures.different;
       nowhere = c.in_ok-chosen.ensures.nowhere;

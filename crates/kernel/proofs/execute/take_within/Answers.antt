@@ -53,7 +53,7 @@ pub push_placed-requires : goal.push_placed-requires
 push_placed-requires c =
     let f = fields c.args.s.now in
     let new : AreNew f _ c.in_ok-chosen.chosen = record {
-      count = c.in_ok-chosen.ensures.count ∙ ap (sum_by news) c.requires.planned.edits;
+      count = c.in_ok-chosen.ensures.count ∙ ap (sum_by news) (c.as_slice.ensures.value ∙ c.requires.planned.edits);
       unused = c.in_ok-chosen.ensures.unused;
       different = c.in_ok-chosen.ensures.different;
       nowhere = c.in_ok-chosen.ensures.nowhere;
@@ -65,7 +65,7 @@ pub returns-in-Ok-clause-holds : goal.returns-in-Ok-clause-holds
 returns-in-Ok-clause-holds c =
     let f = fields c.args.s.now in
     let new : AreNew f _ c.in_ok-chosen.chosen = record {
-      count = c.in_ok-chosen.ensures.count ∙ ap (sum_by news) c.requires.planned.edits;
+      count = c.in_ok-chosen.ensures.count ∙ ap (sum_by news) (c.as_slice.ensures.value ∙ c.requires.planned.edits);
       unused = c.in_ok-chosen.ensures.unused;
       different = c.in_ok-chosen.ensures.different;
       nowhere = c.in_ok-chosen.ensures.nowhere;

@@ -6,4 +6,4 @@ pub returns : goal.returns
 returns g c =
     let all = Prints-as (Prints-then _ _ c.put_lines.ensures c.finish.ensures.prints) (append-nil _) in
     let told = Told-by c.finish.result all c.new-out.ensures.failed c.new-out.ensures.pending c.finish.ensures.pending c.finish.ensures.ok c.finish.ensures.failed in
-    let h = c.sink-1 in record { ok = ?; no_failure = search (rules, told.no_failure); part = search (rules, told.part); failure = search (rules, told.failure) }
+    record { ok = search (rules, told.ok); no_failure = search (rules, told.no_failure); part = search (rules, told.part); failure = search (rules, told.failure) }

@@ -1,4 +1,4 @@
-use Rattle.std.proofs.Common.{append-nil}
+use Rattle.std.proofs.Common.{append-nil, rules}
 use Rattle.transcript.proofs.Printing.{Prints-as, Prints-then, Told-by}
 use Rattle.transcript.proofs.line.print_line.Goals as goal
 
@@ -6,4 +6,4 @@ pub returns : goal.returns
 returns g c =
     let all = Prints-as (Prints-then _ _ c.put_line.ensures c.finish.ensures.prints) (append-nil _) in
     let told = Told-by c.finish.result all c.new-out.ensures.failed c.new-out.ensures.pending c.finish.ensures.pending c.finish.ensures.ok c.finish.ensures.failed in
-    record { ok = ?; no_failure = ?; part = ?; failure = ? }
+    record { ok = search (rules, told.ok); no_failure = search (rules, told.no_failure); part = search (rules, told.part); failure = search (rules, told.failure) }
