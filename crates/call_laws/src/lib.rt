@@ -12,32 +12,38 @@ ghost use Rattle.call_laws.specs.Trees.{DirectoriesAreATree};
 ghost use Rattle.call_laws.specs.WellFormed.{WellFormed};
 
 /// All laws of calls hold, with no premise, of the well-formed states.
+/// Proved in `proofs/Laws.antt`.
 pub fn calls_are_lawful()
     ensures { CallLaws WellFormed }
 {}
 
 /// To choose a number for a new object it is enough to look whether it is an inode or a description.
+/// Proved in `proofs/Numbers.antt`.
 pub fn unused_numbers_are_nowhere()
     ensures { UnusedNumbersAreNowhere }
 {}
 
 /// What the laws ask of a call can be met in each well-formed state, by each process that is there.
+/// Proved in `proofs/Numbers.antt`.
 pub fn every_call_can_be_made()
     ensures { EveryCallCanBeMade }
 {}
 
 /// In a well-formed state each directory that has a name has one path from the root, and none is below itself.
+/// Proved in `proofs/Trees.antt`.
 pub fn directories_are_a_tree()
     ensures { DirectoriesAreATree }
 {}
 
 /// What the laws leave out is false: a directory's count of names and its names change unmarked, a fork changes what another
 /// process's fork sees, and tidying drops what was there.
+/// Proved in `proofs/Exceptions.antt`.
 pub fn exceptions_are_needed()
     ensures { ExceptionsAreNeeded }
 {}
 
 /// The first processes live, each with its priority, and no others.
+/// Proved in `proofs/First.antt`.
 pub fn first_processes_live()
     ensures { FirstProcessesLive }
 {}
