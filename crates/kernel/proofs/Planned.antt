@@ -1,11 +1,11 @@
 -- What the calls that are there edit, and that the parents of their new names are there.
-use Rattle.std.proofs.Common.{◌≡◌, ℕ, List, [], ◌∷◌, Bool, true, false, not, Option, Some, None, Result, Ok, Err, IfOk, refl, sym, ap, subst, ◌∙◌}
+use Rattle.std.proofs.Common.{◌≡◌, ℕ, List, [], ◌∷◌, Bool, true, false, not, Some, None, Result, Ok, Err, IfOk, refl, sym, ap, subst, ◌∙◌}
 use Rattle.std.proofs.lemmas.Bool.{false≢true}
 use Rattle.model.specs.FiniteMap.{get}
-use Rattle.model.specs.State.{Name, Kind, A_file, A_directory, A_pipe, Kernel, names_of}
+use Rattle.model.specs.State.{Name, A_file, A_directory, A_pipe, Kernel, names_of}
 use Rattle.model.specs.Plan.{Errno, Plan, answer, given, ◌>>=◌, ◌>>◌, ENOENT, ENOTDIR, ENOTEMPTY, EEXIST, EBUSY, List_names, ask, refuse_if, or_refuse}
 use Rattle.model.specs.Paths.{is_empty}
-use Rattle.model.specs.Walks.{Place, Last, parsed, walk, last_of, is_directory}
+use Rattle.model.specs.Walks.{Place, parsed, walk, last_of, is_directory}
 use Rattle.model.specs.Changes.{Edit, Make_directory, Unname_directory}
 use Rattle.model.specs.Calls.{Call, Stat, Mkdir, Rmdir, List_directory, own, Done, Listing}
 use Rattle.model.specs.Plans.{Change, changed, unchanged, plan, status, absent}
@@ -15,7 +15,6 @@ use Rattle.model.specs.Moments.{idle, live, is_alive, calls_at}
 use Rattle.model.specs.Effects.{all_done}
 use Rattle.call_laws.specs.WellFormed.{IsRooted, Leads, WellFormed}
 use Rattle.call_laws.specs.Fits.{FitsAll}
-use Rattle.call_laws.specs.CallLaws.{IsReady}
 use Rattle.call_laws.proofs.Laws.{fits}
 use Rattle.call_laws.proofs.Numbers.{can_be_made}
 use Rattle.call_laws.proofs.Rules.{after_bind, whatever}

@@ -26,7 +26,8 @@ pub fn walk<L: Look>(
     path: &Path,
     touches: &mut Touches,
 ) -> Result<(Num, Option<Kind>), Refusal>
-    ensures { let k = L.state look.now in Comes k (walk (start k) path.now) touches.old result touches.new }
+    ensures { let k = L.state look.now in
+        Comes k (walk (start k) path.now) touches.old result touches.new }
 {
     walk_along(look, path.components(), touches)
 }
@@ -38,7 +39,8 @@ pub fn walk_to_last<L: Look>(
     path: &Path,
     touches: &mut Touches,
 ) -> Result<Last, Refusal>
-    ensures { let k = L.state look.now in Comes k (last_of k.root of_root path.now) touches.old result touches.new }
+    ensures { let k = L.state look.now in
+        Comes k (last_of k.root of_root path.now) touches.old result touches.new }
 {
     walk_to_last_of(look, of_root, path.components(), touches)
 }
@@ -88,7 +90,8 @@ fn walk_along<L: Look>(
     names: &[Name],
     touches: &mut Touches,
 ) -> Result<(Num, Option<Kind>), Refusal>
-    ensures { let k = L.state look.now in Comes k (walk (start k) names.now) touches.old result touches.new }
+    ensures { let k = L.state look.now in
+        Comes k (walk (start k) names.now) touches.old result touches.new }
 {
     let mut place = (look.root(), Some(Kind::Dir));
     for name in names {
@@ -104,7 +107,8 @@ fn walk_to_last_of<L: Look>(
     names: &[Name],
     touches: &mut Touches,
 ) -> Result<Last, Refusal>
-    ensures { let k = L.state look.now in Comes k (last_of k.root of_root names.now) touches.old result touches.new }
+    ensures { let k = L.state look.now in
+        Comes k (last_of k.root of_root names.now) touches.old result touches.new }
 {
     let [parents @ .., last] = names else {
         return Err(Refusal::Errno(of_root));

@@ -1,4 +1,4 @@
-use Rattle.std.proofs.Common.{◌≡◌, sym, ap, subst, ◌∙◌, IfOk}
+use Rattle.std.proofs.Common.{sym, ap, subst, ◌∙◌, IfOk}
 use Rattle.model.specs.Steps.{edits}
 use Rattle.model.specs.Effects.{all_done}
 use Rattle.shadow.specs.Changes.{CanEdit}
