@@ -1,6 +1,5 @@
 // Writes, cuts and growths against a plain list of bytes, merges of shadows, refused memory.
 ghost use Rattle.std.specs.Prelude.{◌≤◌, IfOk, OnOk};
-ghost use Rattle.file_shadow.specs.Delta.{room_of};
 
 use file_shadow::FileShadow;
 use heap::Heap;
@@ -15,7 +14,7 @@ fn filled(heap: Heap, byte: u8) -> Result<FileData, AllocError> {
     Ok(file)
 }
 
-// A write and then a cut, in a shadow and in a plain list.
+// A write and then a cut, in a shadow and in a plain list. The file has room for both.
 fn both(
     heap: Heap,
     shadow: &mut FileShadow,
@@ -25,15 +24,15 @@ fn both(
     count: u16,
     len: u16,
 ) -> Result<(), AllocError>
-    requires { room_of shadow.old.lengths ≤ file.old.room }
-    ensures { OnOk result (room_of shadow.new.lengths ≤ file.new.room) }
+    ensures { OnOk result (shadow.new.extent.end ≤ file.new.room) }
 {
     let ones = [1u8; 3000];
     let bytes = part(&ones, 0, count as usize);
-    shadow.write(heap, file, place as usize, bytes)?;
+    shadow.write(heap, place as usize, bytes)?;
     plain.write_at(place as usize, bytes)?;
-    shadow.cut(file, len as usize)?;
-    plain.cut(len as usize)
+    shadow.cut(len as usize);
+    plain.cut(len as usize)?;
+    file.promise(shadow.room())
 }
 
 fn assert_reads(
@@ -105,9 +104,10 @@ fn a_cut_and_a_growth_hide_what_was_there(rt: HostRuntime) -> Result<(), Fail> {
     let heap = heap::open(rt.alloc())?;
     let mut file = filled(heap, b'x')?;
     let mut shadow = FileShadow::new(heap);
-    shadow.write(heap, &mut file, 1500, b"y")?;
-    shadow.cut(&mut file, 100)?;
-    shadow.cut(&mut file, 2000)?;
+    shadow.write(heap, 1500, b"y")?;
+    shadow.cut(100);
+    shadow.cut(2000);
+    file.promise(shadow.room())?;
     assert_eq!(rt; shadow.changed(), [1].as_slice());
     assert_reads(&rt, heap, &shadow, &file, 1500, b"\0")?;
     assert_reads(&rt, heap, &shadow, &file, 99, b"x\0\0")?;
@@ -126,11 +126,12 @@ fn with_byte(
     place: u16,
     byte: u8,
 ) -> Result<FileShadow, AllocError>
-    ensures room { IfOk result (λ shadow. room_of shadow.lengths ≤ file.new.room) }
+    ensures room { IfOk result (λ shadow. shadow.extent.end ≤ file.new.room) }
     ensures kept { file.old.room ≤ file.new.room }
 {
     let mut shadow = FileShadow::new(heap);
-    shadow.write(heap, file, place as usize, &[byte; 1])?;
+    shadow.write(heap, place as usize, &[byte; 1])?;
+    file.promise(shadow.room())?;
     Ok(shadow)
 }
 
@@ -143,7 +144,7 @@ fn shadows_merge_block_by_block(rt: HostRuntime) -> Result<(), Fail> {
     let two = with_byte(heap, &mut file, 1024, b'y')?;
     let three = with_byte(heap, &mut file, 2049, b'z')?;
     assert_reads(&rt, heap, &one, &file, 1023, b"\0\0")?;
-    // Only the third wrote the length, so the others leave it as they find it.
+    // Only the third reaches past the end, so the others leave the length as they find it.
     three.commit_into(&mut file);
     two.commit_into(&mut file);
     one.commit_into(&mut file);
@@ -157,18 +158,15 @@ fn shadows_merge_block_by_block(rt: HostRuntime) -> Result<(), Fail> {
 #[test]
 fn a_refused_write_changes_nothing(rt: HostRuntime) -> Result<(), Fail> {
     let heap = heap::open(rt.alloc())?;
-    // Room for the numbers, for the blocks, a block, its place among the spare ones, and the file's.
-    for number in 1..6 {
-        let mut file = filled(heap, 9)?;
+    // Room for the numbers, for the blocks, a block and its place among the spare ones.
+    for number in 1..5 {
+        let file = filled(heap, 9)?;
         let mut shadow = FileShadow::new(heap);
         heap.refuse(number);
-        assert!(rt;
-            shadow.write(heap, &mut file, 9000, b"z").is_err(),
-            "request {number}"
-        );
+        assert!(rt; shadow.write(heap, 9000, b"z").is_err(), "request {number}");
         assert!(rt; shadow.changed().is_empty());
         assert_eq!(rt; shadow.len(&file), 3000);
-        shadow.write(heap, &mut file, 9000, b"z")?;
+        shadow.write(heap, 9000, b"z")?;
         assert_eq!(rt; shadow.changed(), [8].as_slice());
         assert_eq!(rt; shadow.len(&file), 9001);
     }
@@ -176,16 +174,33 @@ fn a_refused_write_changes_nothing(rt: HostRuntime) -> Result<(), Fail> {
 }
 
 #[test]
-fn a_refused_cut_or_read_changes_nothing(rt: HostRuntime) -> Result<(), Fail> {
+fn a_cut_takes_no_memory_and_a_refused_read_changes_nothing(rt: HostRuntime) -> Result<(), Fail> {
     let heap = heap::open(rt.alloc())?;
-    let mut file = filled(heap, 9)?;
+    let file = filled(heap, 9)?;
     let mut shadow = FileShadow::new(heap);
     heap.refuse(1);
-    assert!(rt; shadow.cut(&mut file, 20_000).is_err());
-    assert_eq!(rt; shadow.len(&file), 3000);
-    heap.refuse(1);
-    assert!(rt; shadow.read(heap, &file, 0, 3).is_err());
-    shadow.cut(&mut file, 20_000)?;
+    shadow.cut(20_000);
     assert_eq!(rt; shadow.len(&file), 20_000);
+    assert!(rt; shadow.read(heap, &file, 0, 3).is_err());
+    assert_eq!(rt; shadow.len(&file), 20_000);
+    Ok(())
+}
+
+// Others write in a changed block and change the length: the view is that of the file as it is then.
+#[test]
+fn a_view_is_right_for_what_others_left(rt: HostRuntime) -> Result<(), Fail> {
+    let heap = heap::open(rt.alloc())?;
+    let mut file = filled(heap, b'a')?;
+    let mut shadow = FileShadow::new(heap);
+    shadow.write(heap, 10, b"yy")?;
+    file.write_at(8, b"oooooo")?;
+    assert_reads(&rt, heap, &shadow, &file, 7, b"aooyyooa")?;
+    file.cut(11)?;
+    assert_reads(&rt, heap, &shadow, &file, 9, b"oyy")?;
+    assert_eq!(rt; shadow.len(&file), 12);
+    file.promise(shadow.room())?;
+    shadow.commit_into(&mut file);
+    assert_eq!(rt; file.len(), 12);
+    assert_holds(&rt, &file, 7, b"aooyy");
     Ok(())
 }

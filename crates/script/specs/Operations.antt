@@ -12,6 +12,12 @@ use Rattle.ids.specs.declared.call.Op.TheVariants as op
 use Rattle.ids.specs.declared.call.Call.TheVariants as call
 use Rattle.script.specs.declared.verb.Verb.{Verb}
 use Rattle.script.specs.declared.verb.Verb.TheVariants as verb
+use Rattle.script.specs.declared.verb.FdVerb.{FdVerb}
+use Rattle.script.specs.declared.verb.FdVerb.TheVariants as fd_verb
+use Rattle.script.specs.declared.verb.PathVerb.{PathVerb}
+use Rattle.script.specs.declared.verb.PathVerb.TheVariants as path_verb
+use Rattle.script.specs.declared.verb.BareVerb.{BareVerb}
+use Rattle.script.specs.declared.verb.BareVerb.TheVariants as bare_verb
 
 abbrev pub pair : {A B : Type 0} → Option A → Option B → Option (A × B)
 pair (Some a) (Some b) = Some (a, b)
@@ -51,28 +57,38 @@ abort_of [] = Some false
 abort_of (word ∷ []) = if bytes_eq word (codes "no_restart") then Some true else None
 abort_of (_ ∷ _ ∷ _) = None
 
+-- of a word on descriptors and numbers, on paths, and on neither
+abbrev pub fd_arguments : FdVerb → List (List ℕ) → Option Op
+fd_arguments fd_verb.Close args = option_map (λ fd. op.Call (call.Close fd)) (one fd_in args)
+fd_arguments fd_verb.Fstat args = option_map (λ fd. op.Call (call.Fstat fd)) (one fd_in args)
+fd_arguments fd_verb.Dup args = option_map (λ fd. op.Call (call.Dup fd)) (one fd_in args)
+fd_arguments fd_verb.Read args = option_map (λ p. op.Call (call.Read p.0 p.1)) (two fd_in (decimal_in 1048576) args)
+fd_arguments fd_verb.Lseek args = option_map (λ p. op.Call (call.Lseek p.0 p.1 p.2)) (three fd_in offset_in whence_in args)
+fd_arguments fd_verb.Ftruncate args = option_map (λ p. op.Call (call.Ftruncate p.0 p.1)) (two fd_in (decimal_in 4294967295) args)
+fd_arguments fd_verb.Dup2 args = option_map (λ p. op.Call (call.Dup2 p.0 p.1)) (two fd_in fd_in args)
+
+abbrev pub path_arguments : PathVerb → List (List ℕ) → Option Op
+path_arguments path_verb.Stat args = option_map (λ path. op.Call (call.Stat path)) (one text_in args)
+path_arguments path_verb.Unlink args = option_map (λ path. op.Call (call.Unlink path)) (one text_in args)
+path_arguments path_verb.Mkdir args = option_map (λ path. op.Call (call.Mkdir path)) (one text_in args)
+path_arguments path_verb.Rmdir args = option_map (λ path. op.Call (call.Rmdir path)) (one text_in args)
+path_arguments path_verb.List args = option_map (λ path. op.Call (call.List path)) (one text_in args)
+path_arguments path_verb.Link args = option_map (λ p. op.Call (call.Link p.0 p.1)) (two text_in text_in args)
+path_arguments path_verb.Rename args = option_map (λ p. op.Call (call.Rename p.0 p.1)) (two text_in text_in args)
+
+abbrev pub bare_arguments : BareVerb → List (List ℕ) → Option Op
+bare_arguments bare_verb.Pipe args = no_arguments (op.Call call.Pipe) args
+bare_arguments bare_verb.Fork args = no_arguments (op.Call call.Fork) args
+bare_arguments bare_verb.Exit args = no_arguments (op.Call call.Exit) args
+bare_arguments bare_verb.End args = no_arguments op.End args
+bare_arguments bare_verb.Begin args = option_map (λ flags. op.Begin flags) (begin_of args)
+bare_arguments bare_verb.Abort args = option_map (λ no_restart. op.Abort no_restart) (abort_of args)
+
 -- the operation of a word with these arguments
 abbrev pub arguments : Verb → List (List ℕ) → Option Op
 arguments verb.Open args = option_map (λ p. op.Call (call.Open p.0 p.1)) (two text_in flags_in args)
-arguments verb.Close args = option_map (λ fd. op.Call (call.Close fd)) (one fd_in args)
-arguments verb.Fstat args = option_map (λ fd. op.Call (call.Fstat fd)) (one fd_in args)
-arguments verb.Dup args = option_map (λ fd. op.Call (call.Dup fd)) (one fd_in args)
-arguments verb.Read args = option_map (λ p. op.Call (call.Read p.0 p.1)) (two fd_in (decimal_in 1048576) args)
 arguments verb.Write args = option_map (λ p. op.Call (call.Write p.0 p.1)) (two fd_in text_in args)
 arguments verb.Fill args = option_map (λ p. op.Call (call.Write p.0 (replicate p.1 p.2))) (three fd_in (decimal_in 1048576) byte_in args)
-arguments verb.Lseek args = option_map (λ p. op.Call (call.Lseek p.0 p.1 p.2)) (three fd_in offset_in whence_in args)
-arguments verb.Ftruncate args = option_map (λ p. op.Call (call.Ftruncate p.0 p.1)) (two fd_in (decimal_in 4294967295) args)
-arguments verb.Dup2 args = option_map (λ p. op.Call (call.Dup2 p.0 p.1)) (two fd_in fd_in args)
-arguments verb.Stat args = option_map (λ path. op.Call (call.Stat path)) (one text_in args)
-arguments verb.Unlink args = option_map (λ path. op.Call (call.Unlink path)) (one text_in args)
-arguments verb.Mkdir args = option_map (λ path. op.Call (call.Mkdir path)) (one text_in args)
-arguments verb.Rmdir args = option_map (λ path. op.Call (call.Rmdir path)) (one text_in args)
-arguments verb.List args = option_map (λ path. op.Call (call.List path)) (one text_in args)
-arguments verb.Link args = option_map (λ p. op.Call (call.Link p.0 p.1)) (two text_in text_in args)
-arguments verb.Rename args = option_map (λ p. op.Call (call.Rename p.0 p.1)) (two text_in text_in args)
-arguments verb.Pipe args = no_arguments (op.Call call.Pipe) args
-arguments verb.Fork args = no_arguments (op.Call call.Fork) args
-arguments verb.Exit args = no_arguments (op.Call call.Exit) args
-arguments verb.End args = no_arguments op.End args
-arguments verb.Begin args = option_map (λ flags. op.Begin flags) (begin_of args)
-arguments verb.Abort args = option_map (λ no_restart. op.Abort no_restart) (abort_of args)
+arguments (verb.OnFd v) args = fd_arguments v args
+arguments (verb.OnPath v) args = path_arguments v args
+arguments (verb.Bare v) args = bare_arguments v args

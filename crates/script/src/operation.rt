@@ -1,6 +1,6 @@
 // Operations in their spelling.
 ghost use Rattle.std.specs.Prelude.{◌≡◌, IfOk, replicate, option_map};
-ghost use Rattle.script.specs.Operations.{abort_of, arguments, begin_of, fd_in, one, three, two};
+ghost use Rattle.script.specs.Operations.{abort_of, arguments, bare_arguments, begin_of, fd_arguments, fd_in, no_arguments, one, path_arguments, three, two};
 ghost use Rattle.script.specs.Numbers.{byte_in, decimal_in, offset_in};
 ghost use Rattle.script.specs.Texts.{text_in};
 ghost use Rattle.script.specs.Flags.{flags_in, whence_in};
@@ -9,7 +9,7 @@ use crate::flags::{begin_flags_in, flags_in, whence_in};
 use crate::number::{byte_in, number_in, offset_in};
 use crate::pieces::Pieces;
 use crate::text::text_in;
-use crate::verb::Verb;
+use crate::verb::{BareVerb, FdVerb, PathVerb, Verb};
 use heap::Heap;
 use ids::{BeginFlags, Bytes, Call, Fd, Op, OpenFlags, Whence};
 use std::alloc::AllocError;
@@ -152,6 +152,92 @@ fn abort_of(args: Pieces<'_>) -> Option<bool>
     }
 }
 
+// The operation of a word on descriptors and numbers.
+fn fd_arguments(verb: FdVerb, args: Pieces<'_>) -> Option<Op>
+    ensures { result ≡ fd_arguments verb args.entry }
+{
+    Some(Op::Call(match verb {
+        FdVerb::Close => Call::Close(one_fd(args)?),
+        FdVerb::Fstat => Call::Fstat(one_fd(args)?),
+        FdVerb::Dup => Call::Dup(one_fd(args)?),
+        FdVerb::Read => {
+            let (fd, count) = fd_and_number(args, 1048576)?;
+            Call::Read(fd, count)
+        }
+        FdVerb::Lseek => {
+            let (fd, offset, whence) = lseek_of(args)?;
+            Call::Lseek(fd, offset, whence)
+        }
+        FdVerb::Ftruncate => {
+            let (fd, len) = fd_and_number(args, 4294967295)?;
+            Call::Ftruncate(fd, len)
+        }
+        FdVerb::Dup2 => {
+            let (fd, other) = two_fds(args)?;
+            Call::Dup2(fd, other)
+        }
+    }))
+}
+
+// The operation of a word on a path or two.
+fn path_arguments(heap: Heap, verb: PathVerb, args: Pieces<'_>) -> Result<Option<Op>, AllocError>
+    ensures { IfOk result (λ found. found ≡ path_arguments verb args.entry) }
+{
+    match verb {
+        PathVerb::Stat => match one_text(heap, args)? {
+            Some(path) => Ok(Some(Op::Call(Call::Stat(path)))),
+            None => Ok(None),
+        },
+        PathVerb::Unlink => match one_text(heap, args)? {
+            Some(path) => Ok(Some(Op::Call(Call::Unlink(path)))),
+            None => Ok(None),
+        },
+        PathVerb::Mkdir => match one_text(heap, args)? {
+            Some(path) => Ok(Some(Op::Call(Call::Mkdir(path)))),
+            None => Ok(None),
+        },
+        PathVerb::Rmdir => match one_text(heap, args)? {
+            Some(path) => Ok(Some(Op::Call(Call::Rmdir(path)))),
+            None => Ok(None),
+        },
+        PathVerb::List => match one_text(heap, args)? {
+            Some(path) => Ok(Some(Op::Call(Call::List(path)))),
+            None => Ok(None),
+        },
+        PathVerb::Link => match two_texts(heap, args)? {
+            Some((from, to)) => Ok(Some(Op::Call(Call::Link(from, to)))),
+            None => Ok(None),
+        },
+        PathVerb::Rename => match two_texts(heap, args)? {
+            Some((from, to)) => Ok(Some(Op::Call(Call::Rename(from, to)))),
+            None => Ok(None),
+        },
+    }
+}
+
+// An operation that takes no arguments, where there are none.
+fn alone(op: Op, args: &Pieces<'_>) -> Option<Op>
+    ensures { result ≡ no_arguments op args.now }
+{
+    if args.is_empty() { Some(op) } else { None }
+}
+
+// The operation of a word on neither.
+fn bare_arguments(verb: BareVerb, args: Pieces<'_>) -> Option<Op>
+    ensures { result ≡ bare_arguments verb args.entry }
+{
+    match verb {
+        BareVerb::Pipe => alone(Op::Call(Call::Pipe), &args),
+        BareVerb::Fork => alone(Op::Call(Call::Fork), &args),
+        BareVerb::Exit => alone(Op::Call(Call::Exit), &args),
+        BareVerb::End => alone(Op::End, &args),
+        BareVerb::Begin => Some(Op::Begin(begin_of(args)?)),
+        BareVerb::Abort => Some(Op::Abort {
+            no_restart: abort_of(args)?,
+        }),
+    }
+}
+
 // The operation of a word with these arguments.
 pub(crate) fn arguments(heap: Heap, verb: Verb, args: Pieces<'_>) -> Result<Option<Op>, AllocError>
     ensures { IfOk result (λ found. found ≡ arguments verb args.entry) }
@@ -159,22 +245,6 @@ pub(crate) fn arguments(heap: Heap, verb: Verb, args: Pieces<'_>) -> Result<Opti
     match verb {
         Verb::Open => match text_and_flags(heap, args)? {
             Some((path, flags)) => Ok(Some(Op::Call(Call::Open(path, flags)))),
-            None => Ok(None),
-        },
-        Verb::Close => match one_fd(args) {
-            Some(fd) => Ok(Some(Op::Call(Call::Close(fd)))),
-            None => Ok(None),
-        },
-        Verb::Fstat => match one_fd(args) {
-            Some(fd) => Ok(Some(Op::Call(Call::Fstat(fd)))),
-            None => Ok(None),
-        },
-        Verb::Dup => match one_fd(args) {
-            Some(fd) => Ok(Some(Op::Call(Call::Dup(fd)))),
-            None => Ok(None),
-        },
-        Verb::Read => match fd_and_number(args, 1048576) {
-            Some((fd, count)) => Ok(Some(Op::Call(Call::Read(fd, count)))),
             None => Ok(None),
         },
         Verb::Write => match fd_and_text(heap, args)? {
@@ -188,69 +258,8 @@ pub(crate) fn arguments(heap: Heap, verb: Verb, args: Pieces<'_>) -> Result<Opti
             )))),
             None => Ok(None),
         },
-        Verb::Lseek => match lseek_of(args) {
-            Some((fd, offset, whence)) => Ok(Some(Op::Call(Call::Lseek(fd, offset, whence)))),
-            None => Ok(None),
-        },
-        Verb::Ftruncate => match fd_and_number(args, 4294967295) {
-            Some((fd, len)) => Ok(Some(Op::Call(Call::Ftruncate(fd, len)))),
-            None => Ok(None),
-        },
-        Verb::Dup2 => match two_fds(args) {
-            Some((fd, other)) => Ok(Some(Op::Call(Call::Dup2(fd, other)))),
-            None => Ok(None),
-        },
-        Verb::Stat => match one_text(heap, args)? {
-            Some(path) => Ok(Some(Op::Call(Call::Stat(path)))),
-            None => Ok(None),
-        },
-        Verb::Unlink => match one_text(heap, args)? {
-            Some(path) => Ok(Some(Op::Call(Call::Unlink(path)))),
-            None => Ok(None),
-        },
-        Verb::Mkdir => match one_text(heap, args)? {
-            Some(path) => Ok(Some(Op::Call(Call::Mkdir(path)))),
-            None => Ok(None),
-        },
-        Verb::Rmdir => match one_text(heap, args)? {
-            Some(path) => Ok(Some(Op::Call(Call::Rmdir(path)))),
-            None => Ok(None),
-        },
-        Verb::List => match one_text(heap, args)? {
-            Some(path) => Ok(Some(Op::Call(Call::List(path)))),
-            None => Ok(None),
-        },
-        Verb::Link => match two_texts(heap, args)? {
-            Some((from, to)) => Ok(Some(Op::Call(Call::Link(from, to)))),
-            None => Ok(None),
-        },
-        Verb::Rename => match two_texts(heap, args)? {
-            Some((from, to)) => Ok(Some(Op::Call(Call::Rename(from, to)))),
-            None => Ok(None),
-        },
-        Verb::Pipe => Ok(if args.is_empty() {
-            Some(Op::Call(Call::Pipe))
-        } else {
-            None
-        }),
-        Verb::Fork => Ok(if args.is_empty() {
-            Some(Op::Call(Call::Fork))
-        } else {
-            None
-        }),
-        Verb::Exit => Ok(if args.is_empty() {
-            Some(Op::Call(Call::Exit))
-        } else {
-            None
-        }),
-        Verb::End => Ok(if args.is_empty() { Some(Op::End) } else { None }),
-        Verb::Begin => match begin_of(args) {
-            Some(flags) => Ok(Some(Op::Begin(flags))),
-            None => Ok(None),
-        },
-        Verb::Abort => match abort_of(args) {
-            Some(no_restart) => Ok(Some(Op::Abort { no_restart })),
-            None => Ok(None),
-        },
+        Verb::OnFd(verb) => Ok(fd_arguments(verb, args)),
+        Verb::OnPath(verb) => path_arguments(heap, verb, args),
+        Verb::Bare(verb) => Ok(bare_arguments(verb, args)),
     }
 }

@@ -3,18 +3,31 @@ ghost use Rattle.std.specs.Prelude.{◌≡◌};
 ghost use Rattle.script.specs.Verbs.{bare_verb_in, path_verb_in, verb_in};
 
 // The word of an operation.
-#[derive(Clone, Copy, Debug, PartialEq, Eq)]
+#[derive(Clone, Copy)]
 pub(crate) enum Verb {
     Open,
+    Write,
+    Fill,
+    OnFd(FdVerb),
+    OnPath(PathVerb),
+    Bare(BareVerb),
+}
+
+// The word of an operation on descriptors and numbers.
+#[derive(Clone, Copy)]
+pub(crate) enum FdVerb {
     Close,
     Fstat,
     Dup,
     Read,
-    Write,
-    Fill,
     Lseek,
     Ftruncate,
     Dup2,
+}
+
+// The word of an operation on paths.
+#[derive(Clone, Copy)]
+pub(crate) enum PathVerb {
     Stat,
     Unlink,
     Mkdir,
@@ -22,6 +35,11 @@ pub(crate) enum Verb {
     List,
     Link,
     Rename,
+}
+
+// The word of an operation on neither.
+#[derive(Clone, Copy)]
+pub(crate) enum BareVerb {
     Pipe,
     Fork,
     Exit,
@@ -37,23 +55,23 @@ pub(crate) fn verb_in(word: &[u8]) -> Option<Verb>
     if word == b"open".as_slice() {
         Some(Verb::Open)
     } else if word == b"close".as_slice() {
-        Some(Verb::Close)
+        Some(Verb::OnFd(FdVerb::Close))
     } else if word == b"fstat".as_slice() {
-        Some(Verb::Fstat)
+        Some(Verb::OnFd(FdVerb::Fstat))
     } else if word == b"dup".as_slice() {
-        Some(Verb::Dup)
+        Some(Verb::OnFd(FdVerb::Dup))
     } else if word == b"read".as_slice() {
-        Some(Verb::Read)
+        Some(Verb::OnFd(FdVerb::Read))
     } else if word == b"write".as_slice() {
         Some(Verb::Write)
     } else if word == b"fill".as_slice() {
         Some(Verb::Fill)
     } else if word == b"lseek".as_slice() {
-        Some(Verb::Lseek)
+        Some(Verb::OnFd(FdVerb::Lseek))
     } else if word == b"ftruncate".as_slice() {
-        Some(Verb::Ftruncate)
+        Some(Verb::OnFd(FdVerb::Ftruncate))
     } else if word == b"dup2".as_slice() {
-        Some(Verb::Dup2)
+        Some(Verb::OnFd(FdVerb::Dup2))
     } else {
         path_verb_in(word)
     }
@@ -63,19 +81,19 @@ fn path_verb_in(word: &[u8]) -> Option<Verb>
     ensures { result ≡ path_verb_in word.now }
 {
     if word == b"stat".as_slice() {
-        Some(Verb::Stat)
+        Some(Verb::OnPath(PathVerb::Stat))
     } else if word == b"unlink".as_slice() {
-        Some(Verb::Unlink)
+        Some(Verb::OnPath(PathVerb::Unlink))
     } else if word == b"mkdir".as_slice() {
-        Some(Verb::Mkdir)
+        Some(Verb::OnPath(PathVerb::Mkdir))
     } else if word == b"rmdir".as_slice() {
-        Some(Verb::Rmdir)
+        Some(Verb::OnPath(PathVerb::Rmdir))
     } else if word == b"list".as_slice() {
-        Some(Verb::List)
+        Some(Verb::OnPath(PathVerb::List))
     } else if word == b"link".as_slice() {
-        Some(Verb::Link)
+        Some(Verb::OnPath(PathVerb::Link))
     } else if word == b"rename".as_slice() {
-        Some(Verb::Rename)
+        Some(Verb::OnPath(PathVerb::Rename))
     } else {
         bare_verb_in(word)
     }
@@ -85,17 +103,17 @@ fn bare_verb_in(word: &[u8]) -> Option<Verb>
     ensures { result ≡ bare_verb_in word.now }
 {
     if word == b"pipe".as_slice() {
-        Some(Verb::Pipe)
+        Some(Verb::Bare(BareVerb::Pipe))
     } else if word == b"fork".as_slice() {
-        Some(Verb::Fork)
+        Some(Verb::Bare(BareVerb::Fork))
     } else if word == b"exit".as_slice() {
-        Some(Verb::Exit)
+        Some(Verb::Bare(BareVerb::Exit))
     } else if word == b"end".as_slice() {
-        Some(Verb::End)
+        Some(Verb::Bare(BareVerb::End))
     } else if word == b"begin".as_slice() {
-        Some(Verb::Begin)
+        Some(Verb::Bare(BareVerb::Begin))
     } else if word == b"abort".as_slice() {
-        Some(Verb::Abort)
+        Some(Verb::Bare(BareVerb::Abort))
     } else {
         None
     }

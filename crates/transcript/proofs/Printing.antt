@@ -101,6 +101,29 @@ pub Prints-next_number : {S : Type 0} {written : S → Option (List ℕ)} {failu
     → Prints written failures a b (flat_map f (take i xs)) → Prints written failures b c (f (get_or xs i 0)) → Prints written failures a c (flat_map f (take (i + 1) xs))
 Prints-next_number f xs i below p q = Prints-next f xs i (get_or xs i 0) below (get_or_default xs i 0 (get_or xs i 0) below) p q
 
+-- one byte more is pending
+pub Prints-pending : {S : Type 0} {written : S → Option (List ℕ)} {failures : S → ℕ} {a b : Printer S} {pending : List ℕ} (byte : ℕ)
+    → Prints written failures a b [] → pending ≡ b.pending ++ byte ∷ [] → Prints written failures a (record b { pending = pending }) (byte ∷ [])
+Prints-pending {S} {written} {failures} {a} {b} {pending} byte p e =
+    let q : Prints written failures b (record b { pending = pending }) (byte ∷ []) = record {
+      same_sink = refl;
+      part = λ h. record {
+        front = [];
+        back = b.pending ++ byte ∷ [];
+        whole = refl;
+        appended = sym (append_known-nil (written b.sink.now));
+        kept = λ _. sym e;
+      };
+      clean = λ h. (refl, h);
+      stays = λ h. (refl, refl, h);
+      cause = λ h k. absurd (cc (h, k));
+    } in Prints-then [] (byte ∷ []) p q
+
+-- what is printed by a printer is printed by what is equal to it
+pub Prints-by : {S : Type 0} {written : S → Option (List ℕ)} {failures : S → ℕ} {a b c : Printer S} {t : List ℕ}
+    → Prints written failures a b t → c ≡ b → Prints written failures a c t
+Prints-by {S} {written} {failures} {a} {b} {c} {t} p e = let P : Printer S → Type 0 = λ x. Prints written failures a x t in subst P (sym e) p
+
 -- one more byte of a text
 pub Prints-byte : {S : Type 0} {written : S → Option (List ℕ)} {failures : S → ℕ} {a b c : Printer S} (xs : List ℕ) (i : ℕ) → i < length xs
     → Prints written failures a b (take i xs) → Prints written failures b c (get_or xs i 0 ∷ []) → Prints written failures a c (take (i + 1) xs)

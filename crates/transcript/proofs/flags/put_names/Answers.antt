@@ -1,4 +1,4 @@
-use Rattle.std.proofs.Common.{◌∙◌, sym, codes, subst, List, ℕ}
+use Rattle.std.proofs.Common.{◌∙◌, sym, codes}
 use Rattle.transcript.specs.Flags.{PrintsNames, access_names}
 use Rattle.transcript.proofs.Names.{has_any-access, names_by-flags, PrintsNames-as, PrintsNames-next}
 use Rattle.transcript.proofs.flags.put_names.Goals as goal

@@ -1,0 +1,134 @@
+-- Of the edits of one call only the last loses anything.
+use Rattle.std.proofs.Common.{◌≡◌, ℕ, ℤ, pos, negsuc, ◌+ℤ◌, Bool, true, false, not, ◌&&◌, ◌||◌, if◌then◌else◌, List, [], ◌∷◌, ◌++◌, Option, Some, None, Result, Ok, Err, IfOk, nat_lt, nat_le, ◌==◌, length, refl}
+use Rattle.std.specs.Prelude.{⊤}
+use Rattle.model.specs.State.{A_file, A_directory, A_pipe, Kernel, ends}
+use Rattle.model.specs.Plan.{Errno, EAGAIN, EBADF, EBUSY, EEXIST, EFBIG, EINVAL, EISDIR, ENOENT, ENOTDIR, ENOTEMPTY, EPERM, EPIPE, ESPIPE, Plan, Give, given, answer, or_refuse, List_names, Read_file, Count_ends, Find_offset, Read_pipe, Fit, ◌>>=◌, refuse_if}
+use Rattle.model.specs.Paths.{is_empty, is_below}
+use Rattle.model.specs.Walks.{Last, Place, parsed, walk, last_of, is_directory}
+use Rattle.model.specs.Changes.{Edit, Unname_file, Unname_directory, Move, Share_slot, Clear_slot, End_process, Make_directory, Make_file, Name_file, Put_bytes, Cut, Take, Append, Set_offset, Open_inode, Make_pipe, New_process}
+use Rattle.model.specs.Calls.{Call, Open, Close, Read, Write, Lseek, Ftruncate, Stat, Fstat, Link, Unlink, Rename, Mkdir, Rmdir, List_directory, Dup, Dup2, Open_pipe, Fork, Exit, OpenFlags, Slot, Own, own}
+use Rattle.ids.specs.Flags.{is_reading, is_writing, is_creating, is_exclusive, is_truncating}
+use Rattle.model.specs.Plans.{Change, is_pipe, largest, status, slot, opened, cut_to, read_pipe, read_some, place_to_write, write_some, sought, base, replaced_by_name, moved, absent, duplicated, piped, forked, first_of_free, free, plan}
+use Rattle.model.specs.Steps.{edits, edits_of, outcome}
+use Rattle.call_laws.proofs.Rules.{after_bind, whatever, weaken, either_given}
+use Rattle.freeing_laws.specs.Sweep.{nothing, lost_by, loses}
+
+pub loses_nothing : (k : Kernel) (e : Edit) → loses e ≡ false → lost_by k e ≡ nothing
+loses_nothing k (Make_directory d x i) lasts = refl
+loses_nothing k (Make_file d x i) lasts = refl
+loses_nothing k (Name_file d x n) lasts = refl
+loses_nothing k (Put_bytes n place bytes before) lasts = refl
+loses_nothing k (Cut n before after) lasts = refl
+loses_nothing k (Take p count) lasts = refl
+loses_nothing k (Append p bytes) lasts = refl
+loses_nothing k (Set_offset d place) lasts = refl
+loses_nothing k (Open_inode i inode how q f) lasts = refl
+loses_nothing k (Make_pipe i q f g) lasts = refl
+loses_nothing k (New_process child parent pipes) lasts = refl
+loses_nothing k (Unname_file d x n) lasts = absurd cc
+loses_nothing k (Unname_directory d x) lasts = absurd cc
+loses_nothing k (Move d x e y n replaced) lasts = absurd cc
+loses_nothing k (Share_slot pid f d pipes) lasts = absurd cc
+loses_nothing k (Clear_slot pid f pipes) lasts = absurd cc
+loses_nothing k (End_process pid pipes) lasts = absurd cc
+
+abbrev pub OnlyLastLoses : List Edit → Type 0
+OnlyLastLoses [] = ⊤
+OnlyLastLoses (e ∷ []) = ⊤
+OnlyLastLoses (e ∷ f ∷ es) = (loses e ≡ false) × OnlyLastLoses (f ∷ es)
+
+abbrev Fine : Change → Type 0
+Fine c = OnlyLastLoses c.edits
+
+module _ (k : Kernel) where
+  -- whatever the first plan gives
+  pass : {A : Type 0} (m : Plan A) (f : A → Plan Change) → ((x : A) → IfOk (given k (f x)) Fine) → IfOk (given k (m >>= f)) Fine
+  pass m f h = after_bind k Fine m f (whatever (given k m) h)
+
+  status_fine : (place : Place) → IfOk (given k (status place)) Fine
+  status_fine (n, None) = tt
+  status_fine (n, Some A_file) = tt
+  status_fine (n, Some A_directory) = tt
+  status_fine (n, Some A_pipe) = tt
+
+  cut_fine : (b : Bool) (n : ℕ) → IfOk (given k (if b then cut_to n 0 else Give [])) (λ es. (last : Edit) → OnlyLastLoses (es ++ last ∷ []))
+  cut_fine true n = λ last. (refl, tt)
+  cut_fine false n = λ last. tt
+
+  opened_fine : (me : Own) (flags : OpenFlags) (f : ℕ) (at : Last) (o : Option Place) → IfOk (given k (opened me flags f at o)) Fine
+  opened_fine me flags f at None = pass (refuse_if (not (is_creating flags)) ENOENT) _ (λ _. (refl, tt))
+  opened_fine me flags f at (Some place) = pass (refuse_if (is_creating flags && is_exclusive flags) EEXIST) _ (λ _. pass (refuse_if (is_directory place) EISDIR) _ (λ _.
+      after_bind k Fine (if is_truncating flags then cut_to place.0 0 else Give []) _ (weaken (given k (if is_truncating flags then cut_to place.0 0 else Give [])) (cut_fine (is_truncating flags) place.0) (λ es h. h _))))
+
+  read_pipe_fine : (p : ℕ) (bytes : List ℕ) → IfOk (given k (read_pipe p bytes)) Fine
+  read_pipe_fine p [] = pass (refuse_if (nat_lt 0 (ends k p (λ d. d.writing))) EAGAIN) _ (λ _. tt)
+  read_pipe_fine p (b ∷ bytes) = tt
+
+  at_most_one : (b : Bool) (e : Edit) → OnlyLastLoses (if b then [] else e ∷ [])
+  at_most_one true e = tt
+  at_most_one false e = tt
+
+  read_fine : (it : Slot) (count : ℕ) → IfOk (given k (read_some it count)) Fine
+  read_fine it count = either_given k Fine (is_pipe it.kind) _ _ (λ _. read_pipe_fine it.inode (answer k (Read_pipe it.inode count)))
+      (λ _. at_most_one (is_empty (answer k (Read_file it.inode (answer k (Find_offset it.description)) count))) _)
+
+  write_fine : (it : Slot) (bytes : List ℕ) → IfOk (given k (write_some it bytes)) Fine
+  write_fine it bytes = either_given k Fine (is_pipe it.kind) _ _
+      (λ _. pass (refuse_if ((answer k (Count_ends it.inode)).0 == 0) EPIPE) _ (λ _.
+      pass (refuse_if (nat_lt (answer k (Fit it.inode (length bytes))) (length bytes) && nat_le (length bytes) 512) EAGAIN) _ (λ _.
+      pass (refuse_if (answer k (Fit it.inode (length bytes)) == 0) EAGAIN) _ (λ _. tt))))
+      (λ _. pass (place_to_write it it.appending) _ (λ place. pass (refuse_if (nat_le largest place) EFBIG) _ (λ _. (refl, tt))))
+
+  moved_fine : (from : Last) (what : Place) (to : Last) (o : Option Place) → IfOk (given k (moved from what to o)) Fine
+  moved_fine from what to None = tt
+  moved_fine from what to (Some old) = either_given k Fine (what.0 == old.0) _ _ (λ _. tt) (λ _.
+      pass (refuse_if (not (is_directory what) && is_directory old) EISDIR) _ (λ _. pass (refuse_if (is_directory what && not (is_directory old)) ENOTDIR) _ (λ _. pass (replaced_by_name old.0 (is_directory old)) _ (λ _. tt))))
+
+  sought_fine : (it : Slot) (place : ℤ) → IfOk (given k (sought it place)) Fine
+  sought_fine it (pos place) = pass (refuse_if (nat_lt largest place) EINVAL) _ (λ _. tt)
+  sought_fine it (negsuc place) = tt
+
+  dup_fine : (me : Own) (it : Slot) (fs : List ℕ) → IfOk (given k (duplicated me it fs)) Fine
+  dup_fine me it [] = tt
+  dup_fine me it (f ∷ fs) = tt
+
+  pipe_fine : (me : Own) (fs : List ℕ) → IfOk (given k (piped me fs)) Fine
+  pipe_fine me [] = tt
+  pipe_fine me (f ∷ []) = tt
+  pipe_fine me (f ∷ g ∷ fs) = tt
+
+  fork_fine : (me : Own) (o : Option (ℕ × ℕ)) → IfOk (given k (forked me o)) Fine
+  fork_fine me None = tt
+  fork_fine me (Some (made, priority)) = pass (refuse_if (nat_le 4096 made) EAGAIN) _ (λ _. tt)
+
+  plan_fine : (me : Own) (call : Call) → IfOk (given k (plan me call)) Fine
+  plan_fine me (Open path flags) = pass (refuse_if (not (is_reading flags || is_writing flags)) EINVAL) _ (λ _. pass (refuse_if (is_exclusive flags && not (is_creating flags)) EINVAL) _ (λ _.
+      pass (refuse_if (is_truncating flags && not (is_writing flags)) EINVAL) _ (λ _. pass (parsed path) _ (λ names. pass (first_of_free (free me)) _ (λ f.
+      pass (last_of me.root (if is_creating flags && is_exclusive flags then EEXIST else EISDIR) names) _ (λ at. opened_fine me flags f at at.found))))))
+  plan_fine me (Close f) = pass (slot me f) _ (λ _. tt)
+  plan_fine me (Read f count) = pass (slot me f) _ (λ it. pass (refuse_if (not it.reading) EBADF) _ (λ _. either_given k Fine (count == 0) _ _ (λ _. tt) (λ _. read_fine it count)))
+  plan_fine me (Write f bytes) = pass (slot me f) _ (λ it. pass (refuse_if (not it.writing) EBADF) _ (λ _. either_given k Fine (is_empty bytes) _ _ (λ _. tt) (λ _. write_fine it bytes)))
+  plan_fine me (Lseek f move whence) = pass (slot me f) _ (λ it. pass (refuse_if (is_pipe it.kind) ESPIPE) _ (λ _. pass (base it whence) _ (λ place. sought_fine it (pos place +ℤ move))))
+  plan_fine me (Ftruncate f len) = pass (slot me f) _ (λ it. pass (refuse_if (not it.writing) EBADF) _ (λ _. pass (refuse_if (is_pipe it.kind) EINVAL) _ (λ _. pass (refuse_if (nat_lt largest len) EFBIG) _ (λ _. tt))))
+  plan_fine me (Stat path) = pass (parsed path) _ (λ names. pass (walk (me.root, Some A_directory) names) _ (λ place. status_fine place))
+  plan_fine me (Fstat f) = pass (slot me f) _ (λ it. status_fine (it.inode, it.kind))
+  plan_fine me (Link old path) = pass (parsed old) _ (λ from. pass (parsed path) _ (λ to. pass (walk (me.root, Some A_directory) from) _ (λ what. pass (refuse_if (is_directory what) EPERM) _ (λ _. pass (last_of me.root EEXIST to) _ (λ at. pass (absent at.found) _ (λ _. tt))))))
+  plan_fine me (Unlink path) = pass (parsed path) _ (λ names. pass (last_of me.root EPERM names) _ (λ at. pass (or_refuse ENOENT at.found) _ (λ what. pass (refuse_if (is_directory what) EPERM) _ (λ _. tt))))
+  plan_fine me (Rename old path) = pass (parsed old) _ (λ from. pass (parsed path) _ (λ to. pass (refuse_if (is_empty from || is_empty to) EBUSY) _ (λ _. pass (last_of me.root EBUSY from) _ (λ at. pass (or_refuse ENOENT at.found) _ (λ what.
+      pass (refuse_if (is_directory what && is_below from to) EINVAL) _ (λ _. pass (last_of me.root EBUSY to) _ (λ onto. moved_fine at what onto onto.found)))))))
+  plan_fine me (Mkdir path) = pass (parsed path) _ (λ names. pass (last_of me.root EEXIST names) _ (λ at. pass (absent at.found) _ (λ _. tt)))
+  plan_fine me (Rmdir path) = pass (parsed path) _ (λ names. pass (last_of me.root EBUSY names) _ (λ at. pass (or_refuse ENOENT at.found) _ (λ what. pass (refuse_if (not (is_directory what)) ENOTDIR) _ (λ _.
+      pass (refuse_if (not (is_empty (answer k (List_names what.0)))) ENOTEMPTY) _ (λ _. tt)))))
+  plan_fine me (List_directory path) = pass (parsed path) _ (λ names. pass (walk (me.root, Some A_directory) names) _ (λ place. pass (refuse_if (not (is_directory place)) ENOTDIR) _ (λ _. tt)))
+  plan_fine me (Dup f) = pass (slot me f) _ (λ it. dup_fine me it (free me))
+  plan_fine me (Dup2 f g) = pass (slot me f) _ (λ it. pass (refuse_if (nat_lt 63 g) EBADF) _ (λ _. either_given k Fine (f == g) _ _ (λ _. tt) (λ _. tt)))
+  plan_fine me Open_pipe = pipe_fine me (free me)
+  plan_fine me Fork = fork_fine me me.birth
+  plan_fine me Exit = tt
+
+fine_edits : (r : Result Change Errno) → IfOk r Fine → OnlyLastLoses (edits_of r)
+fine_edits (Ok c) h = h
+fine_edits (Err e) h = tt
+
+pub only_last : (k : Kernel) (pid : ℕ) (call : Call) → OnlyLastLoses (edits k pid call)
+only_last k pid call = fine_edits (outcome k pid call) (plan_fine k (own k pid call) call)
