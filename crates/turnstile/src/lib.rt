@@ -7,6 +7,8 @@
 
 mod pass;
 mod rule;
+#[cfg(test)]
+mod tests;
 mod turnstile;
 
 pub use pass::Pass;
