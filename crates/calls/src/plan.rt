@@ -1,16 +1,16 @@
 // What a call comes to.
-ghost use Rattle.std.specs.Prelude.{◌≡◌, IfOk};
+ghost use Rattle.std.specs.Prelude.{◌≡◌, IfOk, true, false};
 ghost use Rattle.model.specs.Calls.{own};
 ghost use Rattle.model.specs.Plans.{plan};
 ghost use Rattle.look.specs.Asked.{Comes};
-ghost use Rattle.calls.specs.Operations.{can_call};
+ghost use Rattle.calls.specs.Operations.{can_call, is_on_descriptors};
 ghost use Rattle.calls.specs.Planned.{IsPlan};
 
 use crate::change::Change;
 use crate::descriptors::{close, dup, dup2, exit, fork, fstat, pipe};
 use crate::files::{ftruncate, open, read, write};
 use crate::marks::mark_all;
-use crate::own::{own_of, own_to_fork};
+use crate::own::{Own, own_of, own_to_fork};
 use crate::paths::{link, list, mkdir, rename, rmdir, stat, unlink};
 use crate::seek::lseek;
 use heap::Heap;
@@ -64,6 +64,26 @@ pub fn plan_of<L: Look>(heap: Heap, look: &L, pid: Pid, call: &Call) -> Result<P
     }
 }
 
+// Whether a call's plan reads the process's open descriptors.
+fn is_on_descriptors(call: &Call) -> bool
+    ensures { result ≡ is_on_descriptors call.now }
+{
+    matches!(
+        call,
+        Call::Open(_, _)
+            | Call::Close(_)
+            | Call::Read(_, _)
+            | Call::Write(_, _)
+            | Call::Lseek(_, _, _)
+            | Call::Ftruncate(_, _)
+            | Call::Fstat(_)
+            | Call::Dup(_)
+            | Call::Dup2(_, _)
+            | Call::Pipe
+            | Call::Exit
+    )
+}
+
 // Its answer and its changes, with the touches of what it asked.
 fn change_of<L: Look>(
     heap: Heap,
@@ -75,61 +95,66 @@ fn change_of<L: Look>(
     ensures { Comes (L.state look.now)
         (plan (own (L.state look.now) pid call.now) call.now) touches.old result touches.new }
 {
+    if is_on_descriptors(call) {
+        let own = own_of(heap, look, pid)?;
+        change_by_descriptors(heap, look, &own, call, touches)
+    } else {
+        change_by_paths(heap, look, pid, call, touches)
+    }
+}
+
+// Of a call on open descriptors.
+fn change_by_descriptors<L: Look>(
+    heap: Heap,
+    look: &L,
+    own: &Own,
+    call: &Call,
+    touches: &mut Touches,
+) -> Result<Change, Refusal>
+    requires own { own.now.root ≡ (L.state look.now).root }
+    requires call { is_on_descriptors call.now ≡ true }
+    ensures { Comes (L.state look.now) (plan own.now call.now) touches.old result touches.new }
+{
     match call {
-        Call::Open(path, flags) => {
-            let own = own_of(heap, look, pid)?;
-            open(look, &own, path, *flags, touches)
-        }
-        Call::Close(fd) => {
-            let own = own_of(heap, look, pid)?;
-            close(heap, &own, *fd)
-        }
-        Call::Read(fd, count) => {
-            let own = own_of(heap, look, pid)?;
-            read(look, &own, *fd, *count, touches)
-        }
-        Call::Write(fd, bytes) => {
-            let own = own_of(heap, look, pid)?;
-            write(look, &own, *fd, bytes, touches)
-        }
-        Call::Lseek(fd, distance, whence) => {
-            let own = own_of(heap, look, pid)?;
-            lseek(look, &own, *fd, *distance, *whence, touches)
-        }
-        Call::Ftruncate(fd, length) => {
-            let own = own_of(heap, look, pid)?;
-            ftruncate(look, &own, *fd, *length, touches)
-        }
+        Call::Open(path, flags) => open(look, own, path, *flags, touches),
+        Call::Close(fd) => close(heap, own, *fd),
+        Call::Read(fd, count) => read(look, own, *fd, *count, touches),
+        Call::Write(fd, bytes) => write(look, own, *fd, bytes, touches),
+        Call::Lseek(fd, by, whence) => lseek(look, own, *fd, *by, *whence, touches),
+        Call::Ftruncate(fd, length) => ftruncate(look, own, *fd, *length, touches),
+        Call::Fstat(fd) => fstat(look, own, *fd, touches),
+        Call::Dup(fd) => dup(heap, own, *fd),
+        Call::Dup2(old, new) => dup2(heap, own, *old, *new),
+        Call::Pipe => pipe(heap, own),
+        Call::Exit => exit(heap, own),
+        _ => unreachable!(),
+    }
+}
+
+// Of a call on paths, or a fork.
+fn change_by_paths<L: Look>(
+    heap: Heap,
+    look: &L,
+    pid: Pid,
+    call: &Call,
+    touches: &mut Touches,
+) -> Result<Change, Refusal>
+    requires { is_on_descriptors call.now ≡ false }
+    ensures { Comes (L.state look.now)
+        (plan (own (L.state look.now) pid call.now) call.now) touches.old result touches.new }
+{
+    match call {
         Call::Stat(path) => stat(look, path, touches),
-        Call::Fstat(fd) => {
-            let own = own_of(heap, look, pid)?;
-            fstat(look, &own, *fd, touches)
-        }
         Call::Link(old, new) => link(look, old, new, touches),
         Call::Unlink(path) => unlink(look, path, touches),
         Call::Rename(old, new) => rename(look, old, new, touches),
         Call::Mkdir(path) => mkdir(look, path, touches),
         Call::Rmdir(path) => rmdir(look, path, touches),
         Call::List(path) => list(look, path, touches),
-        Call::Dup(fd) => {
-            let own = own_of(heap, look, pid)?;
-            dup(heap, &own, *fd)
-        }
-        Call::Dup2(old, new) => {
-            let own = own_of(heap, look, pid)?;
-            dup2(heap, &own, *old, *new)
-        }
-        Call::Pipe => {
-            let own = own_of(heap, look, pid)?;
-            pipe(heap, &own)
-        }
         Call::Fork => {
             let own = own_to_fork(heap, look, pid)?;
             fork(heap, &own)
         }
-        Call::Exit => {
-            let own = own_of(heap, look, pid)?;
-            exit(heap, &own)
-        }
+        _ => unreachable!(),
     }
 }

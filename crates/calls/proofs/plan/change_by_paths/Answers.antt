@@ -1,8 +1,8 @@
-use Rattle.std.proofs.Common.{sym, ap, ◌∙◌}
+use Rattle.std.proofs.Common.{ap}
 use Rattle.walk.proofs.Then.{via}
 use Rattle.model.specs.Plans.{plan}
-use Rattle.model.specs.Calls.{own, Open, Open_pipe, Exit}
-use Rattle.calls.proofs.plan.change_of.Goals as goal
+use Rattle.model.specs.Calls.{own}
+use Rattle.calls.proofs.plan.change_by_paths.Goals as goal
 
 pub returns-in-Stat : goal.returns-in-Stat
 returns-in-Stat g c = via (ap (λ call. plan (own (g.L.Look.state c.args.look.now) c.args.pid call) call) c.in-Stat.is) (c.stat.ensures c.args.pid)
@@ -24,12 +24,3 @@ returns-in-Rmdir g c = via (ap (λ call. plan (own (g.L.Look.state c.args.look.n
 
 pub returns-in-List : goal.returns-in-List
 returns-in-List g c = via (ap (λ call. plan (own (g.L.Look.state c.args.look.now) c.args.pid call) call) c.in-List.is) (c.list.ensures c.args.pid)
-
-pub returns-in_ok-own-in-Open : goal.returns-in_ok-own-in-Open
-returns-in_ok-own-in-Open g c = via (ap (λ call. plan (own (g.L.Look.state c.args.look.now) c.args.pid call) call) c.in-Open.is ∙ ap (λ o. plan o (Open c.in-Open.path c.in-Open.flags)) (sym c.in_ok-own-in-Open.ensures)) c.open.ensures
-
-pub returns-in_ok-own-in-Pipe : goal.returns-in_ok-own-in-Pipe
-returns-in_ok-own-in-Pipe g c = via (ap (λ call. plan (own (g.L.Look.state c.args.look.now) c.args.pid call) call) c.in-Pipe.is ∙ ap (λ o. plan o Open_pipe) (sym c.in_ok-own-in-Pipe.ensures)) (c.pipe.ensures _ _)
-
-pub returns-in_ok-own-in-Exit : goal.returns-in_ok-own-in-Exit
-returns-in_ok-own-in-Exit g c = via (ap (λ call. plan (own (g.L.Look.state c.args.look.now) c.args.pid call) call) c.in-Exit.is ∙ ap (λ o. plan o Exit) (sym c.in_ok-own-in-Exit.ensures)) (c.exit.ensures _ _)
