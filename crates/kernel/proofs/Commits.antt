@@ -11,11 +11,11 @@ use Rattle.history_laws.proofs.Laws.{right_by, alive_is, commits_run_the_list, l
 use Rattle.contention.specs.Holding.{held_at}
 use Rattle.shadow.specs.Committed.{CanCommit}
 use Rattle.kernel.specs.Shown.{moment}
-use Rattle.kernel.specs.Claims.{AreCovered}
 use Rattle.kernel.specs.Rows.{IsSteady}
-use Rattle.kernel.specs.Standings.{IsOpen}
+use Rattle.commit.specs.Standings.{IsOpen}
 use Rattle.kernel.specs.States.{Fields, Holds, with_entry}
-use Rattle.kernel.specs.Views.{resting, view_at, view_of, changes_of}
+use Rattle.commit.specs.Views.{resting, view_at}
+use Rattle.kernel.specs.Views.{view_of, changes_of}
 use Rattle.kernel.proofs.Others.{moves}
 use Rattle.kernel.proofs.Own.{closing_holds}
 use Rattle.kernel.proofs.Rows.{IsLive, is_live, plain}
@@ -56,7 +56,7 @@ module _ (f : Fields) (pid : ℕ) (flags : BeginFlags) (age : ℕ) (holds : Hold
 
   pub commit_holds : (g : Fields) → g.log ≡ with_entry f.log e → length g.slots ≡ length f.slots → view_at g.slots pid ≡ resting → ((q : ℕ) → q ≢ pid → view_at g.slots q ≡ view_at f.slots q)
       → length g.held ≡ length f.held → held_at g.held pid ≡ record (held_at f.held pid) { age = None; touches = [] } → ((q : ℕ) → q ≢ pid → held_at g.held q ≡ held_at f.held q)
-      → g.stable.state ≡ tidy (all_done (changes_of m pid) f.stable.state) → AreCovered g.slots g.stable → Holds g
-  commit_holds g log count own others held_count held_own held_others state covered =
+      → g.stable.state ≡ tidy (all_done (changes_of m pid) f.stable.state) → Holds g
+  commit_holds g log count own others held_count held_own held_others state =
       closing_holds f g e false flags age holds commit_right alone calm (moves f.log e holds.legal commit_right calm).own (alive_is m pid (live flags age is_open.calls) is_open.is (λ h. absurd cc))
-      log count own others held_count held_own held_others (state ∙ sym committed) covered
+      log count own others held_count held_own held_others (state ∙ sym committed)

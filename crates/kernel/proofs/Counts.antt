@@ -8,31 +8,17 @@ use Rattle.model.specs.Effects.{Effect}
 use Rattle.history_laws.proofs.Laws.{what_stands}
 use Rattle.kernel.specs.Shown.{moment}
 use Rattle.kernel.specs.States.{Fields, Holds}
-use Rattle.kernel.specs.Standings.{slot_holds}
-use Rattle.kernel.specs.Views.{View, absent, resting, open_view, struck, slot_view, shown_by, view_by, view_of, changes_of}
-use Rattle.kernel.specs.declared.slot.Slot.{Slot}
-use Rattle.kernel.specs.declared.slot.Slot.TheVariants.{Gone, Idle, Live, Doomed}
+use Rattle.commit.specs.Views.{is_within, View, absent}
+use Rattle.kernel.specs.Views.{shown_by, view_by, view_of, changes_of}
 
 one : Bool → ℕ
 one b = if b then 1 else 0
 
-abbrev view_holds : View → Bool
-view_holds absent = false
-view_holds resting = false
-view_holds (open_view flags age changes) = true
-view_holds (struck entry reply flags age) = true
-
-status_holds : (s : Status) (changes : List Effect) → holds_place s ≡ view_holds (shown_by s changes)
+status_holds : (s : Status) (changes : List Effect) → holds_place s ≡ is_within (shown_by s changes)
 status_holds gone changes = refl
 status_holds idle changes = refl
 status_holds (live flags age calls) changes = refl
 status_holds (doomed cause flags age) changes = refl
-
-slot_status : (s : Slot) → slot_holds s ≡ view_holds (slot_view s)
-slot_status Gone = refl
-slot_status Idle = refl
-slot_status (Live t) = refl
-slot_status (Doomed d) = refl
 
 same_count : (f g : ℕ → Bool) (n : ℕ) → ((q : ℕ) → f q ≡ g q) → count_below f n ≡ count_below g n
 same_count f g zero h = refl
@@ -46,23 +32,23 @@ count_shift f (suc n) =
       swapped : (a b c d : ℕ) → b ≡ c + d → a + b ≡ c + (a + d)
       swapped a b c d h = omega arith
 
-count_slots : (slots : List Slot) → count_below (λ q. slot_holds (get_or slots q Gone)) (length slots) ≡ count_by slot_holds slots
-count_slots slots = is_count_by (λ xs. count_below (λ q. slot_holds (get_or xs q Gone)) (length xs)) slot_holds refl step slots where
+count_slots : (slots : List View) → count_below (λ q. is_within (get_or slots q absent)) (length slots) ≡ count_by is_within slots
+count_slots slots = is_count_by (λ xs. count_below (λ q. is_within (get_or xs q absent)) (length xs)) is_within refl step slots where
   at_test : (b : Bool) (c : ℕ) → (if b then 1 else 0) + c ≡ cond b (1 + c) c
   at_test true c = refl
   at_test false c = omega arith
 
-  step : (x : Slot) (xs : List Slot) → count_below (λ q. slot_holds (get_or (x ∷ xs) q Gone)) (length (x ∷ xs)) ≡ cond (slot_holds x) (1 + count_below (λ q. slot_holds (get_or xs q Gone)) (length xs)) (count_below (λ q. slot_holds (get_or xs q Gone)) (length xs))
-  step x xs = count_shift (λ q. slot_holds (get_or (x ∷ xs) q Gone)) (length xs) ∙ at_test (slot_holds x) (count_below (λ q. slot_holds (get_or xs q Gone)) (length xs))
+  step : (x : View) (xs : List View) → count_below (λ q. is_within (get_or (x ∷ xs) q absent)) (length (x ∷ xs)) ≡ cond (is_within x) (1 + count_below (λ q. is_within (get_or xs q absent)) (length xs)) (count_below (λ q. is_within (get_or xs q absent)) (length xs))
+  step x xs = count_shift (λ q. is_within (get_or (x ∷ xs) q absent)) (length xs) ∙ at_test (is_within x) (count_below (λ q. is_within (get_or xs q absent)) (length xs))
 
-pub reserved_slots : (f : Fields) → Holds f → reserved (moment f.log) ≡ count_by slot_holds f.slots
+pub reserved_slots : (f : Fields) → Holds f → reserved (moment f.log) ≡ count_by is_within f.slots
 reserved_slots f h =
-    same_count (λ q. holds_place ((moment f.log).phase q)) (λ q. slot_holds (get_or f.slots q Gone)) (bound (moment f.log)) (λ q. shows q ∙ ap view_holds (sym (h.slots q)) ∙ sym (slot_status (get_or f.slots q Gone)))
-    ∙ ap (count_below (λ q. slot_holds (get_or f.slots q Gone))) (sym h.count)
+    same_count (λ q. holds_place ((moment f.log).phase q)) (λ q. is_within (get_or f.slots q absent)) (bound (moment f.log)) (λ q. shows q ∙ ap is_within (sym (h.slots q)))
+    ∙ ap (count_below (λ q. is_within (get_or f.slots q absent))) (sym h.count)
     ∙ count_slots f.slots where
-      shows : (q : ℕ) → holds_place ((moment f.log).phase q) ≡ view_holds (view_of (moment f.log) q)
+      shows : (q : ℕ) → holds_place ((moment f.log).phase q) ≡ is_within (view_of (moment f.log) q)
       shows q = elim (cases_Bool (is_alive (moment f.log).committed q)) [
-        | inl alive ↦ status_holds ((moment f.log).phase q) (changes_of (moment f.log) q) ∙ ap (λ b. view_holds (view_by b ((moment f.log).phase q) (changes_of (moment f.log) q))) (sym alive)
+        | inl alive ↦ status_holds ((moment f.log).phase q) (changes_of (moment f.log) q) ∙ ap (λ b. is_within (view_by b ((moment f.log).phase q) (changes_of (moment f.log) q))) (sym alive)
         | inr dead ↦ ap holds_place ((what_stands 0 f.log.priorities f.log.limit f.log.entries h.legal).phases.processes q dead)
-            ∙ ap (λ b. view_holds (view_by b ((moment f.log).phase q) (changes_of (moment f.log) q))) (sym dead)
+            ∙ ap (λ b. is_within (view_by b ((moment f.log).phase q) (changes_of (moment f.log) q))) (sym dead)
       ]

@@ -1,30 +1,24 @@
 -- What the fields of a new kernel show.
-use Rattle.std.proofs.Common.{◌≡◌, ℕ, zero, suc, ◌<◌, List, [], Option, Some, None, is_some, length, get_or, refl, sym, ◌∙◌, ap, subst, true, false, Bool, inl, inr, arith}
+use Rattle.std.proofs.Common.{◌≡◌, ℕ, zero, suc, ◌<◌, List, [], Option, Some, None, is_some, length, get_or, refl, sym, ◌∙◌, subst, true, false, inl, inr, arith}
 use Rattle.std.proofs.lemmas.Bool.{cases_lt, false≢true}
 use Rattle.std.proofs.lemmas.List.{get_or_past}
 use Rattle.model.specs.FiniteMap.{get}
 use Rattle.model.specs.State.{Process}
 use Rattle.model.specs.Changes.{or_new}
 use Rattle.model.specs.Moments.{Moment, idle, is_alive, start, at_start}
-use Rattle.model.specs.Effects.{Effect}
 use Rattle.call_laws.specs.Processes.{StartsWith}
 use Rattle.history_laws.proofs.Laws.{legal_start}
 use Rattle.call_laws.proofs.First.{first_processes_live}
 use Rattle.contention.specs.Holding.{nobody, held_at, holding}
 use Rattle.kernel.specs.Shown.{Kept}
 use Rattle.kernel.specs.States.{Fields, Holds, shown}
-use Rattle.kernel.specs.Views.{AreFirst, absent, slot_view, view_by, view_at, view_of, changes_in, changes_of}
-use Rattle.kernel.specs.declared.slot.Slot.TheVariants.{Gone}
-use Rattle.kernel.proofs.Claims.{covers_none}
+use Rattle.commit.specs.Views.{AreFirst, absent, view_at}
+use Rattle.kernel.specs.Views.{view_of}
 use Rattle.kernel.proofs.Others.{views_alike, held_alike}
 
 no_priority : (o : Option Process) → is_some o ≡ false → (or_new o).priority ≡ 0
 no_priority None h = refl
 no_priority (Some process) h = absurd (false≢true (sym h))
-
-nothing_changed : (alive : Bool) (ds : List Effect) → changes_in (view_by alive idle ds) ≡ []
-nothing_changed true ds = refl
-nothing_changed false ds = refl
 
 module _ (priorities : List ℕ) (limit : ℕ) (f : Fields) (log : f.log ≡ record { entries = []; priorities = priorities; limit = limit })
     (slot_count : length f.slots ≡ suc (length priorities)) (slots : AreFirst f.slots (length priorities))
@@ -54,7 +48,7 @@ module _ (priorities : List ℕ) (limit : ℕ) (f : Fields) (log : f.log ≡ rec
   views zero = slots.none ∙ nobody_shows 0 (begins.none 0 (inl refl))
   views (suc i) = elim (cases_lt i (length priorities)) [
     | inl below ↦ slots.made i below ∙ sym (views_alike _ true idle idle [] [] (begins.alive i below) refl refl)
-    | inr above ↦ ap slot_view (get_or_past f.slots (suc i) Gone (omega (arith, slot_count))) ∙ nobody_shows (suc i) (begins.none (suc i) (inr (omega arith)))
+    | inr above ↦ get_or_past f.slots (suc i) absent (omega (arith, slot_count)) ∙ nobody_shows (suc i) (begins.none (suc i) (inr (omega arith)))
   ]
 
   pub first_holds : Holds f
@@ -64,7 +58,6 @@ module _ (priorities : List ℕ) (limit : ℕ) (f : Fields) (log : f.log ≡ rec
     held = record { count = held_count; each = held };
     count = slot_count;
     slots = views;
-    covered = covers_none f.slots f.stable (λ q. ap changes_in (views q) ∙ nothing_changed (is_alive m.committed q) (changes_of m q));
   })
 
 -- what a kernel shows is kept

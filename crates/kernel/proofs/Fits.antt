@@ -10,11 +10,12 @@ use Rattle.contention.specs.Holding.{IsKept, held_at, holding}
 use Rattle.contention.specs.Verdicts.{IsDoomedBy}
 use Rattle.contention.specs.declared.Doomed.{Doomed}
 use Rattle.kernel.specs.Shown.{moment}
-use Rattle.kernel.specs.Claims.{AreCovered}
 use Rattle.kernel.specs.Rows.{IsSteady}
 use Rattle.kernel.specs.States.{Fields, Holds, with_entry}
-use Rattle.kernel.specs.Strikes.{struck_by, freed, freed_by}
-use Rattle.kernel.specs.Views.{view_at, view_of, changes_of}
+use Rattle.commit.specs.Strikes.{struck_by}
+use Rattle.kernel.specs.Strikes.{freed, freed_by}
+use Rattle.commit.specs.Views.{view_at}
+use Rattle.kernel.specs.Views.{view_of, changes_of}
 use Rattle.kernel.proofs.Struck.{pids, is_struck, not_struck, is_freed, not_freed}
 use Rattle.kernel.proofs.Others.{same_bound, other_view, other_held, doomed_before, doomed_later, doomed_held, moves}
 
@@ -32,7 +33,6 @@ pub record Fits (f g : Fields) (e : Entry) (ds : List Doomed) : Type 0 where
   pub held_own : held_at g.held e.pid ≡ holding (next (moment f.log) e) e.pid
   pub held_others : (q : ℕ) → q ≢ e.pid → held_at g.held q ≡ freed_by ds q (held_at f.held q)
   pub state : g.stable.state ≡ (next (moment f.log) e).committed
-  pub covered : AreCovered g.slots g.stable
 
 pub below_more : (n k : ℕ) (ns : List ℕ) → n ≤ k → AllByRecursion (λ x. x < n) ns → AllByRecursion (λ x. x < k) ns
 below_more n k [] h all = tt
@@ -86,5 +86,4 @@ module _ (f g : Fields) (e : Entry) (ds : List Doomed) (holds : Holds f) (fits :
     });
     count = fits.count ∙ holds.count ∙ sym (ap bound moment_is ∙ same_bound f.log e holds.legal fits.right fits.steady);
     slots = subst (λ x. (q : ℕ) → view_at g.slots q ≡ view_of x q) (sym moment_is) (each (λ q. view_at g.slots q ≡ view_of (next m e) q) fits.own other_slot);
-    covered = fits.covered;
   }

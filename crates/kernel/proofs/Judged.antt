@@ -7,9 +7,10 @@ use Rattle.model.specs.Moments.{idle, live, after_list, calls_of, calls_at, seen
 use Rattle.model.specs.Effects.{all_done}
 use Rattle.history_laws.proofs.Laws.{phase_is, lists_are_their_effects, views_may_be_loose}
 use Rattle.kernel.specs.Shown.{moment}
-use Rattle.kernel.specs.Standings.{IsOpen}
+use Rattle.commit.specs.Standings.{IsOpen}
 use Rattle.kernel.specs.States.{Fields, Holds}
-use Rattle.kernel.specs.Views.{resting, view_at, view_of, changes_in, changes_of}
+use Rattle.commit.specs.Views.{resting, view_at, changes_in}
+use Rattle.kernel.specs.Views.{view_of, changes_of}
 use Rattle.kernel.proofs.Rows.{is_idle, is_live}
 
 pub plain_counted : (f : Fields) (pid : ℕ) (call : Call) → Holds f → view_of (moment f.log) pid ≡ resting → filter (λ t. t.write) (touches f.stable.state pid call) ≡ counted_touches (moment f.log) pid call

@@ -5,7 +5,6 @@ mod Fits
 mod Own
 mod Counts
 mod Rows
-mod Claims
 mod Slots
 mod Taken
 mod Within

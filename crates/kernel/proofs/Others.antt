@@ -13,7 +13,8 @@ use Rattle.history_laws.proofs.Laws.{phases_move, lists_stay, forks_and_exits_mo
 use Rattle.contention.specs.Holding.{Held, live_age, holding}
 use Rattle.kernel.specs.Shown.{moment}
 use Rattle.kernel.specs.Rows.{IsSteady}
-use Rattle.kernel.specs.Views.{open_view, struck, view_by, changes_of, view_of}
+use Rattle.commit.specs.Views.{open_view, struck}
+use Rattle.kernel.specs.Views.{view_by, changes_of, view_of}
 
 -- what a process shows, by its parts
 pub views_alike : (a b : Bool) (s t : Status) (ds es : List Effect) → a ≡ b → s ≡ t → ds ≡ es → view_by a s ds ≡ view_by b t es

@@ -1,16 +1,16 @@
 -- What entries do that doom nobody and commit nothing.
-use Rattle.std.proofs.Common.{◌≡◌, ◌≢◌, ℕ, [], Some, None, length, refl, sym, ◌∙◌, ap, subst, true, false, Bool}
+use Rattle.std.proofs.Common.{◌≡◌, ◌≢◌, ℕ, [], Some, None, length, refl, sym, ◌∙◌, ap, true, false, Bool}
 use Rattle.std.specs.Prelude.{if◌then◌else◌}
 use Rattle.model.specs.Entries.{BeginFlags, Entry}
 use Rattle.model.specs.Moments.{Status, Moment, is_alive, calls_of, calls_at, list_touches, next}
 use Rattle.model.specs.Legal.{Right, Alone}
 use Rattle.model.specs.Effects.{effects}
 use Rattle.contention.specs.Holding.{held_at, live_age}
-use Rattle.kernel.specs.Claims.{AreCovered}
 use Rattle.kernel.specs.Shown.{moment}
 use Rattle.kernel.specs.Rows.{IsQuiet, IsSettling, IsSteady, settled_as}
 use Rattle.kernel.specs.States.{Fields, Holds, with_entry}
-use Rattle.kernel.specs.Views.{shown_by, view_at, changes_of}
+use Rattle.kernel.specs.Views.{shown_by, changes_of}
+use Rattle.commit.specs.Views.{view_at}
 use Rattle.kernel.proofs.Others.{views_alike, held_alike, as_before, list_stays}
 use Rattle.kernel.proofs.Fits.{fits_hold}
 
@@ -28,7 +28,6 @@ quiet_holds f g e holds quiet log slots held stable = fits_hold f g e [] holds (
   held_own = ap (λ x. held_at x e.pid) held ∙ holds.held.each e.pid ∙ sym (held_alike _ _ _ _ _ _ before.priority quiet.phase stay.held);
   held_others = λ q differs. ap (λ x. held_at x q) held;
   state = ap (λ x. x.state) stable ∙ holds.state ∙ sym quiet.committed;
-  covered = subst (λ slots. AreCovered slots g.stable) (sym slots) (subst (AreCovered f.slots) (sym stable) holds.covered);
 }) where
   before : Rattle.history_laws.specs.Processes.IsAsBefore (moment f.log) e e.pid
   before = as_before f.log e holds.legal quiet.right quiet.steady e.pid
@@ -48,8 +47,8 @@ pub closing_holds : (f g : Fields) (e : Entry) (again : Bool) (flags : BeginFlag
     → (next (moment f.log) e).phase e.pid ≡ settled_as again flags age → is_alive (moment f.log).committed e.pid ≡ true → g.log ≡ with_entry f.log e
     → length g.slots ≡ length f.slots → view_at g.slots e.pid ≡ shown_by (settled_as again flags age) [] → ((q : ℕ) → q ≢ e.pid → view_at g.slots q ≡ view_at f.slots q)
     → length g.held ≡ length f.held → held_at g.held e.pid ≡ record (held_at f.held e.pid) { age = if again then Some age else None; touches = [] } → ((q : ℕ) → q ≢ e.pid → held_at g.held q ≡ held_at f.held q)
-    → g.stable.state ≡ (next (moment f.log) e).committed → AreCovered g.slots g.stable → Holds g
-closing_holds f g e again flags age holds right alone steady phase alive log count own others held_count held_own held_others state covered = fits_hold f g e [] holds (record {
+    → g.stable.state ≡ (next (moment f.log) e).committed → Holds g
+closing_holds f g e again flags age holds right alone steady phase alive log count own others held_count held_own held_others state = fits_hold f g e [] holds (record {
   right = right;
   steady = steady;
   dooms = sym alone.doomed;
@@ -64,7 +63,6 @@ closing_holds f g e again flags age holds right alone steady phase alive log cou
       ∙ sym (held_alike _ _ _ _ _ _ before.priority phase touched);
   held_others = held_others;
   state = state;
-  covered = covered;
 }) where
   before : Rattle.history_laws.specs.Processes.IsAsBefore (moment f.log) e e.pid
   before = as_before f.log e holds.legal right steady e.pid
@@ -81,7 +79,7 @@ closing_holds f g e again flags age holds right alone steady phase alive log cou
 pub settled_holds : (f g : Fields) (e : Entry) (again : Bool) (flags : BeginFlags) (age : ℕ) → Holds f → IsSettling f.log e again flags age → g.log ≡ with_entry f.log e
     → length g.slots ≡ length f.slots → view_at g.slots e.pid ≡ shown_by (settled_as again flags age) [] → ((q : ℕ) → q ≢ e.pid → view_at g.slots q ≡ view_at f.slots q)
     → length g.held ≡ length f.held → held_at g.held e.pid ≡ record (held_at f.held e.pid) { age = if again then Some age else None; touches = [] } → ((q : ℕ) → q ≢ e.pid → held_at g.held q ≡ held_at f.held q)
-    → g.stable.state ≡ f.stable.state → AreCovered g.slots g.stable → Holds g
-settled_holds f g e again flags age holds settling log count own others held_count held_own held_others state covered =
+    → g.stable.state ≡ f.stable.state → Holds g
+settled_holds f g e again flags age holds settling log count own others held_count held_own held_others state =
     closing_holds f g e again flags age holds settling.right settling.alone settling.steady settling.phase settling.alive log count own others held_count held_own held_others
-    (state ∙ holds.state ∙ sym settling.committed) covered
+    (state ∙ holds.state ∙ sym settling.committed)

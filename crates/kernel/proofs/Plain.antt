@@ -23,18 +23,20 @@ use Rattle.contention.specs.Verdicts.{IsDoomedBy}
 use Rattle.contention.specs.declared.Doomed.{Doomed}
 use Rattle.shadow.specs.Committed.{CanCommit}
 use Rattle.calls.specs.Operations.{can_call}
-use Rattle.kernel.specs.Claims.{AreCovered}
 use Rattle.kernel.specs.Shown.{moment}
 use Rattle.kernel.specs.Standings.{has_places}
 use Rattle.kernel.specs.States.{Fields, Holds, with_entry}
-use Rattle.kernel.specs.Strikes.{struck_by, freed_by}
+use Rattle.commit.specs.Strikes.{struck_by}
+use Rattle.kernel.specs.Strikes.{freed_by}
 use Rattle.kernel.specs.Takes.{made_entry}
-use Rattle.kernel.specs.Views.{resting, view_at, view_of}
+use Rattle.commit.specs.Views.{resting, view_at}
+use Rattle.kernel.specs.Views.{view_of}
 use Rattle.kernel.proofs.Fits.{fits_hold}
 use Rattle.kernel.proofs.Others.{views_alike, held_alike, as_before, moves, list_stays}
 use Rattle.kernel.proofs.Rows.{is_idle}
 use Rattle.kernel.proofs.Struck.{pids, not_struck, not_freed}
-use Rattle.kernel.proofs.Taken.{AreNew, steady, taken}
+use Rattle.commit.specs.Edits.{AreNew}
+use Rattle.kernel.proofs.Taken.{steady, taken}
 
 stays_idle : (place : ℕ) (call : Call) (r : Result Answer Errno) (chosen : List ℕ) → own_next place idle (Do call) (answered r) chosen ≡ idle
 stays_idle place call (Ok a) chosen = refl
@@ -48,7 +50,7 @@ module _ (f : Fields) (pid : ℕ) (call : Call) (chosen : List ℕ) (ds : List D
     (none : losing_cause (moment f.log) pid (counted_touches (moment f.log) pid call) ≡ None)
     (dooms : pids ds ≡ all_below (clashes_with (moment f.log) pid (counted_touches (moment f.log) pid call)) (bound (moment f.log)))
     (causes : AllByRecursion (IsDoomedBy (moment f.log) pid (counted_touches (moment f.log) pid call)) ds)
-    (new : AreNew f (edits f.stable.state pid call) chosen) where
+    (new : AreNew (record { slots = f.slots; stable = f.stable }) (edits f.stable.state pid call) chosen) where
   abbrev m : Moment
   m = moment f.log
 
@@ -100,8 +102,8 @@ module _ (f : Fields) (pid : ℕ) (call : Call) (chosen : List ℕ) (ds : List D
   committed = plain_calls_run m e call (reply k pid call) is_resting refl (executed_again k pid call) ∙ ap (λ x. tidy (all_applied chosen (edits x pid call) x)) (sym holds.state)
 
   pub plain_holds : (g : Fields) → g.log ≡ with_entry f.log e → length g.slots ≡ length f.slots → ((q : ℕ) → view_at g.slots q ≡ struck_by ds q (view_at f.slots q))
-      → length g.held ≡ length f.held → ((q : ℕ) → held_at g.held q ≡ freed_by ds q (held_at f.held q)) → g.stable.state ≡ tidy (all_done (change ∷ []) k) → AreCovered g.slots g.stable → Holds g
-  plain_holds g log count views held_count held state covered = fits_hold f g e ds holds (record {
+      → length g.held ≡ length f.held → ((q : ℕ) → held_at g.held q ≡ freed_by ds q (held_at f.held q)) → g.stable.state ≡ tidy (all_done (change ∷ []) k) → Holds g
+  plain_holds g log count views held_count held state = fits_hold f g e ds holds (record {
     right = plain_right;
     steady = steady k pid call chosen ds there;
     dooms = refl;
@@ -114,7 +116,6 @@ module _ (f : Fields) (pid : ℕ) (call : Call) (chosen : List ℕ) (ds : List D
     held_own = held pid ∙ not_freed ds pid _ spared ∙ holds.held.each pid ∙ sym (held_alike _ _ _ _ _ _ before.priority same_phase stay.held);
     held_others = λ q differs. held q;
     state = state ∙ sym committed;
-    covered = covered;
   }) where
     before : IsAsBefore m e pid
     before = as_before f.log e holds.legal plain_right (steady k pid call chosen ds there) pid

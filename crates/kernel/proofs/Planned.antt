@@ -25,9 +25,10 @@ use Rattle.shadow.specs.Committed.{Committed}
 use Rattle.shadow.specs.Looks.{NamesAreInUse}
 use Rattle.calls.specs.Operations.{can_call}
 use Rattle.kernel.specs.Shown.{moment}
-use Rattle.kernel.specs.Standings.{IsOpen}
+use Rattle.commit.specs.Standings.{IsOpen}
 use Rattle.kernel.specs.States.{Fields, Holds}
-use Rattle.kernel.specs.Views.{resting, view_at, view_of, changes_in, changes_of}
+use Rattle.commit.specs.Views.{resting, view_at, changes_in}
+use Rattle.kernel.specs.Views.{view_of, changes_of}
 use Rattle.kernel.proofs.Rows.{is_idle, is_live}
 use Rattle.kernel.proofs.Slots.{slot_changes}
 

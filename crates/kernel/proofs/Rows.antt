@@ -12,9 +12,11 @@ use Rattle.history_laws.specs.Processes.{is_ended}
 use Rattle.history_laws.proofs.Laws.{right_by, free_from, phase_is, alive_is, phases_move}
 use Rattle.kernel.specs.Shown.{moment}
 use Rattle.kernel.specs.Rows.{IsSteady, IsSettling, settled_as}
-use Rattle.kernel.specs.Standings.{IsOpen, has_places}
+use Rattle.commit.specs.Standings.{IsOpen}
+use Rattle.kernel.specs.Standings.{has_places}
 use Rattle.kernel.specs.Steps.{is_no_entry}
-use Rattle.kernel.specs.Views.{View, resting, open_view, struck, view_by, view_of, changes_of}
+use Rattle.commit.specs.Views.{View, resting, open_view, struck}
+use Rattle.kernel.specs.Views.{view_by, view_of, changes_of}
 use Rattle.kernel.proofs.Steps.{entries_count}
 
 -- the status of a process by what it shows

@@ -6,7 +6,8 @@ use Rattle.model.specs.Effects.{Effect, effects, all_done}
 use Rattle.history_laws.proofs.Laws.{what_stands, lists_are_their_effects, views_may_be_loose}
 use Rattle.kernel.specs.Shown.{moment, is_live_status, is_live}
 use Rattle.kernel.specs.States.{Fields, Holds}
-use Rattle.kernel.specs.Views.{view_by, view_at, changes_in, changes_of, is_open}
+use Rattle.kernel.specs.Views.{view_by, changes_of}
+use Rattle.commit.specs.Views.{view_at, changes_in, is_open}
 
 changes_shown : (alive : Bool) (s : Status) (ds : List Effect) → (alive ≡ false → s ≡ idle) → (calls_of s ≡ [] → ds ≡ []) → changes_in (view_by alive s ds) ≡ ds
 changes_shown true (live flags age calls) ds dead none = refl

@@ -10,8 +10,9 @@ use Rattle.contention.specs.Holding.{Held}
 use Rattle.contention.specs.Verdicts.{IsDoomedBy}
 use Rattle.contention.specs.declared.Doomed.{Doomed}
 use Rattle.model.specs.Effects.{Effect}
-use Rattle.kernel.specs.Views.{View, open_view, struck}
-use Rattle.kernel.specs.Strikes.{strike, struck_by, freed, freed_by}
+use Rattle.commit.specs.Views.{View, open_view, struck}
+use Rattle.commit.specs.Strikes.{strike, struck_by}
+use Rattle.kernel.specs.Strikes.{freed, freed_by}
 
 rest_of : (a b : Bool) → a ≡ false → (a || b) ≡ b
 rest_of false b h = refl

@@ -1,31 +1,31 @@
 -- Calls that take effect are right.
-use Rattle.std.proofs.Common.{◌≡◌, ℕ, zero, suc, ◌+◌, ◌<◌, List, [], ◌∷◌, ◌++◌, Some, Result, Ok, Err, length, refl, sym, ◌∙◌, ap, subst, true, false, Bool, eqb, arith}
-use Rattle.std.specs.Prelude.{◌||◌, sum_by, if◌then◌else◌}
+use Rattle.std.proofs.Common.{◌≡◌, ℕ, zero, suc, ◌<◌, List, [], ◌∷◌, ◌++◌, Some, Result, Ok, Err, refl, sym, ◌∙◌, ap, subst, true, false, Bool, arith}
+use Rattle.std.specs.Prelude.{sum_by, if◌then◌else◌}
 use Rattle.model.proofs.Lists.{append-all}
 use Rattle.kernel.proofs.Fits.{below_more}
 use Rattle.std.specs.List.{AllByRecursion}
 use Rattle.std.proofs.lemmas.Bool.{false≢true}
 use Rattle.model.specs.State.{Kernel}
 use Rattle.model.specs.Plan.{Errno}
-use Rattle.model.specs.Changes.{Edit, news}
+use Rattle.model.specs.Changes.{news}
 use Rattle.model.specs.Calls.{Call, Mkdir, Answer}
-use Rattle.model.specs.Steps.{reply, edits, IsNowhere, AllDifferent}
+use Rattle.model.specs.Steps.{reply, edits, IsNowhere}
 use Rattle.model.specs.Entries.{Do, Entry, Executed, is_inside}
 use Rattle.model.specs.Moments.{Moment, after_one, numbers, calls_at, seen_by, counted_touches, clashes_with, all_below, bound, is_in}
 use Rattle.model.specs.Legal.{IsApart, Taken}
 use Rattle.model.specs.Replies.{answered}
-use Rattle.model.specs.Effects.{Effect, effects}
+use Rattle.model.specs.Effects.{effects}
 use Rattle.history_laws.specs.Processes.{is_ended}
 use Rattle.history_laws.proofs.Laws.{executed_again, nowhere_seen, childless}
 use Rattle.contention.specs.declared.Doomed.{Doomed}
-use Rattle.std.proofs.lemmas.List.Sums.{sum_by-cons}
-use Rattle.shadow.specs.Claims.{Claim, Number, number_of, claimed, claimed_by, reserved}
+use Rattle.shadow.specs.Changes.{made_by}
+use Rattle.commit.specs.Edits.{AreNew}
+use Rattle.commit.specs.Views.{view_at, changes_in}
 use Rattle.calls.specs.Operations.{can_call}
 use Rattle.kernel.specs.Shown.{moment}
 use Rattle.kernel.specs.Rows.{IsSteady}
 use Rattle.kernel.specs.States.{Fields, Holds}
 use Rattle.kernel.specs.Takes.{made_entry}
-use Rattle.kernel.proofs.Claims.{all_in, at_member, stands_in, unclaimed}
 use Rattle.kernel.proofs.Slots.{slot_changes}
 use Rattle.kernel.proofs.Struck.{pids}
 
@@ -47,39 +47,19 @@ steady k pid call chosen ds there = record {
   goes_on = goes_on call (reply k pid call) there;
 }
 
-in_neither : (n : ℕ) (ms ns : List ℕ) → is_in n ms ≡ false → is_in n ns ≡ false → is_in n (ms ++ ns) ≡ false
-in_neither n [] ns a b = b
-in_neither n (m ∷ ms) ns a b = by (eqb n m) a (in_neither n ms ns) where
-  by : (t : Bool) → (t || is_in n ms) ≡ false → (is_in n ms ≡ false → is_in n ns ≡ false → is_in n (ms ++ ns) ≡ false) → (t || is_in n (ms ++ ns)) ≡ false
-  by true h rest = absurd (false≢true (sym h))
-  by false h rest = rest h b
+-- the numbers of a list are those that its changes make
+numbered : (pid : ℕ) (es : List Executed) (k : Kernel) → numbers es ≡ made_by (effects pid es k)
+numbered pid [] k = refl
+numbered pid (e ∷ es) k = ap (λ ns. e.chosen ++ ns) (numbered pid es (after_one pid e k))
 
--- what the changes of a list do not claim is not among its numbers
-pub not_numbered : (n pid : ℕ) (es : List Executed) (k : Kernel) → claimed (Number n) (effects pid es k) ≡ 0 → is_in n (numbers es) ≡ false
-not_numbered n pid [] k h = refl
-not_numbered n pid (e ∷ es) k h =
-    let d : Effect = record { chosen = e.chosen; edits = edits k pid e.call } in
-    let later : List Effect = effects pid es (after_one pid e k) in
-    let sum : claimed (Number n) (d ∷ later) ≡ claimed_by (Number n) d + claimed (Number n) later = sum_by-cons (claimed_by (Number n)) d later in
-    let here : claimed_by (Number n) d ≡ 0 = omega (arith, sum, h) in
-    let rest : claimed (Number n) later ≡ 0 = omega (arith, sum, h) in
-    in_neither n e.chosen (numbers es) (stands_in n d here) (not_numbered n pid es (after_one pid e k) rest)
-
--- new numbers for what a call makes
-pub record AreNew (f : Fields) (made : List Edit) (chosen : List ℕ) : Type 0 where
-  pub count : length chosen ≡ sum_by news made
-  pub unused : (c : Claim) → is_in (number_of c) chosen ≡ true → reserved f.stable c ≡ 0
-  pub different : AllDifferent chosen
-  pub nowhere : AllByRecursion (IsNowhere f.stable.state) chosen
-
--- of numbers that are all nowhere
-among_all : (P R : ℕ → Type 0) (xs : List ℕ) → ((x : ℕ) → is_in x xs ≡ true → P x → R x) → AllByRecursion P xs → AllByRecursion R xs
-among_all P R xs h all = all_in R xs (λ x among. h x among (at_member P xs x all among))
+both : {A : Type 0} (P Q R : A → Type 0) (xs : List A) → ((x : A) → P x → Q x → R x) → AllByRecursion P xs → AllByRecursion Q xs → AllByRecursion R xs
+both P Q R [] h ps qs = tt
+both P Q R (x ∷ xs) h ps qs = (h x ps.0 qs.0, both P Q R xs h ps.1 qs.1)
 
 -- `k` is what the process sees, as the kernel keeps it
 module _ (f : Fields) (holds : Holds f) (pid : ℕ) (call : Call) (k : Kernel) (chosen : List ℕ) (ds : List Doomed)
     (same_reply : reply (seen_by (moment f.log) pid) pid call ≡ reply k pid call) (same_edits : edits (seen_by (moment f.log) pid) pid call ≡ edits k pid call)
-    (new : AreNew f (edits k pid call) chosen)
+    (new : AreNew (record { slots = f.slots; stable = f.stable }) (edits k pid call) chosen)
     (dooms : pids ds ≡ all_below (clashes_with (moment f.log) pid (counted_touches (moment f.log) pid call)) (bound (moment f.log))) where
   abbrev m : Moment
   m = moment f.log
@@ -90,21 +70,23 @@ module _ (f : Fields) (holds : Holds f) (pid : ℕ) (call : Call) (k : Kernel) (
   in_committed : (n : ℕ) → IsNowhere f.stable.state n → IsNowhere m.committed n
   in_committed n none = subst (λ s. IsNowhere s n) holds.state none
 
-  in_no_list : (q n : ℕ) → is_in n chosen ≡ true → is_in n (numbers (calls_at m q)) ≡ false
-  in_no_list q n among = not_numbered n q (calls_at m q) m.committed
-      (ap (claimed (Number n)) (sym (slot_changes f holds q)) ∙ unclaimed f.slots f.stable holds.covered (Number n) (new.unused (Number n) among) q)
+  abbrev IsUnmade : ℕ → Type 0
+  IsUnmade n = (q : ℕ) → is_in n (made_by (changes_in (view_at f.slots q))) ≡ false
+
+  in_no_list : (q n : ℕ) → IsUnmade n → is_in n (numbers (calls_at m q)) ≡ false
+  in_no_list q n unmade = ap (is_in n) (numbered q (calls_at m q) m.committed ∙ ap made_by (sym (slot_changes f holds q))) ∙ unmade q
 
   pub taken : Taken m e call
   taken = record {
     answer = executed_again k pid call ∙ ap Some (sym same_reply);
     chosen = record {
       count = new.count ∙ ap (sum_by news) (sym same_edits);
-      unused = among_all (IsNowhere f.stable.state) (IsNowhere (seen_by m pid)) chosen
-          (λ n among none. nowhere_seen 0 f.log.priorities f.log.limit f.log.entries holds.legal pid n (in_committed n none) (in_no_list pid n among)) new.nowhere;
+      unused = both IsUnmade (IsNowhere f.stable.state) (IsNowhere (seen_by m pid)) chosen
+          (λ n unmade none. nowhere_seen 0 f.log.priorities f.log.limit f.log.entries holds.legal pid n (in_committed n none) (in_no_list pid n unmade)) new.unmade new.nowhere;
       different = new.different;
     };
-    apart = among_all (IsNowhere f.stable.state) (IsApart m e) chosen
-        (λ n among none. record { committed = in_committed n none; lists = λ q spared. in_no_list q n among }) new.nowhere;
+    apart = both IsUnmade (IsNowhere f.stable.state) (IsApart m e) chosen
+        (λ n unmade none. record { committed = in_committed n none; lists = λ q spared. in_no_list q n unmade }) new.unmade new.nowhere;
     doomed = dooms;
   }
 

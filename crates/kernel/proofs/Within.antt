@@ -1,10 +1,10 @@
 -- A call of a live process that takes effect.
-use Rattle.std.proofs.Common.{◌≡◌, ◌≢◌, ℕ, ◌<◌, List, [], ◌∷◌, ◌++◌, Some, None, length, refl, sym, ◌∙◌, ap, subst, true, false, inl, inr}
+use Rattle.std.proofs.Common.{◌≡◌, ◌≢◌, ℕ, List, [], ◌∷◌, ◌++◌, Some, None, length, refl, sym, ◌∙◌, ap, subst, true, false, inl, inr}
 use Rattle.std.specs.List.{AllByRecursion}
 use Rattle.std.proofs.lemmas.Bool.{cases_Bool}
 use Rattle.model.specs.State.{Kernel}
 use Rattle.model.specs.Calls.{Call}
-use Rattle.model.specs.Steps.{reply, touches, edits, AllDifferent}
+use Rattle.model.specs.Steps.{reply, touches, edits}
 use Rattle.model.specs.Entries.{BeginFlags, Do, Entry}
 use Rattle.model.specs.Moments.{Moment, live, status, is_alive, loose, after_one, calls_of, calls_at, seen_by, counted, counted_touches, clashes_with, losing_cause, all_below, bound, dooming_touches, is_in, next}
 use Rattle.model.specs.Legal.{Right, Inside, Outcome, Taken}
@@ -16,45 +16,33 @@ use Rattle.contention.specs.Holding.{Held, held_at, holding}
 use Rattle.contention.specs.Verdicts.{IsDoomedBy}
 use Rattle.contention.specs.declared.Doomed.{Doomed}
 use Rattle.calls.specs.Operations.{can_call}
-use Rattle.shadow.specs.Committed.{Committed}
-use Rattle.shadow.specs.Claims.{Claim, Number, number_of, reserved}
-use Rattle.kernel.specs.Claims.{AreCovered, KeepsSpare}
 use Rattle.kernel.specs.Shown.{moment}
-use Rattle.kernel.specs.Standings.{IsOpen, has_places}
+use Rattle.commit.specs.Standings.{IsOpen}
+use Rattle.kernel.specs.Standings.{has_places}
 use Rattle.kernel.specs.States.{Fields, Holds, with_entry}
-use Rattle.kernel.specs.Strikes.{struck_by, freed_by}
-use Rattle.kernel.specs.Takes.{Grows, HasRoom, with_change, made_entry}
-use Rattle.kernel.specs.Views.{Shows, view_at, view_of, changes_in, changes_of}
-use Rattle.kernel.specs.declared.slot.Slot.{Slot}
-use Rattle.kernel.proofs.Claims.{all_came, room_within, spare_within}
+use Rattle.commit.specs.Strikes.{struck_by}
+use Rattle.kernel.specs.Strikes.{freed_by}
+use Rattle.commit.specs.Edits.{with_change}
+use Rattle.kernel.specs.Takes.{made_entry}
+use Rattle.commit.specs.Views.{view_at}
+use Rattle.kernel.specs.Views.{view_of, changes_of}
 use Rattle.kernel.proofs.Fits.{fits_hold}
 use Rattle.kernel.proofs.Others.{views_alike, held_alike, as_before, moves}
 use Rattle.kernel.proofs.Rows.{IsLive, is_live}
 use Rattle.kernel.proofs.Struck.{pids, not_struck, not_freed}
-use Rattle.kernel.proofs.Taken.{AreNew, inside, steady, taken}
+use Rattle.commit.specs.Edits.{AreNew}
+use Rattle.kernel.proofs.Taken.{inside, steady, taken}
 
 -- what a process sees, as the kernel keeps it
 abbrev pub sees : Fields → ℕ → Kernel
 sees f pid = all_done (changes_of (moment f.log) pid) f.stable.state
-
--- one change more is claimed, and what it claims has come
-pub change_spares : (f : Fields) (holds : Holds f) (pid : ℕ) (flags : BeginFlags) (age : ℕ) (opening : IsOpen (view_of (moment f.log) pid) flags age) (slots : List Slot) (s t : Committed) (d : Effect)
-    → AllDifferent d.chosen → ((c : Claim) → is_in (number_of c) d.chosen ≡ true → reserved f.stable c ≡ 0) → AllByRecursion (λ n. 0 < reserved s (Number n)) d.chosen → Grows f.stable s → Grows s t
-    → HasRoom s t d (view_at f.slots pid) → Shows f.slots slots pid (with_change d (view_at f.slots pid)) → KeepsSpare f.slots f.stable slots t
-change_spares f holds pid flags age opening slots s t d different unused given first second room shows =
-    spare_within f.slots slots f.stable t pid d opening.changes before after shows (all_came f.stable s t d different unused given first second (room_within s t d (view_at f.slots pid) opening.changes before after room)) where
-      before : changes_in (view_at f.slots pid) ≡ opening.changes
-      before = ap changes_in (holds.slots pid ∙ opening.is)
-
-      after : changes_in (with_change d (view_at f.slots pid)) ≡ opening.changes ++ d ∷ []
-      after = ap (λ v. changes_in (with_change d v)) (holds.slots pid ∙ opening.is)
 
 module _ (f : Fields) (pid : ℕ) (call : Call) (flags : BeginFlags) (age : ℕ) (chosen : List ℕ) (ds : List Doomed)
     (holds : Holds f) (opening : IsOpen (view_of (moment f.log) pid) flags age) (there : can_call call ≡ true) (places : has_places f.log 1 ≡ true)
     (none : losing_cause (moment f.log) pid (counted_touches (moment f.log) pid call) ≡ None)
     (dooms : pids ds ≡ all_below (clashes_with (moment f.log) pid (counted_touches (moment f.log) pid call)) (bound (moment f.log)))
     (causes : AllByRecursion (IsDoomedBy (moment f.log) pid (counted_touches (moment f.log) pid call)) ds)
-    (new : AreNew f (edits (sees f pid) pid call) chosen) where
+    (new : AreNew (record { slots = f.slots; stable = f.stable }) (edits (sees f pid) pid call) chosen) where
   abbrev m : Moment
   m = moment f.log
 
@@ -105,8 +93,8 @@ module _ (f : Fields) (pid : ℕ) (call : Call) (flags : BeginFlags) (age : ℕ)
   pub within_holds : (g : Fields) → g.log ≡ with_entry f.log e → length g.slots ≡ length f.slots → view_at g.slots pid ≡ struck_by ds pid (with_change change (view_at f.slots pid))
       → ((q : ℕ) → q ≢ pid → view_at g.slots q ≡ struck_by ds q (view_at f.slots q)) → length g.held ≡ length f.held
       → held_at g.held pid ≡ freed_by ds pid (record (held_at f.held pid) { touches = (held_at f.held pid).touches ++ touches (sees f pid) pid call })
-      → ((q : ℕ) → q ≢ pid → held_at g.held q ≡ freed_by ds q (held_at f.held q)) → g.stable.state ≡ f.stable.state → AreCovered g.slots g.stable → Holds g
-  within_holds g log count own others held_count held_own held_others state covered = fits_hold f g e ds holds (record {
+      → ((q : ℕ) → q ≢ pid → held_at g.held q ≡ freed_by ds q (held_at f.held q)) → g.stable.state ≡ f.stable.state → Holds g
+  within_holds g log count own others held_count held_own held_others state = fits_hold f g e ds holds (record {
     right = within_right;
     steady = steady (sees f pid) pid call chosen ds there;
     dooms = refl;
@@ -121,7 +109,6 @@ module _ (f : Fields) (pid : ℕ) (call : Call) (flags : BeginFlags) (age : ℕ)
         ∙ sym (held_alike _ _ _ _ _ _ before.priority (goes_in.phase ∙ sym later) (goes_in.held ∙ ap (λ k. Rattle.model.specs.Moments.held_by m pid ++ touches k pid call) is_view) ∙ aged);
     held_others = held_others;
     state = state ∙ holds.state ∙ sym goes_in.committed;
-    covered = covered;
   }) where
     before : Rattle.history_laws.specs.Processes.IsAsBefore m e pid
     before = as_before f.log e holds.legal within_right (steady (sees f pid) pid call chosen ds there) pid

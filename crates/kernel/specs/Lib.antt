@@ -2,7 +2,6 @@ pub mod Operations
 pub mod Shown
 pub mod Steps
 pub mod Views
-pub mod Claims
 pub mod Strikes
 pub mod States
 pub mod Rows

@@ -1,5 +1,5 @@
 // The kernel, and one step of it.
-ghost use Rattle.std.specs.Prelude.{◌≡◌, ◌<◌, ◌≤◌, [], suc, true, length, is_some, IfOk, IfSome, OnErr};
+ghost use Rattle.std.specs.Prelude.{◌≡◌, ◌<◌, ◌≤◌, [], true, length, is_some, IfOk, IfSome, OnErr};
 ghost use Rattle.model.specs.Changes.{tidy};
 ghost use Rattle.model.specs.Moments.{is_alive, seen_by};
 ghost use Rattle.model.specs.Effects.{all_done};
@@ -8,11 +8,10 @@ ghost use Rattle.history_laws.specs.Trees.{IsATree};
 ghost use Rattle.kernel.specs.Operations.{can_run, CanRunAll};
 ghost use Rattle.kernel.specs.Shown.{Kept, moment, is_live};
 ghost use Rattle.kernel.specs.Steps.{IsStep, Steps};
-ghost use Rattle.kernel.specs.Views.{AreFirst};
 
-use crate::slot::{Slot, shadow_of};
-use crate::state::{State, view_for};
+use crate::state::State;
 use crate::step::step;
+use commit::Transactions;
 use contention::Contenders;
 use heap::Heap;
 use history::History;
@@ -49,16 +48,14 @@ impl Kernel {
         ensures log { IfOk result (λ k. k.log ≡ record { entries = []; priorities = priorities.now; limit = limit }) }
     {
         let history = History::new(heap, priorities, limit)?;
-        let slots = first_slots(heap, priorities.len())?;
         let contenders = Contenders::new(heap, priorities)?;
-        let stable = Stable::new(heap, priorities)?;
+        let transactions = Transactions::new(heap, priorities)?;
         Ok(Kernel {
             state: State {
                 heap,
                 history,
-                slots,
                 contenders,
-                stable,
+                transactions,
             },
         })
     }
@@ -76,14 +73,14 @@ impl Kernel {
     pub fn made(&self) -> usize
         ensures { result ≡ self.now.state.made }
     {
-        self.state.stable.made()
+        self.state.transactions.stable().made()
     }
 
     /// Whether there is such a process: it was made and has not ended.
     pub fn is_living(&self, pid: Pid) -> bool
         ensures { result ≡ is_alive self.now.state pid }
     {
-        self.state.stable.is_living(pid)
+        self.state.transactions.stable().is_living(pid)
     }
 
     /// What is committed. A process in no transaction sees it. Its directories are a tree.
@@ -91,7 +88,7 @@ impl Kernel {
         ensures state { result.now.state ≡ self.now.state }
         ensures tree { IsATree self.now.state }
     {
-        &self.state.stable
+        self.state.transactions.stable()
     }
 
     /// What a process has changed in its live transaction, if it is in one. With these changes on top of the committed state,
@@ -100,7 +97,7 @@ impl Kernel {
         ensures live { is_some result ≡ is_live (moment self.now.log) pid }
         ensures sees { IfSome result (λ s. tidy (all_done s.now self.now.state) ≡ seen_by (moment self.now.log) pid) }
     {
-        shadow_of(&self.state.slots, pid)
+        self.state.transactions.shadow(pid)
     }
 
     /// What a process sees: what is committed, with the changes of its live transaction on top, if it is in one. With what
@@ -108,7 +105,7 @@ impl Kernel {
     pub fn view(&self, pid: Pid) -> View<'_>
         ensures { tidy result.state ≡ seen_by (moment self.now.log) pid }
     {
-        view_for(&self.state, pid)
+        self.state.transactions.view(pid)
     }
 
     /// One operation of one process. HistoryFull and NoMemory change nothing; each other reply is that of one new entry.
@@ -137,18 +134,4 @@ impl Kernel {
         }
         Ok(replies)
     }
-}
-
-/// A slot of no process, and behind it those of so many idle ones.
-fn first_slots(heap: Heap, count: usize) -> Result<Vec<Slot, Heap>, AllocError>
-    requires { count ≤ 4096 }
-    ensures count { IfOk result (λ slots. length slots.items ≡ suc count) }
-    ensures views { IfOk result (λ slots. AreFirst slots.items count) }
-{
-    let mut slots = Vec::with_capacity(heap, count + 1)?;
-    let _ = slots.push(Slot::Gone);
-    for _i in 0..count {
-        let _ = slots.push(Slot::Idle);
-    }
-    Ok(slots)
 }

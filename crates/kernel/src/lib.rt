@@ -8,7 +8,6 @@ mod execute;
 mod kernel;
 mod operation;
 mod rest;
-mod slot;
 mod state;
 mod step;
 

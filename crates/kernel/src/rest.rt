@@ -1,66 +1,28 @@
 // The operations that execute no call: begins, aborts, notices and refusals.
-ghost use Rattle.std.specs.Prelude.{◌≡◌, [], true, count_by, Some};
+ghost use Rattle.std.specs.Prelude.{◌≡◌, [], true, Some};
 ghost use Rattle.model.specs.Entries as entries;
 ghost use Rattle.model.specs.Moments.{losing_cause, counted_touches};
 ghost use Rattle.model.specs.Entries.{is_inside};
 ghost use Rattle.model.specs.Legal.{restarts};
-ghost use Rattle.kernel.specs.Standings.{StandsSo, slot_holds, has_places, causes_of, is_ending};
+ghost use Rattle.commit.specs.Standings.{StandsSo};
+ghost use Rattle.commit.specs.Views.{absent, resting};
+ghost use Rattle.kernel.specs.Standings.{has_places, is_ending};
 ghost use Rattle.kernel.specs.Shown.{moment};
 ghost use Rattle.kernel.specs.States.{Holds, fields, shown};
 ghost use Rattle.kernel.specs.Steps.{IsStep};
-ghost use Rattle.kernel.specs.Views.{absent, resting, slot_view, view_of};
+ghost use Rattle.kernel.specs.Views.{view_of};
 
-use crate::slot::{Doom, Slot, take_slot};
 use crate::state::{State, note, settle};
+use commit::Standing;
 use heap::Heap;
 use ids::{Age, BeginFlags, Call, Cause, Entry, Nums, Op, Pid, Pids, Reply, Why};
-
-/// What a process is, in short.
-#[derive(Clone, Copy)]
-pub enum Standing {
-    /// No process.
-    Gone,
-    /// In no transaction.
-    Idle,
-    /// In a transaction that began with these flags at this age.
-    Live(BeginFlags, Age),
-    /// In one that was doomed.
-    Doomed(BeginFlags, Age),
-}
 
 /// What the process is.
 pub fn standing_of(s: &State, pid: Pid) -> Standing
     requires { Holds (fields s.now) }
     ensures { StandsSo result (view_of (moment s.now.history) pid) }
 {
-    match s.slots.get(pid.0 as usize) {
-        None => Standing::Gone,
-        Some(Slot::Gone) => Standing::Gone,
-        Some(Slot::Idle) => Standing::Idle,
-        Some(Slot::Live(transaction)) => Standing::Live(transaction.flags, transaction.age),
-        Some(Slot::Doomed(doom)) => Standing::Doomed(doom.flags, doom.age),
-    }
-}
-
-impl Slot {
-    /// Whether its transaction has a place of the history reserved.
-    fn holds_place(&self) -> bool
-        ensures { result ≡ slot_holds self.now }
-    {
-        match self {
-            Slot::Gone => false,
-            Slot::Idle => false,
-            Slot::Live(_) => true,
-            Slot::Doomed(_) => true,
-        }
-    }
-}
-
-/// How many places are reserved.
-fn held_places(slots: &[Slot]) -> usize
-    ensures { result ≡ count_by slot_holds slots.now }
-{
-    slots.iter().filter(|slot| slot.holds_place()).count()
+    s.transactions.standing(pid)
 }
 
 /// Whether so many places are free.
@@ -68,7 +30,7 @@ pub fn has_free(s: &State, needed: usize) -> bool
     requires { Holds (fields s.now) }
     ensures { result ≡ has_places s.now.history needed }
 {
-    let held = held_places(&s.slots);
+    let held = s.transactions.count();
     s.history.limit() - s.history.entries().len() - held >= needed
 }
 
@@ -223,18 +185,6 @@ fn aborted(cause: Cause, restarted: bool) -> Reply
     }
 }
 
-/// The causes of a slot that is doomed.
-fn causes_in(slot: Slot) -> Option<(Cause, Cause)>
-    ensures { result ≡ causes_of (slot_view slot) }
-{
-    match slot {
-        Slot::Doomed(Doom { entry, reply, .. }) => Some((entry, reply)),
-        Slot::Gone => None,
-        Slot::Idle => None,
-        Slot::Live(_) => None,
-    }
-}
-
 /// Tells a doomed process why. The operation is not executed. It takes no memory.
 pub fn notice(s: &mut State, pid: Pid, flags: BeginFlags, age: Age, op: Op) -> Reply
     requires holds { Holds (fields s.old) }
@@ -243,8 +193,7 @@ pub fn notice(s: &mut State, pid: Pid, flags: BeginFlags, age: Age, op: Op) -> R
     ensures step { IsStep (shown (fields s.old)) (shown (fields s.new)) pid op result }
 {
     let restarted = is_restarted(s, flags, &op);
-    let taken = take_slot(&mut s.slots, pid);
-    let Some((entry, reply)) = causes_in(taken) else {
+    let Some((entry, reply)) = s.transactions.take_causes(pid) else {
         return Reply::NoProcess;
     };
     let entry = plain_entry(s.heap, pid, op, aborted(entry, restarted));

@@ -2,17 +2,18 @@
 ghost use Rattle.std.specs.Prelude.{◌≡◌, true};
 ghost use Rattle.kernel.specs.Operations.{can_run};
 ghost use Rattle.kernel.specs.Shown.{moment};
-ghost use Rattle.kernel.specs.Standings.{StandsSo};
+ghost use Rattle.commit.specs.Standings.{StandsSo};
 ghost use Rattle.kernel.specs.States.{Holds, fields, shown};
 ghost use Rattle.kernel.specs.Steps.{IsStep};
-ghost use Rattle.kernel.specs.Views.{resting, view_of};
+ghost use Rattle.commit.specs.Views.{resting};
+ghost use Rattle.kernel.specs.Views.{view_of};
 
-use crate::execute::{commit, run_plain, run_within};
+use crate::execute::{end, run_plain, run_within};
 use crate::rest::{
-    Standing, begin, give_up, has_free, notice, refuse_begin, refuse_outside, refuse_process,
-    standing_of,
+    begin, give_up, has_free, notice, refuse_begin, refuse_outside, refuse_process, standing_of,
 };
 use crate::state::State;
+use commit::Standing;
 use ids::{Age, BeginFlags, Op, Pid, Reply};
 use std::alloc::AllocError;
 
@@ -64,7 +65,7 @@ fn step_live(s: &mut State, pid: Pid, flags: BeginFlags, age: Age, op: Op) -> Re
     ensures step { IsStep (shown (fields s.old)) (shown (fields s.new)) pid op result }
 {
     match op {
-        Op::End => commit(s, pid, flags, age),
+        Op::End => end(s, pid, flags, age),
         Op::Abort { no_restart } => give_up(s, pid, flags, age, no_restart),
         Op::Begin(new_flags) => {
             if !has_free(s, 1) {

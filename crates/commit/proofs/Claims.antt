@@ -1,4 +1,4 @@
--- How often the slots make a claim, and how that changes with them.
+-- How often the transactions make a claim, and how that changes with them.
 use Rattle.std.proofs.Common.{◌≡◌, ◌≢◌, ℕ, zero, suc, ◌+◌, ◌<◌, ◌≤◌, List, [], ◌∷◌, ◌++◌, length, get_or, refl, sym, ◌∙◌, ap, subst, true, false, Bool, eqb, cond, inl, inr, arith}
 use Rattle.std.specs.Prelude.{◌||◌, ◌⊎◌}
 use Rattle.std.specs.List.{AllByRecursion, count_by, sum_by}
@@ -8,24 +8,27 @@ use Rattle.model.specs.Changes.{Edit}
 use Rattle.model.specs.Steps.{AllDifferent}
 use Rattle.model.specs.Moments.{is_in}
 use Rattle.model.specs.Effects.{Effect}
+use Rattle.shadow.specs.Changes.{made_by}
 use Rattle.shadow.specs.Committed.{Committed}
 use Rattle.shadow.specs.Claims.{Claim, Room, Number, Covers, IsInUse, HasParent, HaveParents, number_of, claimed_by, claimed, reserved}
-use Rattle.kernel.specs.Claims.{total, AreCovered, KeepsSpare}
-use Rattle.kernel.specs.Takes.{Grows, HasRoom, with_change}
-use Rattle.kernel.specs.Views.{View, Shows, slot_view, view_at, changes_in}
-use Rattle.kernel.specs.declared.slot.Slot.{Slot}
-use Rattle.kernel.specs.declared.slot.Slot.TheVariants.{Gone}
+use Rattle.commit.specs.Claims.{total, AreCovered}
+use Rattle.commit.specs.Edits.{Grows, HasRoom, with_change}
+use Rattle.commit.specs.Views.{View, Shows, absent, view_at, changes_in}
 
--- sums over slots
-sum_same : (f : Slot → ℕ) (old new : List Slot) → length new ≡ length old → ((q : ℕ) → f (get_or new q Gone) ≡ f (get_or old q Gone)) → sum_by f new ≡ sum_by f old
+-- what is there beyond the claims has not become less
+abbrev pub KeepsSpare : List View → Committed → List View → Committed → Type 0
+KeepsSpare old s new t = (c : Claim) → reserved s c + total c new ≤ reserved t c + total c old
+
+-- sums over views
+sum_same : (f : View → ℕ) (old new : List View) → length new ≡ length old → ((q : ℕ) → f (get_or new q absent) ≡ f (get_or old q absent)) → sum_by f new ≡ sum_by f old
 sum_same f [] [] count same = refl
 sum_same f [] (y ∷ ys) count same = absurd (omega (arith, count))
 sum_same f (x ∷ xs) [] count same = absurd (omega (arith, count))
 sum_same f (x ∷ xs) (y ∷ ys) count same =
     sum_by-cons f y ys ∙ ap (λ n. n + sum_by f ys) (same 0) ∙ ap (λ n. f x + n) (sum_same f xs ys (omega (arith, count)) (λ q. same (suc q))) ∙ sym (sum_by-cons f x xs)
 
-sum_changed : (f : Slot → ℕ) (old new : List Slot) (p : ℕ) → length new ≡ length old → ((q : ℕ) → q ≢ p → f (get_or new q Gone) ≡ f (get_or old q Gone))
-    → sum_by f new + f (get_or old p Gone) ≡ sum_by f old + f (get_or new p Gone)
+sum_changed : (f : View → ℕ) (old new : List View) (p : ℕ) → length new ≡ length old → ((q : ℕ) → q ≢ p → f (get_or new q absent) ≡ f (get_or old q absent))
+    → sum_by f new + f (get_or old p absent) ≡ sum_by f old + f (get_or new p absent)
 sum_changed f [] [] p count same = refl
 sum_changed f [] (y ∷ ys) p count same = absurd (omega (arith, count))
 sum_changed f (x ∷ xs) [] p count same = absurd (omega (arith, count))
@@ -35,76 +38,76 @@ sum_changed f (x ∷ xs) (y ∷ ys) zero count same =
     let second : sum_by f (x ∷ xs) ≡ f x + sum_by f xs = sum_by-cons f x xs in
     omega (arith, first, second, rest)
 sum_changed f (x ∷ xs) (y ∷ ys) (suc p) count same =
-    let rest : sum_by f ys + f (get_or xs p Gone) ≡ sum_by f xs + f (get_or ys p Gone) = sum_changed f xs ys p (omega (arith, count)) (λ q differs. same (suc q) (λ h. differs (omega arith))) in
+    let rest : sum_by f ys + f (get_or xs p absent) ≡ sum_by f xs + f (get_or ys p absent) = sum_changed f xs ys p (omega (arith, count)) (λ q differs. same (suc q) (λ h. differs (omega arith))) in
     let here : f y ≡ f x = same 0 (λ h. absurd (omega arith)) in
     let first : sum_by f (y ∷ ys) ≡ f y + sum_by f ys = sum_by-cons f y ys in
     let second : sum_by f (x ∷ xs) ≡ f x + sum_by f xs = sum_by-cons f x xs in
     omega (arith, first, second, rest, here)
 
-one_of_sum : (f : Slot → ℕ) (xs : List Slot) (q : ℕ) → f Gone ≡ 0 → f (get_or xs q Gone) ≤ sum_by f xs
+one_of_sum : (f : View → ℕ) (xs : List View) (q : ℕ) → f absent ≡ 0 → f (get_or xs q absent) ≤ sum_by f xs
 one_of_sum f [] q none = omega (arith, none)
 one_of_sum f (x ∷ xs) zero none = let first : sum_by f (x ∷ xs) ≡ f x + sum_by f xs = sum_by-cons f x xs in omega (arith, first)
 one_of_sum f (x ∷ xs) (suc q) none =
     let first : sum_by f (x ∷ xs) ≡ f x + sum_by f xs = sum_by-cons f x xs in
-    let rest : f (get_or xs q Gone) ≤ sum_by f xs = one_of_sum f xs q none in
+    let rest : f (get_or xs q absent) ≤ sum_by f xs = one_of_sum f xs q none in
     omega (arith, first, rest)
 
-sum_none : (f : Slot → ℕ) (xs : List Slot) → ((q : ℕ) → f (get_or xs q Gone) ≡ 0) → sum_by f xs ≡ 0
+sum_none : (f : View → ℕ) (xs : List View) → ((q : ℕ) → f (get_or xs q absent) ≡ 0) → sum_by f xs ≡ 0
 sum_none f [] none = refl
 sum_none f (x ∷ xs) none = sum_by-cons f x xs ∙ ap (λ n. n + sum_by f xs) (none 0) ∙ ap (λ n. 0 + n) (sum_none f xs (λ q. none (suc q)))
 
-abbrev of_slot : Claim → Slot → ℕ
-of_slot c s = claimed c (changes_in (slot_view s))
+abbrev of_view : Claim → View → ℕ
+of_view c v = claimed c (changes_in v)
 
 -- one slot claims no more than all
-pub one_of_total : (c : Claim) (slots : List Slot) (q : ℕ) → claimed c (changes_in (view_at slots q)) ≤ total c slots
-one_of_total c slots q = one_of_sum (of_slot c) slots q refl
+pub one_of_total : (c : Claim) (views : List View) (q : ℕ) → claimed c (changes_in (view_at views q)) ≤ total c views
+one_of_total c views q = one_of_sum (of_view c) views q refl
 
-pub total_same : (c : Claim) (old new : List Slot) → length new ≡ length old → ((q : ℕ) → view_at new q ≡ view_at old q) → total c new ≡ total c old
-total_same c old new count same = sum_same (of_slot c) old new count (λ q. ap (λ v. claimed c (changes_in v)) (same q))
+pub total_same : (c : Claim) (old new : List View) → length new ≡ length old → ((q : ℕ) → view_at new q ≡ view_at old q) → total c new ≡ total c old
+total_same c old new count same = sum_same (of_view c) old new count (λ q. ap (λ v. claimed c (changes_in v)) (same q))
 
--- slots without changes claim nothing
-pub covers_none : (slots : List Slot) (s : Committed) → ((q : ℕ) → changes_in (view_at slots q) ≡ []) → AreCovered slots s
-covers_none slots s none c =
-    let all : total c slots ≡ 0 = sum_none (of_slot c) slots (λ q. ap (claimed c) (none q)) in
+-- views without changes claim nothing
+pub covers_none : (views : List View) (s : Committed) → ((q : ℕ) → changes_in (view_at views q) ≡ []) → AreCovered views s
+covers_none views s none c =
+    let all : total c views ≡ 0 = sum_none (of_view c) views (λ q. ap (claimed c) (none q)) in
     omega (arith, all)
 
 -- a slot changes
-pub total_changed : (c : Claim) (old new : List Slot) (p : ℕ) (v : View) → Shows old new p v → total c new + claimed c (changes_in (view_at old p)) ≡ total c old + claimed c (changes_in v)
+pub total_changed : (c : Claim) (old new : List View) (p : ℕ) (v : View) → Shows old new p v → total c new + claimed c (changes_in (view_at old p)) ≡ total c old + claimed c (changes_in v)
 total_changed c old new p v shows =
-    sum_changed (of_slot c) old new p shows.count (λ q differs. ap (λ w. claimed c (changes_in w)) (shows.others q differs)) ∙ ap (λ w. total c old + claimed c (changes_in w)) shows.own
+    sum_changed (of_view c) old new p shows.count (λ q differs. ap (λ w. claimed c (changes_in w)) (shows.others q differs)) ∙ ap (λ w. total c old + claimed c (changes_in w)) shows.own
 
 -- one slot changes twice
-pub shows_again : (old mid new : List Slot) (p : ℕ) (v w : View) → Shows old mid p v → Shows mid new p w → Shows old new p w
+pub shows_again : (old mid new : List View) (p : ℕ) (v w : View) → Shows old mid p v → Shows mid new p w → Shows old new p w
 shows_again old mid new p v w first second = record { count = second.count ∙ first.count; own = second.own; others = λ q differs. second.others q differs ∙ first.others q differs }
 
 -- what is claimed by one slot is there
-pub covers_one : (slots : List Slot) (s : Committed) → AreCovered slots s → (q : ℕ) → Covers s (changes_in (view_at slots q))
-covers_one slots s covered q c =
-    let one : claimed c (changes_in (view_at slots q)) ≤ total c slots = one_of_total c slots q in
-    let all : total c slots ≤ reserved s c = covered c in
+pub covers_one : (views : List View) (s : Committed) → AreCovered views s → (q : ℕ) → Covers s (changes_in (view_at views q))
+covers_one views s covered q c =
+    let one : claimed c (changes_in (view_at views q)) ≤ total c views = one_of_total c views q in
+    let all : total c views ≤ reserved s c = covered c in
     omega (arith, one, all)
 
-pub still_covered : (old new : List Slot) (s t : Committed) → KeepsSpare old s new t → AreCovered old s → AreCovered new t
+pub still_covered : (old new : List View) (s t : Committed) → KeepsSpare old s new t → AreCovered old s → AreCovered new t
 still_covered old new s t spare covered c =
     let more : reserved s c + total c new ≤ reserved t c + total c old = spare c in
     let all : total c old ≤ reserved s c = covered c in
     omega (arith, more, all)
 
-pub spare_on : (a b d : List Slot) (s t u : Committed) → KeepsSpare a s b t → KeepsSpare b t d u → KeepsSpare a s d u
+pub spare_on : (a b d : List View) (s t u : Committed) → KeepsSpare a s b t → KeepsSpare b t d u → KeepsSpare a s d u
 spare_on a b d s t u first second c =
     let x : reserved s c + total c b ≤ reserved t c + total c a = first c in
     let y : reserved t c + total c d ≤ reserved u c + total c b = second c in
     omega (arith, x, y)
 
-pub spare_same : (a b : List Slot) (s t : Committed) → length b ≡ length a → ((q : ℕ) → view_at b q ≡ view_at a q) → Grows s t → KeepsSpare a s b t
+pub spare_same : (a b : List View) (s t : Committed) → length b ≡ length a → ((q : ℕ) → view_at b q ≡ view_at a q) → Grows s t → KeepsSpare a s b t
 spare_same a b s t count same grows c =
     let alike : total c b ≡ total c a = total_same c a b count same in
     let more : reserved s c ≤ reserved t c = grows c in
     omega (arith, alike, more)
 
 -- a transaction's changes are forgotten or committed, and no more than what it claimed is taken
-pub gives_back : (old new : List Slot) (p : ℕ) (v : View) (s t : Committed) → Shows old new p v → changes_in v ≡ [] → ((c : Claim) → reserved s c ≤ reserved t c + claimed c (changes_in (view_at old p)))
+pub gives_back : (old new : List View) (p : ℕ) (v : View) (s t : Committed) → Shows old new p v → changes_in v ≡ [] → ((c : Claim) → reserved s c ≤ reserved t c + claimed c (changes_in (view_at old p)))
     → KeepsSpare old s new t
 gives_back old new p v s t shows empty keeps c =
     let changed : total c new + claimed c (changes_in (view_at old p)) ≡ total c old + 0 = total_changed c old new p v shows ∙ ap (λ ds. total c old + claimed c ds) empty in
@@ -112,17 +115,17 @@ gives_back old new p v s t shows empty keeps c =
     omega (arith, changed, kept)
 
 -- a slot that is taken claims nothing
-pub covered_without : (old new : List Slot) (p : ℕ) (v : View) (s : Committed) → Shows old new p v → changes_in v ≡ [] → AreCovered old s → AreCovered new s
+pub covered_without : (old new : List View) (p : ℕ) (v : View) (s : Committed) → Shows old new p v → changes_in v ≡ [] → AreCovered old s → AreCovered new s
 covered_without old new p v s shows empty covered c =
     let changed : total c new + claimed c (changes_in (view_at old p)) ≡ total c old + 0 = total_changed c old new p v shows ∙ ap (λ ds. total c old + claimed c ds) empty in
     let all : total c old ≤ reserved s c = covered c in
     omega (arith, changed, all)
 
 -- what no slot can claim
-pub unclaimed : (slots : List Slot) (s : Committed) → AreCovered slots s → (c : Claim) → reserved s c ≡ 0 → (q : ℕ) → claimed c (changes_in (view_at slots q)) ≡ 0
-unclaimed slots s covered c none q =
-    let one : claimed c (changes_in (view_at slots q)) ≤ total c slots = one_of_total c slots q in
-    let all : total c slots ≤ reserved s c = covered c in
+pub unclaimed : (views : List View) (s : Committed) → AreCovered views s → (c : Claim) → reserved s c ≡ 0 → (q : ℕ) → claimed c (changes_in (view_at views q)) ≡ 0
+unclaimed views s covered c none q =
+    let one : claimed c (changes_in (view_at views q)) ≤ total c views = one_of_total c views q in
+    let all : total c views ≤ reserved s c = covered c in
     omega (arith, one, all, none)
 
 -- members of a list of numbers
@@ -226,7 +229,7 @@ room_within s t d v ds before after room r =
     omega (arith, here, more)
 
 -- a live transaction changes one thing more, and what that claims has come
-pub spare_within : (old new : List Slot) (s t : Committed) (p : ℕ) (d : Effect) (ds : List Effect) → changes_in (view_at old p) ≡ ds → changes_in (with_change d (view_at old p)) ≡ ds ++ d ∷ []
+pub spare_within : (old new : List View) (s t : Committed) (p : ℕ) (d : Effect) (ds : List Effect) → changes_in (view_at old p) ≡ ds → changes_in (with_change d (view_at old p)) ≡ ds ++ d ∷ []
     → Shows old new p (with_change d (view_at old p)) → ((c : Claim) → reserved s c + claimed_by c d ≤ reserved t c) → KeepsSpare old s new t
 spare_within old new s t p d ds before after shows came c =
     let changed : total c new + claimed c (changes_in (view_at old p)) ≡ total c old + claimed c (changes_in (with_change d (view_at old p))) = total_changed c old new p (with_change d (view_at old p)) shows in
@@ -236,12 +239,12 @@ spare_within old new s t p d ds before after shows came c =
     omega (arith, changed, more, here)
 
 -- new numbers are unclaimed
-pub rooms_unclaimed : (slots : List Slot) (s : Committed) (chosen : List ℕ) → AreCovered slots s → ((c : Claim) → is_in (number_of c) chosen ≡ true → reserved s c ≡ 0)
-    → (q : ℕ) → AllByRecursion (λ n. claimed (Room n) (changes_in (view_at slots q)) ≡ 0) chosen
-rooms_unclaimed slots s chosen covered unused q = all_in (λ n. claimed (Room n) (changes_in (view_at slots q)) ≡ 0) chosen (λ n among. unclaimed slots s covered (Room n) (unused (Room n) among) q)
+pub rooms_unclaimed : (views : List View) (s : Committed) (chosen : List ℕ) → AreCovered views s → ((c : Claim) → is_in (number_of c) chosen ≡ true → reserved s c ≡ 0)
+    → (q : ℕ) → AllByRecursion (λ n. claimed (Room n) (changes_in (view_at views q)) ≡ 0) chosen
+rooms_unclaimed views s chosen covered unused q = all_in (λ n. claimed (Room n) (changes_in (view_at views q)) ≡ 0) chosen (λ n among. unclaimed views s covered (Room n) (unused (Room n) among) q)
 
 -- numbers that are given back, for which nothing was reserved before
-pub covered_after_forget : (old new : List Slot) (s t u : Committed) (chosen : List ℕ) → AreCovered old s → ((c : Claim) → is_in (number_of c) chosen ≡ true → reserved s c ≡ 0)
+pub covered_after_forget : (old new : List View) (s t u : Committed) (chosen : List ℕ) → AreCovered old s → ((c : Claim) → is_in (number_of c) chosen ≡ true → reserved s c ≡ 0)
     → length new ≡ length old → ((q : ℕ) → view_at new q ≡ view_at old q) → Grows s t → ((c : Claim) → (is_in (number_of c) chosen ≡ true) ⊎ (reserved t c ≤ reserved u c)) → AreCovered new u
 covered_after_forget old new s t u chosen covered unused count same grows keeps c =
     let alike : total c new ≡ total c old = total_same c old new count same in
@@ -266,28 +269,49 @@ grows_on s t u first second c =
     let y : reserved t c ≤ reserved u c = second c in
     omega (arith, x, y)
 
--- what changes beside all slots claim is there too
-abbrev pub Beside : List Effect → List Slot → Committed → Type 0
-Beside ds slots s = (c : Claim) → claimed c ds + total c slots ≤ reserved s c
+-- what changes beside all views claim is there too
+abbrev pub Beside : List Effect → List View → Committed → Type 0
+Beside ds views s = (c : Claim) → claimed c ds + total c views ≤ reserved s c
 
-pub beside_one : (slots : List Slot) (s t : Committed) (d : Effect) → AreCovered slots s → ((c : Claim) → reserved s c + claimed_by c d ≤ reserved t c) → Beside (d ∷ []) slots t
-beside_one slots s t d covered came c =
+pub beside_one : (views : List View) (s t : Committed) (d : Effect) → AreCovered views s → ((c : Claim) → reserved s c + claimed_by c d ≤ reserved t c) → Beside (d ∷ []) views t
+beside_one views s t d covered came c =
     let one : claimed c (d ∷ []) ≡ claimed_by c d + 0 = sum_by-cons (claimed_by c) d [] in
-    let all : total c slots ≤ reserved s c = covered c in
+    let all : total c views ≤ reserved s c = covered c in
     let here : reserved s c + claimed_by c d ≤ reserved t c = came c in
     omega (arith, one, all, here)
 
-pub beside_still : (ds : List Effect) (old new : List Slot) (s t : Committed) → KeepsSpare old s new t → Beside ds old s → Beside ds new t
+pub beside_still : (ds : List Effect) (old new : List View) (s t : Committed) → KeepsSpare old s new t → Beside ds old s → Beside ds new t
 beside_still ds old new s t spare beside c =
     let more : reserved s c + total c new ≤ reserved t c + total c old = spare c in
     let all : claimed c ds + total c old ≤ reserved s c = beside c in
     omega (arith, more, all)
 
-pub covers_beside : (ds : List Effect) (slots : List Slot) (s : Committed) → Beside ds slots s → Covers s ds
-covers_beside ds slots s beside c = let all : claimed c ds + total c slots ≤ reserved s c = beside c in omega (arith, all)
+pub covers_beside : (ds : List Effect) (views : List View) (s : Committed) → Beside ds views s → Covers s ds
+covers_beside ds views s beside c = let all : claimed c ds + total c views ≤ reserved s c = beside c in omega (arith, all)
 
-pub covered_after_commit : (ds : List Effect) (slots : List Slot) (s t : Committed) → Beside ds slots s → ((c : Claim) → reserved s c ≤ reserved t c + claimed c ds) → AreCovered slots t
-covered_after_commit ds slots s t beside keeps c =
-    let all : claimed c ds + total c slots ≤ reserved s c = beside c in
+pub covered_after_commit : (ds : List Effect) (views : List View) (s t : Committed) → Beside ds views s → ((c : Claim) → reserved s c ≤ reserved t c + claimed c ds) → AreCovered views t
+covered_after_commit ds views s t beside keeps c =
+    let all : claimed c ds + total c views ≤ reserved s c = beside c in
     let kept : reserved s c ≤ reserved t c + claimed c ds = keeps c in
     omega (arith, all, kept)
+
+-- new numbers are made by no transaction
+in_neither : (n : ℕ) (ms ns : List ℕ) → is_in n ms ≡ false → is_in n ns ≡ false → is_in n (ms ++ ns) ≡ false
+in_neither n [] ns a b = b
+in_neither n (m ∷ ms) ns a b = by (eqb n m) a (in_neither n ms ns) where
+  by : (t : Bool) → (t || is_in n ms) ≡ false → (is_in n ms ≡ false → is_in n ns ≡ false → is_in n (ms ++ ns) ≡ false) → (t || is_in n (ms ++ ns)) ≡ false
+  by true h rest = absurd (false≢true (sym h))
+  by false h rest = rest h b
+
+unmade : (n : ℕ) (ds : List Effect) → claimed (Number n) ds ≡ 0 → is_in n (made_by ds) ≡ false
+unmade n [] h = refl
+unmade n (d ∷ ds) h =
+    let sum : claimed (Number n) (d ∷ ds) ≡ claimed_by (Number n) d + claimed (Number n) ds = sum_by-cons (claimed_by (Number n)) d ds in
+    let here : claimed_by (Number n) d ≡ 0 = omega (arith, sum, h) in
+    let rest : claimed (Number n) ds ≡ 0 = omega (arith, sum, h) in
+    in_neither n d.chosen (made_by ds) (stands_in n d here) (unmade n ds rest)
+
+pub all_unmade : (views : List View) (s : Committed) (chosen : List ℕ) → AreCovered views s → ((c : Claim) → is_in (number_of c) chosen ≡ true → reserved s c ≡ 0)
+    → AllByRecursion (λ n. (q : ℕ) → is_in n (made_by (changes_in (view_at views q))) ≡ false) chosen
+all_unmade views s chosen covered unused =
+    all_in (λ n. (q : ℕ) → is_in n (made_by (changes_in (view_at views q))) ≡ false) chosen (λ n among q. unmade n (changes_in (view_at views q)) (unclaimed views s covered (Number n) (unused (Number n) among) q))

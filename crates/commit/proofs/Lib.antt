@@ -1,0 +1,3 @@
+mod Claims
+mod Slots
+mod Keeping

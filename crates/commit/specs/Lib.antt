@@ -1,0 +1,6 @@
+pub mod Views
+pub mod Claims
+pub mod Slots
+pub mod Strikes
+pub mod Standings
+pub mod Edits

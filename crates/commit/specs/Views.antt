@@ -1,0 +1,65 @@
+-- What each process's transaction is, as contracts see it.
+use Rattle.std.specs.Prelude.{◌≡◌, ◌≢◌, ◌<◌, ℕ, suc, Bool, true, false, List, [], get_or, length, Option, Some, None}
+use Rattle.model.specs.Entries.{BeginFlags, Cause}
+use Rattle.model.specs.Effects.{Effect}
+use Rattle.shadow.specs.Committed.{Committed}
+
+-- no process; one in no transaction; a live one's flags, age and changes; a doomed one's cause, for the entry and for the reply
+pub data View : Type 0 where
+  absent : View
+  resting : View
+  open_view : BeginFlags → ℕ → List Effect → View
+  struck : Cause → Cause → BeginFlags → ℕ → View
+
+-- the view of each process, at its number, and what is committed
+pub record Shown : Type 0 where
+  pub slots : List View
+  pub stable : Committed
+
+-- a number behind the last is no process
+abbrev pub view_at : List View → ℕ → View
+view_at views q = get_or views q absent
+
+-- the changes that a view has
+abbrev pub changes_in : View → List Effect
+changes_in absent = []
+changes_in resting = []
+changes_in (open_view flags age changes) = changes
+changes_in (struck entry reply flags age) = []
+
+-- whether it is a live transaction's
+abbrev pub is_open : View → Bool
+is_open (open_view flags age changes) = true
+is_open absent = false
+is_open resting = false
+is_open (struck entry reply flags age) = false
+
+-- whether it is a transaction's, live or doomed, which holds a place of the history
+abbrev pub is_within : View → Bool
+is_within absent = false
+is_within resting = false
+is_within (open_view flags age changes) = true
+is_within (struck entry reply flags age) = true
+
+-- the causes of a doomed one
+abbrev pub causes_of : View → Option (Cause × Cause)
+causes_of (struck entry reply flags age) = Some (entry, reply)
+causes_of absent = None
+causes_of resting = None
+causes_of (open_view flags age changes) = None
+
+-- one process's view is this now, and the others' are as before
+pub record Shows (old new : List View) (pid : ℕ) (v : View) : Type 0 where
+  pub count : length new ≡ length old
+  pub own : view_at new pid ≡ v
+  pub others : (q : ℕ) → q ≢ pid → view_at new q ≡ view_at old q
+
+-- all views are as before
+pub record SameViews (old new : List View) : Type 0 where
+  pub count : length new ≡ length old
+  pub each : (q : ℕ) → view_at new q ≡ view_at old q
+
+-- the first views: of no process, and then of so many idle ones
+pub record AreFirst (views : List View) (count : ℕ) : Type 0 where
+  pub none : view_at views 0 ≡ absent
+  pub made : (q : ℕ) → q < count → view_at views (suc q) ≡ resting

@@ -1,0 +1,232 @@
+// What is kept of each process.
+ghost use Rattle.std.specs.Prelude.{◌≡◌, ◌<◌, ◌≤◌, ◌+◌, ◌∷◌, [], length, suc, is_some, option_map, IfOk, IfSome, OnErr, OnOk};
+ghost use Rattle.std.specs.List.{AllByRecursion, sum_by};
+ghost use Rattle.model.specs.Changes.{news};
+ghost use Rattle.shadow.specs.Changes.{CanEdit};
+ghost use Rattle.shadow.specs.Claims.{Claim, Covers, HaveParents, Room, claimed, reserved};
+ghost use Rattle.shadow.specs.Looks as looks;
+ghost use Rattle.commit.specs.Edits.{Grows, HasRoom, effect, with_change};
+ghost use Rattle.commit.specs.Slots.{AreFirstSlots, Sets, slot_at, slot_view};
+ghost use Rattle.commit.specs.Standings.{StandsSo};
+ghost use Rattle.commit.specs.Strikes.{strike};
+ghost use Rattle.commit.specs.Views.{causes_of, changes_in, is_open, is_within, resting};
+
+use contention::Doomed;
+use heap::Heap;
+use ids::{Age, BeginFlags, Cause, Edit, Nums, Pid};
+use shadow::{Shadow, Stable};
+use std::alloc::AllocError;
+use std::mem::replace;
+
+/// What a process is, in short.
+#[derive(Clone, Copy)]
+pub enum Standing {
+    /// No process.
+    Gone,
+    /// In no transaction.
+    Idle,
+    /// In a transaction that began with these flags at this age.
+    Live(BeginFlags, Age),
+    /// In one that was doomed.
+    Doomed(BeginFlags, Age),
+}
+
+/// A live transaction.
+#[derive(Drop)]
+pub struct Transaction {
+    /// The flags that it began with.
+    pub flags: BeginFlags,
+    /// When it began first.
+    pub age: Age,
+    /// What it has changed.
+    pub shadow: Shadow,
+}
+
+/// A transaction that was doomed by another process and has not been told yet.
+#[derive(Drop)]
+pub struct Doom {
+    /// The flags that it began with.
+    pub flags: BeginFlags,
+    /// When it began first.
+    pub age: Age,
+    /// The cause, for the entry of the notice.
+    pub entry: Cause,
+    /// The cause once more, for the reply, so that the notice takes no memory.
+    pub reply: Cause,
+}
+
+/// The state of one process.
+#[derive(Drop)]
+pub enum Slot {
+    /// No process.
+    Gone,
+    /// In no transaction.
+    Idle,
+    /// In a transaction.
+    Live(Transaction),
+    /// In a transaction that was doomed.
+    Doomed(Doom),
+}
+
+impl Slot {
+    /// Whether its process is in a transaction, live or doomed.
+    pub fn is_within(&self) -> bool
+        ensures { result ≡ is_within (slot_view self.now) }
+    {
+        match self {
+            Slot::Gone => false,
+            Slot::Idle => false,
+            Slot::Live(_) => true,
+            Slot::Doomed(_) => true,
+        }
+    }
+
+    /// What the process is.
+    pub fn standing(&self) -> Standing
+        ensures { StandsSo result (slot_view self.now) }
+    {
+        match self {
+            Slot::Gone => Standing::Gone,
+            Slot::Idle => Standing::Idle,
+            Slot::Live(transaction) => Standing::Live(transaction.flags, transaction.age),
+            Slot::Doomed(doom) => Standing::Doomed(doom.flags, doom.age),
+        }
+    }
+}
+
+/// A slot of no process, and behind it those of so many idle ones.
+pub fn first_slots(heap: Heap, count: usize) -> Result<Vec<Slot, Heap>, AllocError>
+    requires { count ≤ 4096 }
+    ensures count { IfOk result (λ slots. length slots.items ≡ suc count) }
+    ensures first { IfOk result (λ slots. AreFirstSlots slots.items count) }
+{
+    let mut slots = Vec::with_capacity(heap, count + 1)?;
+    let _ = slots.push(Slot::Gone);
+    for _i in 0..count {
+        let _ = slots.push(Slot::Idle);
+    }
+    Ok(slots)
+}
+
+/// Takes a slot, which is idle then.
+pub fn take_slot(slots: &mut Vec<Slot, Heap>, pid: Pid) -> Slot
+    requires { pid < length slots.old.items }
+    ensures taken { slot_view result ≡ slot_at slots.old.items pid }
+    ensures left { Sets slots.old.items slots.new.items pid resting }
+{
+    replace(&mut slots[pid.0 as usize], Slot::Idle)
+}
+
+/// Puts a process's slot in the place of the one before, which is forgotten.
+pub fn set_slot(slots: &mut Vec<Slot, Heap>, pid: Pid, slot: Slot)
+    requires { pid < length slots.old.items }
+    ensures { Sets slots.old.items slots.new.items pid (slot_view slot) }
+{
+    slots[pid.0 as usize] = slot;
+}
+
+/// Forgets what a slot's transaction has changed, and gives back what was kept for it. It takes no memory.
+pub fn drop_slot(slot: Slot, stable: &mut Stable)
+    requires { Covers stable.old (changes_in (slot_view slot)) }
+    ensures state { stable.new.state ≡ stable.old.state }
+    ensures keeps { (c : Claim) → reserved stable.old c ≤ reserved stable.new c + claimed c (changes_in (slot_view slot)) }
+{
+    match slot {
+        Slot::Live(transaction) => transaction.shadow.drop_into(stable),
+        Slot::Gone => (),
+        Slot::Idle => (),
+        Slot::Doomed(doom) => drop(doom),
+    }
+}
+
+/// The slot of a transaction that is doomed. Its changes are gone, and what was kept for them is given back.
+pub fn struck(slot: Slot, doomed: Doomed, stable: &mut Stable) -> Slot
+    requires { Covers stable.old (changes_in (slot_view slot)) }
+    ensures slot { slot_view result ≡ strike doomed (slot_view slot) }
+    ensures state { stable.new.state ≡ stable.old.state }
+    ensures keeps { (c : Claim) → reserved stable.old c ≤ reserved stable.new c + claimed c (changes_in (slot_view slot)) }
+{
+    match slot {
+        Slot::Live(Transaction { flags, age, shadow }) => {
+            shadow.drop_into(stable);
+            Slot::Doomed(Doom {
+                flags,
+                age,
+                entry: doomed.entry,
+                reply: doomed.reply,
+            })
+        }
+        Slot::Gone => Slot::Gone,
+        Slot::Idle => Slot::Idle,
+        Slot::Doomed(doom) => Slot::Doomed(doom),
+    }
+}
+
+/// The changes of a slot.
+pub fn shadow_in(heap: Heap, slot: Slot) -> Shadow
+    ensures { result ≡ changes_in (slot_view slot) }
+{
+    match slot {
+        Slot::Live(transaction) => transaction.shadow,
+        Slot::Gone => Shadow::new(heap),
+        Slot::Idle => Shadow::new(heap),
+        Slot::Doomed(doom) => {
+            drop(doom);
+            Shadow::new(heap)
+        }
+    }
+}
+
+/// The causes of a slot that is doomed.
+pub fn causes_in(slot: Slot) -> Option<(Cause, Cause)>
+    ensures { result ≡ causes_of (slot_view slot) }
+{
+    match slot {
+        Slot::Doomed(Doom { entry, reply, .. }) => Some((entry, reply)),
+        Slot::Gone => None,
+        Slot::Idle => None,
+        Slot::Live(_) => None,
+    }
+}
+
+/// What a process's live transaction has changed, if it is in one.
+pub fn shadow_of(slots: &[Slot], pid: Pid) -> Option<&Shadow>
+    ensures changes { looks.changes_of (option_map (λ s. s.now) result) ≡ changes_in (slot_at slots.now pid) }
+    ensures value { IfSome result (λ s. s.now ≡ changes_in (slot_at slots.now pid)) }
+    ensures live { is_some result ≡ is_open (slot_at slots.now pid) }
+{
+    match slots.get(pid.0 as usize) {
+        Some(Slot::Live(transaction)) => Some(&transaction.shadow),
+        Some(Slot::Gone) => None,
+        Some(Slot::Idle) => None,
+        Some(Slot::Doomed(_)) => None,
+        None => None,
+    }
+}
+
+/// Adds a change to what a live process has changed. Refused memory changes nothing.
+pub fn edit_slot(
+    slots: &mut Vec<Slot, Heap>,
+    stable: &mut Stable,
+    pid: Pid,
+    edits: Vec<Edit, Heap>,
+    chosen: &Nums,
+) -> Result<(), AllocError>
+    requires made { pid < length slots.old.items }
+    requires kinds { CanEdit edits.items }
+    requires count { length chosen.now ≡ sum_by news edits.items }
+    requires unused { AllByRecursion (λ n. claimed (Room n) (changes_in (slot_at slots.old.items pid)) ≡ 0) chosen.now }
+    requires parents { HaveParents stable.old.reserves edits.items }
+    ensures ok { OnOk result (Sets slots.old.items slots.new.items pid (with_change (effect chosen.now edits.entry.items) (slot_at slots.old.items pid))) }
+    ensures room { OnOk result (HasRoom stable.old stable.new (effect chosen.now edits.entry.items) (slot_at slots.old.items pid)) }
+    ensures err { OnErr result (Sets slots.old.items slots.new.items pid (slot_at slots.old.items pid)) }
+    ensures state { stable.new.state ≡ stable.old.state }
+    ensures grows { Grows stable.old stable.new }
+{
+    match &mut slots[pid.0 as usize] {
+        Slot::Live(transaction) => transaction.shadow.edit(stable, edits, chosen),
+        Slot::Gone => Ok(()),
+        Slot::Idle => Ok(()),
+        Slot::Doomed(_) => Ok(()),
+    }
+}

@@ -1,0 +1,225 @@
+// The transactions of all processes, and what is committed.
+ghost use Rattle.std.specs.Prelude.{◌≡◌, ◌⊎◌, ◌<◌, ◌≤◌, ◌∷◌, [], ℕ, true, List, length, suc, is_some, count_by, IfOk, IfSome, OnErr};
+ghost use Rattle.model.specs.Changes.{tidy};
+ghost use Rattle.model.specs.Effects.{all_done};
+ghost use Rattle.model.specs.Moments.{is_in, start};
+ghost use Rattle.shadow.specs.Changes.{CanEdit};
+ghost use Rattle.shadow.specs.Claims.{Claim, HaveParents, number_of, reserved};
+ghost use Rattle.shadow.specs.Committed.{CanCommit};
+ghost use Rattle.commit.specs.Edits.{AreNew, effect, with_change};
+ghost use Rattle.commit.specs.Slots.{slot_view};
+ghost use Rattle.commit.specs.Standings.{StandsSo};
+ghost use Rattle.commit.specs.Strikes.{struck_by};
+ghost use Rattle.commit.specs.Views.{AreFirst, SameViews, Shows, causes_of, changes_in, is_open, is_within, open_view, resting, view_at};
+
+use crate::slot::{
+    Slot, Standing, Transaction, causes_in, drop_slot, edit_slot, first_slots, set_slot, shadow_in,
+    shadow_of, struck, take_slot,
+};
+use contention::Doomed;
+use heap::Heap;
+use ids::{Age, BeginFlags, Cause, Edit, Nums, Pid, Priority};
+use shadow::{Shadow, Stable, View};
+use std::alloc::AllocError;
+use std::marker::Model;
+
+/// The transactions of all processes, and what is committed. A process's number is the place of its slot; the first slot is of no
+/// process.
+#[derive(Drop)]
+pub struct Transactions {
+    heap: Heap,
+    slots: Vec<Slot, Heap>,
+    stable: Stable,
+}
+
+impl Model for Transactions {
+    ghost use Rattle.commit.specs.Claims.{AreCovered};
+    ghost use Rattle.commit.specs.Slots.{views};
+    ghost use Rattle.commit.specs.Views.{Shown};
+
+    ghost Value = { Shown };
+
+    ghost view = { λ t. record {
+      slots = views t.slots.items;
+      stable = t.stable;
+    } };
+
+    ghost invariant = { λ t. AreCovered (views t.slots.items) t.stable };
+}
+
+impl Transactions {
+    /// The empty root, and an idle process for each of these priorities, numbered from 1. Refused memory gives nothing.
+    pub fn new(heap: Heap, priorities: &[Priority]) -> Result<Transactions, AllocError>
+        requires { length priorities.now ≤ 4096 }
+        ensures count { IfOk result (λ t. length t.slots ≡ suc (length priorities.now)) }
+        ensures first { IfOk result (λ t. AreFirst t.slots (length priorities.now)) }
+        ensures state { IfOk result (λ t. t.stable.state ≡ start 0 priorities.now) }
+    {
+        let slots = first_slots(heap, priorities.len())?;
+        let stable = Stable::new(heap, priorities)?;
+        Ok(Transactions {
+            heap,
+            slots,
+            stable,
+        })
+    }
+
+    /// What is committed.
+    pub fn stable(&self) -> &Stable
+        ensures { result.now ≡ self.now.stable }
+    {
+        &self.stable
+    }
+
+    /// What a process has changed in its live transaction, if it is in one.
+    pub fn shadow(&self, pid: Pid) -> Option<&Shadow>
+        ensures value { IfSome result (λ s. s.now ≡ changes_in (view_at self.now.slots pid)) }
+        ensures live { is_some result ≡ is_open (view_at self.now.slots pid) }
+    {
+        shadow_of(&self.slots, pid)
+    }
+
+    /// What a process sees: what is committed, with what its live transaction has changed on top.
+    pub fn view(&self, pid: Pid) -> View<'_>
+        ensures { result ≡ record self.now.stable { state = all_done (changes_in (view_at self.now.slots pid)) self.now.stable.state } }
+    {
+        View::new(&self.stable, shadow_of(&self.slots, pid))
+    }
+
+    /// What a process is.
+    pub fn standing(&self, pid: Pid) -> Standing
+        ensures { StandsSo result (view_at self.now.slots pid) }
+    {
+        match self.slots.get(pid.0 as usize) {
+            None => Standing::Gone,
+            Some(slot) => slot.standing(),
+        }
+    }
+
+    /// How many processes are in a transaction, live or doomed.
+    pub fn count(&self) -> usize
+        ensures { result ≡ count_by is_within self.now.slots }
+    {
+        self.slots.iter().filter(|slot| slot.is_within()).count()
+    }
+
+    /// A process's transaction begins, or begins anew: it has no changes. What was kept for those before is given back.
+    pub fn begin(&mut self, pid: Pid, flags: BeginFlags, age: Age)
+        requires { pid < length self.old.slots }
+        ensures slots { Shows self.old.slots self.new.slots pid (open_view flags age []) }
+        ensures state { self.new.stable.state ≡ self.old.stable.state }
+    {
+        let shadow = Shadow::new(self.heap);
+        self.set(pid, Slot::Live(Transaction { flags, age, shadow }));
+    }
+
+    /// A process's transaction is gone. What was kept for its changes is given back.
+    pub fn abort(&mut self, pid: Pid)
+        requires { pid < length self.old.slots }
+        ensures slots { Shows self.old.slots self.new.slots pid resting }
+        ensures state { self.new.stable.state ≡ self.old.stable.state }
+    {
+        self.set(pid, Slot::Idle);
+    }
+
+    // Puts a slot without changes in the place of the one before.
+    fn set(&mut self, pid: Pid, slot: Slot)
+        requires made { pid < length self.old.slots }
+        requires empty { changes_in (slot_view slot) ≡ [] }
+        ensures slots { Shows self.old.slots self.new.slots pid (slot_view slot) }
+        ensures state { self.new.stable.state ≡ self.old.stable.state }
+    {
+        let before = take_slot(&mut self.slots, pid);
+        drop_slot(before, &mut self.stable);
+        set_slot(&mut self.slots, pid, slot);
+    }
+
+    /// A live transaction is doomed: its changes are gone at once, and what was kept for them is given back. Any other process's
+    /// slot stays as it is.
+    pub fn doom(&mut self, doomed: Doomed)
+        requires { doomed.pid < length self.old.slots }
+        ensures count { length self.new.slots ≡ length self.old.slots }
+        ensures slots { (q : ℕ) → view_at self.new.slots q ≡ struck_by (doomed ∷ []) q (view_at self.old.slots q) }
+        ensures state { self.new.stable.state ≡ self.old.stable.state }
+    {
+        let pid = doomed.pid;
+        let slot = take_slot(&mut self.slots, pid);
+        let slot = struck(slot, doomed, &mut self.stable);
+        set_slot(&mut self.slots, pid, slot);
+    }
+
+    /// The causes of a doomed transaction, which is gone then.
+    pub fn take_causes(&mut self, pid: Pid) -> Option<(Cause, Cause)>
+        requires { pid < length self.old.slots }
+        ensures causes { result ≡ causes_of (view_at self.old.slots pid) }
+        ensures slots { Shows self.old.slots self.new.slots pid resting }
+        ensures stable { self.new.stable ≡ self.old.stable }
+    {
+        causes_in(take_slot(&mut self.slots, pid))
+    }
+
+    /// A live transaction is committed: its changes are made in one step, and what nothing leads to then is freed.
+    pub fn end(&mut self, pid: Pid)
+        requires made { pid < length self.old.slots }
+        requires can { CanCommit self.old.stable.state (changes_in (view_at self.old.slots pid)) }
+        ensures slots { Shows self.old.slots self.new.slots pid resting }
+        ensures state { self.new.stable.state ≡ tidy (all_done (changes_in (view_at self.old.slots pid)) self.old.stable.state) }
+    {
+        let slot = take_slot(&mut self.slots, pid);
+        shadow_in(self.heap, slot).commit_into(&mut self.stable);
+    }
+
+    /// A live transaction changes one thing more, with new numbers, which are answered. What it needs to be committed is kept for
+    /// it. Refused memory changes nothing.
+    pub fn edit(&mut self, pid: Pid, edits: Vec<Edit, Heap>) -> Result<Nums, AllocError>
+        requires made { pid < length self.old.slots }
+        requires live { is_open (view_at self.old.slots pid) ≡ true }
+        requires kinds { CanEdit edits.items }
+        requires parents { HaveParents self.old.stable.reserves edits.items }
+        ensures new { IfOk result (AreNew self.old edits.entry.items) }
+        ensures slots { IfOk result (λ chosen. Shows self.old.slots self.new.slots pid (with_change (effect chosen edits.entry.items) (view_at self.old.slots pid))) }
+        ensures state { self.new.stable.state ≡ self.old.stable.state }
+        ensures err { OnErr result (SameViews self.old.slots self.new.slots) }
+    {
+        let chosen = self.stable.number(edits.as_slice())?;
+        match edit_slot(&mut self.slots, &mut self.stable, pid, edits, &chosen) {
+            Ok(()) => Ok(chosen),
+            Err(AllocError) => {
+                give_back(&mut self.stable, chosen);
+                Err(AllocError)
+            }
+        }
+    }
+
+    /// A change is committed at once, with new numbers, which are answered. Refused memory changes nothing.
+    pub fn apply(&mut self, edits: Vec<Edit, Heap>) -> Result<Nums, AllocError>
+        requires kinds { CanEdit edits.items }
+        requires parents { HaveParents self.old.stable.reserves edits.items }
+        requires can { (chosen : List ℕ) → AreNew self.old edits.items chosen → CanCommit self.old.stable.state (effect chosen edits.items ∷ []) }
+        ensures new { IfOk result (AreNew self.old edits.entry.items) }
+        ensures state { IfOk result (λ chosen. self.new.stable.state ≡ tidy (all_done (effect chosen edits.entry.items ∷ []) self.old.stable.state)) }
+        ensures slots { SameViews self.old.slots self.new.slots }
+        ensures err { OnErr result (self.new.stable.state ≡ self.old.stable.state) }
+    {
+        let chosen = self.stable.number(edits.as_slice())?;
+        let mut shadow = Shadow::new(self.heap);
+        match shadow.edit(&mut self.stable, edits, &chosen) {
+            Ok(()) => {
+                shadow.commit_into(&mut self.stable);
+                Ok(chosen)
+            }
+            Err(AllocError) => {
+                give_back(&mut self.stable, chosen);
+                Err(AllocError)
+            }
+        }
+    }
+}
+
+// Gives new numbers back.
+fn give_back(stable: &mut Stable, chosen: Nums)
+    ensures state { stable.new.state ≡ stable.old.state }
+    ensures keeps { (c : Claim) → (is_in (number_of c) chosen ≡ true) ⊎ (reserved stable.old c ≤ reserved stable.new c) }
+{
+    stable.forget(&chosen);
+}
