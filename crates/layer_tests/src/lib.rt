@@ -30,3 +30,5 @@ mod of_pipe_shadow;
 mod of_shadow;
 #[cfg(test)]
 mod of_store;
+#[cfg(test)]
+mod pipes;

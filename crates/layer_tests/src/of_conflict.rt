@@ -124,14 +124,18 @@ fn numbers_clash_on_one_aspect(rt: HostRuntime) {
     }
 }
 
-#[test]
-fn lists_clash_by_their_touches(rt: HostRuntime) -> Result<(), Fail> {
-    let heap = heap::open(rt.alloc())?;
-    let touches = [
+// Reads of the lengths of files 1 and 2, and a write of that of file 3.
+fn two_reads_and_a_write() -> [Touch; 3] {
+    [
         read(Aspect::Size(Num(1))),
         read(Aspect::Size(Num(2))),
         write(Aspect::Size(Num(3))),
-    ];
+    ]
+}
+
+#[test]
+fn lists_clash_by_their_touches(rt: HostRuntime) {
+    let touches = two_reads_and_a_write();
     let others = [write(Aspect::Size(Num(2))), read(Aspect::Size(Num(3)))];
     assert_eq!(rt; first_clash(&touches, &others), Some(1));
     assert_eq!(rt; first_clash(&touches[..1], &others), None);
@@ -139,10 +143,12 @@ fn lists_clash_by_their_touches(rt: HostRuntime) -> Result<(), Fail> {
     assert!(rt; !any_clash_between(&touches[..1], &others));
     assert!(rt; clashes_with_any(&touches[1], &others));
     assert!(rt; !clashes_with_any(&touches[0], &others));
-    let mut kept = Vec::new(heap);
-    for touch in touches {
-        kept.push(touch)?;
-    }
+}
+
+#[test]
+fn writes_are_kept(rt: HostRuntime) -> Result<(), Fail> {
+    let heap = heap::open(rt.alloc())?;
+    let mut kept = Vec::from_array(heap, two_reads_and_a_write())?;
     keep_writes(&mut kept);
     assert_eq!(rt; kept.len(), 1);
     assert_told(&rt, &kept[0], &write(Aspect::Size(Num(3))));
@@ -160,17 +166,32 @@ fn a_write_is_told_before_a_read(rt: HostRuntime) -> Result<(), Fail> {
     Ok(())
 }
 
+// The touches of entries: of each the directory, the name, and whether it is a write.
+fn entries(heap: Heap, rows: &[(usize, &str, bool)]) -> Result<Vec<Touch, Heap>, AllocError> {
+    let mut touches = Vec::new(heap);
+    for (directory, name, write) in rows {
+        let aspect = entry(heap, *directory, name.as_bytes())?;
+        touches.push(Touch {
+            aspect,
+            write: *write,
+        })?;
+    }
+    Ok(touches)
+}
+
+static SOME_ENTRIES: [(usize, &str, bool); 5] = [
+    (1, "b", true),
+    (1, "ab", true),
+    (2, "a", true),
+    (1, "a", false),
+    (1, "c", true),
+];
+
 #[test]
 fn names_are_told_by_the_least(rt: HostRuntime) -> Result<(), Fail> {
     let heap = heap::open(rt.alloc())?;
     let lists = [read(Aspect::Names(Num(1)))];
-    let others = [
-        write(entry(heap, 1, b"b")?),
-        write(entry(heap, 1, b"ab")?),
-        write(entry(heap, 2, b"a")?),
-        read(entry(heap, 1, b"a")?),
-        write(entry(heap, 1, b"c")?),
-    ];
+    let others = entries(heap, SOME_ENTRIES.as_slice())?;
     let told = told_touch(&lists, &others)?;
     assert_told(&rt, &told, &write(entry(heap, 1, b"ab")?));
     let told = told_touch(&others, &lists)?;

@@ -1,11 +1,12 @@
 // Names in byte order, room that stays promised, and refused memory.
-ghost use Rattle.std.specs.Prelude.{◌≡◌};
+ghost use Rattle.std.specs.Prelude.{◌≡◌, ◌+◌, ◌<◌, ◌≤◌};
 
 use crate::names::joined;
 use dirlist::Dir;
 use heap::Heap;
 use ids::{Name, Num};
 use std::alloc::AllocError;
+use std::process::Abort;
 use std::test::Fail;
 
 fn name(heap: Heap, bytes: &[u8]) -> Result<Name, Fail> {
@@ -23,9 +24,11 @@ fn put(dir: &mut Dir, name: Name, num: Num) -> Result<(), AllocError>
 }
 
 // The names, each with a blank behind it.
-fn told(heap: Heap, dir: &Dir) -> Result<Vec<u8, Heap>, Fail> {
+fn assert_names(rt: &impl Abort, heap: Heap, dir: &Dir, want: &[u8]) -> Result<(), AllocError> {
     let names = dir.names(heap)?;
-    Ok(joined(heap, names.as_slice())?)
+    let told = joined(heap, names.as_slice())?;
+    assert_eq!(rt; told.as_slice(), want);
+    Ok(())
 }
 
 // Five names, added in no order.
@@ -47,7 +50,7 @@ fn five(heap: Heap) -> Result<Dir, Fail> {
 fn names_stand_in_byte_order(rt: HostRuntime) -> Result<(), Fail> {
     let heap = heap::open(rt.alloc())?;
     let dir = five(heap)?;
-    assert_eq!(rt; told(heap, &dir)?.as_slice(), b"B a ab b \xff ".as_slice());
+    assert_names(&rt, heap, &dir, b"B a ab b \xff ")?;
     assert_eq!(rt; dir.lookup(&name(heap, b"ab")?), Some(Num(5)));
     assert_eq!(rt; dir.lookup(&name(heap, b"c")?), None);
     Ok(())
@@ -61,7 +64,7 @@ fn a_name_is_taken_away_once(rt: HostRuntime) -> Result<(), Fail> {
     assert_eq!(rt; dir.remove(&gone), Some(Num(3)));
     assert_eq!(rt; dir.remove(&gone), None);
     assert_eq!(rt; dir.len(), 4);
-    assert_eq!(rt; told(heap, &dir)?.as_slice(), b"B ab b \xff ".as_slice());
+    assert_names(&rt, heap, &dir, b"B ab b \xff ")?;
     Ok(())
 }
 
@@ -79,8 +82,18 @@ fn refused_memory_changes_nothing(rt: HostRuntime) -> Result<(), Fail> {
     put(&mut dir, name(heap, b"a")?, Num(1))?;
     heap.refuse(1);
     assert!(rt; dir.names(heap).is_err());
-    assert_eq!(rt; told(heap, &dir)?.as_slice(), b"a ".as_slice());
+    assert_names(&rt, heap, &dir, b"a ")?;
     Ok(())
+}
+
+// Adds a name in promised room where it is not there yet.
+fn put_promised(dir: &mut Dir, name: Name, num: Num)
+    requires { 0 < dir.old.promised }
+    ensures { dir.old.promised ≤ dir.new.promised + 1 }
+{
+    if dir.lookup(&name).is_none() {
+        dir.insert_promised(name, num);
+    }
 }
 
 #[test]
@@ -89,18 +102,13 @@ fn promised_room_takes_no_memory(rt: HostRuntime) -> Result<(), Fail> {
     let mut dir = Dir::new(heap);
     let first = name(heap, b"a")?;
     let second = name(heap, b"b")?;
-    let others = name(heap, b"c")?;
     dir.promise()?;
     dir.promise()?;
-    put(&mut dir, others, Num(9))?;
+    put(&mut dir, name(heap, b"c")?, Num(9))?;
     heap.refuse(0);
-    if dir.lookup(&first).is_none() {
-        dir.insert_promised(first, Num(1));
-    }
+    put_promised(&mut dir, first, Num(1));
     assert!(rt; dir.is_promised());
-    if dir.lookup(&second).is_none() {
-        dir.insert_promised(second, Num(2));
-    }
+    put_promised(&mut dir, second, Num(2));
     assert!(rt; !dir.is_promised());
     assert_eq!(rt; heap.made(), 0);
     assert_eq!(rt; dir.len(), 3);

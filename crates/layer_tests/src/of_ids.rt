@@ -32,16 +32,16 @@ fn told<T: Debug>(heap: Heap, value: &T) -> Result<String<Heap>, AllocError> {
     format!(in heap; "{value:?}")
 }
 
-// Whether a copy is told as its source.
-fn is_told_alike(heap: Heap, entry: &Entry) -> Result<bool, AllocError> {
+// Whether the copy of an entry is told as its source.
+fn is_told_alike(heap: Heap) -> Result<bool, AllocError> {
+    let entry = entry(heap)?;
     let copy = entry.try_clone()?;
-    Ok(told(heap, &copy)? == told(heap, entry)?)
+    Ok(told(heap, &copy)? == told(heap, &entry)?)
 }
 
 #[test]
 fn a_copy_is_told_as_its_source(rt: HostRuntime) -> Result<(), Fail> {
-    let heap = heap::open(rt.alloc())?;
-    assert!(rt; is_told_alike(heap, &entry(heap)?)?);
+    assert!(rt; is_told_alike(heap::open(rt.alloc())?)?);
     Ok(())
 }
 

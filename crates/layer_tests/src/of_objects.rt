@@ -1,4 +1,7 @@
 // Each call once with ample memory and once refused, against bytes written out by hand.
+ghost use Rattle.std.specs.Prelude.{◌≡◌, []};
+
+use crate::pipes::assert_taken;
 use ids::Num;
 use objects::{Description, FileData, LARGEST_FILE, PipeData};
 use std::test::Fail;
@@ -15,9 +18,18 @@ fn a_file_is_a_list_of_bytes(rt: HostRuntime) -> Result<(), Fail> {
     file.cut(3)?;
     file.cut(5)?;
     assert_eq!(rt; file.as_slice(), b"aBc\0\0".as_slice());
-    assert_eq!(rt; file.read_at(heap, 1, 3)?.as_slice(), b"Bc\0".as_slice());
-    assert_eq!(rt; file.read_at(heap, 3, 9)?.as_slice(), b"\0\0".as_slice());
-    assert!(rt; file.read_at(heap, 9, 1)?.as_slice().is_empty());
+    Ok(())
+}
+
+#[test]
+fn a_file_is_read_in_parts(rt: HostRuntime) -> Result<(), Fail> {
+    let heap = heap::open(rt.alloc())?;
+    let mut file = FileData::new(heap);
+    file.write_at(0, b"aBc\0\0")?;
+    for (place, count, want) in [(1, 3, "Bc\0"), (3, 9, "\0\0"), (9, 1, "")] {
+        let read = file.read_at(heap, place, count)?;
+        assert_eq!(rt; read.as_slice(), want.as_bytes());
+    }
     file.write_at(LARGEST_FILE - 1, b"z")?;
     assert_eq!(rt; file.len(), 1_048_576);
     Ok(())
@@ -56,27 +68,51 @@ fn a_refused_file_stays(rt: HostRuntime) -> Result<(), Fail> {
     Ok(())
 }
 
+// Two ones and ten letters, the last of them at the front of the pipe's memory.
+fn put_around(pipe: &mut PipeData)
+    requires { pipe.old ≡ [] }
+{
+    pipe.put(&[1; 4090]);
+    pipe.skip(4088);
+    pipe.put(b"abcdefghij");
+}
+
 #[test]
-fn a_pipe_is_a_list_of_bytes(rt: HostRuntime) -> Result<(), Fail> {
+fn a_pipe_takes_its_memory_at_the_start(rt: HostRuntime) -> Result<(), Fail> {
     let heap = heap::open(rt.alloc())?;
     heap.refuse(1);
     assert!(rt; PipeData::new(heap).is_err());
     let mut pipe = PipeData::new(heap)?;
     heap.refuse(0);
-    pipe.put(&[1; 4090]);
-    pipe.skip(4088);
-    pipe.put(b"abcdefghij");
+    put_around(&mut pipe);
     assert_eq!(rt; heap.made(), 0);
     assert_eq!(rt; pipe.room(), 4084);
-    assert_eq!(rt; pipe.read(heap, 3, 7)?.as_slice(), b"bcdefgh".as_slice());
+    Ok(())
+}
+
+#[test]
+fn a_pipe_is_a_list_of_bytes(rt: HostRuntime) -> Result<(), Fail> {
+    let heap = heap::open(rt.alloc())?;
+    let mut pipe = PipeData::new(heap)?;
+    put_around(&mut pipe);
+    let read = pipe.read(heap, 3, 7)?;
+    assert_eq!(rt; read.as_slice(), b"bcdefgh".as_slice());
+    assert_taken(&rt, heap, &mut pipe, 3, b"\x01\x01a")?;
+    assert_taken(&rt, heap, &mut pipe, 20, b"bcdefghij")?;
+    assert!(rt; pipe.is_empty());
+    Ok(())
+}
+
+#[test]
+fn a_refused_pipe_stays(rt: HostRuntime) -> Result<(), Fail> {
+    let heap = heap::open(rt.alloc())?;
+    let mut pipe = PipeData::new(heap)?;
+    put_around(&mut pipe);
     heap.refuse(1);
     assert!(rt; pipe.read(heap, 0, 3).is_err());
     heap.refuse(1);
     assert!(rt; pipe.take(heap, 3).is_err());
     assert_eq!(rt; pipe.len(), 12);
-    assert_eq!(rt; pipe.take(heap, 3)?.as_slice(), b"\x01\x01a".as_slice());
-    assert_eq!(rt; pipe.take(heap, 20)?.as_slice(), b"bcdefghij".as_slice());
-    assert!(rt; pipe.is_empty());
     Ok(())
 }
 

@@ -19,7 +19,7 @@ fn names(heap: Heap, bytes: &[u8]) -> Result<Vec<u8, Heap>, Fail> {
     Ok(joined(heap, path.components())?)
 }
 
-// A slash and a name of so many letters.
+// One more slash and a name of so many letters.
 fn push_long(path: &mut Vec<u8, Heap>, letters: usize) -> Result<(), Fail> {
     path.push(b'/')?;
     for _ in 0..letters {
@@ -54,9 +54,8 @@ fn refuses_other_spellings(rt: HostRuntime) -> Result<(), Fail> {
 }
 
 #[test]
-fn refuses_what_is_too_long(rt: HostRuntime) -> Result<(), Fail> {
+fn refuses_a_path_that_is_too_long(rt: HostRuntime) -> Result<(), Fail> {
     let heap = heap::open(rt.alloc())?;
-    let too_long = Some(Refusal::Errno(Errno::ENAMETOOLONG));
     let mut path = Vec::new(heap);
     for _ in 0..4 {
         push_long(&mut path, 255)?;
@@ -64,20 +63,21 @@ fn refuses_what_is_too_long(rt: HostRuntime) -> Result<(), Fail> {
     assert_eq!(rt; path.len(), 1024);
     assert_eq!(rt; refusal(heap, path.as_slice()), None);
     path.push(b'/')?;
+    let too_long = Some(Refusal::Errno(Errno::ENAMETOOLONG));
     assert_eq!(rt; refusal(heap, path.as_slice()), too_long);
+    Ok(())
+}
 
-    let mut name = Vec::new(heap);
-    push_long(&mut name, 256)?;
-    assert_eq!(rt; refusal(heap, name.as_slice()), too_long);
-
-    // The first fault from the left is the one that is told.
-    let mut late = Vec::new(heap);
-    late.extend_from_slice(b"/.")?;
-    push_long(&mut late, 256)?;
-    assert_eq!(rt;
-        refusal(heap, late.as_slice()),
-        Some(Refusal::Errno(Errno::EINVAL))
-    );
+// The first fault from the left is the one that is told.
+#[test]
+fn refuses_a_name_that_is_too_long(rt: HostRuntime) -> Result<(), Fail> {
+    let heap = heap::open(rt.alloc())?;
+    for (beginning, fault) in [("", Errno::ENAMETOOLONG), ("/.", Errno::EINVAL)] {
+        let mut path = Vec::from_slice(heap, beginning.as_bytes())?;
+        push_long(&mut path, 256)?;
+        let told = refusal(heap, path.as_slice());
+        assert_eq!(rt; told, Some(Refusal::Errno(fault)), "{beginning}");
+    }
     Ok(())
 }
 

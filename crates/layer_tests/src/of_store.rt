@@ -49,6 +49,16 @@ fn what_is_installed_is_shown(rt: HostRuntime) -> Result<(), Fail> {
     assert_eq!(rt; name_count(&store, num), None);
     store.install(num);
     assert!(rt; store.get(num).is_some());
+    assert_eq!(rt; heap.made(), 0);
+    Ok(())
+}
+
+#[test]
+fn what_is_freed_stays_away(rt: HostRuntime) -> Result<(), Fail> {
+    let heap = heap::open(rt.alloc())?;
+    let mut store = Store::new(heap)?;
+    let num = added(heap, &mut store)?;
+    heap.refuse(0);
     store.free(num);
     assert_eq!(rt; name_count(&store, num), None);
     store.install(num);
@@ -58,33 +68,52 @@ fn what_is_installed_is_shown(rt: HostRuntime) -> Result<(), Fail> {
     Ok(())
 }
 
+// A store, and a directory to come with room for two names.
+fn with_room(heap: Heap) -> Result<(Store, Num), AllocError> {
+    let mut store = Store::new(heap)?;
+    let dir = store.reserve_num(no_names(heap))?;
+    store.promise(dir)?;
+    store.promise(dir)?;
+    Ok((store, dir))
+}
+
+// Adds a name where room for it is promised.
+fn add_promised(store: &mut Store, dir: Num, name: Name, num: Num) {
+    if store.is_promised(dir) {
+        store.add_name(dir, name, num);
+    }
+}
+
 #[test]
 fn names_are_added_in_promised_room(rt: HostRuntime) -> Result<(), Fail> {
     let heap = heap::open(rt.alloc())?;
-    let mut store = Store::new(heap)?;
-    let dir = store.reserve_num(no_names(heap))?;
+    let (mut store, dir) = with_room(heap)?;
     let name = Name::copy(heap, b"a")?;
     let same = Name::copy(heap, b"a")?;
-    let key = Name::copy(heap, b"a")?;
-    assert!(rt; !store.is_promised(dir));
-    store.promise(dir)?;
-    store.promise(dir)?;
     heap.refuse(0);
-    if store.is_promised(dir) {
-        store.add_name(dir, name, Num(7));
-    }
+    add_promised(&mut store, dir, name, Num(7));
+    store.install(dir);
+    assert!(rt; store.is_promised(dir));
+    add_promised(&mut store, dir, same, Num(8));
+    assert!(rt; !store.is_promised(dir));
+    assert_eq!(rt; name_count(&store, dir), Some(1));
+    assert_eq!(rt; heap.made(), 0);
+    Ok(())
+}
+
+#[test]
+fn a_name_gives_what_was_added_last(rt: HostRuntime) -> Result<(), Fail> {
+    let heap = heap::open(rt.alloc())?;
+    let (mut store, dir) = with_room(heap)?;
+    let key = Name::copy(heap, b"a")?;
+    add_promised(&mut store, dir, Name::copy(heap, b"a")?, Num(7));
     assert_eq!(rt; store.lookup(dir, &key), None);
     store.install(dir);
     assert_eq!(rt; store.lookup(dir, &key), Some(Num(7)));
-    if store.is_promised(dir) {
-        store.add_name(dir, same, Num(8));
-    }
-    assert!(rt; !store.is_promised(dir));
+    add_promised(&mut store, dir, Name::copy(heap, b"a")?, Num(8));
     assert_eq!(rt; store.lookup(dir, &key), Some(Num(8)));
-    assert_eq!(rt; name_count(&store, dir), Some(1));
     assert_eq!(rt; store.remove_name(dir, &key), Some(Num(8)));
     assert_eq!(rt; store.remove_name(dir, &key), None);
-    assert_eq!(rt; heap.made(), 0);
     Ok(())
 }
 
@@ -94,6 +123,7 @@ fn promises_are_counted(rt: HostRuntime) -> Result<(), Fail> {
     let mut store = Store::new(heap)?;
     let root = store.root();
     let other = added(heap, &mut store)?;
+    assert!(rt; !store.is_promised(root));
     store.release(root);
     store.promise(root)?;
     store.promise(root)?;
