@@ -1,7 +1,7 @@
 use Rattle.kernel.specs.Operations.{CanRunAll}
-use Rattle.worked_rows.proofs.row.ops_of.Given as goal
+use Rattle.worked_rows.proofs.row.there.Given as goal
 
-abbrev pub invariant-loop-step : goal.invariant-loop-step
-invariant-loop-step l = record {
-  can : CanRunAll l.ops.items;
+abbrev pub invariant-loop-pid : goal.invariant-loop-pid
+invariant-loop-pid l = record {
+  can : CanRunAll l.found.items;
 }
