@@ -10,6 +10,7 @@ pub(crate) enum Verb {
     Fill,
     OnFd(FdVerb),
     OnPath(PathVerb),
+    OnPaths(PathsVerb),
     Bare(BareVerb),
 }
 
@@ -25,7 +26,7 @@ pub(crate) enum FdVerb {
     Dup2,
 }
 
-// The word of an operation on paths.
+// The word of an operation on a path.
 #[derive(Clone, Copy)]
 pub(crate) enum PathVerb {
     Stat,
@@ -33,6 +34,11 @@ pub(crate) enum PathVerb {
     Mkdir,
     Rmdir,
     List,
+}
+
+// The word of an operation on two paths.
+#[derive(Clone, Copy)]
+pub(crate) enum PathsVerb {
     Link,
     Rename,
 }
@@ -91,9 +97,9 @@ fn path_verb_in(word: &[u8]) -> Option<Verb>
     } else if word == b"list".as_slice() {
         Some(Verb::OnPath(PathVerb::List))
     } else if word == b"link".as_slice() {
-        Some(Verb::OnPath(PathVerb::Link))
+        Some(Verb::OnPaths(PathsVerb::Link))
     } else if word == b"rename".as_slice() {
-        Some(Verb::OnPath(PathVerb::Rename))
+        Some(Verb::OnPaths(PathsVerb::Rename))
     } else {
         bare_verb_in(word)
     }
