@@ -1,6 +1,6 @@
 use Rattle.std.proofs.Common.{◌≡◌, ◌<◌, ℕ, [], length, get_or}
 use Rattle.script.specs.Steps.{ops_for}
-use Rattle.script.proofs.steps.queues_of.Given as goal
+use Rattle.script.proofs.steps.fill.Given as goal
 
 -- the queues hold the operations of the lines so far
 abbrev pub invariant-loop-line : goal.invariant-loop-line

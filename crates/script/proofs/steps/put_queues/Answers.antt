@@ -1,5 +1,5 @@
 use Rattle.std.proofs.Common.{◌≡◌, ◌∙◌, ap, arith, replicate, []}
-use Rattle.script.proofs.steps.empty_queues.Goals as goal
+use Rattle.script.proofs.steps.put_queues.Goals as goal
 
 pub returns : goal.returns
 returns c =
