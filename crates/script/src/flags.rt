@@ -17,7 +17,13 @@ static FLAGS: [(&str, OpenFlags); 6] = [
     ("APPEND", OpenFlags::APPEND),
 ];
 
-// From where an offset counts.
+// The flags of a begin.
+static BEGINS: [(&str, BeginFlags); 2] = [
+    ("RESTART", BeginFlags::RESTART),
+    ("ABORT_UNSUPPORTED", BeginFlags::ABORT_UNSUPPORTED),
+];
+
+// The names of the places from which an offset counts.
 static WHENCES: [(&str, Whence); 3] = [
     ("SET", Whence::Set),
     ("CUR", Whence::Cur),
@@ -54,16 +60,12 @@ pub(crate) fn flags_in(word: &[u8]) -> Option<OpenFlags>
 pub(crate) fn begin_flags_in(word: &[u8]) -> Option<BeginFlags>
     ensures { result ≡ begin_flags_in word.now }
 {
-    if word == b"RESTART".as_slice() {
-        Some(BeginFlags::RESTART)
-    } else if word == b"ABORT_UNSUPPORTED".as_slice() {
-        Some(BeginFlags::ABORT_UNSUPPORTED)
-    } else if word == b"RESTART,ABORT_UNSUPPORTED".as_slice()
+    if word == b"RESTART,ABORT_UNSUPPORTED".as_slice()
         || word == b"ABORT_UNSUPPORTED,RESTART".as_slice()
     {
         Some(BeginFlags::RESTART.with(BeginFlags::ABORT_UNSUPPORTED))
     } else {
-        None
+        named(&BEGINS, word)
     }
 }
 

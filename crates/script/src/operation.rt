@@ -64,14 +64,6 @@ fn fd_and_number(args: &mut Pieces<'_>, most: u32) -> Option<(Fd, u32)>
     Some((fd_in(fd)?, number_in(n, most)?))
 }
 
-// Two descriptors.
-fn two_fds(args: &mut Pieces<'_>) -> Option<(Fd, Fd)>
-    ensures { result ≡ two fd_in fd_in args.old }
-{
-    let (first, second) = args.two()?;
-    Some((fd_in(first)?, fd_in(second)?))
-}
-
 // A descriptor, a count and a byte.
 fn fill_of(args: &mut Pieces<'_>) -> Option<(Fd, u32, u8)>
     ensures { result ≡ three fd_in (decimal_in 1048576) byte_in args.old }
@@ -134,8 +126,8 @@ fn fd_arguments(verb: FdVerb, args: &mut Pieces<'_>) -> Option<Op>
             Call::Ftruncate(fd, len)
         }
         FdVerb::Dup2 => {
-            let (fd, other) = two_fds(args)?;
-            Call::Dup2(fd, other)
+            let (fd, other) = fd_and_number(args, 4294967295)?;
+            Call::Dup2(fd, Fd(other))
         }
     }))
 }

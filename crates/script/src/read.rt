@@ -1,5 +1,5 @@
 // Scripts in their spelling.
-ghost use Rattle.std.specs.Prelude.{◌≡◌, ◌≢◌, ◌≤◌, ◌<◌, ◌+◌, ◌^◌, Some, None, Ok, Err, IfOk, IfErr, IfSome, OnOk, All, length};
+ghost use Rattle.std.specs.Prelude.{◌≡◌, ◌≢◌, ◌≤◌, ◌<◌, ◌+◌, ◌^◌, ◌++◌, ◌∷◌, [], Some, None, Ok, Err, IfOk, IfErr, IfSome, OnOk, All, length};
 ghost use Rattle.script.specs.Numbers.{decimal_in};
 ghost use Rattle.script.specs.Scripts.{behind_head, from_head, is_skipped, line_of, lines_after, lines_next, pid_in, priorities_after, priorities_of, script_of};
 ghost use Rattle.script.specs.Spelled.{AreLawful, top_priority};
@@ -11,6 +11,7 @@ use crate::pieces::Pieces;
 use crate::verb::verb_in;
 use heap::Heap;
 use ids::{Op, Pid, Priority};
+use std::alloc::AllocError;
 use std::marker::Model;
 
 // The highest priority that there is.
@@ -171,6 +172,14 @@ fn is_skipped(line: &[u8]) -> bool
     }
 }
 
+// Puts a line behind the others. Refused memory takes the line with it.
+fn push(lines: &mut Vec<Line, Heap>, line: Line) -> Result<(), AllocError>
+    ensures { OnOk result (lines.new.items ≡ lines.old.items ++ line ∷ []) }
+{
+    lines.push(line)?;
+    Ok(())
+}
+
 // Puts a further line, which has this number, behind those that are there.
 fn add_line(
     heap: Heap,
@@ -182,10 +191,10 @@ fn add_line(
     ensures fault { IfErr result (λ fault. fault ≢ ScriptFault.NoMemory → line_of number words.old ≡ Err fault) }
 {
     let line = line_of(heap, number, words)?;
-    if lines.push(line).is_err() {
-        return Err(ScriptFault::NoMemory);
+    match push(lines, line) {
+        Ok(()) => Ok(()),
+        Err(_) => Err(ScriptFault::NoMemory),
     }
-    Ok(())
 }
 
 // Puts the lines behind the first one behind those that are there.

@@ -51,12 +51,12 @@ impl Queue {
     }
 }
 
-// Puts a queue for each process, from 0 to 4,096, into an empty vector.
+// Puts a queue for each process, from 0 to 4,096, and one for all others into an empty vector.
 fn put_queues(heap: Heap, queues: &mut Vec<Queue, Heap>) -> Result<(), AllocError>
     requires { queues.old.items ≡ [] }
-    ensures { OnOk result (queues.new.items ≡ replicate 4097 []) }
+    ensures { OnOk result (queues.new.items ≡ replicate 4098 []) }
 {
-    for _ in 0..4097usize {
+    for _ in 0..4098usize {
         queues.push(Queue::new(heap))?;
     }
     Ok(())
@@ -64,23 +64,18 @@ fn put_queues(heap: Heap, queues: &mut Vec<Queue, Heap>) -> Result<(), AllocErro
 
 // Puts a line's operation behind the others of its process.
 fn add(queues: &mut Vec<Queue, Heap>, line: Line) -> Result<(), AllocError>
-    requires { vec_len queues.old ≡ 4097 }
-    ensures len { vec_len queues.new ≡ 4097 }
+    requires { vec_len queues.old ≡ 4098 }
+    ensures len { vec_len queues.new ≡ 4098 }
     ensures ok { OnOk result ((p : ℕ) → p < 4097 → slice_index_or queues.new.items p [] ≡ slice_index_or queues.old.items p [] ++ ops_for p (line ∷ [])) }
 {
     let Line { pid, op, number: _ } = line;
-    let place = pid.0 as usize;
-    if place < 4097 {
-        queues[place].push(op)
-    } else {
-        Ok(())
-    }
+    queues[(pid.0 as usize).min(4097)].push(op)
 }
 
 // Puts the operations of lines into empty queues, in order.
 fn fill(queues: &mut Vec<Queue, Heap>, lines: Vec<Line, Heap>) -> Result<(), AllocError>
-    requires { queues.old.items ≡ replicate 4097 [] }
-    ensures len { OnOk result (vec_len queues.new ≡ 4097) }
+    requires { queues.old.items ≡ replicate 4098 [] }
+    ensures len { OnOk result (vec_len queues.new ≡ 4098) }
     ensures queues { OnOk result ((p : ℕ) → p < 4097 → slice_index_or queues.new.items p [] ≡ ops_for p lines.entry.items) }
 {
     for line in lines {
@@ -91,9 +86,9 @@ fn fill(queues: &mut Vec<Queue, Heap>, lines: Vec<Line, Heap>) -> Result<(), All
 
 // Takes the next operation of a process, if it has one left.
 fn take(queues: &mut Vec<Queue, Heap>, pid: Pid) -> Option<Op>
-    requires len { vec_len queues.old ≡ 4097 }
+    requires len { vec_len queues.old ≡ 4098 }
     requires small { pid < 4097 }
-    ensures len { vec_len queues.new ≡ 4097 }
+    ensures len { vec_len queues.new ≡ 4098 }
     ensures taken { result ≡ slice_get (slice_index_or queues.old.items pid []) 0 }
     ensures rest { queues.new.items ≡ slice_set queues.old.items pid (drop 1 (slice_index_or queues.old.items pid [])) }
 {
@@ -106,7 +101,7 @@ fn take_all(
     pids: &[Pid],
     taken: &mut Vec<(Pid, Op), Heap>,
 ) -> Result<(), AllocError>
-    requires len { vec_len queues.old ≡ 4097 }
+    requires len { vec_len queues.old ≡ 4098 }
     requires small { AreSmall pids.now }
     requires none { taken.old.items ≡ [] }
     ensures { OnOk result ((lines : List Line) → ((p : ℕ) → p < 4097 → slice_index_or queues.old.items p [] ≡ ops_for p lines) → taken.new.items ≡ steps lines pids.now) }

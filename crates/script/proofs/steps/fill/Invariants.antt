@@ -7,5 +7,5 @@ abbrev pub invariant-loop-line : goal.invariant-loop-line
 invariant-loop-line l =
     (goal.iterator-loop-line).can_next l.line-iterator
     × (goal.iterator-loop-line).is_finite l.line-iterator
-    × (length l.queues.items ≡ 4097)
+    × (length l.queues.items ≡ 4098)
     × ((p : ℕ) → p < 4097 → get_or l.queues.items p [] ≡ ops_for p l.yielded)

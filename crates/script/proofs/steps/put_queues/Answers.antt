@@ -3,5 +3,5 @@ use Rattle.script.proofs.steps.put_queues.Goals as goal
 
 pub returns : goal.returns
 returns c =
-    let all : c.loop.counter ≡ 4097 = omega arith in
+    let all : c.loop.counter ≡ 4098 = omega arith in
     c.loop.invariant ∙ ap (λ n. replicate n []) all
