@@ -1,6 +1,6 @@
 use Rattle.std.proofs.Common.{rules, ◌≡◌, ◌<◌, ◌∷◌, ◌++◌, ◌∙◌, ℕ, List, [], get_or, drop, length, sym, ap, subst, arith, append-nil, set, refl, ◌+◌, Option, Some, None}
 use Rattle.std.proofs.Math.ListN.{length-set}
-use Rattle.std.proofs.lemmas.List.{get_or_read}
+use Rattle.std.proofs.lemmas.List.{drop_all, get_or_read}
 use Rattle.ids.specs.declared.call.Op.{Op}
 use Rattle.script.specs.Schedules.{times}
 use Rattle.script.specs.Steps.{ops_for, steps_after, with_step}
@@ -45,3 +45,8 @@ loop-pid-preserved c =
             λ p below. ap (λ (xs : List (List Op)). get_or xs p []) left ∙ taken queues p pid before lines old room refl here (known.2 p below),
           ),
     )
+
+pub returns : goal.returns
+returns c = λ lines h.
+    let known = c.loop-pid.invariant.1 lines h in
+    sym (known.1 ∙ ap (λ (ps : List ℕ). c.loop-pid.taken.items ++ steps_after lines known.0 ps) (drop_all c.loop-pid.pid-index c.args.pids.now c.loop-pid-test.false) ∙ append-nil c.loop-pid.taken.items)
