@@ -62,7 +62,8 @@ fn put_queues(heap: Heap, queues: &mut Vec<Queue, Heap>) -> Result<(), AllocErro
     Ok(())
 }
 
-// Puts a line's operation behind the others of its process.
+// Puts a line's operation behind the others of its process. All numbers above 4,096 share the last
+// queue, so that each operation is moved and none has to be dropped here.
 fn add(queues: &mut Vec<Queue, Heap>, line: Line) -> Result<(), AllocError>
     requires { vec_len queues.old ≡ 4098 }
     ensures len { vec_len queues.new ≡ 4098 }

@@ -1,4 +1,4 @@
-use Rattle.std.proofs.Common.{◌≡◌, ◌∙◌, ap, arith, rules, replicate, [], List, get_or, length}
+use Rattle.std.proofs.Common.{◌∙◌, ap, arith, rules, [], List, get_or, length}
 use Rattle.std.proofs.lemmas.List.{get_or-replicate, length-replicate}
 use Rattle.ids.specs.declared.call.Op.{Op}
 use Rattle.script.proofs.steps.fill.Goals as goal
