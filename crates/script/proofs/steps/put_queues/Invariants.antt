@@ -1,5 +1,5 @@
 use Rattle.std.proofs.Common.{◌≡◌, [], replicate}
-use Rattle.script.proofs.steps.empty_queues.Given as goal
+use Rattle.script.proofs.steps.put_queues.Given as goal
 
 -- as many queues as the loop has made
 abbrev pub invariant-loop : goal.invariant-loop
