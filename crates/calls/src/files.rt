@@ -11,7 +11,7 @@ ghost use Rattle.calls.specs.Parts.{some_of_pipe, some_of_file, some_to_pipe, so
 ghost use Rattle.look.specs.Asked.{Comes, Tells};
 
 use crate::asking::{ends, fit, offset, read_file, read_pipe, size};
-use crate::change::{Change, Edits, changed, changed_by, changed_by_two, unchanged};
+use crate::change::{Change, Edits, changed, changed_by, unchanged};
 use crate::checks::{
     LARGEST, is_zero, must_be_at_most, must_be_below, must_be_new, must_be_zero, must_create,
     must_create_to_exclude, must_fit, must_not_be_pipe, must_not_be_zero, must_read_or_write,
@@ -73,12 +73,15 @@ fn opened_new(
     ensures { Tells (opened own.now flags fd last None) result }
 {
     must_create(flags)?;
-    changed_by_two(
-        heap,
-        Answer::Fd(fd),
+    let made = with(
+        Edits::new(heap),
         Edit::MakeFile(last.parent, last.name, 0),
+    )?;
+    let edits = with(
+        made,
         Edit::OpenInode(1, Which::Made(0), mode(flags), own.pid(), fd),
-    )
+    )?;
+    changed(Answer::Fd(fd), edits)
 }
 
 // A file that is there.
@@ -391,12 +394,9 @@ fn put(
         result }
 {
     let count = kept.as_slice().len() as u32;
-    changed_by_two(
-        heap,
-        Answer::Count(count),
-        Edit::PutBytes(file, place, kept, size),
-        Edit::SetOffset(description, place + count),
-    )
+    let written = with(Edits::new(heap), Edit::PutBytes(file, place, kept, size))?;
+    let edits = with(written, Edit::SetOffset(description, place + count))?;
+    changed(Answer::Count(count), edits)
 }
 
 // The first bytes, so many at most.
