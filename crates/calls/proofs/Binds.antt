@@ -1,15 +1,17 @@
 -- Plans whose first steps one function takes.
-use Rattle.std.proofs.Common.{◌≡◌, ℕ, List, Bool, true, false, Option, Some, None, Result, Ok, Err, not, ◌&&◌, refl, sym}
+use Rattle.std.proofs.Common.{◌≡◌, ℕ, List, [], ◌∷◌, Bool, true, false, Option, Some, None, Result, Ok, Err, not, ◌&&◌, ◌==◌, if◌then◌else◌, refl, sym}
 use Rattle.std.specs.Prelude.{IsErrAnd}
 use Rattle.model.specs.State.{Name, Kernel, A_directory}
 use Rattle.model.specs.Plan.{Errno as Refused, EISDIR, EINVAL, ENOENT, ENOTDIR, ENOTEMPTY, EBUSY, EPERM, Plan, Give, Refuse, Ask, List_names, ◌>>=◌, ◌>>◌, ask, refuse_if, or_refuse}
 use Rattle.model.specs.Walks.{Place, Last, is_directory, parsed, walk, last_of}
 use Rattle.model.specs.Paths.{is_empty, is_below}
-use Rattle.model.specs.Plans.{replaced_by_name}
+use Rattle.model.specs.Calls.{Done}
+use Rattle.model.specs.Changes.{Move}
+use Rattle.model.specs.Plans.{Change, changed, unchanged, moved, replaced_by_name}
 use Rattle.model.specs.Steps.{Touch}
 use Rattle.ids.specs.declared.errno.Refusal.{Refusal}
 use Rattle.look.specs.Asked.{Comes}
-use Rattle.calls.specs.Parts.{place_at, last_at, emptied, without_names, file_named, move_target, replaced_over}
+use Rattle.calls.specs.Parts.{place_at, last_at, emptied, without_names, file_named, move_target, gives, replaced, replaced_over}
 use Rattle.walk.proofs.Then.{goes, stops, via}
 
 pub binds : {A B C : Type 0} (m : Plan A) (f : A → Plan B) (g : B → Plan C) → (m >>= f) >>= g ≡ m >>= (λ x. f x >>= g)
@@ -54,5 +56,17 @@ two_then : {A B : Type 0} (a b : Bool) (m : Plan A) (g : A → Plan B) → (refu
 two_then true b m g = refl
 two_then false b m g = test_then b ENOTDIR m g
 
-pub over_then : {B : Type 0} (what old : Place) (g : List ℕ → Plan B) → (refuse_if (not (is_directory what) && is_directory old) EISDIR >> (refuse_if (is_directory what && not (is_directory old)) ENOTDIR >> (replaced_by_name old.0 (is_directory old) >>= g))) ≡ (replaced_over what old >>= g)
+over_then : {B : Type 0} (what old : Place) (g : List ℕ → Plan B) → (refuse_if (not (is_directory what) && is_directory old) EISDIR >> (refuse_if (is_directory what && not (is_directory old)) ENOTDIR >> (replaced_by_name old.0 (is_directory old) >>= g))) ≡ (replaced_over what old >>= g)
 over_then what old g = two_then (not (is_directory what) && is_directory old) (is_directory what && not (is_directory old)) (replaced_by_name old.0 (is_directory old)) g
+
+-- a rename by the file that loses its name, where something moves
+abbrev pub move_by : Last → Place → Last → List ℕ → Plan Change
+move_by from what to files = changed Done (Move from.parent from.name to.parent to.name what.0 files ∷ [])
+
+onto_then : (from : Last) (what : Place) (to : Last) (old : Place) (same : Bool) → (if same then unchanged Done else (refuse_if (not (is_directory what) && is_directory old) EISDIR >> (refuse_if (is_directory what && not (is_directory old)) ENOTDIR >> (replaced_by_name old.0 (is_directory old) >>= move_by from what to)))) ≡ (if same then unchanged Done else (replaced_over what old >>= move_by from what to))
+onto_then from what to old true = refl
+onto_then from what to old false = over_then what old (move_by from what to)
+
+pub moved_then : (from : Last) (what : Place) (to : Last) (found : Option Place) → moved from what to found ≡ (if gives found what.0 then unchanged Done else (replaced what found >>= move_by from what to))
+moved_then from what to None = refl
+moved_then from what to (Some old) = onto_then from what to old (what.0 == old.0)

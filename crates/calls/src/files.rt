@@ -73,10 +73,7 @@ fn opened_new(
     ensures { Tells (opened own.now flags fd last None) result }
 {
     must_create(flags)?;
-    let made = with(
-        Edits::new(heap),
-        Edit::MakeFile(last.parent, last.name, 0),
-    )?;
+    let made = with(Edits::new(heap), Edit::MakeFile(last.parent, last.name, 0))?;
     let edits = with(
         made,
         Edit::OpenInode(1, Which::Made(0), mode(flags), own.pid(), fd),

@@ -46,12 +46,7 @@ fn mark_entry(dir: Num, name: &Name, touches: &mut Touches) -> Result<(), AllocE
 }
 
 // A name in a directory, and the file that it gives.
-fn mark_name(
-    dir: Num,
-    name: &Name,
-    file: Num,
-    touches: &mut Touches,
-) -> Result<(), AllocError>
+fn mark_name(dir: Num, name: &Name, file: Num, touches: &mut Touches) -> Result<(), AllocError>
     ensures { OnOk result
         (touches.new ≡ touches.old ++ writing (Entry dir name.now ∷ Links file ∷ [])) }
 {
@@ -100,12 +95,7 @@ fn mark_bytes(
 }
 
 // A file's length, before and after.
-fn mark_cut(
-    file: Num,
-    before: u32,
-    after: u32,
-    touches: &mut Touches,
-) -> Result<(), AllocError>
+fn mark_cut(file: Num, before: u32, after: u32, touches: &mut Touches) -> Result<(), AllocError>
     ensures { OnOk result
         (touches.new ≡ touches.old ++ writing (marks (Cut file before after))) }
 {

@@ -1,9 +1,9 @@
 // The plans of calls on paths.
 ghost use Rattle.std.specs.Prelude.{◌≡◌, ℕ, Some, true, false};
 ghost use Rattle.model.specs.Changes.{Move};
-ghost use Rattle.calls.specs.Parts.{place_at, last_at, emptied, without_names, file_named, link_paths, name_file, rename_paths, move_target, move_over, replaced_over};
+ghost use Rattle.calls.specs.Parts.{place_at, last_at, emptied, without_names, file_named, link_paths, name_file, rename_paths, move_target, gives, replaced, replaced_over};
 ghost use Rattle.model.specs.Walks.{is_directory};
-ghost use Rattle.model.specs.Plans.{plan, status, moved, move_onto, replaced_by_name};
+ghost use Rattle.model.specs.Plans.{plan, status, moved, replaced_by_name};
 ghost use Rattle.model.specs.Calls.{own, Stat as Stat_path, Mkdir, Rmdir, List_directory, Link, Unlink, Rename};
 ghost use Rattle.look.specs.Asked.{Comes, Tells};
 
@@ -327,53 +327,41 @@ fn moved<L: Look>(
     ensures { Comes (L.state look.now)
         (moved from what to to.found) touches.old result touches.new }
 {
-    match to.found() {
-        None => {
-            let none = Nums::new(touches.heap());
-            changed_by(
-                touches.heap(),
-                Answer::Done,
-                move_edit(from, to, what.0, none),
-            )
-        }
-        Some(old) => move_onto(look, from, what, to, old, touches),
-    }
-}
-
-// A name that moves to one that is there.
-fn move_onto<L: Look>(
-    look: &L,
-    from: Last,
-    what: (Num, Option<Kind>),
-    to: Last,
-    old: (Num, Option<Kind>),
-    touches: &mut Touches,
-) -> Result<Change, Refusal>
-    ensures { Comes (L.state look.now) (move_onto from what to old) touches.old result touches.new }
-{
-    if is_same(what.0, old.0) {
+    if gives(to.found(), what.0) {
         unchanged(touches.heap(), Answer::Done)
     } else {
-        move_over(look, from, what, to, old, touches)
+        let replaced = replaced(look, &what, to.found(), touches)?;
+        changed_by(
+            touches.heap(),
+            Answer::Done,
+            move_edit(from, to, what.0, replaced),
+        )
     }
 }
 
-fn move_over<L: Look>(
-    look: &L,
-    from: Last,
-    what: (Num, Option<Kind>),
-    to: Last,
-    old: (Num, Option<Kind>),
-    touches: &mut Touches,
-) -> Result<Change, Refusal>
-    ensures { Comes (L.state look.now) (move_over from what to old) touches.old result touches.new }
+// Whether a name gives this number.
+fn gives(found: Option<(Num, Option<Kind>)>, num: Num) -> bool
+    ensures { result ≡ gives found num }
 {
-    let replaced = replaced_over(look, &what, &old, touches)?;
-    changed_by(
-        touches.heap(),
-        Answer::Done,
-        move_edit(from, to, what.0, replaced),
-    )
+    match found {
+        Some(old) => is_same(num, old.0),
+        None => false,
+    }
+}
+
+// The file that loses its name to what moves, if any does.
+fn replaced<L: Look>(
+    look: &L,
+    what: &(Num, Option<Kind>),
+    found: Option<(Num, Option<Kind>)>,
+    touches: &mut Touches,
+) -> Result<Nums, Refusal>
+    ensures { Comes (L.state look.now) (replaced what.now found) touches.old result touches.new }
+{
+    match found {
+        Some(old) => replaced_over(look, what, &old, touches),
+        None => Ok(Nums::new(touches.heap())),
+    }
 }
 
 fn replaced_over<L: Look>(
