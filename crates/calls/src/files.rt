@@ -73,11 +73,14 @@ fn opened_new(
     ensures { Tells (opened own.now flags fd last None) result }
 {
     must_create(flags)?;
-    let made = with(Edits::new(heap), Edit::MakeFile(last.parent, last.name, 0))?;
-    let edits = with(
-        made,
-        Edit::OpenInode(1, Which::Made(0), mode(flags), own.pid(), fd),
-    )?;
+    let made = Edits::new(heap).with(Edit::MakeFile(last.parent, last.name, 0))?;
+    let edits = made.with(Edit::OpenInode(
+        1,
+        Which::Made(0),
+        mode(flags),
+        own.pid(),
+        fd,
+    ))?;
     changed(Answer::Fd(fd), edits)
 }
 
@@ -96,20 +99,14 @@ fn opened_old<L: Look>(
     must_be_new(flags)?;
     must_not_be_directory(&place, Errno::EISDIR)?;
     let cut = cut_if(look, flags, place.0, touches)?;
-    let edits = with(
-        cut,
-        Edit::OpenInode(0, Which::There(place.0), mode(flags), own.pid(), fd),
-    )?;
+    let edits = cut.with(Edit::OpenInode(
+        0,
+        Which::There(place.0),
+        mode(flags),
+        own.pid(),
+        fd,
+    ))?;
     changed(Answer::Fd(fd), edits)
-}
-
-// One more change.
-fn with(edits: Edits, edit: Edit) -> Result<Edits, AllocError>
-    ensures { IfOk result (λ all. all ≡ edits ++ edit ∷ []) }
-{
-    let mut all = edits;
-    all.add(edit)?;
-    Ok(all)
 }
 
 // How a description is open.
@@ -150,7 +147,7 @@ fn cut_to<L: Look>(
     ensures { Comes (L.state look.now) (cut_to file length) touches.old result touches.new }
 {
     let size = size(look, file, touches)?;
-    let edits = with(Edits::new(touches.heap()), Edit::Cut(file, size, length))?;
+    let edits = Edits::new(touches.heap()).with(Edit::Cut(file, size, length))?;
     Ok(edits)
 }
 
@@ -249,10 +246,10 @@ fn moved_on(heap: Heap, description: Num, offset: u32, bytes: &Bytes) -> Result<
     if is_empty(bytes) {
         Ok(Edits::new(heap))
     } else {
-        with(
-            Edits::new(heap),
-            Edit::SetOffset(description, offset + bytes.as_slice().len() as u32),
-        )
+        Edits::new(heap).with(Edit::SetOffset(
+            description,
+            offset + bytes.as_slice().len() as u32,
+        ))
     }
 }
 
@@ -391,8 +388,8 @@ fn put(
         result }
 {
     let count = kept.as_slice().len() as u32;
-    let written = with(Edits::new(heap), Edit::PutBytes(file, place, kept, size))?;
-    let edits = with(written, Edit::SetOffset(description, place + count))?;
+    let written = Edits::new(heap).with(Edit::PutBytes(file, place, kept, size))?;
+    let edits = written.with(Edit::SetOffset(description, place + count))?;
     changed(Answer::Count(count), edits)
 }
 

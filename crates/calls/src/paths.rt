@@ -1,10 +1,10 @@
 // The plans of calls on paths.
-ghost use Rattle.std.specs.Prelude.{◌≡◌, ℕ, Some, true, false};
+ghost use Rattle.std.specs.Prelude.{◌≡◌, ◌∷◌, [], ℕ, Some, true, false};
 ghost use Rattle.model.specs.Changes.{Move};
 ghost use Rattle.calls.specs.Parts.{place_at, last_at, emptied, without_names, file_named, link_paths, name_file, rename_paths, move_target, gives, replaced, replaced_over};
 ghost use Rattle.model.specs.Walks.{is_directory};
-ghost use Rattle.model.specs.Plans.{plan, status, moved, replaced_by_name};
-ghost use Rattle.model.specs.Calls.{own, Stat as Stat_path, Mkdir, Rmdir, List_directory, Link, Unlink, Rename};
+ghost use Rattle.model.specs.Plans.{plan, changed, status, moved, replaced_by_name};
+ghost use Rattle.model.specs.Calls.{own, Done, Stat as Stat_path, Mkdir, Rmdir, List_directory, Link, Unlink, Rename};
 ghost use Rattle.look.specs.Asked.{Comes, Tells};
 
 use crate::asking::{links, names, size};
@@ -77,6 +77,13 @@ fn status_of<L: Look>(
     }
 }
 
+// One change, and no more to say.
+fn done(touches: &Touches, edit: Edit) -> Result<Change, Refusal>
+    ensures { Tells (changed Done (edit ∷ [])) result }
+{
+    changed_by(touches.heap(), Answer::Done, edit)
+}
+
 // The place that a path leads to.
 fn place_at<L: Look>(
     look: &L,
@@ -128,11 +135,7 @@ pub(crate) fn mkdir<L: Look>(
 {
     let last = last_at(look, Errno::EEXIST, path, touches)?;
     absent(last.found())?;
-    changed_by(
-        touches.heap(),
-        Answer::Done,
-        Edit::MakeDirectory(last.parent, last.name, 0),
-    )
+    done(touches, Edit::MakeDirectory(last.parent, last.name, 0))
 }
 
 pub(crate) fn rmdir<L: Look>(
@@ -146,11 +149,7 @@ pub(crate) fn rmdir<L: Look>(
 {
     let last = last_at(look, Errno::EBUSY, path, touches)?;
     must_be_emptied(look, last.found(), touches)?;
-    changed_by(
-        touches.heap(),
-        Answer::Done,
-        Edit::UnnameDirectory(last.parent, last.name),
-    )
+    done(touches, Edit::UnnameDirectory(last.parent, last.name))
 }
 
 // What goes has to be there, and an empty directory.
@@ -199,11 +198,7 @@ pub(crate) fn unlink<L: Look>(
 {
     let last = last_at(look, Errno::EPERM, path, touches)?;
     let file = file_named(last.found())?;
-    changed_by(
-        touches.heap(),
-        Answer::Done,
-        Edit::UnnameFile(last.parent, last.name, file),
-    )
+    done(touches, Edit::UnnameFile(last.parent, last.name, file))
 }
 
 // The file whose name goes.
@@ -256,11 +251,7 @@ fn name_file<L: Look>(
 {
     let last = walk_to_last(look, Errno::EEXIST, to, touches)?;
     absent(last.found())?;
-    changed_by(
-        touches.heap(),
-        Answer::Done,
-        Edit::NameFile(last.parent, last.name, file),
-    )
+    done(touches, Edit::NameFile(last.parent, last.name, file))
 }
 
 pub(crate) fn rename<L: Look>(
@@ -331,11 +322,7 @@ fn moved<L: Look>(
         unchanged(touches.heap(), Answer::Done)
     } else {
         let replaced = replaced(look, &what, to.found(), touches)?;
-        changed_by(
-            touches.heap(),
-            Answer::Done,
-            move_edit(from, to, what.0, replaced),
-        )
+        done(touches, move_edit(from, to, what.0, replaced))
     }
 }
 

@@ -14,4 +14,4 @@ pub returns-in_err-absent : goal.returns-in_err-absent
 returns-in_err-absent g c = goes _ c.in_ok-last.ensures (rw (sym c.found.ensures) (stops _ c.from_residual-in_err-absent.ensures.1 (c.in_err-absent.ensures _ _)))
 
 pub returns : goal.returns
-returns g c = goes _ c.in_ok-last.ensures (rw (sym c.found.ensures) (goes _ (c.in_ok-absent.ensures _ _) (via (ap (λ (l : Last). changed Done (Name_file l.parent l.name c.args.file ∷ [])) (sym c.last.view_is)) (c.changed_by.ensures _ _))))
+returns g c = goes _ c.in_ok-last.ensures (rw (sym c.found.ensures) (goes _ (c.in_ok-absent.ensures _ _) (via (ap (λ (l : Last). changed Done (Name_file l.parent l.name c.args.file ∷ [])) (sym c.last.view_is)) (c.done.ensures _ _))))

@@ -16,4 +16,4 @@ pub returns-in_err-must_be_emptied : goal.returns-in_err-must_be_emptied
 returns-in_err-must_be_emptied g c pid = last_go EBUSY c.args.path.now _ c.in_ok-last.ensures (rw (sym c.found.ensures) (via (emptied_then c.found.result (changed Done (Unname_directory c.in_ok-last.last.parent c.in_ok-last.last.name ∷ []))) (stops _ c.from_residual-in_err-must_be_emptied.ensures.1 c.in_err-must_be_emptied.ensures)))
 
 pub returns : goal.returns
-returns g c pid = last_go EBUSY c.args.path.now _ c.in_ok-last.ensures (rw (sym c.found.ensures) (via (emptied_then c.found.result (changed Done (Unname_directory c.in_ok-last.last.parent c.in_ok-last.last.name ∷ []))) (goes _ c.in_ok-must_be_emptied.ensures (via (ap (λ (l : Last). changed Done (Unname_directory l.parent l.name ∷ [])) (sym c.last.view_is)) (c.changed_by.ensures _ _)))))
+returns g c pid = last_go EBUSY c.args.path.now _ c.in_ok-last.ensures (rw (sym c.found.ensures) (via (emptied_then c.found.result (changed Done (Unname_directory c.in_ok-last.last.parent c.in_ok-last.last.name ∷ []))) (goes _ c.in_ok-must_be_emptied.ensures (via (ap (λ (l : Last). changed Done (Unname_directory l.parent l.name ∷ [])) (sym c.last.view_is)) (c.done.ensures _ _)))))

@@ -16,4 +16,4 @@ pub returns-in_err-file : goal.returns-in_err-file
 returns-in_err-file g c pid = last_go EPERM c.args.path.now _ c.in_ok-last.ensures (rw (sym c.found.ensures) (via (file_then c.found.result (λ file. changed Done (Unname_file c.in_ok-last.last.parent c.in_ok-last.last.name file ∷ []))) (stops _ c.from_residual-in_err-file.ensures.1 (c.in_err-file.ensures _ _))))
 
 pub returns : goal.returns
-returns g c pid = last_go EPERM c.args.path.now _ c.in_ok-last.ensures (rw (sym c.found.ensures) (via (file_then c.found.result (λ file. changed Done (Unname_file c.in_ok-last.last.parent c.in_ok-last.last.name file ∷ []))) (goes _ (c.in_ok-file.ensures _ _) (via (ap (λ (l : Last). changed Done (Unname_file l.parent l.name c.in_ok-file.file ∷ [])) (sym c.last.view_is)) (c.changed_by.ensures _ _)))))
+returns g c pid = last_go EPERM c.args.path.now _ c.in_ok-last.ensures (rw (sym c.found.ensures) (via (file_then c.found.result (λ file. changed Done (Unname_file c.in_ok-last.last.parent c.in_ok-last.last.name file ∷ []))) (goes _ (c.in_ok-file.ensures _ _) (via (ap (λ (l : Last). changed Done (Unname_file l.parent l.name c.in_ok-file.file ∷ [])) (sym c.last.view_is)) (c.done.ensures _ _)))))
