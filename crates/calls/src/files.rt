@@ -74,13 +74,7 @@ fn opened_new(
 {
     must_create(flags)?;
     let made = Edits::new(heap).with(Edit::MakeFile(last.parent, last.name, 0))?;
-    let edits = made.with(Edit::OpenInode(
-        1,
-        Which::Made(0),
-        mode(flags),
-        own.pid(),
-        fd,
-    ))?;
+    let edits = made.with(Edit::OpenInode(1, Which::Made(0), mode(flags), own.pid(), fd))?;
     changed(Answer::Fd(fd), edits)
 }
 
@@ -99,13 +93,7 @@ fn opened_old<L: Look>(
     must_be_new(flags)?;
     must_not_be_directory(&place, Errno::EISDIR)?;
     let cut = cut_if(look, flags, place.0, touches)?;
-    let edits = cut.with(Edit::OpenInode(
-        0,
-        Which::There(place.0),
-        mode(flags),
-        own.pid(),
-        fd,
-    ))?;
+    let edits = cut.with(Edit::OpenInode(0, Which::There(place.0), mode(flags), own.pid(), fd))?;
     changed(Answer::Fd(fd), edits)
 }
 
@@ -246,10 +234,7 @@ fn moved_on(heap: Heap, description: Num, offset: u32, bytes: &Bytes) -> Result<
     if is_empty(bytes) {
         Ok(Edits::new(heap))
     } else {
-        Edits::new(heap).with(Edit::SetOffset(
-            description,
-            offset + bytes.as_slice().len() as u32,
-        ))
+        Edits::new(heap).with(Edit::SetOffset(description, offset + bytes.as_slice().len() as u32))
     }
 }
 

@@ -78,10 +78,10 @@ fn status_of<L: Look>(
 }
 
 // One change, and no more to say.
-fn done(touches: &Touches, edit: Edit) -> Result<Change, Refusal>
+fn done(heap: Heap, edit: Edit) -> Result<Change, Refusal>
     ensures { Tells (changed Done (edit ∷ [])) result }
 {
-    changed_by(touches.heap(), Answer::Done, edit)
+    changed_by(heap, Answer::Done, edit)
 }
 
 // The place that a path leads to.
@@ -135,7 +135,10 @@ pub(crate) fn mkdir<L: Look>(
 {
     let last = last_at(look, Errno::EEXIST, path, touches)?;
     absent(last.found())?;
-    done(touches, Edit::MakeDirectory(last.parent, last.name, 0))
+    done(
+        touches.heap(),
+        Edit::MakeDirectory(last.parent, last.name, 0),
+    )
 }
 
 pub(crate) fn rmdir<L: Look>(
@@ -149,7 +152,10 @@ pub(crate) fn rmdir<L: Look>(
 {
     let last = last_at(look, Errno::EBUSY, path, touches)?;
     must_be_emptied(look, last.found(), touches)?;
-    done(touches, Edit::UnnameDirectory(last.parent, last.name))
+    done(
+        touches.heap(),
+        Edit::UnnameDirectory(last.parent, last.name),
+    )
 }
 
 // What goes has to be there, and an empty directory.
@@ -198,7 +204,10 @@ pub(crate) fn unlink<L: Look>(
 {
     let last = last_at(look, Errno::EPERM, path, touches)?;
     let file = file_named(last.found())?;
-    done(touches, Edit::UnnameFile(last.parent, last.name, file))
+    done(
+        touches.heap(),
+        Edit::UnnameFile(last.parent, last.name, file),
+    )
 }
 
 // The file whose name goes.
@@ -251,7 +260,7 @@ fn name_file<L: Look>(
 {
     let last = walk_to_last(look, Errno::EEXIST, to, touches)?;
     absent(last.found())?;
-    done(touches, Edit::NameFile(last.parent, last.name, file))
+    done(touches.heap(), Edit::NameFile(last.parent, last.name, file))
 }
 
 pub(crate) fn rename<L: Look>(
@@ -322,7 +331,7 @@ fn moved<L: Look>(
         unchanged(touches.heap(), Answer::Done)
     } else {
         let replaced = replaced(look, &what, to.found(), touches)?;
-        done(touches, move_edit(from, to, what.0, replaced))
+        done(touches.heap(), move_edit(from, to, what.0, replaced))
     }
 }
 
