@@ -1,13 +1,12 @@
 // A heap that refuses the request that it was told to refuse.
 use heap::Heap;
-use std::test::Fail;
 
 // What another thread may take.
 fn sent<T: Send + Drop>(_value: T) {}
 
 #[test]
-fn refuses_one_request(rt: HostRuntime) -> Result<(), Fail> {
-    let heap = heap::open(rt.alloc())?;
+fn refuses_one_request(rt: HostRuntime) {
+    let heap = heap::open(rt.alloc()).expect(&rt, "memory");
     let mut v: Vec<u8, Heap> = Vec::new(heap);
     heap.refuse(1);
     assert!(rt; v.push(1).is_err());
@@ -16,5 +15,4 @@ fn refuses_one_request(rt: HostRuntime) -> Result<(), Fail> {
     assert!(rt; v.push(2).is_ok());
     assert_eq!(rt; heap.made(), 2);
     sent(v);
-    Ok(())
 }

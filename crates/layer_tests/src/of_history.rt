@@ -2,7 +2,6 @@
 use heap::Heap;
 use history::History;
 use ids::{Entry, Nums, Op, Pid, Pids, Priority, Reply};
-use std::test::Fail;
 
 fn begun(heap: Heap) -> Entry {
     Entry {
@@ -20,10 +19,10 @@ fn is_taken(heap: Heap, history: &mut History) -> bool {
 }
 
 #[test]
-fn takes_its_memory_at_the_start(rt: HostRuntime) -> Result<(), Fail> {
-    let heap = heap::open(rt.alloc())?;
-    let zero = Priority::new(0).ok_or("no priority")?;
-    let mut history = History::new(heap, &[zero, zero], 2)?;
+fn takes_its_memory_at_the_start(rt: HostRuntime) {
+    let heap = heap::open(rt.alloc()).expect(&rt, "memory");
+    let zero = Priority::new(0).unwrap();
+    let mut history = History::new(heap, &[zero, zero], 2).expect(&rt, "memory");
     heap.refuse(0);
     assert!(rt; is_taken(heap, &mut history));
     assert!(rt; is_taken(heap, &mut history));
@@ -32,16 +31,14 @@ fn takes_its_memory_at_the_start(rt: HostRuntime) -> Result<(), Fail> {
     assert_eq!(rt; history.entries().len(), 2);
     assert_eq!(rt; history.priorities().len(), 2);
     assert_eq!(rt; history.limit(), 2);
-    Ok(())
 }
 
 #[test]
-fn refused_memory_gives_nothing(rt: HostRuntime) -> Result<(), Fail> {
-    let heap = heap::open(rt.alloc())?;
-    let zero = Priority::new(0).ok_or("no priority")?;
+fn refused_memory_gives_nothing(rt: HostRuntime) {
+    let heap = heap::open(rt.alloc()).expect(&rt, "memory");
+    let zero = Priority::new(0).unwrap();
     for number in 1..3u64 {
         heap.refuse(number);
         assert!(rt; History::new(heap, &[zero], 2).is_err());
     }
-    Ok(())
 }

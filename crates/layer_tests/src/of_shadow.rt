@@ -6,11 +6,11 @@ use ids::{Edit, Name, Num, Priority};
 use look::Look;
 use shadow::{Shadow, Stable, View};
 use std::alloc::AllocError;
-use std::test::Fail;
+use std::process::Abort;
 
-fn first_stable(heap: Heap) -> Result<Stable, Fail> {
+fn first_stable(rt: &impl Abort, heap: Heap) -> Stable {
     let priorities = [Priority::new(3).unwrap()];
-    Ok(Stable::new(heap, &priorities)?)
+    Stable::new(heap, &priorities).expect(rt, "memory")
 }
 
 // A new directory in the root, in the shadow of a transaction. Its number is answered.
@@ -46,16 +46,16 @@ fn tried(heap: Heap, stable: &mut Stable, request: u64) -> Result<Num, AllocErro
 }
 
 #[test]
-fn refused_memory_gives_numbers_back(rt: HostRuntime) -> Result<(), Fail> {
-    let heap = heap::open(rt.alloc())?;
-    let mut stable = first_stable(heap)?;
+fn refused_memory_gives_numbers_back(rt: HostRuntime) {
+    let heap = heap::open(rt.alloc()).expect(&rt, "memory");
+    let mut stable = first_stable(&rt, heap);
     for request in 1..20 {
         match tried(heap, &mut stable, request) {
             Err(_refused) => {}
             Ok(num) => {
                 assert!(rt; request > 3);
                 assert_eq!(rt; num, Num(1));
-                return Ok(());
+                return;
             }
         }
     }
@@ -63,12 +63,12 @@ fn refused_memory_gives_numbers_back(rt: HostRuntime) -> Result<(), Fail> {
 }
 
 #[test]
-fn two_transactions_have_two_numbers(rt: HostRuntime) -> Result<(), Fail> {
-    let heap = heap::open(rt.alloc())?;
-    let mut stable = first_stable(heap)?;
+fn two_transactions_have_two_numbers(rt: HostRuntime) {
+    let heap = heap::open(rt.alloc()).expect(&rt, "memory");
+    let mut stable = first_stable(&rt, heap);
     let mut first = Shadow::new(heap);
     let mut second = Shadow::new(heap);
-    assert_eq!(rt; added(heap, &mut stable, &mut first, b"a")?, Num(1));
-    assert_eq!(rt; added(heap, &mut stable, &mut second, b"b")?, Num(2));
-    Ok(())
+    let one = added(heap, &mut stable, &mut first, b"a").expect(&rt, "memory");
+    let two = added(heap, &mut stable, &mut second, b"b").expect(&rt, "memory");
+    assert_eq!(rt; [one, two], [Num(1), Num(2)]);
 }

@@ -2,19 +2,23 @@
 use dirlist::Dir;
 use heap::Heap;
 use ids::{Name, Num};
-use std::alloc::AllocError;
-use std::test::Fail;
+use std::process::Abort;
 use store::{Object, Store};
 
 fn no_names(heap: Heap) -> Object {
     Object::Directory(Dir::new(heap))
 }
 
+// The number of a new directory to come.
+fn reserved(rt: &impl Abort, heap: Heap, store: &mut Store) -> Num {
+    store.reserve_num(no_names(heap)).expect(rt, "memory")
+}
+
 // A new directory that is shown.
-fn added(heap: Heap, store: &mut Store) -> Result<Num, AllocError> {
-    let num = store.reserve_num(no_names(heap))?;
+fn added(rt: &impl Abort, heap: Heap, store: &mut Store) -> Num {
+    let num = reserved(rt, heap, store);
     store.install(num);
-    Ok(num)
+    num
 }
 
 fn name_count(store: &Store, num: Num) -> Option<usize> {
@@ -22,25 +26,24 @@ fn name_count(store: &Store, num: Num) -> Option<usize> {
 }
 
 #[test]
-fn reserved_numbers_differ(rt: HostRuntime) -> Result<(), Fail> {
-    let heap = heap::open(rt.alloc())?;
-    let mut store = Store::new(heap)?;
+fn reserved_numbers_differ(rt: HostRuntime) {
+    let heap = heap::open(rt.alloc()).expect(&rt, "memory");
+    let mut store = Store::new(heap).expect(&rt, "memory");
     let root = store.root();
-    let first = store.reserve_num(no_names(heap))?;
-    let second = store.reserve_num(no_names(heap))?;
+    let first = reserved(&rt, heap, &mut store);
+    let second = reserved(&rt, heap, &mut store);
     assert!(rt; first != second && first != root && second != root);
     assert_eq!(rt; name_count(&store, root), Some(0));
     store.free(first);
-    let third = store.reserve_num(no_names(heap))?;
+    let third = reserved(&rt, heap, &mut store);
     assert!(rt; third != second && third != root);
-    Ok(())
 }
 
 #[test]
-fn what_is_installed_is_shown(rt: HostRuntime) -> Result<(), Fail> {
-    let heap = heap::open(rt.alloc())?;
-    let mut store = Store::new(heap)?;
-    let num = store.reserve_num(no_names(heap))?;
+fn what_is_installed_is_shown(rt: HostRuntime) {
+    let heap = heap::open(rt.alloc()).expect(&rt, "memory");
+    let mut store = Store::new(heap).expect(&rt, "memory");
+    let num = reserved(&rt, heap, &mut store);
     assert!(rt; store.get(num).is_none());
     heap.refuse(0);
     store.install(num);
@@ -50,14 +53,13 @@ fn what_is_installed_is_shown(rt: HostRuntime) -> Result<(), Fail> {
     store.install(num);
     assert!(rt; store.get(num).is_some());
     assert_eq!(rt; heap.made(), 0);
-    Ok(())
 }
 
 #[test]
-fn what_is_freed_stays_away(rt: HostRuntime) -> Result<(), Fail> {
-    let heap = heap::open(rt.alloc())?;
-    let mut store = Store::new(heap)?;
-    let num = added(heap, &mut store)?;
+fn what_is_freed_stays_away(rt: HostRuntime) {
+    let heap = heap::open(rt.alloc()).expect(&rt, "memory");
+    let mut store = Store::new(heap).expect(&rt, "memory");
+    let num = added(&rt, heap, &mut store);
     heap.refuse(0);
     store.free(num);
     assert_eq!(rt; name_count(&store, num), None);
@@ -65,16 +67,15 @@ fn what_is_freed_stays_away(rt: HostRuntime) -> Result<(), Fail> {
     assert_eq!(rt; name_count(&store, num), None);
     assert_eq!(rt; heap.made(), 0);
     assert_eq!(rt; name_count(&store, store.root()), Some(0));
-    Ok(())
 }
 
 // A store, and a directory to come with room for two names.
-fn with_room(heap: Heap) -> Result<(Store, Num), AllocError> {
-    let mut store = Store::new(heap)?;
-    let dir = store.reserve_num(no_names(heap))?;
-    store.promise(dir)?;
-    store.promise(dir)?;
-    Ok((store, dir))
+fn with_room(rt: &impl Abort, heap: Heap) -> (Store, Num) {
+    let mut store = Store::new(heap).expect(rt, "memory");
+    let dir = reserved(rt, heap, &mut store);
+    store.promise(dir).expect(rt, "memory");
+    store.promise(dir).expect(rt, "memory");
+    (store, dir)
 }
 
 // Adds a name where room for it is promised.
@@ -85,11 +86,11 @@ fn add_promised(store: &mut Store, dir: Num, name: Name, num: Num) {
 }
 
 #[test]
-fn names_are_added_in_promised_room(rt: HostRuntime) -> Result<(), Fail> {
-    let heap = heap::open(rt.alloc())?;
-    let (mut store, dir) = with_room(heap)?;
-    let name = Name::copy(heap, b"a")?;
-    let same = Name::copy(heap, b"a")?;
+fn names_are_added_in_promised_room(rt: HostRuntime) {
+    let heap = heap::open(rt.alloc()).expect(&rt, "memory");
+    let (mut store, dir) = with_room(&rt, heap);
+    let name = Name::copy(heap, b"a").expect(&rt, "memory");
+    let same = Name::copy(heap, b"a").expect(&rt, "memory");
     heap.refuse(0);
     add_promised(&mut store, dir, name, Num(7));
     store.install(dir);
@@ -98,52 +99,59 @@ fn names_are_added_in_promised_room(rt: HostRuntime) -> Result<(), Fail> {
     assert!(rt; !store.is_promised(dir));
     assert_eq!(rt; name_count(&store, dir), Some(1));
     assert_eq!(rt; heap.made(), 0);
-    Ok(())
 }
 
 #[test]
-fn a_name_gives_what_was_added_last(rt: HostRuntime) -> Result<(), Fail> {
-    let heap = heap::open(rt.alloc())?;
-    let (mut store, dir) = with_room(heap)?;
-    let key = Name::copy(heap, b"a")?;
-    add_promised(&mut store, dir, Name::copy(heap, b"a")?, Num(7));
+fn a_name_gives_what_was_added_last(rt: HostRuntime) {
+    let heap = heap::open(rt.alloc()).expect(&rt, "memory");
+    let (mut store, dir) = with_room(&rt, heap);
+    let key = Name::copy(heap, b"a").expect(&rt, "memory");
+    add_promised(
+        &mut store,
+        dir,
+        Name::copy(heap, b"a").expect(&rt, "memory"),
+        Num(7),
+    );
     assert_eq!(rt; store.lookup(dir, &key), None);
     store.install(dir);
     assert_eq!(rt; store.lookup(dir, &key), Some(Num(7)));
-    add_promised(&mut store, dir, Name::copy(heap, b"a")?, Num(8));
+    add_promised(
+        &mut store,
+        dir,
+        Name::copy(heap, b"a").expect(&rt, "memory"),
+        Num(8),
+    );
     assert_eq!(rt; store.lookup(dir, &key), Some(Num(8)));
     assert_eq!(rt; store.remove_name(dir, &key), Some(Num(8)));
     assert_eq!(rt; store.remove_name(dir, &key), None);
-    Ok(())
 }
 
 #[test]
-fn promises_are_counted(rt: HostRuntime) -> Result<(), Fail> {
-    let heap = heap::open(rt.alloc())?;
-    let mut store = Store::new(heap)?;
+fn promises_are_counted(rt: HostRuntime) {
+    let heap = heap::open(rt.alloc()).expect(&rt, "memory");
+    let mut store = Store::new(heap).expect(&rt, "memory");
     let root = store.root();
-    let other = added(heap, &mut store)?;
+    let other = added(&rt, heap, &mut store);
     assert!(rt; !store.is_promised(root));
     store.release(root);
-    store.promise(root)?;
-    store.promise(root)?;
+    store.promise(root).expect(&rt, "memory");
+    store.promise(root).expect(&rt, "memory");
     store.release(root);
     assert!(rt; store.is_promised(root));
     assert!(rt; !store.is_promised(other));
     store.release(root);
     assert!(rt; !store.is_promised(root));
     store.free(other);
-    store.promise(other)?;
+    store.promise(other).expect(&rt, "memory");
     assert!(rt; !store.is_promised(other));
-    Ok(())
 }
 
 #[test]
-fn refused_memory_changes_nothing(rt: HostRuntime) -> Result<(), Fail> {
-    let heap = heap::open(rt.alloc())?;
+fn refused_memory_changes_nothing(rt: HostRuntime) {
+    let heap = heap::open(rt.alloc()).expect(&rt, "memory");
     heap.refuse(1);
     assert!(rt; Store::new(heap).is_err());
-    let mut store = Store::new(heap)?;
+    let mut store = Store::new(heap).expect(&rt, "memory");
     let root = store.root();
     let mut refused = false;
     for _ in 0..20u32 {
@@ -161,5 +169,4 @@ fn refused_memory_changes_nothing(rt: HostRuntime) -> Result<(), Fail> {
     heap.refuse(0);
     assert!(rt; store.reserve_num(no_names(heap)).is_ok());
     assert!(rt; store.promise(root).is_ok());
-    Ok(())
 }
