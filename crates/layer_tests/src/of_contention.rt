@@ -40,10 +40,20 @@ fn against_a_writer(rt: &impl Abort, heap: Heap, own: u8, other: u8) -> Contende
     all
 }
 
-fn winner(verdict: &Verdict) -> Option<Pid> {
-    match verdict {
+/// To whom process 1 loses where it reads the length.
+fn winner(rt: &impl Abort, heap: Heap, all: &Contenders) -> Option<Pid>
+    requires { 1 < length all.now }
+{
+    match &verdict_of(rt, heap, all, false) {
         Verdict::Lose(entry, _) => Some(entry.other),
         Verdict::Go(_) => None,
+    }
+}
+
+fn doomed_count(verdict: &Verdict) -> Option<usize> {
+    match verdict {
+        Verdict::Lose(..) => None,
+        Verdict::Go(doomed) => Some(doomed.len()),
     }
 }
 
@@ -63,8 +73,8 @@ fn the_higher_and_the_earlier_win(rt: HostRuntime) {
         if let Some(age) = age {
             all.begin(Pid(1), age);
         }
-        let verdict = verdict_of(&rt, heap, &all, false);
-        assert_eq!(rt; winner(&verdict), if loses { Some(Pid(2)) } else { None });
+        let winner = winner(&rt, heap, &all);
+        assert_eq!(rt; winner, if loses { Some(Pid(2)) } else { None });
     }
 }
 
@@ -92,9 +102,12 @@ fn a_plain_write_dooms_the_readers_rising(rt: HostRuntime) {
     };
     assert_eq!(rt; doomed.len(), 2);
     for (place, each) in doomed.iter().enumerate() {
-        assert_eq!(rt; each.pid.0 as usize, place + 2);
-        assert_eq!(rt; each.entry.other, Pid(1));
-        assert!(rt; !each.reply.touch.write);
+        let told = (
+            each.pid.0 as usize,
+            each.entry.other,
+            each.reply.touch.write,
+        );
+        assert_eq!(rt; told, (place + 2, Pid(1), false));
     }
 }
 
@@ -108,5 +121,5 @@ fn a_refused_growth_leaves_all_as_it_was(rt: HostRuntime) {
     heap.refuse(1);
     assert!(rt; all.add(Pid(2), more).is_err());
     let verdict = verdict_of(&rt, heap, &all, true);
-    assert!(rt; matches!(&verdict, Verdict::Go(doomed) if doomed.is_empty()));
+    assert_eq!(rt; doomed_count(&verdict), Some(0));
 }

@@ -1,6 +1,7 @@
 // Writes, cuts and growths against a plain list of bytes, merges of shadows, refused memory.
 ghost use Rattle.std.specs.Prelude.{◌≤◌};
 
+use crate::refused::is_refused;
 use file_shadow::FileShadow;
 use heap::Heap;
 use objects::{FileData, part};
@@ -142,9 +143,9 @@ fn a_refused_write_changes_nothing(rt: HostRuntime) {
     for number in 1..5 {
         let mut shadow = FileShadow::new(heap);
         heap.refuse(number);
-        assert!(rt; shadow.write(heap, 9000, b"z").is_err(), "request {number}");
-        assert!(rt; shadow.changed().is_empty());
-        assert_eq!(rt; shadow.len(&file), 3000);
+        let refused = shadow.write(heap, 9000, b"z").is_err();
+        let seen = (refused, shadow.changed().len(), shadow.len(&file));
+        assert_eq!(rt; seen, (true, 0, 3000), "request {number}");
         shadow.write(heap, 9000, b"z").expect(&rt, "memory");
         assert_eq!(rt; shadow.changed(), [8].as_slice());
         assert_eq!(rt; shadow.len(&file), 9001);
@@ -158,9 +159,9 @@ fn a_cut_takes_no_memory_and_a_refused_read_changes_nothing(rt: HostRuntime) {
     let mut shadow = FileShadow::new(heap);
     heap.refuse(1);
     shadow.cut(20_000);
-    assert_eq!(rt; shadow.len(&file), 20_000);
-    assert!(rt; shadow.read(heap, &file, 0, 3).is_err());
-    assert_eq!(rt; shadow.len(&file), 20_000);
+    let len = shadow.len(&file);
+    assert!(rt; is_refused(shadow.read(heap, &file, 0, 3)));
+    assert_eq!(rt; [len, shadow.len(&file)], [20_000; 2]);
 }
 
 // Others write in a changed block and change the length: the view is that of the file as it is then.
@@ -174,9 +175,9 @@ fn a_view_is_right_for_what_others_left(rt: HostRuntime) {
     assert_reads(&rt, heap, &shadow, &file, 7, b"aooyyooa");
     file.cut(11).expect(&rt, "memory");
     assert_reads(&rt, heap, &shadow, &file, 9, b"oyy");
-    assert_eq!(rt; shadow.len(&file), 12);
+    let len = shadow.len(&file);
     file.promise(shadow.room()).expect(&rt, "memory");
     shadow.commit_into(&mut file);
-    assert_eq!(rt; file.len(), 12);
+    assert_eq!(rt; [len, file.len()], [12; 2]);
     assert_holds(&rt, &file, 7, b"aooyy");
 }

@@ -1,4 +1,5 @@
 // A history takes its memory when it is made, and none for an entry.
+use crate::refused::is_refused;
 use heap::Heap;
 use history::History;
 use ids::{Entry, Nums, Op, Pid, Pids, Priority, Reply};
@@ -24,13 +25,14 @@ fn takes_its_memory_at_the_start(rt: HostRuntime) {
     let zero = Priority::new(0).unwrap();
     let mut history = History::new(heap, &[zero, zero], 2).expect(&rt, "memory");
     heap.refuse(0);
-    assert!(rt; is_taken(heap, &mut history));
-    assert!(rt; is_taken(heap, &mut history));
-    assert!(rt; !is_taken(heap, &mut history));
-    assert_eq!(rt; heap.made(), 0);
-    assert_eq!(rt; history.entries().len(), 2);
-    assert_eq!(rt; history.priorities().len(), 2);
-    assert_eq!(rt; history.limit(), 2);
+    let taken = [
+        is_taken(heap, &mut history),
+        is_taken(heap, &mut history),
+        is_taken(heap, &mut history),
+    ];
+    assert_eq!(rt; (taken, heap.made()), ([true, true, false], 0));
+    let lengths = [history.entries().len(), history.priorities().len()];
+    assert_eq!(rt; (lengths, history.limit()), ([2; 2], 2));
 }
 
 #[test]
@@ -39,6 +41,6 @@ fn refused_memory_gives_nothing(rt: HostRuntime) {
     let zero = Priority::new(0).unwrap();
     for number in 1..3u64 {
         heap.refuse(number);
-        assert!(rt; History::new(heap, &[zero], 2).is_err());
+        assert!(rt; is_refused(History::new(heap, &[zero], 2)));
     }
 }

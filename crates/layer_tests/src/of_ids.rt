@@ -1,4 +1,5 @@
 // Each public function once, with ample memory, against what it should give.
+use crate::refused::is_refused;
 use bitflags::Flags;
 use heap::Heap;
 use ids::{
@@ -46,8 +47,8 @@ fn a_refused_copy_says_so(rt: HostRuntime) {
     let heap = heap::open(rt.alloc()).expect(&rt, "memory");
     let path = Bytes::copy(heap, b"/a").expect(&rt, "memory");
     heap.refuse(1);
-    assert!(rt; path.try_clone().is_err());
-    assert!(rt; path.try_clone().is_ok());
+    assert!(rt; is_refused(path.try_clone()));
+    assert!(rt; !is_refused(path.try_clone()));
 }
 
 #[test]

@@ -2,8 +2,15 @@
 ghost use Rattle.std.specs.Prelude.{◌≡◌, []};
 
 use crate::pipes::assert_taken;
+use crate::refused::is_refused;
+use heap::Heap;
 use ids::Num;
 use objects::{Description, FileData, LARGEST_FILE, PipeData};
+use std::process::Abort;
+
+fn assert_holds(rt: &impl Abort, file: &FileData, want: &[u8]) {
+    assert_eq!(rt; file.as_slice(), want);
+}
 
 #[test]
 fn a_file_is_a_list_of_bytes(rt: HostRuntime) {
@@ -12,11 +19,11 @@ fn a_file_is_a_list_of_bytes(rt: HostRuntime) {
     assert!(rt; file.is_empty());
     file.write_at(0, b"abc").expect(&rt, "memory");
     file.write_at(5, b"xy").expect(&rt, "memory");
-    assert_eq!(rt; file.as_slice(), b"abc\0\0xy".as_slice());
+    assert_holds(&rt, &file, b"abc\0\0xy");
     file.write_at(1, b"B").expect(&rt, "memory");
     file.cut(3).expect(&rt, "memory");
     file.cut(5).expect(&rt, "memory");
-    assert_eq!(rt; file.as_slice(), b"aBc\0\0".as_slice());
+    assert_holds(&rt, &file, b"aBc\0\0");
 }
 
 #[test]
@@ -41,8 +48,7 @@ fn a_file_grows_in_room_that_was_made(rt: HostRuntime) {
     file.write_at(2999, b"z").expect(&rt, "memory");
     file.cut(10).expect(&rt, "memory");
     file.cut(3000).expect(&rt, "memory");
-    assert_eq!(rt; heap.made(), 0);
-    assert_eq!(rt; file.len(), 3000);
+    assert_eq!(rt; (heap.made(), file.len()), (0, 3000));
 }
 
 #[test]
@@ -51,14 +57,15 @@ fn a_refused_file_stays(rt: HostRuntime) {
     let mut file = FileData::new(heap);
     file.write_at(0, b"abc").expect(&rt, "memory");
     heap.refuse(1);
-    assert!(rt; file.read_at(heap, 0, 3).is_err());
+    let read = is_refused(file.read_at(heap, 0, 3));
     heap.refuse(1);
-    assert!(rt; file.write_at(5000, b"z").is_err());
+    let written = is_refused(file.write_at(5000, b"z"));
     heap.refuse(1);
-    assert!(rt; file.cut(5000).is_err());
+    let cut = is_refused(file.cut(5000));
     heap.refuse(1);
-    assert!(rt; file.promise(5000).is_err());
-    assert_eq!(rt; file.as_slice(), b"abc".as_slice());
+    let promised = is_refused(file.promise(5000));
+    assert_eq!(rt; [read, written, cut, promised], [true; 4]);
+    assert_holds(&rt, &file, b"abc");
     file.write_at(5000, b"z").expect(&rt, "memory");
     assert_eq!(rt; file.len(), 5001);
 }
@@ -76,12 +83,17 @@ fn put_around(pipe: &mut PipeData)
 fn a_pipe_takes_its_memory_at_the_start(rt: HostRuntime) {
     let heap = heap::open(rt.alloc()).expect(&rt, "memory");
     heap.refuse(1);
-    assert!(rt; PipeData::new(heap).is_err());
+    assert!(rt; is_refused(PipeData::new(heap)));
     let mut pipe = PipeData::new(heap).expect(&rt, "memory");
     heap.refuse(0);
     put_around(&mut pipe);
-    assert_eq!(rt; heap.made(), 0);
-    assert_eq!(rt; pipe.room(), 4084);
+    assert_eq!(rt; (heap.made(), pipe.room()), (0, 4084));
+}
+
+// Reads as many bytes as are wanted, behind so many.
+fn assert_read(rt: &impl Abort, heap: Heap, pipe: &PipeData, skipped: usize, want: &[u8]) {
+    let read = pipe.read(heap, skipped, want.len()).expect(rt, "memory");
+    assert_eq!(rt; read.as_slice(), want);
 }
 
 #[test]
@@ -89,8 +101,7 @@ fn a_pipe_is_a_list_of_bytes(rt: HostRuntime) {
     let heap = heap::open(rt.alloc()).expect(&rt, "memory");
     let mut pipe = PipeData::new(heap).expect(&rt, "memory");
     put_around(&mut pipe);
-    let read = pipe.read(heap, 3, 7).expect(&rt, "memory");
-    assert_eq!(rt; read.as_slice(), b"bcdefgh".as_slice());
+    assert_read(&rt, heap, &pipe, 3, b"bcdefgh");
     assert_taken(&rt, heap, &mut pipe, 3, b"\x01\x01a");
     assert_taken(&rt, heap, &mut pipe, 20, b"bcdefghij");
     assert!(rt; pipe.is_empty());
@@ -102,10 +113,10 @@ fn a_refused_pipe_stays(rt: HostRuntime) {
     let mut pipe = PipeData::new(heap).expect(&rt, "memory");
     put_around(&mut pipe);
     heap.refuse(1);
-    assert!(rt; pipe.read(heap, 0, 3).is_err());
+    let read = is_refused(pipe.read(heap, 0, 3));
     heap.refuse(1);
-    assert!(rt; pipe.take(heap, 3).is_err());
-    assert_eq!(rt; pipe.len(), 12);
+    let taken = is_refused(pipe.take(heap, 3));
+    assert_eq!(rt; (read, taken, pipe.len()), (true, true, 12));
 }
 
 #[test]

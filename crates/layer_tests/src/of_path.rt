@@ -13,10 +13,11 @@ fn read(rt: &impl Abort, heap: Heap, bytes: &[u8]) -> Path {
     Path::parse(heap, bytes).expect(rt, "a path")
 }
 
-// The names that were read, each with a blank behind it.
-fn names(rt: &impl Abort, heap: Heap, bytes: &[u8]) -> Vec<u8, Heap> {
+// The names that are read, each with a blank behind it.
+fn assert_names(rt: &impl Abort, heap: Heap, bytes: &[u8], want: &[u8]) {
     let path = read(rt, heap, bytes);
-    joined(rt, heap, path.components())
+    let told = joined(rt, heap, path.components());
+    assert_eq!(rt; told.as_slice(), want);
 }
 
 // One more slash and a name of so many letters.
@@ -36,8 +37,7 @@ fn reads_names_from_the_root_on(rt: HostRuntime) {
         ("/..a", "..a "),
         ("/b/.a/...", "b .a ... "),
     ] {
-        let told = names(&rt, heap, path.as_bytes());
-        assert_eq!(rt; told.as_slice(), expected.as_bytes(), "{path}");
+        assert_names(&rt, heap, path.as_bytes(), expected.as_bytes());
     }
 }
 
@@ -50,29 +50,39 @@ fn refuses_other_spellings(rt: HostRuntime) {
     }
 }
 
-#[test]
-fn refuses_a_path_that_is_too_long(rt: HostRuntime) {
-    let heap = heap::open(rt.alloc()).expect(&rt, "memory");
-    let mut path = Vec::new(heap);
-    for _ in 0..4 {
-        push_long(&rt, &mut path, 255);
+// Names of so many letters each, behind a beginning and before an ending: how long this path is, and why it is refused.
+fn told_of_long(
+    rt: &impl Abort,
+    heap: Heap,
+    beginning: &str,
+    names: &[usize],
+    ending: &str,
+) -> (usize, Option<Refusal>) {
+    let mut path = Vec::from_slice(heap, beginning.as_bytes()).expect(rt, "memory");
+    for letters in names {
+        push_long(rt, &mut path, *letters);
     }
-    assert_eq!(rt; path.len(), 1024);
-    assert_eq!(rt; refusal(heap, path.as_slice()), None);
-    path.push(b'/').expect(&rt, "memory");
-    let too_long = Some(Refusal::Errno(Errno::ENAMETOOLONG));
-    assert_eq!(rt; refusal(heap, path.as_slice()), too_long);
+    path.extend_from_slice(ending.as_bytes())
+        .expect(rt, "memory");
+    (path.len(), refusal(heap, path.as_slice()))
 }
 
 // The first fault from the left is the one that is told.
 #[test]
-fn refuses_a_name_that_is_too_long(rt: HostRuntime) {
+fn refuses_a_path_or_a_name_that_is_too_long(rt: HostRuntime) {
     let heap = heap::open(rt.alloc()).expect(&rt, "memory");
-    for (beginning, fault) in [("", Errno::ENAMETOOLONG), ("/.", Errno::EINVAL)] {
-        let mut path = Vec::from_slice(heap, beginning.as_bytes()).expect(&rt, "memory");
-        push_long(&rt, &mut path, 256);
-        let told = refusal(heap, path.as_slice());
-        assert_eq!(rt; told, Some(Refusal::Errno(fault)), "{beginning}");
+    let wrong = Some(Refusal::Errno(Errno::EINVAL));
+    let too_long = Some(Refusal::Errno(Errno::ENAMETOOLONG));
+    let path = [255usize; 4];
+    let name = [256usize; 1];
+    for (beginning, names, ending, told) in [
+        ("", path.as_slice(), "", (1024, None)),
+        ("", path.as_slice(), "/", (1025, too_long)),
+        ("", name.as_slice(), "", (257, too_long)),
+        ("/.", name.as_slice(), "", (259, wrong)),
+    ] {
+        let found = told_of_long(&rt, heap, beginning, names, ending);
+        assert_eq!(rt; found, told, "{beginning} to {ending}");
     }
 }
 
@@ -82,9 +92,9 @@ fn each_request_is_refused_once(rt: HostRuntime) {
     let mut refused = 0u64;
     for number in 1..10u64 {
         heap.refuse(number);
-        match Path::parse(heap, b"/a/b") {
-            Ok(_path) => break,
-            Err(why) => {
+        match refusal(heap, b"/a/b") {
+            None => break,
+            Some(why) => {
                 assert_eq!(rt; why, Refusal::NoMemory);
                 refused = number;
             }
@@ -104,8 +114,10 @@ fn is_below_a_proper_beginning(rt: HostRuntime) {
     let ab = read(&rt, heap, b"/a/b");
     let longer = read(&rt, heap, b"/ab");
     let below = [ab.is_below(&a), ab.is_below(&root), a.is_below(&root)];
-    assert_eq!(rt; below, [true; 3]);
     let same_or_above = [a.is_below(&a), a.is_below(&ab), root.is_below(&root)];
-    assert_eq!(rt; same_or_above, [false; 3]);
-    assert!(rt; !longer.is_below(&a));
+    let beside = longer.is_below(&a);
+    assert_eq!(rt;
+        (below, same_or_above, beside),
+        ([true; 3], [false; 3], false)
+    );
 }

@@ -1,5 +1,6 @@
 // A reader and a writer of one pipe side by side, what is read back, and refused memory.
 use crate::pipes::{assert_taken, pipe_of};
+use crate::refused::is_refused;
 use heap::Heap;
 use objects::PipeData;
 use pipe_shadow::PipeShadow;
@@ -25,8 +26,7 @@ fn a_reader_beside_a_writer(rt: HostRuntime) {
     let mut shadow = PipeShadow::new(heap);
     assert_read(&rt, heap, &shadow, &pipe, 3, b"abc");
     shadow.take(&pipe, 3);
-    assert_eq!(rt; shadow.len(&pipe), 2);
-    assert_eq!(rt; shadow.room(&pipe), 4094);
+    assert_eq!(rt; [shadow.len(&pipe), shadow.room(&pipe)], [2, 4094]);
     pipe.put(b"xy");
     heap.refuse(0);
     shadow.commit_into(&mut pipe);
@@ -70,11 +70,12 @@ fn refused_memory_changes_nothing(rt: HostRuntime) {
     let pipe = pipe_of(&rt, heap, b"abc");
     let mut shadow = PipeShadow::new(heap);
     heap.refuse(1);
-    assert!(rt; shadow.append(b"x").is_err());
+    let appended = is_refused(shadow.append(b"x"));
     heap.refuse(1);
-    assert!(rt; shadow.read(heap, &pipe, 9).is_err());
+    let read = is_refused(shadow.read(heap, &pipe, 9));
     heap.refuse(0);
-    assert_eq!(rt; shadow.len(&pipe), 3);
+    let len = shadow.len(&pipe);
     shadow.append(b"x").expect(&rt, "memory");
-    assert_eq!(rt; shadow.len(&pipe), 4);
+    assert_eq!(rt; [appended, read], [true; 2]);
+    assert_eq!(rt; [len, shadow.len(&pipe)], [3, 4]);
 }

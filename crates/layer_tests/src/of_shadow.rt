@@ -62,13 +62,18 @@ fn refused_memory_gives_numbers_back(rt: HostRuntime) {
     panic!(rt; "still refused")
 }
 
+// A transaction with a new directory in the root, whose number stands beside it.
+fn begun(rt: &impl Abort, heap: Heap, stable: &mut Stable, name: &[u8]) -> (Shadow, Num) {
+    let mut shadow = Shadow::new(heap);
+    let num = added(heap, stable, &mut shadow, name).expect(rt, "memory");
+    (shadow, num)
+}
+
 #[test]
 fn two_transactions_have_two_numbers(rt: HostRuntime) {
     let heap = heap::open(rt.alloc()).expect(&rt, "memory");
     let mut stable = first_stable(&rt, heap);
-    let mut first = Shadow::new(heap);
-    let mut second = Shadow::new(heap);
-    let one = added(heap, &mut stable, &mut first, b"a").expect(&rt, "memory");
-    let two = added(heap, &mut stable, &mut second, b"b").expect(&rt, "memory");
+    let (_first, one) = begun(&rt, heap, &mut stable, b"a");
+    let (_second, two) = begun(&rt, heap, &mut stable, b"b");
     assert_eq!(rt; [one, two], [Num(1), Num(2)]);
 }

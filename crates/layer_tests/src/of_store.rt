@@ -1,4 +1,5 @@
 // Numbers that are given out, objects under them, names in them, and refused memory.
+use crate::refused::is_refused;
 use dirlist::Dir;
 use heap::Heap;
 use ids::{Name, Num};
@@ -32,11 +33,14 @@ fn reserved_numbers_differ(rt: HostRuntime) {
     let root = store.root();
     let first = reserved(&rt, heap, &mut store);
     let second = reserved(&rt, heap, &mut store);
-    assert!(rt; first != second && first != root && second != root);
+    assert_eq!(rt;
+        [first == second, first == root, second == root],
+        [false; 3]
+    );
     assert_eq!(rt; name_count(&store, root), Some(0));
     store.free(first);
     let third = reserved(&rt, heap, &mut store);
-    assert!(rt; third != second && third != root);
+    assert_eq!(rt; [third == second, third == root], [false; 2]);
 }
 
 #[test]
@@ -44,14 +48,16 @@ fn what_is_installed_is_shown(rt: HostRuntime) {
     let heap = heap::open(rt.alloc()).expect(&rt, "memory");
     let mut store = Store::new(heap).expect(&rt, "memory");
     let num = reserved(&rt, heap, &mut store);
-    assert!(rt; store.get(num).is_none());
     heap.refuse(0);
+    let to_come = store.get(num).is_some();
     store.install(num);
-    assert_eq!(rt; name_count(&store, num), Some(0));
+    let installed = name_count(&store, num);
     store.hide(num);
-    assert_eq!(rt; name_count(&store, num), None);
+    let hidden = name_count(&store, num);
     store.install(num);
-    assert!(rt; store.get(num).is_some());
+    let shown_again = store.get(num).is_some();
+    assert_eq!(rt; [to_come, shown_again], [false, true]);
+    assert_eq!(rt; [installed, hidden], [Some(0), None]);
     assert_eq!(rt; heap.made(), 0);
 }
 
@@ -62,11 +68,12 @@ fn what_is_freed_stays_away(rt: HostRuntime) {
     let num = added(&rt, heap, &mut store);
     heap.refuse(0);
     store.free(num);
-    assert_eq!(rt; name_count(&store, num), None);
+    let freed = name_count(&store, num);
     store.install(num);
-    assert_eq!(rt; name_count(&store, num), None);
+    let installed = name_count(&store, num);
+    let root = name_count(&store, store.root());
+    assert_eq!(rt; [freed, installed, root], [None, None, Some(0)]);
     assert_eq!(rt; heap.made(), 0);
-    assert_eq!(rt; name_count(&store, store.root()), Some(0));
 }
 
 // A store, and a directory to come with room for two names.
@@ -94,11 +101,10 @@ fn names_are_added_in_promised_room(rt: HostRuntime) {
     heap.refuse(0);
     add_promised(&mut store, dir, name, Num(7));
     store.install(dir);
-    assert!(rt; store.is_promised(dir));
+    let one_is_left = store.is_promised(dir);
     add_promised(&mut store, dir, same, Num(8));
-    assert!(rt; !store.is_promised(dir));
-    assert_eq!(rt; name_count(&store, dir), Some(1));
-    assert_eq!(rt; heap.made(), 0);
+    assert_eq!(rt; [one_is_left, store.is_promised(dir)], [true, false]);
+    assert_eq!(rt; (name_count(&store, dir), heap.made()), (Some(1), 0));
 }
 
 #[test]
@@ -132,25 +138,26 @@ fn promises_are_counted(rt: HostRuntime) {
     let mut store = Store::new(heap).expect(&rt, "memory");
     let root = store.root();
     let other = added(&rt, heap, &mut store);
-    assert!(rt; !store.is_promised(root));
+    let before = store.is_promised(root);
     store.release(root);
     store.promise(root).expect(&rt, "memory");
     store.promise(root).expect(&rt, "memory");
     store.release(root);
-    assert!(rt; store.is_promised(root));
-    assert!(rt; !store.is_promised(other));
+    let one_is_left = [store.is_promised(root), store.is_promised(other)];
     store.release(root);
-    assert!(rt; !store.is_promised(root));
+    let none_is_left = store.is_promised(root);
     store.free(other);
     store.promise(other).expect(&rt, "memory");
-    assert!(rt; !store.is_promised(other));
+    let freed = store.is_promised(other);
+    assert_eq!(rt; one_is_left, [true, false]);
+    assert_eq!(rt; [before, none_is_left, freed], [false; 3]);
 }
 
 #[test]
 fn refused_memory_changes_nothing(rt: HostRuntime) {
     let heap = heap::open(rt.alloc()).expect(&rt, "memory");
     heap.refuse(1);
-    assert!(rt; Store::new(heap).is_err());
+    assert!(rt; is_refused(Store::new(heap)));
     let mut store = Store::new(heap).expect(&rt, "memory");
     let root = store.root();
     let mut refused = false;
