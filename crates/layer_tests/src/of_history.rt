@@ -16,7 +16,10 @@ fn begun(heap: Heap) -> Entry {
 
 // Whether one more entry has a place.
 fn is_taken(heap: Heap, history: &mut History) -> bool {
-    history.push(begun(heap)).is_ok()
+    match history.push(begun(heap)) {
+        Ok(()) => true,
+        Err(_entry) => false,
+    }
 }
 
 #[test]

@@ -112,24 +112,17 @@ fn a_name_gives_what_was_added_last(rt: HostRuntime) {
     let heap = heap::open(rt.alloc()).expect(&rt, "memory");
     let (mut store, dir) = with_room(&rt, heap);
     let key = Name::copy(heap, b"a").expect(&rt, "memory");
-    add_promised(
-        &mut store,
-        dir,
-        Name::copy(heap, b"a").expect(&rt, "memory"),
-        Num(7),
-    );
-    assert_eq!(rt; store.lookup(dir, &key), None);
+    let name = Name::copy(heap, b"a").expect(&rt, "memory");
+    let same = Name::copy(heap, b"a").expect(&rt, "memory");
+    add_promised(&mut store, dir, name, Num(7));
+    let to_come = store.lookup(dir, &key);
     store.install(dir);
-    assert_eq!(rt; store.lookup(dir, &key), Some(Num(7)));
-    add_promised(
-        &mut store,
-        dir,
-        Name::copy(heap, b"a").expect(&rt, "memory"),
-        Num(8),
-    );
-    assert_eq!(rt; store.lookup(dir, &key), Some(Num(8)));
-    assert_eq!(rt; store.remove_name(dir, &key), Some(Num(8)));
-    assert_eq!(rt; store.remove_name(dir, &key), None);
+    let first = store.lookup(dir, &key);
+    add_promised(&mut store, dir, same, Num(8));
+    let last = store.lookup(dir, &key);
+    let removed = [store.remove_name(dir, &key), store.remove_name(dir, &key)];
+    assert_eq!(rt; [to_come, first, last], [None, Some(Num(7)), Some(Num(8))]);
+    assert_eq!(rt; removed, [Some(Num(8)), None]);
 }
 
 #[test]
@@ -153,6 +146,17 @@ fn promises_are_counted(rt: HostRuntime) {
     assert_eq!(rt; [before, none_is_left, freed], [false; 3]);
 }
 
+// Whether a number is refused among some, of which each that asks for memory is.
+fn is_once_refused(heap: Heap, store: &mut Store) -> bool {
+    for _ in 0..20u32 {
+        heap.refuse(1);
+        if store.reserve_num(no_names(heap)).is_err() {
+            return true;
+        }
+    }
+    false
+}
+
 #[test]
 fn refused_memory_changes_nothing(rt: HostRuntime) {
     let heap = heap::open(rt.alloc()).expect(&rt, "memory");
@@ -160,20 +164,12 @@ fn refused_memory_changes_nothing(rt: HostRuntime) {
     assert!(rt; is_refused(Store::new(heap)));
     let mut store = Store::new(heap).expect(&rt, "memory");
     let root = store.root();
-    let mut refused = false;
-    for _ in 0..20u32 {
-        heap.refuse(1);
-        if store.reserve_num(no_names(heap)).is_err() {
-            refused = true;
-            break;
-        }
-    }
-    assert!(rt; refused);
+    assert!(rt; is_once_refused(heap, &mut store));
     heap.refuse(1);
-    assert!(rt; store.promise(root).is_err());
-    assert!(rt; !store.is_promised(root));
+    let promised = store.promise(root).is_ok();
+    assert_eq!(rt; [promised, store.is_promised(root)], [false; 2]);
     assert_eq!(rt; name_count(&store, root), Some(0));
     heap.refuse(0);
-    assert!(rt; store.reserve_num(no_names(heap)).is_ok());
-    assert!(rt; store.promise(root).is_ok());
+    let reserved = store.reserve_num(no_names(heap)).is_ok();
+    assert_eq!(rt; [reserved, store.promise(root).is_ok()], [true; 2]);
 }
