@@ -32,3 +32,5 @@ mod of_shadow;
 mod of_store;
 #[cfg(test)]
 mod pipes;
+#[cfg(test)]
+mod refused;

@@ -1,19 +1,18 @@
 // Pipes with bytes, and bytes that are taken from them.
-ghost use Rattle.std.specs.Prelude.{◌≡◌, ◌≤◌, IfOk, length};
+ghost use Rattle.std.specs.Prelude.{◌≡◌, ◌≤◌, length};
 
 use heap::Heap;
 use objects::PipeData;
-use std::alloc::AllocError;
 use std::process::Abort;
 
 // A pipe that holds these bytes.
-pub(crate) fn pipe_of(heap: Heap, bytes: &[u8]) -> Result<PipeData, AllocError>
+pub(crate) fn pipe_of(rt: &impl Abort, heap: Heap, bytes: &[u8]) -> PipeData
     requires { length bytes.now ≤ 4096 }
-    ensures { IfOk result (λ pipe. pipe ≡ bytes.now) }
+    ensures { result ≡ bytes.now }
 {
-    let mut pipe = PipeData::new(heap)?;
+    let mut pipe = PipeData::new(heap).expect(rt, "memory");
     pipe.put(bytes);
-    Ok(pipe)
+    pipe
 }
 
 // Takes at most so many bytes.
@@ -23,8 +22,7 @@ pub(crate) fn assert_taken(
     pipe: &mut PipeData,
     count: usize,
     want: &[u8],
-) -> Result<(), AllocError> {
-    let taken = pipe.take(heap, count)?;
+) {
+    let taken = pipe.take(heap, count).expect(rt, "memory");
     assert_eq!(rt; taken.as_slice(), want);
-    Ok(())
 }
