@@ -2,3 +2,4 @@ pub mod Frees
 pub mod Blocks
 pub mod Ends
 pub mod Seeks
+pub mod Binds

@@ -11,7 +11,7 @@ ghost use Rattle.calls.specs.Parts.{some_of_pipe, some_of_file, some_to_pipe, so
 ghost use Rattle.look.specs.Asked.{Comes, Tells};
 
 use crate::asking::{ends, fit, offset, read_file, read_pipe, size};
-use crate::change::{Change, Edits, changed, changed_by, changed_by_two, unchanged};
+use crate::change::{Change, Edits, changed, changed_by, unchanged};
 use crate::checks::{
     LARGEST, is_zero, must_be_at_most, must_be_below, must_be_new, must_be_zero, must_create,
     must_create_to_exclude, must_fit, must_not_be_pipe, must_not_be_zero, must_read_or_write,
@@ -73,12 +73,9 @@ fn opened_new(
     ensures { Tells (opened own.now flags fd last None) result }
 {
     must_create(flags)?;
-    changed_by_two(
-        heap,
-        Answer::Fd(fd),
-        Edit::MakeFile(last.parent, last.name, 0),
-        Edit::OpenInode(1, Which::Made(0), mode(flags), own.pid(), fd),
-    )
+    let made = Edits::new(heap).with(Edit::MakeFile(last.parent, last.name, 0))?;
+    let edits = made.with(Edit::OpenInode(1, Which::Made(0), mode(flags), own.pid(), fd))?;
+    changed(Answer::Fd(fd), edits)
 }
 
 // A file that is there.
@@ -96,20 +93,8 @@ fn opened_old<L: Look>(
     must_be_new(flags)?;
     must_not_be_directory(&place, Errno::EISDIR)?;
     let cut = cut_if(look, flags, place.0, touches)?;
-    let edits = with(
-        cut,
-        Edit::OpenInode(0, Which::There(place.0), mode(flags), own.pid(), fd),
-    )?;
+    let edits = cut.with(Edit::OpenInode(0, Which::There(place.0), mode(flags), own.pid(), fd))?;
     changed(Answer::Fd(fd), edits)
-}
-
-// One more change.
-fn with(edits: Edits, edit: Edit) -> Result<Edits, AllocError>
-    ensures { IfOk result (λ all. all ≡ edits ++ edit ∷ []) }
-{
-    let mut all = edits;
-    all.add(edit)?;
-    Ok(all)
 }
 
 // How a description is open.
@@ -150,7 +135,7 @@ fn cut_to<L: Look>(
     ensures { Comes (L.state look.now) (cut_to file length) touches.old result touches.new }
 {
     let size = size(look, file, touches)?;
-    let edits = with(Edits::new(touches.heap()), Edit::Cut(file, size, length))?;
+    let edits = Edits::new(touches.heap()).with(Edit::Cut(file, size, length))?;
     Ok(edits)
 }
 
@@ -249,10 +234,7 @@ fn moved_on(heap: Heap, description: Num, offset: u32, bytes: &Bytes) -> Result<
     if is_empty(bytes) {
         Ok(Edits::new(heap))
     } else {
-        with(
-            Edits::new(heap),
-            Edit::SetOffset(description, offset + bytes.as_slice().len() as u32),
-        )
+        Edits::new(heap).with(Edit::SetOffset(description, offset + bytes.as_slice().len() as u32))
     }
 }
 
@@ -391,12 +373,9 @@ fn put(
         result }
 {
     let count = kept.as_slice().len() as u32;
-    changed_by_two(
-        heap,
-        Answer::Count(count),
-        Edit::PutBytes(file, place, kept, size),
-        Edit::SetOffset(description, place + count),
-    )
+    let written = Edits::new(heap).with(Edit::PutBytes(file, place, kept, size))?;
+    let edits = written.with(Edit::SetOffset(description, place + count))?;
+    changed(Answer::Count(count), edits)
 }
 
 // The first bytes, so many at most.

@@ -1,12 +1,12 @@
 // The aspects that changes write.
 ghost use Rattle.std.specs.Prelude.{◌≡◌, ◌++◌, ◌∷◌, [], OnOk, map};
 ghost use Rattle.std.specs.List.{flat_map};
-ghost use Rattle.model.specs.Aspects.{Ends, Links};
-ghost use Rattle.model.specs.Changes.{marks};
+ghost use Rattle.model.specs.Aspects.{Ends, Entry, Links};
+ghost use Rattle.model.specs.Changes.{marks, Put_bytes, Cut};
 ghost use Rattle.look.specs.Asked.{writing};
 
 use crate::asking::touch_blocks;
-use ids::{Aspect, Edit, Num};
+use ids::{Aspect, Edit, Name, Num};
 use std::alloc::AllocError;
 use walk::Touches;
 
@@ -38,45 +38,90 @@ fn mark_links(files: &[Num], touches: &mut Touches) -> Result<(), AllocError>
     Ok(())
 }
 
+// A name in a directory.
+fn mark_entry(dir: Num, name: &Name, touches: &mut Touches) -> Result<(), AllocError>
+    ensures { OnOk result (touches.new ≡ touches.old ++ writing (Entry dir name.now ∷ [])) }
+{
+    touches.write(Aspect::Entry(dir, name.try_clone()?))
+}
+
+// A name in a directory, and the file that it gives.
+fn mark_name(dir: Num, name: &Name, file: Num, touches: &mut Touches) -> Result<(), AllocError>
+    ensures { OnOk result
+        (touches.new ≡ touches.old ++ writing (Entry dir name.now ∷ Links file ∷ [])) }
+{
+    mark_entry(dir, name, touches)?;
+    touches.write(Aspect::Links(file))
+}
+
+// Two names, and the files that the second gave.
+fn mark_move(
+    dir: Num,
+    name: &Name,
+    to: Num,
+    onto: &Name,
+    replaced: &[Num],
+    touches: &mut Touches,
+) -> Result<(), AllocError>
+    ensures { OnOk result (touches.new ≡ touches.old
+        ++ writing (Entry dir name.now ∷ Entry to onto.now ∷ map Links replaced.now)) }
+{
+    mark_entry(dir, name, touches)?;
+    mark_entry(to, onto, touches)?;
+    mark_links(replaced, touches)
+}
+
+// Bytes of a file that had so many before.
+fn mark_bytes(
+    file: Num,
+    place: u32,
+    bytes: &[u8],
+    before: u32,
+    touches: &mut Touches,
+) -> Result<(), AllocError>
+    ensures { OnOk result
+        (touches.new ≡ touches.old ++ writing (marks (Put_bytes file place bytes.now before))) }
+{
+    let Ok(count) = u32::try_from(bytes.len()) else {
+        return Err(AllocError);
+    };
+    let Some(end) = place.checked_add(count) else {
+        return Err(AllocError);
+    };
+    if before < end {
+        touches.write(Aspect::Size(file))?;
+    }
+    touch_blocks(touches, file, place, count, true)
+}
+
+// A file's length, before and after.
+fn mark_cut(file: Num, before: u32, after: u32, touches: &mut Touches) -> Result<(), AllocError>
+    ensures { OnOk result
+        (touches.new ≡ touches.old ++ writing (marks (Cut file before after))) }
+{
+    if before != after {
+        touches.write(Aspect::Size(file))?;
+    }
+    touch_blocks(touches, file, after, before.saturating_sub(after), true)
+}
+
 // What one change writes.
 fn mark(edit: &Edit, touches: &mut Touches) -> Result<(), AllocError>
     ensures { OnOk result (touches.new ≡ touches.old ++ writing (marks edit.now)) }
 {
     match edit {
-        Edit::MakeDirectory(dir, name, _) => touches.write(Aspect::Entry(*dir, name.try_clone()?)),
-        Edit::MakeFile(dir, name, _) => touches.write(Aspect::Entry(*dir, name.try_clone()?)),
-        Edit::UnnameDirectory(dir, name) => touches.write(Aspect::Entry(*dir, name.try_clone()?)),
-        Edit::NameFile(dir, name, file) => {
-            touches.write(Aspect::Entry(*dir, name.try_clone()?))?;
-            touches.write(Aspect::Links(*file))
-        }
-        Edit::UnnameFile(dir, name, file) => {
-            touches.write(Aspect::Entry(*dir, name.try_clone()?))?;
-            touches.write(Aspect::Links(*file))
-        }
+        Edit::MakeDirectory(dir, name, _) => mark_entry(*dir, name, touches),
+        Edit::MakeFile(dir, name, _) => mark_entry(*dir, name, touches),
+        Edit::UnnameDirectory(dir, name) => mark_entry(*dir, name, touches),
+        Edit::NameFile(dir, name, file) => mark_name(*dir, name, *file, touches),
+        Edit::UnnameFile(dir, name, file) => mark_name(*dir, name, *file, touches),
         Edit::Move(dir, name, to, onto, _, replaced) => {
-            touches.write(Aspect::Entry(*dir, name.try_clone()?))?;
-            touches.write(Aspect::Entry(*to, onto.try_clone()?))?;
-            mark_links(replaced.as_slice(), touches)
+            mark_move(*dir, name, *to, onto, replaced.as_slice(), touches)
         }
         Edit::PutBytes(file, place, bytes, before) => {
-            let Ok(count) = u32::try_from(bytes.as_slice().len()) else {
-                return Err(AllocError);
-            };
-            let Some(end) = place.checked_add(count) else {
-                return Err(AllocError);
-            };
-            if *before < end {
-                touches.write(Aspect::Size(*file))?;
-            }
-            touch_blocks(touches, *file, *place, count, true)
+            mark_bytes(*file, *place, bytes.as_slice(), *before, touches)
         }
-        Edit::Cut(file, before, after) => {
-            if *before != *after {
-                touches.write(Aspect::Size(*file))?;
-            }
-            touch_blocks(touches, *file, *after, before.saturating_sub(*after), true)
-        }
+        Edit::Cut(file, before, after) => mark_cut(*file, *before, *after, touches),
         Edit::Take(pipe, _) => touches.write(Aspect::Front(*pipe)),
         Edit::Append(pipe, _) => touches.write(Aspect::Back(*pipe)),
         Edit::SetOffset(description, _) => touches.write(Aspect::Offset(*description)),

@@ -261,10 +261,11 @@ pub(crate) fn two_of(heap: Heap, first: &Slot, second: &Option<Slot>) -> Result<
 pub(crate) fn own_to_fork<L: Look>(heap: Heap, look: &L, pid: Pid) -> Result<Own, AllocError>
     ensures { IfOk result (λ o. o ≡ own (L.state look.now) pid Fork) }
 {
+    let birth = look.birth(pid)?;
     Ok(Own {
         root: look.root(),
         pid,
         table: look.table(heap, pid)?,
-        birth: Some(look.birth(pid)?),
+        birth: Some(birth),
     })
 }

@@ -1,10 +1,10 @@
 // The plans of calls on paths.
-ghost use Rattle.std.specs.Prelude.{◌≡◌, ℕ, Some, true, false};
+ghost use Rattle.std.specs.Prelude.{◌≡◌, ◌∷◌, [], ℕ, Some, true, false};
 ghost use Rattle.model.specs.Changes.{Move};
-ghost use Rattle.calls.specs.Parts.{move_over};
+ghost use Rattle.calls.specs.Parts.{place_at, last_at, emptied, without_names, file_named, link_paths, name_file, rename_paths, move_target, gives, replaced, replaced_over};
 ghost use Rattle.model.specs.Walks.{is_directory};
-ghost use Rattle.model.specs.Plans.{plan, status, moved, move_onto, replaced_by_name};
-ghost use Rattle.model.specs.Calls.{own, Stat as Stat_path, Mkdir, Rmdir, List_directory, Link, Unlink, Rename};
+ghost use Rattle.model.specs.Plans.{plan, changed, status, moved, replaced_by_name};
+ghost use Rattle.model.specs.Calls.{own, Done, Stat as Stat_path, Mkdir, Rmdir, List_directory, Link, Unlink, Rename};
 ghost use Rattle.look.specs.Asked.{Comes, Tells};
 
 use crate::asking::{links, names, size};
@@ -16,6 +16,7 @@ use crate::steps::{
 use heap::Heap;
 use ids::{Answer, Bytes, Edit, Errno, Kind, Num, Nums, Refusal, Stat};
 use look::Look;
+use path::Path;
 use walk::{Last, Touches, must_be_directory, or_refuse, walk_to_last};
 
 // What an object is like.
@@ -76,6 +77,40 @@ fn status_of<L: Look>(
     }
 }
 
+// One change, and no more to say.
+fn done(heap: Heap, edit: Edit) -> Result<Change, Refusal>
+    ensures { Tells (changed Done (edit ∷ [])) result }
+{
+    changed_by(heap, Answer::Done, edit)
+}
+
+// The place that a path leads to.
+fn place_at<L: Look>(
+    look: &L,
+    path: &Bytes,
+    touches: &mut Touches,
+) -> Result<(Num, Option<Kind>), Refusal>
+    ensures { let k = L.state look.now in
+        Comes k (place_at k.root path.now) touches.old result touches.new }
+{
+    let path = parsed(touches.heap(), path)?;
+    walk::walk(look, &path, touches)
+}
+
+// Where the last name of a path stands.
+fn last_at<L: Look>(
+    look: &L,
+    of_root: Errno,
+    path: &Bytes,
+    touches: &mut Touches,
+) -> Result<Last, Refusal>
+    ensures { let k = L.state look.now in
+        Comes k (last_at k.root of_root path.now) touches.old result touches.new }
+{
+    let path = parsed(touches.heap(), path)?;
+    walk_to_last(look, of_root, &path, touches)
+}
+
 pub(crate) fn stat<L: Look>(
     look: &L,
     path: &Bytes,
@@ -85,8 +120,7 @@ pub(crate) fn stat<L: Look>(
         (plan (own (L.state look.now) pid (Stat_path path.now)) (Stat_path path.now))
         touches.old result touches.new }
 {
-    let path = parsed(touches.heap(), path)?;
-    let place = walk::walk(look, &path, touches)?;
+    let place = place_at(look, path, touches)?;
     status(look, place.0, place.1, touches)
 }
 
@@ -99,12 +133,10 @@ pub(crate) fn mkdir<L: Look>(
         (plan (own (L.state look.now) pid (Mkdir path.now)) (Mkdir path.now))
         touches.old result touches.new }
 {
-    let path = parsed(touches.heap(), path)?;
-    let last = walk_to_last(look, Errno::EEXIST, &path, touches)?;
+    let last = last_at(look, Errno::EEXIST, path, touches)?;
     absent(last.found())?;
-    changed_by(
+    done(
         touches.heap(),
-        Answer::Done,
         Edit::MakeDirectory(last.parent, last.name, 0),
     )
 }
@@ -118,17 +150,32 @@ pub(crate) fn rmdir<L: Look>(
         (plan (own (L.state look.now) pid (Rmdir path.now)) (Rmdir path.now))
         touches.old result touches.new }
 {
-    let path = parsed(touches.heap(), path)?;
-    let last = walk_to_last(look, Errno::EBUSY, &path, touches)?;
-    let what = or_refuse(Errno::ENOENT, last.found())?;
-    must_be_directory(&what)?;
-    let entries = names(look, what.0, touches)?;
-    must_be_empty(&entries)?;
-    changed_by(
+    let last = last_at(look, Errno::EBUSY, path, touches)?;
+    must_be_emptied(look, last.found(), touches)?;
+    done(
         touches.heap(),
-        Answer::Done,
         Edit::UnnameDirectory(last.parent, last.name),
     )
+}
+
+// What goes has to be there, and an empty directory.
+fn must_be_emptied<L: Look>(
+    look: &L,
+    found: Option<(Num, Option<Kind>)>,
+    touches: &mut Touches,
+) -> Result<(), Refusal>
+    ensures { Comes (L.state look.now) (emptied found) touches.old result touches.new }
+{
+    let what = or_refuse(Errno::ENOENT, found)?;
+    must_be_directory(&what)?;
+    must_have_no_names(look, what.0, touches)
+}
+
+fn must_have_no_names<L: Look>(look: &L, dir: Num, touches: &mut Touches) -> Result<(), Refusal>
+    ensures { Comes (L.state look.now) (without_names dir) touches.old result touches.new }
+{
+    let entries = names(look, dir, touches)?;
+    must_be_empty(&entries)
 }
 
 pub(crate) fn list<L: Look>(
@@ -140,8 +187,7 @@ pub(crate) fn list<L: Look>(
         (plan (own (L.state look.now) pid (List_directory path.now)) (List_directory path.now))
         touches.old result touches.new }
 {
-    let path = parsed(touches.heap(), path)?;
-    let place = walk::walk(look, &path, touches)?;
+    let place = place_at(look, path, touches)?;
     must_be_directory(&place)?;
     let entries = names(look, place.0, touches)?;
     unchanged(touches.heap(), Answer::Names(entries))
@@ -156,15 +202,21 @@ pub(crate) fn unlink<L: Look>(
         (plan (own (L.state look.now) pid (Unlink path.now)) (Unlink path.now))
         touches.old result touches.new }
 {
-    let path = parsed(touches.heap(), path)?;
-    let last = walk_to_last(look, Errno::EPERM, &path, touches)?;
-    let what = or_refuse(Errno::ENOENT, last.found())?;
-    must_not_be_directory(&what, Errno::EPERM)?;
-    changed_by(
+    let last = last_at(look, Errno::EPERM, path, touches)?;
+    let file = file_named(last.found())?;
+    done(
         touches.heap(),
-        Answer::Done,
-        Edit::UnnameFile(last.parent, last.name, what.0),
+        Edit::UnnameFile(last.parent, last.name, file),
     )
+}
+
+// The file whose name goes.
+fn file_named(found: Option<(Num, Option<Kind>)>) -> Result<Num, Refusal>
+    ensures { Tells (file_named found) result }
+{
+    let what = or_refuse(Errno::ENOENT, found)?;
+    must_not_be_directory(&what, Errno::EPERM)?;
+    Ok(what.0)
 }
 
 pub(crate) fn link<L: Look>(
@@ -179,15 +231,36 @@ pub(crate) fn link<L: Look>(
 {
     let from = parsed(touches.heap(), old)?;
     let to = parsed(touches.heap(), path)?;
-    let what = walk::walk(look, &from, touches)?;
+    link_paths(look, &from, &to, touches)
+}
+
+fn link_paths<L: Look>(
+    look: &L,
+    from: &Path,
+    to: &Path,
+    touches: &mut Touches,
+) -> Result<Change, Refusal>
+    ensures { let k = L.state look.now in
+        Comes k (link_paths k.root from.now to.now) touches.old result touches.new }
+{
+    let what = walk::walk(look, from, touches)?;
     must_not_be_directory(&what, Errno::EPERM)?;
-    let last = walk_to_last(look, Errno::EEXIST, &to, touches)?;
+    name_file(look, what.0, to, touches)
+}
+
+// One more name for a file.
+fn name_file<L: Look>(
+    look: &L,
+    file: Num,
+    to: &Path,
+    touches: &mut Touches,
+) -> Result<Change, Refusal>
+    ensures { let k = L.state look.now in
+        Comes k (name_file k.root file to.now) touches.old result touches.new }
+{
+    let last = walk_to_last(look, Errno::EEXIST, to, touches)?;
     absent(last.found())?;
-    changed_by(
-        touches.heap(),
-        Answer::Done,
-        Edit::NameFile(last.parent, last.name, what.0),
-    )
+    done(touches.heap(), Edit::NameFile(last.parent, last.name, file))
 }
 
 pub(crate) fn rename<L: Look>(
@@ -202,12 +275,38 @@ pub(crate) fn rename<L: Look>(
 {
     let from = parsed(touches.heap(), old)?;
     let to = parsed(touches.heap(), path)?;
-    must_not_be_root(&from, &to)?;
-    let at = walk_to_last(look, Errno::EBUSY, &from, touches)?;
+    rename_paths(look, &from, &to, touches)
+}
+
+fn rename_paths<L: Look>(
+    look: &L,
+    from: &Path,
+    to: &Path,
+    touches: &mut Touches,
+) -> Result<Change, Refusal>
+    ensures { let k = L.state look.now in
+        Comes k (rename_paths k.root from.now to.now) touches.old result touches.new }
+{
+    must_not_be_root(from, to)?;
+    let at = walk_to_last(look, Errno::EBUSY, from, touches)?;
     let what = or_refuse(Errno::ENOENT, at.found())?;
-    must_not_go_below(&what, &from, &to)?;
-    let onto = walk_to_last(look, Errno::EBUSY, &to, touches)?;
+    let onto = move_target(look, &what, from, to, touches)?;
     moved(look, at, what, onto, touches)
+}
+
+// Where the new name stands, which must not be below what moves.
+fn move_target<L: Look>(
+    look: &L,
+    what: &(Num, Option<Kind>),
+    from: &Path,
+    to: &Path,
+    touches: &mut Touches,
+) -> Result<Last, Refusal>
+    ensures { let k = L.state look.now in
+        Comes k (move_target k.root what.now from.now to.now) touches.old result touches.new }
+{
+    must_not_go_below(what, from, to)?;
+    walk_to_last(look, Errno::EBUSY, to, touches)
 }
 
 // The change of a name that moves.
@@ -228,55 +327,51 @@ fn moved<L: Look>(
     ensures { Comes (L.state look.now)
         (moved from what to to.found) touches.old result touches.new }
 {
-    match to.found() {
-        None => {
-            let none = Nums::new(touches.heap());
-            changed_by(
-                touches.heap(),
-                Answer::Done,
-                move_edit(from, to, what.0, none),
-            )
-        }
-        Some(old) => move_onto(look, from, what, to, old, touches),
-    }
-}
-
-// A name that moves to one that is there.
-fn move_onto<L: Look>(
-    look: &L,
-    from: Last,
-    what: (Num, Option<Kind>),
-    to: Last,
-    old: (Num, Option<Kind>),
-    touches: &mut Touches,
-) -> Result<Change, Refusal>
-    ensures { Comes (L.state look.now) (move_onto from what to old) touches.old result touches.new }
-{
-    if is_same(what.0, old.0) {
+    if gives(to.found(), what.0) {
         unchanged(touches.heap(), Answer::Done)
     } else {
-        move_over(look, from, what, to, old, touches)
+        let replaced = replaced(look, &what, to.found(), touches)?;
+        done(touches.heap(), move_edit(from, to, what.0, replaced))
     }
 }
 
-fn move_over<L: Look>(
-    look: &L,
-    from: Last,
-    what: (Num, Option<Kind>),
-    to: Last,
-    old: (Num, Option<Kind>),
-    touches: &mut Touches,
-) -> Result<Change, Refusal>
-    ensures { Comes (L.state look.now) (move_over from what to old) touches.old result touches.new }
+// Whether a name gives this number.
+fn gives(found: Option<(Num, Option<Kind>)>, num: Num) -> bool
+    ensures { result ≡ gives found num }
 {
-    must_be_no_directory_for(&what, &old)?;
-    must_be_directory_for(&what, &old)?;
-    let replaced = replaced_by_name(look, old, touches)?;
-    changed_by(
-        touches.heap(),
-        Answer::Done,
-        move_edit(from, to, what.0, replaced),
-    )
+    match found {
+        Some(old) => is_same(num, old.0),
+        None => false,
+    }
+}
+
+// The file that loses its name to what moves, if any does.
+fn replaced<L: Look>(
+    look: &L,
+    what: &(Num, Option<Kind>),
+    found: Option<(Num, Option<Kind>)>,
+    touches: &mut Touches,
+) -> Result<Nums, Refusal>
+    ensures { Comes (L.state look.now) (replaced what.now found) touches.old result touches.new }
+{
+    match found {
+        Some(old) => replaced_over(look, what, &old, touches),
+        None => Ok(Nums::new(touches.heap())),
+    }
+}
+
+fn replaced_over<L: Look>(
+    look: &L,
+    what: &(Num, Option<Kind>),
+    old: &(Num, Option<Kind>),
+    touches: &mut Touches,
+) -> Result<Nums, Refusal>
+    ensures { Comes (L.state look.now)
+        (replaced_over what.now old.now) touches.old result touches.new }
+{
+    must_be_no_directory_for(what, old)?;
+    must_be_directory_for(what, old)?;
+    replaced_by_name(look, *old, touches)
 }
 
 // The file whose name goes; a directory has to be empty.
@@ -298,8 +393,7 @@ fn replaced_by_name<L: Look>(
 fn replaced_directory<L: Look>(look: &L, num: Num, touches: &mut Touches) -> Result<Nums, Refusal>
     ensures { Comes (L.state look.now) (replaced_by_name num true) touches.old result touches.new }
 {
-    let entries = names(look, num, touches)?;
-    must_be_empty(&entries)?;
+    must_have_no_names(look, num, touches)?;
     Ok(Nums::new(touches.heap()))
 }
 

@@ -30,3 +30,7 @@ mod of_pipe_shadow;
 mod of_shadow;
 #[cfg(test)]
 mod of_store;
+#[cfg(test)]
+mod pipes;
+#[cfg(test)]
+mod refused;

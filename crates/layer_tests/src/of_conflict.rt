@@ -1,13 +1,12 @@
 // Pairs of touches with whether they clash, and the touches that are told.
+use crate::refused::is_refused;
 use conflict::{
     any_clash_between, clashes_with_any, do_clash, first_clash, is_same_aspect, keep_writes,
     told_touch,
 };
 use heap::Heap;
 use ids::{Aspect, Name, Num, Touch};
-use std::alloc::AllocError;
 use std::process::Abort;
-use std::test::Fail;
 
 fn read(aspect: Aspect) -> Touch {
     Touch {
@@ -23,27 +22,29 @@ fn write(aspect: Aspect) -> Touch {
     }
 }
 
-fn entry(heap: Heap, directory: usize, name: &[u8]) -> Result<Aspect, AllocError> {
-    Ok(Aspect::Entry(Num(directory), Name::copy(heap, name)?))
+// A touch of the entry of a name in a directory.
+fn entry(rt: &impl Abort, heap: Heap, directory: usize, name: &str, write: bool) -> Touch {
+    let name = Name::copy(heap, name.as_bytes()).expect(rt, "memory");
+    Touch {
+        aspect: Aspect::Entry(Num(directory), name),
+        write,
+    }
 }
 
-/// Both ways round, alone and in lists.
+// Both ways round.
 fn assert_clash(rt: &impl Abort, first: &Touch, second: &Touch, expected: bool) {
-    assert_eq!(rt;
-        do_clash(first, second),
-        expected,
-        "{first:?} and {second:?}"
-    );
-    assert_eq!(rt;
-        do_clash(second, first),
-        expected,
-        "{second:?} and {first:?}"
-    );
+    let both = [do_clash(first, second), do_clash(second, first)];
+    assert_eq!(rt; both, [expected; 2], "{first:?} and {second:?}");
 }
 
-fn assert_told(rt: &impl Abort, told: &Touch, expected: &Touch) {
-    assert!(rt; is_same_aspect(&told.aspect, &expected.aspect), "{told:?}");
-    assert_eq!(rt; told.write, expected.write, "{told:?}");
+fn is_same(first: &Touch, second: &Touch) -> bool {
+    is_same_aspect(&first.aspect, &second.aspect) && first.write == second.write
+}
+
+fn assert_told(rt: &impl Abort, touches: &[Touch], others: &[Touch], expected: &Touch) {
+    let told = told_touch(touches, others).expect(rt, "memory");
+    let same = is_same(&told, expected);
+    assert!(rt; same, "{told:?}");
 }
 
 // Whether two touches write, the directory and the name of the second, and whether it clashes with the first, on name `a` in
@@ -58,34 +59,23 @@ static ENTRIES: [(bool, bool, usize, &str, bool); 6] = [
 ];
 
 #[test]
-fn entries_clash_by_directory_and_name(rt: HostRuntime) -> Result<(), Fail> {
-    let heap = heap::open(rt.alloc())?;
+fn entries_clash_by_directory_and_name(rt: HostRuntime) {
+    let heap = heap::open(rt.alloc()).expect(&rt, "memory");
     for (writes, also_writes, directory, name, expected) in ENTRIES.iter() {
-        let first = Touch {
-            aspect: entry(heap, 1, b"a")?,
-            write: *writes,
-        };
-        let second = Touch {
-            aspect: entry(heap, *directory, name.as_bytes())?,
-            write: *also_writes,
-        };
+        let first = entry(&rt, heap, 1, "a", *writes);
+        let second = entry(&rt, heap, *directory, name, *also_writes);
         assert_clash(&rt, &first, &second, *expected);
     }
-    Ok(())
 }
 
 #[test]
-fn names_clash_with_written_entries(rt: HostRuntime) -> Result<(), Fail> {
-    let heap = heap::open(rt.alloc())?;
+fn names_clash_with_written_entries(rt: HostRuntime) {
+    let heap = heap::open(rt.alloc()).expect(&rt, "memory");
     let lists = read(Aspect::Names(Num(1)));
     for (directory, writes, expected) in [(1, true, true), (1, false, false), (2, true, false)] {
-        let touch = Touch {
-            aspect: entry(heap, directory, b"a")?,
-            write: writes,
-        };
+        let touch = entry(&rt, heap, directory, "a", writes);
         assert_clash(&rt, &lists, &touch, expected);
     }
-    Ok(())
 }
 
 #[test]
@@ -124,70 +114,93 @@ fn numbers_clash_on_one_aspect(rt: HostRuntime) {
     }
 }
 
-#[test]
-fn lists_clash_by_their_touches(rt: HostRuntime) -> Result<(), Fail> {
-    let heap = heap::open(rt.alloc())?;
-    let touches = [
+// Reads of the lengths of files 1 and 2, and a write of that of file 3.
+fn two_reads_and_a_write() -> [Touch; 3] {
+    [
         read(Aspect::Size(Num(1))),
         read(Aspect::Size(Num(2))),
         write(Aspect::Size(Num(3))),
+    ]
+}
+
+// The second touch alone clashes with one of the others.
+fn assert_one_clashes(rt: &impl Abort, touches: &[Touch; 3], others: &[Touch]) {
+    let first = &touches[..1];
+    let places = [first_clash(touches, others), first_clash(first, others)];
+    assert_eq!(rt; places, [Some(1), None]);
+    let lists = [
+        any_clash_between(touches, others),
+        any_clash_between(first, others),
     ];
-    let others = [write(Aspect::Size(Num(2))), read(Aspect::Size(Num(3)))];
-    assert_eq!(rt; first_clash(&touches, &others), Some(1));
-    assert_eq!(rt; first_clash(&touches[..1], &others), None);
-    assert!(rt; any_clash_between(&touches, &others));
-    assert!(rt; !any_clash_between(&touches[..1], &others));
-    assert!(rt; clashes_with_any(&touches[1], &others));
-    assert!(rt; !clashes_with_any(&touches[0], &others));
-    let mut kept = Vec::new(heap);
-    for touch in touches {
-        kept.push(touch)?;
-    }
-    keep_writes(&mut kept);
-    assert_eq!(rt; kept.len(), 1);
-    assert_told(&rt, &kept[0], &write(Aspect::Size(Num(3))));
-    Ok(())
+    assert_eq!(rt; lists, [true, false]);
+    let each = [
+        clashes_with_any(&touches[1], others),
+        clashes_with_any(&touches[0], others),
+    ];
+    assert_eq!(rt; each, [true, false]);
 }
 
 #[test]
-fn a_write_is_told_before_a_read(rt: HostRuntime) -> Result<(), Fail> {
+fn lists_clash_by_their_touches(rt: HostRuntime) {
+    let touches = two_reads_and_a_write();
+    let others = [write(Aspect::Size(Num(2))), read(Aspect::Size(Num(3)))];
+    assert_one_clashes(&rt, &touches, &others);
+}
+
+#[test]
+fn writes_are_kept(rt: HostRuntime) {
+    let heap = heap::open(rt.alloc()).expect(&rt, "memory");
+    let mut kept = Vec::from_array(heap, two_reads_and_a_write()).expect(&rt, "memory");
+    keep_writes(&mut kept);
+    let last = write(Aspect::Size(Num(3)));
+    assert!(rt; matches!(kept.as_slice(), [only] if is_same(only, &last)));
+}
+
+#[test]
+fn a_write_is_told_before_a_read(rt: HostRuntime) {
     let others = [read(Aspect::Size(Num(2))), write(Aspect::Size(Num(2)))];
     let touches = [read(Aspect::Size(Num(1))), write(Aspect::Size(Num(2)))];
-    let told = told_touch(&touches, &others)?;
-    assert_told(&rt, &told, &write(Aspect::Size(Num(2))));
-    let told = told_touch(&touches, &others[..1])?;
-    assert_told(&rt, &told, &read(Aspect::Size(Num(2))));
-    Ok(())
+    assert_told(&rt, &touches, &others, &others[1]);
+    assert_told(&rt, &touches, &others[..1], &others[0]);
+}
+
+// The touches of entries: of each the directory, the name, and whether it is a write.
+fn entries(rt: &impl Abort, heap: Heap, rows: &[(usize, &str, bool)]) -> Vec<Touch, Heap> {
+    let mut touches = Vec::new(heap);
+    for (directory, name, write) in rows {
+        let touch = entry(rt, heap, *directory, name, *write);
+        touches.push(touch).expect(rt, "memory");
+    }
+    touches
+}
+
+static SOME_ENTRIES: [(usize, &str, bool); 5] = [
+    (1, "b", true),
+    (1, "ab", true),
+    (2, "a", true),
+    (1, "a", false),
+    (1, "c", true),
+];
+
+#[test]
+fn names_are_told_by_the_least(rt: HostRuntime) {
+    let heap = heap::open(rt.alloc()).expect(&rt, "memory");
+    let lists = [read(Aspect::Names(Num(1)))];
+    let others = entries(&rt, heap, SOME_ENTRIES.as_slice());
+    let least = entry(&rt, heap, 1, "ab", true);
+    assert_told(&rt, &lists, &others, &least);
+    assert_told(&rt, &others, &lists, &lists[0]);
 }
 
 #[test]
-fn names_are_told_by_the_least(rt: HostRuntime) -> Result<(), Fail> {
-    let heap = heap::open(rt.alloc())?;
+fn a_refused_copy_says_so(rt: HostRuntime) {
+    let heap = heap::open(rt.alloc()).expect(&rt, "memory");
     let lists = [read(Aspect::Names(Num(1)))];
-    let others = [
-        write(entry(heap, 1, b"b")?),
-        write(entry(heap, 1, b"ab")?),
-        write(entry(heap, 2, b"a")?),
-        read(entry(heap, 1, b"a")?),
-        write(entry(heap, 1, b"c")?),
-    ];
-    let told = told_touch(&lists, &others)?;
-    assert_told(&rt, &told, &write(entry(heap, 1, b"ab")?));
-    let told = told_touch(&others, &lists)?;
-    assert_told(&rt, &told, &read(Aspect::Names(Num(1))));
-    Ok(())
-}
-
-#[test]
-fn a_refused_copy_says_so(rt: HostRuntime) -> Result<(), Fail> {
-    let heap = heap::open(rt.alloc())?;
-    let lists = [read(Aspect::Names(Num(1)))];
-    let others = [write(entry(heap, 1, b"a")?)];
+    let others = [entry(&rt, heap, 1, "a", true)];
     heap.refuse(1);
-    assert!(rt; told_touch(&lists, &others).is_err());
+    assert!(rt; is_refused(told_touch(&lists, &others)));
     heap.refuse(1);
-    assert!(rt; told_touch(&others, &others).is_err());
+    assert!(rt; is_refused(told_touch(&others, &others)));
     heap.refuse(0);
-    assert!(rt; told_touch(&lists, &others).is_ok());
-    Ok(())
+    assert!(rt; !is_refused(told_touch(&lists, &others)));
 }

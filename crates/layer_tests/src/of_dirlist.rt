@@ -1,15 +1,16 @@
 // Names in byte order, room that stays promised, and refused memory.
-ghost use Rattle.std.specs.Prelude.{◌≡◌};
+ghost use Rattle.std.specs.Prelude.{◌≡◌, ◌+◌, ◌<◌, ◌≤◌};
 
 use crate::names::joined;
+use crate::refused::is_refused;
 use dirlist::Dir;
 use heap::Heap;
 use ids::{Name, Num};
 use std::alloc::AllocError;
-use std::test::Fail;
+use std::process::Abort;
 
-fn name(heap: Heap, bytes: &[u8]) -> Result<Name, Fail> {
-    Ok(Name::copy(heap, bytes)?)
+fn name(rt: &impl Abort, heap: Heap, bytes: &[u8]) -> Name {
+    Name::copy(heap, bytes).expect(rt, "memory")
 }
 
 // Adds a name where it is not there yet, as its caller has to.
@@ -23,13 +24,14 @@ fn put(dir: &mut Dir, name: Name, num: Num) -> Result<(), AllocError>
 }
 
 // The names, each with a blank behind it.
-fn told(heap: Heap, dir: &Dir) -> Result<Vec<u8, Heap>, Fail> {
-    let names = dir.names(heap)?;
-    Ok(joined(heap, names.as_slice())?)
+fn assert_names(rt: &impl Abort, heap: Heap, dir: &Dir, want: &[u8]) {
+    let names = dir.names(heap).expect(rt, "memory");
+    let told = joined(rt, heap, names.as_slice());
+    assert_eq!(rt; told.as_slice(), want);
 }
 
 // Five names, added in no order.
-fn five(heap: Heap) -> Result<Dir, Fail> {
+fn five(rt: &impl Abort, heap: Heap) -> Dir {
     let mut dir = Dir::new(heap);
     for (bytes, number) in [
         (b"b".as_slice(), 1),
@@ -38,71 +40,71 @@ fn five(heap: Heap) -> Result<Dir, Fail> {
         (b"B".as_slice(), 4),
         (b"ab".as_slice(), 5),
     ] {
-        put(&mut dir, name(heap, bytes)?, Num(number))?;
+        put(&mut dir, name(rt, heap, bytes), Num(number)).expect(rt, "memory");
     }
-    Ok(dir)
+    dir
 }
 
 #[test]
-fn names_stand_in_byte_order(rt: HostRuntime) -> Result<(), Fail> {
-    let heap = heap::open(rt.alloc())?;
-    let dir = five(heap)?;
-    assert_eq!(rt; told(heap, &dir)?.as_slice(), b"B a ab b \xff ".as_slice());
-    assert_eq!(rt; dir.lookup(&name(heap, b"ab")?), Some(Num(5)));
-    assert_eq!(rt; dir.lookup(&name(heap, b"c")?), None);
-    Ok(())
+fn names_stand_in_byte_order(rt: HostRuntime) {
+    let heap = heap::open(rt.alloc()).expect(&rt, "memory");
+    let dir = five(&rt, heap);
+    assert_names(&rt, heap, &dir, b"B a ab b \xff ");
+    let ab = name(&rt, heap, b"ab");
+    let c = name(&rt, heap, b"c");
+    assert_eq!(rt; [dir.lookup(&ab), dir.lookup(&c)], [Some(Num(5)), None]);
 }
 
 #[test]
-fn a_name_is_taken_away_once(rt: HostRuntime) -> Result<(), Fail> {
-    let heap = heap::open(rt.alloc())?;
-    let mut dir = five(heap)?;
-    let gone = name(heap, b"a")?;
-    assert_eq!(rt; dir.remove(&gone), Some(Num(3)));
-    assert_eq!(rt; dir.remove(&gone), None);
-    assert_eq!(rt; dir.len(), 4);
-    assert_eq!(rt; told(heap, &dir)?.as_slice(), b"B ab b \xff ".as_slice());
-    Ok(())
+fn a_name_is_taken_away_once(rt: HostRuntime) {
+    let heap = heap::open(rt.alloc()).expect(&rt, "memory");
+    let mut dir = five(&rt, heap);
+    let gone = name(&rt, heap, b"a");
+    let removed = [dir.remove(&gone), dir.remove(&gone)];
+    assert_eq!(rt; (removed, dir.len()), ([Some(Num(3)), None], 4));
+    assert_names(&rt, heap, &dir, b"B ab b \xff ");
 }
 
 #[test]
-fn refused_memory_changes_nothing(rt: HostRuntime) -> Result<(), Fail> {
-    let heap = heap::open(rt.alloc())?;
+fn refused_memory_changes_nothing(rt: HostRuntime) {
+    let heap = heap::open(rt.alloc()).expect(&rt, "memory");
     let mut dir = Dir::new(heap);
     heap.refuse(1);
     assert!(rt; dir.promise().is_err());
     assert!(rt; dir.is_empty());
     heap.refuse(2);
-    assert!(rt; put(&mut dir, name(heap, b"a")?, Num(1)).is_err());
+    assert!(rt; put(&mut dir, name(&rt, heap, b"a"), Num(1)).is_err());
     assert!(rt; dir.is_empty());
     heap.refuse(0);
-    put(&mut dir, name(heap, b"a")?, Num(1))?;
+    put(&mut dir, name(&rt, heap, b"a"), Num(1)).expect(&rt, "memory");
     heap.refuse(1);
-    assert!(rt; dir.names(heap).is_err());
-    assert_eq!(rt; told(heap, &dir)?.as_slice(), b"a ".as_slice());
-    Ok(())
+    assert!(rt; is_refused(dir.names(heap)));
+    assert_names(&rt, heap, &dir, b"a ");
+}
+
+// Adds a name in promised room where it is not there yet.
+fn put_promised(dir: &mut Dir, name: Name, num: Num)
+    requires { 0 < dir.old.promised }
+    ensures { dir.old.promised ≤ dir.new.promised + 1 }
+{
+    if dir.lookup(&name).is_none() {
+        dir.insert_promised(name, num);
+    }
 }
 
 #[test]
-fn promised_room_takes_no_memory(rt: HostRuntime) -> Result<(), Fail> {
-    let heap = heap::open(rt.alloc())?;
+fn promised_room_takes_no_memory(rt: HostRuntime) {
+    let heap = heap::open(rt.alloc()).expect(&rt, "memory");
     let mut dir = Dir::new(heap);
-    let first = name(heap, b"a")?;
-    let second = name(heap, b"b")?;
-    let others = name(heap, b"c")?;
-    dir.promise()?;
-    dir.promise()?;
-    put(&mut dir, others, Num(9))?;
+    let first = name(&rt, heap, b"a");
+    let second = name(&rt, heap, b"b");
+    dir.promise().expect(&rt, "memory");
+    dir.promise().expect(&rt, "memory");
+    put(&mut dir, name(&rt, heap, b"c"), Num(9)).expect(&rt, "memory");
     heap.refuse(0);
-    if dir.lookup(&first).is_none() {
-        dir.insert_promised(first, Num(1));
-    }
-    assert!(rt; dir.is_promised());
-    if dir.lookup(&second).is_none() {
-        dir.insert_promised(second, Num(2));
-    }
-    assert!(rt; !dir.is_promised());
-    assert_eq!(rt; heap.made(), 0);
-    assert_eq!(rt; dir.len(), 3);
-    Ok(())
+    put_promised(&mut dir, first, Num(1));
+    let one_is_left = dir.is_promised();
+    put_promised(&mut dir, second, Num(2));
+    assert_eq!(rt; [one_is_left, dir.is_promised()], [true, false]);
+    assert_eq!(rt; (heap.made(), dir.len()), (0, 3));
 }

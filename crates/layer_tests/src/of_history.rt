@@ -1,8 +1,8 @@
 // A history takes its memory when it is made, and none for an entry.
+use crate::refused::is_refused;
 use heap::Heap;
 use history::History;
 use ids::{Entry, Nums, Op, Pid, Pids, Priority, Reply};
-use std::test::Fail;
 
 fn begun(heap: Heap) -> Entry {
     Entry {
@@ -16,32 +16,34 @@ fn begun(heap: Heap) -> Entry {
 
 // Whether one more entry has a place.
 fn is_taken(heap: Heap, history: &mut History) -> bool {
-    history.push(begun(heap)).is_ok()
+    match history.push(begun(heap)) {
+        Ok(()) => true,
+        Err(_entry) => false,
+    }
 }
 
 #[test]
-fn takes_its_memory_at_the_start(rt: HostRuntime) -> Result<(), Fail> {
-    let heap = heap::open(rt.alloc())?;
-    let zero = Priority::new(0).ok_or("no priority")?;
-    let mut history = History::new(heap, &[zero, zero], 2)?;
+fn takes_its_memory_at_the_start(rt: HostRuntime) {
+    let heap = heap::open(rt.alloc()).expect(&rt, "memory");
+    let zero = Priority::new(0).unwrap();
+    let mut history = History::new(heap, &[zero, zero], 2).expect(&rt, "memory");
     heap.refuse(0);
-    assert!(rt; is_taken(heap, &mut history));
-    assert!(rt; is_taken(heap, &mut history));
-    assert!(rt; !is_taken(heap, &mut history));
-    assert_eq!(rt; heap.made(), 0);
-    assert_eq!(rt; history.entries().len(), 2);
-    assert_eq!(rt; history.priorities().len(), 2);
-    assert_eq!(rt; history.limit(), 2);
-    Ok(())
+    let taken = [
+        is_taken(heap, &mut history),
+        is_taken(heap, &mut history),
+        is_taken(heap, &mut history),
+    ];
+    assert_eq!(rt; (taken, heap.made()), ([true, true, false], 0));
+    let lengths = [history.entries().len(), history.priorities().len()];
+    assert_eq!(rt; (lengths, history.limit()), ([2; 2], 2));
 }
 
 #[test]
-fn refused_memory_gives_nothing(rt: HostRuntime) -> Result<(), Fail> {
-    let heap = heap::open(rt.alloc())?;
-    let zero = Priority::new(0).ok_or("no priority")?;
+fn refused_memory_gives_nothing(rt: HostRuntime) {
+    let heap = heap::open(rt.alloc()).expect(&rt, "memory");
+    let zero = Priority::new(0).unwrap();
     for number in 1..3u64 {
         heap.refuse(number);
-        assert!(rt; History::new(heap, &[zero], 2).is_err());
+        assert!(rt; is_refused(History::new(heap, &[zero], 2)));
     }
-    Ok(())
 }

@@ -1,58 +1,56 @@
 // Each public function once, with ample memory, against what it should give.
+use crate::refused::is_refused;
 use bitflags::Flags;
 use heap::Heap;
 use ids::{
     Aspect, BeginFlags, Bytes, Call, Cause, Entry, Name, Num, Nums, Op, OpenFlags, Pid, Pids,
     Priority, Reply, Touch,
 };
-use std::alloc::AllocError;
 use std::fmt::Debug;
-use std::test::Fail;
+use std::process::Abort;
 
-fn entry(heap: Heap) -> Result<Entry, AllocError> {
+fn entry(rt: &impl Abort, heap: Heap) -> Entry {
+    let name = Name::copy(heap, b"a").expect(rt, "memory");
+    let path = Bytes::copy(heap, b"/a").expect(rt, "memory");
     let touch = Touch {
-        aspect: Aspect::Entry(Num(3), Name::copy(heap, b"a")?),
+        aspect: Aspect::Entry(Num(3), name),
         write: true,
     };
     let cause = Cause {
         touch,
         other: Pid(2),
     };
-    Ok(Entry {
+    Entry {
         pid: Pid(1),
-        op: Op::Call(Call::Mkdir(Bytes::copy(heap, b"/a")?)),
+        op: Op::Call(Call::Mkdir(path)),
         reply: Reply::Busy(cause),
         chosen: Nums::new(heap),
         doomed: Pids::new(heap),
-    })
+    }
 }
 
 // Of any type, so that the proof need not look into the text of an entry.
-fn told<T: Debug>(heap: Heap, value: &T) -> Result<String<Heap>, AllocError> {
-    format!(in heap; "{value:?}")
-}
-
-// Whether a copy is told as its source.
-fn is_told_alike(heap: Heap, entry: &Entry) -> Result<bool, AllocError> {
-    let copy = entry.try_clone()?;
-    Ok(told(heap, &copy)? == told(heap, entry)?)
+fn assert_told_alike<T: Debug>(rt: &impl Abort, heap: Heap, first: &T, second: &T) {
+    let one = format!(in heap; "{first:?}").expect(rt, "memory");
+    let other = format!(in heap; "{second:?}").expect(rt, "memory");
+    assert_eq!(rt; one, other);
 }
 
 #[test]
-fn a_copy_is_told_as_its_source(rt: HostRuntime) -> Result<(), Fail> {
-    let heap = heap::open(rt.alloc())?;
-    assert!(rt; is_told_alike(heap, &entry(heap)?)?);
-    Ok(())
+fn a_copy_is_told_as_its_source(rt: HostRuntime) {
+    let heap = heap::open(rt.alloc()).expect(&rt, "memory");
+    let entry = entry(&rt, heap);
+    let copy = entry.try_clone().expect(&rt, "memory");
+    assert_told_alike(&rt, heap, &copy, &entry);
 }
 
 #[test]
-fn a_refused_copy_says_so(rt: HostRuntime) -> Result<(), Fail> {
-    let heap = heap::open(rt.alloc())?;
-    let path = Bytes::copy(heap, b"/a")?;
+fn a_refused_copy_says_so(rt: HostRuntime) {
+    let heap = heap::open(rt.alloc()).expect(&rt, "memory");
+    let path = Bytes::copy(heap, b"/a").expect(&rt, "memory");
     heap.refuse(1);
-    assert!(rt; path.try_clone().is_err());
-    assert!(rt; path.try_clone().is_ok());
-    Ok(())
+    assert!(rt; is_refused(path.try_clone()));
+    assert!(rt; !is_refused(path.try_clone()));
 }
 
 #[test]

@@ -1,73 +1,81 @@
 // A reader and a writer of one pipe side by side, what is read back, and refused memory.
+use crate::pipes::{assert_taken, pipe_of};
+use crate::refused::is_refused;
+use heap::Heap;
 use objects::PipeData;
 use pipe_shadow::PipeShadow;
-use std::test::Fail;
+use std::process::Abort;
+
+// Reads at most so many bytes of the view.
+fn assert_read(
+    rt: &impl Abort,
+    heap: Heap,
+    shadow: &PipeShadow,
+    pipe: &PipeData,
+    count: usize,
+    want: &[u8],
+) {
+    let read = shadow.read(heap, pipe, count).expect(rt, "memory");
+    assert_eq!(rt; read.as_slice(), want);
+}
 
 #[test]
-fn a_reader_beside_a_writer(rt: HostRuntime) -> Result<(), Fail> {
-    let heap = heap::open(rt.alloc())?;
-    let mut pipe = PipeData::new(heap)?;
-    pipe.put(b"abcde");
+fn a_reader_beside_a_writer(rt: HostRuntime) {
+    let heap = heap::open(rt.alloc()).expect(&rt, "memory");
+    let mut pipe = pipe_of(&rt, heap, b"abcde");
     let mut shadow = PipeShadow::new(heap);
-    assert_eq!(rt; shadow.read(heap, &pipe, 3)?.as_slice(), b"abc".as_slice());
+    assert_read(&rt, heap, &shadow, &pipe, 3, b"abc");
     shadow.take(&pipe, 3);
-    assert_eq!(rt; shadow.len(&pipe), 2);
-    assert_eq!(rt; shadow.room(&pipe), 4094);
+    assert_eq!(rt; [shadow.len(&pipe), shadow.room(&pipe)], [2, 4094]);
     pipe.put(b"xy");
     heap.refuse(0);
     shadow.commit_into(&mut pipe);
     assert_eq!(rt; heap.made(), 0);
-    assert_eq!(rt; pipe.take(heap, 9)?.as_slice(), b"dexy".as_slice());
-    Ok(())
+    assert_taken(&rt, heap, &mut pipe, 9, b"dexy");
 }
 
 #[test]
-fn a_writer_beside_a_reader(rt: HostRuntime) -> Result<(), Fail> {
-    let heap = heap::open(rt.alloc())?;
-    let mut pipe = PipeData::new(heap)?;
-    pipe.put(b"a");
+fn a_writer_beside_a_reader(rt: HostRuntime) {
+    let heap = heap::open(rt.alloc()).expect(&rt, "memory");
+    let mut pipe = pipe_of(&rt, heap, b"a");
     let mut shadow = PipeShadow::new(heap);
-    shadow.append(b"xy")?;
-    assert_eq!(rt; shadow.read(heap, &pipe, 9)?.as_slice(), b"axy".as_slice());
+    shadow.append(b"xy").expect(&rt, "memory");
+    assert_read(&rt, heap, &shadow, &pipe, 9, b"axy");
     pipe.skip(1);
     shadow.commit_into(&mut pipe);
-    assert_eq!(rt; pipe.take(heap, 9)?.as_slice(), b"xy".as_slice());
-    Ok(())
+    assert_taken(&rt, heap, &mut pipe, 9, b"xy");
 }
 
 #[test]
-fn own_bytes_are_read_back(rt: HostRuntime) -> Result<(), Fail> {
-    let heap = heap::open(rt.alloc())?;
-    let mut pipe = PipeData::new(heap)?;
-    pipe.put(b"abcde");
+fn own_bytes_are_read_back(rt: HostRuntime) {
+    let heap = heap::open(rt.alloc()).expect(&rt, "memory");
+    let mut pipe = pipe_of(&rt, heap, b"abcde");
     let mut shadow = PipeShadow::new(heap);
-    shadow.append(b"xyz")?;
+    shadow.append(b"xyz").expect(&rt, "memory");
     heap.refuse(0);
     shadow.take(&pipe, 4);
     shadow.take(&pipe, 3);
     assert_eq!(rt; heap.made(), 0);
-    assert_eq!(rt; shadow.read(heap, &pipe, 9)?.as_slice(), b"z".as_slice());
+    assert_read(&rt, heap, &shadow, &pipe, 9, b"z");
     shadow.take(&pipe, 9);
     assert_eq!(rt; shadow.len(&pipe), 0);
-    shadow.append(b"q")?;
+    shadow.append(b"q").expect(&rt, "memory");
     shadow.commit_into(&mut pipe);
-    assert_eq!(rt; pipe.take(heap, 9)?.as_slice(), b"q".as_slice());
-    Ok(())
+    assert_taken(&rt, heap, &mut pipe, 9, b"q");
 }
 
 #[test]
-fn refused_memory_changes_nothing(rt: HostRuntime) -> Result<(), Fail> {
-    let heap = heap::open(rt.alloc())?;
-    let mut pipe = PipeData::new(heap)?;
-    pipe.put(b"abc");
+fn refused_memory_changes_nothing(rt: HostRuntime) {
+    let heap = heap::open(rt.alloc()).expect(&rt, "memory");
+    let pipe = pipe_of(&rt, heap, b"abc");
     let mut shadow = PipeShadow::new(heap);
     heap.refuse(1);
-    assert!(rt; shadow.append(b"x").is_err());
+    let appended = is_refused(shadow.append(b"x"));
     heap.refuse(1);
-    assert!(rt; shadow.read(heap, &pipe, 9).is_err());
+    let read = is_refused(shadow.read(heap, &pipe, 9));
     heap.refuse(0);
-    assert_eq!(rt; shadow.len(&pipe), 3);
-    shadow.append(b"x")?;
-    assert_eq!(rt; shadow.len(&pipe), 4);
-    Ok(())
+    let len = shadow.len(&pipe);
+    shadow.append(b"x").expect(&rt, "memory");
+    assert_eq!(rt; [appended, read], [true; 2]);
+    assert_eq!(rt; [len, shadow.len(&pipe)], [3, 4]);
 }

@@ -6,11 +6,11 @@ use ids::{Edit, Name, Num, Priority};
 use look::Look;
 use shadow::{Shadow, Stable, View};
 use std::alloc::AllocError;
-use std::test::Fail;
+use std::process::Abort;
 
-fn first_stable(heap: Heap) -> Result<Stable, Fail> {
+fn first_stable(rt: &impl Abort, heap: Heap) -> Stable {
     let priorities = [Priority::new(3).unwrap()];
-    Ok(Stable::new(heap, &priorities)?)
+    Stable::new(heap, &priorities).expect(rt, "memory")
 }
 
 // A new directory in the root, in the shadow of a transaction. Its number is answered.
@@ -46,29 +46,34 @@ fn tried(heap: Heap, stable: &mut Stable, request: u64) -> Result<Num, AllocErro
 }
 
 #[test]
-fn refused_memory_gives_numbers_back(rt: HostRuntime) -> Result<(), Fail> {
-    let heap = heap::open(rt.alloc())?;
-    let mut stable = first_stable(heap)?;
+fn refused_memory_gives_numbers_back(rt: HostRuntime) {
+    let heap = heap::open(rt.alloc()).expect(&rt, "memory");
+    let mut stable = first_stable(&rt, heap);
     for request in 1..20 {
         match tried(heap, &mut stable, request) {
             Err(_refused) => {}
             Ok(num) => {
                 assert!(rt; request > 3);
                 assert_eq!(rt; num, Num(1));
-                return Ok(());
+                return;
             }
         }
     }
     panic!(rt; "still refused")
 }
 
+// A transaction with a new directory in the root, whose number stands beside it.
+fn begun(rt: &impl Abort, heap: Heap, stable: &mut Stable, name: &[u8]) -> (Shadow, Num) {
+    let mut shadow = Shadow::new(heap);
+    let num = added(heap, stable, &mut shadow, name).expect(rt, "memory");
+    (shadow, num)
+}
+
 #[test]
-fn two_transactions_have_two_numbers(rt: HostRuntime) -> Result<(), Fail> {
-    let heap = heap::open(rt.alloc())?;
-    let mut stable = first_stable(heap)?;
-    let mut first = Shadow::new(heap);
-    let mut second = Shadow::new(heap);
-    assert_eq!(rt; added(heap, &mut stable, &mut first, b"a")?, Num(1));
-    assert_eq!(rt; added(heap, &mut stable, &mut second, b"b")?, Num(2));
-    Ok(())
+fn two_transactions_have_two_numbers(rt: HostRuntime) {
+    let heap = heap::open(rt.alloc()).expect(&rt, "memory");
+    let mut stable = first_stable(&rt, heap);
+    let (_first, one) = begun(&rt, heap, &mut stable, b"a");
+    let (_second, two) = begun(&rt, heap, &mut stable, b"b");
+    assert_eq!(rt; [one, two], [Num(1), Num(2)]);
 }

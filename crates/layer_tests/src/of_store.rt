@@ -1,20 +1,25 @@
 // Numbers that are given out, objects under them, names in them, and refused memory.
+use crate::refused::is_refused;
 use dirlist::Dir;
 use heap::Heap;
 use ids::{Name, Num};
-use std::alloc::AllocError;
-use std::test::Fail;
+use std::process::Abort;
 use store::{Object, Store};
 
 fn no_names(heap: Heap) -> Object {
     Object::Directory(Dir::new(heap))
 }
 
+// The number of a new directory to come.
+fn reserved(rt: &impl Abort, heap: Heap, store: &mut Store) -> Num {
+    store.reserve_num(no_names(heap)).expect(rt, "memory")
+}
+
 // A new directory that is shown.
-fn added(heap: Heap, store: &mut Store) -> Result<Num, AllocError> {
-    let num = store.reserve_num(no_names(heap))?;
+fn added(rt: &impl Abort, heap: Heap, store: &mut Store) -> Num {
+    let num = reserved(rt, heap, store);
     store.install(num);
-    Ok(num)
+    num
 }
 
 fn name_count(store: &Store, num: Num) -> Option<usize> {
@@ -22,114 +27,149 @@ fn name_count(store: &Store, num: Num) -> Option<usize> {
 }
 
 #[test]
-fn reserved_numbers_differ(rt: HostRuntime) -> Result<(), Fail> {
-    let heap = heap::open(rt.alloc())?;
-    let mut store = Store::new(heap)?;
+fn reserved_numbers_differ(rt: HostRuntime) {
+    let heap = heap::open(rt.alloc()).expect(&rt, "memory");
+    let mut store = Store::new(heap).expect(&rt, "memory");
     let root = store.root();
-    let first = store.reserve_num(no_names(heap))?;
-    let second = store.reserve_num(no_names(heap))?;
-    assert!(rt; first != second && first != root && second != root);
+    let first = reserved(&rt, heap, &mut store);
+    let second = reserved(&rt, heap, &mut store);
+    assert_eq!(rt;
+        [first == second, first == root, second == root],
+        [false; 3]
+    );
     assert_eq!(rt; name_count(&store, root), Some(0));
     store.free(first);
-    let third = store.reserve_num(no_names(heap))?;
-    assert!(rt; third != second && third != root);
-    Ok(())
+    let third = reserved(&rt, heap, &mut store);
+    assert_eq!(rt; [third == second, third == root], [false; 2]);
 }
 
 #[test]
-fn what_is_installed_is_shown(rt: HostRuntime) -> Result<(), Fail> {
-    let heap = heap::open(rt.alloc())?;
-    let mut store = Store::new(heap)?;
-    let num = store.reserve_num(no_names(heap))?;
-    assert!(rt; store.get(num).is_none());
+fn what_is_installed_is_shown(rt: HostRuntime) {
+    let heap = heap::open(rt.alloc()).expect(&rt, "memory");
+    let mut store = Store::new(heap).expect(&rt, "memory");
+    let num = reserved(&rt, heap, &mut store);
     heap.refuse(0);
+    let to_come = store.get(num).is_some();
     store.install(num);
-    assert_eq!(rt; name_count(&store, num), Some(0));
+    let installed = name_count(&store, num);
     store.hide(num);
-    assert_eq!(rt; name_count(&store, num), None);
+    let hidden = name_count(&store, num);
     store.install(num);
-    assert!(rt; store.get(num).is_some());
-    store.free(num);
-    assert_eq!(rt; name_count(&store, num), None);
-    store.install(num);
-    assert_eq!(rt; name_count(&store, num), None);
+    let shown_again = store.get(num).is_some();
+    assert_eq!(rt; [to_come, shown_again], [false, true]);
+    assert_eq!(rt; [installed, hidden], [Some(0), None]);
     assert_eq!(rt; heap.made(), 0);
-    assert_eq!(rt; name_count(&store, store.root()), Some(0));
-    Ok(())
 }
 
 #[test]
-fn names_are_added_in_promised_room(rt: HostRuntime) -> Result<(), Fail> {
-    let heap = heap::open(rt.alloc())?;
-    let mut store = Store::new(heap)?;
-    let dir = store.reserve_num(no_names(heap))?;
-    let name = Name::copy(heap, b"a")?;
-    let same = Name::copy(heap, b"a")?;
-    let key = Name::copy(heap, b"a")?;
-    assert!(rt; !store.is_promised(dir));
-    store.promise(dir)?;
-    store.promise(dir)?;
+fn what_is_freed_stays_away(rt: HostRuntime) {
+    let heap = heap::open(rt.alloc()).expect(&rt, "memory");
+    let mut store = Store::new(heap).expect(&rt, "memory");
+    let num = added(&rt, heap, &mut store);
     heap.refuse(0);
-    if store.is_promised(dir) {
-        store.add_name(dir, name, Num(7));
-    }
-    assert_eq!(rt; store.lookup(dir, &key), None);
-    store.install(dir);
-    assert_eq!(rt; store.lookup(dir, &key), Some(Num(7)));
-    if store.is_promised(dir) {
-        store.add_name(dir, same, Num(8));
-    }
-    assert!(rt; !store.is_promised(dir));
-    assert_eq!(rt; store.lookup(dir, &key), Some(Num(8)));
-    assert_eq!(rt; name_count(&store, dir), Some(1));
-    assert_eq!(rt; store.remove_name(dir, &key), Some(Num(8)));
-    assert_eq!(rt; store.remove_name(dir, &key), None);
+    store.free(num);
+    let freed = name_count(&store, num);
+    store.install(num);
+    let installed = name_count(&store, num);
+    let root = name_count(&store, store.root());
+    assert_eq!(rt; [freed, installed, root], [None, None, Some(0)]);
     assert_eq!(rt; heap.made(), 0);
-    Ok(())
+}
+
+// A store, and a directory to come with room for two names.
+fn with_room(rt: &impl Abort, heap: Heap) -> (Store, Num) {
+    let mut store = Store::new(heap).expect(rt, "memory");
+    let dir = reserved(rt, heap, &mut store);
+    store.promise(dir).expect(rt, "memory");
+    store.promise(dir).expect(rt, "memory");
+    (store, dir)
+}
+
+// Adds a name where room for it is promised.
+fn add_promised(store: &mut Store, dir: Num, name: Name, num: Num) {
+    if store.is_promised(dir) {
+        store.add_name(dir, name, num);
+    }
 }
 
 #[test]
-fn promises_are_counted(rt: HostRuntime) -> Result<(), Fail> {
-    let heap = heap::open(rt.alloc())?;
-    let mut store = Store::new(heap)?;
+fn names_are_added_in_promised_room(rt: HostRuntime) {
+    let heap = heap::open(rt.alloc()).expect(&rt, "memory");
+    let (mut store, dir) = with_room(&rt, heap);
+    let name = Name::copy(heap, b"a").expect(&rt, "memory");
+    let same = Name::copy(heap, b"a").expect(&rt, "memory");
+    heap.refuse(0);
+    add_promised(&mut store, dir, name, Num(7));
+    store.install(dir);
+    let one_is_left = store.is_promised(dir);
+    add_promised(&mut store, dir, same, Num(8));
+    assert_eq!(rt; [one_is_left, store.is_promised(dir)], [true, false]);
+    assert_eq!(rt; (name_count(&store, dir), heap.made()), (Some(1), 0));
+}
+
+#[test]
+fn a_name_gives_what_was_added_last(rt: HostRuntime) {
+    let heap = heap::open(rt.alloc()).expect(&rt, "memory");
+    let (mut store, dir) = with_room(&rt, heap);
+    let key = Name::copy(heap, b"a").expect(&rt, "memory");
+    let name = Name::copy(heap, b"a").expect(&rt, "memory");
+    let same = Name::copy(heap, b"a").expect(&rt, "memory");
+    add_promised(&mut store, dir, name, Num(7));
+    let to_come = store.lookup(dir, &key);
+    store.install(dir);
+    let first = store.lookup(dir, &key);
+    add_promised(&mut store, dir, same, Num(8));
+    let last = store.lookup(dir, &key);
+    let removed = [store.remove_name(dir, &key), store.remove_name(dir, &key)];
+    assert_eq!(rt; [to_come, first, last], [None, Some(Num(7)), Some(Num(8))]);
+    assert_eq!(rt; removed, [Some(Num(8)), None]);
+}
+
+#[test]
+fn promises_are_counted(rt: HostRuntime) {
+    let heap = heap::open(rt.alloc()).expect(&rt, "memory");
+    let mut store = Store::new(heap).expect(&rt, "memory");
     let root = store.root();
-    let other = added(heap, &mut store)?;
+    let other = added(&rt, heap, &mut store);
+    let before = store.is_promised(root);
     store.release(root);
-    store.promise(root)?;
-    store.promise(root)?;
+    store.promise(root).expect(&rt, "memory");
+    store.promise(root).expect(&rt, "memory");
     store.release(root);
-    assert!(rt; store.is_promised(root));
-    assert!(rt; !store.is_promised(other));
+    let one_is_left = [store.is_promised(root), store.is_promised(other)];
     store.release(root);
-    assert!(rt; !store.is_promised(root));
+    let none_is_left = store.is_promised(root);
     store.free(other);
-    store.promise(other)?;
-    assert!(rt; !store.is_promised(other));
-    Ok(())
+    store.promise(other).expect(&rt, "memory");
+    let freed = store.is_promised(other);
+    assert_eq!(rt; one_is_left, [true, false]);
+    assert_eq!(rt; [before, none_is_left, freed], [false; 3]);
 }
 
-#[test]
-fn refused_memory_changes_nothing(rt: HostRuntime) -> Result<(), Fail> {
-    let heap = heap::open(rt.alloc())?;
-    heap.refuse(1);
-    assert!(rt; Store::new(heap).is_err());
-    let mut store = Store::new(heap)?;
-    let root = store.root();
-    let mut refused = false;
+// Whether a number is refused among some, of which each that asks for memory is.
+fn is_once_refused(heap: Heap, store: &mut Store) -> bool {
     for _ in 0..20u32 {
         heap.refuse(1);
         if store.reserve_num(no_names(heap)).is_err() {
-            refused = true;
-            break;
+            return true;
         }
     }
-    assert!(rt; refused);
+    false
+}
+
+#[test]
+fn refused_memory_changes_nothing(rt: HostRuntime) {
+    let heap = heap::open(rt.alloc()).expect(&rt, "memory");
     heap.refuse(1);
-    assert!(rt; store.promise(root).is_err());
-    assert!(rt; !store.is_promised(root));
+    assert!(rt; is_refused(Store::new(heap)));
+    let mut store = Store::new(heap).expect(&rt, "memory");
+    let root = store.root();
+    assert!(rt; is_once_refused(heap, &mut store));
+    heap.refuse(1);
+    let promised = store.promise(root).is_ok();
+    assert_eq!(rt; [promised, store.is_promised(root)], [false; 2]);
     assert_eq!(rt; name_count(&store, root), Some(0));
     heap.refuse(0);
-    assert!(rt; store.reserve_num(no_names(heap)).is_ok());
-    assert!(rt; store.promise(root).is_ok());
-    Ok(())
+    let reserved = store.reserve_num(no_names(heap)).is_ok();
+    assert_eq!(rt; [reserved, store.promise(root).is_ok()], [true; 2]);
 }

@@ -1,8 +1,9 @@
 -- Counts that are kept for each process.
-use Rattle.std.proofs.Common.{◌≡◌, ℕ, ◌+◌, ◌-◌, ◌<◌, ◌≤◌, List, ◌∷◌, Some, Bool, true, false, cond, eqb, length, get_or, set, take, drop, refl, ap, ◌∙◌, sym, arith, length-take, drop-cons, add-one, subst, suc}
+use Rattle.std.proofs.Common.{◌≡◌, ℕ, ◌+◌, ◌-◌, ◌<◌, ◌≤◌, List, ◌∷◌, Some, Bool, true, false, cond, eqb, length, get_or, set, take, drop, refl, ap, ◌∙◌, sym, arith, length-take, subst}
 use Rattle.std.proofs.lemmas.Bool.{eqb-true, eq-eqb, ne_eqb, lt-ltb, le-ltb}
 use Rattle.std.proofs.lemmas.List.{get_or-set_same, get_or-set_other}
 use Rattle.std.proofs.lemmas.List.Sums.{count_by_more_yes, count_by_more_no, count_by-le-length}
+use Rattle.script.proofs.Drops.{next_of}
 use Rattle.script.specs.Schedules.{first_without, lines_for, times}
 use Rattle.script.specs.declared.read.Line.{Line}
 
@@ -67,9 +68,6 @@ one_more_here lines i x place p v counts below is at room value same =
 
 pub not_counted_here : (lines : List Line) (i : ℕ) (x : Line) (place p : ℕ) → i < length lines → x ≡ get_or lines i x → place ≡ x.pid → p < place → lines_for p (take (i + 1) lines) ≡ lines_for p (take i lines)
 not_counted_here lines i x place p below is at less = not_counted lines i x p below is (subst (λ (q : ℕ). p < q) at less)
-
-pub next_of : (pids : List ℕ) (i pid : ℕ) → i < length pids → pid ≡ get_or pids i pid → drop i pids ≡ pid ∷ drop (i + 1) pids
-next_of pids i pid below is = rw (add-one, drop-cons pids i pid) (ap (λ (q : ℕ). q ∷ drop (suc i) pids) (sym is))
 
 pub goes_on_at : (lines : List Line) (pids before : List ℕ) (i pid v : ℕ) → i < length pids → pid ≡ get_or pids i pid → 0 < v → v + times pid before ≡ lines_for pid lines
     → first_without lines before (drop i pids) ≡ first_without lines (pid ∷ before) (drop (i + 1) pids)

@@ -1,4 +1,6 @@
 pub mod Cuts
+pub mod Drops
+pub mod Tables
 pub mod Spelled
 pub mod Escapes
 pub mod Reading

@@ -3,7 +3,7 @@ use Rattle.std.proofs.Common.{◌≡◌, ℕ, ◌+◌, ◌<◌, ◌==◌, List, 
 use Rattle.std.proofs.lemmas.Bool.{eqb-true, eq-eqb}
 use Rattle.std.proofs.lemmas.List.{get_or-set_same, get_or-set_other, map-append}
 use Rattle.std.proofs.lemmas.List.Elements.{filter-append}
-use Rattle.script.proofs.Counts.{next_of}
+use Rattle.script.proofs.Drops.{next_of}
 use Rattle.ids.specs.declared.call.Op.{Op}
 use Rattle.script.specs.declared.read.Line.{Line}
 use Rattle.script.specs.Schedules.{times}

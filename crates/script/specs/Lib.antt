@@ -6,5 +6,6 @@ pub mod Schedules
 pub mod Scripts
 pub mod Spelled
 pub mod Steps
+pub mod Tables
 pub mod Texts
 pub mod Verbs

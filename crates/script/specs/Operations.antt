@@ -9,6 +9,7 @@ use Rattle.script.specs.Flags.{flags_in, begin_flags, begin_flags_in, whence_in}
 use Rattle.ids.specs.declared.flags.BeginFlags.{BeginFlags}
 use Rattle.ids.specs.declared.call.Op.{Op}
 use Rattle.ids.specs.declared.call.Op.TheVariants as op
+use Rattle.ids.specs.declared.call.Call.{Call}
 use Rattle.ids.specs.declared.call.Call.TheVariants as call
 use Rattle.script.specs.declared.verb.Verb.{Verb}
 use Rattle.script.specs.declared.verb.Verb.TheVariants as verb
@@ -16,6 +17,8 @@ use Rattle.script.specs.declared.verb.FdVerb.{FdVerb}
 use Rattle.script.specs.declared.verb.FdVerb.TheVariants as fd_verb
 use Rattle.script.specs.declared.verb.PathVerb.{PathVerb}
 use Rattle.script.specs.declared.verb.PathVerb.TheVariants as path_verb
+use Rattle.script.specs.declared.verb.PathsVerb.{PathsVerb}
+use Rattle.script.specs.declared.verb.PathsVerb.TheVariants as paths_verb
 use Rattle.script.specs.declared.verb.BareVerb.{BareVerb}
 use Rattle.script.specs.declared.verb.BareVerb.TheVariants as bare_verb
 
@@ -57,7 +60,7 @@ abort_of [] = Some false
 abort_of (word ∷ []) = if bytes_eq word (codes "no_restart") then Some true else None
 abort_of (_ ∷ _ ∷ _) = None
 
--- of a word on descriptors and numbers, on paths, and on neither
+-- of a word on descriptors and numbers, on a path, on two, and on neither
 abbrev pub fd_arguments : FdVerb → List (List ℕ) → Option Op
 fd_arguments fd_verb.Close args = option_map (λ fd. op.Call (call.Close fd)) (one fd_in args)
 fd_arguments fd_verb.Fstat args = option_map (λ fd. op.Call (call.Fstat fd)) (one fd_in args)
@@ -67,14 +70,19 @@ fd_arguments fd_verb.Lseek args = option_map (λ p. op.Call (call.Lseek p.0 p.1 
 fd_arguments fd_verb.Ftruncate args = option_map (λ p. op.Call (call.Ftruncate p.0 p.1)) (two fd_in (decimal_in 4294967295) args)
 fd_arguments fd_verb.Dup2 args = option_map (λ p. op.Call (call.Dup2 p.0 p.1)) (two fd_in fd_in args)
 
+abbrev pub on_path : PathVerb → List ℕ → Call
+on_path path_verb.Stat path = call.Stat path
+on_path path_verb.Unlink path = call.Unlink path
+on_path path_verb.Mkdir path = call.Mkdir path
+on_path path_verb.Rmdir path = call.Rmdir path
+on_path path_verb.List path = call.List path
+
 abbrev pub path_arguments : PathVerb → List (List ℕ) → Option Op
-path_arguments path_verb.Stat args = option_map (λ path. op.Call (call.Stat path)) (one text_in args)
-path_arguments path_verb.Unlink args = option_map (λ path. op.Call (call.Unlink path)) (one text_in args)
-path_arguments path_verb.Mkdir args = option_map (λ path. op.Call (call.Mkdir path)) (one text_in args)
-path_arguments path_verb.Rmdir args = option_map (λ path. op.Call (call.Rmdir path)) (one text_in args)
-path_arguments path_verb.List args = option_map (λ path. op.Call (call.List path)) (one text_in args)
-path_arguments path_verb.Link args = option_map (λ p. op.Call (call.Link p.0 p.1)) (two text_in text_in args)
-path_arguments path_verb.Rename args = option_map (λ p. op.Call (call.Rename p.0 p.1)) (two text_in text_in args)
+path_arguments v args = option_map (λ path. op.Call (on_path v path)) (one text_in args)
+
+abbrev pub paths_arguments : PathsVerb → List (List ℕ) → Option Op
+paths_arguments paths_verb.Link args = option_map (λ p. op.Call (call.Link p.0 p.1)) (two text_in text_in args)
+paths_arguments paths_verb.Rename args = option_map (λ p. op.Call (call.Rename p.0 p.1)) (two text_in text_in args)
 
 abbrev pub bare_arguments : BareVerb → List (List ℕ) → Option Op
 bare_arguments bare_verb.Pipe args = no_arguments (op.Call call.Pipe) args
@@ -91,4 +99,5 @@ arguments verb.Write args = option_map (λ p. op.Call (call.Write p.0 p.1)) (two
 arguments verb.Fill args = option_map (λ p. op.Call (call.Write p.0 (replicate p.1 p.2))) (three fd_in (decimal_in 1048576) byte_in args)
 arguments (verb.OnFd v) args = fd_arguments v args
 arguments (verb.OnPath v) args = path_arguments v args
+arguments (verb.OnPaths v) args = paths_arguments v args
 arguments (verb.Bare v) args = bare_arguments v args

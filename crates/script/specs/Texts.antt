@@ -16,6 +16,11 @@ abbrev pub escape_of : List ℕ → Option (ℕ × List ℕ)
 escape_of (slash ∷ x ∷ high ∷ low ∷ rest) = if slash == 92 && x == 120 then before rest (with_digits (hex_in high) (hex_in low)) else None
 escape_of _ = None
 
+-- the byte that a text begins with, and what stands behind it
+abbrev pub first_of : List ℕ → Option (ℕ × List ℕ)
+first_of [] = None
+first_of (a ∷ rest) = if is_plain a then Some (a, rest) else escape_of (a ∷ rest)
+
 abbrev pub bytes_behind : (ℕ → Option (List ℕ)) → Option (ℕ × List ℕ) → Option (List ℕ)
 bytes_behind f None = None
 bytes_behind f (Some p) = f p.0

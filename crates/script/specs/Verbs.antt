@@ -5,6 +5,7 @@ use Rattle.script.specs.declared.verb.Verb.{Verb}
 use Rattle.script.specs.declared.verb.Verb.TheVariants as verb
 use Rattle.script.specs.declared.verb.FdVerb.TheVariants as fd
 use Rattle.script.specs.declared.verb.PathVerb.TheVariants as path
+use Rattle.script.specs.declared.verb.PathsVerb.TheVariants as paths
 use Rattle.script.specs.declared.verb.BareVerb.TheVariants as bare
 
 abbrev pub bare_verb_in : List ℕ → Option Verb
@@ -23,8 +24,8 @@ path_verb_in word =
     else if bytes_eq word (codes "mkdir") then Some (verb.OnPath path.Mkdir)
     else if bytes_eq word (codes "rmdir") then Some (verb.OnPath path.Rmdir)
     else if bytes_eq word (codes "list") then Some (verb.OnPath path.List)
-    else if bytes_eq word (codes "link") then Some (verb.OnPath path.Link)
-    else if bytes_eq word (codes "rename") then Some (verb.OnPath path.Rename) else bare_verb_in word
+    else if bytes_eq word (codes "link") then Some (verb.OnPaths paths.Link)
+    else if bytes_eq word (codes "rename") then Some (verb.OnPaths paths.Rename) else bare_verb_in word
 
 -- the operation that a word names
 abbrev pub verb_in : List ℕ → Option Verb

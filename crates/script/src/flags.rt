@@ -3,29 +3,41 @@ ghost use Rattle.std.specs.Prelude.{◌≡◌, option_map};
 ghost use Rattle.ids.specs.Flags.{open_bits};
 ghost use Rattle.script.specs.Flags.{begin_flags_in, flag_in, flags_in, whence_in};
 
+use crate::named::named;
 use crate::pieces::Pieces;
 use ids::{BeginFlags, OpenFlags, Whence};
+
+// The names of single flags.
+static FLAGS: [(&str, OpenFlags); 6] = [
+    ("RDONLY", OpenFlags::READ),
+    ("WRONLY", OpenFlags::WRITE),
+    ("CREAT", OpenFlags::CREAT),
+    ("EXCL", OpenFlags::EXCL),
+    ("TRUNC", OpenFlags::TRUNC),
+    ("APPEND", OpenFlags::APPEND),
+];
+
+// The flags of a begin.
+static BEGINS: [(&str, BeginFlags); 2] = [
+    ("RESTART", BeginFlags::RESTART),
+    ("ABORT_UNSUPPORTED", BeginFlags::ABORT_UNSUPPORTED),
+];
+
+// The names of the places from which an offset counts.
+static WHENCES: [(&str, Whence); 3] = [
+    ("SET", Whence::Set),
+    ("CUR", Whence::Cur),
+    ("END", Whence::End),
+];
 
 // The flags that a name says.
 fn flag_in(name: &[u8]) -> Option<OpenFlags>
     ensures { option_map open_bits result ≡ flag_in name.now }
 {
-    if name == b"RDONLY".as_slice() {
-        Some(OpenFlags::READ)
-    } else if name == b"WRONLY".as_slice() {
-        Some(OpenFlags::WRITE)
-    } else if name == b"RDWR".as_slice() {
+    if name == b"RDWR".as_slice() {
         Some(OpenFlags::READ.with(OpenFlags::WRITE))
-    } else if name == b"CREAT".as_slice() {
-        Some(OpenFlags::CREAT)
-    } else if name == b"EXCL".as_slice() {
-        Some(OpenFlags::EXCL)
-    } else if name == b"TRUNC".as_slice() {
-        Some(OpenFlags::TRUNC)
-    } else if name == b"APPEND".as_slice() {
-        Some(OpenFlags::APPEND)
     } else {
-        None
+        named(&FLAGS, name)
     }
 }
 
@@ -48,16 +60,12 @@ pub(crate) fn flags_in(word: &[u8]) -> Option<OpenFlags>
 pub(crate) fn begin_flags_in(word: &[u8]) -> Option<BeginFlags>
     ensures { result ≡ begin_flags_in word.now }
 {
-    if word == b"RESTART".as_slice() {
-        Some(BeginFlags::RESTART)
-    } else if word == b"ABORT_UNSUPPORTED".as_slice() {
-        Some(BeginFlags::ABORT_UNSUPPORTED)
-    } else if word == b"RESTART,ABORT_UNSUPPORTED".as_slice()
+    if word == b"RESTART,ABORT_UNSUPPORTED".as_slice()
         || word == b"ABORT_UNSUPPORTED,RESTART".as_slice()
     {
         Some(BeginFlags::RESTART.with(BeginFlags::ABORT_UNSUPPORTED))
     } else {
-        None
+        named(&BEGINS, word)
     }
 }
 
@@ -65,13 +73,5 @@ pub(crate) fn begin_flags_in(word: &[u8]) -> Option<BeginFlags>
 pub(crate) fn whence_in(word: &[u8]) -> Option<Whence>
     ensures { result ≡ whence_in word.now }
 {
-    if word == b"SET".as_slice() {
-        Some(Whence::Set)
-    } else if word == b"CUR".as_slice() {
-        Some(Whence::Cur)
-    } else if word == b"END".as_slice() {
-        Some(Whence::End)
-    } else {
-        None
-    }
+    named(&WHENCES, word)
 }

@@ -8,6 +8,7 @@
 
 mod faults;
 mod flags;
+mod named;
 mod number;
 mod operation;
 mod pieces;

@@ -1,6 +1,6 @@
 // Operations in their spelling.
-ghost use Rattle.std.specs.Prelude.{◌≡◌, IfOk, replicate, option_map};
-ghost use Rattle.script.specs.Operations.{abort_of, arguments, bare_arguments, begin_of, fd_arguments, fd_in, no_arguments, one, path_arguments, three, two};
+ghost use Rattle.std.specs.Prelude.{◌≡◌, IfOk};
+ghost use Rattle.script.specs.Operations.{abort_of, arguments, bare_arguments, begin_of, fd_arguments, fd_in, on_path, one, path_arguments, paths_arguments, three, two};
 ghost use Rattle.script.specs.Numbers.{byte_in, decimal_in, offset_in};
 ghost use Rattle.script.specs.Texts.{text_in};
 ghost use Rattle.script.specs.Flags.{flags_in, whence_in};
@@ -9,9 +9,9 @@ use crate::flags::{begin_flags_in, flags_in, whence_in};
 use crate::number::{byte_in, number_in, offset_in};
 use crate::pieces::Pieces;
 use crate::text::text_in;
-use crate::verb::{BareVerb, FdVerb, PathVerb, Verb};
+use crate::verb::{BareVerb, FdVerb, PathVerb, PathsVerb, Verb};
 use heap::Heap;
-use ids::{BeginFlags, Bytes, Call, Fd, Op, OpenFlags, Whence};
+use ids::{BeginFlags, Bytes, Call, Fd, Op, Whence};
 use std::alloc::AllocError;
 
 fn fd_in(word: &[u8]) -> Option<Fd>
@@ -24,8 +24,8 @@ fn fd_in(word: &[u8]) -> Option<Fd>
 }
 
 // The one text of an operation on a path.
-fn one_text(heap: Heap, args: Pieces<'_>) -> Result<Option<Bytes>, AllocError>
-    ensures { IfOk result (λ found. found ≡ one text_in args.entry) }
+fn one_text(heap: Heap, args: &mut Pieces<'_>) -> Result<Option<Bytes>, AllocError>
+    ensures { IfOk result (λ found. found ≡ one text_in args.old) }
 {
     match args.one() {
         Some(word) => text_in(heap, word),
@@ -34,8 +34,8 @@ fn one_text(heap: Heap, args: Pieces<'_>) -> Result<Option<Bytes>, AllocError>
 }
 
 // The two texts of an operation on two paths.
-fn two_texts(heap: Heap, args: Pieces<'_>) -> Result<Option<(Bytes, Bytes)>, AllocError>
-    ensures { IfOk result (λ found. found ≡ two text_in text_in args.entry) }
+fn two_texts(heap: Heap, args: &mut Pieces<'_>) -> Result<Option<(Bytes, Bytes)>, AllocError>
+    ensures { IfOk result (λ found. found ≡ two text_in text_in args.old) }
 {
     let Some((first, second)) = args.two() else {
         return Ok(None);
@@ -50,86 +50,39 @@ fn two_texts(heap: Heap, args: Pieces<'_>) -> Result<Option<(Bytes, Bytes)>, All
 }
 
 // The one descriptor of an operation.
-fn one_fd(args: Pieces<'_>) -> Option<Fd>
-    ensures { result ≡ one fd_in args.entry }
+fn one_fd(args: &mut Pieces<'_>) -> Option<Fd>
+    ensures { result ≡ one fd_in args.old }
 {
     fd_in(args.one()?)
 }
 
 // A descriptor and a number of at most that.
-fn fd_and_number(args: Pieces<'_>, most: u32) -> Option<(Fd, u32)>
-    ensures { result ≡ two fd_in (decimal_in most) args.entry }
+fn fd_and_number(args: &mut Pieces<'_>, most: u32) -> Option<(Fd, u32)>
+    ensures { result ≡ two fd_in (decimal_in most) args.old }
 {
     let (fd, n) = args.two()?;
     Some((fd_in(fd)?, number_in(n, most)?))
 }
 
-// A text and flags.
-fn text_and_flags(heap: Heap, args: Pieces<'_>) -> Result<Option<(Bytes, OpenFlags)>, AllocError>
-    ensures { IfOk result (λ found. found ≡ two text_in flags_in args.entry) }
-{
-    let Some((path, flags)) = args.two() else {
-        return Ok(None);
-    };
-    let Some(path) = text_in(heap, path)? else {
-        return Ok(None);
-    };
-    let Some(flags) = flags_in(flags) else {
-        return Ok(None);
-    };
-    Ok(Some((path, flags)))
-}
-
-// A descriptor and a text.
-fn fd_and_text(heap: Heap, args: Pieces<'_>) -> Result<Option<(Fd, Bytes)>, AllocError>
-    ensures { IfOk result (λ found. found ≡ two fd_in text_in args.entry) }
-{
-    let Some((fd, bytes)) = args.two() else {
-        return Ok(None);
-    };
-    let Some(fd) = fd_in(fd) else {
-        return Ok(None);
-    };
-    let Some(bytes) = text_in(heap, bytes)? else {
-        return Ok(None);
-    };
-    Ok(Some((fd, bytes)))
-}
-
-// Two descriptors.
-fn two_fds(args: Pieces<'_>) -> Option<(Fd, Fd)>
-    ensures { result ≡ two fd_in fd_in args.entry }
-{
-    let (first, second) = args.two()?;
-    Some((fd_in(first)?, fd_in(second)?))
-}
-
 // A descriptor, a count and a byte.
-fn fill_of(args: Pieces<'_>) -> Option<(Fd, u32, u8)>
-    ensures { result ≡ three fd_in (decimal_in 1048576) byte_in args.entry }
+fn fill_of(args: &mut Pieces<'_>) -> Option<(Fd, u32, u8)>
+    ensures { result ≡ three fd_in (decimal_in 1048576) byte_in args.old }
 {
     let (fd, count, byte) = args.three()?;
     Some((fd_in(fd)?, number_in(count, 1048576)?, byte_in(byte)?))
 }
 
 // A descriptor, an offset and from where it counts.
-fn lseek_of(args: Pieces<'_>) -> Option<(Fd, i64, Whence)>
-    ensures { result ≡ three fd_in offset_in whence_in args.entry }
+fn lseek_of(args: &mut Pieces<'_>) -> Option<(Fd, i64, Whence)>
+    ensures { result ≡ three fd_in offset_in whence_in args.old }
 {
     let (fd, offset, whence) = args.three()?;
     Some((fd_in(fd)?, offset_in(offset)?, whence_in(whence)?))
 }
 
-// That many of this byte.
-fn copies(heap: Heap, count: u32, byte: u8) -> Result<Bytes, AllocError>
-    ensures { IfOk result (λ bytes. bytes ≡ replicate count byte) }
-{
-    Ok(Bytes::new(Vec::from_elem(heap, byte, count as usize)?))
-}
-
 // The flags of a begin, which may be left out.
-fn begin_of(args: Pieces<'_>) -> Option<BeginFlags>
-    ensures { result ≡ begin_of args.entry }
+fn begin_of(args: &mut Pieces<'_>) -> Option<BeginFlags>
+    ensures { result ≡ begin_of args.old }
 {
     if args.is_empty() {
         return Some(BeginFlags::none());
@@ -138,8 +91,8 @@ fn begin_of(args: Pieces<'_>) -> Option<BeginFlags>
 }
 
 // Whether an abort says `no_restart`.
-fn abort_of(args: Pieces<'_>) -> Option<bool>
-    ensures { result ≡ abort_of args.entry }
+fn abort_of(args: &mut Pieces<'_>) -> Option<bool>
+    ensures { result ≡ abort_of args.old }
 {
     if args.is_empty() {
         return Some(false);
@@ -153,8 +106,8 @@ fn abort_of(args: Pieces<'_>) -> Option<bool>
 }
 
 // The operation of a word on descriptors and numbers.
-fn fd_arguments(verb: FdVerb, args: Pieces<'_>) -> Option<Op>
-    ensures { result ≡ fd_arguments verb args.entry }
+fn fd_arguments(verb: FdVerb, args: &mut Pieces<'_>) -> Option<Op>
+    ensures { result ≡ fd_arguments verb args.old }
 {
     Some(Op::Call(match verb {
         FdVerb::Close => Call::Close(one_fd(args)?),
@@ -173,93 +126,131 @@ fn fd_arguments(verb: FdVerb, args: Pieces<'_>) -> Option<Op>
             Call::Ftruncate(fd, len)
         }
         FdVerb::Dup2 => {
-            let (fd, other) = two_fds(args)?;
-            Call::Dup2(fd, other)
+            let (fd, other) = fd_and_number(args, 4294967295)?;
+            Call::Dup2(fd, Fd(other))
         }
     }))
 }
 
-// The operation of a word on a path or two.
-fn path_arguments(heap: Heap, verb: PathVerb, args: Pieces<'_>) -> Result<Option<Op>, AllocError>
-    ensures { IfOk result (λ found. found ≡ path_arguments verb args.entry) }
+// The call of a word on a path.
+fn on_path(verb: PathVerb, path: Bytes) -> Call
+    ensures { result ≡ on_path verb path }
 {
     match verb {
-        PathVerb::Stat => match one_text(heap, args)? {
-            Some(path) => Ok(Some(Op::Call(Call::Stat(path)))),
-            None => Ok(None),
-        },
-        PathVerb::Unlink => match one_text(heap, args)? {
-            Some(path) => Ok(Some(Op::Call(Call::Unlink(path)))),
-            None => Ok(None),
-        },
-        PathVerb::Mkdir => match one_text(heap, args)? {
-            Some(path) => Ok(Some(Op::Call(Call::Mkdir(path)))),
-            None => Ok(None),
-        },
-        PathVerb::Rmdir => match one_text(heap, args)? {
-            Some(path) => Ok(Some(Op::Call(Call::Rmdir(path)))),
-            None => Ok(None),
-        },
-        PathVerb::List => match one_text(heap, args)? {
-            Some(path) => Ok(Some(Op::Call(Call::List(path)))),
-            None => Ok(None),
-        },
-        PathVerb::Link => match two_texts(heap, args)? {
-            Some((from, to)) => Ok(Some(Op::Call(Call::Link(from, to)))),
-            None => Ok(None),
-        },
-        PathVerb::Rename => match two_texts(heap, args)? {
-            Some((from, to)) => Ok(Some(Op::Call(Call::Rename(from, to)))),
-            None => Ok(None),
-        },
+        PathVerb::Stat => Call::Stat(path),
+        PathVerb::Unlink => Call::Unlink(path),
+        PathVerb::Mkdir => Call::Mkdir(path),
+        PathVerb::Rmdir => Call::Rmdir(path),
+        PathVerb::List => Call::List(path),
     }
 }
 
-// An operation that takes no arguments, where there are none.
-fn alone(op: Op, args: &Pieces<'_>) -> Option<Op>
-    ensures { result ≡ no_arguments op args.now }
+// The operation of a word on a path.
+fn path_arguments(
+    heap: Heap,
+    verb: PathVerb,
+    args: &mut Pieces<'_>,
+) -> Result<Option<Op>, AllocError>
+    ensures { IfOk result (λ found. found ≡ path_arguments verb args.old) }
 {
-    if args.is_empty() { Some(op) } else { None }
+    match one_text(heap, args)? {
+        Some(path) => Ok(Some(Op::Call(on_path(verb, path)))),
+        None => Ok(None),
+    }
+}
+
+// The operation of a word on two paths.
+fn paths_arguments(
+    heap: Heap,
+    verb: PathsVerb,
+    args: &mut Pieces<'_>,
+) -> Result<Option<Op>, AllocError>
+    ensures { IfOk result (λ found. found ≡ paths_arguments verb args.old) }
+{
+    match two_texts(heap, args)? {
+        Some((from, to)) => Ok(Some(Op::Call(match verb {
+            PathsVerb::Link => Call::Link(from, to),
+            PathsVerb::Rename => Call::Rename(from, to),
+        }))),
+        None => Ok(None),
+    }
 }
 
 // The operation of a word on neither.
-fn bare_arguments(verb: BareVerb, args: Pieces<'_>) -> Option<Op>
-    ensures { result ≡ bare_arguments verb args.entry }
+fn bare_arguments(verb: BareVerb, args: &mut Pieces<'_>) -> Option<Op>
+    ensures { result ≡ bare_arguments verb args.old }
 {
     match verb {
-        BareVerb::Pipe => alone(Op::Call(Call::Pipe), &args),
-        BareVerb::Fork => alone(Op::Call(Call::Fork), &args),
-        BareVerb::Exit => alone(Op::Call(Call::Exit), &args),
-        BareVerb::End => alone(Op::End, &args),
         BareVerb::Begin => Some(Op::Begin(begin_of(args)?)),
         BareVerb::Abort => Some(Op::Abort {
             no_restart: abort_of(args)?,
         }),
+        _ if !args.is_empty() => None,
+        BareVerb::Pipe => Some(Op::Call(Call::Pipe)),
+        BareVerb::Fork => Some(Op::Call(Call::Fork)),
+        BareVerb::Exit => Some(Op::Call(Call::Exit)),
+        BareVerb::End => Some(Op::End),
     }
 }
 
+// An open's path and flags.
+fn open_arguments(heap: Heap, args: &mut Pieces<'_>) -> Result<Option<Op>, AllocError>
+    ensures { IfOk result (λ found. found ≡ arguments Verb.Open args.old) }
+{
+    let Some((path, flags)) = args.two() else {
+        return Ok(None);
+    };
+    let Some(flags) = flags_in(flags) else {
+        return Ok(None);
+    };
+    match text_in(heap, path)? {
+        Some(path) => Ok(Some(Op::Call(Call::Open(path, flags)))),
+        None => Ok(None),
+    }
+}
+
+// The descriptor and the bytes of a write.
+fn write_arguments(heap: Heap, args: &mut Pieces<'_>) -> Result<Option<Op>, AllocError>
+    ensures { IfOk result (λ found. found ≡ arguments Verb.Write args.old) }
+{
+    let Some((fd, bytes)) = args.two() else {
+        return Ok(None);
+    };
+    let Some(fd) = fd_in(fd) else {
+        return Ok(None);
+    };
+    match text_in(heap, bytes)? {
+        Some(bytes) => Ok(Some(Op::Call(Call::Write(fd, bytes)))),
+        None => Ok(None),
+    }
+}
+
+// A write of many of one byte.
+fn fill_arguments(heap: Heap, args: &mut Pieces<'_>) -> Result<Option<Op>, AllocError>
+    ensures { IfOk result (λ found. found ≡ arguments Verb.Fill args.old) }
+{
+    let Some((fd, count, byte)) = fill_of(args) else {
+        return Ok(None);
+    };
+    let bytes = Vec::from_elem(heap, byte, count as usize)?;
+    Ok(Some(Op::Call(Call::Write(fd, Bytes::new(bytes)))))
+}
+
 // The operation of a word with these arguments.
-pub(crate) fn arguments(heap: Heap, verb: Verb, args: Pieces<'_>) -> Result<Option<Op>, AllocError>
-    ensures { IfOk result (λ found. found ≡ arguments verb args.entry) }
+pub(crate) fn arguments(
+    heap: Heap,
+    verb: Verb,
+    args: &mut Pieces<'_>,
+) -> Result<Option<Op>, AllocError>
+    ensures { IfOk result (λ found. found ≡ arguments verb args.old) }
 {
     match verb {
-        Verb::Open => match text_and_flags(heap, args)? {
-            Some((path, flags)) => Ok(Some(Op::Call(Call::Open(path, flags)))),
-            None => Ok(None),
-        },
-        Verb::Write => match fd_and_text(heap, args)? {
-            Some((fd, bytes)) => Ok(Some(Op::Call(Call::Write(fd, bytes)))),
-            None => Ok(None),
-        },
-        Verb::Fill => match fill_of(args) {
-            Some((fd, count, byte)) => Ok(Some(Op::Call(Call::Write(
-                fd,
-                copies(heap, count, byte)?,
-            )))),
-            None => Ok(None),
-        },
+        Verb::Open => open_arguments(heap, args),
+        Verb::Write => write_arguments(heap, args),
+        Verb::Fill => fill_arguments(heap, args),
         Verb::OnFd(verb) => Ok(fd_arguments(verb, args)),
         Verb::OnPath(verb) => path_arguments(heap, verb, args),
+        Verb::OnPaths(verb) => paths_arguments(heap, verb, args),
         Verb::Bare(verb) => Ok(bare_arguments(verb, args)),
     }
 }

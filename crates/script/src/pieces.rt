@@ -63,38 +63,28 @@ impl<'a> Pieces<'a> {
     }
 
     // The piece, where there is exactly one.
-    pub(crate) fn one(mut self) -> Option<&'a [u8]>
-        ensures { option_map (λ s. s.now) result ≡ one_of self.entry }
+    pub(crate) fn one(&mut self) -> Option<&'a [u8]>
+        ensures { option_map (λ s. s.now) result ≡ one_of self.old }
     {
         let first = self.next()?;
-        if self.next().is_some() {
-            return None;
-        }
-        Some(first)
+        if self.is_empty() { Some(first) } else { None }
     }
 
     // The pieces, where there are exactly two.
-    pub(crate) fn two(mut self) -> Option<(&'a [u8], &'a [u8])>
-        ensures { option_map (λ p. (p.0.now, p.1.now)) result ≡ two_of self.entry }
+    pub(crate) fn two(&mut self) -> Option<(&'a [u8], &'a [u8])>
+        ensures { option_map (λ p. (p.0.now, p.1.now)) result ≡ two_of self.old }
     {
         let first = self.next()?;
-        let second = self.next()?;
-        if self.next().is_some() {
-            return None;
-        }
+        let second = self.one()?;
         Some((first, second))
     }
 
     // The pieces, where there are exactly three.
-    pub(crate) fn three(mut self) -> Option<(&'a [u8], &'a [u8], &'a [u8])>
-        ensures { option_map (λ p. (p.0.now, p.1.now, p.2.now)) result ≡ three_of self.entry }
+    pub(crate) fn three(&mut self) -> Option<(&'a [u8], &'a [u8], &'a [u8])>
+        ensures { option_map (λ p. (p.0.now, p.1.now, p.2.now)) result ≡ three_of self.old }
     {
         let first = self.next()?;
-        let second = self.next()?;
-        let third = self.next()?;
-        if self.next().is_some() {
-            return None;
-        }
+        let (second, third) = self.two()?;
         Some((first, second, third))
     }
 }

@@ -1,8 +1,8 @@
 // Scripts in their spelling.
-ghost use Rattle.std.specs.Prelude.{◌≡◌, ◌≢◌, ◌≤◌, ◌<◌, ◌+◌, ◌^◌, Ok, IfOk, IfErr, IfSome, [], length, option_map, OnOk};
-ghost use Rattle.std.specs.Result.{result_map_both};
-ghost use Rattle.script.specs.Scripts.{from_head, is_skipped, line_of, lines_after, pid_in, priorities_of, script_of};
-ghost use Rattle.script.specs.Spelled.{AreLawful};
+ghost use Rattle.std.specs.Prelude.{◌≡◌, ◌≢◌, ◌≤◌, ◌<◌, ◌+◌, ◌^◌, ◌++◌, ◌∷◌, [], Some, None, Ok, Err, IfOk, IfErr, IfSome, OnOk, All, length};
+ghost use Rattle.script.specs.Numbers.{decimal_in};
+ghost use Rattle.script.specs.Scripts.{behind_head, from_head, is_skipped, line_of, lines_after, lines_next, pid_in, priorities_after, priorities_of, script_of};
+ghost use Rattle.script.specs.Spelled.{AreLawful, top_priority};
 
 use crate::faults::ScriptFault;
 use crate::number::number_in;
@@ -82,60 +82,84 @@ pub(crate) fn pid_in(word: &[u8]) -> Option<Pid>
     if n == 0 { None } else { Some(Pid(n)) }
 }
 
-fn priorities_of(
-    heap: Heap,
-    mut words: Pieces<'_>,
-) -> Result<Option<Vec<Priority, Heap>>, AllocError>
-    ensures value { IfOk result (λ found. option_map (λ v. v.items) found ≡ priorities_of words.entry) }
-    ensures lawful { IfOk result (λ found. IfSome found (λ v. AreLawful v.items)) }
+// The priority that a word says.
+fn priority_in(word: &[u8]) -> Option<Priority>
+    ensures value { result ≡ decimal_in top_priority word.now }
+    ensures small { IfSome result (λ p. p ≤ top_priority) }
 {
-    let Some(first) = words.next() else {
-        return Ok(None);
-    };
-    if first != b"priorities".as_slice() {
-        return Ok(None);
-    }
-    let mut priorities = Vec::new(heap);
-    while let Some(word) = words.next() {
-        let Some(n) = number_in(word, TOP_PRIORITY) else {
-            return Ok(None);
-        };
-        let Some(priority) = Priority::new(n as u8) else {
-            return Ok(None);
-        };
-        priorities.push(priority)?;
-    }
-    Ok(if priorities.len() >= 1 && priorities.len() <= 4096 {
-        Some(priorities)
-    } else {
-        None
-    })
+    let n = number_in(word, TOP_PRIORITY)?;
+    Priority::new(n as u8)
 }
 
-// What a line with these words says.
-#[tactic(auto, unfolding(crate::specs::Scripts::line_of))]
-fn line_of(
+// Puts the priorities that words spell behind those that are there.
+fn read_priorities(
+    number: usize,
+    words: &mut Pieces<'_>,
+    priorities: &mut Vec<Priority, Heap>,
+) -> Result<(), ScriptFault>
+    requires { All (λ n. n ≤ top_priority) priorities.old.items }
+    ensures value { OnOk result (priorities_after priorities.old.items words.old ≡ Some priorities.new.items) }
+    ensures each { OnOk result (All (λ n. n ≤ top_priority) priorities.new.items) }
+    ensures fault { IfErr result (λ fault. fault ≢ ScriptFault.NoMemory → (fault ≡ ScriptFault.PrioritiesExpected number) × (priorities_after priorities.old.items words.old ≡ None)) }
+{
+    while let Some(word) = words.next() {
+        let Some(priority) = priority_in(word) else {
+            return Err(ScriptFault::PrioritiesExpected(number));
+        };
+        if priorities.push(priority).is_err() {
+            return Err(ScriptFault::NoMemory);
+        }
+    }
+    Ok(())
+}
+
+// The priorities of the first line, which has this number.
+fn priorities_of(
     heap: Heap,
     number: usize,
-    mut words: Pieces<'_>,
-) -> Result<Result<Line, ScriptFault>, AllocError>
-    ensures { IfOk result (λ line. line ≡ line_of number words.entry) }
+    words: &mut Pieces<'_>,
+) -> Result<Vec<Priority, Heap>, ScriptFault>
+    ensures value { IfOk result (λ v. priorities_of words.old ≡ Some v.items) }
+    ensures lawful { IfOk result (λ v. AreLawful v.items) }
+    ensures fault { IfErr result (λ fault. fault ≢ ScriptFault.NoMemory → (fault ≡ ScriptFault.PrioritiesExpected number) × (priorities_of words.old ≡ None)) }
 {
     let Some(first) = words.next() else {
-        return Ok(Err(ScriptFault::ProcessExpected(number)));
+        return Err(ScriptFault::PrioritiesExpected(number));
+    };
+    if first != b"priorities".as_slice() {
+        return Err(ScriptFault::PrioritiesExpected(number));
+    }
+    let mut priorities = Vec::new(heap);
+    read_priorities(number, words, &mut priorities)?;
+    if priorities.len() >= 1 && priorities.len() <= 4096 {
+        Ok(priorities)
+    } else {
+        Err(ScriptFault::PrioritiesExpected(number))
+    }
+}
+
+// A further line, which has this number.
+#[tactic(auto, unfolding(crate::specs::Scripts::line_of))]
+fn line_of(heap: Heap, number: usize, words: &mut Pieces<'_>) -> Result<Line, ScriptFault>
+    ensures line { IfOk result (λ line. line_of number words.old ≡ Ok line) }
+    ensures fault { IfErr result (λ fault. fault ≢ ScriptFault.NoMemory → line_of number words.old ≡ Err fault) }
+{
+    let Some(first) = words.next() else {
+        return Err(ScriptFault::ProcessExpected(number));
     };
     let Some(pid) = pid_in(first) else {
-        return Ok(Err(ScriptFault::ProcessExpected(number)));
+        return Err(ScriptFault::ProcessExpected(number));
     };
     let Some(second) = words.next() else {
-        return Ok(Err(ScriptFault::UnknownOperation(number)));
+        return Err(ScriptFault::UnknownOperation(number));
     };
     let Some(verb) = verb_in(second) else {
-        return Ok(Err(ScriptFault::UnknownOperation(number)));
+        return Err(ScriptFault::UnknownOperation(number));
     };
-    match arguments(heap, verb, words)? {
-        Some(op) => Ok(Ok(Line { pid, op, number })),
-        None => Ok(Err(ScriptFault::BadArguments(number))),
+    match arguments(heap, verb, words) {
+        Ok(Some(op)) => Ok(Line { pid, op, number }),
+        Ok(None) => Err(ScriptFault::BadArguments(number)),
+        Err(_) => Err(ScriptFault::NoMemory),
     }
 }
 
@@ -148,62 +172,94 @@ fn is_skipped(line: &[u8]) -> bool
     }
 }
 
-// The lines behind the first one.
-fn lines_of(
+// Puts a line behind the others. Refused memory takes the line with it.
+fn push(lines: &mut Vec<Line, Heap>, line: Line) -> Result<(), AllocError>
+    ensures { OnOk result (lines.new.items ≡ lines.old.items ++ line ∷ []) }
+{
+    lines.push(line)?;
+    Ok(())
+}
+
+// Puts a further line, which has this number, behind those that are there.
+fn add_line(
+    heap: Heap,
+    number: usize,
+    words: &mut Pieces<'_>,
+    lines: &mut Vec<Line, Heap>,
+) -> Result<(), ScriptFault>
+    ensures line { OnOk result (lines_next Ok lines.old.items (line_of number words.old) ≡ Ok lines.new.items) }
+    ensures fault { IfErr result (λ fault. fault ≢ ScriptFault.NoMemory → line_of number words.old ≡ Err fault) }
+{
+    let line = line_of(heap, number, words)?;
+    match push(lines, line) {
+        Ok(()) => Ok(()),
+        Err(_) => Err(ScriptFault::NoMemory),
+    }
+}
+
+// Puts the lines behind the first one behind those that are there.
+fn read_lines(
     heap: Heap,
     first: usize,
-    mut pieces: Pieces<'_>,
-) -> Result<Result<Vec<Line, Heap>, ScriptFault>, AllocError>
-    requires { first + length pieces < 2 ^ 64 }
-    ensures { IfOk result (λ r. result_map_both (λ v. v.items) (λ e. e) r ≡ lines_after first [] pieces.entry) }
+    pieces: &mut Pieces<'_>,
+    lines: &mut Vec<Line, Heap>,
+) -> Result<(), ScriptFault>
+    requires { first + length pieces.old < 2 ^ 64 }
+    ensures lines { OnOk result (lines_after first lines.old.items pieces.old ≡ Ok lines.new.items) }
+    ensures fault { IfErr result (λ fault. fault ≢ ScriptFault.NoMemory → lines_after first lines.old.items pieces.old ≡ Err fault) }
 {
     let mut number = first;
-    let mut lines = Vec::new(heap);
     while let Some(line) = pieces.next() {
         if pieces.is_empty() {
             if !line.is_empty() {
-                return Ok(Err(ScriptFault::NotEnded(number)));
+                return Err(ScriptFault::NotEnded(number));
             }
         } else if !is_skipped(line) {
-            match line_of(heap, number, Pieces::new(line, b' '))? {
-                Ok(line) => lines.push(line)?,
-                Err(fault) => return Ok(Err(fault)),
-            }
+            add_line(heap, number, &mut Pieces::new(line, b' '), lines)?;
         }
         number += 1;
     }
-    Ok(Ok(lines))
+    Ok(())
 }
 
-// The priorities, the number of the line behind them, and the pieces that are left.
-fn script_from(
+// The script of its first line, which has this number and these words, and the pieces behind it.
+fn script_of(
     heap: Heap,
-    mut pieces: Pieces<'_>,
-) -> Result<Result<Script, ScriptFault>, AllocError>
-    requires { length pieces < 2 ^ 63 }
-    ensures { IfOk result (λ r. r ≡ from_head 1 pieces.entry) }
+    number: usize,
+    words: &mut Pieces<'_>,
+    pieces: &mut Pieces<'_>,
+) -> Result<Script, ScriptFault>
+    requires { number + 1 + length pieces.old < 2 ^ 64 }
+    ensures script { IfOk result (λ script. behind_head number (priorities_of words.old) pieces.old ≡ Ok script) }
+    ensures fault { IfErr result (λ fault. fault ≢ ScriptFault.NoMemory → behind_head number (priorities_of words.old) pieces.old ≡ Err fault) }
+{
+    let priorities = priorities_of(heap, number, words)?;
+    let mut lines = Vec::new(heap);
+    read_lines(heap, number + 1, pieces, &mut lines)?;
+    Ok(Script { priorities, lines })
+}
+
+// The script that the pieces between the line feeds spell.
+fn script_from(heap: Heap, pieces: &mut Pieces<'_>) -> Result<Script, ScriptFault>
+    requires { length pieces.old < 2 ^ 63 }
+    ensures script { IfOk result (λ script. from_head 1 pieces.old ≡ Ok script) }
+    ensures fault { IfErr result (λ fault. fault ≢ ScriptFault.NoMemory → from_head 1 pieces.old ≡ Err fault) }
 {
     let mut number = 1;
     while let Some(line) = pieces.next() {
         if pieces.is_empty() {
-            return Ok(Err(if line.is_empty() {
+            return Err(if line.is_empty() {
                 ScriptFault::PrioritiesExpected(number)
             } else {
                 ScriptFault::NotEnded(number)
-            }));
+            });
         }
         if !is_skipped(line) {
-            let Some(priorities) = priorities_of(heap, Pieces::new(line, b' '))? else {
-                return Ok(Err(ScriptFault::PrioritiesExpected(number)));
-            };
-            return Ok(match lines_of(heap, number + 1, pieces)? {
-                Ok(lines) => Ok(Script { priorities, lines }),
-                Err(fault) => Err(fault),
-            });
+            return script_of(heap, number, &mut Pieces::new(line, b' '), pieces);
         }
         number += 1;
     }
-    Ok(Err(ScriptFault::PrioritiesExpected(number)))
+    Err(ScriptFault::PrioritiesExpected(number))
 }
 
 /// Reads the script that a text spells, or finds its first fault: that it is too long, or else that
@@ -215,8 +271,5 @@ pub fn read_script(heap: Heap, text: &[u8]) -> Result<Script, ScriptFault>
     if text.len() > 1048576 {
         return Err(ScriptFault::TooLong);
     }
-    match script_from(heap, Pieces::new(text, b'\n')) {
-        Ok(result) => result,
-        Err(_) => Err(ScriptFault::NoMemory),
-    }
+    script_from(heap, &mut Pieces::new(text, b'\n'))
 }

@@ -1,5 +1,5 @@
 // Schedules in their spelling.
-ghost use Rattle.std.specs.Prelude.{◌≡◌, ◌≢◌, ◌<◌, ◌+◌, ℕ, [], Ok, Err, IfOk, IfErr, IfSome, option_map, slice_index, vec_len};
+ghost use Rattle.std.specs.Prelude.{◌≡◌, ◌≢◌, ◌<◌, ◌+◌, ℕ, [], Some, None, Ok, Err, IfOk, IfErr, OnOk, slice_index, vec_len};
 ghost use Rattle.script.specs.Schedules.{AreSmall, first_without, lines_for, pids_of, schedule_of};
 
 use crate::faults::ScheduleFault;
@@ -10,23 +10,26 @@ use heap::Heap;
 use ids::Pid;
 use std::alloc::AllocError;
 
-// The process numbers that a text lists.
-fn pids_of(heap: Heap, text: &[u8]) -> Result<Option<Vec<Pid, Heap>>, AllocError>
-    ensures value { IfOk result (λ found. option_map (λ v. v.items) found ≡ pids_of text.now) }
-    ensures small { IfOk result (λ found. IfSome found (λ v. AreSmall v.items)) }
+// Puts the process numbers that a text lists into an empty vector.
+fn read_pids(text: &[u8], pids: &mut Vec<Pid, Heap>) -> Result<(), ScheduleFault>
+    requires { pids.old.items ≡ [] }
+    ensures value { OnOk result (pids_of text.now ≡ Some pids.new.items) }
+    ensures small { OnOk result (AreSmall pids.new.items) }
+    ensures fault { IfErr result (λ fault. fault ≢ ScheduleFault.NoMemory → (fault ≡ ScheduleFault.BadList) × (pids_of text.now ≡ None)) }
 {
-    let mut pids = Vec::new(heap);
     if text.is_empty() {
-        return Ok(Some(pids));
+        return Ok(());
     }
     let mut words = Pieces::new(text, b',');
     while let Some(word) = words.next() {
         let Some(pid) = pid_in(word) else {
-            return Ok(None);
+            return Err(ScheduleFault::BadList);
         };
-        pids.push(pid)?;
+        if pids.push(pid).is_err() {
+            return Err(ScheduleFault::NoMemory);
+        }
     }
-    Ok(Some(pids))
+    Ok(())
 }
 
 // How many lines each process has.
@@ -71,11 +74,8 @@ pub fn read_schedule(
     ensures small { IfOk result (λ pids. AreSmall pids.items) }
     ensures fault { IfErr result (λ fault. fault ≢ ScheduleFault.NoMemory → schedule_of text.now script.now.lines ≡ Err fault) }
 {
-    let pids = match pids_of(heap, text.as_bytes()) {
-        Ok(Some(pids)) => pids,
-        Ok(None) => return Err(ScheduleFault::BadList),
-        Err(_) => return Err(ScheduleFault::NoMemory),
-    };
+    let mut pids = Vec::new(heap);
+    read_pids(text.as_bytes(), &mut pids)?;
     match first_without(heap, script.lines(), pids.as_slice()) {
         Ok(None) => Ok(pids),
         Ok(Some(pid)) => Err(ScheduleFault::NoLine(pid)),

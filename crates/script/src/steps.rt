@@ -1,7 +1,8 @@
 // The steps that a schedule says.
-ghost use Rattle.std.specs.Prelude.{◌≡◌, ◌<◌, ◌++◌, ◌∷◌, ℕ, [], IfOk, OnOk, OnErr, slice_index_or, vec_len, drop, replicate, slice_get, slice_set};
+ghost use Rattle.std.specs.Prelude.{◌≡◌, ◌<◌, ◌++◌, ◌∷◌, ℕ, List, [], IfOk, OnOk, OnErr, slice_index_or, vec_len, drop, replicate, slice_get, slice_set};
 ghost use Rattle.script.specs.Schedules.{AreSmall};
 ghost use Rattle.script.specs.Steps.{ops_for, steps};
+ghost use Rattle.script.specs.declared.read.Line.{Line};
 
 use crate::{Line, Script};
 use heap::Heap;
@@ -50,52 +51,86 @@ impl Queue {
     }
 }
 
-// A queue for each process, from 0 to 4,096.
-fn empty_queues(heap: Heap) -> Result<Vec<Queue, Heap>, AllocError>
-    ensures { IfOk result (λ v. v.items ≡ replicate 4097 []) }
+// Puts a queue for each process, from 0 to 4,096, and one for all others into an empty vector.
+fn put_queues(heap: Heap, queues: &mut Vec<Queue, Heap>) -> Result<(), AllocError>
+    requires { queues.old.items ≡ [] }
+    ensures { OnOk result (queues.new.items ≡ replicate 4098 []) }
 {
-    let mut queues = Vec::with_capacity(heap, 4097)?;
-    for _ in 0..4097usize {
+    for _ in 0..4098usize {
         queues.push(Queue::new(heap))?;
     }
-    Ok(queues)
+    Ok(())
 }
 
-// Puts a line's operation behind the others of its process.
+// Puts a line's operation behind the others of its process. All numbers above 4,096 share the last
+// queue, so that each operation is moved and none has to be dropped here.
 fn add(queues: &mut Vec<Queue, Heap>, line: Line) -> Result<(), AllocError>
-    requires { vec_len queues.old ≡ 4097 }
-    ensures len { vec_len queues.new ≡ 4097 }
+    requires { vec_len queues.old ≡ 4098 }
+    ensures len { vec_len queues.new ≡ 4098 }
     ensures ok { OnOk result ((p : ℕ) → p < 4097 → slice_index_or queues.new.items p [] ≡ slice_index_or queues.old.items p [] ++ ops_for p (line ∷ [])) }
 {
     let Line { pid, op, number: _ } = line;
-    let place = pid.0 as usize;
-    if place < 4097 {
-        queues[place].push(op)?;
+    queues[(pid.0 as usize).min(4097)].push(op)
+}
+
+// Puts the operations of lines into empty queues, in order.
+fn fill(queues: &mut Vec<Queue, Heap>, lines: Vec<Line, Heap>) -> Result<(), AllocError>
+    requires { queues.old.items ≡ replicate 4098 [] }
+    ensures len { OnOk result (vec_len queues.new ≡ 4098) }
+    ensures queues { OnOk result ((p : ℕ) → p < 4097 → slice_index_or queues.new.items p [] ≡ ops_for p lines.entry.items) }
+{
+    for line in lines {
+        add(queues, line)?;
     }
     Ok(())
 }
 
 // Takes the next operation of a process, if it has one left.
 fn take(queues: &mut Vec<Queue, Heap>, pid: Pid) -> Option<Op>
-    requires len { vec_len queues.old ≡ 4097 }
+    requires len { vec_len queues.old ≡ 4098 }
     requires small { pid < 4097 }
-    ensures len { vec_len queues.new ≡ 4097 }
+    ensures len { vec_len queues.new ≡ 4098 }
     ensures taken { result ≡ slice_get (slice_index_or queues.old.items pid []) 0 }
     ensures rest { queues.new.items ≡ slice_set queues.old.items pid (drop 1 (slice_index_or queues.old.items pid [])) }
 {
     queues[pid.0 as usize].pop()
 }
 
-// The operations of each process, in order.
-fn queues_of(heap: Heap, lines: Vec<Line, Heap>) -> Result<Vec<Queue, Heap>, AllocError>
-    ensures len { IfOk result (λ v. vec_len v ≡ 4097) }
-    ensures queues { IfOk result (λ v. (p : ℕ) → p < 4097 → slice_index_or v.items p [] ≡ ops_for p lines.entry.items) }
+// Takes an operation for each process in a list, and puts it behind the others.
+fn take_all(
+    queues: &mut Vec<Queue, Heap>,
+    pids: &[Pid],
+    taken: &mut Vec<(Pid, Op), Heap>,
+) -> Result<(), AllocError>
+    requires len { vec_len queues.old ≡ 4098 }
+    requires small { AreSmall pids.now }
+    requires none { taken.old.items ≡ [] }
+    ensures { OnOk result ((lines : List Line) → ((p : ℕ) → p < 4097 → slice_index_or queues.old.items p [] ≡ ops_for p lines) → taken.new.items ≡ steps lines pids.now) }
 {
-    let mut queues = empty_queues(heap)?;
-    for line in lines {
-        add(&mut queues, line)?;
+    for pid in pids {
+        if let Some(op) = take(queues, *pid) {
+            taken.push((*pid, op))?;
+        }
     }
-    Ok(queues)
+    Ok(())
+}
+
+// Puts the steps of lines and a schedule of them into an empty vector, by way of another.
+fn put_steps(
+    heap: Heap,
+    lines: Vec<Line, Heap>,
+    pids: &[Pid],
+    queues: &mut Vec<Queue, Heap>,
+    taken: &mut Vec<(Pid, Op), Heap>,
+) -> Result<(), AllocError>
+    requires small { AreSmall pids.now }
+    requires no_queues { queues.old.items ≡ [] }
+    requires none { taken.old.items ≡ [] }
+    ensures { OnOk result (taken.new.items ≡ steps lines.entry.items pids.now) }
+{
+    put_queues(heap, queues)?;
+    fill(queues, lines)?;
+    take_all(queues, pids, taken)
 }
 
 /// The steps of a script and a schedule of it, in order: each process number with its next line's
@@ -108,12 +143,8 @@ pub fn steps_of(
     requires { AreSmall pids.now }
     ensures { IfOk result (λ v. v.items ≡ steps script.lines pids.now) }
 {
-    let mut queues = queues_of(heap, script.into_lines())?;
-    let mut steps = Vec::with_capacity(heap, pids.len())?;
-    for pid in pids {
-        if let Some(op) = take(&mut queues, *pid) {
-            steps.push((*pid, op))?;
-        }
-    }
-    Ok(steps)
+    let mut queues = Vec::new(heap);
+    let mut taken = Vec::new(heap);
+    put_steps(heap, script.into_lines(), pids, &mut queues, &mut taken)?;
+    Ok(taken)
 }

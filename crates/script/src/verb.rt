@@ -1,6 +1,8 @@
 // The words of the operations.
 ghost use Rattle.std.specs.Prelude.{◌≡◌};
-ghost use Rattle.script.specs.Verbs.{bare_verb_in, path_verb_in, verb_in};
+ghost use Rattle.script.specs.Verbs.{verb_in};
+
+use crate::named::named;
 
 // The word of an operation.
 #[derive(Clone, Copy)]
@@ -10,6 +12,7 @@ pub(crate) enum Verb {
     Fill,
     OnFd(FdVerb),
     OnPath(PathVerb),
+    OnPaths(PathsVerb),
     Bare(BareVerb),
 }
 
@@ -25,7 +28,7 @@ pub(crate) enum FdVerb {
     Dup2,
 }
 
-// The word of an operation on paths.
+// The word of an operation on a path.
 #[derive(Clone, Copy)]
 pub(crate) enum PathVerb {
     Stat,
@@ -33,6 +36,11 @@ pub(crate) enum PathVerb {
     Mkdir,
     Rmdir,
     List,
+}
+
+// The word of an operation on two paths.
+#[derive(Clone, Copy)]
+pub(crate) enum PathsVerb {
     Link,
     Rename,
 }
@@ -48,73 +56,36 @@ pub(crate) enum BareVerb {
     Abort,
 }
 
+// The words, and what each names.
+static VERBS: [(&str, Verb); 23] = [
+    ("open", Verb::Open),
+    ("close", Verb::OnFd(FdVerb::Close)),
+    ("fstat", Verb::OnFd(FdVerb::Fstat)),
+    ("dup", Verb::OnFd(FdVerb::Dup)),
+    ("read", Verb::OnFd(FdVerb::Read)),
+    ("write", Verb::Write),
+    ("fill", Verb::Fill),
+    ("lseek", Verb::OnFd(FdVerb::Lseek)),
+    ("ftruncate", Verb::OnFd(FdVerb::Ftruncate)),
+    ("dup2", Verb::OnFd(FdVerb::Dup2)),
+    ("stat", Verb::OnPath(PathVerb::Stat)),
+    ("unlink", Verb::OnPath(PathVerb::Unlink)),
+    ("mkdir", Verb::OnPath(PathVerb::Mkdir)),
+    ("rmdir", Verb::OnPath(PathVerb::Rmdir)),
+    ("list", Verb::OnPath(PathVerb::List)),
+    ("link", Verb::OnPaths(PathsVerb::Link)),
+    ("rename", Verb::OnPaths(PathsVerb::Rename)),
+    ("pipe", Verb::Bare(BareVerb::Pipe)),
+    ("fork", Verb::Bare(BareVerb::Fork)),
+    ("exit", Verb::Bare(BareVerb::Exit)),
+    ("end", Verb::Bare(BareVerb::End)),
+    ("begin", Verb::Bare(BareVerb::Begin)),
+    ("abort", Verb::Bare(BareVerb::Abort)),
+];
+
 // The operation that a word names.
 pub(crate) fn verb_in(word: &[u8]) -> Option<Verb>
     ensures { result ≡ verb_in word.now }
 {
-    if word == b"open".as_slice() {
-        Some(Verb::Open)
-    } else if word == b"close".as_slice() {
-        Some(Verb::OnFd(FdVerb::Close))
-    } else if word == b"fstat".as_slice() {
-        Some(Verb::OnFd(FdVerb::Fstat))
-    } else if word == b"dup".as_slice() {
-        Some(Verb::OnFd(FdVerb::Dup))
-    } else if word == b"read".as_slice() {
-        Some(Verb::OnFd(FdVerb::Read))
-    } else if word == b"write".as_slice() {
-        Some(Verb::Write)
-    } else if word == b"fill".as_slice() {
-        Some(Verb::Fill)
-    } else if word == b"lseek".as_slice() {
-        Some(Verb::OnFd(FdVerb::Lseek))
-    } else if word == b"ftruncate".as_slice() {
-        Some(Verb::OnFd(FdVerb::Ftruncate))
-    } else if word == b"dup2".as_slice() {
-        Some(Verb::OnFd(FdVerb::Dup2))
-    } else {
-        path_verb_in(word)
-    }
-}
-
-fn path_verb_in(word: &[u8]) -> Option<Verb>
-    ensures { result ≡ path_verb_in word.now }
-{
-    if word == b"stat".as_slice() {
-        Some(Verb::OnPath(PathVerb::Stat))
-    } else if word == b"unlink".as_slice() {
-        Some(Verb::OnPath(PathVerb::Unlink))
-    } else if word == b"mkdir".as_slice() {
-        Some(Verb::OnPath(PathVerb::Mkdir))
-    } else if word == b"rmdir".as_slice() {
-        Some(Verb::OnPath(PathVerb::Rmdir))
-    } else if word == b"list".as_slice() {
-        Some(Verb::OnPath(PathVerb::List))
-    } else if word == b"link".as_slice() {
-        Some(Verb::OnPath(PathVerb::Link))
-    } else if word == b"rename".as_slice() {
-        Some(Verb::OnPath(PathVerb::Rename))
-    } else {
-        bare_verb_in(word)
-    }
-}
-
-fn bare_verb_in(word: &[u8]) -> Option<Verb>
-    ensures { result ≡ bare_verb_in word.now }
-{
-    if word == b"pipe".as_slice() {
-        Some(Verb::Bare(BareVerb::Pipe))
-    } else if word == b"fork".as_slice() {
-        Some(Verb::Bare(BareVerb::Fork))
-    } else if word == b"exit".as_slice() {
-        Some(Verb::Bare(BareVerb::Exit))
-    } else if word == b"end".as_slice() {
-        Some(Verb::Bare(BareVerb::End))
-    } else if word == b"begin".as_slice() {
-        Some(Verb::Bare(BareVerb::Begin))
-    } else if word == b"abort".as_slice() {
-        Some(Verb::Bare(BareVerb::Abort))
-    } else {
-        None
-    }
+    named(&VERBS, word)
 }

@@ -1,8 +1,8 @@
 -- Texts printed one after another.
-use Rattle.std.proofs.Common.{◌≡◌, ℕ, ◌+◌, ◌<◌, List, [], ◌∷◌, ◌++◌, Bool, true, false, Option, sym, ap, ◌∙◌, append_assoc, append-nil, refl, take, length, get_or, arith, subst}
+use Rattle.std.proofs.Common.{◌≡◌, ℕ, ◌+◌, ◌<◌, ◌≤◌, List, [], ◌∷◌, ◌++◌, Bool, true, false, Option, sym, ap, ◌∙◌, append_assoc, append-nil, refl, take, length, get_or, arith, subst}
 use Rattle.std.specs.Prelude.{Result, Ok, Err, OnErr, OnOk, flat_map}
 use Rattle.std.specs.Io.KnownBytes.{append_known}
-use Rattle.std.proofs.lemmas.List.{get_or_default, take_more}
+use Rattle.std.proofs.lemmas.List.{get_or_default, take_all, take_more}
 use Rattle.std.proofs.lemmas.List.Concat.{flat_map-append}
 use Rattle.device.specs.Device.{IsPart}
 use Rattle.device.specs.declared.DeviceFailed.{DeviceFailed}
@@ -96,6 +96,11 @@ pub Prints-next : {S : Type 0} {written : S → Option (List ℕ)} {failures : S
     → i < length xs → x ≡ get_or xs i x
     → Prints written failures a b (flat_map f (take i xs)) → Prints written failures b c (f x) → Prints written failures a c (flat_map f (take (i + 1) xs))
 Prints-next f xs i x below is p q = Prints-as (Prints-then _ _ p q) (sym (one_more f xs i x below is))
+
+-- the text of all
+pub Prints-all : {S : Type 0} {written : S → Option (List ℕ)} {failures : S → ℕ} {a b : Printer S} {X : Type 0} (f : X → List ℕ) (xs : List X) (i : ℕ)
+    → length xs ≤ i → Prints written failures a b (flat_map f (take i xs)) → Prints written failures a b (flat_map f xs)
+Prints-all {X = X} f xs i end p = Prints-as p (ap (λ (ys : List X). flat_map f ys) (take_all i xs end))
 
 pub Prints-next_number : {S : Type 0} {written : S → Option (List ℕ)} {failures : S → ℕ} {a b c : Printer S} (f : ℕ → List ℕ) (xs : List ℕ) (i : ℕ) → i < length xs
     → Prints written failures a b (flat_map f (take i xs)) → Prints written failures b c (f (get_or xs i 0)) → Prints written failures a c (flat_map f (take (i + 1) xs))

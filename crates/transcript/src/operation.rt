@@ -1,5 +1,5 @@
 // Operations in their spelling.
-ghost use Rattle.std.specs.Prelude.{◌++◌, codes, decimal};
+ghost use Rattle.std.specs.Prelude.{◌≡◌, ◌++◌, codes, decimal};
 ghost use Rattle.std.specs.Fmt.{signed_decimal};
 ghost use Rattle.transcript.specs.Flags.{begin_flags_text, flags_text};
 ghost use Rattle.transcript.specs.Operation.{call_text, numbers_text, op_text, path_text, paths_text, whence_text};
@@ -12,14 +12,13 @@ use crate::text::put_text;
 use device::Sink;
 use ids::{BeginFlags, Bytes, Call, Op, OpenFlags, Whence};
 
-fn put_whence<S: Sink>(out: &mut Printer<'_, S>, whence: Whence)
-    requires { CanPrint S.failures out.old }
-    ensures { Prints S.written S.failures out.old out.new (whence_text whence) }
+fn whence_text(whence: Whence) -> &'static [u8]
+    ensures { result.now ≡ whence_text whence }
 {
     match whence {
-        Whence::Set => out.put(b"SET"),
-        Whence::Cur => out.put(b"CUR"),
-        Whence::End => out.put(b"END"),
+        Whence::Set => b"SET",
+        Whence::Cur => b"CUR",
+        Whence::End => b"END",
     }
 }
 
@@ -72,7 +71,7 @@ fn put_lseek<S: Sink>(out: &mut Printer<'_, S>, fd: u32, offset: i64, whence: Wh
     out.put(b" ");
     out.put_signed(offset);
     out.put(b" ");
-    put_whence(out, whence);
+    out.put(whence_text(whence));
 }
 
 fn put_call<S: Sink>(out: &mut Printer<'_, S>, call: &Call)

@@ -1,5 +1,5 @@
 // Replies in their spelling.
-ghost use Rattle.std.specs.Prelude.{◌++◌, codes, decimal, flat_map, length};
+ghost use Rattle.std.specs.Prelude.{◌≡◌, ◌++◌, codes, decimal, flat_map, length};
 ghost use Rattle.transcript.specs.Printer.{CanPrint, Prints};
 ghost use Rattle.transcript.specs.Reply.{access_text, answer_text, aspect_text, cause_text, kind_text, name_text, names_text, reply_text, restarted_text, stat_text, why_text};
 ghost use Rattle.transcript.specs.Text.{text_of};
@@ -34,15 +34,10 @@ fn put_aspect<S: Sink>(out: &mut Printer<'_, S>, aspect: &Aspect)
     }
 }
 
-fn put_access<S: Sink>(out: &mut Printer<'_, S>, write: bool)
-    requires { CanPrint S.failures out.old }
-    ensures { Prints S.written S.failures out.old out.new (access_text write) }
+fn access_text(write: bool) -> &'static [u8]
+    ensures { result.now ≡ access_text write }
 {
-    if write {
-        out.put(b" write");
-    } else {
-        out.put(b" read");
-    }
+    if write { b" write" } else { b" read" }
 }
 
 fn put_cause<S: Sink>(out: &mut Printer<'_, S>, cause: &Cause)
@@ -50,7 +45,7 @@ fn put_cause<S: Sink>(out: &mut Printer<'_, S>, cause: &Cause)
     ensures { Prints S.written S.failures out.old out.new (cause_text cause.now) }
 {
     put_aspect(out, &cause.touch.aspect);
-    put_access(out, cause.touch.write);
+    out.put(access_text(cause.touch.write));
     out.put_number(b" by P", cause.other.0);
 }
 
@@ -64,23 +59,19 @@ fn put_why<S: Sink>(out: &mut Printer<'_, S>, why: &Why)
     }
 }
 
-fn put_restarted<S: Sink>(out: &mut Printer<'_, S>, restarted: bool)
-    requires { CanPrint S.failures out.old }
-    ensures { Prints S.written S.failures out.old out.new (restarted_text restarted) }
+fn restarted_text(restarted: bool) -> &'static [u8]
+    ensures { result.now ≡ restarted_text restarted }
 {
-    if restarted {
-        out.put(b" restarted");
-    }
+    if restarted { b" restarted" } else { b"" }
 }
 
-fn put_kind<S: Sink>(out: &mut Printer<'_, S>, kind: Kind)
-    requires { CanPrint S.failures out.old }
-    ensures { Prints S.written S.failures out.old out.new (kind_text kind) }
+fn kind_text(kind: Kind) -> &'static [u8]
+    ensures { result.now ≡ kind_text kind }
 {
     match kind {
-        Kind::File => out.put(b"file"),
-        Kind::Dir => out.put(b"dir"),
-        Kind::Pipe => out.put(b"pipe"),
+        Kind::File => b"file",
+        Kind::Dir => b"dir",
+        Kind::Pipe => b"pipe",
     }
 }
 
@@ -88,7 +79,7 @@ fn put_stat<S: Sink>(out: &mut Printer<'_, S>, stat: &Stat)
     requires { CanPrint S.failures out.old }
     ensures { Prints S.written S.failures out.old out.new (stat_text stat.now) }
 {
-    put_kind(out, stat.kind);
+    out.put(kind_text(stat.kind));
     out.put_number(b" size ", stat.size);
     out.put_number(b" links ", stat.links);
 }
@@ -152,7 +143,7 @@ fn put_given_up<S: Sink>(out: &mut Printer<'_, S>, restarted: bool)
     ensures { Prints S.written S.failures out.old out.new (codes "given up" ++ restarted_text restarted) }
 {
     out.put(b"given up");
-    put_restarted(out, restarted);
+    out.put(restarted_text(restarted));
 }
 
 fn put_aborted<S: Sink>(out: &mut Printer<'_, S>, why: &Why, restarted: bool)
@@ -161,7 +152,7 @@ fn put_aborted<S: Sink>(out: &mut Printer<'_, S>, why: &Why, restarted: bool)
 {
     out.put(b"aborted ");
     put_why(out, why);
-    put_restarted(out, restarted);
+    out.put(restarted_text(restarted));
 }
 
 fn put_busy<S: Sink>(out: &mut Printer<'_, S>, cause: &Cause)

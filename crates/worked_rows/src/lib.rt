@@ -2,10 +2,18 @@
 #![tactic(auto)]
 
 #[cfg(test)]
+mod given_up;
+#[cfg(test)]
+mod paths;
+#[cfg(test)]
 mod refused;
 #[cfg(test)]
 mod row;
 #[cfg(test)]
 mod tests;
 #[cfg(test)]
+mod transactions;
+#[cfg(test)]
 mod trees;
+#[cfg(test)]
+mod views;

@@ -1,107 +1,235 @@
 // Refused memory. Whichever request of a step is refused, the step is answered NoMemory and nothing has changed: the same
 // step then goes through.
-use crate::row::{Step, kernel_of, op_of, ops_of, step_in, tell, tell_steps};
+use crate::row::{do_script, do_steps, kernel_of, steps_in, transcript_of};
 use heap::Heap;
-use ids::{Pid, Priority, Reply};
+use ids::Priority;
 use kernel::Kernel;
 use std::test::Fail;
 
-// A step, what comes before and after it, what tells the replies from it on, how many entries there are then, and how many
-// requests for memory it makes at least.
+struct Part {
+    script: &'static str,
+    schedule: &'static str,
+}
+
+// A step, what comes before and after it, the transcript of all, and how many requests for memory the step makes at least.
 struct Refused {
-    before: &'static [(u32, Step)],
-    step: (u32, Step),
-    after: &'static [(u32, Step)],
-    replies: &'static str,
-    entries: usize,
+    before: Part,
+    step: Part,
+    after: Part,
+    transcript: &'static str,
     requests: u64,
 }
 
 static REFUSED: [Refused; 6] = [
     // A call that dooms a reader.
     Refused {
-        before: &[(1, Step::Begin), (1, Step::Stat("/a"))],
-        step: (2, Step::Mkdir("/a")),
-        after: &[(1, Step::End)],
-        replies: "da",
-        entries: 4,
+        before: Part {
+            script: "priorities 0 0
+1 begin
+1 stat /a
+",
+            schedule: "1,1",
+        },
+        step: Part {
+            script: "priorities 0 0
+2 mkdir /a
+",
+            schedule: "2",
+        },
+        after: Part {
+            script: "priorities 0 0
+1 end
+",
+            schedule: "1",
+        },
+        transcript: "1 P1 begin -> begun
+2 P1 stat /a -> ENOENT
+3 P2 mkdir /a -> ok dooms P1
+4 P1 end -> aborted entry a read by P2
+",
         requests: 5,
     },
     // A call of a transaction.
     Refused {
-        before: &[(1, Step::Begin)],
-        step: (1, Step::Mkdir("/a")),
-        after: &[(1, Step::End), (2, Step::Stat("/a"))],
-        replies: "dcs",
-        entries: 4,
+        before: Part {
+            script: "priorities 0 0
+1 begin
+",
+            schedule: "1",
+        },
+        step: Part {
+            script: "priorities 0 0
+1 mkdir /a
+",
+            schedule: "1",
+        },
+        after: Part {
+            script: "priorities 0 0
+1 end
+2 stat /a
+",
+            schedule: "1,2",
+        },
+        transcript: "1 P1 begin -> begun
+2 P1 mkdir /a -> ok
+3 P1 end -> committed
+4 P2 stat /a -> dir size 0 links 1
+",
         requests: 5,
     },
     // A call in a directory that the same transaction has made.
     Refused {
-        before: &[(1, Step::Begin), (1, Step::Mkdir("/a"))],
-        step: (1, Step::Mkdir("/a/b")),
-        after: &[(1, Step::End), (2, Step::List("/a"))],
-        replies: "dc[b]",
-        entries: 5,
+        before: Part {
+            script: "priorities 0 0
+1 begin
+1 mkdir /a
+",
+            schedule: "1,1",
+        },
+        step: Part {
+            script: "priorities 0 0
+1 mkdir /a/b
+",
+            schedule: "1",
+        },
+        after: Part {
+            script: "priorities 0 0
+1 end
+2 list /a
+",
+            schedule: "1,2",
+        },
+        transcript: "1 P1 begin -> begun
+2 P1 mkdir /a -> ok
+3 P1 mkdir /a/b -> ok
+4 P1 end -> committed
+5 P2 list /a -> names 1 b
+",
         requests: 5,
     },
     // A directory is removed by a plain call.
     Refused {
-        before: &[(1, Step::Mkdir("/a"))],
-        step: (1, Step::Rmdir("/a")),
-        after: &[(2, Step::List("/"))],
-        replies: "d[]",
-        entries: 3,
+        before: Part {
+            script: "priorities 0 0
+1 mkdir /a
+",
+            schedule: "1",
+        },
+        step: Part {
+            script: "priorities 0 0
+1 rmdir /a
+",
+            schedule: "1",
+        },
+        after: Part {
+            script: "priorities 0 0
+2 list /
+",
+            schedule: "2",
+        },
+        transcript: "1 P1 mkdir /a -> ok
+2 P1 rmdir /a -> ok
+3 P2 list / -> names 0
+",
         requests: 5,
     },
     // And by a transaction.
     Refused {
-        before: &[(1, Step::Mkdir("/a")), (1, Step::Begin)],
-        step: (1, Step::Rmdir("/a")),
-        after: &[(2, Step::List("/")), (1, Step::End), (2, Step::List("/"))],
-        replies: "d[a]c[]",
-        entries: 6,
+        before: Part {
+            script: "priorities 0 0
+1 mkdir /a
+1 begin
+",
+            schedule: "1,1",
+        },
+        step: Part {
+            script: "priorities 0 0
+1 rmdir /a
+",
+            schedule: "1",
+        },
+        after: Part {
+            script: "priorities 0 0
+2 list /
+1 end
+2 list /
+",
+            schedule: "2,1,2",
+        },
+        transcript: "1 P1 mkdir /a -> ok
+2 P1 begin -> begun
+3 P1 rmdir /a -> ok
+4 P2 list / -> names 1 a
+5 P1 end -> committed
+6 P2 list / -> names 0
+",
         requests: 5,
     },
     // Two names are listed.
     Refused {
-        before: &[(1, Step::Mkdir("/a")), (1, Step::Mkdir("/b"))],
-        step: (2, Step::List("/")),
-        after: &[(1, Step::Rmdir("/a")), (2, Step::List("/"))],
-        replies: "[a b]d[b]",
-        entries: 5,
+        before: Part {
+            script: "priorities 0 0
+1 mkdir /a
+1 mkdir /b
+",
+            schedule: "1,1",
+        },
+        step: Part {
+            script: "priorities 0 0
+2 list /
+",
+            schedule: "2",
+        },
+        after: Part {
+            script: "priorities 0 0
+1 rmdir /a
+2 list /
+",
+            schedule: "1,2",
+        },
+        transcript: "1 P1 mkdir /a -> ok
+2 P1 mkdir /b -> ok
+3 P2 list / -> names 2 a b
+4 P1 rmdir /a -> ok
+5 P2 list / -> names 1 b
+",
         requests: 5,
     },
 ];
 
-// What comes of a step whose request of this number is refused.
-#[derive(Drop)]
-struct Outcome {
-    refused: bool,
-    told: Vec<u8, Heap>,
-    entries: usize,
+fn do_part(kernel: &mut Kernel, heap: Heap, part: &Part) -> Result<(), Fail> {
+    do_script(kernel, heap, part.script, part.schedule)
 }
 
-fn refuse_once(heap: Heap, row: &Refused, number: u64) -> Result<Outcome, Fail> {
-    let mut kernel = kernel_of(heap, &[0, 0], 100)?;
-    let mut told = Vec::new(heap);
-    tell_steps(&mut kernel, heap, row.before, &mut told)?;
-    told.clear();
-    let op = op_of(heap, row.step.1)?;
+// Does the step with one of its requests refused, and answers whether it has left no entry.
+fn is_refused(kernel: &mut Kernel, heap: Heap, step: &Part, number: u64) -> Result<bool, Fail> {
+    let steps = steps_in(heap, step.script, step.schedule)?;
+    let before = kernel.history().entries().len();
     heap.refuse(number);
-    let mut reply = kernel.step(Pid(row.step.0), op);
+    do_steps(kernel, steps);
     heap.refuse(0);
-    let refused = matches!(&reply, Reply::NoMemory);
+    Ok(kernel.history().entries().len() == before)
+}
+
+// Does a row's parts, with a request of its step refused. Answers whether it was, and the transcript at the end.
+fn do_parts(
+    kernel: &mut Kernel,
+    heap: Heap,
+    row: &Refused,
+    number: u64,
+) -> Result<(bool, Vec<u8, Heap>), Fail> {
+    do_part(kernel, heap, &row.before)?;
+    let refused = is_refused(kernel, heap, &row.step, number)?;
     if refused {
-        reply = step_in(&mut kernel, heap, row.step)?;
+        do_part(kernel, heap, &row.step)?;
     }
-    tell(&mut told, &reply)?;
-    tell_steps(&mut kernel, heap, row.after, &mut told)?;
-    Ok(Outcome {
-        refused,
-        told,
-        entries: kernel.history().entries().len(),
-    })
+    do_part(kernel, heap, &row.after)?;
+    Ok((refused, transcript_of(heap, kernel)?))
+}
+
+fn refuse_once(heap: Heap, row: &Refused, number: u64) -> Result<(bool, Vec<u8, Heap>), Fail> {
+    let mut kernel = kernel_of(heap, row.step.script, 100)?;
+    do_parts(&mut kernel, heap, row, number)
 }
 
 #[test]
@@ -110,10 +238,9 @@ fn each_refused_request_leaves_all_as_it_was(rt: HostRuntime) -> Result<(), Fail
     for row in &REFUSED {
         let mut refusals = 0u64;
         for number in 1..100u64 {
-            let got = refuse_once(heap, row, number)?;
-            assert_eq!(rt; got.told.as_slice(), row.replies.as_bytes());
-            assert_eq!(rt; got.entries, row.entries);
-            if got.refused {
+            let (refused, told) = refuse_once(heap, row, number)?;
+            assert_eq!(rt; told.as_slice(), row.transcript.as_bytes());
+            if refused {
                 refusals = number;
             }
         }
@@ -122,14 +249,20 @@ fn each_refused_request_leaves_all_as_it_was(rt: HostRuntime) -> Result<(), Fail
     Ok(())
 }
 
-// A run that is refused the room for its replies has not begun.
+// Whether a run has not begun that is refused the room for its replies.
+fn has_not_begun(heap: Heap, kernel: &mut Kernel, text: &str) -> Result<bool, Fail> {
+    let steps = steps_in(heap, text, "1,1")?;
+    heap.refuse(1);
+    let refused = kernel.run(steps).is_err();
+    Ok(refused && kernel.history().entries().is_empty())
+}
+
 #[test]
 fn a_refused_run_has_not_begun(rt: HostRuntime) -> Result<(), Fail> {
     let heap = heap::open(rt.alloc())?;
-    let mut kernel = kernel_of(heap, &[0, 0], 100)?;
-    let ops = ops_of(heap, &[(1, Step::Begin), (1, Step::End)])?;
-    heap.refuse(1);
-    assert!(rt; kernel.run(ops).is_err() && kernel.history().entries().is_empty());
+    let text = "priorities 0\n1 begin\n1 end\n";
+    let mut kernel = kernel_of(heap, text, 100)?;
+    assert!(rt; has_not_begun(heap, &mut kernel, text)?);
     Ok(())
 }
 

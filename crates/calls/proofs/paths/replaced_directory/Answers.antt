@@ -1,14 +1,12 @@
 use Rattle.std.proofs.Common.{sym}
-use Rattle.std.proofs.Common.{ap}
+use Rattle.std.proofs.Common.{[], ap}
 use Rattle.model.specs.Plan.{Give}
 use Rattle.walk.proofs.Then.{goes, stops, via, gives}
+use Rattle.calls.proofs.Binds.{bare_then}
 use Rattle.calls.proofs.paths.replaced_directory.Goals as goal
 
-pub returns-in_err-entries : goal.returns-in_err-entries
-returns-in_err-entries g c = stops _ c.from_residual.ensures.1 c.in_err-entries.ensures
-
-pub returns-in_err-must_be_empty : goal.returns-in_err-must_be_empty
-returns-in_err-must_be_empty g c = goes _ c.in_ok-entries.ensures (stops _ c.from_residual-in_err-must_be_empty.ensures.1 (c.in_err-must_be_empty.ensures _ _))
+pub returns-in_err-must_have_no_names : goal.returns-in_err-must_have_no_names
+returns-in_err-must_have_no_names g c = via (bare_then c.args.num (Give [])) (stops _ c.from_residual.ensures.1 c.in_err-must_have_no_names.ensures)
 
 pub returns : goal.returns
-returns g c = goes _ c.in_ok-entries.ensures (goes _ (c.in_ok-must_be_empty.ensures _ _) (via (ap Give (sym c.new.ensures)) gives))
+returns g c = via (bare_then c.args.num (Give [])) (goes _ c.in_ok-must_have_no_names.ensures (via (ap Give (sym c.new.ensures)) gives))

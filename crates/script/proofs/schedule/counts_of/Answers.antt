@@ -1,7 +1,8 @@
 use Rattle.std.proofs.Common.{rules, arith, ◌≡◌, ◌<◌, ◌+◌, ℕ, List, length, get_or, set, sym, ◌∙◌, ap, replicate}
-use Rattle.std.proofs.lemmas.List.{get_or-replicate, get_or_read}
+use Rattle.std.proofs.lemmas.List.{get_or-replicate, get_or_read, take_all}
 use Rattle.std.proofs.Math.ListN.{length-set}
 use Rattle.script.proofs.Counts.{lines_for-le, not_counted_here, one_more_here}
+use Rattle.script.specs.Schedules.{lines_for}
 use Rattle.script.specs.declared.read.Line.{Line}
 use Rattle.script.proofs.schedule.counts_of.Goals as goal
 use Rattle.script.proofs.schedule.counts_of.Goals.{then-place-lt4097, else-place-lt4097}
@@ -39,3 +40,6 @@ loop-line-preserved c =
                 ∙ sym (not_counted_here c.args.lines.now c.loop-line.line-index c.line-item.result place p c.loop-line-test.true c.line-item.is at (omega (arith, w.if-place-lt4097.false))),
           ))
     ]
+
+pub returns-clause-counts : goal.returns-clause-counts
+returns-clause-counts c = λ p below. c.loop-line.invariant.1 p below ∙ ap (λ (ls : List Line). lines_for p ls) (take_all c.loop-line.line-index c.args.lines.now c.loop-line-test.false)

@@ -1,7 +1,7 @@
-use Rattle.std.proofs.Common.{rules, arith, ◌≡◌, ◌<◌, ◌+◌, ◌∷◌, ℕ, length, get_or, sym, ◌∙◌, ap, subst}
-use Rattle.std.proofs.lemmas.List.{get_or_read}
+use Rattle.std.proofs.Common.{rules, arith, ◌≡◌, ◌<◌, ◌+◌, ◌∷◌, ℕ, List, length, get_or, sym, ◌∙◌, ap, subst}
+use Rattle.std.proofs.lemmas.List.{drop_all, get_or_read}
 use Rattle.std.proofs.Math.ListN.{length-set}
-use Rattle.script.specs.Schedules.{lines_for, times}
+use Rattle.script.specs.Schedules.{first_without, lines_for, times}
 use Rattle.script.proofs.Counts.{goes_on_at, one_less, stops_at}
 use Rattle.script.proofs.schedule.first_without.Goals as goal
 
@@ -36,3 +36,8 @@ returns-then-index-eq0 c =
     let tested = get_or_read c.loop-pid.counts.items _ _ room c.index.ensures 0 in
     let here : c.index.result.now + times pid before ≡ lines_for pid c.args.lines.now = ap (λ (n : ℕ). n + times pid before) tested ∙ c.loop-pid.invariant.3 pid small in
     sym (c.loop-pid.invariant.2 ∙ stops_at c.args.lines.now c.args.pids.now before c.loop-pid.pid-index pid c.index.result.now c.loop-pid-test.true is c.if-index-eq0.true here)
+
+pub returns : goal.returns
+returns c =
+    let before = c.loop-pid.invariant.0 in
+    sym (c.loop-pid.invariant.2 ∙ ap (λ (ps : List ℕ). first_without c.args.lines.now before ps) (drop_all c.loop-pid.pid-index c.args.pids.now c.loop-pid-test.false))

@@ -58,3 +58,60 @@ returns-in-Fork g c = Prints-as c.put-in-Fork.ensures (search rules)
 
 pub returns-in-Exit : goal.returns-in-Exit
 returns-in-Exit g c = Prints-as c.put-in-Exit.ensures (search rules)
+
+pub put_open-requires : goal.put_open-requires
+put_open-requires g c = c.requires
+
+pub put_number-requires : goal.put_number-requires
+put_number-requires g c = c.requires
+
+pub put_numbers-requires : goal.put_numbers-requires
+put_numbers-requires g c = c.requires
+
+pub put_write-requires : goal.put_write-requires
+put_write-requires g c = c.requires
+
+pub put_lseek-requires : goal.put_lseek-requires
+put_lseek-requires g c = c.requires
+
+pub put_numbers-requires-in-Ftruncate : goal.put_numbers-requires-in-Ftruncate
+put_numbers-requires-in-Ftruncate g c = c.requires
+
+pub put_path-requires : goal.put_path-requires
+put_path-requires g c = c.requires
+
+pub put_number-requires-in-Fstat : goal.put_number-requires-in-Fstat
+put_number-requires-in-Fstat g c = c.requires
+
+pub put_paths-requires : goal.put_paths-requires
+put_paths-requires g c = c.requires
+
+pub put_path-requires-in-Unlink : goal.put_path-requires-in-Unlink
+put_path-requires-in-Unlink g c = c.requires
+
+pub put_paths-requires-in-Rename : goal.put_paths-requires-in-Rename
+put_paths-requires-in-Rename g c = c.requires
+
+pub put_path-requires-in-Mkdir : goal.put_path-requires-in-Mkdir
+put_path-requires-in-Mkdir g c = c.requires
+
+pub put_path-requires-in-Rmdir : goal.put_path-requires-in-Rmdir
+put_path-requires-in-Rmdir g c = c.requires
+
+pub put_path-requires-in-List : goal.put_path-requires-in-List
+put_path-requires-in-List g c = c.requires
+
+pub put_number-requires-in-Dup : goal.put_number-requires-in-Dup
+put_number-requires-in-Dup g c = c.requires
+
+pub put_numbers-requires-in-Dup2 : goal.put_numbers-requires-in-Dup2
+put_numbers-requires-in-Dup2 g c = c.requires
+
+pub put-requires : goal.put-requires
+put-requires g c = c.requires
+
+pub put-requires-in-Fork : goal.put-requires-in-Fork
+put-requires-in-Fork g c = c.requires
+
+pub put-requires-in-Exit : goal.put-requires-in-Exit
+put-requires-in-Exit g c = c.requires

@@ -10,3 +10,21 @@ returns-in-Pair g c = Prints-as c.put_pair.ensures (search rules)
 
 pub returns-in-Child : goal.returns-in-Child
 returns-in-Child g c = Prints-as c.put_number.ensures (search rules)
+
+pub returns-in-Done : goal.returns-in-Done
+returns-in-Done g c = Prints-as c.put.ensures (search rules)
+
+pub returns-in-Fd : goal.returns-in-Fd
+returns-in-Fd g c = Prints-as c.put_decimal.ensures (search rules)
+
+pub returns-in-Count : goal.returns-in-Count
+returns-in-Count g c = Prints-as c.put_decimal-in-Count.ensures (search rules)
+
+pub returns-in-Place : goal.returns-in-Place
+returns-in-Place g c = Prints-as c.put_decimal-in-Place.ensures (search rules)
+
+pub returns-in-Stat : goal.returns-in-Stat
+returns-in-Stat g c = Prints-as c.put_stat.ensures (search rules)
+
+pub returns-in-Names : goal.returns-in-Names
+returns-in-Names g c = Prints-as c.put_names.ensures (search rules)

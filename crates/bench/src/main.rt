@@ -1,0 +1,41 @@
+//! `bench`: prints how many calls a second a kernel does, plain and in a transaction.
+//!
+//! usage: bench NAMES LIVE
+//!
+//! NAMES directories lie in one directory, and LIVE other processes are in a transaction in which they have looked for one name each.
+//! In this directory one process makes 1,000 further directories, looks for 1,000 of those that were there, removes the 1,000 again
+//! and lists all names 10 times: by plain calls, and then each of the four in a transaction of its own, timed from its begin to its
+//! end. This is a measure and no test: with no words it only prints how it is used.
+#![tactic(auto)]
+
+mod rows;
+mod work;
+
+use anyhow::{Result, bail};
+use std::env;
+
+fn main(rt: HostRuntime) -> Result<()> {
+    let global = rt.alloc();
+    let mut texts = Vec::new(global);
+    for text in env::args(&rt)? {
+        texts.push(text)?;
+    }
+    match texts.as_slice() {
+        [_, names, live] => {
+            let heap = heap::open(global)?;
+            rows::measure(&rt, heap, number(names.as_str())?, number(live.as_str())?)
+        }
+        _ => {
+            println!(&rt; "usage: bench NAMES LIVE")?;
+            Ok(())
+        }
+    }
+}
+
+// A number up to a million.
+fn number(word: &str) -> Result<u64> {
+    match word.parse::<u64>() {
+        Ok(number) if number <= 1_000_000 => Ok(number),
+        _ => bail!("{word} is no number up to 1000000"),
+    }
+}

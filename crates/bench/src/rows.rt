@@ -1,0 +1,120 @@
+// The rows that are timed.
+use crate::work::{Verb, begin, call, end, kernel_of, path, step};
+use anyhow::Result;
+use heap::Heap;
+use ids::{Bytes, Pid};
+use kernel::Kernel;
+use std::time::Instant;
+
+// A row of calls in `/d`.
+struct Row {
+    name: &'static str,
+    verb: Verb,
+    count: u64,
+}
+
+static ROWS: [Row; 4] = [
+    Row {
+        name: "mkdir",
+        verb: Verb::Mkdir,
+        count: 1000,
+    },
+    Row {
+        name: "stat",
+        verb: Verb::Stat,
+        count: 1000,
+    },
+    Row {
+        name: "rmdir",
+        verb: Verb::Rmdir,
+        count: 1000,
+    },
+    Row {
+        name: "list",
+        verb: Verb::List,
+        count: 10,
+    },
+];
+
+// Makes the directory `/d` and so many in it.
+fn fill(kernel: &mut Kernel, heap: Heap, names: u64) -> Result<()> {
+    step(kernel, 1, call(Verb::Mkdir, Bytes::copy(heap, b"/d")?))?;
+    for number in 0..names {
+        step(
+            kernel,
+            1,
+            call(Verb::Mkdir, path(heap, "/d", b'n', number)?),
+        )?;
+    }
+    Ok(())
+}
+
+// The processes from 2 on begin a transaction and look for a name that is not there.
+fn open(kernel: &mut Kernel, heap: Heap, live: u32) -> Result<()> {
+    for number in 0..live {
+        let pid = number + 2;
+        begin(kernel, pid)?;
+        let path = path(heap, "", b'l', u64::from(number))?;
+        let _ = kernel.step(Pid(pid), call(Verb::Stat, path));
+    }
+    Ok(())
+}
+
+// The path of a row's i-th call, where there are so many names.
+fn path_in(heap: Heap, verb: Verb, i: u64, names: u64) -> Result<Bytes> {
+    let path = match verb {
+        Verb::List => Bytes::copy(heap, b"/d"),
+        Verb::Stat => path(heap, "/d", b'n', i.saturating_mul(names / 1000)),
+        Verb::Mkdir | Verb::Rmdir => path(heap, "/d", b'm', i),
+    };
+    Ok(path?)
+}
+
+fn do_row(kernel: &mut Kernel, heap: Heap, row: &Row, names: u64) -> Result<()> {
+    for i in 0..row.count {
+        let path = path_in(heap, row.verb, i, names)?;
+        step(kernel, 1, call(row.verb, path))?;
+    }
+    Ok(())
+}
+
+fn do_within(kernel: &mut Kernel, heap: Heap, row: &Row, names: u64) -> Result<()> {
+    begin(kernel, 1)?;
+    do_row(kernel, heap, row, names)?;
+    end(kernel, 1)
+}
+
+// How many of the row's calls a second would do.
+fn rate(rt: &HostRuntime, start: &Instant, row: &Row) -> Result<u64> {
+    let span = start.elapsed(rt)?;
+    let nanos = u64::from(span.subsec_nanos());
+    let nanos = span
+        .as_secs()
+        .saturating_mul(1_000_000_000)
+        .saturating_add(nanos);
+    let calls = row.count.saturating_mul(1_000_000_000);
+    Ok(calls.checked_div(nanos).unwrap_or(calls))
+}
+
+/// Prints a line for each call: its name, how many a second are done by plain calls, and how many in a transaction.
+pub(crate) fn measure(rt: &HostRuntime, heap: Heap, names: u64, live: u64) -> Result<()> {
+    let live = live.min(4095) as u32;
+    let mut kernel = kernel_of(heap, u64::from(live) + 1)?;
+    fill(&mut kernel, heap, names)?;
+    open(&mut kernel, heap, live)?;
+    println!(rt;
+        "{names} names, {live} live transactions: calls a second, plain and in a transaction"
+    )?;
+    let mut plain = [0u64; 4];
+    for (row, found) in ROWS.iter().zip(&mut plain) {
+        let start = Instant::now(rt)?;
+        do_row(&mut kernel, heap, row, names)?;
+        *found = rate(rt, &start, row)?;
+    }
+    for (row, plain) in ROWS.iter().zip(&plain) {
+        let start = Instant::now(rt)?;
+        do_within(&mut kernel, heap, row, names)?;
+        println!(rt; "{} {plain} {}", row.name, rate(rt, &start, row)?)?;
+    }
+    Ok(())
+}

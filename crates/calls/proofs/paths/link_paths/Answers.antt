@@ -1,0 +1,11 @@
+use Rattle.walk.proofs.Then.{goes, stops}
+use Rattle.calls.proofs.paths.link_paths.Goals as goal
+
+pub returns-in_err-what : goal.returns-in_err-what
+returns-in_err-what g c = stops _ c.from_residual.ensures.1 c.in_err-what.ensures
+
+pub returns-in_err-must_not_be_directory : goal.returns-in_err-must_not_be_directory
+returns-in_err-must_not_be_directory g c = goes _ c.in_ok-what.ensures (stops _ c.from_residual-in_err-must_not_be_directory.ensures.1 (c.in_err-must_not_be_directory.ensures _ _))
+
+pub returns : goal.returns
+returns g c = goes _ c.in_ok-what.ensures (goes _ (c.in_ok-must_not_be_directory.ensures _ _) c.name_file.ensures)

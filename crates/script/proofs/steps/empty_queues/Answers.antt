@@ -1,7 +1,0 @@
-use Rattle.std.proofs.Common.{◌≡◌, ◌∙◌, ap, arith, replicate, []}
-use Rattle.script.proofs.steps.empty_queues.Goals as goal
-
-pub returns : goal.returns
-returns c =
-    let all : c.loop.counter ≡ 4097 = omega arith in
-    c.loop.invariant ∙ ap (λ n. replicate n []) all

@@ -1,0 +1,67 @@
+// The forms of paths: four names of 255 bytes are 1,024 bytes with their slashes, which is the most that a path may have.
+use crate::row::kernel_of;
+use heap::Heap;
+use ids::{Bytes, Call, Errno, Op, Pid, Reply};
+use kernel::Kernel;
+use std::alloc::AllocError;
+use std::process::Abort;
+use std::test::Fail;
+
+// A path whose names have so many letters.
+fn long_path(heap: Heap, names: &[usize]) -> Result<Bytes, AllocError> {
+    let mut bytes = Vec::new(heap);
+    for letters in names {
+        bytes.push(b'/')?;
+        for _ in 0..*letters {
+            bytes.push(b'n')?;
+        }
+    }
+    Ok(Bytes::new(bytes))
+}
+
+// The error of a stat of this path.
+fn error_of(kernel: &mut Kernel, path: Bytes) -> Option<Errno> {
+    let reply = kernel.step(Pid(1), Op::Call(Call::Stat(path)));
+    match &reply {
+        Reply::Errno(errno) => Some(*errno),
+        _ => None,
+    }
+}
+
+static LONG: [(&[usize], Errno); 4] = [
+    (&[255, 255, 255, 255], Errno::ENOENT),
+    (&[255, 255, 255, 255, 0], Errno::ENAMETOOLONG),
+    (&[255, 255, 255, 254, 1], Errno::ENAMETOOLONG),
+    (&[256], Errno::ENAMETOOLONG),
+];
+
+static FORMS: [(&str, Option<Errno>); 8] = [
+    ("", Some(Errno::EINVAL)),
+    ("a", Some(Errno::EINVAL)),
+    ("//", Some(Errno::EINVAL)),
+    ("/a/", Some(Errno::EINVAL)),
+    ("/.", Some(Errno::EINVAL)),
+    ("/a/..", Some(Errno::EINVAL)),
+    ("/..a", Some(Errno::ENOENT)),
+    ("/", None),
+];
+
+fn assert_errors(rt: &impl Abort, heap: Heap, kernel: &mut Kernel) -> Result<(), Fail> {
+    for (names, errno) in &LONG {
+        assert_eq!(rt; error_of(kernel, long_path(heap, names)?), Some(*errno));
+    }
+    for (path, errno) in &FORMS {
+        assert_eq!(rt;
+            error_of(kernel, Bytes::copy(heap, path.as_bytes())?),
+            *errno
+        );
+    }
+    Ok(())
+}
+
+#[test]
+fn each_form_of_path_has_its_answer(rt: HostRuntime) -> Result<(), Fail> {
+    let heap = heap::open(rt.alloc())?;
+    let mut kernel = kernel_of(heap, "priorities 0\n", 100)?;
+    assert_errors(&rt, heap, &mut kernel)
+}
