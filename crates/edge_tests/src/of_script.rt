@@ -293,7 +293,7 @@ fn long_text(heap: Heap) -> Result<Vec<u8, Heap>, AllocError> {
 // How many priorities and lines a text has.
 fn counts_of(heap: Heap, text: &[u8]) -> (usize, usize) {
     match read_script(heap, text) {
-        Ok(script) => (script.priorities().len(), script.into_lines().len()),
+        Ok(script) => (script.priorities().len(), script.lines().len()),
         Err(_) => (0, 0),
     }
 }

@@ -17,46 +17,62 @@ fn is_told(alloc: Global, heap: Heap, line: &str, status: u8, told: &str) -> boo
     }
 }
 
-// Command lines, each with its status and job, or how the words of its fault begin.
-static LINES: [(&str, u8, &str); 9] = [
+// Command lines, each with its status and job, or how the words of its fault begin. Before each the request of memory that
+// is refused: one is made for the schedule, and one for the file.
+static LINES: [(u64, &str, u8, &str); 12] = [
     (
+        0,
+        "txsh --schedule 1,1,2,1,2 run.tx",
+        0,
+        "Job { way: Schedule(\"1,1,2,1,2\"), limit: 65536, check: false, file: \"run.tx\" }",
+    ),
+    (1, "txsh --schedule 1,1,2,1,2 run.tx", 3, "no memory"),
+    (2, "txsh --schedule 1,1,2,1,2 run.tx", 3, "no memory"),
+    (
+        3,
         "txsh --schedule 1,1,2,1,2 run.tx",
         0,
         "Job { way: Schedule(\"1,1,2,1,2\"), limit: 65536, check: false, file: \"run.tx\" }",
     ),
     (
+        0,
         "txsh --limit 1048576 --schedule  run.tx",
         0,
         "Job { way: Schedule(\"\"), limit: 1048576, check: false, file: \"run.tx\" }",
     ),
     (
+        0,
         "txsh --schedule=1 --limit=0 run.tx",
         0,
         "Job { way: Schedule(\"1\"), limit: 0, check: false, file: \"run.tx\" }",
     ),
-    ("txsh run.tx", 2, "exactly one of --schedule and --threads"),
     (
+        0,
+        "txsh run.tx",
+        2,
+        "exactly one of --schedule and --threads",
+    ),
+    (
+        0,
         "txsh --schedule=1 --limit 1048577 run.tx",
         2,
         "error: invalid value '1048577'",
     ),
-    ("txsh --schedule=1 --limit x run.tx", 2, "error: "),
-    ("txsh --schedule=1", 2, "error: "),
-    ("txsh --threads run.tx", 2, "error: "),
-    ("txsh --schedule=1 --check run.tx", 2, "error: "),
+    (0, "txsh --schedule=1 --limit x run.tx", 2, "error: "),
+    (0, "txsh --schedule=1", 2, "error: "),
+    (0, "txsh --threads run.tx", 2, "error: "),
+    (0, "txsh --schedule=1 --check run.tx", 2, "error: "),
 ];
 
 #[test]
 fn words_are_jobs_or_told(rt: HostRuntime) -> Result<(), Fail> {
     let heap = heap::open(rt.alloc())?;
-    for (line, status, told) in &LINES {
-        assert!(rt; is_told(rt.alloc(), heap, line, *status, told), "{line}");
-    }
-    // A request for the schedule, and one for the file.
-    for number in 1..3u64 {
-        heap.refuse(number);
-        let line = "txsh --schedule 1,1,2,1,2 run.tx";
-        assert!(rt; is_told(rt.alloc(), heap, line, 3, "no memory"), "{number}");
+    for (refused, line, status, told) in &LINES {
+        heap.refuse(*refused);
+        assert!(rt;
+            is_told(rt.alloc(), heap, line, *status, told),
+            "{refused}: {line}"
+        );
     }
     Ok(())
 }
