@@ -4,7 +4,6 @@ ghost use Rattle.std.specs.Prelude.{◌≤◌, IfOk};
 use crate::halting::halting;
 use device::{Failing, Portions};
 use heap::Heap;
-use history::History;
 use kernel::Kernel;
 use runner::{RunFault, print, run_job, run_schedule};
 use std::alloc::{AllocError, Global};
@@ -241,18 +240,6 @@ fn is_faulted(heap: Heap, left: usize, fault: Option<RunFault>, out: &str) -> bo
     told == fault && sink.bytes.as_slice() == out.as_bytes()
 }
 
-// Whether this is told of a history that is written to a sink that takes so many bytes, and is what the sink has then.
-fn is_printed(
-    heap: Heap,
-    history: &History,
-    room: usize,
-    told: Result<(), RunFault>,
-    out: &str,
-) -> bool {
-    let mut sink = halting(heap, room);
-    print(history, &mut sink) == told && sink.bytes.as_slice() == out.as_bytes()
-}
-
 // The kernel of the first run.
 fn first_kernel(heap: Heap) -> Result<Kernel, RunFault> {
     let mut source = Portions {
@@ -263,6 +250,15 @@ fn first_kernel(heap: Heap) -> Result<Kernel, RunFault> {
     run_schedule(heap, &mut source, FIRST_LIST, 100, &mut sink)
 }
 
+// Whether this is told where its history is written to a sink that takes so many bytes, and is what the sink has then.
+fn is_printed(heap: Heap, room: usize, told: Result<(), RunFault>, out: &str) -> bool {
+    let Ok(kernel) = first_kernel(heap) else {
+        return false;
+    };
+    let mut sink = halting(heap, room);
+    print(kernel.history(), &mut sink) == told && sink.bytes.as_slice() == out.as_bytes()
+}
+
 #[test]
 fn devices_that_fail_end_the_run(rt: HostRuntime) -> Result<(), Fail> {
     let heap = heap::open(rt.alloc())?;
@@ -271,8 +267,7 @@ fn devices_that_fail_end_the_run(rt: HostRuntime) -> Result<(), Fail> {
         assert!(rt; is_faulted(heap, left, Some(RunFault::Read), ""), "{left}");
     }
     assert!(rt; is_faulted(heap, 21, None, FIRST_LINES));
-    let kernel = first_kernel(heap)?;
-    assert!(rt; is_printed(heap, kernel.history(), 1000, Ok(()), FIRST_LINES));
-    assert!(rt; is_printed(heap, kernel.history(), 3, Err(RunFault::Write), "1 P"));
+    assert!(rt; is_printed(heap, 1000, Ok(()), FIRST_LINES));
+    assert!(rt; is_printed(heap, 3, Err(RunFault::Write), "1 P"));
     Ok(())
 }

@@ -243,19 +243,21 @@ fn long_entry(heap: Heap) -> Result<Entry, AllocError> {
     })
 }
 
-// Whether the line of an entry is written whole to a sink that takes so many bytes, and how many it gets.
-fn written(heap: Heap, entry: &Entry, room: usize) -> (bool, usize) {
+// Whether its line is written whole to a sink that takes so many bytes, and how many the sink gets.
+fn long_line(heap: Heap, room: usize) -> (bool, usize) {
+    let Ok(entry) = long_entry(heap) else {
+        return (false, 0);
+    };
     let mut sink = halting(heap, room);
-    let printed = print_line(1, entry, &mut sink).is_ok();
+    let printed = print_line(1, &entry, &mut sink).is_ok();
     (printed, sink.bytes.len())
 }
 
 #[test]
 fn a_long_line_is_written_in_parts(rt: HostRuntime) -> Result<(), Fail> {
     let heap = heap::open(rt.alloc())?;
-    let long = long_entry(heap)?;
     let len = 4000 + "1 P1 write 0  -> 1000\n".len();
-    assert_eq!(rt; written(heap, &long, 9000), (true, len));
-    assert_eq!(rt; written(heap, &long, 600), (false, 600));
+    assert!(rt; long_line(heap, 9000) == (true, len));
+    assert!(rt; long_line(heap, 600) == (false, 600));
     Ok(())
 }

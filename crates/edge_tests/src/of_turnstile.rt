@@ -158,19 +158,30 @@ fn count(entries: &[Entry], pid: Pid, letter: u8) -> u64 {
     count
 }
 
+// How many entries there are, and how many directories each process has made in order.
+fn counts(kernel: &Kernel) -> (usize, u64, u64) {
+    let entries = kernel.history().entries();
+    let ones = count(entries, Pid(1), b'a');
+    let twos = count(entries, Pid(2), b'b');
+    (entries.len(), ones, twos)
+}
+
+// What the two processes have done.
+fn done<R: Threads + Wait + Abort + Sync>(
+    rt: &R,
+    heap: Heap,
+    kernel: Kernel,
+) -> Option<(usize, u64, u64)> {
+    let opened = begun(heap, kernel)?;
+    let kernel = shared(rt, heap, opened)?;
+    Some(counts(&kernel))
+}
+
 #[test]
 fn one_thread_and_two(rt: HostRuntime) -> Result<(), Fail> {
     let heap = heap::open(rt.alloc())?;
     let zero = Priority::new(0).ok_or("no priority")?;
     let kernel = Kernel::new(heap, &[zero, zero], 202)?;
-    let opened = begun(heap, kernel).ok_or("begun")?;
-    let kernel = shared(&rt, heap, opened).ok_or("closed")?;
-    let entries = kernel.history().entries();
-    let counts = (
-        entries.len(),
-        count(entries, Pid(1), b'a'),
-        count(entries, Pid(2), b'b'),
-    );
-    assert_eq!(rt; counts, (202, 100, 100));
+    assert!(rt; done(&rt, heap, kernel) == Some((202, 100, 100)));
     Ok(())
 }

@@ -1,11 +1,11 @@
 // Command lines: the jobs that they say, and the faults of those that say none.
-use crate::telling::{begins, is_shown};
+use crate::telling::{begins, is_shown, is_worded};
 use heap::Heap;
 use std::alloc::Global;
 use std::test::Fail;
-use words::read_words;
+use words::{LineFault, read_words};
 
-// Whether a line's words say this job, or have a fault of this status whose words begin so.
+// Whether a line's words say this job, or have a fault of this status with these words. What clap says need only begin so.
 fn is_told(alloc: Global, heap: Heap, line: &str, status: u8, told: &str) -> bool {
     let words: Vec<&str> = match line.split(' ').collect(alloc) {
         Ok(words) => words,
@@ -13,7 +13,8 @@ fn is_told(alloc: Global, heap: Heap, line: &str, status: u8, told: &str) -> boo
     };
     match read_words(alloc, heap, words.as_slice()) {
         Ok(job) => status == 0 && is_shown(alloc, &job, told),
-        Err(fault) => status == fault.status() && begins(alloc, &fault, told),
+        Err(LineFault::Words(fault)) => status == 2 && begins(alloc, &fault, told),
+        Err(fault) => status == fault.status() && is_worded(alloc, &fault, told),
     }
 }
 
