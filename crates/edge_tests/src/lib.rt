@@ -16,3 +16,5 @@ mod of_transcript;
 mod of_turnstile;
 #[cfg(test)]
 mod of_words;
+#[cfg(test)]
+mod telling;

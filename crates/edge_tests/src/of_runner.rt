@@ -1,84 +1,185 @@
-// Faults of runs, and devices that fail in their midst.
+// Whole runs, their faults, and devices that fail in their midst.
 ghost use Rattle.std.specs.Prelude.{◌≤◌, IfOk};
 
 use crate::halting::halting;
 use device::{Failing, Portions};
 use heap::Heap;
-use history::History;
-use ids::{Entry, Nums, Op, Pid, Pids, Priority, Reply};
+use kernel::Kernel;
 use runner::{RunFault, print, run_job, run_schedule};
-use script::{ScheduleFault, ScriptFault};
+use std::alloc::{AllocError, Global};
 use std::test::Fail;
 use words::{Job, Way};
 
-static FIRST_RUN: &str = "priorities 0 0\n1 begin\n1 mkdir /a\n1 end\n2 stat /a\n2 stat /a\n";
+// A schedule, its limit, how many bytes the standard output takes, and what the program tells: its status, and what it writes
+// on standard output and on standard error.
+struct Told {
+    list: &'static str,
+    limit: u32,
+    room: usize,
+    status: u8,
+    out: &'static str,
+    err: &'static str,
+}
 
-#[test]
-fn a_sink_that_fails_ends_the_run(rt: HostRuntime) -> Result<(), Fail> {
-    let heap = heap::open(rt.alloc())?;
+fn job_of(heap: Heap, told: &Told) -> Result<Job, AllocError>
+    ensures { IfOk result (λ job. job.limit ≤ 1048576) }
+{
+    Ok(Job {
+        way: Way::Schedule(String::from_str(heap, told.list)?),
+        limit: told.limit.min(100),
+        check: false,
+        file: String::new(heap),
+    })
+}
+
+// Whether this is told of a job on a script.
+fn is_told(heap: Heap, job: &Job, text: &str, told: &Told) -> bool
+    requires { job.now.limit ≤ 1048576 }
+{
     let mut source = Portions {
-        bytes: FIRST_RUN.as_bytes(),
+        bytes: text.as_bytes(),
         most: 7,
     };
-    let mut sink = halting(heap, 10);
-    let fault = run_schedule(heap, &mut source, "1,1,2,1,2", 100, &mut sink).err();
-    assert_eq!(rt; fault, Some(RunFault::Write));
-    assert_eq!(rt; sink.bytes.as_slice(), b"1 P1 begin".as_slice());
-    Ok(())
+    let mut out = halting(heap, told.room);
+    let mut err = halting(heap, 1000);
+    let status = run_job(heap, job, &mut source, &mut out, &mut err);
+    status == told.status
+        && out.bytes.as_slice() == told.out.as_bytes()
+        && err.bytes.as_slice() == told.err.as_bytes()
 }
 
-#[test]
-fn a_source_that_fails_ends_the_run(rt: HostRuntime) -> Result<(), Fail> {
-    let heap = heap::open(rt.alloc())?;
-    // 60 bytes by threes, and the read that finds the end.
-    for left in 0..21usize {
-        let mut source = Failing {
-            bytes: FIRST_RUN.as_bytes(),
-            left,
-            failures: 0,
-        };
-        let mut sink = halting(heap, 1000);
-        let fault = run_schedule(heap, &mut source, "1,1,2,1,2", 100, &mut sink).err();
-        assert_eq!(rt; fault, Some(RunFault::Read));
-        assert!(rt; sink.bytes.is_empty());
+fn is_run(heap: Heap, text: &str, told: &Told) -> bool {
+    match job_of(heap, told) {
+        Ok(job) => is_told(heap, &job, text, told),
+        Err(_) => false,
     }
-    Ok(())
 }
 
-#[test]
-fn faults_come_before_any_step(rt: HostRuntime) -> Result<(), Fail> {
-    let heap = heap::open(rt.alloc())?;
-    let rows = [
-        (
-            "priorities 8\n",
-            "",
-            RunFault::Script(ScriptFault::PrioritiesExpected(1)),
-        ),
-        (
-            "priorities 0\n\n1 stat /a/b\n1 unlink /a\n",
-            "1",
-            RunFault::Script(ScriptFault::UnknownOperation(4)),
-        ),
-        (
-            "priorities 0\n1 end\n",
-            "2",
-            RunFault::Schedule(ScheduleFault::NoLine(Pid(2))),
-        ),
-    ];
-    for (text, list, fault) in rows {
-        let mut source = Portions {
-            bytes: text.as_bytes(),
-            most: 7,
-        };
-        let mut sink = halting(heap, 1000);
-        let told = run_schedule(heap, &mut source, list, 100, &mut sink).err();
-        assert_eq!(rt; told, Some(fault));
-        assert!(rt; sink.bytes.is_empty());
-    }
-    Ok(())
-}
+static FIRST_RUN: &str = "priorities 0 0\n1 begin\n1 mkdir /a\n1 end\n2 stat /a\n2 stat /a\n";
 
-// A line with each call that is not there.
+static FIRST_LIST: &str = "1,1,2,1,2";
+
+static FIRST_LINES: &str = "1 P1 begin -> begun
+2 P1 mkdir /a -> ok
+3 P2 stat /a -> ENOENT
+4 P1 end -> committed
+5 P2 stat /a -> dir size 0 links 1
+";
+
+static RUNS: [(&str, Told); 10] = [
+    (
+        "priorities 0 0\n1 begin\n2 stat /a\n",
+        Told {
+            list: "1,2",
+            limit: 100,
+            room: 1000,
+            status: 0,
+            out: "1 P1 begin -> begun\n2 P2 stat /a -> ENOENT\n",
+            err: "",
+        },
+    ),
+    (
+        "priorities 0\n1 mkdir /a\n1 mkdir /a/b\n1 list /a\n1 rmdir /a/b\n1 list /a\n",
+        Told {
+            list: "1,1,1,1,1",
+            limit: 100,
+            room: 1000,
+            status: 0,
+            out: "1 P1 mkdir /a -> ok\n2 P1 mkdir /a/b -> ok\n3 P1 list /a -> names 1 b\n4 P1 rmdir /a/b -> ok\n5 P1 list /a -> names 0\n",
+            err: "",
+        },
+    ),
+    (
+        "priorities 0 0\n1 begin\n1 mkdir /a\n1 end\n2 stat /a\n2 stat /a\n",
+        Told {
+            list: "1,1,2,1,2",
+            limit: 100,
+            room: 10,
+            status: 5,
+            out: "1 P1 begin",
+            err: "txsh: write failed\n",
+        },
+    ),
+    (
+        "priorities 0\n1 begin\n1 stat /\n",
+        Told {
+            list: "1,1",
+            limit: 2,
+            room: 1000,
+            status: 3,
+            out: "1 P1 begin -> begun\n",
+            err: "txsh: history full\n",
+        },
+    ),
+    (
+        "priorities 0",
+        Told {
+            list: "",
+            limit: 100,
+            room: 1000,
+            status: 1,
+            out: "",
+            err: "txsh: line 1: not ended\n",
+        },
+    ),
+    (
+        "",
+        Told {
+            list: "",
+            limit: 100,
+            room: 1000,
+            status: 1,
+            out: "",
+            err: "txsh: line 1: priorities expected\n",
+        },
+    ),
+    (
+        "priorities 8\n",
+        Told {
+            list: "",
+            limit: 100,
+            room: 1000,
+            status: 1,
+            out: "",
+            err: "txsh: line 1: priorities expected\n",
+        },
+    ),
+    (
+        "priorities 0\n\n1 stat /a/b\n1 unlink /a\n",
+        Told {
+            list: "1",
+            limit: 100,
+            room: 1000,
+            status: 1,
+            out: "",
+            err: "txsh: line 4: unknown operation\n",
+        },
+    ),
+    (
+        "priorities 0\n1 end\n",
+        Told {
+            list: "2",
+            limit: 100,
+            room: 1000,
+            status: 1,
+            out: "",
+            err: "txsh: schedule: process 2 has no line left\n",
+        },
+    ),
+    (
+        "priorities 0\n1 end\n",
+        Told {
+            list: "1,1",
+            limit: 100,
+            room: 1000,
+            status: 1,
+            out: "",
+            err: "txsh: schedule: process 1 has no line left\n",
+        },
+    ),
+];
+
+// A line with each call that is not there, and what is told of each.
 static MISSING: [&str; 16] = [
     "open /a RDONLY",
     "close 0",
@@ -98,140 +199,75 @@ static MISSING: [&str; 16] = [
     "exit",
 ];
 
-#[test]
-fn calls_that_are_not_there_are_told(rt: HostRuntime) -> Result<(), Fail> {
-    let heap = heap::open(rt.alloc())?;
-    for line in &MISSING {
-        let text = format!(in heap; "priorities 0\n1 {line}\n")?;
-        let mut source = Portions {
-            bytes: text.as_bytes(),
-            most: 7,
-        };
-        let mut sink = halting(heap, 1000);
-        let told = run_schedule(heap, &mut source, "1", 100, &mut sink).err();
-        let missing = RunFault::Script(ScriptFault::UnknownOperation(2));
-        assert_eq!(rt; told, Some(missing), "{line}");
-        assert!(rt; sink.bytes.is_empty());
+static UNKNOWN: Told = Told {
+    list: "1",
+    limit: 100,
+    room: 1000,
+    status: 1,
+    out: "",
+    err: "txsh: line 2: unknown operation\n",
+};
+
+// Whether the one line is told to be missing.
+fn is_missing(alloc: Global, heap: Heap, line: &str) -> bool {
+    match format!(in alloc; "priorities 0\n1 {line}\n") {
+        Ok(text) => is_run(heap, text.as_str(), &UNKNOWN),
+        Err(_) => false,
     }
-    Ok(())
-}
-
-#[test]
-fn a_history_is_printed(rt: HostRuntime) -> Result<(), Fail> {
-    let heap = heap::open(rt.alloc())?;
-    let zero = Priority::new(0).ok_or("no priority")?;
-    let mut history = History::new(heap, &[zero], 1)?;
-    let _ = history.push(Entry {
-        pid: Pid(1),
-        op: Op::End,
-        reply: Reply::NotInTransaction,
-        chosen: Nums::new(heap),
-        doomed: Pids::new(heap),
-    });
-    let line = b"1 P1 end -> NotInTransaction\n".as_slice();
-    let mut sink = halting(heap, 1000);
-    assert_eq!(rt; print(&history, &mut sink), Ok(()));
-    assert_eq!(rt; sink.bytes.as_slice(), line);
-    let mut sink = halting(heap, 3);
-    assert_eq!(rt; print(&history, &mut sink), Err(RunFault::Write));
-    assert_eq!(rt; sink.bytes.as_slice(), b"1 P".as_slice());
-    Ok(())
-}
-
-// A script, its schedule and limit, and what the program writes of it on standard output and on standard error, with its
-// status.
-struct Told {
-    text: &'static str,
-    list: &'static str,
-    limit: u32,
-    out: &'static str,
-    err: &'static str,
-    status: u8,
-}
-
-static TOLD: [Told; 6] = [
-    Told {
-        text: "priorities 0 0\n1 begin\n2 stat /a\n",
-        list: "1,2",
-        limit: 100,
-        out: "1 P1 begin -> begun\n2 P2 stat /a -> ENOENT\n",
-        err: "",
-        status: 0,
-    },
-    Told {
-        text: "priorities 0\n1 mkdir /a\n1 mkdir /a/b\n1 list /a\n1 rmdir /a/b\n1 list /a\n",
-        list: "1,1,1,1,1",
-        limit: 100,
-        out: "1 P1 mkdir /a -> ok\n2 P1 mkdir /a/b -> ok\n3 P1 list /a -> names 1 b\n4 P1 rmdir /a/b -> ok\n5 P1 list /a -> names 0\n",
-        err: "",
-        status: 0,
-    },
-    Told {
-        text: "priorities 0",
-        list: "",
-        limit: 100,
-        out: "",
-        err: "txsh: line 1: not ended\n",
-        status: 1,
-    },
-    Told {
-        text: "priorities 0\n1 end\n",
-        list: "1,1",
-        limit: 100,
-        out: "",
-        err: "txsh: schedule: process 1 has no line left\n",
-        status: 1,
-    },
-    Told {
-        text: "priorities 0\n1 begin\n1 stat /\n",
-        list: "1,1",
-        limit: 2,
-        out: "1 P1 begin -> begun\n",
-        err: "txsh: history full\n",
-        status: 3,
-    },
-    Told {
-        text: "",
-        list: "",
-        limit: 100,
-        out: "",
-        err: "txsh: line 1: priorities expected\n",
-        status: 1,
-    },
-];
-
-fn job_of(heap: Heap, told: &Told) -> Result<Job, Fail>
-    ensures { IfOk result (λ job. job.limit ≤ 1048576) }
-{
-    Ok(Job {
-        way: Way::Schedule(String::from_str(heap, told.list)?),
-        limit: told.limit.min(100),
-        check: false,
-        file: String::new(heap),
-    })
-}
-
-fn is_told(heap: Heap, told: &Told) -> Result<bool, Fail> {
-    let job = job_of(heap, told)?;
-    let mut source = Portions {
-        bytes: told.text.as_bytes(),
-        most: 7,
-    };
-    let mut out = halting(heap, 1000);
-    let mut err = halting(heap, 1000);
-    let status = run_job(heap, &job, &mut source, &mut out, &mut err);
-    Ok(
-        status == told.status
-            && out.bytes.as_slice() == told.out.as_bytes()
-            && err.bytes.as_slice() == told.err.as_bytes(),
-    )
 }
 
 #[test]
 fn jobs_have_their_texts_and_statuses(rt: HostRuntime) -> Result<(), Fail> {
     let heap = heap::open(rt.alloc())?;
-    for told in &TOLD {
-        assert!(rt; is_told(heap, told)?);
+    for (text, told) in &RUNS {
+        assert!(rt; is_run(heap, text, told), "{text}");
     }
+    for line in &MISSING {
+        assert!(rt; is_missing(rt.alloc(), heap, line), "{line}");
+    }
+    Ok(())
+}
+
+// Whether the first run ends with this fault, or none, where the source fails after so many reads, and then has written this.
+fn is_faulted(heap: Heap, left: usize, fault: Option<RunFault>, out: &str) -> bool {
+    let mut source = Failing {
+        bytes: FIRST_RUN.as_bytes(),
+        left,
+        failures: 0,
+    };
+    let mut sink = halting(heap, 1000);
+    let told = run_schedule(heap, &mut source, FIRST_LIST, 100, &mut sink).err();
+    told == fault && sink.bytes.as_slice() == out.as_bytes()
+}
+
+// The kernel of the first run.
+fn first_kernel(heap: Heap) -> Result<Kernel, RunFault> {
+    let mut source = Portions {
+        bytes: FIRST_RUN.as_bytes(),
+        most: 7,
+    };
+    let mut sink = halting(heap, 1000);
+    run_schedule(heap, &mut source, FIRST_LIST, 100, &mut sink)
+}
+
+// Whether this is told where its history is written to a sink that takes so many bytes, and is what the sink has then.
+fn is_printed(heap: Heap, room: usize, told: Result<(), RunFault>, out: &str) -> bool {
+    let Ok(kernel) = first_kernel(heap) else {
+        return false;
+    };
+    let mut sink = halting(heap, room);
+    print(kernel.history(), &mut sink) == told && sink.bytes.as_slice() == out.as_bytes()
+}
+
+#[test]
+fn devices_that_fail_end_the_run(rt: HostRuntime) -> Result<(), Fail> {
+    let heap = heap::open(rt.alloc())?;
+    // 60 bytes by threes, and the read that finds the end.
+    for left in 0..21usize {
+        assert!(rt; is_faulted(heap, left, Some(RunFault::Read), ""), "{left}");
+    }
+    assert!(rt; is_faulted(heap, 21, None, FIRST_LINES));
+    assert!(rt; is_printed(heap, 1000, Ok(()), FIRST_LINES));
+    assert!(rt; is_printed(heap, 3, Err(RunFault::Write), "1 P"));
     Ok(())
 }

@@ -1,127 +1,171 @@
-// The tables of faults, the grammar's edges, and the steps of a schedule.
+// Scripts, schedules and steps: what texts are read as, and their faults in words.
+use crate::telling::{is_shown, is_worded};
 use heap::Heap;
-use ids::{Call, Op, Pid};
-use script::{ScheduleFault, ScriptFault, read_schedule, read_script, steps_of};
+use script::{Script, ScriptFault, read_schedule, read_script, steps_of};
+use std::alloc::{AllocError, Global};
 use std::test::Fail;
 
-fn fault_of(heap: Heap, text: &[u8]) -> Option<ScriptFault> {
-    read_script(heap, text).err()
-}
-
-// The operation that words spell in the one line of a process. `None` stands where it does not take these arguments.
-fn op_of(heap: Heap, words: &str) -> Result<Option<Op>, Fail> {
-    let text = format!(in heap; "priorities 0\n1 {words}\n")?;
-    match read_script(heap, text.as_bytes()) {
-        Ok(script) => Ok(script.into_lines().pop().map(|line| line.op)),
-        Err(ScriptFault::BadArguments(2)) => Ok(None),
-        Err(fault) => Err(Fail::from(fault)),
+// Whether a text is read as these lines, or has this fault.
+fn is_read_as(alloc: Global, heap: Heap, text: &[u8], told: &str) -> bool {
+    match read_script(heap, text) {
+        Ok(script) => is_shown(alloc, &script.into_lines(), told),
+        Err(fault) => is_worded(alloc, &fault, told),
     }
 }
 
-static FIRST_LINES: [(&str, Option<ScriptFault>); 8] = [
-    ("", Some(ScriptFault::PrioritiesExpected(1))),
-    ("# c\n", Some(ScriptFault::PrioritiesExpected(2))),
-    ("priorities 8\n", Some(ScriptFault::PrioritiesExpected(1))),
-    ("priorities 7\n", None),
-    ("priorities 00\n", Some(ScriptFault::PrioritiesExpected(1))),
-    ("priorities\n", Some(ScriptFault::PrioritiesExpected(1))),
-    ("1 end\n", Some(ScriptFault::PrioritiesExpected(1))),
-    ("# c\n\npriorities 0\n", None),
-];
-
-#[test]
-fn the_first_line_tells_the_priorities(rt: HostRuntime) -> Result<(), Fail> {
-    let heap = heap::open(rt.alloc())?;
-    for (text, fault) in FIRST_LINES.iter() {
-        assert_eq!(rt; fault_of(heap, text.as_bytes()), *fault, "{text}");
-    }
-    let script = read_script(heap, b"priorities 0 0 0\n\n# c\n3 end\n")?;
-    assert_eq!(rt; script.priorities().len(), 3);
-    assert_eq!(rt; script.lines().len(), 1);
-    Ok(())
-}
-
-static FURTHER_LINES: [(&str, Option<ScriptFault>); 14] = [
+// Texts, each with its lines or its first fault.
+static SCRIPTS: [(&str, &str); 23] = [
+    ("", "line 1: priorities expected"),
+    ("# c\n", "line 2: priorities expected"),
+    ("priorities 8\n", "line 1: priorities expected"),
+    ("priorities 7\n", "[]"),
+    ("priorities 00\n", "line 1: priorities expected"),
+    ("priorities\n", "line 1: priorities expected"),
+    ("1 end\n", "line 1: priorities expected"),
+    ("# c\n\npriorities 0\n", "[]"),
+    (
+        "priorities 0 0 0\n\n# c\n3 end\n",
+        "[Line { pid: Pid(3), op: End, number: 4 }]",
+    ),
     (
         "priorities 0\n0 stat /\n",
-        Some(ScriptFault::ProcessExpected(2)),
+        "line 2: process number expected",
     ),
     (
         "priorities 0\n 1 stat /\n",
-        Some(ScriptFault::ProcessExpected(2)),
+        "line 2: process number expected",
     ),
     (
         "priorities 0\n4097 stat /\n",
-        Some(ScriptFault::ProcessExpected(2)),
+        "line 2: process number expected",
     ),
-    ("priorities 0\n1\n", Some(ScriptFault::UnknownOperation(2))),
-    (
-        "priorities 0\n1 frob\n",
-        Some(ScriptFault::UnknownOperation(2)),
-    ),
-    (
-        "priorities 0\n1  stat /\n",
-        Some(ScriptFault::UnknownOperation(2)),
-    ),
-    ("priorities 0\n1 stat\n", Some(ScriptFault::BadArguments(2))),
-    (
-        "priorities 0\n1 stat / \n",
-        Some(ScriptFault::BadArguments(2)),
-    ),
-    (
-        "priorities 0\n1 stat /\\xAA\n",
-        Some(ScriptFault::BadArguments(2)),
-    ),
-    (
-        "priorities 0\n1 stat \\ea\n",
-        Some(ScriptFault::BadArguments(2)),
-    ),
-    (
-        "priorities 0\n1 begin restart\n",
-        Some(ScriptFault::BadArguments(2)),
-    ),
+    ("priorities 0\n1\n", "line 2: unknown operation"),
+    ("priorities 0\n1 frob\n", "line 2: unknown operation"),
+    ("priorities 0\n1  stat /\n", "line 2: unknown operation"),
+    ("priorities 0\n1 stat\n", "line 2: bad arguments"),
+    ("priorities 0\n1 stat / \n", "line 2: bad arguments"),
+    ("priorities 0\n1 stat /\\xAA\n", "line 2: bad arguments"),
+    ("priorities 0\n1 stat \\ea\n", "line 2: bad arguments"),
+    ("priorities 0\n1 begin restart\n", "line 2: bad arguments"),
     (
         "priorities 0\n# 1\n1 fork\n1 frob\n",
-        Some(ScriptFault::UnknownOperation(4)),
+        "line 4: unknown operation",
     ),
     (
         "priorities 0\n1 abort no_restart\n1 stat \\e\n4096 mkdir \\x00\\xff!~\n",
-        None,
+        "[Line { pid: Pid(1), op: Abort { no_restart: true }, number: 2 }, \
+        Line { pid: Pid(1), op: Call(Stat(Bytes { bytes: [] })), number: 3 }, \
+        Line { pid: Pid(4096), op: Call(Mkdir(Bytes { bytes: [0, 255, 33, 126] })), number: 4 }]",
     ),
-    ("priorities 0\n# c", Some(ScriptFault::NotEnded(2))),
+    ("priorities 0\n# c", "line 2: not ended"),
+];
+
+// From which length to which a beginning of this script is read as what.
+const TWO_LINES: &[u8; 23] = b"priorities 0 0\n1 begin\n";
+
+static BEGINNINGS: [(usize, usize, &str); 5] = [
+    (0, 0, "line 1: priorities expected"),
+    (1, 14, "line 1: not ended"),
+    (15, 15, "[]"),
+    (16, 22, "line 2: not ended"),
+    (
+        23,
+        23,
+        "[Line { pid: Pid(1), op: Begin(BeginFlags(0)), number: 2 }]",
+    ),
 ];
 
 #[test]
-fn a_line_has_its_first_fault(rt: HostRuntime) -> Result<(), Fail> {
+fn scripts_are_read_or_told(rt: HostRuntime) -> Result<(), Fail> {
     let heap = heap::open(rt.alloc())?;
-    for (text, fault) in FURTHER_LINES.iter() {
-        assert_eq!(rt; fault_of(heap, text.as_bytes()), *fault, "{text}");
+    for (text, told) in &SCRIPTS {
+        assert!(rt;
+            is_read_as(rt.alloc(), heap, text.as_bytes(), told),
+            "{text}"
+        );
+    }
+    for (first, last, told) in &BEGINNINGS {
+        for len in *first..=*last {
+            let text = &TWO_LINES[..len.min(23)];
+            assert!(rt; is_read_as(rt.alloc(), heap, text, told), "{len}");
+        }
     }
     Ok(())
 }
 
-// The fault of the first bytes of a script of 23 bytes and two lines.
-fn beginning_fault(k: usize) -> Option<ScriptFault> {
-    match k {
-        0 => Some(ScriptFault::PrioritiesExpected(1)),
-        1..=14 => Some(ScriptFault::NotEnded(1)),
-        15 | 23 => None,
-        _ => Some(ScriptFault::NotEnded(2)),
+// Whether a script with these words in its one line is read as this line, or has this fault.
+fn is_line(alloc: Global, heap: Heap, words: &str, told: &str) -> bool {
+    match format!(in alloc; "priorities 0\n1 {words}\n") {
+        Ok(text) => is_read_as(alloc, heap, text.as_bytes(), told),
+        Err(_) => false,
     }
 }
 
-#[test]
-fn each_beginning_of_a_script(rt: HostRuntime) -> Result<(), Fail> {
-    let heap = heap::open(rt.alloc())?;
-    let text = b"priorities 0 0\n1 begin\n".as_slice();
-    assert_eq!(rt; text.len(), 23);
-    for k in 0..24usize {
-        let fault = fault_of(heap, &text[..k]);
-        assert_eq!(rt; fault, beginning_fault(k));
+// Whether these words are read as this operation.
+fn is_op(alloc: Global, heap: Heap, words: &str, op: &str) -> bool {
+    match format!(in alloc; "[Line {{ pid: Pid(1), op: {op}, number: 2 }}]") {
+        Ok(told) => is_line(alloc, heap, words, told.as_str()),
+        Err(_) => false,
     }
-    Ok(())
 }
 
+static OPERATIONS: [(&str, &str); 29] = [
+    (
+        "open /a -",
+        "Call(Open(Bytes { bytes: [47, 97] }, OpenFlags(0)))",
+    ),
+    (
+        "open \\e RDWR,CREAT,EXCL,TRUNC,APPEND,CREAT,RDONLY",
+        "Call(Open(Bytes { bytes: [] }, OpenFlags(63)))",
+    ),
+    ("close 4294967295", "Call(Close(Fd(4294967295)))"),
+    ("read 0 1048576", "Call(Read(Fd(0), 1048576))"),
+    ("write 0 \\x0a", "Call(Write(Fd(0), Bytes { bytes: [10] }))"),
+    ("fill 0 0 00", "Call(Write(Fd(0), Bytes { bytes: [] }))"),
+    (
+        "fill 0 3 7a",
+        "Call(Write(Fd(0), Bytes { bytes: [122, 122, 122] }))",
+    ),
+    (
+        "lseek 0 -9223372036854775808 SET",
+        "Call(Lseek(Fd(0), -9223372036854775808, Set))",
+    ),
+    (
+        "lseek 0 9223372036854775807 CUR",
+        "Call(Lseek(Fd(0), 9223372036854775807, Cur))",
+    ),
+    ("lseek 0 -17 CUR", "Call(Lseek(Fd(0), -17, Cur))"),
+    ("lseek 0 0 END", "Call(Lseek(Fd(0), 0, End))"),
+    (
+        "ftruncate 0 4294967295",
+        "Call(Ftruncate(Fd(0), 4294967295))",
+    ),
+    ("stat /", "Call(Stat(Bytes { bytes: [47] }))"),
+    ("fstat 0", "Call(Fstat(Fd(0)))"),
+    (
+        "link /a /b",
+        "Call(Link(Bytes { bytes: [47, 97] }, Bytes { bytes: [47, 98] }))",
+    ),
+    ("unlink /a", "Call(Unlink(Bytes { bytes: [47, 97] }))"),
+    (
+        "rename /a /b",
+        "Call(Rename(Bytes { bytes: [47, 97] }, Bytes { bytes: [47, 98] }))",
+    ),
+    ("mkdir /a", "Call(Mkdir(Bytes { bytes: [47, 97] }))"),
+    ("rmdir /a", "Call(Rmdir(Bytes { bytes: [47, 97] }))"),
+    ("list /a", "Call(List(Bytes { bytes: [47, 97] }))"),
+    ("dup 0", "Call(Dup(Fd(0)))"),
+    ("dup2 0 1", "Call(Dup2(Fd(0), Fd(1)))"),
+    ("pipe", "Call(Pipe)"),
+    ("fork", "Call(Fork)"),
+    ("exit", "Call(Exit)"),
+    ("end", "End"),
+    ("begin ABORT_UNSUPPORTED,RESTART", "Begin(BeginFlags(3))"),
+    ("abort", "Abort { no_restart: false }"),
+    ("abort no_restart", "Abort { no_restart: true }"),
+];
+
+// Operations with arguments that they do not take.
 static REFUSED: [&str; 25] = [
     "read 0 1048577",
     "read 00 1",
@@ -150,193 +194,117 @@ static REFUSED: [&str; 25] = [
     "write 0 ",
 ];
 
-static READ: [&str; 27] = [
-    "open /a -",
-    "open \\e RDWR,CREAT,EXCL,TRUNC,APPEND,CREAT,RDONLY",
-    "close 4294967295",
-    "read 0 1048576",
-    "write 0 \\x0a",
-    "fill 0 0 00",
-    "lseek 0 -9223372036854775808 SET",
-    "lseek 0 9223372036854775807 CUR",
-    "lseek 0 0 END",
-    "ftruncate 0 4294967295",
-    "stat /",
-    "fstat 0",
-    "link /a /b",
-    "unlink /a",
-    "rename /a /b",
-    "mkdir /a",
-    "rmdir /a",
-    "list /a",
-    "dup 0",
-    "dup2 0 1",
-    "pipe",
-    "fork",
-    "exit",
-    "end",
-    "begin ABORT_UNSUPPORTED,RESTART",
-    "abort",
-    "abort no_restart",
+#[test]
+fn operations_are_read_or_refused(rt: HostRuntime) -> Result<(), Fail> {
+    let heap = heap::open(rt.alloc())?;
+    for (words, told) in &OPERATIONS {
+        assert!(rt; is_op(rt.alloc(), heap, words, told), "{words}");
+    }
+    for words in &REFUSED {
+        assert!(rt;
+            is_line(rt.alloc(), heap, words, "line 2: bad arguments"),
+            "{words}"
+        );
+    }
+    Ok(())
+}
+
+// Whether a script and a list give these steps, or the list has this fault.
+fn gives_steps(alloc: Global, heap: Heap, script: Script, list: &str, told: &str) -> bool {
+    match read_schedule(heap, list, &script) {
+        Ok(pids) => match steps_of(heap, script, pids.as_slice()) {
+            Ok(steps) => is_shown(alloc, &steps, told),
+            Err(_) => is_worded(alloc, &ScriptFault::NoMemory, told),
+        },
+        Err(fault) => is_worded(alloc, &fault, told),
+    }
+}
+
+// Whether a text and a list give these steps, or either has this fault.
+fn is_planned(alloc: Global, heap: Heap, text: &str, list: &str, told: &str) -> bool {
+    match read_script(heap, text.as_bytes()) {
+        Ok(script) => gives_steps(alloc, heap, script, list, told),
+        Err(fault) => is_worded(alloc, &fault, told),
+    }
+}
+
+static TWO_STATS: &str = "priorities 0\n1 stat /\n3 stat /\n";
+
+static SCHEDULES: [(&str, &str); 13] = [
+    ("1,", "schedule: bad list"),
+    (",", "schedule: bad list"),
+    ("01", "schedule: bad list"),
+    (" 1", "schedule: bad list"),
+    ("0", "schedule: bad list"),
+    ("4097", "schedule: bad list"),
+    ("1,,3", "schedule: bad list"),
+    ("1 3", "schedule: bad list"),
+    ("3,1,1,3", "schedule: process 1 has no line left"),
+    ("2", "schedule: process 2 has no line left"),
+    ("4096", "schedule: process 4096 has no line left"),
+    (
+        "3,1",
+        "[(Pid(3), Call(Stat(Bytes { bytes: [47] }))), (Pid(1), Call(Stat(Bytes { bytes: [47] })))]",
+    ),
+    ("", "[]"),
 ];
 
+static TWO_PROCESSES: &str =
+    "priorities 0 0\n1 begin\n1 mkdir /a\n1 end\n1 abort\n2 stat /a\n2 mkdir /b\n";
+
+static STEPS: &str =
+    "[(Pid(1), Begin(BeginFlags(0))), (Pid(1), Call(Mkdir(Bytes { bytes: [47, 97] }))), \
+    (Pid(2), Call(Stat(Bytes { bytes: [47, 97] }))), (Pid(1), End), \
+    (Pid(2), Call(Mkdir(Bytes { bytes: [47, 98] })))]";
+
 #[test]
-fn arguments_that_are_refused(rt: HostRuntime) -> Result<(), Fail> {
+fn schedules_give_steps_or_are_told(rt: HostRuntime) -> Result<(), Fail> {
     let heap = heap::open(rt.alloc())?;
-    for text in REFUSED.iter() {
-        assert!(rt; op_of(heap, text)?.is_none(), "{text}");
+    for (list, told) in &SCHEDULES {
+        assert!(rt;
+            is_planned(rt.alloc(), heap, TWO_STATS, list, told),
+            "{list}"
+        );
     }
-    Ok(())
-}
-
-#[test]
-fn arguments_that_are_read(rt: HostRuntime) -> Result<(), Fail> {
-    let heap = heap::open(rt.alloc())?;
-    for text in READ.iter() {
-        assert!(rt; op_of(heap, text)?.is_some(), "{text}");
-    }
-    Ok(())
-}
-
-#[test]
-fn a_fill_is_a_write(rt: HostRuntime) -> Result<(), Fail> {
-    let heap = heap::open(rt.alloc())?;
-    let Some(Op::Call(Call::Write(_, bytes))) = op_of(heap, "fill 0 3 7a")? else {
-        return Err(Fail::from("a fill is a write"));
-    };
-    assert_eq!(rt; bytes.as_slice(), b"zzz".as_slice());
-    let Some(Op::Call(Call::Lseek(_, offset, _))) = op_of(heap, "lseek 0 -17 CUR")? else {
-        return Err(Fail::from("an lseek"));
-    };
-    assert_eq!(rt; offset, -17);
-    Ok(())
-}
-
-#[test]
-fn schedules_and_their_faults(rt: HostRuntime) -> Result<(), Fail> {
-    let heap = heap::open(rt.alloc())?;
-    let script = read_script(heap, b"priorities 0\n1 stat /\n3 stat /\n")?;
-    for list in ["1,", ",", "01", " 1", "0", "4097", "1,,3", "1 3"] {
-        let told = read_schedule(heap, list, &script).err();
-        assert_eq!(rt; told, Some(ScheduleFault::BadList), "{list}");
-    }
-    for (list, pid) in [("3,1,1,3", 1), ("2", 2), ("4096", 4096)] {
-        let told = read_schedule(heap, list, &script).err();
-        assert_eq!(rt; told, Some(ScheduleFault::NoLine(Pid(pid))), "{list}");
-    }
-    let pids = read_schedule(heap, "3,1", &script)?;
-    assert_eq!(rt; pids.as_slice(), [Pid(3), Pid(1)].as_slice());
-    assert!(rt; read_schedule(heap, "", &script)?.is_empty());
-    Ok(())
-}
-
-fn word_of(op: &Op) -> &'static str {
-    match op {
-        Op::Begin(_) => "begin",
-        Op::End => "end",
-        Op::Abort { no_restart: _ } => "abort",
-        Op::Call(Call::Mkdir(_)) => "mkdir",
-        Op::Call(Call::Stat(_)) => "stat",
-        Op::Call(_) => "call",
-    }
-}
-
-#[test]
-fn steps_take_each_process_line_by_line(rt: HostRuntime) -> Result<(), Fail> {
-    let heap = heap::open(rt.alloc())?;
-    let script = read_script(
-        heap,
-        b"priorities 0 0\n1 begin\n1 mkdir /a\n1 end\n1 abort\n2 stat /a\n2 mkdir /b\n",
-    )?;
-    let pids = read_schedule(heap, "1,1,2,1,2", &script)?;
-    let steps = steps_of(heap, script, pids.as_slice())?;
-    assert_eq!(rt; steps.len(), 5);
-    let expected = [
-        (1, "begin"),
-        (1, "mkdir"),
-        (2, "stat"),
-        (1, "end"),
-        (2, "mkdir"),
-    ];
-    for (step, (pid, word)) in steps.iter().zip(expected) {
-        assert_eq!(rt; step.0, Pid(pid));
-        assert_eq!(rt; word_of(&step.1), word);
-    }
-    Ok(())
-}
-
-static SCRIPT_FAULTS: [(ScriptFault, &str); 7] = [
-    (ScriptFault::TooLong, "script too long"),
-    (ScriptFault::NotEnded(1), "line 1: not ended"),
-    (
-        ScriptFault::PrioritiesExpected(2),
-        "line 2: priorities expected",
-    ),
-    (
-        ScriptFault::ProcessExpected(3),
-        "line 3: process number expected",
-    ),
-    (
-        ScriptFault::UnknownOperation(4),
-        "line 4: unknown operation",
-    ),
-    (ScriptFault::BadArguments(5), "line 5: bad arguments"),
-    (ScriptFault::NoMemory, "no memory"),
-];
-
-#[test]
-fn faults_are_told(rt: HostRuntime) -> Result<(), Fail> {
-    let alloc = rt.alloc();
-    for (fault, text) in SCRIPT_FAULTS.iter() {
-        assert_eq!(rt; format!(in alloc; "{}", fault)?.as_str(), *text);
-    }
-    for (fault, text) in [
-        (ScheduleFault::BadList, "schedule: bad list"),
-        (
-            ScheduleFault::NoLine(Pid(1)),
-            "schedule: process 1 has no line left",
-        ),
-        (ScheduleFault::NoMemory, "no memory"),
-    ] {
-        assert_eq!(rt; format!(in alloc; "{}", fault)?.as_str(), text);
-    }
-    Ok(())
-}
-
-#[test]
-fn each_refused_growth_is_told(rt: HostRuntime) -> Result<(), Fail> {
-    let heap = heap::open(rt.alloc())?;
-    let text = b"priorities 0\n1 mkdir /a\n1 stat /a\n".as_slice();
-    let _ = read_script(heap, text)?;
+    // A process takes its lines in order.
+    let list = "1,1,2,1,2";
     heap.refuse(0);
-    let script = read_script(heap, text)?;
-    let requests = heap.made();
-    for n in 0..requests {
-        heap.refuse(n + 1);
-        assert_eq!(rt; fault_of(heap, text), Some(ScriptFault::NoMemory));
+    assert!(rt; is_planned(rt.alloc(), heap, TWO_PROCESSES, list, STEPS));
+    for number in 0..heap.made() {
+        heap.refuse(number + 1);
+        assert!(rt;
+            is_planned(rt.alloc(), heap, TWO_PROCESSES, list, "no memory"),
+            "{number}"
+        );
     }
-    heap.refuse(1);
-    assert_eq!(rt;
-        read_schedule(heap, "1,1", &script).err(),
-        Some(ScheduleFault::NoMemory)
-    );
-    let pids = read_schedule(heap, "1,1", &script)?;
-    heap.refuse(1);
-    assert!(rt; steps_of(heap, script, pids.as_slice()).is_err());
     Ok(())
+}
+
+// The text of a script of 1,048,576 bytes: two priorities, 174,760 lines, and an empty one.
+fn long_text(heap: Heap) -> Result<Vec<u8, Heap>, AllocError> {
+    let mut text = Vec::from_slice(heap, b"priorities 0 7\n")?;
+    for _ in 0..174760u32 {
+        text.extend_from_slice(b"1 end\n")?;
+    }
+    text.push(b'\n')?;
+    Ok(text)
+}
+
+// How many priorities and lines a text has.
+fn counts_of(heap: Heap, text: &[u8]) -> (usize, usize) {
+    match read_script(heap, text) {
+        Ok(script) => (script.priorities().len(), script.lines().len()),
+        Err(_) => (0, 0),
+    }
 }
 
 #[test]
 fn a_long_script_is_read(rt: HostRuntime) -> Result<(), Fail> {
     let heap = heap::open(rt.alloc())?;
-    let mut text = Vec::from_slice(heap, b"priorities 0\n")?;
-    for _ in 0..174760u32 {
-        text.extend_from_slice(b"1 end\n")?;
-    }
-    assert_eq!(rt; text.len(), 1048573);
-    assert_eq!(rt; fault_of(heap, text.as_slice()), None);
-    text.extend_from_slice(b"#ab\n")?;
-    assert_eq!(rt; text.len(), 1048577);
-    assert_eq!(rt; fault_of(heap, text.as_slice()), Some(ScriptFault::TooLong));
+    let mut text = long_text(heap)?;
+    assert_eq!(rt; text.len(), 1048576);
+    assert_eq!(rt; counts_of(heap, text.as_slice()), (2, 174760));
+    text.push(b'\n')?;
+    assert!(rt; is_read_as(rt.alloc(), heap, text.as_slice(), "script too long"));
     Ok(())
 }

@@ -1,296 +1,88 @@
-// The transcript of a first run, whole and up to each byte, and the texts of all replies.
-ghost use Rattle.std.specs.Prelude.{◌<◌, IfOk, length};
-
+// A transcript with each form of operation and reply, whole and up to each byte.
 use crate::halting::halting;
-use device::{DeviceFailed, Halting, Trickling};
+use device::{Halting, Trickling};
 use heap::Heap;
 use ids::{
-    Answer, Aspect, BeginFlags, Bytes, Call, Cause, Entry, Errno, Fd, Kind, Name, NameList, Num,
-    Nums, Op, OpenFlags, Pid, Pids, Reply, Stat, Touch, Whence, Why,
+    Answer, Aspect, Bytes, Call, Cause, Entry, Errno, Fd, Kind, Name, NameList, Num, Nums, Op, Pid,
+    Pids, Reply, Stat, Touch, Why,
 };
+use script::{Line, read_script};
 use std::alloc::AllocError;
-use std::process::Abort;
 use std::test::Fail;
 use transcript::{print, print_line};
 
-fn entry(heap: Heap, pid: u32, op: Op, reply: Reply) -> Entry {
-    Entry {
-        pid: Pid(pid),
-        op,
-        reply,
-        chosen: Nums::new(heap),
-        doomed: Pids::new(heap),
-    }
-}
+// The operations, as a script.
+static SCRIPT: &str = "priorities 0
+1 begin
+1 mkdir /a
+2 stat /a
+1 end
+2 stat /a
+3 abort no_restart
+3 abort
+3 begin RESTART
+3 begin RESTART,ABORT_UNSUPPORTED
+3 end
+3 end
+3 open \\e -
+3 open /\\x20\\x5c\\x7f~! RDWR,CREAT,APPEND
+3 open /a EXCL,TRUNC
+3 write 4294967295 hi
+3 link /a /b
+3 lseek 1 -17 CUR
+3 dup2 1 2
+3 pipe
+3 fork
+3 exit
+3 fstat 2
+3 end
+3 end
+3 end
+3 read 0 5
+3 read 0 5
+3 list /a
+4096 end
+";
 
-fn path(heap: Heap) -> Result<Bytes, AllocError> {
-    Bytes::copy(heap, b"/a")
-}
-
-const FIRST_RUN: &[u8] = b"1 P1 begin -> begun
+// The operations with their replies. The last one dooms two processes.
+static TRANSCRIPT: &str = "1 P1 begin -> begun
 2 P1 mkdir /a -> ok
 3 P2 stat /a -> ENOENT
 4 P1 end -> committed
 5 P2 stat /a -> dir size 0 links 1
+6 P3 abort no_restart -> begun
+7 P3 abort -> NoMemory
+8 P3 begin RESTART -> begun
+9 P3 begin RESTART,ABORT_UNSUPPORTED -> begun
+10 P3 end -> given up restarted
+11 P3 end -> aborted unsupported
+12 P3 open \\e - -> 0
+13 P3 open /\\x20\\x5c\\x7f~! RDWR,CREAT,APPEND -> ok
+14 P3 open /a EXCL,TRUNC -> NoProcess
+15 P3 write 4294967295 hi -> 2
+16 P3 link /a /b -> HistoryFull
+17 P3 lseek 1 -17 CUR -> 5
+18 P3 dup2 1 2 -> InTransaction
+19 P3 pipe -> 3 4
+20 P3 fork -> child 4
+21 P3 exit -> NotInTransaction
+22 P3 fstat 2 -> pipe size 7 links 0
+23 P3 end -> busy names read by P9
+24 P3 end -> busy front write by P9
+25 P3 end -> aborted block 1023 read by P9 restarted
+26 P3 read 0 5 -> 2 a\\x0a
+27 P3 read 0 5 -> 0 \\e
+28 P3 list /a -> names 2 a b\\x20c
+29 P4096 end -> busy entry a write by P9 dooms P1,P4096
 ";
 
-fn first_run(heap: Heap) -> Result<Vec<Entry, Heap>, AllocError>
-    ensures { IfOk result (λ v. length v.items < 10) }
-{
-    let mut entries = Vec::new(heap);
-    entries.push(entry(heap, 1, Op::Begin(BeginFlags::none()), Reply::Begun))?;
-    entries.push(entry(
-        heap,
-        1,
-        Op::Call(Call::Mkdir(path(heap)?)),
-        Reply::Answer(Answer::Done),
-    ))?;
-    entries.push(entry(
-        heap,
-        2,
-        Op::Call(Call::Stat(path(heap)?)),
-        Reply::Errno(Errno::ENOENT),
-    ))?;
-    entries.push(entry(heap, 1, Op::End, Reply::Committed))?;
-    let stat = Stat {
-        kind: Kind::Dir,
+fn stat(kind: Kind, size: u32, links: u32) -> Reply {
+    Reply::Answer(Answer::Stat(Stat {
+        kind,
         num: Num(7),
-        size: 0,
-        links: 1,
-    };
-    entries.push(entry(
-        heap,
-        2,
-        Op::Call(Call::Stat(path(heap)?)),
-        Reply::Answer(Answer::Stat(stat)),
-    ))?;
-    Ok(entries)
-}
-
-#[test]
-fn each_beginning_of_the_first_run(rt: HostRuntime) -> Result<(), Fail> {
-    let heap = heap::open(rt.alloc())?;
-    let entries = first_run(heap)?;
-    assert_eq!(rt; FIRST_RUN.len(), 120);
-    for k in 0..121usize {
-        let mut sink = halting(heap, k);
-        let expected = if k < 120 { Err(DeviceFailed) } else { Ok(()) };
-        assert_eq!(rt; print(1, entries.as_slice(), &mut sink), expected);
-        assert_eq!(rt; sink.bytes.as_slice(), &FIRST_RUN[..k]);
-    }
-    Ok(())
-}
-
-#[test]
-fn a_trickling_sink_has_the_first_run(rt: HostRuntime) -> Result<(), Fail> {
-    let heap = heap::open(rt.alloc())?;
-    let entries = first_run(heap)?;
-    let mut sink = Trickling {
-        bytes: Vec::new(heap),
-        failures: 0,
-    };
-    assert_eq!(rt; print(1, entries.as_slice(), &mut sink), Ok(()));
-    assert_eq!(rt; sink.bytes.as_slice(), FIRST_RUN);
-    Ok(())
-}
-
-#[test]
-fn printing_takes_no_memory(rt: HostRuntime) -> Result<(), Fail> {
-    let heap = heap::open(rt.alloc())?;
-    let entries = first_run(heap)?;
-    let mut sink = Halting {
-        bytes: Vec::with_capacity(heap, 200)?,
-        left: 200,
-        failures: 0,
-    };
-    heap.refuse(1);
-    assert_eq!(rt; print(1, entries.as_slice(), &mut sink), Ok(()));
-    assert_eq!(rt; heap.made(), 0);
-    Ok(())
-}
-
-// Prints the line of an operation of process 3, at place 12.
-fn assert_line(rt: &impl Abort, heap: Heap, op: Op, reply: Reply, line: &str) -> Result<(), Fail> {
-    let mut sink = halting(heap, 9000);
-    print_line(12, &entry(heap, 3, op, reply), &mut sink)?;
-    assert_eq!(rt; str::from_utf8(sink.bytes.as_slice())?, line);
-    Ok(())
-}
-
-#[test]
-fn transactions_are_spelled(rt: HostRuntime) -> Result<(), Fail> {
-    let heap = heap::open(rt.alloc())?;
-    let both = BeginFlags::RESTART.with(BeginFlags::ABORT_UNSUPPORTED);
-    for (op, reply, line) in [
-        (
-            Op::Abort { no_restart: true },
-            Reply::Begun,
-            "12 P3 abort no_restart -> begun\n",
-        ),
-        (
-            Op::Abort { no_restart: false },
-            Reply::NoMemory,
-            "12 P3 abort -> NoMemory\n",
-        ),
-        (
-            Op::Begin(BeginFlags::RESTART),
-            Reply::Begun,
-            "12 P3 begin RESTART -> begun\n",
-        ),
-        (
-            Op::Begin(both),
-            Reply::Begun,
-            "12 P3 begin RESTART,ABORT_UNSUPPORTED -> begun\n",
-        ),
-        (
-            Op::End,
-            Reply::GivenUp { restarted: true },
-            "12 P3 end -> given up restarted\n",
-        ),
-        (
-            Op::End,
-            Reply::Aborted {
-                why: Why::Unsupported,
-                restarted: false,
-            },
-            "12 P3 end -> aborted unsupported\n",
-        ),
-    ] {
-        assert_line(&rt, heap, op, reply, line)?;
-    }
-    Ok(())
-}
-
-#[test]
-fn opens_are_spelled(rt: HostRuntime) -> Result<(), Fail> {
-    let heap = heap::open(rt.alloc())?;
-    let flags = OpenFlags::APPEND
-        .with(OpenFlags::CREAT)
-        .with(OpenFlags::WRITE)
-        .with(OpenFlags::READ);
-    for (path, flags, reply, line) in [
-        (
-            "",
-            OpenFlags::none(),
-            Reply::Answer(Answer::Fd(Fd(0))),
-            "12 P3 open \\e - -> 0\n",
-        ),
-        (
-            "/ \\\x7f~!",
-            flags,
-            Reply::Answer(Answer::Done),
-            "12 P3 open /\\x20\\x5c\\x7f~! RDWR,CREAT,APPEND -> ok\n",
-        ),
-        (
-            "/a",
-            OpenFlags::EXCL.with(OpenFlags::TRUNC),
-            Reply::NoProcess,
-            "12 P3 open /a EXCL,TRUNC -> NoProcess\n",
-        ),
-    ] {
-        let open = Call::Open(Bytes::copy(heap, path.as_bytes())?, flags);
-        assert_line(&rt, heap, Op::Call(open), reply, line)?;
-    }
-    Ok(())
-}
-
-#[test]
-fn calls_on_paths_and_bytes_are_spelled(rt: HostRuntime) -> Result<(), Fail> {
-    let heap = heap::open(rt.alloc())?;
-    let write = Call::Write(Fd(4294967295), Bytes::copy(heap, b"hi")?);
-    let link = Call::Link(path(heap)?, Bytes::copy(heap, b"/b")?);
-    for (call, reply, line) in [
-        (
-            write,
-            Reply::Answer(Answer::Count(2)),
-            "12 P3 write 4294967295 hi -> 2\n",
-        ),
-        (
-            link,
-            Reply::HistoryFull,
-            "12 P3 link /a /b -> HistoryFull\n",
-        ),
-    ] {
-        assert_line(&rt, heap, Op::Call(call), reply, line)?;
-    }
-    Ok(())
-}
-
-#[test]
-fn other_calls_are_spelled(rt: HostRuntime) -> Result<(), Fail> {
-    let heap = heap::open(rt.alloc())?;
-    let stat = Stat {
-        kind: Kind::Pipe,
-        num: Num(1),
-        size: 7,
-        links: 0,
-    };
-    for (call, reply, line) in [
-        (
-            Call::Lseek(Fd(1), -17, Whence::Cur),
-            Reply::Answer(Answer::Place(5)),
-            "12 P3 lseek 1 -17 CUR -> 5\n",
-        ),
-        (
-            Call::Dup2(Fd(1), Fd(2)),
-            Reply::InTransaction,
-            "12 P3 dup2 1 2 -> InTransaction\n",
-        ),
-        (
-            Call::Pipe,
-            Reply::Answer(Answer::Pair(Fd(3), Fd(4))),
-            "12 P3 pipe -> 3 4\n",
-        ),
-        (
-            Call::Fork,
-            Reply::Answer(Answer::Child(Pid(4))),
-            "12 P3 fork -> child 4\n",
-        ),
-        (
-            Call::Exit,
-            Reply::NotInTransaction,
-            "12 P3 exit -> NotInTransaction\n",
-        ),
-        (
-            Call::Fstat(Fd(2)),
-            Reply::Answer(Answer::Stat(stat)),
-            "12 P3 fstat 2 -> pipe size 7 links 0\n",
-        ),
-    ] {
-        assert_line(&rt, heap, Op::Call(call), reply, line)?;
-    }
-    Ok(())
-}
-
-#[test]
-fn bytes_are_spelled(rt: HostRuntime) -> Result<(), Fail> {
-    let heap = heap::open(rt.alloc())?;
-    for (bytes, line) in [
-        ("a\n", "12 P3 read 0 5 -> 2 a\\x0a\n"),
-        ("", "12 P3 read 0 5 -> 0 \\e\n"),
-    ] {
-        let read = Op::Call(Call::Read(Fd(0), 5));
-        let bytes = Answer::Bytes(Bytes::copy(heap, bytes.as_bytes())?);
-        assert_line(&rt, heap, read, Reply::Answer(bytes), line)?;
-    }
-    Ok(())
-}
-
-#[test]
-fn names_are_spelled(rt: HostRuntime) -> Result<(), Fail> {
-    let heap = heap::open(rt.alloc())?;
-    let mut names = Vec::new(heap);
-    names.push(Name::copy(heap, b"a")?)?;
-    names.push(Name::copy(heap, b"b c")?)?;
-    let names = Answer::Names(NameList::new(names));
-    let list = Op::Call(Call::List(path(heap)?));
-    assert_line(
-        &rt,
-        heap,
-        list,
-        Reply::Answer(names),
-        "12 P3 list /a -> names 2 a b\\x20c\n",
-    )
+        size,
+        links,
+    }))
 }
 
 fn cause(aspect: Aspect, write: bool) -> Cause {
@@ -300,71 +92,172 @@ fn cause(aspect: Aspect, write: bool) -> Cause {
     }
 }
 
-#[test]
-fn causes_are_spelled(rt: HostRuntime) -> Result<(), Fail> {
-    let heap = heap::open(rt.alloc())?;
+// The replies that hold no memory.
+fn plain_replies() -> [Reply; 25] {
+    [
+        Reply::Begun,
+        Reply::Answer(Answer::Done),
+        Reply::Errno(Errno::ENOENT),
+        Reply::Committed,
+        stat(Kind::Dir, 0, 1),
+        Reply::Begun,
+        Reply::NoMemory,
+        Reply::Begun,
+        Reply::Begun,
+        Reply::GivenUp { restarted: true },
+        Reply::Aborted {
+            why: Why::Unsupported,
+            restarted: false,
+        },
+        Reply::Answer(Answer::Fd(Fd(0))),
+        Reply::Answer(Answer::Done),
+        Reply::NoProcess,
+        Reply::Answer(Answer::Count(2)),
+        Reply::HistoryFull,
+        Reply::Answer(Answer::Place(5)),
+        Reply::InTransaction,
+        Reply::Answer(Answer::Pair(Fd(3), Fd(4))),
+        Reply::Answer(Answer::Child(Pid(4))),
+        Reply::NotInTransaction,
+        stat(Kind::Pipe, 7, 0),
+        Reply::Busy(cause(Aspect::Names(Num(1)), false)),
+        Reply::Busy(cause(Aspect::Front(Num(1)), true)),
+        Reply::Aborted {
+            why: Why::Clash(cause(Aspect::Block(Num(1), 1023), false)),
+            restarted: true,
+        },
+    ]
+}
+
+fn names(heap: Heap) -> Result<NameList, AllocError> {
+    let mut names = Vec::with_capacity(heap, 2)?;
+    names.push(Name::copy(heap, b"a")?)?;
+    names.push(Name::copy(heap, b"b c")?)?;
+    Ok(NameList::new(names))
+}
+
+// The other replies.
+fn replies_with_memory(heap: Heap) -> Result<[Reply; 4], AllocError> {
+    let bytes = Bytes::copy(heap, b"a\n")?;
+    let names = names(heap)?;
     let entry = Aspect::Entry(Num(1), Name::copy(heap, b"a")?);
-    for (aspect, write, line) in [
-        (entry, true, "12 P3 end -> busy entry a write by P9\n"),
-        (
-            Aspect::Names(Num(1)),
-            false,
-            "12 P3 end -> busy names read by P9\n",
-        ),
-        (
-            Aspect::Front(Num(1)),
-            true,
-            "12 P3 end -> busy front write by P9\n",
-        ),
-    ] {
-        let busy = Reply::Busy(cause(aspect, write));
-        assert_line(&rt, heap, Op::End, busy, line)?;
+    Ok([
+        Reply::Answer(Answer::Bytes(bytes)),
+        Reply::Answer(Answer::Bytes(Bytes::new(Vec::new(heap)))),
+        Reply::Answer(Answer::Names(names)),
+        Reply::Busy(cause(entry, true)),
+    ])
+}
+
+fn entry(heap: Heap, line: Line, reply: Reply) -> Entry {
+    Entry {
+        pid: line.pid,
+        op: line.op,
+        reply,
+        chosen: Nums::new(heap),
+        doomed: Pids::new(heap),
     }
-    let aborted = Reply::Aborted {
-        why: Why::Clash(cause(Aspect::Block(Num(1), 1023), false)),
-        restarted: true,
+}
+
+fn replies(heap: Heap) -> Result<Vec<Reply, Heap>, AllocError> {
+    let mut replies = Vec::from_array(heap, plain_replies())?;
+    for reply in replies_with_memory(heap)? {
+        replies.push(reply)?;
+    }
+    Ok(replies)
+}
+
+// What the lines of a script ask, with these replies.
+fn entries_of(heap: Heap, lines: Vec<Line, Heap>, replies: Vec<Reply, Heap>) -> Vec<Entry, Heap> {
+    let mut entries = Vec::new(heap);
+    for (line, reply) in lines.into_iter().zip(replies) {
+        let _ = entries.push(entry(heap, line, reply));
+    }
+    entries
+}
+
+fn doom(entry: &mut Entry) -> Result<(), AllocError> {
+    entry.doomed.push(Pid(1))?;
+    entry.doomed.push(Pid(4096))
+}
+
+fn sample(heap: Heap) -> Result<Vec<Entry, Heap>, Fail> {
+    let replies = replies(heap)?;
+    let lines = read_script(heap, SCRIPT.as_bytes())?.into_lines();
+    let mut entries = entries_of(heap, lines, replies);
+    doom(entries.last_mut().ok_or("no entry")?)?;
+    Ok(entries)
+}
+
+// Whether a sink that takes so many bytes gets just these of the transcript, and fails where there are more.
+fn has_beginning(heap: Heap, entries: &[Entry], room: usize) -> bool {
+    let mut sink = halting(heap, room);
+    let printed = print(1, entries, &mut sink).is_ok();
+    let all = TRANSCRIPT.as_bytes();
+    printed == (room >= all.len())
+        && sink.bytes.len() == room.min(all.len())
+        && all.starts_with(sink.bytes.as_slice())
+}
+
+fn is_trickled(heap: Heap, entries: &[Entry]) -> bool {
+    let mut sink = Trickling {
+        bytes: Vec::new(heap),
+        failures: 0,
     };
-    assert_line(
-        &rt,
-        heap,
-        Op::End,
-        aborted,
-        "12 P3 end -> aborted block 1023 read by P9 restarted\n",
-    )
+    let printed = print(1, entries, &mut sink).is_ok();
+    printed && sink.bytes.as_slice() == TRANSCRIPT.as_bytes()
+}
+
+// Whether printing takes no memory, where the sink has room.
+fn takes_no_memory(heap: Heap, entries: &[Entry]) -> Result<bool, AllocError> {
+    let mut sink = Halting {
+        bytes: Vec::with_capacity(heap, 9000)?,
+        left: 9000,
+        failures: 0,
+    };
+    heap.refuse(1);
+    let printed = print(1, entries, &mut sink).is_ok();
+    Ok(printed && heap.made() == 0 && sink.bytes.as_slice() == TRANSCRIPT.as_bytes())
 }
 
 #[test]
-fn dooms_are_listed(rt: HostRuntime) -> Result<(), Fail> {
+fn a_transcript_on_each_sink(rt: HostRuntime) -> Result<(), Fail> {
     let heap = heap::open(rt.alloc())?;
-    let mut doomed = Pids::new(heap);
-    doomed.push(Pid(1))?;
-    doomed.push(Pid(4096))?;
-    let mkdir = Entry {
-        pid: Pid(2),
-        op: Op::Call(Call::Mkdir(path(heap)?)),
-        reply: Reply::Answer(Answer::Done),
-        chosen: Nums::new(heap),
-        doomed,
-    };
-    let mut sink = halting(heap, 9000);
-    assert_eq!(rt; print_line(1, &mkdir, &mut sink), Ok(()));
-    assert_eq!(rt;
-        sink.bytes.as_slice(),
-        b"1 P2 mkdir /a -> ok dooms P1,P4096\n".as_slice()
-    );
+    let entries = sample(heap)?;
+    for room in 0..=TRANSCRIPT.len() {
+        assert!(rt; has_beginning(heap, entries.as_slice(), room), "{room}");
+    }
+    assert!(rt; is_trickled(heap, entries.as_slice()));
+    assert!(rt; takes_no_memory(heap, entries.as_slice())?);
     Ok(())
 }
 
+// A write of a thousand bytes.
+fn long_entry(heap: Heap) -> Result<Entry, AllocError> {
+    Ok(Entry {
+        pid: Pid(1),
+        op: Op::Call(Call::Write(Fd(0), Bytes::new(Vec::from_elem(heap, 0, 1000)?))),
+        reply: Reply::Answer(Answer::Count(1000)),
+        chosen: Nums::new(heap),
+        doomed: Pids::new(heap),
+    })
+}
+
+// Whether its line is written whole to a sink that takes so many bytes, and how many the sink gets.
+fn long_line(heap: Heap, room: usize) -> (bool, usize) {
+    let Ok(entry) = long_entry(heap) else {
+        return (false, 0);
+    };
+    let mut sink = halting(heap, room);
+    let printed = print_line(1, &entry, &mut sink).is_ok();
+    (printed, sink.bytes.len())
+}
+
 #[test]
-fn long_lines_are_written_in_parts(rt: HostRuntime) -> Result<(), Fail> {
+fn a_long_line_is_written_in_parts(rt: HostRuntime) -> Result<(), Fail> {
     let heap = heap::open(rt.alloc())?;
-    let write = Op::Call(Call::Write(Fd(0), Bytes::new(Vec::from_elem(heap, 0, 1000)?)));
-    let long = entry(heap, 1, write, Reply::Answer(Answer::Count(1000)));
-    let mut sink = halting(heap, 9000);
-    assert_eq!(rt; print_line(1, &long, &mut sink), Ok(()));
-    assert_eq!(rt; sink.bytes.len(), 4000 + "1 P1 write 0  -> 1000\n".len());
-    let mut sink = halting(heap, 600);
-    assert_eq!(rt; print_line(1, &long, &mut sink), Err(DeviceFailed));
-    assert_eq!(rt; sink.bytes.len(), 600);
+    let len = 4000 + "1 P1 write 0  -> 1000\n".len();
+    assert!(rt; long_line(heap, 9000) == (true, len));
+    assert!(rt; long_line(heap, 600) == (false, 600));
     Ok(())
 }

@@ -1,110 +1,79 @@
-// Command lines, and the faults of those that are none.
+// Command lines: the jobs that they say, and the faults of those that say none.
+use crate::telling::{begins, is_shown, is_worded};
 use heap::Heap;
+use std::alloc::Global;
 use std::test::Fail;
-use words::{Job, LineFault, Way, read_words};
+use words::{LineFault, read_words};
 
-static FIRST_RUN: [&str; 4] = ["txsh", "--schedule", "1,1,2,1,2", "run.tx"];
-
-static LIMITED: [&str; 6] = ["txsh", "--limit", "1048576", "--schedule", "", "run.tx"];
-
-static NO_LIMIT: [&str; 4] = ["txsh", "--schedule=1", "--limit=0", "run.tx"];
-
-static NO_WAY: [&str; 2] = ["txsh", "run.tx"];
-
-static TOO_MANY: [&str; 5] = ["txsh", "--schedule=1", "--limit", "1048577", "run.tx"];
-
-static NO_NUMBER: [&str; 5] = ["txsh", "--schedule=1", "--limit", "x", "run.tx"];
-
-static NO_FILE: [&str; 2] = ["txsh", "--schedule=1"];
-
-static THREADS: [&str; 3] = ["txsh", "--threads", "run.tx"];
-
-static CHECK: [&str; 4] = ["txsh", "--schedule=1", "--check", "run.tx"];
-
-fn way_of(job: &Job) -> &str {
-    match &job.way {
-        Way::Schedule(list) => list.as_str(),
-    }
-}
-
-#[test]
-fn a_schedule_and_a_file(rt: HostRuntime) -> Result<(), Fail> {
-    let heap = heap::open(rt.alloc())?;
-    let job = read_words(rt.alloc(), heap, FIRST_RUN.as_slice())?;
-    assert_eq!(rt; way_of(&job), "1,1,2,1,2");
-    assert_eq!(rt; job.limit, 65536);
-    assert!(rt; !job.check);
-    assert_eq!(rt; job.file.as_str(), "run.tx");
-    Ok(())
-}
-
-#[test]
-fn limits(rt: HostRuntime) -> Result<(), Fail> {
-    let heap = heap::open(rt.alloc())?;
-    let job = read_words(rt.alloc(), heap, LIMITED.as_slice())?;
-    assert_eq!(rt; way_of(&job), "");
-    assert_eq!(rt; job.limit, 1048576);
-    assert_eq!(rt; job.file.as_str(), "run.tx");
-    let job = read_words(rt.alloc(), heap, NO_LIMIT.as_slice())?;
-    assert_eq!(rt; job.limit, 0);
-    Ok(())
-}
-
-#[test]
-fn no_way_is_told(rt: HostRuntime) -> Result<(), Fail> {
-    let heap = heap::open(rt.alloc())?;
-    let Err(fault) = read_words(rt.alloc(), heap, NO_WAY.as_slice()) else {
-        return Err(Fail::from("a way is needed"));
+// Whether a line's words say this job, or have a fault of this status with these words. What clap says need only begin so.
+fn is_told(alloc: Global, heap: Heap, line: &str, status: u8, told: &str) -> bool {
+    let words: Vec<&str> = match line.split(' ').collect(alloc) {
+        Ok(words) => words,
+        Err(_) => return false,
     };
-    let told = format!(in rt.alloc(); "{fault}")?;
-    assert_eq!(rt; told.as_str(), "exactly one of --schedule and --threads");
-    Ok(())
-}
-
-// Whether the words are refused by the command itself.
-fn is_refused(rt: &HostRuntime, heap: Heap, words: &'static [&'static str]) -> bool {
-    match read_words(rt.alloc(), heap, words) {
-        Err(LineFault::Words(_)) => true,
-        _ => false,
+    match read_words(alloc, heap, words.as_slice()) {
+        Ok(job) => status == 0 && is_shown(alloc, &job, told),
+        Err(LineFault::Words(fault)) => status == 2 && begins(alloc, &fault, told),
+        Err(fault) => status == fault.status() && is_worded(alloc, &fault, told),
     }
 }
 
-#[test]
-fn other_words_are_refused(rt: HostRuntime) -> Result<(), Fail> {
-    let heap = heap::open(rt.alloc())?;
-    for words in [
-        TOO_MANY.as_slice(),
-        NO_NUMBER.as_slice(),
-        NO_FILE.as_slice(),
-        THREADS.as_slice(),
-        CHECK.as_slice(),
-    ] {
-        assert!(rt; is_refused(&rt, heap, words), "{words:?}");
-    }
-    Ok(())
-}
+// Command lines, each with its status and job, or how the words of its fault begin. Before each the request of memory that
+// is refused: one is made for the schedule, and one for the file.
+static LINES: [(u64, &str, u8, &str); 12] = [
+    (
+        0,
+        "txsh --schedule 1,1,2,1,2 run.tx",
+        0,
+        "Job { way: Schedule(\"1,1,2,1,2\"), limit: 65536, check: false, file: \"run.tx\" }",
+    ),
+    (1, "txsh --schedule 1,1,2,1,2 run.tx", 3, "no memory"),
+    (2, "txsh --schedule 1,1,2,1,2 run.tx", 3, "no memory"),
+    (
+        3,
+        "txsh --schedule 1,1,2,1,2 run.tx",
+        0,
+        "Job { way: Schedule(\"1,1,2,1,2\"), limit: 65536, check: false, file: \"run.tx\" }",
+    ),
+    (
+        0,
+        "txsh --limit 1048576 --schedule  run.tx",
+        0,
+        "Job { way: Schedule(\"\"), limit: 1048576, check: false, file: \"run.tx\" }",
+    ),
+    (
+        0,
+        "txsh --schedule=1 --limit=0 run.tx",
+        0,
+        "Job { way: Schedule(\"1\"), limit: 0, check: false, file: \"run.tx\" }",
+    ),
+    (
+        0,
+        "txsh run.tx",
+        2,
+        "exactly one of --schedule and --threads",
+    ),
+    (
+        0,
+        "txsh --schedule=1 --limit 1048577 run.tx",
+        2,
+        "error: invalid value '1048577'",
+    ),
+    (0, "txsh --schedule=1 --limit x run.tx", 2, "error: "),
+    (0, "txsh --schedule=1", 2, "error: "),
+    (0, "txsh --threads run.tx", 2, "error: "),
+    (0, "txsh --schedule=1 --check run.tx", 2, "error: "),
+];
 
 #[test]
-fn the_command_tells_a_fault_in_its_words(rt: HostRuntime) -> Result<(), Fail> {
+fn words_are_jobs_or_told(rt: HostRuntime) -> Result<(), Fail> {
     let heap = heap::open(rt.alloc())?;
-    let Err(fault) = read_words(rt.alloc(), heap, TOO_MANY.as_slice()) else {
-        return Err(Fail::from("the limit is too large"));
-    };
-    let told = format!(in rt.alloc(); "{fault}")?;
-    assert!(rt; told.as_str().contains("1048577"), "{told}");
-    Ok(())
-}
-
-#[test]
-fn refused_memory_is_told(rt: HostRuntime) -> Result<(), Fail> {
-    let heap = heap::open(rt.alloc())?;
-    for n in 1..3u64 {
-        heap.refuse(n);
-        let Err(LineFault::NoMemory) = read_words(rt.alloc(), heap, FIRST_RUN.as_slice()) else {
-            return Err(Fail::from("memory is refused"));
-        };
+    for (refused, line, status, told) in &LINES {
+        heap.refuse(*refused);
+        assert!(rt;
+            is_told(rt.alloc(), heap, line, *status, told),
+            "{refused}: {line}"
+        );
     }
-    heap.refuse(3);
-    assert!(rt; read_words(rt.alloc(), heap, FIRST_RUN.as_slice()).is_ok());
     Ok(())
 }

@@ -1,0 +1,27 @@
+// Whether values have these texts: of any type, so that no proof looks into them. Refused memory is a no.
+use std::alloc::Global;
+use std::fmt::{Debug, Display};
+
+// Whether code writes a value so.
+pub(crate) fn is_shown<T: Debug>(alloc: Global, value: &T, text: &str) -> bool {
+    match format!(in alloc; "{value:?}") {
+        Ok(shown) => shown.as_str() == text,
+        Err(_) => false,
+    }
+}
+
+// Whether these are a value's words.
+pub(crate) fn is_worded<T: Display>(alloc: Global, value: &T, text: &str) -> bool {
+    match format!(in alloc; "{value}") {
+        Ok(words) => words.as_str() == text,
+        Err(_) => false,
+    }
+}
+
+// Whether a value's words begin so.
+pub(crate) fn begins<T: Display>(alloc: Global, value: &T, text: &str) -> bool {
+    match format!(in alloc; "{value}") {
+        Ok(words) => words.as_str().starts_with(text),
+        Err(_) => false,
+    }
+}
