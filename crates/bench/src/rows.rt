@@ -52,7 +52,7 @@ fn fill(kernel: &mut Kernel, heap: Heap, names: u64) -> Result<()> {
 // The processes from 2 on begin a transaction and look for a name that is not there.
 fn open(kernel: &mut Kernel, heap: Heap, live: u32) -> Result<()> {
     for number in 0..live {
-        let pid = number + 2;
+        let pid = number.saturating_add(2);
         begin(kernel, pid)?;
         let path = path(heap, "", b'l', u64::from(number))?;
         let _ = kernel.step(Pid(pid), call(Verb::Stat, path));
@@ -96,25 +96,51 @@ fn rate(rt: &HostRuntime, start: &Instant, row: &Row) -> Result<u64> {
     Ok(calls.checked_div(nanos).unwrap_or(calls))
 }
 
-/// Prints a line for each call: its name, how many a second are done by plain calls, and how many in a transaction.
-pub(crate) fn measure(rt: &HostRuntime, heap: Heap, names: u64, live: u64) -> Result<()> {
-    let live = live.min(4095) as u32;
-    let mut kernel = kernel_of(heap, u64::from(live) + 1)?;
-    fill(&mut kernel, heap, names)?;
-    open(&mut kernel, heap, live)?;
-    println!(rt;
-        "{names} names, {live} live transactions: calls a second, plain and in a transaction"
-    )?;
+// The rate of each row by plain calls.
+fn plain_rates(rt: &HostRuntime, kernel: &mut Kernel, heap: Heap, names: u64) -> Result<[u64; 4]> {
     let mut plain = [0u64; 4];
     for (row, found) in ROWS.iter().zip(&mut plain) {
         let start = Instant::now(rt)?;
-        do_row(&mut kernel, heap, row, names)?;
+        do_row(kernel, heap, row, names)?;
         *found = rate(rt, &start, row)?;
     }
+    Ok(plain)
+}
+
+// The rate of a row in a transaction.
+fn rate_within(
+    rt: &HostRuntime,
+    kernel: &mut Kernel,
+    heap: Heap,
+    row: &Row,
+    names: u64,
+) -> Result<u64> {
+    let start = Instant::now(rt)?;
+    do_within(kernel, heap, row, names)?;
+    rate(rt, &start, row)
+}
+
+fn print_rates(rt: &HostRuntime, kernel: &mut Kernel, heap: Heap, names: u64) -> Result<()> {
+    let plain = plain_rates(rt, kernel, heap, names)?;
     for (row, plain) in ROWS.iter().zip(&plain) {
-        let start = Instant::now(rt)?;
-        do_within(&mut kernel, heap, row, names)?;
-        println!(rt; "{} {plain} {}", row.name, rate(rt, &start, row)?)?;
+        let within = rate_within(rt, kernel, heap, row, names)?;
+        println!(rt; "{} {plain} {within}", row.name)?;
     }
     Ok(())
+}
+
+/// Prints a line for each call: its name, how many a second are done by plain calls, and how many in a transaction.
+pub(crate) fn measure(rt: &HostRuntime, heap: Heap, names: u64, live: u64) -> Result<()> {
+    let live = live.min(4095) as u32;
+    println!(rt;
+        "{names} names, {live} live transactions: calls a second, plain and in a transaction"
+    )?;
+    let mut kernel = kernel_of(heap, u64::from(live) + 1)?;
+    prepare(&mut kernel, heap, names, live)?;
+    print_rates(rt, &mut kernel, heap, names)
+}
+
+fn prepare(kernel: &mut Kernel, heap: Heap, names: u64, live: u32) -> Result<()> {
+    fill(kernel, heap, names)?;
+    open(kernel, heap, live)
 }

@@ -144,8 +144,8 @@ impl Transactions {
     {
         let pid = doomed.pid;
         let slot = take_slot(&mut self.slots, pid);
-        let slot = struck(slot, doomed, &mut self.stable);
-        set_slot(&mut self.slots, pid, slot);
+        let doomed_slot = struck(slot, doomed, &mut self.stable);
+        set_slot(&mut self.slots, pid, doomed_slot);
     }
 
     /// The causes of a doomed transaction, which is gone then.
