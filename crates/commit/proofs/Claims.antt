@@ -77,10 +77,6 @@ pub total_changed : (c : Claim) (old new : List View) (p : ℕ) (v : View) → S
 total_changed c old new p v shows =
     sum_changed (of_view c) old new p shows.count (λ q differs. ap (λ w. claimed c (changes_in w)) (shows.others q differs)) ∙ ap (λ w. total c old + claimed c (changes_in w)) shows.own
 
--- one slot changes twice
-pub shows_again : (old mid new : List View) (p : ℕ) (v w : View) → Shows old mid p v → Shows mid new p w → Shows old new p w
-shows_again old mid new p v w first second = record { count = second.count ∙ first.count; own = second.own; others = λ q differs. second.others q differs ∙ first.others q differs }
-
 -- what is claimed by one slot is there
 pub covers_one : (views : List View) (s : Committed) → AreCovered views s → (q : ℕ) → Covers s (changes_in (view_at views q))
 covers_one views s covered q c =
@@ -93,18 +89,6 @@ still_covered old new s t spare covered c =
     let more : reserved s c + total c new ≤ reserved t c + total c old = spare c in
     let all : total c old ≤ reserved s c = covered c in
     omega (arith, more, all)
-
-pub spare_on : (a b d : List View) (s t u : Committed) → KeepsSpare a s b t → KeepsSpare b t d u → KeepsSpare a s d u
-spare_on a b d s t u first second c =
-    let x : reserved s c + total c b ≤ reserved t c + total c a = first c in
-    let y : reserved t c + total c d ≤ reserved u c + total c b = second c in
-    omega (arith, x, y)
-
-pub spare_same : (a b : List View) (s t : Committed) → length b ≡ length a → ((q : ℕ) → view_at b q ≡ view_at a q) → Grows s t → KeepsSpare a s b t
-spare_same a b s t count same grows c =
-    let alike : total c b ≡ total c a = total_same c a b count same in
-    let more : reserved s c ≤ reserved t c = grows c in
-    omega (arith, alike, more)
 
 -- a transaction's changes are forgotten or committed, and no more than what it claimed is taken
 pub gives_back : (old new : List View) (p : ℕ) (v : View) (s t : Committed) → Shows old new p v → changes_in v ≡ [] → ((c : Claim) → reserved s c ≤ reserved t c + claimed c (changes_in (view_at old p)))
@@ -279,12 +263,6 @@ beside_one views s t d covered came c =
     let all : total c views ≤ reserved s c = covered c in
     let here : reserved s c + claimed_by c d ≤ reserved t c = came c in
     omega (arith, one, all, here)
-
-pub beside_still : (ds : List Effect) (old new : List View) (s t : Committed) → KeepsSpare old s new t → Beside ds old s → Beside ds new t
-beside_still ds old new s t spare beside c =
-    let more : reserved s c + total c new ≤ reserved t c + total c old = spare c in
-    let all : claimed c ds + total c old ≤ reserved s c = beside c in
-    omega (arith, more, all)
 
 pub covers_beside : (ds : List Effect) (views : List View) (s : Committed) → Beside ds views s → Covers s ds
 covers_beside ds views s beside c = let all : claimed c ds + total c views ≤ reserved s c = beside c in omega (arith, all)

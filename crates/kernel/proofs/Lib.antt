@@ -8,7 +8,6 @@ mod Rows
 mod Slots
 mod Taken
 mod Within
-mod Unchanged
 mod Plain
 mod Commits
 mod Judged

@@ -64,9 +64,6 @@ module _ (f : Fields) (pid : ℕ) (call : Call) (flags : BeginFlags) (age : ℕ)
   goes_on : Rattle.model.specs.Laws.GoesTheSame (view m pid) (seen_by m pid) pid call
   goes_on = (views_may_be_loose 0 f.log.priorities f.log.limit f.log.entries holds.legal pid).goes_on call
 
-  pub same_touches : counted_touches m pid call ≡ touches (sees f pid) pid call
-  same_touches = ap (λ s. counted s (touches (seen_by m pid) pid call)) phase ∙ goes_on.touches ∙ ap (λ k. touches k pid call) is_view
-
   is_taken : Taken m e call
   is_taken = taken f holds pid call (sees f pid) chosen ds (goes_on.reply ∙ ap (λ k. reply k pid call) is_view) (goes_on.edits ∙ ap (λ k. edits k pid call) is_view) new dooms
 

@@ -1,18 +1,12 @@
 -- Queues of operations, one for each process.
-use Rattle.std.proofs.Common.{◌≡◌, ℕ, ◌+◌, ◌<◌, ◌==◌, List, [], ◌∷◌, ◌++◌, Some, None, Option, Bool, true, false, cond, eqb, zero, suc, length, get_or, set, drop, refl, ap, ◌∙◌, sym, append-nil, map, filter, slice_get, append_assoc, add-one}
+use Rattle.std.proofs.Common.{◌≡◌, ℕ, ◌+◌, ◌<◌, List, [], ◌∷◌, ◌++◌, Some, None, Option, Bool, true, false, cond, eqb, zero, suc, length, get_or, set, drop, refl, ap, ◌∙◌, sym, append-nil, slice_get, append_assoc, add-one}
 use Rattle.std.proofs.lemmas.Bool.{eqb-true, eq-eqb}
-use Rattle.std.proofs.lemmas.List.{get_or-set_same, get_or-set_other, map-append}
-use Rattle.std.proofs.lemmas.List.Elements.{filter-append}
+use Rattle.std.proofs.lemmas.List.{get_or-set_same, get_or-set_other}
 use Rattle.script.proofs.Drops.{next_of}
 use Rattle.ids.specs.declared.call.Op.{Op}
 use Rattle.script.specs.declared.read.Line.{Line}
 use Rattle.script.specs.Schedules.{times}
 use Rattle.script.specs.Steps.{ops_for, steps_after, with_step}
-
-pub ops_for-push : (p : ℕ) (lines : List Line) (line : Line) → ops_for p (lines ++ line ∷ []) ≡ ops_for p lines ++ ops_for p (line ∷ [])
-ops_for-push p lines line =
-    ap (λ (ls : List Line). map (λ (x : Line). x.op) ls) (filter-append (λ (x : Line). x.pid == p) lines (line ∷ []))
-    ∙ map-append (λ (x : Line). x.op) (filter (λ (x : Line). x.pid == p) lines) (filter (λ (x : Line). x.pid == p) (line ∷ []))
 
 -- the first of what is left is the next
 pub slice_get-drop : {A : Type 0} (xs : List A) (k : ℕ) → slice_get (drop k xs) 0 ≡ slice_get xs k
