@@ -38,7 +38,7 @@ fn reserved_numbers_differ(rt: HostRuntime) {
         [false; 3]
     );
     assert_eq!(rt; name_count(&store, root), Some(0));
-    store.free(first);
+    store.lose(first);
     let third = reserved(&rt, heap, &mut store);
     assert_eq!(rt; [third == second, third == root], [false; 2]);
 }
@@ -52,28 +52,41 @@ fn what_is_installed_is_shown(rt: HostRuntime) {
     let to_come = store.get(num).is_some();
     store.install(num);
     let installed = name_count(&store, num);
-    store.hide(num);
-    let hidden = name_count(&store, num);
     store.install(num);
-    let shown_again = store.get(num).is_some();
-    assert_eq!(rt; [to_come, shown_again], [false, true]);
-    assert_eq!(rt; [installed, hidden], [Some(0), None]);
+    let again = name_count(&store, num);
+    assert_eq!(rt; (to_come, installed, again), (false, Some(0), Some(0)));
     assert_eq!(rt; heap.made(), 0);
 }
 
 #[test]
-fn what_is_freed_stays_away(rt: HostRuntime) {
+fn what_is_lost_stays_away(rt: HostRuntime) {
     let heap = heap::open(rt.alloc()).expect(&rt, "memory");
     let mut store = Store::new(heap).expect(&rt, "memory");
     let num = added(&rt, heap, &mut store);
     heap.refuse(0);
-    store.free(num);
-    let freed = name_count(&store, num);
+    store.lose(num);
+    let lost = name_count(&store, num);
     store.install(num);
     let installed = name_count(&store, num);
     let root = name_count(&store, store.root());
-    assert_eq!(rt; [freed, installed, root], [None, None, Some(0)]);
+    assert_eq!(rt; [lost, installed, root], [None, None, Some(0)]);
     assert_eq!(rt; heap.made(), 0);
+}
+
+#[test]
+fn a_lost_number_goes_with_the_last_promise(rt: HostRuntime) {
+    let heap = heap::open(rt.alloc()).expect(&rt, "memory");
+    let (mut store, dir) = with_room(&rt, heap);
+    store.install(dir);
+    store.lose(dir);
+    let hidden = name_count(&store, dir);
+    let other = reserved(&rt, heap, &mut store);
+    store.release(dir);
+    let one_is_left = store.is_promised(dir);
+    store.release(dir);
+    let again = reserved(&rt, heap, &mut store);
+    assert_eq!(rt; (hidden, one_is_left), (None, true));
+    assert_eq!(rt; [other == dir, again == dir], [false, true]);
 }
 
 // A store, and a directory to come with room for two names.
@@ -139,11 +152,11 @@ fn promises_are_counted(rt: HostRuntime) {
     let one_is_left = [store.is_promised(root), store.is_promised(other)];
     store.release(root);
     let none_is_left = store.is_promised(root);
-    store.free(other);
+    store.lose(other);
     store.promise(other).expect(&rt, "memory");
-    let freed = store.is_promised(other);
+    let lost = store.is_promised(other);
     assert_eq!(rt; one_is_left, [true, false]);
-    assert_eq!(rt; [before, none_is_left, freed], [false; 3]);
+    assert_eq!(rt; [before, none_is_left, lost], [false; 3]);
 }
 
 // Whether a number is refused among some, of which each that asks for memory is.

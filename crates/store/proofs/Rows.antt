@@ -10,12 +10,10 @@ use Rattle.model.specs.FiniteMap.{FinMap, get, insert, remove, from_entries, get
 use Rattle.model.specs.Places.{placed}
 use Rattle.model.proofs.Inodes.{apart}
 use Rattle.model.proofs.Places.{get-placed}
-use Rattle.dirlist.specs.Listing.{Listing}
 use Rattle.store.specs.Numbers.{Numbers}
-use Rattle.store.specs.Places.{installed_place, installed_by, installed_at, hidden_place, hidden_by, hidden_at, changed_place, changed_by, changed_listing}
+use Rattle.store.specs.Places.{altered_by, altered}
 use Rattle.store.specs.declared.Place.{Place}
-use Rattle.store.specs.declared.Place.TheVariants.{Coming, Held}
-use Rattle.store.proofs.Chosen.{remove-absent, insert-held}
+use Rattle.store.proofs.Chosen.{remove-absent}
 
 module _ {X : Type 0} where
   pub tied : (q k : ℕ) (x y : Option X) → q ≡ k → cond (eq_by_cmp nat_cmp q k) x y ≡ x
@@ -23,6 +21,13 @@ module _ {X : Type 0} where
 
   pub untied : (q k : ℕ) (x y : Option X) → q ≢ k → cond (eq_by_cmp nat_cmp q k) x y ≡ y
   untied q k x y away = ap (λ b. cond b x y) (apart q k away)
+
+  -- a map after a removal
+  pub get-gone : (m : FinMap nat_cmp X) (n : ℕ) → get (remove m n) n ≡ None
+  get-gone m n = get-remove nat_cmp_total m n n ∙ tied n n None (get m n) refl
+
+  pub get-left : (m : FinMap nat_cmp X) (n q : ℕ) → q ≢ n → get (remove m n) q ≡ get m q
+  get-left m n q away = get-remove nat_cmp_total m n q ∙ untied q n None (get m q) away
 
   -- what each number is used for
   abbrev pub row : Slab X → FinMap nat_cmp X
@@ -70,29 +75,13 @@ module _ (root : ℕ) (old new : Slab Place) (s : Numbers) (is : with_places roo
   pub store-same : Updates old new key (slab.get old key) → with_places root (row new) ≡ s
   store-same u = ap (with_places root) (row-same old new key u) ∙ is
 
-  -- a change of each place that is in use
-  by_slot : (f : Place → Place) → Updates old new key (option_map f (slab.get old key)) → (o : Option Place) → get s.places n ≡ o → Updates old new n (option_map f o)
-  by_slot f u o there = updated _ u _ (ap (option_map f) (slot root old s is key n at ∙ there))
-
-  pub store-changed : (f : Listing → Listing) → Updates old new key (option_map (changed_place f) (slab.get old key)) → with_places root (row new) ≡ changed_listing f s n
-  store-changed f u = by_place (get s.places n) refl
+  -- a change of a place that is in use
+  pub store-altered : (f : Place → Place) → Updates old new key (option_map f (slab.get old key)) → with_places root (row new) ≡ altered f s n
+  store-altered f u = by_place (get s.places n) refl
     where
-      by_place : (o : Option Place) → get s.places n ≡ o → with_places root (row new) ≡ record s { places = changed_by f o s.places n }
-      by_place (Some place) there = inserted _ (by_slot (changed_place f) u (Some place) there)
-      by_place None there = removed (by_slot (changed_place f) u None there) there
+      by_slot : (o : Option Place) → get s.places n ≡ o → Updates old new n (option_map f o)
+      by_slot o there = updated _ u _ (ap (option_map f) (slot root old s is key n at ∙ there))
 
-  pub store-installed : Updates old new key (option_map installed_place (slab.get old key)) → with_places root (row new) ≡ record s { places = installed_at s.places n }
-  store-installed u = by_place (get s.places n) refl
-    where
-      by_place : (o : Option Place) → get s.places n ≡ o → with_places root (row new) ≡ record s { places = installed_by o s.places n }
-      by_place (Some (Coming object)) there = inserted _ (by_slot installed_place u (Some (Coming object)) there)
-      by_place (Some (Held object)) there = inserted _ (by_slot installed_place u (Some (Held object)) there) ∙ ap (with_places s.root) (insert-held s.places n (Held object) there)
-      by_place None there = removed (by_slot installed_place u None there) there
-
-  pub store-hidden : Updates old new key (option_map hidden_place (slab.get old key)) → with_places root (row new) ≡ record s { places = hidden_at s.places n }
-  store-hidden u = by_place (get s.places n) refl
-    where
-      by_place : (o : Option Place) → get s.places n ≡ o → with_places root (row new) ≡ record s { places = hidden_by o s.places n }
-      by_place (Some (Held object)) there = inserted _ (by_slot hidden_place u (Some (Held object)) there)
-      by_place (Some (Coming object)) there = inserted _ (by_slot hidden_place u (Some (Coming object)) there) ∙ ap (with_places s.root) (insert-held s.places n (Coming object) there)
-      by_place None there = removed (by_slot hidden_place u None there) there
+      by_place : (o : Option Place) → get s.places n ≡ o → with_places root (row new) ≡ record s { places = altered_by f o s.places n }
+      by_place (Some place) there = inserted _ (by_slot (Some place) there)
+      by_place None there = removed (by_slot None there) there

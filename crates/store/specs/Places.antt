@@ -1,67 +1,54 @@
--- How the places of a store change: an object to come is installed, an object is hidden, or the listing of a directory changes.
-use Rattle.std.specs.Prelude.{ℕ, ◌+◌, ◌-◌, Bool, false, nat_lt, Option, Some, None}
+-- How the places of a store change: an object to come is shown, an object is lost, or the listing of a directory changes.
+use Rattle.std.specs.Prelude.{ℕ, ◌+◌, ◌-◌, Bool, false, not, nat_lt, Option, Some, None, if◌then◌else◌}
 use Rattle.std.specs.Ordering.{nat_cmp}
 use Rattle.model.specs.FiniteMap.{FinMap, get, insert, remove}
 use Rattle.model.specs.State.{Name}
 use Rattle.dirlist.specs.Listing.{Listing}
 use Rattle.store.specs.Numbers.{Numbers}
 use Rattle.store.specs.declared.Place.{Place}
-use Rattle.store.specs.declared.Place.TheVariants.{Coming, Held}
+use Rattle.store.specs.declared.Stage.{Stage}
+use Rattle.store.specs.declared.Stage.TheVariants.{Coming, Held, Lost}
 use Rattle.store.specs.declared.Object.{Object}
 use Rattle.store.specs.declared.Object.TheVariants.{Directory}
 
--- an object that was to come is there, and one that was there is to come
-abbrev pub installed_place : Place → Place
-installed_place (Coming object) = Held object
-installed_place (Held object) = Held object
+abbrev pub altered_by : (Place → Place) → Option Place → FinMap nat_cmp Place → ℕ → FinMap nat_cmp Place
+altered_by f (Some place) places n = insert places n (f place)
+altered_by f None places n = places
 
-abbrev pub hidden_place : Place → Place
-hidden_place (Coming object) = Coming object
-hidden_place (Held object) = Coming object
+-- the store, with the place of this number changed by f, where the number is in use
+abbrev pub altered : (Place → Place) → Numbers → ℕ → Numbers
+altered f s n = record s { places = altered_by f (get s.places n) s.places n }
 
-abbrev pub installed_by : Option Place → FinMap nat_cmp Place → ℕ → FinMap nat_cmp Place
-installed_by (Some (Coming object)) places n = insert places n (Held object)
-installed_by _ places n = places
+-- an object to come is shown from now on
+abbrev pub shown_stage : Stage → Stage
+shown_stage Coming = Held
+shown_stage Held = Held
+shown_stage Lost = Lost
 
--- the places, where the object to come of this number is there
-abbrev pub installed_at : FinMap nat_cmp Place → ℕ → FinMap nat_cmp Place
-installed_at places n = installed_by (get places n) places n
+abbrev pub installed : Place → Place
+installed place = record place { stage = shown_stage place.stage }
 
-abbrev pub hidden_by : Option Place → FinMap nat_cmp Place → ℕ → FinMap nat_cmp Place
-hidden_by (Some (Held object)) places n = insert places n (Coming object)
-hidden_by _ places n = places
-
--- the places, where the object of this number is to come
-abbrev pub hidden_at : FinMap nat_cmp Place → ℕ → FinMap nat_cmp Place
-hidden_at places n = hidden_by (get places n) places n
+-- an object is shown no more
+abbrev pub hidden : Place → Place
+hidden place = record place { stage = Lost }
 
 abbrev pub listing_of : Object → Option Listing
 listing_of (Directory listing) = Some listing
 
 abbrev pub listing_in : Option Place → Option Listing
-listing_in (Some (Coming object)) = listing_of object
-listing_in (Some (Held object)) = listing_of object
+listing_in (Some place) = listing_of place.object
 listing_in None = None
 
--- the listing of the directory of a number, held or to come
+-- the listing of the directory of a number, however far it is
 abbrev pub listing_at : Numbers → ℕ → Option Listing
 listing_at s n = listing_in (get s.places n)
 
 abbrev pub changed_object : (Listing → Listing) → Object → Object
 changed_object f (Directory listing) = Directory (f listing)
 
--- what is to come stays to come, and what is held stays held
-abbrev pub changed_place : (Listing → Listing) → Place → Place
-changed_place f (Coming object) = Coming (changed_object f object)
-changed_place f (Held object) = Held (changed_object f object)
-
-abbrev pub changed_by : (Listing → Listing) → Option Place → FinMap nat_cmp Place → ℕ → FinMap nat_cmp Place
-changed_by f (Some place) places n = insert places n (changed_place f place)
-changed_by f None places n = places
-
--- the store, with the listing of the directory of this number changed by f, where there is one
-abbrev pub changed_listing : (Listing → Listing) → Numbers → ℕ → Numbers
-changed_listing f s n = record s { places = changed_by f (get s.places n) s.places n }
+-- a change of a directory's listing, which leaves how far it is
+abbrev pub with_listing : (Listing → Listing) → Place → Place
+with_listing f place = record place { object = changed_object f place.object }
 
 -- one promise more, and one less where there is one
 abbrev pub more_room : Listing → Listing
@@ -86,3 +73,25 @@ number_in None name = None
 abbrev pub has_room : Option Listing → Bool
 has_room (Some listing) = nat_lt 0 listing.promised
 has_room None = false
+
+-- whether an object is lost and nothing is promised in it any more
+abbrev pub is_over_by : Stage → Bool → Bool
+is_over_by Lost room = not room
+is_over_by Coming room = false
+is_over_by Held room = false
+
+abbrev pub is_over : Option Place → Bool
+is_over (Some place) = is_over_by place.stage (has_room (listing_of place.object))
+is_over None = false
+
+-- the number of a lost object with no promised room is given up
+abbrev pub swept : Numbers → ℕ → Numbers
+swept s n = if is_over (get s.places n) then record s { places = remove s.places n } else s
+
+-- an object is lost
+abbrev pub lost : Numbers → ℕ → Numbers
+lost s n = swept (altered hidden s n) n
+
+-- one promise is given up
+abbrev pub released : Numbers → ℕ → Numbers
+released s n = swept (altered (with_listing less_room) s n) n

@@ -1,20 +1,26 @@
--- The inodes of a store, as a plain kernel has them: without objects to come, and without promised room.
+-- The inodes of a store, as a plain kernel has them: without objects to come and lost ones, and without promised room.
 use Rattle.std.specs.Prelude.{ℕ, List, [], ◌∷◌, Option, Some, None}
 use Rattle.std.specs.Ordering.{nat_cmp}
 use Rattle.model.specs.FiniteMap.{FinMap, entries, get, insert, remove, from_entries}
 use Rattle.model.specs.State.{Inode, Directory, name_cmp}
 use Rattle.store.specs.Numbers.{Numbers}
 use Rattle.store.specs.declared.Place.{Place}
-use Rattle.store.specs.declared.Place.TheVariants.{Coming, Held}
+use Rattle.store.specs.declared.Stage.{Stage}
+use Rattle.store.specs.declared.Stage.TheVariants.{Coming, Held, Lost}
 use Rattle.store.specs.declared.Object.{Object}
 use Rattle.store.specs.declared.Object.TheVariants.{Directory as Kept_directory}
 
 abbrev pub inode_of : Object → Option Inode
 inode_of (Kept_directory listing) = Some (Directory listing.names)
 
+-- an object is shown where it is neither to come nor lost
+abbrev pub shown_at : Stage → Option Inode → Option Inode
+shown_at Held inode = inode
+shown_at Coming inode = None
+shown_at Lost inode = None
+
 abbrev pub inode_in : Place → Option Inode
-inode_in (Coming object) = None
-inode_in (Held object) = inode_of object
+inode_in place = shown_at place.stage (inode_of place.object)
 
 abbrev pub in_front : {Y : Type 0} → ℕ → Option Y → List (ℕ × Y) → List (ℕ × Y)
 in_front n (Some y) es = (n, y) ∷ es

@@ -6,8 +6,8 @@ ghost use Rattle.model.specs.FiniteMap as map;
 ghost use Rattle.slab.specs.Slab.{get, Updates};
 ghost use Rattle.model.specs.State.{mapped, names_of_inode, Directory as A_directory};
 ghost use Rattle.dirlist.specs.Listing.{Listing};
-ghost use Rattle.store.specs.Numbers.{object_at, held, IsFirstRoot};
-ghost use Rattle.store.specs.Places.{installed_at, installed_place, hidden_at, hidden_place, listing_of, listing_in, listing_at, changed_object, changed_place, changed_listing, more_room, less_room, with_name, without_name, number_in, has_room};
+ghost use Rattle.store.specs.Numbers.{coming, object_at, held, IsFirstRoot};
+ghost use Rattle.store.specs.Places.{altered, installed, hidden, is_over, listing_of, listing_in, listing_at, changed_object, with_listing, more_room, less_room, with_name, without_name, number_in, has_room, lost, released, swept};
 ghost use Rattle.store.specs.Shown.{inodes, inode_of, with_inode, with_names};
 
 use dirlist::Dir;
@@ -24,18 +24,29 @@ pub enum Object {
     Directory(Dir),
 }
 
-/// What a number that is in use is used for.
+/// How far an object is, from the reservation of its number until the number is given up.
+#[derive(Clone, Copy)]
+pub enum Stage {
+    /// To come: not shown yet.
+    Coming,
+    /// Shown.
+    Held,
+    /// Shown no more. It goes when the last room that is promised in it is given up.
+    Lost,
+}
+
+/// A number that is in use: its object, and how far that is.
 #[derive(Drop)]
-pub enum Place {
-    /// An object to come, which is not shown yet.
-    Coming(Object),
-    /// This object.
-    Held(Object),
+pub struct Place {
+    /// How far the object is.
+    pub stage: Stage,
+    /// What the number stands for.
+    pub object: Object,
 }
 
 /// The objects, and the objects to come.
 ///
-/// A number is given out by [`Store::reserve_num`] alone, and again only once it was freed.
+/// A number is given out by [`Store::reserve_num`] alone, and again only once it was given up.
 #[derive(Drop)]
 pub struct Store {
     places: Slab<Place, Heap>,
@@ -67,7 +78,10 @@ impl Store {
         ensures shown { IfOk result (λ s. inodes s ≡ map.insert map.empty s.root (A_directory map.empty)) }
     {
         let mut places = Slab::new(heap);
-        let root = places.insert(Place::Held(Object::Directory(Dir::new(heap))))?;
+        let root = places.insert(Place {
+            stage: Stage::Held,
+            object: Object::Directory(Dir::new(heap)),
+        })?;
         Ok(Store {
             places,
             root: Num(root),
@@ -84,41 +98,46 @@ impl Store {
     /// Reserves a number that is not in use for an object to come. Refused memory changes nothing, and the object goes.
     pub fn reserve_num(&mut self, object: Object) -> Result<Num, AllocError>
         ensures unused { IfOk result (λ num. map.get self.old.places num ≡ None) }
-        ensures reserved { IfOk result (λ num. self.new ≡ record self.old { places = map.insert self.old.places num (Place.Coming object) }) }
-        ensures ready { IfOk result (λ num. map.get self.new.places num ≡ Some (Place.Coming object)) }
+        ensures reserved { IfOk result (λ num. self.new ≡ record self.old { places = map.insert self.old.places num (coming object) }) }
+        ensures ready { IfOk result (λ num. map.get self.new.places num ≡ Some (coming object)) }
         ensures shown { OnOk result (inodes self.new ≡ inodes self.old) }
         ensures err { OnErr result (self.new ≡ self.old) }
     {
-        let num = self.places.insert(Place::Coming(object))?;
+        let num = self.places.insert(Place {
+            stage: Stage::Coming,
+            object,
+        })?;
         Ok(Num(num))
     }
 
     /// Shows the object to come of a number, or changes nothing where the number has none to come. It takes no memory.
     pub fn install(&mut self, num: Num)
-        ensures installed { self.new ≡ record self.old { places = installed_at self.old.places num } }
-        ensures shown { (object : Object) → map.get self.old.places num ≡ Some (Place.Coming object) → inodes self.new ≡ with_inode (inodes self.old) num (inode_of object) }
+        ensures installed { self.new ≡ altered installed self.old num }
+        ensures shown { (object : Object) → map.get self.old.places num ≡ Some (coming object) → inodes self.new ≡ with_inode (inodes self.old) num (inode_of object) }
     {
         install_at(&mut self.places, num.0);
     }
 
-    /// Makes the object of a number an object to come, which is shown no more, or changes nothing where the number
-    /// has no object that is shown. It takes no memory.
-    pub fn hide(&mut self, num: Num)
-        ensures hidden { self.new ≡ record self.old { places = hidden_at self.old.places num } }
+    /// The object of a number is shown no more. The number is given up with it, unless room in it is still promised: then it goes
+    /// with the last promise. Where the number is not in use, nothing changes. It takes no memory.
+    pub fn lose(&mut self, num: Num)
+        ensures lost { self.new ≡ lost self.old num }
         ensures shown { inodes self.new ≡ map.remove (inodes self.old) num }
     {
         hide_at(&mut self.places, num.0);
+        self.sweep(num);
     }
 
-    /// Gives up a number, and its object goes, whether it is to come or not. It takes no memory.
-    pub fn free(&mut self, num: Num)
-        ensures freed { self.new ≡ record self.old { places = map.remove self.old.places num } }
-        ensures shown { inodes self.new ≡ map.remove (inodes self.old) num }
+    // Gives up the number of a lost object in which no room is promised.
+    fn sweep(&mut self, num: Num)
+        ensures { self.new ≡ swept self.old num }
     {
-        let _place = self.places.try_remove(num.0);
+        if is_over_at(&self.places, num.0) {
+            let _place = self.places.try_remove(num.0);
+        }
     }
 
-    /// The object of a number, unless it is to come.
+    /// The object of a number, where it is shown.
     pub fn get(&self, num: Num) -> Option<&Object>
         ensures object { option_copied result ≡ object_at self.now num }
         ensures shown { map.get (inodes self.now) num ≡ option_and_then inode_of (option_copied result) }
@@ -126,7 +145,7 @@ impl Store {
         object_in(&self.places, num.0)
     }
 
-    /// The directory of a number, unless it is to come.
+    /// The directory of a number, where it is shown.
     pub fn directory(&self, dir: Num) -> Option<&Dir>
         ensures listing { option_copied result ≡ option_and_then listing_of (object_at self.now dir) }
         ensures shown { map.get (inodes self.now) dir ≡ mapped (λ listing. A_directory listing.names) (option_copied result) }
@@ -137,7 +156,7 @@ impl Store {
         }
     }
 
-    /// The number that a name gives in a directory, unless the directory is to come.
+    /// The number that a name gives in a directory that is shown.
     pub fn lookup(&self, dir: Num, name: &Name) -> Option<Num>
         ensures { result ≡ map.get (names_of_inode (map.get (inodes self.now) dir)) name.now }
     {
@@ -147,7 +166,7 @@ impl Store {
         }
     }
 
-    /// Whether room for a name is promised in a directory, which may be to come.
+    /// Whether room for a name is promised in a directory, which may be to come or lost.
     pub fn is_promised(&self, dir: Num) -> bool
         ensures { result ≡ has_room (listing_at self.now dir) }
     {
@@ -157,27 +176,28 @@ impl Store {
     /// Promises room for one more name in a directory, which may be to come; where there is no directory, nothing changes.
     /// Refused memory changes nothing.
     pub fn promise(&mut self, dir: Num) -> Result<(), AllocError>
-        ensures ok { OnOk result (self.new ≡ changed_listing more_room self.old dir) }
+        ensures ok { OnOk result (self.new ≡ altered (with_listing more_room) self.old dir) }
         ensures err { OnErr result (self.new ≡ self.old) }
         ensures shown { inodes self.new ≡ inodes self.old }
     {
         promise_at(&mut self.places, dir.0)
     }
 
-    /// Gives up the promised room of one name in a directory, which may be to come; where no room is promised, nothing changes.
-    /// It takes no memory.
+    /// Gives up the promised room of one name in a directory; where no room is promised, none is given up. The number of a lost
+    /// directory is given up with its last promise. It takes no memory.
     pub fn release(&mut self, dir: Num)
-        ensures released { self.new ≡ changed_listing less_room self.old dir }
+        ensures released { self.new ≡ released self.old dir }
         ensures shown { inodes self.new ≡ inodes self.old }
     {
         release_at(&mut self.places, dir.0);
+        self.sweep(dir);
     }
 
     /// From now on the name gives this number, whatever it gave before, in promised room; where there is no directory, nothing
     /// changes. The directory may be to come. It takes no memory.
     pub fn add_name(&mut self, dir: Num, name: Name, num: Num)
         requires { (listing : Listing) → listing_at self.old dir ≡ Some listing → 0 < listing.promised }
-        ensures added { self.new ≡ changed_listing (with_name name num) self.old dir }
+        ensures added { self.new ≡ altered (with_listing (with_name name num)) self.old dir }
         ensures shown { inodes self.new ≡ with_names (λ names. map.insert names name num) (inodes self.old) dir }
     {
         add_name_at(&mut self.places, dir.0, name, num);
@@ -187,7 +207,7 @@ impl Store {
     /// and leaves the room that is promised.
     pub fn remove_name(&mut self, dir: Num, name: &Name) -> Option<Num>
         ensures value { result ≡ number_in (listing_at self.old dir) name.now }
-        ensures removed { self.new ≡ changed_listing (without_name name.now) self.old dir }
+        ensures removed { self.new ≡ altered (with_listing (without_name name.now)) self.old dir }
         ensures shown { inodes self.new ≡ with_names (λ names. map.remove names name.now) (inodes self.old) dir }
     {
         remove_name_at(&mut self.places, dir.0, name)
@@ -198,7 +218,12 @@ fn object_in(places: &Slab<Place, Heap>, key: usize) -> Option<&Object>
     ensures { option_copied result ≡ held (get places.now key) }
 {
     match places.get(key) {
-        Some(Place::Held(object)) => Some(object),
+        Some(
+            Place {
+                stage: Stage::Held,
+                object,
+            },
+        ) => Some(object),
         _ => None,
     }
 }
@@ -207,8 +232,7 @@ fn is_promised_at(places: &Slab<Place, Heap>, key: usize) -> bool
     ensures { result ≡ has_room (listing_in (get places.now key)) }
 {
     match places.get(key) {
-        Some(Place::Coming(object)) => is_promised_in(object),
-        Some(Place::Held(object)) => is_promised_in(object),
+        Some(place) => is_promised_in(&place.object),
         None => false,
     }
 }
@@ -221,76 +245,76 @@ fn is_promised_in(object: &Object) -> bool
     }
 }
 
-// The slab gives the key that was freed last to the next insertion, which then needs no memory.
+fn is_over_at(places: &Slab<Place, Heap>, key: usize) -> bool
+    ensures { result ≡ is_over (get places.now key) }
+{
+    match places.get(key) {
+        Some(
+            Place {
+                stage: Stage::Lost,
+                object,
+            },
+        ) => !is_promised_in(object),
+        _ => false,
+    }
+}
+
 fn install_at(places: &mut Slab<Place, Heap>, key: usize)
-    ensures { Updates places.old places.new key (option_map installed_place (get places.old key)) }
+    ensures { Updates places.old places.new key (option_map installed (get places.old key)) }
 {
-    if let Some(place) = places.try_remove(key) {
-        let _key = places.insert_reserved(installed(place));
+    if let Some(place) = places.get_mut(key) {
+        install_in(place);
     }
 }
 
-fn installed(place: Place) -> Place
-    ensures { result ≡ installed_place place }
+fn install_in(place: &mut Place)
+    ensures { place.new ≡ installed place.old }
 {
-    match place {
-        Place::Coming(object) => Place::Held(object),
-        Place::Held(object) => Place::Held(object),
+    if let Stage::Coming = place.stage {
+        place.stage = Stage::Held;
     }
 }
 
-// As `install_at`, the other way.
 fn hide_at(places: &mut Slab<Place, Heap>, key: usize)
-    ensures { Updates places.old places.new key (option_map hidden_place (get places.old key)) }
+    ensures { Updates places.old places.new key (option_map hidden (get places.old key)) }
 {
-    if let Some(place) = places.try_remove(key) {
-        let _key = places.insert_reserved(hidden(place));
-    }
-}
-
-fn hidden(place: Place) -> Place
-    ensures { result ≡ hidden_place place }
-{
-    match place {
-        Place::Coming(object) => Place::Coming(object),
-        Place::Held(object) => Place::Coming(object),
+    if let Some(place) = places.get_mut(key) {
+        place.stage = Stage::Lost;
     }
 }
 
 fn promise_at(places: &mut Slab<Place, Heap>, key: usize) -> Result<(), AllocError>
-    ensures ok { OnOk result (Updates places.old places.new key (option_map (changed_place more_room) (get places.old key))) }
+    ensures ok { OnOk result (Updates places.old places.new key (option_map (with_listing more_room) (get places.old key))) }
     ensures err { OnErr result (Updates places.old places.new key (get places.old key)) }
 {
     match places.get_mut(key) {
-        Some(place) => promise_in(place),
+        Some(place) => promise_in(&mut place.object),
         None => Ok(()),
     }
 }
 
-fn promise_in(place: &mut Place) -> Result<(), AllocError>
-    ensures ok { OnOk result (place.new ≡ changed_place more_room place.old) }
-    ensures err { OnErr result (place.new ≡ place.old) }
+fn promise_in(object: &mut Object) -> Result<(), AllocError>
+    ensures ok { OnOk result (object.new ≡ changed_object more_room object.old) }
+    ensures err { OnErr result (object.new ≡ object.old) }
 {
-    match place {
-        Place::Coming(Object::Directory(dir)) => dir.promise(),
-        Place::Held(Object::Directory(dir)) => dir.promise(),
+    match object {
+        Object::Directory(dir) => dir.promise(),
     }
 }
 
 fn release_at(places: &mut Slab<Place, Heap>, key: usize)
-    ensures { Updates places.old places.new key (option_map (changed_place less_room) (get places.old key)) }
+    ensures { Updates places.old places.new key (option_map (with_listing less_room) (get places.old key)) }
 {
     if let Some(place) = places.get_mut(key) {
-        release_in(place);
+        release_in(&mut place.object);
     }
 }
 
-fn release_in(place: &mut Place)
-    ensures { place.new ≡ changed_place less_room place.old }
+fn release_in(object: &mut Object)
+    ensures { object.new ≡ changed_object less_room object.old }
 {
-    match place {
-        Place::Coming(Object::Directory(dir)) => release_one(dir),
-        Place::Held(Object::Directory(dir)) => release_one(dir),
+    match object {
+        Object::Directory(dir) => release_one(dir),
     }
 }
 
@@ -304,24 +328,14 @@ fn release_one(dir: &mut Dir)
 
 fn add_name_at(places: &mut Slab<Place, Heap>, key: usize, name: Name, num: Num)
     requires { (listing : Listing) → listing_in (get places.old key) ≡ Some listing → 0 < listing.promised }
-    ensures { Updates places.old places.new key (option_map (changed_place (with_name name num)) (get places.old key)) }
+    ensures { Updates places.old places.new key (option_map (with_listing (with_name name num)) (get places.old key)) }
 {
     if let Some(place) = places.get_mut(key) {
-        add_name_in(place, name, num);
+        add_name_in(&mut place.object, name, num);
     }
 }
 
-fn add_name_in(place: &mut Place, name: Name, num: Num)
-    requires { IsTrue (has_room (listing_in (Some place.old))) }
-    ensures { place.new ≡ changed_place (with_name name num) place.old }
-{
-    match place {
-        Place::Coming(object) => add_name_to(object, name, num),
-        Place::Held(object) => add_name_to(object, name, num),
-    }
-}
-
-fn add_name_to(object: &mut Object, name: Name, num: Num)
+fn add_name_in(object: &mut Object, name: Name, num: Num)
     requires { IsTrue (has_room (listing_of object.old)) }
     ensures { object.new ≡ changed_object (with_name name num) object.old }
 {
@@ -341,20 +355,19 @@ fn put_name(dir: &mut Dir, name: Name, num: Num)
 
 fn remove_name_at(places: &mut Slab<Place, Heap>, key: usize, name: &Name) -> Option<Num>
     ensures value { result ≡ number_in (listing_in (get places.old key)) name.now }
-    ensures removed { Updates places.old places.new key (option_map (changed_place (without_name name.now)) (get places.old key)) }
+    ensures removed { Updates places.old places.new key (option_map (with_listing (without_name name.now)) (get places.old key)) }
 {
     match places.get_mut(key) {
-        Some(place) => remove_name_in(place, name),
+        Some(place) => remove_name_in(&mut place.object, name),
         None => None,
     }
 }
 
-fn remove_name_in(place: &mut Place, name: &Name) -> Option<Num>
-    ensures value { result ≡ number_in (listing_in (Some place.old)) name.now }
-    ensures removed { place.new ≡ changed_place (without_name name.now) place.old }
+fn remove_name_in(object: &mut Object, name: &Name) -> Option<Num>
+    ensures value { result ≡ number_in (listing_of object.old) name.now }
+    ensures removed { object.new ≡ changed_object (without_name name.now) object.old }
 {
-    match place {
-        Place::Coming(Object::Directory(dir)) => dir.remove(name),
-        Place::Held(Object::Directory(dir)) => dir.remove(name),
+    match object {
+        Object::Directory(dir) => dir.remove(name),
     }
 }
