@@ -218,13 +218,12 @@ fn object_in(places: &Slab<Place, Heap>, key: usize) -> Option<&Object>
     ensures { option_copied result ≡ held (get places.now key) }
 {
     match places.get(key) {
-        Some(
-            Place {
-                stage: Stage::Held,
-                object,
-            },
-        ) => Some(object),
-        _ => None,
+        Some(Place { stage, object }) => match stage {
+            Stage::Held => Some(object),
+            Stage::Coming => None,
+            Stage::Lost => None,
+        },
+        None => None,
     }
 }
 
@@ -249,13 +248,12 @@ fn is_over_at(places: &Slab<Place, Heap>, key: usize) -> bool
     ensures { result ≡ is_over (get places.now key) }
 {
     match places.get(key) {
-        Some(
-            Place {
-                stage: Stage::Lost,
-                object,
-            },
-        ) => !is_promised_in(object),
-        _ => false,
+        Some(Place { stage, object }) => match stage {
+            Stage::Lost => !is_promised_in(object),
+            Stage::Coming => false,
+            Stage::Held => false,
+        },
+        None => false,
     }
 }
 
