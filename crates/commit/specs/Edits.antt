@@ -1,17 +1,12 @@
 -- Changes of calls.
-use Rattle.std.specs.Prelude.{◌≡◌, ◌≤◌, ℕ, ◌+◌, false, List, [], ◌∷◌, ◌++◌, length}
+use Rattle.std.specs.Prelude.{◌≡◌, ℕ, false, List, [], ◌∷◌, ◌++◌, length}
 use Rattle.std.specs.List.{AllByRecursion, sum_by}
 use Rattle.model.specs.Changes.{Edit, news}
 use Rattle.model.specs.Steps.{IsNowhere, AllDifferent}
 use Rattle.model.specs.Moments.{is_in}
 use Rattle.model.specs.Effects.{Effect}
 use Rattle.shadow.specs.Changes.{made_by}
-use Rattle.shadow.specs.Claims.{Claim, Room, claimed, reserved}
-use Rattle.shadow.specs.Committed.{Committed}
 use Rattle.commit.specs.Views.{View, Shown, absent, resting, open_view, struck, view_at, changes_in}
-
-abbrev pub effect : List ℕ → List Edit → Effect
-effect chosen edits = record { chosen = chosen; edits = edits }
 
 -- one change more
 abbrev pub with_change : Effect → View → View
@@ -27,11 +22,3 @@ pub record AreNew (old : Shown) (made : List Edit) (chosen : List ℕ) : Type 0 
   pub unmade : AllByRecursion (λ n. (q : ℕ) → is_in n (made_by (changes_in (view_at old.slots q))) ≡ false) chosen
   pub different : AllDifferent chosen
   pub nowhere : AllByRecursion (IsNowhere old.stable.state) chosen
-
--- no claim has less to meet it
-abbrev pub Grows : Committed → Committed → Type 0
-Grows s t = (c : Claim) → reserved s c ≤ reserved t c
-
--- where a view takes one change more, room for the names that it adds has come
-abbrev pub HasRoom : Committed → Committed → Effect → View → Type 0
-HasRoom s t d v = (r : ℕ) → reserved s (Room r) + claimed (Room r) (changes_in (with_change d v)) ≤ reserved t (Room r) + claimed (Room r) (changes_in v)

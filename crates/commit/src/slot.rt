@@ -1,11 +1,9 @@
 // What is kept of each process.
-ghost use Rattle.std.specs.Prelude.{◌≡◌, ◌<◌, ◌≤◌, ◌+◌, ◌∷◌, [], length, suc, is_some, option_map, IfOk, IfSome, OnErr, OnOk};
-ghost use Rattle.std.specs.List.{AllByRecursion, sum_by};
-ghost use Rattle.model.specs.Changes.{news};
-ghost use Rattle.shadow.specs.Changes.{CanEdit};
-ghost use Rattle.shadow.specs.Claims.{Claim, Covers, HaveParents, Room, claimed, reserved};
+ghost use Rattle.std.specs.Prelude.{◌≡◌, ◌<◌, ◌≤◌, true, length, suc, is_some, option_map, IfOk, IfSome, OnErr};
+ghost use Rattle.shadow.specs.Changes.{CanEdit, effect};
+ghost use Rattle.shadow.specs.Claims.{AreUnused, Covers, HaveParents, KeepsMore, KeepsSame, claimed, claimed_by};
 ghost use Rattle.shadow.specs.Looks as looks;
-ghost use Rattle.commit.specs.Edits.{Grows, HasRoom, effect, with_change};
+ghost use Rattle.commit.specs.Edits.{with_change};
 ghost use Rattle.commit.specs.Slots.{AreFirstSlots, Sets, slot_at, slot_view};
 ghost use Rattle.commit.specs.Standings.{StandsSo};
 ghost use Rattle.commit.specs.Strikes.{strike};
@@ -129,7 +127,7 @@ pub fn set_slot(slots: &mut Vec<Slot, Heap>, pid: Pid, slot: Slot)
 pub fn drop_slot(slot: Slot, stable: &mut Stable)
     requires { Covers stable.old (changes_in (slot_view slot)) }
     ensures state { stable.new.state ≡ stable.old.state }
-    ensures keeps { (c : Claim) → reserved stable.old c ≤ reserved stable.new c + claimed c (changes_in (slot_view slot)) }
+    ensures kept { KeepsMore stable.new stable.old (λ c. claimed c (changes_in (slot_view slot))) }
 {
     match slot {
         Slot::Live(transaction) => transaction.shadow.drop_into(stable),
@@ -144,7 +142,7 @@ pub fn struck(slot: Slot, doomed: Doomed, stable: &mut Stable) -> Slot
     requires { Covers stable.old (changes_in (slot_view slot)) }
     ensures slot { slot_view result ≡ strike doomed (slot_view slot) }
     ensures state { stable.new.state ≡ stable.old.state }
-    ensures keeps { (c : Claim) → reserved stable.old c ≤ reserved stable.new c + claimed c (changes_in (slot_view slot)) }
+    ensures kept { KeepsMore stable.new stable.old (λ c. claimed c (changes_in (slot_view slot))) }
 {
     match slot {
         Slot::Live(Transaction { flags, age, shadow }) => {
@@ -204,29 +202,29 @@ pub fn shadow_of(slots: &[Slot], pid: Pid) -> Option<&Shadow>
     }
 }
 
-/// Adds a change to what a live process has changed. Refused memory changes nothing.
+/// Adds a change to what a live process has changed, with new numbers, which are answered. Refused memory changes nothing.
 pub fn edit_slot(
     slots: &mut Vec<Slot, Heap>,
     stable: &mut Stable,
     pid: Pid,
     edits: Vec<Edit, Heap>,
-    chosen: &Nums,
-) -> Result<(), AllocError>
+) -> Result<Nums, AllocError>
     requires made { pid < length slots.old.items }
+    requires live { is_open (slot_at slots.old.items pid) ≡ true }
     requires kinds { CanEdit edits.items }
-    requires count { length chosen.now ≡ sum_by news edits.items }
-    requires unused { AllByRecursion (λ n. claimed (Room n) (changes_in (slot_at slots.old.items pid)) ≡ 0) chosen.now }
     requires parents { HaveParents stable.old.reserves edits.items }
-    ensures ok { OnOk result (Sets slots.old.items slots.new.items pid (with_change (effect chosen.now edits.entry.items) (slot_at slots.old.items pid))) }
-    ensures room { OnOk result (HasRoom stable.old stable.new (effect chosen.now edits.entry.items) (slot_at slots.old.items pid)) }
-    ensures err { OnErr result (Sets slots.old.items slots.new.items pid (slot_at slots.old.items pid)) }
+    requires covers { Covers stable.old (changes_in (slot_at slots.old.items pid)) }
+    ensures ok { IfOk result (λ chosen. Sets slots.old.items slots.new.items pid (with_change (effect chosen edits.entry.items) (slot_at slots.old.items pid))) }
+    ensures new { IfOk result (AreUnused stable.old edits.entry.items) }
+    ensures kept { IfOk result (λ chosen. KeepsMore stable.old stable.new (λ c. claimed_by c (effect chosen edits.entry.items))) }
     ensures state { stable.new.state ≡ stable.old.state }
-    ensures grows { Grows stable.old stable.new }
+    ensures err { OnErr result (Sets slots.old.items slots.new.items pid (slot_at slots.old.items pid)) }
+    ensures same { OnErr result (KeepsSame stable.old stable.new) }
 {
     match &mut slots[pid.0 as usize] {
-        Slot::Live(transaction) => transaction.shadow.edit(stable, edits, chosen),
-        Slot::Gone => Ok(()),
-        Slot::Idle => Ok(()),
-        Slot::Doomed(_) => Ok(()),
+        Slot::Live(transaction) => transaction.shadow.edit(stable, edits),
+        Slot::Gone => unreachable!(),
+        Slot::Idle => unreachable!(),
+        Slot::Doomed(_) => unreachable!(),
     }
 }

@@ -1,12 +1,13 @@
 // The transactions of all processes, and what is committed.
-ghost use Rattle.std.specs.Prelude.{◌≡◌, ◌⊎◌, ◌<◌, ◌≤◌, ◌∷◌, [], ℕ, true, List, length, suc, is_some, count_by, IfOk, IfSome, OnErr};
-ghost use Rattle.model.specs.Changes.{tidy};
+ghost use Rattle.std.specs.Prelude.{◌≡◌, ◌<◌, ◌≤◌, ◌∷◌, [], ℕ, true, List, length, suc, is_some, count_by, IfOk, IfSome, OnErr};
+ghost use Rattle.model.specs.Changes.{all_applied, tidy};
 ghost use Rattle.model.specs.Effects.{all_done};
-ghost use Rattle.model.specs.Moments.{is_in, start};
-ghost use Rattle.shadow.specs.Changes.{CanEdit};
-ghost use Rattle.shadow.specs.Claims.{Claim, HaveParents, number_of, reserved};
-ghost use Rattle.shadow.specs.Committed.{CanCommit};
-ghost use Rattle.commit.specs.Edits.{AreNew, effect, with_change};
+ghost use Rattle.model.specs.Moments.{start};
+ghost use Rattle.call_laws.specs.Fits.{FitsAll};
+ghost use Rattle.shadow.specs.Changes.{CanEdit, effect};
+ghost use Rattle.shadow.specs.Claims.{HaveParents};
+ghost use Rattle.shadow.specs.Effects.{CanCommit, in_turn};
+ghost use Rattle.commit.specs.Edits.{AreNew, with_change};
 ghost use Rattle.commit.specs.Slots.{slot_view};
 ghost use Rattle.commit.specs.Standings.{StandsSo};
 ghost use Rattle.commit.specs.Strikes.{struck_by};
@@ -148,9 +149,10 @@ impl Transactions {
         set_slot(&mut self.slots, pid, doomed_slot);
     }
 
-    /// The causes of a doomed transaction, which is gone then.
+    /// The causes of a doomed transaction, which is gone then. It is not for a live one, whose changes would be lost.
     pub fn take_causes(&mut self, pid: Pid) -> Option<(Cause, Cause)>
-        requires { pid < length self.old.slots }
+        requires made { pid < length self.old.slots }
+        requires unchanged { changes_in (view_at self.old.slots pid) ≡ [] }
         ensures causes { result ≡ causes_of (view_at self.old.slots pid) }
         ensures slots { Shows self.old.slots self.new.slots pid resting }
         ensures stable { self.new.stable ≡ self.old.stable }
@@ -158,12 +160,13 @@ impl Transactions {
         causes_in(take_slot(&mut self.slots, pid))
     }
 
-    /// A live transaction is committed: its changes are made in one step, and what nothing leads to then is freed.
+    /// A live transaction is committed: its changes are made in one step, and what nothing leads to then is freed. What was kept for
+    /// them is given back.
     pub fn end(&mut self, pid: Pid)
         requires made { pid < length self.old.slots }
         requires can { CanCommit self.old.stable.state (changes_in (view_at self.old.slots pid)) }
         ensures slots { Shows self.old.slots self.new.slots pid resting }
-        ensures state { self.new.stable.state ≡ tidy (all_done (changes_in (view_at self.old.slots pid)) self.old.stable.state) }
+        ensures state { self.new.stable.state ≡ in_turn (changes_in (view_at self.old.slots pid)) self.old.stable.state }
     {
         let slot = take_slot(&mut self.slots, pid);
         shadow_in(self.heap, slot).commit_into(&mut self.stable);
@@ -181,45 +184,21 @@ impl Transactions {
         ensures state { self.new.stable.state ≡ self.old.stable.state }
         ensures err { OnErr result (SameViews self.old.slots self.new.slots) }
     {
-        let chosen = self.stable.number(edits.as_slice())?;
-        match edit_slot(&mut self.slots, &mut self.stable, pid, edits, &chosen) {
-            Ok(()) => Ok(chosen),
-            Err(AllocError) => {
-                give_back(&mut self.stable, chosen);
-                Err(AllocError)
-            }
-        }
+        let chosen = edit_slot(&mut self.slots, &mut self.stable, pid, edits)?;
+        Ok(chosen)
     }
 
     /// A change is committed at once, with new numbers, which are answered. Refused memory changes nothing.
     pub fn apply(&mut self, edits: Vec<Edit, Heap>) -> Result<Nums, AllocError>
         requires kinds { CanEdit edits.items }
         requires parents { HaveParents self.old.stable.reserves edits.items }
-        requires can { (chosen : List ℕ) → AreNew self.old edits.items chosen → CanCommit self.old.stable.state (effect chosen edits.items ∷ []) }
+        requires fits { (chosen : List ℕ) → AreNew self.old edits.items chosen → FitsAll chosen self.old.stable.state edits.items }
         ensures new { IfOk result (AreNew self.old edits.entry.items) }
-        ensures state { IfOk result (λ chosen. self.new.stable.state ≡ tidy (all_done (effect chosen edits.entry.items ∷ []) self.old.stable.state)) }
+        ensures state { IfOk result (λ chosen. self.new.stable.state ≡ tidy (all_applied chosen edits.entry.items self.old.stable.state)) }
         ensures slots { SameViews self.old.slots self.new.slots }
         ensures err { OnErr result (self.new.stable.state ≡ self.old.stable.state) }
     {
-        let chosen = self.stable.number(edits.as_slice())?;
-        let mut shadow = Shadow::new(self.heap);
-        match shadow.edit(&mut self.stable, edits, &chosen) {
-            Ok(()) => {
-                shadow.commit_into(&mut self.stable);
-                Ok(chosen)
-            }
-            Err(AllocError) => {
-                give_back(&mut self.stable, chosen);
-                Err(AllocError)
-            }
-        }
+        let chosen = self.stable.apply(edits)?;
+        Ok(chosen)
     }
-}
-
-// Gives new numbers back.
-fn give_back(stable: &mut Stable, chosen: Nums)
-    ensures state { stable.new.state ≡ stable.old.state }
-    ensures keeps { (c : Claim) → (is_in (number_of c) chosen ≡ true) ⊎ (reserved stable.old c ≤ reserved stable.new c) }
-{
-    stable.forget(&chosen);
 }

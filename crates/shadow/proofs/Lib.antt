@@ -12,3 +12,4 @@ pub mod Changing
 pub mod Committing
 pub mod InUse
 pub mod NoFiles
+pub mod Reserving

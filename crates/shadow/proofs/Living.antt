@@ -15,13 +15,15 @@ use Rattle.call_laws.specs.Numbers.{UnusedNumbersAreNowhere}
 use Rattle.call_laws.proofs.Maps.{not_none, true_is_false}
 use Rattle.call_laws.proofs.First.{first_processes_live}
 use Rattle.store.specs.Numbers.{Numbers, IsFirstRoot}
-use Rattle.store.specs.Shown.{inodes, inode_in}
+use Rattle.store.specs.Shown.{inodes, inode_in, inode_of, shown_at}
 use Rattle.store.specs.declared.Place.{Place}
-use Rattle.store.specs.declared.Place.TheVariants.{Coming, Held}
+use Rattle.store.specs.declared.Stage.{Stage}
+use Rattle.store.specs.declared.Stage.TheVariants.{Coming, Held, Lost}
+use Rattle.store.specs.declared.Object.{Object}
 use Rattle.store.specs.declared.Object.TheVariants.{Directory as Kept_directory}
 use Rattle.store.proofs.Changes.{get-inodes_by}
 use Rattle.shadow.specs.Looks.{NamesAreDirectories}
-use Rattle.shadow.specs.Stored.{stored, IsBare, Sound}
+use Rattle.shadow.specs.Stored.{stored, IsStaged, Sound}
 
 -- the processes are those of the start
 living : (ps : List ℕ) (m : FinMap nat_cmp Inode) (q : ℕ) → 0 < q → q ≤ length ps → is_alive (stored ps m) q ≡ true
@@ -56,8 +58,7 @@ is_process ps m (suc i) is = by_test (nat_le (suc i) (length ps)) refl
 -- all inodes are directories
 pub directory_kind : (o : Option Place) (what : Kind) → mapped kind (option_and_then inode_in o) ≡ Some what → what ≡ A_directory
 directory_kind None what e = absurd (not_none what (sym e))
-directory_kind (Some (Coming object)) what e = absurd (not_none what (sym e))
-directory_kind (Some (Held (Kept_directory l))) what e = some_kind A_directory what e
+directory_kind (Some place) what e = by_stage place.stage place.object e
   where
     some_kind : (a b : Kind) → Some a ≡ Some b → b ≡ a
     some_kind a b e = sym (ap (λ (o : Option Kind). or_kind a o) e)
@@ -65,6 +66,11 @@ directory_kind (Some (Held (Kept_directory l))) what e = some_kind A_directory w
         or_kind : Kind → Option Kind → Kind
         or_kind d (Some k) = k
         or_kind d None = d
+
+    by_stage : (t : Stage) (object : Object) → mapped kind (shown_at t (inode_of object)) ≡ Some what → what ≡ A_directory
+    by_stage Coming object e = absurd (not_none what (sym e))
+    by_stage Lost object e = absurd (not_none what (sym e))
+    by_stage Held (Kept_directory l) e = some_kind A_directory what e
 
 named_kind : (o : Option Kind) → CanBeNamed o → ((what : Kind) → o ≡ Some what → what ≡ A_directory) → o ≡ Some A_directory
 named_kind None can all = absurd can
@@ -87,11 +93,11 @@ first_sound laws ps s root is first = record {
   root = root;
   well = subst WellFormed (sym (first_state ps s root is)) (laws.well_start 0 ps);
   tidied = subst (λ (k : Kernel). tidy k ≡ k) (sym (first_state ps s root is)) (laws.tidy_start 0 ps);
-  bare = bare;
+  staged = staged;
 }
   where
-    bare : (n : ℕ) → IsBare (get s.places n)
-    bare n = elim (cases_eq n s.root) [
-      | inl same ↦ subst IsBare (sym (ap (λ m. get m n) first ∙ ap (get (insert empty s.root _)) same ∙ get_same empty s.root _)) tt
-      | inr away ↦ subst IsBare (sym (ap (λ m. get m n) first ∙ get_other empty s.root n _ away ∙ get-empty nat_cmp n)) tt
+    staged : (n : ℕ) → IsStaged (get s.places n)
+    staged n = elim (cases_eq n s.root) [
+      | inl same ↦ subst IsStaged (sym (ap (λ m. get m n) first ∙ ap (get (insert empty s.root _)) same ∙ get_same empty s.root _)) tt
+      | inr away ↦ subst IsStaged (sym (ap (λ m. get m n) first ∙ get_other empty s.root n _ away ∙ get-empty nat_cmp n)) tt
     ]

@@ -1,161 +1,243 @@
 -- How often a store meets a claim, and how its changes change that.
-use Rattle.std.proofs.Common.{◌≡◌, ◌≢◌, ℕ, ◌+◌, ◌≤◌, cond, List, Option, Some, None, refl, sym, ap, ◌∙◌, arith, ◌==◌, eq-eqb, ne_eqb, inl, inr}
+use Rattle.std.proofs.Common.{◌≡◌, ◌≢◌, ℕ, ◌+◌, ◌<◌, ◌≤◌, Bool, true, false, cond, List, Option, Some, None, refl, sym, ap, ◌∙◌, arith, eq-eqb, ne_eqb, ltb-false, inl, inr}
 use Rattle.std.specs.Option.{option_map, option_and_then}
 use Rattle.std.proofs.lemmas.Bool.{cases_eq}
-use Rattle.model.specs.FiniteMap.{get}
-use Rattle.call_laws.proofs.Maps.{not_none, removed_other}
+use Rattle.std.specs.Ordering.{nat_cmp}
+use Rattle.model.specs.FiniteMap.{empty, get, get-empty, insert, remove}
+use Rattle.model.proofs.Inodes.{get_same, get_other}
+use Rattle.call_laws.proofs.Maps.{not_none}
 use Rattle.dirlist.specs.Listing.{Listing}
-use Rattle.store.specs.Numbers.{Numbers}
-use Rattle.store.specs.Places.{installed_place, hidden_place, listing_in, listing_at, changed_place, changed_listing, more_room}
+use Rattle.store.specs.Numbers.{IsFirstRoot, Numbers, coming, no_names, present}
+use Rattle.store.specs.Places.{altered, installed, hidden, is_over, is_over_by, has_room, listing_of, listing_in, changed_object, with_listing, more_room, shown_stage, swept}
 use Rattle.store.specs.declared.Place.{Place}
-use Rattle.store.specs.declared.Place.TheVariants.{Coming, Held}
+use Rattle.store.specs.declared.Stage.{Stage}
+use Rattle.store.specs.declared.Stage.TheVariants.{Coming, Held, Lost}
+use Rattle.store.specs.declared.Object.{Object}
 use Rattle.store.specs.declared.Object.TheVariants.{Directory as Kept_directory}
 use Rattle.store.proofs.Chosen.{get-chosen}
-use Rattle.store.proofs.Changes.{installed_in, hidden_in, without_place}
-use Rattle.store.proofs.Listings.{place-changed, place-other, listing-changed, listing-other, place-installed-other, place-hidden, place-hidden-other, listing-installed, listing-hidden}
-use Rattle.shadow.specs.Claims.{Claim, Room, Number, promised_in, coming_in, reserved, IsInUse, room_in, number_of}
-use Rattle.shadow.specs.Stored.{promised_of, reserve_in, committed_of}
+use Rattle.store.proofs.Changes.{with_place, without_place}
+use Rattle.store.proofs.Rows.{get-gone, get-left}
+use Rattle.store.proofs.Listings.{place-altered, place-other}
+use Rattle.shadow.specs.Claims.{Claim, Room, Number, promised_in, coming_in, reserved, IsInUse, room_in, number_as, number_of}
+use Rattle.shadow.specs.Stored.{promised_of, is_coming, reserve_in, committed_of}
 
 -- one object to come, or none
+abbrev pub coming_at : Stage → ℕ
+coming_at Coming = 1
+coming_at Held = 0
+coming_at Lost = 0
+
 abbrev pub coming_by : Option Place → ℕ
-coming_by (Some (Coming object)) = 1
-coming_by (Some (Held object)) = 0
+coming_by (Some place) = coming_at place.stage
 coming_by None = 0
 
--- whether a claim is this number's, as a count
-abbrev pub cond_number : ℕ → Claim → ℕ
-cond_number n (Number m) = cond (n == m) 1 0
-cond_number n (Room r) = 0
+-- how often a claim on a number is met by what the number is used for
+abbrev pub at_place : Claim → Option Place → ℕ
+at_place (Room d) o = promised_of (listing_in o)
+at_place (Number n) o = coming_by o
 
 abbrev pub met : Numbers → Claim → ℕ
-met s (Room d) = promised_of (listing_at s d)
-met s (Number n) = coming_by (get s.places n)
+met s c = at_place c (get s.places (number_of c))
 
 promised_is : (o : Option Place) → promised_in (option_and_then reserve_in o) ≡ promised_of (listing_in o)
 promised_is None = refl
-promised_is (Some (Coming object)) = refl
-promised_is (Some (Held object)) = refl
+promised_is (Some place) = refl
 
 coming_is : (o : Option Place) → coming_in (option_and_then reserve_in o) ≡ coming_by o
 coming_is None = refl
-coming_is (Some (Coming object)) = refl
-coming_is (Some (Held object)) = refl
+coming_is (Some place) = by_stage place.stage
+  where
+    by_stage : (t : Stage) → cond {A = ℕ} (is_coming t) 1 0 ≡ coming_at t
+    by_stage Coming = refl
+    by_stage Held = refl
+    by_stage Lost = refl
 
 pub met_is : (ps : List ℕ) (s : Numbers) (c : Claim) → reserved (committed_of ps s) c ≡ met s c
 met_is ps s (Room d) = ap promised_in (get-chosen reserve_in s.places d) ∙ promised_is (get s.places d)
 met_is ps s (Number n) = ap coming_in (get-chosen reserve_in s.places n) ∙ coming_is (get s.places n)
 
-pub one_at_most : (o : Option Place) → coming_by o ≤ 1
-one_at_most (Some (Coming object)) = omega arith
-one_at_most (Some (Held object)) = omega arith
-one_at_most None = omega arith
+-- claims on other numbers
+pub no_room_in : (d : ℕ) (c : Claim) → number_of c ≢ d → room_in d c ≡ 0
+no_room_in d (Room r) away = ap (λ b. cond b 1 0) (ne_eqb d r (λ e. away (sym e)))
+no_room_in d (Number m) away = refl
 
-coming_changed : (f : Listing → Listing) (o : Option Place) → coming_by (option_map (changed_place f) o) ≡ coming_by o
-coming_changed f None = refl
-coming_changed f (Some (Coming object)) = refl
-coming_changed f (Some (Held object)) = refl
+pub no_number_as : (n : ℕ) (c : Claim) → number_of c ≢ n → number_as n c ≡ 0
+no_number_as n (Room r) away = refl
+no_number_as n (Number m) away = ap (λ b. cond b 1 0) (ne_eqb n m (λ e. away (sym e)))
 
-coming_installed : (o : Option Place) → coming_by (option_map installed_place o) ≡ 0
-coming_installed None = refl
-coming_installed (Some (Coming object)) = refl
-coming_installed (Some (Held object)) = refl
+-- a change of one place, for claims on its number and on others
+module _ (f : Place → Place) (s : Numbers) (n : ℕ) (c : Claim) where
+  here : number_of c ≡ n → met (altered f s n) c ≡ at_place c (option_map f (get s.places n))
+  here same = ap (λ m. at_place c (get (altered f s n).places m)) same ∙ ap (at_place c) (place-altered f s n)
 
-coming_hidden : (o : Option Place) → coming_by o ≤ coming_by (option_map hidden_place o)
-coming_hidden None = omega arith
-coming_hidden (Some (Coming object)) = omega arith
-coming_hidden (Some (Held object)) = omega arith
+  was : number_of c ≡ n → met s c ≡ at_place c (get s.places n)
+  was same = ap (λ m. at_place c (get s.places m)) same
 
--- a change of a listing leaves what is to come
-pub number_changed : (f : Listing → Listing) (s : Numbers) (d n : ℕ) → met (changed_listing f s d) (Number n) ≡ met s (Number n)
-number_changed f s d n = elim (cases_eq n d) [
-  | inl same ↦ ap (λ t. met (changed_listing f s d) (Number t)) same ∙ ap coming_by (place-changed f s d) ∙ coming_changed f (get s.places d) ∙ ap (λ t. met s (Number t)) (sym same)
-  | inr away ↦ ap coming_by (place-other f s d n away)
-]
+  pub met_other : number_of c ≢ n → met (altered f s n) c ≡ met s c
+  met_other away = ap (at_place c) (place-other f s n (number_of c) away)
 
--- and other directories' room
-pub room_other : (f : Listing → Listing) (s : Numbers) (d r : ℕ) → r ≢ d → met (changed_listing f s d) (Room r) ≡ met s (Room r)
-room_other f s d r away = ap promised_of (listing-other f s d r away)
+  pub altered_less : (less : ℕ) → (number_of c ≢ n → less ≡ 0) → (number_of c ≡ n → at_place c (option_map f (get s.places n)) + less ≡ at_place c (get s.places n)) → met (altered f s n) c + less ≡ met s c
+  altered_less less none one = elim (cases_eq (number_of c) n) [
+    | inl same ↦ ap (λ t. t + less) (here same) ∙ one same ∙ sym (was same)
+    | inr away ↦ (let zero : less ≡ 0 = none away in let other : met (altered f s n) c ≡ met s c = met_other away in omega arith)
+  ]
 
-pub room_here : (f : Listing → Listing) (s : Numbers) (d : ℕ) → met (changed_listing f s d) (Room d) ≡ promised_of (option_map f (listing_at s d))
-room_here f s d = ap promised_of (listing-changed f s d)
+  pub altered_more : (more : ℕ) → (number_of c ≢ n → more ≡ 0) → (number_of c ≡ n → at_place c (option_map f (get s.places n)) ≡ at_place c (get s.places n) + more) → met (altered f s n) c ≡ met s c + more
+  altered_more more none one = elim (cases_eq (number_of c) n) [
+    | inl same ↦ here same ∙ one same ∙ ap (λ t. t + more) (sym (was same))
+    | inr away ↦ (let zero : more ≡ 0 = none away in let other : met (altered f s n) c ≡ met s c = met_other away in omega arith)
+  ]
 
--- a change that takes at most one promise
-pub takes_one : (f : Listing → Listing) → ((l : Listing) → l.promised ≤ (f l).promised + 1) → (s : Numbers) (d : ℕ) (c : Claim) → met s c ≤ met (changed_listing f s d) c + room_in d c
-takes_one f low s d (Number n) = let same : met (changed_listing f s d) (Number n) ≡ met s (Number n) = number_changed f s d n in omega arith
-takes_one f low s d (Room r) = elim (cases_eq r d) [
-  | inl same ↦ (
-      let one : room_in d (Room r) ≡ 1 = ap (λ b. cond b 1 0) (eq-eqb d r (sym same)) in
-      let here : met (changed_listing f s d) (Room r) ≡ promised_of (option_map f (listing_at s d)) = ap (λ t. met (changed_listing f s d) (Room t)) same ∙ room_here f s d in
-      let was : met s (Room r) ≡ promised_of (listing_at s d) = ap (λ t. met s (Room t)) same in
-      let less : promised_of (listing_at s d) ≤ promised_of (option_map f (listing_at s d)) + 1 = by_listing (listing_at s d) in
-      omega arith)
-  | inr away ↦ (let other : met (changed_listing f s d) (Room r) ≡ met s (Room r) = room_other f s d r away in omega arith)
-]
-  where
-    by_listing : (o : Option Listing) → promised_of o ≤ promised_of (option_map f o) + 1
-    by_listing (Some l) = low l
-    by_listing None = omega arith
-
--- a change that leaves promises
-pub takes_none : (f : Listing → Listing) → ((l : Listing) → (f l).promised ≡ l.promised) → (s : Numbers) (d : ℕ) (c : Claim) → met (changed_listing f s d) c ≡ met s c
-takes_none f same s d (Number n) = number_changed f s d n
-takes_none f same s d (Room r) = elim (cases_eq r d) [
-  | inl here ↦ ap (λ t. met (changed_listing f s d) (Room t)) here ∙ room_here f s d ∙ by_listing (listing_at s d) ∙ ap (λ t. met s (Room t)) (sym here)
-  | inr away ↦ room_other f s d r away
-]
-  where
-    by_listing : (o : Option Listing) → promised_of (option_map f o) ≡ promised_of o
-    by_listing (Some l) = same l
-    by_listing None = refl
-
-has_listing : (p : Place) → (l : Listing) × (listing_in (Some p) ≡ Some l)
-has_listing (Coming (Kept_directory l)) = (l, refl)
-has_listing (Held (Kept_directory l)) = (l, refl)
+  pub altered_same : (number_of c ≡ n → at_place c (option_map f (get s.places n)) ≡ at_place c (get s.places n)) → met (altered f s n) c ≡ met s c
+  altered_same one = elim (cases_eq (number_of c) n) [ inl same ↦ here same ∙ one same ∙ sym (was same) | inr away ↦ met_other away ]
 
 -- one promise more
-pub gives_one : (s : Numbers) (d : ℕ) → get s.places d ≢ None → (c : Claim) → met s c + room_in d c ≤ met (changed_listing more_room s d) c
-gives_one s d there (Number n) = let same : met (changed_listing more_room s d) (Number n) ≡ met s (Number n) = number_changed more_room s d n in omega arith
-gives_one s d there (Room r) = elim (cases_eq r d) [
-  | inl same ↦ (
-      let one : room_in d (Room r) ≡ 1 = ap (λ b. cond b 1 0) (eq-eqb d r (sym same)) in
-      let here : met (changed_listing more_room s d) (Room r) ≡ promised_of (option_map more_room (listing_at s d)) = ap (λ t. met (changed_listing more_room s d) (Room t)) same ∙ room_here more_room s d in
-      let was : met s (Room r) ≡ promised_of (listing_at s d) = ap (λ t. met s (Room t)) same in
-      let more : promised_of (option_map more_room (listing_at s d)) ≡ promised_of (listing_at s d) + 1 = by_place (get s.places d) refl in
-      omega arith)
-  | inr away ↦ (
-      let none : room_in d (Room r) ≡ 0 = ap (λ b. cond b 1 0) (ne_eqb d r (λ e. away (sym e))) in
-      let other : met (changed_listing more_room s d) (Room r) ≡ met s (Room r) = room_other more_room s d r away in omega arith)
-]
+pub gives_one : (s : Numbers) (d : ℕ) → get s.places d ≢ None → (c : Claim) → met (altered (with_listing more_room) s d) c ≡ met s c + room_in d c
+gives_one s d there c = altered_more (with_listing more_room) s d c (room_in d c) (no_room_in d c) (λ same. by_place (get s.places d) there c same)
   where
-    by_place : (o : Option Place) → get s.places d ≡ o → promised_of (option_map more_room (listing_in o)) ≡ promised_of (listing_in o) + 1
-    by_place (Some (Coming (Kept_directory l))) is = refl
-    by_place (Some (Held (Kept_directory l))) is = refl
-    by_place None is = absurd (there is)
+    by_object : (object : Object) → promised_of (listing_of (changed_object more_room object)) ≡ promised_of (listing_of object) + 1
+    by_object (Kept_directory l) = refl
+
+    by_place : (o : Option Place) → o ≢ None → (c : Claim) → number_of c ≡ d → at_place c (option_map (with_listing more_room) o) ≡ at_place c o + room_in d c
+    by_place None there c same = absurd (there refl)
+    by_place (Some place) there (Room r) same =
+        let one : room_in d (Room r) ≡ 1 = ap (λ b. cond b 1 0) (eq-eqb d r (sym same)) in
+        let more : promised_of (listing_of (changed_object more_room place.object)) ≡ promised_of (listing_of place.object) + 1 = by_object place.object in omega arith
+    by_place (Some place) there (Number m) same = omega arith
+
+-- a change of a listing that takes one promise
+pub takes_one : (f : Listing → Listing) → ((l : Listing) → 0 < l.promised → (f l).promised + 1 ≡ l.promised) → (s : Numbers) (d : ℕ) → 0 < met s (Room d) → (c : Claim)
+    → met (altered (with_listing f) s d) c + room_in d c ≡ met s c
+takes_one f low s d some c = altered_less (with_listing f) s d c (room_in d c) (no_room_in d c) (λ same. by_place (get s.places d) some c same)
+  where
+    by_object : (object : Object) → 0 < promised_of (listing_of object) → promised_of (listing_of (changed_object f object)) + 1 ≡ promised_of (listing_of object)
+    by_object (Kept_directory l) some = low l some
+
+    by_place : (o : Option Place) → 0 < promised_of (listing_in o) → (c : Claim) → number_of c ≡ d → at_place c (option_map (with_listing f) o) + room_in d c ≡ at_place c o
+    by_place None some c same = absurd (omega arith)
+    by_place (Some place) some (Room r) same =
+        let one : room_in d (Room r) ≡ 1 = ap (λ b. cond b 1 0) (eq-eqb d r (sym same)) in
+        let less : promised_of (listing_of (changed_object f place.object)) + 1 ≡ promised_of (listing_of place.object) = by_object place.object some in omega arith
+    by_place (Some place) some (Number m) same = omega arith
+
+-- a change of a listing that leaves promises
+pub takes_none : (f : Listing → Listing) → ((l : Listing) → (f l).promised ≡ l.promised) → (s : Numbers) (d : ℕ) (c : Claim) → met (altered (with_listing f) s d) c ≡ met s c
+takes_none f kept s d c = altered_same (with_listing f) s d c (λ same. by_place (get s.places d) c)
+  where
+    by_object : (object : Object) → promised_of (listing_of (changed_object f object)) ≡ promised_of (listing_of object)
+    by_object (Kept_directory l) = kept l
+
+    by_place : (o : Option Place) (c : Claim) → at_place c (option_map (with_listing f) o) ≡ at_place c o
+    by_place None c = refl
+    by_place (Some place) (Room r) = by_object place.object
+    by_place (Some place) (Number m) = refl
 
 -- an object that was to come is there
-pub installs : (s : Numbers) (n : ℕ) (c : Claim) → met s c ≤ met (installed_in s n) c + cond_number n c
-installs s n (Room r) = let same : met (installed_in s n) (Room r) ≡ met s (Room r) = ap promised_of (listing-installed s n r) in omega arith
-installs s n (Number m) = elim (cases_eq m n) [
-  | inl same ↦ (
-      let one : cond_number n (Number m) ≡ 1 = ap (λ b. cond b 1 0) (eq-eqb n m (sym same)) in
-      let low : met s (Number m) ≤ 1 = one_at_most (get s.places m) in omega arith)
-  | inr away ↦ (let other : met (installed_in s n) (Number m) ≡ met s (Number m) = ap coming_by (place-installed-other s n m away) in omega arith)
-]
+pub installs : (s : Numbers) (n : ℕ) → 0 < met s (Number n) → (c : Claim) → met (altered installed s n) c + number_as n c ≡ met s c
+installs s n some c = altered_less installed s n c (number_as n c) (no_number_as n c) (λ same. by_place (get s.places n) some c same)
+  where
+    by_stage : (t : Stage) → 0 < coming_at t → coming_at (shown_stage t) + 1 ≡ coming_at t
+    by_stage Coming some = refl
+    by_stage Held some = absurd (omega arith)
+    by_stage Lost some = absurd (omega arith)
 
-pub hides : (s : Numbers) (n : ℕ) (c : Claim) → met s c ≤ met (hidden_in s n) c
-hides s n (Room r) = let same : met (hidden_in s n) (Room r) ≡ met s (Room r) = ap promised_of (listing-hidden s n r) in omega arith
-hides s n (Number m) = elim (cases_eq m n) [
-  | inl same ↦ (
-      let here : met (hidden_in s n) (Number m) ≡ coming_by (option_map hidden_place (get s.places n)) = ap (λ t. met (hidden_in s n) (Number t)) same ∙ ap coming_by (place-hidden s n) in
-      let was : met s (Number m) ≡ coming_by (get s.places n) = ap (λ t. met s (Number t)) same in
-      let more : coming_by (get s.places n) ≤ coming_by (option_map hidden_place (get s.places n)) = coming_hidden (get s.places n) in omega arith)
-  | inr away ↦ (let other : met (hidden_in s n) (Number m) ≡ met s (Number m) = ap coming_by (place-hidden-other s n m away) in omega arith)
-]
+    by_place : (o : Option Place) → 0 < coming_by o → (c : Claim) → number_of c ≡ n → at_place c (option_map installed o) + number_as n c ≡ at_place c o
+    by_place None some c same = absurd (omega arith)
+    by_place (Some place) some (Room r) same = omega arith
+    by_place (Some place) some (Number m) same =
+        let one : number_as n (Number m) ≡ 1 = ap (λ b. cond b 1 0) (eq-eqb n m (sym same)) in
+        let less : coming_at (shown_stage place.stage) + 1 ≡ coming_at place.stage = by_stage place.stage some in omega arith
 
--- a number that is freed
-pub frees_other : (s : Numbers) (n : ℕ) (c : Claim) → number_of c ≢ n → met (without_place s n) c ≡ met s c
-frees_other s n (Room r) away = ap (λ o. promised_of (listing_in o)) (removed_other s.places n r away)
-frees_other s n (Number m) away = ap coming_by (removed_other s.places n m away)
+-- an object that was to come is lost
+pub one_at_most : (o : Option Place) → coming_by o ≤ 1
+one_at_most None = omega arith
+one_at_most (Some place) = by_stage place.stage
+  where
+    by_stage : (t : Stage) → coming_at t ≤ 1
+    by_stage Coming = omega arith
+    by_stage Held = omega arith
+    by_stage Lost = omega arith
+
+pub hides_coming : (s : Numbers) (n : ℕ) → 0 < met s (Number n) → (c : Claim) → met (altered hidden s n) c + number_as n c ≡ met s c
+hides_coming s n some c = altered_less hidden s n c (number_as n c) (no_number_as n c) (λ same. by_place (get s.places n) some c same)
+  where
+    by_place : (o : Option Place) → 0 < coming_by o → (c : Claim) → number_of c ≡ n → at_place c (option_map hidden o) + number_as n c ≡ at_place c o
+    by_place None some c same = absurd (omega arith)
+    by_place (Some place) some (Room r) same = omega arith
+    by_place (Some place) some (Number m) same =
+        let one : number_as n (Number m) ≡ 1 = ap (λ b. cond b 1 0) (eq-eqb n m (sym same)) in
+        let most : coming_at place.stage ≤ 1 = one_at_most (Some place) in omega arith
+
+-- and one that was there
+pub hides_held : (s : Numbers) (n : ℕ) → met s (Number n) ≡ 0 → (c : Claim) → met (altered hidden s n) c ≡ met s c
+hides_held s n none c = altered_same hidden s n c (λ same. by_place (get s.places n) none c)
+  where
+    by_place : (o : Option Place) → coming_by o ≡ 0 → (c : Claim) → at_place c (option_map hidden o) ≡ at_place c o
+    by_place None none c = refl
+    by_place (Some place) none (Room r) = refl
+    by_place (Some place) none (Number m) = sym none
+
+-- a sweep takes nothing that is claimed
+pub no_room : (o : Option Listing) → has_room o ≡ false → promised_of o ≡ 0
+no_room None e = refl
+no_room (Some l) e = let low : l.promised ≤ 0 = ltb-false 0 l.promised e in omega arith
+
+over_is_lost : (t : Stage) (room : Bool) → is_over_by t room ≡ true → (coming_at t ≡ 0) × (room ≡ false)
+over_is_lost Coming room over = absurd cc
+over_is_lost Held room over = absurd cc
+over_is_lost Lost true over = absurd cc
+over_is_lost Lost false over = (refl, refl)
+
+over_meets_none : (o : Option Place) (c : Claim) → is_over o ≡ true → at_place c o ≡ 0
+over_meets_none None (Room r) over = refl
+over_meets_none None (Number m) over = refl
+over_meets_none (Some place) (Room r) over = no_room (listing_of place.object) (over_is_lost place.stage (has_room (listing_of place.object)) over).1
+over_meets_none (Some place) (Number m) over = (over_is_lost place.stage (has_room (listing_of place.object)) over).0
+
+none_meets_none : (c : Claim) → at_place c None ≡ 0
+none_meets_none (Room r) = refl
+none_meets_none (Number m) = refl
+
+pub met_swept : (s : Numbers) (n : ℕ) (c : Claim) → met (swept s n) c ≡ met s c
+met_swept s n c = by_test (is_over (get s.places n)) refl
+  where
+    by_test : (b : Bool) → is_over (get s.places n) ≡ b → met (cond b (without_place s n) s) c ≡ met s c
+    by_test false e = refl
+    by_test true e = elim (cases_eq (number_of c) n) [
+      | inl same ↦ ap (λ m. at_place c (get (remove s.places n) m)) same ∙ ap (at_place c) (get-gone s.places n) ∙ none_meets_none c
+          ∙ sym (over_meets_none (get s.places n) c e) ∙ sym (ap (λ m. at_place c (get s.places m)) same)
+      | inr away ↦ ap (at_place c) (get-left s.places n (number_of c) away)
+    ]
+
+-- claims on a reserved number are met
+pub reserves : (s : Numbers) (n : ℕ) (l : Listing) → get s.places n ≡ None → l.promised ≡ 0 → (c : Claim) → met (with_place s n (coming (Kept_directory l))) c ≡ met s c + number_as n c
+reserves s n l none zero c = elim (cases_eq (number_of c) n) [
+  | inl same ↦ ap (λ m. at_place c (get (with_place s n (coming (Kept_directory l))).places m)) same ∙ ap (at_place c) (get_same s.places n (coming (Kept_directory l))) ∙ by_claim c same
+  | inr away ↦ (
+      let more : number_as n c ≡ 0 = no_number_as n c away in
+      let other : met (with_place s n (coming (Kept_directory l))) c ≡ met s c = ap (at_place c) (get_other s.places n (number_of c) _ away) in omega arith)
+]
+  where
+    by_claim : (c : Claim) → number_of c ≡ n → at_place c (Some (coming (Kept_directory l))) ≡ met s c + number_as n c
+    by_claim (Room r) same = let was : met s (Room r) ≡ 0 = ap (λ o. promised_of (listing_in o)) (ap (get s.places) same ∙ none) in omega arith
+    by_claim (Number m) same =
+        let was : met s (Number m) ≡ 0 = ap coming_by (ap (get s.places) same ∙ none) in
+        let one : number_as n (Number m) ≡ 1 = ap (λ b. cond b 1 0) (eq-eqb n m (sym same)) in omega arith
+
+pub unused_met : (s : Numbers) (n : ℕ) (c : Claim) → get s.places n ≡ None → number_of c ≡ n → met s c ≡ 0
+unused_met s n c none is = ap (at_place c) (ap (get s.places) is ∙ none) ∙ none_meets_none c
+
+-- the first store keeps nothing
+pub first_met : (s : Numbers) → IsFirstRoot s → (c : Claim) → met s c ≡ 0
+first_met s first c = elim (cases_eq (number_of c) s.root) [
+  | inl same ↦ ap (λ m. at_place c (get m (number_of c))) first ∙ ap (λ n. at_place c (get (insert (empty {R = nat_cmp}) s.root (present (Kept_directory no_names))) n)) same
+      ∙ ap (at_place c) (get_same empty s.root (present (Kept_directory no_names))) ∙ by_claim c
+  | inr away ↦ ap (λ m. at_place c (get m (number_of c))) first ∙ ap (at_place c) (get_other empty s.root (number_of c) _ away ∙ get-empty nat_cmp (number_of c)) ∙ none_meets_none c
+]
+  where
+    by_claim : (c : Claim) → at_place c (Some (present (Kept_directory no_names))) ≡ 0
+    by_claim (Room r) = refl
+    by_claim (Number m) = refl
 
 -- a number is in use where it has a place
 pub use_of : (ps : List ℕ) (s : Numbers) (n : ℕ) → IsInUse (committed_of ps s).reserves n → get s.places n ≢ None
@@ -166,5 +248,4 @@ of_use ps s n there none = by_place (get s.places n) there (sym (get-chosen rese
   where
     by_place : (o : Option Place) → o ≢ None → option_and_then reserve_in o ≡ None → ⊥
     by_place None h e = h refl
-    by_place (Some (Coming object)) h e = not_none _ e
-    by_place (Some (Held object)) h e = not_none _ e
+    by_place (Some place) h e = not_none _ e

@@ -11,12 +11,20 @@ use Rattle.shadow.specs.declared.steps.Step.TheVariants.{Nothing, Make, Unname}
 use Rattle.shadow.specs.Claims.{Room, claimed}
 use Rattle.shadow.specs.Index.{Given, given_at}
 
--- the changes of a call that are there today: none, or a directory that comes or goes with its name
+-- the edits that are there today: a directory comes or goes with its name
+abbrev pub IsOfName : Edit → Type 0
+IsOfName (Make_directory d x i) = i ≡ 0
+IsOfName (Unname_directory d x) = ⊤
+IsOfName _ = ⊥
+
+-- what a call changes today: nothing, or one name
 abbrev pub CanEdit : List Edit → Type 0
 CanEdit [] = ⊤
-CanEdit (Make_directory d x i ∷ []) = i ≡ 0
-CanEdit (Unname_directory d x ∷ []) = ⊤
-CanEdit _ = ⊥
+CanEdit (e ∷ []) = IsOfName e
+CanEdit (e ∷ f ∷ es) = ⊥
+
+abbrev pub effect : List ℕ → List Edit → Effect
+effect chosen edits = record { chosen = chosen; edits = edits }
 
 abbrev pub effect_of : Step → Effect
 effect_of Nothing = record { chosen = []; edits = [] }
@@ -25,6 +33,11 @@ effect_of (Unname d x) = record { chosen = []; edits = Unname_directory d x ∷ 
 
 abbrev pub effects_of : List Step → List Effect
 effects_of steps = map effect_of steps
+
+-- one number
+abbrev pub IsOne : List ℕ → Type 0
+IsOne (n ∷ []) = ⊤
+IsOne _ = ⊥
 
 -- the numbers of new directories
 abbrev pub made_by : List Effect → List ℕ

@@ -1,10 +1,12 @@
 -- What a transaction's changes need of the committed state to be committed without memory: room for each name that they add, and
 -- their new numbers.
-use Rattle.std.specs.Prelude.{◌≢◌, ℕ, ◌≤◌, Bool, false, List, Option, Some, None, ◌==◌, if◌then◌else◌, ⊤}
+use Rattle.std.specs.Prelude.{◌≡◌, ◌≢◌, ℕ, ◌+◌, ◌≤◌, Bool, true, false, List, length, Option, Some, None, ◌==◌, if◌then◌else◌, ⊤}
 use Rattle.std.specs.Ordering.{nat_cmp}
 use Rattle.std.specs.List.{AllByRecursion, count_by, sum_by}
 use Rattle.model.specs.FiniteMap.{FinMap, get}
-use Rattle.model.specs.Changes.{Edit, Make_directory}
+use Rattle.model.specs.Changes.{Edit, Make_directory, news}
+use Rattle.model.specs.Steps.{AllDifferent, IsNowhere}
+use Rattle.model.specs.Moments.{is_in}
 use Rattle.model.specs.Effects.{Effect}
 use Rattle.shadow.specs.Committed.{Committed, Reserve}
 
@@ -32,6 +34,11 @@ abbrev pub room_in : ℕ → Claim → ℕ
 room_in d (Room r) = if d == r then 1 else 0
 room_in d (Number n) = 0
 
+-- whether a claim is this number's, as a count
+abbrev pub number_as : ℕ → Claim → ℕ
+number_as n (Number m) = if n == m then 1 else 0
+number_as n (Room r) = 0
+
 abbrev pub claimed : Claim → List Effect → ℕ
 claimed c ds = sum_by (claimed_by c) ds
 
@@ -51,6 +58,26 @@ reserved s (Number n) = coming_in (get s.reserves n)
 -- all that these changes claim is there
 abbrev pub Covers : Committed → List Effect → Type 0
 Covers s ds = (c : Claim) → claimed c ds ≤ reserved s c
+
+-- t keeps what s keeps, and this much besides
+abbrev pub KeepsMore : Committed → Committed → (Claim → ℕ) → Type 0
+KeepsMore s t more = (c : Claim) → reserved t c ≡ reserved s c + more c
+
+-- t keeps what s keeps
+abbrev pub KeepsSame : Committed → Committed → Type 0
+KeepsSame s t = (c : Claim) → reserved t c ≡ reserved s c
+
+-- nothing is kept
+abbrev pub KeepsNothing : Committed → Type 0
+KeepsNothing s = (c : Claim) → reserved s c ≡ 0
+
+-- Numbers for what these edits make: as many as they need, all different, of no object, and of none that a transaction has made or
+-- in which it needs room.
+pub record AreUnused (s : Committed) (made : List Edit) (chosen : List ℕ) : Type 0 where
+  pub count : length chosen ≡ sum_by news made
+  pub unused : (c : Claim) → is_in (number_of c) chosen ≡ true → reserved s c ≡ 0
+  pub different : AllDifferent chosen
+  pub nowhere : AllByRecursion (IsNowhere s.state) chosen
 
 -- a number of an object that is there or to come
 abbrev pub IsInUse : FinMap nat_cmp Reserve → ℕ → Type 0

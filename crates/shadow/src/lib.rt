@@ -3,6 +3,8 @@
 //! Today there are directories, and the changes that mkdir and rmdir make.
 #![tactic(auto)]
 
+ghost use Rattle.shadow.specs.Effects.{CallsCanBeCommitted};
+
 mod index;
 mod shadow;
 mod stable;
@@ -12,3 +14,9 @@ mod view;
 pub use shadow::Shadow;
 pub use stable::Stable;
 pub use view::View;
+
+/// What calls change that are answered as they were can be committed: each change fits where it stands.
+/// Proved in `proofs/Going.antt`.
+pub fn calls_can_be_committed()
+    ensures { CallsCanBeCommitted }
+{}

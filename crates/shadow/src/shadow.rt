@@ -1,14 +1,13 @@
 // A transaction's changes.
-ghost use Rattle.std.specs.Prelude.{ℕ, ◌≡◌, ◌≤◌, ◌+◌, ◌++◌, ◌∷◌, [], length, IfOk, IfSome, OnErr, OnOk};
-ghost use Rattle.std.specs.List.{AllByRecursion, sum_by};
+ghost use Rattle.std.specs.Prelude.{ℕ, ◌≡◌, ◌++◌, ◌∷◌, [], IfOk, OnErr, OnOk};
 ghost use Rattle.model.specs.State.{Kernel, entry_of, names_of};
-ghost use Rattle.model.specs.Changes.{news, tidy};
+ghost use Rattle.model.specs.Changes.{Make_directory};
 ghost use Rattle.model.specs.Effects.{all_done};
-ghost use Rattle.shadow.specs.Committed.{CanCommit};
+ghost use Rattle.shadow.specs.Effects.{CanCommit, in_turn};
 ghost use Rattle.shadow.specs.declared.steps.Step.TheVariants as steps;
-ghost use Rattle.shadow.specs.Changes.{CanEdit, effect_of};
+ghost use Rattle.shadow.specs.Changes.{CanEdit, effect, effect_of};
 ghost use Rattle.shadow.specs.Looks.{HasNoFiles, NamesAreInUse, birth_of, directory_at};
-ghost use Rattle.shadow.specs.Claims.{Claim, Room, Covers, HaveParents, IsInUse, claimed, claimed_by, reserved, room_in};
+ghost use Rattle.shadow.specs.Claims.{AreUnused, Claim, Covers, HaveParents, IsInUse, KeepsMore, KeepsSame, claimed, claimed_by};
 
 use crate::index::Index;
 use crate::stable::Stable;
@@ -52,47 +51,51 @@ impl Shadow {
         }
     }
 
-    /// Adds what a call changes, with its new numbers, and makes the room that the commit needs. Refused memory changes
-    /// nothing.
+    /// Adds what a call changes, with new numbers for what it makes, which are answered, and keeps the room that the commit needs.
+    /// Refused memory changes nothing.
     pub fn edit(
         &mut self,
         stable: &mut Stable,
         mut edits: Vec<Edit, Heap>,
-        chosen: &Nums,
-    ) -> Result<(), AllocError>
+    ) -> Result<Nums, AllocError>
         requires kinds { CanEdit edits.items }
-        requires count { length chosen.now ≡ sum_by news edits.items }
-        requires unused { AllByRecursion (λ n. claimed (Room n) self.old ≡ 0) chosen.now }
         requires parents { HaveParents stable.old.reserves edits.items }
-        ensures ok { OnOk result (self.new ≡ self.old ++ record { chosen = chosen.now; edits = edits.entry.items } ∷ []) }
-        ensures room { OnOk result ((d : ℕ) → reserved stable.old (Room d) + claimed_by (Room d) (record { chosen = chosen.now; edits = edits.entry.items }) ≤ reserved stable.new (Room d)) }
-        ensures err { OnErr result (self.new ≡ self.old) }
+        requires covers { Covers stable.old self.old }
+        ensures ok { IfOk result (λ chosen. self.new ≡ self.old ++ effect chosen edits.entry.items ∷ []) }
+        ensures new { IfOk result (AreUnused stable.old edits.entry.items) }
+        ensures kept { IfOk result (λ chosen. KeepsMore stable.old stable.new (λ c. claimed_by c (effect chosen edits.entry.items))) }
         ensures state { stable.new.state ≡ stable.old.state }
-        ensures keeps { (c : Claim) → reserved stable.old c ≤ reserved stable.new c }
+        ensures err { OnErr result (self.new ≡ self.old) }
+        ensures same { OnErr result (KeepsSame stable.old stable.new) }
     {
+        let heap = *edits.allocator();
         match edits.pop() {
-            None => self.add_nothing(),
-            Some(edit) => self.add(stable, edit, chosen),
+            None => {
+                self.add_nothing()?;
+                Ok(Nums::new(heap))
+            }
+            Some(edit) => self.add(stable, heap, edit),
         }
     }
 
     /// One call that changes a name.
-    fn add(&mut self, stable: &mut Stable, edit: Edit, chosen: &Nums) -> Result<(), AllocError>
+    fn add(&mut self, stable: &mut Stable, heap: Heap, edit: Edit) -> Result<Nums, AllocError>
         requires kinds { CanEdit (edit ∷ []) }
-        requires count { length chosen.now ≡ sum_by news (edit ∷ []) }
-        requires unused { AllByRecursion (λ n. claimed (Room n) self.old ≡ 0) chosen.now }
         requires parents { HaveParents stable.old.reserves (edit ∷ []) }
-        ensures ok { OnOk result (self.new ≡ self.old ++ record { chosen = chosen.now; edits = edit ∷ [] } ∷ []) }
-        ensures room { OnOk result ((d : ℕ) → reserved stable.old (Room d) + claimed_by (Room d) (record { chosen = chosen.now; edits = edit ∷ [] }) ≤ reserved stable.new (Room d)) }
-        ensures err { OnErr result (self.new ≡ self.old) }
+        requires covers { Covers stable.old self.old }
+        ensures ok { IfOk result (λ chosen. self.new ≡ self.old ++ effect chosen (edit ∷ []) ∷ []) }
+        ensures new { IfOk result (AreUnused stable.old (edit ∷ [])) }
+        ensures kept { IfOk result (λ chosen. KeepsMore stable.old stable.new (λ c. claimed_by c (effect chosen (edit ∷ [])))) }
         ensures state { stable.new.state ≡ stable.old.state }
-        ensures keeps { (c : Claim) → reserved stable.old c ≤ reserved stable.new c }
+        ensures err { OnErr result (self.new ≡ self.old) }
+        ensures same { OnErr result (KeepsSame stable.old stable.new) }
     {
         match edit {
-            Edit::MakeDirectory(parent, name, _place) => {
-                self.add_made(stable, parent, name, chosen.as_slice()[0])
+            Edit::MakeDirectory(parent, name, _place) => self.add_made(stable, parent, name),
+            Edit::UnnameDirectory(parent, name) => {
+                self.add_unnamed(parent, name)?;
+                Ok(Nums::new(heap))
             }
-            Edit::UnnameDirectory(parent, name) => self.add_unnamed(parent, name),
             _ => unreachable!(),
         }
     }
@@ -107,30 +110,31 @@ impl Shadow {
     }
 
     /// One call that makes a directory.
-    fn add_made(
-        &mut self,
-        stable: &mut Stable,
-        parent: Num,
-        name: Name,
-        num: Num,
-    ) -> Result<(), AllocError>
-        requires unused { claimed (Room num) self.old ≡ 0 }
+    fn add_made(&mut self, stable: &mut Stable, parent: Num, name: Name) -> Result<Nums, AllocError>
         requires parent { IsInUse stable.old.reserves parent }
-        ensures ok { OnOk result (self.new ≡ self.old ++ effect_of (steps.Make parent name num) ∷ []) }
-        ensures room { OnOk result ((c : Claim) → reserved stable.old c + room_in parent c ≤ reserved stable.new c) }
-        ensures err { OnErr result (self.new ≡ self.old) }
+        requires covers { Covers stable.old self.old }
+        ensures ok { IfOk result (λ chosen. self.new ≡ self.old ++ effect chosen (Make_directory parent name 0 ∷ []) ∷ []) }
+        ensures new { IfOk result (AreUnused stable.old (Make_directory parent name 0 ∷ [])) }
+        ensures kept { IfOk result (λ chosen. KeepsMore stable.old stable.new (λ c. claimed_by c (effect chosen (Make_directory parent name 0 ∷ [])))) }
         ensures state { stable.new.state ≡ stable.old.state }
-        ensures keeps { (c : Claim) → reserved stable.old c ≤ reserved stable.new c }
+        ensures err { OnErr result (self.new ≡ self.old) }
+        ensures same { OnErr result (KeepsSame stable.old stable.new) }
     {
         self.steps.reserve(1)?;
         let noted = name.try_clone()?;
-        stable.promise(parent)?;
-        if self.index.note(parent, noted, Some(num)).is_err() {
-            stable.unpromise(parent);
-            return Err(AllocError);
+        let chosen = stable.reserve_made(parent)?;
+        let num = chosen.as_slice()[0];
+        let step = Step::Make { parent, name, num };
+        match self.index.note(parent, noted, Some(num)) {
+            Ok(()) => {
+                self.steps.push(step).unwrap();
+                Ok(chosen)
+            }
+            Err(AllocError) => {
+                stable.release(&step);
+                Err(AllocError)
+            }
         }
-        self.steps.push(Step::Make { parent, name, num }).unwrap();
-        Ok(())
     }
 
     /// One call that takes a directory's name away.
@@ -213,10 +217,9 @@ impl Shadow {
     pub fn commit_into(self, stable: &mut Stable)
         requires can { CanCommit stable.old.state self }
         requires covers { Covers stable.old self }
-        ensures state { stable.new.state ≡ tidy (all_done self stable.old.state) }
-        ensures keeps { (c : Claim) → reserved stable.old c ≤ reserved stable.new c + claimed c self }
+        ensures state { stable.new.state ≡ in_turn self stable.old.state }
+        ensures kept { KeepsMore stable.new stable.old (λ c. claimed c self) }
     {
-        stable.is_tidied();
         let Shadow { steps, index: _ } = self;
         for step in steps {
             stable.take(step);
@@ -225,11 +228,11 @@ impl Shadow {
 
     /// Forgets the changes, and gives back what was kept for them. It takes no memory.
     ///
-    /// The last comes first, so that a new directory in which names were promised is freed after they were given back.
+    /// The last comes first, so that a new directory in which room was promised is freed after that was given back.
     pub fn drop_into(self, stable: &mut Stable)
         requires { Covers stable.old self }
         ensures state { stable.new.state ≡ stable.old.state }
-        ensures keeps { (c : Claim) → reserved stable.old c ≤ reserved stable.new c + claimed c self }
+        ensures kept { KeepsMore stable.new stable.old (λ c. claimed c self) }
     {
         let Shadow {
             mut steps,

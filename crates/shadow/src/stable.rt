@@ -1,19 +1,17 @@
 // The committed state.
-ghost use Rattle.std.specs.Prelude.{ℕ, ◌≡◌, ◌≤◌, ◌<◌, ◌+◌, ◌⊎◌, ◌∷◌, [], true, length, IfOk, OnErr, OnOk};
-ghost use Rattle.std.specs.List.{AllByRecursion, sum_by};
+ghost use Rattle.std.specs.Prelude.{ℕ, ◌≡◌, ◌≤◌, ◌<◌, ◌∷◌, [], List, true, IfOk, OnErr, OnOk};
 ghost use Rattle.model.specs.FiniteMap.{empty, get};
-ghost use Rattle.model.specs.State.{names_of};
-ghost use Rattle.model.specs.Changes.{all_applied, news, process_of, tidy};
-ghost use Rattle.model.specs.Steps.{AllDifferent, IsNowhere};
-ghost use Rattle.model.specs.Moments.{start, is_alive, is_in};
+ghost use Rattle.model.specs.State.{Name, names_of};
+ghost use Rattle.model.specs.Changes.{Make_directory, Unname_directory, all_applied, process_of, tidy};
+ghost use Rattle.model.specs.Steps.{IsNowhere};
+ghost use Rattle.model.specs.Moments.{start, is_alive};
+ghost use Rattle.call_laws.specs.Fits.{FitsAll};
 ghost use Rattle.shadow.specs.declared.steps.Step.TheVariants as steps;
-ghost use Rattle.shadow.specs.Changes.{CanEdit, effect_of};
-ghost use Rattle.shadow.specs.Claims.{Claim, Number, Covers, IsInUse, claimed_by, number_of, reserved, room_in};
-ghost use Rattle.shadow.specs.Effects.{CanTake};
+ghost use Rattle.shadow.specs.Changes.{CanEdit, IsOne, effect, effect_of};
+ghost use Rattle.shadow.specs.Claims.{AreUnused, Claim, Covers, HaveParents, IsInUse, KeepsMore, KeepsNothing, KeepsSame, Number, Room, claimed_by, number_as, number_of, reserved, room_in};
 ghost use Rattle.shadow.specs.Looks.{HasNoFiles, NamesAreDirectories, NamesAreInUse, birth_of};
-ghost use Rattle.shadow.specs.Stored.{lost};
 
-use crate::steps::{Step, makes};
+use crate::steps::Step;
 use dirlist::Dir;
 use heap::Heap;
 use ids::{Edit, Name, Num, Nums, Pid, Priority};
@@ -42,7 +40,8 @@ impl Model for Stable {
 impl Stable {
     /// The empty root, and a process for each of these priorities. Refused memory gives nothing.
     pub fn new(heap: Heap, priorities: &[Priority]) -> Result<Stable, AllocError>
-        ensures { IfOk result (λ s. s.state ≡ start 0 priorities.now) }
+        ensures state { IfOk result (λ s. s.state ≡ start 0 priorities.now) }
+        ensures kept { IfOk result KeepsNothing }
     {
         Ok(Stable {
             priorities: Vec::from_slice(heap, priorities)?,
@@ -132,13 +131,6 @@ impl Stable {
         let _store = &self.store;
     }
 
-    /// Nothing in the state is unreached.
-    pub(crate) fn is_tidied(&self)
-        ensures { tidy self.now.state ≡ self.now.state }
-    {
-        let _store = &self.store;
-    }
-
     /// A copy of a directory; of a number that is none, an empty one. Refused memory changes nothing.
     pub(crate) fn directory(&self, heap: Heap, dir: Num) -> Result<Dir, AllocError>
         ensures { IfOk result (λ d. d.names ≡ names_of self.now.state dir) }
@@ -149,83 +141,118 @@ impl Stable {
         }
     }
 
-    /// New numbers for what these edits make, each reserved: none was in use. Refused memory changes nothing.
-    pub fn number(&mut self, edits: &[Edit]) -> Result<Nums, AllocError>
-        requires { CanEdit edits.now }
-        ensures count { IfOk result (λ ns. length ns ≡ sum_by news edits.now) }
-        ensures unused { IfOk result (λ ns. (c : Claim) → is_in (number_of c) ns ≡ true → reserved self.old c ≡ 0) }
-        ensures given { IfOk result (AllByRecursion (λ n. 0 < reserved self.new (Number n))) }
-        ensures different { IfOk result AllDifferent }
-        ensures nowhere { IfOk result (AllByRecursion (IsNowhere self.old.state)) }
-        ensures state { self.new.state ≡ self.old.state }
-        ensures keeps { (c : Claim) → reserved self.old c ≤ reserved self.new c }
-        ensures places { (n : ℕ) → IsInUse self.old.reserves n → IsInUse self.new.reserves n }
-        ensures err { OnErr result (self.new ≡ self.old) }
+    /// Makes the changes of one call at once, with new numbers for what they make, which are answered. What nothing leads to then is
+    /// freed. Refused memory changes nothing.
+    pub fn apply(&mut self, mut edits: Vec<Edit, Heap>) -> Result<Nums, AllocError>
+        requires kinds { CanEdit edits.items }
+        requires parents { HaveParents self.old.reserves edits.items }
+        requires fits { (chosen : List ℕ) → AreUnused self.old edits.items chosen → FitsAll chosen self.old.state edits.items }
+        ensures new { IfOk result (AreUnused self.old edits.entry.items) }
+        ensures state { IfOk result (λ chosen. self.new.state ≡ tidy (all_applied chosen edits.entry.items self.old.state)) }
+        ensures kept { KeepsSame self.old self.new }
+        ensures err { OnErr result (self.new.state ≡ self.old.state) }
     {
-        let mut chosen = Nums::new(*self.priorities.allocator());
-        if makes(edits) {
-            self.reserve_one(&mut chosen)?;
+        match edits.pop() {
+            None => Ok(Nums::new(*self.priorities.allocator())),
+            Some(edit) => self.apply_one(edit),
         }
-        Ok(chosen)
     }
 
-    /// One new number, for a directory to come.
-    fn reserve_one(&mut self, chosen: &mut Nums) -> Result<(), AllocError>
-        requires { chosen.old ≡ [] }
-        ensures count { OnOk result (length chosen.new ≡ 1) }
-        ensures unused { OnOk result ((c : Claim) → is_in (number_of c) chosen.new ≡ true → reserved self.old c ≡ 0) }
-        ensures given { OnOk result (AllByRecursion (λ n. 0 < reserved self.new (Number n)) chosen.new) }
-        ensures different { OnOk result (AllDifferent chosen.new) }
-        ensures nowhere { OnOk result (AllByRecursion (IsNowhere self.old.state) chosen.new) }
-        ensures state { OnOk result (self.new.state ≡ self.old.state) }
-        ensures keeps { OnOk result ((c : Claim) → reserved self.old c ≤ reserved self.new c) }
-        ensures places { OnOk result ((n : ℕ) → IsInUse self.old.reserves n → IsInUse self.new.reserves n) }
+    /// One change of a name, made at once.
+    fn apply_one(&mut self, edit: Edit) -> Result<Nums, AllocError>
+        requires kinds { CanEdit (edit ∷ []) }
+        requires parents { HaveParents self.old.reserves (edit ∷ []) }
+        requires fits { (chosen : List ℕ) → AreUnused self.old (edit ∷ []) chosen → FitsAll chosen self.old.state (edit ∷ []) }
+        ensures new { IfOk result (AreUnused self.old (edit ∷ [])) }
+        ensures state { IfOk result (λ chosen. self.new.state ≡ tidy (all_applied chosen (edit ∷ []) self.old.state)) }
+        ensures kept { KeepsSame self.old self.new }
+        ensures err { OnErr result (self.new.state ≡ self.old.state) }
+    {
+        match edit {
+            Edit::MakeDirectory(parent, name, _place) => {
+                let chosen = self.reserve_made(parent)?;
+                self.make(parent, name, chosen.as_slice()[0]);
+                Ok(chosen)
+            }
+            Edit::UnnameDirectory(parent, name) => {
+                self.unname(parent, &name);
+                Ok(Nums::new(*self.priorities.allocator()))
+            }
+            _ => unreachable!(),
+        }
+    }
+
+    /// A new number for a directory to come, and room for its name. Refused memory changes nothing.
+    pub(crate) fn reserve_made(&mut self, parent: Num) -> Result<Nums, AllocError>
+        requires { IsInUse self.old.reserves parent }
+        ensures one { IfOk result IsOne }
+        ensures new { IfOk result (λ chosen. (x : Name) → AreUnused self.old (Make_directory parent x 0 ∷ []) chosen) }
+        ensures kept { IfOk result (λ chosen. (x : Name) → KeepsMore self.old self.new (λ c. claimed_by c (effect chosen (Make_directory parent x 0 ∷ [])))) }
+        ensures state { self.new.state ≡ self.old.state }
+        ensures err { OnErr result (KeepsSame self.old self.new) }
+    {
+        let num = self.reserve()?;
+        match self.promise_for(parent, num) {
+            Ok(chosen) => Ok(chosen),
+            Err(AllocError) => {
+                self.give_back(num);
+                Err(AllocError)
+            }
+        }
+    }
+
+    /// One new number, for a directory to come. Refused memory changes nothing.
+    fn reserve(&mut self) -> Result<Num, AllocError>
+        ensures unused { IfOk result (λ num. (c : Claim) → number_of c ≡ num → reserved self.old c ≡ 0) }
+        ensures nowhere { IfOk result (IsNowhere self.old.state) }
+        ensures kept { IfOk result (λ num. KeepsMore self.old self.new (number_as num)) }
+        ensures state { self.new.state ≡ self.old.state }
+        ensures places { (n : ℕ) → IsInUse self.old.reserves n → IsInUse self.new.reserves n }
         ensures err { OnErr result (self.new ≡ self.old) }
     {
         call_laws::unused_numbers_are_nowhere();
         let dir = Dir::new(*self.priorities.allocator());
         let num = self.store.reserve_num(Object::Directory(dir))?;
-        if chosen.push(num).is_err() {
-            self.store.free(num);
-            return Err(AllocError);
-        }
-        Ok(())
+        Ok(num)
     }
 
-    /// Gives back numbers that were reserved for a call that takes no effect. It takes no memory.
-    pub fn forget(&mut self, chosen: &Nums)
-        ensures state { self.new.state ≡ self.old.state }
-        ensures keeps { (c : Claim) → (is_in (number_of c) chosen.now ≡ true) ⊎ (reserved self.old c ≤ reserved self.new c) }
-    {
-        for num in chosen.as_slice() {
-            self.give_back(*num);
-        }
-    }
-
-    /// Frees a number whose object is still to come.
-    fn give_back(&mut self, num: Num)
-        ensures state { self.new.state ≡ self.old.state }
-        ensures keeps { (c : Claim) → (number_of c ≡ num) ⊎ (reserved self.old c ≤ reserved self.new c) }
-    {
-        if self.store.get(num).is_none() {
-            self.store.free(num);
-        }
-    }
-
-    /// Promises room for one more name in a directory, which may be to come. Refused memory changes nothing.
-    pub(crate) fn promise(&mut self, dir: Num) -> Result<(), AllocError>
-        requires { IsInUse self.old.reserves dir }
-        ensures room { OnOk result ((c : Claim) → reserved self.old c + room_in dir c ≤ reserved self.new c) }
+    /// A list of this one number, and room for its name. Refused memory changes nothing.
+    fn promise_for(&mut self, parent: Num, num: Num) -> Result<Nums, AllocError>
+        requires { IsInUse self.old.reserves parent }
+        ensures list { IfOk result (λ chosen. chosen ≡ num ∷ []) }
+        ensures kept { OnOk result (KeepsMore self.old self.new (room_in parent)) }
         ensures state { self.new.state ≡ self.old.state }
         ensures err { OnErr result (self.new ≡ self.old) }
     {
-        self.store.promise(dir)?;
-        Ok(())
+        let mut chosen = Nums::new(*self.priorities.allocator());
+        chosen.push(num)?;
+        self.promise(parent)?;
+        Ok(chosen)
     }
 
-    /// Gives up the promised room of one name.
-    pub(crate) fn unpromise(&mut self, dir: Num)
-        ensures room { (c : Claim) → reserved self.old c ≤ reserved self.new c + room_in dir c }
+    /// Gives back a number whose object is still to come. It takes no memory.
+    fn give_back(&mut self, num: Num)
+        requires { 0 < reserved self.old (Number num) }
+        ensures kept { KeepsMore self.new self.old (number_as num) }
+        ensures state { self.new.state ≡ self.old.state }
+    {
+        self.store.lose(num);
+    }
+
+    /// Promises room for one more name in a directory, which may be to come. Refused memory changes nothing.
+    fn promise(&mut self, dir: Num) -> Result<(), AllocError>
+        requires { IsInUse self.old.reserves dir }
+        ensures kept { OnOk result (KeepsMore self.old self.new (room_in dir)) }
+        ensures state { self.new.state ≡ self.old.state }
+        ensures err { OnErr result (self.new ≡ self.old) }
+    {
+        self.store.promise(dir)
+    }
+
+    /// Gives up the promised room of one name. It takes no memory.
+    fn unpromise(&mut self, dir: Num)
+        requires { 0 < reserved self.old (Room dir) }
+        ensures kept { KeepsMore self.new self.old (room_in dir) }
         ensures state { self.new.state ≡ self.old.state }
     {
         self.store.release(dir);
@@ -233,11 +260,12 @@ impl Stable {
 
     /// Makes one change. What has no name any more goes. It takes no memory.
     pub(crate) fn take(&mut self, step: Step)
-        requires can { CanTake self.old.state (effect_of step) }
+        requires fits { FitsAll (effect_of step).chosen self.old.state (effect_of step).edits }
         requires covers { Covers self.old (effect_of step ∷ []) }
         ensures state { self.new.state ≡ tidy (all_applied (effect_of step).chosen (effect_of step).edits self.old.state) }
-        ensures keeps { (c : Claim) → reserved self.old c ≤ reserved self.new c + claimed_by c (effect_of step) }
+        ensures kept { KeepsMore self.new self.old (λ c. claimed_by c (effect_of step)) }
     {
+        let _store = &self.store;
         match step {
             Step::Nothing => {}
             Step::Make { parent, name, num } => self.make(parent, name, num),
@@ -247,10 +275,10 @@ impl Stable {
 
     /// The new directory of a reserved number is there, with its name.
     fn make(&mut self, parent: Num, name: Name, num: Num)
-        requires can { CanTake self.old.state (effect_of (steps.Make parent name num)) }
+        requires fits { FitsAll (num ∷ []) self.old.state (Make_directory parent name 0 ∷ []) }
         requires covers { Covers self.old (effect_of (steps.Make parent name num) ∷ []) }
-        ensures state { self.new.state ≡ tidy (all_applied (num ∷ []) (effect_of (steps.Make parent name num)).edits self.old.state) }
-        ensures keeps { (c : Claim) → reserved self.old c ≤ reserved self.new c + claimed_by c (effect_of (steps.Make parent name num)) }
+        ensures state { self.new.state ≡ tidy (all_applied (num ∷ []) (Make_directory parent name 0 ∷ []) self.old.state) }
+        ensures kept { KeepsMore self.new self.old (λ c. claimed_by c (effect_of (steps.Make parent name num))) }
     {
         self.store.install(num);
         self.store.add_name(parent, name, num);
@@ -258,35 +286,23 @@ impl Stable {
 
     /// A directory's name goes, and the directory with it.
     fn unname(&mut self, parent: Num, name: &Name)
-        requires can { CanTake self.old.state (effect_of (steps.Unname parent name.now)) }
-        ensures state { self.new.state ≡ tidy (all_applied [] (effect_of (steps.Unname parent name.now)).edits self.old.state) }
-        ensures keeps { (c : Claim) → reserved self.old c ≤ reserved self.new c }
+        requires { FitsAll [] self.old.state (Unname_directory parent name.now ∷ []) }
+        ensures state { self.new.state ≡ tidy (all_applied [] (Unname_directory parent name.now ∷ []) self.old.state) }
+        ensures kept { KeepsSame self.old self.new }
     {
         let gone = self.store.remove_name(parent, name).unwrap();
-        lose(&mut self.store, gone);
+        self.store.lose(gone);
     }
 
     /// Gives back what was kept for one change. It takes no memory.
     pub(crate) fn release(&mut self, step: &Step)
+        requires { Covers self.old (effect_of step.now ∷ []) }
+        ensures kept { KeepsMore self.new self.old (λ c. claimed_by c (effect_of step.now)) }
         ensures state { self.new.state ≡ self.old.state }
-        ensures keeps { (c : Claim) → reserved self.old c ≤ reserved self.new c + claimed_by c (effect_of step.now) }
     {
         if let Step::Make { parent, num, .. } = step {
             self.unpromise(*parent);
-            if !self.store.is_promised(*num) {
-                self.give_back(*num);
-            }
+            self.give_back(*num);
         }
-    }
-}
-
-// An object that nothing leads to any more goes. Where room in it is still promised, it is hidden until that is given back.
-fn lose(store: &mut Store, num: Num)
-    ensures { store.new ≡ lost store.old num }
-{
-    if store.is_promised(num) {
-        store.hide(num);
-    } else {
-        store.free(num);
     }
 }

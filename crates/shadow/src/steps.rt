@@ -1,14 +1,13 @@
 // The changes of a transaction, one for each call.
-ghost use Rattle.std.specs.Prelude.{◌≡◌, OnOk, if◌then◌else◌};
-ghost use Rattle.std.specs.List.{sum_by};
+ghost use Rattle.std.specs.Prelude.{◌≡◌, OnOk};
 ghost use Rattle.model.specs.FiniteMap as map;
 ghost use Rattle.model.specs.State.{Kernel, names_of};
-ghost use Rattle.model.specs.Changes.{all_applied, news};
-ghost use Rattle.shadow.specs.Changes.{CanEdit, effect_of};
+ghost use Rattle.model.specs.Changes.{all_applied};
+ghost use Rattle.shadow.specs.Changes.{effect_of};
 
 use dirlist::Dir;
 use heap::Heap;
-use ids::{Edit, Name, Num};
+use ids::{Name, Num};
 use std::alloc::AllocError;
 
 /// What one call has changed.
@@ -73,15 +72,4 @@ fn put(names: &mut Dir, name: &Name, num: Num) -> Result<(), AllocError>
     let _old = names.remove(&name);
     names.insert(name, num)?;
     Ok(())
-}
-
-/// Whether the changes of a call make a new object.
-pub(crate) fn makes(edits: &[Edit]) -> bool
-    requires { CanEdit edits.now }
-    ensures { sum_by news edits.now ≡ (if result then 1 else 0) }
-{
-    match edits {
-        [Edit::MakeDirectory(..)] => true,
-        _ => false,
-    }
 }

@@ -1,31 +1,32 @@
-use Rattle.std.proofs.Common.{sym, subst, ap, ◌∙◌, ◌≡◌, ◌≤◌, ◌+◌, ℕ, cond, arith, inl, inr, ◌⊎◌, eq-eqb, false, List, refl}
-use Rattle.model.specs.FiniteMap.{get}
-use Rattle.store.specs.Places.{has_room, listing_at}
+use Rattle.std.proofs.Common.{◌≡◌, ◌≤◌, ◌<◌, ◌+◌, ℕ, List, [], ◌∷◌, cond, arith, eq-eqb, subst, sym, refl}
 use Rattle.shadow.specs.declared.steps.Step.{Step}
 use Rattle.shadow.specs.declared.steps.Step.TheVariants.{Make}
-use Rattle.shadow.specs.Claims.{Claim, Room, Number, claimed_by, room_in, number_of, reserved}
+use Rattle.shadow.specs.Claims.{Claim, Covers, Room, Number, claimed, claimed_by, number_as, reserved, room_in}
 use Rattle.shadow.specs.Committed.{Committed}
 use Rattle.shadow.specs.Changes.{effect_of}
-use Rattle.shadow.proofs.Meets.{one_at_most}
-use Rattle.shadow.proofs.Taking.{no_room}
-use Rattle.shadow.proofs.Plugs.{met_of}
 use Rattle.shadow.proofs.stable.Stable.release.Goals as goal
 
--- what a claim loses is claimed by the change
-loses : (before mid after : Committed) (d n : ℕ) (x : List ℕ) → reserved mid (Room n) ≡ 0 → reserved mid (Number n) ≤ 1 → (c : Claim) → reserved before c ≤ reserved mid c + room_in d c
-    → (number_of c ≡ n) ⊎ (reserved mid c ≤ reserved after c) → reserved before c ≤ reserved after c + claimed_by c (effect_of (Make d x n))
-loses before mid after d n x none one (Room r) h (inl same) = let zero : reserved mid (Room r) ≡ 0 = ap (λ t. reserved mid (Room t)) same ∙ none in let claim : claimed_by (Room r) (effect_of (Make d x n)) ≡ 0 + room_in d (Room r) = refl in omega arith
-loses before mid after d n x none one (Room r) h (inr kept) = let claim : claimed_by (Room r) (effect_of (Make d x n)) ≡ 0 + room_in d (Room r) = refl in omega arith
-loses before mid after d n x none one (Number m) h (inl same) =
-    let low : reserved mid (Number m) ≤ 1 = subst (λ t. reserved mid (Number t) ≤ 1) (sym same) one in
-    let claim : claimed_by (Number m) (effect_of (Make d x n)) ≡ 1 = ap (λ b. 0 + cond b 1 0) (eq-eqb n m (sym same)) in omega arith
-loses before mid after d n x none one (Number m) h (inr kept) = omega arith
+-- the claims of a new directory
+made_claims : (d n : ℕ) (x : List ℕ) (c : Claim) → claimed_by c (effect_of (Make d x n)) ≡ room_in d c + number_as n c
+made_claims d n x (Room r) = let same : claimed_by (Room r) (effect_of (Make d x n)) ≡ 0 + room_in d (Room r) = refl in omega arith
+made_claims d n x (Number m) = let same : claimed_by (Number m) (effect_of (Make d x n)) ≡ 0 + number_as n (Number m) = refl in omega arith
 
-pub returns-then-not-is_promised-clause-keeps : goal.returns-then-not-is_promised-clause-keeps
-returns-then-not-is_promised-clause-keeps c = λ claim.
-    let ps = c.self.inside.priorities.items in let s = c.self.inside.store in let mid = c.unpromise.new.self in
-    let free : has_room (listing_at s c.in-Make.num) ≡ false = sym c.is_promised.ensures ∙ c.if-not-is_promised.true in
-    let none : reserved mid (Room c.in-Make.num) ≡ 0 = sym (met_of ps s mid c.self.view_is (Room c.in-Make.num)) ∙ no_room (listing_at s c.in-Make.num) free in
-    let one : reserved mid (Number c.in-Make.num) ≤ 1 = subst (λ t. t ≤ 1) (met_of ps s mid c.self.view_is (Number c.in-Make.num)) (one_at_most (get s.places c.in-Make.num)) in
-    subst (λ (step : Step). reserved c.args.self.now claim ≤ reserved c.give_back.new.self claim + claimed_by claim (effect_of step)) (sym c.in-Make.is)
-    (loses c.args.self.now mid c.give_back.new.self c.in-Make.parent c.in-Make.num c.in-Make.name none one claim (c.unpromise.ensures.room claim) (c.give_back.ensures.keeps claim))
+covered : (v : Committed) (s : Step) (d n : ℕ) (x : List ℕ) → s ≡ Make d x n → Covers v (effect_of s ∷ []) → (c : Claim) → room_in d c + number_as n c ≤ reserved v c
+covered v s d n x is covers c =
+    let all : claimed c (effect_of (Make d x n) ∷ []) ≤ reserved v c = subst (λ s. Covers v (effect_of s ∷ [])) is covers c in
+    let one : claimed c (effect_of (Make d x n) ∷ []) ≡ 0 + claimed_by c (effect_of (Make d x n)) = refl in
+    let parts : claimed_by c (effect_of (Make d x n)) ≡ room_in d c + number_as n c = made_claims d n x c in omega arith
+
+pub unpromise-requires : goal.unpromise-requires
+unpromise-requires c =
+    let d = c.in-Make.parent in let n = c.in-Make.num in
+    let all : room_in d (Room d) + number_as n (Room d) ≤ reserved c.args.self.now (Room d) = covered c.args.self.now c.args.step.now d n c.in-Make.name c.in-Make.is c.requires (Room d) in
+    let one : room_in d (Room d) ≡ 1 = Rattle.std.proofs.Common.ap (λ b. cond b 1 0) (eq-eqb d d refl) in omega arith
+
+pub give_back-requires : goal.give_back-requires
+give_back-requires c =
+    let d = c.in-Make.parent in let n = c.in-Make.num in
+    let all : room_in d (Number n) + number_as n (Number n) ≤ reserved c.args.self.now (Number n) = covered c.args.self.now c.args.step.now d n c.in-Make.name c.in-Make.is c.requires (Number n) in
+    let one : number_as n (Number n) ≡ 1 = Rattle.std.proofs.Common.ap (λ b. cond b 1 0) (eq-eqb n n refl) in
+    let less : reserved c.args.self.now (Number n) ≡ reserved c.unpromise.new.self (Number n) + room_in d (Number n) = c.unpromise.ensures.kept (Number n) in
+    let none : room_in d (Number n) ≡ 0 = refl in omega arith
