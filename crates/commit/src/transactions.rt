@@ -3,7 +3,6 @@ ghost use Rattle.std.specs.Prelude.{◌≡◌, ◌<◌, ◌≤◌, ◌∷◌, []
 ghost use Rattle.model.specs.Changes.{all_applied, tidy};
 ghost use Rattle.model.specs.Effects.{all_done};
 ghost use Rattle.model.specs.Moments.{start};
-ghost use Rattle.call_laws.specs.Fits.{FitsAll};
 ghost use Rattle.shadow.specs.Changes.{CanEdit, effect};
 ghost use Rattle.shadow.specs.Claims.{HaveParents};
 ghost use Rattle.shadow.specs.Effects.{CanCommit, in_turn};
@@ -192,7 +191,7 @@ impl Transactions {
     pub fn apply(&mut self, edits: Vec<Edit, Heap>) -> Result<Nums, AllocError>
         requires kinds { CanEdit edits.items }
         requires parents { HaveParents self.old.stable.reserves edits.items }
-        requires fits { (chosen : List ℕ) → AreNew self.old edits.items chosen → FitsAll chosen self.old.stable.state edits.items }
+        requires can { (chosen : List ℕ) → AreNew self.old edits.items chosen → CanCommit self.old.stable.state (effect chosen edits.items ∷ []) }
         ensures new { IfOk result (AreNew self.old edits.entry.items) }
         ensures state { IfOk result (λ chosen. self.new.stable.state ≡ tidy (all_applied chosen edits.entry.items self.old.stable.state)) }
         ensures slots { SameViews self.old.slots self.new.slots }

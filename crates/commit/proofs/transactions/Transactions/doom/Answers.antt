@@ -13,7 +13,7 @@ pub invariant_of-self : goal.invariant_of-self
 invariant_of-self c = covered_without_its c.self.inside.slots.items c.set_slot.new.slots.items c.args.doomed.pid _ _ c.self.inside.stable c.struck-doomed_slot.new.stable
     (sets_again c.self.inside.slots.items _ c.set_slot.new.slots.items c.args.doomed.pid _ _ c.take_slot-slot.ensures.left c.set_slot.ensures)
     (ap changes_in c.struck-doomed_slot.ensures.slot ∙ nothing_left c.args.doomed (slot_view c.take_slot-slot.result))
-    (ap changes_in c.take_slot-slot.ensures.taken) c.struck-doomed_slot.ensures.keeps c.self.invariant
+    (ap changes_in c.take_slot-slot.ensures.taken) c.struck-doomed_slot.ensures.kept c.self.invariant
 
 pub returns-clause-slots : goal.returns-clause-slots
 returns-clause-slots c = subst (λ v. (q : ℕ) → view_at (views c.set_slot.new.slots.items) q ≡ struck_by (c.args.doomed ∷ []) q (view_at v.slots q)) c.self.view_is

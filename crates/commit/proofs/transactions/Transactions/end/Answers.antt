@@ -7,7 +7,7 @@ use Rattle.commit.proofs.transactions.Transactions.end.Goals as goal
 
 pub invariant_of-self : goal.invariant_of-self
 invariant_of-self c = covered_without_its c.self.inside.slots.items c.take_slot-slot.new.slots.items c.args.pid resting _ c.self.inside.stable c.commit_into.new.stable
-    c.take_slot-slot.ensures.left refl (c.shadow_in.ensures ∙ ap changes_in c.take_slot-slot.ensures.taken) c.commit_into.ensures.keeps c.self.invariant
+    c.take_slot-slot.ensures.left refl (c.shadow_in.ensures ∙ ap changes_in c.take_slot-slot.ensures.taken) c.commit_into.ensures.kept c.self.invariant
 
 pub returns-clause-slots : goal.returns-clause-slots
 returns-clause-slots c = subst (λ v. Shows v.slots (views c.take_slot-slot.new.slots.items) c.args.pid resting) c.self.view_is

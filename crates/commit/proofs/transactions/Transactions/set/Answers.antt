@@ -11,7 +11,7 @@ drop_slot-requires c = slot_covered c.self.inside.slots.items c.self.inside.stab
 pub invariant_of-self : goal.invariant_of-self
 invariant_of-self c = covered_without_its c.self.inside.slots.items c.set_slot.new.slots.items c.args.pid (slot_view c.args.slot) _ c.self.inside.stable c.drop_slot.new.stable
     (sets_again c.self.inside.slots.items _ c.set_slot.new.slots.items c.args.pid _ _ c.take_slot-before.ensures.left c.set_slot.ensures) c.requires.empty
-    (Rattle.std.proofs.Common.ap Rattle.commit.specs.Views.changes_in c.take_slot-before.ensures.taken) c.drop_slot.ensures.keeps c.self.invariant
+    (Rattle.std.proofs.Common.ap Rattle.commit.specs.Views.changes_in c.take_slot-before.ensures.taken) c.drop_slot.ensures.kept c.self.invariant
 
 pub returns-clause-slots : goal.returns-clause-slots
 returns-clause-slots c = subst (λ v. Shows v.slots (views c.set_slot.new.slots.items) c.args.pid (slot_view c.args.slot)) c.self.view_is
