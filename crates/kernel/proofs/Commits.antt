@@ -4,12 +4,11 @@ use Rattle.model.specs.Changes.{tidy}
 use Rattle.model.specs.Entries.{BeginFlags, End, Committed, Entry}
 use Rattle.model.specs.Moments.{Moment, live, status, calls_at, next}
 use Rattle.model.specs.Legal.{Right, Alone}
-use Rattle.call_laws.specs.WellFormed.{WellFormed}
-use Rattle.model.specs.Effects.{effects, all_done}
-use Rattle.call_laws.specs.Untidied.{Goes}
+use Rattle.model.specs.Effects.{all_done}
 use Rattle.history_laws.proofs.Laws.{right_by, alive_is, commits_run_the_list, lists_are_their_effects, what_stands}
 use Rattle.contention.specs.Holding.{held_at}
-use Rattle.shadow.specs.Committed.{CanCommit}
+use Rattle.shadow.specs.Effects.{CanBeCommitted, CanCommit, in_turn}
+use Rattle.shadow.proofs.Going.{calls_can_be_committed_lem}
 use Rattle.kernel.specs.Shown.{moment}
 use Rattle.kernel.specs.Rows.{IsSteady}
 use Rattle.commit.specs.Standings.{IsOpen}
@@ -42,13 +41,15 @@ module _ (f : Fields) (pid : ℕ) (flags : BeginFlags) (age : ℕ) (holds : Hold
   pub commit_right : Right f.log.limit m e
   commit_right = right_by f.log.limit m e (live flags age is_open.calls) End is_open.is refl (refl, alone)
 
+  both : CanBeCommitted f.stable.state (changes_of m pid)
+  both = subst (λ k. CanBeCommitted k (changes_of m pid)) (sym holds.state) (calls_can_be_committed_lem m.committed pid (calls_at m pid) (what_stands 0 f.log.priorities f.log.limit f.log.entries holds.legal).committed.tidied ((what_stands 0 f.log.priorities f.log.limit f.log.entries holds.legal).lists pid).goes)
+
   pub can_commit : CanCommit f.stable.state (changes_of m pid)
-  can_commit = record {
-    pid = pid;
-    calls = calls_at m pid;
-    goes = subst (λ k. Goes WellFormed k pid (calls_at m pid)) (sym holds.state) ((what_stands 0 f.log.priorities f.log.limit f.log.entries holds.legal).lists pid).goes;
-    same = ap (effects pid (calls_at m pid)) holds.state;
-  }
+  can_commit = both.can
+
+  -- made one after the other the changes are made at once
+  pub commits_at_once : in_turn (changes_of m pid) f.stable.state ≡ tidy (all_done (changes_of m pid) f.stable.state)
+  commits_at_once = both.same
 
   committed : (next m e).committed ≡ tidy (all_done (changes_of m pid) f.stable.state)
   committed = commits_run_the_list 0 f.log.priorities f.log.limit f.log.entries e holds.legal commit_right refl ∙ ap tidy (lists_are_their_effects pid (calls_at m pid) m.committed)

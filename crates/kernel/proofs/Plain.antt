@@ -21,7 +21,8 @@ use Rattle.history_laws.proofs.Laws.{right_by, free_from, phase_is, alive_is, pl
 use Rattle.contention.specs.Holding.{held_at}
 use Rattle.contention.specs.Verdicts.{IsDoomedBy}
 use Rattle.contention.specs.declared.Doomed.{Doomed}
-use Rattle.shadow.specs.Committed.{CanCommit}
+use Rattle.call_laws.proofs.Laws.{fits}
+use Rattle.shadow.specs.Effects.{CanCommit}
 use Rattle.calls.specs.Operations.{can_call}
 use Rattle.kernel.specs.Shown.{moment}
 use Rattle.kernel.specs.Standings.{has_places}
@@ -86,7 +87,7 @@ module _ (f : Fields) (pid : ℕ) (call : Call) (chosen : List ℕ) (ds : List D
   }
 
   pub plain_commits : CanCommit k (change ∷ [])
-  plain_commits = record { pid = pid; calls = record { call = call; answer = reply k pid call; chosen = chosen } ∷ []; goes = ((ready, refl), tt); same = refl }
+  plain_commits = (fits k pid call chosen ready, tt)
 
   spared : is_in pid e.doomed ≡ false
   spared = elim (cases_Bool (is_in pid e.doomed)) [

@@ -95,7 +95,8 @@ have_parents v pid call well alive used there =
     by chosen [] can fit = tt
     by chosen (Make_directory d x i ∷ []) can fit = (in_use d fit.0.0.parent, tt)
     by chosen (Unname_directory d x ∷ []) can fit = (tt, tt)
-    by chosen es can fit = absurd can
+    by chosen (e ∷ []) can fit = absurd can
+    by chosen (e ∷ f ∷ es) can fit = absurd can
 
 -- what a process sees is well formed, and a living process lives in it
 pub record IsSeen (f : Fields) (q : ℕ) : Type 0 where

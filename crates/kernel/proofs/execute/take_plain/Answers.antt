@@ -5,8 +5,9 @@ use Rattle.model.specs.Entries.{Do, Entry}
 use Rattle.model.specs.Moments.{counted_touches, clashes_with, bound}
 use Rattle.model.specs.Replies.{answered}
 use Rattle.model.specs.Steps.{edits}
-use Rattle.shadow.specs.Committed.{CanCommit}
-use Rattle.commit.specs.Edits.{AreNew, effect}
+use Rattle.shadow.specs.Effects.{CanCommit}
+use Rattle.shadow.specs.Changes.{effect}
+use Rattle.commit.specs.Edits.{AreNew}
 use Rattle.commit.specs.Strikes.{struck_by}
 use Rattle.kernel.specs.Shown.{moment}
 use Rattle.kernel.specs.States.{fields, with_entry}

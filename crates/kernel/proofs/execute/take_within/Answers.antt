@@ -3,7 +3,8 @@ use Rattle.model.specs.Entries.{Do, Entry}
 use Rattle.model.specs.Moments.{counted_touches, clashes_with, bound}
 use Rattle.model.specs.Replies.{answered}
 use Rattle.model.specs.Steps.{edits}
-use Rattle.commit.specs.Edits.{AreNew, effect, with_change}
+use Rattle.shadow.specs.Changes.{effect}
+use Rattle.commit.specs.Edits.{AreNew, with_change}
 use Rattle.commit.specs.Strikes.{struck_by}
 use Rattle.commit.specs.Views.{view_at}
 use Rattle.contention.specs.Holding.{held_at}

@@ -1,7 +1,7 @@
 use Rattle.std.proofs.Common.{◌≡◌, Option, Some, None, sym, ap, ap₂, subst, ◌∙◌}
 use Rattle.model.specs.Entries.{Cause}
 use Rattle.kernel.specs.Shown.{moment}
-use Rattle.commit.specs.Views.{causes_of, view_at, struck}
+use Rattle.commit.specs.Views.{causes_of, changes_in, view_at, struck}
 use Rattle.kernel.specs.States.{fields, CanSettle, Holds}
 use Rattle.kernel.specs.Views.{view_of}
 use Rattle.kernel.proofs.Rows.{plain, is_told}
@@ -14,6 +14,9 @@ first_or other None = other
 abbrev second_or : Cause → Option (Cause × Cause) → Cause
 second_or other (Some both) = both.1
 second_or other None = other
+
+pub take_causes-requires-clause-unchanged : goal.take_causes-requires-clause-unchanged
+take_causes-requires-clause-unchanged c = ap changes_in (c.requires.holds.slots c.args.pid ∙ c.requires.doomed.is)
 
 pub settle-requires : goal.settle-requires
 settle-requires c =
