@@ -1,5 +1,5 @@
 -- What the fields of a new kernel show.
-use Rattle.std.proofs.Common.{◌≡◌, ℕ, zero, suc, ◌<◌, List, [], Option, Some, None, is_some, length, get_or, refl, sym, ◌∙◌, subst, true, false, inl, inr, arith}
+use Rattle.std.proofs.Common.{◌≡◌, ℕ, zero, suc, ◌<◌, ◌≤◌, List, [], Option, Some, None, is_some, length, get_or, refl, sym, ◌∙◌, subst, true, false, inl, inr, arith}
 use Rattle.std.proofs.lemmas.Bool.{cases_lt, false≢true}
 use Rattle.std.proofs.lemmas.List.{get_or_past}
 use Rattle.model.specs.FiniteMap.{get}
@@ -7,6 +7,7 @@ use Rattle.model.specs.State.{Process}
 use Rattle.model.specs.Changes.{or_new}
 use Rattle.model.specs.Moments.{Moment, idle, is_alive, start, at_start}
 use Rattle.call_laws.specs.Processes.{StartsWith}
+use Rattle.history_laws.specs.Limits.{most_processes}
 use Rattle.history_laws.proofs.Laws.{legal_start}
 use Rattle.call_laws.proofs.First.{first_processes_live}
 use Rattle.contention.specs.Holding.{nobody, held_at, holding}
@@ -24,7 +25,7 @@ module _ (priorities : List ℕ) (limit : ℕ) (f : Fields) (log : f.log ≡ rec
     (slot_count : length f.slots ≡ suc (length priorities)) (slots : AreFirst f.slots (length priorities))
     (held_count : length f.held ≡ suc (length priorities)) (held_first : held_at f.held 0 ≡ nobody)
     (held_each : (i : ℕ) → i < length priorities → held_at f.held (suc i) ≡ record { priority = get_or priorities i 0; age = None; touches = [] })
-    (state : f.stable.state ≡ start 0 priorities) where
+    (state : f.stable.state ≡ start 0 priorities) (few : length priorities ≤ most_processes) where
   abbrev m : Moment
   m = at_start 0 priorities
 
@@ -58,6 +59,7 @@ module _ (priorities : List ℕ) (limit : ℕ) (f : Fields) (log : f.log ≡ rec
     held = record { count = held_count; each = held };
     count = slot_count;
     slots = views;
+    few = few;
   })
 
 -- what a kernel shows is kept

@@ -5,6 +5,8 @@ use Rattle.std.proofs.lemmas.Bool.{cases_Bool, eqb-true, eqb-false}
 use Rattle.model.specs.Entries.{Entry}
 use Rattle.model.specs.Moments.{Moment, bound, dooming_touches, is_in, next}
 use Rattle.model.specs.Legal.{Legal, Right}
+use Rattle.history.specs.Log.{Log}
+use Rattle.history_laws.specs.Limits.{most_processes}
 use Rattle.history_laws.proofs.Laws.{legal_push, after_one_more}
 use Rattle.contention.specs.Holding.{IsKept, held_at, holding}
 use Rattle.contention.specs.Verdicts.{IsDoomedBy}
@@ -86,4 +88,5 @@ module _ (f g : Fields) (e : Entry) (ds : List Doomed) (holds : Holds f) (fits :
     });
     count = fits.count ∙ holds.count ∙ sym (ap bound moment_is ∙ same_bound f.log e holds.legal fits.right fits.steady);
     slots = subst (λ x. (q : ℕ) → view_at g.slots q ≡ view_of x q) (sym moment_is) (each (λ q. view_at g.slots q ≡ view_of (next m e) q) fits.own other_slot);
+    few = subst (λ (log : Log). length log.priorities ≤ most_processes) (sym fits.log) holds.few;
   }

@@ -1,11 +1,12 @@
 -- What the fields of a kernel keep.
-use Rattle.std.specs.Prelude.{◌≡◌, ◌≢◌, ℕ, Bool, List, ◌++◌, ◌∷◌, [], length}
+use Rattle.std.specs.Prelude.{◌≡◌, ◌≢◌, ◌≤◌, ℕ, Bool, List, ◌++◌, ◌∷◌, [], length}
 use Rattle.history.specs.Log.{Log}
 use Rattle.model.specs.Entries.{BeginFlags, Entry}
 use Rattle.model.specs.Moments.{bound}
 use Rattle.model.specs.Legal.{Legal}
 use Rattle.contention.specs.Holding.{Held, IsKept}
 use Rattle.shadow.specs.Committed.{Committed}
+use Rattle.history_laws.specs.Limits.{most_processes}
 use Rattle.commit.specs.Views.{View, view_at}
 use Rattle.kernel.specs.declared.state.State.{State}
 use Rattle.kernel.specs.Shown.{Shown, moment}
@@ -32,6 +33,7 @@ pub record Holds (f : Fields) : Type 0 where
   pub held : IsKept (moment f.log) f.held
   pub count : length f.slots ≡ bound (moment f.log)
   pub slots : (q : ℕ) → view_at f.slots q ≡ view_of (moment f.log) q
+  pub few : length f.log.priorities ≤ most_processes
 
 abbrev pub with_entry : Log → Entry → Log
 with_entry log e = record log { entries = log.entries ++ e ∷ [] }

@@ -4,6 +4,7 @@ ghost use Rattle.model.specs.Changes.{tidy};
 ghost use Rattle.model.specs.Moments.{is_alive, seen_by};
 ghost use Rattle.model.specs.Effects.{all_done};
 ghost use Rattle.history_laws.specs.Headline.{IsSerializable};
+ghost use Rattle.history_laws.specs.Limits.{StaysWithinLimits};
 ghost use Rattle.history_laws.specs.Trees.{IsATree};
 ghost use Rattle.kernel.specs.Operations.{can_run, CanRunAll};
 ghost use Rattle.kernel.specs.Shown.{Kept, moment, is_live};
@@ -83,10 +84,12 @@ impl Kernel {
         self.state.transactions.stable().is_living(pid)
     }
 
-    /// What is committed. A process in no transaction sees it. Its directories are a tree.
+    /// What is committed. A process in no transaction sees it. Its directories are a tree, and neither it nor what a process sees
+    /// passes a limit of processes, files, pipes or offsets.
     pub fn stable(&self) -> &Stable
         ensures state { result.now.state ≡ self.now.state }
         ensures tree { IsATree self.now.state }
+        ensures limits { StaysWithinLimits (moment self.now.log) }
     {
         self.state.transactions.stable()
     }
