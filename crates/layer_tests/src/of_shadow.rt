@@ -27,13 +27,8 @@ fn added(
     let root = view.root();
     let mut edits = Vec::new(heap);
     edits.push(Edit::MakeDirectory(root, Name::copy(heap, name)?, 0))?;
-    let chosen = stable.number(edits.as_slice())?;
-    let num = chosen.as_slice()[0];
-    if shadow.edit(stable, edits, &chosen).is_err() {
-        stable.forget(&chosen);
-        return Err(AllocError);
-    }
-    Ok(num)
+    let chosen = shadow.edit(stable, edits)?;
+    Ok(chosen.as_slice()[0])
 }
 
 // Whether a new directory can be added where this request for memory is refused.
