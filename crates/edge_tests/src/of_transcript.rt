@@ -1,5 +1,6 @@
 // A transcript with each form of operation and reply, whole and up to each byte.
 use crate::halting::halting;
+use crate::telling::told;
 use device::{Halting, Trickling};
 use heap::Heap;
 use ids::{
@@ -161,19 +162,21 @@ fn entry(heap: Heap, line: Line, reply: Reply) -> Entry {
 
 fn replies(heap: Heap) -> Result<Vec<Reply, Heap>, AllocError> {
     let mut replies = Vec::from_array(heap, plain_replies())?;
-    for reply in replies_with_memory(heap)? {
-        replies.push(reply)?;
-    }
+    replies.append(&mut Vec::from_array(heap, replies_with_memory(heap)?)?)?;
     Ok(replies)
 }
 
 // What the lines of a script ask, with these replies.
-fn entries_of(heap: Heap, lines: Vec<Line, Heap>, replies: Vec<Reply, Heap>) -> Vec<Entry, Heap> {
-    let mut entries = Vec::new(heap);
-    for (line, reply) in lines.into_iter().zip(replies) {
-        let _ = entries.push(entry(heap, line, reply));
-    }
-    entries
+fn entries_of(
+    heap: Heap,
+    lines: Vec<Line, Heap>,
+    replies: Vec<Reply, Heap>,
+) -> Result<Vec<Entry, Heap>, AllocError> {
+    lines
+        .into_iter()
+        .zip(replies)
+        .map(|(line, reply)| entry(heap, line, reply))
+        .collect(heap)
 }
 
 fn doom(entry: &mut Entry) -> Result<(), AllocError> {
@@ -184,7 +187,7 @@ fn doom(entry: &mut Entry) -> Result<(), AllocError> {
 fn sample(heap: Heap) -> Result<Vec<Entry, Heap>, Fail> {
     let replies = replies(heap)?;
     let lines = read_script(heap, SCRIPT.as_bytes())?.into_lines();
-    let mut entries = entries_of(heap, lines, replies);
+    let mut entries = entries_of(heap, lines, replies)?;
     doom(entries.last_mut().ok_or("no entry")?)?;
     Ok(entries)
 }
@@ -243,13 +246,10 @@ fn long_entry(heap: Heap) -> Result<Entry, AllocError> {
     })
 }
 
-// Whether its line is written whole to a sink that takes so many bytes, and how many the sink gets.
-fn long_line(heap: Heap, room: usize) -> (bool, usize) {
-    let Ok(entry) = long_entry(heap) else {
-        return (false, 0);
-    };
+// Whether an entry's line is written whole to a sink that takes so many bytes, and how many the sink gets.
+fn line_of(heap: Heap, entry: &Entry, room: usize) -> (bool, usize) {
     let mut sink = halting(heap, room);
-    let printed = print_line(1, &entry, &mut sink).is_ok();
+    let printed = print_line(1, entry, &mut sink).is_ok();
     (printed, sink.bytes.len())
 }
 
@@ -257,7 +257,9 @@ fn long_line(heap: Heap, room: usize) -> (bool, usize) {
 fn a_long_line_is_written_in_parts(rt: HostRuntime) -> Result<(), Fail> {
     let heap = heap::open(rt.alloc())?;
     let len = 4000 + "1 P1 write 0  -> 1000\n".len();
-    assert!(rt; long_line(heap, 9000) == (true, len));
-    assert!(rt; long_line(heap, 600) == (false, 600));
+    let lines = told(long_entry(heap)?, |entry| {
+        [line_of(heap, entry, 9000), line_of(heap, entry, 600)]
+    });
+    assert!(rt; lines == [(true, len), (false, 600)]);
     Ok(())
 }

@@ -1,7 +1,9 @@
 // A run through a turnstile, by one thread and then by two.
-ghost use Rattle.std.specs.Prelude.{◌≡◌, true, IfOk, IfSome};
+ghost use Rattle.std.specs.Prelude.{◌≡◌, true, All, IfOk, IfSome};
 ghost use Rattle.kernel.specs.Operations.{can_run};
+ghost use Rattle.turnstile.specs.Passes.{Gate};
 
+use crate::telling::told;
 use heap::Heap;
 use ids::{Answer, Bytes, Call, Entry, Kind, Op, Pid, Priority, Reply};
 use kernel::Kernel;
@@ -38,13 +40,35 @@ struct Opened {
     two: Pass,
 }
 
+// The first of two passes, and the second.
+fn two_of(passes: &mut Vec<Pass, Heap>) -> Option<(Pass, Pass)>
+    ensures { (gate : Gate) → All (λ p. p.gate ≡ gate) passes.old.items
+        → IfSome result (λ two. (two.0.gate ≡ gate) × (two.1.gate ≡ gate)) }
+{
+    let two = passes.pop()?;
+    let one = passes.pop()?;
+    Some((one, two))
+}
+
 fn begun(heap: Heap, kernel: Kernel) -> Option<Opened>
     ensures one { IfSome result (λ o. o.one.gate ≡ o.turnstile) }
     ensures two { IfSome result (λ o. o.two.gate ≡ o.turnstile) }
 {
-    let (turnstile, mut others) = Turnstile::new(heap, kernel).ok()?;
-    let two = others.pop()?;
-    let one = others.pop()?;
+    match Turnstile::new(heap, kernel) {
+        Ok((turnstile, passes)) => with_two(turnstile, passes),
+        Err(kernel) => {
+            drop(kernel);
+            None
+        }
+    }
+}
+
+fn with_two(turnstile: Turnstile, mut passes: Vec<Pass, Heap>) -> Option<Opened>
+    requires { All (λ p. p.gate ≡ turnstile) passes.items }
+    ensures one { IfSome result (λ o. o.one.gate ≡ o.turnstile) }
+    ensures two { IfSome result (λ o. o.two.gate ≡ o.turnstile) }
+{
+    let (one, two) = two_of(&mut passes)?;
     Some(Opened {
         turnstile,
         one,
@@ -52,16 +76,33 @@ fn begun(heap: Heap, kernel: Kernel) -> Option<Opened>
     })
 }
 
+fn is_done(reply: &Reply) -> bool {
+    matches!(reply, Reply::Answer(Answer::Done))
+}
+
+fn is_done_now(reply: &Option<Reply>) -> bool {
+    match reply {
+        Some(reply) => is_done(reply),
+        None => false,
+    }
+}
+
+fn is_directory(reply: &Option<Reply>) -> bool {
+    match reply {
+        Some(Reply::Answer(Answer::Stat(stat))) => stat.kind == Kind::Dir,
+        _ => false,
+    }
+}
+
 // Makes `/a` at once. Answers whether it was done.
 fn makes(heap: Heap, turnstile: &Turnstile, pass: &mut Pass) -> bool
     requires { pass.old.gate ≡ turnstile.now }
     ensures { pass.new.gate ≡ pass.old.gate }
 {
-    let Ok(op) = mkdir(heap, b"/a") else {
-        return false;
-    };
-    let reply = turnstile.try_call(pass, op);
-    matches!(&reply, Some(Reply::Answer(Answer::Done)))
+    match mkdir(heap, b"/a") {
+        Ok(op) => told(turnstile.try_call(pass, op), is_done_now),
+        Err(_) => false,
+    }
 }
 
 // Looks at `/a` at once. Answers whether it is a directory.
@@ -69,11 +110,19 @@ fn sees(heap: Heap, turnstile: &Turnstile, pass: &mut Pass) -> bool
     requires { pass.old.gate ≡ turnstile.now }
     ensures { pass.new.gate ≡ pass.old.gate }
 {
-    let Ok(op) = stat(heap, b"/a") else {
-        return false;
-    };
-    let reply = turnstile.try_call(pass, op);
-    matches!(&reply, Some(Reply::Answer(Answer::Stat(stat))) if stat.kind == Kind::Dir)
+    match stat(heap, b"/a") {
+        Ok(op) => told(turnstile.try_call(pass, op), is_directory),
+        Err(_) => false,
+    }
+}
+
+// Makes a directory, and waits for the other thread.
+fn work<R: Wait + Abort>(rt: &R, turnstile: &Turnstile, pass: &mut Pass, op: Op)
+    requires gate { pass.old.gate ≡ turnstile.now }
+    requires op { can_run op ≡ true }
+    ensures { pass.new.gate ≡ pass.old.gate }
+{
+    assert!(rt; told(turnstile.call(rt, pass, op), is_done));
 }
 
 // Makes a hundred directories, and waits at each for the other thread.
@@ -88,11 +137,8 @@ fn worked<R: Wait + Abort>(
     ensures { result.gate ≡ pass.gate }
 {
     for number in 0..100u64 {
-        let Ok(op) = mkdir(heap, &path(letter, number)) else {
-            panic!(rt; "no memory")
-        };
-        let reply = turnstile.call(rt, &mut pass, op);
-        assert!(rt; matches!(&reply, Reply::Answer(Answer::Done)));
+        let op = mkdir(heap, &path(letter, number)).expect(rt, "memory");
+        work(rt, turnstile, &mut pass, op);
     }
     pass
 }
@@ -121,6 +167,17 @@ fn both_worked<R: Threads + Wait + Abort + Sync>(
     )
 }
 
+// The first process makes a directory, and the second sees it after they have met.
+fn assert_met(rt: &impl Abort, heap: Heap, turnstile: &Turnstile, one: &mut Pass, two: &mut Pass)
+    requires { (one.old.gate ≡ turnstile.now) × (two.old.gate ≡ turnstile.now) }
+    ensures { (one.new.gate ≡ turnstile.now) × (two.new.gate ≡ turnstile.now) }
+{
+    assert!(rt; one.pid() == Pid(1) && two.pid() == Pid(2));
+    assert!(rt; makes(heap, turnstile, one));
+    turnstile.meet(one, two);
+    assert!(rt; sees(heap, turnstile, two));
+}
+
 // The kernel after its two processes have met in one thread, and have worked in one each.
 fn shared<R: Threads + Wait + Abort + Sync>(rt: &R, heap: Heap, opened: Opened) -> Option<Kernel>
     requires one { opened.one.gate ≡ opened.turnstile }
@@ -131,10 +188,7 @@ fn shared<R: Threads + Wait + Abort + Sync>(rt: &R, heap: Heap, opened: Opened) 
         mut one,
         mut two,
     } = opened;
-    assert!(rt; one.pid() == Pid(1) && two.pid() == Pid(2));
-    assert!(rt; makes(heap, &turnstile, &mut one));
-    turnstile.meet(&mut one, &mut two);
-    assert!(rt; sees(heap, &turnstile, &mut two));
+    assert_met(rt, heap, &turnstile, &mut one, &mut two);
     let (one, two) = both_worked(rt, heap, &turnstile, one, two);
     let passes = Vec::from_array(heap, [one, two]).ok()?;
     turnstile.close(passes)
@@ -173,8 +227,7 @@ fn done<R: Threads + Wait + Abort + Sync>(
     kernel: Kernel,
 ) -> Option<(usize, u64, u64)> {
     let opened = begun(heap, kernel)?;
-    let kernel = shared(rt, heap, opened)?;
-    Some(counts(&kernel))
+    Some(told(shared(rt, heap, opened)?, counts))
 }
 
 #[test]

@@ -1,4 +1,4 @@
-// Whether values have these texts: of any type, so that no proof looks into them. Refused memory is a no.
+// What is told of values of any type, so that no proof looks into them or drops one. Refused memory is a no.
 use std::alloc::Global;
 use std::fmt::{Debug, Display};
 
@@ -24,4 +24,11 @@ pub(crate) fn begins<T: Display>(alloc: Global, value: &T, text: &str) -> bool {
         Ok(words) => words.as_str().starts_with(text),
         Err(_) => false,
     }
+}
+
+// What is told of a value, which then goes.
+pub(crate) fn told<T: Drop, R, F: FnOnce(&T) -> R>(it: T, tell: F) -> R
+    requires { F.IsAlwaysCallable tell }
+{
+    tell(&it)
 }

@@ -135,6 +135,18 @@ fn shadows_merge_block_by_block(rt: HostRuntime) {
     assert_holds(&rt, &file, 2047, b"\0\0z");
 }
 
+// Whether a byte is written, whether its block is then the one that is changed, how many are, and the length.
+fn written(heap: Heap, shadow: &mut FileShadow, file: &FileData) -> (bool, bool, usize, usize) {
+    let done = shadow.write(heap, 9000, b"z").is_ok();
+    let changed = shadow.changed();
+    (
+        done,
+        changed == [8].as_slice(),
+        changed.len(),
+        shadow.len(file),
+    )
+}
+
 #[test]
 fn a_refused_write_changes_nothing(rt: HostRuntime) {
     let heap = heap::open(rt.alloc()).expect(&rt, "memory");
@@ -143,12 +155,10 @@ fn a_refused_write_changes_nothing(rt: HostRuntime) {
     for number in 1..5 {
         let mut shadow = FileShadow::new(heap);
         heap.refuse(number);
-        let refused = shadow.write(heap, 9000, b"z").is_err();
-        let seen = (refused, shadow.changed().len(), shadow.len(&file));
-        assert_eq!(rt; seen, (true, 0, 3000), "request {number}");
-        shadow.write(heap, 9000, b"z").expect(&rt, "memory");
-        assert_eq!(rt; shadow.changed(), [8].as_slice());
-        assert_eq!(rt; shadow.len(&file), 9001);
+        let refused = written(heap, &mut shadow, &file);
+        let told = (refused, written(heap, &mut shadow, &file));
+        let expected = ((false, false, 0, 3000), (true, true, 1, 9001));
+        assert_eq!(rt; told, expected, "request {number}");
     }
 }
 

@@ -1,5 +1,5 @@
 // What the calls answer while the kernel is taken. Only this crate can hold the kernel taken, so the test stands here.
-ghost use Rattle.std.specs.Prelude.{◌≡◌, All, IfSome};
+ghost use Rattle.std.specs.Prelude.{◌≡◌, All};
 
 use super::*;
 use heap::Heap;
@@ -12,53 +12,46 @@ fn kernel_of_two(heap: Heap) -> Result<Kernel, Fail> {
     Ok(Kernel::new(heap, &[zero, zero], 200)?)
 }
 
-// The turnstile of a new kernel, with two of its passes, and the list of the others.
-struct Opened {
-    turnstile: Turnstile,
-    one: Pass,
-    two: Pass,
-    others: Vec<Pass, Heap>,
+// Whether there is nothing. What there is goes here, so that no other function has to drop it.
+fn is_none<T: Drop>(made: Option<T>) -> bool {
+    made.is_none()
 }
 
-fn begun(heap: Heap, kernel: Kernel) -> Option<Opened>
-    ensures one { IfSome result (λ o. o.one.gate ≡ o.turnstile) }
-    ensures two { IfSome result (λ o. o.two.gate ≡ o.turnstile) }
-    ensures others { IfSome result (λ o. All (λ p. p.gate ≡ o.turnstile) o.others.items) }
+// Takes the kernel by the last of the passes, which goes.
+fn taken(turnstile: &Turnstile, passes: &mut Vec<Pass, Heap>) -> Option<Kernel>
+    requires { All (λ p. p.gate ≡ turnstile.now) passes.old.items }
+    ensures { All (λ p. p.gate ≡ turnstile.now) passes.new.items }
 {
-    let (turnstile, mut others) = Turnstile::new(heap, kernel).ok()?;
-    let two = others.pop()?;
-    let one = others.pop()?;
-    Some(Opened {
-        turnstile,
-        one,
-        two,
-        others,
-    })
+    let Pass { pid: _, mut seat } = passes.pop()?;
+    turnstile.take(&mut seat)
 }
 
-// What `try_call` and `close` answer while the kernel is taken: whether both say so.
-fn refused_while_taken(opened: Opened) -> bool
-    requires two { opened.two.gate ≡ opened.turnstile }
-    requires one { opened.one.gate ≡ opened.turnstile }
-    requires others { All (λ p. p.gate ≡ opened.turnstile) opened.others.items }
+// Whether a call by the last of the passes, which goes, is refused.
+fn is_call_refused(turnstile: &Turnstile, passes: &mut Vec<Pass, Heap>) -> bool
+    requires { All (λ p. p.gate ≡ turnstile.now) passes.old.items }
+    ensures { All (λ p. p.gate ≡ turnstile.now) passes.new.items }
 {
-    let Opened {
-        turnstile,
-        one,
-        mut two,
-        others,
-    } = opened;
-    let Pass { pid: _, mut seat } = one;
-    let held = turnstile.take(&mut seat);
-    let called = turnstile.try_call(&mut two, Op::End);
-    let closed = turnstile.close(others);
-    held.is_some() && called.is_none() && closed.is_none()
+    match passes.pop() {
+        Some(mut pass) => is_none(turnstile.try_call(&mut pass, Op::End)),
+        None => false,
+    }
+}
+
+// Whether the kernel cannot be taken, and then whether `try_call` and `close` say that it is taken.
+fn told_while_taken(turnstile: Turnstile, mut passes: Vec<Pass, Heap>) -> [bool; 3]
+    requires { All (λ p. p.gate ≡ turnstile) passes.items }
+{
+    let held = taken(&turnstile, &mut passes);
+    let called = is_call_refused(&turnstile, &mut passes);
+    let closed = is_none(turnstile.close(passes));
+    [is_none(held), called, closed]
 }
 
 #[test]
 fn a_taken_kernel(rt: HostRuntime) -> Result<(), Fail> {
     let heap = heap::open(rt.alloc())?;
     let kernel = kernel_of_two(heap)?;
-    assert!(rt; refused_while_taken(begun(heap, kernel).ok_or("begun")?));
+    let (turnstile, passes) = Turnstile::new(heap, kernel).ok().ok_or("no memory")?;
+    assert_eq!(rt; told_while_taken(turnstile, passes), [false, true, true]);
     Ok(())
 }

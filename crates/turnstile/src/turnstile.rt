@@ -111,6 +111,52 @@ fn hear(lock: &Lock, seat: &mut Place, mut passes: Vec<Pass, Heap>)
     }
 }
 
+// What a turnstile needs before its kernel is given away.
+#[derive(Drop)]
+struct Room {
+    living: Vec<bool, Heap>,
+    passes: Vec<Pass, Heap>,
+    slots: Vec<Option<Kernel>, Heap>,
+}
+
+fn make_room(heap: Heap, kernel: &Kernel) -> Result<Room, AllocError>
+    ensures living { IfOk result (λ r. Lives kernel.now.state r.living.items) }
+    ensures passes { IfOk result (λ r. (r.passes.items ≡ []) × (vec_capacity r.passes ≡ length r.living.items)) }
+    ensures slots { IfOk result (λ r. (r.slots.items ≡ []) × (vec_capacity r.slots ≡ 1)) }
+{
+    let living = living(heap, kernel)?;
+    let passes = Vec::with_capacity(heap, living.len())?;
+    let slots = Vec::with_capacity(heap, 1)?;
+    Ok(Room {
+        living,
+        passes,
+        slots,
+    })
+}
+
+// The table of a kernel, and the seat that deals its passes. Refused memory gives the same kernel back.
+fn table_of(
+    heap: Heap,
+    kernel: Kernel,
+    mut slots: Vec<Option<Kernel>, Heap>,
+) -> Result<(Lock, Place), Kernel>
+    requires { (slots.items ≡ []) × (vec_capacity slots ≡ 1) }
+    ensures start { IfOk result (λ t. (t.0.shared.key.value ≡ kernel.log) × IsLegal t.0.shared.key.value) }
+    ensures table { IfOk result (λ t. (t.0.shared.table_id.words ≡ 1) × (t.0.shared.table_id.slots ≡ 1)) }
+    ensures dealer { IfOk result (λ t. (t.1.table_id ≡ t.0.shared.table_id) × (t.1.me ≡ (Deals 0 t.0.shared.key.value, []))) }
+    ensures err { IfErr result (λ k. k ≡ kernel) }
+{
+    let start = Snapshot::of(kernel.history());
+    slots.push_reserved(Some(kernel));
+    match Table::new(heap, &[FREE], slots, &start) {
+        Ok(made) => Ok(made),
+        Err(Refused { mut slots }) => match slots.pop() {
+            Some(Some(kernel)) => Err(kernel),
+            _ => unreachable!(),
+        },
+    }
+}
+
 impl Turnstile {
     /// A pass for each living process, rising; each has seen the kernel's history. Refused memory gives the same kernel back.
     pub fn new(heap: Heap, kernel: Kernel) -> Result<(Turnstile, Vec<Pass, Heap>), Kernel>
@@ -119,27 +165,17 @@ impl Turnstile {
         ensures gates { IfOk result (λ t. All (λ p. p.gate ≡ t.0) t.1.items) }
         ensures err { IfErr result (λ k. k ≡ kernel) }
     {
-        let start = Snapshot::of(kernel.history());
-        let Ok(living) = living(heap, &kernel) else {
+        let Ok(room) = make_room(heap, &kernel) else {
             return Err(kernel);
         };
-        let Ok(passes) = Vec::with_capacity(heap, living.len()) else {
-            return Err(kernel);
-        };
-        let Ok(mut slots) = Vec::with_capacity(heap, 1) else {
-            return Err(kernel);
-        };
-        slots.push_reserved(Some(kernel));
-        match Table::new(heap, &[FREE], slots, &start) {
-            Ok((table, dealer)) => {
-                let passes = deal(&table, dealer, passes, living.as_slice());
-                Ok((Turnstile { table }, passes))
-            }
-            Err(Refused { mut slots }) => match slots.pop() {
-                Some(Some(kernel)) => Err(kernel),
-                _ => unreachable!(),
-            },
-        }
+        let Room {
+            living,
+            passes,
+            slots,
+        } = room;
+        let (table, dealer) = table_of(heap, kernel, slots)?;
+        let passes = deal(&table, dealer, passes, living.as_slice());
+        Ok((Turnstile { table }, passes))
     }
 
     /// The kernel, once no thread shares the turnstile. Its history begins with what each of these passes had seen, and has
@@ -193,9 +229,8 @@ impl Turnstile {
         ensures { IsSameSeat seat.old seat.new × (seat.new.me ≡ (Process (sees (taker_of seat.old.me.0) kernel.log), [])) }
     {
         let shared = &self.table.shared;
-        let None = shared.exchange(seat, 0, Some(kernel)) else {
-            unreachable!()
-        };
+        // The slot had none.
+        drop(shared.exchange(seat, 0, Some(kernel)));
         shared.store::<Give>(seat, 0, FREE);
         shared.wake_one(0);
     }
@@ -221,8 +256,13 @@ impl Turnstile {
         ensures some { IfSome result (λ reply. Called pass.old op reply pass.new) }
         ensures none { IfNone result (pass.new ≡ pass.old) }
     {
-        let kernel = self.take(&mut pass.seat)?;
-        Some(self.step(&mut pass.seat, pass.pid, kernel, op))
+        match self.take(&mut pass.seat) {
+            Some(kernel) => Some(self.step(&mut pass.seat, pass.pid, kernel, op)),
+            None => {
+                drop(op);
+                None
+            }
+        }
     }
 
     /// One operation of the pass's process. It may wait for other threads.
