@@ -1,4 +1,4 @@
-pub mod Tidies
+pub mod Freed
 pub mod Going
 pub mod Noted
 pub mod Views

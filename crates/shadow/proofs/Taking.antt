@@ -28,7 +28,7 @@ use Rattle.shadow.specs.Claims.{Claim, Room, Number, claimed_by, room_in, number
 use Rattle.shadow.specs.Changes.{effect_of}
 use Rattle.shadow.specs.Stored.{stored, promised_of, FitsStage, IsStaged, Sound}
 use Rattle.shadow.proofs.Meets.{met, coming_at, coming_by, installs, takes_one, takes_none, hides_held, met_swept}
-use Rattle.shadow.proofs.Tidies.{made_tidy, unnamed_tidy}
+use Rattle.shadow.proofs.Freed.{made_tidy, unnamed_tidy}
 use Rattle.shadow.proofs.Unshown.{altered_staged, lost_root, lost_staged}
 
 -- an inode that is a directory, by its names
@@ -143,7 +143,7 @@ module _ (ps : List ℕ) (s : Numbers) (d : ℕ) (x : Name) (n : ℕ) (sound : S
   applied_is = refl
 
   pub made_state : stored ps (inodes made) ≡ tidy (all_applied (n ∷ []) (Make_directory d x 0 ∷ []) k)
-  made_state = ap (stored ps) inodes_made ∙ sym applied_is ∙ sym (made_tidy k d x n refl sound.tidied fits)
+  made_state = ap (stored ps) inodes_made ∙ sym applied_is ∙ sym (made_tidy k d x n (record { well = sound.well; tidied = sound.tidied }) fits)
 
   some_room : 0 < met s (Room d)
   some_room =
@@ -201,7 +201,7 @@ module _ (ps : List ℕ) (s : Numbers) (d : ℕ) (x : Name) (sound : Sound ps s)
   inodes_unnamed = inodes-changed (without_name x) (λ names. remove names x) (λ l. refl) s d ∙ with_names-there (λ names. remove names x) (inodes s) d (names_of old d) there
 
   pub lost_state : stored ps (inodes (lost unnamed gone)) ≡ tidy (all_applied [] (Unname_directory d x ∷ []) old)
-  lost_state = ap (stored ps) (inodes-lost unnamed gone ∙ ap (λ m. remove m gone) inodes_unnamed) ∙ sym (unnamed_tidy old d x refl sound.tidied sound.well fitting)
+  lost_state = ap (stored ps) (inodes-lost unnamed gone ∙ ap (λ m. remove m gone) inodes_unnamed) ∙ sym (unnamed_tidy old d x (record { well = sound.well; tidied = sound.tidied }) fitting)
 
   empty_names : (y : Name) → get (names_of old gone) y ≡ None
   empty_names y = none_by_keys nat_list_cmp_total (names_of old gone) fitting.2 y
