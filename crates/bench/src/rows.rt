@@ -55,7 +55,7 @@ fn open(kernel: &mut Kernel, heap: Heap, live: u32) -> Result<()> {
         let pid = number.saturating_add(2);
         begin(kernel, pid)?;
         let path = path(heap, "", b'l', u64::from(number))?;
-        let _ = kernel.step(Pid(pid), call(Verb::Stat, path));
+        drop(kernel.step(Pid(pid), call(Verb::Stat, path)));
     }
     Ok(())
 }
@@ -136,11 +136,19 @@ pub(crate) fn measure(rt: &HostRuntime, heap: Heap, names: u64, live: u64) -> Re
         "{names} names, {live} live transactions: calls a second, plain and in a transaction"
     )?;
     let mut kernel = kernel_of(heap, u64::from(live) + 1)?;
-    prepare(&mut kernel, heap, names, live)?;
-    print_rates(rt, &mut kernel, heap, names)
+    let done = measure_on(rt, &mut kernel, heap, names, live);
+    drop(kernel);
+    done
 }
 
-fn prepare(kernel: &mut Kernel, heap: Heap, names: u64, live: u32) -> Result<()> {
+fn measure_on(
+    rt: &HostRuntime,
+    kernel: &mut Kernel,
+    heap: Heap,
+    names: u64,
+    live: u32,
+) -> Result<()> {
     fill(kernel, heap, names)?;
-    open(kernel, heap, live)
+    open(kernel, heap, live)?;
+    print_rates(rt, kernel, heap, names)
 }

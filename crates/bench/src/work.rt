@@ -64,14 +64,21 @@ pub(crate) fn path(
     Ok(Bytes::new(bytes))
 }
 
+fn is_done(reply: &Reply) -> bool {
+    matches!(reply, Reply::Answer(_) | Reply::Begun | Reply::Committed)
+}
+
 // Does one step, which is to be answered.
 pub(crate) fn step(kernel: &mut Kernel, pid: u32, op: Op) -> Result<()>
     requires { can_run op ≡ true }
 {
-    match kernel.step(Pid(pid), op) {
-        Reply::Answer(_) | Reply::Begun | Reply::Committed => Ok(()),
-        _ => bail!("a step was not done"),
+    let reply = kernel.step(Pid(pid), op);
+    let done = is_done(&reply);
+    drop(reply);
+    if !done {
+        bail!("a step was not done")
     }
+    Ok(())
 }
 
 pub(crate) fn begin(kernel: &mut Kernel, pid: u32) -> Result<()> {

@@ -29,7 +29,10 @@ pub fn run_job<I: Source, O: Sink, E: Sink>(
 {
     let Way::Schedule(list) = &job.way;
     let fault = match run_schedule(heap, source, list.as_str(), job.limit as usize, out) {
-        Ok(_kernel) => return 0,
+        Ok(kernel) => {
+            drop(kernel);
+            return 0;
+        }
         Err(fault) => fault,
     };
     tell_fault(heap, &fault, err);

@@ -45,10 +45,16 @@ pub fn run_schedule<I: Source, O: Sink>(
         return Err(RunFault::NoMemory);
     };
     let Ok(steps) = steps_of(heap, script, &pids) else {
+        drop(kernel);
         return Err(RunFault::NoMemory);
     };
-    do_steps(&mut kernel, steps, sink)?;
-    Ok(kernel)
+    match do_steps(&mut kernel, steps, sink) {
+        Ok(()) => Ok(kernel),
+        Err(fault) => {
+            drop(kernel);
+            Err(fault)
+        }
+    }
 }
 
 // The script that a source spells, where the kernel has all its operations.

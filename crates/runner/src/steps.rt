@@ -21,10 +21,20 @@ fn do_step(kernel: &mut Kernel, pid: Pid, op: Op) -> Result<(), RunFault>
     ensures unchanged { OnErr result (kernel.new ≡ kernel.old) }
     ensures fault { IfErr result (Refused kernel.old.log pid op) }
 {
-    match kernel.step(pid, op) {
-        Reply::HistoryFull => Err(RunFault::HistoryFull),
-        Reply::NoMemory => Err(RunFault::NoMemory),
-        _ => Ok(()),
+    let reply = kernel.step(pid, op);
+    match &reply {
+        Reply::HistoryFull => {
+            drop(reply);
+            Err(RunFault::HistoryFull)
+        }
+        Reply::NoMemory => {
+            drop(reply);
+            Err(RunFault::NoMemory)
+        }
+        _ => {
+            drop(reply);
+            Ok(())
+        }
     }
 }
 
