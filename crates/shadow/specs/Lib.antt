@@ -1,7 +1,7 @@
 pub mod Committed
 pub mod Claims
 pub mod Looks
-pub mod Index
+pub mod Changed
 pub mod Changes
 pub mod Stored
 pub mod Effects

@@ -5,7 +5,7 @@
 
 ghost use Rattle.shadow.specs.Effects.{CallsCanBeCommitted};
 
-mod index;
+mod changes;
 mod shadow;
 mod stable;
 mod steps;

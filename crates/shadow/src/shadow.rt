@@ -1,6 +1,7 @@
 // A transaction's changes.
-ghost use Rattle.std.specs.Prelude.{ℕ, ◌≡◌, ◌++◌, ◌∷◌, [], IfOk, OnErr, OnOk};
-ghost use Rattle.model.specs.State.{Kernel, entry_of, names_of};
+ghost use Rattle.std.specs.Prelude.{◌≡◌, ◌++◌, ◌∷◌, ◌==◌, [], IfOk, OnErr, OnOk};
+ghost use Rattle.model.specs.FiniteMap.{keys, len};
+ghost use Rattle.model.specs.State.{entry_of, names_of};
 ghost use Rattle.model.specs.Changes.{Make_directory};
 ghost use Rattle.model.specs.Effects.{all_done};
 ghost use Rattle.shadow.specs.Effects.{CanCommit, in_turn};
@@ -9,12 +10,12 @@ ghost use Rattle.shadow.specs.Changes.{CanEdit, effect, effect_of};
 ghost use Rattle.shadow.specs.Looks.{HasNoFiles, NamesAreInUse, birth_of, directory_at};
 ghost use Rattle.shadow.specs.Claims.{AreUnused, Claim, Covers, HaveParents, IsInUse, KeepsMore, KeepsSame, claimed, claimed_by};
 
-use crate::index::Index;
+use crate::changes::Changes;
 use crate::stable::Stable;
 use crate::steps::Step;
 use dirlist::Dir;
 use heap::Heap;
-use ids::{Edit, Name, Num, Nums, Pid};
+use ids::{Edit, Name, NameList, Num, Nums, Pid};
 use std::alloc::AllocError;
 use std::marker::Model;
 
@@ -25,19 +26,20 @@ use std::marker::Model;
 #[derive(Drop)]
 pub struct Shadow {
     pub(crate) steps: Vec<Step, Heap>,
-    pub(crate) index: Index,
+    pub(crate) changes: Changes,
 }
 
 impl Model for Shadow {
     ghost use Rattle.std.specs.Prelude.{List};
     ghost use Rattle.model.specs.Effects.{Effect};
-    ghost use Rattle.shadow.specs.Changes.{effects_of, Agrees};
+    ghost use Rattle.shadow.specs.Changes.{effects_of};
+    ghost use Rattle.shadow.specs.Changed.{Agrees};
 
     ghost Value = { List Effect };
 
     ghost view = { λ s. effects_of s.steps.items };
 
-    ghost invariant = { λ s. Agrees (effects_of s.steps.items) s.index };
+    ghost invariant = { λ s. Agrees (effects_of s.steps.items) s.changes };
 }
 
 impl Shadow {
@@ -47,7 +49,7 @@ impl Shadow {
     {
         Shadow {
             steps: Vec::new(heap),
-            index: Index::new(heap),
+            changes: Changes::new(heap),
         }
     }
 
@@ -125,7 +127,7 @@ impl Shadow {
         let chosen = stable.reserve_made(parent)?;
         let num = chosen.as_slice()[0];
         let step = Step::Make { parent, name, num };
-        match self.index.note(parent, noted, Some(num)) {
+        match self.changes.note_made(parent, noted, num) {
             Ok(()) => {
                 self.steps.push(step).unwrap();
                 Ok(chosen)
@@ -143,7 +145,7 @@ impl Shadow {
         ensures err { OnErr result (self.new ≡ self.old) }
     {
         self.steps.reserve(1)?;
-        self.index.note(parent, name.try_clone()?, None)?;
+        self.changes.note(parent, name.try_clone()?, None)?;
         self.steps.push(Step::Unname { parent, name }).unwrap();
         Ok(())
     }
@@ -156,20 +158,40 @@ impl Shadow {
         stable.root()
     }
 
-    /// The number of the directory that a name gives in the committed state with these changes on top. Refused memory changes
-    /// nothing.
-    pub(crate) fn find(
-        &self,
-        stable: &Stable,
-        dir: Num,
-        name: &Name,
-    ) -> Result<Option<Num>, AllocError>
-        requires { Covers stable.now self.now }
-        ensures { IfOk result (λ found. entry_of (all_done self.now stable.now.state) dir name.now ≡ directory_at found) }
+    /// The number of the directory that a name gives in the committed state with these changes on top.
+    pub(crate) fn find(&self, stable: &Stable, dir: Num, name: &Name) -> Option<Num>
+        ensures { entry_of (all_done self.now stable.now.state) dir name.now ≡ directory_at result }
     {
-        stable.has_no_names_to_come();
         let stored = stable.find(dir, name);
-        Ok(self.index.look(dir, name)?.unwrap_or(stored))
+        match self.changes.get(dir) {
+            Some(change) => change.given(name, stored),
+            None => stored,
+        }
+    }
+
+    /// All names of a directory in the committed state with these changes on top, in byte order. Refused memory changes nothing.
+    pub(crate) fn names(&self, heap: Heap, stable: &Stable, dir: Num) -> Result<NameList, AllocError>
+        ensures { IfOk result (λ names. names ≡ keys (names_of (all_done self.now stable.now.state) dir)) }
+    {
+        let none = Dir::new(heap);
+        let stored = stable.directory(dir, &none);
+        match self.changes.get(dir) {
+            Some(change) => change.all_names(heap, stored),
+            None => stored.names(heap),
+        }
+    }
+
+    /// Whether a directory has no names in the committed state with these changes on top.
+    pub(crate) fn is_empty(&self, stable: &Stable, dir: Num) -> bool
+        ensures { result ≡ (len (names_of (all_done self.now stable.now.state) dir) == 0) }
+    {
+        let heap = stable.heap();
+        let none = Dir::new(heap);
+        let stored = stable.directory(dir, &none);
+        match self.changes.get(dir) {
+            Some(change) => change.is_empty(heap, stored),
+            None => stored.is_empty(),
+        }
     }
 
     /// What names give in the committed state with these changes on top is there or to come.
@@ -177,8 +199,7 @@ impl Shadow {
         requires { Covers stable.now self.now }
         ensures { NamesAreInUse (record stable.now { state = all_done self.now stable.now.state }) }
     {
-        let _index = &self.index;
-        stable.has_no_names_to_come();
+        let _changes = &self.changes;
         stable.names_are_in_use();
     }
 
@@ -198,21 +219,6 @@ impl Shadow {
         stable.birth(pid)
     }
 
-    /// Makes the changes to the names of one directory. Where memory is refused, some are made.
-    pub(crate) fn change_names(
-        &self,
-        heap: Heap,
-        dir: Num,
-        names: &mut Dir,
-    ) -> Result<(), AllocError>
-        ensures { OnOk result ((k : Kernel) → names.old.names ≡ names_of k dir → names.new.names ≡ names_of (all_done self.now k) dir) }
-    {
-        for step in &self.steps {
-            step.change_names(heap, dir, names)?;
-        }
-        Ok(())
-    }
-
     /// Makes the changes in the committed state, and frees what nothing leads to any more. It takes no memory.
     pub fn commit_into(self, stable: &mut Stable)
         requires can { CanCommit stable.old.state self }
@@ -220,7 +226,7 @@ impl Shadow {
         ensures state { stable.new.state ≡ in_turn self stable.old.state }
         ensures kept { KeepsMore stable.new stable.old (λ c. claimed c self) }
     {
-        let Shadow { steps, index: _ } = self;
+        let Shadow { steps, changes: _ } = self;
         for step in steps {
             stable.take(step);
         }
@@ -236,7 +242,7 @@ impl Shadow {
     {
         let Shadow {
             mut steps,
-            index: _,
+            changes: _,
         } = self;
         while let Some(step) = steps.pop() {
             stable.release(&step);

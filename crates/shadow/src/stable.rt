@@ -124,20 +124,19 @@ impl Stable {
         let _store = &self.store;
     }
 
-    /// What is to come has no names yet.
-    pub(crate) fn has_no_names_to_come(&self)
-        ensures { (n : ℕ) → 0 < reserved self.now (Number n) → names_of self.now.state n ≡ empty }
-    {
-        let _store = &self.store;
+    /// Where its memory comes from.
+    pub(crate) fn heap(&self) -> Heap {
+        *self.priorities.allocator()
     }
 
-    /// A copy of a directory; of a number that is none, an empty one. Refused memory changes nothing.
-    pub(crate) fn directory(&self, heap: Heap, dir: Num) -> Result<Dir, AllocError>
-        ensures { IfOk result (λ d. d.names ≡ names_of self.now.state dir) }
+    /// A directory; where the number is of none, this one without names.
+    pub(crate) fn directory<'a>(&'a self, dir: Num, none: &'a Dir) -> &'a Dir
+        requires { none.now.names ≡ empty }
+        ensures { result.now.names ≡ names_of self.now.state dir }
     {
         match self.store.directory(dir) {
-            Some(dir) => dir.copy(heap),
-            None => Ok(Dir::new(heap)),
+            Some(dir) => dir,
+            None => none,
         }
     }
 
