@@ -1,6 +1,6 @@
 pub mod Freed
 pub mod Going
-pub mod Noted
+pub mod Kept
 pub mod Views
 pub mod Agreeing
 pub mod Meets
@@ -8,7 +8,6 @@ pub mod Taking
 pub mod Plugs
 pub mod Living
 pub mod Unshown
-pub mod Changing
 pub mod Committing
 pub mod InUse
 pub mod NoFiles

@@ -12,8 +12,11 @@ use Rattle.model.specs.Effects.{Effect, all_done}
 use Rattle.shadow.specs.declared.steps.Step.{Step}
 use Rattle.shadow.specs.declared.steps.Step.TheVariants.{Nothing, Make, Unname}
 use Rattle.shadow.specs.Looks.{NamesAreDirectories, directory_at}
-use Rattle.shadow.specs.Index.{is_place}
 use Rattle.shadow.specs.Changes.{effect_of}
+
+-- whether a name in a directory is that one
+abbrev pub is_place : ℕ → Name → ℕ × Name → Bool
+is_place d x place = (d == place.0) && eq_by_cmp name_cmp x place.1
 
 abbrev pub found : Kernel → ℕ → Name → Option ℕ
 found k e y = get (names_of k e) y

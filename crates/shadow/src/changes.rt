@@ -111,16 +111,62 @@ impl Changes {
         self.each.get(&num)
     }
 
+    /// Puts what is changed of an object in the place of what was before. Refused memory changes nothing.
+    fn put(&mut self, num: Num, change: Change) -> Result<(), AllocError>
+        ensures ok { OnOk result ((n : ℕ) → kept_at self.new n
+            ≡ (if n == num then Some change else kept_at self.old n)) }
+        ensures err { OnErr result ((n : ℕ) → kept_at self.new n ≡ kept_at self.old n) }
+    {
+        match self.each.insert(num, change) {
+            Ok(former) => {
+                drop(former);
+                Ok(())
+            }
+            Err(refused) => {
+                drop(refused);
+                Err(AllocError)
+            }
+        }
+    }
+
     /// Makes a place for what will be changed of an object. Refused memory changes nothing.
     fn make_place(&mut self, num: Num) -> Result<(), AllocError>
         ensures ok { OnOk result ((n : ℕ) → kept_at self.new n
             ≡ (if n == num then Some (change_at self.old n) else kept_at self.old n)) }
-        ensures err { OnErr result (self.new ≡ self.old) }
+        ensures err { OnErr result ((n : ℕ) → kept_at self.new n ≡ kept_at self.old n) }
     {
-        if self.each.get(&num).is_none() {
-            let _none = self.each.insert(num, Change::new(self.heap))?;
+        match self.get(num) {
+            Some(_) => Ok(()),
+            None => self.put(num, Change::new(self.heap)),
         }
-        Ok(())
+    }
+
+    /// Notes what a name in a directory gives now, where there is a place for it. Refused memory changes nothing.
+    fn note_in_place(&mut self, dir: Num, name: Name, given: Option<Num>) -> Result<(), AllocError>
+        requires { kept_at self.old dir ≢ None }
+        ensures ok { OnOk result ((n : ℕ) → kept_at self.new n
+            ≡ (if n == dir then Some (noted name given (change_at self.old n)) else kept_at self.old n)) }
+        ensures err { OnErr result ((n : ℕ) → kept_at self.new n ≡ kept_at self.old n) }
+    {
+        match self.each.get_mut(&dir) {
+            Some(change) => change.note(name, given),
+            None => unreachable!(),
+        }
+    }
+
+    /// Notes that an object is new, in its place. It takes no memory.
+    fn note_fresh(&mut self, num: Num)
+        requires { kept_at self.old num ≢ None }
+        ensures { (n : ℕ) → kept_at self.new n ≡ (if n == num then Some fresh else kept_at self.old n) }
+    {
+        let change = Change {
+            made: true,
+            names: Patch::new(self.heap),
+        };
+        match self.each.get_mut(&num) {
+            Some(place) => *place = change,
+            None => unreachable!(),
+        }
     }
 
     /// Notes what a name in a directory gives now. Refused memory changes nothing.
@@ -130,32 +176,12 @@ impl Changes {
         name: Name,
         given: Option<Num>,
     ) -> Result<(), AllocError>
-        ensures ok { OnOk result ((n : ℕ) → kept_at self.new n
-            ≡ (if n == dir then Some (noted name given (change_at self.old n)) else kept_at self.old n)) }
-        ensures err { OnErr result ((n : ℕ) → kept_at self.new n ≡ kept_at self.old n) }
+        ensures ok { OnOk result ((n : ℕ) → change_at self.new n
+            ≡ (if n == dir then noted name given (change_at self.old n) else change_at self.old n)) }
+        ensures err { OnErr result ((n : ℕ) → change_at self.new n ≡ change_at self.old n) }
     {
-        match self.each.get_mut(&dir) {
-            Some(change) => change.note(name, given),
-            None => {
-                let mut change = Change::new(self.heap);
-                change.note(name, given)?;
-                let _none = self.each.insert(dir, change)?;
-                Ok(())
-            }
-        }
-    }
-
-    /// Notes that an object is new, in its place. It takes no memory.
-    fn note_fresh(&mut self, num: Num)
-        requires { kept_at self.old num ≢ None }
-        ensures { (n : ℕ) → kept_at self.new n ≡ (if n == num then Some fresh else kept_at self.old n) }
-    {
-        if let Some(change) = self.each.get_mut(&num) {
-            *change = Change {
-                made: true,
-                names: Patch::new(self.heap),
-            };
-        }
+        self.make_place(dir)?;
+        self.note_in_place(dir, name, given)
     }
 
     /// Notes a new directory with its name. Refused memory changes nothing.
@@ -172,7 +198,8 @@ impl Changes {
         ensures err { OnErr result ((n : ℕ) → change_at self.new n ≡ change_at self.old n) }
     {
         self.make_place(num)?;
-        self.note(parent, name, Some(num))?;
+        self.make_place(parent)?;
+        self.note_in_place(parent, name, Some(num))?;
         self.note_fresh(num);
         Ok(())
     }

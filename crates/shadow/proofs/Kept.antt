@@ -1,0 +1,62 @@
+-- What is kept of each object, by its number.
+use Rattle.std.proofs.Common.{◌≡◌, ◌≢◌, ℕ, Bool, true, false, cond, List, Option, Some, None, Result, Ok, Err, OnOk, OnErr, refl, sym, ap, ◌∙◌, ◌==◌, eqb, eqb-true, eq-eqb, ne_eqb, inl, inr}
+use Rattle.std.specs.Option.{is_some}
+use Rattle.std.specs.Ordering.{is_eq, nat_cmp}
+use Rattle.std.proofs.lemmas.Bool.{cases_eq}
+use Rattle.std.specs.Cmp.{nat_cmp_total, tied_itself}
+use Rattle.model.specs.FiniteMap.{nat_cmp-IsAntisymmetric}
+use Rattle.model.proofs.Inodes.{tie}
+use Rattle.call_laws.proofs.Maps.{not_none}
+use Rattle.shadow.specs.declared.changes.Change.{Change}
+use Rattle.shadow.specs.Changed.{change_at, fresh, kept_at, noted, or_untouched, untouched}
+
+-- the test of std's map is the test of numbers
+pub tests_alike : (num n : ℕ) → is_eq (nat_cmp num n) ≡ (n == num)
+tests_alike num n = by_cases (is_eq (nat_cmp num n)) (n == num) refl refl
+  where
+    by_cases : (a b : Bool) → is_eq (nat_cmp num n) ≡ a → (n == num) ≡ b → a ≡ b
+    by_cases true true e f = refl
+    by_cases false false e f = refl
+    by_cases true false e f = sym (eq-eqb n num (sym (nat_cmp-IsAntisymmetric num n (tie (nat_cmp num n) e)))) ∙ f
+    by_cases false true e f = sym e ∙ ap (λ m. is_eq (nat_cmp num m)) (eqb-true n num f) ∙ ap is_eq (tied_itself nat_cmp_total num)
+
+-- one place changes
+pub updated : (num : ℕ) (w : Option Change) (after before : ℕ → Option Change) → ((n : ℕ) → after n ≡ cond (is_eq (nat_cmp num n)) w (before n)) → (n : ℕ) → after n ≡ cond (n == num) w (before n)
+updated num w after before h n = h n ∙ ap (λ b. cond b w (before n)) (tests_alike num n)
+
+-- a place that is there already
+pub has_place : (old : ℕ → Option Change) (num : ℕ) (c : Change) → old num ≡ Some c → (n : ℕ) → old n ≡ cond (n == num) (Some (or_untouched (old n))) (old n)
+has_place old num c is n = by_test (n == num) refl
+  where
+    by_test : (b : Bool) → (n == num) ≡ b → old n ≡ cond b (Some (or_untouched (old n))) (old n)
+    by_test false e = refl
+    by_test true e = let here : old n ≡ Some c = ap old (eqb-true n num e) ∙ is in here ∙ ap (λ o. Some (or_untouched o)) (sym here)
+
+-- what was lent is what is kept, and it is written back
+pub written_back : (num : ℕ) (c : Change) (f : Change → Change) (after before : ℕ → Option Change) → before num ≡ Some c → ((n : ℕ) → after n ≡ cond (is_eq (nat_cmp num n)) (Some (f c)) (before n))
+    → (n : ℕ) → after n ≡ cond (n == num) (Some (f (or_untouched (before n)))) (before n)
+written_back num c f after before is h n = updated num (Some (f c)) after before h n ∙ by_test (n == num) refl
+  where
+    by_test : (b : Bool) → (n == num) ≡ b → cond b (Some (f c)) (before n) ≡ cond b (Some (f (or_untouched (before n)))) (before n)
+    by_test false e = refl
+    by_test true e = ap (λ o. Some (f (or_untouched o))) (sym (ap before (eqb-true n num e) ∙ is))
+
+pub some_kept : (o : Option Change) (c : Change) → o ≡ Some c → is_some o ≡ true
+some_kept o c is = ap is_some is
+
+-- the same again
+pub same_again : (num : ℕ) (c : Change) (after before : ℕ → Option Change) → before num ≡ Some c → ((n : ℕ) → after n ≡ cond (is_eq (nat_cmp num n)) (Some c) (before n)) → (n : ℕ) → after n ≡ before n
+same_again num c after before is h n = updated num (Some c) after before h n ∙ by_test (n == num) refl
+  where
+    by_test : (b : Bool) → (n == num) ≡ b → cond b (Some c) (before n) ≡ before n
+    by_test false e = refl
+    by_test true e = sym (ap before (eqb-true n num e) ∙ is)
+
+-- what follows where a call has succeeded, and where it has failed
+pub ok_so : {A E P Q : Type 0} (r : Result A E) → (P → Q) → OnOk r P → OnOk r Q
+ok_so (Ok x) f h = f h
+ok_so (Err e) f h = tt
+
+pub err_so : {A E P Q : Type 0} (r : Result A E) → (P → Q) → OnErr r P → OnErr r Q
+err_so (Ok x) f h = tt
+err_so (Err e) f h = f h
