@@ -1,5 +1,5 @@
 // What a transaction changed in the names of one directory.
-ghost use Rattle.std.specs.Prelude.{◌≡◌, ◌++◌, ◌==◌, ℕ, IfOk, OnErr, OnOk};
+ghost use Rattle.std.specs.Prelude.{◌≡◌, ◌++◌, ◌==◌, ℕ, IfOk, IsTrue, OnErr, OnOk};
 ghost use Rattle.std.specs.Prelude.{map as list_map};
 ghost use Rattle.model.specs.FiniteMap as map;
 ghost use Rattle.model.specs.State.{name_cmp};
@@ -62,10 +62,15 @@ impl Patch {
         ensures err { OnErr result (self.new ≡ self.old) }
     {
         match place(self.given.as_slice(), &name) {
-            Ok(at) => self.given[at].1 = given,
-            Err(at) => self.given.insert(at, (name, given))?,
+            Ok(at) => {
+                self.given[at].1 = given;
+                Ok(())
+            }
+            Err(at) => {
+                self.given.insert(at, (name, given))?;
+                Ok(())
+            }
         }
-        Ok(())
     }
 
     /// The names of a directory with these changes on top, in byte order. Refused memory changes nothing.
