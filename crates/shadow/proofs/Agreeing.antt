@@ -1,9 +1,11 @@
 -- What is noted of names agrees with the changes, and still does after one change more.
-use Rattle.std.proofs.Common.{◌≡◌, ◌≢◌, ℕ, ◌+◌, ◌<◌, ◌≤◌, Bool, true, false, cond, List, [], ◌∷◌, ◌++◌, map, Option, Some, None, IfSome, refl, sym, ap, ◌∙◌, arith, ◌==◌, eq-eqb, eqb-true, inl, inr, ◌⊎◌, ⊤}
+use Rattle.std.proofs.Common.{◌≡◌, ◌≢◌, ℕ, suc, ◌+◌, ◌<◌, ◌≤◌, Bool, true, false, cond, List, [], ◌∷◌, ◌++◌, length, map, Option, Some, None, IfSome, refl, sym, ap, ◌∙◌, arith, ◌==◌, eq-eqb, eqb-true, ne_eqb, ap₂, subst, Result, Ok, Err, IfOk, inl, inr, ◌⊎◌}
+use Rattle.std.specs.Prelude.{⊤}
 use Rattle.std.specs.Ordering.{eq_by_cmp}
 use Rattle.std.specs.Cmp.Lexicographic.{nat_list_cmp_total}
 use Rattle.std.proofs.lemmas.List.Sums.{sum_by_push}
-use Rattle.model.specs.FiniteMap.{FinMap, get, empty, insert, get-insert, get-empty, same_map}
+use Rattle.model.specs.FiniteMap.{FinMap, entries, get, empty, insert, keys, len, len-entries, get-insert, get-empty, same_map}
+use Rattle.model.specs.Paths.{is_empty}
 use Rattle.model.specs.State.{Name, name_cmp, Kernel, names_of, entry_of}
 use Rattle.model.specs.Effects.{Effect, all_done}
 use Rattle.model.proofs.Inodes.{name_exact}
@@ -14,7 +16,7 @@ use Rattle.shadow.specs.declared.steps.Step.TheVariants.{Nothing, Make, Unname}
 use Rattle.shadow.specs.declared.changes.Change.{Change}
 use Rattle.shadow.specs.Claims.{Claim, Number, claimed, claimed_by}
 use Rattle.shadow.specs.Changes.{effect_of}
-use Rattle.shadow.specs.Changed.{Agrees, bare, change_at, fresh, kept_at, noted, now_given, or_untouched}
+use Rattle.shadow.specs.Changed.{Agrees, bare, change_at, fresh, kept_at, noted, now_given, or_untouched, untouched}
 use Rattle.shadow.specs.Looks.{NamesAreDirectories, directory_at}
 use Rattle.shadow.proofs.Views.{found, after_step, found_after, done_more, directories_all, entry_told}
 
@@ -34,6 +36,9 @@ now_noted c x g y f = ap (λ o. or_before o (cond c.made None f)) (get-insert na
 
 now_fresh : (y : Name) (f : Option ℕ) → now_given fresh y f ≡ None
 now_fresh y f = ap (λ o. or_before o None) (get-empty name_cmp y)
+
+pub untouched_given : (x : Name) (f : Option ℕ) → now_given untouched x f ≡ f
+untouched_given x f = ap (λ o. or_before o f) (get-empty name_cmp x)
 
 -- a new number is not the one of its parent
 abbrev pub IsApart : Step → Type 0
@@ -132,6 +137,29 @@ laid ds changes a k d x = a.names k d x ∙ ap (or_before (get (change_at change
 pub unchanged : (ds : List Effect) (changes : List (ℕ × Change)) → Agrees ds changes → (k : Kernel) (d : ℕ) → kept_at changes d ≡ None → names_of (all_done ds k) d ≡ names_of k d
 unchanged ds changes a k d none = same_map nat_list_cmp_total name_exact _ _ (λ x.
     a.names k d x ∙ ap (λ o. now_given (or_untouched o) x (get (names_of k d) x)) none ∙ ap (λ o. or_before o (get (names_of k d) x)) (get-empty name_cmp x))
+
+-- the same where both are known by other names
+pub laid_by : (ds all : List Effect) (changes : List (ℕ × Change)) → Agrees ds changes → ds ≡ all → (k : Kernel) (d : ℕ) (c : Change) → Some c ≡ kept_at changes d → (stored : FinMap name_cmp ℕ) → stored ≡ names_of k d
+    → IsLaid c.names (bare c.made stored) (names_of (all_done all k) d)
+laid_by ds all changes a same k d c is stored was =
+    subst (λ ds. IsLaid c.names (bare c.made stored) (names_of (all_done ds k) d)) same
+    (λ x. laid ds changes a k d x ∙ ap₂ (λ (c : Change) (names : FinMap name_cmp ℕ). or_before (get c.names x) (get (bare c.made names) x)) (sym (ap or_untouched is)) (sym was))
+
+pub unchanged_by : (ds all : List Effect) (changes : List (ℕ × Change)) → Agrees ds changes → ds ≡ all → (k : Kernel) (d : ℕ) → None ≡ kept_at changes d → (stored : FinMap name_cmp ℕ) → stored ≡ names_of k d
+    → stored ≡ names_of (all_done all k) d
+unchanged_by ds all changes a same k d is stored was = was ∙ sym (unchanged ds changes a k d (sym is)) ∙ ap (λ ds. names_of (all_done ds k) d) same
+
+pub if_ok_so : {A E : Type 0} {P Q : A → Type 0} (r : Result A E) → ((x : A) → P x → Q x) → IfOk r P → IfOk r Q
+if_ok_so (Ok x) f h = f x h
+if_ok_so (Err e) f h = tt
+
+-- no names are no names
+pub no_keys : (names : FinMap name_cmp ℕ) → (len names == 0) ≡ is_empty (keys names)
+no_keys names = ap (λ n. n == 0) (len-entries names) ∙ by_list (entries names)
+  where
+    by_list : (es : List (Name × ℕ)) → (length es == 0) ≡ is_empty (map (λ e. e.0) es)
+    by_list [] = refl
+    by_list (e ∷ es) = ne_eqb (suc (length es)) 0 (λ h. absurd (omega (arith, h)))
 
 -- and what names give is in use
 pub seen_there : (ds : List Effect) (changes : List (ℕ × Change)) → Agrees ds changes → (P : ℕ → Type 0) → ((n : ℕ) → 0 < claimed (Number n) ds → P n) → (d : ℕ) (x : Name) (before : Option ℕ) → IfSome before P → IfSome (now_given (change_at changes d) x before) P

@@ -117,16 +117,9 @@ impl Changes {
             ≡ (if n == num then Some change else kept_at self.old n)) }
         ensures err { OnErr result ((n : ℕ) → kept_at self.new n ≡ kept_at self.old n) }
     {
-        match self.each.insert(num, change) {
-            Ok(former) => {
-                drop(former);
-                Ok(())
-            }
-            Err(refused) => {
-                drop(refused);
-                Err(AllocError)
-            }
-        }
+        let former = self.each.insert(num, change)?;
+        drop(former);
+        Ok(())
     }
 
     /// Makes a place for what will be changed of an object. Refused memory changes nothing.
@@ -135,10 +128,11 @@ impl Changes {
             ≡ (if n == num then Some (change_at self.old n) else kept_at self.old n)) }
         ensures err { OnErr result ((n : ℕ) → kept_at self.new n ≡ kept_at self.old n) }
     {
-        match self.get(num) {
-            Some(_) => Ok(()),
-            None => self.put(num, Change::new(self.heap)),
+        let heap = self.heap;
+        if self.get(num).is_some() {
+            return Ok(());
         }
+        self.put(num, Change::new(heap))
     }
 
     /// Notes what a name in a directory gives now, where there is a place for it. Refused memory changes nothing.

@@ -1,6 +1,7 @@
 // A transaction's changes.
-ghost use Rattle.std.specs.Prelude.{◌≡◌, ◌++◌, ◌∷◌, ◌==◌, [], IfOk, OnErr, OnOk};
-ghost use Rattle.model.specs.FiniteMap.{keys, len};
+ghost use Rattle.std.specs.Prelude.{◌≡◌, ◌++◌, ◌∷◌, [], IfOk, OnErr, OnOk};
+ghost use Rattle.model.specs.FiniteMap.{keys};
+ghost use Rattle.model.specs.Paths.{is_empty};
 ghost use Rattle.model.specs.State.{entry_of, names_of};
 ghost use Rattle.model.specs.Changes.{Make_directory};
 ghost use Rattle.model.specs.Effects.{all_done};
@@ -183,7 +184,7 @@ impl Shadow {
 
     /// Whether a directory has no names in the committed state with these changes on top.
     pub(crate) fn is_empty(&self, stable: &Stable, dir: Num) -> bool
-        ensures { result ≡ (len (names_of (all_done self.now stable.now.state) dir) == 0) }
+        ensures { result ≡ is_empty (keys (names_of (all_done self.now stable.now.state) dir)) }
     {
         let heap = stable.heap();
         let none = Dir::new(heap);

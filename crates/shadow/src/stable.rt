@@ -1,5 +1,6 @@
 // The committed state.
-ghost use Rattle.std.specs.Prelude.{ℕ, ◌≡◌, ◌≤◌, ◌<◌, ◌∷◌, [], List, true, IfOk, OnErr, OnOk};
+ghost use Rattle.std.specs.Prelude.{ℕ, ◌≡◌, ◌≢◌, ◌≤◌, ◌<◌, ◌∷◌, [], List, None, true, IfOk, OnErr, OnOk};
+ghost use Rattle.std.specs.List.{AllByRecursion};
 ghost use Rattle.model.specs.FiniteMap.{empty, get};
 ghost use Rattle.model.specs.State.{Name, names_of};
 ghost use Rattle.model.specs.Changes.{Make_directory, Unname_directory, all_applied, process_of, tidy};
@@ -185,6 +186,7 @@ impl Stable {
     pub(crate) fn reserve_made(&mut self, parent: Num) -> Result<Nums, AllocError>
         requires { IsInUse self.old.reserves parent }
         ensures one { IfOk result IsOne }
+        ensures apart { IfOk result (AllByRecursion (λ n. n ≢ parent)) }
         ensures new { IfOk result (λ chosen. (x : Name) → AreUnused self.old (Make_directory parent x 0 ∷ []) chosen) }
         ensures kept { IfOk result (λ chosen. (x : Name) → KeepsMore self.old self.new (λ c. claimed_by c (effect chosen (Make_directory parent x 0 ∷ [])))) }
         ensures state { self.new.state ≡ self.old.state }
@@ -202,6 +204,7 @@ impl Stable {
 
     /// One new number, for a directory to come. Refused memory changes nothing.
     fn reserve(&mut self) -> Result<Num, AllocError>
+        ensures fresh { IfOk result (λ num. get self.old.reserves num ≡ None) }
         ensures unused { IfOk result (λ num. (c : Claim) → number_of c ≡ num → reserved self.old c ≡ 0) }
         ensures nowhere { IfOk result (IsNowhere self.old.state) }
         ensures kept { IfOk result (λ num. KeepsMore self.old self.new (number_as num)) }

@@ -11,4 +11,4 @@ returns c =
     let steps = c.self.inside.steps.items in let v = c.args.stable.now in
     let covers : Covers v (effects_of steps) = subst (Covers v) (sym c.self.view_is) c.requires in
     subst (λ ds. NamesAreInUse (record v { state = all_done ds v.state })) c.self.view_is
-    (viewed_in_use steps c.self.inside.index c.self.invariant v covers c.has_no_names_to_come.ensures c.names_are_in_use.ensures)
+    (viewed_in_use steps c.self.inside.changes c.self.invariant v covers c.names_are_in_use.ensures)
