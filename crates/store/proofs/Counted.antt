@@ -78,7 +78,7 @@ module _ (old new : Slab Header) (n : ℕ) (o : Option Header) (u : Updates old 
 pub counted_number : (headers : Slab Header) → AreCounted headers → (n : ℕ) (header : Header) → slab.get headers n ≡ Some header → header.links ≡ links_in (shown headers) n
 counted_number headers was n header there = sym (ap links_of there) ∙ was.counts n
 
-some_same : {X : Type 0} (P : X → Type 0) (x y : X) → Some x ≡ Some y → P x → P y
+pub some_same : {X : Type 0} (P : X → Type 0) (x y : X) → Some x ≡ Some y → P x → P y
 some_same P x y e h = subst P (ap (or_else x) e) h
   where
     or_else : {X : Type 0} → X → Option X → X

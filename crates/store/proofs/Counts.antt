@@ -62,7 +62,7 @@ given-there names name n is =
 pub given-le-len : (names : FinMap name_cmp ℕ) (q : ℕ) → given_in q names ≤ len names
 given-le-len names q =
     let most : given_in q names ≤ length (values names) = count_by-le-length (λ v. v == q) (values names) in
-    let long : length (values names) ≡ length (entries names) = length-map (entries names) in
+    let long : length (values names) ≡ length (entries names) = length-map (entries names) (λ e. e.1) in
     let is : len names ≡ length (entries names) = len-entries names in
     omega arith
 

@@ -5,3 +5,4 @@ pub mod Chosen
 pub mod Changes
 pub mod Listings
 pub mod Counted
+pub mod Renamed
