@@ -5,13 +5,18 @@ use Rattle.std.specs.Cmp.{nat_cmp_total}
 use Rattle.std.proofs.lemmas.List.{length-map}
 use Rattle.std.proofs.lemmas.List.Sums.{sum_by-cons, count_by-le-length}
 use Rattle.model.specs.FiniteMap.{FinMap, get, insert, remove, entries, len, values, len-entries, nat_cmp-IsAntisymmetric}
-use Rattle.model.specs.State.{Inode, Name, name_cmp, names_of_inode}
+use Rattle.model.specs.State.{Inode, Kernel, Name, links, name_cmp, names_of_inode}
 use Rattle.model.proofs.Sums.{weight, all_entries, sum-insert, sum-remove}
 use Rattle.model.proofs.Inodes.{given_in, weighed}
 use Rattle.dirlist.proofs.Names.{name_total, name_exact}
 use Rattle.store.specs.Headers.{given_by}
 use Rattle.store.specs.Links.{links_in}
 use Rattle.store.specs.Shown.{with_inode}
+
+-- the model counts the same names
+pub links-links_in : (k : Kernel) (n : ℕ) → links k n ≡ links_in k.inodes n
+unfolding links
+links-links_in k n = refl
 
 -- how often the names of an inode give a number
 abbrev pub given_of : ℕ → Option Inode → ℕ

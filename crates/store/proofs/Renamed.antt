@@ -71,11 +71,11 @@ former-counted headers was d name n is =
 
 -- the places after the names of one number changed and the counts followed, where n is what the new name gives
 module _ (old named less more : Slab Header) (d : ℕ) (o : Option Header) (former new : Option ℕ)
-  (was : AreCounted old) (u : Updates old named d o) (kept : links_of o ≡ links_of (slab.get old d))
-  (given : (q : ℕ) → given_in q (names_at o) + given_by former q ≡ given_in q (names_at (slab.get old d)) + given_by new q)
-  (sound : (q : ℕ) (header : Header) → slab.get named q ≡ Some header → IsSound header)
-  (loses : LosesLink named less former) (gains : GainsLink less more new)
-  (in_use : (n : ℕ) → new ≡ Some n → may_be_named (place_of (slab.get less n)) ≡ true) where
+    (was : AreCounted old) (u : Updates old named d o) (kept : links_of o ≡ links_of (slab.get old d))
+    (given : (q : ℕ) → given_in q (names_at o) + given_by former q ≡ given_in q (names_at (slab.get old d)) + given_by new q)
+    (sound : (q : ℕ) (header : Header) → slab.get named q ≡ Some header → IsSound header)
+    (loses : LosesLink named less former) (gains : GainsLink less more new)
+    (in_use : (n : ℕ) → new ≡ Some n → may_be_named (place_of (slab.get less n)) ≡ true) where
   same_place : (q : ℕ) → place_of (slab.get more q) ≡ place_of (slab.get named q)
   same_place q = gains.places q ∙ loses.places q
 

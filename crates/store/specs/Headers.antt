@@ -23,6 +23,13 @@ abbrev pub links_of : Option Header → ℕ
 links_of (Some header) = header.links
 links_of None = 0
 
+-- what a number is used for, and the count of the names that give it
+abbrev pub place_at : Slab Header → ℕ → Option Place
+place_at headers n = place_of (slab.get headers n)
+
+abbrev pub count_at : Slab Header → ℕ → ℕ
+count_at headers n = links_of (slab.get headers n)
+
 -- what each number is used for
 abbrev pub places_of : Slab Header → FinMap nat_cmp Place
 places_of headers = from_entries {R = nat_cmp} (placed 0 (map place_of headers.slots))
@@ -48,12 +55,12 @@ counted dir given = if is_shown dir then given else None
 
 -- every number is used as before, and is given by one name more, or by one less
 pub record GainsLink (old new : Slab Header) (given : Option ℕ) : Type 0 where
-  pub places : (q : ℕ) → place_of (slab.get new q) ≡ place_of (slab.get old q)
-  pub links : (q : ℕ) → links_of (slab.get new q) ≡ links_of (slab.get old q) + given_by given q
+  pub places : (q : ℕ) → place_at new q ≡ place_at old q
+  pub links : (q : ℕ) → count_at new q ≡ count_at old q + given_by given q
 
 pub record LosesLink (old new : Slab Header) (given : Option ℕ) : Type 0 where
-  pub places : (q : ℕ) → place_of (slab.get new q) ≡ place_of (slab.get old q)
-  pub links : (q : ℕ) → links_of (slab.get new q) + given_by given q ≡ links_of (slab.get old q)
+  pub places : (q : ℕ) → place_at new q ≡ place_at old q
+  pub links : (q : ℕ) → count_at new q + given_by given q ≡ count_at old q
 
 -- the names of an object
 abbrev pub names_in : Object → FinMap name_cmp ℕ
@@ -72,5 +79,5 @@ pub record IsSound (header : Header) : Type 0 where
 
 -- every header has the count of the names that give its number, and what is not in use is given by no name
 pub record AreCounted (headers : Slab Header) : Type 0 where
-  pub counts : (n : ℕ) → links_of (slab.get headers n) ≡ links_in (chosen inode_in (places_of headers)) n
+  pub counts : (n : ℕ) → count_at headers n ≡ links_in (chosen inode_in (places_of headers)) n
   pub sound : (n : ℕ) (header : Header) → slab.get headers n ≡ Some header → IsSound header

@@ -48,7 +48,7 @@ pub struct Place {
 
 /// A number that is in use: what it is used for, and how many names of shown directories give it.
 ///
-/// There are fewer than 2^64 directories with fewer than 2^64 names each, so a count is less than 2^128.
+/// A `usize` can count the directories, and the names of each. So a `u128` can count all names.
 #[derive(Drop)]
 struct Header {
     place: Place,
@@ -86,7 +86,8 @@ impl Store {
     pub fn new(heap: Heap) -> Result<Store, AllocError>
         ensures first { IfOk result IsFirstRoot }
         ensures root { IfOk result (λ s. s.root ≡ 0) }
-        ensures shown { IfOk result (λ s. inodes s ≡ map.insert map.empty s.root (A_directory map.empty)) }
+        ensures shown { IfOk result
+            (λ s. inodes s ≡ map.insert map.empty s.root (A_directory map.empty)) }
     {
         let mut places = Slab::new(heap);
         let root = places.insert(Header {
@@ -114,7 +115,8 @@ impl Store {
     pub fn reserve_num(&mut self, object: Object) -> Result<Num, AllocError>
         requires { names_of_inode (inode_of object) ≡ map.empty }
         ensures unused { IfOk result (λ num. map.get self.old.places num ≡ None) }
-        ensures reserved { IfOk result (λ num. self.new ≡ record self.old { places = map.insert self.old.places num (coming object) }) }
+        ensures reserved { IfOk result (λ num.
+            self.new ≡ record self.old { places = map.insert self.old.places num (coming object) }) }
         ensures ready { IfOk result (λ num. map.get self.new.places num ≡ Some (coming object)) }
         ensures shown { OnOk result (inodes self.new ≡ inodes self.old) }
         ensures err { OnErr result (self.new ≡ self.old) }
@@ -132,7 +134,8 @@ impl Store {
     /// Shows the object to come of a number, or changes nothing where the number has none to come. It takes no memory.
     pub fn install(&mut self, num: Num)
         ensures installed { self.new ≡ altered installed self.old num }
-        ensures shown { (object : Object) → map.get self.old.places num ≡ Some (coming object) → inodes self.new ≡ with_inode (inodes self.old) num (inode_of object) }
+        ensures shown { (object : Object) → map.get self.old.places num ≡ Some (coming object) →
+            inodes self.new ≡ with_inode (inodes self.old) num (inode_of object) }
     {
         places::install_at(&mut self.places, num.0);
     }
@@ -171,7 +174,8 @@ impl Store {
     /// The directory of a number, where it is shown.
     pub fn directory(&self, dir: Num) -> Option<&Dir>
         ensures listing { option_copied result ≡ option_and_then listing_of (object_at self.now dir) }
-        ensures shown { map.get (inodes self.now) dir ≡ mapped (λ listing. A_directory listing.names) (option_copied result) }
+        ensures shown { map.get (inodes self.now) dir ≡
+            mapped (λ listing. A_directory listing.names) (option_copied result) }
     {
         match self.get(dir) {
             Some(Object::Directory(dir)) => Some(dir),
@@ -226,13 +230,15 @@ impl Store {
     /// From now on the name gives this number, whatever it gave before, in promised room; where there is no directory, nothing
     /// changes. The directory is shown or lost, and the object of the number is shown or to come. It takes no memory.
     pub fn add_name(&mut self, dir: Num, name: Name, num: Num)
-        requires room { (listing : Listing) → listing_at self.old dir ≡ Some listing → 0 < listing.promised }
+        requires room { (listing : Listing) →
+            listing_at self.old dir ≡ Some listing → 0 < listing.promised }
         requires dir { is_coming (map.get self.old.places dir) ≡ false }
         requires num { may_be_named (map.get self.old.places num) ≡ true }
         ensures added { self.new ≡ altered (with_listing (with_name name num)) self.old dir }
-        ensures shown { inodes self.new ≡ with_names (λ names. map.insert names name num) (inodes self.old) dir }
+        ensures shown { inodes self.new ≡
+            with_names (λ names. map.insert names name num) (inodes self.old) dir }
     {
-        places::are_few(&self.places);
+        places::numbers_are_few(&self.places);
         let former = places::add_name_at(&mut self.places, dir.0, name, num);
         places::remove_link(&mut self.places, dir.0, former);
         places::add_link(&mut self.places, dir.0, num);
@@ -243,7 +249,8 @@ impl Store {
     pub fn remove_name(&mut self, dir: Num, name: &Name) -> Option<Num>
         ensures value { result ≡ number_in (listing_at self.old dir) name.now }
         ensures removed { self.new ≡ altered (with_listing (without_name name.now)) self.old dir }
-        ensures shown { inodes self.new ≡ with_names (λ names. map.remove names name.now) (inodes self.old) dir }
+        ensures shown { inodes self.new ≡
+            with_names (λ names. map.remove names name.now) (inodes self.old) dir }
     {
         let num = places::remove_name_at(&mut self.places, dir.0, name)?;
         places::remove_link(&mut self.places, dir.0, Some(num));

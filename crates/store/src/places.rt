@@ -1,11 +1,12 @@
-// What changes at one number: its place, and the count of the names that give it.
+//! What is at one number, and changes of it: its place, and the count of the names that give it. A number that is not in use
+//! does not change.
 ghost use Rattle.std.specs.Prelude.{◌≡◌, ◌<◌, ◌+◌, ◌^◌, ℕ, IsTrue, OnOk, OnErr, Some, true, option_copied, option_map};
 ghost use Rattle.model.specs.FiniteMap as map;
 ghost use Rattle.slab.specs.Slab.{get, slab_len, Updates};
 ghost use Rattle.dirlist.specs.Listing.{Listing};
 ghost use Rattle.store.specs.Numbers.{held};
 ghost use Rattle.store.specs.Places.{installed, hidden, is_over, is_shown, may_be_named, listing_of, listing_in, changed_object, with_listing, more_room, less_room, with_name, without_name, number_in, has_room};
-ghost use Rattle.store.specs.Headers.{at_place, links_of, place_of, more_links, less_links, counted, GainsLink, LosesLink};
+ghost use Rattle.store.specs.Headers.{at_place, count_at, place_at, more_links, less_links, counted, GainsLink, LosesLink};
 
 use crate::{Header, Object, Place, Stage};
 use dirlist::Dir;
@@ -14,8 +15,9 @@ use ids::{Name, Num};
 use slab::Slab;
 use std::alloc::AllocError;
 
+/// The object of a number, where it is shown.
 pub fn object_in(places: &Slab<Header, Heap>, key: usize) -> Option<&Object>
-    ensures { option_copied result ≡ held (place_of (get places.now key)) }
+    ensures { option_copied result ≡ held (place_at places.now key) }
 {
     match places.get(key) {
         Some(header) => held_object(&header.place),
@@ -35,13 +37,14 @@ fn held_object(place: &Place) -> Option<&Object>
 
 /// Whether the object of a number is shown.
 pub fn is_shown_at(places: &Slab<Header, Heap>, key: usize) -> bool
-    ensures { result ≡ is_shown (place_of (get places.now key)) }
+    ensures { result ≡ is_shown (place_at places.now key) }
 {
     object_in(places, key).is_some()
 }
 
+/// Whether room for a name is promised at a number.
 pub fn is_promised_at(places: &Slab<Header, Heap>, key: usize) -> bool
-    ensures { result ≡ has_room (listing_in (place_of (get places.now key))) }
+    ensures { result ≡ has_room (listing_in (place_at places.now key)) }
 {
     match places.get(key) {
         Some(header) => is_promised_in(&header.place.object),
@@ -57,8 +60,9 @@ fn is_promised_in(object: &Object) -> bool
     }
 }
 
+/// Whether the object of a number is lost, with no room promised in it.
 pub fn is_over_at(places: &Slab<Header, Heap>, key: usize) -> bool
-    ensures { result ≡ is_over (place_of (get places.now key)) }
+    ensures { result ≡ is_over (place_at places.now key) }
 {
     match places.get(key) {
         Some(header) => match header.place.stage {
@@ -70,8 +74,10 @@ pub fn is_over_at(places: &Slab<Header, Heap>, key: usize) -> bool
     }
 }
 
+/// Shows the object of a number, where it is to come.
 pub fn install_at(places: &mut Slab<Header, Heap>, key: usize)
-    ensures { Updates places.old places.new key (option_map (at_place installed) (get places.old key)) }
+    ensures { Updates places.old places.new key
+        (option_map (at_place installed) (get places.old key)) }
 {
     if let Some(header) = places.get_mut(key) {
         install_in(&mut header.place);
@@ -86,16 +92,20 @@ fn install_in(place: &mut Place)
     }
 }
 
+/// The object of a number is lost.
 pub fn hide_at(places: &mut Slab<Header, Heap>, key: usize)
-    ensures { Updates places.old places.new key (option_map (at_place hidden) (get places.old key)) }
+    ensures { Updates places.old places.new key
+        (option_map (at_place hidden) (get places.old key)) }
 {
     if let Some(header) = places.get_mut(key) {
         header.place.stage = Stage::Lost;
     }
 }
 
+/// Promises room for one more name. Refused memory changes nothing.
 pub fn promise_at(places: &mut Slab<Header, Heap>, key: usize) -> Result<(), AllocError>
-    ensures ok { OnOk result (Updates places.old places.new key (option_map (at_place (with_listing more_room)) (get places.old key))) }
+    ensures ok { OnOk result (Updates places.old places.new key
+        (option_map (at_place (with_listing more_room)) (get places.old key))) }
     ensures err { OnErr result (Updates places.old places.new key (get places.old key)) }
 {
     match places.get_mut(key) {
@@ -113,8 +123,10 @@ fn promise_in(object: &mut Object) -> Result<(), AllocError>
     }
 }
 
+/// Gives up the promised room of one name, where there is one.
 pub fn release_at(places: &mut Slab<Header, Heap>, key: usize)
-    ensures { Updates places.old places.new key (option_map (at_place (with_listing less_room)) (get places.old key)) }
+    ensures { Updates places.old places.new key
+        (option_map (at_place (with_listing less_room)) (get places.old key)) }
 {
     if let Some(header) = places.get_mut(key) {
         release_in(&mut header.place.object);
@@ -137,12 +149,15 @@ fn release_one(dir: &mut Dir)
     }
 }
 
-/// The name gives the number from now on, and what it gave before is answered.
+/// The name gives the number from now on, in promised room. What it gave before is answered.
 pub fn add_name_at(places: &mut Slab<Header, Heap>, key: usize, name: Name, num: Num) -> Option<Num>
-    requires { (listing : Listing) → listing_in (place_of (get places.old key)) ≡ Some listing → 0 < listing.promised }
-    ensures value { result ≡ number_in (listing_in (place_of (get places.old key))) name }
-    ensures added { Updates places.old places.new key (option_map (at_place (with_listing (with_name name num))) (get places.old key)) }
-    ensures few { (listing : Listing) → listing_in (place_of (get places.new key)) ≡ Some listing → map.len listing.names < 2 ^ 64 }
+    requires { (listing : Listing) →
+        listing_in (place_at places.old key) ≡ Some listing → 0 < listing.promised }
+    ensures value { result ≡ number_in (listing_in (place_at places.old key)) name }
+    ensures added { Updates places.old places.new key
+        (option_map (at_place (with_listing (with_name name num))) (get places.old key)) }
+    ensures few { (listing : Listing) →
+        listing_in (place_at places.new key) ≡ Some listing → map.len listing.names < 2 ^ 64 }
 {
     match places.get_mut(key) {
         Some(header) => add_name_in(&mut header.place.object, name, num),
@@ -154,7 +169,8 @@ fn add_name_in(object: &mut Object, name: Name, num: Num) -> Option<Num>
     requires { IsTrue (has_room (listing_of object.old)) }
     ensures value { result ≡ number_in (listing_of object.old) name }
     ensures added { object.new ≡ changed_object (with_name name num) object.old }
-    ensures few { (listing : Listing) → listing_of object.new ≡ Some listing → map.len listing.names < 2 ^ 64 }
+    ensures few { (listing : Listing) →
+        listing_of object.new ≡ Some listing → map.len listing.names < 2 ^ 64 }
 {
     match object {
         Object::Directory(dir) => put_name(dir, name, num),
@@ -174,16 +190,18 @@ fn put_name(dir: &mut Dir, name: Name, num: Num) -> Option<Num>
     former
 }
 
-// A directory has as many names as a `usize` can count.
+// A `usize` can count the names of one directory.
 fn names_are_few(dir: &Dir)
     ensures { map.len dir.now.names < 2 ^ 64 }
 {
     let _len = dir.len();
 }
 
+/// Takes a name out of a directory, and answers what it gave.
 pub fn remove_name_at(places: &mut Slab<Header, Heap>, key: usize, name: &Name) -> Option<Num>
-    ensures value { result ≡ number_in (listing_in (place_of (get places.old key))) name.now }
-    ensures removed { Updates places.old places.new key (option_map (at_place (with_listing (without_name name.now))) (get places.old key)) }
+    ensures value { result ≡ number_in (listing_in (place_at places.old key)) name.now }
+    ensures removed { Updates places.old places.new key
+        (option_map (at_place (with_listing (without_name name.now))) (get places.old key)) }
 {
     match places.get_mut(key) {
         Some(header) => remove_name_in(&mut header.place.object, name),
@@ -202,7 +220,7 @@ fn remove_name_in(object: &mut Object, name: &Name) -> Option<Num>
 
 /// How many names give a number; none where it is not in use.
 pub fn links_at(places: &Slab<Header, Heap>, key: usize) -> u128
-    ensures { result ≡ links_of (get places.now key) }
+    ensures { result ≡ count_at places.now key }
 {
     match places.get(key) {
         Some(header) => header.links,
@@ -212,9 +230,9 @@ pub fn links_at(places: &Slab<Header, Heap>, key: usize) -> u128
 
 /// One name more of a directory gives the number, which is counted where the directory is shown.
 pub fn add_link(places: &mut Slab<Header, Heap>, dir: usize, num: Num)
-    requires in_use { may_be_named (place_of (get places.old num)) ≡ true }
-    requires fits { links_of (get places.old num) + 1 < 2 ^ 128 }
-    ensures { GainsLink places.old places.new (counted (place_of (get places.old dir)) (Some num)) }
+    requires in_use { may_be_named (place_at places.old num) ≡ true }
+    requires fits { count_at places.old num + 1 < 2 ^ 128 }
+    ensures { GainsLink places.old places.new (counted (place_at places.old dir) (Some num)) }
 {
     if is_shown_at(places, dir) {
         add_link_at(places, num.0);
@@ -222,7 +240,7 @@ pub fn add_link(places: &mut Slab<Header, Heap>, dir: usize, num: Num)
 }
 
 fn add_link_at(places: &mut Slab<Header, Heap>, key: usize)
-    requires { links_of (get places.old key) + 1 < 2 ^ 128 }
+    requires { count_at places.old key + 1 < 2 ^ 128 }
     ensures { Updates places.old places.new key (option_map more_links (get places.old key)) }
 {
     if let Some(header) = places.get_mut(key) {
@@ -232,8 +250,9 @@ fn add_link_at(places: &mut Slab<Header, Heap>, key: usize)
 
 /// One name less of a directory gives what the name gave, which was counted where the directory is shown.
 pub fn remove_link(places: &mut Slab<Header, Heap>, dir: usize, former: Option<Num>)
-    requires { (n : ℕ) → counted (place_of (get places.old dir)) former ≡ Some n → 0 < links_of (get places.old n) }
-    ensures { LosesLink places.old places.new (counted (place_of (get places.old dir)) former) }
+    requires { (n : ℕ) →
+        counted (place_at places.old dir) former ≡ Some n → 0 < count_at places.old n }
+    ensures { LosesLink places.old places.new (counted (place_at places.old dir) former) }
 {
     if let Some(num) = former {
         if is_shown_at(places, dir) {
@@ -243,7 +262,7 @@ pub fn remove_link(places: &mut Slab<Header, Heap>, dir: usize, former: Option<N
 }
 
 fn remove_link_at(places: &mut Slab<Header, Heap>, key: usize)
-    requires { 0 < links_of (get places.old key) }
+    requires { 0 < count_at places.old key }
     ensures { Updates places.old places.new key (option_map less_links (get places.old key)) }
 {
     if let Some(header) = places.get_mut(key) {
@@ -251,8 +270,8 @@ fn remove_link_at(places: &mut Slab<Header, Heap>, key: usize)
     }
 }
 
-/// There are as many numbers in use as a `usize` can count.
-pub fn are_few(places: &Slab<Header, Heap>)
+/// A `usize` can count the numbers that are in use.
+pub fn numbers_are_few(places: &Slab<Header, Heap>)
     ensures { slab_len places.now < 2 ^ 64 }
 {
     let _len = places.len();

@@ -21,8 +21,8 @@ invariant_of-self c =
     counted-altered hidden _ _ _ c.self.invariant
     (subst (λ k. Updates headers c.hide_at.new.places k (option_map (at_place hidden) (slab.get headers k))) c.num.view_is c.hide_at.ensures)
     (λ header there sound. kept-hidden header sound
-        (counted_number headers c.self.invariant _ header there ∙ ap (λ (s : Numbers). links_in (inodes s) c.args.num) c.self.view_is ∙ c.requires.unnamed)
-        (ap names_at (sym there) ∙ sym (ap names_of_inode (get-shown headers _)) ∙ ap (λ (s : Numbers). names_of_inode (map.get (inodes s) c.args.num)) c.self.view_is ∙ c.requires.bare))
+    (counted_number headers c.self.invariant _ header there ∙ ap (λ (s : Numbers). links_in (inodes s) c.args.num) c.self.view_is ∙ c.requires.unnamed)
+    (ap names_at (sym there) ∙ sym (ap names_of_inode (get-shown headers _)) ∙ ap (λ (s : Numbers). names_of_inode (map.get (inodes s) c.args.num)) c.self.view_is ∙ c.requires.bare))
 
 pub returns-clause-lost : goal.returns-clause-lost
 returns-clause-lost c = c.sweep.ensures ∙ ap (λ s. swept s c.args.num) (store-altered _ _ _ _ c.self.view_is _ _ c.num.view_is hidden c.hide_at.ensures)
