@@ -1,6 +1,7 @@
 -- What is noted of names agrees with the changes, and still does after one change more.
 use Rattle.std.proofs.Common.{◌≡◌, ◌≢◌, ℕ, suc, ◌+◌, ◌<◌, ◌≤◌, Bool, true, false, cond, List, [], ◌∷◌, ◌++◌, length, map, Option, Some, None, IfSome, refl, sym, ap, ◌∙◌, arith, ◌==◌, eq-eqb, eqb-true, ne_eqb, ap₂, subst, Result, Ok, Err, IfOk, inl, inr, ◌⊎◌}
 use Rattle.std.specs.Prelude.{⊤}
+use Rattle.std.specs.List.{AllByRecursion}
 use Rattle.std.specs.Ordering.{eq_by_cmp}
 use Rattle.std.specs.Cmp.Lexicographic.{nat_list_cmp_total}
 use Rattle.std.proofs.lemmas.List.Sums.{sum_by_push}
@@ -9,14 +10,14 @@ use Rattle.model.specs.Paths.{is_empty}
 use Rattle.model.specs.State.{Name, name_cmp, Kernel, names_of, entry_of}
 use Rattle.model.specs.Effects.{Effect, all_done}
 use Rattle.model.proofs.Inodes.{name_exact}
-use Rattle.call_laws.proofs.Maps.{not_none, some_same}
+use Rattle.call_laws.proofs.Maps.{not_none, some_same, true_is_false}
 use Rattle.dirlist.specs.Patches.{IsLaid, or_before}
 use Rattle.shadow.specs.declared.steps.Step.{Step}
 use Rattle.shadow.specs.declared.steps.Step.TheVariants.{Nothing, Make, Unname}
 use Rattle.shadow.specs.declared.changes.Change.{Change}
-use Rattle.shadow.specs.Claims.{Claim, Number, claimed, claimed_by}
+use Rattle.shadow.specs.Claims.{Claim, Room, Number, claimed, claimed_by, number_of}
 use Rattle.shadow.specs.Changes.{effect_of}
-use Rattle.shadow.specs.Changed.{Agrees, bare, change_at, fresh, kept_at, noted, now_given, or_untouched, untouched}
+use Rattle.shadow.specs.Changed.{Agrees, bare, change_at, claim_in, fresh, kept_at, noted, now_given, or_untouched, untouched}
 use Rattle.shadow.specs.Looks.{NamesAreDirectories, directory_at}
 use Rattle.shadow.proofs.Views.{found, after_step, found_after, done_more, directories_all, entry_told}
 
@@ -24,7 +25,12 @@ pub agrees_none : Agrees [] []
 agrees_none = record {
   names = λ k d x. sym (ap (λ o. or_before o (found k d x)) (get-empty name_cmp x));
   numbers = λ d x n is. absurd (not_none (Some n) (sym is ∙ get-empty name_cmp x));
+  claims = none;
 }
+  where
+    none : (c : Claim) → claimed c [] ≡ claim_in untouched c
+    none (Room d) = refl
+    none (Number n) = refl
 
 -- what a name gives after a note of it or of another name, and in a new directory
 now_noted : (c : Change) (x : Name) (g : Option ℕ) (y : Name) (f : Option ℕ) → now_given (noted x g c) y f ≡ cond (eq_by_cmp name_cmp y x) g (now_given c y f)
@@ -44,17 +50,17 @@ untouched_given x f = ap (λ o. or_before o f) (get-empty name_cmp x)
 abbrev pub IsApart : Step → Type 0
 IsApart Nothing = ⊤
 IsApart (Make d x n) = n ≢ d
-IsApart (Unname d x) = ⊤
+IsApart (Unname d x n) = ⊤
 
 -- what is kept after one change more
 abbrev pub changed_after : Step → (ℕ → Change) → ℕ → Change
 changed_after Nothing at e = at e
 changed_after (Make d x n) at e = cond (e == d) (noted x (Some n) (at e)) (cond (e == n) fresh (at e))
-changed_after (Unname d x) at e = cond (e == d) (noted x None (at e)) (at e)
+changed_after (Unname d x n) at e = cond (e == d) (noted x None (at e)) (at e)
 
 given_after : (s : Step) → IsApart s → (at : ℕ → Change) (e : ℕ) (y : Name) (f : Option ℕ) → after_step s e y (now_given (at e) y f) ≡ now_given (changed_after s at e) y f
 given_after Nothing apart at e y f = refl
-given_after (Unname d x) apart at e y f = by_test (e == d)
+given_after (Unname d x n) apart at e y f = by_test (e == d)
   where
     by_test : (b : Bool) → cond (Rattle.std.proofs.Common.◌&&◌ b (eq_by_cmp name_cmp y x)) None (now_given (at e) y f) ≡ now_given (cond b (noted x None (at e)) (at e)) y f
     by_test true = sym (now_noted (at e) x None y f)
@@ -81,7 +87,7 @@ noted_came c x g y m is = by_test (eq_by_cmp name_cmp y x) (sym (get-insert nat_
 
 came : (s : Step) (at : ℕ → Change) (e : ℕ) (y : Name) (m : ℕ) → get (changed_after s at e).names y ≡ Some (Some m) → (get (at e).names y ≡ Some (Some m)) ⊎ (0 < claimed_by (Number m) (effect_of s))
 came Nothing at e y m is = inl is
-came (Unname d x) at e y m is = by_test (e == d) is
+came (Unname d x n) at e y m is = by_test (e == d) is
   where
     by_test : (b : Bool) → get (cond b (noted x None (at e)) (at e)).names y ≡ Some (Some m) → (get (at e).names y ≡ Some (Some m)) ⊎ (0 < 0)
     by_test true is = elim (noted_came (at e) x None y m is) [ inl old ↦ inl old | inr new ↦ absurd (not_none m (sym new)) ]
@@ -96,8 +102,61 @@ came (Make d x n) at e y m is = by_tests (e == d) (e == n) is
     by_tests false true is = absurd (not_none (Some m) (sym is ∙ get-empty name_cmp y))
     by_tests false false is = inl is
 
-pub agrees_after : (ds : List Effect) (changes after : List (ℕ × Change)) (s : Step) → Agrees ds changes → IsApart s → ((n : ℕ) → change_at after n ≡ changed_after s (change_at changes) n) → Agrees (ds ++ effect_of s ∷ []) after
-agrees_after ds changes after s a apart is = record {
+-- what one change more claims
+claim_after : (s : Step) → IsApart s → (at : ℕ → Change) (ds : List Effect) → AllByRecursion (λ n. (c : Claim) → number_of c ≡ n → claimed c ds ≡ 0) (effect_of s).chosen
+    → ((c : Claim) → claimed c ds ≡ claim_in (at (number_of c)) c) → (c : Claim) → claimed c ds + claimed_by c (effect_of s) ≡ claim_in (changed_after s at (number_of c)) c
+claim_after Nothing apart at ds unused is c = (let same : claimed c ds ≡ claim_in (at (number_of c)) c = is c in let none : claimed_by c (effect_of Nothing) ≡ 0 = by_claim c in omega arith)
+  where
+    by_claim : (c : Claim) → claimed_by c (effect_of Nothing) ≡ 0
+    by_claim (Room r) = refl
+    by_claim (Number m) = refl
+claim_after (Unname d x n) apart at ds unused is c = (
+    let same : claimed c ds ≡ claim_in (at (number_of c)) c = is c in
+    let none : claimed_by c (effect_of (Unname d x n)) ≡ 0 = by_claim c in
+    let still : claim_in (changed_after (Unname d x n) at (number_of c)) c ≡ claim_in (at (number_of c)) c = by_test (number_of c == d) c in omega arith)
+  where
+    by_claim : (c : Claim) → claimed_by c (effect_of (Unname d x n)) ≡ 0
+    by_claim (Room r) = refl
+    by_claim (Number m) = refl
+
+    by_test : (b : Bool) (c : Claim) → claim_in (cond b (noted x None (at (number_of c))) (at (number_of c))) c ≡ claim_in (at (number_of c)) c
+    by_test true (Room r) = omega arith
+    by_test true (Number m) = refl
+    by_test false c = refl
+claim_after (Make d x n) apart at ds unused is (Room r) = by_tests (r == d) (r == n) refl refl
+  where
+    here : claimed_by (Room r) (effect_of (Make d x n)) ≡ 0 + cond (d == r) 1 0
+    here = refl
+
+    by_tests : (b c : Bool) → (r == d) ≡ b → (r == n) ≡ c → claimed (Room r) ds + claimed_by (Room r) (effect_of (Make d x n)) ≡ (cond b (noted x (Some n) (at r)) (cond c fresh (at r))).promised
+    by_tests true c h i = (
+        let same : claimed (Room r) ds ≡ (at r).promised = is (Room r) in
+        let one : claimed_by (Room r) (effect_of (Make d x n)) ≡ 1 = here ∙ ap (λ b. 0 + cond b 1 0) (eq-eqb d r (sym (eqb-true r d h))) in omega arith)
+    by_tests false true h i = (
+        let zero : claimed (Room r) ds ≡ 0 = unused.0 (Room r) (eqb-true r n i) in
+        let none : claimed_by (Room r) (effect_of (Make d x n)) ≡ 0 = here ∙ ap (λ b. 0 + cond b 1 0) (ne_eqb d r (λ e. true_is_false (sym (eq-eqb r d (sym e)) ∙ h))) in omega arith)
+    by_tests false false h i = (
+        let same : claimed (Room r) ds ≡ (at r).promised = is (Room r) in
+        let none : claimed_by (Room r) (effect_of (Make d x n)) ≡ 0 = here ∙ ap (λ b. 0 + cond b 1 0) (ne_eqb d r (λ e. true_is_false (sym (eq-eqb r d (sym e)) ∙ h))) in omega arith)
+claim_after (Make d x n) apart at ds unused is (Number m) = by_tests (m == d) (m == n) refl refl
+  where
+    here : claimed_by (Number m) (effect_of (Make d x n)) ≡ 0 + cond (n == m) 1 0
+    here = refl
+
+    away : (m == n) ≡ false → claimed_by (Number m) (effect_of (Make d x n)) ≡ 0
+    away h = here ∙ ap (λ b. 0 + cond b 1 0) (ne_eqb n m (λ e. true_is_false (sym (eq-eqb m n (sym e)) ∙ h)))
+
+    by_tests : (b c : Bool) → (m == d) ≡ b → (m == n) ≡ c → claimed (Number m) ds + claimed_by (Number m) (effect_of (Make d x n)) ≡ cond (cond b (noted x (Some n) (at m)) (cond c fresh (at m))).made 1 0
+    by_tests true true h i = absurd (apart (sym (eqb-true m n i) ∙ eqb-true m d h))
+    by_tests true false h i = (let same : claimed (Number m) ds ≡ cond (at m).made 1 0 = is (Number m) in let none : claimed_by (Number m) (effect_of (Make d x n)) ≡ 0 = away i in omega arith)
+    by_tests false true h i = (
+        let zero : claimed (Number m) ds ≡ 0 = unused.0 (Number m) (eqb-true m n i) in
+        let one : claimed_by (Number m) (effect_of (Make d x n)) ≡ 1 = here ∙ ap (λ b. 0 + cond b 1 0) (eq-eqb n m (sym (eqb-true m n i))) in omega arith)
+    by_tests false false h i = (let same : claimed (Number m) ds ≡ cond (at m).made 1 0 = is (Number m) in let none : claimed_by (Number m) (effect_of (Make d x n)) ≡ 0 = away i in omega arith)
+
+pub agrees_after : (ds : List Effect) (changes after : List (ℕ × Change)) (s : Step) → Agrees ds changes → IsApart s → AllByRecursion (λ n. (c : Claim) → number_of c ≡ n → claimed c ds ≡ 0) (effect_of s).chosen
+    → ((n : ℕ) → change_at after n ≡ changed_after s (change_at changes) n) → Agrees (ds ++ effect_of s ∷ []) after
+agrees_after ds changes after s a apart unused is = record {
   names = λ k d x.
       ap (λ t. found t d x) (done_more ds (effect_of s) k) ∙ found_after s (all_done ds k) d x ∙ ap (after_step s d x) (a.names k d x)
       ∙ given_after s apart (change_at changes) d x (found k d x) ∙ ap (λ (c : Change). now_given c x (found k d x)) (sym (is d));
@@ -107,13 +166,7 @@ agrees_after ds changes after s a apart is = record {
         | inl old ↦ (let some : 0 < claimed (Number n) ds = a.numbers d x n old in omega arith)
         | inr new ↦ omega (arith, new)
       ]);
-}
-
--- where what is kept stays as it is
-pub agrees_still : (ds : List Effect) (changes after : List (ℕ × Change)) → Agrees ds changes → ((n : ℕ) → change_at after n ≡ change_at changes n) → Agrees ds after
-agrees_still ds changes after a is = record {
-  names = λ k d x. a.names k d x ∙ ap (λ (c : Change). now_given c x (found k d x)) (sym (is d));
-  numbers = λ d x n has. a.numbers d x n (ap (λ (c : Change). get c.names x) (sym (is d)) ∙ has);
+  claims = λ c. claimed_more c ds (effect_of s) ∙ claim_after s apart (change_at changes) ds unused a.claims c ∙ ap (λ (kept : Change). claim_in kept c) (sym (is (number_of c)));
 }
 
 pub effects_more : (xs : List Step) (s : Step) → map effect_of (xs ++ s ∷ []) ≡ map effect_of xs ++ effect_of s ∷ []

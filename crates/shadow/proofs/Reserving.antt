@@ -5,7 +5,7 @@ use Rattle.model.specs.Moments.{is_in}
 use Rattle.model.specs.Effects.{Effect}
 use Rattle.shadow.specs.Committed.{Committed}
 use Rattle.shadow.specs.Changes.{CanEdit, IsOne}
-use Rattle.shadow.specs.Claims.{AreUnused, Covers, Number, Room, claimed, number_as, reserved}
+use Rattle.shadow.specs.Claims.{AreUnused, Claim, Covers, Number, number_of, claimed, number_as, reserved}
 
 -- what is taken from behind edits of one call is all of them
 pub only_edit : (popped items : List Edit) (e : Edit) → items ≡ popped ++ e ∷ [] → CanEdit items → items ≡ e ∷ []
@@ -21,11 +21,11 @@ only_number (m ∷ k ∷ ms) n d one is = absurd one
 in_itself : (n : ℕ) → is_in n (n ∷ []) ≡ true
 in_itself n = ap (λ b. b || false) (eq-eqb n n refl)
 
--- no change needs room in a new directory
-pub no_room_needed : (s : Committed) (made : List Edit) (chosen : List ℕ) (n : ℕ) (ds : List Effect) → chosen ≡ n ∷ [] → AreUnused s made chosen → Covers s ds → claimed (Room n) ds ≡ 0
-no_room_needed s made chosen n ds is new covers =
-    let all : claimed (Room n) ds ≤ reserved s (Room n) = covers (Room n) in
-    let none : reserved s (Room n) ≡ 0 = new.unused (Room n) (ap (is_in n) is ∙ in_itself n) in omega arith
+-- no change claims anything of a new number
+pub unclaimed : (s : Committed) (made : List Edit) (chosen : List ℕ) (n : ℕ) (ds : List Effect) → chosen ≡ n ∷ [] → AreUnused s made chosen → Covers s ds → (c : Claim) → number_of c ≡ n → claimed c ds ≡ 0
+unclaimed s made chosen n ds is new covers c same =
+    let all : claimed c ds ≤ reserved s c = covers c in
+    let none : reserved s c ≡ 0 = new.unused c (ap (is_in (number_of c)) is ∙ ap (λ m. is_in m (n ∷ [])) same ∙ in_itself n) in omega arith
 
 pub number_counts : (n : ℕ) → number_as n (Number n) ≡ 1
 number_counts n = ap (λ (b : Bool). cond {A = ℕ} b 1 0) (eq-eqb n n refl)

@@ -59,7 +59,7 @@ found_unnamed k d x e y = elim (cases_eq e d) [
 abbrev pub after_step : Step → ℕ → Name → Option ℕ → Option ℕ
 after_step Nothing e y before = before
 after_step (Make d x n) e y before = cond (is_place e y (d, x)) (Some n) (cond (e == n) None before)
-after_step (Unname d x) e y before = cond (is_place e y (d, x)) None before
+after_step (Unname d x n) e y before = cond (is_place e y (d, x)) None before
 
 abbrev pub one_done : Step → Kernel → Kernel
 one_done s k = all_applied (effect_of s).chosen (effect_of s).edits k
@@ -68,7 +68,7 @@ pub found_after : (s : Step) (k : Kernel) (e : ℕ) (y : Name) → found (one_do
 unfolding applied
 found_after Nothing k e y = refl
 found_after (Make d x n) k e y = found_named (set_inode n (Directory empty) k) d x n e y ∙ ap (cond (is_place e y (d, x)) (Some n)) (found_cleared k n e y)
-found_after (Unname d x) k e y = found_unnamed k d x e y
+found_after (Unname d x n) k e y = found_unnamed k d x e y
 
 pub done_more : (ds : List Effect) (d : Effect) (k : Kernel) → all_done (ds ++ d ∷ []) k ≡ all_applied d.chosen d.edits (all_done ds k)
 done_more [] d k = refl
@@ -85,7 +85,7 @@ kind_made : (k : Kernel) (d : ℕ) (x : Name) (n m : ℕ) → (m ≡ n) ⊎ (kin
 unfolding applied
 kind_made k d x n m h = kind_set (set_inode n (Directory empty) k) d (insert (names_of (set_inode n (Directory empty) k) d) x n) m (inr (kind_set k n empty m h))
 
-kind_unnamed : (k : Kernel) (d : ℕ) (x : Name) (m : ℕ) → kind_of k m ≡ Some A_directory → kind_of (one_done (Unname d x) k) m ≡ Some A_directory
+kind_unnamed : (k : Kernel) (d : ℕ) (x : Name) (m : ℕ) → kind_of k m ≡ Some A_directory → kind_of (one_done (Unname d x n) k) m ≡ Some A_directory
 unfolding applied
 kind_unnamed k d x m h = kind_set k d (remove (names_of k d) x) m (inr h)
 
@@ -103,7 +103,7 @@ directories_after (Make d x n) k h e y m is = elim (from_cond (is_place e y (d, 
   | inl new ↦ kind_made k d x n m (inl new)
   | inr old ↦ kind_made k d x n m (inr (h e y m (from_none (e == n) m (found k e y) old)))
 ]
-directories_after (Unname d x) k h e y m is = kind_unnamed k d x m (h e y m (from_none (is_place e y (d, x)) m (found k e y) (sym (found_after (Unname d x) k e y) ∙ is)))
+directories_after (Unname d x n) k h e y m is = kind_unnamed k d x m (h e y m (from_none (is_place e y (d, x)) m (found k e y) (sym (found_after (Unname d x n) k e y) ∙ is)))
 
 pub directories_all : (steps : List Step) (k : Kernel) → NamesAreDirectories k → NamesAreDirectories (all_done (map effect_of steps) k)
 directories_all [] k h = h
@@ -118,7 +118,7 @@ root_after : (s : Step) (k : Kernel) → (one_done s k).root ≡ k.root
 unfolding applied
 root_after Nothing k = refl
 root_after (Make d x n) k = refl
-root_after (Unname d x) k = refl
+root_after (Unname d x n) k = refl
 
 pub root_all : (steps : List Step) (k : Kernel) → (all_done (map effect_of steps) k).root ≡ k.root
 root_all [] k = refl

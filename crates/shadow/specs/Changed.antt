@@ -1,5 +1,5 @@
 -- What a transaction has changed of each object.
-use Rattle.std.specs.Prelude.{◌≡◌, ℕ, ◌<◌, Bool, true, false, List, Option, Some, None, if◌then◌else◌}
+use Rattle.std.specs.Prelude.{◌≡◌, ℕ, ◌+◌, ◌<◌, ◌==◌, Bool, true, false, List, Option, Some, None, if◌then◌else◌}
 use Rattle.std.specs.Ordering.{is_eq, nat_cmp}
 use Rattle.std.specs.Map.{lookup}
 use Rattle.model.specs.FiniteMap.{FinMap, get, empty, insert}
@@ -7,18 +7,32 @@ use Rattle.model.specs.State.{Name, name_cmp, Kernel, names_of}
 use Rattle.model.specs.Effects.{Effect, all_done}
 use Rattle.dirlist.specs.Patches.{or_before}
 use Rattle.shadow.specs.declared.changes.Change.{Change}
-use Rattle.shadow.specs.Claims.{Number, claimed}
+use Rattle.shadow.specs.Claims.{Claim, Room, Number, claimed, number_of}
 
 -- nothing is changed of an object; and the changes of one that is new, and has no names yet
 abbrev pub untouched : Change
-untouched = record { made = false; names = empty }
+untouched = record { made = false; promised = 0; names = empty }
 
 abbrev pub fresh : Change
-fresh = record { made = true; names = empty }
+fresh = record { made = true; promised = 0; names = empty }
+
+-- how much room in its directory a name takes that comes
+abbrev pub room_of : Option ℕ → ℕ
+room_of (Some n) = 1
+room_of None = 0
 
 -- a name gives this from now on
 abbrev pub noted : Name → Option ℕ → Change → Change
-noted x given c = record c { names = insert c.names x given }
+noted x given c = record c { promised = c.promised + room_of given; names = insert c.names x given }
+
+-- how often the changes of its object make a claim
+abbrev pub claim_in : Change → Claim → ℕ
+claim_in c (Room d) = c.promised
+claim_in c (Number n) = if c.made then 1 else 0
+
+-- and those of one object, for any claim
+abbrev pub claim_of : ℕ → Change → Claim → ℕ
+claim_of n c claim = if number_of claim == n then claim_in c claim else 0
 
 abbrev pub or_untouched : Option Change → Change
 or_untouched (Some c) = c
@@ -39,7 +53,9 @@ bare made names = if made then empty else names
 abbrev pub now_given : Change → Name → Option ℕ → Option ℕ
 now_given c x before = or_before (get c.names x) (if c.made then None else before)
 
--- What is kept of each directory are its names after the changes, whatever the state is below them. What a name is noted to give is new.
+-- What is kept of each directory are its names after the changes, whatever the state is below them. What a name is noted to give is new. What is
+-- kept claims what the changes claim.
 pub record Agrees (ds : List Effect) (changes : List (ℕ × Change)) : Type 0 where
   pub names : (k : Kernel) (d : ℕ) (x : Name) → get (names_of (all_done ds k) d) x ≡ now_given (change_at changes d) x (get (names_of k d) x)
   pub numbers : (d : ℕ) (x : Name) (n : ℕ) → get (change_at changes d).names x ≡ Some (Some n) → 0 < claimed (Number n) ds
+  pub claims : (c : Claim) → claimed c ds ≡ claim_in (change_at changes (number_of c)) c

@@ -8,7 +8,7 @@ use Rattle.shadow.specs.declared.steps.Step.TheVariants.{Nothing, Make, Unname}
 -- the edits that are there today: a directory comes or goes with its name
 abbrev pub IsOfName : Edit → Type 0
 IsOfName (Make_directory d x i) = i ≡ 0
-IsOfName (Unname_directory d x) = ⊤
+IsOfName (Unname_directory d x n) = ⊤
 IsOfName _ = ⊥
 
 -- what a call changes today: nothing, or one name
@@ -23,7 +23,7 @@ effect chosen edits = record { chosen = chosen; edits = edits }
 abbrev pub effect_of : Step → Effect
 effect_of Nothing = record { chosen = []; edits = [] }
 effect_of (Make d x n) = record { chosen = n ∷ []; edits = Make_directory d x 0 ∷ [] }
-effect_of (Unname d x) = record { chosen = []; edits = Unname_directory d x ∷ [] }
+effect_of (Unname d x n) = record { chosen = []; edits = Unname_directory d x n ∷ [] }
 
 abbrev pub effects_of : List Step → List Effect
 effects_of steps = map effect_of steps

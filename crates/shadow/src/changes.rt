@@ -3,7 +3,7 @@ ghost use Rattle.std.specs.Prelude.{ℕ, ◌≡◌, ◌≢◌, [], ◌==◌, Non
 ghost use Rattle.model.specs.FiniteMap.{FinMap, keys, len};
 ghost use Rattle.model.specs.State.{name_cmp};
 ghost use Rattle.dirlist.specs.Patches.{IsLaid};
-ghost use Rattle.shadow.specs.Changed.{bare, change_at, fresh, kept_at, noted, now_given, untouched};
+ghost use Rattle.shadow.specs.Changed.{bare, change_at, fresh, kept_at, noted, now_given, room_of, untouched};
 
 use dirlist::{Dir, Patch};
 use heap::Heap;
@@ -17,6 +17,8 @@ use std::marker::Model;
 pub(crate) struct Change {
     /// Whether the transaction made the object, which then had no names before.
     pub(crate) made: bool,
+    /// For how many names room is promised in the directory.
+    pub(crate) promised: usize,
     /// The names that it changed in the directory.
     pub(crate) names: Patch,
 }
@@ -28,6 +30,7 @@ impl Change {
     {
         Change {
             made: false,
+            promised: 0,
             names: Patch::new(heap),
         }
     }
@@ -68,12 +71,27 @@ impl Change {
         }
     }
 
-    /// Notes what a name gives now. Refused memory changes nothing.
+    /// Notes what a name gives now, and the room that was promised for it where it gives something. Refused memory changes nothing.
     fn note(&mut self, name: Name, given: Option<Num>) -> Result<(), AllocError>
         ensures ok { OnOk result (self.new ≡ noted name given self.old) }
         ensures err { OnErr result (self.new ≡ self.old) }
     {
-        self.names.note(name, given)
+        let Some(promised) = self.promised.checked_add(room_for(&given)) else {
+            return Err(AllocError);
+        };
+        self.names.note(name, given)?;
+        self.promised = promised;
+        Ok(())
+    }
+}
+
+// How much room in its directory a name takes that comes.
+fn room_for(given: &Option<Num>) -> usize
+    ensures { result ≡ room_of given.now }
+{
+    match given {
+        Some(_) => 1,
+        None => 0,
     }
 }
 
@@ -81,7 +99,7 @@ impl Change {
 #[derive(Drop)]
 pub(crate) struct Changes {
     heap: Heap,
-    each: BTreeMap<Num, Change, Heap>,
+    pub(crate) each: BTreeMap<Num, Change, Heap>,
 }
 
 impl Model for Changes {
@@ -155,6 +173,7 @@ impl Changes {
     {
         let change = Change {
             made: true,
+            promised: 0,
             names: Patch::new(self.heap),
         };
         match self.each.get_mut(&num) {

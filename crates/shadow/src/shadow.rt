@@ -95,8 +95,8 @@ impl Shadow {
     {
         match edit {
             Edit::MakeDirectory(parent, name, _place) => self.add_made(stable, parent, name),
-            Edit::UnnameDirectory(parent, name) => {
-                self.add_unnamed(parent, name)?;
+            Edit::UnnameDirectory(parent, name, num) => {
+                self.add_unnamed(parent, name, num)?;
                 Ok(Nums::new(heap))
             }
             _ => unreachable!(),
@@ -141,13 +141,13 @@ impl Shadow {
     }
 
     /// One call that takes a directory's name away.
-    fn add_unnamed(&mut self, parent: Num, name: Name) -> Result<(), AllocError>
-        ensures ok { OnOk result (self.new ≡ self.old ++ effect_of (steps.Unname parent name) ∷ []) }
+    fn add_unnamed(&mut self, parent: Num, name: Name, num: Num) -> Result<(), AllocError>
+        ensures ok { OnOk result (self.new ≡ self.old ++ effect_of (steps.Unname parent name num) ∷ []) }
         ensures err { OnErr result (self.new ≡ self.old) }
     {
         self.steps.reserve(1)?;
         self.changes.note(parent, name.try_clone()?, None)?;
-        self.steps.push(Step::Unname { parent, name }).unwrap();
+        self.steps.push(Step::Unname { parent, name, num }).unwrap();
         Ok(())
     }
 
@@ -234,19 +234,15 @@ impl Shadow {
     }
 
     /// Forgets the changes, and gives back what was kept for them. It takes no memory.
-    ///
-    /// The last comes first, so that a new directory in which room was promised is freed after that was given back.
     pub fn drop_into(self, stable: &mut Stable)
         requires { Covers stable.old self }
         ensures state { stable.new.state ≡ stable.old.state }
         ensures kept { KeepsMore stable.new stable.old (λ c. claimed c self) }
     {
-        let Shadow {
-            mut steps,
-            changes: _,
-        } = self;
-        while let Some(step) = steps.pop() {
-            stable.release(&step);
+        let Shadow { steps, changes } = self;
+        drop(steps);
+        for (num, change) in changes.each {
+            stable.give_up(num, &change);
         }
     }
 }

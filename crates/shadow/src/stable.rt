@@ -1,17 +1,24 @@
 // The committed state.
-ghost use Rattle.std.specs.Prelude.{ℕ, ◌≡◌, ◌≢◌, ◌≤◌, ◌<◌, ◌∷◌, [], List, None, true, IfOk, OnErr, OnOk};
+ghost use Rattle.std.specs.Prelude.{ℕ, ◌≡◌, ◌≢◌, ◌≤◌, ◌<◌, ◌∷◌, [], List, None, true, IfOk, OnErr, OnOk, if◌then◌else◌};
 ghost use Rattle.std.specs.List.{AllByRecursion};
 ghost use Rattle.model.specs.FiniteMap.{empty, get};
 ghost use Rattle.model.specs.State.{Name, names_of};
 ghost use Rattle.model.specs.Changes.{Make_directory, Unname_directory, all_applied, process_of, tidy};
 ghost use Rattle.model.specs.Steps.{IsNowhere};
 ghost use Rattle.model.specs.Moments.{start, is_alive};
+ghost use Rattle.model.specs.Changes.{is_reached};
 ghost use Rattle.call_laws.specs.Fits.{FitsAll};
+ghost use Rattle.freeing_laws.specs.Sweep.{AreParented};
+ghost use Rattle.store.specs.Places.{lost};
+ghost use Rattle.store.specs.Shown.{inodes};
+ghost use Rattle.shadow.specs.Stored.{stored};
 ghost use Rattle.shadow.specs.declared.steps.Step.TheVariants as steps;
+ghost use Rattle.shadow.specs.Changed.{claim_in, claim_of};
 ghost use Rattle.shadow.specs.Changes.{CanEdit, IsOne, effect, effect_of};
 ghost use Rattle.shadow.specs.Claims.{AreUnused, Claim, Covers, HaveParents, IsInUse, KeepsMore, KeepsNothing, KeepsSame, Number, Room, claimed_by, number_as, number_of, reserved, room_in};
 ghost use Rattle.shadow.specs.Looks.{HasNoFiles, NamesAreDirectories, NamesAreInUse, birth_of};
 
+use crate::changes::Change;
 use crate::steps::Step;
 use dirlist::Dir;
 use heap::Heap;
@@ -174,8 +181,8 @@ impl Stable {
                 self.make(parent, name, chosen.as_slice()[0]);
                 Ok(chosen)
             }
-            Edit::UnnameDirectory(parent, name) => {
-                self.unname(parent, &name);
+            Edit::UnnameDirectory(parent, name, num) => {
+                self.unname(parent, &name, num);
                 Ok(Nums::new(*self.priorities.allocator()))
             }
             _ => unreachable!(),
@@ -271,7 +278,7 @@ impl Stable {
         match step {
             Step::Nothing => {}
             Step::Make { parent, name, num } => self.make(parent, name, num),
-            Step::Unname { parent, name } => self.unname(parent, &name),
+            Step::Unname { parent, name, num } => self.unname(parent, &name, num),
         }
     }
 
@@ -287,13 +294,13 @@ impl Stable {
     }
 
     /// A directory's name goes, and the directory with it.
-    fn unname(&mut self, parent: Num, name: &Name)
-        requires { FitsAll [] self.old.state (Unname_directory parent name.now ∷ []) }
-        ensures state { self.new.state ≡ tidy (all_applied [] (Unname_directory parent name.now ∷ []) self.old.state) }
+    fn unname(&mut self, parent: Num, name: &Name, num: Num)
+        requires { FitsAll [] self.old.state (Unname_directory parent name.now num ∷ []) }
+        ensures state { self.new.state ≡ tidy (all_applied [] (Unname_directory parent name.now num ∷ []) self.old.state) }
         ensures kept { KeepsSame self.old self.new }
     {
-        let gone = self.store.remove_name(parent, name).unwrap();
-        self.store.lose(gone);
+        let _former = self.store.remove_name(parent, name);
+        free(&mut self.store, num);
     }
 
     /// Gives back what was kept for one change. It takes no memory.
@@ -306,5 +313,30 @@ impl Stable {
             self.unpromise(*parent);
             self.give_back(*num);
         }
+    }
+
+    /// Gives back what was kept for a transaction's changes of one object. It takes no memory.
+    pub(crate) fn give_up(&mut self, num: Num, change: &Change)
+        requires { (c : Claim) → number_of c ≡ num → claim_in change.now c ≤ reserved self.old c }
+        ensures kept { KeepsMore self.new self.old (claim_of num change.now) }
+        ensures state { self.new.state ≡ self.old.state }
+    {
+        for _given in 0..change.promised {
+            self.unpromise(num);
+        }
+        if change.made {
+            self.give_back(num);
+        }
+    }
+}
+
+/// An object goes to which no name leads, unless it is the root. It takes no memory.
+pub(crate) fn free(store: &mut Store, num: Num)
+    requires root { store.old.root ≡ 0 }
+    requires parented { AreParented (stored [] (inodes store.old)) }
+    ensures { store.new ≡ (if is_reached (stored [] (inodes store.old)) num then store.old else lost store.old num) }
+{
+    if num != store.root() && !store.is_named(num) {
+        store.lose(num);
     }
 }

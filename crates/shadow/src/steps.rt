@@ -21,5 +21,7 @@ pub(crate) enum Step {
         parent: Num,
         /// The name.
         name: Name,
+        /// The number of the directory that has lost it.
+        num: Num,
     },
 }

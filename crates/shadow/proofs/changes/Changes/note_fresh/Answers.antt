@@ -6,8 +6,8 @@ use Rattle.shadow.proofs.changes.Changes.note_fresh.Goals as goal
 
 pub returns : goal.returns
 returns c =
-    let change : Change = record { made = true; names = c.new.result } in
-    let is : change ≡ fresh = ap (λ names. record { made = true; names = names }) c.new.ensures in
+    let change : Change = record { made = true; promised = 0; names = c.new.result } in
+    let is : change ≡ fresh = ap (λ names. record { made = true; promised = 0; names = names }) c.new.ensures in
     let es = c.self.inside.each.entries in
     let was : kept_at es c.args.num ≡ Some c.in-Some.place.now = sym c.in-Some.ensures.value in
     subst (λ es. (n : ℕ) → kept_at (c.get_mut.follows.lender change).entries n ≡ (if n == c.args.num then Some fresh else kept_at es n)) c.self.view_is

@@ -10,4 +10,4 @@ invariant_of-self-2 c =
     let ds = effects_of c.self.inside.steps.items in
     let items : c.push.new.self.items ≡ c.self.inside.steps.items ++ steps.Nothing ∷ [] = search rules in
     let is : effects_of c.push.new.self.items ≡ ds ++ effect_of (steps.Nothing) ∷ [] = ap effects_of items ∙ effects_more c.self.inside.steps.items (steps.Nothing) in
-    subst (λ all. Agrees all c.self.inside.changes) (sym is) (agrees_after ds c.self.inside.changes c.self.inside.changes steps.Nothing c.self.invariant tt (λ n. refl))
+    subst (λ all. Agrees all c.self.inside.changes) (sym is) (agrees_after ds c.self.inside.changes c.self.inside.changes steps.Nothing c.self.invariant tt tt (λ n. refl))

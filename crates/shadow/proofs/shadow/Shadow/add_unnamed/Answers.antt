@@ -8,8 +8,8 @@ use Rattle.shadow.proofs.shadow.Shadow.add_unnamed.Goals as goal
 pub invariant_of-self-2 : goal.invariant_of-self-2
 invariant_of-self-2 c =
     let ds = effects_of c.self.inside.steps.items in
-    let step = steps.Unname c.args.parent c.args.name in
+    let step = steps.Unname c.args.parent c.args.name c.args.num in
     let items : c.push.new.self.items ≡ c.self.inside.steps.items ++ step ∷ [] = search rules in
     let is : effects_of c.push.new.self.items ≡ ds ++ effect_of (step) ∷ [] = ap effects_of items ∙ effects_more c.self.inside.steps.items (step) in
-    subst (λ all. Agrees all c.note.new.self) (sym is) (agrees_after ds c.self.inside.changes c.note.new.self step c.self.invariant tt
+    subst (λ all. Agrees all c.note.new.self) (sym is) (agrees_after ds c.self.inside.changes c.note.new.self step c.self.invariant tt tt
     (λ n. c.in_ok-note.ensures.ok n ∙ ap (λ y. cond (n == c.args.parent) (noted y None (change_at c.self.inside.changes n)) (change_at c.self.inside.changes n)) c.in_ok-try_clone.ensures))
