@@ -238,6 +238,7 @@ impl Store {
         ensures shown { inodes self.new ≡
             with_names (λ names. map.insert names name num) (inodes self.old) dir }
     {
+        // So a count of one name more fits.
         places::numbers_are_few(&self.places);
         let former = places::add_name_at(&mut self.places, dir.0, name, num);
         places::remove_link(&mut self.places, dir.0, former);
