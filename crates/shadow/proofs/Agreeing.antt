@@ -169,6 +169,14 @@ agrees_after ds changes after s a apart unused is = record {
   claims = λ c. claimed_more c ds (effect_of s) ∙ claim_after s apart (change_at changes) ds unused a.claims c ∙ ap (λ (kept : Change). claim_in kept c) (sym (is (number_of c)));
 }
 
+-- where what is kept stays as it is
+pub agrees_still : (ds : List Effect) (changes after : List (ℕ × Change)) → Agrees ds changes → ((n : ℕ) → change_at after n ≡ change_at changes n) → Agrees ds after
+agrees_still ds changes after a is = record {
+  names = λ k d x. a.names k d x ∙ ap (λ (c : Change). now_given c x (found k d x)) (sym (is d));
+  numbers = λ d x n has. a.numbers d x n (ap (λ (c : Change). get c.names x) (sym (is d)) ∙ has);
+  claims = λ c. a.claims c ∙ ap (λ (kept : Change). claim_in kept c) (sym (is (number_of c)));
+}
+
 pub effects_more : (xs : List Step) (s : Step) → map effect_of (xs ++ s ∷ []) ≡ map effect_of xs ++ effect_of s ∷ []
 effects_more [] s = refl
 effects_more (x ∷ xs) s = ap (λ ds. effect_of x ∷ ds) (effects_more xs s)

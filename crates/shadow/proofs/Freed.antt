@@ -1,9 +1,9 @@
 -- What goes after changes: an object to which no name leads any more.
-use Rattle.std.proofs.Common.{◌≡◌, ◌≢◌, ℕ, ◌+◌, ◌<◌, ◌==◌, ◌||◌, nat_lt, lt-ltb, Bool, true, false, cond, if◌then◌else◌, [], ◌∷◌, List, Some, None, refl, sym, ap, subst, ◌∙◌, arith, inl, inr}
+use Rattle.std.proofs.Common.{◌≡◌, ◌≢◌, ℕ, ◌+◌, ◌<◌, ◌==◌, ◌||◌, nat_lt, lt-ltb, eq-eqb, ne_eqb, nat_cmp, Bool, true, false, cond, if◌then◌else◌, [], ◌∷◌, List, Some, None, refl, sym, ap, subst, ◌∙◌, arith, inl, inr}
 use Rattle.std.proofs.lemmas.Bool.{cases_eq}
 use Rattle.std.specs.Cmp.Lexicographic.{nat_list_cmp_total}
-use Rattle.model.specs.FiniteMap.{get, remove, empty, same_map, get-empty}
-use Rattle.model.specs.State.{Name, Kernel, names_of, kind_of, links}
+use Rattle.model.specs.FiniteMap.{get, remove, empty, same_map, get-empty, entries-empty}
+use Rattle.model.specs.State.{Name, Kernel, names_of, kind_of, links, Description}
 use Rattle.model.specs.Changes.{Make_directory, Unname_directory, applied, clear_name, is_reached, openings, tidy}
 use Rattle.model.proofs.Inodes.{name_exact}
 use Rattle.call_laws.specs.Fits.{Fits}
@@ -31,7 +31,7 @@ unnamed_tidy k d x n tidied fits = sweep_is_tidy_lem.one [] k (Unname_directory 
 
 -- processes lead to no inode
 pub same_reached : (ps : List ℕ) (s : Numbers) (n : ℕ) → is_reached (stored [] (inodes s)) n ≡ is_reached (stored ps (inodes s)) n
-unfolding openings
+unfolding openings links
 same_reached ps s n = refl
 
 -- what the store frees is what the state frees
@@ -39,7 +39,7 @@ abbrev pub freed : Numbers → ℕ → Numbers
 freed s n = if is_reached (stored [] (inodes s)) n then s else lost s n
 
 pub freed_state : (ps : List ℕ) (s : Numbers) (n : ℕ) → stored ps (inodes (freed s n)) ≡ free_inode n (stored ps (inodes s))
-unfolding free_inode openings
+unfolding free_inode openings links
 freed_state ps s n = by_test (is_reached (stored [] (inodes s)) n)
   where
     by_test : (b : Bool) → stored ps (inodes (if b then s else lost s n)) ≡ (if b then stored ps (inodes s) else record (stored ps (inodes s)) { inodes = remove (inodes s) n })
@@ -62,3 +62,20 @@ module _ (s : Numbers) (n : ℕ) where
       nothing : (x : Name) (o : Rattle.std.proofs.Common.Option ℕ) → get (names_of (stored [] (inodes s)) n) x ≡ o → get (names_of (stored [] (inodes s)) n) x ≡ None
       nothing x None e = e
       nothing x (Some m) e = absurd (sweep_is_tidy_lem.bare (stored [] (inodes s)) n parented is x m e)
+
+-- the root is reached, and so is what has a name; nothing else is
+pub root_reached : (s : Numbers) (n : ℕ) → n ≡ 0 → is_reached (stored [] (inodes s)) n ≡ true
+root_reached s n root = or_left (n == 0) _ (eq-eqb n 0 root)
+
+pub named_reached : (s : Numbers) (n : ℕ) → 0 < links_in (inodes s) n → is_reached (stored [] (inodes s)) n ≡ true
+named_reached s n some = or_right (n == 0) _ (or_left (nat_lt 0 (links (stored [] (inodes s)) n)) _ (lt-ltb 0 _ (let same : links (stored [] (inodes s)) n ≡ links_in (inodes s) n = links-links_in (stored [] (inodes s)) n in omega arith)))
+
+pub not_reached : (s : Numbers) (n : ℕ) → n ≢ 0 → links_in (inodes s) n ≡ 0 → is_reached (stored [] (inodes s)) n ≡ false
+unfolding openings
+not_reached s n away none =
+    ap (λ (b : Bool). b || (nat_lt 0 (links (stored [] (inodes s)) n) || nat_lt 0 (openings (stored [] (inodes s)) n))) (ne_eqb n 0 away)
+    ∙ ap (λ (c : ℕ). nat_lt 0 c || nat_lt 0 (openings (stored [] (inodes s)) n)) (links-links_in (stored [] (inodes s)) n ∙ none)
+    ∙ ap (λ (c : ℕ). nat_lt 0 c) no_openings
+  where
+    no_openings : openings (stored [] (inodes s)) n ≡ 0
+    no_openings = ap (λ (es : List (ℕ × Description)). Rattle.std.proofs.Common.count_by (λ (d : Description). d.inode == n) (Rattle.std.proofs.Common.map (λ e. e.1) es)) (entries-empty nat_cmp)

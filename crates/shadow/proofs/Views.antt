@@ -85,9 +85,9 @@ kind_made : (k : Kernel) (d : ℕ) (x : Name) (n m : ℕ) → (m ≡ n) ⊎ (kin
 unfolding applied
 kind_made k d x n m h = kind_set (set_inode n (Directory empty) k) d (insert (names_of (set_inode n (Directory empty) k) d) x n) m (inr (kind_set k n empty m h))
 
-kind_unnamed : (k : Kernel) (d : ℕ) (x : Name) (m : ℕ) → kind_of k m ≡ Some A_directory → kind_of (one_done (Unname d x n) k) m ≡ Some A_directory
+kind_unnamed : (k : Kernel) (d : ℕ) (x : Name) (n m : ℕ) → kind_of k m ≡ Some A_directory → kind_of (one_done (Unname d x n) k) m ≡ Some A_directory
 unfolding applied
-kind_unnamed k d x m h = kind_set k d (remove (names_of k d) x) m (inr h)
+kind_unnamed k d x n m h = kind_set k d (remove (names_of k d) x) m (inr h)
 
 from_cond : (b : Bool) (n m : ℕ) (o : Option ℕ) → cond b (Some n) o ≡ Some m → (m ≡ n) ⊎ (o ≡ Some m)
 from_cond true n m o e = inl (sym (some_same n m e))
@@ -103,7 +103,7 @@ directories_after (Make d x n) k h e y m is = elim (from_cond (is_place e y (d, 
   | inl new ↦ kind_made k d x n m (inl new)
   | inr old ↦ kind_made k d x n m (inr (h e y m (from_none (e == n) m (found k e y) old)))
 ]
-directories_after (Unname d x n) k h e y m is = kind_unnamed k d x m (h e y m (from_none (is_place e y (d, x)) m (found k e y) (sym (found_after (Unname d x n) k e y) ∙ is)))
+directories_after (Unname d x n) k h e y m is = kind_unnamed k d x n m (h e y m (from_none (is_place e y (d, x)) m (found k e y) (sym (found_after (Unname d x n) k e y) ∙ is)))
 
 pub directories_all : (steps : List Step) (k : Kernel) → NamesAreDirectories k → NamesAreDirectories (all_done (map effect_of steps) k)
 directories_all [] k h = h

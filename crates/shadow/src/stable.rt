@@ -299,7 +299,7 @@ impl Stable {
         ensures state { self.new.state ≡ tidy (all_applied [] (Unname_directory parent name.now num ∷ []) self.old.state) }
         ensures kept { KeepsSame self.old self.new }
     {
-        let _former = self.store.remove_name(parent, name);
+        self.store.remove_name(parent, name);
         free(&mut self.store, num);
     }
 
@@ -336,7 +336,11 @@ pub(crate) fn free(store: &mut Store, num: Num)
     requires parented { AreParented (stored [] (inodes store.old)) }
     ensures { store.new ≡ (if is_reached (stored [] (inodes store.old)) num then store.old else lost store.old num) }
 {
-    if num != store.root() && !store.is_named(num) {
-        store.lose(num);
+    if num == store.root() {
+        return;
     }
+    if store.is_named(num) {
+        return;
+    }
+    store.lose(num);
 }
