@@ -1,17 +1,16 @@
 -- Headers whose counts are right: what changes of one header make of the counts.
-use Rattle.std.proofs.Common.{◌≡◌, ◌≢◌, ℕ, ◌+◌, ◌<◌, ◌^◌, Bool, true, false, cond, [], map, length, Option, Some, None, nat_cmp, refl, sym, ap, subst, ◌∙◌, arith, inl, inr, sum_by}
+use Rattle.std.proofs.Common.{◌≡◌, ℕ, ◌+◌, ◌<◌, ◌^◌, true, [], map, Option, Some, None, nat_cmp, refl, sym, ap, subst, ◌∙◌, arith, inl, inr, sum_by}
 use Rattle.std.specs.Option.{option_and_then, option_map}
 use Rattle.std.proofs.lemmas.Bool.{cases_eq}
 use Rattle.slab.specs.Slab.{Slab, Updates}
 use Rattle.slab.specs.Slab as slab
-use Rattle.model.specs.FiniteMap.{FinMap, empty, entries, from_entries, get, len, insert, entries-empty, len-empty}
-use Rattle.model.specs.Places.{placed}
+use Rattle.model.specs.FiniteMap.{FinMap, empty, get, len, entries-empty, len-empty}
 use Rattle.model.specs.State.{Inode, name_cmp, names_of_inode}
 use Rattle.model.proofs.Inodes.{given_in}
 use Rattle.dirlist.specs.Listing.{Listing}
 use Rattle.store.specs.Headers.{AreCounted, IsSound, IsStaged, at_place, links_of, names_in, place_of, places_of}
 use Rattle.store.specs.Links.{links_in}
-use Rattle.store.specs.Numbers.{Numbers, coming, present}
+use Rattle.store.specs.Numbers.{coming, present}
 use Rattle.store.specs.Places.{hidden, installed, changed_object, is_over, is_over_by, has_room, listing_of, with_listing}
 use Rattle.store.specs.Shown.{chosen, inode_in, inode_of, shown_at, with_inode}
 use Rattle.store.specs.declared.Header.{Header}

@@ -4,5 +4,6 @@ pub mod Counts
 pub mod Chosen
 pub mod Changes
 pub mod Listings
+pub mod Laying
 pub mod Counted
 pub mod Renamed

@@ -1,5 +1,5 @@
 -- Names that come and go, and the counts that follow them.
-use Rattle.std.proofs.Common.{◌≡◌, ◌≢◌, ℕ, suc, ◌+◌, ◌*◌, ◌<◌, ◌≤◌, ◌^◌, ◌==◌, Bool, true, false, cond, List, [], ◌∷◌, map, length, Option, Some, None, is_some, nat_cmp, refl, sym, ap, subst, ◌∙◌, arith, inl, inr, count_by, ne_eqb, zero-add}
+use Rattle.std.proofs.Common.{◌≡◌, ℕ, suc, ◌+◌, ◌*◌, ◌<◌, ◌≤◌, ◌^◌, Bool, true, false, cond, List, [], ◌∷◌, map, length, Option, Some, None, is_some, nat_cmp, refl, sym, ap, subst, ◌∙◌, arith, inl, inr, count_by, ne_eqb, zero-add}
 use Rattle.std.specs.Option.{option_map}
 use Rattle.std.proofs.lemmas.Bool.{cases_eq}
 use Rattle.std.proofs.lemmas.List.Sums.{sum_by-cons}
@@ -23,7 +23,6 @@ use Rattle.store.specs.declared.Object.TheVariants.{Directory}
 use Rattle.store.specs.declared.Place.{Place}
 use Rattle.store.specs.declared.Stage.{Stage}
 use Rattle.store.specs.declared.Stage.TheVariants.{Coming, Held, Lost}
-use Rattle.store.proofs.Chosen.{remove-absent}
 use Rattle.store.proofs.Counted.{get-shown, links-updated, names_at, same-links, shown, some_same, still-sound}
 use Rattle.store.proofs.Counts.{given-insert, given-le-links, given-remove, given-there, links-le}
 use Rattle.store.proofs.Rows.{places-same}

@@ -1,4 +1,4 @@
-use Rattle.std.proofs.Common.{Option, Some, refl, sym, ap, subst, ◌∙◌}
+use Rattle.std.proofs.Common.{sym, ap, subst, ◌∙◌}
 use Rattle.slab.specs.Slab.{Slab, Updates}
 use Rattle.slab.specs.Slab as slab
 use Rattle.std.specs.Option.{option_map}
@@ -9,7 +9,6 @@ use Rattle.store.specs.Links.{links_in}
 use Rattle.store.specs.Numbers.{Numbers}
 use Rattle.store.specs.Places.{hidden, swept}
 use Rattle.store.specs.Shown.{inodes}
-use Rattle.store.specs.declared.Header.{Header}
 use Rattle.store.proofs.Counted.{counted-altered, counted_number, get-shown, kept-hidden, names_at}
 use Rattle.store.proofs.Rows.{store-altered}
 use Rattle.store.proofs.Changes.{inodes-lost}

@@ -1,4 +1,4 @@
-use Rattle.std.proofs.Common.{◌≡◌, None, true, cond, sym, ap, ◌∙◌}
+use Rattle.std.proofs.Common.{◌≡◌, true, cond, sym, ap, ◌∙◌}
 use Rattle.store.specs.Headers.{places_of}
 use Rattle.store.specs.Numbers.{Numbers}
 use Rattle.store.specs.Places.{is_over}
