@@ -5,5 +5,6 @@ pub mod Chosen
 pub mod Changes
 pub mod Listings
 pub mod Laying
+pub mod Laid
 pub mod Counted
 pub mod Renamed
