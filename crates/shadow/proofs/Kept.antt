@@ -1,6 +1,10 @@
 -- What is kept of each object, by its number.
-use Rattle.std.proofs.Common.{◌≡◌, ◌≢◌, ℕ, Bool, true, false, cond, List, Option, Some, None, Result, Ok, Err, OnOk, OnErr, refl, sym, ap, ◌∙◌, ◌==◌, eqb, eqb-true, eq-eqb, ne_eqb, inl, inr}
+use Rattle.std.proofs.Common.{◌≡◌, ◌≢◌, ℕ, Bool, true, false, cond, List, [], ◌∷◌, Option, Some, None, Result, Ok, Err, OnOk, OnErr, refl, sym, ap, ◌∙◌, ◌==◌, eqb, eqb-true, eq-eqb, ne_eqb, inl, inr}
 use Rattle.std.specs.Option.{is_some}
+use Rattle.std.specs.List.{AllByRecursion}
+use Rattle.std.specs.List.Sorted.{IsStrictlySortedBy}
+use Rattle.std.specs.Map.{keys_of}
+use Rattle.std.specs.declared.cmp.Ordering.TheVariants.{Less}
 use Rattle.std.specs.Ordering.{is_eq, nat_cmp}
 use Rattle.std.proofs.lemmas.Bool.{cases_eq}
 use Rattle.std.specs.Cmp.{nat_cmp_total, tied_itself}
@@ -60,3 +64,22 @@ ok_so (Err e) f h = tt
 pub err_so : {A E P Q : Type 0} (r : Result A E) → (P → Q) → OnErr r P → OnErr r Q
 err_so (Ok x) f h = tt
 err_so (Err e) f h = f h
+
+-- the first of what is kept in order, and what is behind it
+pub first_kept : (n : ℕ) (c : Change) (es : List (ℕ × Change)) → kept_at ((n, c) ∷ es) n ≡ Some c
+first_kept n c es = ap (λ o. cond (is_eq o) (Some c) (kept_at es n)) (tie (nat_cmp n n) (ap is_eq (tied_itself nat_cmp_total n)))
+
+pub later_kept : (n m : ℕ) (c : Change) (es : List (ℕ × Change)) → m ≢ n → kept_at ((n, c) ∷ es) m ≡ kept_at es m
+later_kept n m c es away = ap (λ b. cond b (Some c) (kept_at es m)) (tests_alike m n ∙ ne_eqb n m (λ e. away (sym e)))
+
+absent_later : (n : ℕ) (es : List (ℕ × Change)) → AllByRecursion (λ y. nat_cmp n y ≡ Less) (keys_of es) → kept_at es n ≡ None
+absent_later n [] h = refl
+absent_later n (e ∷ es) h = ap (λ o. cond (is_eq o) (Some e.1) (kept_at es n)) h.0 ∙ absent_later n es h.1
+
+pub first_absent : (n : ℕ) (c : Change) (es : List (ℕ × Change)) → IsStrictlySortedBy nat_cmp (keys_of ((n, c) ∷ es)) → kept_at es n ≡ None
+unfolding IsStrictlySortedBy
+first_absent n c es sorted = absent_later n es sorted.0
+
+pub rest_sorted : (n : ℕ) (c : Change) (es : List (ℕ × Change)) → IsStrictlySortedBy nat_cmp (keys_of ((n, c) ∷ es)) → IsStrictlySortedBy nat_cmp (keys_of es)
+unfolding IsStrictlySortedBy
+rest_sorted n c es sorted = sorted.1

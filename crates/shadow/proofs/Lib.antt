@@ -12,3 +12,4 @@ pub mod Committing
 pub mod InUse
 pub mod NoFiles
 pub mod Reserving
+pub mod Giving

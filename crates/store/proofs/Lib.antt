@@ -4,5 +4,7 @@ pub mod Counts
 pub mod Chosen
 pub mod Changes
 pub mod Listings
+pub mod Laying
+pub mod Laid
 pub mod Counted
 pub mod Renamed

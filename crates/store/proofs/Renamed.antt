@@ -23,7 +23,7 @@ use Rattle.store.specs.declared.Object.TheVariants.{Directory}
 use Rattle.store.specs.declared.Place.{Place}
 use Rattle.store.specs.declared.Stage.{Stage}
 use Rattle.store.specs.declared.Stage.TheVariants.{Coming, Held, Lost}
-use Rattle.store.proofs.Counted.{get-shown, inode_at, links-updated, names_at, same-links, shown, some_same, still-sound}
+use Rattle.store.proofs.Counted.{get-shown, links-updated, names_at, same-links, shown, some_same, still-sound}
 use Rattle.store.proofs.Counts.{given-insert, given-le-links, given-remove, given-there, links-le}
 use Rattle.store.proofs.Rows.{places-same}
 
@@ -127,9 +127,7 @@ module _ (old named less more : Slab Header) (d : ℕ) (o : Option Header) (form
 
       by_former : (o : Option Header) → slab.get named q ≡ o → IsSound header
       by_former None there = let bad : Some header.place ≡ None = sym (ap place_of is) ∙ same_place q ∙ ap place_of there in absurd cc
-      by_former (Some first) there =
-          let same : Some first.place ≡ Some header.place = sym (ap place_of there) ∙ sym (same_place q) ∙ ap place_of is in
-          by_place first there header.place (some_same (λ place. first.place ≡ place) first.place header.place same refl) header.links (ap links_of is)
+      by_former (Some first) there = some_same (λ (place : Place). first.place ≡ place → IsSound (record { place = place; links = header.links })) first.place header.place (sym (ap place_of there) ∙ sym (same_place q) ∙ ap place_of is) (λ e. by_place first there first.place e header.links (ap links_of is)) (some_same (λ place. first.place ≡ place) first.place header.place (sym (ap place_of there) ∙ sym (same_place q) ∙ ap place_of is) refl)
 
   pub counted-renamed : AreCounted more
   counted-renamed = record { counts = counts; sound = still_sound }
@@ -231,8 +229,8 @@ few_in headers was n inode is = by_slot (slab.get headers n) refl
     by_stage Lost object few e = absurd cc
 
     by_slot : (o : Option Header) → slab.get headers n ≡ o → len (names_of_inode (Some inode)) ≤ 18446744073709551615
-    by_slot None there = let bad : None ≡ Some inode = sym (get-shown headers n ∙ ap inode_at there) ∙ is in absurd cc
-    by_slot (Some header) there = by_stage header.place.stage header.place.object (was.sound n header there).few (sym (get-shown headers n ∙ ap inode_at there) ∙ is)
+    by_slot None there = let bad : None ≡ Some inode = sym (get-shown headers n ∙ ap (Rattle.store.proofs.Counted.inode_at) there) ∙ is in absurd cc
+    by_slot (Some header) there = by_stage header.place.stage header.place.object (was.sound n header there).few (sym (get-shown headers n ∙ ap (Rattle.store.proofs.Counted.inode_at) there) ∙ is)
 
 pub counts-fit : (headers : Slab Header) → AreCounted headers → slab_len headers < 2 ^ 64 → (n : ℕ) → links_of (slab.get headers n) + 1 < 2 ^ 128
 counts-fit headers was few n =

@@ -1,14 +1,16 @@
 //! Objects under their numbers, and objects to come, which are not shown before they are installed.
 #![tactic(auto)]
 
-ghost use Rattle.std.specs.Prelude.{◌≡◌, ◌<◌, ◌==◌, not, true, false, IfOk, OnOk, OnErr, Some, None, option_and_then, option_copied};
+ghost use Rattle.std.specs.Prelude.{[], ◌≡◌, ◌<◌, ◌≤◌, ◌==◌, not, true, false, IfOk, IfSome, OnOk, OnErr, Some, None, count_by, is_some, option_and_then, option_copied};
+ghost use Rattle.std.specs.List.{AllByRecursion};
 ghost use Rattle.model.specs.FiniteMap as map;
 ghost use Rattle.model.specs.State.{mapped, names_of_inode, Directory as A_directory};
 ghost use Rattle.dirlist.specs.Listing.{Listing};
 ghost use Rattle.store.specs.Numbers.{coming, object_at, IsFirstRoot};
-ghost use Rattle.store.specs.Places.{altered, installed, is_coming, listing_of, listing_at, may_be_named, with_listing, more_room, with_name, without_name, number_in, has_room, lost, released, swept};
+ghost use Rattle.store.specs.Places.{altered, installed, is_coming, is_shown, listing_of, listing_at, may_be_named, with_listing, more_room, with_name, without_name, number_in, has_room, lost, released, swept};
 ghost use Rattle.store.specs.Shown.{inodes, inode_of, with_inode, with_names};
 ghost use Rattle.store.specs.Links.{links_in};
+ghost use Rattle.store.specs.Laid.{laid, laid_listing};
 
 mod places;
 
@@ -256,5 +258,45 @@ impl Store {
         let num = places::remove_name_at(&mut self.places, dir.0, name)?;
         places::remove_link(&mut self.places, dir.0, Some(num));
         Some(num)
+    }
+
+    /// Lays what names give from now on over a directory that is shown: a number, or nothing. So many promises of room in it are
+    /// given up, and the names that come take their room from these. The objects of the numbers are shown or to come. It takes no
+    /// memory.
+    pub fn lay(&mut self, dir: Num, given: Vec<(Name, Option<Num>), Heap>, promised: usize)
+        requires shown { is_shown (map.get self.old.places dir) ≡ true }
+        requires room { (listing : Listing) →
+            listing_at self.old dir ≡ Some listing → promised ≤ listing.promised }
+        requires added { count_by (λ g. is_some g.1) given.items ≤ promised }
+        requires numbers { AllByRecursion
+            (λ g. IfSome g.1 (λ n. may_be_named (map.get self.old.places n) ≡ true)) given.items }
+        ensures laid { self.new ≡
+            altered (with_listing (laid_listing given.entry.items promised)) self.old dir }
+        ensures shown { inodes self.new ≡
+            with_names (laid given.entry.items) (inodes self.old) dir }
+    {
+        let mut left = promised;
+        for (name, num) in given {
+            match num {
+                Some(num) => {
+                    self.add_name(dir, name, num);
+                    left -= 1;
+                }
+                None => {
+                    let _former = self.remove_name(dir, &name);
+                }
+            }
+        }
+        self.release_all(dir, left);
+    }
+
+    // Gives up so many promises of room in a directory that is shown.
+    fn release_all(&mut self, dir: Num, count: usize)
+        requires { is_shown (map.get self.old.places dir) ≡ true }
+        ensures { self.new ≡ altered (with_listing (laid_listing [] count)) self.old dir }
+    {
+        for _i in 0..count {
+            self.release(dir);
+        }
     }
 }
