@@ -5,3 +5,4 @@ pub mod Changed
 pub mod Changes
 pub mod Stored
 pub mod Effects
+pub mod Laid

@@ -1,4 +1,4 @@
-use Rattle.std.proofs.Common.{◌≡◌, ◌≢◌, ◌<◌, ℕ, sym, ap, ◌∙◌, if◌then◌else◌, true, false, Bool, cond, not, ◌==◌, eqb-true, eq-eqb, arith}
+use Rattle.std.proofs.Common.{◌≡◌, ◌≢◌, ◌<◌, ℕ, refl, sym, ap, ◌∙◌, if◌then◌else◌, true, false, Bool, cond, not, ◌==◌, eqb-true, eq-eqb, arith}
 use Rattle.call_laws.proofs.Maps.{true_is_false}
 use Rattle.store.specs.Links.{links_in}
 use Rattle.store.specs.Places.{lost}
@@ -20,10 +20,13 @@ some_by n h = by_test (n == 0) refl h
     by_test true e h = absurd (true_is_false h)
     by_test false e h = (let some : n ≢ 0 = λ is. true_is_false (sym (eq-eqb n 0 is) ∙ e) in omega arith)
 
+away_by : (n : ℕ) → false ≡ (n == 0) → n ≢ 0
+away_by n h is = true_is_false (sym (eq-eqb n 0 is) ∙ sym h)
+
 pub lose-requires-clause-bare : goal.lose-requires-clause-bare
 lose-requires-clause-bare c =
     let s = c.args.store.now in let n = c.args.num in
-    bare_if_unreached s n c.requires.parented (not_reached s n ? (zero_by (links_in (inodes s) n) c.if-is_named.ensures))
+    bare_if_unreached s n c.requires.parented (not_reached s n (away_by n (c.if-eq.ensures ∙ ap (λ r. n == r) (c.root.ensures ∙ c.requires.root))) (zero_by (links_in (inodes s) n) c.if-is_named.ensures))
 
 pub returns-then-is_named : goal.returns-then-is_named
 returns-then-is_named c =
@@ -33,4 +36,4 @@ returns-then-is_named c =
 pub returns : goal.returns
 returns c =
     let s = c.args.store.now in let n = c.args.num in
-    c.lose.ensures.lost ∙ sym (ap (λ b. cond b s (lost s n)) (not_reached s n ? (zero_by (links_in (inodes s) n) c.if-is_named.ensures)))
+    c.lose.ensures.lost ∙ sym (ap (λ b. cond b s (lost s n)) (not_reached s n (away_by n (c.if-eq.ensures ∙ ap (λ r. n == r) (c.root.ensures ∙ c.requires.root))) (zero_by (links_in (inodes s) n) c.if-is_named.ensures)))

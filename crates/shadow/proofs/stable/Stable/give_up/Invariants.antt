@@ -3,8 +3,8 @@ use Rattle.std.proofs.Common.{◌≡◌, ◌+◌, ◌*◌, ◌≤◌}
 use Rattle.shadow.specs.Claims.{Claim, reserved, room_in}
 use Rattle.shadow.proofs.stable.Stable.give_up.Given as goal
 
-abbrev pub invariant-loop-_given : goal.invariant-loop-_given
-invariant-loop-_given l = record {
+abbrev pub invariant-loop-given : goal.invariant-loop-given
+invariant-loop-given l = record {
   state : l.self.state ≡ l.fn.self.state;
   kept : (c : Claim) → reserved l.fn.self c ≡ reserved l.self c + l._given * room_in l.num c;
 }
