@@ -7,11 +7,11 @@ ghost use Rattle.model.specs.Plans.{plan, changed, status, moved, replaced_by_na
 ghost use Rattle.model.specs.Calls.{own, Done, Stat as Stat_path, Mkdir, Rmdir, List_directory, Link, Unlink, Rename};
 ghost use Rattle.look.specs.Asked.{Comes, Tells};
 
-use crate::asking::{links, names, size};
+use crate::asking::{has_no_names, links, names, size};
 use crate::change::{Change, changed_by, unchanged};
 use crate::steps::{
-    absent, is_directory, is_same, must_be_directory_for, must_be_empty, must_be_no_directory_for,
-    must_not_be_directory, must_not_be_root, must_not_go_below, parsed,
+    absent, is_directory, is_same, must_be_directory_for, must_be_no_directory_for,
+    must_not_be_directory, must_not_be_root, must_not_go_below, parsed, refuse_if,
 };
 use heap::Heap;
 use ids::{Answer, Bytes, Edit, Errno, Kind, Num, Nums, Refusal, Stat};
@@ -174,8 +174,8 @@ fn must_be_emptied<L: Look>(
 fn must_have_no_names<L: Look>(look: &L, dir: Num, touches: &mut Touches) -> Result<(), Refusal>
     ensures { Comes (L.state look.now) (without_names dir) touches.old result touches.new }
 {
-    let entries = names(look, dir, touches)?;
-    must_be_empty(&entries)
+    let is_empty = has_no_names(look, dir, touches)?;
+    refuse_if(!is_empty, Errno::ENOTEMPTY)
 }
 
 pub(crate) fn list<L: Look>(

@@ -5,3 +5,4 @@ pub mod Around
 pub mod Merged
 pub mod Stepped
 pub mod Laid
+pub mod Noted

@@ -16,7 +16,7 @@ both : (a b : Bool) → a ≡ true → b ≡ true → (a && b) ≡ true
 both true b p q = q
 both false b p q = absurd cc
 
-not_zero : (n : ℕ) → false ≡ (suc n == 0)
+pub not_zero : (n : ℕ) → false ≡ (suc n == 0)
 not_zero n = grind (arith, nat_tests)
 
 and_false : (b : Bool) → (b && false) ≡ false
@@ -29,7 +29,7 @@ equal_by Equal h = refl
 equal_by Greater h = absurd cc
 
 -- what is noted comes before what is noted later on, and that before what was there
-over : (b : Bool) (now : Option ℕ) (noted : Option (Option ℕ)) (was : Option ℕ) → cond b now (or_before noted was) ≡ or_before (cond b (Some now) noted) was
+pub over : (b : Bool) (now : Option ℕ) (noted : Option (Option ℕ)) (was : Option ℕ) → cond b now (or_before noted was) ≡ or_before (cond b (Some now) noted) was
 over true now noted was = refl
 over false now noted was = refl
 
