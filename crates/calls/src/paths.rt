@@ -1,7 +1,7 @@
 // The plans of calls on paths.
 ghost use Rattle.std.specs.Prelude.{◌≡◌, ◌∷◌, [], ℕ, Some, true, false};
 ghost use Rattle.model.specs.Changes.{Move};
-ghost use Rattle.calls.specs.Parts.{place_at, last_at, emptied, without_names, file_named, link_paths, name_file, rename_paths, move_target, gives, replaced, replaced_over};
+ghost use Rattle.calls.specs.Parts.{place_at, last_at, empty_directory, without_names, file_named, link_paths, name_file, rename_paths, move_target, gives, replaced, replaced_over};
 ghost use Rattle.model.specs.Walks.{is_directory};
 ghost use Rattle.model.specs.Plans.{plan, changed, status, moved, replaced_by_name};
 ghost use Rattle.model.specs.Calls.{own, Done, Stat as Stat_path, Mkdir, Rmdir, List_directory, Link, Unlink, Rename};
@@ -151,24 +151,25 @@ pub(crate) fn rmdir<L: Look>(
         touches.old result touches.new }
 {
     let last = last_at(look, Errno::EBUSY, path, touches)?;
-    must_be_emptied(look, last.found(), touches)?;
+    let dir = empty_directory(look, last.found(), touches)?;
     done(
         touches.heap(),
-        Edit::UnnameDirectory(last.parent, last.name),
+        Edit::UnnameDirectory(last.parent, last.name, dir),
     )
 }
 
-// What goes has to be there, and an empty directory.
-fn must_be_emptied<L: Look>(
+// The directory whose name goes, which has to be there and empty.
+fn empty_directory<L: Look>(
     look: &L,
     found: Option<(Num, Option<Kind>)>,
     touches: &mut Touches,
-) -> Result<(), Refusal>
-    ensures { Comes (L.state look.now) (emptied found) touches.old result touches.new }
+) -> Result<Num, Refusal>
+    ensures { Comes (L.state look.now) (empty_directory found) touches.old result touches.new }
 {
     let what = or_refuse(Errno::ENOENT, found)?;
     must_be_directory(&what)?;
-    must_have_no_names(look, what.0, touches)
+    must_have_no_names(look, what.0, touches)?;
+    Ok(what.0)
 }
 
 fn must_have_no_names<L: Look>(look: &L, dir: Num, touches: &mut Touches) -> Result<(), Refusal>
