@@ -1,31 +1,45 @@
 -- What is noted of names agrees with the changes, and still does after one change more.
-use Rattle.std.proofs.Common.{◌≡◌, ◌≢◌, ℕ, suc, ◌+◌, ◌<◌, ◌≤◌, Bool, true, false, cond, List, [], ◌∷◌, ◌++◌, length, map, Option, Some, None, IfSome, refl, sym, ap, ◌∙◌, arith, ◌==◌, eq-eqb, eqb-true, ne_eqb, ap₂, subst, Result, Ok, Err, IfOk, inl, inr, ◌⊎◌}
+use Rattle.std.proofs.Common.{◌≡◌, ◌≢◌, ℕ, suc, ◌+◌, ◌<◌, ◌≤◌, not, Bool, true, false, cond, List, [], ◌∷◌, ◌++◌, length, map, Option, Some, None, IfSome, refl, sym, ap, ◌∙◌, arith, ◌==◌, eq-eqb, eqb-true, ne_eqb, ap₂, subst, Result, Ok, Err, IfOk, inl, inr, ◌⊎◌}
 use Rattle.std.specs.Prelude.{⊤}
 use Rattle.std.specs.List.{AllByRecursion}
 use Rattle.std.specs.Ordering.{eq_by_cmp}
 use Rattle.std.specs.Cmp.Lexicographic.{nat_list_cmp_total}
 use Rattle.std.proofs.lemmas.List.Sums.{sum_by_push}
-use Rattle.model.specs.FiniteMap.{FinMap, entries, get, empty, insert, keys, len, len-entries, get-insert, get-empty, same_map}
+use Rattle.model.specs.FiniteMap.{FinMap, entries, get, empty, insert, keys, len, len-empty, len-entries, get-insert, get-empty, same_map}
 use Rattle.model.specs.Paths.{is_empty}
-use Rattle.model.specs.State.{Name, name_cmp, Kernel, names_of, entry_of}
+use Rattle.model.specs.State.{Name, name_cmp, A_directory, Kernel, kind_of, names_of, entry_of}
 use Rattle.model.specs.Effects.{Effect, all_done}
 use Rattle.model.proofs.Inodes.{name_exact}
 use Rattle.call_laws.proofs.Maps.{not_none, some_same, true_is_false}
 use Rattle.dirlist.specs.Patches.{IsLaid, or_before}
-use Rattle.shadow.specs.declared.steps.Step.{Step}
-use Rattle.shadow.specs.declared.steps.Step.TheVariants.{Nothing, Make, Unname}
+use Rattle.shadow.specs.Changes.{Step, Nothing, Make, Unname}
 use Rattle.shadow.specs.declared.changes.Change.{Change}
 use Rattle.shadow.specs.Claims.{Claim, Room, Number, claimed, claimed_by, number_of}
 use Rattle.shadow.specs.Changes.{effect_of}
-use Rattle.shadow.specs.Changed.{Agrees, bare, change_at, claim_in, fresh, kept_at, noted, now_given, or_untouched, untouched}
+use Rattle.shadow.specs.Agrees.{Agrees}
+use Rattle.shadow.specs.Laid.{is_touched}
+use Rattle.shadow.proofs.Touched.{added_after, added_none, changed_after, come, fit_split, found_after, gone_after, kinds_after, lost_of, others_after, there_after}
+use Rattle.freeing_laws.specs.Sweep.{AllFit}
+use Rattle.shadow.specs.Changed.{bare, change_at, claim_in, fresh, kept_at, noted, now_given, or_untouched, untouched}
 use Rattle.shadow.specs.Looks.{NamesAreDirectories, directory_at}
-use Rattle.shadow.proofs.Views.{found, after_step, found_after, done_more, directories_all, entry_told}
+use Rattle.shadow.proofs.Views.{found, after_step, found_after as found_after_step, done_more, directories_all, entry_told}
 
-pub agrees_none : Agrees [] []
+pub untouched_kept : is_touched untouched ≡ false
+untouched_kept = ap (λ n. not (n == 0)) (len-empty name_cmp (Option ℕ))
+
+pub agrees_none : Agrees [] [] []
 agrees_none = record {
+  steps = [];
+  forms = refl;
   names = λ k d x. sym (ap (λ o. or_before o (found k d x)) (get-empty name_cmp x));
   numbers = λ d x n is. absurd (not_none (Some n) (sym is ∙ get-empty name_cmp x));
+  kinds = λ k n t. absurd (true_is_false (sym t ∙ untouched_kept));
+  others = λ k n t. refl;
+  found = λ k n f t m. absurd (true_is_false (sym t ∙ untouched_kept));
   claims = none;
+  added = λ n. added_none;
+  gone = λ k. refl;
+  there = λ k f. tt;
 }
   where
     none : (c : Claim) → claimed c [] ≡ claim_in untouched c
@@ -51,12 +65,6 @@ abbrev pub IsApart : Step → Type 0
 IsApart Nothing = ⊤
 IsApart (Make d x n) = n ≢ d
 IsApart (Unname d x n) = ⊤
-
--- what is kept after one change more
-abbrev pub changed_after : Step → (ℕ → Change) → ℕ → Change
-changed_after Nothing at e = at e
-changed_after (Make d x n) at e = cond (e == d) (noted x (Some n) (at e)) (cond (e == n) fresh (at e))
-changed_after (Unname d x n) at e = cond (e == d) (noted x None (at e)) (at e)
 
 given_after : (s : Step) → IsApart s → (at : ℕ → Change) (e : ℕ) (y : Name) (f : Option ℕ) → after_step s e y (now_given (at e) y f) ≡ now_given (changed_after s at e) y f
 given_after Nothing apart at e y f = refl
@@ -154,11 +162,17 @@ claim_after (Make d x n) apart at ds unused is (Number m) = by_tests (m == d) (m
         let one : claimed_by (Number m) (effect_of (Make d x n)) ≡ 1 = here ∙ ap (λ b. 0 + cond b 1 0) (eq-eqb n m (sym (eqb-true m n i))) in omega arith)
     by_tests false false h i = (let same : claimed (Number m) ds ≡ cond (at m).made 1 0 = is (Number m) in let none : claimed_by (Number m) (effect_of (Make d x n)) ≡ 0 = away i in omega arith)
 
-pub agrees_after : (ds : List Effect) (changes after : List (ℕ × Change)) (s : Step) → Agrees ds changes → IsApart s → AllByRecursion (λ n. (c : Claim) → number_of c ≡ n → claimed c ds ≡ 0) (effect_of s).chosen
-    → ((n : ℕ) → change_at after n ≡ changed_after s (change_at changes) n) → Agrees (ds ++ effect_of s ∷ []) after
-agrees_after ds changes after s a apart unused is = record {
+steps_more : (xs : List Step) (s : Step) → map effect_of (xs ++ s ∷ []) ≡ map effect_of xs ++ effect_of s ∷ []
+steps_more [] s = refl
+steps_more (x ∷ xs) s = ap (λ ds. effect_of x ∷ ds) (steps_more xs s)
+
+pub agrees_after : (ds : List Effect) (changes after : List (ℕ × Change)) (lost : List ℕ) (s : Step) → Agrees ds changes lost → IsApart s → AllByRecursion (λ n. (c : Claim) → number_of c ≡ n → claimed c ds ≡ 0) (effect_of s).chosen
+    → ((n : ℕ) → change_at after n ≡ changed_after s (change_at changes) n) → Agrees (ds ++ effect_of s ∷ []) after (lost ++ lost_of s)
+agrees_after ds changes after lost s a apart unused is = record {
+  steps = a.steps ++ s ∷ [];
+  forms = ap (λ ds. ds ++ effect_of s ∷ []) a.forms ∙ sym (steps_more a.steps s);
   names = λ k d x.
-      ap (λ t. found t d x) (done_more ds (effect_of s) k) ∙ found_after s (all_done ds k) d x ∙ ap (after_step s d x) (a.names k d x)
+      ap (λ t. found t d x) (done_more ds (effect_of s) k) ∙ found_after_step s (all_done ds k) d x ∙ ap (after_step s d x) (a.names k d x)
       ∙ given_after s apart (change_at changes) d x (found k d x) ∙ ap (λ (c : Change). now_given c x (found k d x)) (sym (is d));
   numbers = λ d x n has. (
       let more : claimed (Number n) (ds ++ effect_of s ∷ []) ≡ claimed (Number n) ds + claimed_by (Number n) (effect_of s) = claimed_more (Number n) ds (effect_of s) in
@@ -166,49 +180,69 @@ agrees_after ds changes after s a apart unused is = record {
         | inl old ↦ (let some : 0 < claimed (Number n) ds = a.numbers d x n old in omega arith)
         | inr new ↦ omega (arith, new)
       ]);
+  kinds = λ k n t. ap (λ k. kind_of k n) (done_more ds (effect_of s) k) ∙ kinds_after s (all_done ds k) (change_at changes) n (a.kinds k n) (ap is_touched (sym (is n)) ∙ t);
+  others = λ k n t. (
+      let before = others_after s (all_done ds k) (change_at changes) n (ap is_touched (sym (is n)) ∙ t) in
+      ap (λ (k : Kernel). get k.inodes n) (done_more ds (effect_of s) k) ∙ before.0 ∙ a.others k n before.1);
+  found = λ k n f t m. (
+      let parts = fit_split ds (effect_of s) k f in
+      found_after s k (all_done ds k) (change_at changes) n parts.1 (a.found k n parts.0) (a.others k n) (ap is_touched (sym (is n)) ∙ t) (ap (λ (c : Change). c.made) (sym (is n)) ∙ m));
   claims = λ c. claimed_more c ds (effect_of s) ∙ claim_after s apart (change_at changes) ds unused a.claims c ∙ ap (λ (kept : Change). claim_in kept c) (sym (is (number_of c)));
+  added = λ n. subst (λ (c : Change). come (entries c.names) ≤ c.promised) (sym (is n)) (added_after s (change_at changes) n (a.added n));
+  gone = λ k. gone_after ds s lost k (a.gone k);
+  there = λ k f. (
+      let parts = fit_split ds (effect_of s) k f in
+      subst (λ k. AllByRecursion (λ n. kind_of k n ≡ Some A_directory) (lost ++ lost_of s)) (sym (done_more ds (effect_of s) k)) (there_after s (all_done ds k) lost parts.1 (a.there k parts.0)));
 }
+
+pub all_of : (ns : List ℕ) → ns ++ [] ≡ ns
+all_of [] = refl
+all_of (n ∷ ns) = ap (λ ms. n ∷ ms) (all_of ns)
 
 -- where what is kept stays as it is
-pub agrees_still : (ds : List Effect) (changes after : List (ℕ × Change)) → Agrees ds changes → ((n : ℕ) → change_at after n ≡ change_at changes n) → Agrees ds after
-agrees_still ds changes after a is = record {
+pub agrees_still : (ds : List Effect) (changes after : List (ℕ × Change)) (lost : List ℕ) → Agrees ds changes lost → ((n : ℕ) → change_at after n ≡ change_at changes n) → Agrees ds after lost
+agrees_still ds changes after lost a is = record {
+  steps = a.steps;
+  forms = a.forms;
   names = λ k d x. a.names k d x ∙ ap (λ (c : Change). now_given c x (found k d x)) (sym (is d));
   numbers = λ d x n has. a.numbers d x n (ap (λ (c : Change). get c.names x) (sym (is d)) ∙ has);
+  kinds = λ k n t. a.kinds k n (ap is_touched (sym (is n)) ∙ t);
+  others = λ k n t. a.others k n (ap is_touched (sym (is n)) ∙ t);
+  found = λ k n f t m. a.found k n f (ap is_touched (sym (is n)) ∙ t) (ap (λ (c : Change). c.made) (sym (is n)) ∙ m);
   claims = λ c. a.claims c ∙ ap (λ (kept : Change). claim_in kept c) (sym (is (number_of c)));
+  added = λ n. subst (λ (c : Change). come (entries c.names) ≤ c.promised) (sym (is n)) (a.added n);
+  gone = a.gone;
+  there = a.there;
 }
 
-pub effects_more : (xs : List Step) (s : Step) → map effect_of (xs ++ s ∷ []) ≡ map effect_of xs ++ effect_of s ∷ []
-effects_more [] s = refl
-effects_more (x ∷ xs) s = ap (λ ds. effect_of x ∷ ds) (effects_more xs s)
-
 -- what a look finds
-pub seen : (xs : List Step) (changes : List (ℕ × Change)) → Agrees (map effect_of xs) changes → (k : Kernel) → NamesAreDirectories k
-    → (d : ℕ) (x : Name) → entry_of (all_done (map effect_of xs) k) d x ≡ directory_at (now_given (change_at changes d) x (get (names_of k d) x))
-seen xs changes a k dirs d x =
-    entry_told (all_done (map effect_of xs) k) (directories_all xs k dirs) d x (now_given (change_at changes d) x (get (names_of k d) x)) (a.names k d x)
+pub seen : (ds : List Effect) (changes : List (ℕ × Change)) (lost : List ℕ) → Agrees ds changes lost → (k : Kernel) → NamesAreDirectories k
+    → (d : ℕ) (x : Name) → entry_of (all_done ds k) d x ≡ directory_at (now_given (change_at changes d) x (get (names_of k d) x))
+seen ds changes lost a k dirs d x =
+    entry_told (all_done ds k) (subst (λ ds. NamesAreDirectories (all_done ds k)) (sym a.forms) (directories_all a.steps k dirs)) d x (now_given (change_at changes d) x (get (names_of k d) x)) (a.names k d x)
 
 -- the names of a directory are those below with what is kept laid on top
-pub laid : (ds : List Effect) (changes : List (ℕ × Change)) → Agrees ds changes → (k : Kernel) (d : ℕ) → IsLaid (change_at changes d).names (bare (change_at changes d).made (names_of k d)) (names_of (all_done ds k) d)
-laid ds changes a k d x = a.names k d x ∙ ap (or_before (get (change_at changes d).names x)) (by_test (change_at changes d).made)
+pub laid : (ds : List Effect) (changes : List (ℕ × Change)) (lost : List ℕ) → Agrees ds changes lost → (k : Kernel) (d : ℕ) → IsLaid (change_at changes d).names (bare (change_at changes d).made (names_of k d)) (names_of (all_done ds k) d)
+laid ds changes lost a k d x = a.names k d x ∙ ap (or_before (get (change_at changes d).names x)) (by_test (change_at changes d).made)
   where
     by_test : (b : Bool) → cond b None (get (names_of k d) x) ≡ get (bare b (names_of k d)) x
     by_test true = sym (get-empty name_cmp x)
     by_test false = refl
 
-pub unchanged : (ds : List Effect) (changes : List (ℕ × Change)) → Agrees ds changes → (k : Kernel) (d : ℕ) → kept_at changes d ≡ None → names_of (all_done ds k) d ≡ names_of k d
-unchanged ds changes a k d none = same_map nat_list_cmp_total name_exact _ _ (λ x.
+pub unchanged : (ds : List Effect) (changes : List (ℕ × Change)) (lost : List ℕ) → Agrees ds changes lost → (k : Kernel) (d : ℕ) → kept_at changes d ≡ None → names_of (all_done ds k) d ≡ names_of k d
+unchanged ds changes lost a k d none = same_map nat_list_cmp_total name_exact _ _ (λ x.
     a.names k d x ∙ ap (λ o. now_given (or_untouched o) x (get (names_of k d) x)) none ∙ ap (λ o. or_before o (get (names_of k d) x)) (get-empty name_cmp x))
 
 -- the same where both are known by other names
-pub laid_by : (ds all : List Effect) (changes : List (ℕ × Change)) → Agrees ds changes → ds ≡ all → (k : Kernel) (d : ℕ) (c : Change) → Some c ≡ kept_at changes d → (stored : FinMap name_cmp ℕ) → stored ≡ names_of k d
+pub laid_by : (ds all : List Effect) (changes : List (ℕ × Change)) (lost : List ℕ) → Agrees ds changes lost → ds ≡ all → (k : Kernel) (d : ℕ) (c : Change) → Some c ≡ kept_at changes d → (stored : FinMap name_cmp ℕ) → stored ≡ names_of k d
     → IsLaid c.names (bare c.made stored) (names_of (all_done all k) d)
-laid_by ds all changes a same k d c is stored was =
+laid_by ds all changes lost a same k d c is stored was =
     subst (λ ds. IsLaid c.names (bare c.made stored) (names_of (all_done ds k) d)) same
-    (λ x. laid ds changes a k d x ∙ ap₂ (λ (c : Change) (names : FinMap name_cmp ℕ). or_before (get c.names x) (get (bare c.made names) x)) (sym (ap or_untouched is)) (sym was))
+    (λ x. laid ds changes lost a k d x ∙ ap₂ (λ (c : Change) (names : FinMap name_cmp ℕ). or_before (get c.names x) (get (bare c.made names) x)) (sym (ap or_untouched is)) (sym was))
 
-pub unchanged_by : (ds all : List Effect) (changes : List (ℕ × Change)) → Agrees ds changes → ds ≡ all → (k : Kernel) (d : ℕ) → None ≡ kept_at changes d → (stored : FinMap name_cmp ℕ) → stored ≡ names_of k d
+pub unchanged_by : (ds all : List Effect) (changes : List (ℕ × Change)) (lost : List ℕ) → Agrees ds changes lost → ds ≡ all → (k : Kernel) (d : ℕ) → None ≡ kept_at changes d → (stored : FinMap name_cmp ℕ) → stored ≡ names_of k d
     → stored ≡ names_of (all_done all k) d
-unchanged_by ds all changes a same k d is stored was = was ∙ sym (unchanged ds changes a k d (sym is)) ∙ ap (λ ds. names_of (all_done ds k) d) same
+unchanged_by ds all changes lost a same k d is stored was = was ∙ sym (unchanged ds changes lost a k d (sym is)) ∙ ap (λ ds. names_of (all_done ds k) d) same
 
 pub if_ok_so : {A E : Type 0} {P Q : A → Type 0} (r : Result A E) → ((x : A) → P x → Q x) → IfOk r P → IfOk r Q
 if_ok_so (Ok x) f h = f x h
@@ -223,8 +257,8 @@ no_keys names = ap (λ n. n == 0) (len-entries names) ∙ by_list (entries names
     by_list (e ∷ es) = ne_eqb (suc (length es)) 0 (λ h. absurd (omega (arith, h)))
 
 -- and what names give is in use
-pub seen_there : (ds : List Effect) (changes : List (ℕ × Change)) → Agrees ds changes → (P : ℕ → Type 0) → ((n : ℕ) → 0 < claimed (Number n) ds → P n) → (d : ℕ) (x : Name) (before : Option ℕ) → IfSome before P → IfSome (now_given (change_at changes d) x before) P
-seen_there ds changes a P made d x before there = by_note (get (change_at changes d).names x) refl
+pub seen_there : (ds : List Effect) (changes : List (ℕ × Change)) (lost : List ℕ) → Agrees ds changes lost → (P : ℕ → Type 0) → ((n : ℕ) → 0 < claimed (Number n) ds → P n) → (d : ℕ) (x : Name) (before : Option ℕ) → IfSome before P → IfSome (now_given (change_at changes d) x before) P
+seen_there ds changes lost a P made d x before there = by_note (get (change_at changes d).names x) refl
   where
     by_test : (b : Bool) → IfSome (cond b None before) P
     by_test true = tt

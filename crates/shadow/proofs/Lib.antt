@@ -2,14 +2,15 @@ pub mod Freed
 pub mod Going
 pub mod Kept
 pub mod Views
+pub mod Touched
 pub mod Agreeing
 pub mod Meets
 pub mod Taking
 pub mod Plugs
 pub mod Living
 pub mod Unshown
-pub mod Committing
 pub mod InUse
 pub mod NoFiles
 pub mod Reserving
 pub mod Giving
+pub mod Committing

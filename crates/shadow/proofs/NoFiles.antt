@@ -15,8 +15,7 @@ use Rattle.look.specs.Shown.{table_of}
 use Rattle.store.specs.Numbers.{Numbers}
 use Rattle.store.specs.Shown.{inodes}
 use Rattle.store.proofs.Changes.{get-inodes_by}
-use Rattle.shadow.specs.declared.steps.Step.{Step}
-use Rattle.shadow.specs.declared.steps.Step.TheVariants.{Nothing, Make, Unname}
+use Rattle.shadow.specs.Changes.{Step, Nothing, Make, Unname}
 use Rattle.shadow.specs.Changes.{effect_of}
 use Rattle.shadow.specs.Looks.{HasNoFiles, birth_of}
 use Rattle.shadow.specs.Stored.{stored}

@@ -23,12 +23,13 @@ use Rattle.store.specs.declared.Object.{Object}
 use Rattle.store.specs.declared.Object.TheVariants.{Directory as Kept_directory}
 use Rattle.store.proofs.Changes.{get-inodes_by, inodes-installed, inodes-lost, inodes-changed, with_names-there}
 use Rattle.store.proofs.Listings.{place-altered, place-other, listing-staged}
-use Rattle.shadow.specs.declared.steps.Step.TheVariants.{Make}
+use Rattle.shadow.specs.Changes.{Step, Make}
 use Rattle.shadow.specs.Claims.{Claim, Room, Number, claimed_by, room_in, number_as}
 use Rattle.shadow.specs.Changes.{effect_of}
 use Rattle.shadow.specs.Stored.{stored, promised_of, FitsStage, IsStaged, Sound}
 use Rattle.shadow.proofs.Meets.{met, coming_at, coming_by, installs, takes_one, takes_none}
-use Rattle.shadow.proofs.Freed.{freed, freed_state, made_tidy, unnamed_tidy}
+use Rattle.shadow.proofs.Freed.{freed_state, made_tidy, unnamed_tidy}
+use Rattle.shadow.specs.Laid.{freed}
 use Rattle.freeing_laws.specs.Counts.{free_inode}
 use Rattle.freeing_laws.specs.Sweep.{AreParented}
 use Rattle.freeing_laws.proofs.Laws.{sweep_is_tidy_lem}

@@ -26,7 +26,7 @@ use Rattle.store.proofs.Listings.{place-altered, place-other, place-over, place-
 use Rattle.shadow.specs.Claims.{Claim, Number}
 use Rattle.shadow.specs.Stored.{stored, FitsStage, IsStaged, Sound}
 use Rattle.shadow.proofs.Meets.{met, coming_at, coming_by, hides_held, met_swept}
-use Rattle.shadow.proofs.Freed.{freed}
+use Rattle.shadow.specs.Laid.{freed}
 
 pub same_sound : (ps : List ℕ) (s after : Numbers) → Sound ps s → after.root ≡ s.root → inodes after ≡ inodes s → ((n : ℕ) → IsStaged (get after.places n)) → Sound ps after
 same_sound ps s after sound root is staged = record {

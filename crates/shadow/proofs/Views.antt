@@ -9,8 +9,7 @@ use Rattle.model.specs.Changes.{set_inode, set_name, clear_name, applied, all_ap
 use Rattle.model.proofs.Inodes.{get_same, get_other}
 use Rattle.call_laws.proofs.Maps.{not_none, some_same}
 use Rattle.model.specs.Effects.{Effect, all_done}
-use Rattle.shadow.specs.declared.steps.Step.{Step}
-use Rattle.shadow.specs.declared.steps.Step.TheVariants.{Nothing, Make, Unname}
+use Rattle.shadow.specs.Changes.{Step, Nothing, Make, Unname}
 use Rattle.shadow.specs.Looks.{NamesAreDirectories, directory_at}
 use Rattle.shadow.specs.Changes.{effect_of}
 
@@ -75,17 +74,17 @@ done_more [] d k = refl
 done_more (x ∷ ds) d k = done_more ds d (all_applied x.chosen x.edits k)
 
 -- a directory stays one where some inode becomes a directory
-kind_set : (k : Kernel) (d : ℕ) (names : FinMap name_cmp ℕ) (m : ℕ) → (m ≡ d) ⊎ (kind_of k m ≡ Some A_directory) → kind_of (set_inode d (Directory names) k) m ≡ Some A_directory
+pub kind_set : (k : Kernel) (d : ℕ) (names : FinMap name_cmp ℕ) (m : ℕ) → (m ≡ d) ⊎ (kind_of k m ≡ Some A_directory) → kind_of (set_inode d (Directory names) k) m ≡ Some A_directory
 kind_set k d names m h = elim (cases_eq m d) [
   | inl same ↦ ap (λ t. kind_of (set_inode d (Directory names) k) t) same ∙ ap (mapped kind) (get_same k.inodes d (Directory names))
   | inr away ↦ ap (mapped kind) (get_other k.inodes d m (Directory names) away) ∙ elim h [ inl same ↦ absurd (away same) | inr is ↦ is ]
 ]
 
-kind_made : (k : Kernel) (d : ℕ) (x : Name) (n m : ℕ) → (m ≡ n) ⊎ (kind_of k m ≡ Some A_directory) → kind_of (one_done (Make d x n) k) m ≡ Some A_directory
+pub kind_made : (k : Kernel) (d : ℕ) (x : Name) (n m : ℕ) → (m ≡ n) ⊎ (kind_of k m ≡ Some A_directory) → kind_of (one_done (Make d x n) k) m ≡ Some A_directory
 unfolding applied
 kind_made k d x n m h = kind_set (set_inode n (Directory empty) k) d (insert (names_of (set_inode n (Directory empty) k) d) x n) m (inr (kind_set k n empty m h))
 
-kind_unnamed : (k : Kernel) (d : ℕ) (x : Name) (n m : ℕ) → kind_of k m ≡ Some A_directory → kind_of (one_done (Unname d x n) k) m ≡ Some A_directory
+pub kind_unnamed : (k : Kernel) (d : ℕ) (x : Name) (n m : ℕ) → kind_of k m ≡ Some A_directory → kind_of (one_done (Unname d x n) k) m ≡ Some A_directory
 unfolding applied
 kind_unnamed k d x n m h = kind_set k d (remove (names_of k d) x) m (inr h)
 

@@ -1,13 +1,12 @@
 -- What a transaction has changed of each object.
-use Rattle.std.specs.Prelude.{◌≡◌, ℕ, ◌+◌, ◌<◌, ◌==◌, Bool, true, false, List, Option, Some, None, if◌then◌else◌}
+use Rattle.std.specs.Prelude.{ℕ, ◌+◌, ◌==◌, Bool, true, false, List, Option, Some, None, if◌then◌else◌}
 use Rattle.std.specs.Ordering.{is_eq, nat_cmp}
 use Rattle.std.specs.Map.{lookup}
 use Rattle.model.specs.FiniteMap.{FinMap, get, empty, insert}
-use Rattle.model.specs.State.{Name, name_cmp, Kernel, names_of}
-use Rattle.model.specs.Effects.{Effect, all_done}
+use Rattle.model.specs.State.{Name, name_cmp}
 use Rattle.dirlist.specs.Patches.{or_before}
 use Rattle.shadow.specs.declared.changes.Change.{Change}
-use Rattle.shadow.specs.Claims.{Claim, Room, Number, claimed, number_of}
+use Rattle.shadow.specs.Claims.{Claim, Room, Number, number_of}
 
 -- nothing is changed of an object; and the changes of one that is new, and has no names yet
 abbrev pub untouched : Change
@@ -52,10 +51,3 @@ bare made names = if made then empty else names
 -- what a name gives, by what it gives in the state below
 abbrev pub now_given : Change → Name → Option ℕ → Option ℕ
 now_given c x before = or_before (get c.names x) (if c.made then None else before)
-
--- What is kept of each directory are its names after the changes, whatever the state is below them. What a name is noted to give is new. What is
--- kept claims what the changes claim.
-pub record Agrees (ds : List Effect) (changes : List (ℕ × Change)) : Type 0 where
-  pub names : (k : Kernel) (d : ℕ) (x : Name) → get (names_of (all_done ds k) d) x ≡ now_given (change_at changes d) x (get (names_of k d) x)
-  pub numbers : (d : ℕ) (x : Name) (n : ℕ) → get (change_at changes d).names x ≡ Some (Some n) → 0 < claimed (Number n) ds
-  pub claims : (c : Claim) → claimed c ds ≡ claim_in (change_at changes (number_of c)) c

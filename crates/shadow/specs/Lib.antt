@@ -6,3 +6,5 @@ pub mod Changes
 pub mod Stored
 pub mod Effects
 pub mod Laid
+pub mod Log
+pub mod Agrees

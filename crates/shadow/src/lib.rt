@@ -6,9 +6,10 @@
 ghost use Rattle.shadow.specs.Effects.{CallsCanBeCommitted};
 
 mod changes;
+mod laying;
+mod log;
 mod shadow;
 mod stable;
-mod steps;
 mod view;
 
 pub use shadow::Shadow;

@@ -12,14 +12,13 @@ ghost use Rattle.freeing_laws.specs.Sweep.{AreParented};
 ghost use Rattle.store.specs.Places.{lost};
 ghost use Rattle.store.specs.Shown.{inodes};
 ghost use Rattle.shadow.specs.Stored.{stored};
-ghost use Rattle.shadow.specs.declared.steps.Step.TheVariants as steps;
+ghost use Rattle.shadow.specs.Changes as steps;
 ghost use Rattle.shadow.specs.Changed.{claim_in, claim_of};
 ghost use Rattle.shadow.specs.Changes.{CanEdit, IsOne, effect, effect_of};
 ghost use Rattle.shadow.specs.Claims.{AreUnused, Claim, Covers, HaveParents, IsInUse, KeepsMore, KeepsNothing, KeepsSame, Number, Room, claimed_by, number_as, number_of, reserved, room_in};
 ghost use Rattle.shadow.specs.Looks.{HasNoFiles, NamesAreDirectories, NamesAreInUse, birth_of};
 
 use crate::changes::Change;
-use crate::steps::Step;
 use dirlist::Dir;
 use heap::Heap;
 use ids::{Edit, Name, Num, Nums, Pid, Priority};
@@ -240,7 +239,7 @@ impl Stable {
     }
 
     /// Gives back a number whose object is still to come. It takes no memory.
-    fn give_back(&mut self, num: Num)
+    pub(crate) fn give_back(&mut self, num: Num)
         requires { 0 < reserved self.old (Number num) }
         ensures kept { KeepsMore self.new self.old (number_as num) }
         ensures state { self.new.state ≡ self.old.state }
@@ -259,27 +258,12 @@ impl Stable {
     }
 
     /// Gives up the promised room of one name. It takes no memory.
-    fn unpromise(&mut self, dir: Num)
+    pub(crate) fn unpromise(&mut self, dir: Num)
         requires { 0 < reserved self.old (Room dir) }
         ensures kept { KeepsMore self.new self.old (room_in dir) }
         ensures state { self.new.state ≡ self.old.state }
     {
         self.store.release(dir);
-    }
-
-    /// Makes one change. What has no name any more goes. It takes no memory.
-    pub(crate) fn take(&mut self, step: Step)
-        requires fits { FitsAll (effect_of step).chosen self.old.state (effect_of step).edits }
-        requires covers { Covers self.old (effect_of step ∷ []) }
-        ensures state { self.new.state ≡ tidy (all_applied (effect_of step).chosen (effect_of step).edits self.old.state) }
-        ensures kept { KeepsMore self.new self.old (λ c. claimed_by c (effect_of step)) }
-    {
-        let _store = &self.store;
-        match step {
-            Step::Nothing => {}
-            Step::Make { parent, name, num } => self.make(parent, name, num),
-            Step::Unname { parent, name, num } => self.unname(parent, &name, num),
-        }
     }
 
     /// The new directory of a reserved number is there, with its name.
@@ -301,18 +285,6 @@ impl Stable {
     {
         self.store.remove_name(parent, name);
         free(&mut self.store, num);
-    }
-
-    /// Gives back what was kept for one change. It takes no memory.
-    pub(crate) fn release(&mut self, step: &Step)
-        requires { Covers self.old (effect_of step.now ∷ []) }
-        ensures kept { KeepsMore self.new self.old (λ c. claimed_by c (effect_of step.now)) }
-        ensures state { self.new.state ≡ self.old.state }
-    {
-        if let Step::Make { parent, num, .. } = step {
-            self.unpromise(*parent);
-            self.give_back(*num);
-        }
     }
 
     /// Gives back what was kept for a transaction's changes of one object. It takes no memory.

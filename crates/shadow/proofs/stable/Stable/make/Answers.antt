@@ -5,7 +5,7 @@ use Rattle.call_laws.specs.Fits.{FitsAll}
 use Rattle.store.specs.Numbers.{Numbers}
 use Rattle.store.specs.Places.{altered, is_coming, listing_at, may_be_named, with_listing, with_name}
 use Rattle.store.specs.Shown.{inodes}
-use Rattle.shadow.specs.declared.steps.Step.TheVariants as steps
+use Rattle.shadow.specs.Changes as steps
 use Rattle.shadow.specs.Changes.{effect_of}
 use Rattle.shadow.specs.Claims.{KeepsMore, claimed_by}
 use Rattle.shadow.specs.Committed.{Committed}
