@@ -13,3 +13,4 @@ pub mod InUse
 pub mod NoFiles
 pub mod Reserving
 pub mod Giving
+pub mod Carrying

@@ -6,6 +6,7 @@
 ghost use Rattle.shadow.specs.Effects.{CallsCanBeCommitted};
 
 mod changes;
+mod laying;
 mod shadow;
 mod stable;
 mod steps;
