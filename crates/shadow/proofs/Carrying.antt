@@ -1,5 +1,5 @@
 -- A transaction's changes that are made in the store, one object after the other.
-use Rattle.std.proofs.Common.{◌≡◌, ◌≢◌, ℕ, ◌≤◌, Bool, true, false, cond, List, [], ◌∷◌, Option, Some, None, nat_cmp, refl, sym, ap, subst, ◌∙◌, inl, inr}
+use Rattle.std.proofs.Common.{◌≡◌, ◌≢◌, ℕ, ◌≤◌, Bool, true, false, cond, List, [], ◌∷◌, length, Option, Some, None, nat_cmp, refl, sym, ap, subst, ◌∙◌, arith, inl, inr}
 use Rattle.std.specs.List.Sorted.{IsStrictlySortedBy}
 use Rattle.std.specs.Map.{keys_of}
 use Rattle.std.specs.Option.{option_map}
@@ -7,10 +7,13 @@ use Rattle.std.proofs.lemmas.Bool.{cases_eq}
 use Rattle.model.specs.FiniteMap.{entries, get}
 use Rattle.model.specs.State.{Name}
 use Rattle.call_laws.proofs.Maps.{not_none}
+use Rattle.freeing_laws.specs.Sweep.{AreParented}
+use Rattle.freeing_laws.proofs.Laws.{sweep_is_tidy_lem}
 use Rattle.dirlist.specs.Listing.{Listing}
 use Rattle.store.specs.Laid.{laid_listing}
 use Rattle.store.specs.Numbers.{Numbers}
 use Rattle.store.specs.Places.{altered, installed, is_shown, listing_at, listing_in, may_be_named, may_be_named_by, shown_stage, with_listing}
+use Rattle.store.specs.Shown.{inodes}
 use Rattle.store.specs.declared.Place.{Place}
 use Rattle.store.specs.declared.Stage.{Stage}
 use Rattle.store.specs.declared.Stage.TheVariants.{Coming, Held, Lost}
@@ -18,7 +21,10 @@ use Rattle.store.proofs.Laying.{MayBeNamed, altered-alike, altered-same, altered
 use Rattle.store.proofs.Listings.{listing-staged, place-altered, place-other}
 use Rattle.shadow.specs.declared.changes.Change.{Change}
 use Rattle.shadow.specs.Changed.{kept_at}
-use Rattle.shadow.specs.Laid.{AreReady, IsReady, carried, carried_by, is_touched, shown_if_made}
+use Rattle.shadow.specs.Laid.{AreReady, IsReady, all_freed, carried, carried_by, is_touched, shown_if_made}
+use Rattle.shadow.specs.Stored.{stored}
+use Rattle.shadow.proofs.Freed.{freed, freed_state}
+use Rattle.shadow.proofs.Unshown.{freed_root}
 use Rattle.shadow.proofs.Kept.{first_absent, first_kept, later_kept, rest_sorted}
 
 -- what is shown from now on may be named as before, and its object is the same
@@ -160,3 +166,21 @@ module _ (start now : Numbers) (all : List (ℕ × Change)) (n : ℕ) (c : Chang
     where
       next : Numbers
       next = cond (is_touched c) (altered (carried_by c) now n) now
+
+-- what is left of these objects is still to be freed
+pub record Frees (start now : Numbers) (all rest : List ℕ) : Type 0 where
+  pub ends : all_freed rest now ≡ all_freed all start
+  pub root : now.root ≡ 0
+  pub parented : AreParented (stored [] (inodes now))
+
+-- the first is freed
+pub frees_on : (start now : Numbers) (all : List ℕ) (n : ℕ) (rest : List ℕ) → Frees start now all (n ∷ rest) → (after : Numbers) → after ≡ freed now n → Frees start after all rest
+frees_on start now all n rest frees after is = subst (λ (t : Numbers). Frees start t all rest) (sym is) (record {
+  ends = frees.ends;
+  root = freed_root now n ∙ frees.root;
+  parented = subst AreParented (sym (freed_state [] now n)) (sweep_is_tidy_lem.turn (stored [] (inodes now)) n frees.parented);
+})
+
+pub all_are_freed : (start now : Numbers) (all rest : List ℕ) → length rest ≡ 0 → Frees start now all rest → now ≡ all_freed all start
+all_are_freed start now all [] zero frees = frees.ends
+all_are_freed start now all (n ∷ rest) zero frees = absurd (omega arith)

@@ -19,6 +19,7 @@ use Rattle.store.specs.Places.{lost}
 use Rattle.store.specs.Shown.{inodes}
 use Rattle.store.proofs.Changes.{inodes-lost, get-inodes_by}
 use Rattle.store.proofs.Counts.{links-links_in}
+pub use Rattle.shadow.specs.Laid.{freed}
 use Rattle.shadow.specs.Stored.{stored}
 
 pub made_tidy : (k : Kernel) (d : ℕ) (x : Name) (n : ℕ) → IsTidied k → Fits (n ∷ []) k (Make_directory d x 0) → tidy (applied (n ∷ []) (Make_directory d x 0) k) ≡ applied (n ∷ []) (Make_directory d x 0) k
@@ -35,9 +36,6 @@ unfolding openings links
 same_reached ps s n = refl
 
 -- what the store frees is what the state frees
-abbrev pub freed : Numbers → ℕ → Numbers
-freed s n = if is_reached (stored [] (inodes s)) n then s else lost s n
-
 pub freed_state : (ps : List ℕ) (s : Numbers) (n : ℕ) → stored ps (inodes (freed s n)) ≡ free_inode n (stored ps (inodes s))
 unfolding free_inode openings links
 freed_state ps s n = by_test (is_reached (stored [] (inodes s)) n)

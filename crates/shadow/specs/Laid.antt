@@ -1,14 +1,17 @@
 -- What a commit makes of the places: the changes of each object are laid over what is there.
-use Rattle.std.specs.Prelude.{◌≡◌, ℕ, ◌≤◌, ◌==◌, ◌||◌, nat_lt, not, Bool, true, List, Option, Some, None, IfSome, is_some, option_map, count_by, if◌then◌else◌}
+use Rattle.std.specs.Prelude.{◌≡◌, ℕ, ◌≤◌, ◌==◌, ◌||◌, nat_lt, not, Bool, true, List, [], ◌∷◌, Option, Some, None, IfSome, is_some, option_map, count_by, if◌then◌else◌}
 use Rattle.std.specs.List.{AllByRecursion}
 use Rattle.model.specs.FiniteMap.{entries, get, len}
+use Rattle.model.specs.Changes.{is_reached}
 use Rattle.dirlist.specs.Listing.{Listing}
 use Rattle.store.specs.Numbers.{Numbers}
-use Rattle.store.specs.Places.{installed, is_shown, listing_at, may_be_named, with_listing}
+use Rattle.store.specs.Places.{installed, is_shown, listing_at, lost, may_be_named, with_listing}
+use Rattle.store.specs.Shown.{inodes}
 use Rattle.store.specs.Laid.{laid_listing}
 use Rattle.store.specs.declared.Place.{Place}
 use Rattle.shadow.specs.declared.changes.Change.{Change}
 use Rattle.shadow.specs.Changed.{kept_at}
+use Rattle.shadow.specs.Stored.{stored}
 
 -- whether anything is changed of an object
 abbrev pub is_touched : Change → Bool
@@ -35,3 +38,12 @@ pub record IsReady (s : Numbers) (n : ℕ) (c : Change) : Type 0 where
 
 abbrev pub AreReady : List (ℕ × Change) → Numbers → Type 0
 AreReady changes s = (n : ℕ) (c : Change) → kept_at changes n ≡ Some c → is_touched c ≡ true → IsReady s n c
+
+-- an object goes to which no name leads, unless it is the root
+abbrev pub freed : Numbers → ℕ → Numbers
+freed s n = if is_reached (stored [] (inodes s)) n then s else lost s n
+
+-- so do those of many, one after the other
+abbrev pub all_freed : List ℕ → Numbers → Numbers
+all_freed [] s = s
+all_freed (n ∷ ns) s = all_freed ns (freed s n)

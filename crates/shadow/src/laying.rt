@@ -1,11 +1,16 @@
 // What a commit makes in the store.
-ghost use Rattle.std.specs.Prelude.{◌≡◌, ℕ, true, if◌then◌else◌};
+ghost use Rattle.std.specs.Prelude.{◌≡◌, ℕ, [], true, if◌then◌else◌};
 ghost use Rattle.model.specs.FiniteMap.{get};
+ghost use Rattle.freeing_laws.specs.Sweep.{AreParented};
 ghost use Rattle.store.specs.Places.{altered};
+ghost use Rattle.store.specs.Shown.{inodes};
 ghost use Rattle.shadow.specs.Changed.{kept_at};
-ghost use Rattle.shadow.specs.Laid.{AreReady, IsReady, carried, carried_by, is_touched};
+ghost use Rattle.shadow.specs.Laid.{AreReady, IsReady, all_freed, carried, carried_by, is_touched};
+ghost use Rattle.shadow.specs.Stored.{stored};
 
 use crate::changes::{Change, Changes};
+use crate::stable::free;
+use heap::Heap;
 use ids::Num;
 use store::Store;
 
@@ -38,5 +43,16 @@ pub(crate) fn lay_all(store: &mut Store, changes: Changes)
 {
     for (num, change) in changes.each {
         lay(store, num, change);
+    }
+}
+
+/// Frees those of these objects to which no name leads. It takes no memory.
+pub(crate) fn free_all(store: &mut Store, lost: Vec<Num, Heap>)
+    requires root { store.old.root ≡ 0 }
+    requires parented { AreParented (stored [] (inodes store.old)) }
+    ensures { store.new ≡ all_freed lost.entry.items store.old }
+{
+    for num in lost {
+        free(store, num);
     }
 }
