@@ -14,3 +14,4 @@ pub mod NoFiles
 pub mod Reserving
 pub mod Giving
 pub mod Committing
+pub mod Carrying

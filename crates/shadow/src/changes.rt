@@ -3,6 +3,7 @@ ghost use Rattle.std.specs.Prelude.{ℕ, ◌≡◌, ◌≢◌, [], ◌==◌, Non
 ghost use Rattle.model.specs.FiniteMap.{FinMap, keys, len};
 ghost use Rattle.model.specs.State.{name_cmp};
 ghost use Rattle.dirlist.specs.Patches.{IsLaid};
+ghost use Rattle.shadow.specs.Laid.{is_touched};
 ghost use Rattle.shadow.specs.Changed.{bare, change_at, fresh, kept_at, noted, now_given, room_of, untouched};
 
 use dirlist::{Dir, Patch};
@@ -33,6 +34,13 @@ impl Change {
             promised: 0,
             names: Patch::new(heap),
         }
+    }
+
+    /// Whether anything is changed of the object.
+    pub(crate) fn is_touched(&self) -> bool
+        ensures { result ≡ is_touched self.now }
+    {
+        self.made || self.promised > 0 || !self.names.is_empty()
     }
 
     /// What a name gives now, by what it gives in the committed state.
