@@ -5,11 +5,11 @@ use Rattle.std.proofs.lemmas.Bool.{cases_Bool}
 use Rattle.std.proofs.lemmas.List.Recursion.{is_count_by}
 use Rattle.model.specs.Moments.{Status, gone, idle, live, doomed, is_alive, holds_place, bound, reserved, count_below}
 use Rattle.model.specs.Effects.{Effect}
-use Rattle.history_laws.proofs.Laws.{what_stands}
+use Rattle.history_laws.proofs.Laws.{status_alive, status_gone, what_stands}
 use Rattle.kernel.specs.Shown.{moment}
 use Rattle.kernel.specs.States.{Fields, Holds}
 use Rattle.commit.specs.Views.{is_within, View, absent}
-use Rattle.kernel.specs.Views.{shown_by, view_by, view_of, changes_of}
+use Rattle.kernel.specs.Views.{shown_by, part_of, changes_of}
 
 one : Bool → ℕ
 one b = if b then 1 else 0
@@ -43,12 +43,13 @@ count_slots slots = is_count_by (λ xs. count_below (λ q. is_within (get_or xs 
 
 pub reserved_slots : (f : Fields) → Holds f → reserved (moment f.log) ≡ count_by is_within f.slots
 reserved_slots f h =
-    same_count (λ q. holds_place ((moment f.log).phase q)) (λ q. is_within (get_or f.slots q absent)) (bound (moment f.log)) (λ q. shows q ∙ ap is_within (sym (h.slots q)))
-    ∙ ap (count_below (λ q. is_within (get_or f.slots q absent))) (sym h.count)
+    same_count (λ q. holds_place ((moment f.log).phase q)) (λ q. is_within (get_or f.slots q absent)) (bound (moment f.log)) (λ q. shows q ∙ ap (λ p. is_within p.slot) (sym (h.parts q)))
+    ∙ ap (count_below (λ q. is_within (get_or f.slots q absent))) (sym h.slot_count)
     ∙ count_slots f.slots where
-      shows : (q : ℕ) → holds_place ((moment f.log).phase q) ≡ is_within (view_of (moment f.log) q)
+      shows : (q : ℕ) → holds_place ((moment f.log).phase q) ≡ is_within (part_of (moment f.log) q).slot
       shows q = elim (cases_Bool (is_alive (moment f.log).committed q)) [
-        | inl alive ↦ status_holds ((moment f.log).phase q) (changes_of (moment f.log) q) ∙ ap (λ b. is_within (view_by b ((moment f.log).phase q) (changes_of (moment f.log) q))) (sym alive)
+        | inl alive ↦ status_holds ((moment f.log).phase q) (changes_of (moment f.log) q)
+            ∙ ap (λ s. is_within (shown_by s (changes_of (moment f.log) q))) (sym (status_alive (moment f.log) q alive))
         | inr dead ↦ ap holds_place ((what_stands 0 f.log.priorities f.log.limit f.log.entries h.legal).phases.processes q dead)
-            ∙ ap (λ b. is_within (view_by b ((moment f.log).phase q) (changes_of (moment f.log) q))) (sym dead)
+            ∙ ap (λ s. is_within (shown_by s (changes_of (moment f.log) q))) (sym (status_gone (moment f.log) q dead))
       ]

@@ -1,47 +1,49 @@
 -- What the slots show of the changes of live transactions.
 use Rattle.std.proofs.Common.{◌≡◌, ℕ, List, [], refl, sym, ◌∙◌, ap, true, false, Bool}
+use Rattle.std.specs.Prelude.{if◌then◌else◌}
 use Rattle.model.specs.Moments.{Status, gone, idle, live, doomed, Moment, is_alive, calls_of, calls_at, seen_by}
 use Rattle.model.specs.Changes.{tidy}
 use Rattle.model.specs.Effects.{Effect, effects, all_done}
+use Rattle.history_laws.specs.Entered.{view}
 use Rattle.history_laws.proofs.Laws.{what_stands, lists_are_their_effects, views_may_be_loose}
+use Rattle.commit.specs.Views.{view_at, changes_in, is_open}
 use Rattle.kernel.specs.Shown.{moment, is_live_status, is_live}
 use Rattle.kernel.specs.States.{Fields, Holds}
-use Rattle.kernel.specs.Views.{view_by, changes_of}
-use Rattle.commit.specs.Views.{view_at, changes_in, is_open}
+use Rattle.kernel.specs.Views.{shown_by, changes_of}
 
-changes_shown : (alive : Bool) (s : Status) (ds : List Effect) → (alive ≡ false → s ≡ idle) → (calls_of s ≡ [] → ds ≡ []) → changes_in (view_by alive s ds) ≡ ds
+changes_shown : (alive : Bool) (s : Status) (ds : List Effect) → (alive ≡ false → s ≡ idle) → (calls_of s ≡ [] → ds ≡ []) → changes_in (shown_by (if alive then s else gone) ds) ≡ ds
 changes_shown true (live flags age calls) ds dead none = refl
 changes_shown true idle ds dead none = sym (none refl)
 changes_shown true gone ds dead none = sym (none refl)
 changes_shown true (doomed cause flags age) ds dead none = sym (none refl)
 changes_shown false s ds dead none = sym (none (ap calls_of (dead refl)))
 
--- a slot has the changes of its process's live list
-pub slot_changes : (f : Fields) → Holds f → (q : ℕ) → changes_in (view_at f.slots q) ≡ changes_of (moment f.log) q
-slot_changes f holds q =
-    let m : Moment = moment f.log in
-    ap changes_in (holds.slots q)
-    ∙ changes_shown (is_alive m.committed q) (m.phase q) (changes_of m q) ((what_stands 0 f.log.priorities f.log.limit f.log.entries holds.legal).phases.processes q)
-    (λ none. ap (λ calls. effects q calls m.committed) none)
-
--- with its changes on top of the committed state, tidied, a process sees what the history says
-pub slot_sees : (f : Fields) → Holds f → (q : ℕ) (ds : List Effect) → ds ≡ changes_in (view_at f.slots q) → tidy (all_done ds f.stable.state) ≡ seen_by (moment f.log) q
-slot_sees f holds q ds same =
-    let m : Moment = moment f.log in
-    ap (λ es. tidy (all_done es f.stable.state)) (same ∙ slot_changes f holds q)
-    ∙ ap (λ k. tidy (all_done (changes_of m q) k)) holds.state
-    ∙ ap tidy (sym (lists_are_their_effects q (calls_at m q) m.committed))
-    ∙ sym (views_may_be_loose 0 f.log.priorities f.log.limit f.log.entries holds.legal q).seen
-
-live_shown : (alive : Bool) (s : Status) (ds : List Effect) → (alive ≡ false → s ≡ idle) → is_open (view_by alive s ds) ≡ is_live_status s
+live_shown : (alive : Bool) (s : Status) (ds : List Effect) → (alive ≡ false → s ≡ idle) → is_open (shown_by (if alive then s else gone) ds) ≡ is_live_status s
 live_shown true (live flags age calls) ds dead = refl
 live_shown true idle ds dead = refl
 live_shown true gone ds dead = refl
 live_shown true (doomed cause flags age) ds dead = refl
 live_shown false s ds dead = sym (ap is_live_status (dead refl))
 
-pub slot_lives : (f : Fields) → Holds f → (q : ℕ) → is_open (view_at f.slots q) ≡ is_live (moment f.log) q
-slot_lives f holds q =
-    let m : Moment = moment f.log in
-    ap is_open (holds.slots q)
-    ∙ live_shown (is_alive m.committed q) (m.phase q) (changes_of m q) ((what_stands 0 f.log.priorities f.log.limit f.log.entries holds.legal).phases.processes q)
+module _ (f : Fields) (holds : Holds f) (q : ℕ) where
+  abbrev m : Moment
+  m = moment f.log
+
+  dead_is_idle : is_alive m.committed q ≡ false → m.phase q ≡ idle
+  dead_is_idle = (what_stands 0 f.log.priorities f.log.limit f.log.entries holds.legal).phases.processes q
+
+  -- a slot has the changes of its process's live list
+  pub slot_changes : changes_in (view_at f.slots q) ≡ changes_of m q
+  slot_changes = ap (λ p. changes_in p.slot) (holds.parts q)
+      ∙ changes_shown (is_alive m.committed q) (m.phase q) (changes_of m q) dead_is_idle (λ none. ap (λ calls. effects q calls m.committed) none)
+
+  -- with its changes on top of the committed state a process sees what the history says, not tidied
+  pub slot_views : all_done (changes_in (view_at f.slots q)) f.stable.state ≡ view m q
+  slot_views = ap (λ ds. all_done ds f.stable.state) slot_changes ∙ ap (all_done (changes_of m q)) holds.state ∙ sym (lists_are_their_effects q (calls_at m q) m.committed)
+
+  -- and tidied
+  pub slot_sees : tidy (all_done (changes_in (view_at f.slots q)) f.stable.state) ≡ seen_by m q
+  slot_sees = ap tidy slot_views ∙ sym (views_may_be_loose 0 f.log.priorities f.log.limit f.log.entries holds.legal q).seen
+
+  pub slot_lives : is_open (view_at f.slots q) ≡ is_live m q
+  slot_lives = ap (λ p. is_open p.slot) (holds.parts q) ∙ live_shown (is_alive m.committed q) (m.phase q) (changes_of m q) dead_is_idle

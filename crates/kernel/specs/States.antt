@@ -1,17 +1,22 @@
--- What the fields of a kernel keep.
-use Rattle.std.specs.Prelude.{◌≡◌, ◌≢◌, ◌≤◌, ℕ, Bool, List, ◌++◌, ◌∷◌, [], length}
+-- What the fields of a kernel keep, and how they change.
+use Rattle.std.specs.Prelude.{◌≡◌, ◌≢◌, ◌<◌, ◌≤◌, ℕ, Bool, false, None, List, ◌++◌, ◌∷◌, [], length, map}
+use Rattle.std.specs.List.{AllByRecursion}
 use Rattle.history.specs.Log.{Log}
-use Rattle.model.specs.Entries.{BeginFlags, Entry}
-use Rattle.model.specs.Moments.{bound}
-use Rattle.model.specs.Legal.{Legal}
-use Rattle.contention.specs.Holding.{Held, IsKept}
+use Rattle.model.specs.State.{Kernel}
+use Rattle.model.specs.Entries.{Op, Reply, Entry}
+use Rattle.model.specs.Moments.{bound, dooming_touches, next}
+use Rattle.model.specs.Legal.{Legal, Right}
+use Rattle.contention.specs.Holding.{Held, held_at}
+use Rattle.contention.specs.Verdicts.{IsDoomedBy}
+use Rattle.contention.specs.declared.Doomed.{Doomed}
 use Rattle.shadow.specs.Committed.{Committed}
 use Rattle.history_laws.specs.Limits.{most_processes}
+use Rattle.history_laws.specs.Processes.{child_in, born, is_ended}
 use Rattle.commit.specs.Views.{View, view_at}
 use Rattle.kernel.specs.declared.state.State.{State}
 use Rattle.kernel.specs.Shown.{Shown, moment}
-use Rattle.kernel.specs.Rows.{IsSettling}
-use Rattle.kernel.specs.Views.{view_of}
+use Rattle.kernel.specs.Steps.{is_no_entry, IsStep}
+use Rattle.kernel.specs.Views.{Part, part_of, doomed_by}
 
 -- the fields, as contracts see them
 pub record Fields : Type 0 where
@@ -26,22 +31,66 @@ fields s = record { log = s.history; slots = s.transactions.slots; held = s.cont
 abbrev pub shown : Fields → Shown
 shown f = record { log = f.log; state = f.stable.state }
 
+abbrev pub part_at : Fields → ℕ → Part
+part_at f q = record { slot = view_at f.slots q; held = held_at f.held q }
+
 -- The history is legal, and each field shows what it comes to.
 pub record Holds (f : Fields) : Type 0 where
   pub legal : Legal 0 f.log.priorities f.log.limit f.log.entries
   pub state : f.stable.state ≡ (moment f.log).committed
-  pub held : IsKept (moment f.log) f.held
-  pub count : length f.slots ≡ bound (moment f.log)
-  pub slots : (q : ℕ) → view_at f.slots q ≡ view_of (moment f.log) q
+  pub slot_count : length f.slots ≡ bound (moment f.log)
+  pub held_count : length f.held ≡ bound (moment f.log)
+  pub parts : (q : ℕ) → part_at f q ≡ part_of (moment f.log) q
   pub few : length f.log.priorities ≤ most_processes
+
+pub record IsIn (f : Fields) (pid : ℕ) : Type 0 where
+  pub slot : pid < length f.slots
+  pub held : pid < length f.held
+
+-- What a step that can be refused memory leaves where it was.
+pub record Unchanged (old new : Fields) : Type 0 where
+  pub holds : Holds new
+  pub same : shown new ≡ shown old
+
+-- a step after which the fields hold
+pub record Does (old new : Fields) (pid : ℕ) (op : Op) (reply : Reply) : Type 0 where
+  pub holds : Holds new
+  pub step : IsStep (shown old) (shown new) pid op reply
+
+-- These are doomed, one after the other, and nothing else has changed.
+pub record Dooms (old new : Fields) (ds : List Doomed) : Type 0 where
+  pub log : new.log ≡ old.log
+  pub state : new.stable.state ≡ old.stable.state
+  pub slot_count : length new.slots ≡ length old.slots
+  pub held_count : length new.held ≡ length old.held
+  pub parts : (q : ℕ) → part_at new q ≡ doomed_by ds q (part_at old q)
+
+-- One process's part has become this and the committed state that, and of the others these are doomed.
+pub record Moves (old new : Fields) (pid : ℕ) (part : Part) (committed : Kernel) (ds : List Doomed) : Type 0 where
+  pub log : new.log ≡ old.log
+  pub state : new.stable.state ≡ committed
+  pub slot_count : length new.slots ≡ length old.slots
+  pub held_count : length new.held ≡ length old.held
+  pub own : part_at new pid ≡ part
+  pub others : (q : ℕ) → q ≢ pid → part_at new q ≡ doomed_by ds q (part_at old q)
 
 abbrev pub with_entry : Log → Entry → Log
 with_entry log e = record log { entries = log.entries ++ e ∷ [] }
 
--- These fields are those of a kernel but for one process's slot, and such an entry of that process can be added.
-pub record CanSettle (f : Fields) (e : Entry) (again : Bool) (flags : BeginFlags) (age : ℕ) : Type 0 where
-  pub before : List View
-  pub holds : Holds (record f { slots = before })
-  pub count : length f.slots ≡ length before
-  pub others : (q : ℕ) → q ≢ e.pid → view_at f.slots q ≡ view_at before q
-  pub settling : IsSettling f.log e again flags age
+-- no fork and no exit
+pub record IsSteady (e : Entry) : Type 0 where
+  pub childless : child_in e.reply ≡ None
+  pub unborn : born e.reply ≡ 0
+  pub goes_on : is_ended e.op e.reply ≡ false
+
+-- The entry is right after the fields before, and the fields now show already what it does.
+pub record CanEnter (now : Fields) (e : Entry) : Type 0 where
+  pub before : Fields
+  pub holds : Holds before
+  pub right : Right before.log.limit (moment before.log) e
+  pub answers : is_no_entry e.reply ≡ false
+  pub steady : IsSteady e
+  pub ds : List Doomed
+  pub dooms : map (λ d. d.pid) ds ≡ e.doomed
+  pub causes : AllByRecursion (IsDoomedBy (moment before.log) e.pid (dooming_touches (moment before.log) e.pid e.op)) ds
+  pub moves : Moves before now e.pid (part_of (next (moment before.log) e) e.pid) (next (moment before.log) e).committed ds

@@ -1,50 +1,54 @@
-// The operations that execute no call: begins, aborts, notices and refusals.
-ghost use Rattle.std.specs.Prelude.{◌≡◌, [], true, Some};
+// The operations that execute no call: begins, aborts, ends and notices.
+ghost use Rattle.std.specs.Prelude.{◌≡◌};
 ghost use Rattle.model.specs.Entries as entries;
-ghost use Rattle.model.specs.Moments.{losing_cause, counted_touches};
-ghost use Rattle.model.specs.Entries.{is_inside};
 ghost use Rattle.model.specs.Legal.{restarts};
-ghost use Rattle.commit.specs.Standings.{StandsSo};
-ghost use Rattle.commit.specs.Views.{absent, resting};
-ghost use Rattle.kernel.specs.Standings.{has_places, is_ending};
+ghost use Rattle.model.specs.Moments.{Status, has_free, status};
+ghost use Rattle.model.specs.Replies.{needed};
 ghost use Rattle.kernel.specs.Shown.{moment};
-ghost use Rattle.kernel.specs.States.{Holds, fields, shown};
-ghost use Rattle.kernel.specs.Steps.{IsStep};
-ghost use Rattle.kernel.specs.Views.{view_of};
+ghost use Rattle.kernel.specs.Standings.{Asks, Stands};
+ghost use Rattle.kernel.specs.States.{Does, Holds, fields};
 
-use crate::state::{State, note, settle};
+use crate::state::{State, settle};
 use commit::Standing;
-use heap::Heap;
-use ids::{Age, BeginFlags, Call, Cause, Entry, Nums, Op, Pid, Pids, Reply, Why};
+use ids::{Age, BeginFlags, Cause, Op, Pid, Reply, Why};
 
 /// What the process is.
 pub fn standing_of(s: &State, pid: Pid) -> Standing
     requires { Holds (fields s.now) }
-    ensures { StandsSo result (view_of (moment s.now.history) pid) }
+    ensures { Stands result (status (moment s.now.history) pid) }
 {
     s.transactions.standing(pid)
+}
+
+/// How many free places of the history the operation needs.
+pub fn needed(standing: &Standing, op: &Op) -> usize
+    ensures { (s : Status) → Stands standing.now s → result ≡ needed s op.now }
+{
+    match standing {
+        Standing::Gone => 1,
+        Standing::Doomed(_, _) => 0,
+        Standing::Idle => match op {
+            Op::Begin(_) => 2,
+            Op::Call(_) => 1,
+            Op::End => 1,
+            Op::Abort { .. } => 1,
+        },
+        Standing::Live(_, _) => match op {
+            Op::Begin(_) => 1,
+            Op::Call(_) => 1,
+            Op::End => 0,
+            Op::Abort { .. } => 0,
+        },
+    }
 }
 
 /// Whether so many places are free.
 pub fn has_free(s: &State, needed: usize) -> bool
     requires { Holds (fields s.now) }
-    ensures { result ≡ has_places s.now.history needed }
+    ensures { result ≡ has_free s.now.history.limit (moment s.now.history) needed }
 {
     let held = s.transactions.count();
     s.history.limit() - s.history.entries().len() - held >= needed
-}
-
-/// An entry without new numbers that dooms nobody.
-pub fn plain_entry(heap: Heap, pid: Pid, op: Op, reply: Reply) -> Entry
-    ensures { result ≡ record { pid = pid; op = op; reply = reply; chosen = []; doomed = [] } }
-{
-    Entry {
-        pid,
-        op,
-        reply,
-        chosen: Nums::new(heap),
-        doomed: Pids::new(heap),
-    }
 }
 
 /// Whether a transaction with these flags is begun anew at this operation, which needs a free place.
@@ -60,143 +64,56 @@ fn is_restarted(s: &State, flags: BeginFlags, op: &Op) -> bool
     }
 }
 
-/// Answers that there is no such process.
-pub fn refuse_process(s: &mut State, pid: Pid, op: Op) -> Reply
-    requires holds { Holds (fields s.old) }
-    requires gone { view_of (moment s.old.history) pid ≡ absent }
-    requires places { has_places s.old.history 1 ≡ true }
-    ensures holds { Holds (fields s.new) }
-    ensures step { IsStep (shown (fields s.old)) (shown (fields s.new)) pid op result }
-{
-    note(s, plain_entry(s.heap, pid, op, Reply::NoProcess));
-    Reply::NoProcess
-}
-
-/// Answers End or Abort of a process that is in no transaction.
-pub fn refuse_outside(s: &mut State, pid: Pid, op: Op) -> Reply
-    requires holds { Holds (fields s.old) }
-    requires idle { view_of (moment s.old.history) pid ≡ resting }
-    requires ends { is_ending op ≡ true }
-    requires places { has_places s.old.history 1 ≡ true }
-    ensures holds { Holds (fields s.new) }
-    ensures step { IsStep (shown (fields s.old)) (shown (fields s.new)) pid op result }
-{
-    note(s, plain_entry(s.heap, pid, op, Reply::NotInTransaction));
-    Reply::NotInTransaction
-}
-
-/// Answers Begin of a process that is in a transaction.
-pub fn refuse_begin(
-    s: &mut State,
-    pid: Pid,
-    old_flags: BeginFlags,
-    age: Age,
-    flags: BeginFlags,
-) -> Reply
-    requires holds { Holds (fields s.old) }
-    requires live { StandsSo (Standing.Live old_flags age) (view_of (moment s.old.history) pid) }
-    requires places { has_places s.old.history 1 ≡ true }
-    ensures holds { Holds (fields s.new) }
-    ensures step { IsStep (shown (fields s.old)) (shown (fields s.new)) pid (entries.Begin flags) result }
-{
-    note(
-        s,
-        plain_entry(s.heap, pid, Op::Begin(flags), Reply::InTransaction),
-    );
-    Reply::InTransaction
-}
-
 /// Begins a transaction.
 pub fn begin(s: &mut State, pid: Pid, flags: BeginFlags) -> Reply
-    requires holds { Holds (fields s.old) }
-    requires idle { view_of (moment s.old.history) pid ≡ resting }
-    requires places { has_places s.old.history 2 ≡ true }
-    ensures holds { Holds (fields s.new) }
-    ensures step { IsStep (shown (fields s.old)) (shown (fields s.new)) pid (entries.Begin flags) result }
+    requires { Asks (fields s.old) pid Standing.Idle (entries.Begin flags) }
+    ensures { Does (fields s.old) (fields s.new) pid (entries.Begin flags) result }
 {
     let age = Age(s.history.entries().len() as u64 + 1);
-    let entry = plain_entry(s.heap, pid, Op::Begin(flags), Reply::Begun);
-    settle(s, entry, true, flags, age);
-    Reply::Begun
+    let told = (Reply::Begun, Reply::Begun);
+    settle(s, pid, Op::Begin(flags), told, true, flags, age)
 }
 
 /// Gives a live transaction up, and begins it anew where its flags say so and a place is free.
 pub fn give_up(s: &mut State, pid: Pid, flags: BeginFlags, age: Age, no_restart: bool) -> Reply
-    requires holds { Holds (fields s.old) }
-    requires live { StandsSo (Standing.Live flags age) (view_of (moment s.old.history) pid) }
-    ensures holds { Holds (fields s.new) }
-    ensures step { IsStep (shown (fields s.old)) (shown (fields s.new)) pid (entries.Abort no_restart) result }
+    requires { Asks (fields s.old) pid (Standing.Live flags age) (entries.Abort no_restart) }
+    ensures { Does (fields s.old) (fields s.new) pid (entries.Abort no_restart) result }
 {
     let op = Op::Abort { no_restart };
     let restarted = is_restarted(s, flags, &op);
-    let entry = plain_entry(s.heap, pid, op, Reply::GivenUp { restarted });
-    settle(s, entry, restarted, flags, age);
-    Reply::GivenUp { restarted }
+    let told = (Reply::GivenUp { restarted }, Reply::GivenUp { restarted });
+    settle(s, pid, op, told, restarted, flags, age)
 }
 
-/// Undoes the transaction of a live process whose call has lost.
-pub fn lose(
-    s: &mut State,
-    pid: Pid,
-    call: Call,
-    flags: BeginFlags,
-    age: Age,
-    causes: (Cause, Cause),
-) -> Reply
-    requires holds { Holds (fields s.old) }
-    requires live { StandsSo (Standing.Live flags age) (view_of (moment s.old.history) pid) }
-    requires inside { is_inside call ≡ true }
-    requires lost { losing_cause (moment s.old.history) pid (counted_touches (moment s.old.history) pid call) ≡ Some causes.0 }
-    requires twice { causes.1 ≡ causes.0 }
-    requires places { has_places s.old.history 1 ≡ true }
-    ensures holds { Holds (fields s.new) }
-    ensures step { IsStep (shown (fields s.old)) (shown (fields s.new)) pid (entries.Do call) result }
+/// Commits a live transaction: its changes are made in one step. It takes no memory.
+pub fn end(s: &mut State, pid: Pid, flags: BeginFlags, age: Age) -> Reply
+    requires { Asks (fields s.old) pid (Standing.Live flags age) entries.End }
+    ensures { Does (fields s.old) (fields s.new) pid entries.End result }
 {
-    let restarted = flags.restarts();
-    let entry = plain_entry(s.heap, pid, Op::Call(call), aborted(causes.0, restarted));
-    settle(s, entry, restarted, flags, age);
-    aborted(causes.1, restarted)
+    s.transactions.end(pid);
+    let told = (Reply::Committed, Reply::Committed);
+    settle(s, pid, Op::End, told, false, flags, age)
 }
 
-/// Puts off a plain call that has lost.
-pub fn put_off(s: &mut State, pid: Pid, call: Call, causes: (Cause, Cause)) -> Reply
-    requires holds { Holds (fields s.old) }
-    requires idle { view_of (moment s.old.history) pid ≡ resting }
-    requires lost { losing_cause (moment s.old.history) pid (counted_touches (moment s.old.history) pid call) ≡ Some causes.0 }
-    requires twice { causes.1 ≡ causes.0 }
-    requires places { has_places s.old.history 1 ≡ true }
-    ensures holds { Holds (fields s.new) }
-    ensures step { IsStep (shown (fields s.old)) (shown (fields s.new)) pid (entries.Do call) result }
+/// Tells a doomed process why. The operation is not executed. It takes no memory.
+pub fn notice(s: &mut State, pid: Pid, flags: BeginFlags, age: Age, op: Op) -> Reply
+    requires { Asks (fields s.old) pid (Standing.Doomed flags age) op }
+    ensures { Does (fields s.old) (fields s.new) pid op result }
 {
-    note(
-        s,
-        plain_entry(s.heap, pid, Op::Call(call), Reply::Busy(causes.0)),
-    );
-    Reply::Busy(causes.1)
+    let restarted = is_restarted(s, flags, &op);
+    let Some((entry, reply)) = s.transactions.take_causes(pid) else {
+        return Reply::NoProcess;
+    };
+    let told = (aborted(entry, restarted), aborted(reply, restarted));
+    settle(s, pid, op, told, restarted, flags, age)
 }
 
 /// The reply that tells a cause.
-fn aborted(cause: Cause, restarted: bool) -> Reply
+pub fn aborted(cause: Cause, restarted: bool) -> Reply
     ensures { result ≡ entries.Aborted (entries.Clash cause) restarted }
 {
     Reply::Aborted {
         why: Why::Clash(cause),
         restarted,
     }
-}
-
-/// Tells a doomed process why. The operation is not executed. It takes no memory.
-pub fn notice(s: &mut State, pid: Pid, flags: BeginFlags, age: Age, op: Op) -> Reply
-    requires holds { Holds (fields s.old) }
-    requires doomed { StandsSo (Standing.Doomed flags age) (view_of (moment s.old.history) pid) }
-    ensures holds { Holds (fields s.new) }
-    ensures step { IsStep (shown (fields s.old)) (shown (fields s.new)) pid op result }
-{
-    let restarted = is_restarted(s, flags, &op);
-    let Some((entry, reply)) = s.transactions.take_causes(pid) else {
-        return Reply::NoProcess;
-    };
-    let entry = plain_entry(s.heap, pid, op, aborted(entry, restarted));
-    settle(s, entry, restarted, flags, age);
-    aborted(reply, restarted)
 }

@@ -1,10 +1,9 @@
-use Rattle.std.proofs.Common.{◌<◌, sym, ap, ◌∙◌, subst}
+use Rattle.std.proofs.Common.{rules, ◌≡◌, length, refl, sym, subst}
+use Rattle.std.proofs.lemmas.List.{nil_from_length}
 use Rattle.std.specs.List.{AllByRecursion}
 use Rattle.std.specs.Vec.Iter.{into_iter_items}
-use Rattle.contention.specs.Holding.{held_at}
-use Rattle.commit.specs.Strikes.{struck_by}
-use Rattle.commit.specs.Views.{view_at}
-use Rattle.kernel.specs.Strikes.{freed_by}
+use Rattle.kernel.specs.States.{Dooms, IsIn, fields}
+use Rattle.kernel.proofs.Doomed.{dooms_more, still_in}
 use Rattle.kernel.proofs.doom.doom_all.Goals as goal
 
 pub loop-doomed-preserved : goal.loop-doomed-preserved
@@ -13,12 +12,11 @@ loop-doomed-preserved c =
     let first = c.in-Some.ensures.steps.0 in
     let rest = into_iter_items c.next.new.self in
     record {
-      slots = λ q. ap (struck_by rest q) (c.doom.ensures.slots q) ∙ ap (λ ds. struck_by ds q (view_at c.loop-doomed.s.transactions.slots q)) (sym first) ∙ before.slots q;
-      held = λ q. ap (freed_by rest q) (c.doom.ensures.held q) ∙ ap (λ ds. freed_by ds q (held_at c.loop-doomed.s.contenders q)) (sym first) ∙ before.held q;
-      slot_count = c.doom.ensures.slot_count ∙ before.slot_count;
-      held_count = c.doom.ensures.held_count ∙ before.held_count;
-      state = c.doom.ensures.state ∙ before.state;
-      history = c.doom.ensures.history ∙ before.history;
-      made = subst (λ n. AllByRecursion (λ d. d.pid < n) rest) (sym c.doom.ensures.slot_count) (subst (AllByRecursion (λ d. d.pid < _)) first before.made).1;
-      kept = subst (λ n. AllByRecursion (λ d. d.pid < n) rest) (sym c.doom.ensures.held_count) (subst (AllByRecursion (λ d. d.pid < _)) first before.kept).1;
+      leads = λ g later. before.leads g (subst (Dooms (fields c.loop-doomed.s) g) (sym first) (dooms_more _ _ g _ rest c.doom.ensures later));
+      are_in = still_in _ _ rest c.doom.ensures (subst (AllByRecursion (λ d. IsIn (fields c.loop-doomed.s) d.pid)) first before.are_in).1;
     }
+
+pub returns : goal.returns
+returns c =
+    let zero : length (into_iter_items c.loop-doomed.doomed-iterator) ≡ 0 = search rules in
+    c.loop-doomed.invariant.leads _ (subst (Dooms (fields c.loop-doomed.s) _) (sym (nil_from_length _ zero)) (record { log = refl; state = refl; slot_count = refl; held_count = refl; parts = λ q. refl }))

@@ -1,11 +1,14 @@
-use Rattle.std.proofs.Common.{◌+◌, length, refl, sym, subst, true}
+use Rattle.std.proofs.Common.{◌+◌, [], true, length, refl, sym, ap, ◌∙◌}
 use Rattle.model.specs.Entries.{Begin, Begun}
-use Rattle.kernel.specs.States.{fields, CanSettle}
-use Rattle.kernel.proofs.Rows.{plain, begins}
+use Rattle.model.specs.Moments.{idle, live}
+use Rattle.kernel.specs.States.{fields}
+use Rattle.kernel.proofs.Enters.{entries_count}
+use Rattle.kernel.proofs.Standings.{free_at, none_else, settles}
 use Rattle.kernel.proofs.rest.begin.Goals as goal
 
-pub settle-requires : goal.settle-requires
-settle-requires c =
-    subst (λ e. CanSettle (fields c.args.s.now) e true c.args.flags (length c.entries.result.now + 1)) (sym c.plain_entry-entry.ensures)
-    (subst (λ es. CanSettle (fields c.args.s.now) (plain c.args.pid (Begin c.args.flags) Begun) true c.args.flags (length es + 1)) (sym c.entries.ensures)
-    (record { before = c.args.s.now.transactions.slots; holds = c.requires.holds; count = refl; others = λ q differs. refl; settling = begins c.args.s.now.history c.args.pid c.args.flags c.requires.idle c.requires.places }))
+pub settle-requires-clause-can : goal.settle-requires-clause-can
+settle-requires-clause-can c =
+    let f = fields c.args.s.now in
+    let op = Begin c.args.flags in
+    settles f c.requires.holds c.args.pid op Begun idle c.requires.stands (refl, none_else c.args.pid op Begun, free_at f c.args.pid op idle c.requires.stands c.requires.place) refl refl
+    true c.args.flags _ (λ h. absurd cc) refl (ap (λ n. live c.args.flags (n + 1) []) (entries_count f.log ∙ ap length (sym c.entries.ensures)))

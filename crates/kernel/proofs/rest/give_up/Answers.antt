@@ -1,15 +1,14 @@
-use Rattle.std.proofs.Common.{refl, sym, subst}
-use Rattle.kernel.specs.States.{fields, CanSettle}
-use Rattle.kernel.proofs.Rows.{gives_up}
+use Rattle.std.proofs.Common.{refl, ap}
+use Rattle.model.specs.Entries.{Abort, GivenUp}
+use Rattle.model.specs.Moments.{live}
+use Rattle.kernel.specs.States.{fields}
+use Rattle.kernel.proofs.Standings.{none_else, settled_live, settles}
 use Rattle.kernel.proofs.rest.give_up.Goals as goal
 
-pub settle-requires : goal.settle-requires
-settle-requires c =
-    subst (λ e. CanSettle (fields c.args.s.now) e c.is_restarted-restarted.result c.args.flags c.args.age) (sym c.plain_entry-entry.ensures)
-    (record {
-      before = c.args.s.now.transactions.slots;
-      holds = c.requires.holds;
-      count = refl;
-      others = λ q differs. refl;
-      settling = gives_up c.args.s.now.history c.args.pid c.args.flags c.args.age c.args.no_restart c.is_restarted-restarted.result c.requires.live c.is_restarted-restarted.ensures;
-    })
+pub settle-requires-clause-can : goal.settle-requires-clause-can
+settle-requires-clause-can c =
+    let l = c.requires.stands in
+    let again = c.is_restarted-restarted.result in
+    let op = Abort c.args.no_restart in
+    settles (fields c.args.s.now) c.requires.holds c.args.pid op (GivenUp again) (live c.args.flags c.args.age l.0) l.1 (ap GivenUp c.is_restarted-restarted.ensures, none_else c.args.pid op (GivenUp again)) refl refl
+    again c.args.flags c.args.age (λ h. absurd cc) refl (settled_live c.args.flags c.args.age l.0 again)

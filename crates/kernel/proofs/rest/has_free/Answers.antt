@@ -4,7 +4,7 @@ use Rattle.model.specs.Moments.{reserved}
 use Rattle.kernel.specs.Shown.{moment}
 use Rattle.kernel.specs.States.{fields}
 use Rattle.kernel.proofs.Counts.{reserved_slots}
-use Rattle.kernel.proofs.Steps.{entries_count, places}
+use Rattle.kernel.proofs.Enters.{entries_count, places}
 use Rattle.kernel.proofs.rest.has_free.Goals as goal
 
 pub overflow_sub-result-2 : goal.overflow_sub-result-2

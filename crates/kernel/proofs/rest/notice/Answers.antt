@@ -1,37 +1,42 @@
-use Rattle.std.proofs.Common.{◌≡◌, Option, Some, None, sym, ap, ap₂, subst, ◌∙◌}
-use Rattle.model.specs.Entries.{Cause}
+use Rattle.std.proofs.Common.{◌≡◌, Some, refl, sym, ap, subst, ◌∙◌}
+use Rattle.model.specs.Entries.{Aborted, Cause, Clash}
+use Rattle.model.specs.Legal.{RightAt}
+use Rattle.model.specs.Moments.{doomed}
+use Rattle.shadow.specs.Committed.{Committed}
+use Rattle.commit.specs.Views.{causes_of, changes_in, struck, view_at}
 use Rattle.kernel.specs.Shown.{moment}
-use Rattle.commit.specs.Views.{causes_of, changes_in, view_at, struck}
-use Rattle.kernel.specs.States.{fields, CanSettle, Holds}
-use Rattle.kernel.specs.Views.{view_of}
-use Rattle.kernel.proofs.Rows.{plain, is_told}
+use Rattle.kernel.specs.Standings.{CanSettle, plain}
+use Rattle.kernel.specs.States.{fields}
+use Rattle.kernel.specs.Views.{shown_by, changes_of}
+use Rattle.kernel.proofs.Standings.{closes, commits_nothing, none_else, settled_doomed}
 use Rattle.kernel.proofs.rest.notice.Goals as goal
+use Rattle.kernel.proofs.rest.notice.Goals.{After-is_restarted-restarted}
 
-abbrev first_or : Cause → Option (Cause × Cause) → Cause
-first_or other (Some both) = both.0
-first_or other None = other
+same_pair : (p q : Cause × Cause) → Some p ≡ Some q → p ≡ q
+same_pair p q h = cc
 
-abbrev second_or : Cause → Option (Cause × Cause) → Cause
-second_or other (Some both) = both.1
-second_or other None = other
+-- its slot has its cause twice
+view : (c : After-is_restarted-restarted) → view_at c.args.s.now.transactions.slots c.args.pid ≡ struck c.requires.stands.0 c.requires.stands.0 c.args.flags c.args.age
+view c = ap (λ p. p.slot) (c.requires.holds.parts c.args.pid) ∙ ap (λ s. shown_by s (changes_of (moment c.args.s.now.history) c.args.pid)) c.requires.stands.1
 
 pub take_causes-requires-clause-unchanged : goal.take_causes-requires-clause-unchanged
-take_causes-requires-clause-unchanged c = ap changes_in (c.requires.holds.slots c.args.pid ∙ c.requires.doomed.is)
+take_causes-requires-clause-unchanged c = ap changes_in (view (goal.at.take_causes-requires-clause-unchanged c).After-is_restarted-restarted)
 
-pub settle-requires : goal.settle-requires
-settle-requires c =
-    let log = c.args.s.now.history in
-    let d = c.requires.doomed in
-    let view : view_at c.args.s.now.transactions.slots c.args.pid ≡ struck d.entry d.reply c.args.flags c.args.age = c.requires.holds.slots c.args.pid ∙ d.is in
-    let both : Some (d.entry, d.reply) ≡ Some (c.in-Some.entry, c.in-Some.reply) = sym (c.take_causes.ensures.causes ∙ ap causes_of view) ∙ c.in-Some.is in
-    let shows : view_of (moment log) c.args.pid ≡ struck c.in-Some.entry c.in-Some.reply c.args.flags c.args.age
-    = d.is ∙ ap₂ (λ a b. struck a b c.args.flags c.args.age) (ap (first_or d.entry) both) (ap (second_or d.reply) both) in
-    subst (λ e. CanSettle (fields record { heap = c.args.s.now.heap; history = c.args.s.now.history; contenders = c.args.s.now.contenders; transactions = c.take_causes.new.self }) e c.is_restarted-restarted.result c.args.flags c.args.age)
-    (sym (c.plain_entry-entry.ensures ∙ ap (plain c.args.pid c.args.op) c.aborted.ensures))
-    (record {
-      before = c.args.s.now.transactions.slots;
-      holds = subst (λ stable. Holds (record (fields c.args.s.now) { stable = stable })) (sym c.take_causes.ensures.stable) c.requires.holds;
-      count = c.take_causes.ensures.slots.count;
-      others = λ q differs. c.take_causes.ensures.slots.others q differs;
-      settling = is_told log c.args.pid c.args.op c.args.flags c.args.age c.in-Some.entry c.in-Some.reply c.is_restarted-restarted.result shows c.is_restarted-restarted.ensures;
-    })
+pub settle-requires-clause-can : goal.settle-requires-clause-can
+settle-requires-clause-can c =
+    let f = fields c.args.s.now in
+    let cause = c.requires.stands.0 in
+    let again = c.is_restarted-restarted.result in
+    let taken = c.take_causes.new.self in
+    let s = doomed cause c.args.flags c.args.age in
+    let reply = Aborted (Clash cause) again in
+    let both : Some (cause, cause) ≡ Some (c.in-Some.entry, c.in-Some.reply) = sym (c.take_causes.ensures.causes ∙ ap causes_of (view (goal.at.settle-requires-clause-can c).After-is_restarted-restarted)) ∙ c.in-Some.is in
+    let first : c.in-Some.entry ≡ cause = ap (λ (p : Cause × Cause). p.0) (sym (same_pair _ _ both)) in
+    let right : RightAt f.log.limit (moment f.log) (plain c.args.pid c.args.op reply) s c.args.op = (ap (Aborted (Clash cause)) c.is_restarted-restarted.ensures, none_else c.args.pid c.args.op reply) in
+    subst (λ r. CanSettle (record f { slots = taken.slots; stable = taken.stable }) c.args.pid c.args.op r again c.args.flags c.args.age) (sym (c.aborted.ensures ∙ ap (λ x. Aborted (Clash x) again) first))
+    (closes f c.requires.holds c.args.pid c.args.op reply s c.requires.stands.1 right refl refl
+    taken.slots taken.stable again c.args.flags c.args.age (λ h. absurd cc) (settled_doomed cause c.args.flags c.args.age again) c.take_causes.ensures.slots.count c.take_causes.ensures.slots.others
+    (ap (λ (x : Committed). x.state) c.take_causes.ensures.stable ∙ commits_nothing f c.requires.holds c.args.pid c.args.op reply s c.requires.stands.1 right refl refl refl))
+
+pub returns : goal.returns
+returns c = c.settle.ensures.since (fields c.args.s.now) refl

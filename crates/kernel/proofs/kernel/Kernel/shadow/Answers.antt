@@ -22,5 +22,5 @@ returns-clause-live c =
 pub returns-clause-sees : goal.returns-clause-sees
 returns-clause-sees c = if_some (λ (s : Bor Shadow). s.now ≡ changes_in (view_at c.self.inside.state.transactions.slots c.args.pid)) (λ (s : Bor Shadow). tidy (all_done s.now c.args.self.now.state) ≡ seen_by (moment c.args.self.now.log) c.args.pid) c.shadow.result
     (λ s same. subst (λ v. tidy (all_done s.now v.state) ≡ seen_by (moment v.log) c.args.pid) c.self.view_is
-    (slot_sees (fields c.self.inside.state) c.self.invariant c.args.pid s.now same))
+    (ap (λ ds. tidy (all_done ds c.self.inside.state.transactions.stable.state)) same ∙ slot_sees (fields c.self.inside.state) c.self.invariant c.args.pid))
     c.shadow.ensures.value

@@ -9,5 +9,5 @@ use Rattle.kernel.proofs.kernel.Kernel.view.Goals as goal
 
 pub returns : goal.returns
 returns c = ap (λ v. tidy v.state) c.view.ensures
-    ∙ slot_sees (fields c.self.inside.state) c.self.invariant c.args.pid (changes_in (view_at c.self.inside.state.transactions.slots c.args.pid)) refl
+    ∙ slot_sees (fields c.self.inside.state) c.self.invariant c.args.pid
     ∙ ap (λ v. seen_by (moment v.log) c.args.pid) c.self.view_is
