@@ -1,16 +1,9 @@
 -- A live transaction's changes can be committed.
-use Rattle.std.proofs.Common.{◌≡◌, ℕ, refl, sym, ◌∙◌, ap, subst}
-use Rattle.model.specs.Changes.{tidy}
-use Rattle.model.specs.Entries.{BeginFlags, End, Committed}
-use Rattle.model.specs.Moments.{Moment, calls_at, next}
-use Rattle.history_laws.proofs.Laws.{commits_run_the_list, what_stands}
-use Rattle.commit.specs.Views.{view_at, changes_in}
+use Rattle.kernel.proofs.Words.{◌≡◌, ℕ, refl, sym, ◌∙◌, ap, subst, tidy, BeginFlags, End, Moment, calls_at, next, commits_run_the_list, what_stands, view_at}
+use Rattle.kernel.proofs.Words.{changes_in, CanBeCommitted, CanCommit, in_turn, moment, Asks, plain, Fields}
+use Rattle.model.specs.Entries.{Committed}
 use Rattle.commit.specs.declared.slot.Standing.TheVariants.{Live}
-use Rattle.shadow.specs.Effects.{CanBeCommitted, CanCommit, in_turn}
 use Rattle.shadow.proofs.Going.{calls_can_be_committed_lem}
-use Rattle.kernel.specs.Shown.{moment}
-use Rattle.kernel.specs.Standings.{Asks, plain}
-use Rattle.kernel.specs.States.{Fields}
 use Rattle.kernel.proofs.Slots.{slot_changes, slot_views}
 use Rattle.kernel.proofs.Standings.{is_right, none_else}
 

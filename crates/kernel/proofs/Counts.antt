@@ -1,15 +1,8 @@
 -- The places that the slots hold are those that the history reserves.
-use Rattle.std.proofs.Common.{◌≡◌, ℕ, zero, suc, ◌+◌, List, ◌∷◌, refl, sym, ◌∙◌, ap, true, false, Bool, inl, inr, arith, cond, length, get_or}
-use Rattle.std.specs.Prelude.{if◌then◌else◌, count_by}
-use Rattle.std.proofs.lemmas.Bool.{cases_Bool}
+use Rattle.kernel.proofs.Words.{◌≡◌, ℕ, zero, suc, ◌+◌, List, ◌∷◌, refl, sym, ◌∙◌, ap, true, false, Bool, inl, inr, arith, cond, length, get_or, if◌then◌else◌}
+use Rattle.kernel.proofs.Words.{count_by, cases_Bool, Status, gone, idle, live, doomed, is_alive, holds_place, bound, reserved, count_below, Effect}
+use Rattle.kernel.proofs.Words.{status_alive, status_gone, what_stands, moment, Fields, Holds, shown_by, part_of, changes_of, is_within, View, absent}
 use Rattle.std.proofs.lemmas.List.Recursion.{is_count_by}
-use Rattle.model.specs.Moments.{Status, gone, idle, live, doomed, is_alive, holds_place, bound, reserved, count_below}
-use Rattle.model.specs.Effects.{Effect}
-use Rattle.history_laws.proofs.Laws.{status_alive, status_gone, what_stands}
-use Rattle.kernel.specs.Shown.{moment}
-use Rattle.kernel.specs.States.{Fields, Holds}
-use Rattle.commit.specs.Views.{is_within, View, absent}
-use Rattle.kernel.specs.Views.{shown_by, part_of, changes_of}
 
 one : Bool → ℕ
 one b = if b then 1 else 0

@@ -1,17 +1,7 @@
 -- What dooming comes to for each process.
-use Rattle.std.proofs.Common.{◌≡◌, ℕ, ◌==◌, List, [], ◌∷◌, None, length, refl, sym, ◌∙◌, ap, ap₂, subst, true, false, inl, inr, map, true≢false, eqb-true}
-use Rattle.std.specs.List.{AllByRecursion}
-use Rattle.std.proofs.lemmas.Bool.{cases_Bool, false≢true}
-use Rattle.model.specs.Entries.{BeginFlags, Cause}
-use Rattle.model.specs.Steps.{Touch}
-use Rattle.model.specs.Moments.{Moment, doom_cause, is_in, all_below}
-use Rattle.model.specs.Effects.{Effect}
-use Rattle.contention.specs.Holding.{Held}
-use Rattle.contention.specs.Verdicts.{IsDoomedBy}
-use Rattle.contention.specs.declared.Doomed.{Doomed}
-use Rattle.commit.specs.Views.{open_view, struck}
-use Rattle.kernel.specs.States.{Fields, Dooms, IsIn}
-use Rattle.kernel.specs.Views.{Part, struck_part, doomed_by}
+use Rattle.kernel.proofs.Words.{◌≡◌, ℕ, ◌==◌, List, [], ◌∷◌, None, length, refl, sym, ◌∙◌, ap, ap₂, subst, true, false, inl, inr, map, true≢false, eqb-true}
+use Rattle.kernel.proofs.Words.{AllByRecursion, cases_Bool, false≢true, BeginFlags, Cause, Touch, Moment, doom_cause, is_in, all_below, Effect, Held}
+use Rattle.kernel.proofs.Words.{IsDoomedBy, Doomed, open_view, struck, Fields, Dooms, IsIn, Part, struck_part, doomed_by}
 
 abbrev pub pids : List Doomed → List ℕ
 pids ds = map (λ d. d.pid) ds

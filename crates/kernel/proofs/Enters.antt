@@ -1,24 +1,13 @@
 -- An entry that can be added gives fields that hold, and is a step.
-use Rattle.std.proofs.Common.{◌≡◌, ◌≢◌, ℕ, suc, ◌+◌, ◌<◌, ◌≤◌, List, [], ◌∷◌, ◌++◌, length, refl, sym, ◌∙◌, ap, ap₂, subst, true, false, Bool, inl, inr, arith, eqb, le-leb}
-use Rattle.std.specs.Prelude.{MatchBool, if◌then◌else◌}
-use Rattle.std.proofs.lemmas.Bool.{cases_Bool, eqb-true, eqb-false, false≢true}
-use Rattle.std.proofs.lemmas.List.{length-append}
+use Rattle.kernel.proofs.Words.{◌≡◌, ◌≢◌, ℕ, suc, ◌+◌, ◌<◌, ◌≤◌, List, [], ◌∷◌, ◌++◌, length, refl, sym, ◌∙◌, ap, ap₂, subst, true, false, Bool, inl, inr}
+use Rattle.kernel.proofs.Words.{arith, eqb, le-leb, MatchBool, if◌then◌else◌, cases_Bool, eqb-true, eqb-false, false≢true, length-append, Op, Entry, Reply}
+use Rattle.kernel.proofs.Words.{HistoryFull, NoMemory, Touch, Status, gone, live, doomed, Moment, status, is_alive, after, bound, reserved, holds_place}
+use Rattle.kernel.proofs.Words.{priority_of, calls_of, list_touches, doom_cause, dooming_touches, is_in, next, Legal, Right, Effect, effects, PhasesMove}
+use Rattle.kernel.proofs.Words.{most_processes, IsAsBefore, ProcessesMove, after_one_more, forks_and_exits_move, legal_push, legality_follows, lists_stay}
+use Rattle.kernel.proofs.Words.{phases_move, places_suffice, right_entries_have_places, status_alive, what_stands, Becomes, held_at, live_age, holding}
+use Rattle.kernel.proofs.Words.{SameViews, Shown, moment, is_no_entry, Added, has_place, Fields, Holds, Does, IsSteady, CanEnter, Unchanged, part_at, shown}
+use Rattle.kernel.proofs.Words.{with_entry, Part, part_of, shown_by, changes_of, doomed_by}
 use Rattle.history.specs.Log.{Log}
-use Rattle.model.specs.Entries.{Op, Entry, Reply, HistoryFull, NoMemory}
-use Rattle.model.specs.Steps.{Touch}
-use Rattle.model.specs.Moments.{Status, gone, live, doomed, Moment, status, is_alive, after, bound, reserved, holds_place, priority_of, calls_of, list_touches, doom_cause, dooming_touches, is_in, next}
-use Rattle.model.specs.Legal.{Legal, Right}
-use Rattle.model.specs.Effects.{Effect, effects}
-use Rattle.history_laws.specs.Entered.{PhasesMove}
-use Rattle.history_laws.specs.Limits.{most_processes}
-use Rattle.history_laws.specs.Processes.{IsAsBefore, ProcessesMove}
-use Rattle.history_laws.proofs.Laws.{after_one_more, forks_and_exits_move, legal_push, legality_follows, lists_stay, phases_move, places_suffice, right_entries_have_places, status_alive, what_stands}
-use Rattle.contention.specs.Holding.{Becomes, held_at, live_age, holding}
-use Rattle.commit.specs.Views.{SameViews}
-use Rattle.kernel.specs.Shown.{Shown, moment}
-use Rattle.kernel.specs.Steps.{is_no_entry, Added, has_place}
-use Rattle.kernel.specs.States.{Fields, Holds, Does, IsSteady, CanEnter, Unchanged, part_at, shown, with_entry}
-use Rattle.kernel.specs.Views.{Part, part_of, shown_by, changes_of, doomed_by}
 use Rattle.kernel.proofs.Doomed.{is_doomed, not_doomed}
 
 -- what is kept of a process, by all that it comes from

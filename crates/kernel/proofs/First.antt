@@ -1,20 +1,9 @@
 -- What the fields of a new kernel show.
-use Rattle.std.proofs.Common.{◌≡◌, ℕ, zero, suc, ◌<◌, ◌≤◌, List, [], Option, Some, None, is_some, length, get_or, refl, sym, ◌∙◌, ap₂, subst, true, false, inl, inr, arith}
-use Rattle.std.proofs.lemmas.Bool.{cases_lt, false≢true}
-use Rattle.std.proofs.lemmas.List.{get_or_past}
-use Rattle.model.specs.FiniteMap.{get}
-use Rattle.model.specs.State.{Process}
-use Rattle.model.specs.Changes.{or_new}
-use Rattle.model.specs.Moments.{Moment, idle, is_alive, start, at_start}
+use Rattle.kernel.proofs.Words.{◌≡◌, ℕ, zero, suc, ◌<◌, ◌≤◌, List, [], Option, Some, None, is_some, length, get_or, refl, sym, ◌∙◌, ap₂, subst, true, false}
+use Rattle.kernel.proofs.Words.{inl, inr, arith, cases_lt, false≢true, get_or_past, get, Process, or_new, Moment, idle, is_alive, start, at_start}
+use Rattle.kernel.proofs.Words.{most_processes, legal_start, Held, nobody, held_at, Kept, Fields, Holds, part_at, shown, Part, part_of, View, AreFirst, absent}
 use Rattle.call_laws.specs.Processes.{StartsWith}
-use Rattle.history_laws.specs.Limits.{most_processes}
-use Rattle.history_laws.proofs.Laws.{legal_start}
 use Rattle.call_laws.proofs.First.{first_processes_live}
-use Rattle.contention.specs.Holding.{Held, nobody, held_at}
-use Rattle.kernel.specs.Shown.{Kept}
-use Rattle.kernel.specs.States.{Fields, Holds, part_at, shown}
-use Rattle.commit.specs.Views.{View, AreFirst, absent}
-use Rattle.kernel.specs.Views.{Part, part_of}
 use Rattle.kernel.proofs.Enters.{parts_alike}
 
 no_priority : (o : Option Process) → is_some o ≡ false → (or_new o).priority ≡ 0

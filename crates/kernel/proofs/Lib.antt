@@ -1,3 +1,4 @@
+mod Words
 mod Doomed
 mod Enters
 mod Standings

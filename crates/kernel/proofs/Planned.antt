@@ -1,37 +1,18 @@
 -- What the calls that are there edit, and that the parents of their new names are there.
-use Rattle.std.proofs.Common.{◌≡◌, ℕ, List, [], ◌∷◌, Bool, true, false, not, Option, Some, None, Result, Ok, Err, IfOk, refl, sym, ap, subst, ◌∙◌, filter}
-use Rattle.std.specs.Prelude.{if◌then◌else◌, is_some}
-use Rattle.std.proofs.lemmas.Bool.{false≢true}
-use Rattle.model.specs.FiniteMap.{get}
-use Rattle.model.specs.State.{Name, A_file, A_directory, A_pipe, Kernel, names_of}
-use Rattle.model.specs.Plan.{Errno, Plan, answer, given, ◌>>=◌, ◌>>◌, ENOENT, ENOTDIR, ENOTEMPTY, EEXIST, EBUSY, List_names, refuse_if, or_refuse}
+use Rattle.kernel.proofs.Words.{◌≡◌, ℕ, List, [], ◌∷◌, Bool, true, false, not, Option, Some, None, Result, Ok, Err, IfOk, refl, sym, ap, subst, ◌∙◌, filter}
+use Rattle.kernel.proofs.Words.{if◌then◌else◌, is_some, false≢true, get, Name, A_file, A_directory, A_pipe, Kernel, names_of, Errno, Plan, answer, given, ◌>>=◌}
+use Rattle.kernel.proofs.Words.{◌>>◌, ENOENT, ENOTDIR, ENOTEMPTY, EEXIST, EBUSY, List_names, refuse_if, or_refuse, Edit, Make_directory, Unname_directory, Call}
+use Rattle.kernel.proofs.Words.{Stat, Mkdir, Rmdir, List_directory, own, Touch, reply, touches, edits, edits_of, BeginFlags, Do, idle, live, Moment, is_alive}
+use Rattle.kernel.proofs.Words.{seen_by, counted, counted_touches, all_done, IsRooted, Leads, WellFormed, fits, phase_is, views_may_be_loose, what_stands}
+use Rattle.kernel.proofs.Words.{CanEdit, Committed, NamesAreInUse, can_call, IsPlan, view_at, changes_in, Plans, Asks, Stands, calling, moment, Fields}
 use Rattle.model.specs.Paths.{is_empty}
 use Rattle.model.specs.Walks.{Place, parsed, walk, last_of, is_directory}
-use Rattle.model.specs.Changes.{Edit, Make_directory, Unname_directory}
-use Rattle.model.specs.Calls.{Call, Stat, Mkdir, Rmdir, List_directory, own}
 use Rattle.model.specs.Plans.{Change, plan, status, absent}
-use Rattle.model.specs.Steps.{Touch, reply, touches, edits, edits_of}
-use Rattle.model.specs.Entries.{BeginFlags, Do}
-use Rattle.model.specs.Moments.{idle, live, Moment, is_alive, seen_by, counted, counted_touches}
-use Rattle.model.specs.Effects.{all_done}
-use Rattle.call_laws.specs.WellFormed.{IsRooted, Leads, WellFormed}
 use Rattle.call_laws.specs.Fits.{FitsAll}
-use Rattle.call_laws.proofs.Laws.{fits}
 use Rattle.call_laws.proofs.Numbers.{can_be_made}
 use Rattle.call_laws.proofs.Rules.{after_bind, whatever}
-use Rattle.history_laws.proofs.Laws.{phase_is, views_may_be_loose, what_stands}
-use Rattle.shadow.specs.Changes.{CanEdit}
 use Rattle.shadow.specs.Claims.{IsInUse, HaveParents}
-use Rattle.shadow.specs.Committed.{Committed}
-use Rattle.shadow.specs.Looks.{NamesAreInUse}
-use Rattle.calls.specs.Operations.{can_call}
-use Rattle.calls.specs.Planned.{IsPlan}
 use Rattle.calls.specs.declared.plan.Plan.{Plan as Planned}
-use Rattle.commit.specs.Views.{view_at, changes_in}
-use Rattle.kernel.specs.Calls.{Plans}
-use Rattle.kernel.specs.Shown.{moment}
-use Rattle.kernel.specs.Standings.{Asks, Stands, calling}
-use Rattle.kernel.specs.States.{Fields}
 use Rattle.kernel.proofs.Slots.{slot_views}
 use Rattle.kernel.proofs.Standings.{caller_lives}
 

@@ -1,15 +1,7 @@
 -- What the slots show of the changes of live transactions.
-use Rattle.std.proofs.Common.{◌≡◌, ℕ, List, [], refl, sym, ◌∙◌, ap, true, false, Bool}
-use Rattle.std.specs.Prelude.{if◌then◌else◌}
-use Rattle.model.specs.Moments.{Status, gone, idle, live, doomed, Moment, is_alive, calls_of, calls_at, seen_by}
-use Rattle.model.specs.Changes.{tidy}
-use Rattle.model.specs.Effects.{Effect, effects, all_done}
-use Rattle.history_laws.specs.Entered.{view}
-use Rattle.history_laws.proofs.Laws.{what_stands, lists_are_their_effects, views_may_be_loose}
-use Rattle.commit.specs.Views.{view_at, changes_in, is_open}
-use Rattle.kernel.specs.Shown.{moment, is_live_status, is_live}
-use Rattle.kernel.specs.States.{Fields, Holds}
-use Rattle.kernel.specs.Views.{shown_by, changes_of}
+use Rattle.kernel.proofs.Words.{◌≡◌, ℕ, List, [], refl, sym, ◌∙◌, ap, true, false, Bool, if◌then◌else◌, Status, gone, idle, live, doomed, Moment, is_alive}
+use Rattle.kernel.proofs.Words.{calls_of, calls_at, seen_by, tidy, Effect, effects, all_done, view, what_stands, lists_are_their_effects, views_may_be_loose}
+use Rattle.kernel.proofs.Words.{view_at, changes_in, is_open, moment, is_live_status, is_live, Fields, Holds, shown_by, changes_of}
 
 changes_shown : (alive : Bool) (s : Status) (ds : List Effect) → (alive ≡ false → s ≡ idle) → (calls_of s ≡ [] → ds ≡ []) → changes_in (shown_by (if alive then s else gone) ds) ≡ ds
 changes_shown true (live flags age calls) ds dead none = refl

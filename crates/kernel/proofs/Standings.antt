@@ -1,24 +1,14 @@
 -- Which entries are right by what a process is in.
-use Rattle.std.proofs.Common.{◌≡◌, ◌≢◌, ℕ, ◌+◌, ◌<◌, List, [], Option, Some, None, length, refl, sym, ◌∙◌, ap, subst, true, false, Bool, arith}
-use Rattle.model.specs.Entries.{BeginFlags, Op, Do, Cause, Reply, Answers, Entry, Executed, answer_in}
-use Rattle.model.specs.Moments.{Status, gone, idle, live, doomed, Moment, status, is_alive, settled, own_next, run_by, after_list, bound, has_free, next}
-use Rattle.model.specs.Legal.{Free, RightAt, Right, Alone}
-use Rattle.model.specs.Effects.{Effect}
-use Rattle.model.specs.Replies.{needed}
-use Rattle.call_laws.proofs.Laws.{calls_are_lawful_lem}
-use Rattle.contention.specs.Holding.{held_at, live_age}
-use Rattle.history_laws.proofs.Laws.{right_by, free_from, phase_is, phases_move, alive_is, what_stands}
-use Rattle.shadow.specs.Committed.{Committed}
+use Rattle.kernel.proofs.Words.{◌≡◌, ◌≢◌, ℕ, ◌+◌, ◌<◌, List, [], Option, Some, None, length, refl, sym, ◌∙◌, ap, subst, true, false, Bool, arith, BeginFlags}
+use Rattle.kernel.proofs.Words.{Op, Do, Begin, End, Abort, Cause, Reply, Answers, Begun, GivenUp, InTransaction, NotInTransaction, NoProcess, Entry, Executed}
+use Rattle.kernel.proofs.Words.{answer_in, Status, gone, idle, live, doomed, Moment, status, is_alive, settled, own_next, run_by, after_list, bound, has_free}
+use Rattle.kernel.proofs.Words.{next, Free, RightAt, Right, Alone, restarts, Effect, needed, calls_are_lawful_lem, held_at, live_age, right_by, free_from}
+use Rattle.kernel.proofs.Words.{phase_is, phases_move, alive_is, what_stands, Committed, View, view_at, moment, Asks, CanSettle, Stands, calling, cleared}
+use Rattle.kernel.proofs.Words.{plain, settled_as, Fields, Holds, IsSteady, CanEnter, IsIn, Moves, Part, shown_by, changes_of, is_no_entry, has_place}
 use Rattle.commit.specs.Standings.{StandsSo}
-use Rattle.commit.specs.Views.{View, view_at}
 use Rattle.commit.specs.declared.slot.Standing.{Standing}
 use Rattle.commit.specs.declared.slot.Standing.TheVariants.{Gone, Idle, Live, Doomed}
-use Rattle.kernel.specs.Shown.{moment}
-use Rattle.kernel.specs.Standings.{CanSettle, Stands, calling, cleared, plain, settled_as}
-use Rattle.kernel.specs.States.{Fields, Holds, IsSteady, CanEnter, IsIn, Moves}
-use Rattle.kernel.specs.Steps.{is_no_entry, has_place}
-use Rattle.kernel.specs.Views.{Part, shown_by, changes_of}
-use Rattle.kernel.proofs.Enters.{empties, moves, stays}
+use Rattle.kernel.proofs.Enters.{entries_count, empties, moves, stays}
 
 stands_by : (standing : Standing) (s : Status) (changes : List Effect) → StandsSo standing (shown_by s changes) → Stands standing s
 stands_by Gone gone changes h = refl
@@ -124,6 +114,38 @@ module _ (f : Fields) (holds : Holds f) (pid : ℕ) (op : Op) (reply : Reply) (s
 
   pub settles : (again : Bool) (flags : BeginFlags) (age : ℕ) → s ≢ gone → run_by s op reply [] ≡ [] → own_next (m.entries + 1) s op reply [] ≡ settled_as again flags age → CanSettle f pid op reply again flags age
   settles again flags age here runs own = closes f.slots f.stable again flags age here own refl (λ q differs. refl) (commits_nothing runs)
+
+-- the refusals
+pub refuses_gone : (f : Fields) (pid : ℕ) (op : Op) → Asks f pid Gone op → CanEnter f (plain pid op NoProcess)
+refuses_gone f pid op asks = leaves f asks.holds pid op NoProcess gone asks.stands (refl, none_else pid op NoProcess, free_at f pid op gone asks.stands asks.place) refl refl refl (λ n t. refl)
+
+pub refuses_end : (f : Fields) (pid : ℕ) → Asks f pid Idle End → CanEnter f (plain pid End NotInTransaction)
+refuses_end f pid asks = leaves f asks.holds pid End NotInTransaction idle asks.stands (refl, none_else pid End NotInTransaction, free_at f pid End idle asks.stands asks.place) refl refl refl (λ n t. refl)
+
+pub refuses_abort : (f : Fields) (pid : ℕ) (no_restart : Bool) → Asks f pid Idle (Abort no_restart) → CanEnter f (plain pid (Abort no_restart) NotInTransaction)
+refuses_abort f pid no_restart asks =
+    let op = Abort no_restart in
+    leaves f asks.holds pid op NotInTransaction idle asks.stands (refl, none_else pid op NotInTransaction, free_at f pid op idle asks.stands asks.place) refl refl refl (λ n t. refl)
+
+pub refuses_begin : (f : Fields) (pid : ℕ) (flags new : BeginFlags) (age : ℕ) → Asks f pid (Live flags age) (Begin new) → CanEnter f (plain pid (Begin new) InTransaction)
+refuses_begin f pid flags new age asks =
+    let op = Begin new in
+    let l = asks.stands in
+    leaves f asks.holds pid op InTransaction (live flags age l.0) l.1 (refl, none_else pid op InTransaction, free_at f pid op (live flags age l.0) l.1 asks.place) refl refl refl (λ n t. refl)
+
+pub begins : (f : Fields) (pid : ℕ) (flags : BeginFlags) (age : ℕ) → Asks f pid Idle (Begin flags) → age ≡ length f.log.entries + 1 → CanSettle f pid (Begin flags) Begun true flags age
+begins f pid flags age asks is =
+    let op = Begin flags in
+    settles f asks.holds pid op Begun idle asks.stands (refl, none_else pid op Begun, free_at f pid op idle asks.stands asks.place) refl refl
+    true flags age (λ h. absurd cc) refl (ap (λ n. live flags n []) (ap (λ n. n + 1) (entries_count f.log) ∙ sym is))
+
+pub gives_up : (f : Fields) (pid : ℕ) (flags : BeginFlags) (age : ℕ) (no_restart again : Bool) → Asks f pid (Live flags age) (Abort no_restart)
+    → again ≡ restarts f.log.limit (moment f.log) flags (Abort no_restart) → CanSettle f pid (Abort no_restart) (GivenUp again) again flags age
+gives_up f pid flags age no_restart again asks is =
+    let op = Abort no_restart in
+    let l = asks.stands in
+    settles f asks.holds pid op (GivenUp again) (live flags age l.0) l.1 (ap GivenUp is, none_else pid op (GivenUp again)) refl refl
+    again flags age (λ h. absurd cc) refl (settled_live flags age l.0 again)
 
 -- with its part cleared
 pub settled_enters : (f g : Fields) (pid : ℕ) (op : Op) (reply : Reply) (again : Bool) (flags : BeginFlags) (age : ℕ) → CanSettle f pid op reply again flags age

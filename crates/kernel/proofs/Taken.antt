@@ -1,38 +1,14 @@
 -- Calls that take effect, and ends: their entries can be added.
-use Rattle.std.proofs.Common.{◌≡◌, ℕ, ◌+◌, List, [], ◌∷◌, ◌++◌, Option, Some, None, Result, Ok, Err, refl, sym, ◌∙◌, ap, ap₂, subst, true, false, Bool, inl, inr, length, arith, eq-eqb}
-use Rattle.std.specs.Prelude.{◌||◌, ◌==◌, if◌then◌else◌, is_some}
-use Rattle.std.specs.List.{AllByRecursion}
-use Rattle.std.proofs.lemmas.Bool.{cases_Bool, false≢true}
-use Rattle.model.specs.State.{Kernel}
-use Rattle.model.specs.Plan.{Errno}
-use Rattle.model.specs.Changes.{tidy, all_applied}
-use Rattle.model.specs.Calls.{Call, Answer}
-use Rattle.model.specs.Steps.{reply, touches, edits, IsNowhere}
-use Rattle.model.specs.Entries.{BeginFlags, Do, Entry, Executed, is_inside, is_unsupported}
-use Rattle.model.specs.Moments.{Moment, idle, live, is_alive, own_next, after_one, numbers, calls_at, seen_by, counted_touches, clashes_with, losing_cause, all_below, bound, is_in, next, status, held_by, after_list, calls_of, priority_of, holds_place}
-use Rattle.model.specs.Legal.{IsApart, Inside, Outcome, Taken, Right}
-use Rattle.model.specs.Replies.{answered}
-use Rattle.model.specs.Effects.{Effect, effects, all_done}
-use Rattle.call_laws.proofs.Laws.{fits}
-use Rattle.call_laws.specs.WellFormed.{WellFormed}
-use Rattle.history_laws.specs.Entered.{CallGoesIn, view}
-use Rattle.history_laws.specs.Processes.{is_ended}
-use Rattle.history_laws.proofs.Laws.{calls_go_in, executed_again, free_from, nowhere_seen, childless, phase_is, plain_calls_run, right_by, views_may_be_loose, what_stands}
-use Rattle.contention.specs.Holding.{live_age}
-use Rattle.contention.specs.Verdicts.{IsDoomedBy}
-use Rattle.contention.specs.declared.Doomed.{Doomed}
-use Rattle.shadow.specs.Changes.{effect, made_by}
-use Rattle.shadow.specs.Effects.{CanCommit}
-use Rattle.commit.specs.Edits.{AreNew, with_change}
+use Rattle.kernel.proofs.Words.{◌≡◌, ℕ, ◌+◌, List, [], ◌∷◌, ◌++◌, Option, Some, None, Result, Ok, Err, refl, sym, ◌∙◌, ap, ap₂, subst, true, false, Bool, inl}
+use Rattle.kernel.proofs.Words.{inr, length, arith, eq-eqb, ◌||◌, ◌==◌, if◌then◌else◌, is_some, AllByRecursion, cases_Bool, false≢true, Kernel, Errno, tidy}
+use Rattle.kernel.proofs.Words.{all_applied, Call, Answer, reply, touches, edits, IsNowhere, BeginFlags, Do, Entry, Executed, is_inside, is_unsupported, Moment}
+use Rattle.kernel.proofs.Words.{idle, live, is_alive, own_next, after_one, numbers, calls_at, seen_by, counted_touches, clashes_with, losing_cause, all_below}
+use Rattle.kernel.proofs.Words.{bound, is_in, next, status, held_by, after_list, calls_of, priority_of, holds_place, IsApart, Inside, Outcome, Taken, Right}
+use Rattle.kernel.proofs.Words.{answered, Effect, effects, all_done, fits, WellFormed, CallGoesIn, view, is_ended, calls_go_in, executed_again, free_from}
+use Rattle.kernel.proofs.Words.{nowhere_seen, childless, phase_is, plain_calls_run, right_by, views_may_be_loose, what_stands, live_age, IsDoomedBy, Doomed}
+use Rattle.kernel.proofs.Words.{effect, made_by, CanCommit, AreNew, with_change, view_at, changes_in, can_call, part_with, state_with, Asks, Stands, calling}
+use Rattle.kernel.proofs.Words.{moment, Fields, Holds, Dooms, IsSteady, CanEnter, IsIn, Moves, part_at, part_of, shown_by, changes_of, doomed_by, is_no_entry}
 use Rattle.commit.specs.declared.slot.Standing.TheVariants.{Live}
-use Rattle.commit.specs.Views.{view_at, changes_in}
-use Rattle.calls.specs.Operations.{can_call}
-use Rattle.kernel.specs.Calls.{part_with, state_with}
-use Rattle.kernel.specs.Shown.{moment}
-use Rattle.kernel.specs.Standings.{Asks, Stands, calling}
-use Rattle.kernel.specs.States.{Fields, Holds, Dooms, IsSteady, CanEnter, IsIn, Moves, part_at}
-use Rattle.kernel.specs.Steps.{is_no_entry}
-use Rattle.kernel.specs.Views.{part_of, shown_by, changes_of, doomed_by}
 use Rattle.kernel.proofs.Doomed.{pids, not_doomed}
 use Rattle.kernel.proofs.Enters.{comes_to, moves, stays}
 use Rattle.kernel.proofs.Planned.{counts}

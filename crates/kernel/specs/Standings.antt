@@ -1,7 +1,7 @@
--- What a process is in, and what an operation of it builds on.
-use Rattle.std.specs.Prelude.{◌≡◌, ◌≢◌, ℕ, Bool, true, false, List, [], length, Option, Some, None, if◌then◌else◌}
+-- What a process is in, what an operation of it builds on, and what a call comes to that takes effect.
+use Rattle.std.specs.Prelude.{◌≡◌, ◌≢◌, ℕ, Bool, true, false, List, [], length, Option, Some, None, if◌then◌else◌, ◌∷◌, ◌++◌}
 use Rattle.model.specs.Entries.{BeginFlags, Op, Cause, Reply, Entry, Executed, answer_in}
-use Rattle.model.specs.Moments.{Status, gone, idle, live, doomed, is_alive, next, status}
+use Rattle.model.specs.Moments.{Status, gone, idle, live, doomed, is_alive, next, status, seen_by, counted_touches}
 use Rattle.model.specs.Legal.{Right}
 use Rattle.contention.specs.Holding.{live_age, held_at}
 use Rattle.shadow.specs.Committed.{Committed}
@@ -11,8 +11,15 @@ use Rattle.commit.specs.declared.slot.Standing.TheVariants.{Gone, Idle, Live, Do
 use Rattle.kernel.specs.Operations.{can_run}
 use Rattle.kernel.specs.Shown.{moment}
 use Rattle.kernel.specs.Steps.{has_place, is_no_entry}
-use Rattle.kernel.specs.States.{Fields, Holds}
-use Rattle.kernel.specs.Views.{Part, shown_by}
+use Rattle.kernel.specs.States.{Fields, Holds, Part, shown_by}
+use Rattle.model.specs.State.{Kernel}
+use Rattle.model.specs.Changes.{Edit, tidy}
+use Rattle.model.specs.Calls.{Call}
+use Rattle.model.specs.Steps.{Touch, edits}
+use Rattle.model.specs.Effects.{Effect, all_done}
+use Rattle.shadow.specs.Changes.{CanEdit}
+use Rattle.shadow.specs.Claims.{HaveParents}
+use Rattle.commit.specs.Edits.{with_change}
 
 abbrev pub Stands : Standing → Status → Type 0
 Stands Gone s = s ≡ gone
@@ -58,3 +65,19 @@ pub record CanSettle (now : Fields) (pid : ℕ) (op : Op) (reply : Reply) (again
   pub calm : answer_in reply ≡ None
   pub alive : is_alive (moment now.log).committed pid ≡ true
   pub phase : (next (moment now.log) (plain pid op reply)).phase pid ≡ settled_as again flags age
+
+-- what the call touches, as far as it counts, and edits, which can be done
+pub record Plans (f : Fields) (pid : ℕ) (call : Call) (ts : List Touch) (es : List Edit) : Type 0 where
+  pub touches : ts ≡ counted_touches (moment f.log) pid call
+  pub edits : es ≡ edits (seen_by (moment f.log) pid) pid call
+  pub kinds : CanEdit es
+  pub parents : HaveParents f.stable.reserves es
+
+-- A change of a process in no transaction is made at once in the committed state; another is kept, with what it touched.
+abbrev pub part_with : Option (BeginFlags × ℕ) → Effect → List Touch → Part → Part
+part_with None d ts p = p
+part_with (Some within) d ts p = record { slot = with_change d p.slot; held = record { priority = p.held.priority; age = p.held.age; touches = p.held.touches ++ ts } }
+
+abbrev pub state_with : Option (BeginFlags × ℕ) → Effect → Kernel → Kernel
+state_with None d k = tidy (all_done (d ∷ []) k)
+state_with (Some within) d k = k

@@ -7,9 +7,8 @@ ghost use Rattle.model.specs.Steps.{reply};
 ghost use Rattle.contention.specs.Verdicts.{IsVerdict};
 ghost use Rattle.shadow.specs.Changes.{effect};
 ghost use Rattle.commit.specs.Edits.{AreNew};
-ghost use Rattle.kernel.specs.Calls.{Plans, part_with, state_with};
+ghost use Rattle.kernel.specs.Standings.{Plans, part_with, state_with, Asks, calling};
 ghost use Rattle.kernel.specs.Shown.{moment};
-ghost use Rattle.kernel.specs.Standings.{Asks, calling};
 ghost use Rattle.kernel.specs.States.{Does, Moves, Unchanged, fields, part_at};
 
 use crate::doom::doom_all;

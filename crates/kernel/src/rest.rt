@@ -65,6 +65,7 @@ fn is_restarted(s: &State, flags: BeginFlags, op: &Op) -> bool
 }
 
 /// Begins a transaction.
+#[tactic(auto, using(crate::proofs::Standings::begins))]
 pub fn begin(s: &mut State, pid: Pid, flags: BeginFlags) -> Reply
     requires { Asks (fields s.old) pid Standing.Idle (entries.Begin flags) }
     ensures { Does (fields s.old) (fields s.new) pid (entries.Begin flags) result }
@@ -75,6 +76,7 @@ pub fn begin(s: &mut State, pid: Pid, flags: BeginFlags) -> Reply
 }
 
 /// Gives a live transaction up, and begins it anew where its flags say so and a place is free.
+#[tactic(auto, using(crate::proofs::Standings::gives_up))]
 pub fn give_up(s: &mut State, pid: Pid, flags: BeginFlags, age: Age, no_restart: bool) -> Reply
     requires { Asks (fields s.old) pid (Standing.Live flags age) (entries.Abort no_restart) }
     ensures { Does (fields s.old) (fields s.new) pid (entries.Abort no_restart) result }

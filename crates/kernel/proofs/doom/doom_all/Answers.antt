@@ -1,8 +1,4 @@
-use Rattle.std.proofs.Common.{rules, ◌≡◌, length, refl, sym, subst}
-use Rattle.std.proofs.lemmas.List.{nil_from_length}
-use Rattle.std.specs.List.{AllByRecursion}
-use Rattle.std.specs.Vec.Iter.{into_iter_items}
-use Rattle.kernel.specs.States.{Dooms, IsIn, fields}
+use Rattle.kernel.proofs.Words.{rules, ◌≡◌, length, refl, sym, subst, nil_from_length, AllByRecursion, into_iter_items, Dooms, IsIn, fields}
 use Rattle.kernel.proofs.Doomed.{dooms_more, still_in}
 use Rattle.kernel.proofs.doom.doom_all.Goals as goal
 

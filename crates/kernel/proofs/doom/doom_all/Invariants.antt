@@ -1,6 +1,4 @@
-use Rattle.std.specs.List.{AllByRecursion}
-use Rattle.std.specs.Vec.Iter.{into_iter_items}
-use Rattle.kernel.specs.States.{Fields, Dooms, IsIn, fields}
+use Rattle.kernel.proofs.Words.{AllByRecursion, into_iter_items, Fields, Dooms, IsIn, fields}
 use Rattle.kernel.proofs.doom.doom_all.Given as goal
 
 -- where what is left to doom leads, all of it leads from the start

@@ -1,10 +1,5 @@
-use Rattle.std.proofs.Common.{[], ◌∷◌, ◌++◌, not, refl, sym, ap, subst, take, ◌∙◌}
+use Rattle.kernel.proofs.Words.{[], ◌∷◌, ◌++◌, not, refl, sym, ap, subst, take, ◌∙◌, effect, CanCommit, AreNew, held_at, fields}
 use Rattle.std.proofs.Math.Seq.{take-append_seam}
-use Rattle.shadow.specs.Changes.{effect}
-use Rattle.shadow.specs.Effects.{CanCommit}
-use Rattle.commit.specs.Edits.{AreNew}
-use Rattle.contention.specs.Holding.{held_at}
-use Rattle.kernel.specs.States.{fields}
 use Rattle.kernel.proofs.Enters.{unchanged}
 use Rattle.kernel.proofs.Taken.{plain_commits}
 use Rattle.kernel.proofs.execute.change.Goals as goal

@@ -1,10 +1,5 @@
-use Rattle.std.proofs.Common.{refl, sym, ap, subst}
-use Rattle.model.specs.Entries.{Aborted, Busy, Clash, Do}
-use Rattle.model.specs.Legal.{Inside, Outcome}
-use Rattle.model.specs.Moments.{idle, live, status}
-use Rattle.kernel.specs.Shown.{moment}
-use Rattle.kernel.specs.Standings.{CanSettle, Stands, calling, plain}
-use Rattle.kernel.specs.States.{fields}
+use Rattle.kernel.proofs.Words.{refl, sym, ap, subst, Aborted, Busy, Clash, Do, Inside, Outcome, idle, live, status, moment, CanSettle, Stands, calling, plain}
+use Rattle.kernel.proofs.Words.{fields}
 use Rattle.kernel.proofs.Standings.{free_at, leaves, none_else, settled_live, settles}
 use Rattle.kernel.proofs.Taken.{inside}
 use Rattle.kernel.proofs.execute.lose.Goals as goal

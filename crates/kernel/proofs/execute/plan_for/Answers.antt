@@ -1,9 +1,4 @@
-use Rattle.std.proofs.Common.{sym, ap, subst, ◌∙◌, filter}
-use Rattle.std.specs.Prelude.{if◌then◌else◌}
-use Rattle.shadow.specs.Committed.{Committed}
-use Rattle.shadow.specs.Looks.{NamesAreInUse}
-use Rattle.calls.specs.Planned.{IsPlan}
-use Rattle.kernel.specs.States.{fields}
+use Rattle.kernel.proofs.Words.{sym, ap, subst, ◌∙◌, filter, if◌then◌else◌, Committed, NamesAreInUse, IsPlan, fields}
 use Rattle.kernel.proofs.Planned.{plan_seen, plans, sees}
 use Rattle.kernel.proofs.execute.plan_for.Goals as goal
 use Rattle.kernel.proofs.execute.plan_for.Goals.{After-is_some}

@@ -1,7 +1,4 @@
-use Rattle.std.proofs.Common.{IfOk, ap, subst, ◌∙◌}
-use Rattle.model.specs.Moments.{counted_touches}
-use Rattle.contention.specs.Verdicts.{IsVerdict}
-use Rattle.kernel.specs.Shown.{moment}
+use Rattle.kernel.proofs.Words.{IfOk, ap, subst, ◌∙◌, counted_touches, IsVerdict, moment}
 use Rattle.kernel.proofs.execute.run.Goals as goal
 use Rattle.kernel.proofs.execute.run.Goals.{After-branch-entry}
 

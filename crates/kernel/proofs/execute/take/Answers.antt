@@ -1,10 +1,5 @@
-use Rattle.std.proofs.Common.{[], map, sym, ap, subst, subst₂, ◌∙◌}
-use Rattle.model.specs.Entries.{Do}
-use Rattle.model.specs.Replies.{answered}
-use Rattle.shadow.specs.Changes.{effect}
-use Rattle.commit.specs.Edits.{AreNew}
-use Rattle.kernel.specs.Calls.{part_with, state_with}
-use Rattle.kernel.specs.States.{fields, CanEnter, Does, Moves, part_at}
+use Rattle.kernel.proofs.Words.{[], map, sym, ap, subst, subst₂, ◌∙◌, Do, answered, effect, AreNew, part_with, state_with, fields, CanEnter, Does, Moves}
+use Rattle.kernel.proofs.Words.{part_at}
 use Rattle.kernel.proofs.Taken.{AreItsNew, are_in, takes}
 use Rattle.kernel.proofs.execute.take.Goals as goal
 use Rattle.kernel.proofs.execute.take.Goals.{After-doom_all-arg-1}

@@ -1,7 +1,5 @@
-use Rattle.std.proofs.Common.{false, refl, ◌∙◌}
-use Rattle.model.specs.Entries.{End, Committed}
-use Rattle.model.specs.Moments.{live}
-use Rattle.kernel.specs.States.{fields}
+use Rattle.kernel.proofs.Words.{false, refl, ◌∙◌, End, live, fields}
+use Rattle.model.specs.Entries.{Committed}
 use Rattle.kernel.proofs.Commits.{can_commit, commits}
 use Rattle.kernel.proofs.Standings.{closes, none_else}
 use Rattle.kernel.proofs.rest.end.Goals as goal

@@ -1,8 +1,5 @@
-use Rattle.std.proofs.Common.{◌≡◌, ◌+◌, ◌≤◌, length, ◌∙◌, sym, ap, arith}
+use Rattle.kernel.proofs.Words.{◌≡◌, ◌+◌, ◌≤◌, length, ◌∙◌, sym, ap, arith, reserved, moment, fields}
 use Rattle.std.proofs.lemmas.Bool.Decides.{nat_tests}
-use Rattle.model.specs.Moments.{reserved}
-use Rattle.kernel.specs.Shown.{moment}
-use Rattle.kernel.specs.States.{fields}
 use Rattle.kernel.proofs.Counts.{reserved_slots}
 use Rattle.kernel.proofs.Enters.{entries_count, places}
 use Rattle.kernel.proofs.rest.has_free.Goals as goal

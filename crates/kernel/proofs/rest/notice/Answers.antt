@@ -1,13 +1,5 @@
-use Rattle.std.proofs.Common.{◌≡◌, Some, refl, sym, ap, subst, ◌∙◌}
-use Rattle.model.specs.Entries.{Aborted, Cause, Clash}
-use Rattle.model.specs.Legal.{RightAt}
-use Rattle.model.specs.Moments.{doomed}
-use Rattle.shadow.specs.Committed.{Committed}
-use Rattle.commit.specs.Views.{causes_of, changes_in, struck, view_at}
-use Rattle.kernel.specs.Shown.{moment}
-use Rattle.kernel.specs.Standings.{CanSettle, plain}
-use Rattle.kernel.specs.States.{fields}
-use Rattle.kernel.specs.Views.{shown_by, changes_of}
+use Rattle.kernel.proofs.Words.{◌≡◌, Some, refl, sym, ap, subst, ◌∙◌, Aborted, Cause, Clash, RightAt, doomed, Committed, causes_of, changes_in, struck, view_at}
+use Rattle.kernel.proofs.Words.{moment, CanSettle, plain, fields, shown_by, changes_of}
 use Rattle.kernel.proofs.Standings.{closes, commits_nothing, none_else, settled_doomed}
 use Rattle.kernel.proofs.rest.notice.Goals as goal
 use Rattle.kernel.proofs.rest.notice.Goals.{After-is_restarted-restarted}

@@ -1,4 +1,4 @@
-use Rattle.kernel.specs.States.{fields}
+use Rattle.kernel.proofs.Words.{fields}
 use Rattle.kernel.proofs.Standings.{stands}
 use Rattle.kernel.proofs.rest.standing_of.Goals as goal
 

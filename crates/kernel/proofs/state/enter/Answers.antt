@@ -1,4 +1,4 @@
-use Rattle.kernel.specs.States.{fields}
+use Rattle.kernel.proofs.Words.{fields}
 use Rattle.kernel.proofs.Enters.{room, entered}
 use Rattle.kernel.proofs.state.enter.Goals as goal
 

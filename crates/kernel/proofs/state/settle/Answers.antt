@@ -1,4 +1,4 @@
-use Rattle.kernel.specs.States.{fields}
+use Rattle.kernel.proofs.Words.{fields}
 use Rattle.kernel.proofs.Standings.{settled_enters}
 use Rattle.kernel.proofs.state.settle.Goals as goal
 

@@ -1,9 +1,6 @@
-use Rattle.std.proofs.Common.{rules, ◌≡◌, ◌≤◌, ◌+◌, List, [], ◌∷◌, ◌++◌, length, refl, sym, ap, subst, ◌∙◌, arith}
-use Rattle.std.proofs.lemmas.List.{append_assoc, append-nil, nil_from_length}
+use Rattle.kernel.proofs.Words.{rules, ◌≡◌, ◌≤◌, ◌+◌, List, [], ◌∷◌, ◌++◌, length, refl, sym, ap, subst, ◌∙◌, arith, append_assoc, append-nil, nil_from_length}
+use Rattle.kernel.proofs.Words.{into_iter_items, serializable_at, Steps}
 use Rattle.std.specs.Vec.{vec_capacity}
-use Rattle.std.specs.Vec.Iter.{into_iter_items}
-use Rattle.history_laws.proofs.Laws.{serializable_at}
-use Rattle.kernel.specs.Steps.{Steps}
 use Rattle.kernel.proofs.kernel.Kernel.run.Goals as goal
 
 pub loop-pid-preserved : goal.loop-pid-preserved

@@ -1,13 +1,6 @@
-use Rattle.std.proofs.Common.{◌≡◌, ◌∙◌, Option, Some, None, ap, subst}
-use Rattle.std.specs.Prelude.{IfSome}
+use Rattle.kernel.proofs.Words.{◌≡◌, ◌∙◌, Option, Some, None, ap, subst, IfSome, tidy, seen_by, all_done, moment, is_live, fields, view_at, changes_in}
 use Rattle.std.specs.Borrow.{Bor}
-use Rattle.model.specs.Changes.{tidy}
-use Rattle.model.specs.Moments.{seen_by}
-use Rattle.model.specs.Effects.{all_done}
 use Rattle.shadow.specs.declared.shadow.Shadow.{Shadow}
-use Rattle.kernel.specs.Shown.{moment, is_live}
-use Rattle.kernel.specs.States.{fields}
-use Rattle.commit.specs.Views.{view_at, changes_in}
 use Rattle.kernel.proofs.Slots.{slot_lives, slot_sees}
 use Rattle.kernel.proofs.kernel.Kernel.shadow.Goals as goal
 

@@ -1,9 +1,4 @@
-use Rattle.std.proofs.Common.{◌∙◌, ap, refl}
-use Rattle.model.specs.Changes.{tidy}
-use Rattle.model.specs.Moments.{seen_by}
-use Rattle.kernel.specs.Shown.{moment}
-use Rattle.kernel.specs.States.{fields}
-use Rattle.commit.specs.Views.{view_at, changes_in}
+use Rattle.kernel.proofs.Words.{◌∙◌, ap, refl, tidy, seen_by, moment, fields, view_at, changes_in}
 use Rattle.kernel.proofs.Slots.{slot_sees}
 use Rattle.kernel.proofs.kernel.Kernel.view.Goals as goal
 
