@@ -72,12 +72,14 @@ plain_commits f pid (Some within) call asks none chosen new = absurd (false≢tr
 plain_commits f pid None call asks none chosen new =
     let m = moment f.log in
     let seen : seen_by m pid ≡ f.stable.state = seen_idle m pid asks.stands ∙ sym asks.holds.state in
-    let unused = rw seen at new in
-    (rw seen (fits f.stable.state pid call chosen (record {
-      well = subst WellFormed (sym asks.holds.state) (what_stands 0 f.log.priorities f.log.limit f.log.entries asks.holds.legal).committed.well;
-      alive = subst (λ k. is_alive k pid ≡ true) (sym asks.holds.state) (caller_lives m pid None asks.stands);
-      numbers = record { count = unused.count; unused = unused.nowhere; different = unused.different };
-    })), tt)
+    let unused = rw seen at new in (
+      rw seen (fits f.stable.state pid call chosen (record {
+        well = subst WellFormed (sym asks.holds.state) (what_stands 0 f.log.priorities f.log.limit f.log.entries asks.holds.legal).committed.well;
+        alive = subst (λ k. is_alive k pid ≡ true) (sym asks.holds.state) (caller_lives m pid None asks.stands);
+        numbers = record { count = unused.count; unused = unused.nowhere; different = unused.different };
+      })),
+      tt,
+    )
 
 module _ (f : Fields) (pid : ℕ) (within : Option (BeginFlags × ℕ)) (call : Call) (chosen : List ℕ) (ds : List Doomed)
     (asks : Asks f pid (calling within) (Do call)) (wins : Wins (moment f.log) pid call ds) (new : AreItsNew f pid call chosen) where
@@ -156,10 +158,10 @@ module _ (f : Fields) (pid : ℕ) (within : Option (BeginFlags × ℕ)) (call : 
       let goes = (views_may_be_loose 0 f.log.priorities f.log.limit f.log.entries asks.holds.legal pid).goes_on call in
       let ts = counted_touches m pid call in
       ap₂ (λ s t. record { slot = with_change change (shown_by s (changes_of m pid)); held = record { priority = priority_of m pid; age = live_age t; touches = held_by m pid ++ ts } })
-          l.1 (phase_is m pid (live w.0 w.1 l.0) l.1 (λ h. absurd cc))
+      l.1 (phase_is m pid (live w.0 w.1 l.0) l.1 (λ h. absurd cc))
       ∙ sym (comes_to f.log e asks.holds.legal right steady pid _ (changes_of m pid ++ change ∷ []) (held_by m pid ++ ts) (caller_lives m pid (Some w) l) (goes_in w l).phase
-          ((goes_in w l).does ∙ ap (λ es. changes_of m pid ++ effect chosen es ∷ []) (sym goes.edits))
-          ((goes_in w l).held ∙ ap (λ us. held_by m pid ++ us) (sym goes.touches ∙ counts m pid call (Some w) l)))
+      ((goes_in w l).does ∙ ap (λ es. changes_of m pid ++ effect chosen es ∷ []) (sym goes.edits))
+      ((goes_in w l).held ∙ ap (λ us. held_by m pid ++ us) (sym goes.touches ∙ counts m pid call (Some w) l)))
 
   state_is : (w : Option (BeginFlags × ℕ)) → Stands (calling w) (status m pid) → state_with w change f.stable.state ≡ (next m e).committed
   state_is None is = ap (λ k. tidy (all_applied chosen (edits (seen_by m pid) pid call) k)) asks.holds.state

@@ -1,5 +1,6 @@
 // Calls of processes in no transaction and in live ones.
-ghost use Rattle.std.specs.Prelude.{◌≡◌, ◌<◌, ◌++◌, [], length, map, IfOk, OnErr};
+ghost use Rattle.std.specs.Prelude.{◌≡◌, ◌∷◌, [], map, IfOk, OnErr};
+ghost use Rattle.std.specs.List.{AllByRecursion};
 ghost use Rattle.model.specs.Entries as entries;
 ghost use Rattle.model.specs.Moments.{counted_touches, seen_by};
 ghost use Rattle.model.specs.Replies.{answered};
@@ -9,18 +10,16 @@ ghost use Rattle.shadow.specs.Changes.{effect};
 ghost use Rattle.commit.specs.Edits.{AreNew};
 ghost use Rattle.kernel.specs.Standings.{Plans, part_with, state_with, Asks, calling};
 ghost use Rattle.kernel.specs.Shown.{moment};
-ghost use Rattle.kernel.specs.States.{Does, Moves, Unchanged, fields, part_at};
+ghost use Rattle.kernel.specs.States.{Does, Dooms, IsIn, Moves, Unchanged, fields, part_at};
 
-use crate::doom::doom_all;
-use crate::rest::aborted;
 use crate::state::{State, enter, note, settle};
 use calls::{Plan, plan_of};
-use commit::Standing;
 use conflict::keep_writes;
 use contention::{Doomed, Verdict};
 use heap::Heap;
 use ids::{
     Age, Answer, BeginFlags, Call, Cause, Edit, Entry, Errno, Nums, Op, Pid, Pids, Reply, Touch,
+    Why,
 };
 use std::alloc::AllocError;
 
@@ -43,6 +42,25 @@ fn pids_of(heap: Heap, doomed: &[Doomed]) -> Result<Pids, AllocError>
         pids.push(one.pid)?;
     }
     Ok(pids)
+}
+
+/// Dooms a live transaction: its changes and its touches are gone at once. It takes no memory.
+fn doom(s: &mut State, doomed: Doomed)
+    requires { IsIn (fields s.old) doomed.pid }
+    ensures { Dooms (fields s.old) (fields s.new) (doomed ∷ []) }
+{
+    s.contenders.release(doomed.pid);
+    s.transactions.doom(doomed);
+}
+
+/// Dooms these. It takes no memory.
+fn doom_all(s: &mut State, all: Vec<Doomed, Heap>)
+    requires { AllByRecursion (λ d. IsIn (fields s.old) d.pid) all.items }
+    ensures { Dooms (fields s.old) (fields s.new) all.entry.items }
+{
+    for doomed in all {
+        doom(s, doomed);
+    }
 }
 
 /// What a call comes to, over what its process sees. Outside a transaction only the writes count.
@@ -130,6 +148,16 @@ fn take(
     };
     enter(s, entry);
     Ok(reply)
+}
+
+/// The reply that tells a cause.
+pub fn aborted(cause: Cause, restarted: bool) -> Reply
+    ensures { result ≡ entries.Aborted (entries.Clash cause) restarted }
+{
+    Reply::Aborted {
+        why: Why::Clash(cause),
+        restarted,
+    }
 }
 
 /// A call that has lost: outside a transaction it is put off, and a live transaction is undone.

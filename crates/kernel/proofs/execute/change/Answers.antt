@@ -17,7 +17,7 @@ returns-in-Err-clause-err c =
     let kept = c.keep_first.ensures in
     unchanged f _ c.args.pid c.requires.asks.holds refl c.edit.ensures.state c.in-Err.ensures.err (record {
       count = kept.count ∙ added.count;
-      own = kept.own ∙ ap (λ h. record { priority = h.priority; age = h.age; touches = take c.count-count.result h.touches }) added.own 
+      own = kept.own ∙ ap (λ h. record { priority = h.priority; age = h.age; touches = take c.count-count.result h.touches }) added.own
           ∙ ap (λ ts. record (held_at f.held c.args.pid) { touches = ts }) (ap (λ n. take n ((held_at f.held c.args.pid).touches ++ c.args.touches.items)) c.count-count.ensures ∙ take-append_seam _ _);
       others = λ q differs. kept.others q differs ∙ added.others q differs;
     })

@@ -2,7 +2,7 @@ use Rattle.kernel.proofs.Words.{false, refl, ◌∙◌, End, live, fields}
 use Rattle.model.specs.Entries.{Committed}
 use Rattle.kernel.proofs.Commits.{can_commit, commits}
 use Rattle.kernel.proofs.Standings.{closes, none_else}
-use Rattle.kernel.proofs.rest.end.Goals as goal
+use Rattle.kernel.proofs.step.end.Goals as goal
 
 pub end-requires-clause-can : goal.end-requires-clause-can
 end-requires-clause-can c = can_commit (fields c.args.s.now) c.args.pid c.args.flags c.args.age c.requires

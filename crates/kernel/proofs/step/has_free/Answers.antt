@@ -2,7 +2,7 @@ use Rattle.kernel.proofs.Words.{◌≡◌, ◌+◌, ◌≤◌, length, ◌∙◌
 use Rattle.std.proofs.lemmas.Bool.Decides.{nat_tests}
 use Rattle.kernel.proofs.Counts.{reserved_slots}
 use Rattle.kernel.proofs.Enters.{entries_count, places}
-use Rattle.kernel.proofs.rest.has_free.Goals as goal
+use Rattle.kernel.proofs.step.has_free.Goals as goal
 
 pub overflow_sub-result-2 : goal.overflow_sub-result-2
 overflow_sub-result-2 c =

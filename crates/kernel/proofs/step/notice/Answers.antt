@@ -1,8 +1,8 @@
 use Rattle.kernel.proofs.Words.{◌≡◌, Some, refl, sym, ap, subst, ◌∙◌, Aborted, Cause, Clash, RightAt, doomed, Committed, causes_of, changes_in, struck, view_at}
 use Rattle.kernel.proofs.Words.{moment, CanSettle, plain, fields, shown_by, changes_of}
 use Rattle.kernel.proofs.Standings.{closes, commits_nothing, none_else, settled_doomed}
-use Rattle.kernel.proofs.rest.notice.Goals as goal
-use Rattle.kernel.proofs.rest.notice.Goals.{After-is_restarted-restarted}
+use Rattle.kernel.proofs.step.notice.Goals as goal
+use Rattle.kernel.proofs.step.notice.Goals.{After-is_restarted-restarted}
 
 same_pair : (p q : Cause × Cause) → Some p ≡ Some q → p ≡ q
 same_pair p q h = cc

@@ -1,5 +1,5 @@
 use Rattle.kernel.proofs.Words.{AllByRecursion, into_iter_items, Fields, Dooms, IsIn, fields}
-use Rattle.kernel.proofs.doom.doom_all.Given as goal
+use Rattle.kernel.proofs.execute.doom_all.Given as goal
 
 -- where what is left to doom leads, all of it leads from the start
 abbrev pub invariant-loop-doomed : goal.invariant-loop-doomed
