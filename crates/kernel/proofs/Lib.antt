@@ -1,8 +1,6 @@
 mod Words
-mod Doomed
 mod Enters
 mod Standings
-mod Counts
 mod Slots
 mod Planned
 mod Taken

@@ -1,7 +1,7 @@
 -- Which entries are right by what a process is in.
-use Rattle.kernel.proofs.Words.{◌≡◌, ◌≢◌, ℕ, ◌+◌, ◌<◌, List, [], Option, Some, None, length, refl, sym, ◌∙◌, ap, subst, true, false, Bool, arith, BeginFlags}
+use Rattle.kernel.proofs.Words.{◌≡◌, ◌≢◌, ℕ, ◌+◌, List, [], Option, Some, None, length, refl, sym, ◌∙◌, ap, subst, true, false, Bool, arith, BeginFlags}
 use Rattle.kernel.proofs.Words.{Op, Do, Begin, End, Abort, Cause, Reply, Answers, Begun, GivenUp, InTransaction, NotInTransaction, NoProcess, Entry, Executed}
-use Rattle.kernel.proofs.Words.{answer_in, Status, gone, idle, live, doomed, Moment, status, is_alive, settled, own_next, run_by, after_list, bound, has_free}
+use Rattle.kernel.proofs.Words.{answer_in, Status, gone, idle, live, doomed, Moment, status, is_alive, settled, own_next, run_by, after_list, has_free}
 use Rattle.kernel.proofs.Words.{next, Free, RightAt, Right, Alone, restarts, Effect, needed, calls_are_lawful_lem, held_at, live_age, right_by, free_from}
 use Rattle.kernel.proofs.Words.{phase_is, phases_move, alive_is, what_stands, Committed, View, view_at, moment, Asks, CanSettle, Stands, calling, cleared}
 use Rattle.kernel.proofs.Words.{plain, settled_as, Fields, Holds, IsSteady, CanEnter, IsIn, Moves, Part, shown_by, changes_of, is_no_entry, has_place}

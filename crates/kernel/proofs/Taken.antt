@@ -1,22 +1,23 @@
 -- Calls that take effect, and ends: their entries can be added.
 use Rattle.kernel.proofs.Words.{◌≡◌, ℕ, ◌+◌, List, [], ◌∷◌, ◌++◌, Option, Some, None, Result, Ok, Err, refl, sym, ◌∙◌, ap, ap₂, subst, true, false, Bool, inl}
 use Rattle.kernel.proofs.Words.{inr, length, arith, eq-eqb, ◌||◌, ◌==◌, if◌then◌else◌, is_some, AllByRecursion, cases_Bool, false≢true, Kernel, Errno, tidy}
-use Rattle.kernel.proofs.Words.{all_applied, Call, Answer, reply, touches, edits, IsNowhere, BeginFlags, Do, Entry, Executed, is_inside, is_unsupported, Moment}
+use Rattle.kernel.proofs.Words.{all_applied, Call, Answer, reply, edits, IsNowhere, BeginFlags, Do, Entry, Executed, is_inside, is_unsupported, Moment}
 use Rattle.kernel.proofs.Words.{idle, live, is_alive, own_next, after_one, numbers, calls_at, seen_by, counted_touches, clashes_with, losing_cause, all_below}
 use Rattle.kernel.proofs.Words.{bound, is_in, next, status, held_by, after_list, calls_of, priority_of, holds_place, IsApart, Inside, Outcome, Taken, Right}
-use Rattle.kernel.proofs.Words.{answered, Effect, effects, all_done, fits, WellFormed, CallGoesIn, view, is_ended, calls_go_in, executed_again, free_from}
+use Rattle.kernel.proofs.Words.{answered, Effect, effects, fits, WellFormed, CallGoesIn, is_ended, calls_go_in, executed_again}
 use Rattle.kernel.proofs.Words.{nowhere_seen, childless, phase_is, plain_calls_run, right_by, views_may_be_loose, what_stands, live_age, IsDoomedBy, Doomed}
 use Rattle.kernel.proofs.Words.{effect, made_by, CanCommit, AreNew, with_change, view_at, changes_in, can_call, part_with, state_with, Asks, Stands, calling}
-use Rattle.kernel.proofs.Words.{moment, Fields, Holds, Dooms, IsSteady, CanEnter, IsIn, Moves, part_at, part_of, shown_by, changes_of, doomed_by, is_no_entry}
-use Rattle.commit.specs.declared.slot.Standing.TheVariants.{Live}
-use Rattle.kernel.proofs.Doomed.{pids, not_doomed}
-use Rattle.kernel.proofs.Enters.{comes_to, moves, stays}
+use Rattle.kernel.proofs.Words.{moment, Fields, Dooms, IsSteady, CanEnter, IsIn, Moves, part_at, part_of, shown_by, changes_of, doomed_by, is_no_entry}
+use Rattle.kernel.proofs.Words.{Aborted, Busy, Cause, Clash, CanSettle, plain}
+use Rattle.ids.specs.Flags.{is_restarting}
+use Rattle.commit.specs.declared.slot.Standing.TheVariants.{Idle, Live}
+use Rattle.kernel.proofs.Enters.{pids, not_doomed, comes_to, moves, stays}
 use Rattle.kernel.proofs.Planned.{counts}
 use Rattle.kernel.proofs.Slots.{slot_changes}
-use Rattle.kernel.proofs.Standings.{caller_lives, free_at}
+use Rattle.kernel.proofs.Standings.{caller_lives, free_at, leaves, none_else, settled_live, settles}
 
 -- calls that are there are those that transactions support, and end no process
-pub inside : (call : Call) → can_call call ≡ true → is_inside call ≡ true
+inside : (call : Call) → can_call call ≡ true → is_inside call ≡ true
 inside Rattle.model.specs.Calls.Fork h = absurd (false≢true h)
 inside Rattle.model.specs.Calls.Exit h = absurd (false≢true h)
 inside call h = refl
@@ -36,6 +37,25 @@ stays_idle place call (Err e) chosen = by (is_unsupported e) where
   by : (b : Bool) → Rattle.model.specs.Moments.with_call idle (Do call) (if b then None else Some (Err e)) chosen ≡ idle
   by true = refl
   by false = refl
+
+-- a call that has lost: a plain one is put off, and a live transaction is undone
+pub puts_off : (f : Fields) (pid : ℕ) (call : Call) (cause : Cause) → Asks f pid Idle (Do call) → losing_cause (moment f.log) pid (counted_touches (moment f.log) pid call) ≡ Some cause
+    → CanEnter f (plain pid (Do call) (Busy cause))
+puts_off f pid call cause asks lost =
+    let e = plain pid (Do call) (Busy cause) in
+    leaves f asks.holds pid (Do call) (Busy cause) idle asks.stands
+    (subst (λ o. Outcome (moment f.log) e idle call o) (sym lost) (refl, none_else pid (Do call) (Busy cause)), free_at f pid (Do call) idle asks.stands asks.place) refl refl refl (λ n t. refl)
+
+pub undoes : (f : Fields) (pid : ℕ) (flags : BeginFlags) (age : ℕ) (call : Call) (cause : Cause) (again : Bool) → Asks f pid (Live flags age) (Do call)
+    → losing_cause (moment f.log) pid (counted_touches (moment f.log) pid call) ≡ Some cause → again ≡ is_restarting flags → CanSettle f pid (Do call) (Aborted (Clash cause) again) again flags age
+undoes f pid flags age call cause again asks lost is =
+    let reply = Aborted (Clash cause) again in
+    let e = plain pid (Do call) reply in
+    let l = asks.stands in
+    let s = live flags age l.0 in
+    settles f asks.holds pid (Do call) reply s l.1 (subst (λ b. Inside f.log.limit (moment f.log) e s flags call b) (sym (inside call asks.there))
+    (subst (λ o. Outcome (moment f.log) e s call o) (sym lost) (ap (Aborted (Clash cause)) is, none_else pid (Do call) reply), free_at f pid (Do call) s l.1 asks.place)) refl refl
+    again flags age (λ h. absurd cc) refl (settled_live flags age l.0 again)
 
 -- the numbers of a list are those that its changes make
 numbered : (pid : ℕ) (es : List Executed) (k : Kernel) → numbers es ≡ made_by (effects pid es k)

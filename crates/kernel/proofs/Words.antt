@@ -1,7 +1,8 @@
 -- The words and laws of which most proofs here speak.
-pub use Rattle.std.proofs.Common.{Bool, Err, IfOk, List, None, Ok, Option, Result, Some, [], ap, ap₂, arith, cond, eq-eqb, eqb, eqb-true, false, filter, get_or}
-pub use Rattle.std.proofs.Common.{inl, inr, is_some, le-leb, length, map, not, refl, rules, subst, subst₂, suc, sym, take, true, true≢false, vec_capacity, zero}
-pub use Rattle.std.proofs.Common.{ℕ, ◌++◌, ◌+◌, ◌<◌, ◌==◌, ◌∙◌, ◌∷◌, ◌≡◌, ◌≢◌, ◌≤◌}
+pub use Rattle.std.proofs.Common.{Bool, Err, IfOk, List, None, Ok, Option, Result, Some, [], add-one, ap, ap₂, arith, eq-eqb, eqb, eqb-true, false, filter}
+pub use Rattle.std.proofs.Common.{get_or, inl, inr, is_some, le-leb, length, map, nat_le, not, refl, rules, subst, subst₂, suc, sym, take, true, true≢false}
+pub use Rattle.std.proofs.Common.{vec_capacity, zero, ℕ, ◌++◌, ◌+◌, ◌<◌, ◌==◌, ◌∙◌, ◌∷◌, ◌≡◌, ◌≢◌, ◌≤◌}
+pub use Rattle.std.proofs.Math.Seq.{take-append_seam, take-length}
 pub use Rattle.std.proofs.lemmas.Bool.{cases_Bool, cases_lt, eqb-false, false≢true}
 pub use Rattle.std.proofs.lemmas.List.{append-nil, append_assoc, get_or_past, length-append, nil_from_length}
 pub use Rattle.std.specs.List.{AllByRecursion}
@@ -26,7 +27,7 @@ pub use Rattle.call_laws.specs.WellFormed.{IsRooted, Leads, WellFormed}
 pub use Rattle.history_laws.proofs.Laws.{after_one_more, alive_is, calls_go_in, childless, commits_run_the_list, executed_again, forks_and_exits_move}
 pub use Rattle.history_laws.proofs.Laws.{free_from, legal_push, legal_start, legality_follows, limits_are_kept, lists_are_their_effects, lists_stay}
 pub use Rattle.history_laws.proofs.Laws.{nowhere_seen, phase_is, phases_move, places_suffice, plain_calls_run, right_by, right_entries_have_places}
-pub use Rattle.history_laws.proofs.Laws.{serializable_at, status_alive, status_gone, tree_at, views_may_be_loose, what_stands}
+pub use Rattle.history_laws.proofs.Laws.{serializable_at, status_alive, tree_at, views_may_be_loose, what_stands}
 pub use Rattle.history_laws.specs.Entered.{CallGoesIn, PhasesMove, view}
 pub use Rattle.history_laws.specs.Limits.{StaysWithinLimits, most_processes}
 pub use Rattle.history_laws.specs.Processes.{IsAsBefore, ProcessesMove, is_ended}

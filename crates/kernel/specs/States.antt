@@ -1,5 +1,5 @@
 -- What the kernel has to keep of each process after a history, and how its fields change.
-use Rattle.std.specs.Prelude.{◌≡◌, ◌≢◌, ◌<◌, ◌≤◌, ℕ, Bool, false, None, List, ◌++◌, ◌∷◌, [], length, map, ◌==◌, if◌then◌else◌}
+use Rattle.std.specs.Prelude.{◌≡◌, ◌≢◌, ◌<◌, ◌≤◌, ℕ, false, None, List, ◌++◌, ◌∷◌, [], length, map, ◌==◌, if◌then◌else◌}
 use Rattle.std.specs.List.{AllByRecursion}
 use Rattle.history.specs.Log.{Log}
 use Rattle.model.specs.State.{Kernel}

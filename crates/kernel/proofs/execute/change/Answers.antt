@@ -1,5 +1,4 @@
-use Rattle.kernel.proofs.Words.{[], ◌∷◌, ◌++◌, not, refl, sym, ap, subst, take, ◌∙◌, effect, CanCommit, AreNew, held_at, fields}
-use Rattle.std.proofs.Math.Seq.{take-append_seam}
+use Rattle.kernel.proofs.Words.{[], ◌∷◌, ◌++◌, not, refl, sym, ap, subst, take, ◌∙◌, effect, CanCommit, AreNew, held_at, fields, take-append_seam}
 use Rattle.kernel.proofs.Enters.{unchanged}
 use Rattle.kernel.proofs.Taken.{plain_commits}
 use Rattle.kernel.proofs.execute.change.Goals as goal

@@ -1,5 +1,5 @@
 use Rattle.kernel.proofs.Words.{rules, ◌≡◌, length, refl, sym, subst, nil_from_length, AllByRecursion, into_iter_items, Dooms, IsIn, fields}
-use Rattle.kernel.proofs.Doomed.{dooms_more, still_in}
+use Rattle.kernel.proofs.Enters.{dooms_more, still_in}
 use Rattle.kernel.proofs.execute.doom_all.Goals as goal
 
 pub loop-doomed-preserved : goal.loop-doomed-preserved

@@ -1,4 +1,4 @@
-use Rattle.kernel.proofs.Words.{rules, ◌≡◌, ◌≤◌, ◌+◌, List, [], ◌∷◌, ◌++◌, length, refl, sym, ap, subst, ◌∙◌, arith, append_assoc, append-nil, nil_from_length}
+use Rattle.kernel.proofs.Words.{rules, ◌≡◌, ◌≤◌, ◌+◌, [], ◌∷◌, ◌++◌, length, refl, sym, ap, subst, ◌∙◌, append_assoc, append-nil, nil_from_length}
 use Rattle.kernel.proofs.Words.{into_iter_items, serializable_at, Steps}
 use Rattle.std.specs.Vec.{vec_capacity}
 use Rattle.kernel.proofs.kernel.Kernel.run.Goals as goal

@@ -1,4 +1,4 @@
-use Rattle.kernel.proofs.Words.{◌∙◌, ap, refl, tidy, seen_by, moment, fields, view_at, changes_in}
+use Rattle.kernel.proofs.Words.{◌∙◌, ap, tidy, seen_by, moment, fields}
 use Rattle.kernel.proofs.Slots.{slot_sees}
 use Rattle.kernel.proofs.kernel.Kernel.view.Goals as goal
 
