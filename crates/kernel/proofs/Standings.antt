@@ -4,7 +4,7 @@ use Rattle.kernel.proofs.Words.{Op, Do, Begin, End, Abort, Cause, Reply, Answers
 use Rattle.kernel.proofs.Words.{answer_in, Status, gone, idle, live, doomed, Moment, status, is_alive, settled, own_next, run_by, after_list, has_free}
 use Rattle.kernel.proofs.Words.{next, Free, RightAt, Right, Alone, restarts, Effect, needed, calls_are_lawful_lem, held_at, live_age, right_by, free_from}
 use Rattle.kernel.proofs.Words.{phase_is, phases_move, alive_is, what_stands, Committed, View, view_at, moment, Asks, CanSettle, Stands, calling, cleared}
-use Rattle.kernel.proofs.Words.{plain, settled_as, Fields, Holds, IsSteady, CanEnter, IsIn, Moves, Part, shown_by, changes_of, is_no_entry, has_place}
+use Rattle.kernel.proofs.Words.{plain, settled_as, Fields, Holds, IsSteady, CanEnter, IsIn, Moves, Part, shown_by, changes_of, is_no_entry, has_place, part_of}
 use Rattle.commit.specs.Standings.{StandsSo}
 use Rattle.commit.specs.declared.slot.Standing.{Standing}
 use Rattle.commit.specs.declared.slot.Standing.TheVariants.{Gone, Idle, Live, Doomed}
@@ -59,7 +59,13 @@ none_else pid op reply = record { chosen = refl; doomed = refl }
 abbrev cleared_as : ℕ → Status → Part
 cleared_as priority s = record { slot = shown_by s []; held = record { priority = priority; age = live_age s; touches = [] } }
 
--- entries that doom nobody, of a process with this status
+-- an entry that dooms nobody
+enters_alone : (f g : Fields) → Holds f → (pid : ℕ) (op : Op) (reply : Reply) → Right f.log.limit (moment f.log) (plain pid op reply) → is_no_entry reply ≡ false → answer_in reply ≡ None
+    → Moves f g pid (part_of (next (moment f.log) (plain pid op reply)) pid) (next (moment f.log) (plain pid op reply)).committed [] → CanEnter g (plain pid op reply)
+enters_alone f g holds pid op reply right answers none after =
+    record { before = f; holds = holds; right = right; answers = answers; steady = calm pid op reply none; ds = []; dooms = refl; causes = tt; moves = after }
+
+-- such entries, of a process with this status
 module _ (f : Fields) (holds : Holds f) (pid : ℕ) (op : Op) (reply : Reply) (s : Status) (is : status (moment f.log) pid ≡ s)
     (right : RightAt f.log.limit (moment f.log) (plain pid op reply) s op) (answers : is_no_entry reply ≡ false) (none : answer_in reply ≡ None) where
   abbrev m : Moment
@@ -76,24 +82,14 @@ module _ (f : Fields) (holds : Holds f) (pid : ℕ) (op : Op) (reply : Reply) (s
 
   -- one that leaves its process as it was
   pub leaves : run_by s op reply [] ≡ [] → ((n : ℕ) (t : Status) → own_next n t op reply [] ≡ t) → CanEnter f e
-  leaves runs same = record {
-    before = f;
-    holds = holds;
-    right = is_right;
-    answers = answers;
-    steady = calm pid op reply none;
-    ds = [];
-    dooms = refl;
-    causes = tt;
-    moves = record {
-      log = refl;
-      state = commits_nothing runs;
-      slot_count = refl;
-      held_count = refl;
-      own = holds.parts pid ∙ sym (stays f.log e holds.legal is_right (calm pid op reply none) pid ((moves f.log e holds.legal is_right (calm pid op reply none)).own ∙ same _ _));
-      others = λ q differs. refl;
-    };
-  }
+  leaves runs same = enters_alone f f holds pid op reply is_right answers none (record {
+    log = refl;
+    state = commits_nothing runs;
+    slot_count = refl;
+    held_count = refl;
+    own = holds.parts pid ∙ sym (stays f.log e holds.legal is_right (calm pid op reply none) pid ((moves f.log e holds.legal is_right (calm pid op reply none)).own ∙ same _ _));
+    others = λ q differs. refl;
+  })
 
   -- one after which its process's transaction has begun, or begun anew, or is gone
   pub closes : (slots : List View) (stable : Committed) (again : Bool) (flags : BeginFlags) (age : ℕ) → s ≢ gone → own_next (m.entries + 1) s op reply [] ≡ settled_as again flags age
@@ -150,22 +146,12 @@ gives_up f pid flags age no_restart again asks is =
 -- with its part cleared
 pub settled_enters : (f g : Fields) (pid : ℕ) (op : Op) (reply : Reply) (again : Bool) (flags : BeginFlags) (age : ℕ) → CanSettle f pid op reply again flags age
     → Moves f g pid (cleared f pid (settled_as again flags age)) f.stable.state [] → CanEnter g (plain pid op reply)
-settled_enters f g pid op reply again flags age can after = record {
-  before = record f { slots = can.slots; stable = can.stable };
-  holds = can.holds;
-  right = can.right;
-  answers = can.answers;
-  steady = calm pid op reply can.calm;
-  ds = [];
-  dooms = refl;
-  causes = tt;
-  moves = record {
-    log = after.log;
-    state = after.state ∙ can.state;
-    slot_count = after.slot_count ∙ can.count;
-    held_count = after.held_count;
-    own = after.own ∙ ap (λ p. cleared_as p.held.priority (settled_as again flags age)) (can.holds.parts pid)
-        ∙ sym (empties f.log (plain pid op reply) can.holds.legal can.right (calm pid op reply can.calm) pid (settled_as again flags age) can.alive can.phase (no_calls again flags age));
-    others = λ q differs. after.others q differs ∙ ap (λ v. record { slot = v; held = held_at f.held q }) (can.others q differs);
-  };
-}
+settled_enters f g pid op reply again flags age can after = enters_alone (record f { slots = can.slots; stable = can.stable }) g can.holds pid op reply can.right can.answers can.calm (record {
+  log = after.log;
+  state = after.state ∙ can.state;
+  slot_count = after.slot_count ∙ can.count;
+  held_count = after.held_count;
+  own = after.own ∙ ap (λ p. cleared_as p.held.priority (settled_as again flags age)) (can.holds.parts pid)
+      ∙ sym (empties f.log (plain pid op reply) can.holds.legal can.right (calm pid op reply can.calm) pid (settled_as again flags age) can.alive can.phase (no_calls again flags age));
+  others = λ q differs. after.others q differs ∙ ap (λ v. record { slot = v; held = held_at f.held q }) (can.others q differs);
+})

@@ -43,7 +43,5 @@ pub use Rattle.shadow.specs.Committed.{Committed}
 pub use Rattle.shadow.specs.Effects.{CanBeCommitted, CanCommit, in_turn}
 pub use Rattle.shadow.specs.Looks.{NamesAreInUse}
 pub use Rattle.kernel.specs.Shown.{Kept, Shown, is_live, is_live_status, moment}
-pub use Rattle.kernel.specs.Standings.{Asks, CanSettle, Plans, Stands, calling, cleared, part_with, plain, settled_as, state_with}
-pub use Rattle.kernel.specs.States.{CanEnter, Does, Dooms, Fields, Holds, IsIn, IsSteady, Moves, Part, Unchanged, changes_of, doomed_by, fields, part_at}
-pub use Rattle.kernel.specs.States.{part_of, shown, shown_by, struck_part, with_entry}
+pub use Rattle.kernel.specs.States.{Asks, CanSettle, Plans, Stands, calling, cleared, part_with, plain, settled_as, state_with, CanEnter, Does, Dooms, Fields, Holds, IsIn, IsSteady, Moves, Part, Unchanged, changes_of, doomed_by, fields, part_at, part_of, shown, shown_by, struck_part, with_entry}
 pub use Rattle.kernel.specs.Steps.{Added, Steps, has_place, is_no_entry}

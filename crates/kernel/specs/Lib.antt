@@ -2,4 +2,3 @@ pub mod Operations
 pub mod Shown
 pub mod Steps
 pub mod States
-pub mod Standings

@@ -1,12 +1,12 @@
--- What the kernel has to keep of each process after a history, and how its fields change.
-use Rattle.std.specs.Prelude.{◌≡◌, ◌≢◌, ◌<◌, ◌≤◌, ℕ, false, None, List, ◌++◌, ◌∷◌, [], length, map, ◌==◌, if◌then◌else◌}
+-- What the kernel has to keep of each process after a history, what an operation builds on, and how the fields change.
+use Rattle.std.specs.Prelude.{◌≡◌, ◌≢◌, ◌<◌, ◌≤◌, ℕ, false, None, List, ◌++◌, ◌∷◌, [], length, map, ◌==◌, if◌then◌else◌, Bool, true, Option, Some}
 use Rattle.std.specs.List.{AllByRecursion}
 use Rattle.history.specs.Log.{Log}
 use Rattle.model.specs.State.{Kernel}
-use Rattle.model.specs.Entries.{Op, Reply, Entry}
-use Rattle.model.specs.Moments.{bound, dooming_touches, next, Status, gone, idle, live, doomed, Moment, status, calls_at}
+use Rattle.model.specs.Entries.{Op, Reply, Entry, BeginFlags, Cause, Executed, answer_in}
+use Rattle.model.specs.Moments.{bound, dooming_touches, next, Status, gone, idle, live, doomed, Moment, status, calls_at, is_alive, seen_by, counted_touches}
 use Rattle.model.specs.Legal.{Legal, Right}
-use Rattle.contention.specs.Holding.{Held, held_at, holding}
+use Rattle.contention.specs.Holding.{Held, held_at, holding, live_age}
 use Rattle.contention.specs.Verdicts.{IsDoomedBy}
 use Rattle.contention.specs.declared.Doomed.{Doomed}
 use Rattle.shadow.specs.Committed.{Committed}
@@ -15,9 +15,18 @@ use Rattle.history_laws.specs.Processes.{child_in, born, is_ended}
 use Rattle.commit.specs.Views.{View, view_at, absent, resting, open_view, struck}
 use Rattle.kernel.specs.declared.state.State.{State}
 use Rattle.kernel.specs.Shown.{Shown, moment}
-use Rattle.kernel.specs.Steps.{is_no_entry, IsStep}
-use Rattle.model.specs.Effects.{Effect, effects}
+use Rattle.kernel.specs.Steps.{is_no_entry, IsStep, has_place}
+use Rattle.model.specs.Effects.{Effect, effects, all_done}
 use Rattle.commit.specs.Strikes.{strike}
+use Rattle.commit.specs.declared.slot.Standing.{Standing}
+use Rattle.commit.specs.declared.slot.Standing.TheVariants.{Gone as Absent, Idle as Resting, Live as Within, Doomed as Struck}
+use Rattle.kernel.specs.Operations.{can_run}
+use Rattle.model.specs.Changes.{Edit, tidy}
+use Rattle.model.specs.Calls.{Call}
+use Rattle.model.specs.Steps.{Touch, edits}
+use Rattle.shadow.specs.Changes.{CanEdit}
+use Rattle.shadow.specs.Claims.{HaveParents}
+use Rattle.commit.specs.Edits.{with_change}
 
 abbrev pub shown_by : Status → List Effect → View
 shown_by gone changes = absent
@@ -122,3 +131,64 @@ pub record CanEnter (now : Fields) (e : Entry) : Type 0 where
   pub dooms : map (λ d. d.pid) ds ≡ e.doomed
   pub causes : AllByRecursion (IsDoomedBy (moment before.log) e.pid (dooming_touches (moment before.log) e.pid e.op)) ds
   pub moves : Moves before now e.pid (part_of (next (moment before.log) e) e.pid) (next (moment before.log) e).committed ds
+
+abbrev pub Stands : Standing → Status → Type 0
+Stands Absent s = s ≡ gone
+Stands Resting s = s ≡ idle
+Stands (Within flags age) s = (calls : List Executed) × (s ≡ live flags age calls)
+Stands (Struck flags age) s = (cause : Cause) × (s ≡ doomed cause flags age)
+
+-- The operation is there and finds its places, and its process stands so.
+pub record Asks (f : Fields) (pid : ℕ) (standing : Standing) (op : Op) : Type 0 where
+  pub holds : Holds f
+  pub stands : Stands standing (status (moment f.log) pid)
+  pub there : can_run op ≡ true
+  pub place : has_place f.log pid op ≡ true
+
+-- in no transaction, or in a live one
+abbrev pub calling : Option (BeginFlags × ℕ) → Standing
+calling None = Resting
+calling (Some within) = Within within.0 within.1
+
+-- live without calls, or idle
+abbrev pub settled_as : Bool → BeginFlags → ℕ → Status
+settled_as again flags age = if again then live flags age [] else idle
+
+-- the part of a process with this status and no changes
+abbrev pub cleared : Fields → ℕ → Status → Part
+cleared f pid s = record { slot = shown_by s []; held = record { priority = (held_at f.held pid).priority; age = live_age s; touches = [] } }
+
+-- an entry without new numbers that dooms nobody
+abbrev pub plain : ℕ → Op → Reply → Entry
+plain pid op reply = record { pid = pid; op = op; reply = reply; chosen = []; doomed = [] }
+
+-- Such an entry is right, and its process's transaction begins by it, or begins anew, or is gone. The process's slot may have been
+-- taken already, and its changes committed.
+pub record CanSettle (now : Fields) (pid : ℕ) (op : Op) (reply : Reply) (again : Bool) (flags : BeginFlags) (age : ℕ) : Type 0 where
+  pub slots : List View
+  pub stable : Committed
+  pub holds : Holds (record now { slots = slots; stable = stable })
+  pub count : length now.slots ≡ length slots
+  pub others : (q : ℕ) → q ≢ pid → view_at now.slots q ≡ view_at slots q
+  pub state : now.stable.state ≡ (next (moment now.log) (plain pid op reply)).committed
+  pub right : Right now.log.limit (moment now.log) (plain pid op reply)
+  pub answers : is_no_entry reply ≡ false
+  pub calm : answer_in reply ≡ None
+  pub alive : is_alive (moment now.log).committed pid ≡ true
+  pub phase : (next (moment now.log) (plain pid op reply)).phase pid ≡ settled_as again flags age
+
+-- what the call touches, as far as it counts, and edits, which can be done
+pub record Plans (f : Fields) (pid : ℕ) (call : Call) (ts : List Touch) (es : List Edit) : Type 0 where
+  pub touches : ts ≡ counted_touches (moment f.log) pid call
+  pub edits : es ≡ edits (seen_by (moment f.log) pid) pid call
+  pub kinds : CanEdit es
+  pub parents : HaveParents f.stable.reserves es
+
+-- A change of a process in no transaction is made at once in the committed state; another is kept, with what it touched.
+abbrev pub part_with : Option (BeginFlags × ℕ) → Effect → List Touch → Part → Part
+part_with None d ts p = p
+part_with (Some within) d ts p = record { slot = with_change d p.slot; held = record { priority = p.held.priority; age = p.held.age; touches = p.held.touches ++ ts } }
+
+abbrev pub state_with : Option (BeginFlags × ℕ) → Effect → Kernel → Kernel
+state_with None d k = tidy (all_done (d ∷ []) k)
+state_with (Some within) d k = k

@@ -8,9 +8,8 @@ ghost use Rattle.model.specs.Steps.{reply};
 ghost use Rattle.contention.specs.Verdicts.{IsVerdict};
 ghost use Rattle.shadow.specs.Changes.{effect};
 ghost use Rattle.commit.specs.Edits.{AreNew};
-ghost use Rattle.kernel.specs.Standings.{Plans, part_with, state_with, Asks, calling};
+ghost use Rattle.kernel.specs.States.{Plans, part_with, state_with, Asks, calling, Does, Dooms, IsIn, Moves, Unchanged, fields, part_at};
 ghost use Rattle.kernel.specs.Shown.{moment};
-ghost use Rattle.kernel.specs.States.{Does, Dooms, IsIn, Moves, Unchanged, fields, part_at};
 
 use crate::state::{State, enter, note, settle};
 use calls::{Plan, plan_of};

@@ -1,8 +1,7 @@
 // The fields of a kernel, and the entries that change them.
 ghost use Rattle.std.specs.Prelude.{◌≡◌, ◌<◌, [], length, Some, None, if◌then◌else◌};
 ghost use Rattle.contention.specs.Holding.{held_at, Becomes};
-ghost use Rattle.kernel.specs.Standings.{CanSettle, cleared, plain, settled_as};
-ghost use Rattle.kernel.specs.States.{CanEnter, Does, Fields, IsIn, Moves, fields};
+ghost use Rattle.kernel.specs.States.{CanSettle, cleared, plain, settled_as, CanEnter, Does, Fields, IsIn, Moves, fields};
 
 use commit::Transactions;
 use contention::Contenders;

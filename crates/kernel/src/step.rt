@@ -6,8 +6,7 @@ ghost use Rattle.model.specs.Moments.{Status, has_free, status};
 ghost use Rattle.model.specs.Replies.{needed};
 ghost use Rattle.kernel.specs.Operations.{can_run};
 ghost use Rattle.kernel.specs.Shown.{moment};
-ghost use Rattle.kernel.specs.Standings.{Asks, Stands, calling};
-ghost use Rattle.kernel.specs.States.{Does, Holds, fields};
+ghost use Rattle.kernel.specs.States.{Asks, Stands, calling, Does, Holds, fields};
 
 use crate::execute::{aborted, run};
 use crate::state::{State, note, settle};
