@@ -1,13 +1,13 @@
 -- What dooming comes to for each process; and an entry that can be added gives fields that hold, and is a step.
 use Rattle.kernel.proofs.Words.{◌≡◌, ◌≢◌, ℕ, suc, ◌+◌, ◌<◌, ◌≤◌, List, [], ◌∷◌, ◌++◌, length, refl, sym, ◌∙◌, ap, ap₂, subst, true, false, Bool, inl, inr}
 use Rattle.kernel.proofs.Words.{arith, eqb, le-leb, MatchBool, if◌then◌else◌, cases_Bool, eqb-true, eqb-false, false≢true, length-append, Entry, Reply}
-use Rattle.kernel.proofs.Words.{HistoryFull, NoMemory, Touch, Status, gone, doomed, Moment, is_alive, bound, reserved, holds_place}
-use Rattle.kernel.proofs.Words.{priority_of, calls_of, list_touches, doom_cause, dooming_touches, is_in, next, Legal, Right, Effect, effects, PhasesMove}
-use Rattle.kernel.proofs.Words.{most_processes, IsAsBefore, ProcessesMove, after_one_more, forks_and_exits_move, legal_push, legality_follows, lists_stay}
-use Rattle.kernel.proofs.Words.{phases_move, places_suffice, right_entries_have_places, status_alive, what_stands, Becomes, held_at, live_age, holding}
-use Rattle.kernel.proofs.Words.{SameViews, moment, is_no_entry, Added, has_place, Fields, Holds, Does, IsSteady, CanEnter, Unchanged, part_at, shown}
-use Rattle.kernel.proofs.Words.{with_entry, Part, part_of, shown_by, changes_of, doomed_by, ◌==◌, None, map, true≢false, AllByRecursion, BeginFlags, Cause}
-use Rattle.kernel.proofs.Words.{Held, IsDoomedBy, Doomed, open_view, struck, Dooms, IsIn}
+use Rattle.kernel.proofs.Words.{HistoryFull, NoMemory, Touch, Status, gone, doomed, Moment, is_alive, bound, reserved, holds_place, priority_of, calls_of}
+use Rattle.kernel.proofs.Words.{list_touches, doom_cause, dooming_touches, is_in, next, Legal, Right, Effect, effects, PhasesMove, most_processes, IsAsBefore}
+use Rattle.kernel.proofs.Words.{ProcessesMove, after_one_more, forks_and_exits_move, legal_push, legality_follows, lists_stay, phases_move, places_suffice}
+use Rattle.kernel.proofs.Words.{right_entries_have_places, status_alive, what_stands, Becomes, held_at, live_age, holding, SameViews, moment, is_no_entry}
+use Rattle.kernel.proofs.Words.{Added, has_place, Fields, Holds, Does, IsSteady, CanEnter, Unchanged, part_at, shown, with_entry, Part, part_of, shown_by}
+use Rattle.kernel.proofs.Words.{changes_of, doomed_by, ◌==◌, None, map, true≢false, AllByRecursion, BeginFlags, Cause, Held, IsDoomedBy, Doomed, open_view}
+use Rattle.kernel.proofs.Words.{struck, Dooms, IsIn}
 use Rattle.history.specs.Log.{Log}
 
 abbrev pub pids : List Doomed → List ℕ

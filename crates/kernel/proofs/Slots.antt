@@ -1,9 +1,9 @@
 -- What the slots show of the transactions, and the places that they hold.
-use Rattle.kernel.proofs.Words.{◌≡◌, ℕ, List, [], refl, sym, ◌∙◌, ap, true, false, Bool, if◌then◌else◌, Status, gone, idle, live, Moment, is_alive}
-use Rattle.kernel.proofs.Words.{calls_of, calls_at, seen_by, tidy, Effect, effects, all_done, view, what_stands, lists_are_their_effects, views_may_be_loose}
-use Rattle.kernel.proofs.Words.{view_at, changes_in, is_open, moment, is_live_status, is_live, Fields, Holds, shown_by, changes_of, zero, suc, ◌+◌, ◌≤◌, length}
-use Rattle.kernel.proofs.Words.{arith, inl, inr, cases_Bool, ap₂, subst₂, count_by, take, has_free, holds_place, bound, reserved, count_below, is_within, View}
-use Rattle.kernel.proofs.Words.{absent, add-one, nat_le, take-length}
+use Rattle.kernel.proofs.Words.{◌≡◌, ℕ, List, [], refl, sym, ◌∙◌, ap, true, false, Bool, if◌then◌else◌, Status, gone, idle, live, Moment, is_alive, calls_of}
+use Rattle.kernel.proofs.Words.{calls_at, seen_by, tidy, Effect, effects, all_done, view, what_stands, lists_are_their_effects, views_may_be_loose, view_at}
+use Rattle.kernel.proofs.Words.{changes_in, is_open, moment, is_live_status, is_live, Fields, Holds, shown_by, changes_of, zero, suc, ◌+◌, ◌≤◌, length, arith}
+use Rattle.kernel.proofs.Words.{inl, inr, cases_Bool, ap₂, subst₂, count_by, take, has_free, holds_place, bound, reserved, count_below, is_within, View, absent}
+use Rattle.kernel.proofs.Words.{add-one, nat_le, take-length}
 use Rattle.std.proofs.lemmas.List.Sums.{count_by_more_yes, count_by_more_no}
 use Rattle.kernel.proofs.Enters.{entries_count, places}
 

@@ -1,10 +1,10 @@
 -- Which entries are right by what a process is in.
-use Rattle.kernel.proofs.Words.{◌≡◌, ◌≢◌, ℕ, ◌+◌, List, [], Option, Some, None, length, refl, sym, ◌∙◌, ap, subst, true, false, Bool, arith, BeginFlags}
-use Rattle.kernel.proofs.Words.{Op, Do, Begin, End, Abort, Cause, Reply, Answers, Begun, GivenUp, InTransaction, NotInTransaction, NoProcess, Entry, Executed}
-use Rattle.kernel.proofs.Words.{answer_in, Status, gone, idle, live, doomed, Moment, status, is_alive, settled, own_next, run_by, after_list, has_free}
-use Rattle.kernel.proofs.Words.{next, Free, RightAt, Right, Alone, restarts, Effect, needed, calls_are_lawful_lem, held_at, live_age, right_by, free_from}
-use Rattle.kernel.proofs.Words.{phase_is, phases_move, alive_is, what_stands, Committed, View, view_at, moment, Asks, CanSettle, Stands, calling, cleared}
-use Rattle.kernel.proofs.Words.{plain, settled_as, Fields, Holds, IsSteady, CanEnter, IsIn, Moves, Part, shown_by, changes_of, is_no_entry, has_place, part_of}
+use Rattle.kernel.proofs.Words.{◌≡◌, ◌≢◌, ℕ, ◌+◌, List, [], Option, Some, None, length, refl, sym, ◌∙◌, ap, subst, true, false, Bool, BeginFlags, Op, Do, Begin}
+use Rattle.kernel.proofs.Words.{End, Abort, Cause, Reply, Answers, Begun, GivenUp, InTransaction, NotInTransaction, NoProcess, Entry, Executed, answer_in}
+use Rattle.kernel.proofs.Words.{Status, gone, idle, live, doomed, Moment, status, is_alive, settled, own_next, run_by, after_list, has_free, next, Free}
+use Rattle.kernel.proofs.Words.{RightAt, Right, Alone, restarts, Effect, needed, held_at, live_age, right_by, free_from, phase_is, phases_move, alive_is}
+use Rattle.kernel.proofs.Words.{Committed, View, view_at, moment, Asks, CanSettle, Stands, calling, cleared, plain, settled_as, Fields, Holds, IsSteady}
+use Rattle.kernel.proofs.Words.{CanEnter, Moves, Part, shown_by, changes_of, is_no_entry, has_place, part_of}
 use Rattle.commit.specs.Standings.{StandsSo}
 use Rattle.commit.specs.declared.slot.Standing.{Standing}
 use Rattle.commit.specs.declared.slot.Standing.TheVariants.{Gone, Idle, Live, Doomed}
@@ -20,12 +20,6 @@ stands_by standing s changes h = absurd cc
 -- what a process is by its slot
 pub stands : (f : Fields) → Holds f → (pid : ℕ) (standing : Standing) → StandsSo standing (view_at f.slots pid) → Stands standing (status (moment f.log) pid)
 stands f holds pid standing h = stands_by standing _ (changes_of (moment f.log) pid) (subst (StandsSo standing) (ap (λ p. p.slot) (holds.parts pid)) h)
-
--- a living one has a slot, and holds something
-pub is_in_them : (f : Fields) → Holds f → (pid : ℕ) → is_alive (moment f.log).committed pid ≡ true → IsIn f pid
-is_in_them f holds pid alive =
-    let low = calls_are_lawful_lem.alive_counted (moment f.log).committed (what_stands 0 f.log.priorities f.log.limit f.log.entries holds.legal).committed.well pid alive in
-    record { slot = omega (arith, holds.slot_count); held = omega (arith, holds.held_count) }
 
 -- a process that calls lives
 pub caller_lives : (m : Moment) (pid : ℕ) (within : Option (BeginFlags × ℕ)) → Stands (calling within) (status m pid) → is_alive m.committed pid ≡ true

@@ -1,14 +1,14 @@
 -- Calls that take effect, and ends: their entries can be added.
 use Rattle.kernel.proofs.Words.{◌≡◌, ℕ, ◌+◌, List, [], ◌∷◌, ◌++◌, Option, Some, None, Result, Ok, Err, refl, sym, ◌∙◌, ap, ap₂, subst, true, false, Bool, inl}
 use Rattle.kernel.proofs.Words.{inr, length, arith, eq-eqb, ◌||◌, ◌==◌, if◌then◌else◌, is_some, AllByRecursion, cases_Bool, false≢true, Kernel, Errno, tidy}
-use Rattle.kernel.proofs.Words.{all_applied, Call, Answer, reply, edits, IsNowhere, BeginFlags, Do, Entry, Executed, is_inside, is_unsupported, Moment}
-use Rattle.kernel.proofs.Words.{idle, live, is_alive, own_next, after_one, numbers, calls_at, seen_by, counted_touches, clashes_with, losing_cause, all_below}
-use Rattle.kernel.proofs.Words.{bound, is_in, next, status, held_by, after_list, calls_of, priority_of, holds_place, IsApart, Inside, Outcome, Taken, Right}
-use Rattle.kernel.proofs.Words.{answered, Effect, effects, fits, WellFormed, CallGoesIn, is_ended, calls_go_in, executed_again}
-use Rattle.kernel.proofs.Words.{nowhere_seen, childless, phase_is, plain_calls_run, right_by, views_may_be_loose, what_stands, live_age, IsDoomedBy, Doomed}
-use Rattle.kernel.proofs.Words.{effect, made_by, CanCommit, AreNew, with_change, view_at, changes_in, can_call, part_with, state_with, Asks, Stands, calling}
-use Rattle.kernel.proofs.Words.{moment, Fields, Dooms, IsSteady, CanEnter, IsIn, Moves, part_at, part_of, shown_by, changes_of, doomed_by, is_no_entry}
-use Rattle.kernel.proofs.Words.{Aborted, Busy, Cause, Clash, CanSettle, plain}
+use Rattle.kernel.proofs.Words.{all_applied, Call, Answer, reply, edits, IsNowhere, BeginFlags, Do, Entry, Executed, is_inside, is_unsupported, Moment, idle}
+use Rattle.kernel.proofs.Words.{live, is_alive, own_next, after_one, numbers, calls_at, seen_by, counted_touches, clashes_with, losing_cause, all_below, bound}
+use Rattle.kernel.proofs.Words.{is_in, next, status, held_by, after_list, calls_of, priority_of, holds_place, IsApart, Inside, Outcome, Taken, Right, answered}
+use Rattle.kernel.proofs.Words.{Effect, effects, fits, WellFormed, CallGoesIn, is_ended, calls_go_in, executed_again, nowhere_seen, childless, phase_is}
+use Rattle.kernel.proofs.Words.{plain_calls_run, right_by, views_may_be_loose, what_stands, live_age, IsDoomedBy, Doomed, effect, made_by, CanCommit, AreNew}
+use Rattle.kernel.proofs.Words.{with_change, view_at, changes_in, can_call, part_with, state_with, Asks, Stands, calling, moment, Fields, Dooms, IsSteady}
+use Rattle.kernel.proofs.Words.{CanEnter, IsIn, Moves, part_at, part_of, shown_by, changes_of, doomed_by, is_no_entry, Aborted, Busy, Cause, Clash, CanSettle}
+use Rattle.kernel.proofs.Words.{plain}
 use Rattle.ids.specs.Flags.{is_restarting}
 use Rattle.commit.specs.declared.slot.Standing.TheVariants.{Idle, Live}
 use Rattle.kernel.proofs.Enters.{pids, not_doomed, comes_to, moves, stays}

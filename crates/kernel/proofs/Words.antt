@@ -15,14 +15,14 @@ pub use Rattle.model.specs.Entries.{Abort, Aborted, Answers, Begin, BeginFlags, 
 pub use Rattle.model.specs.Entries.{InTransaction, NoMemory, NoProcess, NotInTransaction, Op, Reply, answer_in, is_inside, is_unsupported}
 pub use Rattle.model.specs.FiniteMap.{get}
 pub use Rattle.model.specs.Legal.{Alone, Free, Inside, IsApart, Legal, Outcome, Right, RightAt, Taken, restarts}
-pub use Rattle.model.specs.Moments.{Moment, Status, after, after_list, after_one, all_below, at_start, bound, calls_at, calls_of, clashes_with, count_below}
-pub use Rattle.model.specs.Moments.{counted, counted_touches, doom_cause, doomed, dooming_touches, gone, has_free, held_by, holds_place, idle, is_alive, is_in}
+pub use Rattle.model.specs.Moments.{Moment, Status, after_list, after_one, all_below, at_start, bound, calls_at, calls_of, clashes_with, count_below, counted}
+pub use Rattle.model.specs.Moments.{counted_touches, doom_cause, doomed, dooming_touches, gone, has_free, held_by, holds_place, idle, is_alive, is_in}
 pub use Rattle.model.specs.Moments.{list_touches, live, losing_cause, next, numbers, own_next, priority_of, reserved, run_by, seen_by, settled, start, status}
 pub use Rattle.model.specs.Plan.{EBUSY, EEXIST, ENOENT, ENOTDIR, ENOTEMPTY, Errno, List_names, Plan, answer, given, or_refuse, refuse_if, ◌>>=◌, ◌>>◌}
 pub use Rattle.model.specs.Replies.{answered, needed}
 pub use Rattle.model.specs.State.{A_directory, A_file, A_pipe, Kernel, Name, Process, names_of}
 pub use Rattle.model.specs.Steps.{IsNowhere, Touch, edits, edits_of, reply, touches}
-pub use Rattle.call_laws.proofs.Laws.{calls_are_lawful_lem, fits}
+pub use Rattle.call_laws.proofs.Laws.{fits}
 pub use Rattle.call_laws.specs.WellFormed.{IsRooted, Leads, WellFormed}
 pub use Rattle.history_laws.proofs.Laws.{after_one_more, alive_is, calls_go_in, childless, commits_run_the_list, executed_again, forks_and_exits_move}
 pub use Rattle.history_laws.proofs.Laws.{free_from, legal_push, legal_start, legality_follows, limits_are_kept, lists_are_their_effects, lists_stay}
@@ -43,5 +43,7 @@ pub use Rattle.shadow.specs.Committed.{Committed}
 pub use Rattle.shadow.specs.Effects.{CanBeCommitted, CanCommit, in_turn}
 pub use Rattle.shadow.specs.Looks.{NamesAreInUse}
 pub use Rattle.kernel.specs.Shown.{Kept, Shown, is_live, is_live_status, moment}
-pub use Rattle.kernel.specs.States.{Asks, CanSettle, Plans, Stands, calling, cleared, part_with, plain, settled_as, state_with, CanEnter, Does, Dooms, Fields, Holds, IsIn, IsSteady, Moves, Part, Unchanged, changes_of, doomed_by, fields, part_at, part_of, shown, shown_by, struck_part, with_entry}
+pub use Rattle.kernel.specs.States.{Asks, CanEnter, CanSettle, Does, Dooms, Fields, Holds, IsIn, IsSteady, Moves, Part, Plans, Stands, Unchanged, calling}
+pub use Rattle.kernel.specs.States.{changes_of, cleared, doomed_by, fields, part_at, part_of, part_with, plain, settled_as, shown, shown_by, state_with}
+pub use Rattle.kernel.specs.States.{with_entry}
 pub use Rattle.kernel.specs.Steps.{Added, Steps, has_place, is_no_entry}

@@ -80,6 +80,7 @@ pub record Holds (f : Fields) : Type 0 where
   pub parts : (q : ℕ) → part_at f q ≡ part_of (moment f.log) q
   pub few : length f.log.priorities ≤ most_processes
 
+-- such a process has a slot, and its part of the touches
 pub record IsIn (f : Fields) (pid : ℕ) : Type 0 where
   pub slot : pid < length f.slots
   pub held : pid < length f.held
