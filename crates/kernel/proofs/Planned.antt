@@ -4,11 +4,10 @@ use Rattle.kernel.proofs.Words.{if◌then◌else◌, is_some, false≢true, get,
 use Rattle.kernel.proofs.Words.{◌>>◌, ENOENT, ENOTDIR, ENOTEMPTY, EEXIST, EBUSY, List_names, refuse_if, or_refuse, Edit, Make_directory, Unname_directory, Call}
 use Rattle.kernel.proofs.Words.{Stat, Mkdir, Rmdir, List_directory, own, Touch, reply, touches, edits, edits_of, BeginFlags, Do, idle, live, Moment, is_alive}
 use Rattle.kernel.proofs.Words.{seen_by, counted, counted_touches, all_done, IsRooted, Leads, WellFormed, fits, phase_is, views_may_be_loose, what_stands}
-use Rattle.kernel.proofs.Words.{CanEdit, Committed, NamesAreInUse, can_call, IsPlan, view_at, changes_in, Plans, Asks, Stands, calling, moment, Fields}
+use Rattle.kernel.proofs.Words.{CanEdit, Committed, NamesAreInUse, can_call, IsPlan, view_at, changes_in, Plans, Asks, Stands, calling, moment, Fields, FitsAll}
 use Rattle.model.specs.Paths.{is_empty}
 use Rattle.model.specs.Walks.{Place, parsed, walk, last_of, is_directory}
 use Rattle.model.specs.Plans.{Change, plan, status, absent}
-use Rattle.call_laws.specs.Fits.{FitsAll}
 use Rattle.call_laws.proofs.Numbers.{can_be_made}
 use Rattle.call_laws.proofs.Rules.{after_bind, whatever}
 use Rattle.shadow.specs.Claims.{IsInUse, HaveParents}

@@ -1,14 +1,13 @@
 -- Calls that take effect, and ends: their entries can be added.
 use Rattle.kernel.proofs.Words.{◌≡◌, ℕ, ◌+◌, List, [], ◌∷◌, ◌++◌, Option, Some, None, Result, Ok, Err, refl, sym, ◌∙◌, ap, ap₂, subst, true, false, Bool, inl}
-use Rattle.kernel.proofs.Words.{inr, length, arith, eq-eqb, ◌||◌, ◌==◌, if◌then◌else◌, is_some, AllByRecursion, cases_Bool, false≢true, Kernel, Errno, tidy}
-use Rattle.kernel.proofs.Words.{all_applied, Call, Answer, reply, edits, IsNowhere, BeginFlags, Do, Entry, Executed, is_inside, is_unsupported, Moment, idle}
-use Rattle.kernel.proofs.Words.{live, is_alive, own_next, after_one, numbers, calls_at, seen_by, counted_touches, clashes_with, losing_cause, all_below, bound}
-use Rattle.kernel.proofs.Words.{is_in, next, status, held_by, after_list, calls_of, priority_of, holds_place, IsApart, Inside, Outcome, Taken, Right, answered}
-use Rattle.kernel.proofs.Words.{Effect, effects, fits, WellFormed, CallGoesIn, is_ended, calls_go_in, executed_again, nowhere_seen, childless, phase_is}
-use Rattle.kernel.proofs.Words.{plain_calls_run, right_by, views_may_be_loose, what_stands, live_age, IsDoomedBy, Doomed, effect, made_by, CanCommit, AreNew}
-use Rattle.kernel.proofs.Words.{with_change, view_at, changes_in, can_call, part_with, state_with, Asks, Stands, calling, moment, Fields, Dooms, IsSteady}
-use Rattle.kernel.proofs.Words.{CanEnter, IsIn, Moves, part_at, part_of, shown_by, changes_of, doomed_by, is_no_entry, Aborted, Busy, Cause, Clash, CanSettle}
-use Rattle.kernel.proofs.Words.{plain}
+use Rattle.kernel.proofs.Words.{inr, length, arith, eq-eqb, ◌||◌, ◌==◌, if◌then◌else◌, AllByRecursion, cases_Bool, false≢true, Kernel, Errno, tidy, all_applied}
+use Rattle.kernel.proofs.Words.{Call, Answer, reply, edits, IsNowhere, BeginFlags, Do, Entry, Executed, is_inside, is_unsupported, Moment, idle, live, own_next}
+use Rattle.kernel.proofs.Words.{after_one, numbers, calls_at, seen_by, counted_touches, clashes_with, losing_cause, all_below, bound, is_in, next, status}
+use Rattle.kernel.proofs.Words.{held_by, after_list, calls_of, priority_of, holds_place, IsApart, Inside, Outcome, Taken, Right, answered, Effect, effects}
+use Rattle.kernel.proofs.Words.{CallGoesIn, is_ended, calls_go_in, executed_again, nowhere_seen, childless, phase_is, plain_calls_run, right_by}
+use Rattle.kernel.proofs.Words.{views_may_be_loose, what_stands, live_age, IsDoomedBy, Doomed, effect, made_by, AreNew, with_change, view_at, changes_in}
+use Rattle.kernel.proofs.Words.{can_call, part_with, state_with, Asks, Stands, calling, moment, Fields, Dooms, IsSteady, CanEnter, IsIn, Moves, part_at}
+use Rattle.kernel.proofs.Words.{part_of, shown_by, changes_of, doomed_by, is_no_entry, Aborted, Busy, Cause, Clash, CanSettle, plain}
 use Rattle.ids.specs.Flags.{is_restarting}
 use Rattle.commit.specs.declared.slot.Standing.TheVariants.{Idle, Live}
 use Rattle.kernel.proofs.Enters.{pids, not_doomed, comes_to, moves, stays}
@@ -83,23 +82,8 @@ abbrev pub AreItsNew : Fields → ℕ → Call → List ℕ → Type 0
 AreItsNew f pid call chosen = AreNew (record { slots = f.slots; stable = f.stable }) (edits (seen_by (moment f.log) pid) pid call) chosen
 
 -- a process in no transaction sees what is committed
-seen_idle : (m : Moment) (pid : ℕ) → status m pid ≡ idle → seen_by m pid ≡ m.committed
+pub seen_idle : (m : Moment) (pid : ℕ) → status m pid ≡ idle → seen_by m pid ≡ m.committed
 seen_idle m pid is = ap (λ s. after_list pid (calls_of s) m.committed) (phase_is m pid idle is (λ h. absurd cc))
-
--- a plain call's change can be committed
-pub plain_commits : (f : Fields) (pid : ℕ) (within : Option (BeginFlags × ℕ)) (call : Call) → Asks f pid (calling within) (Do call) → is_some within ≡ false → (chosen : List ℕ) → AreItsNew f pid call chosen → CanCommit f.stable.state (effect chosen (edits (seen_by (moment f.log) pid) pid call) ∷ [])
-plain_commits f pid (Some within) call asks none chosen new = absurd (false≢true (sym none))
-plain_commits f pid None call asks none chosen new =
-    let m = moment f.log in
-    let seen : seen_by m pid ≡ f.stable.state = seen_idle m pid asks.stands ∙ sym asks.holds.state in
-    let unused = rw seen at new in (
-      rw seen (fits f.stable.state pid call chosen (record {
-        well = subst WellFormed (sym asks.holds.state) (what_stands 0 f.log.priorities f.log.limit f.log.entries asks.holds.legal).committed.well;
-        alive = subst (λ k. is_alive k pid ≡ true) (sym asks.holds.state) (caller_lives m pid None asks.stands);
-        numbers = record { count = unused.count; unused = unused.nowhere; different = unused.different };
-      })),
-      tt,
-    )
 
 module _ (f : Fields) (pid : ℕ) (within : Option (BeginFlags × ℕ)) (call : Call) (chosen : List ℕ) (ds : List Doomed)
     (asks : Asks f pid (calling within) (Do call)) (wins : Wins (moment f.log) pid call ds) (new : AreItsNew f pid call chosen) where

@@ -1,13 +1,10 @@
-use Rattle.kernel.proofs.Words.{[], ◌∷◌, ◌++◌, not, refl, sym, ap, subst, take, ◌∙◌, effect, CanCommit, AreNew, held_at, fields, take-append_seam}
+use Rattle.kernel.proofs.Words.{◌++◌, not, refl, ap, take, ◌∙◌, held_at, fields, take-append_seam}
 use Rattle.kernel.proofs.Enters.{unchanged}
-use Rattle.kernel.proofs.Taken.{plain_commits}
+use Rattle.kernel.proofs.Commits.{plain_commits}
 use Rattle.kernel.proofs.execute.change.Goals as goal
 
 pub apply-requires-clause-can : goal.apply-requires-clause-can
-apply-requires-clause-can c chosen new =
-    subst (λ es. CanCommit c.args.s.now.transactions.stable.state (effect chosen es ∷ [])) (sym c.requires.plans.edits)
-    (plain_commits (fields c.args.s.now) c.args.pid c.args.within.now c.args.call.now c.requires.asks (c.is_none.ensures ∙ ap not c.if-is_none.true) chosen
-    (subst (λ es. AreNew c.args.s.now.transactions es chosen) c.requires.plans.edits new))
+apply-requires-clause-can c = plain_commits (fields c.args.s.now) c.args.pid c.args.within.now c.args.call.now c.requires.asks (c.is_none.ensures ∙ ap not c.if-is_none.true) _ c.requires.plans.edits
 
 pub returns-in-Err-clause-err : goal.returns-in-Err-clause-err
 returns-in-Err-clause-err c =
