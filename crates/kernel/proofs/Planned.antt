@@ -1,40 +1,19 @@
 -- What the calls that are there edit, and that the parents of their new names are there.
-use Rattle.std.proofs.Common.{◌≡◌, ℕ, List, [], ◌∷◌, Bool, true, false, not, Some, None, Result, Ok, Err, IfOk, refl, sym, ap, subst, ◌∙◌}
-use Rattle.std.proofs.lemmas.Bool.{false≢true}
-use Rattle.model.specs.FiniteMap.{get}
-use Rattle.model.specs.State.{Name, A_file, A_directory, A_pipe, Kernel, names_of}
-use Rattle.model.specs.Plan.{Errno, Plan, answer, given, ◌>>=◌, ◌>>◌, ENOENT, ENOTDIR, ENOTEMPTY, EEXIST, EBUSY, List_names, ask, refuse_if, or_refuse}
+use Rattle.kernel.proofs.Words.{◌≡◌, ℕ, List, [], ◌∷◌, Bool, true, false, not, Option, Some, None, Result, Ok, Err, IfOk, refl, sym, ap, subst, ◌∙◌, filter}
+use Rattle.kernel.proofs.Words.{if◌then◌else◌, is_some, false≢true, get, Name, A_file, A_directory, A_pipe, Kernel, names_of, Errno, Plan, answer, given, ◌>>=◌}
+use Rattle.kernel.proofs.Words.{◌>>◌, ENOENT, ENOTDIR, ENOTEMPTY, EEXIST, EBUSY, List_names, refuse_if, or_refuse, Edit, Make_directory, Unname_directory, Call}
+use Rattle.kernel.proofs.Words.{Stat, Mkdir, Rmdir, List_directory, own, Touch, reply, touches, edits, edits_of, BeginFlags, Do, idle, live, Moment, is_alive}
+use Rattle.kernel.proofs.Words.{seen_by, counted, counted_touches, all_done, IsRooted, Leads, WellFormed, fits, phase_is, views_may_be_loose, what_stands}
+use Rattle.kernel.proofs.Words.{CanEdit, Committed, NamesAreInUse, can_call, IsPlan, view_at, changes_in, Plans, Asks, Stands, calling, moment, Fields, FitsAll}
 use Rattle.model.specs.Paths.{is_empty}
 use Rattle.model.specs.Walks.{Place, parsed, walk, last_of, is_directory}
-use Rattle.model.specs.Changes.{Edit, Make_directory, Unname_directory}
-use Rattle.model.specs.Calls.{Call, Stat, Mkdir, Rmdir, List_directory, own, Done, Listing}
-use Rattle.model.specs.Plans.{Change, changed, unchanged, plan, status, absent}
-use Rattle.model.specs.Steps.{edits, edits_of}
-use Rattle.model.specs.Entries.{BeginFlags}
-use Rattle.model.specs.Moments.{idle, live, is_alive, calls_at}
-use Rattle.model.specs.Effects.{all_done}
-use Rattle.call_laws.specs.WellFormed.{IsRooted, Leads, WellFormed}
-use Rattle.call_laws.specs.Fits.{FitsAll}
-use Rattle.call_laws.proofs.Laws.{fits}
+use Rattle.model.specs.Plans.{Change, plan, status, absent}
 use Rattle.call_laws.proofs.Numbers.{can_be_made}
 use Rattle.call_laws.proofs.Rules.{after_bind, whatever}
-use Rattle.history_laws.proofs.Laws.{alive_is, lists_are_their_effects, what_stands}
-use Rattle.shadow.specs.Changes.{CanEdit}
 use Rattle.shadow.specs.Claims.{IsInUse, HaveParents}
-use Rattle.shadow.specs.Committed.{Committed}
-use Rattle.shadow.specs.Looks.{NamesAreInUse}
-use Rattle.calls.specs.Operations.{can_call}
-use Rattle.kernel.specs.Shown.{moment}
-use Rattle.commit.specs.Standings.{IsOpen}
-use Rattle.kernel.specs.States.{Fields, Holds}
-use Rattle.commit.specs.Views.{resting, view_at, changes_in}
-use Rattle.kernel.specs.Views.{view_of, changes_of}
-use Rattle.kernel.proofs.Rows.{is_idle, is_live}
-use Rattle.kernel.proofs.Slots.{slot_changes}
-
-pub if_ok : {A E : Type 0} {P Q : A → Type 0} (r : Result A E) → IfOk r P → ((x : A) → P x → Q x) → IfOk r Q
-if_ok (Ok x) h f = f x h
-if_ok (Err e) h f = tt
+use Rattle.calls.specs.declared.plan.Plan.{Plan as Planned}
+use Rattle.kernel.proofs.Slots.{slot_views}
+use Rattle.kernel.proofs.Standings.{caller_lives}
 
 -- the edits of what a plan gives are those that are there
 abbrev Edits : Change → Type 0
@@ -50,25 +29,16 @@ tells k (n, Some A_directory) = tt
 tells k (n, Some A_pipe) = tt
 tells k (n, None) = tt
 
-unnames : (k : Kernel) (d : ℕ) (x : Name) (refused : Bool) → IfOk (given k (refuse_if refused ENOTEMPTY >> changed Done (Unname_directory d x ∷ []))) Edits
-unnames k d x true = tt
-unnames k d x false = tt
-
-removes : (k : Kernel) (n d : ℕ) (x : Name) (refused : Bool)
-    → IfOk (given k (refuse_if refused ENOTDIR >> (ask (List_names n) >>= (λ entries. refuse_if (not (is_empty entries)) ENOTEMPTY >> changed Done (Unname_directory d x ∷ []))))) Edits
-removes k n d x true = tt
-removes k n d x false = unnames k d x (not (is_empty (answer k (List_names n))))
-
-lists : (k : Kernel) (n : ℕ) (refused : Bool) → IfOk (given k (refuse_if refused ENOTDIR >> (ask (List_names n) >>= (λ entries. unchanged (Listing entries))))) Edits
-lists k n true = tt
-lists k n false = tt
+unless : (k : Kernel) (refused : Bool) (e : Errno) (m : Plan Change) → IfOk (given k m) Edits → IfOk (given k (refuse_if refused e >> m)) Edits
+unless k true e m h = tt
+unless k false e m h = h
 
 planned : (k : Kernel) (pid : ℕ) (call : Call) → can_call call ≡ true → IfOk (given k (plan (own k pid call) call)) Edits
 planned k pid (Stat path) h = after k (parsed path) _ (λ names. after k (walk (k.root, Some A_directory) names) _ (tells k))
 planned k pid (Mkdir path) h = after k (parsed path) _ (λ names. after k (last_of k.root EEXIST names) _ (λ at. after k (absent at.found) _ (λ _. refl)))
 planned k pid (Rmdir path) h =
-    after k (parsed path) _ (λ names. after k (last_of k.root EBUSY names) _ (λ at. after k (or_refuse ENOENT at.found) _ (λ what. removes k what.0 at.parent at.name (not (is_directory what)))))
-planned k pid (List_directory path) h = after k (parsed path) _ (λ names. after k (walk (k.root, Some A_directory) names) _ (λ place. lists k place.0 (not (is_directory place))))
+    after k (parsed path) _ (λ names. after k (last_of k.root EBUSY names) _ (λ at. after k (or_refuse ENOENT at.found) _ (λ what. unless k (not (is_directory what)) ENOTDIR _ (unless k (not (is_empty (answer k (List_names what.0)))) ENOTEMPTY _ tt))))
+planned k pid (List_directory path) h = after k (parsed path) _ (λ names. after k (walk (k.root, Some A_directory) names) _ (λ place. unless k (not (is_directory place)) ENOTDIR _ tt))
 planned k pid call h = absurd (false≢true h)
 
 pub calls_edit : (k : Kernel) (pid : ℕ) (call : Call) → can_call call ≡ true → CanEdit (edits k pid call)
@@ -81,6 +51,14 @@ calls_edit k pid call h = by (given k (plan (own k pid call) call)) (planned k p
 led : (P : ℕ → Type 0) (k : Kernel) → ((d : ℕ) (x : Name) (n : ℕ) → get (names_of k d) x ≡ Some n → P n) → (path : List Name) (a b : ℕ) → P a → Leads k a path b → P b
 led P k names [] a b here leads = subst P leads here
 led P k names (x ∷ xs) a b here leads = led P k names xs leads.0 b (names a x leads.0 leads.1) leads.2
+
+-- the touches that count
+abbrev pub counted_by : Option (BeginFlags × ℕ) → List Touch → List Touch
+counted_by within ts = if is_some within then ts else filter (λ t. t.write) ts
+
+pub counts : (m : Moment) (pid : ℕ) (call : Call) (within : Option (BeginFlags × ℕ)) → Stands (calling within) (Rattle.model.specs.Moments.status m pid) → counted_by within (touches (seen_by m pid) pid call) ≡ counted_touches m pid call
+counts m pid call None is = ap (λ s. counted s (touches (seen_by m pid) pid call)) (sym (phase_is m pid idle is (λ h. absurd cc)))
+counts m pid call (Some within) is = ap (λ s. counted s (touches (seen_by m pid) pid call)) (sym (phase_is m pid (live within.0 within.1 is.0) is.1 (λ h. absurd cc)))
 
 -- a call's new name stands in a directory that a path leads to
 pub have_parents : (v : Committed) (pid : ℕ) (call : Call) → WellFormed v.state → is_alive v.state pid ≡ true → NamesAreInUse v → can_call call ≡ true → HaveParents v.reserves (edits v.state pid call)
@@ -98,22 +76,32 @@ have_parents v pid call well alive used there =
     by chosen (e ∷ []) can fit = absurd can
     by chosen (e ∷ f ∷ es) can fit = absurd can
 
--- what a process sees is well formed, and a living process lives in it
-pub record IsSeen (f : Fields) (q : ℕ) : Type 0 where
-  pub well : WellFormed (all_done (changes_in (view_at f.slots q)) f.stable.state)
-  pub alive : is_alive (moment f.log).committed q ≡ true → is_alive (all_done (changes_in (view_at f.slots q)) f.stable.state) q ≡ true
+-- what a plan over the slots gives is what the history says
+module _ (f : Fields) (pid : ℕ) (within : Option (BeginFlags × ℕ)) (call : Call) (asks : Asks f pid (calling within) (Do call)) where
+  abbrev m : Moment
+  m = moment f.log
 
-pub is_seen : (f : Fields) → Holds f → (q : ℕ) → IsSeen f q
-is_seen f holds q =
-    let m = moment f.log in
-    let list = (what_stands 0 f.log.priorities f.log.limit f.log.entries holds.legal).lists q in
-    let same = lists_are_their_effects q (calls_at m q) m.committed ∙ ap (all_done (changes_of m q)) (sym holds.state) ∙ ap (λ ds. all_done ds f.stable.state) (sym (slot_changes f holds q)) in
-    record { well = subst WellFormed same list.well; alive = λ lives. subst (λ k. is_alive k q ≡ true) same (list.alive lives) }
+  abbrev pub sees : Committed
+  sees = record (f.stable) { state = all_done (changes_in (view_at f.slots pid)) f.stable.state }
 
-pub resting_lives : (f : Fields) (q : ℕ) → view_of (moment f.log) q ≡ resting → is_alive (moment f.log).committed q ≡ true
-resting_lives f q rests = alive_is (moment f.log) q idle (is_idle (moment f.log) q rests) (λ h. absurd cc)
+  pub plan_seen : (p : Planned) → IsPlan sees.state pid call p → IsPlan (seen_by m pid) pid call p
+  plan_seen p is =
+      let same = slot_views f asks.holds pid in
+      let goes = (views_may_be_loose 0 f.log.priorities f.log.limit f.log.entries asks.holds.legal pid).goes_on call in
+      record {
+        answer = is.answer ∙ ap (λ k. reply k pid call) same ∙ sym goes.reply;
+        touches = is.touches ∙ ap (λ k. touches k pid call) same ∙ sym goes.touches;
+        edits = is.edits ∙ ap (λ k. edits k pid call) same ∙ sym goes.edits;
+      }
 
-pub open_lives : (f : Fields) (q : ℕ) (flags : BeginFlags) (age : ℕ) → IsOpen (view_of (moment f.log) q) flags age → is_alive (moment f.log).committed q ≡ true
-open_lives f q flags age opening =
-    let l = is_live (moment f.log) q flags age opening.changes opening.is in
-    alive_is (moment f.log) q (live flags age l.calls) l.is (λ h. absurd cc)
+  pub plans : (p : Planned) (ts : List Touch) → IsPlan sees.state pid call p → NamesAreInUse sees → ts ≡ counted_by within p.touches.items → Plans f pid call ts p.edits.items
+  plans p ts is used counted =
+      let list = (what_stands 0 f.log.priorities f.log.limit f.log.entries asks.holds.legal).lists pid in
+      let well = subst WellFormed (sym (slot_views f asks.holds pid)) list.well in
+      let alive = subst (λ k. is_alive k pid ≡ true) (sym (slot_views f asks.holds pid)) (list.alive (caller_lives m pid within asks.stands)) in
+      record {
+        touches = counted ∙ ap (counted_by within) (plan_seen p is).touches ∙ counts m pid call within asks.stands;
+        edits = (plan_seen p is).edits;
+        kinds = subst CanEdit (sym is.edits) (calls_edit sees.state pid call asks.there);
+        parents = subst (HaveParents f.stable.reserves) (sym is.edits) (have_parents sees pid call well alive used asks.there);
+      }

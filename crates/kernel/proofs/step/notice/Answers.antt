@@ -1,0 +1,34 @@
+use Rattle.kernel.proofs.Words.{◌≡◌, Some, refl, sym, ap, subst, ◌∙◌, Aborted, Cause, Clash, RightAt, doomed, Committed, causes_of, changes_in, struck, view_at}
+use Rattle.kernel.proofs.Words.{moment, CanSettle, plain, fields, shown_by, changes_of}
+use Rattle.kernel.proofs.Standings.{closes, commits_nothing, none_else, settled_doomed}
+use Rattle.kernel.proofs.step.notice.Goals as goal
+use Rattle.kernel.proofs.step.notice.Goals.{After-is_restarted-restarted}
+
+same_pair : (p q : Cause × Cause) → Some p ≡ Some q → p ≡ q
+same_pair p q h = cc
+
+-- its slot has its cause twice
+view : (c : After-is_restarted-restarted) → view_at c.args.s.now.transactions.slots c.args.pid ≡ struck c.requires.stands.0 c.requires.stands.0 c.args.flags c.args.age
+view c = ap (λ p. p.slot) (c.requires.holds.parts c.args.pid) ∙ ap (λ s. shown_by s (changes_of (moment c.args.s.now.history) c.args.pid)) c.requires.stands.1
+
+pub take_causes-requires-clause-unchanged : goal.take_causes-requires-clause-unchanged
+take_causes-requires-clause-unchanged c = ap changes_in (view (goal.at.take_causes-requires-clause-unchanged c).After-is_restarted-restarted)
+
+pub settle-requires-clause-can : goal.settle-requires-clause-can
+settle-requires-clause-can c =
+    let f = fields c.args.s.now in
+    let cause = c.requires.stands.0 in
+    let again = c.is_restarted-restarted.result in
+    let taken = c.take_causes.new.self in
+    let s = doomed cause c.args.flags c.args.age in
+    let reply = Aborted (Clash cause) again in
+    let both : Some (cause, cause) ≡ Some (c.in-Some.entry, c.in-Some.reply) = sym (c.take_causes.ensures.causes ∙ ap causes_of (view (goal.at.settle-requires-clause-can c).After-is_restarted-restarted)) ∙ c.in-Some.is in
+    let first : c.in-Some.entry ≡ cause = ap (λ (p : Cause × Cause). p.0) (sym (same_pair _ _ both)) in
+    let right : RightAt f.log.limit (moment f.log) (plain c.args.pid c.args.op reply) s c.args.op = (ap (Aborted (Clash cause)) c.is_restarted-restarted.ensures, none_else c.args.pid c.args.op reply) in
+    subst (λ r. CanSettle (record f { slots = taken.slots; stable = taken.stable }) c.args.pid c.args.op r again c.args.flags c.args.age) (sym (c.aborted.ensures ∙ ap (λ x. Aborted (Clash x) again) first))
+    (closes f c.requires.holds c.args.pid c.args.op reply s c.requires.stands.1 right refl refl
+    taken.slots taken.stable again c.args.flags c.args.age (λ h. absurd cc) (settled_doomed cause c.args.flags c.args.age again) c.take_causes.ensures.slots.count c.take_causes.ensures.slots.others
+    (ap (λ (x : Committed). x.state) c.take_causes.ensures.stable ∙ commits_nothing f c.requires.holds c.args.pid c.args.op reply s c.requires.stands.1 right refl refl refl))
+
+pub returns : goal.returns
+returns c = c.settle.ensures.since (fields c.args.s.now) refl
