@@ -72,7 +72,7 @@ have_parents v pid call well alive used there =
     by : (chosen : List ℕ) (es : List Edit) → CanEdit es → FitsAll chosen v.state es → HaveParents v.reserves es
     by chosen [] can fit = tt
     by chosen (Make_directory d x i ∷ []) can fit = (in_use d fit.0.0.parent, tt)
-    by chosen (Unname_directory d x ∷ []) can fit = (tt, tt)
+    by chosen (Unname_directory d x n ∷ []) can fit = (tt, tt)
     by chosen (e ∷ []) can fit = absurd can
     by chosen (e ∷ f ∷ es) can fit = absurd can
 

@@ -34,12 +34,12 @@ pub use Rattle.history_laws.specs.Limits.{StaysWithinLimits, most_processes}
 pub use Rattle.history_laws.specs.Processes.{IsAsBefore, ProcessesMove, is_ended}
 pub use Rattle.calls.specs.Operations.{can_call}
 pub use Rattle.calls.specs.Planned.{IsPlan}
-pub use Rattle.commit.specs.Edits.{AreNew, with_change}
+pub use Rattle.commit.specs.Edits.{AreNew, with_change, made_by}
 pub use Rattle.commit.specs.Views.{AreFirst, SameViews, View, absent, causes_of, changes_in, is_open, is_within, open_view, struck, view_at}
 pub use Rattle.contention.specs.Holding.{Becomes, Held, held_at, holding, live_age, nobody}
 pub use Rattle.contention.specs.Verdicts.{IsDoomedBy, IsVerdict}
 pub use Rattle.contention.specs.declared.Doomed.{Doomed}
-pub use Rattle.shadow.specs.Changes.{CanEdit, effect, made_by}
+pub use Rattle.shadow.specs.Changes.{CanEdit, effect}
 pub use Rattle.shadow.specs.Committed.{Committed}
 pub use Rattle.shadow.specs.Looks.{NamesAreInUse}
 pub use Rattle.kernel.specs.Shown.{Kept, Shown, is_live, is_live_status, moment}

@@ -3,8 +3,8 @@ use Rattle.kernel.proofs.Enters.{unchanged}
 use Rattle.kernel.proofs.Commits.{plain_commits}
 use Rattle.kernel.proofs.execute.change.Goals as goal
 
-pub apply-requires-clause-can : goal.apply-requires-clause-can
-apply-requires-clause-can c = plain_commits (fields c.args.s.now) c.args.pid c.args.within.now c.args.call.now c.requires.asks (c.is_none.ensures ∙ ap not c.if-is_none.true) _ c.requires.plans.edits
+pub apply-requires-clause-fits : goal.apply-requires-clause-fits
+apply-requires-clause-fits c = plain_commits (fields c.args.s.now) c.args.pid c.args.within.now c.args.call.now c.requires.asks (c.is_none.ensures ∙ ap not c.if-is_none.true) _ c.requires.plans.edits
 
 pub returns-in-Err-clause-err : goal.returns-in-Err-clause-err
 returns-in-Err-clause-err c =

@@ -4,8 +4,8 @@ use Rattle.kernel.proofs.Commits.{can_commit, commits}
 use Rattle.kernel.proofs.Standings.{closes, none_else}
 use Rattle.kernel.proofs.step.end.Goals as goal
 
-pub end-requires-clause-can : goal.end-requires-clause-can
-end-requires-clause-can c = can_commit (fields c.args.s.now) c.args.pid c.args.flags c.args.age c.requires
+pub end-requires-clause-fits : goal.end-requires-clause-fits
+end-requires-clause-fits c = can_commit (fields c.args.s.now) c.args.pid c.args.flags c.args.age c.requires
 
 pub settle-requires-clause-can : goal.settle-requires-clause-can
 settle-requires-clause-can c =
