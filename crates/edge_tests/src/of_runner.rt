@@ -27,7 +27,6 @@ fn job_of(heap: Heap, told: &Told) -> Result<Job, AllocError>
     Ok(Job {
         way: Way::Schedule(String::from_str(heap, told.list)?),
         limit: told.limit.min(100),
-        check: false,
         file: String::new(heap),
     })
 }

@@ -3,7 +3,7 @@ use crate::telling::{begins, is_shown, is_worded};
 use heap::Heap;
 use std::alloc::Global;
 use std::test::Fail;
-use words::{LineFault, read_words};
+use words::{CommandLineFault, read_words};
 
 // Whether a line's words say this job, or have a fault of this status with these words. What clap says need only begin so.
 fn is_told(alloc: Global, heap: Heap, line: &str, status: u8, told: &str) -> bool {
@@ -13,7 +13,7 @@ fn is_told(alloc: Global, heap: Heap, line: &str, status: u8, told: &str) -> boo
     };
     match read_words(alloc, heap, words.as_slice()) {
         Ok(job) => status == 0 && is_shown(alloc, &job, told),
-        Err(LineFault::Words(fault)) => status == 2 && begins(alloc, &fault, told),
+        Err(CommandLineFault::Usage(fault)) => status == 2 && begins(alloc, &fault, told),
         Err(fault) => status == fault.status() && is_worded(alloc, &fault, told),
     }
 }
@@ -25,7 +25,7 @@ static LINES: [(u64, &str, u8, &str); 12] = [
         0,
         "txsh --schedule 1,1,2,1,2 run.tx",
         0,
-        "Job { way: Schedule(\"1,1,2,1,2\"), limit: 65536, check: false, file: \"run.tx\" }",
+        "Job { way: Schedule(\"1,1,2,1,2\"), limit: 65536, file: \"run.tx\" }",
     ),
     (1, "txsh --schedule 1,1,2,1,2 run.tx", 3, "no memory"),
     (2, "txsh --schedule 1,1,2,1,2 run.tx", 3, "no memory"),
@@ -33,19 +33,19 @@ static LINES: [(u64, &str, u8, &str); 12] = [
         3,
         "txsh --schedule 1,1,2,1,2 run.tx",
         0,
-        "Job { way: Schedule(\"1,1,2,1,2\"), limit: 65536, check: false, file: \"run.tx\" }",
+        "Job { way: Schedule(\"1,1,2,1,2\"), limit: 65536, file: \"run.tx\" }",
     ),
     (
         0,
         "txsh --limit 1048576 --schedule  run.tx",
         0,
-        "Job { way: Schedule(\"\"), limit: 1048576, check: false, file: \"run.tx\" }",
+        "Job { way: Schedule(\"\"), limit: 1048576, file: \"run.tx\" }",
     ),
     (
         0,
         "txsh --schedule=1 --limit=0 run.tx",
         0,
-        "Job { way: Schedule(\"1\"), limit: 0, check: false, file: \"run.tx\" }",
+        "Job { way: Schedule(\"1\"), limit: 0, file: \"run.tx\" }",
     ),
     (
         0,

@@ -1,8 +1,8 @@
 -- How the program ends where its words are no job.
 use Rattle.std.specs.Prelude.{◌≡◌, ℕ, ◌⊎◌, List, Option}
 use Rattle.words.specs.Txsh.{status_of}
-use Rattle.words.specs.declared.LineFault.{LineFault}
-use Rattle.words.specs.declared.LineFault.TheVariants.{Help}
+use Rattle.words.specs.declared.CommandLineFault.{CommandLineFault}
+use Rattle.words.specs.declared.CommandLineFault.TheVariants.{Help}
 use Rattle.runner.specs.declared.fault.RunFault.{RunFault}
 use Rattle.runner.specs.declared.fault.RunFault.TheVariants.{Write, NoMemory}
 
@@ -14,7 +14,7 @@ NoHelp old new failed _ = ⊥
 
 -- A fault is told to the errors alone, and the status is its own. Help is written to the output and nothing is told, or
 -- there is a fault of that.
-abbrev pub IsLineEnd : LineFault → (old new told telling : Option (List ℕ)) (failed : Type 0) → ℕ → Type 0
+abbrev pub IsLineEnd : CommandLineFault → (old new told telling : Option (List ℕ)) (failed : Type 0) → ℕ → Type 0
 IsLineEnd (Help text) old new told telling failed status =
     ((status ≡ 0) × (telling ≡ told)) ⊎ (((status ≡ 5) × failed) ⊎ ((status ≡ 3) × (new ≡ old)))
 IsLineEnd fault old new told telling failed status = (status ≡ status_of fault) × (new ≡ old)

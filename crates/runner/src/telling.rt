@@ -7,7 +7,7 @@ use crate::RunFault;
 use device::{Sink, write_all};
 use heap::Heap;
 use std::fmt::Display;
-use words::LineFault;
+use words::CommandLineFault;
 
 // Writes a fault's line. Where memory for its text is refused, that is told.
 fn tell<F: Display, E: Sink>(heap: Heap, fault: &F, err: &mut E)
@@ -29,7 +29,7 @@ pub fn tell_fault<E: Sink>(heap: Heap, fault: &RunFault, err: &mut E)
 }
 
 // Writes the text of help. Where memory for it is refused, nothing is written.
-fn write_help<O: Sink>(heap: Heap, help: &LineFault, out: &mut O) -> Result<(), RunFault>
+fn write_help<O: Sink>(heap: Heap, help: &CommandLineFault, out: &mut O) -> Result<(), RunFault>
     requires { O.failures out.old < 2 ^ 64 - 1 }
     ensures part { (text : List ℕ) × IsPart (O.written out.old) (O.written out.new) text }
     ensures fault { IfErr result (NoHelp (O.written out.old) (O.written out.new) (O.failures out.old < O.failures out.new)) }
@@ -45,14 +45,14 @@ fn write_help<O: Sink>(heap: Heap, help: &LineFault, out: &mut O) -> Result<(), 
 
 /// Tells why the words are no job. The text of help goes to `out`, and a fault's line to `err`. It answers the program's
 /// status: 0 where help is written, else that of the fault. A failure of `err` changes no status.
-pub fn tell_line<O: Sink, E: Sink>(heap: Heap, fault: &LineFault, out: &mut O, err: &mut E) -> u8
+pub fn tell_line<O: Sink, E: Sink>(heap: Heap, fault: &CommandLineFault, out: &mut O, err: &mut E) -> u8
     requires writes { O.failures out.old < 2 ^ 64 - 1 }
     requires tells { E.failures err.old < 2 ^ 64 - 1 }
     ensures out { (text : List ℕ) × IsPart (O.written out.old) (O.written out.new) text }
     ensures err { (line : List ℕ) × IsPart (E.written err.old) (E.written err.new) line }
     ensures end { IsLineEnd fault.now (O.written out.old) (O.written out.new) (E.written err.old) (E.written err.new) (O.failures out.old < O.failures out.new) result }
 {
-    if !matches!(fault, LineFault::Help(_)) {
+    if !matches!(fault, CommandLineFault::Help(_)) {
         tell(heap, fault, err);
         return fault.status();
     }

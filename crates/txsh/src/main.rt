@@ -10,7 +10,7 @@ use std::alloc::Global;
 use std::fs::File;
 use std::process::ExitCode;
 use std::{env, io};
-use words::{Job, LineFault};
+use words::{Job, CommandLineFault};
 
 fn main(rt: HostRuntime) -> ExitCode {
     ExitCode::from(status(&rt))
@@ -36,7 +36,7 @@ fn status(rt: &HostRuntime) -> u8 {
 }
 
 /// The job that the program's words say.
-fn job_in(rt: &HostRuntime, heap: Heap) -> Result<Job, LineFault>
+fn job_in(rt: &HostRuntime, heap: Heap) -> Result<Job, CommandLineFault>
     ensures { IfOk result (λ job. job.limit ≤ 1048576) }
 {
     let global = rt.alloc();
@@ -44,23 +44,23 @@ fn job_in(rt: &HostRuntime, heap: Heap) -> Result<Job, LineFault>
     let mut words = Vec::new(global);
     for text in &texts {
         if words.push(text.as_str()).is_err() {
-            return Err(LineFault::NoMemory);
+            return Err(CommandLineFault::NoMemory);
         }
     }
     read_words(global, heap, words.as_slice())
 }
 
 /// The program's words, its name first. They are read as a whole, so one that is not UTF-8 leaves none.
-fn words_of(rt: &HostRuntime, global: Global) -> Result<Vec<String>, LineFault> {
+fn words_of(rt: &HostRuntime, global: Global) -> Result<Vec<String>, CommandLineFault> {
     let words = match env::args(rt) {
         Ok(words) => words,
-        Err(error) if error.kind() == io::ErrorKind::OutOfMemory => return Err(LineFault::NoMemory),
-        Err(_) => return Err(LineFault::NotText),
+        Err(error) if error.kind() == io::ErrorKind::OutOfMemory => return Err(CommandLineFault::NoMemory),
+        Err(_) => return Err(CommandLineFault::NotUtf8),
     };
     let mut texts = Vec::new(global);
     for text in words {
         if texts.push(text).is_err() {
-            return Err(LineFault::NoMemory);
+            return Err(CommandLineFault::NoMemory);
         }
     }
     Ok(texts)
