@@ -14,10 +14,6 @@ use Rattle.runner.specs.Steps.{operations, HasDone, Took, Refused, StopsBefore, 
 use Rattle.runner.specs.declared.fault.RunFault.{RunFault}
 use Rattle.runner.specs.declared.fault.RunFault.TheVariants.{Script, Schedule, Read, Write, HistoryFull, NoMemory}
 
-pub append_twice : (known : Option (List ℕ)) (xs ys : List ℕ) → append_known (append_known known xs) ys ≡ append_known known (xs ++ ys)
-append_twice None xs ys = refl
-append_twice (Some zs) xs ys = ap (λ (t : List ℕ). Some t) (append_assoc zs xs ys)
-
 lines_from-append : (first place : ℕ) (xs ys : List Entry) → place ≡ first + length xs → lines_from first (xs ++ ys) ≡ lines_from first xs ++ lines_from place ys
 lines_from-append first place [] ys e = ap (λ (k : ℕ). lines_from k ys) (let same : first ≡ place = omega arith in same)
 lines_from-append first place (x ∷ xs) ys e =

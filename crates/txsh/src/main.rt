@@ -5,7 +5,7 @@ ghost use Rattle.std.specs.Prelude.{◌≤◌, IfOk};
 
 use device::Counted;
 use heap::Heap;
-use runner::{RunFault, read_words, run_job, tell_fault, tell_line};
+use runner::{RunFault, read_words, run_job, report_fault, report_command_line};
 use std::alloc::Global;
 use std::fs::File;
 use std::process::ExitCode;
@@ -25,10 +25,10 @@ fn status(rt: &HostRuntime) -> u8 {
     };
     let job = match job_in(rt, heap) {
         Ok(job) => job,
-        Err(fault) => return tell_line(heap, &fault, &mut out, &mut err),
+        Err(fault) => return report_command_line(heap, &fault, &mut out, &mut err),
     };
     let Ok(file) = File::open(rt, job.file.as_str()) else {
-        tell_fault(heap, &RunFault::Read, &mut err);
+        report_fault(heap, &RunFault::Read, &mut err);
         return RunFault::Read.status();
     };
     let mut source = Counted::new(file);
