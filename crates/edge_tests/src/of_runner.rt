@@ -8,7 +8,7 @@ use kernel::Kernel;
 use runner::{RunFault, print, run_job, run_schedule};
 use std::alloc::{AllocError, Global};
 use std::test::Fail;
-use words::{Job, Way};
+use words::{Job, MAX_LIMIT, Way};
 
 // A schedule, its limit, how many bytes the standard output takes, and what the program tells: its status, and what it writes
 // on standard output and on standard error.
@@ -22,7 +22,7 @@ struct Told {
 }
 
 fn job_of(heap: Heap, told: &Told) -> Result<Job, AllocError>
-    ensures { IfOk result (λ job. job.limit ≤ 1048576) }
+    ensures { IfOk result (λ job. job.limit ≤ MAX_LIMIT) }
 {
     Ok(Job {
         way: Way::Schedule(String::from_str(heap, told.list)?),
@@ -33,7 +33,7 @@ fn job_of(heap: Heap, told: &Told) -> Result<Job, AllocError>
 
 // Whether this is told of a job on a script.
 fn is_told(heap: Heap, job: &Job, text: &str, told: &Told) -> bool
-    requires { job.now.limit ≤ 1048576 }
+    requires { job.now.limit ≤ MAX_LIMIT }
 {
     let mut source = Portions {
         bytes: text.as_bytes(),
