@@ -4,8 +4,8 @@ ghost use Rattle.device.specs.Device.{CanCount};
 ghost use Rattle.runner.specs.Jobs.{IsDone, IsFaulted};
 
 use crate::RunFault;
-use crate::run::run_schedule;
 use crate::reporting::report_fault;
+use crate::run::run_schedule;
 use device::{Sink, Source};
 use heap::Heap;
 use words::{Job, MAX_LIMIT, Way};

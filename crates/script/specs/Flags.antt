@@ -46,7 +46,7 @@ begin_flags_in word =
     if bytes_eq word (codes "RESTART") then Some (begin_flags 1)
     else if bytes_eq word (codes "ABORT_UNSUPPORTED") then Some (begin_flags 2)
     else if bytes_eq word (codes "RESTART,ABORT_UNSUPPORTED")
-        || bytes_eq word (codes "ABORT_UNSUPPORTED,RESTART") then Some (begin_flags 3) else None
+    || bytes_eq word (codes "ABORT_UNSUPPORTED,RESTART") then Some (begin_flags 3) else None
 
 abbrev pub whence_in : List ℕ → Option Whence
 whence_in word =

@@ -86,7 +86,7 @@ lines_after number done (last ∷ []) =
 lines_after number done (line ∷ next ∷ more) =
     if is_skipped line then lines_after (number + 1) done (next ∷ more)
     else lines_next (λ lines. lines_after (number + 1) lines (next ∷ more)) done
-        (line_of number (words_of line))
+    (line_of number (words_of line))
 
 abbrev pub with_lines :
     List ℕ → Result (List Line) ScriptFault → Result ScriptContents ScriptFault

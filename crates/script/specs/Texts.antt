@@ -40,7 +40,7 @@ bytes_after done (a ∷ b ∷ c ∷ []) =
 bytes_after done (a ∷ b ∷ c ∷ d ∷ rest) =
     if is_plain a then bytes_after (done ++ a ∷ []) (b ∷ c ∷ d ∷ rest)
     else bytes_behind (λ byte. bytes_after (done ++ byte ∷ []) rest)
-        (escape_of (a ∷ b ∷ c ∷ d ∷ rest))
+    (escape_of (a ∷ b ∷ c ∷ d ∷ rest))
 
 -- `\e` for no bytes, else one or more
 abbrev pub text_in : List ℕ → Option (List ℕ)

@@ -3,8 +3,8 @@ ghost use Rattle.std.specs.Prelude.{◌≡◌, option_map};
 ghost use Rattle.ids.specs.Flags.{open_bits};
 ghost use Rattle.script.specs.Flags.{begin_flags_in, flag_in, flags_in, whence_in};
 
-use crate::table::lookup;
 use crate::pieces::Pieces;
+use crate::table::lookup;
 use ids::{BeginFlags, OpenFlags, Whence};
 
 // The names of single flags.

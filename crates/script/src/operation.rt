@@ -65,7 +65,11 @@ fn fill_of(args: &mut Pieces<'_>) -> Option<(Fd, u32, u8)>
     ensures { result ≡ three fd_in (decimal_in TRANSFER_LIMIT) byte_in args.old }
 {
     let (fd, count, byte) = args.three()?;
-    Some((fd_in(fd)?, number_in(count, TRANSFER_LIMIT)?, byte_in(byte)?))
+    Some((
+        fd_in(fd)?,
+        number_in(count, TRANSFER_LIMIT)?,
+        byte_in(byte)?,
+    ))
 }
 
 // A descriptor, an offset and from where it counts.

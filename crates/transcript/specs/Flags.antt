@@ -63,6 +63,6 @@ flags_text flags = listed (flag_names flags)
 abbrev pub begin_flags_text : BeginFlags → List ℕ
 begin_flags_text flags =
     if is_restarting flags then
-        (if is_aborting_unsupported flags then codes " RESTART,ABORT_UNSUPPORTED"
-        else codes " RESTART")
+    (if is_aborting_unsupported flags then codes " RESTART,ABORT_UNSUPPORTED"
+    else codes " RESTART")
     else (if is_aborting_unsupported flags then codes " ABORT_UNSUPPORTED" else [])

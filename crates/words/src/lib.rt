@@ -141,10 +141,7 @@ fn reported_fault(error: Error) -> CommandLineFault
 }
 
 // The matches of the words.
-fn matches_for<'a>(
-    alloc: Global,
-    words: &'a [&'a str],
-) -> Result<ArgMatches<'a>, CommandLineFault>
+fn matches_for<'a>(alloc: Global, words: &'a [&'a str]) -> Result<ArgMatches<'a>, CommandLineFault>
     ensures values { IfOk result (λ m.
         SameMatches (first_value (found_of m)) (value_in (texts words.entry.now))) }
     ensures numbers { IfOk result (λ m.
