@@ -1,13 +1,13 @@
 // Files, terminals and other devices of std, with their failures counted.
-ghost use Rattle.std.specs.Prelude.{◌≡◌, ◌-◌, ◌<◌, ◌^◌, IfOk, None, length};
+ghost use Rattle.std.specs.Prelude.{◌≡◌, ◌<◌, IfOk, None, length};
 ghost use Rattle.std.specs.Io.{ReadsAtMost, WritesAtMost};
 ghost use Rattle.std.specs.Io.KnownBytes.{IsAtEnd, ReadConsumes, WriteAppends, append_known, prepend_known};
-ghost use Rattle.device.specs.Device.{counted, handled, is_error, is_failure};
+ghost use Rattle.device.specs.Device.{CanCount, bytes_transferred, count_after, is_error, is_failure};
 
 use crate::{DeviceFailed, Sink, Source};
 use std::io::{Read, Write};
 
-/// A reader or writer of std, with a count of its failures. Of its bytes it tells nothing.
+/// A reader or writer of std, with a count of its failures. Contracts do not know its bytes.
 #[derive(Drop)]
 pub struct Counted<D> {
     /// The device.
@@ -34,11 +34,13 @@ impl<W: Write> Sink for Counted<W> {
     ghost failures = { λ s. s.failures };
 
     fn write(&mut self, text: &[u8]) -> Result<usize, DeviceFailed>
-        requires { self.old.failures < 2 ^ 64 - 1 }
+        requires { CanCount self.old.failures }
         ensures bound { WritesAtMost result text.now }
-        ensures bytes { None ≡ append_known None (handled result text.now) }
-        ensures count { self.new.failures ≡ counted self.old.failures (is_failure result text.now) }
-        ensures device { WriteAppends (W.contents self.old.device) (W.contents self.new.device) result text.now }
+        ensures bytes { None ≡ append_known None (bytes_transferred result text.now) }
+        ensures count { self.new.failures
+            ≡ count_after self.old.failures (is_failure result text.now) }
+        ensures device { WriteAppends
+            (W.contents self.old.device) (W.contents self.new.device) result text.now }
     {
         let Ok(count) = self.device.write(text) else {
             self.failures += 1;
@@ -57,12 +59,13 @@ impl<R: Read> Source for Counted<R> {
     ghost failures = { λ s. s.failures };
 
     fn read(&mut self, buffer: &mut [u8]) -> Result<usize, DeviceFailed>
-        requires { self.old.failures < 2 ^ 64 - 1 }
+        requires { CanCount self.old.failures }
         ensures bound { ReadsAtMost result buffer.new }
-        ensures bytes { None ≡ prepend_known (handled result buffer.new) None }
+        ensures bytes { None ≡ prepend_known (bytes_transferred result buffer.new) None }
         ensures end { IfOk result (λ n. n ≡ 0 → 0 < length buffer.new → IsAtEnd None) }
-        ensures count { self.new.failures ≡ counted self.old.failures (is_error result) }
-        ensures device { ReadConsumes (R.remaining self.old.device) (R.remaining self.new.device) result buffer.new }
+        ensures count { self.new.failures ≡ count_after self.old.failures (is_error result) }
+        ensures device { ReadConsumes
+            (R.remaining self.old.device) (R.remaining self.new.device) result buffer.new }
     {
         let Ok(count) = self.device.read(buffer) else {
             self.failures += 1;

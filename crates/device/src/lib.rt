@@ -1,8 +1,8 @@
 //! Devices that count their failures: sources that bytes are read from, and sinks that they are
 //! written to.
 //!
-//! What a source still has to give and what a sink holds are known to contracts where the device
-//! tells it, as those over memory do. Of a file or a terminal nothing is known but its failures.
+//! Contracts know the bytes of the devices over memory. Of a file or a terminal they know only the
+//! number of its failures.
 #![tactic(auto)]
 
 mod counted;

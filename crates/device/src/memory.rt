@@ -1,5 +1,5 @@
 // Devices over memory, for tests.
-ghost use Rattle.std.specs.Prelude.{◌≡◌, ◌<◌, ◌≤◌, ◌+◌, ◌-◌, ◌++◌, Some, take, drop, length, min};
+ghost use Rattle.std.specs.Prelude.{◌≡◌, ◌<◌, ◌++◌, Some, take, drop, length, min};
 
 use crate::{DeviceFailed, Sink, Source};
 use heap::Heap;
@@ -7,7 +7,7 @@ use heap::Heap;
 /// A sink that takes a number of bytes, and then fails.
 #[derive(Drop)]
 pub struct Halting {
-    /// What it holds.
+    /// What was written to it.
     pub bytes: Vec<u8, Heap>,
     /// How many more it takes.
     pub left: usize,
@@ -35,10 +35,10 @@ impl Sink for Halting {
     }
 }
 
-/// A sink that takes one byte of each text.
+/// A sink that takes one byte at each write.
 #[derive(Drop)]
 pub struct Trickling {
-    /// What it holds.
+    /// What was written to it.
     pub bytes: Vec<u8, Heap>,
     /// How often memory was refused to it.
     pub failures: u64,
@@ -61,17 +61,18 @@ impl Sink for Trickling {
     }
 }
 
-/// A source that gives all its bytes, at most so many a read.
+/// A source that gives all its bytes, at most `most` at each read, and never fails.
 #[derive(Drop)]
 pub struct Portions<'a> {
-    /// What it still has to give.
+    /// What is still to be read.
     pub bytes: &'a [u8],
-    /// How many it gives a read, at most.
+    /// How many bytes a read gives, at most.
     pub most: usize,
     ghost some: { 0 < most },
 }
 
-// Copies as many bytes as both have, up to `most`, to the beginning of the buffer.
+// Copies as many bytes as both have, up to `most`, to the beginning of the buffer, and returns how
+// many these are.
 fn give(bytes: &[u8], most: usize, buffer: &mut [u8]) -> usize
     ensures count { result ≡ min (min (length bytes.now) (length buffer.old)) most }
     ensures bytes { buffer.new ≡ take result bytes.now ++ drop result buffer.old }
@@ -93,10 +94,13 @@ impl<'a> Source for Portions<'a> {
     }
 }
 
-/// A source that gives three bytes a read until it has been read so often, and then fails.
+// How many bytes a read of `Failing` gives, at most.
+const PORTION: usize = 3;
+
+/// A source that gives at most three bytes at each read, and fails after a number of reads.
 #[derive(Drop)]
 pub struct Failing<'a> {
-    /// What it still has to give.
+    /// What is still to be read.
     pub bytes: &'a [u8],
     /// How many reads succeed.
     pub left: usize,
@@ -115,7 +119,7 @@ impl<'a> Source for Failing<'a> {
             return Err(DeviceFailed);
         }
         self.left -= 1;
-        let count = give(self.bytes, 3, buffer);
+        let count = give(self.bytes, PORTION, buffer);
         self.bytes = &self.bytes[count..];
         Ok(count)
     }

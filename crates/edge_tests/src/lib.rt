@@ -1,5 +1,5 @@
-//! Tests of the edges: scripts, transcripts, words, devices, whole runs, and the one lock. They stand here so that no edge is
-//! proved a second time for its tests.
+//! Tests of the edges: scripts, transcripts, command lines, devices, whole runs, and the one lock.
+//! They stand here so that no edge is proved a second time for its tests.
 #![tactic(auto)]
 
 #[cfg(test)]
@@ -17,4 +17,4 @@ mod of_turnstile;
 #[cfg(test)]
 mod of_words;
 #[cfg(test)]
-mod telling;
+mod texts;

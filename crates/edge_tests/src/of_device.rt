@@ -9,7 +9,8 @@ use std::test::Fail;
 
 const DIGITS: &[u8; 10] = b"0123456789";
 
-// Whether a sink that takes so many bytes has just the first of ten, and has failed where it could not take all.
+// Whether a sink that takes so many bytes has just the first of ten, and has failed where it could
+// not take all.
 fn has_beginning(heap: Heap, room: usize) -> bool {
     let mut sink = halting(heap, room);
     let written = write_all(&mut sink, DIGITS).is_ok();
@@ -18,8 +19,8 @@ fn has_beginning(heap: Heap, room: usize) -> bool {
         && sink.bytes.as_slice() == &DIGITS[..room.min(10)]
 }
 
-// Whether ten bytes were written to a trickling sink, whether it has them, and how often it has failed, where this request
-// of memory is refused.
+// Whether ten bytes were written to a trickling sink, whether it has them, and how often it has
+// failed, where this request of memory is refused.
 fn trickled(heap: Heap, refused: u64) -> (bool, bool, u64) {
     let mut sink = Trickling {
         bytes: Vec::new(heap),
@@ -52,7 +53,8 @@ fn is_read(heap: Heap, most: usize, read: &[u8], left: &[u8]) -> bool {
     source.bytes == left && bytes.is_ok_and(|bytes| bytes.as_slice() == read)
 }
 
-// Why ten bytes by threes are not read from a source that fails after so many reads, and how often it has failed.
+// Why ten bytes by threes are not read from a source that fails after so many reads, and how often
+// it has failed.
 fn fault_of(heap: Heap, left: usize, refused: u64) -> (Option<ReadFault>, u64) {
     let mut source = Failing {
         bytes: DIGITS,

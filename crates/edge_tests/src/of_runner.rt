@@ -8,11 +8,11 @@ use kernel::Kernel;
 use runner::{RunFault, print, run_job, run_schedule};
 use std::alloc::{AllocError, Global};
 use std::test::Fail;
-use words::{Job, Way};
+use words::{Job, MAX_LIMIT, Way};
 
-// A schedule, its limit, how many bytes the standard output takes, and what the program tells: its status, and what it writes
-// on standard output and on standard error.
-struct Told {
+// A schedule, its limit, how many bytes the standard output takes, and what is expected of the
+// program: its status, and what it writes on standard output and on standard error.
+struct Expected {
     list: &'static str,
     limit: u32,
     room: usize,
@@ -21,36 +21,35 @@ struct Told {
     err: &'static str,
 }
 
-fn job_of(heap: Heap, told: &Told) -> Result<Job, AllocError>
-    ensures { IfOk result (λ job. job.limit ≤ 1048576) }
+fn job_of(heap: Heap, expected: &Expected) -> Result<Job, AllocError>
+    ensures { IfOk result (λ job. job.limit ≤ MAX_LIMIT) }
 {
     Ok(Job {
-        way: Way::Schedule(String::from_str(heap, told.list)?),
-        limit: told.limit.min(100),
-        check: false,
+        way: Way::Schedule(String::from_str(heap, expected.list)?),
+        limit: expected.limit.min(100),
         file: String::new(heap),
     })
 }
 
-// Whether this is told of a job on a script.
-fn is_told(heap: Heap, job: &Job, text: &str, told: &Told) -> bool
-    requires { job.now.limit ≤ 1048576 }
+// Whether a job on a script ends as expected.
+fn is_as_expected(heap: Heap, job: &Job, text: &str, expected: &Expected) -> bool
+    requires { job.now.limit ≤ MAX_LIMIT }
 {
     let mut source = Portions {
         bytes: text.as_bytes(),
         most: 7,
     };
-    let mut out = halting(heap, told.room);
+    let mut out = halting(heap, expected.room);
     let mut err = halting(heap, 1000);
     let status = run_job(heap, job, &mut source, &mut out, &mut err);
-    status == told.status
-        && out.bytes.as_slice() == told.out.as_bytes()
-        && err.bytes.as_slice() == told.err.as_bytes()
+    status == expected.status
+        && out.bytes.as_slice() == expected.out.as_bytes()
+        && err.bytes.as_slice() == expected.err.as_bytes()
 }
 
-fn is_run(heap: Heap, text: &str, told: &Told) -> bool {
-    match job_of(heap, told) {
-        Ok(job) => is_told(heap, &job, text, told),
+fn is_run(heap: Heap, text: &str, expected: &Expected) -> bool {
+    match job_of(heap, expected) {
+        Ok(job) => is_as_expected(heap, &job, text, expected),
         Err(_) => false,
     }
 }
@@ -66,10 +65,10 @@ static FIRST_LINES: &str = "1 P1 begin -> begun
 5 P2 stat /a -> dir size 0 links 1
 ";
 
-static RUNS: [(&str, Told); 10] = [
+static RUNS: [(&str, Expected); 10] = [
     (
         "priorities 0 0\n1 begin\n2 stat /a\n",
-        Told {
+        Expected {
             list: "1,2",
             limit: 100,
             room: 1000,
@@ -80,7 +79,7 @@ static RUNS: [(&str, Told); 10] = [
     ),
     (
         "priorities 0\n1 mkdir /a\n1 mkdir /a/b\n1 list /a\n1 rmdir /a/b\n1 list /a\n",
-        Told {
+        Expected {
             list: "1,1,1,1,1",
             limit: 100,
             room: 1000,
@@ -91,7 +90,7 @@ static RUNS: [(&str, Told); 10] = [
     ),
     (
         "priorities 0 0\n1 begin\n1 mkdir /a\n1 end\n2 stat /a\n2 stat /a\n",
-        Told {
+        Expected {
             list: "1,1,2,1,2",
             limit: 100,
             room: 10,
@@ -102,7 +101,7 @@ static RUNS: [(&str, Told); 10] = [
     ),
     (
         "priorities 0\n1 begin\n1 stat /\n",
-        Told {
+        Expected {
             list: "1,1",
             limit: 2,
             room: 1000,
@@ -113,7 +112,7 @@ static RUNS: [(&str, Told); 10] = [
     ),
     (
         "priorities 0",
-        Told {
+        Expected {
             list: "",
             limit: 100,
             room: 1000,
@@ -124,7 +123,7 @@ static RUNS: [(&str, Told); 10] = [
     ),
     (
         "",
-        Told {
+        Expected {
             list: "",
             limit: 100,
             room: 1000,
@@ -135,7 +134,7 @@ static RUNS: [(&str, Told); 10] = [
     ),
     (
         "priorities 8\n",
-        Told {
+        Expected {
             list: "",
             limit: 100,
             room: 1000,
@@ -146,7 +145,7 @@ static RUNS: [(&str, Told); 10] = [
     ),
     (
         "priorities 0\n\n1 stat /a/b\n1 unlink /a\n",
-        Told {
+        Expected {
             list: "1",
             limit: 100,
             room: 1000,
@@ -157,7 +156,7 @@ static RUNS: [(&str, Told); 10] = [
     ),
     (
         "priorities 0\n1 end\n",
-        Told {
+        Expected {
             list: "2",
             limit: 100,
             room: 1000,
@@ -168,7 +167,7 @@ static RUNS: [(&str, Told); 10] = [
     ),
     (
         "priorities 0\n1 end\n",
-        Told {
+        Expected {
             list: "1,1",
             limit: 100,
             room: 1000,
@@ -179,8 +178,8 @@ static RUNS: [(&str, Told); 10] = [
     ),
 ];
 
-// A line with each call that is not there, and what is told of each.
-static MISSING: [&str; 16] = [
+// A line with each call that is not supported yet, and what is expected of each.
+static UNSUPPORTED: [&str; 16] = [
     "open /a RDONLY",
     "close 0",
     "read 0 1",
@@ -199,7 +198,7 @@ static MISSING: [&str; 16] = [
     "exit",
 ];
 
-static UNKNOWN: Told = Told {
+static UNKNOWN: Expected = Expected {
     list: "1",
     limit: 100,
     room: 1000,
@@ -208,8 +207,8 @@ static UNKNOWN: Told = Told {
     err: "txsh: line 2: unknown operation\n",
 };
 
-// Whether the one line is told to be missing.
-fn is_missing(alloc: Global, heap: Heap, line: &str) -> bool {
+// Whether the one line is reported as an unknown operation.
+fn is_unsupported(alloc: Global, heap: Heap, line: &str) -> bool {
     match format!(in alloc; "priorities 0\n1 {line}\n") {
         Ok(text) => is_run(heap, text.as_str(), &UNKNOWN),
         Err(_) => false,
@@ -219,16 +218,17 @@ fn is_missing(alloc: Global, heap: Heap, line: &str) -> bool {
 #[test]
 fn jobs_have_their_texts_and_statuses(rt: HostRuntime) -> Result<(), Fail> {
     let heap = heap::open(rt.alloc())?;
-    for (text, told) in &RUNS {
-        assert!(rt; is_run(heap, text, told), "{text}");
+    for (text, expected) in &RUNS {
+        assert!(rt; is_run(heap, text, expected), "{text}");
     }
-    for line in &MISSING {
-        assert!(rt; is_missing(rt.alloc(), heap, line), "{line}");
+    for line in &UNSUPPORTED {
+        assert!(rt; is_unsupported(rt.alloc(), heap, line), "{line}");
     }
     Ok(())
 }
 
-// Whether the first run ends with this fault, or none, where the source fails after so many reads, and then has written this.
+// Whether the first run ends with this fault, or none, where the source fails after so many reads,
+// and then has written this.
 fn is_faulted(heap: Heap, left: usize, fault: Option<RunFault>, out: &str) -> bool {
     let mut source = Failing {
         bytes: FIRST_RUN.as_bytes(),
@@ -236,8 +236,8 @@ fn is_faulted(heap: Heap, left: usize, fault: Option<RunFault>, out: &str) -> bo
         failures: 0,
     };
     let mut sink = halting(heap, 1000);
-    let told = run_schedule(heap, &mut source, FIRST_LIST, 100, &mut sink).err();
-    told == fault && sink.bytes.as_slice() == out.as_bytes()
+    let expected = run_schedule(heap, &mut source, FIRST_LIST, 100, &mut sink).err();
+    expected == fault && sink.bytes.as_slice() == out.as_bytes()
 }
 
 // The kernel of the first run.
@@ -250,13 +250,14 @@ fn first_kernel(heap: Heap) -> Result<Kernel, RunFault> {
     run_schedule(heap, &mut source, FIRST_LIST, 100, &mut sink)
 }
 
-// Whether this is told where its history is written to a sink that takes so many bytes, and is what the sink has then.
-fn is_printed(heap: Heap, room: usize, told: Result<(), RunFault>, out: &str) -> bool {
+// Whether writing its history to a sink that takes so many bytes has this result, and the sink then
+// has these.
+fn is_printed(heap: Heap, room: usize, expected: Result<(), RunFault>, out: &str) -> bool {
     let Ok(kernel) = first_kernel(heap) else {
         return false;
     };
     let mut sink = halting(heap, room);
-    print(kernel.history(), &mut sink) == told && sink.bytes.as_slice() == out.as_bytes()
+    print(kernel.history(), &mut sink) == expected && sink.bytes.as_slice() == out.as_bytes()
 }
 
 #[test]

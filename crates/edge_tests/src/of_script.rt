@@ -1,15 +1,15 @@
 // Scripts, schedules and steps: what texts are read as, and their faults in words.
-use crate::telling::{is_shown, is_worded};
+use crate::texts::{has_debug_text, has_text};
 use heap::Heap;
 use script::{Script, ScriptFault, read_schedule, read_script, steps_of};
 use std::alloc::{AllocError, Global};
 use std::test::Fail;
 
 // Whether a text is read as these lines, or has this fault.
-fn is_read_as(alloc: Global, heap: Heap, text: &[u8], told: &str) -> bool {
+fn is_read_as(alloc: Global, heap: Heap, text: &[u8], expected: &str) -> bool {
     match read_script(heap, text) {
-        Ok(script) => is_shown(alloc, &script.into_lines(), told),
-        Err(fault) => is_worded(alloc, &fault, told),
+        Ok(script) => has_debug_text(alloc, &script.into_lines(), expected),
+        Err(fault) => has_text(alloc, &fault, expected),
     }
 }
 
@@ -76,27 +76,27 @@ static BEGINNINGS: [(usize, usize, &str); 5] = [
 ];
 
 #[test]
-fn scripts_are_read_or_told(rt: HostRuntime) -> Result<(), Fail> {
+fn scripts_are_read_or_have_faults(rt: HostRuntime) -> Result<(), Fail> {
     let heap = heap::open(rt.alloc())?;
-    for (text, told) in &SCRIPTS {
+    for (text, expected) in &SCRIPTS {
         assert!(rt;
-            is_read_as(rt.alloc(), heap, text.as_bytes(), told),
+            is_read_as(rt.alloc(), heap, text.as_bytes(), expected),
             "{text}"
         );
     }
-    for (first, last, told) in &BEGINNINGS {
+    for (first, last, expected) in &BEGINNINGS {
         for len in *first..=*last {
             let text = &TWO_LINES[..len.min(23)];
-            assert!(rt; is_read_as(rt.alloc(), heap, text, told), "{len}");
+            assert!(rt; is_read_as(rt.alloc(), heap, text, expected), "{len}");
         }
     }
     Ok(())
 }
 
 // Whether a script with these words in its one line is read as this line, or has this fault.
-fn is_line(alloc: Global, heap: Heap, words: &str, told: &str) -> bool {
+fn is_line(alloc: Global, heap: Heap, words: &str, expected: &str) -> bool {
     match format!(in alloc; "priorities 0\n1 {words}\n") {
-        Ok(text) => is_read_as(alloc, heap, text.as_bytes(), told),
+        Ok(text) => is_read_as(alloc, heap, text.as_bytes(), expected),
         Err(_) => false,
     }
 }
@@ -104,7 +104,7 @@ fn is_line(alloc: Global, heap: Heap, words: &str, told: &str) -> bool {
 // Whether these words are read as this operation.
 fn is_op(alloc: Global, heap: Heap, words: &str, op: &str) -> bool {
     match format!(in alloc; "[Line {{ pid: Pid(1), op: {op}, number: 2 }}]") {
-        Ok(told) => is_line(alloc, heap, words, told.as_str()),
+        Ok(expected) => is_line(alloc, heap, words, expected.as_str()),
         Err(_) => false,
     }
 }
@@ -197,8 +197,8 @@ static REFUSED: [&str; 25] = [
 #[test]
 fn operations_are_read_or_refused(rt: HostRuntime) -> Result<(), Fail> {
     let heap = heap::open(rt.alloc())?;
-    for (words, told) in &OPERATIONS {
-        assert!(rt; is_op(rt.alloc(), heap, words, told), "{words}");
+    for (words, expected) in &OPERATIONS {
+        assert!(rt; is_op(rt.alloc(), heap, words, expected), "{words}");
     }
     for words in &REFUSED {
         assert!(rt;
@@ -210,21 +210,21 @@ fn operations_are_read_or_refused(rt: HostRuntime) -> Result<(), Fail> {
 }
 
 // Whether a script and a list give these steps, or the list has this fault.
-fn gives_steps(alloc: Global, heap: Heap, script: Script, list: &str, told: &str) -> bool {
+fn gives_steps(alloc: Global, heap: Heap, script: Script, list: &str, expected: &str) -> bool {
     match read_schedule(heap, list, &script) {
         Ok(pids) => match steps_of(heap, script, pids.as_slice()) {
-            Ok(steps) => is_shown(alloc, &steps, told),
-            Err(_) => is_worded(alloc, &ScriptFault::NoMemory, told),
+            Ok(steps) => has_debug_text(alloc, &steps, expected),
+            Err(_) => has_text(alloc, &ScriptFault::NoMemory, expected),
         },
-        Err(fault) => is_worded(alloc, &fault, told),
+        Err(fault) => has_text(alloc, &fault, expected),
     }
 }
 
 // Whether a text and a list give these steps, or either has this fault.
-fn is_planned(alloc: Global, heap: Heap, text: &str, list: &str, told: &str) -> bool {
+fn is_planned(alloc: Global, heap: Heap, text: &str, list: &str, expected: &str) -> bool {
     match read_script(heap, text.as_bytes()) {
-        Ok(script) => gives_steps(alloc, heap, script, list, told),
-        Err(fault) => is_worded(alloc, &fault, told),
+        Ok(script) => gives_steps(alloc, heap, script, list, expected),
+        Err(fault) => has_text(alloc, &fault, expected),
     }
 }
 
@@ -258,11 +258,11 @@ static STEPS: &str =
     (Pid(2), Call(Mkdir(Bytes { bytes: [47, 98] })))]";
 
 #[test]
-fn schedules_give_steps_or_are_told(rt: HostRuntime) -> Result<(), Fail> {
+fn schedules_give_steps_or_have_faults(rt: HostRuntime) -> Result<(), Fail> {
     let heap = heap::open(rt.alloc())?;
-    for (list, told) in &SCHEDULES {
+    for (list, expected) in &SCHEDULES {
         assert!(rt;
-            is_planned(rt.alloc(), heap, TWO_STATS, list, told),
+            is_planned(rt.alloc(), heap, TWO_STATS, list, expected),
             "{list}"
         );
     }

@@ -1,6 +1,6 @@
 // A transcript with each form of operation and reply, whole and up to each byte.
 use crate::halting::halting;
-use crate::telling::told;
+use crate::texts::inspect;
 use device::{Halting, Trickling};
 use heap::Heap;
 use ids::{
@@ -192,7 +192,8 @@ fn sample(heap: Heap) -> Result<Vec<Entry, Heap>, Fail> {
     Ok(entries)
 }
 
-// Whether a sink that takes so many bytes gets just these of the transcript, and fails where there are more.
+// Whether a sink that takes so many bytes gets just these of the transcript, and fails where there
+// are more.
 fn has_beginning(heap: Heap, entries: &[Entry], room: usize) -> bool {
     let mut sink = halting(heap, room);
     let printed = print(1, entries, &mut sink).is_ok();
@@ -246,7 +247,8 @@ fn long_entry(heap: Heap) -> Result<Entry, AllocError> {
     })
 }
 
-// Whether an entry's line is written whole to a sink that takes so many bytes, and how many the sink gets.
+// Whether an entry's line is written whole to a sink that takes so many bytes, and how many the sink
+// gets.
 fn line_of(heap: Heap, entry: &Entry, room: usize) -> (bool, usize) {
     let mut sink = halting(heap, room);
     let printed = print_line(1, entry, &mut sink).is_ok();
@@ -257,7 +259,7 @@ fn line_of(heap: Heap, entry: &Entry, room: usize) -> (bool, usize) {
 fn a_long_line_is_written_in_parts(rt: HostRuntime) -> Result<(), Fail> {
     let heap = heap::open(rt.alloc())?;
     let len = 4000 + "1 P1 write 0  -> 1000\n".len();
-    let lines = told(long_entry(heap)?, |entry| {
+    let lines = inspect(long_entry(heap)?, |entry| {
         [line_of(heap, entry, 9000), line_of(heap, entry, 600)]
     });
     assert!(rt; lines == [(true, len), (false, 600)]);

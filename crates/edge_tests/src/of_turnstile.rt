@@ -3,7 +3,7 @@ ghost use Rattle.std.specs.Prelude.{◌≡◌, true, All, IfOk, IfSome};
 ghost use Rattle.kernel.specs.Operations.{can_run};
 ghost use Rattle.turnstile.specs.Passes.{Gate};
 
-use crate::telling::told;
+use crate::texts::inspect;
 use heap::Heap;
 use ids::{Answer, Bytes, Call, Entry, Kind, Op, Pid, Priority, Reply};
 use kernel::Kernel;
@@ -100,7 +100,7 @@ fn makes(heap: Heap, turnstile: &Turnstile, pass: &mut Pass) -> bool
     ensures { pass.new.gate ≡ pass.old.gate }
 {
     match mkdir(heap, b"/a") {
-        Ok(op) => told(turnstile.try_call(pass, op), is_done_now),
+        Ok(op) => inspect(turnstile.try_call(pass, op), is_done_now),
         Err(_) => false,
     }
 }
@@ -111,7 +111,7 @@ fn sees(heap: Heap, turnstile: &Turnstile, pass: &mut Pass) -> bool
     ensures { pass.new.gate ≡ pass.old.gate }
 {
     match stat(heap, b"/a") {
-        Ok(op) => told(turnstile.try_call(pass, op), is_directory),
+        Ok(op) => inspect(turnstile.try_call(pass, op), is_directory),
         Err(_) => false,
     }
 }
@@ -122,7 +122,7 @@ fn work<R: Wait + Abort>(rt: &R, turnstile: &Turnstile, pass: &mut Pass, op: Op)
     requires op { can_run op ≡ true }
     ensures { pass.new.gate ≡ pass.old.gate }
 {
-    assert!(rt; told(turnstile.call(rt, pass, op), is_done));
+    assert!(rt; inspect(turnstile.call(rt, pass, op), is_done));
 }
 
 // Makes a hundred directories, and waits at each for the other thread.
@@ -227,7 +227,7 @@ fn done<R: Threads + Wait + Abort + Sync>(
     kernel: Kernel,
 ) -> Option<(usize, u64, u64)> {
     let opened = begun(heap, kernel)?;
-    Some(told(shared(rt, heap, opened)?, counts))
+    Some(inspect(shared(rt, heap, opened)?, counts))
 }
 
 #[test]

@@ -1,31 +1,32 @@
-// Command lines: the jobs that they say, and the faults of those that say none.
-use crate::telling::{begins, is_shown, is_worded};
+// Command lines: the jobs that they give, and the faults of those that give none.
+use crate::texts::{has_debug_text, has_text, text_begins};
 use heap::Heap;
 use std::alloc::Global;
 use std::test::Fail;
-use words::{LineFault, read_words};
+use words::{CommandLineFault, read_words};
 
-// Whether a line's words say this job, or have a fault of this status with these words. What clap says need only begin so.
-fn is_told(alloc: Global, heap: Heap, line: &str, status: u8, told: &str) -> bool {
+// Whether a line's words give this job, or a fault with this status and text. A text of clap's need
+// only begin with it.
+fn is_as_expected(alloc: Global, heap: Heap, line: &str, status: u8, expected: &str) -> bool {
     let words: Vec<&str> = match line.split(' ').collect(alloc) {
         Ok(words) => words,
         Err(_) => return false,
     };
     match read_words(alloc, heap, words.as_slice()) {
-        Ok(job) => status == 0 && is_shown(alloc, &job, told),
-        Err(LineFault::Words(fault)) => status == 2 && begins(alloc, &fault, told),
-        Err(fault) => status == fault.status() && is_worded(alloc, &fault, told),
+        Ok(job) => status == 0 && has_debug_text(alloc, &job, expected),
+        Err(CommandLineFault::Usage(fault)) => status == 2 && text_begins(alloc, &fault, expected),
+        Err(fault) => status == fault.status() && has_text(alloc, &fault, expected),
     }
 }
 
-// Command lines, each with its status and job, or how the words of its fault begin. Before each the request of memory that
-// is refused: one is made for the schedule, and one for the file.
+// Command lines, each with its status and job, or how the text of its fault begins. Before each the
+// request of memory that is refused: one is made for the schedule, and one for the file.
 static LINES: [(u64, &str, u8, &str); 12] = [
     (
         0,
         "txsh --schedule 1,1,2,1,2 run.tx",
         0,
-        "Job { way: Schedule(\"1,1,2,1,2\"), limit: 65536, check: false, file: \"run.tx\" }",
+        "Job { way: Schedule(\"1,1,2,1,2\"), limit: 65536, file: \"run.tx\" }",
     ),
     (1, "txsh --schedule 1,1,2,1,2 run.tx", 3, "no memory"),
     (2, "txsh --schedule 1,1,2,1,2 run.tx", 3, "no memory"),
@@ -33,19 +34,19 @@ static LINES: [(u64, &str, u8, &str); 12] = [
         3,
         "txsh --schedule 1,1,2,1,2 run.tx",
         0,
-        "Job { way: Schedule(\"1,1,2,1,2\"), limit: 65536, check: false, file: \"run.tx\" }",
+        "Job { way: Schedule(\"1,1,2,1,2\"), limit: 65536, file: \"run.tx\" }",
     ),
     (
         0,
         "txsh --limit 1048576 --schedule  run.tx",
         0,
-        "Job { way: Schedule(\"\"), limit: 1048576, check: false, file: \"run.tx\" }",
+        "Job { way: Schedule(\"\"), limit: 1048576, file: \"run.tx\" }",
     ),
     (
         0,
         "txsh --schedule=1 --limit=0 run.tx",
         0,
-        "Job { way: Schedule(\"1\"), limit: 0, check: false, file: \"run.tx\" }",
+        "Job { way: Schedule(\"1\"), limit: 0, file: \"run.tx\" }",
     ),
     (
         0,
@@ -66,12 +67,12 @@ static LINES: [(u64, &str, u8, &str); 12] = [
 ];
 
 #[test]
-fn words_are_jobs_or_told(rt: HostRuntime) -> Result<(), Fail> {
+fn words_give_jobs_or_faults(rt: HostRuntime) -> Result<(), Fail> {
     let heap = heap::open(rt.alloc())?;
-    for (refused, line, status, told) in &LINES {
+    for (refused, line, status, expected) in &LINES {
         heap.refuse(*refused);
         assert!(rt;
-            is_told(rt.alloc(), heap, line, *status, told),
+            is_as_expected(rt.alloc(), heap, line, *status, expected),
             "{refused}: {line}"
         );
     }

@@ -1,2 +1,2 @@
+mod AllSupported
 mod Stepping
-mod Missing

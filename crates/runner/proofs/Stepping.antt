@@ -1,5 +1,5 @@
 -- One more step, and its line.
-use Rattle.std.proofs.Common.{append-nil, ◌≡◌, ℕ, ◌+◌, ◌<◌, List, [], ◌∷◌, ◌++◌, Option, Some, None, Result, Ok, Err, refl, sym, ap, subst, ◌∙◌, append_assoc, take, drop, length, get_or, arith, IfErr}
+use Rattle.std.proofs.Common.{append-nil, ◌≡◌, ℕ, ◌+◌, ◌<◌, List, [], ◌∷◌, ◌++◌, Option, Result, Ok, Err, refl, sym, ap, subst, ◌∙◌, append_assoc, take, drop, length, get_or, arith, IfErr}
 use Rattle.std.specs.Io.KnownBytes.{append_known}
 use Rattle.std.proofs.lemmas.List.{map-append, take_more, length-append}
 use Rattle.std.proofs.lemmas.Option.{slice_get_read}
@@ -13,10 +13,6 @@ use Rattle.transcript.specs.Line.{line_of, lines_from, transcript}
 use Rattle.runner.specs.Steps.{operations, HasDone, Took, Refused, StopsBefore, StopsWriting, Stops}
 use Rattle.runner.specs.declared.fault.RunFault.{RunFault}
 use Rattle.runner.specs.declared.fault.RunFault.TheVariants.{Script, Schedule, Read, Write, HistoryFull, NoMemory}
-
-pub append_twice : (known : Option (List ℕ)) (xs ys : List ℕ) → append_known (append_known known xs) ys ≡ append_known known (xs ++ ys)
-append_twice None xs ys = refl
-append_twice (Some zs) xs ys = ap (λ (t : List ℕ). Some t) (append_assoc zs xs ys)
 
 lines_from-append : (first place : ℕ) (xs ys : List Entry) → place ≡ first + length xs → lines_from first (xs ++ ys) ≡ lines_from first xs ++ lines_from place ys
 lines_from-append first place [] ys e = ap (λ (k : ℕ). lines_from k ys) (let same : first ≡ place = omega arith in same)

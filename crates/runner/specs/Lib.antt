@@ -1,6 +1,6 @@
+pub mod CommandLines
 pub mod Faults
 pub mod Jobs
-pub mod Lines
 pub mod Runs
 pub mod Steps
-pub mod There
+pub mod Supported

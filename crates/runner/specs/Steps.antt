@@ -18,8 +18,11 @@ use Rattle.runner.specs.declared.fault.RunFault.TheVariants.{Write, HistoryFull,
 abbrev pub operations : List Entry → List (ℕ × Op)
 operations entries = map (λ e. (e.pid, e.op)) entries
 
--- A kernel with these priorities and this limit has a legal history, and its operations are these steps.
-pub record HasDone (priorities : List ℕ) (limit : ℕ) (steps : List (ℕ × Op)) (kernel : Shown) : Type 0 where
+-- A kernel with these priorities and this limit has a legal history, and its operations are these
+-- steps.
+pub record HasDone
+    (priorities : List ℕ) (limit : ℕ) (steps : List (ℕ × Op)) (kernel : Shown)
+    : Type 0 where
   pub kept : Kept kernel
   pub same_priorities : kernel.log.priorities ≡ priorities
   pub same_limit : kernel.log.limit ≡ limit
@@ -30,14 +33,20 @@ pub record Took (old new : Log) (pid : ℕ) (op : Op) : Type 0 where
   pub reply : Reply
   pub added : Added old new pid op reply
 
--- Why a step was refused: its places are not free, or they are, and it needs one, and memory was refused.
+-- Why a step was refused: its places are not free, or they are, and it needs one, and memory was
+-- refused.
 abbrev pub Refused : Log → ℕ → Op → RunFault → Type 0
 Refused log pid op HistoryFull = has_place log pid op ≡ false
-Refused log pid op NoMemory = (has_place log pid op ≡ true) × (needed (status (moment log) pid) op ≢ 0)
+Refused log pid op NoMemory =
+    (has_place log pid op ≡ true) × (needed (status (moment log) pid) op ≢ 0)
 Refused log pid op _ = ⊥
 
--- The first `count` steps are done, and their transcript is written behind what stood there before. The next one was refused.
-pub record StopsBefore (fault : RunFault) (priorities : List ℕ) (limit : ℕ) (steps : List (ℕ × Op)) (old new : Option (List ℕ)) : Type 0 where
+-- The first `count` steps are done, and their transcript is written behind what stood there before.
+-- The next one was refused.
+pub record StopsBefore
+    (fault : RunFault) (priorities : List ℕ) (limit : ℕ) (steps : List (ℕ × Op))
+    (old new : Option (List ℕ))
+    : Type 0 where
   pub count : ℕ
   pub kernel : Shown
   pub done : HasDone priorities limit (take count steps) kernel
@@ -47,8 +56,11 @@ pub record StopsBefore (fault : RunFault) (priorities : List ℕ) (limit : ℕ) 
   pub next : slice_get steps count ≡ Some (pid, op)
   pub refused : Refused kernel.log pid op fault
 
--- The first `count` steps are done. All lines but that of the last are written, and a beginning of that one.
-pub record StopsWriting (priorities : List ℕ) (limit : ℕ) (steps : List (ℕ × Op)) (old new : Option (List ℕ)) : Type 0 where
+-- The first `count` steps are done. All lines but that of the last are written, and a beginning of
+-- that one.
+pub record StopsWriting
+    (priorities : List ℕ) (limit : ℕ) (steps : List (ℕ × Op)) (old new : Option (List ℕ))
+    : Type 0 where
   pub count : ℕ
   pub kernel : Shown
   pub done : HasDone priorities limit (take count steps) kernel
@@ -58,6 +70,7 @@ pub record StopsWriting (priorities : List ℕ) (limit : ℕ) (steps : List (ℕ
   pub part : IsPart (append_known old (transcript before)) new (line_of (length before + 1) last)
 
 -- how far the steps have come where a fault stops them
-abbrev pub Stops : RunFault → List ℕ → ℕ → List (ℕ × Op) → Option (List ℕ) → Option (List ℕ) → Type 0
+abbrev pub Stops :
+    RunFault → List ℕ → ℕ → List (ℕ × Op) → (old new : Option (List ℕ)) → Type 0
 Stops Write priorities limit steps old new = StopsWriting priorities limit steps old new
 Stops fault priorities limit steps old new = StopsBefore fault priorities limit steps old new

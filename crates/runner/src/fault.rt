@@ -5,7 +5,7 @@ ghost use Rattle.runner.specs.Faults.{fault_of_script, fault_of_schedule, status
 use script::{ScheduleFault, ScriptFault};
 use thiserror::Error;
 
-/// Why a run has ended early. Its text is what the program tells.
+/// Why a run has ended early. Its text is what the program reports.
 #[derive(Clone, Copy, Debug, PartialEq, Eq, Error)]
 pub enum RunFault {
     /// The text is no script.
@@ -20,7 +20,7 @@ pub enum RunFault {
     /// The sink has failed.
     #[error("write failed")]
     Write,
-    /// A step found no place in the history.
+    /// The history has no room left for a step's entry.
     #[error("history full")]
     HistoryFull,
     /// Memory was refused.
@@ -29,7 +29,7 @@ pub enum RunFault {
 }
 
 impl RunFault {
-    /// The fault of a text that is no script. Refused memory is that of the run.
+    /// The run's fault for a text that is no script. Refused memory stays refused memory.
     pub fn of_script(fault: ScriptFault) -> RunFault
         ensures { result ≡ fault_of_script fault }
     {
@@ -39,7 +39,7 @@ impl RunFault {
         }
     }
 
-    /// The fault of a list that is no schedule. Refused memory is that of the run.
+    /// The run's fault for a list that is no schedule. Refused memory stays refused memory.
     pub fn of_schedule(fault: ScheduleFault) -> RunFault
         ensures { result ≡ fault_of_schedule fault }
     {
@@ -49,7 +49,8 @@ impl RunFault {
         }
     }
 
-    /// The program's exit status: 1 for what is read, 3 for a full history and refused memory, 5 for what is written.
+    /// The program's exit status: 1 for a fault of what is read, 3 where the history or memory is
+    /// exhausted, 5 where writing fails.
     pub fn status(self) -> u8
         ensures { result ≡ status_of self }
     {

@@ -1,18 +1,19 @@
-//! From a script and a schedule to a kernel and its transcript.
+//! Runs: a script and a schedule are read, their steps are executed on a fresh kernel, and the
+//! transcript is written. Faults are reported as lines and exit statuses.
 #![tactic(auto)]
 
 mod fault;
 mod job;
 mod printing;
+mod reporting;
 mod run;
 mod steps;
-mod telling;
-mod there;
+mod supported;
 
 pub use fault::RunFault;
 pub use job::run_job;
 pub use printing::print;
+pub use reporting::{report_command_line, report_fault};
 pub use run::run_schedule;
 pub use script::{read_schedule, read_script};
-pub use telling::{tell_fault, tell_line};
 pub use words::read_words;

@@ -1,6 +1,7 @@
 // The steps of a run.
-ghost use Rattle.std.specs.Prelude.{◌≡◌, ◌≢◌, ◌<◌, ◌-◌, ◌^◌, [], true, IfErr, OnErr, OnOk};
+ghost use Rattle.std.specs.Prelude.{◌≡◌, ◌≢◌, ◌<◌, [], true, IfErr, OnErr, OnOk};
 ghost use Rattle.std.specs.Io.KnownBytes.{append_known};
+ghost use Rattle.device.specs.Device.{CanCount};
 ghost use Rattle.kernel.specs.Operations.{can_run, CanRunAll};
 ghost use Rattle.kernel.specs.Shown.{Kept};
 ghost use Rattle.transcript.specs.Line.{transcript};
@@ -13,7 +14,7 @@ use heap::Heap;
 use ids::{Op, Pid, Reply};
 use kernel::Kernel;
 
-// One step. HistoryFull and NoMemory mean that nothing has changed.
+// Executes one step. A fault, HistoryFull or NoMemory, means that nothing has changed.
 fn do_step(kernel: &mut Kernel, pid: Pid, op: Op) -> Result<(), RunFault>
     requires { can_run op ≡ true }
     ensures kept { Kept kernel.new }
@@ -38,19 +39,24 @@ fn do_step(kernel: &mut Kernel, pid: Pid, op: Op) -> Result<(), RunFault>
     }
 }
 
-// Does steps in a row on a kernel that has done none. After each the line of its entry is written.
+// Executes steps in a row on a kernel whose history is empty. After each the line of its entry is
+// written.
 pub(crate) fn do_steps<S: Sink>(
     kernel: &mut Kernel,
     steps: Vec<(Pid, Op), Heap>,
     sink: &mut S,
 ) -> Result<(), RunFault>
-    requires there { CanRunAll steps.items }
+    requires supported { CanRunAll steps.items }
     requires kept { Kept kernel.old }
     requires fresh { kernel.old.log.entries ≡ [] }
-    requires device { S.failures sink.old < 2 ^ 64 - 1 }
-    ensures done { OnOk result (HasDone kernel.old.log.priorities kernel.old.log.limit steps.entry.items kernel.new) }
-    ensures written { OnOk result (S.written sink.new ≡ append_known (S.written sink.old) (transcript kernel.new.log.entries)) }
-    ensures fault { IfErr result (λ fault. Stops fault kernel.old.log.priorities kernel.old.log.limit steps.entry.items (S.written sink.old) (S.written sink.new)) }
+    requires device { CanCount (S.failures sink.old) }
+    ensures done { OnOk result (HasDone
+        kernel.old.log.priorities kernel.old.log.limit steps.entry.items kernel.new) }
+    ensures written { OnOk result (S.written sink.new
+        ≡ append_known (S.written sink.old) (transcript kernel.new.log.entries)) }
+    ensures fault { IfErr result (λ fault. Stops fault
+        kernel.old.log.priorities kernel.old.log.limit steps.entry.items
+        (S.written sink.old) (S.written sink.new)) }
     ensures write { result ≡ Err RunFault.Write → S.failures sink.old < S.failures sink.new }
     ensures no_failure { result ≢ Err RunFault.Write → S.failures sink.new ≡ S.failures sink.old }
 {

@@ -1,7 +1,7 @@
 pub mod Cuts
 pub mod Drops
 pub mod Tables
-pub mod Spelled
+pub mod Decimals
 pub mod Escapes
 pub mod Reading
 pub mod Counts

@@ -3,6 +3,7 @@ use Rattle.std.specs.Prelude.{ℕ, ◌||◌, List, [], ◌∷◌, Option, Some, 
 use Rattle.std.specs.List.{slice_split}
 use Rattle.std.specs.Option.{option_and_then}
 use Rattle.std.specs.Str.{bytes_eq}
+use Rattle.script.specs.Characters.{comma}
 use Rattle.ids.specs.declared.flags.OpenFlags.{OpenFlags}
 use Rattle.ids.specs.declared.flags.BeginFlags.{BeginFlags}
 use Rattle.ids.specs.declared.call.Whence.{Whence}
@@ -29,18 +30,23 @@ flag_in name =
 -- the flags that the names say, and those that are there already
 abbrev pub flags_after : ℕ → List (List ℕ) → Option ℕ
 flags_after bits [] = Some bits
-flags_after bits (name ∷ names) = option_and_then (λ flag. flags_after (bit_or bits flag) names) (flag_in name)
+flags_after bits (name ∷ names) =
+    option_and_then (λ flag. flags_after (bit_or bits flag) names) (flag_in name)
 
 -- `-` for none, or names with commas, in any order and as often as one likes
 abbrev pub flags_in : List ℕ → Option OpenFlags
-flags_in word = option_map open_flags (if bytes_eq word (codes "-") then Some 0 else flags_after 0 (slice_split (λ b. eqb b 44) word))
+flags_in word =
+    option_map open_flags
+    (if bytes_eq word (codes "-") then Some 0
+    else flags_after 0 (slice_split (λ b. eqb b comma) word))
 
 -- RESTART 1, ABORT_UNSUPPORTED 2
 abbrev pub begin_flags_in : List ℕ → Option BeginFlags
 begin_flags_in word =
     if bytes_eq word (codes "RESTART") then Some (begin_flags 1)
     else if bytes_eq word (codes "ABORT_UNSUPPORTED") then Some (begin_flags 2)
-    else if bytes_eq word (codes "RESTART,ABORT_UNSUPPORTED") || bytes_eq word (codes "ABORT_UNSUPPORTED,RESTART") then Some (begin_flags 3) else None
+    else if bytes_eq word (codes "RESTART,ABORT_UNSUPPORTED")
+    || bytes_eq word (codes "ABORT_UNSUPPORTED,RESTART") then Some (begin_flags 3) else None
 
 abbrev pub whence_in : List ℕ → Option Whence
 whence_in word =

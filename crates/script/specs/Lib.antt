@@ -1,11 +1,13 @@
+pub mod Characters
+pub mod Contents
 pub mod Flags
 pub mod Numbers
 pub mod Operations
 pub mod Pieces
 pub mod Schedules
 pub mod Scripts
-pub mod Spelled
 pub mod Steps
 pub mod Tables
 pub mod Texts
 pub mod Verbs
+pub mod Words

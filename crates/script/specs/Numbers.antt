@@ -2,10 +2,13 @@
 use Rattle.std.specs.Prelude.{ℕ, ◌+◌, ◌*◌, ◌-◌, ◌^◌, ◌==◌, zero, suc, ◌&&◌, nat_le, ℤ, pos, negsuc, List, [], ◌∷◌, Option, Some, None, if◌then◌else◌, decimal}
 use Rattle.std.specs.Str.{bytes_eq}
 use Rattle.std.specs.Str.Parse.{digits_value}
+use Rattle.script.specs.Characters.{minus}
 
 -- the number whose decimal the word is, where it is at most that
 unfoldable pub decimal_in : ℕ → List ℕ → Option ℕ
-decimal_in most word = let n = digits_value 10 word in if nat_le n most && bytes_eq (decimal n) word then Some n else None
+decimal_in most word =
+    let n = digits_value 10 word in
+    if nat_le n most && bytes_eq (decimal n) word then Some n else None
 
 abbrev pub below_zero : Option ℕ → Option ℤ
 below_zero None = None
@@ -19,9 +22,11 @@ from_zero (Some n) = Some (pos n)
 -- a number of 64 bits, which may have a `-` before it where it is not 0
 abbrev pub offset_in : List ℕ → Option ℤ
 offset_in [] = None
-offset_in (b ∷ bs) = if b == 45 then below_zero (decimal_in (2 ^ 63) bs) else from_zero (decimal_in (2 ^ 63 - 1) (b ∷ bs))
+offset_in (b ∷ bs) =
+    if b == minus then below_zero (decimal_in (2 ^ 63) bs)
+    else from_zero (decimal_in (2 ^ 63 - 1) (b ∷ bs))
 
--- the value of a hexadecimal digit in lower case
+-- the value of a hexadecimal digit in lower case: of `0` to `9` and `a` to `f`
 abbrev pub hex_in : ℕ → Option ℕ
 hex_in digit =
     if nat_le 48 digit && nat_le digit 57 then Some (digit - 48)

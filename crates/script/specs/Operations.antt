@@ -1,11 +1,12 @@
 -- How operations are spelled.
-use Rattle.std.specs.Prelude.{ℕ, List, [], ◌∷◌, Bool, true, false, Option, Some, None, codes, replicate, option_map, if◌then◌else◌}
+use Rattle.std.specs.Prelude.{ℕ, ◌-◌, ◌^◌, List, [], ◌∷◌, Bool, true, false, Option, Some, None, codes, replicate, option_map, if◌then◌else◌}
 use Rattle.std.specs.Option.{option_and_then}
 use Rattle.std.specs.Str.{bytes_eq}
 use Rattle.script.specs.Pieces.{one_of, two_of, three_of}
 use Rattle.script.specs.Numbers.{decimal_in, offset_in, byte_in}
 use Rattle.script.specs.Texts.{text_in}
 use Rattle.script.specs.Flags.{flags_in, begin_flags, begin_flags_in, whence_in}
+use Rattle.script.specs.declared.limits.TheConstants.{TRANSFER_LIMIT}
 use Rattle.ids.specs.declared.flags.BeginFlags.{BeginFlags}
 use Rattle.ids.specs.declared.call.Op.{Op}
 use Rattle.ids.specs.declared.call.Op.TheVariants as op
@@ -33,18 +34,25 @@ triple (Some a) (Some b) None = None
 triple (Some a) None _ = None
 triple None _ _ = None
 
--- exactly one argument, two or three, each in its form
+-- the values of exactly one argument, two or three, each read in its own way
 abbrev pub one : {A : Type 0} → (List ℕ → Option A) → List (List ℕ) → Option A
 one f args = option_and_then f (one_of args)
 
-abbrev pub two : {A B : Type 0} → (List ℕ → Option A) → (List ℕ → Option B) → List (List ℕ) → Option (A × B)
+abbrev pub two : {A B : Type 0}
+    → (List ℕ → Option A) → (List ℕ → Option B) → List (List ℕ) → Option (A × B)
 two f g args = option_and_then (λ p. pair (f p.0) (g p.1)) (two_of args)
 
-abbrev pub three : {A B C : Type 0} → (List ℕ → Option A) → (List ℕ → Option B) → (List ℕ → Option C) → List (List ℕ) → Option (A × B × C)
+abbrev pub three : {A B C : Type 0}
+    → (List ℕ → Option A) → (List ℕ → Option B) → (List ℕ → Option C)
+    → List (List ℕ) → Option (A × B × C)
 three f g h args = option_and_then (λ p. triple (f p.0) (g p.1) (h p.2)) (three_of args)
 
+-- a number of 32 bits
+abbrev pub number_in : List ℕ → Option ℕ
+number_in word = decimal_in (2 ^ 32 - 1) word
+
 abbrev pub fd_in : List ℕ → Option ℕ
-fd_in word = decimal_in 4294967295 word
+fd_in word = number_in word
 
 abbrev pub no_arguments : {A : Type 0} → A → List (List ℕ) → Option A
 no_arguments x [] = Some x
@@ -65,10 +73,14 @@ abbrev pub fd_arguments : FdVerb → List (List ℕ) → Option Op
 fd_arguments fd_verb.Close args = option_map (λ fd. op.Call (call.Close fd)) (one fd_in args)
 fd_arguments fd_verb.Fstat args = option_map (λ fd. op.Call (call.Fstat fd)) (one fd_in args)
 fd_arguments fd_verb.Dup args = option_map (λ fd. op.Call (call.Dup fd)) (one fd_in args)
-fd_arguments fd_verb.Read args = option_map (λ p. op.Call (call.Read p.0 p.1)) (two fd_in (decimal_in 1048576) args)
-fd_arguments fd_verb.Lseek args = option_map (λ p. op.Call (call.Lseek p.0 p.1 p.2)) (three fd_in offset_in whence_in args)
-fd_arguments fd_verb.Ftruncate args = option_map (λ p. op.Call (call.Ftruncate p.0 p.1)) (two fd_in (decimal_in 4294967295) args)
-fd_arguments fd_verb.Dup2 args = option_map (λ p. op.Call (call.Dup2 p.0 p.1)) (two fd_in fd_in args)
+fd_arguments fd_verb.Read args =
+    option_map (λ p. op.Call (call.Read p.0 p.1)) (two fd_in (decimal_in TRANSFER_LIMIT) args)
+fd_arguments fd_verb.Lseek args =
+    option_map (λ p. op.Call (call.Lseek p.0 p.1 p.2)) (three fd_in offset_in whence_in args)
+fd_arguments fd_verb.Ftruncate args =
+    option_map (λ p. op.Call (call.Ftruncate p.0 p.1)) (two fd_in number_in args)
+fd_arguments fd_verb.Dup2 args =
+    option_map (λ p. op.Call (call.Dup2 p.0 p.1)) (two fd_in fd_in args)
 
 abbrev pub on_path : PathVerb → List ℕ → Call
 on_path path_verb.Stat path = call.Stat path
@@ -81,8 +93,10 @@ abbrev pub path_arguments : PathVerb → List (List ℕ) → Option Op
 path_arguments v args = option_map (λ path. op.Call (on_path v path)) (one text_in args)
 
 abbrev pub paths_arguments : PathsVerb → List (List ℕ) → Option Op
-paths_arguments paths_verb.Link args = option_map (λ p. op.Call (call.Link p.0 p.1)) (two text_in text_in args)
-paths_arguments paths_verb.Rename args = option_map (λ p. op.Call (call.Rename p.0 p.1)) (two text_in text_in args)
+paths_arguments paths_verb.Link args =
+    option_map (λ p. op.Call (call.Link p.0 p.1)) (two text_in text_in args)
+paths_arguments paths_verb.Rename args =
+    option_map (λ p. op.Call (call.Rename p.0 p.1)) (two text_in text_in args)
 
 abbrev pub bare_arguments : BareVerb → List (List ℕ) → Option Op
 bare_arguments bare_verb.Pipe args = no_arguments (op.Call call.Pipe) args
@@ -96,7 +110,9 @@ bare_arguments bare_verb.Abort args = option_map (λ no_restart. op.Abort no_res
 abbrev pub arguments : Verb → List (List ℕ) → Option Op
 arguments verb.Open args = option_map (λ p. op.Call (call.Open p.0 p.1)) (two text_in flags_in args)
 arguments verb.Write args = option_map (λ p. op.Call (call.Write p.0 p.1)) (two fd_in text_in args)
-arguments verb.Fill args = option_map (λ p. op.Call (call.Write p.0 (replicate p.1 p.2))) (three fd_in (decimal_in 1048576) byte_in args)
+arguments verb.Fill args =
+    option_map (λ p. op.Call (call.Write p.0 (replicate p.1 p.2)))
+    (three fd_in (decimal_in TRANSFER_LIMIT) byte_in args)
 arguments (verb.OnFd v) args = fd_arguments v args
 arguments (verb.OnPath v) args = path_arguments v args
 arguments (verb.OnPaths v) args = paths_arguments v args

@@ -4,6 +4,6 @@ use Rattle.std.specs.Borrow.{Bor}
 use Rattle.std.specs.Str.{bytes_eq}
 
 -- what a word names in a table
-abbrev pub named : {A : Type 0} → List (Bor (List ℕ) × A) → List ℕ → Option A
-named [] word = None
-named (e ∷ es) word = if bytes_eq word e.0.now then Some e.1 else named es word
+abbrev pub lookup : {A : Type 0} → List (Bor (List ℕ) × A) → List ℕ → Option A
+lookup [] word = None
+lookup (e ∷ es) word = if bytes_eq word e.0.now then Some e.1 else lookup es word

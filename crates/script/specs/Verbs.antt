@@ -25,7 +25,8 @@ path_verb_in word =
     else if bytes_eq word (codes "rmdir") then Some (verb.OnPath path.Rmdir)
     else if bytes_eq word (codes "list") then Some (verb.OnPath path.List)
     else if bytes_eq word (codes "link") then Some (verb.OnPaths paths.Link)
-    else if bytes_eq word (codes "rename") then Some (verb.OnPaths paths.Rename) else bare_verb_in word
+    else if bytes_eq word (codes "rename") then Some (verb.OnPaths paths.Rename)
+    else bare_verb_in word
 
 -- the operation that a word names
 abbrev pub verb_in : List ℕ → Option Verb

@@ -3,8 +3,8 @@ ghost use Rattle.std.specs.Prelude.{◌≡◌, option_map};
 ghost use Rattle.ids.specs.Flags.{open_bits};
 ghost use Rattle.script.specs.Flags.{begin_flags_in, flag_in, flags_in, whence_in};
 
-use crate::named::named;
 use crate::pieces::Pieces;
+use crate::table::lookup;
 use ids::{BeginFlags, OpenFlags, Whence};
 
 // The names of single flags.
@@ -37,7 +37,7 @@ fn flag_in(name: &[u8]) -> Option<OpenFlags>
     if name == b"RDWR".as_slice() {
         Some(OpenFlags::READ.with(OpenFlags::WRITE))
     } else {
-        named(&FLAGS, name)
+        lookup(&FLAGS, name)
     }
 }
 
@@ -65,7 +65,7 @@ pub(crate) fn begin_flags_in(word: &[u8]) -> Option<BeginFlags>
     {
         Some(BeginFlags::RESTART.with(BeginFlags::ABORT_UNSUPPORTED))
     } else {
-        named(&BEGINS, word)
+        lookup(&BEGINS, word)
     }
 }
 
@@ -73,5 +73,5 @@ pub(crate) fn begin_flags_in(word: &[u8]) -> Option<BeginFlags>
 pub(crate) fn whence_in(word: &[u8]) -> Option<Whence>
     ensures { result ≡ whence_in word.now }
 {
-    named(&WHENCES, word)
+    lookup(&WHENCES, word)
 }

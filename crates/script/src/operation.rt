@@ -1,52 +1,48 @@
 // Operations in their spelling.
-ghost use Rattle.std.specs.Prelude.{◌≡◌, IfOk};
+ghost use Rattle.std.specs.Prelude.{◌≡◌};
 ghost use Rattle.script.specs.Operations.{abort_of, arguments, bare_arguments, begin_of, fd_arguments, fd_in, on_path, one, path_arguments, paths_arguments, three, two};
 ghost use Rattle.script.specs.Numbers.{byte_in, decimal_in, offset_in};
 ghost use Rattle.script.specs.Texts.{text_in};
 ghost use Rattle.script.specs.Flags.{flags_in, whence_in};
+ghost use Rattle.script.specs.Words.{Reads};
 
 use crate::flags::{begin_flags_in, flags_in, whence_in};
+use crate::limits::TRANSFER_LIMIT;
 use crate::number::{byte_in, number_in, offset_in};
 use crate::pieces::Pieces;
 use crate::text::text_in;
 use crate::verb::{BareVerb, FdVerb, PathVerb, PathsVerb, Verb};
+use crate::word::{WordFault, op_spelled};
 use heap::Heap;
 use ids::{BeginFlags, Bytes, Call, Fd, Op, Whence};
-use std::alloc::AllocError;
 
 fn fd_in(word: &[u8]) -> Option<Fd>
     ensures { result ≡ fd_in word.now }
 {
-    match number_in(word, 4294967295) {
+    match number_in(word, u32::MAX) {
         Some(n) => Some(Fd(n)),
         None => None,
     }
 }
 
 // The one text of an operation on a path.
-fn one_text(heap: Heap, args: &mut Pieces<'_>) -> Result<Option<Bytes>, AllocError>
-    ensures { IfOk result (λ found. found ≡ one text_in args.old) }
+fn one_text(heap: Heap, args: &mut Pieces<'_>) -> Result<Bytes, WordFault>
+    ensures { Reads (one text_in args.old) result }
 {
     match args.one() {
         Some(word) => text_in(heap, word),
-        None => Ok(None),
+        None => Err(WordFault::Malformed),
     }
 }
 
 // The two texts of an operation on two paths.
-fn two_texts(heap: Heap, args: &mut Pieces<'_>) -> Result<Option<(Bytes, Bytes)>, AllocError>
-    ensures { IfOk result (λ found. found ≡ two text_in text_in args.old) }
+fn two_texts(heap: Heap, args: &mut Pieces<'_>) -> Result<(Bytes, Bytes), WordFault>
+    ensures { Reads (two text_in text_in args.old) result }
 {
     let Some((first, second)) = args.two() else {
-        return Ok(None);
+        return Err(WordFault::Malformed);
     };
-    let Some(first) = text_in(heap, first)? else {
-        return Ok(None);
-    };
-    let Some(second) = text_in(heap, second)? else {
-        return Ok(None);
-    };
-    Ok(Some((first, second)))
+    Ok((text_in(heap, first)?, text_in(heap, second)?))
 }
 
 // The one descriptor of an operation.
@@ -66,10 +62,14 @@ fn fd_and_number(args: &mut Pieces<'_>, most: u32) -> Option<(Fd, u32)>
 
 // A descriptor, a count and a byte.
 fn fill_of(args: &mut Pieces<'_>) -> Option<(Fd, u32, u8)>
-    ensures { result ≡ three fd_in (decimal_in 1048576) byte_in args.old }
+    ensures { result ≡ three fd_in (decimal_in TRANSFER_LIMIT) byte_in args.old }
 {
     let (fd, count, byte) = args.three()?;
-    Some((fd_in(fd)?, number_in(count, 1048576)?, byte_in(byte)?))
+    Some((
+        fd_in(fd)?,
+        number_in(count, TRANSFER_LIMIT)?,
+        byte_in(byte)?,
+    ))
 }
 
 // A descriptor, an offset and from where it counts.
@@ -114,7 +114,7 @@ fn fd_arguments(verb: FdVerb, args: &mut Pieces<'_>) -> Option<Op>
         FdVerb::Fstat => Call::Fstat(one_fd(args)?),
         FdVerb::Dup => Call::Dup(one_fd(args)?),
         FdVerb::Read => {
-            let (fd, count) = fd_and_number(args, 1048576)?;
+            let (fd, count) = fd_and_number(args, TRANSFER_LIMIT)?;
             Call::Read(fd, count)
         }
         FdVerb::Lseek => {
@@ -122,11 +122,11 @@ fn fd_arguments(verb: FdVerb, args: &mut Pieces<'_>) -> Option<Op>
             Call::Lseek(fd, offset, whence)
         }
         FdVerb::Ftruncate => {
-            let (fd, len) = fd_and_number(args, 4294967295)?;
+            let (fd, len) = fd_and_number(args, u32::MAX)?;
             Call::Ftruncate(fd, len)
         }
         FdVerb::Dup2 => {
-            let (fd, other) = fd_and_number(args, 4294967295)?;
+            let (fd, other) = fd_and_number(args, u32::MAX)?;
             Call::Dup2(fd, Fd(other))
         }
     }))
@@ -146,34 +146,22 @@ fn on_path(verb: PathVerb, path: Bytes) -> Call
 }
 
 // The operation of a word on a path.
-fn path_arguments(
-    heap: Heap,
-    verb: PathVerb,
-    args: &mut Pieces<'_>,
-) -> Result<Option<Op>, AllocError>
-    ensures { IfOk result (λ found. found ≡ path_arguments verb args.old) }
+fn path_arguments(heap: Heap, verb: PathVerb, args: &mut Pieces<'_>) -> Result<Op, WordFault>
+    ensures { Reads (path_arguments verb args.old) result }
 {
-    match one_text(heap, args)? {
-        Some(path) => Ok(Some(Op::Call(on_path(verb, path)))),
-        None => Ok(None),
-    }
+    let path = one_text(heap, args)?;
+    Ok(Op::Call(on_path(verb, path)))
 }
 
 // The operation of a word on two paths.
-fn paths_arguments(
-    heap: Heap,
-    verb: PathsVerb,
-    args: &mut Pieces<'_>,
-) -> Result<Option<Op>, AllocError>
-    ensures { IfOk result (λ found. found ≡ paths_arguments verb args.old) }
+fn paths_arguments(heap: Heap, verb: PathsVerb, args: &mut Pieces<'_>) -> Result<Op, WordFault>
+    ensures { Reads (paths_arguments verb args.old) result }
 {
-    match two_texts(heap, args)? {
-        Some((from, to)) => Ok(Some(Op::Call(match verb {
-            PathsVerb::Link => Call::Link(from, to),
-            PathsVerb::Rename => Call::Rename(from, to),
-        }))),
-        None => Ok(None),
-    }
+    let (old, new) = two_texts(heap, args)?;
+    Ok(Op::Call(match verb {
+        PathsVerb::Link => Call::Link(old, new),
+        PathsVerb::Rename => Call::Rename(old, new),
+    }))
 }
 
 // The operation of a word on neither.
@@ -194,63 +182,55 @@ fn bare_arguments(verb: BareVerb, args: &mut Pieces<'_>) -> Option<Op>
 }
 
 // An open's path and flags.
-fn open_arguments(heap: Heap, args: &mut Pieces<'_>) -> Result<Option<Op>, AllocError>
-    ensures { IfOk result (λ found. found ≡ arguments Verb.Open args.old) }
+fn open_arguments(heap: Heap, args: &mut Pieces<'_>) -> Result<Op, WordFault>
+    ensures { Reads (arguments Verb.Open args.old) result }
 {
     let Some((path, flags)) = args.two() else {
-        return Ok(None);
+        return Err(WordFault::Malformed);
     };
     let Some(flags) = flags_in(flags) else {
-        return Ok(None);
+        return Err(WordFault::Malformed);
     };
-    match text_in(heap, path)? {
-        Some(path) => Ok(Some(Op::Call(Call::Open(path, flags)))),
-        None => Ok(None),
-    }
+    Ok(Op::Call(Call::Open(text_in(heap, path)?, flags)))
 }
 
 // The descriptor and the bytes of a write.
-fn write_arguments(heap: Heap, args: &mut Pieces<'_>) -> Result<Option<Op>, AllocError>
-    ensures { IfOk result (λ found. found ≡ arguments Verb.Write args.old) }
+fn write_arguments(heap: Heap, args: &mut Pieces<'_>) -> Result<Op, WordFault>
+    ensures { Reads (arguments Verb.Write args.old) result }
 {
     let Some((fd, bytes)) = args.two() else {
-        return Ok(None);
+        return Err(WordFault::Malformed);
     };
     let Some(fd) = fd_in(fd) else {
-        return Ok(None);
+        return Err(WordFault::Malformed);
     };
-    match text_in(heap, bytes)? {
-        Some(bytes) => Ok(Some(Op::Call(Call::Write(fd, bytes)))),
-        None => Ok(None),
-    }
+    Ok(Op::Call(Call::Write(fd, text_in(heap, bytes)?)))
 }
 
 // A write of many of one byte.
-fn fill_arguments(heap: Heap, args: &mut Pieces<'_>) -> Result<Option<Op>, AllocError>
-    ensures { IfOk result (λ found. found ≡ arguments Verb.Fill args.old) }
+fn fill_arguments(heap: Heap, args: &mut Pieces<'_>) -> Result<Op, WordFault>
+    ensures { Reads (arguments Verb.Fill args.old) result }
 {
     let Some((fd, count, byte)) = fill_of(args) else {
-        return Ok(None);
+        return Err(WordFault::Malformed);
     };
-    let bytes = Vec::from_elem(heap, byte, count as usize)?;
-    Ok(Some(Op::Call(Call::Write(fd, Bytes::new(bytes)))))
+    let Ok(bytes) = Vec::from_elem(heap, byte, count as usize) else {
+        return Err(WordFault::NoMemory);
+    };
+    Ok(Op::Call(Call::Write(fd, Bytes::new(bytes))))
 }
 
 // The operation of a word with these arguments.
-pub(crate) fn arguments(
-    heap: Heap,
-    verb: Verb,
-    args: &mut Pieces<'_>,
-) -> Result<Option<Op>, AllocError>
-    ensures { IfOk result (λ found. found ≡ arguments verb args.old) }
+pub(crate) fn arguments(heap: Heap, verb: Verb, args: &mut Pieces<'_>) -> Result<Op, WordFault>
+    ensures { Reads (arguments verb args.old) result }
 {
     match verb {
         Verb::Open => open_arguments(heap, args),
         Verb::Write => write_arguments(heap, args),
         Verb::Fill => fill_arguments(heap, args),
-        Verb::OnFd(verb) => Ok(fd_arguments(verb, args)),
+        Verb::OnFd(verb) => op_spelled(fd_arguments(verb, args)),
         Verb::OnPath(verb) => path_arguments(heap, verb, args),
         Verb::OnPaths(verb) => paths_arguments(heap, verb, args),
-        Verb::Bare(verb) => Ok(bare_arguments(verb, args)),
+        Verb::Bare(verb) => op_spelled(bare_arguments(verb, args)),
     }
 }

@@ -1,4 +1,4 @@
-// A text, piece by piece.
+// A text, piece by piece: lines, words, or what stands between commas.
 ghost use Rattle.std.specs.Prelude.{◌≡◌, ◌==◌, ◌<◌, ◌++◌, ◌+◌, [], length, eqb, IfSome, IfNone, option_map, option_to_list, is_none};
 ghost use Rattle.std.specs.List.{slice_split};
 ghost use Rattle.script.specs.Pieces.{behind, one_of, three_of, two_of, up_to};
@@ -19,7 +19,8 @@ fn cut_at(text: &[u8], byte: u8) -> (&[u8], Option<&[u8]>)
     (text, None)
 }
 
-// The pieces of a text that are still to come: what stands before, between and behind the bytes of one kind.
+// The pieces of a text that are still to come: what stands before, between and behind the bytes of
+// one kind.
 #[derive(Drop)]
 pub(crate) struct Pieces<'a> {
     byte: u8,

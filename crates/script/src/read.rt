@@ -1,21 +1,20 @@
 // Scripts in their spelling.
-ghost use Rattle.std.specs.Prelude.{◌≡◌, ◌≢◌, ◌≤◌, ◌<◌, ◌+◌, ◌^◌, ◌++◌, ◌∷◌, [], Some, None, Ok, Err, IfOk, IfErr, IfSome, OnOk, All, length};
+ghost use Rattle.std.specs.Prelude.{◌≡◌, ◌≤◌, ◌<◌, ◌+◌, ◌^◌, ◌++◌, ◌∷◌, [], Some, Ok, IfOk, IfErr, IfSome, OnOk, All, length};
 ghost use Rattle.script.specs.Numbers.{decimal_in};
-ghost use Rattle.script.specs.Scripts.{behind_head, from_head, is_skipped, line_of, lines_after, lines_next, pid_in, priorities_after, priorities_of, script_of};
-ghost use Rattle.script.specs.Spelled.{AreLawful, top_priority};
+ghost use Rattle.script.specs.Scripts.{IsFault, NoPriorities, behind_head, from_head, is_skipped, line_of, lines_after, lines_next, pid_in, priorities_after, priorities_of, script_of};
+ghost use Rattle.script.specs.Contents.{AreValidPriorities};
 
 use crate::faults::ScriptFault;
+use crate::limits::{MAX_PROCESSES, PROCESS_NUMBERS_END, SCRIPT_LIMIT, TOP_PRIORITY};
 use crate::number::number_in;
 use crate::operation::arguments;
 use crate::pieces::Pieces;
 use crate::verb::verb_in;
+use crate::word::WordFault;
 use heap::Heap;
 use ids::{Op, Pid, Priority};
 use std::alloc::AllocError;
 use std::marker::Model;
-
-// The highest priority that there is.
-const TOP_PRIORITY: u32 = 7;
 
 /// A line of a script: what a process does next.
 #[derive(Debug, Drop)]
@@ -36,20 +35,21 @@ pub struct Script {
 }
 
 impl Model for Script {
-    ghost use Rattle.script.specs.Spelled.{AreLawful, Spelled};
+    ghost use Rattle.script.specs.Contents.{AreValidPriorities, ScriptContents};
 
-    ghost Value = { Spelled };
+    ghost Value = { ScriptContents };
 
     ghost view = { λ s. record { priorities = s.priorities.items; lines = s.lines.items } };
 
-    ghost invariant = { λ s. AreLawful s.priorities.items };
+    ghost invariant = { λ s. AreValidPriorities s.priorities.items };
 }
 
 impl Script {
-    /// The priorities, from process 1 on: 1 to 4,096 of them, each at most 7.
+    /// The priorities, from process 1 on: 1 to [`MAX_PROCESSES`] of them, each at most
+    /// [`TOP_PRIORITY`].
     pub fn priorities(&self) -> &[Priority]
         ensures value { result.now ≡ self.now.priorities }
-        ensures lawful { AreLawful result.now }
+        ensures lawful { AreValidPriorities result.now }
     {
         self.priorities.as_slice()
     }
@@ -73,34 +73,36 @@ impl Script {
     }
 }
 
-// The process that a word says.
+// The process number that a word spells, from 1 on.
 pub(crate) fn pid_in(word: &[u8]) -> Option<Pid>
     ensures value { result ≡ pid_in word.now }
-    ensures small { IfSome result (λ p. p < 4097) }
+    ensures small { IfSome result (λ p. p < PROCESS_NUMBERS_END) }
 {
-    let n = number_in(word, 4096)?;
+    let n = number_in(word, MAX_PROCESSES)?;
     if n == 0 { None } else { Some(Pid(n)) }
 }
 
-// The priority that a word says.
+// The priority that a word spells.
 fn priority_in(word: &[u8]) -> Option<Priority>
-    ensures value { result ≡ decimal_in top_priority word.now }
-    ensures small { IfSome result (λ p. p ≤ top_priority) }
+    ensures value { result ≡ decimal_in TOP_PRIORITY word.now }
+    ensures small { IfSome result (λ p. p ≤ TOP_PRIORITY) }
 {
     let n = number_in(word, TOP_PRIORITY)?;
     Priority::new(n as u8)
 }
 
-// Puts the priorities that words spell behind those that are there.
+// Adds the priorities that words spell to those that are there. The line has this number.
 fn read_priorities(
     number: usize,
     words: &mut Pieces<'_>,
     priorities: &mut Vec<Priority, Heap>,
 ) -> Result<(), ScriptFault>
-    requires { All (λ n. n ≤ top_priority) priorities.old.items }
-    ensures value { OnOk result (priorities_after priorities.old.items words.old ≡ Some priorities.new.items) }
-    ensures each { OnOk result (All (λ n. n ≤ top_priority) priorities.new.items) }
-    ensures fault { IfErr result (λ fault. fault ≢ ScriptFault.NoMemory → (fault ≡ ScriptFault.PrioritiesExpected number) × (priorities_after priorities.old.items words.old ≡ None)) }
+    requires { All (λ n. n ≤ TOP_PRIORITY) priorities.old.items }
+    ensures value { OnOk result
+        (priorities_after priorities.old.items words.old ≡ Some priorities.new.items) }
+    ensures each { OnOk result (All (λ n. n ≤ TOP_PRIORITY) priorities.new.items) }
+    ensures fault { IfErr result
+        (NoPriorities number (priorities_after priorities.old.items words.old)) }
 {
     while let Some(word) = words.next() {
         let Some(priority) = priority_in(word) else {
@@ -120,8 +122,8 @@ fn priorities_of(
     words: &mut Pieces<'_>,
 ) -> Result<Vec<Priority, Heap>, ScriptFault>
     ensures value { IfOk result (λ v. priorities_of words.old ≡ Some v.items) }
-    ensures lawful { IfOk result (λ v. AreLawful v.items) }
-    ensures fault { IfErr result (λ fault. fault ≢ ScriptFault.NoMemory → (fault ≡ ScriptFault.PrioritiesExpected number) × (priorities_of words.old ≡ None)) }
+    ensures lawful { IfOk result (λ v. AreValidPriorities v.items) }
+    ensures fault { IfErr result (NoPriorities number (priorities_of words.old)) }
 {
     let Some(first) = words.next() else {
         return Err(ScriptFault::PrioritiesExpected(number));
@@ -131,7 +133,7 @@ fn priorities_of(
     }
     let mut priorities = Vec::new(heap);
     read_priorities(number, words, &mut priorities)?;
-    if priorities.len() >= 1 && priorities.len() <= 4096 {
+    if priorities.len() >= 1 && priorities.len() <= MAX_PROCESSES as usize {
         Ok(priorities)
     } else {
         Err(ScriptFault::PrioritiesExpected(number))
@@ -142,7 +144,7 @@ fn priorities_of(
 #[tactic(auto, unfolding(crate::specs::Scripts::line_of))]
 fn line_of(heap: Heap, number: usize, words: &mut Pieces<'_>) -> Result<Line, ScriptFault>
     ensures line { IfOk result (λ line. line_of number words.old ≡ Ok line) }
-    ensures fault { IfErr result (λ fault. fault ≢ ScriptFault.NoMemory → line_of number words.old ≡ Err fault) }
+    ensures fault { IfErr result (IsFault (line_of number words.old)) }
 {
     let Some(first) = words.next() else {
         return Err(ScriptFault::ProcessExpected(number));
@@ -157,9 +159,9 @@ fn line_of(heap: Heap, number: usize, words: &mut Pieces<'_>) -> Result<Line, Sc
         return Err(ScriptFault::UnknownOperation(number));
     };
     match arguments(heap, verb, words) {
-        Ok(Some(op)) => Ok(Line { pid, op, number }),
-        Ok(None) => Err(ScriptFault::BadArguments(number)),
-        Err(_) => Err(ScriptFault::NoMemory),
+        Ok(op) => Ok(Line { pid, op, number }),
+        Err(WordFault::Malformed) => Err(ScriptFault::BadArguments(number)),
+        Err(WordFault::NoMemory) => Err(ScriptFault::NoMemory),
     }
 }
 
@@ -172,7 +174,7 @@ fn is_skipped(line: &[u8]) -> bool
     }
 }
 
-// Puts a line behind the others. Refused memory takes the line with it.
+// Adds a line. Where memory is refused the line is dropped.
 fn push(lines: &mut Vec<Line, Heap>, line: Line) -> Result<(), AllocError>
     ensures { OnOk result (lines.new.items ≡ lines.old.items ++ line ∷ []) }
 {
@@ -180,15 +182,16 @@ fn push(lines: &mut Vec<Line, Heap>, line: Line) -> Result<(), AllocError>
     Ok(())
 }
 
-// Puts a further line, which has this number, behind those that are there.
+// Adds the line that words spell, which has this number.
 fn add_line(
     heap: Heap,
     number: usize,
     words: &mut Pieces<'_>,
     lines: &mut Vec<Line, Heap>,
 ) -> Result<(), ScriptFault>
-    ensures line { OnOk result (lines_next Ok lines.old.items (line_of number words.old) ≡ Ok lines.new.items) }
-    ensures fault { IfErr result (λ fault. fault ≢ ScriptFault.NoMemory → line_of number words.old ≡ Err fault) }
+    ensures line { OnOk result
+        (lines_next Ok lines.old.items (line_of number words.old) ≡ Ok lines.new.items) }
+    ensures fault { IfErr result (IsFault (line_of number words.old)) }
 {
     let line = line_of(heap, number, words)?;
     match push(lines, line) {
@@ -197,7 +200,7 @@ fn add_line(
     }
 }
 
-// Puts the lines behind the first one behind those that are there.
+// Adds the lines that the pieces between the line feeds spell. The first piece has this number.
 fn read_lines(
     heap: Heap,
     first: usize,
@@ -205,8 +208,9 @@ fn read_lines(
     lines: &mut Vec<Line, Heap>,
 ) -> Result<(), ScriptFault>
     requires { first + length pieces.old < 2 ^ 64 }
-    ensures lines { OnOk result (lines_after first lines.old.items pieces.old ≡ Ok lines.new.items) }
-    ensures fault { IfErr result (λ fault. fault ≢ ScriptFault.NoMemory → lines_after first lines.old.items pieces.old ≡ Err fault) }
+    ensures lines { OnOk result
+        (lines_after first lines.old.items pieces.old ≡ Ok lines.new.items) }
+    ensures fault { IfErr result (IsFault (lines_after first lines.old.items pieces.old)) }
 {
     let mut number = first;
     while let Some(line) = pieces.next() {
@@ -230,8 +234,10 @@ fn script_of(
     pieces: &mut Pieces<'_>,
 ) -> Result<Script, ScriptFault>
     requires { number + 1 + length pieces.old < 2 ^ 64 }
-    ensures script { IfOk result (λ script. behind_head number (priorities_of words.old) pieces.old ≡ Ok script) }
-    ensures fault { IfErr result (λ fault. fault ≢ ScriptFault.NoMemory → behind_head number (priorities_of words.old) pieces.old ≡ Err fault) }
+    ensures script { IfOk result (λ script.
+        behind_head number (priorities_of words.old) pieces.old ≡ Ok script) }
+    ensures fault { IfErr result
+        (IsFault (behind_head number (priorities_of words.old) pieces.old)) }
 {
     let priorities = priorities_of(heap, number, words)?;
     let mut lines = Vec::new(heap);
@@ -243,7 +249,7 @@ fn script_of(
 fn script_from(heap: Heap, pieces: &mut Pieces<'_>) -> Result<Script, ScriptFault>
     requires { length pieces.old < 2 ^ 63 }
     ensures script { IfOk result (λ script. from_head 1 pieces.old ≡ Ok script) }
-    ensures fault { IfErr result (λ fault. fault ≢ ScriptFault.NoMemory → from_head 1 pieces.old ≡ Err fault) }
+    ensures fault { IfErr result (IsFault (from_head 1 pieces.old)) }
 {
     let mut number = 1;
     while let Some(line) = pieces.next() {
@@ -262,13 +268,14 @@ fn script_from(heap: Heap, pieces: &mut Pieces<'_>) -> Result<Script, ScriptFaul
     Err(ScriptFault::PrioritiesExpected(number))
 }
 
-/// Reads the script that a text spells, or finds its first fault: that it is too long, or else that
-/// of the first line that has one. `NoMemory` is answered where memory was refused.
+/// Reads the script that a text spells, or finds its first fault: that the text is too long, or
+/// else that of the first line that has one. `NoMemory` is returned where memory was refused, and
+/// says nothing of the text.
 pub fn read_script(heap: Heap, text: &[u8]) -> Result<Script, ScriptFault>
     ensures script { IfOk result (λ script. script_of text.now ≡ Ok script) }
-    ensures fault { IfErr result (λ fault. fault ≢ ScriptFault.NoMemory → script_of text.now ≡ Err fault) }
+    ensures fault { IfErr result (IsFault (script_of text.now)) }
 {
-    if text.len() > 1048576 {
+    if text.len() > SCRIPT_LIMIT {
         return Err(ScriptFault::TooLong);
     }
     script_from(heap, &mut Pieces::new(text, b'\n'))

@@ -1,8 +1,9 @@
 // Schedules in their spelling.
-ghost use Rattle.std.specs.Prelude.{◌≡◌, ◌≢◌, ◌<◌, ◌+◌, ℕ, [], Some, None, Ok, Err, IfOk, IfErr, OnOk, slice_index, vec_len};
-ghost use Rattle.script.specs.Schedules.{AreSmall, first_without, lines_for, pids_of, schedule_of};
+ghost use Rattle.std.specs.Prelude.{◌≡◌, ◌<◌, ℕ, [], Some, None, Ok, IfOk, IfErr, OnOk, slice_index, vec_len};
+ghost use Rattle.script.specs.Schedules.{AreProcessNumbers, IsFault, NoPids, first_without, lines_for, pids_of, schedule_of, with_lines_left};
 
 use crate::faults::ScheduleFault;
+use crate::limits::PROCESS_NUMBERS_END;
 use crate::pieces::Pieces;
 use crate::read::pid_in;
 use crate::{Line, Script};
@@ -14,8 +15,8 @@ use std::alloc::AllocError;
 fn read_pids(text: &[u8], pids: &mut Vec<Pid, Heap>) -> Result<(), ScheduleFault>
     requires { pids.old.items ≡ [] }
     ensures value { OnOk result (pids_of text.now ≡ Some pids.new.items) }
-    ensures small { OnOk result (AreSmall pids.new.items) }
-    ensures fault { IfErr result (λ fault. fault ≢ ScheduleFault.NoMemory → (fault ≡ ScheduleFault.BadList) × (pids_of text.now ≡ None)) }
+    ensures small { OnOk result (AreProcessNumbers pids.new.items) }
+    ensures fault { IfErr result (NoPids (pids_of text.now)) }
 {
     if text.is_empty() {
         return Ok(());
@@ -34,51 +35,55 @@ fn read_pids(text: &[u8], pids: &mut Vec<Pid, Heap>) -> Result<(), ScheduleFault
 
 // How many lines each process has.
 fn counts_of(heap: Heap, lines: &[Line]) -> Result<Vec<usize, Heap>, AllocError>
-    ensures len { IfOk result (λ counts. vec_len counts ≡ 4097) }
-    ensures counts { IfOk result (λ counts. (p : ℕ) → p < 4097 → slice_index counts.items p ≡ lines_for p lines.now) }
+    ensures len { IfOk result (λ counts. vec_len counts ≡ PROCESS_NUMBERS_END) }
+    ensures counts { IfOk result (λ counts. (p : ℕ) → p < PROCESS_NUMBERS_END
+        → slice_index counts.items p ≡ lines_for p lines.now) }
 {
-    let mut counts = Vec::from_elem(heap, 0, 4097)?;
+    let mut counts = Vec::from_elem(heap, 0, PROCESS_NUMBERS_END)?;
     for line in lines {
         let place = line.pid.0 as usize;
-        if place < 4097 {
+        if place < PROCESS_NUMBERS_END {
             counts[place] += 1;
         }
     }
     Ok(counts)
 }
 
-// The first process that stands there more often than it has lines.
-fn first_without(heap: Heap, lines: &[Line], pids: &[Pid]) -> Result<Option<Pid>, AllocError>
-    requires { AreSmall pids.now }
-    ensures { IfOk result (λ found. found ≡ first_without lines.now [] pids.now) }
+// Whether each process stands there at most as often as it has lines. The fault is the first that
+// does not.
+fn has_lines(heap: Heap, lines: &[Line], pids: &[Pid]) -> Result<(), ScheduleFault>
+    requires { AreProcessNumbers pids.now }
+    ensures ok { OnOk result (first_without lines.now [] pids.now ≡ None) }
+    ensures fault { IfErr result
+        (IsFault (with_lines_left pids.now (first_without lines.now [] pids.now))) }
 {
-    let mut counts = counts_of(heap, lines)?;
+    let Ok(mut counts) = counts_of(heap, lines) else {
+        return Err(ScheduleFault::NoMemory);
+    };
     for pid in pids {
         let place = pid.0 as usize;
         if counts[place] == 0 {
-            return Ok(Some(*pid));
+            return Err(ScheduleFault::NoLine(*pid));
         }
         counts[place] -= 1;
     }
-    Ok(None)
+    Ok(())
 }
 
-/// Reads the schedule of a script that a text spells, or finds its fault: `BadList`, or the first
-/// process that has no line left. `NoMemory` is answered where memory was refused.
+/// Reads the schedule of a script that a text spells, or finds its fault: `BadList`, or else the
+/// first process that stands there more often than it has lines. `NoMemory` is returned where
+/// memory was refused, and says nothing of the text.
 pub fn read_schedule(
     heap: Heap,
     text: &str,
     script: &Script,
 ) -> Result<Vec<Pid, Heap>, ScheduleFault>
     ensures schedule { IfOk result (λ pids. schedule_of text.now script.now.lines ≡ Ok pids.items) }
-    ensures small { IfOk result (λ pids. AreSmall pids.items) }
-    ensures fault { IfErr result (λ fault. fault ≢ ScheduleFault.NoMemory → schedule_of text.now script.now.lines ≡ Err fault) }
+    ensures small { IfOk result (λ pids. AreProcessNumbers pids.items) }
+    ensures fault { IfErr result (IsFault (schedule_of text.now script.now.lines)) }
 {
     let mut pids = Vec::new(heap);
     read_pids(text.as_bytes(), &mut pids)?;
-    match first_without(heap, script.lines(), pids.as_slice()) {
-        Ok(None) => Ok(pids),
-        Ok(Some(pid)) => Err(ScheduleFault::NoLine(pid)),
-        Err(_) => Err(ScheduleFault::NoMemory),
-    }
+    has_lines(heap, script.lines(), pids.as_slice())?;
+    Ok(pids)
 }

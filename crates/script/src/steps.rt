@@ -1,15 +1,20 @@
 // The steps that a schedule says.
 ghost use Rattle.std.specs.Prelude.{◌≡◌, ◌<◌, ◌++◌, ◌∷◌, ℕ, List, [], IfOk, OnOk, OnErr, slice_index_or, vec_len, drop, replicate, slice_get, slice_set};
-ghost use Rattle.script.specs.Schedules.{AreSmall};
-ghost use Rattle.script.specs.Steps.{ops_for, steps};
+ghost use Rattle.script.specs.Schedules.{AreProcessNumbers};
+ghost use Rattle.script.specs.Steps.{HoldOps, ops_for, steps};
 ghost use Rattle.script.specs.declared.read.Line.{Line};
 
+use crate::limits::PROCESS_NUMBERS_END;
 use crate::{Line, Script};
 use heap::Heap;
 use ids::{Op, Pid};
 use std::alloc::AllocError;
 use std::collections::VecDeque;
 use std::marker::Model;
+
+// One queue for each process number, and one for all other numbers, so that each operation is moved
+// and none has to be dropped.
+const QUEUES: usize = PROCESS_NUMBERS_END + 1;
 
 // The operations of a process that no step has taken yet.
 #[derive(Drop)]
@@ -51,33 +56,35 @@ impl Queue {
     }
 }
 
-// Puts a queue for each process, from 0 to 4,096, and one for all others into an empty vector.
+// Puts the empty queues into an empty vector.
 fn put_queues(heap: Heap, queues: &mut Vec<Queue, Heap>) -> Result<(), AllocError>
     requires { queues.old.items ≡ [] }
-    ensures { OnOk result (queues.new.items ≡ replicate 4098 []) }
+    ensures { OnOk result (queues.new.items ≡ replicate QUEUES []) }
 {
-    for _ in 0..4098usize {
+    for _ in 0..QUEUES {
         queues.push(Queue::new(heap))?;
     }
     Ok(())
 }
 
-// Puts a line's operation behind the others of its process. All numbers above 4,096 share the last
-// queue, so that each operation is moved and none has to be dropped here.
+// Puts a line's operation behind the others of its process. Numbers that no process has share the
+// last queue.
 fn add(queues: &mut Vec<Queue, Heap>, line: Line) -> Result<(), AllocError>
-    requires { vec_len queues.old ≡ 4098 }
-    ensures len { vec_len queues.new ≡ 4098 }
-    ensures ok { OnOk result ((p : ℕ) → p < 4097 → slice_index_or queues.new.items p [] ≡ slice_index_or queues.old.items p [] ++ ops_for p (line ∷ [])) }
+    requires { vec_len queues.old ≡ QUEUES }
+    ensures len { vec_len queues.new ≡ QUEUES }
+    ensures ok { OnOk result ((p : ℕ) → p < PROCESS_NUMBERS_END
+        → slice_index_or queues.new.items p []
+        ≡ slice_index_or queues.old.items p [] ++ ops_for p (line ∷ [])) }
 {
     let Line { pid, op, number: _ } = line;
-    queues[(pid.0 as usize).min(4097)].push(op)
+    queues[(pid.0 as usize).min(PROCESS_NUMBERS_END)].push(op)
 }
 
 // Puts the operations of lines into empty queues, in order.
 fn fill(queues: &mut Vec<Queue, Heap>, lines: Vec<Line, Heap>) -> Result<(), AllocError>
-    requires { queues.old.items ≡ replicate 4098 [] }
-    ensures len { OnOk result (vec_len queues.new ≡ 4098) }
-    ensures queues { OnOk result ((p : ℕ) → p < 4097 → slice_index_or queues.new.items p [] ≡ ops_for p lines.entry.items) }
+    requires { queues.old.items ≡ replicate QUEUES [] }
+    ensures len { OnOk result (vec_len queues.new ≡ QUEUES) }
+    ensures queues { OnOk result (HoldOps queues.new.items lines.entry.items) }
 {
     for line in lines {
         add(queues, line)?;
@@ -87,11 +94,12 @@ fn fill(queues: &mut Vec<Queue, Heap>, lines: Vec<Line, Heap>) -> Result<(), All
 
 // Takes the next operation of a process, if it has one left.
 fn take(queues: &mut Vec<Queue, Heap>, pid: Pid) -> Option<Op>
-    requires len { vec_len queues.old ≡ 4098 }
-    requires small { pid < 4097 }
-    ensures len { vec_len queues.new ≡ 4098 }
+    requires len { vec_len queues.old ≡ QUEUES }
+    requires small { pid < PROCESS_NUMBERS_END }
+    ensures len { vec_len queues.new ≡ QUEUES }
     ensures taken { result ≡ slice_get (slice_index_or queues.old.items pid []) 0 }
-    ensures rest { queues.new.items ≡ slice_set queues.old.items pid (drop 1 (slice_index_or queues.old.items pid [])) }
+    ensures rest { queues.new.items
+        ≡ slice_set queues.old.items pid (drop 1 (slice_index_or queues.old.items pid [])) }
 {
     queues[pid.0 as usize].pop()
 }
@@ -102,10 +110,11 @@ fn take_all(
     pids: &[Pid],
     taken: &mut Vec<(Pid, Op), Heap>,
 ) -> Result<(), AllocError>
-    requires len { vec_len queues.old ≡ 4098 }
-    requires small { AreSmall pids.now }
+    requires len { vec_len queues.old ≡ QUEUES }
+    requires small { AreProcessNumbers pids.now }
     requires none { taken.old.items ≡ [] }
-    ensures { OnOk result ((lines : List Line) → ((p : ℕ) → p < 4097 → slice_index_or queues.old.items p [] ≡ ops_for p lines) → taken.new.items ≡ steps lines pids.now) }
+    ensures { OnOk result ((lines : List Line) → HoldOps queues.old.items lines
+        → taken.new.items ≡ steps lines pids.now) }
 {
     for pid in pids {
         if let Some(op) = take(queues, *pid) {
@@ -123,7 +132,7 @@ fn put_steps(
     queues: &mut Vec<Queue, Heap>,
     taken: &mut Vec<(Pid, Op), Heap>,
 ) -> Result<(), AllocError>
-    requires small { AreSmall pids.now }
+    requires small { AreProcessNumbers pids.now }
     requires no_queues { queues.old.items ≡ [] }
     requires none { taken.old.items ≡ [] }
     ensures { OnOk result (taken.new.items ≡ steps lines.entry.items pids.now) }
@@ -134,13 +143,14 @@ fn put_steps(
 }
 
 /// The steps of a script and a schedule of it, in order: each process number with its next line's
-/// operation. Refused memory takes the script with it.
+/// operation. A number that stands there more often than it has lines gives no further step. The
+/// script is consumed, also where memory is refused.
 pub fn steps_of(
     heap: Heap,
     script: Script,
     pids: &[Pid],
 ) -> Result<Vec<(Pid, Op), Heap>, AllocError>
-    requires { AreSmall pids.now }
+    requires { AreProcessNumbers pids.now }
     ensures { IfOk result (λ v. v.items ≡ steps script.lines pids.now) }
 {
     let mut queues = Vec::new(heap);

@@ -1,20 +1,21 @@
 // Bytes in their spelling.
-ghost use Rattle.std.specs.Prelude.{◌≡◌, ◌<◌, IfOk, IfSome, Some, None, if◌then◌else◌, length, option_map};
+ghost use Rattle.std.specs.Prelude.{◌≡◌, ◌<◌, IfErr, IfSome, OnOk, Some, None, length, option_map};
 ghost use Rattle.script.specs.Texts.{bytes_after, escape_of, first_of, is_plain, text_in};
+ghost use Rattle.script.specs.Words.{Reads};
 
 use crate::number::hex_in;
+use crate::word::WordFault;
 use heap::Heap;
 use ids::Bytes;
-use std::alloc::AllocError;
 
 // Whether a byte stands for itself: from `!` to `~`, and no backslash.
 fn is_plain(byte: u8) -> bool
     ensures { result ≡ is_plain byte }
 {
-    byte >= 33 && byte <= 126 && byte != b'\\'
+    byte >= b'!' && byte <= b'~' && byte != b'\\'
 }
 
-// The byte that an escape says, and what stands behind the escape.
+// The byte that the escape at the beginning of a text says, and what stands behind the escape.
 fn escape_of(text: &[u8]) -> Option<(u8, &[u8])>
     ensures value { option_map (λ p. (p.0, p.1.now)) result ≡ escape_of text.now }
     ensures shorter { IfSome result (λ p. length p.1.now < length text.now) }
@@ -41,35 +42,34 @@ fn first_of(text: &[u8]) -> Option<(u8, &[u8])>
     }
 }
 
-// Puts the bytes that a text spells behind those that are there. Answers whether it spells any.
-fn read_bytes(text: &[u8], bytes: &mut Vec<u8, Heap>) -> Result<bool, AllocError>
-    ensures { IfOk result (λ spelled. bytes_after bytes.old.items text.now ≡ (if spelled then Some bytes.new.items else None)) }
+// Puts the bytes that a text spells behind those that are there.
+fn read_bytes(text: &[u8], bytes: &mut Vec<u8, Heap>) -> Result<(), WordFault>
+    ensures bytes { OnOk result (bytes_after bytes.old.items text.now ≡ Some bytes.new.items) }
+    ensures malformed { IfErr result (λ fault.
+        fault ≡ WordFault.Malformed → bytes_after bytes.old.items text.now ≡ None) }
 {
     let mut rest = text;
     while !rest.is_empty() {
         let Some((byte, behind)) = first_of(rest) else {
-            return Ok(false);
+            return Err(WordFault::Malformed);
         };
         bytes.push(byte)?;
         rest = behind;
     }
-    Ok(true)
+    Ok(())
 }
 
-// The bytes that a word spells, if it spells any.
-pub(crate) fn text_in(heap: Heap, word: &[u8]) -> Result<Option<Bytes>, AllocError>
-    ensures { IfOk result (λ found. found ≡ text_in word.now) }
+// The bytes that a word spells: `\e` for none, else one or more.
+pub(crate) fn text_in(heap: Heap, word: &[u8]) -> Result<Bytes, WordFault>
+    ensures { Reads (text_in word.now) result }
 {
     if word == b"\\e".as_slice() {
-        return Ok(Some(Bytes::new(Vec::new(heap))));
+        return Ok(Bytes::new(Vec::new(heap)));
     }
     if word.is_empty() {
-        return Ok(None);
+        return Err(WordFault::Malformed);
     }
     let mut bytes = Vec::new(heap);
-    Ok(if read_bytes(word, &mut bytes)? {
-        Some(Bytes::new(bytes))
-    } else {
-        None
-    })
+    read_bytes(word, &mut bytes)?;
+    Ok(Bytes::new(bytes))
 }

@@ -2,7 +2,7 @@
 ghost use Rattle.std.specs.Prelude.{◌≡◌};
 ghost use Rattle.script.specs.Verbs.{verb_in};
 
-use crate::named::named;
+use crate::table::lookup;
 
 // The word of an operation.
 #[derive(Clone, Copy)]
@@ -87,5 +87,5 @@ static VERBS: [(&str, Verb); 23] = [
 pub(crate) fn verb_in(word: &[u8]) -> Option<Verb>
     ensures { result ≡ verb_in word.now }
 {
-    named(&VERBS, word)
+    lookup(&VERBS, word)
 }

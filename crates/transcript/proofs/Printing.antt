@@ -156,15 +156,15 @@ Prints-whole {S} {written} {failures} {a} {b} {text} p h k e f =
     r.appended ∙ ap (λ (x : List ℕ). append_known (written a.sink.now) x) (sym all)
 
 -- what a printing to the end answers
-pub record Told {S : Type 0} (written : S → Option (List ℕ)) (failures : S → ℕ) (old new : S) (text : List ℕ) (answer : Result Unit DeviceFailed) : Type 0 where
+pub record Finished {S : Type 0} (written : S → Option (List ℕ)) (failures : S → ℕ) (old new : S) (text : List ℕ) (answer : Result Unit DeviceFailed) : Type 0 where
   pub ok : OnOk answer (written new ≡ append_known (written old) text)
   pub no_failure : OnOk answer (failures new ≡ failures old)
   pub part : IsPart (written old) (written new) text
   pub failure : OnErr answer (failures old < failures new)
 
 -- where nothing was pending before, and nothing is pending any more
-pub Told-by : {S : Type 0} {written : S → Option (List ℕ)} {failures : S → ℕ} {a b : Printer S} {text : List ℕ} (answer : Result Unit DeviceFailed)
+pub Finished-by : {S : Type 0} {written : S → Option (List ℕ)} {failures : S → ℕ} {a b : Printer S} {text : List ℕ} (answer : Result Unit DeviceFailed)
     → Prints written failures a b text → a.failed ≡ false → a.pending ≡ [] → b.pending ≡ [] → OnOk answer (b.failed ≡ false) → OnErr answer (b.failed ≡ true)
-    → Told written failures a.sink.now b.sink.now text answer
-Told-by (Ok done) p h e f ok failed = record { ok = Prints-whole p h ok e f; no_failure = (p.clean ok).0; part = Prints-part p h e; failure = tt }
-Told-by (Err why) p h e f ok failed = record { ok = tt; no_failure = tt; part = Prints-part p h e; failure = p.cause h failed }
+    → Finished written failures a.sink.now b.sink.now text answer
+Finished-by (Ok done) p h e f ok failed = record { ok = Prints-whole p h ok e f; no_failure = (p.clean ok).0; part = Prints-part p h e; failure = tt }
+Finished-by (Err why) p h e f ok failed = record { ok = tt; no_failure = tt; part = Prints-part p h e; failure = p.cause h failed }

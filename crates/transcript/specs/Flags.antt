@@ -13,7 +13,8 @@ name_if has name = if has then name ∷ [] else []
 -- RDONLY, WRONLY or RDWR
 abbrev pub access_names : Bool → Bool → List (List ℕ)
 access_names reads writes =
-    if reads then (if writes then codes "RDWR" ∷ [] else codes "RDONLY" ∷ []) else (if writes then codes "WRONLY" ∷ [] else [])
+    if reads then (if writes then codes "RDWR" ∷ [] else codes "RDONLY" ∷ [])
+    else (if writes then codes "WRONLY" ∷ [] else [])
 
 -- the names of the flags, the access first
 abbrev pub flag_names : OpenFlags → List (List ℕ)
@@ -43,7 +44,10 @@ has_any [] = false
 has_any (_ ∷ _) = true
 
 -- names are printed, and it is known whether there is one
-pub record PrintsNames {S : Type 0} (written : S → Option (List ℕ)) (failures : S → ℕ) (old new : Printer S) (names : List (List ℕ)) (any : Bool) : Type 0 where
+pub record PrintsNames
+    {S : Type 0} (written : S → Option (List ℕ)) (failures : S → ℕ)
+    (old new : Printer S) (names : List (List ℕ)) (any : Bool)
+    : Type 0 where
   pub printed : Prints written failures old new (with_commas names)
   pub known : any ≡ has_any names
 
@@ -58,5 +62,7 @@ flags_text flags = listed (flag_names flags)
 -- the flags of a begin behind a space, and nothing for none
 abbrev pub begin_flags_text : BeginFlags → List ℕ
 begin_flags_text flags =
-    if is_restarting flags then (if is_aborting_unsupported flags then codes " RESTART,ABORT_UNSUPPORTED" else codes " RESTART")
+    if is_restarting flags then
+    (if is_aborting_unsupported flags then codes " RESTART,ABORT_UNSUPPORTED"
+    else codes " RESTART")
     else (if is_aborting_unsupported flags then codes " ABORT_UNSUPPORTED" else [])

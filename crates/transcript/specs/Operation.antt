@@ -33,7 +33,9 @@ call_text (call.Open path flags) = codes "open " ++ text_of path ++ codes " " ++
 call_text (call.Close fd) = number_text (codes "close ") fd
 call_text (call.Read fd count) = numbers_text (codes "read ") fd count
 call_text (call.Write fd bytes) = codes "write " ++ decimal fd ++ codes " " ++ text_of bytes
-call_text (call.Lseek fd offset from) = codes "lseek " ++ decimal fd ++ codes " " ++ signed_decimal offset ++ codes " " ++ whence_text from
+call_text (call.Lseek fd offset from) =
+    codes "lseek " ++ decimal fd ++ codes " " ++ signed_decimal offset ++ codes " "
+    ++ whence_text from
 call_text (call.Ftruncate fd size) = numbers_text (codes "ftruncate ") fd size
 call_text (call.Stat path) = path_text (codes "stat ") path
 call_text (call.Fstat fd) = number_text (codes "fstat ") fd

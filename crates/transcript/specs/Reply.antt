@@ -30,7 +30,9 @@ abbrev pub access_text : Bool → List ℕ
 access_text write = if write then codes " write" else codes " read"
 
 abbrev pub cause_text : Cause → List ℕ
-cause_text cause = aspect_text cause.touch.aspect ++ access_text cause.touch.write ++ codes " by P" ++ decimal cause.other
+cause_text cause =
+    aspect_text cause.touch.aspect ++ access_text cause.touch.write ++ codes " by P"
+    ++ decimal cause.other
 
 abbrev pub why_text : Why → List ℕ
 why_text (why.Clash cause) = cause_text cause
@@ -45,7 +47,9 @@ kind_text kind.Dir = codes "dir"
 kind_text kind.Pipe = codes "pipe"
 
 abbrev pub stat_text : Stat → List ℕ
-stat_text stat = kind_text stat.kind ++ codes " size " ++ decimal stat.size ++ codes " links " ++ decimal stat.links
+stat_text stat =
+    kind_text stat.kind ++ codes " size " ++ decimal stat.size ++ codes " links "
+    ++ decimal stat.links
 
 -- a name behind a space
 abbrev pub name_text : List ℕ → List ℕ
@@ -71,7 +75,8 @@ reply_text (reply.Errno errno) = errno_name errno
 reply_text reply.Begun = codes "begun"
 reply_text reply.Committed = codes "committed"
 reply_text (reply.GivenUp restarted) = codes "given up" ++ restarted_text restarted
-reply_text (reply.Aborted why restarted) = codes "aborted " ++ why_text why ++ restarted_text restarted
+reply_text (reply.Aborted why restarted) =
+    codes "aborted " ++ why_text why ++ restarted_text restarted
 reply_text (reply.Busy cause) = codes "busy " ++ cause_text cause
 reply_text reply.InTransaction = codes "InTransaction"
 reply_text reply.NotInTransaction = codes "NotInTransaction"

@@ -7,10 +7,11 @@ use crate::printer::Printer;
 use device::Sink;
 use ids::{BeginFlags, OpenFlags};
 
-// The name of an access. Answers whether there is one.
+// Prints the name of an access. Returns whether there is one.
 fn put_access<S: Sink>(out: &mut Printer<'_, S>, reads: bool, writes: bool) -> bool
     requires { CanPrint S.failures out.old }
-    ensures text { Prints S.written S.failures out.old out.new (with_commas (access_names reads writes)) }
+    ensures text { Prints S.written S.failures out.old out.new
+        (with_commas (access_names reads writes)) }
     ensures any { result ≡ (reads || writes) }
 {
     if reads {
@@ -25,8 +26,8 @@ fn put_access<S: Sink>(out: &mut Printer<'_, S>, reads: bool, writes: bool) -> b
     reads || writes
 }
 
-// A name, where the set has its flag, behind a comma where a name stands there already. Answers
-// whether a name stands there now.
+// Prints a name, where the set has its flag, behind a comma where a name was printed already.
+// Returns whether a name is printed now.
 fn put_name<S: Sink>(out: &mut Printer<'_, S>, any: bool, has: bool, name: &[u8]) -> bool
     requires { CanPrint S.failures out.old }
     ensures text { Prints S.written S.failures out.old out.new (next_name any has name.now) }
@@ -44,7 +45,7 @@ fn put_name<S: Sink>(out: &mut Printer<'_, S>, any: bool, has: bool, name: &[u8]
     true
 }
 
-// The names of the flags, with commas. Answers whether there is one.
+// Prints the names of the flags, with commas. Returns whether there is one.
 fn put_names<S: Sink>(out: &mut Printer<'_, S>, flags: OpenFlags) -> bool
     requires { CanPrint S.failures out.old }
     ensures { PrintsNames S.written S.failures out.old out.new (flag_names flags) result }

@@ -1,7 +1,7 @@
 // One line, and all lines.
-ghost use Rattle.std.specs.Prelude.{◌≡◌, ◌+◌, ◌-◌, ◌<◌, ◌^◌, flat_map, length, OnErr, OnOk};
+ghost use Rattle.std.specs.Prelude.{◌≡◌, ◌+◌, ◌<◌, ◌^◌, flat_map, length, OnErr, OnOk};
 ghost use Rattle.std.specs.Io.KnownBytes.{append_known};
-ghost use Rattle.device.specs.Device.{IsPart};
+ghost use Rattle.device.specs.Device.{CanCount, IsPart};
 ghost use Rattle.transcript.specs.Line.{dooms_text, line_of, lines_from, more_text};
 ghost use Rattle.transcript.specs.Printer.{CanPrint, Prints};
 
@@ -55,12 +55,13 @@ fn put_lines<S: Sink>(out: &mut Printer<'_, S>, first: usize, entries: &[Entry])
     }
 }
 
-/// Prints the line of one entry, which has this place in its history.
+/// Prints the line of one entry. `place` is its number in its history, from 1.
 ///
-/// Where the sink fails it holds a beginning of the line.
+/// Where the sink fails a beginning of the line is written.
 pub fn print_line<S: Sink>(place: usize, entry: &Entry, sink: &mut S) -> Result<(), DeviceFailed>
-    requires { S.failures sink.old < 2 ^ 64 - 1 }
-    ensures ok { OnOk result (S.written sink.new ≡ append_known (S.written sink.old) (line_of place entry.now)) }
+    requires { CanCount (S.failures sink.old) }
+    ensures ok { OnOk result (S.written sink.new
+        ≡ append_known (S.written sink.old) (line_of place entry.now)) }
     ensures no_failure { OnOk result (S.failures sink.new ≡ S.failures sink.old) }
     ensures part { IsPart (S.written sink.old) (S.written sink.new) (line_of place entry.now) }
     ensures failure { OnErr result (S.failures sink.old < S.failures sink.new) }
@@ -70,14 +71,15 @@ pub fn print_line<S: Sink>(place: usize, entry: &Entry, sink: &mut S) -> Result<
     out.finish()
 }
 
-/// Prints the lines of entries that follow each other in a history, of which the first has this
-/// place. Entries are numbered from 1.
+/// Prints the lines of entries that follow each other in a history. `first` is the number of the
+/// first of them; a history's entries are numbered from 1.
 ///
-/// Where the sink fails it holds a beginning of the lines.
+/// Where the sink fails a beginning of the lines is written.
 pub fn print<S: Sink>(first: usize, entries: &[Entry], sink: &mut S) -> Result<(), DeviceFailed>
-    requires device { S.failures sink.old < 2 ^ 64 - 1 }
+    requires device { CanCount (S.failures sink.old) }
     requires small { first + length entries.now < 2 ^ 64 }
-    ensures ok { OnOk result (S.written sink.new ≡ append_known (S.written sink.old) (lines_from first entries.now)) }
+    ensures ok { OnOk result (S.written sink.new
+        ≡ append_known (S.written sink.old) (lines_from first entries.now)) }
     ensures no_failure { OnOk result (S.failures sink.new ≡ S.failures sink.old) }
     ensures part { IsPart (S.written sink.old) (S.written sink.new) (lines_from first entries.now) }
     ensures failure { OnErr result (S.failures sink.old < S.failures sink.new) }

@@ -32,7 +32,8 @@ fn put_path<S: Sink>(out: &mut Printer<'_, S>, word: &[u8], path: &Bytes)
 
 fn put_paths<S: Sink>(out: &mut Printer<'_, S>, word: &[u8], first: &Bytes, second: &Bytes)
     requires { CanPrint S.failures out.old }
-    ensures { Prints S.written S.failures out.old out.new (paths_text word.now first.now second.now) }
+    ensures { Prints S.written S.failures out.old out.new
+        (paths_text word.now first.now second.now) }
 {
     put_path(out, word, first);
     put_path(out, b" ", second);
@@ -48,7 +49,8 @@ fn put_numbers<S: Sink>(out: &mut Printer<'_, S>, word: &[u8], first: u32, secon
 
 fn put_open<S: Sink>(out: &mut Printer<'_, S>, path: &Bytes, flags: OpenFlags)
     requires { CanPrint S.failures out.old }
-    ensures { Prints S.written S.failures out.old out.new (codes "open " ++ text_of path.now ++ codes " " ++ flags_text flags) }
+    ensures { Prints S.written S.failures out.old out.new
+        (codes "open " ++ text_of path.now ++ codes " " ++ flags_text flags) }
 {
     put_path(out, b"open ", path);
     out.put(b" ");
@@ -57,7 +59,8 @@ fn put_open<S: Sink>(out: &mut Printer<'_, S>, path: &Bytes, flags: OpenFlags)
 
 fn put_write<S: Sink>(out: &mut Printer<'_, S>, fd: u32, bytes: &Bytes)
     requires { CanPrint S.failures out.old }
-    ensures { Prints S.written S.failures out.old out.new (codes "write " ++ decimal fd ++ codes " " ++ text_of bytes.now) }
+    ensures { Prints S.written S.failures out.old out.new
+        (codes "write " ++ decimal fd ++ codes " " ++ text_of bytes.now) }
 {
     out.put_number(b"write ", fd);
     put_path(out, b" ", bytes);
@@ -65,7 +68,9 @@ fn put_write<S: Sink>(out: &mut Printer<'_, S>, fd: u32, bytes: &Bytes)
 
 fn put_lseek<S: Sink>(out: &mut Printer<'_, S>, fd: u32, offset: i64, whence: Whence)
     requires { CanPrint S.failures out.old }
-    ensures { Prints S.written S.failures out.old out.new (codes "lseek " ++ decimal fd ++ codes " " ++ signed_decimal offset ++ codes " " ++ whence_text whence) }
+    ensures { Prints S.written S.failures out.old out.new
+        (codes "lseek " ++ decimal fd ++ codes " " ++ signed_decimal offset ++ codes " "
+        ++ whence_text whence) }
 {
     out.put_number(b"lseek ", fd);
     out.put(b" ");
@@ -103,7 +108,8 @@ fn put_call<S: Sink>(out: &mut Printer<'_, S>, call: &Call)
 
 fn put_begin<S: Sink>(out: &mut Printer<'_, S>, flags: BeginFlags)
     requires { CanPrint S.failures out.old }
-    ensures { Prints S.written S.failures out.old out.new (codes "begin" ++ begin_flags_text flags) }
+    ensures { Prints S.written S.failures out.old out.new
+        (codes "begin" ++ begin_flags_text flags) }
 {
     out.put(b"begin");
     out.put(begin_flags_text(flags));

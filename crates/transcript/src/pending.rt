@@ -3,21 +3,25 @@ ghost use Rattle.std.specs.Prelude.{◌≡◌, ◌<◌, ◌≤◌, ◌++◌, ◌
 
 use std::marker::Model;
 
-// Up to 512 bytes, in order.
+// How many bytes are gathered before they are written.
+const CAPACITY: usize = 512;
+
+// Up to `CAPACITY` bytes, in order.
 #[derive(Drop)]
 pub(crate) struct Pending {
-    bytes: [u8; 512],
+    bytes: [u8; CAPACITY],
     len: usize,
 }
 
 impl Model for Pending {
     ghost use Rattle.std.specs.Prelude.{ℕ, ◌≤◌, List, take};
+    ghost use Rattle.transcript.specs.declared.pending.TheConstants.{CAPACITY};
 
     ghost Value = { List ℕ };
 
     ghost view = { λ p. take p.len p.bytes };
 
-    ghost invariant = { λ p. p.len ≤ 512 };
+    ghost invariant = { λ p. p.len ≤ CAPACITY };
 }
 
 impl Pending {
@@ -25,20 +29,20 @@ impl Pending {
         ensures { result ≡ [] }
     {
         Pending {
-            bytes: [0; 512],
+            bytes: [0; CAPACITY],
             len: 0,
         }
     }
 
     pub(crate) fn is_full(&self) -> bool
-        ensures value { result ≡ (length self.now == 512) }
-        ensures within { length self.now ≤ 512 }
+        ensures value { result ≡ (length self.now == CAPACITY) }
+        ensures within { length self.now ≤ CAPACITY }
     {
-        self.len == 512
+        self.len == CAPACITY
     }
 
     pub(crate) fn push(&mut self, byte: u8)
-        requires { length self.old < 512 }
+        requires { length self.old < CAPACITY }
         ensures { self.new ≡ self.old ++ byte ∷ [] }
     {
         self.bytes[self.len] = byte;

@@ -1,6 +1,7 @@
 // Texts printed one after another, until the sink fails.
-ghost use Rattle.std.specs.Prelude.{◌≡◌, ◌-◌, ◌<◌, ◌^◌, ◌++◌, ◌∷◌, [], true, false, decimal, OnErr, OnOk};
+ghost use Rattle.std.specs.Prelude.{◌≡◌, ◌++◌, ◌∷◌, [], true, false, decimal, OnErr, OnOk};
 ghost use Rattle.std.specs.Fmt.{signed_decimal};
+ghost use Rattle.device.specs.Device.{CanCount};
 
 use crate::pending::Pending;
 use device::{DeviceFailed, Sink, write_all};
@@ -18,7 +19,7 @@ impl<'a, S: Sink> Printer<'a, S> {
     ghost use Rattle.transcript.specs.Printer.{CanPrint, Prints};
 
     pub(crate) fn new(sink: &'a mut S) -> Self
-        requires { S.failures sink.old < 2 ^ 64 - 1 }
+        requires { CanCount (S.failures sink.old) }
         ensures same_sink { result.sink.ghost_name ≡ sink.entry.ghost_name }
         ensures sink { result.sink.now ≡ sink.old }
         ensures failed { result.failed ≡ false }
@@ -43,7 +44,7 @@ impl<'a, S: Sink> Printer<'a, S> {
         self.pending.clear();
     }
 
-    // Writes the rest. Answers whether the sink has failed.
+    // Writes the rest. The error says that the sink has failed, now or before.
     pub(crate) fn finish(&mut self) -> Result<(), DeviceFailed>
         requires { CanPrint S.failures self.old }
         ensures prints { Prints S.written S.failures self.old self.new [] }

@@ -106,7 +106,8 @@ fn put_names<S: Sink>(out: &mut Printer<'_, S>, names: &[Name])
 // Bytes behind their number.
 fn put_counted<S: Sink>(out: &mut Printer<'_, S>, bytes: &[u8])
     requires { CanPrint S.failures out.old }
-    ensures { Prints S.written S.failures out.old out.new (decimal (length bytes.now) ++ codes " " ++ text_of bytes.now) }
+    ensures { Prints S.written S.failures out.old out.new
+        (decimal (length bytes.now) ++ codes " " ++ text_of bytes.now) }
 {
     out.put_decimal(bytes.len() as u64);
     out.put(b" ");
@@ -115,7 +116,8 @@ fn put_counted<S: Sink>(out: &mut Printer<'_, S>, bytes: &[u8])
 
 fn put_pair<S: Sink>(out: &mut Printer<'_, S>, reader: u32, writer: u32)
     requires { CanPrint S.failures out.old }
-    ensures { Prints S.written S.failures out.old out.new (decimal reader ++ codes " " ++ decimal writer) }
+    ensures { Prints S.written S.failures out.old out.new
+        (decimal reader ++ codes " " ++ decimal writer) }
 {
     out.put_decimal(u64::from(reader));
     out.put_number(b" ", writer);
@@ -140,7 +142,8 @@ fn put_answer<S: Sink>(out: &mut Printer<'_, S>, answer: &Answer)
 
 fn put_given_up<S: Sink>(out: &mut Printer<'_, S>, restarted: bool)
     requires { CanPrint S.failures out.old }
-    ensures { Prints S.written S.failures out.old out.new (codes "given up" ++ restarted_text restarted) }
+    ensures { Prints S.written S.failures out.old out.new
+        (codes "given up" ++ restarted_text restarted) }
 {
     out.put(b"given up");
     out.put(restarted_text(restarted));
@@ -148,7 +151,8 @@ fn put_given_up<S: Sink>(out: &mut Printer<'_, S>, restarted: bool)
 
 fn put_aborted<S: Sink>(out: &mut Printer<'_, S>, why: &Why, restarted: bool)
     requires { CanPrint S.failures out.old }
-    ensures { Prints S.written S.failures out.old out.new (codes "aborted " ++ why_text why.now ++ restarted_text restarted) }
+    ensures { Prints S.written S.failures out.old out.new
+        (codes "aborted " ++ why_text why.now ++ restarted_text restarted) }
 {
     out.put(b"aborted ");
     put_why(out, why);

@@ -18,7 +18,7 @@ fn put_spelled<S: Sink>(out: &mut Printer<'_, S>, byte: u8)
     requires { CanPrint S.failures out.old }
     ensures { Prints S.written S.failures out.old out.new (byte_text byte) }
 {
-    if byte >= 33 && byte <= 126 && byte != b'\\' {
+    if byte >= b'!' && byte <= b'~' && byte != b'\\' {
         out.put_byte(byte);
     } else {
         out.put(&[b'\\', b'x', hex_digit(byte / 16), hex_digit(byte % 16)]);
@@ -34,7 +34,7 @@ fn put_bytes<S: Sink>(out: &mut Printer<'_, S>, bytes: &[u8])
     }
 }
 
-// Bytes as a script says them.
+// Bytes as a script spells them.
 #[tactic(auto, unfolding(crate::specs::Text::text_of))]
 pub(crate) fn put_text<S: Sink>(out: &mut Printer<'_, S>, text: &[u8])
     requires { CanPrint S.failures out.old }

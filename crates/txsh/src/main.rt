@@ -1,22 +1,23 @@
-//! `txsh`: runs the operations of processes on a kernel with transactions, and prints what each was answered.
+//! `txsh`: executes the operations of processes on a kernel with transactions, and prints the reply to
+//! each.
 #![tactic(auto)]
 
 ghost use Rattle.std.specs.Prelude.{◌≤◌, IfOk};
 
 use device::Counted;
 use heap::Heap;
-use runner::{RunFault, read_words, run_job, tell_fault, tell_line};
+use runner::{RunFault, read_words, report_command_line, report_fault, run_job};
 use std::alloc::Global;
 use std::fs::File;
 use std::process::ExitCode;
 use std::{env, io};
-use words::{Job, LineFault};
+use words::{CommandLineFault, Job, MAX_LIMIT};
 
 fn main(rt: HostRuntime) -> ExitCode {
     ExitCode::from(status(&rt))
 }
 
-/// Reads the command line and does its job. It answers the exit status.
+/// Reads the command line and does its job. Returns the exit status.
 fn status(rt: &HostRuntime) -> u8 {
     let mut out = Counted::new(rt.stdout());
     let mut err = Counted::new(rt.stderr());
@@ -25,42 +26,49 @@ fn status(rt: &HostRuntime) -> u8 {
     };
     let job = match job_in(rt, heap) {
         Ok(job) => job,
-        Err(fault) => return tell_line(heap, &fault, &mut out, &mut err),
+        Err(fault) => return report_command_line(heap, &fault, &mut out, &mut err),
     };
     let Ok(file) = File::open(rt, job.file.as_str()) else {
-        tell_fault(heap, &RunFault::Read, &mut err);
+        report_fault(heap, &RunFault::Read, &mut err);
         return RunFault::Read.status();
     };
     let mut source = Counted::new(file);
     run_job(heap, &job, &mut source, &mut out, &mut err)
 }
 
-/// The job that the program's words say.
-fn job_in(rt: &HostRuntime, heap: Heap) -> Result<Job, LineFault>
-    ensures { IfOk result (λ job. job.limit ≤ 1048576) }
+/// The job that the command line gives.
+fn job_in(rt: &HostRuntime, heap: Heap) -> Result<Job, CommandLineFault>
+    ensures { IfOk result (λ job. job.limit ≤ MAX_LIMIT) }
 {
     let global = rt.alloc();
     let texts = words_of(rt, global)?;
     let mut words = Vec::new(global);
     for text in &texts {
         if words.push(text.as_str()).is_err() {
-            return Err(LineFault::NoMemory);
+            return Err(CommandLineFault::NoMemory);
         }
     }
     read_words(global, heap, words.as_slice())
 }
 
-/// The program's words, its name first. They are read as a whole, so one that is not UTF-8 leaves none.
-fn words_of(rt: &HostRuntime, global: Global) -> Result<Vec<String>, LineFault> {
+/// Why the words cannot be had: they are refused memory, or one is not UTF-8.
+fn fault_of(error: &io::Error) -> CommandLineFault {
+    match error.kind() {
+        io::ErrorKind::OutOfMemory => CommandLineFault::NoMemory,
+        _ => CommandLineFault::NotUtf8,
+    }
+}
+
+/// The words of the command line, the program's name first. A word that is not UTF-8 leaves none.
+fn words_of(rt: &HostRuntime, global: Global) -> Result<Vec<String>, CommandLineFault> {
     let words = match env::args(rt) {
         Ok(words) => words,
-        Err(error) if error.kind() == io::ErrorKind::OutOfMemory => return Err(LineFault::NoMemory),
-        Err(_) => return Err(LineFault::NotText),
+        Err(error) => return Err(fault_of(&error)),
     };
     let mut texts = Vec::new(global);
     for text in words {
         if texts.push(text).is_err() {
-            return Err(LineFault::NoMemory);
+            return Err(CommandLineFault::NoMemory);
         }
     }
     Ok(texts)

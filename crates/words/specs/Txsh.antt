@@ -1,5 +1,6 @@
 -- The command line, as clap reads it.
-use Rattle.std.specs.Prelude.{◌≡◌, ◌≢◌, ℕ, pos, min, List, Option, Some, None, Result, false, true, codes, string_bytes, unwrap_or, []}
+use Rattle.std.specs.Prelude.{◌≡◌, ◌≢◌, ℕ, pos, min, List, Option, Some, None, Result, true, codes, map, string_bytes, unwrap_or, []}
+use Rattle.std.specs.Borrow.{Bor}
 use Rattle.std.specs.Result.{result_unwrap_or}
 use Rattle.std.specs.Str.Parse.{ParsesUnsigned}
 use Rattle.std.specs.declared.num.ParseIntError.{ParseIntError}
@@ -8,17 +9,27 @@ use Rattle.clap.specs.declared.builder.ArgAction.TheVariants.{Set}
 use Rattle.clap.specs.declared.builder.value_parser.ValueParser.TheVariants.{Signed}
 use Rattle.clap.specs.declared.error.Error.{Error}
 use Rattle.clap.specs.declared.error.kind.ErrorKind.TheVariants.{DisplayHelp, OutOfMemory}
+use Rattle.words.specs.declared.TheConstants.{DEFAULT_LIMIT, MAX_LIMIT}
 use Rattle.words.specs.declared.Way.{Way}
 use Rattle.words.specs.declared.Way.TheVariants.{Schedule}
 use Rattle.words.specs.declared.Job.{Job}
-use Rattle.words.specs.declared.LineFault.{LineFault}
-use Rattle.words.specs.declared.LineFault.TheVariants.{OneWay, NotText, Help, Words, NoMemory}
+use Rattle.words.specs.declared.CommandLineFault.{CommandLineFault}
+use Rattle.words.specs.declared.CommandLineFault.TheVariants.{OneWay, NotUtf8, Help, Usage, NoMemory}
 
 abbrev pub schedule_rule : Rule
-schedule_rule = record (new_rule (codes "schedule")) { long = Some (codes "schedule"); action = Some Set; value_names = 1 }
+schedule_rule = record (new_rule (codes "schedule")) {
+  long = Some (codes "schedule");
+  action = Some Set;
+  value_names = 1;
+}
 
 abbrev pub limit_rule : Rule
-limit_rule = record (new_rule (codes "limit")) { long = Some (codes "limit"); action = Some Set; parser = Some (Signed (pos 0) (pos 1048576)); value_names = 1 }
+limit_rule = record (new_rule (codes "limit")) {
+  long = Some (codes "limit");
+  action = Some Set;
+  parser = Some (Signed (pos 0) (pos MAX_LIMIT));
+  value_names = 1;
+}
 
 abbrev pub file_rule : Rule
 file_rule = record (new_rule (codes "file")) { action = Some Set; required = true; value_names = 1 }
@@ -35,17 +46,23 @@ IsWay value (Schedule list) = value (codes "schedule") ≡ Some (string_bytes li
 abbrev pub HasNotOneWay : (Text → Option Text) → Type 0
 HasNotOneWay value = value (codes "schedule") ≡ None
 
--- the number that the text reads as, at most 1,048,576; 65,536 where there is none
+-- the number that the text reads as, at most the largest limit; the default where there is none
 abbrev pub IsLimit : Option Text → ℕ → Type 0
-IsLimit None limit = limit ≡ 65536
-IsLimit (Some text) limit = (read : Result ℕ ParseIntError) × ParsesUnsigned 32 10 text read × (limit ≡ min (result_unwrap_or read 65536) 1048576)
+IsLimit None limit = limit ≡ DEFAULT_LIMIT
+IsLimit (Some text) limit =
+    (read : Result ℕ ParseIntError)
+    × ParsesUnsigned 32 10 text read
+    × (limit ≡ min (result_unwrap_or read DEFAULT_LIMIT) MAX_LIMIT)
 
--- the job that the values say
+-- the job that the options' values give
 pub record IsJob (value number : Text → Option Text) (job : Job) : Type 0 where
   pub way : IsWay value job.way
   pub limit : IsLimit (number (codes "limit")) job.limit
-  pub check : job.check ≡ false
   pub file : string_bytes job.file ≡ unwrap_or (value (codes "file")) []
+
+-- the texts of borrowed words
+abbrev pub texts : List (Bor Text) → List Text
+texts words = map (λ word. word.now) words
 
 -- the value that a simple command's matches of these words have for an id
 abbrev pub value_in : List Text → Text → Option Text
@@ -55,37 +72,47 @@ value_in words id = first_of id (matches_of txsh words)
 abbrev pub number_in : List Text → Text → Option Text
 number_in words id = one_of id (matches_of txsh words)
 
+-- two ways to look up an id give the same
+abbrev pub SameMatches : (Text → Option Text) → (Text → Option Text) → Type 0
+SameMatches f g = (id : Text) → f id ≡ g id
+
 -- the program's exit status
-abbrev pub status_of : LineFault → ℕ
+abbrev pub status_of : CommandLineFault → ℕ
 status_of OneWay = 2
-status_of NotText = 2
+status_of NotUtf8 = 2
 status_of (Help text) = 0
-status_of (Words error) = 2
+status_of (Usage error) = 2
 status_of NoMemory = 3
 
--- what clap's error is told as: its own want of memory is refused memory
-abbrev pub IsToldAs : Error → LineFault → Type 0
-IsToldAs error OneWay = ⊥
-IsToldAs error NotText = ⊥
-IsToldAs error (Help text) = (text ≡ error) × (kind_of error ≡ DisplayHelp)
-IsToldAs error (Words other) = (other ≡ error) × (kind_of error ≢ DisplayHelp) × (kind_of error ≢ OutOfMemory)
-IsToldAs error NoMemory = kind_of error ≡ OutOfMemory
+-- the fault that clap's error is reported as: its own want of memory is refused memory
+abbrev pub IsReportedAs : Error → CommandLineFault → Type 0
+IsReportedAs error OneWay = ⊥
+IsReportedAs error NotUtf8 = ⊥
+IsReportedAs error (Help text) = (text ≡ error) × (kind_of error ≡ DisplayHelp)
+IsReportedAs error (Usage other) =
+    (other ≡ error) × (kind_of error ≢ DisplayHelp) × (kind_of error ≢ OutOfMemory)
+IsReportedAs error NoMemory = kind_of error ≡ OutOfMemory
 
--- why the words give no matches: a fault of a kind that clap finds in them, or refused memory, whatever they are
-abbrev pub IsParseFault : List Text → LineFault → Type 0
+-- why the words give no matches: a fault of a kind that clap finds in them, or refused memory,
+-- whatever they are
+abbrev pub IsParseFault : List Text → CommandLineFault → Type 0
 IsParseFault words OneWay = ⊥
-IsParseFault words NotText = ⊥
-IsParseFault words (Help text) = (kind_of text ≡ DisplayHelp) × IsAmong DisplayHelp (fault_of txsh words)
-IsParseFault words (Words error) = (kind_of error ≢ DisplayHelp) × (kind_of error ≢ OutOfMemory) × IsAmong (kind_of error) (fault_of txsh words)
+IsParseFault words NotUtf8 = ⊥
+IsParseFault words (Help text) =
+    (kind_of text ≡ DisplayHelp) × IsAmong DisplayHelp (fault_of txsh words)
+IsParseFault words (Usage error) =
+    (kind_of error ≢ DisplayHelp)
+    × (kind_of error ≢ OutOfMemory)
+    × IsAmong (kind_of error) (fault_of txsh words)
 IsParseFault words NoMemory = Unit {0}
 
 -- why the values give no job
-abbrev pub IsJobFault : (Text → Option Text) → LineFault → Type 0
+abbrev pub IsJobFault : (Text → Option Text) → CommandLineFault → Type 0
 IsJobFault value OneWay = HasNotOneWay value
 IsJobFault value NoMemory = Unit {0}
 IsJobFault value _ = ⊥
 
--- why the words are no job: clap finds no fault in them and no way is given, or they give no matches
-abbrev pub IsFaultOf : List Text → LineFault → Type 0
+-- why the words give no job: clap finds no fault in them and no way is given, or no matches
+abbrev pub IsFaultOf : List Text → CommandLineFault → Type 0
 IsFaultOf words OneWay = (fault_of txsh words ≡ []) × HasNotOneWay (value_in words)
 IsFaultOf words other = IsParseFault words other

@@ -1,15 +1,21 @@
 //! The command line of `txsh`: `txsh [--schedule LIST] [--limit N] FILE`.
 #![tactic(auto)]
 
-ghost use Rattle.std.specs.Prelude.{◌≡◌, ◌≤◌, ℕ, [], false, List, IfOk, IfErr, codes, map, string_bytes};
+ghost use Rattle.std.specs.Prelude.{◌≡◌, ◌≤◌, [], false, IfOk, IfErr, codes, string_bytes};
 ghost use Rattle.clap.specs.Words.{app_of, fault_of, first_value, found_of, one_text, rule_of};
-ghost use Rattle.words.specs.Txsh.{IsFaultOf, IsJob, IsJobFault, IsLimit, IsParseFault, IsToldAs, file_rule, limit_rule, number_in, schedule_rule, status_of, txsh, value_in};
+ghost use Rattle.words.specs.Txsh.{IsFaultOf, IsJob, IsJobFault, IsLimit, IsParseFault, IsReportedAs, SameMatches, file_rule, limit_rule, number_in, schedule_rule, status_of, texts, txsh, value_in};
 
 use clap::error::ErrorKind;
 use clap::{Arg, ArgAction, ArgMatches, Command, Error};
 use heap::Heap;
 use std::alloc::{AllocError, Global};
 use thiserror::Error as Fault;
+
+/// The most entries that a history may be given room for: the largest value of `--limit`.
+pub const MAX_LIMIT: u32 = 1_048_576;
+
+/// How many entries a history has room for where `--limit` is not given.
+pub const DEFAULT_LIMIT: u32 = 65_536;
 
 /// How a script is run.
 #[derive(Debug, Drop)]
@@ -18,53 +24,52 @@ pub enum Way {
     Schedule(String<Heap>),
 }
 
-/// What the program is asked to do.
+/// What the command line asks for.
 #[derive(Debug, Drop)]
 pub struct Job {
     /// How the script is run.
     pub way: Way,
-    /// The history limit, at most 1,048,576.
+    /// How many entries the history may have, at most [`MAX_LIMIT`].
     pub limit: u32,
-    /// Whether the history is checked at the end.
-    pub check: bool,
     /// The script's file.
     pub file: String<Heap>,
 }
 
-/// Why the words are no job.
+/// Why a command line gives no job.
 #[derive(Debug, Drop, Fault)]
-pub enum LineFault {
+pub enum CommandLineFault {
     /// Not exactly one of the two ways to run a script is given.
     #[error("exactly one of --schedule and --threads")]
     OneWay,
-    /// A word is no text in UTF-8.
+    /// A word is not UTF-8.
     #[error("an argument is not UTF-8")]
-    NotText,
-    /// The words ask for help, and this is its text. It is no mistake, and is for the standard output.
+    NotUtf8,
+    /// The words ask for help, and this is its text. It is no mistake, and is for standard output.
     #[error("{0}")]
     Help(Error),
-    /// The words are not in the command's form.
+    /// The words do not fit the command's usage.
     #[error("{0}")]
-    Words(Error),
+    Usage(Error),
     /// Memory was refused.
     #[error("no memory")]
     NoMemory,
 }
 
-impl LineFault {
+impl CommandLineFault {
     /// The program's exit status: 0 for help, 2 for the command line, 3 for refused memory.
     pub fn status(&self) -> u8
         ensures { result ≡ status_of self.now }
     {
         match self {
-            LineFault::Help(_) => 0,
-            LineFault::OneWay | LineFault::NotText | LineFault::Words(_) => 2,
-            LineFault::NoMemory => 3,
+            CommandLineFault::Help(_) => 0,
+            CommandLineFault::OneWay | CommandLineFault::NotUtf8 | CommandLineFault::Usage(_) => 2,
+            CommandLineFault::NoMemory => 3,
         }
     }
 }
 
-// That a way to run has to be given is told by the program, so clap would call it an option.
+// The program itself reports that a way to run is missing, so clap's own usage line would call
+// `--schedule` an option.
 const USAGE: &str = "txsh --schedule <LIST> [--limit <N>] <FILE>";
 
 const ABOUT: &str =
@@ -94,7 +99,7 @@ fn limit_arg<'a>(alloc: Global) -> Arg<'a>
         .value_name("N")
         .help("How many entries the history may have, at most 1048576; 65536 where it is not given")
         .action(ArgAction::Set)
-        .value_parser(clap::value_parser!(u32).range(0..=1048576))
+        .value_parser(clap::value_parser!(u32).range(0..=MAX_LIMIT as i64))
 }
 
 // `FILE`
@@ -124,83 +129,91 @@ fn command<'a>(alloc: Global) -> Result<Command<'a>, AllocError>
     )
 }
 
-// What the command's error is to the program.
-fn told_as(error: Error) -> LineFault
-    ensures { IsToldAs error result }
+// The fault that clap's error is reported as. Its own want of memory is refused memory.
+fn reported_fault(error: Error) -> CommandLineFault
+    ensures { IsReportedAs error result }
 {
     match error.kind() {
-        ErrorKind::OutOfMemory => LineFault::NoMemory,
-        ErrorKind::DisplayHelp => LineFault::Help(error),
-        _ => LineFault::Words(error),
+        ErrorKind::OutOfMemory => CommandLineFault::NoMemory,
+        ErrorKind::DisplayHelp => CommandLineFault::Help(error),
+        _ => CommandLineFault::Usage(error),
     }
 }
 
 // The matches of the words.
-fn matches_for<'a>(alloc: Global, words: &'a [&'a str]) -> Result<ArgMatches<'a>, LineFault>
-    ensures values { IfOk result (λ m. (id : List ℕ) → first_value (found_of m) id ≡ value_in (map (λ s. s.now) words.entry.now) id) }
-    ensures numbers { IfOk result (λ m. (id : List ℕ) → one_text (found_of m) id ≡ number_in (map (λ s. s.now) words.entry.now) id) }
-    ensures fits { IfOk result (λ _. fault_of txsh (map (λ s. s.now) words.entry.now) ≡ []) }
-    ensures err { IfErr result (IsParseFault (map (λ s. s.now) words.entry.now)) }
+fn matches_for<'a>(alloc: Global, words: &'a [&'a str]) -> Result<ArgMatches<'a>, CommandLineFault>
+    ensures values { IfOk result (λ m.
+        SameMatches (first_value (found_of m)) (value_in (texts words.entry.now))) }
+    ensures numbers { IfOk result (λ m.
+        SameMatches (one_text (found_of m)) (number_in (texts words.entry.now))) }
+    ensures fits { IfOk result (λ _. fault_of txsh (texts words.entry.now) ≡ []) }
+    ensures err { IfErr result (IsParseFault (texts words.entry.now)) }
 {
     let Ok(command) = command(alloc) else {
-        return Err(LineFault::NoMemory);
+        return Err(CommandLineFault::NoMemory);
     };
     match command.try_get_matches_from(words) {
         Ok(matches) => Ok(matches),
-        Err(error) => Err(told_as(error)),
+        Err(error) => Err(reported_fault(error)),
     }
 }
 
-// The limit that the matches say. The command refuses a number above the most, and a text that is no
-// number; 65,536 where there is none.
+// The history limit that the matches give. The command has refused a number above `MAX_LIMIT` and
+// a text that is no number, so `min` only shows the bound to the proof.
 fn limit_of(matches: &ArgMatches) -> u32
     ensures value { IsLimit (one_text (found_of matches.now) (codes "limit")) result }
-    ensures small { result ≤ 1048576 }
+    ensures small { result ≤ MAX_LIMIT }
 {
     match matches.get_one::<u32>("limit") {
-        Some(limit) => limit.min(1048576),
-        None => 65536,
+        Some(limit) => limit.min(MAX_LIMIT),
+        None => DEFAULT_LIMIT,
     }
 }
 
-// The job that the matches say. The command asks for a file, so one is named.
-fn job_of(heap: Heap, matches: &ArgMatches) -> Result<Job, LineFault>
-    ensures ok { IfOk result (IsJob (first_value (found_of matches.now)) (one_text (found_of matches.now))) }
+// The job that the matches give. The command requires a file, so one is named.
+fn job_of(heap: Heap, matches: &ArgMatches) -> Result<Job, CommandLineFault>
+    ensures ok { IfOk result
+        (IsJob (first_value (found_of matches.now)) (one_text (found_of matches.now))) }
     ensures err { IfErr result (IsJobFault (first_value (found_of matches.now))) }
-    ensures small { IfOk result (λ job. job.limit ≤ 1048576) }
+    ensures small { IfOk result (λ job. job.limit ≤ MAX_LIMIT) }
 {
     let Some(list) = matches.get_str("schedule") else {
-        return Err(LineFault::OneWay);
+        return Err(CommandLineFault::OneWay);
     };
     Ok(Job {
-        way: Way::Schedule(copied(heap, list)?),
+        way: Way::Schedule(owned_text(heap, list)?),
         limit: limit_of(matches),
-        check: false,
-        file: copied(heap, matches.get_str("file").unwrap_or(""))?,
+        file: owned_text(heap, matches.get_str("file").unwrap_or(""))?,
     })
 }
 
-fn copied(heap: Heap, text: &str) -> Result<String<Heap>, LineFault>
+fn owned_text(heap: Heap, text: &str) -> Result<String<Heap>, CommandLineFault>
     ensures ok { IfOk result (λ s. string_bytes s ≡ text.now) }
-    ensures err { IfErr result (λ e. e ≡ LineFault.NoMemory) }
+    ensures err { IfErr result (λ e. e ≡ CommandLineFault.NoMemory) }
 {
     match String::from_str(heap, text) {
         Ok(text) => Ok(text),
-        Err(_) => Err(LineFault::NoMemory),
+        Err(_) => Err(CommandLineFault::NoMemory),
     }
 }
 
-/// The job that the words say, the program's name first. What it reads the words with is on
-/// `alloc`, the job on `heap`.
+/// The job that a command line gives. The first word is the program's name. clap takes its memory
+/// from `alloc`, and the job's is from `heap`.
 ///
-/// A job and `OneWay` come only where the words are in the command's form, and `OneWay` where no way is
-/// given. Else it is `Help` where help is asked for first, or `Words`, in clap's own words. `NoMemory`
-/// may stand in place of each, where memory was refused. Words that are not UTF-8 do not come here.
-pub fn read_words<'a>(alloc: Global, heap: Heap, words: &'a [&'a str]) -> Result<Job, LineFault>
-    ensures ok { IfOk result (IsJob (value_in (map (λ s. s.now) words.entry.now)) (number_in (map (λ s. s.now) words.entry.now))) }
-    ensures fits { IfOk result (λ _. fault_of txsh (map (λ s. s.now) words.entry.now) ≡ []) }
-    ensures fault { IfErr result (IsFaultOf (map (λ s. s.now) words.entry.now)) }
-    ensures small { IfOk result (λ job. job.limit ≤ 1048576) }
+/// Words that fit the command's usage give a job, or `OneWay` where no way to run is among them.
+/// Other words give `Help`, where help is asked for first, or else `Usage`, in clap's own words.
+/// `NoMemory` may come in place of each, where memory was refused. `NotUtf8` never comes, since the
+/// words are UTF-8 here.
+pub fn read_words<'a>(
+    alloc: Global,
+    heap: Heap,
+    words: &'a [&'a str],
+) -> Result<Job, CommandLineFault>
+    ensures ok { IfOk result
+        (IsJob (value_in (texts words.entry.now)) (number_in (texts words.entry.now))) }
+    ensures fits { IfOk result (λ _. fault_of txsh (texts words.entry.now) ≡ []) }
+    ensures fault { IfErr result (IsFaultOf (texts words.entry.now)) }
+    ensures small { IfOk result (λ job. job.limit ≤ MAX_LIMIT) }
 {
     let matches = matches_for(alloc, words)?;
     job_of(heap, &matches)

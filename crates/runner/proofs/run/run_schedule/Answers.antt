@@ -3,11 +3,11 @@ use Rattle.std.proofs.lemmas.List.Elements.{All-same}
 use Rattle.ids.specs.declared.call.Op.{Op}
 use Rattle.kernel.specs.Operations.{can_run}
 use Rattle.script.specs.Steps.{steps}
-use Rattle.runner.proofs.Missing.{can_run_steps}
+use Rattle.runner.proofs.AllSupported.{can_run_steps}
 use Rattle.runner.proofs.run.run_schedule.Goals as goal
 
-pub do_steps-requires-clause-there : goal.do_steps-requires-clause-there
-do_steps-requires-clause-there g c =
+pub do_steps-requires-clause-supported : goal.do_steps-requires-clause-supported
+do_steps-requires-clause-supported g c =
     let script = c.in_ok-script.script in
     let pids = c.in-Ok.pids.items in
     let given = c.in_ok-script.ensures.ok in

@@ -6,7 +6,8 @@ use Rattle.std.proofs.lemmas.List.{map-id}
 use Rattle.device.specs.Device.{IsPart}
 use Rattle.transcript.specs.Line.{lines_from, transcript}
 use Rattle.runner.specs.declared.fault.RunFault.TheVariants.{Write}
-use Rattle.runner.proofs.Stepping.{append_twice, transcript-took, HasDone-took, stops-before, stops-writing, so_far-more}
+use Rattle.device.proofs.Parts.{append_known-append_known}
+use Rattle.runner.proofs.Stepping.{transcript-took, HasDone-took, stops-before, stops-writing, so_far-more}
 use Rattle.runner.proofs.steps.do_steps.Goals as goal
 
 pub returns-in_err-do_step-clause-fault : goal.returns-in_err-do_step-clause-fault
@@ -29,7 +30,7 @@ loop-pid-preserved g c =
       HasDone-took c.loop-pid.invariant.0 c.do_step.ensures.kept took,
       printed
           ∙ ap (λ k. append_known k text) c.loop-pid.invariant.1
-          ∙ append_twice (g.S.Sink.written c.args.sink.now) (transcript before) text
+          ∙ append_known-append_known (g.S.Sink.written c.args.sink.now) (transcript before) text
           ∙ ap (λ (t : List ℕ). append_known (g.S.Sink.written c.args.sink.now) t) (sym grown),
       search rules,
     )

@@ -1,5 +1,5 @@
 use Rattle.std.proofs.Common.{sym}
-use Rattle.script.proofs.Spelled.{decimal_none-bytes}
+use Rattle.script.proofs.Decimals.{decimal_none-bytes}
 use Rattle.script.proofs.number.decimal_in.Goals as goal
 
 pub returns-in-Err-clause-value : goal.returns-in-Err-clause-value

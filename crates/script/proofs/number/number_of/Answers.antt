@@ -1,6 +1,6 @@
 use Rattle.std.proofs.Common.{sym, ◌∙◌}
 use Rattle.std.proofs.lemmas.Fmt.{parse-decimal}
-use Rattle.script.proofs.Spelled.{decimal_shown, decimal_unread, not_below, not_read, not_shown}
+use Rattle.script.proofs.Decimals.{decimal_shown, decimal_unread, not_below, not_read, not_shown}
 use Rattle.script.proofs.number.number_of.Goals as goal
 use Rattle.script.proofs.number.number_of.Goals.{else-n-most-via-then-n-most+else-eq, else-n-most-via-else-n-most}
 

@@ -5,6 +5,7 @@ use Rattle.ids.specs.declared.call.Op.{Op}
 use Rattle.script.specs.Schedules.{times}
 use Rattle.script.specs.Steps.{ops_for, steps_after, with_step}
 use Rattle.script.proofs.Queues.{stepped, taken}
+use Rattle.script.specs.declared.limits.TheConstants.{PROCESS_NUMBERS_END}
 use Rattle.script.proofs.steps.take_all.Goals as goal
 use Rattle.script.proofs.steps.take_all.Goals.{in-Some+in_ok-push, in_default}
 
@@ -19,7 +20,7 @@ loop-pid-preserved c =
     let pid = c.pid-item.result in
     let is : pid ≡ get_or c.args.pids.now c.loop-pid.pid-index pid = search rules in
     let zero_is = get_or_read c.args.pids.now _ _ c.loop-pid-test.true is 0 in
-    let small : pid < 4097 = subst (λ (q : ℕ). q < 4097) (sym zero_is) (c.requires.small c.loop-pid.pid-index c.loop-pid-test.true) in
+    let small : pid < PROCESS_NUMBERS_END = subst (λ (q : ℕ). q < PROCESS_NUMBERS_END) (sym zero_is) (c.requires.small c.loop-pid.pid-index c.loop-pid-test.true) in
     let queues = c.loop-pid.queues.items in
     let old = get_or queues pid [] in
     let room : pid < length queues = omega (arith, c.loop-pid.invariant.0, small) in

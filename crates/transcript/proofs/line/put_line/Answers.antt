@@ -7,8 +7,8 @@ pub returns : goal.returns
 unfolding line_of
 returns g c =
     let named = Prints-then _ _ (Prints-on _ (codes " P") _ c.put_decimal.ensures c.put_number.ensures) c.put.ensures in
-    let told = Prints-then _ _ (Prints-then _ _ (Prints-then _ _ named c.put_op.ensures) c.put-2.ensures) c.put_reply.ensures in
-    Prints-as (Prints-then _ _ (Prints-then _ _ told c.put_dooms.ensures) c.put-3.ensures) (search rules)
+    let printed = Prints-then _ _ (Prints-then _ _ (Prints-then _ _ named c.put_op.ensures) c.put-2.ensures) c.put_reply.ensures in
+    Prints-as (Prints-then _ _ (Prints-then _ _ printed c.put_dooms.ensures) c.put-3.ensures) (search rules)
 
 pub put_number-requires : goal.put_number-requires
 put_number-requires g c = CanPrint-after c.put_decimal.ensures c.requires

@@ -1,7 +1,7 @@
 use Rattle.std.proofs.Common.{rules, ◌≡◌, true, false, sym, ◌∙◌}
 use Rattle.std.specs.Str.{bytes_eq}
 use Rattle.script.proofs.Tables.{found, passed}
-use Rattle.script.proofs.named.named.Goals as goal
+use Rattle.script.proofs.table.lookup.Goals as goal
 
 pub returns-then-eq : goal.returns-then-eq
 returns-then-eq g c =
