@@ -5,7 +5,7 @@ use Rattle.std.specs.List.{AllByRecursion}
 use Rattle.std.specs.Ordering.{eq_by_cmp}
 use Rattle.std.specs.Cmp.Lexicographic.{nat_list_cmp_total}
 use Rattle.std.proofs.lemmas.List.Sums.{sum_by_push}
-use Rattle.model.specs.FiniteMap.{FinMap, entries, get, empty, insert, keys, len, len-empty, len-entries, get-insert, get-empty, same_map}
+use Rattle.model.specs.FiniteMap.{FinMap, entries, get, insert, keys, len, len-empty, len-entries, get-insert, get-empty, same_map}
 use Rattle.model.specs.Paths.{is_empty}
 use Rattle.model.specs.State.{Name, name_cmp, A_directory, Kernel, kind_of, names_of, entry_of}
 use Rattle.model.specs.Effects.{Effect, all_done}
@@ -19,7 +19,6 @@ use Rattle.shadow.specs.Changes.{effect_of}
 use Rattle.shadow.specs.Agrees.{Agrees}
 use Rattle.shadow.specs.Laid.{is_touched}
 use Rattle.shadow.proofs.Touched.{added_after, added_none, changed_after, come, fit_split, found_after, gone_after, kinds_after, lost_of, others_after, there_after}
-use Rattle.freeing_laws.specs.Sweep.{AllFit}
 use Rattle.shadow.specs.Changed.{bare, change_at, claim_in, fresh, kept_at, noted, now_given, or_untouched, untouched}
 use Rattle.shadow.specs.Looks.{NamesAreDirectories, directory_at}
 use Rattle.shadow.proofs.Views.{found, after_step, found_after as found_after_step, done_more, directories_all, entry_told}

@@ -3,12 +3,11 @@ use Rattle.std.proofs.Common.{◌≡◌, ◌≢◌, ℕ, ◌+◌, ◌<◌, ◌==
 use Rattle.std.proofs.lemmas.Bool.{cases_eq}
 use Rattle.std.specs.Cmp.Lexicographic.{nat_list_cmp_total}
 use Rattle.model.specs.FiniteMap.{get, remove, empty, same_map, get-empty, entries-empty}
-use Rattle.model.specs.State.{Name, Kernel, names_of, kind_of, links, Description}
+use Rattle.model.specs.State.{Name, Kernel, names_of, links, Description}
 use Rattle.model.specs.Changes.{Make_directory, Unname_directory, applied, clear_name, is_reached, openings, tidy}
 use Rattle.model.proofs.Inodes.{name_exact}
 use Rattle.call_laws.specs.Fits.{Fits}
-use Rattle.call_laws.proofs.Maps.{not_none, true_is_false}
-use Rattle.call_laws.proofs.NamesWell.{none_count}
+use Rattle.call_laws.proofs.Maps.{true_is_false}
 use Rattle.call_laws.proofs.Reached.{or_left, or_right}
 use Rattle.freeing_laws.specs.Counts.{free_inode}
 use Rattle.freeing_laws.specs.Sweep.{AreParented, IsTidied}
@@ -17,7 +16,7 @@ use Rattle.store.specs.Links.{links_in}
 use Rattle.store.specs.Numbers.{Numbers}
 use Rattle.store.specs.Places.{lost}
 use Rattle.store.specs.Shown.{inodes}
-use Rattle.store.proofs.Changes.{inodes-lost, get-inodes_by}
+use Rattle.store.proofs.Changes.{inodes-lost}
 use Rattle.store.proofs.Counts.{links-links_in}
 use Rattle.shadow.specs.Laid.{freed}
 use Rattle.shadow.specs.Stored.{stored}

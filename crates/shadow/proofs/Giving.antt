@@ -1,12 +1,12 @@
 -- Changes that are given up one object after the other.
-use Rattle.std.proofs.Common.{◌≡◌, ◌≢◌, ℕ, ◌+◌, ◌*◌, ◌≤◌, ◌==◌, Bool, true, false, cond, List, [], ◌∷◌, Some, None, refl, sym, ap, subst, ◌∙◌, arith, eq-eqb, ne_eqb, inl, inr, nat_cmp}
+use Rattle.std.proofs.Common.{◌≡◌, ℕ, ◌+◌, ◌*◌, ◌≤◌, Bool, true, false, cond, List, [], ◌∷◌, refl, sym, ap, ◌∙◌, arith, eq-eqb, ne_eqb, inl, inr, nat_cmp}
 use Rattle.std.specs.List.Sorted.{IsStrictlySortedBy}
 use Rattle.std.specs.Map.{keys_of}
 use Rattle.std.proofs.lemmas.Bool.{cases_eq}
 use Rattle.model.specs.Effects.{Effect}
 use Rattle.shadow.specs.declared.changes.Change.{Change}
 use Rattle.shadow.specs.Committed.{Committed}
-use Rattle.shadow.specs.Changed.{change_at, claim_in, claim_of, kept_at, or_untouched, untouched}
+use Rattle.shadow.specs.Changed.{change_at, claim_in, claim_of, or_untouched, untouched}
 use Rattle.shadow.specs.Claims.{Claim, Covers, KeepsMore, Number, Room, claimed, number_as, number_of, reserved, room_in}
 use Rattle.shadow.proofs.Kept.{first_absent, first_kept, later_kept, rest_sorted}
 

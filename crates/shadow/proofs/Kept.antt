@@ -1,18 +1,16 @@
 -- What is kept of each object, by its number.
-use Rattle.std.proofs.Common.{◌≡◌, ◌≢◌, ℕ, Bool, true, false, cond, List, [], ◌∷◌, Option, Some, None, Result, Ok, Err, OnOk, OnErr, refl, sym, ap, ◌∙◌, ◌==◌, eqb, eqb-true, eq-eqb, ne_eqb, inl, inr}
+use Rattle.std.proofs.Common.{◌≡◌, ◌≢◌, ℕ, Bool, true, false, cond, List, [], ◌∷◌, Option, Some, None, Result, Ok, Err, OnOk, OnErr, refl, sym, ap, ◌∙◌, ◌==◌, eqb-true, eq-eqb, ne_eqb}
 use Rattle.std.specs.Option.{is_some}
 use Rattle.std.specs.List.{AllByRecursion}
 use Rattle.std.specs.List.Sorted.{IsStrictlySortedBy}
 use Rattle.std.specs.Map.{keys_of}
 use Rattle.std.specs.declared.cmp.Ordering.TheVariants.{Less}
 use Rattle.std.specs.Ordering.{is_eq, nat_cmp}
-use Rattle.std.proofs.lemmas.Bool.{cases_eq}
 use Rattle.std.specs.Cmp.{nat_cmp_total, tied_itself}
 use Rattle.model.specs.FiniteMap.{nat_cmp-IsAntisymmetric}
 use Rattle.model.proofs.Inodes.{tie}
-use Rattle.call_laws.proofs.Maps.{not_none}
 use Rattle.shadow.specs.declared.changes.Change.{Change}
-use Rattle.shadow.specs.Changed.{change_at, fresh, kept_at, noted, or_untouched, untouched}
+use Rattle.shadow.specs.Changed.{kept_at, or_untouched}
 
 -- the test of std's map is the test of numbers
 pub tests_alike : (num n : ℕ) → is_eq (nat_cmp num n) ≡ (n == num)

@@ -21,9 +21,9 @@ use Rattle.store.specs.declared.Stage.{Stage}
 use Rattle.store.specs.declared.Stage.TheVariants.{Coming, Held, Lost}
 use Rattle.store.specs.declared.Object.{Object}
 use Rattle.store.specs.declared.Object.TheVariants.{Directory as Kept_directory}
-use Rattle.store.proofs.Changes.{get-inodes_by, inodes-installed, inodes-lost, inodes-changed, with_names-there}
+use Rattle.store.proofs.Changes.{get-inodes_by, inodes-installed, inodes-changed, with_names-there}
 use Rattle.store.proofs.Listings.{place-altered, place-other, listing-staged}
-use Rattle.shadow.specs.Changes.{Step, Make}
+use Rattle.shadow.specs.Changes.{Make}
 use Rattle.shadow.specs.Claims.{Claim, Room, Number, claimed_by, room_in, number_as}
 use Rattle.shadow.specs.Changes.{effect_of}
 use Rattle.shadow.specs.Stored.{stored, promised_of, FitsStage, IsStaged, Sound}

@@ -1,11 +1,10 @@
 -- Which objects one change more touches, and what it makes of them.
-use Rattle.std.proofs.Common.{◌≡◌, ◌≢◌, ℕ, suc, ◌+◌, ◌≤◌, ◌==◌, ◌||◌, nat_lt, not, Bool, true, false, cond, count_by, is_some, length, List, [], ◌∷◌, ◌++◌, map, Option, Some, None, refl, sym, ap, ap₂, subst, ◌∙◌, arith, eq-eqb, eqb-true, ne_eqb, inl, inr}
+use Rattle.std.proofs.Common.{◌≡◌, ℕ, suc, ◌+◌, ◌≤◌, ◌==◌, nat_lt, not, Bool, true, false, cond, count_by, is_some, length, List, [], ◌∷◌, ◌++◌, Option, Some, None, refl, sym, ap, ◌∙◌, arith, eq-eqb, eqb-true, ne_eqb, inl, inr}
 use Rattle.std.specs.List.{AllByRecursion}
 use Rattle.std.specs.Cmp.Lexicographic.{nat_list_cmp_total}
 use Rattle.std.specs.declared.cmp.Ordering.{Ordering}
 use Rattle.std.specs.declared.cmp.Ordering.TheVariants.{Less, Equal, Greater}
 use Rattle.std.specs.FinMap.Entries.{by_order, find, put}
-use Rattle.std.proofs.lemmas.Bool.{cases_eq}
 use Rattle.std.proofs.lemmas.List.Sums.{sum_by-cons}
 use Rattle.model.specs.FiniteMap.{FinMap, empty, entries, get, insert, remove, len, len-entries, get-entries, get-insert, entries-insert, entries-empty}
 use Rattle.model.specs.State.{Name, name_cmp, A_directory, Kernel, Directory, kind, mapped, kind_of, names_of}
@@ -15,13 +14,13 @@ use Rattle.model.proofs.Inodes.{get_other}
 use Rattle.model.proofs.Lists.{append-all}
 use Rattle.call_laws.specs.Fits.{FitsAll}
 use Rattle.call_laws.proofs.Maps.{all-mapped, not_none, true_is_false}
-use Rattle.call_laws.proofs.Reached.{or_left, or_right}
+use Rattle.call_laws.proofs.Reached.{or_right}
 use Rattle.freeing_laws.specs.Sweep.{AllFit, all_lost, both, lost_along, nothing}
 use Rattle.shadow.specs.declared.changes.Change.{Change}
 use Rattle.shadow.specs.Changes.{Step, Nothing, Make, Unname, effect_of}
 use Rattle.shadow.specs.Changed.{fresh, noted, room_of}
 use Rattle.shadow.specs.Laid.{is_touched}
-use Rattle.shadow.proofs.Views.{done_more, kind_made, kind_set, kind_unnamed, one_done}
+use Rattle.shadow.proofs.Views.{kind_made, kind_set, kind_unnamed, one_done}
 
 -- what is kept after one change more
 abbrev pub changed_after : Step → (ℕ → Change) → ℕ → Change

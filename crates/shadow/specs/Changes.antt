@@ -1,5 +1,5 @@
 -- What a transaction's changes stand for, and which there are.
-use Rattle.std.specs.Prelude.{◌≡◌, ℕ, List, [], ◌∷◌, map, ⊤}
+use Rattle.std.specs.Prelude.{◌≡◌, ℕ, List, [], ◌∷◌, ⊤}
 use Rattle.model.specs.Changes.{Edit, Make_directory, Unname_directory}
 use Rattle.model.specs.State.{Name}
 use Rattle.model.specs.Effects.{Effect}

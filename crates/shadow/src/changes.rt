@@ -206,16 +206,11 @@ impl Changes {
     }
 
     /// Notes a new directory with its name. Refused memory changes nothing.
-    pub(crate) fn note_made(
-        &mut self,
-        parent: Num,
-        name: Name,
-        num: Num,
-    ) -> Result<(), AllocError>
+    pub(crate) fn note_made(&mut self, parent: Num, name: Name, num: Num) -> Result<(), AllocError>
         requires { num ≢ parent }
         ensures ok { OnOk result ((n : ℕ) → change_at self.new n
             ≡ (if n == parent then noted name (Some num) (change_at self.old n)
-                else if n == num then fresh else change_at self.old n)) }
+            else if n == num then fresh else change_at self.old n)) }
         ensures err { OnErr result ((n : ℕ) → change_at self.new n ≡ change_at self.old n) }
     {
         self.make_place(num)?;

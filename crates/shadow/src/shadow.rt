@@ -200,7 +200,12 @@ impl Shadow {
     }
 
     /// All names of a directory in the committed state with these changes on top, in byte order. Refused memory changes nothing.
-    pub(crate) fn names(&self, heap: Heap, stable: &Stable, dir: Num) -> Result<NameList, AllocError>
+    pub(crate) fn names(
+        &self,
+        heap: Heap,
+        stable: &Stable,
+        dir: Num,
+    ) -> Result<NameList, AllocError>
         ensures { IfOk result (λ names. names ≡ keys (names_of (all_done self.now stable.now.state) dir)) }
     {
         let none = Dir::new(heap);

@@ -288,16 +288,16 @@ impl Stable {
     }
 
     /// Gives back what was kept for a transaction's changes of one object. It takes no memory.
-    pub(crate) fn give_up(&mut self, num: Num, change: &Change)
-        requires { (c : Claim) → number_of c ≡ num → claim_in change.now c ≤ reserved self.old c }
-        ensures kept { KeepsMore self.new self.old (claim_of num change.now) }
+    pub(crate) fn give_up(&mut self, object: Num, change: &Change)
+        requires { (c : Claim) → number_of c ≡ object → claim_in change.now c ≤ reserved self.old c }
+        ensures kept { KeepsMore self.new self.old (claim_of object change.now) }
         ensures state { self.new.state ≡ self.old.state }
     {
         for _given in 0..change.promised {
-            self.unpromise(num);
+            self.unpromise(object);
         }
         if change.made {
-            self.give_back(num);
+            self.give_back(object);
         }
     }
 }

@@ -1,9 +1,9 @@
-use Rattle.std.proofs.Common.{◌≡◌, ◌≢◌, ◌<◌, ℕ, refl, sym, ap, ◌∙◌, if◌then◌else◌, true, false, Bool, cond, not, ◌==◌, eqb-true, eq-eqb, arith}
+use Rattle.std.proofs.Common.{◌≡◌, ◌≢◌, ◌<◌, ℕ, refl, sym, ap, ◌∙◌, true, false, Bool, cond, not, ◌==◌, eqb-true, eq-eqb, arith}
 use Rattle.call_laws.proofs.Maps.{true_is_false}
 use Rattle.store.specs.Links.{links_in}
 use Rattle.store.specs.Places.{lost}
 use Rattle.store.specs.Shown.{inodes}
-use Rattle.shadow.proofs.Freed.{bare_if_unreached, named_reached, not_reached, root_reached}
+use Rattle.shadow.proofs.Freed.{bare_if_unreached, named_reached, not_reached}
 use Rattle.shadow.proofs.stable.free.Goals as goal
 
 zero_by : (n : ℕ) → false ≡ not (n == 0) → n ≡ 0

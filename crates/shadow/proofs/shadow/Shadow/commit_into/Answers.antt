@@ -2,7 +2,7 @@ use Rattle.std.proofs.Common.{◌≡◌, ◌+◌, ◌≤◌, ℕ, List, sym, sub
 use Rattle.model.specs.State.{Kernel}
 use Rattle.model.specs.Changes.{tidy}
 use Rattle.model.specs.Effects.{Effect, all_done}
-use Rattle.freeing_laws.specs.Sweep.{AllFit, AreParented}
+use Rattle.freeing_laws.specs.Sweep.{AllFit}
 use Rattle.store.specs.Numbers.{Numbers}
 use Rattle.store.specs.Shown.{inodes}
 use Rattle.shadow.specs.Claims.{Claim, Covers, KeepsMore, claimed, reserved}

@@ -1,4 +1,4 @@
-use Rattle.std.proofs.Common.{◌≡◌, ap, ap₂, sym, ◌∙◌}
+use Rattle.std.proofs.Common.{ap, ap₂, sym, ◌∙◌}
 use Rattle.model.specs.FiniteMap.{get}
 use Rattle.model.specs.State.{entry_of, names_of}
 use Rattle.model.specs.Effects.{all_done}

@@ -1,4 +1,4 @@
-use Rattle.std.proofs.Common.{◌≡◌, ap, ◌∙◌, ◌==◌}
+use Rattle.std.proofs.Common.{ap, ◌∙◌}
 use Rattle.model.specs.FiniteMap.{len}
 use Rattle.model.specs.State.{names_of}
 use Rattle.model.specs.Effects.{all_done}
