@@ -2,12 +2,12 @@
 use Rattle.kernel.proofs.Words.{◌≡◌, ◌≢◌, ℕ, suc, ◌+◌, ◌<◌, ◌≤◌, List, [], ◌∷◌, ◌++◌, length, refl, sym, ◌∙◌, ap, ap₂, subst, true, false, Bool, inl, inr}
 use Rattle.kernel.proofs.Words.{arith, eqb, le-leb, MatchBool, if◌then◌else◌, cases_Bool, eqb-true, eqb-false, false≢true, length-append, Entry, Reply}
 use Rattle.kernel.proofs.Words.{HistoryFull, NoMemory, Touch, Status, gone, doomed, Moment, is_alive, bound, reserved, holds_place, priority_of, calls_of}
-use Rattle.kernel.proofs.Words.{list_touches, doom_cause, dooming_touches, is_in, next, Legal, Right, Effect, effects, PhasesMove, most_processes, IsAsBefore}
-use Rattle.kernel.proofs.Words.{ProcessesMove, after_one_more, forks_and_exits_move, legal_push, legality_follows, lists_stay, phases_move, places_suffice}
+use Rattle.kernel.proofs.Words.{list_touches, doom_cause, dooming_touches, is_in, next, Legal, Right, Effect, effects, PhasesMove, IsAsBefore, ProcessesMove}
+use Rattle.kernel.proofs.Words.{after_one_more, forks_and_exits_move, legal_push, legality_follows, lists_stay, phases_move, places_suffice}
 use Rattle.kernel.proofs.Words.{right_entries_have_places, status_alive, what_stands, Becomes, held_at, live_age, holding, SameViews, moment, is_no_entry}
-use Rattle.kernel.proofs.Words.{Added, has_place, Fields, Holds, Does, IsSteady, CanEnter, Unchanged, part_at, shown, with_entry, Part, part_of, shown_by}
-use Rattle.kernel.proofs.Words.{changes_of, doomed_by, ◌==◌, None, map, true≢false, AllByRecursion, BeginFlags, Cause, Held, IsDoomedBy, Doomed, open_view}
-use Rattle.kernel.proofs.Words.{struck, Dooms, IsIn}
+use Rattle.kernel.proofs.Words.{Added, has_place, Fields, Holds, Does, CanEnter, Unchanged, part_at, shown, with_entry, Part, part_of, shown_by, changes_of}
+use Rattle.kernel.proofs.Words.{doomed_by, ◌==◌, None, map, true≢false, AllByRecursion, BeginFlags, Cause, Held, IsDoomedBy, Doomed, open_view, struck, Dooms}
+use Rattle.kernel.proofs.Words.{IsIn, born, child_in, is_ended, Moves, View, Committed, cleared}
 use Rattle.history.specs.Log.{Log}
 
 abbrev pub pids : List Doomed → List ℕ
@@ -59,6 +59,12 @@ dooms_more f g h d ds one rest = record {
   parts = λ q. rest.parts q ∙ ap (doomed_by ds q) (one.parts q);
 }
 
+-- no fork and no exit
+pub record IsSteady (e : Entry) : Type 0 where
+  pub childless : child_in e.reply ≡ None
+  pub unborn : born e.reply ≡ 0
+  pub goes_on : is_ended e.op e.reply ≡ false
+
 -- what is kept of a process, by all that it comes from
 abbrev pub part_by : Bool → Status → List Effect → ℕ → List Touch → Part
 part_by alive s ds p ts = record { slot = shown_by (if alive then s else gone) ds; held = record { priority = p; age = live_age s; touches = ts } }
@@ -95,7 +101,7 @@ module _ (log : Log) (e : Entry) (legal : Legal 0 log.priorities log.limit log.e
 
   -- and one that has no calls then
   pub empties : (q : ℕ) (s : Status) → is_alive m.committed q ≡ true → (next m e).phase q ≡ s → calls_of s ≡ []
-      → part_of (next m e) q ≡ record { slot = shown_by s []; held = record { priority = priority_of m q; age = live_age s; touches = [] } }
+      → part_of (next m e) q ≡ cleared (priority_of m q) s
   empties q s alive phase none = comes_to q s [] [] alive phase (ap (λ calls. effects q calls (next m e).committed) (ap calls_of phase ∙ none)) (ap (λ calls. list_touches q calls (next m e).committed) (ap calls_of phase ∙ none))
 
 -- the entries, and with them the reserved places, are within the limit
@@ -108,83 +114,86 @@ places log legal = (what_stands 0 log.priorities log.limit log.entries legal).pl
 is_answer : (r s : Reply) → is_no_entry r ≡ false → is_no_entry s ≡ true → r ≢ s
 is_answer r s left right same = false≢true (sym left ∙ ap is_no_entry same ∙ right)
 
-module _ (f : Fields) (e : Entry) (can : CanEnter f e) where
-  abbrev past : Log
-  past = can.before.log
-
+-- what an entry does, and whom it dooms, is done: it can be added
+module _ (past now : Fields) (holds : Holds past) (e : Entry) (right : Right past.log.limit (moment past.log) e) (answers : is_no_entry e.reply ≡ false) (steady : IsSteady e)
+    (ds : List Doomed) (dooms : pids ds ≡ e.doomed) (causes : AllByRecursion (IsDoomedBy (moment past.log) e.pid (dooming_touches (moment past.log) e.pid e.op)) ds)
+    (moved : Moves past now e.pid (part_of (next (moment past.log) e) e.pid) (next (moment past.log) e).committed ds) where
   abbrev was : Moment
-  was = moment past
+  was = moment past.log
 
-  abbrev stood : Rattle.history_laws.specs.Standing.Standing past.limit was
-  stood = what_stands 0 past.priorities past.limit past.entries can.holds.legal
-
-  others : (q : ℕ) → q ≢ e.pid → part_at f q ≡ part_of (next was e) q
+  others : (q : ℕ) → q ≢ e.pid → part_at now q ≡ part_of (next was e) q
   others q differs = elim (cases_Bool (is_in q e.doomed)) [
     | inl told ↦
-        let d = (moves past e can.holds.legal can.right can.steady).dooms q told in
-        let alive = stood.phases.alive q (ap holds_place d.before) in
-        can.moves.others q differs
-        ∙ ap (doomed_by can.ds q) (can.holds.parts q ∙ ap (λ s. record { slot = shown_by s (changes_of was q); held = holding was q }) (status_alive was q alive ∙ d.before))
-        ∙ is_doomed was e.pid (dooming_touches was e.pid e.op) can.ds q d.flags d.age (changes_of was q) (holding was q) (ap (is_in q) can.dooms ∙ told) can.causes
-        ∙ sym (empties past e can.holds.legal can.right can.steady q (doomed (doom_cause was e.pid (dooming_touches was e.pid e.op) q) d.flags d.age) alive d.later refl)
-    | inr spared ↦ can.moves.others q differs ∙ not_doomed can.ds q _ (ap (is_in q) can.dooms ∙ spared) ∙ can.holds.parts q
-        ∙ sym (stays past e can.holds.legal can.right can.steady q ((moves past e can.holds.legal can.right can.steady).others q differs spared))
+        let d = (moves past.log e holds.legal right steady).dooms q told in
+        let alive = (what_stands 0 past.log.priorities past.log.limit past.log.entries holds.legal).phases.alive q (ap holds_place d.before) in
+        moved.others q differs
+        ∙ ap (doomed_by ds q) (holds.parts q ∙ ap (λ s. record { slot = shown_by s (changes_of was q); held = holding was q }) (status_alive was q alive ∙ d.before))
+        ∙ is_doomed was e.pid (dooming_touches was e.pid e.op) ds q d.flags d.age (changes_of was q) (holding was q) (ap (is_in q) dooms ∙ told) causes
+        ∙ sym (empties past.log e holds.legal right steady q (doomed (doom_cause was e.pid (dooming_touches was e.pid e.op) q) d.flags d.age) alive d.later refl)
+    | inr spared ↦ moved.others q differs ∙ not_doomed ds q _ (ap (is_in q) dooms ∙ spared) ∙ holds.parts q
+        ∙ sym (stays past.log e holds.legal right steady q ((moves past.log e holds.legal right steady).others q differs spared))
   ]
 
-  each : (q : ℕ) → part_at f q ≡ part_of (next was e) q
+  each : (q : ℕ) → part_at now q ≡ part_of (next was e) q
   each q = elim (cases_Bool (eqb q e.pid)) [
-    | inl same ↦ subst (λ p. part_at f p ≡ part_of (next was e) p) (sym (eqb-true q e.pid same)) can.moves.own
+    | inl same ↦ subst (λ p. part_at now p ≡ part_of (next was e) p) (sym (eqb-true q e.pid same)) moved.own
     | inr differs ↦ others q (eqb-false q e.pid differs)
   ]
 
-  holds_then : Holds (record f { log = with_entry past e })
-  holds_then =
-      let is : moment (with_entry past e) ≡ next was e = after_one_more 0 past.priorities past.entries e in
-      let same : bound (next was e) ≡ bound was = same_bound past e can.holds.legal can.right can.steady in
-      record {
-        legal = legal_push 0 past.priorities past.limit past.entries e can.holds.legal can.right;
-        state = can.moves.state ∙ sym (ap (λ x. x.committed) is);
-        slot_count = can.moves.slot_count ∙ can.holds.slot_count ∙ sym (ap bound is ∙ same);
-        held_count = can.moves.held_count ∙ can.holds.held_count ∙ sym (ap bound is ∙ same);
-        parts = λ q. each q ∙ sym (ap (λ x. part_of x q) is);
-        few = can.holds.few;
-      }
+  pub enters : CanEnter now e
+  enters =
+      let is : moment (with_entry past.log e) ≡ next was e = after_one_more 0 past.log.priorities past.log.entries e in
+      let same : bound (next was e) ≡ bound was = same_bound past.log e holds.legal right steady in
+      subst (λ l. CanEnter (record now { log = l }) e) (sym moved.log) (record {
+        legal = holds.legal;
+        right = right;
+        answers = answers;
+        holds = record {
+          legal = legal_push 0 past.log.priorities past.log.limit past.log.entries e holds.legal right;
+          state = moved.state ∙ sym (ap (λ x. x.committed) is);
+          slot_count = moved.slot_count ∙ holds.slot_count ∙ sym (ap bound is ∙ same);
+          held_count = moved.held_count ∙ holds.held_count ∙ sym (ap bound is ∙ same);
+          parts = λ q. each q ∙ sym (ap (λ x. part_of x q) is);
+          few = holds.few;
+        };
+      })
 
-  -- a right entry has its place
-  pub room : length f.log.entries < f.log.limit
-  room =
-      let placed = places_suffice 0 past.priorities past.limit (past.entries ++ e ∷ []) holds_then.legal in
-      let more : length (past.entries ++ e ∷ []) ≡ length past.entries + 1 = length-append past.entries (e ∷ []) in
-      subst (λ l. length l.entries < l.limit) (sym can.moves.log) (omega arith)
+-- a right entry has its place
+pub room : (f : Fields) (e : Entry) → CanEnter f e → length f.log.entries < f.log.limit
+room f e can =
+    let placed = places_suffice 0 f.log.priorities f.log.limit (f.log.entries ++ e ∷ []) can.holds.legal in
+    let more : length (f.log.entries ++ e ∷ []) ≡ length f.log.entries + 1 = length-append f.log.entries (e ∷ []) in
+    omega arith
 
-  pub entered : (new : Log) → new ≡ with_entry f.log e → (old : Fields) → old.log ≡ f.log → Does old (record f { log = new }) e.pid e.op e.reply
-  entered new is old same = record {
-    holds = subst (λ l. Holds (record f { log = l })) (sym (is ∙ ap (λ l. with_entry l e) can.moves.log)) holds_then;
-    step = record {
-      entry = subst (λ b. MatchBool b (shown (record f { log = new }) ≡ shown old) (Added old.log new e.pid e.op e.reply)) (sym can.answers)
-          (record { chosen = e.chosen; doomed = e.doomed; is = is ∙ ap (λ l. with_entry l e) (sym same) });
-      full = (λ h. absurd (is_answer e.reply HistoryFull can.answers refl h), λ h. absurd (false≢true (sym h ∙ found)));
-      memory = λ none. is_answer e.reply NoMemory can.answers refl;
-    };
-  } where
-    found : has_place old.log e.pid e.op ≡ true
-    found = subst (λ l. has_place l e.pid e.op ≡ true) (sym (same ∙ can.moves.log)) (le-leb _ _ (right_entries_have_places past.limit was e can.right (places past can.holds.legal)))
+pub entered : (f : Fields) (e : Entry) → CanEnter f e → (new : Log) → new ≡ with_entry f.log e → (old : Fields) → old.log ≡ f.log → Does old (record f { log = new }) e.pid e.op e.reply
+entered f e can new is old same = record {
+  holds = subst (λ l. Holds (record f { log = l })) (sym is) can.holds;
+  step = record {
+    entry = subst (λ b. MatchBool b (shown (record f { log = new }) ≡ shown old) (Added old.log new e.pid e.op e.reply)) (sym can.answers)
+        (record { chosen = e.chosen; doomed = e.doomed; is = is ∙ ap (λ l. with_entry l e) (sym same) });
+    full = (λ h. absurd (is_answer e.reply HistoryFull can.answers refl h), λ h. absurd (false≢true (sym h ∙ found)));
+    memory = λ none. is_answer e.reply NoMemory can.answers refl;
+  };
+} where
+  found : has_place old.log e.pid e.op ≡ true
+  found = subst (λ l. has_place l e.pid e.op ≡ true) (sym same) (le-leb _ _ (right_entries_have_places f.log.limit (moment f.log) e can.right (places f.log can.legal)))
 
 -- nothing has changed
-pub unchanged : (f g : Fields) (pid : ℕ) → Holds f → g.log ≡ f.log → g.stable.state ≡ f.stable.state → SameViews f.slots g.slots → Becomes f.held g.held pid (held_at f.held pid) → Unchanged f g
-unchanged f g pid holds log state slots held = record {
+pub unchanged : (f : Fields) (pid : ℕ) (slots : List View) (held : List Held) (stable : Committed) → Holds f → stable.state ≡ f.stable.state → SameViews f.slots slots
+    → Becomes f.held held pid (held_at f.held pid) → Unchanged f (record f { slots = slots; held = held; stable = stable })
+unchanged f pid slots held stable holds state views kept = record {
   holds = record {
-    legal = subst (λ l. Legal 0 l.priorities l.limit l.entries) (sym log) holds.legal;
-    state = state ∙ holds.state ∙ ap (λ l. (moment l).committed) (sym log);
-    slot_count = slots.count ∙ holds.slot_count ∙ ap (λ l. bound (moment l)) (sym log);
-    held_count = held.count ∙ holds.held_count ∙ ap (λ l. bound (moment l)) (sym log);
-    parts = λ q. ap₂ (λ v h. record { slot = v; held = h }) (slots.each q) (held_same q) ∙ holds.parts q ∙ ap (λ l. part_of (moment l) q) (sym log);
-    few = subst (λ (l : Log). length l.priorities ≤ most_processes) (sym log) holds.few;
+    legal = holds.legal;
+    state = state ∙ holds.state;
+    slot_count = views.count ∙ holds.slot_count;
+    held_count = kept.count ∙ holds.held_count;
+    parts = λ q. ap₂ (λ v h. record { slot = v; held = h }) (views.each q) (held_same q) ∙ holds.parts q;
+    few = holds.few;
   };
-  same = ap₂ (λ l k. record { log = l; state = k }) log state;
+  same = ap (λ k. record { log = f.log; state = k }) state;
 } where
-  held_same : (q : ℕ) → held_at g.held q ≡ held_at f.held q
+  held_same : (q : ℕ) → held_at held q ≡ held_at f.held q
   held_same q = elim (cases_Bool (eqb q pid)) [
-    | inl same ↦ subst (λ p. held_at g.held p ≡ held_at f.held p) (sym (eqb-true q pid same)) held.own
-    | inr differs ↦ held.others q (eqb-false q pid differs)
+    | inl same ↦ subst (λ p. held_at held p ≡ held_at f.held p) (sym (eqb-true q pid same)) kept.own
+    | inr differs ↦ kept.others q (eqb-false q pid differs)
   ]

@@ -1,7 +1,7 @@
 -- What the fields of a new kernel show.
 use Rattle.kernel.proofs.Words.{◌≡◌, ℕ, zero, suc, ◌<◌, ◌≤◌, List, [], Option, Some, None, is_some, length, get_or, refl, sym, ◌∙◌, ap₂, subst, true, false}
 use Rattle.kernel.proofs.Words.{inl, inr, arith, cases_lt, false≢true, get_or_past, get, Process, or_new, Moment, idle, is_alive, start, at_start}
-use Rattle.kernel.proofs.Words.{most_processes, legal_start, Held, nobody, held_at, Kept, Fields, Holds, part_at, shown, Part, part_of, View, AreFirst, absent}
+use Rattle.kernel.proofs.Words.{most_processes, legal_start, Held, nobody, held_at, Fields, Holds, part_at, Part, part_of, View, AreFirst, absent}
 use Rattle.call_laws.specs.Processes.{StartsWith}
 use Rattle.call_laws.proofs.First.{first_processes_live}
 use Rattle.kernel.proofs.Enters.{parts_alike}
@@ -44,7 +44,3 @@ module _ (priorities : List ℕ) (limit : ℕ) (f : Fields) (log : f.log ≡ rec
     parts = parts;
     few = few;
   })
-
--- what a kernel shows is kept
-pub holds_kept : (f : Fields) → Holds f → Kept (shown f)
-holds_kept f holds = record { legal = holds.legal; state = holds.state }

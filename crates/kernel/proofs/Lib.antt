@@ -1,8 +1,5 @@
 mod Words
 mod Enters
 mod Standings
-mod Slots
-mod Planned
-mod Taken
-mod Commits
+mod Calls
 mod First

@@ -31,11 +31,11 @@ pub use Rattle.history_laws.proofs.Laws.{nowhere_seen, phase_is, phases_move, pl
 pub use Rattle.history_laws.proofs.Laws.{serializable_at, status_alive, tree_at, views_may_be_loose, what_stands}
 pub use Rattle.history_laws.specs.Entered.{CallGoesIn, PhasesMove, view}
 pub use Rattle.history_laws.specs.Limits.{StaysWithinLimits, most_processes}
-pub use Rattle.history_laws.specs.Processes.{IsAsBefore, ProcessesMove, is_ended}
+pub use Rattle.history_laws.specs.Processes.{IsAsBefore, ProcessesMove, born, child_in, is_ended}
 pub use Rattle.calls.specs.Operations.{can_call}
 pub use Rattle.calls.specs.Planned.{IsPlan}
 pub use Rattle.commit.specs.Edits.{AreNew, with_change, made_by}
-pub use Rattle.commit.specs.Views.{AreFirst, SameViews, View, absent, causes_of, changes_in, is_open, is_within, open_view, struck, view_at}
+pub use Rattle.commit.specs.Views.{AreFirst, SameViews, Shows, View, absent, causes_of, changes_in, is_open, is_within, open_view, struck, view_at}
 pub use Rattle.contention.specs.Holding.{Becomes, Held, held_at, holding, live_age, nobody}
 pub use Rattle.contention.specs.Verdicts.{IsDoomedBy, IsVerdict}
 pub use Rattle.contention.specs.declared.Doomed.{Doomed}
@@ -43,7 +43,7 @@ pub use Rattle.shadow.specs.Changes.{CanEdit, effect}
 pub use Rattle.shadow.specs.Committed.{Committed}
 pub use Rattle.shadow.specs.Looks.{NamesAreInUse}
 pub use Rattle.kernel.specs.Shown.{Kept, Shown, is_live, is_live_status, moment}
-pub use Rattle.kernel.specs.States.{Asks, CanEnter, CanSettle, Does, Dooms, Fields, Holds, IsIn, IsSteady, Moves, Part, Plans, Stands, Unchanged, calling}
+pub use Rattle.kernel.specs.States.{Asks, CanEnter, CanSettle, Does, Dooms, Fields, Holds, IsIn, Moves, Part, Plans, Stands, Unchanged, calling}
 pub use Rattle.kernel.specs.States.{changes_of, cleared, doomed_by, fields, part_at, part_of, part_with, plain, settled_as, shown, shown_by, state_with}
 pub use Rattle.kernel.specs.States.{with_entry}
 pub use Rattle.kernel.specs.Steps.{Added, Steps, has_place, is_no_entry}

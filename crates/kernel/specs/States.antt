@@ -1,17 +1,14 @@
 -- What the kernel has to keep of each process after a history, what an operation builds on, and how the fields change.
-use Rattle.std.specs.Prelude.{◌≡◌, ◌≢◌, ◌<◌, ◌≤◌, ℕ, false, None, List, ◌++◌, ◌∷◌, [], length, map, ◌==◌, if◌then◌else◌, Bool, true, Option, Some}
-use Rattle.std.specs.List.{AllByRecursion}
+use Rattle.std.specs.Prelude.{◌≡◌, ◌≢◌, ◌<◌, ◌≤◌, ℕ, false, None, List, ◌++◌, ◌∷◌, [], length, ◌==◌, if◌then◌else◌, Bool, true, Option, Some}
 use Rattle.history.specs.Log.{Log}
 use Rattle.model.specs.State.{Kernel}
-use Rattle.model.specs.Entries.{Op, Reply, Entry, BeginFlags, Cause, Executed, answer_in}
-use Rattle.model.specs.Moments.{bound, dooming_touches, next, Status, gone, idle, live, doomed, Moment, status, calls_at, is_alive, seen_by, counted_touches}
+use Rattle.model.specs.Entries.{Op, Reply, Entry, BeginFlags, Cause, Executed}
+use Rattle.model.specs.Moments.{bound, Status, gone, idle, live, doomed, Moment, status, calls_at, seen_by, counted_touches}
 use Rattle.model.specs.Legal.{Legal, Right}
 use Rattle.contention.specs.Holding.{Held, held_at, holding, live_age}
-use Rattle.contention.specs.Verdicts.{IsDoomedBy}
 use Rattle.contention.specs.declared.Doomed.{Doomed}
 use Rattle.shadow.specs.Committed.{Committed}
 use Rattle.history_laws.specs.Limits.{most_processes}
-use Rattle.history_laws.specs.Processes.{child_in, born, is_ended}
 use Rattle.commit.specs.Views.{View, view_at, absent, resting, open_view, struck}
 use Rattle.kernel.specs.declared.state.State.{State}
 use Rattle.kernel.specs.Shown.{Shown, moment}
@@ -115,23 +112,12 @@ pub record Moves (old new : Fields) (pid : ℕ) (part : Part) (committed : Kerne
 abbrev pub with_entry : Log → Entry → Log
 with_entry log e = record log { entries = log.entries ++ e ∷ [] }
 
--- no fork and no exit
-pub record IsSteady (e : Entry) : Type 0 where
-  pub childless : child_in e.reply ≡ None
-  pub unborn : born e.reply ≡ 0
-  pub goes_on : is_ended e.op e.reply ≡ false
-
--- The entry is right after the fields before, and the fields now show already what it does.
+-- The entry is right, and with it the fields hold: they show already what it does.
 pub record CanEnter (now : Fields) (e : Entry) : Type 0 where
-  pub before : Fields
-  pub holds : Holds before
-  pub right : Right before.log.limit (moment before.log) e
+  pub legal : Legal 0 now.log.priorities now.log.limit now.log.entries
+  pub right : Right now.log.limit (moment now.log) e
   pub answers : is_no_entry e.reply ≡ false
-  pub steady : IsSteady e
-  pub ds : List Doomed
-  pub dooms : map (λ d. d.pid) ds ≡ e.doomed
-  pub causes : AllByRecursion (IsDoomedBy (moment before.log) e.pid (dooming_touches (moment before.log) e.pid e.op)) ds
-  pub moves : Moves before now e.pid (part_of (next (moment before.log) e) e.pid) (next (moment before.log) e).committed ds
+  pub holds : Holds (record now { log = with_entry now.log e })
 
 abbrev pub Stands : Standing → Status → Type 0
 Stands Absent s = s ≡ gone
@@ -155,28 +141,18 @@ calling (Some within) = Within within.0 within.1
 abbrev pub settled_as : Bool → BeginFlags → ℕ → Status
 settled_as again flags age = if again then live flags age [] else idle
 
--- the part of a process with this status and no changes
-abbrev pub cleared : Fields → ℕ → Status → Part
-cleared f pid s = record { slot = shown_by s []; held = record { priority = (held_at f.held pid).priority; age = live_age s; touches = [] } }
+-- the part of a process with this priority and status and no changes
+abbrev pub cleared : ℕ → Status → Part
+cleared priority s = record { slot = shown_by s []; held = record { priority = priority; age = live_age s; touches = [] } }
 
 -- an entry without new numbers that dooms nobody
 abbrev pub plain : ℕ → Op → Reply → Entry
 plain pid op reply = record { pid = pid; op = op; reply = reply; chosen = []; doomed = [] }
 
--- Such an entry is right, and its process's transaction begins by it, or begins anew, or is gone. The process's slot may have been
--- taken already, and its changes committed.
+-- Such an entry can be added wherever its process's transaction begins by it, or begins anew, or is gone.
 pub record CanSettle (now : Fields) (pid : ℕ) (op : Op) (reply : Reply) (again : Bool) (flags : BeginFlags) (age : ℕ) : Type 0 where
-  pub slots : List View
-  pub stable : Committed
-  pub holds : Holds (record now { slots = slots; stable = stable })
-  pub count : length now.slots ≡ length slots
-  pub others : (q : ℕ) → q ≢ pid → view_at now.slots q ≡ view_at slots q
-  pub state : now.stable.state ≡ (next (moment now.log) (plain pid op reply)).committed
-  pub right : Right now.log.limit (moment now.log) (plain pid op reply)
-  pub answers : is_no_entry reply ≡ false
-  pub calm : answer_in reply ≡ None
-  pub alive : is_alive (moment now.log).committed pid ≡ true
-  pub phase : (next (moment now.log) (plain pid op reply)).phase pid ≡ settled_as again flags age
+  pub is_in : IsIn now pid
+  pub enters : (g : Fields) → Moves now g pid (cleared (held_at now.held pid).priority (settled_as again flags age)) now.stable.state [] → CanEnter g (plain pid op reply)
 
 -- what the call touches, as far as it counts, and edits, which can be done
 pub record Plans (f : Fields) (pid : ℕ) (call : Call) (ts : List Touch) (es : List Edit) : Type 0 where

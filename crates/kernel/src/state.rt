@@ -71,7 +71,7 @@ pub fn settle(
 /// What a process had changed and touched is forgotten.
 fn clear(s: &mut State, pid: Pid, again: bool, flags: BeginFlags, age: Age)
     requires { IsIn (fields s.old) pid }
-    ensures { Moves (fields s.old) (fields s.new) pid (cleared (fields s.old) pid (settled_as again flags age)) s.old.transactions.stable.state [] }
+    ensures { Moves (fields s.old) (fields s.new) pid (cleared (held_at s.old.contenders pid).priority (settled_as again flags age)) s.old.transactions.stable.state [] }
 {
     settle_held(&mut s.contenders, pid, again, age);
     if again {

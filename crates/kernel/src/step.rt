@@ -55,15 +55,12 @@ fn is_restarted(s: &State, flags: BeginFlags, op: &Op) -> bool
     ensures { result ≡ restarts s.now.history.limit (moment s.now.history) flags op.now }
 {
     match op {
-        Op::Call(_) => flags.restarts() && has_free(s, 1),
-        Op::Begin(_) => flags.restarts() && has_free(s, 1),
-        Op::End => flags.restarts() && has_free(s, 1),
+        Op::Call(_) | Op::Begin(_) | Op::End => flags.restarts() && has_free(s, 1),
         Op::Abort { no_restart } => flags.restarts() && (!*no_restart && has_free(s, 1)),
     }
 }
 
 /// Begins a transaction.
-#[tactic(auto, using(crate::proofs::Standings::begins))]
 fn begin(s: &mut State, pid: Pid, flags: BeginFlags) -> Reply
     requires { Asks (fields s.old) pid Standing.Idle (entries.Begin flags) }
     ensures { Does (fields s.old) (fields s.new) pid (entries.Begin flags) result }
@@ -74,7 +71,6 @@ fn begin(s: &mut State, pid: Pid, flags: BeginFlags) -> Reply
 }
 
 /// Gives a live transaction up, and begins it anew where its flags say so and a place is free.
-#[tactic(auto, using(crate::proofs::Standings::gives_up))]
 fn give_up(s: &mut State, pid: Pid, flags: BeginFlags, age: Age, no_restart: bool) -> Reply
     requires { Asks (fields s.old) pid (Standing.Live flags age) (entries.Abort no_restart) }
     ensures { Does (fields s.old) (fields s.new) pid (entries.Abort no_restart) result }

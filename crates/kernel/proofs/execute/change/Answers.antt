@@ -1,6 +1,6 @@
-use Rattle.kernel.proofs.Words.{◌++◌, not, refl, ap, take, ◌∙◌, held_at, fields, take-append_seam}
+use Rattle.kernel.proofs.Words.{◌++◌, not, ap, take, ◌∙◌, held_at, fields, take-append_seam}
 use Rattle.kernel.proofs.Enters.{unchanged}
-use Rattle.kernel.proofs.Commits.{plain_commits}
+use Rattle.kernel.proofs.Calls.{plain_commits}
 use Rattle.kernel.proofs.execute.change.Goals as goal
 
 pub apply-requires-clause-fits : goal.apply-requires-clause-fits
@@ -11,7 +11,7 @@ returns-in-Err-clause-err c =
     let f = fields c.args.s.now in
     let added = c.in_ok-add.ensures.ok in
     let kept = c.keep_first.ensures in
-    unchanged f _ c.args.pid c.requires.asks.holds refl c.edit.ensures.state c.in-Err.ensures.err (record {
+    unchanged f c.args.pid _ _ _ c.requires.asks.holds c.edit.ensures.state c.in-Err.ensures.err (record {
       count = kept.count ∙ added.count;
       own = kept.own ∙ ap (λ h. record { priority = h.priority; age = h.age; touches = take c.count-count.result h.touches }) added.own
           ∙ ap (λ ts. record (held_at f.held c.args.pid) { touches = ts }) (ap (λ n. take n ((held_at f.held c.args.pid).touches ++ c.args.touches.items)) c.count-count.ensures ∙ take-append_seam _ _);

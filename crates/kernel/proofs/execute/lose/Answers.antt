@@ -1,5 +1,5 @@
 use Rattle.kernel.proofs.Words.{sym, subst, Do, Asks, CanSettle, calling, fields}
-use Rattle.kernel.proofs.Taken.{puts_off, undoes}
+use Rattle.kernel.proofs.Calls.{puts_off, undoes}
 use Rattle.kernel.proofs.execute.lose.Goals as goal
 
 pub note-requires-clause-can : goal.note-requires-clause-can

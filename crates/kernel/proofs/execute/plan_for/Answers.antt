@@ -1,5 +1,5 @@
 use Rattle.kernel.proofs.Words.{sym, ap, subst, ◌∙◌, filter, if◌then◌else◌, Committed, NamesAreInUse, IsPlan, fields}
-use Rattle.kernel.proofs.Planned.{plan_seen, plans, sees}
+use Rattle.kernel.proofs.Calls.{plan_seen, plans, sees}
 use Rattle.kernel.proofs.execute.plan_for.Goals as goal
 use Rattle.kernel.proofs.execute.plan_for.Goals.{After-is_some}
 

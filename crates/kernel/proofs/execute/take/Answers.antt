@@ -1,6 +1,6 @@
 use Rattle.kernel.proofs.Words.{[], map, sym, ap, subst, subst₂, ◌∙◌, Do, answered, effect, AreNew, part_with, state_with, fields, CanEnter, Does, Moves}
 use Rattle.kernel.proofs.Words.{part_at}
-use Rattle.kernel.proofs.Taken.{AreItsNew, are_in, takes}
+use Rattle.kernel.proofs.Calls.{AreItsNew, are_in, takes}
 use Rattle.kernel.proofs.execute.take.Goals as goal
 use Rattle.kernel.proofs.execute.take.Goals.{After-doom_all-arg-1}
 

@@ -1,18 +1,31 @@
-use Rattle.kernel.proofs.Words.{false, refl, ◌∙◌, End, live, fields}
+use Rattle.kernel.proofs.Words.{false, refl, sym, subst, ap, ◌∙◌, tidy, End, live, fields, moment, calls_at, changes_in, view_at, what_stands}
+use Rattle.kernel.proofs.Words.{commits_run_the_list, plain}
+use Rattle.freeing_laws.specs.Sweep.{AllFit}
 use Rattle.model.specs.Entries.{Committed}
-use Rattle.kernel.proofs.Commits.{can_commit, commits}
-use Rattle.kernel.proofs.Standings.{closes, none_else}
+use Rattle.shadow.proofs.Going.{calls_can_be_committed_lem}
+use Rattle.kernel.proofs.Standings.{slot_changes, slot_views, closes, is_right, none_else}
 use Rattle.kernel.proofs.step.end.Goals as goal
 
+-- each change fits the state that it finds
 pub end-requires-clause-fits : goal.end-requires-clause-fits
-end-requires-clause-fits c = can_commit (fields c.args.s.now) c.args.pid c.args.flags c.args.age c.requires
+end-requires-clause-fits c =
+    let f = fields c.args.s.now in
+    let m = moment f.log in
+    let lists = (what_stands 0 f.log.priorities f.log.limit f.log.entries c.requires.holds.legal).lists c.args.pid in
+    subst (AllFit (changes_in (view_at f.slots c.args.pid))) (sym c.requires.holds.state)
+    (subst (λ ds. AllFit ds m.committed) (sym (slot_changes f c.requires.holds c.args.pid)) (calls_can_be_committed_lem m.committed c.args.pid (calls_at m c.args.pid) lists.goes))
 
 pub settle-requires-clause-can : goal.settle-requires-clause-can
 settle-requires-clause-can c =
     let f = fields c.args.s.now in
+    let pid = c.args.pid in
+    let holds = c.requires.holds in
     let l = c.requires.stands in
-    closes f c.requires.holds c.args.pid End Committed (live c.args.flags c.args.age l.0) l.1 (refl, none_else c.args.pid End Committed) refl refl
-    _ _ false c.args.flags c.args.age (λ h. absurd cc) refl c.end.ensures.slots.count c.end.ensures.slots.others (c.end.ensures.state ∙ commits f c.args.pid c.args.flags c.args.age c.requires)
+    let s = live c.args.flags c.args.age l.0 in
+    closes f holds pid End Committed s l.1 (refl, none_else pid End Committed) refl refl
+    _ _ _ false c.args.flags c.args.age (λ h. absurd cc) refl c.end.ensures.slots
+    (c.end.ensures.state ∙ ap tidy (slot_views f holds pid) ∙ sym (commits_run_the_list 0 f.log.priorities f.log.limit f.log.entries (plain pid End Committed) holds.legal
+    (is_right f holds pid End Committed s l.1 (refl, none_else pid End Committed) refl refl) refl))
 
 pub returns : goal.returns
 returns c = c.settle.ensures.since (fields c.args.s.now) refl

@@ -1,6 +1,6 @@
 use Rattle.kernel.proofs.Words.{length, ap, arith, fields}
 use Rattle.std.proofs.lemmas.Bool.Decides.{nat_tests}
-use Rattle.kernel.proofs.Slots.{free_places, used_places}
+use Rattle.kernel.proofs.Standings.{free_places, used_places}
 use Rattle.kernel.proofs.step.has_free.Goals as goal
 
 pub overflow_sub-result-2 : goal.overflow_sub-result-2

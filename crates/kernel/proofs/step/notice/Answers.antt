@@ -27,7 +27,7 @@ settle-requires-clause-can c =
     let right : RightAt f.log.limit (moment f.log) (plain c.args.pid c.args.op reply) s c.args.op = (ap (Aborted (Clash cause)) c.is_restarted-restarted.ensures, none_else c.args.pid c.args.op reply) in
     subst (λ r. CanSettle (record f { slots = taken.slots; stable = taken.stable }) c.args.pid c.args.op r again c.args.flags c.args.age) (sym (c.aborted.ensures ∙ ap (λ x. Aborted (Clash x) again) first))
     (closes f c.requires.holds c.args.pid c.args.op reply s c.requires.stands.1 right refl refl
-    taken.slots taken.stable again c.args.flags c.args.age (λ h. absurd cc) (settled_doomed cause c.args.flags c.args.age again) c.take_causes.ensures.slots.count c.take_causes.ensures.slots.others
+    taken.slots taken.stable _ again c.args.flags c.args.age (λ h. absurd cc) (settled_doomed cause c.args.flags c.args.age again) c.take_causes.ensures.slots
     (ap (λ (x : Committed). x.state) c.take_causes.ensures.stable ∙ commits_nothing f c.requires.holds c.args.pid c.args.op reply s c.requires.stands.1 right refl refl refl))
 
 pub returns : goal.returns

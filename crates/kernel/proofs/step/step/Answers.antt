@@ -1,5 +1,5 @@
-use Rattle.kernel.proofs.Words.{rules, ◌≡◌, true, subst, status, moment, Stands, has_place}
-use Rattle.kernel.proofs.Standings.{refuses_gone}
+use Rattle.kernel.proofs.Words.{rules, ◌≡◌, true, subst, status, moment, Stands, has_place, NoProcess, gone, refl, fields}
+use Rattle.kernel.proofs.Standings.{free_at, leaves, none_else}
 use Rattle.kernel.proofs.step.step.Goals as goal
 
 pub note-requires-clause-can : goal.note-requires-clause-can
@@ -7,4 +7,5 @@ note-requires-clause-can c =
     let log = c.args.s.now.history in
     let stands = subst (λ x. Stands x (status (moment log) c.args.pid)) c.in-Gone.is c.standing_of-standing.ensures in
     let place : has_place log c.args.pid c.args.op ≡ true = search rules in
-    refuses_gone _ _ _ (record { holds = c.requires.holds; stands = stands; there = c.requires.there; place = place })
+    leaves (fields c.args.s.now) c.requires.holds c.args.pid c.args.op NoProcess gone stands
+    (refl, none_else c.args.pid c.args.op NoProcess, free_at (fields c.args.s.now) c.args.pid c.args.op gone stands place) refl refl refl (λ n t. refl)

@@ -1,7 +1,7 @@
 use Rattle.kernel.proofs.Words.{◌≡◌, ◌∙◌, Option, Some, None, ap, subst, IfSome, tidy, seen_by, all_done, moment, is_live, fields, view_at, changes_in}
 use Rattle.std.specs.Borrow.{Bor}
 use Rattle.shadow.specs.declared.shadow.Shadow.{Shadow}
-use Rattle.kernel.proofs.Slots.{slot_lives, slot_sees}
+use Rattle.kernel.proofs.Standings.{slot_lives, slot_sees}
 use Rattle.kernel.proofs.kernel.Kernel.shadow.Goals as goal
 
 if_some : {A : Type 0} (P Q : A → Type 0) (o : Option A) → ((x : A) → P x → Q x) → IfSome o P → IfSome o Q

@@ -1,5 +1,5 @@
 use Rattle.kernel.proofs.Words.{◌∙◌, ap, tidy, seen_by, moment, fields}
-use Rattle.kernel.proofs.Slots.{slot_sees}
+use Rattle.kernel.proofs.Standings.{slot_sees}
 use Rattle.kernel.proofs.kernel.Kernel.view.Goals as goal
 
 pub returns : goal.returns

@@ -1,4 +1,4 @@
--- Calls that take effect, and ends: their entries can be added.
+-- Calls: what those that are there touch and edit, and that their entries can be added.
 use Rattle.kernel.proofs.Words.{◌≡◌, ℕ, ◌+◌, List, [], ◌∷◌, ◌++◌, Option, Some, None, Result, Ok, Err, refl, sym, ◌∙◌, ap, ap₂, subst, true, false, Bool, inl}
 use Rattle.kernel.proofs.Words.{inr, length, arith, eq-eqb, ◌||◌, ◌==◌, if◌then◌else◌, AllByRecursion, cases_Bool, false≢true, Kernel, Errno, tidy, all_applied}
 use Rattle.kernel.proofs.Words.{Call, Answer, reply, edits, IsNowhere, BeginFlags, Do, Entry, Executed, is_inside, is_unsupported, Moment, idle, live, own_next}
@@ -6,14 +6,111 @@ use Rattle.kernel.proofs.Words.{after_one, numbers, calls_at, seen_by, counted_t
 use Rattle.kernel.proofs.Words.{held_by, after_list, calls_of, priority_of, holds_place, IsApart, Inside, Outcome, Taken, Right, answered, Effect, effects}
 use Rattle.kernel.proofs.Words.{CallGoesIn, is_ended, calls_go_in, executed_again, nowhere_seen, childless, phase_is, plain_calls_run, right_by}
 use Rattle.kernel.proofs.Words.{views_may_be_loose, what_stands, live_age, IsDoomedBy, Doomed, effect, made_by, AreNew, with_change, view_at, changes_in}
-use Rattle.kernel.proofs.Words.{can_call, part_with, state_with, Asks, Stands, calling, moment, Fields, Dooms, IsSteady, CanEnter, IsIn, Moves, part_at}
-use Rattle.kernel.proofs.Words.{part_of, shown_by, changes_of, doomed_by, is_no_entry, Aborted, Busy, Cause, Clash, CanSettle, plain}
+use Rattle.kernel.proofs.Words.{can_call, part_with, state_with, Asks, Stands, calling, moment, Fields, Dooms, CanEnter, IsIn, Moves, part_at, part_of}
+use Rattle.kernel.proofs.Words.{shown_by, changes_of, doomed_by, is_no_entry, Aborted, Busy, Cause, Clash, CanSettle, plain, is_some, Edit, FitsAll, fits}
+use Rattle.kernel.proofs.Words.{WellFormed, is_alive, sum_by, news, not, IfOk, filter, get, Name, A_file, A_directory, A_pipe, names_of, Plan}
+use Rattle.kernel.proofs.Words.{answer as answer_to, given, ◌>>=◌, ◌>>◌, ENOENT, ENOTDIR, ENOTEMPTY, EEXIST, EBUSY, List_names, refuse_if, or_refuse}
+use Rattle.kernel.proofs.Words.{Make_directory, Unname_directory, Stat, Mkdir, Rmdir, List_directory, own, Touch, touches, edits_of, counted, all_done}
+use Rattle.kernel.proofs.Words.{IsRooted, Leads, CanEdit, Committed, NamesAreInUse, IsPlan, Plans}
 use Rattle.ids.specs.Flags.{is_restarting}
 use Rattle.commit.specs.declared.slot.Standing.TheVariants.{Idle, Live}
-use Rattle.kernel.proofs.Enters.{pids, not_doomed, comes_to, moves, stays}
-use Rattle.kernel.proofs.Planned.{counts}
-use Rattle.kernel.proofs.Slots.{slot_changes}
-use Rattle.kernel.proofs.Standings.{caller_lives, free_at, leaves, none_else, settled_live, settles}
+use Rattle.kernel.proofs.Enters.{IsSteady, pids, not_doomed, comes_to, enters, moves, stays}
+use Rattle.kernel.proofs.Standings.{slot_changes, slot_views, caller_lives, free_at, leaves, none_else, settled_live, settles}
+use Rattle.model.specs.Paths.{is_empty}
+use Rattle.model.specs.Walks.{Place, parsed, walk, last_of, is_directory}
+use Rattle.model.specs.Plans.{Change, plan, status as told_status, absent}
+use Rattle.call_laws.proofs.Numbers.{can_be_made}
+use Rattle.call_laws.proofs.Rules.{after_bind, whatever}
+use Rattle.shadow.specs.Claims.{IsInUse, HaveParents}
+use Rattle.calls.specs.declared.plan.Plan.{Plan as Planned}
+
+-- the edits of what a plan gives are those that are there
+abbrev Edits : Change → Type 0
+Edits change = CanEdit change.edits
+
+-- whatever the first part of a plan gives
+after : {A : Type 0} (k : Kernel) (m : Plan A) (f : A → Plan Change) → ((x : A) → IfOk (given k (f x)) Edits) → IfOk (given k (m >>= f)) Edits
+after k m f h = after_bind k Edits m f (whatever (given k m) h)
+
+tells : (k : Kernel) (place : Place) → IfOk (given k (told_status place)) Edits
+tells k (n, Some A_file) = tt
+tells k (n, Some A_directory) = tt
+tells k (n, Some A_pipe) = tt
+tells k (n, None) = tt
+
+unless : (k : Kernel) (refused : Bool) (e : Errno) (m : Plan Change) → IfOk (given k m) Edits → IfOk (given k (refuse_if refused e >> m)) Edits
+unless k true e m h = tt
+unless k false e m h = h
+
+planned : (k : Kernel) (pid : ℕ) (call : Call) → can_call call ≡ true → IfOk (given k (plan (own k pid call) call)) Edits
+planned k pid (Stat path) h = after k (parsed path) _ (λ names. after k (walk (k.root, Some A_directory) names) _ (tells k))
+planned k pid (Mkdir path) h = after k (parsed path) _ (λ names. after k (last_of k.root EEXIST names) _ (λ at. after k (absent at.found) _ (λ _. refl)))
+planned k pid (Rmdir path) h =
+    after k (parsed path) _ (λ names. after k (last_of k.root EBUSY names) _ (λ at. after k (or_refuse ENOENT at.found) _ (λ what. unless k (not (is_directory what)) ENOTDIR _ (unless k (not (is_empty (answer_to k (List_names what.0)))) ENOTEMPTY _ tt))))
+planned k pid (List_directory path) h = after k (parsed path) _ (λ names. after k (walk (k.root, Some A_directory) names) _ (λ place. unless k (not (is_directory place)) ENOTDIR _ tt))
+planned k pid call h = absurd (false≢true h)
+
+pub calls_edit : (k : Kernel) (pid : ℕ) (call : Call) → can_call call ≡ true → CanEdit (edits k pid call)
+calls_edit k pid call h = by (given k (plan (own k pid call) call)) (planned k pid call h) where
+  by : (r : Result Change Errno) → IfOk r Edits → CanEdit (edits_of r)
+  by (Ok change) is = is
+  by (Err e) is = tt
+
+-- where a path leads to is in use
+led : (P : ℕ → Type 0) (k : Kernel) → ((d : ℕ) (x : Name) (n : ℕ) → get (names_of k d) x ≡ Some n → P n) → (path : List Name) (a b : ℕ) → P a → Leads k a path b → P b
+led P k names [] a b here leads = subst P leads here
+led P k names (x ∷ xs) a b here leads = led P k names xs leads.0 b (names a x leads.0 leads.1) leads.2
+
+-- the touches that count
+abbrev pub counted_by : Option (BeginFlags × ℕ) → List Touch → List Touch
+counted_by within ts = if is_some within then ts else filter (λ t. t.write) ts
+
+pub counts : (m : Moment) (pid : ℕ) (call : Call) (within : Option (BeginFlags × ℕ)) → Stands (calling within) (status m pid) → counted_by within (touches (seen_by m pid) pid call) ≡ counted_touches m pid call
+counts m pid call None is = ap (λ s. counted s (touches (seen_by m pid) pid call)) (sym (phase_is m pid idle is (λ h. absurd cc)))
+counts m pid call (Some within) is = ap (λ s. counted s (touches (seen_by m pid) pid call)) (sym (phase_is m pid (live within.0 within.1 is.0) is.1 (λ h. absurd cc)))
+
+-- a call's new name stands in a directory that a path leads to
+pub have_parents : (v : Committed) (pid : ℕ) (call : Call) → WellFormed v.state → is_alive v.state pid ≡ true → NamesAreInUse v → can_call call ≡ true → HaveParents v.reserves (edits v.state pid call)
+have_parents v pid call well alive used there =
+    let can = can_be_made v.state pid call well alive in
+    by can.0 (edits v.state pid call) (calls_edit v.state pid call there) (fits v.state pid call can.0 can.1)
+  where
+    in_use : (d : ℕ) → IsRooted v.state d → IsInUse v.reserves d
+    in_use d rooted = let path = well.leads d rooted in led (IsInUse v.reserves) v.state used.names path.0 v.state.root d used.root path.1
+
+    by : (chosen : List ℕ) (es : List Edit) → CanEdit es → FitsAll chosen v.state es → HaveParents v.reserves es
+    by chosen [] can fit = tt
+    by chosen (Make_directory d x i ∷ []) can fit = (in_use d fit.0.0.parent, tt)
+    by chosen (Unname_directory d x n ∷ []) can fit = (tt, tt)
+    by chosen (e ∷ []) can fit = absurd can
+    by chosen (e ∷ f ∷ es) can fit = absurd can
+
+-- what a plan over the slots gives is what the history says
+module _ (f : Fields) (pid : ℕ) (within : Option (BeginFlags × ℕ)) (call : Call) (asks : Asks f pid (calling within) (Do call)) where
+  abbrev pub sees : Committed
+  sees = record (f.stable) { state = all_done (changes_in (view_at f.slots pid)) f.stable.state }
+
+  pub plan_seen : (p : Planned) → IsPlan sees.state pid call p → IsPlan (seen_by (moment f.log) pid) pid call p
+  plan_seen p is =
+      let same = slot_views f asks.holds pid in
+      let goes = (views_may_be_loose 0 f.log.priorities f.log.limit f.log.entries asks.holds.legal pid).goes_on call in
+      record {
+        answer = is.answer ∙ ap (λ k. reply k pid call) same ∙ sym goes.reply;
+        touches = is.touches ∙ ap (λ k. touches k pid call) same ∙ sym goes.touches;
+        edits = is.edits ∙ ap (λ k. edits k pid call) same ∙ sym goes.edits;
+      }
+
+  pub plans : (p : Planned) (ts : List Touch) → IsPlan sees.state pid call p → NamesAreInUse sees → ts ≡ counted_by within p.touches.items → Plans f pid call ts p.edits.items
+  plans p ts is used counted =
+      let list = (what_stands 0 f.log.priorities f.log.limit f.log.entries asks.holds.legal).lists pid in
+      let well = subst WellFormed (sym (slot_views f asks.holds pid)) list.well in
+      let alive = subst (λ k. is_alive k pid ≡ true) (sym (slot_views f asks.holds pid)) (list.alive (caller_lives (moment f.log) pid within asks.stands)) in
+      record {
+        touches = counted ∙ ap (counted_by within) (plan_seen p is).touches ∙ counts (moment f.log) pid call within asks.stands;
+        edits = (plan_seen p is).edits;
+        kinds = subst CanEdit (sym is.edits) (calls_edit sees.state pid call asks.there);
+        parents = subst (HaveParents f.stable.reserves) (sym is.edits) (have_parents sees pid call well alive used asks.there);
+      }
 
 -- calls that are there are those that transactions support, and end no process
 inside : (call : Call) → can_call call ≡ true → is_inside call ≡ true
@@ -84,6 +181,18 @@ AreItsNew f pid call chosen = AreNew (record { slots = f.slots; stable = f.stabl
 -- a process in no transaction sees what is committed
 pub seen_idle : (m : Moment) (pid : ℕ) → status m pid ≡ idle → seen_by m pid ≡ m.committed
 seen_idle m pid is = ap (λ s. after_list pid (calls_of s) m.committed) (phase_is m pid idle is (λ h. absurd cc))
+
+-- the edits of a plain call, which is committed at once, fit
+pub plain_commits : (f : Fields) (pid : ℕ) (within : Option (BeginFlags × ℕ)) (call : Call) → Asks f pid (calling within) (Do call) → is_some within ≡ false
+    → (es : List Edit) → es ≡ edits (seen_by (moment f.log) pid) pid call → (chosen : List ℕ) → AreNew (record { slots = f.slots; stable = f.stable }) es chosen → FitsAll chosen f.stable.state es
+plain_commits f pid (Some within) call asks none es is chosen new = absurd (false≢true (sym none))
+plain_commits f pid None call asks none es is chosen new =
+    let same : es ≡ edits f.stable.state pid call = is ∙ ap (λ k. edits k pid call) (seen_idle (moment f.log) pid asks.stands ∙ sym asks.holds.state) in
+    subst (FitsAll chosen f.stable.state) (sym same) (fits f.stable.state pid call chosen (record {
+      well = subst WellFormed (sym asks.holds.state) (what_stands 0 f.log.priorities f.log.limit f.log.entries asks.holds.legal).committed.well;
+      alive = subst (λ k. is_alive k pid ≡ true) (sym asks.holds.state) (caller_lives (moment f.log) pid None asks.stands);
+      numbers = record { count = new.count ∙ ap (sum_by news) same; unused = new.nowhere; different = new.different };
+    }))
 
 module _ (f : Fields) (pid : ℕ) (within : Option (BeginFlags × ℕ)) (call : Call) (chosen : List ℕ) (ds : List Doomed)
     (asks : Asks f pid (calling within) (Do call)) (wins : Wins (moment f.log) pid call ds) (new : AreItsNew f pid call chosen) where
@@ -174,21 +283,11 @@ module _ (f : Fields) (pid : ℕ) (within : Option (BeginFlags × ℕ)) (call : 
   state_is (Some w) l = asks.holds.state ∙ sym (goes_in w l).committed
 
   pub takes : (h g : Fields) → Moves f h pid (part_with within change (counted_touches m pid call) (part_at f pid)) (state_with within change f.stable.state) [] → Dooms h g ds → CanEnter g e
-  takes h g first rest = record {
-    before = f;
-    holds = asks.holds;
-    right = right;
-    answers = said answer;
-    steady = steady;
-    ds = ds;
-    dooms = refl;
-    causes = wins.2;
-    moves = record {
-      log = rest.log ∙ first.log;
-      state = rest.state ∙ first.state ∙ state_is within asks.stands;
-      slot_count = rest.slot_count ∙ first.slot_count;
-      held_count = rest.held_count ∙ first.held_count;
-      own = rest.parts pid ∙ not_doomed ds pid _ spared ∙ first.own ∙ ap (part_with within change (counted_touches m pid call)) (asks.holds.parts pid) ∙ part_is within asks.stands;
-      others = λ q differs. rest.parts q ∙ ap (doomed_by ds q) (first.others q differs);
-    };
-  }
+  takes h g first rest = enters f g asks.holds e right (said answer) steady ds refl wins.2 (record {
+    log = rest.log ∙ first.log;
+    state = rest.state ∙ first.state ∙ state_is within asks.stands;
+    slot_count = rest.slot_count ∙ first.slot_count;
+    held_count = rest.held_count ∙ first.held_count;
+    own = rest.parts pid ∙ not_doomed ds pid _ spared ∙ first.own ∙ ap (part_with within change (counted_touches m pid call)) (asks.holds.parts pid) ∙ part_is within asks.stands;
+    others = λ q differs. rest.parts q ∙ ap (doomed_by ds q) (first.others q differs);
+  })
