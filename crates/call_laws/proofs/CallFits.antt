@@ -127,15 +127,15 @@ module _ (k : Kernel) (well : WellFormed k) (pid : ℕ) (alive : IsAlive k pid) 
     there = (last.parent.directory, tt);
   }
 
-  rmdir_at : (at : Last) → IsLast k at → (o : Option Place) → at.found ≡ o → IfOk (given k (or_refuse ENOENT o >>= (λ what. refuse_if (not (is_directory what)) ENOTDIR >> (ask (List_names what.0) >>= (λ entries. refuse_if (not (is_empty entries)) ENOTEMPTY >> changed Done (Unname_directory at.parent at.name what.0 ∷ [])))))) Fine
+  rmdir_at : (at : Last) → IsLast k at → (o : Option Place) → at.found ≡ o → IfOk (given k (or_refuse ENOENT o >>= (λ what. refuse_if (not (is_directory what)) ENOTDIR >> (ask (List_names what.0) >>= (λ entries. refuse_if (not (is_empty entries)) ENOTEMPTY >> changed Done (Unname_directory at.parent at.name ∷ [])))))) Fine
   rmdir_at at last None e = tt
   rmdir_at at last (Some (n, None)) e = tt
   rmdir_at at last (Some (n, Some A_file)) e = tt
   rmdir_at at last (Some (n, Some A_pipe)) e = tt
   rmdir_at at last (Some (n, Some A_directory)) e =
       let there = given_there k (n, Some A_directory) (get (names_of k at.parent) at.name) (sym last.found ∙ e) in
-      allowed k Fine (not (is_empty (keys (names_of k n)))) ENOTEMPTY (changed Done (Unname_directory at.parent at.name n ∷ [])) (λ empty. record {
-        fits = λ can. ((record { parent = last.parent; gives = there.0; kind = there.1 }, no_keys (keys (names_of k n)) (turned (is_empty (keys (names_of k n))) empty)), tt);
+      allowed k Fine (not (is_empty (keys (names_of k n)))) ENOTEMPTY (changed Done (Unname_directory at.parent at.name ∷ [])) (λ empty. record {
+        fits = λ can. ((n, record { parent = last.parent; gives = there.0; kind = there.1 }, no_keys (keys (names_of k n)) (turned (is_empty (keys (names_of k n))) empty)), tt);
         by = (tt, tt);
         there = (last.parent.directory, tt);
       })

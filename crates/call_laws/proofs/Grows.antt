@@ -81,7 +81,7 @@ edit_grows chosen k (Make_directory d x i) f = made_grows chosen k d _ (number c
 edit_grows chosen k (Make_file d x i) f = made_grows chosen k d _ (number chosen (Made i)) (File []) f.1.inode f.2 f.0.parent.directory
 edit_grows chosen k (Name_file d x n) f = same_grows chosen k d _ f.0.parent.directory
 edit_grows chosen k (Unname_file d x n) f = same_grows chosen k d _ f.parent.directory
-edit_grows chosen k (Unname_directory d x n) f = same_grows chosen k d _ f.0.parent.directory
+edit_grows chosen k (Unname_directory d x) f = same_grows chosen k d _ f.1.parent.directory
 edit_grows chosen k (Move d x e y n replaced) f = then_grows chosen k (clear_name d x k) (set_name e y n (clear_name d x k)) (same_grows chosen k d _ f.from.parent.directory)
     (same_grows chosen (clear_name d x k) e _ ((has_names k d (remove (names_of k d) x) f.from.parent.directory).kinds e ∙ f.onto.directory))
 edit_grows chosen k (Put_bytes n place bytes before) f = same_grows chosen k n _ f.0

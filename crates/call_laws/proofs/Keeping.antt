@@ -32,7 +32,7 @@ edit_keeps chosen now later (Make_file d x i) pid inside by own f g marked = mad
     (kept_kind now _ d (File []) A_directory f.1.inode f.0.parent.directory) (kept_kind later _ d (File []) A_directory g.1.inode g.0.parent.directory) marked.0
 edit_keeps chosen now later (Name_file d x n) pid inside by own f g marked = named_keeps now later d x n f.0.parent.directory g.0.parent.directory marked.0 (g.1 ∙ sym f.1)
 edit_keeps chosen now later (Unname_file d x n) pid inside by own f g marked = unnamed_keeps now later d x f.parent.directory g.parent.directory marked.0
-edit_keeps chosen now later (Unname_directory d x n) pid inside by own f g marked = unnamed_keeps now later d x f.0.parent.directory g.0.parent.directory marked.0
+edit_keeps chosen now later (Unname_directory d x) pid inside by own f g marked = unnamed_keeps now later d x f.1.parent.directory g.1.parent.directory marked.0
 edit_keeps chosen now later (Move d x e y n replaced) pid inside by own f g marked =
     moved_keeps now later d x e y n f.from.parent.directory g.from.parent.directory f.onto.directory g.onto.directory (same_kind now later d x n f.from.gives g.from.gives marked.0) marked.0 marked.1.0
 edit_keeps chosen now later (Put_bytes n place bytes before) pid inside by own f g marked = put_keeps now later n place bytes f.0 g.0 (g.1 ∙ sym f.1)
@@ -59,8 +59,8 @@ edit_marks chosen k (Name_file d x n) f a there alone = named_mark k d x n f.0.p
     (for_links a (λ m. links (set_name d x n k) m ≡ links k m) (λ m e. same_when_named k d x n m f.0.parent.directory f.0.free (λ same. alone.1.0 (ap Links same ∙ sym e)))) alone.0
 edit_marks chosen k (Unname_file d x n) f a there alone = unnamed_mark k d x f.parent.directory a
     (for_links a (λ m. links (clear_name d x k) m ≡ links k m) (λ m e. same_when_unnamed k d x n m f.parent.directory f.gives (λ same. alone.1.0 (ap Links same ∙ sym e)))) alone.0
-edit_marks chosen k (Unname_directory d x n) f a there alone = unnamed_mark k d x f.0.parent.directory a
-    (for_links a (λ m. links (clear_name d x k) m ≡ links k m) (λ m e. same_when_unnamed k d x n m f.0.parent.directory f.0.gives (file_is_other k n m f.0.kind (subst (IsThere k) e there)))) alone.0
+edit_marks chosen k (Unname_directory d x) f a there alone = unnamed_mark k d x f.1.parent.directory a
+    (for_links a (λ m. links (clear_name d x k) m ≡ links k m) (λ m e. same_when_unnamed k d x f.0 m f.1.parent.directory f.1.gives (file_is_other k f.0 m f.1.kind (subst (IsThere k) e there)))) alone.0
 edit_marks chosen k (Move d x e y n replaced) f a there alone = moved_marks k d x e y n f.old replaced f.from.parent.directory f.onto.directory f.from.gives
     (still_gives k d x e y n f.old f.from.parent.directory f.from.gives f.gives (other_old k n f.old replaced f.replaces)) f.replaces a there alone.0 alone.1.0 alone.1.1
 edit_marks chosen k (Put_bytes n place bytes before) f a there alone = put_marks k n place bytes before f.0 f.1 a alone

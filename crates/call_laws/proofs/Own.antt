@@ -131,7 +131,7 @@ own_stays_alike chosen now later (Make_directory d x i) pid inside by f g h = in
 own_stays_alike chosen now later (Make_file d x i) pid inside by f g h = inode_stays _ _ pid d _ _ refl (inode_stays now later pid _ (File []) (File []) refl h)
 own_stays_alike chosen now later (Name_file d x n) pid inside by f g h = inode_stays now later pid d _ _ refl h
 own_stays_alike chosen now later (Unname_file d x n) pid inside by f g h = inode_stays now later pid d _ _ refl h
-own_stays_alike chosen now later (Unname_directory d x n) pid inside by f g h = inode_stays now later pid d _ _ refl h
+own_stays_alike chosen now later (Unname_directory d x) pid inside by f g h = inode_stays now later pid d _ _ refl h
 own_stays_alike chosen now later (Move d x e y n replaced) pid inside by f g h = inode_stays _ _ pid e _ _ refl (inode_stays now later pid d _ _ refl h)
 own_stays_alike chosen now later (Put_bytes n place bytes before) pid inside by f g h = inode_stays now later pid n _ _ refl h
 own_stays_alike chosen now later (Cut n before after) pid inside by f g h = inode_stays now later pid n _ _ refl h
@@ -210,7 +210,7 @@ own_is_left_alone chosen k (Make_directory d x i) pid other inside by away alive
 own_is_left_alone chosen k (Make_file d x i) pid other inside by away alive well f = make_alone k pid d x _ (File []) well f.1.inode f.0.parent.directory
 own_is_left_alone chosen k (Name_file d x n) pid other inside by away alive well f = inode_alone k pid d _ f.0.parent.directory
 own_is_left_alone chosen k (Unname_file d x n) pid other inside by away alive well f = inode_alone k pid d _ f.parent.directory
-own_is_left_alone chosen k (Unname_directory d x n) pid other inside by away alive well f = inode_alone k pid d _ f.0.parent.directory
+own_is_left_alone chosen k (Unname_directory d x) pid other inside by away alive well f = inode_alone k pid d _ f.1.parent.directory
 own_is_left_alone chosen k (Move d x e y n replaced) pid other inside by away alive well f =
     own_trans k (clear_name d x k) (set_name e y n (clear_name d x k)) pid (inode_alone k pid d _ f.from.parent.directory)
     (inode_alone (clear_name d x k) pid e _ (unchanged_by (mapped kind) k d _ (sym f.from.parent.directory) e ∙ f.onto.directory))

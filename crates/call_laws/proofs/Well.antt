@@ -202,10 +202,10 @@ well_stays chosen k (Unname_file d x n) well f =
     let stay : KindsStay k (clear_name d x k) = (edit_grows chosen k (Unname_file d x n) f).kinds in
     let bare : (y : Name) (m : ℕ) → get (names_of k n) y ≢ Some m = λ y m e. file_is_other k n n (has_names_in k n y m e) f.kind refl in
     well_by k (clear_name d x k) refl stay well (unnamed_names k d x n well f.parent.directory f.gives bare) (unnamed_tree k d x n well f.parent.directory f.gives bare (well.one_name n) (tree_of k well)) (inode_tables k d _ stay (tables_of k well))
-well_stays chosen k (Unname_directory d x n) well f =
-    let stay : KindsStay k (clear_name d x k) = (edit_grows chosen k (Unname_directory d x n) f).kinds in
-    let bare : (y : Name) (m : ℕ) → get (names_of k n) y ≢ Some m = λ y m e. not_none m (sym e ∙ none_by_keys nat_list_cmp_total (names_of k n) f.1 y) in
-    well_by k (clear_name d x k) refl stay well (unnamed_names k d x n well f.0.parent.directory f.0.gives bare) (unnamed_tree k d x n well f.0.parent.directory f.0.gives bare (well.one_name n) (tree_of k well)) (inode_tables k d _ stay (tables_of k well))
+well_stays chosen k (Unname_directory d x) well f =
+    let stay : KindsStay k (clear_name d x k) = (edit_grows chosen k (Unname_directory d x) f).kinds in
+    let bare : (y : Name) (m : ℕ) → get (names_of k f.0) y ≢ Some m = λ y m e. not_none m (sym e ∙ none_by_keys nat_list_cmp_total (names_of k f.0) f.2 y) in
+    well_by k (clear_name d x k) refl stay well (unnamed_names k d x f.0 well f.1.parent.directory f.1.gives bare) (unnamed_tree k d x f.0 well f.1.parent.directory f.1.gives bare (well.one_name f.0) (tree_of k well)) (inode_tables k d _ stay (tables_of k well))
 well_stays chosen k (Move d x e y n replaced) well f =
     let stay : KindsStay k (set_name e y n (clear_name d x k)) = (edit_grows chosen k (Move d x e y n replaced) f).kinds in
     let still : get (names_of (clear_name d x k) e) y ≡ f.old = still_gives k d x e y n f.old f.from.parent.directory f.from.gives f.gives (other_old k n f.old replaced f.replaces) in

@@ -1,7 +1,6 @@
 // The questions that a plan asks, each with the touches that it makes.
 ghost use Rattle.std.specs.Prelude.{◌≡◌, ◌++◌, ◌∷◌, [], ◌+◌, ◌<◌, ◌≤◌, ◌^◌, IfOk, OnOk, length, map};
 ghost use Rattle.model.specs.Aspects.{Block};
-ghost use Rattle.calls.specs.Parts.{has_no_names};
 ghost use Rattle.model.specs.Plan.{ask, List_names, Measure, Read_file, Count_links, Count_ends, Find_offset, Read_pipe, Fit, blocks, rising};
 ghost use Rattle.look.specs.Asked.{Comes, touching};
 
@@ -54,18 +53,6 @@ pub(crate) fn names<L: Look>(look: &L, dir: Num, touches: &mut Touches) -> Resul
 {
     touches.read(Aspect::Names(dir))?;
     Ok(look.names(touches.heap(), dir)?)
-}
-
-// Whether a directory has no names. It touches all of them, as they would be if they were listed.
-pub(crate) fn has_no_names<L: Look>(
-    look: &L,
-    dir: Num,
-    touches: &mut Touches,
-) -> Result<bool, Refusal>
-    ensures { Comes (L.state look.now) (has_no_names dir) touches.old result touches.new }
-{
-    touches.read(Aspect::Names(dir))?;
-    Ok(look.is_empty(dir))
 }
 
 // A file's length.

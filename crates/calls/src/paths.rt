@@ -1,17 +1,17 @@
 // The plans of calls on paths.
 ghost use Rattle.std.specs.Prelude.{◌≡◌, ◌∷◌, [], ℕ, Some, true, false};
 ghost use Rattle.model.specs.Changes.{Move};
-ghost use Rattle.calls.specs.Parts.{place_at, last_at, empty_directory, without_names, file_named, link_paths, name_file, rename_paths, move_target, gives, replaced, replaced_over};
+ghost use Rattle.calls.specs.Parts.{place_at, last_at, emptied, without_names, file_named, link_paths, name_file, rename_paths, move_target, gives, replaced, replaced_over};
 ghost use Rattle.model.specs.Walks.{is_directory};
 ghost use Rattle.model.specs.Plans.{plan, changed, status, moved, replaced_by_name};
 ghost use Rattle.model.specs.Calls.{own, Done, Stat as Stat_path, Mkdir, Rmdir, List_directory, Link, Unlink, Rename};
 ghost use Rattle.look.specs.Asked.{Comes, Tells};
 
-use crate::asking::{has_no_names, links, names, size};
+use crate::asking::{links, names, size};
 use crate::change::{Change, changed_by, unchanged};
 use crate::steps::{
-    absent, is_directory, is_same, must_be_directory_for, must_be_no_directory_for,
-    must_not_be_directory, must_not_be_root, must_not_go_below, parsed, refuse_if,
+    absent, is_directory, is_same, must_be_directory_for, must_be_empty, must_be_no_directory_for,
+    must_not_be_directory, must_not_be_root, must_not_go_below, parsed,
 };
 use heap::Heap;
 use ids::{Answer, Bytes, Edit, Errno, Kind, Num, Nums, Refusal, Stat};
@@ -151,32 +151,31 @@ pub(crate) fn rmdir<L: Look>(
         touches.old result touches.new }
 {
     let last = last_at(look, Errno::EBUSY, path, touches)?;
-    let dir = empty_directory(look, last.found(), touches)?;
+    must_be_emptied(look, last.found(), touches)?;
     done(
         touches.heap(),
-        Edit::UnnameDirectory(last.parent, last.name, dir),
+        Edit::UnnameDirectory(last.parent, last.name),
     )
 }
 
-// The directory whose name goes, which has to be there and empty.
-fn empty_directory<L: Look>(
+// What goes has to be there, and an empty directory.
+fn must_be_emptied<L: Look>(
     look: &L,
     found: Option<(Num, Option<Kind>)>,
     touches: &mut Touches,
-) -> Result<Num, Refusal>
-    ensures { Comes (L.state look.now) (empty_directory found) touches.old result touches.new }
+) -> Result<(), Refusal>
+    ensures { Comes (L.state look.now) (emptied found) touches.old result touches.new }
 {
     let what = or_refuse(Errno::ENOENT, found)?;
     must_be_directory(&what)?;
-    must_have_no_names(look, what.0, touches)?;
-    Ok(what.0)
+    must_have_no_names(look, what.0, touches)
 }
 
 fn must_have_no_names<L: Look>(look: &L, dir: Num, touches: &mut Touches) -> Result<(), Refusal>
     ensures { Comes (L.state look.now) (without_names dir) touches.old result touches.new }
 {
-    let is_empty = has_no_names(look, dir, touches)?;
-    refuse_if(!is_empty, Errno::ENOTEMPTY)
+    let entries = names(look, dir, touches)?;
+    must_be_empty(&entries)
 }
 
 pub(crate) fn list<L: Look>(

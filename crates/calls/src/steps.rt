@@ -1,13 +1,13 @@
 // Steps of plans that ask nothing.
 ghost use Rattle.std.specs.Prelude.{◌≡◌, ◌==◌, ◌&&◌, ◌||◌, not};
-ghost use Rattle.model.specs.Plan.{refuse_if, ENOTDIR, EBUSY, EINVAL, EISDIR};
+ghost use Rattle.model.specs.Plan.{refuse_if, ENOTDIR, ENOTEMPTY, EBUSY, EINVAL, EISDIR};
 ghost use Rattle.model.specs.Paths.{is_empty, is_below};
 ghost use Rattle.model.specs.Walks.{parsed, is_directory};
 ghost use Rattle.model.specs.Plans.{absent};
 ghost use Rattle.look.specs.Asked.{Tells};
 
 use heap::Heap;
-use ids::{Bytes, Errno, Kind, Num, Refusal};
+use ids::{Bytes, Errno, Kind, NameList, Num, Refusal};
 use path::Path;
 use walk::must_be_directory;
 
@@ -49,6 +49,17 @@ pub(crate) fn must_not_be_directory(
     match place.1 {
         Some(Kind::Dir) => Err(Refusal::Errno(errno)),
         _ => Ok(()),
+    }
+}
+
+// A directory that has to be empty.
+pub(crate) fn must_be_empty(names: &NameList) -> Result<(), Refusal>
+    ensures { Tells (refuse_if (not (is_empty names.now)) ENOTEMPTY) result }
+{
+    if names.as_slice().is_empty() {
+        Ok(())
+    } else {
+        Err(Refusal::Errno(Errno::ENOTEMPTY))
     }
 }
 

@@ -7,10 +7,11 @@ use Rattle.std.proofs.lemmas.List.Sums.{sum_by-cons, sum_by_push}
 use Rattle.model.specs.Changes.{Edit}
 use Rattle.model.specs.Moments.{is_in}
 use Rattle.model.specs.Effects.{Effect}
+use Rattle.shadow.specs.Changes.{made_by}
 use Rattle.shadow.specs.Committed.{Committed}
 use Rattle.shadow.specs.Claims.{AreUnused, Claim, Number, Covers, KeepsMore, KeepsNothing, KeepsSame, claimed_by, claimed, reserved}
 use Rattle.commit.specs.Claims.{total, AreCovered}
-use Rattle.commit.specs.Edits.{AreNew, with_change, made_by}
+use Rattle.commit.specs.Edits.{AreNew, with_change}
 use Rattle.commit.specs.Views.{View, SameViews, Shows, absent, view_at, changes_in}
 
 -- sums over views

@@ -1,15 +1,12 @@
 -- Changes of calls.
 use Rattle.std.specs.Prelude.{◌≡◌, ℕ, false, List, [], ◌∷◌, ◌++◌, length}
-use Rattle.std.specs.List.{AllByRecursion, flat_map, sum_by}
+use Rattle.std.specs.List.{AllByRecursion, sum_by}
 use Rattle.model.specs.Changes.{Edit, news}
 use Rattle.model.specs.Steps.{IsNowhere, AllDifferent}
 use Rattle.model.specs.Moments.{is_in}
 use Rattle.model.specs.Effects.{Effect}
+use Rattle.shadow.specs.Changes.{made_by}
 use Rattle.commit.specs.Views.{View, Shown, absent, resting, open_view, struck, view_at, changes_in}
-
--- the numbers of what changes have made
-abbrev pub made_by : List Effect → List ℕ
-made_by ds = flat_map (λ d. d.chosen) ds
 
 -- one change more
 abbrev pub with_change : Effect → View → View

@@ -5,8 +5,7 @@ ghost use Rattle.model.specs.Effects.{all_done};
 ghost use Rattle.model.specs.Moments.{start};
 ghost use Rattle.shadow.specs.Changes.{CanEdit, effect};
 ghost use Rattle.shadow.specs.Claims.{HaveParents};
-ghost use Rattle.call_laws.specs.Fits.{FitsAll};
-ghost use Rattle.freeing_laws.specs.Sweep.{AllFit};
+ghost use Rattle.shadow.specs.Effects.{CanCommit, in_turn};
 ghost use Rattle.commit.specs.Edits.{AreNew, with_change};
 ghost use Rattle.commit.specs.Slots.{slot_view};
 ghost use Rattle.commit.specs.Standings.{StandsSo};
@@ -164,9 +163,9 @@ impl Transactions {
     /// them is given back.
     pub fn end(&mut self, pid: Pid)
         requires made { pid < length self.old.slots }
-        requires fits { AllFit (changes_in (view_at self.old.slots pid)) self.old.stable.state }
+        requires can { CanCommit self.old.stable.state (changes_in (view_at self.old.slots pid)) }
         ensures slots { Shows self.old.slots self.new.slots pid resting }
-        ensures state { self.new.stable.state ≡ tidy (all_done (changes_in (view_at self.old.slots pid)) self.old.stable.state) }
+        ensures state { self.new.stable.state ≡ in_turn (changes_in (view_at self.old.slots pid)) self.old.stable.state }
     {
         let slot = take_slot(&mut self.slots, pid);
         shadow_in(self.heap, slot).commit_into(&mut self.stable);
@@ -192,7 +191,7 @@ impl Transactions {
     pub fn apply(&mut self, edits: Vec<Edit, Heap>) -> Result<Nums, AllocError>
         requires kinds { CanEdit edits.items }
         requires parents { HaveParents self.old.stable.reserves edits.items }
-        requires fits { (chosen : List ℕ) → AreNew self.old edits.items chosen → FitsAll chosen self.old.stable.state edits.items }
+        requires can { (chosen : List ℕ) → AreNew self.old edits.items chosen → CanCommit self.old.stable.state (effect chosen edits.items ∷ []) }
         ensures new { IfOk result (AreNew self.old edits.entry.items) }
         ensures state { IfOk result (λ chosen. self.new.stable.state ≡ tidy (all_applied chosen edits.entry.items self.old.stable.state)) }
         ensures slots { SameViews self.old.slots self.new.slots }

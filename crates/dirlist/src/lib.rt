@@ -6,11 +6,8 @@ ghost use Rattle.model.specs.FiniteMap as map;
 ghost use Rattle.model.specs.State.{name_cmp};
 ghost use Rattle.dirlist.specs.Places.{IsPlaceOf, IsPlaceFor};
 
-mod patch;
-
 use heap::Heap;
 use ids::{Name, NameList, Num};
-pub use patch::Patch;
 use std::alloc::AllocError;
 use std::cmp::Ordering;
 use std::marker::Model;

@@ -93,10 +93,10 @@ named_links k d x n is free m =
     let o : times m (n ∷ []) ≡ one n m = times_one m n in
     omega arith
 
-unnamed_links : (k : Kernel) (d : ℕ) (x : Name) (n : ℕ) → kind_of k d ≡ Some A_directory → get (names_of k d) x ≡ Some n → (m : ℕ) → links (clear_name d x k) m + times m (n ∷ []) ≡ links k m + times m []
-unnamed_links k d x n is gives m =
-    let gone : links (clear_name d x k) m + one n m ≡ links k m = ap (λ c. links (clear_name d x k) m + c) (sym (ap (counted m) gives)) ∙ links_unnamed k d x is m in
-    let o : times m (n ∷ []) ≡ one n m = times_one m n in
+unnamed_links : (k : Kernel) (d : ℕ) (x : Name) → kind_of k d ≡ Some A_directory → (m : ℕ) → links (clear_name d x k) m + times m (listed (get (names_of k d) x)) ≡ links k m + times m []
+unnamed_links k d x is m =
+    let gone : links (clear_name d x k) m + counted m (get (names_of k d) x) ≡ links k m = links_unnamed k d x is m in
+    let o : times m (listed (get (names_of k d) x)) ≡ counted m (get (names_of k d) x) = times_listed m (get (names_of k d) x) in
     omega arith
 
 moved_links : (k : Kernel) (d : ℕ) (x : Name) (e : ℕ) (y : Name) (n : ℕ) (replaced : List ℕ) → CanMove k d x e y n replaced → (m : ℕ) → links (set_name e y n (clear_name d x k)) m + times m (listed (get (names_of k e) y)) ≡ links k m + times m []
@@ -231,8 +231,9 @@ counts_change chosen k (Make_directory d x i) f = by_inodes chosen k (Make_direc
 counts_change chosen k (Make_file d x i) f = by_inodes chosen k (Make_file d x i) _ refl refl refl refl
     (made_links k d x (number chosen (Made i)) (File []) f.1.inode (is_new k _ (File []) f.1.inode refl refl refl) f.0.parent.directory f.0.free)
 counts_change chosen k (Name_file d x n) f = by_inodes chosen k (Name_file d x n) _ refl refl refl refl (named_links k d x n f.0.parent.directory f.0.free)
-counts_change chosen k (Unname_file d x n) f = by_inodes chosen k (Unname_file d x n) _ refl refl refl refl (unnamed_links k d x n f.parent.directory f.gives)
-counts_change chosen k (Unname_directory d x n) f = by_inodes chosen k (Unname_directory d x n) _ refl refl refl refl (unnamed_links k d x n f.0.parent.directory f.0.gives)
+counts_change chosen k (Unname_file d x n) f = by_inodes chosen k (Unname_file d x n) _ refl refl refl refl
+    (λ m. ap (λ o. links (clear_name d x k) m + times m (listed o)) (sym f.gives) ∙ unnamed_links k d x f.parent.directory m)
+counts_change chosen k (Unname_directory d x) f = by_inodes chosen k (Unname_directory d x) _ refl refl refl refl (unnamed_links k d x f.1.parent.directory)
 counts_change chosen k (Move d x e y n replaced) f = by_inodes chosen k (Move d x e y n replaced) _ refl refl refl refl (moved_links k d x e y n replaced f)
 counts_change chosen k (Put_bytes n place bytes before) f = by_inodes chosen k (Put_bytes n place bytes before) _ refl refl refl refl (bytes_links k n (File (written (file_of k n) place bytes)) (has_bytes k n _ (sym f.0) refl (no_names_file _ f.0)))
 counts_change chosen k (Cut n before after) f = by_inodes chosen k (Cut n before after) _ refl refl refl refl (bytes_links k n (File (sized after (file_of k n))) (has_bytes k n _ (sym f.0) refl (no_names_file _ f.0)))

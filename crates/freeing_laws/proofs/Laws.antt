@@ -20,7 +20,7 @@ use Rattle.freeing_laws.specs.Counts.{named, unnamed, opened, EditCounts, times}
 use Rattle.model.specs.Effects.{Effect, all_done}
 use Rattle.freeing_laws.specs.Sweep.{loses, Lost, AllFit, lost_along, nothing, both, lost_by, all_lost, swept, freed, all_freed, FitsFreed, MadeCall, called, all_called, all_changed, AreReady, IsTidied, SweepIsTidy}
 use Rattle.freeing_laws.proofs.Times.{Has, times_append, has_left}
-use Rattle.freeing_laws.proofs.Freeing.{Covers, unreached_bare, parents_freed, covered_is_tidy}
+use Rattle.freeing_laws.proofs.Freeing.{Covers, covered_is_tidy}
 use Rattle.freeing_laws.proofs.Counts.{counts_change}
 use Rattle.freeing_laws.proofs.Losing.{edit_covers, edit_comes}
 use Rattle.freeing_laws.proofs.CallsLose.{OnlyLastLoses, loses_nothing, only_last}
@@ -146,7 +146,7 @@ freed_call k c t ready =
 -- a directory that loses its name goes
 nothing_more : (chosen : List ℕ) (k : Kernel) (e : Edit) (n : ℕ) → 0 < times n (unnamed k e) → (times n (named chosen e) ≡ 0) × (times n (opened chosen e) ≡ 0)
 nothing_more chosen k (Unname_file d x m) n has = (refl, refl)
-nothing_more chosen k (Unname_directory d x m) n has = (refl, refl)
+nothing_more chosen k (Unname_directory d x) n has = (refl, refl)
 nothing_more chosen k (Move d x a y m replaced) n has = (refl, refl)
 nothing_more chosen k e n has = absurd (let some : 0 < times n [] = has in omega arith)
 
@@ -195,9 +195,5 @@ sweep_is_tidy_lem = record {
   calls = λ k cs t ready. along_calls cs k k t.well (sym t.tidied) ready;
   description_unseen = description_unseen;
   inode_unseen = λ k n well. inode_unseen k n well.parents;
-  well = effects_well;
-  parented = λ k well. well.parents;
-  bare = unreached_bare;
-  turn = parents_freed;
   stays = λ chosen k e t f. subst IsTidied (sym (one chosen k e t f)) (is_tidied (applied chosen e k) (well_stays chosen k e t.well f));
 }

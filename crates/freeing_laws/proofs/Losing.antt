@@ -188,7 +188,7 @@ edit_comes chosen k (Make_directory d x i) f counts = let n : ℕ = number chose
 edit_comes chosen k (Make_file d x i) f counts = let n : ℕ = number chosen (Made i) in made_comes k d n (File []) _ (there_by_kind k d A_directory f.0.parent.directory) (more_than _ (links k n) (times n (n ∷ [])) (counts.links n) (has_first n []))
 edit_comes chosen k (Name_file d x n) f counts = inode_comes k d _ (there_by_kind k d A_directory f.0.parent.directory)
 edit_comes chosen k (Unname_file d x n) f counts = inode_comes k d _ (there_by_kind k d A_directory f.parent.directory)
-edit_comes chosen k (Unname_directory d x n) f counts = inode_comes k d _ (there_by_kind k d A_directory f.0.parent.directory)
+edit_comes chosen k (Unname_directory d x) f counts = inode_comes k d _ (there_by_kind k d A_directory f.1.parent.directory)
 edit_comes chosen k (Move d x e y n replaced) f counts = moved_comes k d e _ _ (there_by_kind k d A_directory f.from.parent.directory) (there_by_kind k e A_directory f.onto.directory)
 edit_comes chosen k (Put_bytes n place bytes before) f counts = inode_comes k n _ (there_by_kind k n _ f.0)
 edit_comes chosen k (Cut n before after) f counts = inode_comes k n _ (there_by_kind k n _ f.0)

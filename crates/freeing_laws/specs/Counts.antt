@@ -26,7 +26,7 @@ named chosen _ = []
 -- the inodes that lose a name; what moves has one in place of the other
 abbrev pub unnamed : Kernel → Edit → List ℕ
 unnamed k (Unname_file d x n) = n ∷ []
-unnamed k (Unname_directory d x n) = n ∷ []
+unnamed k (Unname_directory d x) = listed (get (names_of k d) x)
 unnamed k (Move d x e y n replaced) = listed (get (names_of k e) y)
 unnamed k _ = []
 

@@ -1,7 +1,7 @@
 -- What is freed after an edit: of the objects whose counts it may have lowered those whose counts are 0.
-use Rattle.std.specs.Prelude.{◌≡◌, ◌≢◌, ◌<◌, Bool, true, false, ℕ, List, [], ◌∷◌, ◌++◌, Option, Some, None, ⊤}
+use Rattle.std.specs.Prelude.{◌≡◌, ◌<◌, Bool, true, false, ℕ, List, [], ◌∷◌, ◌++◌, Option, Some, None, ⊤}
 use Rattle.model.specs.FiniteMap.{get}
-use Rattle.model.specs.State.{Name, A_directory, Kernel, Description, names_of, kind_of, links}
+use Rattle.model.specs.State.{A_directory, Kernel, Description, kind_of}
 use Rattle.model.specs.Changes.{Edit, Unname_file, Unname_directory, Move, Share_slot, Clear_slot, End_process, applied, all_applied, is_reached, tidy}
 use Rattle.model.specs.Calls.{Call}
 use Rattle.model.specs.Steps.{edits}
@@ -116,14 +116,10 @@ pub record IsTidied (k : Kernel) : Type 0 where
   pub well : WellFormed k
   pub tidied : tidy k ≡ k
 
--- what has a name in it has a name, or is the root
-abbrev pub AreParented : Kernel → Type 0
-AreParented k = (d : ℕ) (x : Name) (n : ℕ) → get (names_of k d) x ≡ Some n → links k d ≡ 0 → d ≡ k.root
-
 -- the edits after which something may go
 abbrev pub loses : Edit → Bool
 loses (Unname_file d x n) = true
-loses (Unname_directory d x n) = true
+loses (Unname_directory d x) = true
 loses (Move d x e y n replaced) = true
 loses (Share_slot pid f d pipes) = true
 loses (Clear_slot pid f pipes) = true
@@ -150,12 +146,5 @@ pub record SweepIsTidy : Type 0 where
   -- in any order: what is freed at any time tidying drops too, so tidying later makes the same
   pub description_unseen : (k : Kernel) (d : ℕ) → tidy (free_description d k) ≡ tidy k
   pub inode_unseen : (k : Kernel) (n : ℕ) → WellFormed k → tidy (free_inode n k) ≡ tidy k
-  -- For freeing one after the other, after calls in a row. The calls keep a well formed state, whose directories with names in them
-  -- have parents;
-  pub well : (fs : List Effect) (k : Kernel) → WellFormed k → AllFit fs k → WellFormed (all_done fs k)
-  pub parented : (k : Kernel) → WellFormed k → AreParented k
-  -- so what may go has no names in it, and when it has gone the others have their parents still.
-  pub bare : (k : Kernel) (n : ℕ) → AreParented k → is_reached k n ≡ false → (x : Name) (m : ℕ) → get (names_of k n) x ≢ Some m
-  pub turn : (k : Kernel) (n : ℕ) → AreParented k → AreParented (free_inode n k)
   -- what is left is tidied and well formed again
   pub stays : (chosen : List ℕ) (k : Kernel) (e : Edit) → IsTidied k → Fits chosen k e → IsTidied (freed chosen e k)

@@ -83,7 +83,7 @@ edit_within chosen k (Make_file d x i) w h =
     names_within made d (insert (names_of made d) x (number chosen (Made i))) (set_within k (number chosen (Made i)) (File []) (omega arith) (omega arith) w)
 edit_within chosen k (Name_file d x n) w h = names_within k d (insert (names_of k d) x n) w
 edit_within chosen k (Unname_file d x n) w h = names_within k d (remove (names_of k d) x) w
-edit_within chosen k (Unname_directory d x n) w h = names_within k d (remove (names_of k d) x) w
+edit_within chosen k (Unname_directory d x) w h = names_within k d (remove (names_of k d) x) w
 edit_within chosen k (Move d x e y n replaced) w h = names_within (clear_name d x k) e (insert (names_of (clear_name d x k) e) y n) (names_within k d (remove (names_of k d) x) w)
 edit_within chosen k (Put_bytes n place bytes before) w h =
     let long : length (written (file_of k n) place bytes) ≡ max (length (file_of k n)) (place + length bytes) = length-written (file_of k n) place bytes in

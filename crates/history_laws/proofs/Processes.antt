@@ -58,7 +58,7 @@ edit_same chosen pid (Make_directory d x i) k h alive = record { made = refl; al
 edit_same chosen pid (Make_file d x i) k h alive = record { made = refl; alive = λ q. refl; priority = λ q. refl }
 edit_same chosen pid (Name_file d x n) k h alive = record { made = refl; alive = λ q. refl; priority = λ q. refl }
 edit_same chosen pid (Unname_file d x n) k h alive = record { made = refl; alive = λ q. refl; priority = λ q. refl }
-edit_same chosen pid (Unname_directory d x n) k h alive = record { made = refl; alive = λ q. refl; priority = λ q. refl }
+edit_same chosen pid (Unname_directory d x) k h alive = record { made = refl; alive = λ q. refl; priority = λ q. refl }
 edit_same chosen pid (Move d x e y n replaced) k h alive = record { made = refl; alive = λ q. refl; priority = λ q. refl }
 edit_same chosen pid (Put_bytes n place bytes before) k h alive = record { made = refl; alive = λ q. refl; priority = λ q. refl }
 edit_same chosen pid (Cut n before after) k h alive = record { made = refl; alive = λ q. refl; priority = λ q. refl }

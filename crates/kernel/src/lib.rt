@@ -3,9 +3,11 @@
 //! Today there are directories, and the calls mkdir, stat, rmdir and list on them.
 #![tactic(auto)]
 
+mod doom;
 mod execute;
 mod kernel;
 mod operation;
+mod rest;
 mod state;
 mod step;
 

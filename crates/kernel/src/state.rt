@@ -1,13 +1,17 @@
 // The fields of a kernel, and the entries that change them.
 ghost use Rattle.std.specs.Prelude.{◌≡◌, ◌<◌, [], length, Some, None, if◌then◌else◌};
 ghost use Rattle.contention.specs.Holding.{held_at, Becomes};
-ghost use Rattle.kernel.specs.States.{CanSettle, cleared, plain, settled_as, CanEnter, Does, Fields, IsIn, Moves, fields};
+ghost use Rattle.commit.specs.Views.{Shows};
+ghost use Rattle.kernel.specs.Rows.{IsQuiet, settled_as};
+ghost use Rattle.kernel.specs.States.{CanSettle, Holds, fields, shown};
+ghost use Rattle.kernel.specs.Steps.{IsStep};
+ghost use Rattle.kernel.specs.Views.{shown_by};
 
 use commit::Transactions;
 use contention::Contenders;
 use heap::Heap;
 use history::History;
-use ids::{Age, BeginFlags, Entry, Nums, Op, Pid, Pids, Reply};
+use ids::{Age, BeginFlags, Entry, Pid};
 
 /// The fields of a kernel.
 #[derive(Drop)]
@@ -22,62 +26,39 @@ pub struct State {
     pub transactions: Transactions,
 }
 
-/// Adds an entry, when the other fields show already what it does. It takes no memory.
-pub fn enter(s: &mut State, entry: Entry)
-    requires { CanEnter (fields s.old) entry }
-    ensures { (old : Fields) → old.log ≡ s.old.history → Does old (fields s.new) entry.pid entry.op entry.reply }
+/// Adds an entry that dooms nobody, commits nothing and leaves its process as it was.
+pub fn note(s: &mut State, entry: Entry)
+    requires holds { Holds (fields s.old) }
+    requires quiet { IsQuiet s.old.history entry }
+    ensures holds { Holds (fields s.new) }
+    ensures step { IsStep (shown (fields s.old)) (shown (fields s.new)) entry.pid entry.op entry.reply }
 {
     s.history.push_placed(entry);
 }
 
-/// Adds an entry without new numbers that dooms nobody, and answers its reply once more.
-pub fn note(s: &mut State, pid: Pid, op: Op, told: (Reply, Reply)) -> Reply
-    requires can { CanEnter (fields s.old) (plain pid op told.0) }
-    requires twice { told.1 ≡ told.0 }
-    ensures now { Does (fields s.old) (fields s.new) pid op result }
-    ensures since { (old : Fields) → old.log ≡ s.old.history → Does old (fields s.new) pid op result }
+/// Adds an entry that dooms nobody and commits nothing, and after which its process's transaction begins, or begins anew, or
+/// is gone. What it had changed is forgotten. Its slot before may have been taken already.
+pub fn settle(s: &mut State, entry: Entry, again: bool, flags: BeginFlags, age: Age)
+    requires { CanSettle (fields s.old) entry again flags age }
+    ensures holds { Holds (fields s.new) }
+    ensures step { IsStep (shown (fields s.old)) (shown (fields s.new)) entry.pid entry.op entry.reply }
 {
-    let (entry, reply) = told;
-    let entry = Entry {
-        pid,
-        op,
-        reply: entry,
-        chosen: Nums::new(s.heap),
-        doomed: Pids::new(s.heap),
-    };
-    enter(s, entry);
-    reply
-}
-
-/// Adds such an entry, after which its process's transaction begins, or begins anew, or is gone.
-pub fn settle(
-    s: &mut State,
-    pid: Pid,
-    op: Op,
-    told: (Reply, Reply),
-    again: bool,
-    flags: BeginFlags,
-    age: Age,
-) -> Reply
-    requires can { CanSettle (fields s.old) pid op told.0 again flags age }
-    requires twice { told.1 ≡ told.0 }
-    ensures now { Does (fields s.old) (fields s.new) pid op result }
-    ensures since { (old : Fields) → old.log ≡ s.old.history → Does old (fields s.new) pid op result }
-{
-    clear(s, pid, again, flags, age);
-    note(s, pid, op, told)
-}
-
-/// What a process had changed and touched is forgotten.
-fn clear(s: &mut State, pid: Pid, again: bool, flags: BeginFlags, age: Age)
-    requires { IsIn (fields s.old) pid }
-    ensures { Moves (fields s.old) (fields s.new) pid (cleared (held_at s.old.contenders pid).priority (settled_as again flags age)) s.old.transactions.stable.state [] }
-{
+    let pid = entry.pid;
     settle_held(&mut s.contenders, pid, again, age);
+    settle_slot(&mut s.transactions, pid, again, flags, age);
+    s.history.push_placed(entry);
+}
+
+/// The slot of a process that is in a transaction without calls, or in none.
+fn settle_slot(transactions: &mut Transactions, pid: Pid, again: bool, flags: BeginFlags, age: Age)
+    requires { pid < length transactions.old.slots }
+    ensures slots { Shows transactions.old.slots transactions.new.slots pid (shown_by (settled_as again flags age) []) }
+    ensures state { transactions.new.stable.state ≡ transactions.old.stable.state }
+{
     if again {
-        s.transactions.begin(pid, flags, age);
+        transactions.begin(pid, flags, age);
     } else {
-        s.transactions.abort(pid);
+        transactions.abort(pid);
     }
 }
 

@@ -23,8 +23,6 @@ mod of_ids;
 #[cfg(test)]
 mod of_objects;
 #[cfg(test)]
-mod of_patch;
-#[cfg(test)]
 mod of_path;
 #[cfg(test)]
 mod of_pipe_shadow;

@@ -247,7 +247,7 @@ plan own (Rmdir path) = do
   refuse_if (not (is_directory what)) ENOTDIR
   entries ← ask (List_names what.0)
   refuse_if (not (is_empty entries)) ENOTEMPTY
-  changed Done (Unname_directory at.parent at.name what.0 ∷ [])
+  changed Done (Unname_directory at.parent at.name ∷ [])
 plan own (List_directory path) = do
   names ← parsed path
   place ← walk (own.root, Some A_directory) names

@@ -15,7 +15,8 @@ use Rattle.look.specs.Shown.{table_of}
 use Rattle.store.specs.Numbers.{Numbers}
 use Rattle.store.specs.Shown.{inodes}
 use Rattle.store.proofs.Changes.{get-inodes_by}
-use Rattle.shadow.specs.Changes.{Step, Nothing, Make, Unname}
+use Rattle.shadow.specs.declared.steps.Step.{Step}
+use Rattle.shadow.specs.declared.steps.Step.TheVariants.{Nothing, Make, Unname}
 use Rattle.shadow.specs.Changes.{effect_of}
 use Rattle.shadow.specs.Looks.{HasNoFiles, birth_of}
 use Rattle.shadow.specs.Stored.{stored}
@@ -61,7 +62,7 @@ no_files_after : (s : Step) (k : Kernel) → HasNoFiles k → HasNoFiles (one_do
 unfolding applied
 no_files_after Nothing k h = h
 no_files_after (Make d x n) k h = set_no_files (set_inode n (Directory empty) k) d (insert (names_of (set_inode n (Directory empty) k) d) x n) (set_no_files k n empty h)
-no_files_after (Unname d x n) k h = set_no_files k d (remove (names_of k d) x) h
+no_files_after (Unname d x) k h = set_no_files k d (remove (names_of k d) x) h
 
 pub no_files_all : (steps : List Step) (k : Kernel) → HasNoFiles k → HasNoFiles (all_done (map effect_of steps) k)
 no_files_all [] k h = h
@@ -72,7 +73,7 @@ birth_after : (s : Step) (k : Kernel) (pid : ℕ) → birth_of (one_done s k) pi
 unfolding applied
 birth_after Nothing k pid = refl
 birth_after (Make d x n) k pid = refl
-birth_after (Unname d x n) k pid = refl
+birth_after (Unname d x) k pid = refl
 
 pub birth_all : (steps : List Step) (k : Kernel) (pid : ℕ) → birth_of (all_done (map effect_of steps) k) pid ≡ birth_of k pid
 birth_all [] k pid = refl

@@ -1,9 +1,9 @@
 -- What one change makes of the store.
-use Rattle.std.proofs.Common.{◌≡◌, ◌≢◌, ℕ, ◌+◌, ◌<◌, ◌≤◌, true, false, cond, List, [], ◌∷◌, Option, Some, None, refl, sym, ap, subst, ◌∙◌, arith, eq-eqb}
+use Rattle.std.proofs.Common.{◌≡◌, ◌≢◌, ℕ, ◌+◌, ◌<◌, ◌≤◌, cond, List, [], ◌∷◌, Option, Some, None, refl, sym, ap, subst, ◌∙◌, arith, eq-eqb}
 use Rattle.std.specs.Option.{option_map, option_and_then}
 use Rattle.std.specs.Cmp.Lexicographic.{nat_list_cmp_total}
 use Rattle.model.specs.FiniteMap.{get, empty, insert, remove, same_map, get-empty}
-use Rattle.model.specs.State.{Name, A_directory, Kernel, Inode, File, Directory, Pipe, kind, mapped, names_of, names_of_inode, kind_of, links}
+use Rattle.model.specs.State.{Name, A_directory, Kernel, Inode, File, Directory, Pipe, kind, mapped, names_of, names_of_inode, kind_of}
 use Rattle.model.specs.Changes.{Make_directory, Unname_directory, set_inode, set_name, clear_name, applied, all_applied, tidy}
 use Rattle.model.proofs.Inodes.{name_exact}
 use Rattle.call_laws.specs.WellFormed.{WellFormed}
@@ -14,26 +14,22 @@ use Rattle.call_laws.proofs.NameEdits.{kept_kind}
 use Rattle.call_laws.proofs.Well.{well_stays}
 use Rattle.dirlist.specs.Listing.{Listing}
 use Rattle.store.specs.Numbers.{Numbers, coming}
-use Rattle.store.specs.Places.{altered, installed, is_coming, may_be_named, listing_of, listing_in, listing_at, number_in, with_listing, with_name, without_name, shown_stage}
+use Rattle.store.specs.Places.{altered, installed, hidden, lost, listing_of, listing_in, listing_at, number_in, with_listing, with_name, without_name, shown_stage}
 use Rattle.store.specs.Shown.{inodes, inode_in, inode_of, shown_at, with_names}
 use Rattle.store.specs.declared.Place.{Place}
 use Rattle.store.specs.declared.Stage.{Stage}
 use Rattle.store.specs.declared.Stage.TheVariants.{Coming, Held, Lost}
 use Rattle.store.specs.declared.Object.{Object}
 use Rattle.store.specs.declared.Object.TheVariants.{Directory as Kept_directory}
-use Rattle.store.proofs.Changes.{get-inodes_by, inodes-installed, inodes-changed, with_names-there}
-use Rattle.store.proofs.Listings.{place-altered, place-other, listing-staged}
-use Rattle.shadow.specs.Changes.{Make}
+use Rattle.store.proofs.Changes.{get-inodes_by, inodes-installed, inodes-lost, inodes-changed, with_names-there}
+use Rattle.store.proofs.Listings.{place-other, listing-staged}
+use Rattle.shadow.specs.declared.steps.Step.TheVariants.{Make}
 use Rattle.shadow.specs.Claims.{Claim, Room, Number, claimed_by, room_in, number_as}
 use Rattle.shadow.specs.Changes.{effect_of}
 use Rattle.shadow.specs.Stored.{stored, promised_of, FitsStage, IsStaged, Sound}
-use Rattle.shadow.proofs.Meets.{met, coming_at, coming_by, installs, takes_one, takes_none}
-use Rattle.shadow.proofs.Freed.{freed_state, made_tidy, unnamed_tidy}
-use Rattle.shadow.specs.Laid.{freed}
-use Rattle.freeing_laws.specs.Counts.{free_inode}
-use Rattle.freeing_laws.specs.Sweep.{AreParented}
-use Rattle.freeing_laws.proofs.Laws.{sweep_is_tidy_lem}
-use Rattle.shadow.proofs.Unshown.{altered_staged, freed_kept, freed_root, freed_staged}
+use Rattle.shadow.proofs.Meets.{met, coming_at, coming_by, installs, takes_one, takes_none, hides_held, met_swept}
+use Rattle.shadow.proofs.Freed.{made_tidy, unnamed_tidy}
+use Rattle.shadow.proofs.Unshown.{altered_staged, lost_root, lost_staged}
 
 -- an inode that is a directory, by its names
 pub directory_inode : (o : Option Inode) → mapped kind o ≡ Some A_directory → o ≡ Some (Directory (names_of_inode o))
@@ -125,14 +121,14 @@ module _ (ps : List ℕ) (s : Numbers) (d : ℕ) (x : Name) (n : ℕ) (sound : S
       let some : claimed_by (Number n) (effect_of (Make d x n)) ≤ met s (Number n) = covers (Number n) in
       let one : claimed_by (Number n) (effect_of (Make d x n)) ≡ 1 = ap (λ b. 0 + cond b 1 0) (eq-eqb n n refl) in omega arith
 
-  is_coming_place : (l : Listing) × (get s.places n ≡ Some (coming (Kept_directory l)))
-  is_coming_place = to_come (get s.places n) some_number
+  is_coming : (l : Listing) × (get s.places n ≡ Some (coming (Kept_directory l)))
+  is_coming = to_come (get s.places n) some_number
 
-  no_names : is_coming_place.0.names ≡ empty
-  no_names = same_map nat_list_cmp_total name_exact is_coming_place.0.names empty (λ y. subst IsStaged is_coming_place.1 (sound.staged n) y ∙ sym (get-empty _ y))
+  no_names : is_coming.0.names ≡ empty
+  no_names = same_map nat_list_cmp_total name_exact is_coming.0.names empty (λ y. subst IsStaged is_coming.1 (sound.staged n) y ∙ sym (get-empty _ y))
 
   inodes_first : inodes first ≡ insert (inodes s) n (Directory empty)
-  inodes_first = inodes-installed s n (Kept_directory is_coming_place.0) is_coming_place.1 ∙ ap (λ ns. insert (inodes s) n (Directory ns)) no_names
+  inodes_first = inodes-installed s n (Kept_directory is_coming.0) is_coming.1 ∙ ap (λ ns. insert (inodes s) n (Directory ns)) no_names
 
   parent : get (insert (inodes s) n (Directory empty)) d ≡ Some (Directory (names_of (set_inode n (Directory empty) k) d))
   parent = directory_inode _ (kept_kind k n d (Directory empty) A_directory fits.1.inode fits.0.parent.directory)
@@ -160,16 +156,6 @@ module _ (ps : List ℕ) (s : Numbers) (d : ℕ) (x : Name) (n : ℕ) (sound : S
   pub made_room : (l : Listing) → listing_at first d ≡ Some l → 0 < l.promised
   made_room l is = let some : 0 < met s (Room d) = some_room in let room : met s (Room d) ≡ l.promised = sym same_room ∙ ap promised_of is in omega arith
 
-  held_after : IsHeld (get first.places d)
-  held_after = held_if_shown (get first.places d) (λ none. not_none _ (sym parent ∙ ap (λ m. get m d) (sym inodes_first) ∙ get-inodes_by first d (get first.places d) refl ∙ none))
-
-  -- the parent is not to come, and the new directory is shown
-  pub made_parent : is_coming (get first.places d) ≡ false
-  made_parent = ap is_coming held_after.is
-
-  pub made_number : may_be_named (get first.places n) ≡ true
-  made_number = ap may_be_named (place-altered installed s n ∙ ap (option_map installed) is_coming_place.1)
-
   pub made_kept : (c : Claim) → met made c + claimed_by c (effect_of (Make d x n)) ≡ met s c
   made_kept c =
       let one : met first c + number_as n c ≡ met s c = installs s n some_number c in
@@ -180,6 +166,9 @@ module _ (ps : List ℕ) (s : Numbers) (d : ℕ) (x : Name) (n : ℕ) (sound : S
       by_claim (Room r) = let same : claimed_by (Room r) (effect_of (Make d x n)) ≡ 0 + room_in d (Room r) = refl in omega arith
       by_claim (Number m) = let same : claimed_by (Number m) (effect_of (Make d x n)) ≡ 0 + number_as n (Number m) = refl in omega arith
 
+  held_after : IsHeld (get first.places d)
+  held_after = held_if_shown (get first.places d) (λ none. not_none _ (sym parent ∙ ap (λ m. get m d) (sym inodes_first) ∙ get-inodes_by first d (get first.places d) refl ∙ none))
+
   pub made_sound : Sound ps made
   made_sound = record {
     root = sound.root;
@@ -189,49 +178,47 @@ module _ (ps : List ℕ) (s : Numbers) (d : ℕ) (x : Name) (n : ℕ) (sound : S
   }
 
 -- a directory's name that goes
-module _ (ps : List ℕ) (s : Numbers) (d : ℕ) (x : Name) (n : ℕ) (sound : Sound ps s) (all : FitsAll [] (shown ps s) (Unname_directory d x n ∷ [])) where
+module _ (ps : List ℕ) (s : Numbers) (d : ℕ) (x : Name) (sound : Sound ps s) (all : FitsAll [] (shown ps s) (Unname_directory d x ∷ [])) where
   abbrev pub unnamed : Numbers
   unnamed = altered (with_listing (without_name x)) s d
 
   abbrev pub old : Kernel
   old = shown ps s
 
-  abbrev pub fitting : Fits [] old (Unname_directory d x n)
+  abbrev pub fitting : Fits [] old (Unname_directory d x)
   fitting = all.0
 
+  abbrev pub gone : ℕ
+  gone = fitting.0
+
+  pub gone_is : number_in (listing_at s d) x ≡ Some gone
+  gone_is = shown_number ps s d x fitting.1.parent.directory ∙ fitting.1.gives
+
   there : get (inodes s) d ≡ Some (Directory (names_of old d))
-  there = directory_inode (get (inodes s) d) fitting.0.parent.directory
+  there = directory_inode (get (inodes s) d) fitting.1.parent.directory
 
   inodes_unnamed : inodes unnamed ≡ (clear_name d x old).inodes
   inodes_unnamed = inodes-changed (without_name x) (λ names. remove names x) (λ l. refl) s d ∙ with_names-there (λ names. remove names x) (inodes s) d (names_of old d) there
 
-  well_unnamed : WellFormed (clear_name d x old)
-  unfolding applied
-  well_unnamed = well_stays [] old (Unname_directory d x n) sound.well fitting
+  pub lost_state : stored ps (inodes (lost unnamed gone)) ≡ tidy (all_applied [] (Unname_directory d x ∷ []) old)
+  lost_state = ap (stored ps) (inodes-lost unnamed gone ∙ ap (λ m. remove m gone) inodes_unnamed) ∙ sym (unnamed_tidy old d x (record { well = sound.well; tidied = sound.tidied }) fitting)
 
-  pub parented : AreParented (stored [] (inodes unnamed))
-  unfolding links
-  parented = subst (λ m. AreParented (stored [] m)) (sym inodes_unnamed) (sweep_is_tidy_lem.parented (clear_name d x old) well_unnamed)
+  empty_names : (y : Name) → get (names_of old gone) y ≡ None
+  empty_names y = none_by_keys nat_list_cmp_total (names_of old gone) fitting.2 y
 
-  pub lost_state : stored ps (inodes (freed unnamed n)) ≡ tidy (all_applied [] (Unname_directory d x n ∷ []) old)
-  lost_state = freed_state ps unnamed n ∙ ap (λ m. free_inode n (stored ps m)) inodes_unnamed ∙ unnamed_tidy old d x n (record { well = sound.well; tidied = sound.tidied }) fitting
+  apart : gone ≢ d
+  apart same = not_none gone (sym fitting.1.gives ∙ ap (λ t. get (names_of old t) x) (sym same) ∙ empty_names x)
 
-  empty_names : (y : Name) → get (names_of old n) y ≡ None
-  empty_names y = none_by_keys nat_list_cmp_total (names_of old n) fitting.1 y
+  not_to_come : met unnamed (Number gone) ≡ 0
+  not_to_come = ap coming_by (place-other (with_listing (without_name x)) s d gone apart) ∙ ap coming_by (shown_there ps s gone fitting.1.kind).is
 
-  apart : n ≢ d
-  apart same = not_none n (sym fitting.0.gives ∙ ap (λ t. get (names_of old t) x) (sym same) ∙ empty_names x)
+  pub lost_kept : (c : Claim) → met (lost unnamed gone) c ≡ met s c
+  lost_kept c = met_swept (altered hidden unnamed gone) gone c ∙ hides_held unnamed gone not_to_come c ∙ takes_none (without_name x) (λ l. refl) s d c
 
-  not_to_come : met unnamed (Number n) ≡ 0
-  not_to_come = ap coming_by (place-other (with_listing (without_name x)) s d n apart) ∙ ap coming_by (shown_there ps s n fitting.0.kind).is
-
-  pub lost_kept : (c : Claim) → met (freed unnamed n) c ≡ met s c
-  lost_kept c = freed_kept unnamed n not_to_come c ∙ takes_none (without_name x) (λ l. refl) s d c
-
-  pub lost_sound : Sound ps (freed unnamed n)
+  pub lost_sound : Sound ps (lost unnamed gone)
   lost_sound = record {
-    root = freed_root unnamed n ∙ sound.root;
-    well = subst WellFormed (sym lost_state) (well_after [] old (Unname_directory d x n) sound.well fitting);
-    tidied = subst (λ (t : Kernel). tidy t ≡ t) (sym lost_state) (tidied_after [] old (Unname_directory d x n) sound.well fitting);
-    staged = freed_staged unnamed n (altered_staged (with_listing (without_name x)) s d sound.staged (staged_if_held (without_name x) (get s.places d) (shown_there ps s d fitting.0.parent.directory)));
+    root = lost_root unnamed gone ∙ sound.root;
+    well = subst WellFormed (sym lost_state) (well_after [] old (Unname_directory d x) sound.well fitting);
+    tidied = subst (λ (t : Kernel). tidy t ≡ t) (sym lost_state) (tidied_after [] old (Unname_directory d x) sound.well fitting);
+    staged = lost_staged unnamed gone (altered_staged (with_listing (without_name x)) s d sound.staged (staged_if_held (without_name x) (get s.places d) (shown_there ps s d fitting.1.parent.directory)));
   }

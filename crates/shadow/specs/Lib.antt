@@ -1,10 +1,7 @@
 pub mod Committed
 pub mod Claims
 pub mod Looks
-pub mod Changed
+pub mod Index
 pub mod Changes
 pub mod Stored
 pub mod Effects
-pub mod Laid
-pub mod Log
-pub mod Agrees

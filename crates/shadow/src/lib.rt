@@ -5,11 +5,10 @@
 
 ghost use Rattle.shadow.specs.Effects.{CallsCanBeCommitted};
 
-mod changes;
-mod laying;
-mod log;
+mod index;
 mod shadow;
 mod stable;
+mod steps;
 mod view;
 
 pub use shadow::Shadow;

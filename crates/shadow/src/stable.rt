@@ -1,24 +1,17 @@
 // The committed state.
-ghost use Rattle.std.specs.Prelude.{ℕ, ◌≡◌, ◌≢◌, ◌≤◌, ◌<◌, ◌∷◌, [], List, None, true, IfOk, OnErr, OnOk, if◌then◌else◌};
-ghost use Rattle.std.specs.List.{AllByRecursion};
+ghost use Rattle.std.specs.Prelude.{ℕ, ◌≡◌, ◌≤◌, ◌<◌, ◌∷◌, [], List, true, IfOk, OnErr, OnOk};
 ghost use Rattle.model.specs.FiniteMap.{empty, get};
 ghost use Rattle.model.specs.State.{Name, names_of};
 ghost use Rattle.model.specs.Changes.{Make_directory, Unname_directory, all_applied, process_of, tidy};
 ghost use Rattle.model.specs.Steps.{IsNowhere};
 ghost use Rattle.model.specs.Moments.{start, is_alive};
-ghost use Rattle.model.specs.Changes.{is_reached};
 ghost use Rattle.call_laws.specs.Fits.{FitsAll};
-ghost use Rattle.freeing_laws.specs.Sweep.{AreParented};
-ghost use Rattle.store.specs.Places.{lost};
-ghost use Rattle.store.specs.Shown.{inodes};
-ghost use Rattle.shadow.specs.Stored.{stored};
-ghost use Rattle.shadow.specs.Changes as steps;
-ghost use Rattle.shadow.specs.Changed.{claim_in, claim_of};
+ghost use Rattle.shadow.specs.declared.steps.Step.TheVariants as steps;
 ghost use Rattle.shadow.specs.Changes.{CanEdit, IsOne, effect, effect_of};
 ghost use Rattle.shadow.specs.Claims.{AreUnused, Claim, Covers, HaveParents, IsInUse, KeepsMore, KeepsNothing, KeepsSame, Number, Room, claimed_by, number_as, number_of, reserved, room_in};
 ghost use Rattle.shadow.specs.Looks.{HasNoFiles, NamesAreDirectories, NamesAreInUse, birth_of};
 
-use crate::changes::Change;
+use crate::steps::Step;
 use dirlist::Dir;
 use heap::Heap;
 use ids::{Edit, Name, Num, Nums, Pid, Priority};
@@ -131,19 +124,20 @@ impl Stable {
         let _store = &self.store;
     }
 
-    /// Where its memory comes from.
-    pub(crate) fn heap(&self) -> Heap {
-        *self.priorities.allocator()
+    /// What is to come has no names yet.
+    pub(crate) fn has_no_names_to_come(&self)
+        ensures { (n : ℕ) → 0 < reserved self.now (Number n) → names_of self.now.state n ≡ empty }
+    {
+        let _store = &self.store;
     }
 
-    /// A directory; where the number is of none, this one without names.
-    pub(crate) fn directory<'a>(&'a self, dir: Num, none: &'a Dir) -> &'a Dir
-        requires { none.now.names ≡ empty }
-        ensures { result.now.names ≡ names_of self.now.state dir }
+    /// A copy of a directory; of a number that is none, an empty one. Refused memory changes nothing.
+    pub(crate) fn directory(&self, heap: Heap, dir: Num) -> Result<Dir, AllocError>
+        ensures { IfOk result (λ d. d.names ≡ names_of self.now.state dir) }
     {
         match self.store.directory(dir) {
-            Some(dir) => dir,
-            None => none,
+            Some(dir) => dir.copy(heap),
+            None => Ok(Dir::new(heap)),
         }
     }
 
@@ -180,8 +174,8 @@ impl Stable {
                 self.make(parent, name, chosen.as_slice()[0]);
                 Ok(chosen)
             }
-            Edit::UnnameDirectory(parent, name, num) => {
-                self.unname(parent, &name, num);
+            Edit::UnnameDirectory(parent, name) => {
+                self.unname(parent, &name);
                 Ok(Nums::new(*self.priorities.allocator()))
             }
             _ => unreachable!(),
@@ -192,7 +186,6 @@ impl Stable {
     pub(crate) fn reserve_made(&mut self, parent: Num) -> Result<Nums, AllocError>
         requires { IsInUse self.old.reserves parent }
         ensures one { IfOk result IsOne }
-        ensures apart { IfOk result (AllByRecursion (λ n. n ≢ parent)) }
         ensures new { IfOk result (λ chosen. (x : Name) → AreUnused self.old (Make_directory parent x 0 ∷ []) chosen) }
         ensures kept { IfOk result (λ chosen. (x : Name) → KeepsMore self.old self.new (λ c. claimed_by c (effect chosen (Make_directory parent x 0 ∷ [])))) }
         ensures state { self.new.state ≡ self.old.state }
@@ -210,7 +203,6 @@ impl Stable {
 
     /// One new number, for a directory to come. Refused memory changes nothing.
     fn reserve(&mut self) -> Result<Num, AllocError>
-        ensures fresh { IfOk result (λ num. get self.old.reserves num ≡ None) }
         ensures unused { IfOk result (λ num. (c : Claim) → number_of c ≡ num → reserved self.old c ≡ 0) }
         ensures nowhere { IfOk result (IsNowhere self.old.state) }
         ensures kept { IfOk result (λ num. KeepsMore self.old self.new (number_as num)) }
@@ -239,7 +231,7 @@ impl Stable {
     }
 
     /// Gives back a number whose object is still to come. It takes no memory.
-    pub(crate) fn give_back(&mut self, num: Num)
+    fn give_back(&mut self, num: Num)
         requires { 0 < reserved self.old (Number num) }
         ensures kept { KeepsMore self.new self.old (number_as num) }
         ensures state { self.new.state ≡ self.old.state }
@@ -258,12 +250,27 @@ impl Stable {
     }
 
     /// Gives up the promised room of one name. It takes no memory.
-    pub(crate) fn unpromise(&mut self, dir: Num)
+    fn unpromise(&mut self, dir: Num)
         requires { 0 < reserved self.old (Room dir) }
         ensures kept { KeepsMore self.new self.old (room_in dir) }
         ensures state { self.new.state ≡ self.old.state }
     {
         self.store.release(dir);
+    }
+
+    /// Makes one change. What has no name any more goes. It takes no memory.
+    pub(crate) fn take(&mut self, step: Step)
+        requires fits { FitsAll (effect_of step).chosen self.old.state (effect_of step).edits }
+        requires covers { Covers self.old (effect_of step ∷ []) }
+        ensures state { self.new.state ≡ tidy (all_applied (effect_of step).chosen (effect_of step).edits self.old.state) }
+        ensures kept { KeepsMore self.new self.old (λ c. claimed_by c (effect_of step)) }
+    {
+        let _store = &self.store;
+        match step {
+            Step::Nothing => {}
+            Step::Make { parent, name, num } => self.make(parent, name, num),
+            Step::Unname { parent, name } => self.unname(parent, &name),
+        }
     }
 
     /// The new directory of a reserved number is there, with its name.
@@ -278,41 +285,24 @@ impl Stable {
     }
 
     /// A directory's name goes, and the directory with it.
-    fn unname(&mut self, parent: Num, name: &Name, num: Num)
-        requires { FitsAll [] self.old.state (Unname_directory parent name.now num ∷ []) }
-        ensures state { self.new.state ≡ tidy (all_applied [] (Unname_directory parent name.now num ∷ []) self.old.state) }
+    fn unname(&mut self, parent: Num, name: &Name)
+        requires { FitsAll [] self.old.state (Unname_directory parent name.now ∷ []) }
+        ensures state { self.new.state ≡ tidy (all_applied [] (Unname_directory parent name.now ∷ []) self.old.state) }
         ensures kept { KeepsSame self.old self.new }
     {
-        self.store.remove_name(parent, name);
-        free(&mut self.store, num);
+        let gone = self.store.remove_name(parent, name).unwrap();
+        self.store.lose(gone);
     }
 
-    /// Gives back what was kept for a transaction's changes of one object. It takes no memory.
-    pub(crate) fn give_up(&mut self, object: Num, change: &Change)
-        requires { (c : Claim) → number_of c ≡ object → claim_in change.now c ≤ reserved self.old c }
-        ensures kept { KeepsMore self.new self.old (claim_of object change.now) }
+    /// Gives back what was kept for one change. It takes no memory.
+    pub(crate) fn release(&mut self, step: &Step)
+        requires { Covers self.old (effect_of step.now ∷ []) }
+        ensures kept { KeepsMore self.new self.old (λ c. claimed_by c (effect_of step.now)) }
         ensures state { self.new.state ≡ self.old.state }
     {
-        for _given in 0..change.promised {
-            self.unpromise(object);
-        }
-        if change.made {
-            self.give_back(object);
+        if let Step::Make { parent, num, .. } = step {
+            self.unpromise(*parent);
+            self.give_back(*num);
         }
     }
-}
-
-/// An object goes to which no name leads, unless it is the root. It takes no memory.
-pub(crate) fn free(store: &mut Store, num: Num)
-    requires root { store.old.root ≡ 0 }
-    requires parented { AreParented (stored [] (inodes store.old)) }
-    ensures { store.new ≡ (if is_reached (stored [] (inodes store.old)) num then store.old else lost store.old num) }
-{
-    if num == store.root() {
-        return;
-    }
-    if store.is_named(num) {
-        return;
-    }
-    store.lose(num);
 }

@@ -7,7 +7,6 @@ ghost use Rattle.shadow.specs.Looks.{HasNoFiles, NamesAreInUse, changes_of, dire
 
 use crate::shadow::Shadow;
 use crate::stable::Stable;
-use dirlist::Dir;
 use heap::Heap;
 use ids::{Bytes, Fd, Kind, Name, NameList, Num, Pid, Slot};
 use look::Look;
@@ -68,11 +67,11 @@ impl<'a> View<'a> {
     }
 
     // The number of the directory that a name gives.
-    fn find_directory(&self, dir: Num, name: &Name) -> Option<Num>
-        ensures { entry_of self.now.state dir name.now ≡ directory_at result }
+    fn find_directory(&self, dir: Num, name: &Name) -> Result<Option<Num>, AllocError>
+        ensures { IfOk result (λ found. entry_of self.now.state dir name.now ≡ directory_at found) }
     {
         match self.shadow {
-            None => self.stable.find(dir, name),
+            None => Ok(self.stable.find(dir, name)),
             Some(shadow) => shadow.find(self.stable, dir, name),
         }
     }
@@ -99,25 +98,16 @@ impl<'a> Look for View<'a> {
         }
     }
 
-    fn find(&self, dir: Num, name: &Name) -> Option<(Num, Option<Kind>)> {
-        as_directory(self.find_directory(dir, name))
+    fn find(&self, dir: Num, name: &Name) -> Result<Option<(Num, Option<Kind>)>, AllocError> {
+        Ok(as_directory(self.find_directory(dir, name)?))
     }
 
     fn names(&self, heap: Heap, dir: Num) -> Result<NameList, AllocError> {
-        match self.shadow {
-            None => self.stable.directory(dir, &Dir::new(heap)).names(heap),
-            Some(shadow) => shadow.names(heap, self.stable, dir),
+        let mut names = self.stable.directory(heap, dir)?;
+        if let Some(shadow) = self.shadow {
+            shadow.change_names(heap, dir, &mut names)?;
         }
-    }
-
-    fn is_empty(&self, dir: Num) -> bool {
-        match self.shadow {
-            None => self
-                .stable
-                .directory(dir, &Dir::new(self.stable.heap()))
-                .is_empty(),
-            Some(shadow) => shadow.is_empty(self.stable, dir),
-        }
+        names.names(heap)
     }
 
     fn size(&self, _file: Num) -> Result<u32, AllocError> {

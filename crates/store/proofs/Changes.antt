@@ -5,7 +5,7 @@ use Rattle.model.specs.FiniteMap.{FinMap, get, insert, remove, empty}
 use Rattle.model.specs.State.{Inode, Directory, name_cmp}
 use Rattle.dirlist.specs.Listing.{Listing}
 use Rattle.store.specs.Numbers.{Numbers, coming, present, object_at, held, if_held, no_names, IsFirstRoot}
-use Rattle.store.specs.Places.{altered_by, altered, installed, hidden, is_coming, is_coming_by, is_over, is_over_by, may_be_named, may_be_named_by, has_room, listing_of, changed_object, with_listing, swept, lost}
+use Rattle.store.specs.Places.{altered_by, altered, installed, hidden, is_over, is_over_by, has_room, listing_of, changed_object, with_listing, swept, lost}
 use Rattle.store.specs.Shown.{inodes, inode_of, inode_in, shown_at, with_inode, with_names, with_names_by}
 use Rattle.store.specs.declared.Place.{Place}
 use Rattle.store.specs.declared.Stage.{Stage}
@@ -128,32 +128,3 @@ inodes-kept f names s n = inodes-changed f (λ names. names) names s n ∙ with_
 -- a promise that is given up is not shown either
 pub inodes-released : (f : Listing → Listing) → ((listing : Listing) → (f listing).names ≡ listing.names) → (s : Numbers) (n : ℕ) → inodes (swept (altered (with_listing f) s n) n) ≡ inodes s
 inodes-released f names s n = inodes-swept (altered (with_listing f) s n) n ∙ inodes-kept f names s n
-
--- what is shown is not to come, and names may give it
-module _ (s : Numbers) (n : ℕ) (inode : Inode) (is : get (inodes s) n ≡ Some inode) where
-  shown_here : option_and_then inode_in (get s.places n) ≡ Some inode
-  shown_here = sym (get-inodes_by s n (get s.places n) refl) ∙ is
-
-  pub shown-may_be_named : may_be_named (get s.places n) ≡ true
-  shown-may_be_named = by_place (get s.places n) shown_here
-    where
-      by_stage : (t : Stage) (i : Option Inode) → shown_at t i ≡ Some inode → may_be_named_by t ≡ true
-      by_stage Held i e = refl
-      by_stage Coming i e = refl
-      by_stage Lost i e = absurd cc
-
-      by_place : (o : Option Place) → option_and_then inode_in o ≡ Some inode → may_be_named o ≡ true
-      by_place None e = absurd cc
-      by_place (Some place) e = by_stage place.stage (inode_of place.object) e
-
-  pub shown-not_coming : is_coming (get s.places n) ≡ false
-  shown-not_coming = by_place (get s.places n) shown_here
-    where
-      by_stage : (t : Stage) (i : Option Inode) → shown_at t i ≡ Some inode → is_coming_by t ≡ false
-      by_stage Held i e = refl
-      by_stage Coming i e = absurd cc
-      by_stage Lost i e = refl
-
-      by_place : (o : Option Place) → option_and_then inode_in o ≡ Some inode → is_coming o ≡ false
-      by_place None e = refl
-      by_place (Some place) e = by_stage place.stage (inode_of place.object) e

@@ -1,10 +1,5 @@
 pub mod Names
 pub mod Rows
-pub mod Counts
 pub mod Chosen
 pub mod Changes
 pub mod Listings
-pub mod Laying
-pub mod Laid
-pub mod Counted
-pub mod Renamed

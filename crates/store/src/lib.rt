@@ -1,18 +1,14 @@
 //! Objects under their numbers, and objects to come, which are not shown before they are installed.
 #![tactic(auto)]
 
-ghost use Rattle.std.specs.Prelude.{[], ◌≡◌, ◌<◌, ◌≤◌, ◌==◌, not, true, false, IfOk, IfSome, OnOk, OnErr, Some, None, count_by, is_some, option_and_then, option_copied};
-ghost use Rattle.std.specs.List.{AllByRecursion};
+ghost use Rattle.std.specs.Prelude.{◌≡◌, ◌<◌, IsTrue, IfOk, OnOk, OnErr, Some, None, option_and_then, option_copied, option_map};
 ghost use Rattle.model.specs.FiniteMap as map;
+ghost use Rattle.slab.specs.Slab.{get, Updates};
 ghost use Rattle.model.specs.State.{mapped, names_of_inode, Directory as A_directory};
 ghost use Rattle.dirlist.specs.Listing.{Listing};
-ghost use Rattle.store.specs.Numbers.{coming, object_at, IsFirstRoot};
-ghost use Rattle.store.specs.Places.{altered, installed, is_coming, is_shown, listing_of, listing_at, may_be_named, with_listing, more_room, with_name, without_name, number_in, has_room, lost, released, swept};
+ghost use Rattle.store.specs.Numbers.{coming, object_at, held, IsFirstRoot};
+ghost use Rattle.store.specs.Places.{altered, installed, hidden, is_over, listing_of, listing_in, listing_at, changed_object, with_listing, more_room, less_room, with_name, without_name, number_in, has_room, lost, released, swept};
 ghost use Rattle.store.specs.Shown.{inodes, inode_of, with_inode, with_names};
-ghost use Rattle.store.specs.Links.{links_in};
-ghost use Rattle.store.specs.Laid.{laid, laid_listing};
-
-mod places;
 
 use dirlist::Dir;
 use heap::Heap;
@@ -48,27 +44,20 @@ pub struct Place {
     pub object: Object,
 }
 
-/// A number that is in use: what it is used for, and how many names of shown directories give it.
-///
-/// A `usize` can count the directories, and the names of each. So a `u128` can count all names.
-#[derive(Drop)]
-struct Header {
-    place: Place,
-    links: u128,
-}
-
 /// The objects, and the objects to come.
 ///
 /// A number is given out by [`Store::reserve_num`] alone, and again only once it was given up.
 #[derive(Drop)]
 pub struct Store {
-    places: Slab<Header, Heap>,
+    places: Slab<Place, Heap>,
     root: Num,
 }
 
 impl Model for Store {
+    ghost use Rattle.model.specs.FiniteMap as map;
     ghost use Rattle.store.specs.contracts.Place as place;
-    ghost use Rattle.store.specs.Headers.{AreCounted, places_of};
+    ghost use Rattle.std.specs.Ordering.{nat_cmp};
+    ghost use Rattle.model.specs.Places.{placed};
     ghost use Rattle.store.specs.Numbers.{Numbers, numbers_code};
 
     ghost Value = { Numbers };
@@ -76,11 +65,9 @@ impl Model for Store {
     ghost coded = { numbers_code place.the_row.coded };
 
     ghost view = { λ s. record {
-      places = places_of s.places;
+      places = map.from_entries {R = nat_cmp} (placed 0 s.places.slots);
       root = s.root;
     } };
-
-    ghost invariant = { λ s. AreCounted s.places };
 }
 
 impl Store {
@@ -88,16 +75,12 @@ impl Store {
     pub fn new(heap: Heap) -> Result<Store, AllocError>
         ensures first { IfOk result IsFirstRoot }
         ensures root { IfOk result (λ s. s.root ≡ 0) }
-        ensures shown { IfOk result
-            (λ s. inodes s ≡ map.insert map.empty s.root (A_directory map.empty)) }
+        ensures shown { IfOk result (λ s. inodes s ≡ map.insert map.empty s.root (A_directory map.empty)) }
     {
         let mut places = Slab::new(heap);
-        let root = places.insert(Header {
-            place: Place {
-                stage: Stage::Held,
-                object: Object::Directory(Dir::new(heap)),
-            },
-            links: 0,
+        let root = places.insert(Place {
+            stage: Stage::Held,
+            object: Object::Directory(Dir::new(heap)),
         })?;
         Ok(Store {
             places,
@@ -112,23 +95,17 @@ impl Store {
         self.root
     }
 
-    /// Reserves a number that is not in use for an object to come, which has no names. Refused memory changes nothing, and the
-    /// object goes.
+    /// Reserves a number that is not in use for an object to come. Refused memory changes nothing, and the object goes.
     pub fn reserve_num(&mut self, object: Object) -> Result<Num, AllocError>
-        requires { names_of_inode (inode_of object) ≡ map.empty }
         ensures unused { IfOk result (λ num. map.get self.old.places num ≡ None) }
-        ensures reserved { IfOk result (λ num.
-            self.new ≡ record self.old { places = map.insert self.old.places num (coming object) }) }
+        ensures reserved { IfOk result (λ num. self.new ≡ record self.old { places = map.insert self.old.places num (coming object) }) }
         ensures ready { IfOk result (λ num. map.get self.new.places num ≡ Some (coming object)) }
         ensures shown { OnOk result (inodes self.new ≡ inodes self.old) }
         ensures err { OnErr result (self.new ≡ self.old) }
     {
-        let num = self.places.insert(Header {
-            place: Place {
-                stage: Stage::Coming,
-                object,
-            },
-            links: 0,
+        let num = self.places.insert(Place {
+            stage: Stage::Coming,
+            object,
         })?;
         Ok(Num(num))
     }
@@ -136,23 +113,18 @@ impl Store {
     /// Shows the object to come of a number, or changes nothing where the number has none to come. It takes no memory.
     pub fn install(&mut self, num: Num)
         ensures installed { self.new ≡ altered installed self.old num }
-        ensures shown { (object : Object) → map.get self.old.places num ≡ Some (coming object) →
-            inodes self.new ≡ with_inode (inodes self.old) num (inode_of object) }
+        ensures shown { (object : Object) → map.get self.old.places num ≡ Some (coming object) → inodes self.new ≡ with_inode (inodes self.old) num (inode_of object) }
     {
-        places::install_at(&mut self.places, num.0);
+        install_at(&mut self.places, num.0);
     }
 
     /// The object of a number is shown no more. The number is given up with it, unless room in it is still promised: then it goes
     /// with the last promise. Where the number is not in use, nothing changes. It takes no memory.
-    ///
-    /// No name gives the number, and a directory has no names.
     pub fn lose(&mut self, num: Num)
-        requires unnamed { links_in (inodes self.old) num ≡ 0 }
-        requires bare { names_of_inode (map.get (inodes self.old) num) ≡ map.empty }
         ensures lost { self.new ≡ lost self.old num }
         ensures shown { inodes self.new ≡ map.remove (inodes self.old) num }
     {
-        places::hide_at(&mut self.places, num.0);
+        hide_at(&mut self.places, num.0);
         self.sweep(num);
     }
 
@@ -160,7 +132,7 @@ impl Store {
     fn sweep(&mut self, num: Num)
         ensures { self.new ≡ swept self.old num }
     {
-        if places::is_over_at(&self.places, num.0) {
+        if is_over_at(&self.places, num.0) {
             let _place = self.places.try_remove(num.0);
         }
     }
@@ -170,14 +142,13 @@ impl Store {
         ensures object { option_copied result ≡ object_at self.now num }
         ensures shown { map.get (inodes self.now) num ≡ option_and_then inode_of (option_copied result) }
     {
-        places::object_in(&self.places, num.0)
+        object_in(&self.places, num.0)
     }
 
     /// The directory of a number, where it is shown.
     pub fn directory(&self, dir: Num) -> Option<&Dir>
         ensures listing { option_copied result ≡ option_and_then listing_of (object_at self.now dir) }
-        ensures shown { map.get (inodes self.now) dir ≡
-            mapped (λ listing. A_directory listing.names) (option_copied result) }
+        ensures shown { map.get (inodes self.now) dir ≡ mapped (λ listing. A_directory listing.names) (option_copied result) }
     {
         match self.get(dir) {
             Some(Object::Directory(dir)) => Some(dir),
@@ -195,18 +166,11 @@ impl Store {
         }
     }
 
-    /// Whether a name of a shown directory gives this number. It takes no memory, and costs nothing but a look at the header.
-    pub fn is_named(&self, num: Num) -> bool
-        ensures { result ≡ not (links_in (inodes self.now) num == 0) }
-    {
-        places::links_at(&self.places, num.0) != 0
-    }
-
     /// Whether room for a name is promised in a directory, which may be to come or lost.
     pub fn is_promised(&self, dir: Num) -> bool
         ensures { result ≡ has_room (listing_at self.now dir) }
     {
-        places::is_promised_at(&self.places, dir.0)
+        is_promised_at(&self.places, dir.0)
     }
 
     /// Promises room for one more name in a directory, which may be to come; where there is no directory, nothing changes.
@@ -216,7 +180,7 @@ impl Store {
         ensures err { OnErr result (self.new ≡ self.old) }
         ensures shown { inodes self.new ≡ inodes self.old }
     {
-        places::promise_at(&mut self.places, dir.0)
+        promise_at(&mut self.places, dir.0)
     }
 
     /// Gives up the promised room of one name in a directory; where no room is promised, none is given up. The number of a lost
@@ -225,26 +189,18 @@ impl Store {
         ensures released { self.new ≡ released self.old dir }
         ensures shown { inodes self.new ≡ inodes self.old }
     {
-        places::release_at(&mut self.places, dir.0);
+        release_at(&mut self.places, dir.0);
         self.sweep(dir);
     }
 
     /// From now on the name gives this number, whatever it gave before, in promised room; where there is no directory, nothing
-    /// changes. The directory is shown or lost, and the object of the number is shown or to come. It takes no memory.
+    /// changes. The directory may be to come. It takes no memory.
     pub fn add_name(&mut self, dir: Num, name: Name, num: Num)
-        requires room { (listing : Listing) →
-            listing_at self.old dir ≡ Some listing → 0 < listing.promised }
-        requires dir { is_coming (map.get self.old.places dir) ≡ false }
-        requires num { may_be_named (map.get self.old.places num) ≡ true }
+        requires { (listing : Listing) → listing_at self.old dir ≡ Some listing → 0 < listing.promised }
         ensures added { self.new ≡ altered (with_listing (with_name name num)) self.old dir }
-        ensures shown { inodes self.new ≡
-            with_names (λ names. map.insert names name num) (inodes self.old) dir }
+        ensures shown { inodes self.new ≡ with_names (λ names. map.insert names name num) (inodes self.old) dir }
     {
-        // So a count of one name more fits.
-        places::numbers_are_few(&self.places);
-        let former = places::add_name_at(&mut self.places, dir.0, name, num);
-        places::remove_link(&mut self.places, dir.0, former);
-        places::add_link(&mut self.places, dir.0, num);
+        add_name_at(&mut self.places, dir.0, name, num);
     }
 
     /// Takes a name out of a directory, which may be to come, and gives the number that it gave. It takes no memory,
@@ -252,51 +208,164 @@ impl Store {
     pub fn remove_name(&mut self, dir: Num, name: &Name) -> Option<Num>
         ensures value { result ≡ number_in (listing_at self.old dir) name.now }
         ensures removed { self.new ≡ altered (with_listing (without_name name.now)) self.old dir }
-        ensures shown { inodes self.new ≡
-            with_names (λ names. map.remove names name.now) (inodes self.old) dir }
+        ensures shown { inodes self.new ≡ with_names (λ names. map.remove names name.now) (inodes self.old) dir }
     {
-        let num = places::remove_name_at(&mut self.places, dir.0, name)?;
-        places::remove_link(&mut self.places, dir.0, Some(num));
-        Some(num)
+        remove_name_at(&mut self.places, dir.0, name)
     }
+}
 
-    /// Lays what names give from now on over a directory that is shown: a number, or nothing. So many promises of room in it are
-    /// given up, and the names that come take their room from these. The objects of the numbers are shown or to come. It takes no
-    /// memory.
-    pub fn lay(&mut self, dir: Num, given: Vec<(Name, Option<Num>), Heap>, promised: usize)
-        requires shown { is_shown (map.get self.old.places dir) ≡ true }
-        requires room { (listing : Listing) →
-            listing_at self.old dir ≡ Some listing → promised ≤ listing.promised }
-        requires added { count_by (λ g. is_some g.1) given.items ≤ promised }
-        requires numbers { AllByRecursion
-            (λ g. IfSome g.1 (λ n. may_be_named (map.get self.old.places n) ≡ true)) given.items }
-        ensures laid { self.new ≡
-            altered (with_listing (laid_listing given.entry.items promised)) self.old dir }
-        ensures shown { inodes self.new ≡
-            with_names (laid given.entry.items) (inodes self.old) dir }
-    {
-        let mut left = promised;
-        for (name, num) in given {
-            match num {
-                Some(num) => {
-                    self.add_name(dir, name, num);
-                    left -= 1;
-                }
-                None => {
-                    let _former = self.remove_name(dir, &name);
-                }
-            }
-        }
-        self.release_all(dir, left);
+fn object_in(places: &Slab<Place, Heap>, key: usize) -> Option<&Object>
+    ensures { option_copied result ≡ held (get places.now key) }
+{
+    match places.get(key) {
+        Some(Place { stage, object }) => match stage {
+            Stage::Held => Some(object),
+            Stage::Coming => None,
+            Stage::Lost => None,
+        },
+        None => None,
     }
+}
 
-    // Gives up so many promises of room in a directory that is shown.
-    fn release_all(&mut self, dir: Num, count: usize)
-        requires { is_shown (map.get self.old.places dir) ≡ true }
-        ensures { self.new ≡ altered (with_listing (laid_listing [] count)) self.old dir }
-    {
-        for _i in 0..count {
-            self.release(dir);
-        }
+fn is_promised_at(places: &Slab<Place, Heap>, key: usize) -> bool
+    ensures { result ≡ has_room (listing_in (get places.now key)) }
+{
+    match places.get(key) {
+        Some(place) => is_promised_in(&place.object),
+        None => false,
+    }
+}
+
+fn is_promised_in(object: &Object) -> bool
+    ensures { result ≡ has_room (listing_of object.now) }
+{
+    match object {
+        Object::Directory(dir) => dir.is_promised(),
+    }
+}
+
+fn is_over_at(places: &Slab<Place, Heap>, key: usize) -> bool
+    ensures { result ≡ is_over (get places.now key) }
+{
+    match places.get(key) {
+        Some(Place { stage, object }) => match stage {
+            Stage::Lost => !is_promised_in(object),
+            Stage::Coming => false,
+            Stage::Held => false,
+        },
+        None => false,
+    }
+}
+
+fn install_at(places: &mut Slab<Place, Heap>, key: usize)
+    ensures { Updates places.old places.new key (option_map installed (get places.old key)) }
+{
+    if let Some(place) = places.get_mut(key) {
+        install_in(place);
+    }
+}
+
+fn install_in(place: &mut Place)
+    ensures { place.new ≡ installed place.old }
+{
+    if let Stage::Coming = place.stage {
+        place.stage = Stage::Held;
+    }
+}
+
+fn hide_at(places: &mut Slab<Place, Heap>, key: usize)
+    ensures { Updates places.old places.new key (option_map hidden (get places.old key)) }
+{
+    if let Some(place) = places.get_mut(key) {
+        place.stage = Stage::Lost;
+    }
+}
+
+fn promise_at(places: &mut Slab<Place, Heap>, key: usize) -> Result<(), AllocError>
+    ensures ok { OnOk result (Updates places.old places.new key (option_map (with_listing more_room) (get places.old key))) }
+    ensures err { OnErr result (Updates places.old places.new key (get places.old key)) }
+{
+    match places.get_mut(key) {
+        Some(place) => promise_in(&mut place.object),
+        None => Ok(()),
+    }
+}
+
+fn promise_in(object: &mut Object) -> Result<(), AllocError>
+    ensures ok { OnOk result (object.new ≡ changed_object more_room object.old) }
+    ensures err { OnErr result (object.new ≡ object.old) }
+{
+    match object {
+        Object::Directory(dir) => dir.promise(),
+    }
+}
+
+fn release_at(places: &mut Slab<Place, Heap>, key: usize)
+    ensures { Updates places.old places.new key (option_map (with_listing less_room) (get places.old key)) }
+{
+    if let Some(place) = places.get_mut(key) {
+        release_in(&mut place.object);
+    }
+}
+
+fn release_in(object: &mut Object)
+    ensures { object.new ≡ changed_object less_room object.old }
+{
+    match object {
+        Object::Directory(dir) => release_one(dir),
+    }
+}
+
+fn release_one(dir: &mut Dir)
+    ensures { dir.new ≡ less_room dir.old }
+{
+    if dir.is_promised() {
+        dir.release();
+    }
+}
+
+fn add_name_at(places: &mut Slab<Place, Heap>, key: usize, name: Name, num: Num)
+    requires { (listing : Listing) → listing_in (get places.old key) ≡ Some listing → 0 < listing.promised }
+    ensures { Updates places.old places.new key (option_map (with_listing (with_name name num)) (get places.old key)) }
+{
+    if let Some(place) = places.get_mut(key) {
+        add_name_in(&mut place.object, name, num);
+    }
+}
+
+fn add_name_in(object: &mut Object, name: Name, num: Num)
+    requires { IsTrue (has_room (listing_of object.old)) }
+    ensures { object.new ≡ changed_object (with_name name num) object.old }
+{
+    match object {
+        Object::Directory(dir) => put_name(dir, name, num),
+    }
+}
+
+// The name goes before it is added, since only a name that is absent can be added.
+fn put_name(dir: &mut Dir, name: Name, num: Num)
+    requires { 0 < dir.old.promised }
+    ensures { dir.new ≡ with_name name num dir.old }
+{
+    let _former = dir.remove(&name);
+    dir.insert_promised(name, num);
+}
+
+fn remove_name_at(places: &mut Slab<Place, Heap>, key: usize, name: &Name) -> Option<Num>
+    ensures value { result ≡ number_in (listing_in (get places.old key)) name.now }
+    ensures removed { Updates places.old places.new key (option_map (with_listing (without_name name.now)) (get places.old key)) }
+{
+    match places.get_mut(key) {
+        Some(place) => remove_name_in(&mut place.object, name),
+        None => None,
+    }
+}
+
+fn remove_name_in(object: &mut Object, name: &Name) -> Option<Num>
+    ensures value { result ≡ number_in (listing_of object.old) name.now }
+    ensures removed { object.new ≡ changed_object (without_name name.now) object.old }
+{
+    match object {
+        Object::Directory(dir) => dir.remove(name),
     }
 }

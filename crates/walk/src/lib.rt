@@ -55,7 +55,7 @@ fn find<L: Look>(
     ensures { Comes (L.state look.now) (ask (Look_up dir name.now)) touches.old result touches.new }
 {
     touches.read(Aspect::Entry(dir, name.try_clone()?))?;
-    Ok(look.find(dir, name))
+    Ok(look.find(dir, name)?)
 }
 
 // One name, where the place that was reached is a directory.

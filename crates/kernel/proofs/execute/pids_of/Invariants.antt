@@ -1,4 +1,4 @@
-use Rattle.kernel.proofs.Words.{◌≡◌, map, take}
+use Rattle.std.proofs.Common.{◌≡◌, map, take}
 use Rattle.kernel.proofs.execute.pids_of.Given as goal
 
 abbrev pub invariant-loop-one : goal.invariant-loop-one

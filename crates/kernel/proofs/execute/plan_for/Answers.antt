@@ -1,20 +1,28 @@
-use Rattle.kernel.proofs.Words.{sym, ap, subst, ◌∙◌, filter, if◌then◌else◌, Committed, NamesAreInUse, IsPlan, fields}
-use Rattle.kernel.proofs.Calls.{plan_seen, plans, sees}
+use Rattle.std.proofs.Common.{sym, ap, subst, ◌∙◌, IfOk}
+use Rattle.model.specs.Steps.{edits}
+use Rattle.model.specs.Effects.{all_done}
+use Rattle.shadow.specs.Changes.{CanEdit}
+use Rattle.shadow.specs.Claims.{HaveParents}
+use Rattle.shadow.specs.Committed.{Committed}
+use Rattle.shadow.specs.Looks.{NamesAreInUse}
+use Rattle.calls.specs.Planned.{IsPlan}
+use Rattle.kernel.specs.States.{fields}
+use Rattle.commit.specs.Views.{view_at, changes_in}
+use Rattle.kernel.proofs.Planned.{if_ok, calls_edit, have_parents, is_seen}
 use Rattle.kernel.proofs.execute.plan_for.Goals as goal
-use Rattle.kernel.proofs.execute.plan_for.Goals.{After-is_some}
 
-planned : (c : After-is_some) → IsPlan (sees (fields c.args.s.now) c.args.pid c.args.within.now c.args.call.now c.requires).state c.args.pid c.args.call.now c.in_ok-plan.plan
-planned c = subst (λ (v : Committed). IsPlan v.state c.args.pid c.args.call.now c.in_ok-plan.plan) c.view-view.ensures c.in_ok-plan.ensures
+pub returns-clause-is : goal.returns-clause-is
+returns-clause-is c = subst (λ (v : Committed). IfOk c.plan_of.result (IsPlan v.state c.args.pid c.args.call.now)) c.view-view.ensures c.plan_of.ensures
 
-pub returns-then-is_some-clause-answer : goal.returns-then-is_some-clause-answer
-returns-then-is_some-clause-answer c = (plan_seen (fields c.args.s.now) c.args.pid c.args.within.now c.args.call.now c.requires c.in_ok-plan.plan (planned (goal.at.returns-then-is_some-clause-answer c).After-is_some)).answer
+pub returns-clause-kinds : goal.returns-clause-kinds
+returns-clause-kinds c = if_ok c.plan_of.result c.plan_of.ensures (λ p is. subst CanEdit (sym is.edits) (calls_edit _ c.args.pid c.args.call.now c.requires.there))
 
-pub returns-then-is_some-clause-plans : goal.returns-then-is_some-clause-plans
-returns-then-is_some-clause-plans c = plans (fields c.args.s.now) c.args.pid c.args.within.now c.args.call.now c.requires c.in_ok-plan.plan _ (planned (goal.at.returns-then-is_some-clause-plans c).After-is_some)
-    (subst NamesAreInUse c.view-view.ensures c.names_are_in_use.ensures)
-    (ap (λ b. if b then c.in_ok-plan.plan.touches.items else filter (λ t. t.write) c.in_ok-plan.plan.touches.items) (sym c.if-is_some.true ∙ c.is_some.ensures))
-
-pub returns-clause-plans : goal.returns-clause-plans
-returns-clause-plans c = plans (fields c.args.s.now) c.args.pid c.args.within.now c.args.call.now c.requires c.in_ok-plan.plan _ (planned (goal.at.returns-clause-plans c).After-is_some)
-    (subst NamesAreInUse c.view-view.ensures c.names_are_in_use.ensures)
-    (c.keep_writes.ensures ∙ ap (λ b. if b then c.in_ok-plan.plan.touches.items else filter (λ t. t.write) c.in_ok-plan.plan.touches.items) (sym c.if-is_some.false ∙ c.is_some.ensures))
+pub returns-clause-parents : goal.returns-clause-parents
+returns-clause-parents c =
+    let f = fields c.args.s.now in
+    let seen = is_seen f c.requires.holds c.args.pid in
+    let v : Committed = record (c.args.s.now.transactions.stable) { state = all_done (changes_in (view_at f.slots c.args.pid)) c.args.s.now.transactions.stable.state } in
+    let used : NamesAreInUse v = subst NamesAreInUse c.view-view.ensures c.names_are_in_use.ensures in
+    if_ok c.plan_of.result c.plan_of.ensures (λ p is.
+    subst (HaveParents v.reserves) (sym (is.edits ∙ ap (λ (v : Committed). edits v.state c.args.pid c.args.call.now) c.view-view.ensures))
+    (have_parents v c.args.pid c.args.call.now seen.well (seen.alive c.requires.alive) used c.requires.there))

@@ -1,4 +1,4 @@
-use Rattle.kernel.proofs.First.{first_holds}
+use Rattle.kernel.proofs.First.{first_holds, holds_kept}
 use Rattle.kernel.proofs.kernel.Kernel.new.Goals as goal
 
 pub invariant_of-result : goal.invariant_of-result
@@ -7,4 +7,4 @@ invariant_of-result c = first_holds c.args.priorities.now c.args.limit _
     c.in_ok-transactions.ensures.count c.in_ok-transactions.ensures.first c.in_ok-contenders.ensures.count c.in_ok-contenders.ensures.first c.in_ok-contenders.ensures.each c.in_ok-transactions.ensures.state c.requires.not_too_many
 
 pub returns-clause-kept : goal.returns-clause-kept
-returns-clause-kept c = let holds = invariant_of-result c in record { legal = holds.legal; state = holds.state }
+returns-clause-kept c = holds_kept _ (invariant_of-result c)
