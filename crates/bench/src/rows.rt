@@ -129,7 +129,8 @@ fn print_rates(rt: &HostRuntime, kernel: &mut Kernel, heap: Heap, names: u64) ->
     Ok(())
 }
 
-/// Prints a line for each call: its name, how many a second are done by plain calls, and how many in a transaction.
+/// Prints a line for each call: its name, how many a second are done by plain calls, and how many
+/// in a transaction.
 pub(crate) fn measure(rt: &HostRuntime, heap: Heap, names: u64, live: u64) -> Result<()> {
     let live = live.min(4095) as u32;
     println!(rt;

@@ -10,26 +10,50 @@ use Rattle.model.specs.Plans.{Change}
 use Rattle.model.specs.Steps.{reads, outcome, edits, edits_of}
 use Rattle.model.specs.Entries.{is_inside}
 use Rattle.model.specs.Moments.{is_alive}
-use Rattle.model.proofs.Lists.{all-append}
-use Rattle.model.proofs.Law.{depends_on_what_it_saw}
+use Rattle.model.proofs.Laws.{all-append, depends_on_what_it_saw}
 use Rattle.call_laws.specs.Objects.{IsThere, LeavesAlone}
 use Rattle.call_laws.specs.WellFormed.{WellFormed}
 use Rattle.call_laws.specs.CallLaws.{CallLaws, IsReady, changed}
 use Rattle.call_laws.specs.Fits.{FitsAll, IsBy, IsAlive, OwnAlike}
 use Rattle.call_laws.proofs.Maps.{all-mapped}
-use Rattle.call_laws.proofs.Keeping.{edit_keeps, edit_marks}
-use Rattle.call_laws.proofs.Coverage.{keeps_on, keeps_self}
-use Rattle.call_laws.proofs.Own.{own_stays_alike, own_is_left_alone, own_trans}
-use Rattle.call_laws.proofs.OwnBack.{alike_of_own, own_inside}
-use Rattle.call_laws.proofs.Grows.{edit_grows, all_grow, there_stays, there_came}
-use Rattle.call_laws.proofs.Well.{well_stays, all_well, some_alive, alive_some}
-use Rattle.call_laws.proofs.Alive.{alive_stays, all_alive, alive_tidy}
-use Rattle.call_laws.proofs.Nowhere.{nowhere_stays, nowhere_alike}
-use Rattle.call_laws.proofs.CallFits.{WillFit, call_fits}
-use Rattle.call_laws.proofs.Tidied.{well_tidy, nowhere_tidy}
-use Rattle.call_laws.proofs.Alike.{alike_tidied, tidied_alike, all_alike}
-use Rattle.call_laws.proofs.Seen.{left_there, calls_see, tidying_is_unseen}
-use Rattle.call_laws.proofs.Start.{well_start, tidy_start}
+use Rattle.call_laws.proofs.law.Alike.{edit_keeps}
+use Rattle.call_laws.proofs.law.Marks.{edit_marks}
+use Rattle.call_laws.proofs.edits.InodeMarks.{keeps_on, keeps_self}
+use Rattle.call_laws.proofs.law.OwnAlike.{own_stays_alike, own_trans}
+use Rattle.call_laws.proofs.law.OwnLeft.{own_is_left_alone}
+use Rattle.call_laws.proofs.law.OwnTold.{alike_of_own, own_inside}
+use Rattle.call_laws.proofs.law.There.{edit_grows, all_grow, there_stays, there_came}
+use Rattle.call_laws.proofs.law.Well.{well_stays, all_well, some_alive, alive_some}
+use Rattle.call_laws.proofs.law.Alive.{alive_stays, all_alive, alive_tidy}
+use Rattle.call_laws.proofs.law.Nowhere.{nowhere_stays, nowhere_alike}
+use Rattle.call_laws.proofs.calls.WillFit.{WillFit}
+use Rattle.call_laws.proofs.calls.Fits.{call_fits}
+use Rattle.call_laws.proofs.law.WellTidy.{well_tidy, nowhere_tidy}
+use Rattle.call_laws.proofs.law.TidyLater.{alike_tidied, tidied_alike, all_alike}
+use Rattle.call_laws.proofs.calls.Reads.{left_there, calls_see}
+use Rattle.call_laws.proofs.law.TidyUnseen.{tidying_is_unseen}
+use Rattle.call_laws.proofs.law.Start.{well_start, tidy_start}
+-- what the crates above cite besides
+pub use Rattle.call_laws.proofs.FirstProcesses.{first_processes_live}
+pub use Rattle.call_laws.proofs.Maps.{Part, all-mapped, empty_gives, get_retained, none_by_keys, not_none, one_some, removed_other, removed_same, retained_some, some_part, some_same, stays_inserted, sum-alike, sum-empty, sum-zero, true_is_false}
+pub use Rattle.call_laws.proofs.Numbers.{can_be_made}
+pub use Rattle.call_laws.proofs.Tidying.{either_of, get_tidy, held_by, named_in, open_reached, reached, rooted_reached, tables_weight}
+pub use Rattle.call_laws.proofs.Trees.{directories_are_a_tree_lem}
+pub use Rattle.call_laws.proofs.calls.ContentsFit.{put_at, write_pipe}
+pub use Rattle.call_laws.proofs.calls.Rules.{after_bind, allowed, either_given, weaken, whatever}
+pub use Rattle.call_laws.proofs.edits.Contents.{HasBytes, has_bytes, no_names_file, no_names_pipe}
+pub use Rattle.call_laws.proofs.edits.Ends.{end_count, ends-open_at, ends-set_process, ends-without_process, held, held-alike, held-insert, held-remove, without_process}
+pub use Rattle.call_laws.proofs.edits.InodeMarks.{keeps_on, keeps_self, not_counted, other_old, still_gives}
+pub use Rattle.call_laws.proofs.edits.Names.{counted, has_names, links_named, links_unnamed, one}
+pub use Rattle.call_laws.proofs.edits.NamesAlike.{IsNew, is_new, kept_kind}
+pub use Rattle.call_laws.proofs.edits.NamesWell.{none_count, same_links}
+pub use Rattle.call_laws.proofs.edits.Offsets.{ends_unmoved, set_there, with_offset}
+pub use Rattle.call_laws.proofs.edits.Processes.{table_in}
+pub use Rattle.call_laws.proofs.edits.SlotsAlike.{free_after, pipe_at, unused_after, with_tables}
+pub use Rattle.call_laws.proofs.law.Alive.{alive_tidy}
+pub use Rattle.call_laws.proofs.law.TidyLater.{alike_tidied, stays_alike, tidied_alike}
+pub use Rattle.call_laws.proofs.law.Well.{all_well, well_stays}
+pub use Rattle.call_laws.proofs.law.WellTidy.{nowhere_tidy, well_tidy}
 
 -- a refused call changes nothing, which fits
 will_fit : (k : Kernel) (pid : ℕ) (inside : Bool) (chosen : List ℕ) (r : Result Change Errno) → IfOk r (WillFit k pid inside chosen) → WillFit k pid inside chosen (record { reply = Done; edits = edits_of r })
@@ -103,37 +127,58 @@ tidied_later k pid call chosen ready =
     alike_tidied (changed k pid call chosen) (all_applied chosen (edits k pid call) (tidy k))
     (all_alike chosen (edits k pid call) k (tidy k) (tidied_alike k ready.well) (fits k pid call chosen ready) (fits_too k (tidy k) pid call chosen ready_too same))
 
+-- Beside each law the file that proves it. That the edits of a call fit, on which most stand, is proved in calls/Fits.antt.
 pub calls_are_lawful_lem : CallLaws WellFormed
 calls_are_lawful_lem = record {
+  -- model/proofs/Law.antt
   local = depends_on_what_it_saw;
+  -- law/Marks.antt, for one edit, and `edits_mark` for edits in a row
   marks = λ k pid call chosen ready a there alone. edits_mark chosen (edits k pid call) k (fits k pid call chosen ready) a there alone;
+  -- law/Alike.antt, for one edit, and `edits_keep` for edits in a row
   alike = λ k l pid call chosen ready ready_too inside same saw marked a kept.
       let made = same_edits k l pid call same saw in
       subst (λ es. Keeps (changed k pid call chosen) (all_applied chosen es l) a) (sym made)
       ((edits_keep chosen (edits k pid call) k l pid (is_inside call) (fit k pid call chosen ready.well ready.alive).by (alike_of_own k l pid call ready.well ready_too.well same) (fits k pid call chosen ready) (fits_too k l pid call chosen ready_too made) marked).kept a kept);
+  -- law/OwnAlike.antt, for one edit; law/OwnTold.antt: what a call is told of its process
   own_alike = λ k l pid call chosen ready ready_too inside same saw c c_inside same_c.
       let made = same_edits k l pid call same saw in
       own_inside (changed k pid call chosen) (changed l pid call chosen) pid c c_inside
       (subst (λ es. OwnAlike (changed k pid call chosen) (all_applied chosen es l) pid) (sym made)
       (edits_own chosen (edits k pid call) k l pid (is_inside call) (fit k pid call chosen ready.well ready.alive).by (alike_of_own k l pid call ready.well ready_too.well same) (fits k pid call chosen ready) (fits_too k l pid call chosen ready_too made)));
+  -- law/OwnLeft.antt, for one edit; law/OwnTold.antt
   own_left = λ k pid call chosen ready q away alive c c_inside.
       own_inside k (changed k pid call chosen) q c c_inside
       (others_alone chosen (edits k pid call) k q pid (is_inside call) (fit k pid call chosen ready.well ready.alive).by away (alive_some k q alive) ready.well (fits k pid call chosen ready));
+  -- calls/Reads.antt, of what a call reads; calls/Fits.antt, of what it writes
   touches_there = λ k pid call well alive. (all-mapped (reads k pid call) (left_there k) (calls_see k pid call well), (fit k pid call [] well alive).there);
+  -- law/There.antt
   there_before = λ k pid call chosen ready a there. there_came chosen k (changed k pid call chosen) (all_grow chosen (edits k pid call) k (fits k pid call chosen ready)) a there;
+  -- law/There.antt
   there_after = λ k pid call chosen ready a there. there_stays chosen k (changed k pid call chosen) (all_grow chosen (edits k pid call) k (fits k pid call chosen ready)) a there;
+  -- law/Nowhere.antt
   nowhere_after = λ k pid call chosen ready n out nowhere.
       nowhere_stays chosen k (changed k pid call chosen) (all_grow chosen (edits k pid call) k (fits k pid call chosen ready)) (all_well chosen (edits k pid call) k ready.well (fits k pid call chosen ready)) n out nowhere;
+  -- law/Nowhere.antt
   nowhere_alike = nowhere_alike;
+  -- law/Well.antt
   well_after = λ k pid call chosen ready. all_well chosen (edits k pid call) k ready.well (fits k pid call chosen ready);
+  -- law/Alive.antt
   alive_after = λ k pid call chosen ready q other alive.
       some_alive (changed k pid call chosen) q (all_alive chosen (edits k pid call) k pid (is_inside call) q (fit k pid call chosen ready.well ready.alive).by other (fits k pid call chosen ready) (alive_some k q alive));
+  -- `WellFormed` says it
   alive_counted = λ k well. well.counted;
+  -- law/WellTidy.antt
   well_tidy = well_tidy;
+  -- law/TidyUnseen.antt
   tidy_unseen = tidying_is_unseen;
+  -- law/TidyLater.antt
   tidy_later = tidied_later;
+  -- law/TidyLater.antt
   tidy_twice = λ k well. alike_tidied k (tidy k) (tidied_alike k well);
+  -- law/WellTidy.antt
   nowhere_tidy = nowhere_tidy;
+  -- law/Start.antt
   well_start = well_start;
+  -- law/Start.antt
   tidy_start = tidy_start;
 }

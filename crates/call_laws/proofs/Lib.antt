@@ -1,37 +1,10 @@
-pub mod Maps
-pub mod Names
-pub mod Contents
-pub mod Blocks
-pub mod Offsets
-pub mod NameEdits
-pub mod Processes
-pub mod Ends
-pub mod SlotEdits
-pub mod Coverage
-pub mod SlotMarks
-pub mod Keeping
-pub mod Own
-pub mod Grows
-pub mod NamesWell
-pub mod Tree
-pub mod Well
-pub mod Reached
-pub mod Rules
-pub mod NoRing
-pub mod OwnTable
-pub mod Slots
-pub mod CallFits
-pub mod Tidied
-pub mod Seen
-pub mod Alike
-pub mod OwnBack
-pub mod Alive
-pub mod Nowhere
-pub mod Start
+mod Maps
+mod Tidying
 pub mod Laws
-pub mod Numbers
-pub mod Exceptions
-pub mod Trees
-pub mod Binds
-pub mod Rows
-pub mod First
+mod Numbers
+mod Exceptions
+mod Trees
+mod FirstProcesses
+mod edits
+mod calls
+mod law

@@ -8,9 +8,8 @@ use Rattle.std.specs.FinMap.Entries.{find}
 use Rattle.model.specs.FiniteMap.{FinMap, get, empty, insert, remove, retain_keys, entries, keys, values, get-entries, get-empty, get-remove, get-retain_keys, len-entries, len-empty, nat_cmp-IsAntisymmetric}
 use Rattle.std.proofs.lemmas.Bool.{cases_eq}
 use Rattle.std.proofs.lemmas.List.Sums.{sum_by-cons}
-use Rattle.model.proofs.Sums.{all_entries}
-use Rattle.model.proofs.Inodes.{apart, get_same, get_other}
-use Rattle.model.proofs.Lists.{nothing_left}
+use Rattle.model.proofs.Laws.{all_entries, apart, get_same, get_other, nothing_left}
+pub use Rattle.model.proofs.Laws.{removed_same, removed_other}
 
 pub not_none : {A : Type 0} (x : A) → Some x ≡ None → ⊥
 not_none x e = absurd cc
@@ -24,6 +23,11 @@ some_same x y e = ap (or_given x) e
 
 pub true_is_false : true ≡ false → ⊥
 true_is_false h = absurd cc
+
+-- a test that counts
+pub one_some : (b : Bool) → 0 < cond b 1 0 → b ≡ true
+one_some true h = refl
+one_some false h = absurd (omega arith)
 
 pub all-mapped : {A : Type 0} {P Q : A → Type 0} (xs : List A) → ((x : A) → P x → Q x) → AllByRecursion P xs → AllByRecursion Q xs
 all-mapped [] f h = tt
@@ -95,12 +99,6 @@ stays_inserted m n v q there none = elim (cases_eq q n) [
   | inl same ↦ not_none v (sym (get_same m n v) ∙ ap (get (insert m n v)) (sym same) ∙ none)
   | inr away ↦ there (sym (get_other m n q v away) ∙ none)
 ]
-
-pub removed_same : {X : Type 0} (m : FinMap nat_cmp X) (n : ℕ) → get (remove m n) n ≡ None
-removed_same m n = get-remove nat_cmp_total m n n ∙ ap (λ r. cond (is_eq r) None (get m n)) (tied_itself nat_cmp_total n)
-
-pub removed_other : {X : Type 0} (m : FinMap nat_cmp X) (n q : ℕ) → q ≢ n → get (remove m n) q ≡ get m q
-removed_other m n q away = get-remove nat_cmp_total m n q ∙ ap (λ b. cond b None (get m q)) (apart q n away)
 
 pub from_remove : {X : Type 0} (m : FinMap nat_cmp X) (n q : ℕ) (x : X) → get (remove m n) q ≡ Some x → (q ≢ n) × (get m q ≡ Some x)
 from_remove m n q x e =

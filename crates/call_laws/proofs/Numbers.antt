@@ -8,7 +8,7 @@ use Rattle.model.specs.State.{kind, mapped}
 use Rattle.model.specs.Plan.{rising}
 use Rattle.model.specs.Changes.{news}
 use Rattle.model.specs.Steps.{IsNowhere, AllDifferent, edits}
-use Rattle.model.proofs.Inodes.{tie}
+use Rattle.model.proofs.Laws.{tie}
 use Rattle.call_laws.specs.WellFormed.{CanBeNamed}
 use Rattle.call_laws.specs.Numbers.{UnusedNumbersAreNowhere, EveryCallCanBeMade}
 use Rattle.call_laws.proofs.Maps.{not_none, all-mapped}

@@ -1,9 +1,9 @@
 -- In a well-formed state the directories are a tree.
 use Rattle.std.proofs.Common.{◌≡◌, ◌+◌, ◌++◌, length, ap, ◌∙◌, sym, arith, length-append}
-use Rattle.model.proofs.Lists.{nothing_left}
+use Rattle.model.proofs.Laws.{nothing_left}
 use Rattle.call_laws.specs.Trees.{DirectoriesAreATree}
-use Rattle.call_laws.proofs.Tree.{both_paths}
-use Rattle.call_laws.proofs.NoRing.{one_path}
+use Rattle.call_laws.proofs.edits.Tree.{both_paths}
+use Rattle.call_laws.proofs.calls.NoRing.{one_path}
 
 pub directories_are_a_tree_lem : DirectoriesAreATree
 directories_are_a_tree_lem k well = record {

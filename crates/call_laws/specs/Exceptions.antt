@@ -23,19 +23,22 @@ pub record ReadyCall : Type 0 where
 abbrev pub after : ReadyCall → Kernel
 after r = changed r.state r.pid r.call r.chosen
 
--- It changes how many names give a directory, and marks nothing of that: `IsThere` has `Links` for files alone.
+-- It changes how many names give a directory, and marks nothing of
+-- that: `IsThere` has `Links` for files alone.
 pub record ChangesLinks (r : ReadyCall) (n : ℕ) : Type 0 where
   pub directory : kind_of r.state n ≡ Some A_directory
   pub unmarked : AllByRecursion (λ w. LeavesAlone w (Links n)) (writes r.state r.pid r.call)
   pub differ : links (after r) n ≢ links r.state n
 
--- It changes the names of a directory and writes an entry of it, but not `Names`: so `LeavesAlone` has a case for that.
+-- It changes the names of a directory and writes an entry of it, but not
+-- `Names`: so `LeavesAlone` has a case for that.
 pub record ChangesNames (r : ReadyCall) (d : ℕ) : Type 0 where
   pub there : IsThere r.state (Names d)
   pub unwritten : AllByRecursion (λ w. w ≢ Names d) (writes r.state r.pid r.call)
   pub differ : keys (names_of (after r) d) ≢ keys (names_of r.state d)
 
--- Another process's fork would go another way after it: the laws on own parts are for calls inside a transaction.
+-- Another process's fork would go another way after it: the laws on own
+-- parts are for calls inside a transaction.
 pub record ChangesBirths (r : ReadyCall) (q : ℕ) : Type 0 where
   pub alive : is_alive r.state q ≡ true
   pub other : q ≢ r.pid

@@ -1,14 +1,20 @@
--- What each edit asks of the state, whose edits they are, and what they then keep: the notions that the laws of calls are proved by.
-use Rattle.std.specs.Prelude.{◌≡◌, ◌≢◌, ℕ, suc, ◌+◌, ◌<◌, ◌≤◌, Bool, true, false, List, [], ◌∷◌, Option, Some, None, length, ⊤}
+-- What each edit asks of the state, whose edits they are, and what they then keep: the
+-- notions that the laws of calls are proved by.
+use Rattle.std.specs.Prelude.{◌≡◌, ◌≢◌, ℕ, suc, ◌+◌, ◌<◌, ◌≤◌, Bool, true, false, List, [], ◌∷◌}
+use Rattle.std.specs.Prelude.{Option, Some, None, length, ⊤}
 use Rattle.std.specs.Ordering.{nat_cmp}
 use Rattle.std.specs.List.{AllByRecursion}
 use Rattle.model.specs.FiniteMap.{FinMap, get, keys}
-use Rattle.model.specs.State.{Name, Kind, A_file, A_directory, A_pipe, Kernel, Description, names_of, file_of, pipe_of, kind_of, links, mapped}
+use Rattle.model.specs.State.{Name, Kind, A_file, A_directory, A_pipe, Kernel, Description}
+use Rattle.model.specs.State.{names_of, file_of, pipe_of, kind_of, links, mapped}
 use Rattle.model.specs.Aspects.{Aspect, Keeps, KeepsAll}
 use Rattle.model.specs.Calls.{Slot, slot_of}
 use Rattle.model.specs.Steps.{IsNowhere}
 use Rattle.model.specs.Moments.{is_in}
-use Rattle.model.specs.Changes.{Made, number, Edit, Make_directory, Make_file, Name_file, Unname_file, Unname_directory, Move, Put_bytes, Cut, Take, Append, Set_offset, Open_inode, Make_pipe, Share_slot, Clear_slot, New_process, End_process, marks, applied, process_of}
+use Rattle.model.specs.Changes.{Made, number, Edit, Make_directory, Make_file, Name_file}
+use Rattle.model.specs.Changes.{Unname_file, Unname_directory, Move, Put_bytes, Cut, Take, Append}
+use Rattle.model.specs.Changes.{Set_offset, Open_inode, Make_pipe, Share_slot, Clear_slot}
+use Rattle.model.specs.Changes.{New_process, End_process, marks, applied, process_of}
 use Rattle.call_laws.specs.Objects.{IsThere, LeavesAlone}
 use Rattle.call_laws.specs.WellFormed.{IsRooted, Leads, descriptor_limit}
 
@@ -26,12 +32,14 @@ pub record Gives (k : Kernel) (d : ℕ) (x : Name) (n : ℕ) (what : Kind) : Typ
 -- what stands where a name is moved to: nothing, a file, or a directory with no names
 abbrev pub CanBeReplaced : Kernel → ℕ → Option ℕ → List ℕ → Type 0
 CanBeReplaced k n None [] = ⊤
-CanBeReplaced k n (Some m) [] = (n ≢ m) × (kind_of k m ≡ Some A_directory) × (keys (names_of k m) ≡ [])
+CanBeReplaced k n (Some m) [] =
+    (n ≢ m) × (kind_of k m ≡ Some A_directory) × (keys (names_of k m) ≡ [])
 CanBeReplaced k n (Some m) (r ∷ []) = (n ≢ m) × (kind_of k m ≡ Some A_file) × (r ≡ m)
 CanBeReplaced k n _ _ = ⊥
 
 -- what moves is named, does not go to below itself, and may replace what has the new name
-pub record CanMove (k : Kernel) (d : ℕ) (x : Name) (e : ℕ) (y : Name) (n : ℕ) (replaced : List ℕ) : Type 0 where
+pub record CanMove (k : Kernel) (d : ℕ) (x : Name) (e : ℕ) (y : Name) (n : ℕ)
+    (replaced : List ℕ) : Type 0 where
   pub what : Kind
   pub from : Gives k d x n what
   pub onto : IsRooted k e
@@ -52,7 +60,9 @@ IsAmong pipes p = AllByRecursion (λ q. q ≢ p) pipes → ⊥
 
 -- the pipe that a description gives, where it gives one, is among these
 abbrev pub ListsPipe : Kernel → List ℕ → ℕ → Type 0
-ListsPipe k pipes d = (it : Description) → get k.descriptions d ≡ Some it → kind_of k it.inode ≡ Some A_pipe → IsAmong pipes it.inode
+ListsPipe k pipes d =
+    (it : Description) → get k.descriptions d ≡ Some it → kind_of k it.inode ≡ Some A_pipe
+    → IsAmong pipes it.inode
 
 -- each pipe that a process has open is among these
 abbrev pub ListsPipes : Kernel → ℕ → List ℕ → Type 0
@@ -113,21 +123,30 @@ pub record CanEnd (k : Kernel) (pid : ℕ) (pipes : List ℕ) : Type 0 where
   pub alive : IsAlive k pid
   pub shared : ListsPipes k pid pipes
 
--- What an edit asks of the state. A file gets a further name only where it has one, so that tidying before it changes nothing.
+-- What an edit asks of the state. A file gets a further name only where it has one,
+-- so that tidying before it changes nothing.
 abbrev pub Fits : List ℕ → Kernel → Edit → Type 0
-Fits chosen k (Make_directory d x i) = IsFree k d x × IsNowhere k (number chosen (Made i)) × (is_in (number chosen (Made i)) chosen ≡ true)
-Fits chosen k (Make_file d x i) = IsFree k d x × IsNowhere k (number chosen (Made i)) × (is_in (number chosen (Made i)) chosen ≡ true)
+Fits chosen k (Make_directory d x i) =
+    IsFree k d x × IsNowhere k (number chosen (Made i))
+    × (is_in (number chosen (Made i)) chosen ≡ true)
+Fits chosen k (Make_file d x i) =
+    IsFree k d x × IsNowhere k (number chosen (Made i))
+    × (is_in (number chosen (Made i)) chosen ≡ true)
 Fits chosen k (Name_file d x n) = IsFree k d x × (kind_of k n ≡ Some A_file) × (links k n ≢ 0)
 Fits chosen k (Unname_file d x n) = Gives k d x n A_file
-Fits chosen k (Unname_directory d x) = (n : ℕ) × Gives k d x n A_directory × (keys (names_of k n) ≡ [])
+Fits chosen k (Unname_directory d x n) = Gives k d x n A_directory × (keys (names_of k n) ≡ [])
 Fits chosen k (Move d x e y n replaced) = CanMove k d x e y n replaced
-Fits chosen k (Put_bytes n place bytes before) = (kind_of k n ≡ Some A_file) × (length (file_of k n) ≡ before)
+Fits chosen k (Put_bytes n place bytes before) =
+    (kind_of k n ≡ Some A_file) × (length (file_of k n) ≡ before)
 Fits chosen k (Cut n before after) = (kind_of k n ≡ Some A_file) × (length (file_of k n) ≡ before)
 Fits chosen k (Take p count) = (kind_of k p ≡ Some A_pipe) × (count ≤ length (pipe_of k p))
 Fits chosen k (Append p bytes) = kind_of k p ≡ Some A_pipe
 Fits chosen k (Set_offset d place) = (it : Description) × (get k.descriptions d ≡ Some it)
-Fits chosen k (Open_inode i inode mode pid f) = CanOpen chosen k (number chosen (Made i)) (number chosen inode) pid f
-Fits chosen k (Make_pipe i pid f g) = CanPipe chosen k (number chosen (Made i)) (number chosen (Made (i + 1))) (number chosen (Made (i + 2))) pid f g
+Fits chosen k (Open_inode i inode mode pid f) =
+    CanOpen chosen k (number chosen (Made i)) (number chosen inode) pid f
+Fits chosen k (Make_pipe i pid f g) =
+    CanPipe chosen k (number chosen (Made i)) (number chosen (Made (i + 1)))
+    (number chosen (Made (i + 2))) pid f g
 Fits chosen k (Share_slot pid f d pipes) = CanShare k pid f d pipes
 Fits chosen k (Clear_slot pid f pipes) = CanClear k pid f pipes
 Fits chosen k (New_process child parent pipes) = CanFork k child parent pipes
@@ -138,7 +157,8 @@ abbrev pub FitsAll : List ℕ → Kernel → List Edit → Type 0
 FitsAll chosen k [] = ⊤
 FitsAll chosen k (e ∷ es) = Fits chosen k e × FitsAll chosen (applied chosen e k) es
 
--- The edits that a process may make: those of slots and processes are its own, and inside a transaction it does not end.
+-- The edits that a process may make: those of slots and processes are its own,
+-- and inside a transaction it does not end.
 abbrev pub IsBy : ℕ → Bool → Edit → Type 0
 IsBy pid inside (Open_inode i inode mode q f) = q ≡ pid
 IsBy pid inside (Make_pipe i q f g) = q ≡ pid
@@ -160,8 +180,14 @@ pub record OwnAlike (now later : Kernel) (pid : ℕ) : Type 0 where
 
 -- Of what was there an edit changes only what it marks.
 abbrev pub EditMarks : List ℕ → Kernel → Edit → Type 0
-EditMarks chosen k e = Fits chosen k e → (a : Aspect) → IsThere k a → AllByRecursion (λ w. LeavesAlone w a) (marks e) → Keeps k (applied chosen e k) a
+EditMarks chosen k e =
+    Fits chosen k e → (a : Aspect) → IsThere k a → AllByRecursion (λ w. LeavesAlone w a) (marks e)
+    → Keeps k (applied chosen e k) a
 
--- What two states have alike they have alike after the same edit, where they have alike what it marks, and what its process sees of itself.
+-- What two states have alike they have alike after the same edit, where they have alike what it
+-- marks, and what its process sees of itself.
 abbrev pub EditKeeps : List ℕ → Kernel → Kernel → Edit → Type 0
-EditKeeps chosen now later e = (pid : ℕ) (inside : Bool) → IsBy pid inside e → OwnAlike now later pid → Fits chosen now e → Fits chosen later e → KeepsAll now later (marks e) → (a : Aspect) → Keeps now later a → Keeps (applied chosen e now) (applied chosen e later) a
+EditKeeps chosen now later e =
+    (pid : ℕ) (inside : Bool) → IsBy pid inside e → OwnAlike now later pid → Fits chosen now e
+    → Fits chosen later e → KeepsAll now later (marks e) → (a : Aspect) → Keeps now later a
+    → Keeps (applied chosen e now) (applied chosen e later) a

@@ -8,10 +8,15 @@ use Rattle.model.specs.Moments.{is_alive}
 use Rattle.call_laws.specs.WellFormed.{WellFormed}
 use Rattle.call_laws.specs.CallLaws.{IsReady}
 
--- In a well-formed state a number that is no inode and no description is given by no name and by no descriptor.
+-- In a well-formed state a number that is no inode and no description
+-- is given by no name and by no descriptor.
 abbrev pub UnusedNumbersAreNowhere : Type 0
-UnusedNumbersAreNowhere = (k : Kernel) (n : ℕ) → WellFormed k → get k.inodes n ≡ None → get k.descriptions n ≡ None → IsNowhere k n
+UnusedNumbersAreNowhere =
+    (k : Kernel) (n : ℕ) → WellFormed k → get k.inodes n ≡ None → get k.descriptions n ≡ None
+    → IsNowhere k n
 
 -- A living process can make each call, since there are always numbers that can be chosen.
 abbrev pub EveryCallCanBeMade : Type 0
-EveryCallCanBeMade = (k : Kernel) (pid : ℕ) (call : Call) → WellFormed k → is_alive k pid ≡ true → (chosen : List ℕ) × IsReady WellFormed k pid call chosen
+EveryCallCanBeMade =
+    (k : Kernel) (pid : ℕ) (call : Call) → WellFormed k → is_alive k pid ≡ true
+    → (chosen : List ℕ) × IsReady WellFormed k pid call chosen

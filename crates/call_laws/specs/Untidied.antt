@@ -9,4 +9,6 @@ use Rattle.call_laws.specs.CallLaws.{IsReady}
 -- each call is ready, and answered as it was
 abbrev pub Goes : (Kernel → Type 0) → Kernel → ℕ → List Executed → Type 0
 Goes Well k pid [] = ⊤
-Goes Well k pid (e ∷ es) = (IsReady Well k pid e.call e.chosen × (e.answer ≡ reply k pid e.call)) × Goes Well (after_one pid e k) pid es
+Goes Well k pid (e ∷ es) =
+    (IsReady Well k pid e.call e.chosen × (e.answer ≡ reply k pid e.call))
+    × Goes Well (after_one pid e k) pid es

@@ -1,7 +1,9 @@
 -- A well-formed state of the plain kernel.
 use Rattle.std.specs.Prelude.{◌≡◌, ℕ, ◌≤◌, ◌<◌, List, [], ◌∷◌, Option, Some, ⊤, true}
 use Rattle.model.specs.FiniteMap.{get}
-use Rattle.model.specs.State.{Name, Kind, Kernel, Description, A_file, A_directory, A_pipe, kind_of, names_of, links}
+pub use Rattle.model.specs.Limits.{descriptor_limit}
+use Rattle.model.specs.State.{Name, Kind, Kernel, Description, A_file, A_directory, A_pipe, kind_of}
+use Rattle.model.specs.State.{names_of, links}
 use Rattle.model.specs.Changes.{process_of}
 use Rattle.model.specs.Moments.{is_alive}
 
@@ -17,10 +19,6 @@ CanBeOpened (Some A_file) = ⊤
 CanBeOpened (Some A_pipe) = ⊤
 CanBeOpened _ = ⊥
 
--- how many descriptors a process can have
-abbrev pub descriptor_limit : ℕ
-descriptor_limit = 64
-
 -- a directory that has a name, or is the root
 pub record IsRooted (k : Kernel) (d : ℕ) : Type 0 where
   pub directory : kind_of k d ≡ Some A_directory
@@ -31,7 +29,8 @@ abbrev pub Leads : Kernel → ℕ → List Name → ℕ → Type 0
 Leads k a [] b = a ≡ b
 Leads k a (x ∷ xs) b = (m : ℕ) × (get (names_of k a) x ≡ Some m) × Leads k m xs b
 
--- It holds between the steps of a list too, before tidying: what nothing leads to may be there, and is then empty.
+-- It holds between the steps of a list too, before tidying: what nothing
+-- leads to may be there, and is then empty.
 pub record WellFormed (k : Kernel) : Type 0 where
   -- the root is a directory, and no name gives it
   pub root : kind_of k k.root ≡ Some A_directory
@@ -40,13 +39,16 @@ pub record WellFormed (k : Kernel) : Type 0 where
   pub names : (d : ℕ) (x : Name) (n : ℕ) → get (names_of k d) x ≡ Some n → CanBeNamed (kind_of k n)
   pub one_name : (d : ℕ) → kind_of k d ≡ Some A_directory → links k d ≤ 1
   -- a directory with no name is the root, or has no names in it
-  pub parents : (d : ℕ) (x : Name) (n : ℕ) → get (names_of k d) x ≡ Some n → links k d ≡ 0 → d ≡ k.root
+  pub parents : (d : ℕ) (x : Name) (n : ℕ) → get (names_of k d) x ≡ Some n → links k d ≡ 0
+      → d ≡ k.root
   -- directories are a tree: each that has a name is led to from the root
   pub leads : (d : ℕ) → IsRooted k d → (path : List Name) × Leads k k.root path d
   -- each descriptor is below the limit and gives a description
-  pub slots : (pid f d : ℕ) → get (process_of k pid).table f ≡ Some d → (it : Description) × (get k.descriptions d ≡ Some it)
+  pub slots : (pid f d : ℕ) → get (process_of k pid).table f ≡ Some d
+      → (it : Description) × (get k.descriptions d ≡ Some it)
   pub low : (pid f d : ℕ) → get (process_of k pid).table f ≡ Some d → f < descriptor_limit
   -- each description is of a file or a pipe
-  pub descriptions : (d : ℕ) (it : Description) → get k.descriptions d ≡ Some it → CanBeOpened (kind_of k it.inode)
+  pub descriptions : (d : ℕ) (it : Description) → get k.descriptions d ≡ Some it
+      → CanBeOpened (kind_of k it.inode)
   -- no process has a number above the count of those made
   pub counted : (pid : ℕ) → is_alive k pid ≡ true → pid ≤ k.made

@@ -1,7 +1,8 @@
 //! The laws of calls: what holds of every call of the plain kernel, whatever the state.
 //!
-//! `specs/WellFormed.antt` says which states a kernel can come to, `specs/CallLaws.antt` what holds of each call in them.
-//! This crate has no code: each function has an empty body, and its contract is a law, for all nineteen calls.
+//! `specs/WellFormed.antt` says which states a kernel can come to, `specs/CallLaws.antt` what
+//! holds of each call in them. This crate has no code: each function has an empty body, and its
+//! contract is a law, for all nineteen calls.
 #![tactic(auto)]
 
 ghost use Rattle.call_laws.specs.CallLaws.{CallLaws};
@@ -17,8 +18,8 @@ pub fn calls_are_lawful()
     ensures { CallLaws WellFormed }
 {}
 
-/// To choose a number for a new object it is enough to look whether it is an inode or a description.
-/// Proved in `proofs/Numbers.antt`.
+/// To choose a number for a new object it is enough to look whether it is an inode or a
+/// description. Proved in `proofs/Numbers.antt`.
 pub fn unused_numbers_are_nowhere()
     ensures { UnusedNumbersAreNowhere }
 {}
@@ -29,21 +30,21 @@ pub fn every_call_can_be_made()
     ensures { EveryCallCanBeMade }
 {}
 
-/// In a well-formed state each directory that has a name has one path from the root, and none is below itself.
-/// Proved in `proofs/Trees.antt`.
+/// In a well-formed state each directory that has a name has one path from the root, and none is
+/// below itself. Proved in `proofs/Trees.antt`.
 pub fn directories_are_a_tree()
     ensures { DirectoriesAreATree }
 {}
 
-/// What the laws leave out is false: a directory's count of names and its names change unmarked, a fork changes what another
-/// process's fork sees, and tidying drops what was there.
-/// Proved in `proofs/Exceptions.antt`.
+/// What the laws leave out is false: a directory's count of names and its names change
+/// unmarked, a fork changes what another process's fork sees, and tidying drops what was
+/// there. Proved in `proofs/Exceptions.antt`.
 pub fn exceptions_are_needed()
     ensures { ExceptionsAreNeeded }
 {}
 
 /// The first processes live, each with its priority, and no others.
-/// Proved in `proofs/First.antt`.
+/// Proved in `proofs/FirstProcesses.antt`.
 pub fn first_processes_live()
     ensures { FirstProcessesLive }
 {}

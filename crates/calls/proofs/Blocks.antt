@@ -1,7 +1,7 @@
 -- Runs of blocks, and what is taken from a pipe.
-use Rattle.std.proofs.Common.{◌≡◌, ℕ, suc, ◌+◌, ◌-◌, ◌/◌, ◌≤◌, List, [], ◌∷◌, ◌++◌, Bool, false, map, length, refl, sym, ap, ◌∙◌, arith, add-one}
+use Rattle.std.proofs.Common.{◌≡◌, ℕ, suc, ◌+◌, List, [], ◌∷◌, ◌++◌, Bool, false, map, length, refl, sym, ap, ◌∙◌, arith}
 use Rattle.model.specs.Aspects.{Block}
-use Rattle.model.specs.Plan.{rising, blocks}
+use Rattle.model.specs.Plan.{rising}
 use Rattle.model.specs.Paths.{is_empty}
 use Rattle.model.specs.Calls.{Bytes}
 use Rattle.model.specs.Changes.{Take}
@@ -16,12 +16,6 @@ run_more w f first (suc m) =
     ap (λ n. touching w (map (Block f) (rising first (suc m))) ++ touching w (Block f n ∷ [])) e
     ∙ ap (λ t. record { aspect = Block f first; write = w } ∷ t) (run_more w f (suc first) m)
     ∙ ap (λ n. touching w (map (Block f) (rising first n))) (sym l)
-
-pub blocks_are : (place count : ℕ) → 1 ≤ count → blocks place count ≡ rising (place / 1024) ((place + (count - 1)) / 1024 - place / 1024 + 1)
-blocks_are place ℕ.zero low = absurd (omega (arith, low))
-blocks_are place (suc more) low =
-    let e : suc more - 1 ≡ more = omega arith in
-    ap (λ n. rising (place / 1024) (suc ((place + n) / 1024 - place / 1024))) (sym e) ∙ ap (rising (place / 1024)) (sym (add-one _))
 
 pub taken_plan : (p : ℕ) (bytes : List ℕ) → is_empty bytes ≡ false → read_pipe p bytes ≡ changed (Bytes bytes) (Take p (length bytes) ∷ [])
 taken_plan p [] is = absurd (grind (arith, is))

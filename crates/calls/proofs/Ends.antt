@@ -12,7 +12,7 @@ use Rattle.look.specs.Asked.{asked, reading, writing}
 use Rattle.calls.specs.declared.plan.Plan.{Plan}
 use Rattle.calls.specs.Planned.{IsPlan}
 use Rattle.calls.specs.Operations.{is_on_descriptors}
-use Rattle.walk.proofs.Then.{asked-is}
+use Rattle.walk.proofs.Laws.{asked-is}
 
 module _ (k : Kernel) (pid : ℕ) (call : Call) (p : Plan) (start mid : List Touch) (none : start ≡ []) where
   outcome : (r : Result Change Refused) → asked k (plan (own k pid call) call) start ≡ (r, mid) → given k (plan (own k pid call) call) ≡ r

@@ -1,3 +1,4 @@
+pub mod Marking
 pub mod Frees
 pub mod Blocks
 pub mod Ends

@@ -1,6 +1,7 @@
 -- Kinds of calls.
 use Rattle.std.specs.Prelude.{Bool, true, false}
-use Rattle.model.specs.Calls.{Call, Open, Close, Read, Write, Lseek, Ftruncate, Stat, Fstat, Mkdir, Rmdir, List_directory, Dup, Dup2, Open_pipe, Exit}
+use Rattle.model.specs.Calls.{Call, Open, Close, Read, Write, Lseek, Ftruncate, Stat, Fstat}
+use Rattle.model.specs.Calls.{Mkdir, Rmdir, List_directory, Dup, Dup2, Open_pipe, Exit}
 
 -- the calls that the kernel can run today
 abbrev pub can_call : Call → Bool

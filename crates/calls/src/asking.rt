@@ -1,31 +1,16 @@
 // The questions that a plan asks, each with the touches that it makes.
-ghost use Rattle.std.specs.Prelude.{◌≡◌, ◌++◌, ◌∷◌, [], ◌+◌, ◌<◌, ◌≤◌, ◌^◌, IfOk, OnOk, length, map};
+ghost use Rattle.std.specs.Prelude.{◌≡◌, ◌++◌, ◌∷◌, [], ◌+◌, ◌<◌, ◌≤◌};
+ghost use Rattle.std.specs.Prelude.{◌^◌, IfOk, OnOk, length, map};
 ghost use Rattle.model.specs.Aspects.{Block};
-ghost use Rattle.model.specs.Plan.{ask, List_names, Measure, Read_file, Count_links, Count_ends, Find_offset, Read_pipe, Fit, blocks, rising};
+ghost use Rattle.calls.specs.Parts.{has_no_names};
+ghost use Rattle.model.specs.Plan.{ask, List_names, Measure, Read_file, Count_links, Count_ends};
+ghost use Rattle.model.specs.Plan.{Find_offset, Read_pipe, Fit, blocks};
 ghost use Rattle.look.specs.Asked.{Comes, touching};
 
-use ids::{Aspect, Bytes, NameList, Num, Refusal};
+use ids::{Aspect, BLOCK_LEN, Bytes, NameList, Num, Refusal};
 use look::Look;
 use std::alloc::AllocError;
 use walk::Touches;
-
-// Blocks of a file, from the first on, so many.
-fn touch_run(
-    touches: &mut Touches,
-    file: Num,
-    first: u32,
-    count: u32,
-    write: bool,
-) -> Result<(), AllocError>
-    requires { first + count < 2 ^ 32 }
-    ensures { OnOk result
-        (touches.new ≡ touches.old ++ touching write (map (Block file) (rising first count))) }
-{
-    for more in 0..count {
-        touches.add(Aspect::Block(file, first + more), write)?;
-    }
-    Ok(())
-}
 
 // The blocks of so many bytes of a file from a place on.
 pub(crate) fn touch_blocks(
@@ -42,9 +27,12 @@ pub(crate) fn touch_blocks(
     if count == 0 {
         return Ok(());
     }
-    let first = place / 1024;
-    let last = (place + (count - 1)) / 1024;
-    touch_run(touches, file, first, last - first + 1, write)
+    let first = place / BLOCK_LEN as u32;
+    let last = (place + (count - 1)) / BLOCK_LEN as u32;
+    for more in 0..last - first + 1 {
+        touches.add(Aspect::Block(file, first + more), write)?;
+    }
+    Ok(())
 }
 
 // All names of a directory.
@@ -53,6 +41,18 @@ pub(crate) fn names<L: Look>(look: &L, dir: Num, touches: &mut Touches) -> Resul
 {
     touches.read(Aspect::Names(dir))?;
     Ok(look.names(touches.heap(), dir)?)
+}
+
+// Whether a directory has no names. It touches all of them, as they would be if they were listed.
+pub(crate) fn has_no_names<L: Look>(
+    look: &L,
+    dir: Num,
+    touches: &mut Touches,
+) -> Result<bool, Refusal>
+    ensures { Comes (L.state look.now) (has_no_names dir) touches.old result touches.new }
+{
+    touches.read(Aspect::Names(dir))?;
+    Ok(look.is_empty(dir))
 }
 
 // A file's length.

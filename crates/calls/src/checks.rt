@@ -1,65 +1,41 @@
 // The tests of calls on descriptors.
-ghost use Rattle.std.specs.Prelude.{◌&&◌, ◌||◌, ◌≡◌, ◌==◌, not, nat_lt, nat_le, if◌then◌else◌, IfOk, ◌<◌, length};
+ghost use Rattle.std.specs.Prelude.{◌&&◌, ◌||◌, ◌≡◌, ◌==◌, not, nat_lt, nat_le};
+ghost use Rattle.std.specs.Prelude.{if◌then◌else◌, IfOk, ◌<◌, length};
 ghost use Rattle.model.specs.Plan.{refuse_if, EBADF, EINVAL, EEXIST, EISDIR, ENOENT, EAGAIN};
 ghost use Rattle.ids.specs.Flags.{is_reading, is_writing, is_creating, is_exclusive, is_truncating};
-ghost use Rattle.model.specs.Plans.{is_pipe, largest};
+ghost use Rattle.model.specs.Plans.{is_pipe, largest, whole_write};
 ghost use Rattle.look.specs.Asked.{Tells};
 
-use ids::{Bytes, Errno, Fd, Kind, OpenFlags, Refusal};
+use crate::steps::refuse_if;
+use ids::{Bytes, Errno, Fd, Kind, LARGEST_FILE, OpenFlags, Refusal, WHOLE_WRITE};
 
 /// How many bytes a file has at most.
-pub(crate) const LARGEST: u32 = 1_048_576;
+pub(crate) const LARGEST: u32 = LARGEST_FILE as u32;
 
 pub(crate) fn must_read_or_write(flags: OpenFlags) -> Result<(), Refusal>
     ensures { Tells (refuse_if (not (is_reading flags || is_writing flags)) EINVAL) result }
 {
-    if flags.reads() {
-        Ok(())
-    } else if flags.writes() {
-        Ok(())
-    } else {
-        Err(Refusal::Errno(Errno::EINVAL))
-    }
+    refuse_if(!(flags.reads() || flags.writes()), Errno::EINVAL)
 }
 
 pub(crate) fn must_create_to_exclude(flags: OpenFlags) -> Result<(), Refusal>
     ensures { Tells (refuse_if (is_exclusive flags && not (is_creating flags)) EINVAL) result }
 {
-    if flags.is_exclusive() {
-        if flags.creates() {
-            Ok(())
-        } else {
-            Err(Refusal::Errno(Errno::EINVAL))
-        }
-    } else {
-        Ok(())
-    }
+    refuse_if(flags.is_exclusive() && !flags.creates(), Errno::EINVAL)
 }
 
 pub(crate) fn must_write_to_truncate(flags: OpenFlags) -> Result<(), Refusal>
     ensures { Tells (refuse_if (is_truncating flags && not (is_writing flags)) EINVAL) result }
 {
-    if flags.truncates() {
-        if flags.writes() {
-            Ok(())
-        } else {
-            Err(Refusal::Errno(Errno::EINVAL))
-        }
-    } else {
-        Ok(())
-    }
+    refuse_if(flags.truncates() && !flags.writes(), Errno::EINVAL)
 }
 
 // How the root is refused.
 pub(crate) fn refusal_of_root(flags: OpenFlags) -> Errno
     ensures { result ≡ (if is_creating flags && is_exclusive flags then EEXIST else EISDIR) }
 {
-    if flags.creates() {
-        if flags.is_exclusive() {
-            Errno::EEXIST
-        } else {
-            Errno::EISDIR
-        }
+    if flags.creates() && flags.is_exclusive() {
+        Errno::EEXIST
     } else {
         Errno::EISDIR
     }
@@ -68,25 +44,13 @@ pub(crate) fn refusal_of_root(flags: OpenFlags) -> Errno
 pub(crate) fn must_create(flags: OpenFlags) -> Result<(), Refusal>
     ensures { Tells (refuse_if (not (is_creating flags)) ENOENT) result }
 {
-    if flags.creates() {
-        Ok(())
-    } else {
-        Err(Refusal::Errno(Errno::ENOENT))
-    }
+    refuse_if(!flags.creates(), Errno::ENOENT)
 }
 
 pub(crate) fn must_be_new(flags: OpenFlags) -> Result<(), Refusal>
     ensures { Tells (refuse_if (is_creating flags && is_exclusive flags) EEXIST) result }
 {
-    if flags.creates() {
-        if flags.is_exclusive() {
-            Err(Refusal::Errno(Errno::EEXIST))
-        } else {
-            Ok(())
-        }
-    } else {
-        Ok(())
-    }
+    refuse_if(flags.creates() && flags.is_exclusive(), Errno::EEXIST)
 }
 
 pub(crate) fn must_not_be_pipe(kind: Option<Kind>, errno: Errno) -> Result<(), Refusal>
@@ -101,11 +65,7 @@ pub(crate) fn must_not_be_pipe(kind: Option<Kind>, errno: Errno) -> Result<(), R
 pub(crate) fn must_be_at_most(place: u32, most: u32, errno: Errno) -> Result<(), Refusal>
     ensures { Tells (refuse_if (nat_lt most place) errno) result }
 {
-    if most < place {
-        Err(Refusal::Errno(errno))
-    } else {
-        Ok(())
-    }
+    refuse_if(most < place, errno)
 }
 
 pub(crate) fn must_be_below(place: u32, bound: u32, errno: Errno) -> Result<(), Refusal>
@@ -122,29 +82,21 @@ pub(crate) fn must_be_below(place: u32, bound: u32, errno: Errno) -> Result<(), 
 pub(crate) fn must_not_be_zero(number: u32, errno: Errno) -> Result<(), Refusal>
     ensures { Tells (refuse_if (number == 0) errno) result }
 {
-    if number == 0 {
-        Err(Refusal::Errno(errno))
-    } else {
-        Ok(())
-    }
+    refuse_if(number == 0, errno)
 }
 
 // A short text goes into a pipe whole.
 pub(crate) fn must_fit(fitting: u32, bytes: &Bytes) -> Result<(), Refusal>
     ensures { Tells
-        (refuse_if (nat_lt fitting (length bytes.now) && nat_le (length bytes.now) 512) EAGAIN)
+        (refuse_if
+        (nat_lt fitting (length bytes.now) && nat_le (length bytes.now) whole_write) EAGAIN)
         result }
 {
     let count = bytes.as_slice().len();
-    if (fitting as usize) < count {
-        if count <= 512 {
-            Err(Refusal::Errno(Errno::EAGAIN))
-        } else {
-            Ok(())
-        }
-    } else {
-        Ok(())
-    }
+    refuse_if(
+        (fitting as usize) < count && count <= WHOLE_WRITE,
+        Errno::EAGAIN,
+    )
 }
 
 pub(crate) fn is_zero(number: u32) -> bool
@@ -163,9 +115,5 @@ pub(crate) fn must_be_descriptor(fd: Fd) -> Result<(), Refusal>
 pub(crate) fn must_be_zero(number: u32, errno: Errno) -> Result<(), Refusal>
     ensures { Tells (refuse_if (nat_lt 0 number) errno) result }
 {
-    if 0 < number {
-        Err(Refusal::Errno(errno))
-    } else {
-        Ok(())
-    }
+    refuse_if(0 < number, errno)
 }

@@ -10,7 +10,7 @@ use crate::checks::{must_be_below, must_be_descriptor};
 use crate::own::{Own, is_one, pipe_in, slot, two_of};
 use crate::paths::status;
 use heap::Heap;
-use ids::{Answer, Edit, Errno, Fd, Pid, Refusal, Slot};
+use ids::{Answer, Edit, Errno, Fd, MAX_PROCESSES, Pid, Refusal, Slot};
 use look::Look;
 use walk::Touches;
 
@@ -116,7 +116,7 @@ pub(crate) fn fork(heap: Heap, own: &Own) -> Result<Change, Refusal>
 fn forked(heap: Heap, own: &Own, birth: (u32, u8)) -> Result<Change, Refusal>
     ensures { Tells (forked own.now (Some birth)) result }
 {
-    must_be_below(birth.0, 4096, Errno::EAGAIN)?;
+    must_be_below(birth.0, MAX_PROCESSES, Errno::EAGAIN)?;
     let pipes = own.pipes(heap)?;
     changed_by(
         heap,

@@ -1,11 +1,13 @@
 // The plans of calls on files and pipes.
-ghost use Rattle.std.specs.Prelude.{◌≡◌, ◌<◌, ◌≤◌, ◌^◌, ◌+◌, [], ◌∷◌, length, take, IfOk, Some, None, ◌++◌, if◌then◌else◌};
+ghost use Rattle.std.specs.Prelude.{◌≡◌, ◌<◌, ◌≤◌, ◌^◌, ◌+◌, [], ◌∷◌, length, take};
+ghost use Rattle.std.specs.Prelude.{IfOk, Some, None, ◌++◌, if◌then◌else◌};
 ghost use Rattle.model.specs.Paths.{is_empty};
 ghost use Rattle.model.specs.Plan.{Give, ask, Fit};
 ghost use Rattle.model.specs.Walks.{Last};
 ghost use Rattle.model.specs.Changes.{Take, Set_offset, Put_bytes};
 ghost use Rattle.ids.specs.Flags.{is_truncating};
-ghost use Rattle.model.specs.Plans.{plan, changed, mode, opened, cut_to, read_some, read_pipe, write_some, place_to_write};
+ghost use Rattle.model.specs.Plans.{plan, changed, mode, opened, cut_to, read_some};
+ghost use Rattle.model.specs.Plans.{read_pipe, write_some, place_to_write};
 ghost use Rattle.model.specs.Calls.{Slot, Count, Bytes as Read_bytes, Open, Read, Write, Ftruncate};
 ghost use Rattle.calls.specs.Parts.{some_of_pipe, some_of_file, some_to_pipe, some_to_file};
 ghost use Rattle.look.specs.Asked.{Comes, Tells};

@@ -1,6 +1,8 @@
-//! What each call comes to in any state that can be looked at: its answer, its touches in order, and its edits.
+//! What each call comes to in any state that can be looked at: its answer, its touches in order,
+//! and its edits.
 //!
-//! Each plan is written once, as the definitions have it: a line for each question and for each test.
+//! Each plan is written once, as the definitions have it: a line for each question and for each
+//! test.
 #![tactic(auto)]
 
 mod asking;

@@ -112,7 +112,7 @@ fn mark(edit: &Edit, touches: &mut Touches) -> Result<(), AllocError>
     match edit {
         Edit::MakeDirectory(dir, name, _) => mark_entry(*dir, name, touches),
         Edit::MakeFile(dir, name, _) => mark_entry(*dir, name, touches),
-        Edit::UnnameDirectory(dir, name) => mark_entry(*dir, name, touches),
+        Edit::UnnameDirectory(dir, name, _) => mark_entry(*dir, name, touches),
         Edit::NameFile(dir, name, file) => mark_name(*dir, name, *file, touches),
         Edit::UnnameFile(dir, name, file) => mark_name(*dir, name, *file, touches),
         Edit::Move(dir, name, to, onto, _, replaced) => {

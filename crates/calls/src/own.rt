@@ -2,12 +2,13 @@
 ghost use Rattle.std.specs.Prelude.{◌≡◌, ◌==◌, ◌++◌, ◌∷◌, [], Some, IfOk, OnOk, if◌then◌else◌};
 ghost use Rattle.std.specs.Map.{lookup};
 ghost use Rattle.std.specs.List.{list_any, flat_map};
-ghost use Rattle.model.specs.Plans.{slot, slot_at, free, free_from, each_once, pipes_in, first_of_free, pipe_in, is_pipe};
+ghost use Rattle.model.specs.Plans.{descriptor_limit, slot, slot_at, free, free_from, each_once};
+ghost use Rattle.model.specs.Plans.{pipes_in, first_of_free, pipe_in, is_pipe};
 ghost use Rattle.model.specs.Calls.{own, Exit, Fork};
 ghost use Rattle.look.specs.Asked.{Tells};
 
 use heap::Heap;
-use ids::{Errno, Fd, Kind, Num, Nums, Pid, Refusal, Slot};
+use ids::{DESCRIPTORS, Errno, Fd, Kind, Num, Nums, Pid, Refusal, Slot};
 use look::Look;
 use std::alloc::AllocError;
 use std::marker::Model;
@@ -26,7 +27,12 @@ impl Model for Own {
 
     ghost Value = { Own };
 
-    ghost view = { λ o. record { root = o.root; pid = o.pid; table = o.table.items; birth = o.birth } };
+    ghost view = { λ o. record {
+      root = o.root;
+      pid = o.pid;
+      table = o.table.items;
+      birth = o.birth;
+    } };
 }
 
 // What a process sees of itself in every call but fork.
@@ -150,10 +156,10 @@ fn has(table: &[(Fd, Slot)], fd: Fd) -> bool
 }
 
 fn find_free(heap: Heap, table: &[(Fd, Slot)]) -> Result<Fds, AllocError>
-    ensures { IfOk result (λ fds. fds ≡ free_from table.now 0 64) }
+    ensures { IfOk result (λ fds. fds ≡ free_from table.now 0 descriptor_limit) }
 {
     let mut fds = Fds::new(heap);
-    for number in 0..64 {
+    for number in 0..DESCRIPTORS as u32 {
         add_if_free(&mut fds, table, Fd(number))?;
     }
     Ok(fds)

@@ -1,17 +1,20 @@
 // The plans of calls on paths.
 ghost use Rattle.std.specs.Prelude.{◌≡◌, ◌∷◌, [], ℕ, Some, true, false};
 ghost use Rattle.model.specs.Changes.{Move};
-ghost use Rattle.calls.specs.Parts.{place_at, last_at, emptied, without_names, file_named, link_paths, name_file, rename_paths, move_target, gives, replaced, replaced_over};
+ghost use Rattle.calls.specs.Parts.{place_at, last_at, empty_directory, without_names};
+ghost use Rattle.calls.specs.Parts.{file_named, link_paths, name_file, rename_paths};
+ghost use Rattle.calls.specs.Parts.{move_target, gives, replaced, replaced_over};
 ghost use Rattle.model.specs.Walks.{is_directory};
-ghost use Rattle.model.specs.Plans.{plan, changed, status, moved, replaced_by_name};
-ghost use Rattle.model.specs.Calls.{own, Done, Stat as Stat_path, Mkdir, Rmdir, List_directory, Link, Unlink, Rename};
+ghost use Rattle.model.specs.Plans.{plan, changed, unchanged, status, moved, replaced_by_name};
+ghost use Rattle.model.specs.Calls.{own, Done, Stated, Stat as Stat_path, Mkdir, Rmdir};
+ghost use Rattle.model.specs.Calls.{List_directory, Link, Unlink, Rename};
 ghost use Rattle.look.specs.Asked.{Comes, Tells};
 
-use crate::asking::{links, names, size};
+use crate::asking::{has_no_names, links, names, size};
 use crate::change::{Change, changed_by, unchanged};
 use crate::steps::{
-    absent, is_directory, is_same, must_be_directory_for, must_be_empty, must_be_no_directory_for,
-    must_not_be_directory, must_not_be_root, must_not_go_below, parsed,
+    absent, is_directory, is_same, must_be_directory_for, must_be_no_directory_for,
+    must_not_be_directory, must_not_be_root, must_not_go_below, parsed, refuse_if,
 };
 use heap::Heap;
 use ids::{Answer, Bytes, Edit, Errno, Kind, Num, Nums, Refusal, Stat};
@@ -46,35 +49,26 @@ fn status_of<L: Look>(
         Kind::File => {
             let size = size(look, num, touches)?;
             let links = links(look, num, touches)?;
-            unchanged(
-                touches.heap(),
-                Answer::Stat(Stat {
-                    kind: Kind::File,
-                    num,
-                    size,
-                    links,
-                }),
-            )
+            stated(touches.heap(), Kind::File, num, size, links)
         }
-        Kind::Dir => unchanged(
-            touches.heap(),
-            Answer::Stat(Stat {
-                kind: Kind::Dir,
-                num,
-                size: 0,
-                links: 1,
-            }),
-        ),
-        Kind::Pipe => unchanged(
-            touches.heap(),
-            Answer::Stat(Stat {
-                kind: Kind::Pipe,
-                num,
-                size: 0,
-                links: 0,
-            }),
-        ),
+        Kind::Dir => stated(touches.heap(), Kind::Dir, num, 0, 1),
+        Kind::Pipe => stated(touches.heap(), Kind::Pipe, num, 0, 0),
     }
+}
+
+fn stated(heap: Heap, kind: Kind, num: Num, size: u32, links: u32) -> Result<Change, Refusal>
+    ensures { Tells (unchanged
+        (Stated (record { kind = kind; num = num; size = size; links = links }))) result }
+{
+    unchanged(
+        heap,
+        Answer::Stat(Stat {
+            kind,
+            num,
+            size,
+            links,
+        }),
+    )
 }
 
 // One change, and no more to say.
@@ -151,31 +145,32 @@ pub(crate) fn rmdir<L: Look>(
         touches.old result touches.new }
 {
     let last = last_at(look, Errno::EBUSY, path, touches)?;
-    must_be_emptied(look, last.found(), touches)?;
+    let dir = empty_directory(look, last.found(), touches)?;
     done(
         touches.heap(),
-        Edit::UnnameDirectory(last.parent, last.name),
+        Edit::UnnameDirectory(last.parent, last.name, dir),
     )
 }
 
-// What goes has to be there, and an empty directory.
-fn must_be_emptied<L: Look>(
+// The directory whose name goes, which has to be there and empty.
+fn empty_directory<L: Look>(
     look: &L,
     found: Option<(Num, Option<Kind>)>,
     touches: &mut Touches,
-) -> Result<(), Refusal>
-    ensures { Comes (L.state look.now) (emptied found) touches.old result touches.new }
+) -> Result<Num, Refusal>
+    ensures { Comes (L.state look.now) (empty_directory found) touches.old result touches.new }
 {
     let what = or_refuse(Errno::ENOENT, found)?;
     must_be_directory(&what)?;
-    must_have_no_names(look, what.0, touches)
+    must_have_no_names(look, what.0, touches)?;
+    Ok(what.0)
 }
 
 fn must_have_no_names<L: Look>(look: &L, dir: Num, touches: &mut Touches) -> Result<(), Refusal>
     ensures { Comes (L.state look.now) (without_names dir) touches.old result touches.new }
 {
-    let entries = names(look, dir, touches)?;
-    must_be_empty(&entries)
+    let is_empty = has_no_names(look, dir, touches)?;
+    refuse_if(!is_empty, Errno::ENOTEMPTY)
 }
 
 pub(crate) fn list<L: Look>(

@@ -40,7 +40,8 @@ pub fn is_there(call: &Call) -> bool
     )
 }
 
-/// What a call of a process comes to in a state. It changes nothing; `AllocError` says that memory was refused.
+/// What a call of a process comes to in a state. It changes nothing; `AllocError` says that memory
+/// was refused.
 pub fn plan_of<L: Look>(heap: Heap, look: &L, pid: Pid, call: &Call) -> Result<Plan, AllocError>
     ensures { IfOk result (IsPlan (L.state look.now) pid call.now) }
 {

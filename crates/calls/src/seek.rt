@@ -10,7 +10,7 @@ use crate::change::{Change, changed_by};
 use crate::checks::must_not_be_pipe;
 use crate::own::{Own, slot};
 use heap::Heap;
-use ids::{Answer, Edit, Errno, Fd, Refusal, Slot, Whence};
+use ids::{Answer, Edit, Errno, Fd, LARGEST_FILE, Refusal, Slot, Whence};
 use look::Look;
 use walk::Touches;
 
@@ -63,7 +63,7 @@ fn place_of(place: u32, distance: i64) -> Option<u32>
     let sum = i128::from(place) + i128::from(distance);
     if sum < 0 {
         None
-    } else if sum > 1_048_576 {
+    } else if sum > LARGEST_FILE as i128 {
         None
     } else {
         Some(sum as u32)

@@ -1,13 +1,13 @@
 // Steps of plans that ask nothing.
 ghost use Rattle.std.specs.Prelude.{◌≡◌, ◌==◌, ◌&&◌, ◌||◌, not};
-ghost use Rattle.model.specs.Plan.{refuse_if, ENOTDIR, ENOTEMPTY, EBUSY, EINVAL, EISDIR};
+ghost use Rattle.model.specs.Plan.{refuse_if, ENOTDIR, EBUSY, EINVAL, EISDIR};
 ghost use Rattle.model.specs.Paths.{is_empty, is_below};
 ghost use Rattle.model.specs.Walks.{parsed, is_directory};
 ghost use Rattle.model.specs.Plans.{absent};
 ghost use Rattle.look.specs.Asked.{Tells};
 
 use heap::Heap;
-use ids::{Bytes, Errno, Kind, NameList, Num, Refusal};
+use ids::{Bytes, Errno, Kind, Num, Refusal};
 use path::Path;
 use walk::must_be_directory;
 
@@ -52,28 +52,14 @@ pub(crate) fn must_not_be_directory(
     }
 }
 
-// A directory that has to be empty.
-pub(crate) fn must_be_empty(names: &NameList) -> Result<(), Refusal>
-    ensures { Tells (refuse_if (not (is_empty names.now)) ENOTEMPTY) result }
-{
-    if names.as_slice().is_empty() {
-        Ok(())
-    } else {
-        Err(Refusal::Errno(Errno::ENOTEMPTY))
-    }
-}
-
 // The root is not renamed, and nothing to it.
 pub(crate) fn must_not_be_root(from: &Path, to: &Path) -> Result<(), Refusal>
     ensures { Tells (refuse_if (is_empty from.now || is_empty to.now) EBUSY) result }
 {
-    if from.components().is_empty() {
-        Err(Refusal::Errno(Errno::EBUSY))
-    } else if to.components().is_empty() {
-        Err(Refusal::Errno(Errno::EBUSY))
-    } else {
-        Ok(())
-    }
+    refuse_if(
+        from.components().is_empty() || to.components().is_empty(),
+        Errno::EBUSY,
+    )
 }
 
 // A directory does not move below itself.

@@ -7,23 +7,22 @@ use Rattle.std.proofs.lemmas.List.Sums.{sum_by-cons, sum_by_push}
 use Rattle.model.specs.Changes.{Edit}
 use Rattle.model.specs.Moments.{is_in}
 use Rattle.model.specs.Effects.{Effect}
-use Rattle.shadow.specs.Changes.{made_by}
 use Rattle.shadow.specs.Committed.{Committed}
 use Rattle.shadow.specs.Claims.{AreUnused, Claim, Number, Covers, KeepsMore, KeepsNothing, KeepsSame, claimed_by, claimed, reserved}
 use Rattle.commit.specs.Claims.{total, AreCovered}
-use Rattle.commit.specs.Edits.{AreNew, with_change}
-use Rattle.commit.specs.Views.{View, SameViews, Shows, absent, view_at, changes_in}
+use Rattle.commit.specs.Edits.{AreNew, with_change, made_by}
+use Rattle.commit.specs.Views.{View, SameViews, Shows, gone_slot, view_at, changes_in}
 
 -- sums over views
-sum_same : (f : View → ℕ) (old new : List View) → length new ≡ length old → ((q : ℕ) → f (get_or new q absent) ≡ f (get_or old q absent)) → sum_by f new ≡ sum_by f old
+sum_same : (f : View → ℕ) (old new : List View) → length new ≡ length old → ((q : ℕ) → f (get_or new q gone_slot) ≡ f (get_or old q gone_slot)) → sum_by f new ≡ sum_by f old
 sum_same f [] [] count same = refl
 sum_same f [] (y ∷ ys) count same = absurd (omega (arith, count))
 sum_same f (x ∷ xs) [] count same = absurd (omega (arith, count))
 sum_same f (x ∷ xs) (y ∷ ys) count same =
     sum_by-cons f y ys ∙ ap (λ n. n + sum_by f ys) (same 0) ∙ ap (λ n. f x + n) (sum_same f xs ys (omega (arith, count)) (λ q. same (suc q))) ∙ sym (sum_by-cons f x xs)
 
-sum_changed : (f : View → ℕ) (old new : List View) (p : ℕ) → length new ≡ length old → ((q : ℕ) → q ≢ p → f (get_or new q absent) ≡ f (get_or old q absent))
-    → sum_by f new + f (get_or old p absent) ≡ sum_by f old + f (get_or new p absent)
+sum_changed : (f : View → ℕ) (old new : List View) (p : ℕ) → length new ≡ length old → ((q : ℕ) → q ≢ p → f (get_or new q gone_slot) ≡ f (get_or old q gone_slot))
+    → sum_by f new + f (get_or old p gone_slot) ≡ sum_by f old + f (get_or new p gone_slot)
 sum_changed f [] [] p count same = refl
 sum_changed f [] (y ∷ ys) p count same = absurd (omega (arith, count))
 sum_changed f (x ∷ xs) [] p count same = absurd (omega (arith, count))
@@ -33,21 +32,21 @@ sum_changed f (x ∷ xs) (y ∷ ys) zero count same =
     let second : sum_by f (x ∷ xs) ≡ f x + sum_by f xs = sum_by-cons f x xs in
     omega (arith, first, second, rest)
 sum_changed f (x ∷ xs) (y ∷ ys) (suc p) count same =
-    let rest : sum_by f ys + f (get_or xs p absent) ≡ sum_by f xs + f (get_or ys p absent) = sum_changed f xs ys p (omega (arith, count)) (λ q differs. same (suc q) (λ h. differs (omega arith))) in
+    let rest : sum_by f ys + f (get_or xs p gone_slot) ≡ sum_by f xs + f (get_or ys p gone_slot) = sum_changed f xs ys p (omega (arith, count)) (λ q differs. same (suc q) (λ h. differs (omega arith))) in
     let here : f y ≡ f x = same 0 (λ h. absurd (omega arith)) in
     let first : sum_by f (y ∷ ys) ≡ f y + sum_by f ys = sum_by-cons f y ys in
     let second : sum_by f (x ∷ xs) ≡ f x + sum_by f xs = sum_by-cons f x xs in
     omega (arith, first, second, rest, here)
 
-one_of_sum : (f : View → ℕ) (xs : List View) (q : ℕ) → f absent ≡ 0 → f (get_or xs q absent) ≤ sum_by f xs
+one_of_sum : (f : View → ℕ) (xs : List View) (q : ℕ) → f gone_slot ≡ 0 → f (get_or xs q gone_slot) ≤ sum_by f xs
 one_of_sum f [] q none = omega (arith, none)
 one_of_sum f (x ∷ xs) zero none = let first : sum_by f (x ∷ xs) ≡ f x + sum_by f xs = sum_by-cons f x xs in omega (arith, first)
 one_of_sum f (x ∷ xs) (suc q) none =
     let first : sum_by f (x ∷ xs) ≡ f x + sum_by f xs = sum_by-cons f x xs in
-    let rest : f (get_or xs q absent) ≤ sum_by f xs = one_of_sum f xs q none in
+    let rest : f (get_or xs q gone_slot) ≤ sum_by f xs = one_of_sum f xs q none in
     omega (arith, first, rest)
 
-sum_none : (f : View → ℕ) (xs : List View) → ((q : ℕ) → f (get_or xs q absent) ≡ 0) → sum_by f xs ≡ 0
+sum_none : (f : View → ℕ) (xs : List View) → ((q : ℕ) → f (get_or xs q gone_slot) ≡ 0) → sum_by f xs ≡ 0
 sum_none f [] none = refl
 sum_none f (x ∷ xs) none = sum_by-cons f x xs ∙ ap (λ n. n + sum_by f xs) (none 0) ∙ ap (λ n. 0 + n) (sum_none f xs (λ q. none (suc q)))
 

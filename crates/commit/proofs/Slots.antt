@@ -7,8 +7,8 @@ use Rattle.model.specs.Effects.{Effect}
 use Rattle.contention.specs.declared.Doomed.{Doomed}
 use Rattle.commit.specs.Edits.{with_change}
 use Rattle.commit.specs.Slots.{slot_view, views, slot_at, Sets, AreFirstSlots}
-use Rattle.commit.specs.Strikes.{strike, struck_by}
-use Rattle.commit.specs.Views.{View, absent, resting, open_view, struck, view_at, changes_in, is_open, Shows, SameViews, AreFirst}
+use Rattle.commit.specs.Dooming.{with_doom, with_dooms}
+use Rattle.commit.specs.Views.{View, gone_slot, idle_slot, live_slot, doomed_slot, view_at, changes_in, is_live_slot, Shows, SameViews, AreFirst}
 use Rattle.commit.specs.declared.slot.Slot.{Slot}
 use Rattle.commit.specs.declared.slot.Slot.TheVariants.{Gone}
 
@@ -49,25 +49,25 @@ pub first_views : (slots : List Slot) (count : ℕ) → AreFirstSlots slots coun
 first_views slots count first = record { none = at_is slots 0 ∙ first.none; made = λ q small. at_is slots (suc q) ∙ first.made q small }
 
 -- dooming one
-pub strikes : (old new : List Slot) (d : Doomed) → Sets old new d.pid (strike d (slot_at old d.pid)) → (q : ℕ) → view_at (views new) q ≡ struck_by (d ∷ []) q (view_at (views old) q)
-strikes old new d sets q = elim (cases_Bool (eqb q d.pid)) [
-  | inl is ↦ at_is new q ∙ subst (λ x. slot_at new x ≡ strike d (slot_at old x)) (sym (eqb-true q d.pid is)) sets.own ∙ ap (strike d) (sym (at_is old q))
-      ∙ sym (ap (λ b. cond b (strike d (view_at (views old) q)) (view_at (views old) q)) is)
-  | inr is ↦ at_is new q ∙ sets.others q (eqb-false q d.pid is) ∙ sym (at_is old q) ∙ sym (ap (λ b. cond b (strike d (view_at (views old) q)) (view_at (views old) q)) is)
+pub dooms : (old new : List Slot) (d : Doomed) → Sets old new d.pid (with_doom d (slot_at old d.pid)) → (q : ℕ) → view_at (views new) q ≡ with_dooms (d ∷ []) q (view_at (views old) q)
+dooms old new d sets q = elim (cases_Bool (eqb q d.pid)) [
+  | inl is ↦ at_is new q ∙ subst (λ x. slot_at new x ≡ with_doom d (slot_at old x)) (sym (eqb-true q d.pid is)) sets.own ∙ ap (with_doom d) (sym (at_is old q))
+      ∙ sym (ap (λ b. cond b (with_doom d (view_at (views old) q)) (view_at (views old) q)) is)
+  | inr is ↦ at_is new q ∙ sets.others q (eqb-false q d.pid is) ∙ sym (at_is old q) ∙ sym (ap (λ b. cond b (with_doom d (view_at (views old) q)) (view_at (views old) q)) is)
 ]
 
-pub nothing_left : (d : Doomed) (v : View) → changes_in (strike d v) ≡ []
-nothing_left d absent = refl
-nothing_left d resting = refl
-nothing_left d (open_view flags age changes) = refl
-nothing_left d (struck entry reply flags age) = refl
+pub nothing_left : (d : Doomed) (v : View) → changes_in (with_doom d v) ≡ []
+nothing_left d gone_slot = refl
+nothing_left d idle_slot = refl
+nothing_left d (live_slot flags age changes) = refl
+nothing_left d (doomed_slot entry reply flags age) = refl
 
 -- one change more
-pub open_push : (d : Effect) (v : View) → is_open v ≡ true → changes_in (with_change d v) ≡ changes_in v ++ d ∷ []
-open_push d (open_view flags age changes) live = refl
-open_push d absent live = absurd (false≢true live)
-open_push d resting live = absurd (false≢true live)
-open_push d (struck entry reply flags age) live = absurd (false≢true live)
+pub live_push : (d : Effect) (v : View) → is_live_slot v ≡ true → changes_in (with_change d v) ≡ changes_in v ++ d ∷ []
+live_push d (live_slot flags age changes) live = refl
+live_push d gone_slot live = absurd (false≢true live)
+live_push d idle_slot live = absurd (false≢true live)
+live_push d (doomed_slot entry reply flags age) live = absurd (false≢true live)
 
 -- the first slots have no changes
 pub none_changed : (slots : List Slot) (count : ℕ) → length slots ≡ suc count → AreFirstSlots slots count → (q : ℕ) → changes_in (view_at (views slots) q) ≡ []

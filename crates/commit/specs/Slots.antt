@@ -1,15 +1,15 @@
 -- What the slots of the processes show.
 use Rattle.std.specs.Prelude.{◌≡◌, ◌≢◌, ℕ, suc, ◌<◌, List, get_or, length, map}
-use Rattle.commit.specs.Views.{View, absent, resting, open_view, struck}
+use Rattle.commit.specs.Views.{View, gone_slot, idle_slot, live_slot, doomed_slot}
 use Rattle.commit.specs.declared.slot.Slot.{Slot}
 use Rattle.commit.specs.declared.slot.Slot.TheVariants.{Gone, Idle, Live, Doomed}
 
 -- what a slot shows
 abbrev pub slot_view : Slot → View
-slot_view Gone = absent
-slot_view Idle = resting
-slot_view (Live t) = open_view t.flags t.age t.shadow
-slot_view (Doomed d) = struck d.entry d.reply d.flags d.age
+slot_view Gone = gone_slot
+slot_view Idle = idle_slot
+slot_view (Live t) = live_slot t.flags t.age t.shadow
+slot_view (Doomed d) = doomed_slot d.entry d.reply d.flags d.age
 
 abbrev pub views : List Slot → List View
 views slots = map slot_view slots
@@ -25,5 +25,5 @@ pub record Sets (old new : List Slot) (pid : ℕ) (v : View) : Type 0 where
 
 -- the first slots: of no process, and then of so many idle ones
 pub record AreFirstSlots (slots : List Slot) (count : ℕ) : Type 0 where
-  pub none : slot_at slots 0 ≡ absent
-  pub made : (q : ℕ) → q < count → slot_at slots (suc q) ≡ resting
+  pub none : slot_at slots 0 ≡ gone_slot
+  pub made : (q : ℕ) → q < count → slot_at slots (suc q) ≡ idle_slot

@@ -1,15 +1,17 @@
 -- What each process's transaction is, as contracts see it.
-use Rattle.std.specs.Prelude.{◌≡◌, ◌≢◌, ◌<◌, ℕ, suc, Bool, true, false, List, [], get_or, length, Option, Some, None}
+use Rattle.std.specs.Prelude.{◌≡◌, ◌≢◌, ◌<◌, ℕ, suc, Bool, true, false, List, [], get_or, length}
+use Rattle.std.specs.Prelude.{Option, Some, None}
 use Rattle.model.specs.Entries.{BeginFlags, Cause}
 use Rattle.model.specs.Effects.{Effect}
 use Rattle.shadow.specs.Committed.{Committed}
 
--- no process; one in no transaction; a live one's flags, age and changes; a doomed one's cause, for the entry and for the reply
+-- no process; one in no transaction; a live one's flags, age and changes; a doomed one's cause, for
+-- the entry and for the reply
 pub data View : Type 0 where
-  absent : View
-  resting : View
-  open_view : BeginFlags → ℕ → List Effect → View
-  struck : Cause → Cause → BeginFlags → ℕ → View
+  gone_slot : View
+  idle_slot : View
+  live_slot : BeginFlags → ℕ → List Effect → View
+  doomed_slot : Cause → Cause → BeginFlags → ℕ → View
 
 -- the view of each process, at its number, and what is committed
 pub record Shown : Type 0 where
@@ -18,35 +20,35 @@ pub record Shown : Type 0 where
 
 -- a number behind the last is no process
 abbrev pub view_at : List View → ℕ → View
-view_at views q = get_or views q absent
+view_at views q = get_or views q gone_slot
 
 -- the changes that a view has
 abbrev pub changes_in : View → List Effect
-changes_in absent = []
-changes_in resting = []
-changes_in (open_view flags age changes) = changes
-changes_in (struck entry reply flags age) = []
+changes_in gone_slot = []
+changes_in idle_slot = []
+changes_in (live_slot flags age changes) = changes
+changes_in (doomed_slot entry reply flags age) = []
 
 -- whether it is a live transaction's
-abbrev pub is_open : View → Bool
-is_open (open_view flags age changes) = true
-is_open absent = false
-is_open resting = false
-is_open (struck entry reply flags age) = false
+abbrev pub is_live_slot : View → Bool
+is_live_slot (live_slot flags age changes) = true
+is_live_slot gone_slot = false
+is_live_slot idle_slot = false
+is_live_slot (doomed_slot entry reply flags age) = false
 
 -- whether it is a transaction's, live or doomed, which holds a place of the history
 abbrev pub is_within : View → Bool
-is_within absent = false
-is_within resting = false
-is_within (open_view flags age changes) = true
-is_within (struck entry reply flags age) = true
+is_within gone_slot = false
+is_within idle_slot = false
+is_within (live_slot flags age changes) = true
+is_within (doomed_slot entry reply flags age) = true
 
 -- the causes of a doomed one
 abbrev pub causes_of : View → Option (Cause × Cause)
-causes_of (struck entry reply flags age) = Some (entry, reply)
-causes_of absent = None
-causes_of resting = None
-causes_of (open_view flags age changes) = None
+causes_of (doomed_slot entry reply flags age) = Some (entry, reply)
+causes_of gone_slot = None
+causes_of idle_slot = None
+causes_of (live_slot flags age changes) = None
 
 -- one process's view is this now, and the others' are as before
 pub record Shows (old new : List View) (pid : ℕ) (v : View) : Type 0 where
@@ -61,5 +63,5 @@ pub record SameViews (old new : List View) : Type 0 where
 
 -- the first views: of no process, and then of so many idle ones
 pub record AreFirst (views : List View) (count : ℕ) : Type 0 where
-  pub none : view_at views 0 ≡ absent
-  pub made : (q : ℕ) → q < count → view_at views (suc q) ≡ resting
+  pub none : view_at views 0 ≡ gone_slot
+  pub made : (q : ℕ) → q < count → view_at views (suc q) ≡ idle_slot

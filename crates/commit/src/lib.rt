@@ -1,7 +1,9 @@
-//! The transactions of all processes: they begin, change, end, abort and are doomed (TxOS, section 4).
+//! The transactions of all processes: they begin, change, end, abort and are doomed
+//! (TxOS, section 4).
 //!
-//! Each process has a slot, at its number. A live transaction's slot has the changes that it would commit, and what they need of the
-//! committed state is kept for them: so an end always succeeds, and no operation but a change takes memory.
+//! Each process has a slot, at its number. A live transaction's slot has the changes that it would
+//! commit, and what they need of the committed state is kept for them: so an end always succeeds,
+//! and no operation but a change takes memory.
 #![tactic(auto)]
 
 mod slot;

@@ -1,13 +1,16 @@
 // What is kept of each process.
-ghost use Rattle.std.specs.Prelude.{◌≡◌, ◌<◌, ◌≤◌, true, length, suc, is_some, option_map, IfOk, IfSome, OnErr};
+ghost use Rattle.ids.specs.declared.limits.TheConstants.{MAX_PROCESSES};
+ghost use Rattle.std.specs.Prelude.{◌≡◌, ◌<◌, ◌≤◌, true, length, suc, is_some, option_map, IfOk};
+ghost use Rattle.std.specs.Prelude.{IfSome, OnErr};
 ghost use Rattle.shadow.specs.Changes.{CanEdit, effect};
-ghost use Rattle.shadow.specs.Claims.{AreUnused, Covers, HaveParents, KeepsMore, KeepsSame, claimed, claimed_by};
+ghost use Rattle.shadow.specs.Claims.{AreUnused, Covers, HaveParents, KeepsMore, KeepsSame};
+ghost use Rattle.shadow.specs.Claims.{claimed, claimed_by};
 ghost use Rattle.shadow.specs.Looks as looks;
+ghost use Rattle.commit.specs.Dooming.{with_doom};
 ghost use Rattle.commit.specs.Edits.{with_change};
 ghost use Rattle.commit.specs.Slots.{AreFirstSlots, Sets, slot_at, slot_view};
-ghost use Rattle.commit.specs.Standings.{StandsSo};
-ghost use Rattle.commit.specs.Strikes.{strike};
-ghost use Rattle.commit.specs.Views.{causes_of, changes_in, is_open, is_within, resting};
+ghost use Rattle.commit.specs.Standings.{IsStandingOf};
+ghost use Rattle.commit.specs.Views.{causes_of, changes_in, idle_slot, is_live_slot, is_within};
 
 use contention::Doomed;
 use heap::Heap;
@@ -81,7 +84,7 @@ impl Slot {
 
     /// What the process is.
     pub fn standing(&self) -> Standing
-        ensures { StandsSo result (slot_view self.now) }
+        ensures { IsStandingOf result (slot_view self.now) }
     {
         match self {
             Slot::Gone => Standing::Gone,
@@ -94,7 +97,7 @@ impl Slot {
 
 /// A slot of no process, and behind it those of so many idle ones.
 pub fn first_slots(heap: Heap, count: usize) -> Result<Vec<Slot, Heap>, AllocError>
-    requires { count ≤ 4096 }
+    requires { count ≤ MAX_PROCESSES }
     ensures count { IfOk result (λ slots. length slots.items ≡ suc count) }
     ensures first { IfOk result (λ slots. AreFirstSlots slots.items count) }
 {
@@ -110,7 +113,7 @@ pub fn first_slots(heap: Heap, count: usize) -> Result<Vec<Slot, Heap>, AllocErr
 pub fn take_slot(slots: &mut Vec<Slot, Heap>, pid: Pid) -> Slot
     requires { pid < length slots.old.items }
     ensures taken { slot_view result ≡ slot_at slots.old.items pid }
-    ensures left { Sets slots.old.items slots.new.items pid resting }
+    ensures left { Sets slots.old.items slots.new.items pid idle_slot }
 {
     replace(&mut slots[pid.0 as usize], Slot::Idle)
 }
@@ -123,7 +126,8 @@ pub fn set_slot(slots: &mut Vec<Slot, Heap>, pid: Pid, slot: Slot)
     slots[pid.0 as usize] = slot;
 }
 
-/// Forgets what a slot's transaction has changed, and gives back what was kept for it. It takes no memory.
+/// Forgets what a slot's transaction has changed, and gives back what was kept for it. It takes no
+/// memory.
 pub fn drop_slot(slot: Slot, stable: &mut Stable)
     requires { Covers stable.old (changes_in (slot_view slot)) }
     ensures state { stable.new.state ≡ stable.old.state }
@@ -137,10 +141,11 @@ pub fn drop_slot(slot: Slot, stable: &mut Stable)
     }
 }
 
-/// The slot of a transaction that is doomed. Its changes are gone, and what was kept for them is given back.
-pub fn struck(slot: Slot, doomed: Doomed, stable: &mut Stable) -> Slot
+/// The slot of a transaction that is doomed. Its changes are gone, and what was kept for them is
+/// given back.
+pub fn doom_slot(slot: Slot, doomed: Doomed, stable: &mut Stable) -> Slot
     requires { Covers stable.old (changes_in (slot_view slot)) }
-    ensures slot { slot_view result ≡ strike doomed (slot_view slot) }
+    ensures slot { slot_view result ≡ with_doom doomed (slot_view slot) }
     ensures state { stable.new.state ≡ stable.old.state }
     ensures kept { KeepsMore stable.new stable.old (λ c. claimed c (changes_in (slot_view slot))) }
 {
@@ -189,9 +194,10 @@ pub fn causes_in(slot: Slot) -> Option<(Cause, Cause)>
 
 /// What a process's live transaction has changed, if it is in one.
 pub fn shadow_of(slots: &[Slot], pid: Pid) -> Option<&Shadow>
-    ensures changes { looks.changes_of (option_map (λ s. s.now) result) ≡ changes_in (slot_at slots.now pid) }
+    ensures changes { looks.changes_of (option_map (λ s. s.now) result)
+        ≡ changes_in (slot_at slots.now pid) }
     ensures value { IfSome result (λ s. s.now ≡ changes_in (slot_at slots.now pid)) }
-    ensures live { is_some result ≡ is_open (slot_at slots.now pid) }
+    ensures live { is_some result ≡ is_live_slot (slot_at slots.now pid) }
 {
     match slots.get(pid.0 as usize) {
         Some(Slot::Live(transaction)) => Some(&transaction.shadow),
@@ -202,7 +208,8 @@ pub fn shadow_of(slots: &[Slot], pid: Pid) -> Option<&Shadow>
     }
 }
 
-/// Adds a change to what a live process has changed, with new numbers, which are answered. Refused memory changes nothing.
+/// Adds a change to what a live process has changed, with new numbers, which are answered. Refused
+/// memory changes nothing.
 pub fn edit_slot(
     slots: &mut Vec<Slot, Heap>,
     stable: &mut Stable,
@@ -210,15 +217,18 @@ pub fn edit_slot(
     edits: Vec<Edit, Heap>,
 ) -> Result<Nums, AllocError>
     requires made { pid < length slots.old.items }
-    requires live { is_open (slot_at slots.old.items pid) ≡ true }
+    requires live { is_live_slot (slot_at slots.old.items pid) ≡ true }
     requires kinds { CanEdit edits.items }
     requires parents { HaveParents stable.old.reserves edits.items }
     requires covers { Covers stable.old (changes_in (slot_at slots.old.items pid)) }
-    ensures ok { IfOk result (λ chosen. Sets slots.old.items slots.new.items pid (with_change (effect chosen edits.entry.items) (slot_at slots.old.items pid))) }
+    ensures ok { IfOk result (λ chosen. Sets slots.old.items slots.new.items pid
+        (with_change (effect chosen edits.entry.items) (slot_at slots.old.items pid))) }
     ensures new { IfOk result (AreUnused stable.old edits.entry.items) }
-    ensures kept { IfOk result (λ chosen. KeepsMore stable.old stable.new (λ c. claimed_by c (effect chosen edits.entry.items))) }
+    ensures kept { IfOk result (λ chosen. KeepsMore stable.old stable.new
+        (λ c. claimed_by c (effect chosen edits.entry.items))) }
     ensures state { stable.new.state ≡ stable.old.state }
-    ensures err { OnErr result (Sets slots.old.items slots.new.items pid (slot_at slots.old.items pid)) }
+    ensures err { OnErr result (Sets slots.old.items slots.new.items pid
+        (slot_at slots.old.items pid)) }
     ensures same { OnErr result (KeepsSame stable.old stable.new) }
 {
     match &mut slots[pid.0 as usize] {

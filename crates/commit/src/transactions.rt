@@ -1,20 +1,25 @@
 // The transactions of all processes, and what is committed.
-ghost use Rattle.std.specs.Prelude.{◌≡◌, ◌<◌, ◌≤◌, ◌∷◌, [], ℕ, true, List, length, suc, is_some, count_by, IfOk, IfSome, OnErr};
+ghost use Rattle.ids.specs.declared.limits.TheConstants.{MAX_PROCESSES};
+ghost use Rattle.std.specs.Prelude.{◌≡◌, ◌<◌, ◌≤◌, ◌∷◌, [], ℕ, true, List, length, suc, is_some};
+ghost use Rattle.std.specs.Prelude.{count_by, IfOk, IfSome, OnErr};
 ghost use Rattle.model.specs.Changes.{all_applied, tidy};
 ghost use Rattle.model.specs.Effects.{all_done};
 ghost use Rattle.model.specs.Moments.{start};
 ghost use Rattle.shadow.specs.Changes.{CanEdit, effect};
 ghost use Rattle.shadow.specs.Claims.{HaveParents};
-ghost use Rattle.shadow.specs.Effects.{CanCommit, in_turn};
+ghost use Rattle.shadow.specs.Looks.{NamesAreInUse};
+ghost use Rattle.call_laws.specs.Fits.{FitsAll};
+ghost use Rattle.freeing_laws.specs.Sweep.{AllFit};
+ghost use Rattle.commit.specs.Dooming.{with_dooms};
 ghost use Rattle.commit.specs.Edits.{AreNew, with_change};
 ghost use Rattle.commit.specs.Slots.{slot_view};
-ghost use Rattle.commit.specs.Standings.{StandsSo};
-ghost use Rattle.commit.specs.Strikes.{struck_by};
-ghost use Rattle.commit.specs.Views.{AreFirst, SameViews, Shows, causes_of, changes_in, is_open, is_within, open_view, resting, view_at};
+ghost use Rattle.commit.specs.Standings.{IsStandingOf};
+ghost use Rattle.commit.specs.Views.{AreFirst, SameViews, Shows, causes_of, changes_in, idle_slot};
+ghost use Rattle.commit.specs.Views.{is_live_slot, is_within, live_slot, view_at};
 
 use crate::slot::{
-    Slot, Standing, Transaction, causes_in, drop_slot, edit_slot, first_slots, set_slot, shadow_in,
-    shadow_of, struck, take_slot,
+    Slot, Standing, Transaction, causes_in, doom_slot, drop_slot, edit_slot, first_slots, set_slot,
+    shadow_in, shadow_of, take_slot,
 };
 use contention::Doomed;
 use heap::Heap;
@@ -23,8 +28,8 @@ use shadow::{Shadow, Stable, View};
 use std::alloc::AllocError;
 use std::marker::Model;
 
-/// The transactions of all processes, and what is committed. A process's number is the place of its slot; the first slot is of no
-/// process.
+/// The transactions of all processes, and what is committed. A process's number is the place of its
+/// slot; the first slot is of no process.
 #[derive(Drop)]
 pub struct Transactions {
     heap: Heap,
@@ -48,9 +53,10 @@ impl Model for Transactions {
 }
 
 impl Transactions {
-    /// The empty root, and an idle process for each of these priorities, numbered from 1. Refused memory gives nothing.
+    /// The empty root, and an idle process for each of these priorities, numbered from 1. Refused
+    /// memory gives nothing.
     pub fn new(heap: Heap, priorities: &[Priority]) -> Result<Transactions, AllocError>
-        requires { length priorities.now ≤ 4096 }
+        requires { length priorities.now ≤ MAX_PROCESSES }
         ensures count { IfOk result (λ t. length t.slots ≡ suc (length priorities.now)) }
         ensures first { IfOk result (λ t. AreFirst t.slots (length priorities.now)) }
         ensures state { IfOk result (λ t. t.stable.state ≡ start 0 priorities.now) }
@@ -74,21 +80,35 @@ impl Transactions {
     /// What a process has changed in its live transaction, if it is in one.
     pub fn shadow(&self, pid: Pid) -> Option<&Shadow>
         ensures value { IfSome result (λ s. s.now ≡ changes_in (view_at self.now.slots pid)) }
-        ensures live { is_some result ≡ is_open (view_at self.now.slots pid) }
+        ensures live { is_some result ≡ is_live_slot (view_at self.now.slots pid) }
     {
         shadow_of(&self.slots, pid)
     }
 
     /// What a process sees: what is committed, with what its live transaction has changed on top.
     pub fn view(&self, pid: Pid) -> View<'_>
-        ensures { result ≡ record self.now.stable { state = all_done (changes_in (view_at self.now.slots pid)) self.now.stable.state } }
+        ensures { result ≡ record self.now.stable {
+          state = all_done (changes_in (view_at self.now.slots pid)) self.now.stable.state;
+        } }
     {
         View::new(&self.stable, shadow_of(&self.slots, pid))
     }
 
+    /// What names give in what a process sees is there or to come.
+    pub fn names_are_in_use(&self, pid: Pid)
+        ensures { NamesAreInUse (record self.now.stable {
+          state = all_done (changes_in (view_at self.now.slots pid)) self.now.stable.state;
+        }) }
+    {
+        match shadow_of(&self.slots, pid) {
+            None => self.stable.names_are_in_use(),
+            Some(shadow) => shadow.names_are_in_use(&self.stable),
+        }
+    }
+
     /// What a process is.
     pub fn standing(&self, pid: Pid) -> Standing
-        ensures { StandsSo result (view_at self.now.slots pid) }
+        ensures { IsStandingOf result (view_at self.now.slots pid) }
     {
         match self.slots.get(pid.0 as usize) {
             None => Standing::Gone,
@@ -103,10 +123,11 @@ impl Transactions {
         self.slots.iter().filter(|slot| slot.is_within()).count()
     }
 
-    /// A process's transaction begins, or begins anew: it has no changes. What was kept for those before is given back.
+    /// A process's transaction begins, or begins anew: it has no changes. What was kept for those
+    /// before is given back.
     pub fn begin(&mut self, pid: Pid, flags: BeginFlags, age: Age)
         requires { pid < length self.old.slots }
-        ensures slots { Shows self.old.slots self.new.slots pid (open_view flags age []) }
+        ensures slots { Shows self.old.slots self.new.slots pid (live_slot flags age []) }
         ensures state { self.new.stable.state ≡ self.old.stable.state }
     {
         let shadow = Shadow::new(self.heap);
@@ -116,7 +137,7 @@ impl Transactions {
     /// A process's transaction is gone. What was kept for its changes is given back.
     pub fn abort(&mut self, pid: Pid)
         requires { pid < length self.old.slots }
-        ensures slots { Shows self.old.slots self.new.slots pid resting }
+        ensures slots { Shows self.old.slots self.new.slots pid idle_slot }
         ensures state { self.new.stable.state ≡ self.old.stable.state }
     {
         self.set(pid, Slot::Idle);
@@ -134,52 +155,56 @@ impl Transactions {
         set_slot(&mut self.slots, pid, slot);
     }
 
-    /// A live transaction is doomed: its changes are gone at once, and what was kept for them is given back. Any other process's
-    /// slot stays as it is.
+    /// A live transaction is doomed: its changes are gone at once, and what was kept for them is
+    /// given back. Any other process's slot stays as it is.
     pub fn doom(&mut self, doomed: Doomed)
         requires { doomed.pid < length self.old.slots }
         ensures count { length self.new.slots ≡ length self.old.slots }
-        ensures slots { (q : ℕ) → view_at self.new.slots q ≡ struck_by (doomed ∷ []) q (view_at self.old.slots q) }
+        ensures slots { (q : ℕ) → view_at self.new.slots q
+            ≡ with_dooms (doomed ∷ []) q (view_at self.old.slots q) }
         ensures state { self.new.stable.state ≡ self.old.stable.state }
     {
         let pid = doomed.pid;
         let slot = take_slot(&mut self.slots, pid);
-        let doomed_slot = struck(slot, doomed, &mut self.stable);
-        set_slot(&mut self.slots, pid, doomed_slot);
+        let slot = doom_slot(slot, doomed, &mut self.stable);
+        set_slot(&mut self.slots, pid, slot);
     }
 
-    /// The causes of a doomed transaction, which is gone then. It is not for a live one, whose changes would be lost.
+    /// The causes of a doomed transaction, which is gone then. It is not for a live one, whose
+    /// changes would be lost.
     pub fn take_causes(&mut self, pid: Pid) -> Option<(Cause, Cause)>
         requires made { pid < length self.old.slots }
         requires unchanged { changes_in (view_at self.old.slots pid) ≡ [] }
         ensures causes { result ≡ causes_of (view_at self.old.slots pid) }
-        ensures slots { Shows self.old.slots self.new.slots pid resting }
+        ensures slots { Shows self.old.slots self.new.slots pid idle_slot }
         ensures stable { self.new.stable ≡ self.old.stable }
     {
         causes_in(take_slot(&mut self.slots, pid))
     }
 
-    /// A live transaction is committed: its changes are made in one step, and what nothing leads to then is freed. What was kept for
-    /// them is given back.
+    /// A live transaction is committed: its changes are made in one step, and what nothing leads to
+    /// then is freed. What was kept for them is given back.
     pub fn end(&mut self, pid: Pid)
         requires made { pid < length self.old.slots }
-        requires can { CanCommit self.old.stable.state (changes_in (view_at self.old.slots pid)) }
-        ensures slots { Shows self.old.slots self.new.slots pid resting }
-        ensures state { self.new.stable.state ≡ in_turn (changes_in (view_at self.old.slots pid)) self.old.stable.state }
+        requires fits { AllFit (changes_in (view_at self.old.slots pid)) self.old.stable.state }
+        ensures slots { Shows self.old.slots self.new.slots pid idle_slot }
+        ensures state { self.new.stable.state
+            ≡ tidy (all_done (changes_in (view_at self.old.slots pid)) self.old.stable.state) }
     {
         let slot = take_slot(&mut self.slots, pid);
         shadow_in(self.heap, slot).commit_into(&mut self.stable);
     }
 
-    /// A live transaction changes one thing more, with new numbers, which are answered. What it needs to be committed is kept for
-    /// it. Refused memory changes nothing.
+    /// A live transaction changes one thing more, with new numbers, which are answered. What it
+    /// needs to be committed is kept for it. Refused memory changes nothing.
     pub fn edit(&mut self, pid: Pid, edits: Vec<Edit, Heap>) -> Result<Nums, AllocError>
         requires made { pid < length self.old.slots }
-        requires live { is_open (view_at self.old.slots pid) ≡ true }
+        requires live { is_live_slot (view_at self.old.slots pid) ≡ true }
         requires kinds { CanEdit edits.items }
         requires parents { HaveParents self.old.stable.reserves edits.items }
         ensures new { IfOk result (AreNew self.old edits.entry.items) }
-        ensures slots { IfOk result (λ chosen. Shows self.old.slots self.new.slots pid (with_change (effect chosen edits.entry.items) (view_at self.old.slots pid))) }
+        ensures slots { IfOk result (λ chosen. Shows self.old.slots self.new.slots pid
+            (with_change (effect chosen edits.entry.items) (view_at self.old.slots pid))) }
         ensures state { self.new.stable.state ≡ self.old.stable.state }
         ensures err { OnErr result (SameViews self.old.slots self.new.slots) }
     {
@@ -187,13 +212,16 @@ impl Transactions {
         Ok(chosen)
     }
 
-    /// A change is committed at once, with new numbers, which are answered. Refused memory changes nothing.
+    /// A change is committed at once, with new numbers, which are answered. Refused memory changes
+    /// nothing.
     pub fn apply(&mut self, edits: Vec<Edit, Heap>) -> Result<Nums, AllocError>
         requires kinds { CanEdit edits.items }
         requires parents { HaveParents self.old.stable.reserves edits.items }
-        requires can { (chosen : List ℕ) → AreNew self.old edits.items chosen → CanCommit self.old.stable.state (effect chosen edits.items ∷ []) }
+        requires fits { (chosen : List ℕ) → AreNew self.old edits.items chosen
+            → FitsAll chosen self.old.stable.state edits.items }
         ensures new { IfOk result (AreNew self.old edits.entry.items) }
-        ensures state { IfOk result (λ chosen. self.new.stable.state ≡ tidy (all_applied chosen edits.entry.items self.old.stable.state)) }
+        ensures state { IfOk result (λ chosen. self.new.stable.state
+            ≡ tidy (all_applied chosen edits.entry.items self.old.stable.state)) }
         ensures slots { SameViews self.old.slots self.new.slots }
         ensures err { OnErr result (self.new.stable.state ≡ self.old.stable.state) }
     {

@@ -56,8 +56,8 @@ lesser_by x y z false true e f = simp (e, f)
 lesser_by x y z false false e f = simp (e, f, not_lt_trans z y x f e)
 
 -- the least of three names, taken from the left or from the right
-pub with_name_assoc : (a b c : Option (List ℕ)) → with_name (with_name a b) c ≡ with_name a (with_name b c)
-with_name_assoc None b c = refl
-with_name_assoc (Some x) None c = refl
-with_name_assoc (Some x) (Some y) None = refl
-with_name_assoc (Some x) (Some y) (Some z) = ap Some (lesser_by x y z (name_lt y x) (name_lt z y) refl refl)
+pub least_assoc : (a b c : Option (List ℕ)) → with_name (with_name a b) c ≡ with_name a (with_name b c)
+least_assoc None b c = refl
+least_assoc (Some x) None c = refl
+least_assoc (Some x) (Some y) None = refl
+least_assoc (Some x) (Some y) (Some z) = ap Some (lesser_by x y z (name_lt y x) (name_lt z y) refl refl)

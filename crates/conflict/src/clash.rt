@@ -26,7 +26,8 @@ pub fn is_same_aspect(first: &Aspect, second: &Aspect) -> bool
 
 /// Whether the first reads the names of a directory and the second writes an entry of it.
 fn reads_names_written(first: &Touch, second: &Touch) -> bool
-    ensures { result ≡ names_against first.now.aspect first.now.write second.now.aspect second.now.write }
+    ensures { result
+        ≡ names_against first.now.aspect first.now.write second.now.aspect second.now.write }
 {
     match (&first.aspect, &second.aspect) {
         (Aspect::Names(d), Aspect::Entry(e, _)) => !first.write && second.write && d == e,
@@ -34,8 +35,8 @@ fn reads_names_written(first: &Touch, second: &Touch) -> bool
     }
 }
 
-/// Whether two touches of different processes clash: both are on one aspect and one of them is a write, or one reads the names
-/// of a directory and the other writes an entry of it.
+/// Whether two touches of different processes clash: both are on one aspect and one of them is a
+/// write, or one reads the names of a directory and the other writes an entry of it.
 pub fn do_clash(first: &Touch, second: &Touch) -> bool
     ensures { result ≡ clash first.now second.now }
 {
@@ -58,7 +59,8 @@ pub fn any_clash_between(touches: &[Touch], others: &[Touch]) -> bool
     touches.iter().any(|touch| clashes_with_any(touch, others))
 }
 
-/// The place, from 0, of the first of the touches that clashes with one of those of another process. `None` where none does.
+/// The place, from 0, of the first of the touches that clashes with one of those of another
+/// process. `None` where none does.
 pub fn first_clash(touches: &[Touch], others: &[Touch]) -> Option<usize>
     ensures { result ≡ position (λ t. clashes t others.now) touches.now }
 {

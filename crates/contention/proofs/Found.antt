@@ -4,8 +4,8 @@ use Rattle.std.proofs.lemmas.Bool.{cases_eq, cases_lt, and_parts, false≢true}
 use Rattle.model.specs.Steps.{Touch}
 use Rattle.model.specs.Clashes.{clashes, any_clash}
 use Rattle.model.specs.Moments.{lowest_below, or_number}
-use Rattle.contention.specs.Holding.{Held, held_at}
-use Rattle.contention.specs.Judging.{IsNumbered, loses_to, is_hit}
+use Rattle.contention.specs.Contenders.{Contender, contender_at}
+use Rattle.contention.specs.Policy.{IsNumbered, loses_to_process, clashes_with_process}
 
 -- the lowest number that passes a test, found from below
 pub lowest_found : (p : ℕ → Bool) (n q : ℕ) → lowest_below p q ≡ None → p q ≡ true → q < n → lowest_below p n ≡ Some q
@@ -27,14 +27,14 @@ by_one : (t : Touch) (us : List Touch) → us ≡ [] → clashes t us ≡ true �
 by_one t us e h = false≢true (ap (clashes t) (sym e) ∙ h)
 
 -- who touches something has a number that a `Pid` can have
-pub hit_within : (all : List Held) (pid : ℕ) (ts : List Touch) (q : ℕ) → IsNumbered all → is_hit all pid ts q ≡ true → q < 2 ^ 32
-hit_within all pid ts q numbered h = elim (cases_lt q (2 ^ 32)) [
+pub clash_within : (all : List Contender) (pid : ℕ) (ts : List Touch) (q : ℕ) → IsNumbered all → clashes_with_process all pid ts q ≡ true → q < 2 ^ 32
+clash_within all pid ts q numbered h = elim (cases_lt q (2 ^ 32)) [
   | inl below ↦ below
-  | inr above ↦ absurd (by_any ts (held_at all q).touches (numbered.beyond q above) (and_parts _ _ h).1)
+  | inr above ↦ absurd (by_any ts (contender_at all q).touches (numbered.beyond q above) (and_parts _ _ h).1)
 ]
 
-pub loses_within : (all : List Held) (pid : ℕ) (t : Touch) (q : ℕ) → IsNumbered all → loses_to all pid t q ≡ true → q < 2 ^ 32
+pub loses_within : (all : List Contender) (pid : ℕ) (t : Touch) (q : ℕ) → IsNumbered all → loses_to_process all pid t q ≡ true → q < 2 ^ 32
 loses_within all pid t q numbered h = elim (cases_lt q (2 ^ 32)) [
   | inl below ↦ below
-  | inr above ↦ absurd (by_one t (held_at all q).touches (numbered.beyond q above) (and_parts _ _ h).1)
+  | inr above ↦ absurd (by_one t (contender_at all q).touches (numbered.beyond q above) (and_parts _ _ h).1)
 ]

@@ -1,3 +1,3 @@
-pub mod Holding
-pub mod Judging
+pub mod Contenders
+pub mod Policy
 pub mod Verdicts

@@ -1,6 +1,6 @@
 // What is kept of one process.
 ghost use Rattle.std.specs.Prelude.{◌≡◌, ◌++◌, OnErr, OnOk, Some, None, [], take};
-ghost use Rattle.contention.specs.Judging.{began_later, gives_way};
+ghost use Rattle.contention.specs.Policy.{began_later, loses_to};
 
 use heap::Heap;
 use ids::{Age, Priority, Touch};
@@ -16,9 +16,9 @@ pub struct Contender {
 }
 
 impl Model for Contender {
-    ghost use Rattle.contention.specs.Holding.{Held};
+    ghost use Rattle.contention.specs.Contenders.{Contender};
 
-    ghost Value = { Held };
+    ghost Value = { Contender };
 
     ghost view = { λ c. record {
       priority = c.priority;
@@ -55,7 +55,8 @@ impl Contender {
 
     /// Its transaction touches these too. Refused memory changes nothing.
     pub fn add(&mut self, touches: Vec<Touch, Heap>) -> Result<(), AllocError>
-        ensures ok { OnOk result (self.new ≡ record self.old { touches = self.old.touches ++ touches.entry.items }) }
+        ensures ok { OnOk result (self.new
+            ≡ record self.old { touches = self.old.touches ++ touches.entry.items }) }
         ensures err { OnErr result (self.new ≡ self.old) }
     {
         let mut touches = touches;
@@ -77,10 +78,10 @@ impl Contender {
         self.touches.clear();
     }
 
-    /// Whether it loses where it clashes with the other: the other has a higher priority, or the same one and both are live
-    /// and the other began first.
-    pub fn gives_way(&self, other: &Contender) -> bool
-        ensures { result ≡ gives_way self.now other.now }
+    /// Whether it loses where it clashes with the other: the other has a higher priority, or the
+    /// same one and both are live and the other began first.
+    pub fn loses_to(&self, other: &Contender) -> bool
+        ensures { result ≡ loses_to self.now other.now }
     {
         self.priority < other.priority
             || (self.priority == other.priority && is_later(self.age, other.age))

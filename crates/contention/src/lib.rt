@@ -1,19 +1,21 @@
-//! The contention manager: who loses where calls of different processes clash, and why (TxOS, section 4).
+//! The contention manager: who loses where calls of different processes clash, and why (TxOS,
+//! section 4).
 #![tactic(auto)]
 
-ghost use Rattle.std.specs.Prelude.{◌≡◌, ℕ, suc, ◌<◌, ◌++◌, [], length, take, get_or, Some, None, IfOk, OnErr, OnOk};
-ghost use Rattle.contention.specs.Holding.{Held, nobody, held_at, IsKept, Becomes};
-ghost use Rattle.contention.specs.Judging.{IsJudged};
+ghost use Rattle.std.specs.Prelude.{◌≡◌, ℕ, suc, ◌<◌, ◌++◌, [], length, take, get_or, Some, None};
+ghost use Rattle.std.specs.Prelude.{IfOk, OnErr, OnOk};
+ghost use Rattle.contention.specs.Contenders.{nobody, contender_at, AreContendersOf, SetsContender};
+ghost use Rattle.contention.specs.Policy.{IsVerdictAmong};
 ghost use Rattle.contention.specs.Verdicts.{IsVerdict};
 ghost use Rattle.model.specs.Moments.{Moment};
 
 mod contender;
-mod judge;
+mod policy;
 
 use contender::Contender;
 use heap::Heap;
 use ids::{Age, Cause, Pid, Priority, Touch};
-use judge::judge;
+use policy::verdict_for;
 use std::alloc::AllocError;
 use std::marker::Model;
 
@@ -45,10 +47,10 @@ pub struct Contenders {
 
 impl Model for Contenders {
     ghost use Rattle.std.specs.Prelude.{List};
-    ghost use Rattle.contention.specs.Holding.{Held};
-    ghost use Rattle.contention.specs.Judging.{IsNumbered};
+    ghost use Rattle.contention.specs.Contenders.{Contender};
+    ghost use Rattle.contention.specs.Policy.{IsNumbered};
 
-    ghost Value = { List Held };
+    ghost Value = { List Contender };
 
     ghost view = { λ c. c.all.items };
 
@@ -56,11 +58,14 @@ impl Model for Contenders {
 }
 
 impl Contenders {
-    /// A process for each of these priorities, numbered from 1, none in a transaction. Refused memory gives nothing.
+    /// A process for each of these priorities, numbered from 1, none in a transaction. Refused
+    /// memory gives nothing.
     pub fn new(heap: Heap, priorities: &[Priority]) -> Result<Contenders, AllocError>
         ensures count { IfOk result (λ c. length c ≡ suc (length priorities.now)) }
-        ensures first { IfOk result (λ c. held_at c 0 ≡ nobody) }
-        ensures each { IfOk result (λ c. (i : ℕ) → i < length priorities.now → held_at c (suc i) ≡ record { priority = get_or priorities.now i 0; age = None; touches = [] }) }
+        ensures first { IfOk result (λ c. contender_at c 0 ≡ nobody) }
+        ensures each { IfOk result (λ c. (i : ℕ) → i < length priorities.now
+            → contender_at c (suc i)
+            ≡ record { priority = get_or priorities.now i 0; age = None; touches = [] }) }
     {
         let mut all = Vec::new(heap);
         all.push(Contender::new(heap, Priority::new(0).unwrap()))?;
@@ -73,7 +78,8 @@ impl Contenders {
     /// A process's transaction begins at this age.
     pub fn begin(&mut self, pid: Pid, age: Age)
         requires { pid < length self.old }
-        ensures { Becomes self.old self.new pid (record (held_at self.old pid) { age = Some age }) }
+        ensures { SetsContender self.old self.new pid
+            (record (contender_at self.old pid) { age = Some age }) }
     {
         self.all[pid.0 as usize].begin(age);
     }
@@ -81,7 +87,9 @@ impl Contenders {
     /// A process's transaction touches these too. Refused memory changes nothing.
     pub fn add(&mut self, pid: Pid, touches: Vec<Touch, Heap>) -> Result<(), AllocError>
         requires { pid < length self.old }
-        ensures ok { OnOk result (Becomes self.old self.new pid (record (held_at self.old pid) { touches = (held_at self.old pid).touches ++ touches.entry.items })) }
+        ensures ok { let own = contender_at self.old pid in
+            OnOk result (SetsContender self.old self.new pid
+            (record own { touches = own.touches ++ touches.entry.items })) }
         ensures err { OnErr result (self.new ≡ self.old) }
     {
         self.all[pid.0 as usize].add(touches)
@@ -90,16 +98,18 @@ impl Contenders {
     /// How many touches a process's transaction has.
     pub fn count(&self, pid: Pid) -> usize
         requires { pid < length self.now }
-        ensures { result ≡ length (held_at self.now pid).touches }
+        ensures { result ≡ length (contender_at self.now pid).touches }
     {
         self.all[pid.0 as usize].touches().len()
     }
 
-    /// The touches of a process's transaction behind the first so many are forgotten, as before they were added. It takes no
-    /// memory.
+    /// The touches of a process's transaction behind the first so many are forgotten, as before
+    /// they were added. It takes no memory.
     pub fn keep_first(&mut self, pid: Pid, count: usize)
         requires { pid < length self.old }
-        ensures { Becomes self.old self.new pid (record (held_at self.old pid) { touches = take count (held_at self.old pid).touches }) }
+        ensures { let own = contender_at self.old pid in
+            SetsContender self.old self.new pid
+            (record own { touches = take count own.touches }) }
     {
         self.all[pid.0 as usize].keep_first(count);
     }
@@ -107,20 +117,23 @@ impl Contenders {
     /// A process's transaction ends: its age and touches are forgotten. It takes no memory.
     pub fn release(&mut self, pid: Pid)
         requires { pid < length self.old }
-        ensures { Becomes self.old self.new pid (record (held_at self.old pid) { age = None; touches = [] }) }
+        ensures { SetsContender self.old self.new pid
+            (record (contender_at self.old pid) { age = None; touches = [] }) }
     {
         self.all[pid.0 as usize].release();
     }
 
-    /// What a call of a process comes to that touches these: of a live process all that it touches, of an idle one what it
-    /// writes. It loses against a process of a higher priority, or of its own where both are live and the other began earlier.
-    /// So it is for every table; where the table is as a history has it, this is the verdict of the definitions. Refused memory
-    /// changes nothing.
+    /// What a call of a process comes to that touches these: of a live process all that it touches,
+    /// of an idle one what it writes. It loses against a process of a higher priority, or of its
+    /// own where both are live and the other began earlier. So it is for every table; where the
+    /// table is as a history has it, this is the verdict of the definitions. Refused memory changes
+    /// nothing.
     pub fn verdict(&self, heap: Heap, pid: Pid, touches: &[Touch]) -> Result<Verdict, AllocError>
         requires { pid < length self.now }
-        ensures exact { IfOk result (IsJudged self.now pid touches.now) }
-        ensures verdict { (m : Moment) → IsKept m self.now → IfOk result (IsVerdict m pid touches.now) }
+        ensures exact { IfOk result (IsVerdictAmong self.now pid touches.now) }
+        ensures verdict { (m : Moment) → AreContendersOf m self.now
+            → IfOk result (IsVerdict m pid touches.now) }
     {
-        judge(heap, self.all.as_slice(), pid, touches)
+        verdict_for(heap, self.all.as_slice(), pid, touches)
     }
 }

@@ -1,8 +1,10 @@
 // Files, terminals and other devices of std, with their failures counted.
 ghost use Rattle.std.specs.Prelude.{◌≡◌, ◌<◌, IfOk, None, length};
 ghost use Rattle.std.specs.Io.{ReadsAtMost, WritesAtMost};
-ghost use Rattle.std.specs.Io.KnownBytes.{IsAtEnd, ReadConsumes, WriteAppends, append_known, prepend_known};
-ghost use Rattle.device.specs.Device.{CanCount, bytes_transferred, count_after, is_error, is_failure};
+ghost use Rattle.std.specs.Io.KnownBytes.{IsAtEnd, ReadConsumes};
+ghost use Rattle.std.specs.Io.KnownBytes.{WriteAppends, append_known, prepend_known};
+ghost use Rattle.device.specs.Device.{CanCount, bytes_transferred};
+ghost use Rattle.device.specs.Device.{count_after, is_error, is_failure};
 
 use crate::{DeviceFailed, Sink, Source};
 use std::io::{Read, Write};

@@ -16,8 +16,8 @@ pub trait Sink {
     /// How often a write has failed.
     ghost failures: { Self → ℕ };
 
-    /// Writes a beginning of the text, and returns how many bytes of it. To write none of a text that
-    /// is not empty is a failure too. A failure is counted, and writes nothing.
+    /// Writes a beginning of the text, and returns how many bytes of it. To write none of a text
+    /// that is not empty is a failure too. A failure is counted, and writes nothing.
     fn write(&mut self, text: &[u8]) -> Result<usize, DeviceFailed>
         requires { CanCount (failures self.old) }
         ensures bound { WritesAtMost result text.now }
@@ -37,7 +37,8 @@ impl<S: Sink> Sink for &mut S {
     }
 }
 
-/// Writes the whole text. Where the sink fails, which it counts, a beginning of the text is written.
+/// Writes the whole text. Where the sink fails, which it counts, a beginning of the text is
+/// written.
 pub fn write_all<S: Sink>(sink: &mut S, text: &[u8]) -> Result<(), DeviceFailed>
     requires { CanCount (S.failures sink.old) }
     ensures ok { OnOk result (S.written sink.new ≡ append_known (S.written sink.old) text.now) }

@@ -23,7 +23,8 @@ pub trait Source {
         ensures bound { ReadsAtMost result buffer.new }
         ensures bytes { remaining self.old
             ≡ prepend_known (bytes_transferred result buffer.new) (remaining self.new) }
-        ensures end { IfOk result (λ n. n ≡ 0 → 0 < length buffer.new → IsAtEnd (remaining self.new)) }
+        ensures end { IfOk result
+            (λ n. n ≡ 0 → 0 < length buffer.new → IsAtEnd (remaining self.new)) }
         ensures count { failures self.new ≡ count_after (failures self.old) (is_error result) };
 }
 

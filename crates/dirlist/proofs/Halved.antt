@@ -10,11 +10,11 @@ use Rattle.std.specs.List.Sorted.{IsNonDecreasingBy, IsBinarySearchResult, IsSea
 use Rattle.std.specs.FinMap.Entries.{is_sorted, below_all}
 use Rattle.dirlist.specs.Places.{rank, holds, IsPlaceOf, IsPlaceFor}
 
-both_parts : (a b : Bool) → (a && b) ≡ true → (a ≡ true) × (b ≡ true)
+pub both_parts : (a b : Bool) → (a && b) ≡ true → (a ≡ true) × (b ≡ true)
 both_parts true b h = (refl, h)
 both_parts false b h = absurd cc
 
-less_by : (o : Ordering) → is_lt o ≡ true → o ≡ Less
+pub less_by : (o : Ordering) → is_lt o ≡ true → o ≡ Less
 less_by Less h = refl
 less_by Equal h = absurd cc
 less_by Greater h = absurd cc
@@ -31,7 +31,7 @@ module _ {K : Type 0} {R : K → K → Ordering} (total : IsTotalOrder R) where
   index_by x y k less Equal e = let h : ordering_index (R x k) ≡ 0 = ap ordering_index (sym (alike_right total y k x e) ∙ less) in omega arith
   index_by x y k less Greater e = index_top (R x k)
 
-  turned_by : (x k : K) (o : Ordering) → R x k ≡ o → R k x ≡ ordering_reverse o
+  pub turned_by : (x k : K) (o : Ordering) → R x k ≡ o → R k x ≡ ordering_reverse o
   turned_by x k o e = total.antisymm k x ∙ ap ordering_reverse e
 
 module _ {K X : Type 0} {R : K → K → Ordering} (total : IsTotalOrder R) where

@@ -26,7 +26,7 @@ none_of : {X : Type 0} (o : Option X) → is_some o ≡ false → o ≡ None
 none_of None h = refl
 none_of (Some x) h = absurd cc
 
-as_test : (b : Bool) → IsTrue b → T b
+pub as_test : (b : Bool) → IsTrue b → T b
 as_test true h = tt
 as_test false h = absurd cc
 

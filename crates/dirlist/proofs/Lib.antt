@@ -1,3 +1,8 @@
-pub mod Names
-pub mod Halved
-pub mod Kept
+mod Names
+mod Halved
+mod Kept
+mod Around
+mod Merged
+mod Stepped
+mod Laid
+pub mod Laws

@@ -10,4 +10,6 @@ pub record Listing : Type 0 where
   pub promised : ℕ
 
 abbrev pub listing_code : Coded Listing
-listing_code = code_by (map.FinMap name_cmp ℕ × ℕ) (coded× (map.code (coded_list coded_ℕ) coded_ℕ) coded_ℕ) (λ d. (d.names, d.promised)) (λ p. record { names = p.0; promised = p.1 }) (λ _. refl)
+listing_code = code_by (map.FinMap name_cmp ℕ × ℕ)
+    (coded× (map.code (coded_list coded_ℕ) coded_ℕ) coded_ℕ)
+    (λ d. (d.names, d.promised)) (λ p. record { names = p.0; promised = p.1 }) (λ _. refl)

@@ -25,3 +25,13 @@ module _ {K X : Type 0} (R : K → K → Ordering) where
     pub absent : holds k es ≡ false
     pub place : at ≡ rank k es
     pub within : at ≤ length es
+
+  -- the entries before the place of this key
+  abbrev pub before : K → List (K × X) → List (K × X)
+  before k [] = []
+  before k (e ∷ es) = match_ordering (R k e.0) [] [] (e ∷ before k es)
+
+  -- the entries behind it
+  abbrev pub after : K → List (K × X) → List (K × X)
+  after k [] = []
+  after k (e ∷ es) = match_ordering (R k e.0) (e ∷ es) es (after k es)

@@ -1,21 +1,26 @@
-//! One directory: its names in byte order with the numbers that they give, and room that is promised to later additions.
+//! One directory: its names in byte order with the numbers that they give, and room that is
+//! promised to later additions.
 #![tactic(auto)]
 
-ghost use Rattle.std.specs.Prelude.{◌≡◌, ◌+◌, ◌<◌, ◌==◌, nat_lt, IfOk, MatchResult, OnOk, OnErr, IsTrue, None};
+ghost use Rattle.std.specs.Prelude.{◌≡◌, ◌+◌, ◌<◌, ◌==◌, nat_lt, IsTrue, None};
+ghost use Rattle.std.specs.Prelude.{IfOk, MatchResult, OnOk, OnErr};
 ghost use Rattle.model.specs.FiniteMap as map;
 ghost use Rattle.model.specs.State.{name_cmp};
 ghost use Rattle.dirlist.specs.Places.{IsPlaceOf, IsPlaceFor};
 
+mod patch;
+
 use heap::Heap;
 use ids::{Name, NameList, Num};
+pub use patch::Patch;
 use std::alloc::AllocError;
 use std::cmp::Ordering;
 use std::marker::Model;
 
 /// One directory's names, each with the number of the object that it gives.
 ///
-/// Room for additions can be promised: an addition in promised room takes no memory, and nothing but
-/// [`Dir::insert_promised`] and [`Dir::release`] uses that room up.
+/// Room for additions can be promised: an addition in promised room takes no memory, and nothing
+/// but [`Dir::insert_promised`] and [`Dir::release`] uses that room up.
 #[derive(Drop)]
 pub struct Dir {
     slots: Vec<(Name, Num), Heap>,
@@ -37,7 +42,8 @@ impl Model for Dir {
       promised = d.promised;
     } };
 
-    ghost invariant = { λ d. IsTrue (map.is_sorted name_cmp d.slots.items) × (vec_len d.slots + d.promised ≤ vec_capacity d.slots) };
+    ghost invariant = { λ d. IsTrue (map.is_sorted name_cmp d.slots.items)
+        × (vec_len d.slots + d.promised ≤ vec_capacity d.slots) };
 }
 
 impl Dir {
@@ -71,16 +77,6 @@ impl Dir {
             names.push(slot.0.try_clone()?)?;
         }
         Ok(NameList::new(names))
-    }
-
-    /// A copy of the names, with no room promised. Refused memory changes nothing.
-    pub fn copy(&self, heap: Heap) -> Result<Dir, AllocError>
-        ensures { IfOk result (λ d. d.names ≡ self.now.names) }
-    {
-        Ok(Dir {
-            slots: copy_slots(heap, self.slots.as_slice())?,
-            promised: 0,
-        })
     }
 
     /// How many names there are.
@@ -141,7 +137,8 @@ impl Dir {
     /// Adds a name, and leaves the room that is promised. Refused memory changes nothing.
     pub fn insert(&mut self, name: Name, num: Num) -> Result<(), AllocError>
         requires { map.get self.old.names name ≡ None }
-        ensures ok { OnOk result (self.new ≡ record self.old { names = map.insert self.old.names name num }) }
+        ensures ok { OnOk result
+            (self.new ≡ record self.old { names = map.insert self.old.names name num }) }
         ensures err { OnErr result (self.new ≡ self.old) }
     {
         self.promise()?;
@@ -149,7 +146,8 @@ impl Dir {
         Ok(())
     }
 
-    /// Takes a name away, and gives the number that it gave. It takes no memory, and leaves the room that is promised.
+    /// Takes a name away, and gives the number that it gave. It takes no memory, and leaves the
+    /// room that is promised.
     pub fn remove(&mut self, name: &Name) -> Option<Num>
         ensures value { result ≡ map.get self.old.names name.now }
         ensures rest { self.new ≡ record self.old { names = map.remove self.old.names name.now } }
@@ -164,20 +162,11 @@ impl Dir {
     }
 }
 
-fn copy_slots(heap: Heap, slots: &[(Name, Num)]) -> Result<Vec<(Name, Num), Heap>, AllocError>
-    ensures { IfOk result (λ copy. copy.items ≡ slots.now) }
-{
-    let mut copy = Vec::with_capacity(heap, slots.len())?;
-    for slot in slots {
-        copy.push((slot.0.try_clone()?, slot.1))?;
-    }
-    Ok(copy)
-}
-
 /// Where a name stands in a list whose names rise, or where it would, by halving.
 pub fn place<T>(slots: &[(Name, T)], name: &Name) -> Result<usize, usize>
     requires { IsTrue (map.is_sorted name_cmp slots.now) }
-    ensures { MatchResult result (IsPlaceOf name_cmp name.now slots.now) (IsPlaceFor name_cmp name.now slots.now) }
+    ensures { MatchResult result
+        (IsPlaceOf name_cmp name.now slots.now) (IsPlaceFor name_cmp name.now slots.now) }
 {
     slots.binary_search_by(|slot| compare(&slot.0, name))
 }

@@ -84,7 +84,8 @@ static RUNS: [(&str, Expected); 10] = [
             limit: 100,
             room: 1000,
             status: 0,
-            out: "1 P1 mkdir /a -> ok\n2 P1 mkdir /a/b -> ok\n3 P1 list /a -> names 1 b\n4 P1 rmdir /a/b -> ok\n5 P1 list /a -> names 0\n",
+            out: "1 P1 mkdir /a -> ok\n2 P1 mkdir /a/b -> ok\n3 P1 list /a -> names 1 b\n\
+                4 P1 rmdir /a/b -> ok\n5 P1 list /a -> names 0\n",
             err: "",
         },
     ),

@@ -244,7 +244,8 @@ static SCHEDULES: [(&str, &str); 13] = [
     ("4096", "schedule: process 4096 has no line left"),
     (
         "3,1",
-        "[(Pid(3), Call(Stat(Bytes { bytes: [47] }))), (Pid(1), Call(Stat(Bytes { bytes: [47] })))]",
+        "[(Pid(3), Call(Stat(Bytes { bytes: [47] }))), \
+        (Pid(1), Call(Stat(Bytes { bytes: [47] })))]",
     ),
     ("", "[]"),
 ];

@@ -247,8 +247,8 @@ fn long_entry(heap: Heap) -> Result<Entry, AllocError> {
     })
 }
 
-// Whether an entry's line is written whole to a sink that takes so many bytes, and how many the sink
-// gets.
+// Whether an entry's line is written whole to a sink that takes so many bytes, and how many the
+// sink gets.
 fn line_of(heap: Heap, entry: &Entry, room: usize) -> (bool, usize) {
     let mut sink = halting(heap, room);
     let printed = print_line(1, entry, &mut sink).is_ok();

@@ -7,8 +7,7 @@ use Rattle.std.proofs.lemmas.List.{get_or_past, get_or_read}
 use Rattle.std.specs.Cmp.{nat_cmp_total, tied_itself}
 use Rattle.model.specs.FiniteMap.{FinMap, get, contains_key, remove, from_entries, get-remove, same_map, nat_cmp-IsAntisymmetric}
 use Rattle.model.specs.Places.{placed}
-use Rattle.model.proofs.Inodes.{apart}
-use Rattle.model.proofs.Places.{get-placed}
+use Rattle.model.proofs.Laws.{apart, get-placed}
 use Rattle.fdtable.specs.Free.{free_from}
 
 abbrev pub Places : Type 0

@@ -6,16 +6,13 @@ ghost use Rattle.std.specs.Prelude.{◌≡◌, ◌+◌, ◌-◌, ◌<◌, ◌≤
 ghost use Rattle.model.specs.FiniteMap as map;
 ghost use Rattle.fdtable.specs.Free.{free, free_from, first_of, first_two};
 
-use ids::{Fd, Num};
+use ids::{DESCRIPTORS, Fd, Num};
 use std::marker::Model;
-
-/// How many descriptors a process has at most.
-pub const DESCRIPTORS: usize = 64;
 
 /// The open descriptors, with the numbers of their descriptions.
 #[derive(Drop)]
 pub struct FdTable {
-    slots: [Option<Num>; 64],
+    slots: [Option<Num>; DESCRIPTORS],
 }
 
 impl Model for FdTable {
@@ -24,6 +21,7 @@ impl Model for FdTable {
     ghost use Rattle.std.specs.Coded.{coded_ℕ};
     ghost use Rattle.model.specs.FiniteMap as map;
     ghost use Rattle.model.specs.Places.{placed};
+    ghost use Rattle.ids.specs.declared.limits.TheConstants.{DESCRIPTORS};
 
     ghost Value = { map.FinMap nat_cmp ℕ };
 
@@ -31,7 +29,7 @@ impl Model for FdTable {
 
     ghost view = { λ t. map.from_entries (placed 0 t.slots) };
 
-    ghost invariant = { λ t. length t.slots ≡ 64 };
+    ghost invariant = { λ t. length t.slots ≡ DESCRIPTORS };
 }
 
 impl FdTable {
@@ -39,15 +37,17 @@ impl FdTable {
     pub fn new() -> FdTable
         ensures { result ≡ map.empty }
     {
-        FdTable { slots: [None; 64] }
+        FdTable {
+            slots: [None; DESCRIPTORS],
+        }
     }
 
     /// The description of a descriptor, `None` where it is not open. Those above 63 never are.
     pub fn get(&self, fd: Fd) -> Option<Num>
         ensures value { result ≡ map.get self.now fd }
-        ensures small { IsSome result → fd < 64 }
+        ensures small { IsSome result → fd < DESCRIPTORS }
     {
-        if fd.0 < 64 {
+        if (fd.0 as usize) < DESCRIPTORS {
             self.slots[fd.0 as usize]
         } else {
             None
@@ -56,7 +56,7 @@ impl FdTable {
 
     /// Opens a descriptor on a description. It has to be one of 0 to 63.
     pub fn set(&mut self, fd: Fd, description: Num)
-        requires { fd < 64 }
+        requires { fd < DESCRIPTORS }
         ensures { self.new ≡ map.insert self.old fd description }
     {
         self.slots[fd.0 as usize] = Some(description);
@@ -66,19 +66,20 @@ impl FdTable {
     pub fn clear(&mut self, fd: Fd)
         ensures { self.new ≡ map.remove self.old fd }
     {
-        if fd.0 < 64 {
+        if (fd.0 as usize) < DESCRIPTORS {
             self.slots[fd.0 as usize] = None;
         }
     }
 
     // The lowest free descriptor from this one on.
     fn free_from(&self, first: u32) -> Option<Fd>
-        requires { first ≤ 64 }
-        ensures { MatchOption result (free_from self.now first (64 - first) ≡ []) (λ f.
-            (first ≤ f) × (f < 64)
-            × (free_from self.now first (64 - first) ≡ f ∷ free_from self.now (f + 1) (63 - f))) }
+        requires { first ≤ DESCRIPTORS }
+        ensures { MatchOption result (free_from self.now first (DESCRIPTORS - first) ≡ []) (λ f.
+            (first ≤ f) × (f < DESCRIPTORS)
+            × (free_from self.now first (DESCRIPTORS - first)
+            ≡ f ∷ free_from self.now (f + 1) (DESCRIPTORS - (f + 1)))) }
     {
-        for number in first..64 {
+        for number in first..DESCRIPTORS as u32 {
             if self.slots[number as usize].is_none() {
                 return Some(Fd(number));
             }
@@ -89,7 +90,7 @@ impl FdTable {
     /// The lowest free descriptor, `None` exactly where all of 0 to 63 are open.
     pub fn lowest(&self) -> Option<Fd>
         ensures value { result ≡ first_of (free self.now) }
-        ensures small { IfSome result (λ fd. fd < 64) }
+        ensures small { IfSome result (λ fd. fd < DESCRIPTORS) }
     {
         self.free_from(0)
     }
@@ -97,7 +98,7 @@ impl FdTable {
     /// The two lowest free descriptors, the lower one first; `None` exactly where fewer are free.
     pub fn two_lowest(&self) -> Option<(Fd, Fd)>
         ensures value { result ≡ first_two (free self.now) }
-        ensures small { IfSome result (λ pair. (pair.0 < pair.1) × (pair.1 < 64)) }
+        ensures small { IfSome result (λ pair. (pair.0 < pair.1) × (pair.1 < DESCRIPTORS)) }
     {
         let lower = self.free_from(0)?;
         let upper = self.free_from(lower.0 + 1)?;
@@ -108,7 +109,7 @@ impl FdTable {
     pub fn copy(&self) -> FdTable
         ensures { result ≡ self.now }
     {
-        let mut slots = [None; 64];
+        let mut slots = [None; DESCRIPTORS];
         slots.copy_from_slice(&self.slots);
         FdTable { slots }
     }

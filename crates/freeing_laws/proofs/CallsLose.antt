@@ -10,7 +10,7 @@ use Rattle.model.specs.Calls.{Call, Open, Close, Read, Write, Lseek, Ftruncate, 
 use Rattle.ids.specs.Flags.{is_reading, is_writing, is_creating, is_exclusive, is_truncating}
 use Rattle.model.specs.Plans.{Change, is_pipe, largest, status, slot, opened, cut_to, read_pipe, read_some, place_to_write, write_some, sought, base, replaced_by_name, moved, absent, duplicated, piped, forked, first_of_free, free, plan}
 use Rattle.model.specs.Steps.{edits, edits_of, outcome}
-use Rattle.call_laws.proofs.Rules.{after_bind, whatever, weaken, either_given}
+use Rattle.call_laws.proofs.Laws.{after_bind, whatever, weaken, either_given}
 use Rattle.freeing_laws.specs.Sweep.{nothing, lost_by, loses}
 
 pub loses_nothing : (k : Kernel) (e : Edit) → loses e ≡ false → lost_by k e ≡ nothing
@@ -26,7 +26,7 @@ loses_nothing k (Open_inode i inode how q f) lasts = refl
 loses_nothing k (Make_pipe i q f g) lasts = refl
 loses_nothing k (New_process child parent pipes) lasts = refl
 loses_nothing k (Unname_file d x n) lasts = absurd cc
-loses_nothing k (Unname_directory d x) lasts = absurd cc
+loses_nothing k (Unname_directory d x n) lasts = absurd cc
 loses_nothing k (Move d x e y n replaced) lasts = absurd cc
 loses_nothing k (Share_slot pid f d pipes) lasts = absurd cc
 loses_nothing k (Clear_slot pid f pipes) lasts = absurd cc

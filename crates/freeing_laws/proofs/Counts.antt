@@ -3,16 +3,9 @@ use Rattle.std.proofs.Common.{◌≡◌, ◌≢◌, ℕ, ◌+◌, ◌==◌, Bool
 use Rattle.model.specs.FiniteMap.{FinMap, get, empty, insert, remove, values}
 use Rattle.model.specs.State.{Name, name_cmp, A_directory, A_pipe, Kernel, Inode, File, Directory, Pipe, Description, Process, kind, names_of, file_of, pipe_of, kind_of, links, ends, is_end}
 use Rattle.model.specs.Changes.{Edit, Made, number, Make_directory, Make_file, Name_file, Unname_file, Unname_directory, Move, Put_bytes, Cut, Take, Append, Set_offset, Open_inode, Make_pipe, Share_slot, Clear_slot, New_process, End_process, Mode, to_read, to_write, applied, process_of, set_inode, set_name, clear_name, at_offset, at_start, open_at, set_offset, set_process, without_slot, sized, written, holders, openings}
-use Rattle.model.proofs.Inodes.{get_same, get_other}
+use Rattle.model.proofs.Laws.{get_same, get_other}
 use Rattle.call_laws.specs.Fits.{Fits, CanMove, CanPipe, IsUnused, table_of}
-use Rattle.call_laws.proofs.Names.{has_names, one, counted, links_named, links_unnamed}
-use Rattle.call_laws.proofs.NamesWell.{same_links}
-use Rattle.call_laws.proofs.NameEdits.{IsNew, is_new, kept_kind}
-use Rattle.call_laws.proofs.Contents.{HasBytes, has_bytes, no_names_file, no_names_pipe}
-use Rattle.call_laws.proofs.Coverage.{still_gives, other_old}
-use Rattle.call_laws.proofs.Offsets.{set_there, ends_unmoved}
-use Rattle.call_laws.proofs.SlotEdits.{with_tables, pipe_at, unused_after, free_after}
-use Rattle.call_laws.proofs.Ends.{counted as end_count, ends-open_at, without_process}
+use Rattle.call_laws.proofs.Laws.{has_names, one, counted, links_named, links_unnamed, same_links, IsNew, is_new, kept_kind, HasBytes, has_bytes, no_names_file, no_names_pipe, still_gives, other_old, set_there, ends_unmoved, with_tables, pipe_at, unused_after, free_after, end_count, ends-open_at, without_process}
 use Rattle.freeing_laws.specs.Counts.{times, listed, named, unnamed, opened, taken, let_go, ends_among, EditCounts}
 use Rattle.freeing_laws.proofs.Times.{times_one, times_cons, times_listed}
 use Rattle.freeing_laws.proofs.Slots.{ends_one, ends_two, holders_shared, holders_cleared, holders_forked, holders_ended, holders_opened, holders_moved, ends_shared, ends_cleared, ends_forked, ends_ended, openings_opened, openings_moved}
@@ -93,10 +86,10 @@ named_links k d x n is free m =
     let o : times m (n ∷ []) ≡ one n m = times_one m n in
     omega arith
 
-unnamed_links : (k : Kernel) (d : ℕ) (x : Name) → kind_of k d ≡ Some A_directory → (m : ℕ) → links (clear_name d x k) m + times m (listed (get (names_of k d) x)) ≡ links k m + times m []
-unnamed_links k d x is m =
-    let gone : links (clear_name d x k) m + counted m (get (names_of k d) x) ≡ links k m = links_unnamed k d x is m in
-    let o : times m (listed (get (names_of k d) x)) ≡ counted m (get (names_of k d) x) = times_listed m (get (names_of k d) x) in
+unnamed_links : (k : Kernel) (d : ℕ) (x : Name) (n : ℕ) → kind_of k d ≡ Some A_directory → get (names_of k d) x ≡ Some n → (m : ℕ) → links (clear_name d x k) m + times m (n ∷ []) ≡ links k m + times m []
+unnamed_links k d x n is gives m =
+    let gone : links (clear_name d x k) m + one n m ≡ links k m = ap (λ c. links (clear_name d x k) m + c) (sym (ap (counted m) gives)) ∙ links_unnamed k d x is m in
+    let o : times m (n ∷ []) ≡ one n m = times_one m n in
     omega arith
 
 moved_links : (k : Kernel) (d : ℕ) (x : Name) (e : ℕ) (y : Name) (n : ℕ) (replaced : List ℕ) → CanMove k d x e y n replaced → (m : ℕ) → links (set_name e y n (clear_name d x k)) m + times m (listed (get (names_of k e) y)) ≡ links k m + times m []
@@ -231,9 +224,8 @@ counts_change chosen k (Make_directory d x i) f = by_inodes chosen k (Make_direc
 counts_change chosen k (Make_file d x i) f = by_inodes chosen k (Make_file d x i) _ refl refl refl refl
     (made_links k d x (number chosen (Made i)) (File []) f.1.inode (is_new k _ (File []) f.1.inode refl refl refl) f.0.parent.directory f.0.free)
 counts_change chosen k (Name_file d x n) f = by_inodes chosen k (Name_file d x n) _ refl refl refl refl (named_links k d x n f.0.parent.directory f.0.free)
-counts_change chosen k (Unname_file d x n) f = by_inodes chosen k (Unname_file d x n) _ refl refl refl refl
-    (λ m. ap (λ o. links (clear_name d x k) m + times m (listed o)) (sym f.gives) ∙ unnamed_links k d x f.parent.directory m)
-counts_change chosen k (Unname_directory d x) f = by_inodes chosen k (Unname_directory d x) _ refl refl refl refl (unnamed_links k d x f.1.parent.directory)
+counts_change chosen k (Unname_file d x n) f = by_inodes chosen k (Unname_file d x n) _ refl refl refl refl (unnamed_links k d x n f.parent.directory f.gives)
+counts_change chosen k (Unname_directory d x n) f = by_inodes chosen k (Unname_directory d x n) _ refl refl refl refl (unnamed_links k d x n f.0.parent.directory f.0.gives)
 counts_change chosen k (Move d x e y n replaced) f = by_inodes chosen k (Move d x e y n replaced) _ refl refl refl refl (moved_links k d x e y n replaced f)
 counts_change chosen k (Put_bytes n place bytes before) f = by_inodes chosen k (Put_bytes n place bytes before) _ refl refl refl refl (bytes_links k n (File (written (file_of k n) place bytes)) (has_bytes k n _ (sym f.0) refl (no_names_file _ f.0)))
 counts_change chosen k (Cut n before after) f = by_inodes chosen k (Cut n before after) _ refl refl refl refl (bytes_links k n (File (sized after (file_of k n))) (has_bytes k n _ (sym f.0) refl (no_names_file _ f.0)))

@@ -2,16 +2,14 @@
 use Rattle.std.proofs.Common.{◌≡◌, ◌≢◌, ℕ, ◌+◌, ◌==◌, Bool, true, false, cond, ◌||◌, if◌then◌else◌, List, [], ◌∷◌, Option, Some, None, sum_by, refl, sym, ap, ◌∙◌, arith, ◌⊎◌, inl, inr, nat_cmp, nat_lt, lt-ltb, eq-eqb}
 use Rattle.std.specs.Cmp.{nat_cmp_total}
 use Rattle.std.specs.Cmp.Lexicographic.{nat_list_cmp_total}
-use Rattle.std.proofs.lemmas.Bool.{cases_eq}
+use Rattle.std.proofs.lemmas.Bool.{cases_eq, or_left, or_right}
 use Rattle.model.specs.FiniteMap.{FinMap, get, remove, retain_keys, values, same_map, nat_cmp-IsAntisymmetric}
 use Rattle.model.specs.State.{Name, name_cmp, Kernel, Inode, Description, names_of, names_of_inode, links}
 use Rattle.model.specs.Changes.{holders, openings, is_held, is_reached, without_descriptions, tidy}
-use Rattle.model.proofs.Sums.{weight, sum-remove}
-use Rattle.model.proofs.Inodes.{given_in, weighed}
-use Rattle.call_laws.proofs.Maps.{not_none, true_is_false, sum-zero, empty_gives, get_retained, removed_same, removed_other}
-use Rattle.call_laws.proofs.Reached.{reached, or_left, or_right}
+use Rattle.model.proofs.Laws.{weight, sum-remove, given_in, weighed}
+use Rattle.call_laws.proofs.Laws.{not_none, true_is_false, sum-zero, empty_gives, get_retained, removed_same, removed_other, reached}
 use Rattle.freeing_laws.specs.Counts.{free_description, free_inode}
-use Rattle.freeing_laws.specs.Sweep.{Lost, free_descriptions, free_inodes, swept}
+use Rattle.freeing_laws.specs.Sweep.{AreParented, Lost, free_descriptions, free_inodes, swept}
 use Rattle.freeing_laws.proofs.Times.{Has, has_rest}
 
 pub removed_none : {X : Type 0} (m : FinMap nat_cmp X) (n q : ℕ) → get m q ≡ None → get (remove m n) q ≡ None
@@ -53,17 +51,13 @@ unfolding free_description
 freeing_descriptions [] k = record { kept = k.descriptions; is = refl; held = λ d h. refl; gone = λ d h has. absurd (omega arith); none = λ d e. e }
 freeing_descriptions (d ∷ ds) k = one_description k d ds (free_descriptions ds (free_description d k)) (is_held k d) refl (freeing_descriptions ds (free_description d k))
 
--- what has a name in it has a name, or is the root
-abbrev pub HasParents : Kernel → Type 0
-HasParents k = (d : ℕ) (x : Name) (n : ℕ) → get (names_of k d) x ≡ Some n → links k d ≡ 0 → d ≡ k.root
-
 pub rooted_is_reached : (k : Kernel) (n : ℕ) → (links k n ≡ 0 → n ≡ k.root) → is_reached k n ≡ true
 rooted_is_reached k n h = elim (cases_eq (links k n) 0) [
   | inl none ↦ or_left (n == k.root) _ (eq-eqb n k.root (h none))
   | inr some ↦ or_right (n == k.root) _ (or_left (nat_lt 0 (links k n)) _ (lt-ltb 0 (links k n) (omega arith)))
 ]
 
-pub unreached_bare : (k : Kernel) (n : ℕ) → HasParents k → is_reached k n ≡ false → (x : Name) (m : ℕ) → get (names_of k n) x ≢ Some m
+pub unreached_bare : (k : Kernel) (n : ℕ) → AreParented k → is_reached k n ≡ false → (x : Name) (m : ℕ) → get (names_of k n) x ≢ Some m
 unreached_bare k n parents e x m is = true_is_false (sym (rooted_is_reached k n (parents n x m is)) ∙ e)
 
 abbrev pub without_inode : ℕ → Kernel → Kernel
@@ -90,7 +84,7 @@ pub record LeavesInodes (k : Kernel) (ns : List ℕ) (after : Kernel) : Type 0 w
   pub gone : (n : ℕ) → is_reached k n ≡ false → Has ns n → get kept n ≡ None
   pub none : (n : ℕ) → get k.inodes n ≡ None → get kept n ≡ None
 
-one_inode : (k : Kernel) (n : ℕ) (ns : List ℕ) (after : Kernel) → HasParents k → (b : Bool) → is_reached k n ≡ b → LeavesInodes (if b then k else without_inode n k) ns after → LeavesInodes k (n ∷ ns) after
+one_inode : (k : Kernel) (n : ℕ) (ns : List ℕ) (after : Kernel) → AreParented k → (b : Bool) → is_reached k n ≡ b → LeavesInodes (if b then k else without_inode n k) ns after → LeavesInodes k (n ∷ ns) after
 one_inode k n ns after parents true e rest = record {
   kept = rest.kept;
   is = rest.is;
@@ -111,14 +105,19 @@ one_inode k n ns after parents false e rest =
       none = λ q e. rest.none q (removed_none k.inodes n q e);
     }
 
-pub parents_left : (k : Kernel) (n : ℕ) → HasParents k → (b : Bool) → is_reached k n ≡ b → HasParents (if b then k else without_inode n k)
+pub parents_left : (k : Kernel) (n : ℕ) → AreParented k → (b : Bool) → is_reached k n ≡ b → AreParented (if b then k else without_inode n k)
 parents_left k n parents true e = parents
 parents_left k n parents false e = λ d x m is none. elim (cases_eq d n) [
   | inl same ↦ absurd (empty_gives name_cmp x m (sym (ap (λ o. get (names_of_inode o) x) (ap (get (remove k.inodes n)) same ∙ removed_same k.inodes n)) ∙ is))
   | inr away ↦ parents d x m (ap (λ o. get (names_of_inode o) x) (sym (removed_other k.inodes n d away)) ∙ is) (sym (removed_links k n (unreached_bare k n parents e) d) ∙ none)
 ]
 
-pub freeing_inodes : (ns : List ℕ) (k : Kernel) → HasParents k → LeavesInodes k ns (free_inodes ns k)
+-- what is freed leaves the others' names as they are
+pub parents_freed : (k : Kernel) (n : ℕ) → AreParented k → AreParented (free_inode n k)
+unfolding free_inode
+parents_freed k n parents = parents_left k n parents (is_reached k n) refl
+
+pub freeing_inodes : (ns : List ℕ) (k : Kernel) → AreParented k → LeavesInodes k ns (free_inodes ns k)
 unfolding free_inode
 freeing_inodes [] k parents = record { kept = k.inodes; is = refl; reached = λ n h. refl; gone = λ n h has. absurd (omega arith); none = λ n e. e }
 freeing_inodes (n ∷ ns) k parents = one_inode k n ns (free_inodes ns (free_inode n k)) parents (is_reached k n) refl (freeing_inodes ns (free_inode n k) (parents_left k n parents (is_reached k n) refl))
@@ -138,7 +137,7 @@ retained {X} m kept p stays goes none = same_map nat_cmp_total nat_cmp-IsAntisym
     within n false e (Some x) is = goes n e (λ no. not_none x (sym is ∙ no))
 
 -- to free these is to tidy
-pub covered_is_tidy : (lost : Lost) (k : Kernel) → HasParents k → Covers lost k → swept lost k ≡ tidy k
+pub covered_is_tidy : (lost : Lost) (k : Kernel) → AreParented k → Covers lost k → swept lost k ≡ tidy k
 unfolding tidy links
 covered_is_tidy lost k parents covers =
     let first : LeavesDescriptions k lost.descriptions (free_descriptions lost.descriptions k) = freeing_descriptions lost.descriptions k in

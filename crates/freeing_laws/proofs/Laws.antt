@@ -6,25 +6,20 @@ use Rattle.model.specs.Changes.{Unname_file, Unname_directory, Move, openings, i
 use Rattle.model.specs.FiniteMap.{get}
 use Rattle.model.specs.Steps.{edits}
 use Rattle.call_laws.specs.WellFormed.{CanBeOpened, WellFormed}
-use Rattle.call_laws.proofs.Maps.{sum-zero, all-mapped, get_retained}
-use Rattle.call_laws.proofs.Coverage.{not_counted}
-use Rattle.call_laws.proofs.Reached.{either_of, reached, get_tidy}
+use Rattle.call_laws.proofs.Laws.{sum-zero, all-mapped, get_retained, not_counted, either_of, reached, get_tidy, well_stays, all_well, well_tidy, nowhere_tidy, alike_tidied, tidied_alike, stays_alike, alive_tidy, fits, calls_are_lawful_lem}
 use Rattle.call_laws.specs.CallLaws.{IsReady, changed}
 use Rattle.call_laws.specs.Fits.{Fits, FitsAll}
-use Rattle.call_laws.proofs.Well.{well_stays, all_well}
-use Rattle.call_laws.proofs.Tidied.{well_tidy, nowhere_tidy}
-use Rattle.call_laws.proofs.Alike.{alike_tidied, tidied_alike, stays_alike}
-use Rattle.call_laws.proofs.Alive.{alive_tidy}
-use Rattle.call_laws.proofs.Laws.{fits, calls_are_lawful_lem}
 use Rattle.freeing_laws.specs.Counts.{named, unnamed, opened, EditCounts, times}
 use Rattle.model.specs.Effects.{Effect, all_done}
 use Rattle.freeing_laws.specs.Sweep.{loses, Lost, AllFit, lost_along, nothing, both, lost_by, all_lost, swept, freed, all_freed, FitsFreed, MadeCall, called, all_called, all_changed, AreReady, IsTidied, SweepIsTidy}
 use Rattle.freeing_laws.proofs.Times.{Has, times_append, has_left}
-use Rattle.freeing_laws.proofs.Freeing.{Covers, covered_is_tidy}
+use Rattle.freeing_laws.proofs.Freeing.{Covers, unreached_bare, parents_freed, covered_is_tidy}
 use Rattle.freeing_laws.proofs.Counts.{counts_change}
 use Rattle.freeing_laws.proofs.Losing.{edit_covers, edit_comes}
 use Rattle.freeing_laws.proofs.CallsLose.{OnlyLastLoses, loses_nothing, only_last}
 use Rattle.freeing_laws.proofs.Turns.{description_unseen, inode_unseen, turned_is_tidy}
+
+-- what the crates above cite besides
 
 -- longer lists cover too
 wider : (k : Kernel) (lost more : Lost) → ((d : ℕ) → Has lost.descriptions d → Has more.descriptions d) → ((n : ℕ) → Has lost.inodes n → Has more.inodes n) → Covers lost k → Covers more k
@@ -146,7 +141,7 @@ freed_call k c t ready =
 -- a directory that loses its name goes
 nothing_more : (chosen : List ℕ) (k : Kernel) (e : Edit) (n : ℕ) → 0 < times n (unnamed k e) → (times n (named chosen e) ≡ 0) × (times n (opened chosen e) ≡ 0)
 nothing_more chosen k (Unname_file d x m) n has = (refl, refl)
-nothing_more chosen k (Unname_directory d x) n has = (refl, refl)
+nothing_more chosen k (Unname_directory d x m) n has = (refl, refl)
 nothing_more chosen k (Move d x a y m replaced) n has = (refl, refl)
 nothing_more chosen k e n has = absurd (let some : 0 < times n [] = has in omega arith)
 
@@ -195,5 +190,9 @@ sweep_is_tidy_lem = record {
   calls = λ k cs t ready. along_calls cs k k t.well (sym t.tidied) ready;
   description_unseen = description_unseen;
   inode_unseen = λ k n well. inode_unseen k n well.parents;
+  well = effects_well;
+  parented = λ k well. well.parents;
+  bare = unreached_bare;
+  turn = parents_freed;
   stays = λ chosen k e t f. subst IsTidied (sym (one chosen k e t f)) (is_tidied (applied chosen e k) (well_stays chosen k e t.well f));
 }

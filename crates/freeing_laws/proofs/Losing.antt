@@ -1,16 +1,13 @@
 -- After an edit what nothing leads to is what nothing led to before it, or what it may have lost.
-use Rattle.std.proofs.Common.{◌≡◌, ◌≢◌, ℕ, ◌+◌, ◌<◌, ◌==◌, Bool, true, false, cond, List, [], ◌∷◌, Some, None, refl, sym, ap, subst, ◌∙◌, arith, ◌⊎◌, inl, inr, nat_cmp, nat_lt, lt-ltb, ltb-true, eqb-true}
+use Rattle.std.proofs.Common.{◌≡◌, ◌≢◌, ℕ, ◌+◌, ◌<◌, ◌==◌, true, cond, List, [], ◌∷◌, Some, None, refl, sym, ap, subst, ◌∙◌, arith, ◌⊎◌, inl, inr, nat_cmp, nat_lt, lt-ltb, ltb-true, eqb-true}
 use Rattle.std.specs.Cmp.{nat_cmp_total}
 use Rattle.std.proofs.lemmas.Bool.{cases_eq}
 use Rattle.model.specs.FiniteMap.{FinMap, get, empty, insert}
 use Rattle.model.specs.State.{Kind, A_directory, Kernel, Inode, File, Directory, Pipe, Description, Process, kind, mapped, kind_of, links}
 use Rattle.model.specs.Changes.{Edit, Made, number, Make_directory, Make_file, Name_file, Unname_file, Unname_directory, Move, Put_bytes, Cut, Take, Append, Set_offset, Open_inode, Make_pipe, Share_slot, Clear_slot, New_process, End_process, Mode, to_read, to_write, applied, set_inode, at_offset, at_start, open_at, holders, openings, is_held, without_descriptions}
-use Rattle.model.proofs.Inodes.{get_same, get_other}
+use Rattle.model.proofs.Laws.{get_same, get_other}
 use Rattle.call_laws.specs.Fits.{Fits}
-use Rattle.call_laws.proofs.Maps.{not_none, some_same, stays_inserted, retained_some, some_part, Part}
-use Rattle.call_laws.proofs.Offsets.{with_offset, set_there}
-use Rattle.call_laws.proofs.SlotEdits.{with_tables, pipe_at}
-use Rattle.call_laws.proofs.Reached.{reached, either_of, rooted_reached, open_reached}
+use Rattle.call_laws.proofs.Laws.{one_some, not_none, some_same, stays_inserted, retained_some, some_part, Part, with_offset, set_there, with_tables, pipe_at, reached, either_of, rooted_reached, open_reached}
 use Rattle.freeing_laws.specs.Counts.{times, named, unnamed, taken, let_go, EditCounts}
 use Rattle.freeing_laws.specs.Sweep.{Lost, both, inodes_of, lost_by}
 use Rattle.freeing_laws.proofs.Times.{Has, has_first, has_left, has_right, has_inode, fewer}
@@ -26,10 +23,6 @@ pub record Comes (k after : Kernel) : Type 0 where
 pub same_links : (k : Kernel) (n : ℕ) → links (without_descriptions k) n ≡ links k n
 unfolding links
 same_links k n = refl
-
-pub one_some : (b : Bool) → 0 < cond b 1 0 → b ≡ true
-one_some true h = refl
-one_some false h = absurd (omega arith)
 
 -- a description that is held and open on n
 pub record IsOpen (k : Kernel) (n : ℕ) : Type 0 where
@@ -188,7 +181,7 @@ edit_comes chosen k (Make_directory d x i) f counts = let n : ℕ = number chose
 edit_comes chosen k (Make_file d x i) f counts = let n : ℕ = number chosen (Made i) in made_comes k d n (File []) _ (there_by_kind k d A_directory f.0.parent.directory) (more_than _ (links k n) (times n (n ∷ [])) (counts.links n) (has_first n []))
 edit_comes chosen k (Name_file d x n) f counts = inode_comes k d _ (there_by_kind k d A_directory f.0.parent.directory)
 edit_comes chosen k (Unname_file d x n) f counts = inode_comes k d _ (there_by_kind k d A_directory f.parent.directory)
-edit_comes chosen k (Unname_directory d x) f counts = inode_comes k d _ (there_by_kind k d A_directory f.1.parent.directory)
+edit_comes chosen k (Unname_directory d x n) f counts = inode_comes k d _ (there_by_kind k d A_directory f.0.parent.directory)
 edit_comes chosen k (Move d x e y n replaced) f counts = moved_comes k d e _ _ (there_by_kind k d A_directory f.from.parent.directory) (there_by_kind k e A_directory f.onto.directory)
 edit_comes chosen k (Put_bytes n place bytes before) f counts = inode_comes k n _ (there_by_kind k n _ f.0)
 edit_comes chosen k (Cut n before after) f counts = inode_comes k n _ (there_by_kind k n _ f.0)

@@ -5,27 +5,22 @@ use Rattle.std.proofs.lemmas.List.Sums.{sum_by-cons}
 use Rattle.model.specs.FiniteMap.{FinMap, get, insert, remove, values, nat_cmp-IsAntisymmetric}
 use Rattle.model.specs.State.{Kernel, Description, Process, ends}
 use Rattle.model.specs.Changes.{Mode, process_of, with_slot, without_slot, set_process, set_description, at_start, at_offset, open_at, holders, openings}
-use Rattle.model.proofs.Sums.{weight, sum-insert, sum-remove}
+use Rattle.model.proofs.Laws.{weight, sum-insert, sum-remove}
 use Rattle.call_laws.specs.Fits.{table_of}
-use Rattle.call_laws.proofs.Maps.{sum-empty}
-use Rattle.call_laws.proofs.Names.{one}
-use Rattle.call_laws.proofs.Processes.{table_in}
-use Rattle.call_laws.proofs.Offsets.{with_offset}
-use Rattle.call_laws.proofs.Reached.{named_in, tables_weight}
-use Rattle.call_laws.proofs.Ends.{counted, held, without_process, ends-set_process, ends-without_process, held-insert, held-remove}
+use Rattle.call_laws.proofs.Laws.{sum-empty, one, table_in, with_offset, named_in, tables_weight, end_count, held, without_process, ends-set_process, ends-without_process, held-insert, held-remove}
 use Rattle.freeing_laws.specs.Counts.{times, listed, ends_among}
 use Rattle.freeing_laws.proofs.Times.{times_one, times_listed}
 
-pub ends_one : (k : Kernel) (p : ℕ) (mode : Description → Bool) (d : ℕ) → ends_among k p mode (d ∷ []) ≡ counted k p mode d
-ends_one k p mode d = let c : ends_among k p mode (d ∷ []) ≡ counted k p mode d + ends_among k p mode [] = sum_by-cons (counted k p mode) d [] in omega arith
+pub ends_one : (k : Kernel) (p : ℕ) (mode : Description → Bool) (d : ℕ) → ends_among k p mode (d ∷ []) ≡ end_count k p mode d
+ends_one k p mode d = let c : ends_among k p mode (d ∷ []) ≡ end_count k p mode d + ends_among k p mode [] = sum_by-cons (end_count k p mode) d [] in omega arith
 
-pub ends_two : (k : Kernel) (p : ℕ) (mode : Description → Bool) (d e : ℕ) → ends_among k p mode (d ∷ e ∷ []) ≡ counted k p mode d + counted k p mode e
+pub ends_two : (k : Kernel) (p : ℕ) (mode : Description → Bool) (d e : ℕ) → ends_among k p mode (d ∷ e ∷ []) ≡ end_count k p mode d + end_count k p mode e
 ends_two k p mode d e =
-    let c : ends_among k p mode (d ∷ e ∷ []) ≡ counted k p mode d + ends_among k p mode (e ∷ []) = sum_by-cons (counted k p mode) d (e ∷ []) in
-    let o : ends_among k p mode (e ∷ []) ≡ counted k p mode e = ends_one k p mode e in
+    let c : ends_among k p mode (d ∷ e ∷ []) ≡ end_count k p mode d + ends_among k p mode (e ∷ []) = sum_by-cons (end_count k p mode) d (e ∷ []) in
+    let o : ends_among k p mode (e ∷ []) ≡ end_count k p mode e = ends_one k p mode e in
     omega arith
 
-pub ends_listed : (k : Kernel) (p : ℕ) (mode : Description → Bool) (o : Option ℕ) → ends_among k p mode (listed o) ≡ weight (counted k p mode) o
+pub ends_listed : (k : Kernel) (p : ℕ) (mode : Description → Bool) (o : Option ℕ) → ends_among k p mode (listed o) ≡ weight (end_count k p mode) o
 ends_listed k p mode None = refl
 ends_listed k p mode (Some d) = ends_one k p mode d
 
@@ -71,22 +66,22 @@ holders_forked k child x e fresh =
 pub ends_shared : (k : Kernel) (q f d p : ℕ) (mode : Description → Bool) → ends (set_process q (with_slot f d (process_of k q)) k) p mode + ends_among k p mode (listed (get (table_of k q) f)) ≡ ends k p mode + ends_among k p mode (d ∷ [])
 ends_shared k q f d p mode =
     let moved : ends (set_process q (with_slot f d (process_of k q)) k) p mode + held k p mode (table_of k q) ≡ ends k p mode + held k p mode (insert (table_of k q) f d) = ends-set_process k q (with_slot f d (process_of k q)) p mode in
-    let put : held k p mode (insert (table_of k q) f d) + weight (counted k p mode) (get (table_of k q) f) ≡ held k p mode (table_of k q) + counted k p mode d = held-insert k p mode (table_of k q) f d in
-    let old : ends_among k p mode (listed (get (table_of k q) f)) ≡ weight (counted k p mode) (get (table_of k q) f) = ends_listed k p mode (get (table_of k q) f) in
-    let new : ends_among k p mode (d ∷ []) ≡ counted k p mode d = ends_one k p mode d in
+    let put : held k p mode (insert (table_of k q) f d) + weight (end_count k p mode) (get (table_of k q) f) ≡ held k p mode (table_of k q) + end_count k p mode d = held-insert k p mode (table_of k q) f d in
+    let old : ends_among k p mode (listed (get (table_of k q) f)) ≡ weight (end_count k p mode) (get (table_of k q) f) = ends_listed k p mode (get (table_of k q) f) in
+    let new : ends_among k p mode (d ∷ []) ≡ end_count k p mode d = ends_one k p mode d in
     omega arith
 
 pub ends_cleared : (k : Kernel) (q f p : ℕ) (mode : Description → Bool) → ends (set_process q (without_slot f (process_of k q)) k) p mode + ends_among k p mode (listed (get (table_of k q) f)) ≡ ends k p mode
 ends_cleared k q f p mode =
     let moved : ends (set_process q (without_slot f (process_of k q)) k) p mode + held k p mode (table_of k q) ≡ ends k p mode + held k p mode (remove (table_of k q) f) = ends-set_process k q (without_slot f (process_of k q)) p mode in
-    let gone : weight (counted k p mode) (get (table_of k q) f) + held k p mode (remove (table_of k q) f) ≡ held k p mode (table_of k q) = held-remove k p mode (table_of k q) f in
-    let old : ends_among k p mode (listed (get (table_of k q) f)) ≡ weight (counted k p mode) (get (table_of k q) f) = ends_listed k p mode (get (table_of k q) f) in
+    let gone : weight (end_count k p mode) (get (table_of k q) f) + held k p mode (remove (table_of k q) f) ≡ held k p mode (table_of k q) = held-remove k p mode (table_of k q) f in
+    let old : ends_among k p mode (listed (get (table_of k q) f)) ≡ weight (end_count k p mode) (get (table_of k q) f) = ends_listed k p mode (get (table_of k q) f) in
     omega arith
 
 pub ends_forked : (k : Kernel) (child : ℕ) (x : Process) (p : ℕ) (mode : Description → Bool) → get k.processes child ≡ None → ends (set_process child x k) p mode ≡ ends k p mode + ends_among k p mode (values x.table)
 ends_forked k child x p mode fresh =
     let moved : ends (set_process child x k) p mode + held k p mode (table_of k child) ≡ ends k p mode + held k p mode x.table = ends-set_process k child x p mode in
-    let none : held k p mode (table_of k child) ≡ 0 = ap (λ o. held k p mode (table_in o)) fresh ∙ sum-empty nat_cmp (counted k p mode) in
+    let none : held k p mode (table_of k child) ≡ 0 = ap (λ o. held k p mode (table_in o)) fresh ∙ sum-empty nat_cmp (end_count k p mode) in
     let all : ends_among k p mode (values x.table) ≡ held k p mode x.table = refl in
     omega arith
 

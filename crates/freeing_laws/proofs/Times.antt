@@ -4,8 +4,7 @@ use Rattle.std.proofs.lemmas.Bool.{cases_eq}
 use Rattle.std.proofs.lemmas.List.Sums.{sum_by-cons, sum_by-append}
 use Rattle.model.specs.FiniteMap.{get}
 use Rattle.model.specs.State.{Kernel, Description}
-use Rattle.call_laws.proofs.Names.{one, counted}
-use Rattle.call_laws.proofs.Coverage.{not_counted}
+use Rattle.call_laws.proofs.Laws.{one, counted, not_counted}
 use Rattle.freeing_laws.specs.Counts.{times, listed}
 use Rattle.freeing_laws.specs.Sweep.{inode_in, inodes_of}
 

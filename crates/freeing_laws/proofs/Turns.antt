@@ -1,21 +1,17 @@
 -- Objects freed one after the other, each by its own counts: what nothing leads to grows less, and tidying sees none of it.
 use Rattle.std.proofs.Common.{◌≡◌, ◌≢◌, ℕ, ◌+◌, ◌<◌, ◌==◌, Bool, true, false, cond, if◌then◌else◌, List, [], ◌∷◌, ◌++◌, Option, Some, None, refl, sym, ap, subst, ◌∙◌, arith, ◌⊎◌, inl, inr, nat_cmp, nat_lt, lt-ltb, ltb-true, eqb-true}
 use Rattle.std.specs.Cmp.{nat_cmp_total}
-use Rattle.std.proofs.lemmas.Bool.{cases_eq}
+use Rattle.std.proofs.lemmas.Bool.{cases_eq, or_left, or_right}
 use Rattle.model.specs.FiniteMap.{FinMap, get, remove, nat_cmp-IsAntisymmetric}
 use Rattle.model.specs.State.{Kernel, Description, links, ends, is_end}
 use Rattle.model.specs.Changes.{Edit, applied, holders, openings, is_held, is_reached, without_descriptions, or_new, tidy}
-use Rattle.model.proofs.Sums.{weight, sum-remove}
-use Rattle.call_laws.proofs.Maps.{not_none, true_is_false, some_part, Part, sum-alike, removed_same, removed_other}
-use Rattle.call_laws.proofs.Ends.{held, held-alike}
-use Rattle.call_laws.proofs.Names.{one}
-use Rattle.call_laws.proofs.Reached.{reached, either_of, or_left, or_right, held_by, rooted_reached, open_reached}
-use Rattle.call_laws.proofs.Alike.{alike_tidied}
+use Rattle.model.proofs.Laws.{weight, sum-remove}
+use Rattle.call_laws.proofs.Laws.{one_some, not_none, true_is_false, some_part, Part, sum-alike, removed_same, removed_other, held, held-alike, one, reached, either_of, held_by, rooted_reached, open_reached, alike_tidied}
 use Rattle.freeing_laws.specs.Counts.{times, opens, let_go, unnamed, named, free_description, free_inode, EditCounts, FreeingCounts}
-use Rattle.freeing_laws.specs.Sweep.{nothing, inode_in, free_inodes, closed, all_closed, freed_in_turn}
+use Rattle.freeing_laws.specs.Sweep.{AreParented, nothing, inode_in, free_inodes, closed, all_closed, freed_in_turn}
 use Rattle.freeing_laws.proofs.Times.{Has, has_rest, has_left, has_right, times_one, same_one, fewer}
-use Rattle.freeing_laws.proofs.Freeing.{HasParents, Covers, rooted_is_reached, unreached_bare, without_inode, removed_links, same_reached, parents_left, covered_is_tidy}
-use Rattle.freeing_laws.proofs.Losing.{Comes, IsOpen, opened_by, same_links, one_some, edit_covers}
+use Rattle.freeing_laws.proofs.Freeing.{Covers, rooted_is_reached, unreached_bare, without_inode, removed_links, same_reached, parents_left, covered_is_tidy}
+use Rattle.freeing_laws.proofs.Losing.{Comes, IsOpen, opened_by, same_links, edit_covers}
 
 abbrev without_description : ℕ → Kernel → Kernel
 without_description d k = record k { descriptions = remove k.descriptions d }
@@ -100,7 +96,7 @@ description_gone k d loose = alike_tidied k (without_description d k) (record {
   inodes = λ n _. refl;
 })
 
-inode_gone : (k : Kernel) (n : ℕ) → HasParents k → is_reached k n ≡ false → tidy (without_inode n k) ≡ tidy k
+inode_gone : (k : Kernel) (n : ℕ) → AreParented k → is_reached k n ≡ false → tidy (without_inode n k) ≡ tidy k
 inode_gone k n parents loose = alike_tidied k (without_inode n k) (record {
   root = refl;
   processes = refl;
@@ -113,7 +109,7 @@ inode_gone k n parents loose = alike_tidied k (without_inode n k) (record {
 pub description_unseen : (k : Kernel) (d : ℕ) → tidy (free_description d k) ≡ tidy k
 description_unseen k d = freed_description (λ s. tidy s ≡ tidy k) k d (λ _. refl) (description_gone k d)
 
-pub inode_unseen : (k : Kernel) (n : ℕ) → HasParents k → tidy (free_inode n k) ≡ tidy k
+pub inode_unseen : (k : Kernel) (n : ℕ) → AreParented k → tidy (free_inode n k) ≡ tidy k
 inode_unseen k n parents = freed_inode (λ s. tidy s ≡ tidy k) k n (λ _. refl) (inode_gone k n parents)
 
 -- no descriptor names what goes, so no end of a pipe goes
@@ -139,7 +135,7 @@ freeing_counts_lem = record {
 -- On the way to a tidied state: by the counts as they stand what nothing leads to is left to look at.
 pub record Waits (end : Kernel) (ds ns : List ℕ) (k : Kernel) : Type 0 where
   pub tidied : tidy k ≡ end
-  pub parents : HasParents k
+  pub parents : AreParented k
   pub descriptions : (d : ℕ) → get k.descriptions d ≢ None → (is_held k d ≡ true) ⊎ Has ds d
   pub inodes : (n : ℕ) → get k.inodes n ≢ None → (is_reached k n ≡ true) ⊎ Has ns n
 
@@ -247,7 +243,7 @@ done end k w =
     none_stands n has = absurd (let some : 0 < times n [] = has in omega arith)
 
 -- after an edit of a state where all is led to
-edit_waits : (chosen : List ℕ) (k : Kernel) (e : Edit) → EditCounts chosen k e → Comes k (applied chosen e k) → HasParents (applied chosen e k) → Covers nothing k → Waits (tidy (applied chosen e k)) (let_go k e) (unnamed k e) (applied chosen e k)
+edit_waits : (chosen : List ℕ) (k : Kernel) (e : Edit) → EditCounts chosen k e → Comes k (applied chosen e k) → AreParented (applied chosen e k) → Covers nothing k → Waits (tidy (applied chosen e k)) (let_go k e) (unnamed k e) (applied chosen e k)
 edit_waits chosen k e counts comes parents covers = record { tidied = refl; parents = parents; descriptions = (edit_covers chosen k e nothing counts comes covers).descriptions; inodes = kept }
   where
     after : Kernel
@@ -271,7 +267,7 @@ edit_waits chosen k e counts comes parents covers = record { tidied = refl; pare
       ]
     ]
 
-pub turned_is_tidy : (chosen : List ℕ) (k : Kernel) (e : Edit) → EditCounts chosen k e → Comes k (applied chosen e k) → HasParents (applied chosen e k) → Covers nothing k → freed_in_turn chosen e k ≡ tidy (applied chosen e k)
+pub turned_is_tidy : (chosen : List ℕ) (k : Kernel) (e : Edit) → EditCounts chosen k e → Comes k (applied chosen e k) → AreParented (applied chosen e k) → Covers nothing k → freed_in_turn chosen e k ≡ tidy (applied chosen e k)
 turned_is_tidy chosen k e counts comes parents covers =
     let end : Kernel = tidy (applied chosen e k) in
     let closing : Waits end [] (unnamed k e) (all_closed (let_go k e) (applied chosen e k)) = closed_waits end (let_go k e) (unnamed k e) (applied chosen e k) (edit_waits chosen k e counts comes parents covers) in

@@ -1,14 +1,16 @@
 //! Freeing by counts: to free an object at once when its last count falls to 0 is to tidy.
 //!
-//! The model tidies by looking at the whole state. Code that keeps the counts of names, openings, holders and ends looks only at
-//! the objects whose counts an edit lowered. `specs/Counts.antt` says by how much each edit changes each count, `specs/Sweep.antt`
-//! what is looked at and freed, and that this leaves what tidying leaves. There is no code: each contract is a law.
+//! The model tidies by looking at the whole state. Code that keeps the counts of names, openings,
+//! holders and ends looks only at the objects whose counts an edit lowered. `specs/Counts.antt`
+//! says by how much each edit changes each count, `specs/Sweep.antt` what is looked at and freed,
+//! and that this leaves what tidying leaves. There is no code: each contract is a law.
 #![tactic(auto)]
 
 ghost use Rattle.freeing_laws.specs.Counts.{CountsChange, FreeingCounts};
 ghost use Rattle.freeing_laws.specs.Sweep.{SweepIsTidy};
 
-/// Each edit changes the counts of names, holders, openings and ends by what it names, and by nothing else.
+/// Each edit changes the counts of names, holders, openings and
+/// ends by what it names, and by nothing else.
 pub fn counts_change()
     ensures { CountsChange }
 {}
@@ -18,7 +20,8 @@ pub fn freeing_counts()
     ensures { FreeingCounts }
 {}
 
-/// After one edit or many, of one call or of many, what tidying drops is among what the edits may have lost.
+/// After one edit or many, of one call or of many, what tidying
+/// drops is among what the edits may have lost.
 pub fn sweep_is_tidy()
     ensures { SweepIsTidy }
 {}

@@ -1,15 +1,17 @@
 //! The history of a kernel: the entries of all operations, in order, up to a limit.
 #![tactic(auto)]
 
-ghost use Rattle.std.specs.Prelude.{◌≡◌, ◌+◌, ◌<◌, ◌≤◌, ◌↔◌, IfOk, IsOk, IsErr, IfErr, OnOk, OnErr, [], ◌∷◌, ◌++◌, length};
+ghost use Rattle.std.specs.Prelude.{◌≡◌, ◌<◌, ◌≤◌, ◌↔◌, IfOk, IsErr, IfErr, OnOk, OnErr};
+ghost use Rattle.std.specs.Prelude.{[], ◌∷◌, ◌++◌, length};
 
 use heap::Heap;
 use ids::{Entry, Priority};
 use std::alloc::AllocError;
 use std::marker::Model;
 
-/// The entries so far, the priorities that the first processes have, and how many entries there may be. The memory of all
-/// places is taken when the history is made, so that an entry that has a place needs none.
+/// The entries so far, the priorities that the first processes have, and how many entries there
+/// may be. The memory of all places is taken when the history is made, so that an entry that has a
+/// place needs none.
 #[derive(Drop)]
 pub struct History {
     entries: Vec<Entry, Heap>,
@@ -46,11 +48,12 @@ impl History {
         })
     }
 
-    /// Adds an entry behind the others. It takes no memory; the entry is given back, and nothing has changed, exactly at the
-    /// limit.
+    /// Adds an entry behind the others. It takes no memory; the entry is given back, and nothing
+    /// has changed, exactly at the limit.
     pub fn push(&mut self, entry: Entry) -> Result<(), Entry>
         ensures exactly { IsErr result ↔ (self.old.limit ≤ length self.old.entries) }
-        ensures ok { OnOk result (self.new ≡ record self.old { entries = self.old.entries ++ entry ∷ [] }) }
+        ensures ok { OnOk result
+            (self.new ≡ record self.old { entries = self.old.entries ++ entry ∷ [] }) }
         ensures returned { IfErr result (λ e. e ≡ entry) }
         ensures unchanged { OnErr result (self.new ≡ self.old) }
     {

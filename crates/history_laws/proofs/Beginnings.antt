@@ -74,7 +74,7 @@ after_append : (m : Moment) (es fs : List Entry) → after_from m (es ++ fs) ≡
 after_append m [] fs = refl
 after_append m (e ∷ es) fs = after_append (next m e) es fs
 
-entries_after : (m : Moment) (es : List Entry) → (after_from m es).entries ≡ m.entries + length es
+pub entries_after : (m : Moment) (es : List Entry) → (after_from m es).entries ≡ m.entries + length es
 entries_after m [] = omega arith
 entries_after m (e ∷ es) = entries_after (next m e) es ∙ (let n = m.entries in omega arith)
 

@@ -1,7 +1,8 @@
--- A right entry keeps all steady; so along a legal history the lists run, the committed state is the run of the serial list, and the places suffice.
+-- A right entry keeps all steady. So along a legal history the lists run, the committed state is the
+-- run of the serial list, and the places suffice.
 use Rattle.std.proofs.Common.{◌≡◌, ℕ, zero, suc, ◌+◌, ◌≤◌, List, [], ◌∷◌, ◌++◌, Option, Some, None, Result, refl, sym, ◌∙◌, ap, subst, true, false, Bool, arith, leb-true}
-use Rattle.std.specs.Prelude.{if◌then◌else◌, not, ◌&&◌}
-use Rattle.std.proofs.lemmas.Bool.{false≢true}
+use Rattle.std.specs.Prelude.{if◌then◌else◌, not}
+use Rattle.std.proofs.lemmas.Bool.{and_parts, false≢true}
 use Rattle.model.specs.Plan.{Errno, ENOTSUP}
 use Rattle.model.specs.State.{Kernel}
 use Rattle.model.specs.Calls.{Call, Answer}
@@ -10,11 +11,11 @@ use Rattle.model.specs.Entries.{BeginFlags, Op, Do, Begin, End, Abort, Cause, Cl
 use Rattle.model.specs.Moments.{Status, gone, idle, live, doomed, Moment, status, bound, counted_touches, losing_cause, settled, with_call, own_next, next, holds_place, reserved, count_below, calls_of, run_by, plain_calls, after_from, at_start, after_list}
 use Rattle.model.specs.Legal.{Outcome, lost, restarts, Inside, RightAt, Right, LegalFrom, items, serial_from}
 use Rattle.call_laws.specs.CallLaws.{CallLaws}
-use Rattle.history_laws.proofs.Goes.{Goes, tidied_run}
-use Rattle.history_laws.proofs.Next.{phase_is, lists_run}
-use Rattle.history_laws.proofs.Steps.{answered, plain_goes}
-use Rattle.history_laws.proofs.Right.{sound_next}
-use Rattle.history_laws.proofs.Places.{one, Steady, placed_by, beyond_next}
+use Rattle.history_laws.proofs.lists.UntidiedRuns.{Goes, tidied_run}
+use Rattle.history_laws.proofs.entries.Moments.{phase_is, lists_run}
+use Rattle.history_laws.proofs.entries.ExecutedCalls.{answered, plain_goes}
+use Rattle.history_laws.proofs.entries.Soundness.{sound_next}
+use Rattle.history_laws.proofs.entries.Places.{one, Steady, placed_by, beyond_next}
 
 holds_with_call : (s : Status) (op : Op) (o : Option (Result Answer Errno)) (chosen : List ℕ) → holds_place (with_call s op o chosen) ≡ holds_place s
 holds_with_call (live flags age es) (Do call) (Some answer) chosen = refl
@@ -26,15 +27,11 @@ holds_with_call gone op o chosen = refl
 holds_with_call idle op o chosen = refl
 holds_with_call (doomed cause flags age) op o chosen = refl
 
-and_second : (a b : Bool) → (a && b) ≡ true → b ≡ true
-and_second true b h = h
-and_second false b h = absurd (false≢true h)
-
 restarts_free : (limit : ℕ) (m : Moment) (flags : BeginFlags) (op : Op) → restarts limit m flags op ≡ true → m.entries + reserved m + 1 ≤ limit
-restarts_free limit m flags (Abort no_restart) h = leb-true _ _ (and_second (not no_restart) _ (and_second _ _ h))
-restarts_free limit m flags (Do call) h = leb-true _ _ (and_second _ _ h)
-restarts_free limit m flags (Begin more) h = leb-true _ _ (and_second _ _ h)
-restarts_free limit m flags End h = leb-true _ _ (and_second _ _ h)
+restarts_free limit m flags (Abort no_restart) h = leb-true _ _ (and_parts (not no_restart) _ (and_parts _ _ h).1).1
+restarts_free limit m flags (Do call) h = leb-true _ _ (and_parts _ _ h).1
+restarts_free limit m flags (Begin more) h = leb-true _ _ (and_parts _ _ h).1
+restarts_free limit m flags End h = leb-true _ _ (and_parts _ _ h).1
 
 module _ (Well : Kernel → Type 0) (laws : CallLaws Well) (limit : ℕ) (m : Moment) (e : Entry) (right : Right limit m e) (s : Steady Well limit m) where
   have : m.entries + reserved m ≤ limit

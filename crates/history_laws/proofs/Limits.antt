@@ -13,16 +13,12 @@ use Rattle.model.specs.Calls.{OpenFlags, Call, Open, Close, Read, Write, Lseek, 
 use Rattle.model.specs.Plans.{Change, changed, unchanged, absent, status, slot, is_pipe, read_pipe, read_some, place_to_write, write_some, largest, base, sought, replaced_by_name, moved, free, first_of_free, duplicated, piped, opened, mode, cut_to}
 use Rattle.model.specs.Steps.{outcome, edits, edits_of, Step, Item, Run}
 use Rattle.model.specs.Moments.{start, after}
-use Rattle.call_laws.proofs.Maps.{get_retained}
-use Rattle.call_laws.proofs.Reached.{reached, get_tidy}
-use Rattle.call_laws.proofs.Blocks.{length-sized, length-written}
-use Rattle.call_laws.proofs.CallFits.{write_pipe, put_at}
-use Rattle.call_laws.proofs.Rules.{after_bind, whatever, allowed, either_given}
-use Rattle.model.proofs.Inodes.{get_same, get_other}
-use Rattle.history_laws.proofs.Premise.{FromCallLaws}
+use Rattle.call_laws.proofs.Laws.{get_retained, reached, get_tidy, write_pipe, put_at, after_bind, whatever, allowed, either_given}
+use Rattle.model.proofs.Laws.{length-sized, length-written, get_same, get_other}
+use Rattle.history_laws.proofs.FromCallLaws.{FromCallLaws}
 use Rattle.history_laws.specs.Limits.{most_processes, IsWithinLimits, LimitsAreKept}
 use Rattle.history_laws.proofs.Beginnings.{legality_follows}
-use Rattle.history_laws.proofs.Headlines.{serial_is}
+use Rattle.history_laws.proofs.Histories.{serial_is}
 
 -- what keeps a state within the limits: new inodes, new descriptions, new processes
 set_within : (k : Kernel) (n : ℕ) (inode : Inode) → length (file_of_inode (Some inode)) ≤ largest → length (pipe_of_inode (Some inode)) ≤ capacity → IsWithinLimits k → IsWithinLimits (set_inode n inode k)
@@ -83,7 +79,7 @@ edit_within chosen k (Make_file d x i) w h =
     names_within made d (insert (names_of made d) x (number chosen (Made i))) (set_within k (number chosen (Made i)) (File []) (omega arith) (omega arith) w)
 edit_within chosen k (Name_file d x n) w h = names_within k d (insert (names_of k d) x n) w
 edit_within chosen k (Unname_file d x n) w h = names_within k d (remove (names_of k d) x) w
-edit_within chosen k (Unname_directory d x) w h = names_within k d (remove (names_of k d) x) w
+edit_within chosen k (Unname_directory d x n) w h = names_within k d (remove (names_of k d) x) w
 edit_within chosen k (Move d x e y n replaced) w h = names_within (clear_name d x k) e (insert (names_of (clear_name d x k) e) y n) (names_within k d (remove (names_of k d) x) w)
 edit_within chosen k (Put_bytes n place bytes before) w h =
     let long : length (written (file_of k n) place bytes) ≡ max (length (file_of k n)) (place + length bytes) = length-written (file_of k n) place bytes in

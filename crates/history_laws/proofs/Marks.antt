@@ -2,7 +2,7 @@
 use Rattle.std.proofs.Common.{◌≡◌, ℕ, List, [], ◌∷◌, refl, sym, ◌∙◌, ap, true, false, Bool, inl, inr}
 use Rattle.std.specs.Prelude.{◌||◌, ◌&&◌, if◌then◌else◌}
 use Rattle.std.specs.List.{list_any}
-use Rattle.std.proofs.lemmas.Bool.{cases_Bool, cases_eq, or_cases, false≢true, eqb-true, eq-eqb}
+use Rattle.std.proofs.lemmas.Bool.{cases_Bool, cases_eq, or_cases, and_parts, or_left, or_right, both_ways, false≢true, eqb-true, eq-eqb}
 use Rattle.model.specs.Aspects.{Aspect, Entry, Names}
 use Rattle.model.specs.Steps.{Touch}
 use Rattle.model.specs.Clashes.{same_aspect, names_against, clash}
@@ -10,13 +10,13 @@ use Rattle.model.specs.Moments.{Moment, after, bound, all_below, calls_at, held_
 use Rattle.model.specs.Modes.{NoTx, Read, Write, Exclusive, reads_names, writes_entry, is_reader, is_writer, any_below, mode_of}
 use Rattle.call_laws.specs.WellFormed.{WellFormed}
 use Rattle.call_laws.specs.CallLaws.{CallLaws}
-use Rattle.history_laws.proofs.Premise.{FromCallLaws}
+use Rattle.history_laws.proofs.FromCallLaws.{FromCallLaws}
 use Rattle.history_laws.specs.Marks.{has_readers, has_writers, mode_by, ModesFollowMarks}
-use Rattle.history_laws.proofs.Members.{In, not_both}
-use Rattle.history_laws.proofs.Touched.{IsPlain}
-use Rattle.history_laws.proofs.Goes.{goes_plain}
-use Rattle.history_laws.proofs.Next.{Sound, held_is}
-use Rattle.history_laws.proofs.Stood.{sound_legal}
+use Rattle.history_laws.proofs.Membership.{In}
+use Rattle.history_laws.proofs.lists.Touches.{IsPlain}
+use Rattle.history_laws.proofs.lists.UntidiedRuns.{goes_plain}
+use Rattle.history_laws.proofs.entries.Moments.{Sound, held_is}
+use Rattle.history_laws.proofs.Standing.{sound_legal}
 
 -- one that passes a test
 pub record Passing {A : Type 0} (test : A → Bool) (xs : List A) : Type 0 where
@@ -31,15 +31,11 @@ passing test (x ∷ xs) h = elim (or_cases (test x) (list_any test xs) h) [
   | inr later ↦ (let found = passing test xs later in record { it = found.it; among = inr found.among; passes = found.passes })
 ]
 
-or_true : (a b : Bool) → b ≡ true → (a || b) ≡ true
-or_true true b h = refl
-or_true false b h = h
-
 pub passed : {A : Type 0} (test : A → Bool) (xs : List A) (x : A) → In x xs → test x ≡ true → list_any test xs ≡ true
 passed test [] x i h = absurd i
 passed test (y ∷ xs) x i h = elim i [
   | inl same ↦ ap (λ b. b || list_any test xs) (ap test (sym same) ∙ h)
-  | inr rest ↦ or_true (test y) (list_any test xs) (passed test xs x rest h)
+  | inr rest ↦ or_right (test y) (list_any test xs) (passed test xs x rest h)
 ]
 
 module _ (d : ℕ) where
@@ -52,15 +48,10 @@ module _ (d : ℕ) where
   names_of (Names e) h = ap Names (sym (eqb-true d e h))
   names_of a h = absurd (false≢true h)
 
-  clash_by : (s p q : Bool) → p ≡ true → (s || (p || q)) ≡ true
-  clash_by true p q h = refl
-  clash_by false true q h = refl
-  clash_by false false q h = absurd (false≢true h)
-
   -- reading names clashes with writing an entry
   they_clash : (t u : Touch) → IsPlain t → reads_names d t.aspect ≡ true → writes_entry d u.aspect u.write ≡ true → clash t u ≡ true
-  they_clash t u plain reads writes = clash_by (same_aspect t.aspect u.aspect && (t.write || u.write)) (names_against t.aspect t.write u.aspect u.write) _
-      (ap (λ b. names_against t.aspect b u.aspect u.write) (plain d (names_of t.aspect reads)) ∙ against t.aspect u.aspect u.write reads writes)
+  they_clash t u plain reads writes = or_right (same_aspect t.aspect u.aspect && (t.write || u.write)) _ (or_left (names_against t.aspect t.write u.aspect u.write) _
+      (ap (λ b. names_against t.aspect b u.aspect u.write) (plain d (names_of t.aspect reads)) ∙ against t.aspect u.aspect u.write reads writes))
 
   -- so a reader and a writer are one
   module _ (m : Moment) (sound : Sound WellFormed m) (laws : CallLaws WellFormed) where
@@ -76,19 +67,19 @@ module _ (d : ℕ) where
       | inr ne ↦
           let t = passing (λ t. reads_names d t.aspect) (loose_touches p (calls_at m p) m.committed) (ap (is_reader d) (sym (held_is WellFormed laws m sound p)) ∙ is_read) in
           let u = passing (λ t. writes_entry d t.aspect t.write) (loose_touches q (calls_at m q) m.committed) (ap (is_writer d) (sym (held_is WellFormed laws m sound q)) ∙ is_written) in
-          absurd (not_both (clash t.it u.it) (they_clash t.it u.it (goes_plain p m.committed (calls_at m p) t.it t.among) t.passes u.passes) (sound.lists.peace p q ne t.it u.it t.among u.among))
+          absurd (both_ways (clash t.it u.it) (sound.lists.peace p q ne t.it u.it t.among u.among) (they_clash t.it u.it (goes_plain p m.committed (calls_at m p) t.it t.among) t.passes u.passes))
     ]
 
     both : list_any (λ q. reads q && writes q) (all_below (λ q. true) (bound m)) ≡ (has_readers m d && has_writers m d)
     both = elim (cases_Bool (has_readers m d)) [
       | inr no_reader ↦ elim (cases_Bool (any_below (λ q. reads q && writes q) (bound m))) [
         | inr none ↦ none ∙ sym (ap (λ b. b && has_writers m d) no_reader)
-        | inl some ↦ (let found = passing (λ q. reads q && writes q) _ some in absurd (not_both (has_readers m d) (passed reads _ found.it found.among (first (reads found.it) _ found.passes)) no_reader))
+        | inl some ↦ (let found = passing (λ q. reads q && writes q) _ some in absurd (both_ways (has_readers m d) no_reader (passed reads _ found.it found.among (and_parts (reads found.it) _ found.passes).0)))
       ]
       | inl reader ↦ elim (cases_Bool (has_writers m d)) [
         | inr no_writer ↦ elim (cases_Bool (any_below (λ q. reads q && writes q) (bound m))) [
           | inr none ↦ none ∙ sym (ap (λ b. b && has_writers m d) reader ∙ no_writer)
-          | inl some ↦ (let found = passing (λ q. reads q && writes q) _ some in absurd (not_both (has_writers m d) (passed writes _ found.it found.among (second (reads found.it) _ found.passes)) no_writer))
+          | inl some ↦ (let found = passing (λ q. reads q && writes q) _ some in absurd (both_ways (has_writers m d) no_writer (passed writes _ found.it found.among (and_parts (reads found.it) _ found.passes).1)))
         ]
         | inl writer ↦
             let r = passing reads _ reader in
@@ -96,14 +87,7 @@ module _ (d : ℕ) where
             let same : r.it ≡ w.it = one r.it w.it r.passes w.passes in
             passed (λ q. reads q && writes q) _ r.it r.among (ap (λ b. b && writes r.it) r.passes ∙ ap writes same ∙ w.passes) ∙ sym (ap (λ b. b && has_writers m d) reader ∙ writer)
       ]
-    ] where
-      first : (a b : Bool) → (a && b) ≡ true → a ≡ true
-      first true b h = refl
-      first false b h = h
-
-      second : (a b : Bool) → (a && b) ≡ true → b ≡ true
-      second true b h = h
-      second false b h = absurd (false≢true h)
+    ]
 
     pub mode_is : mode_of m d ≡ mode_by (has_readers m d) (has_writers m d)
     mode_is = ap (λ x. if x then Exclusive else if has_writers m d then Write else if has_readers m d then Read else NoTx) both ∙ by (has_readers m d) (has_writers m d) where

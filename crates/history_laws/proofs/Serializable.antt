@@ -1,13 +1,13 @@
--- The headline, from the laws that stand by themselves.
+-- Each legal history is strictly serializable.
 use Rattle.std.proofs.Common.{◌≡◌, ℕ, List, [], ◌∷◌, ◌++◌, refl, sym, ◌∙◌, ap, subst, append_assoc}
 use Rattle.model.specs.Entries.{Entry}
 use Rattle.model.specs.Moments.{Moment, status, next, at_start, after, after_from, run_by}
 use Rattle.model.specs.Legal.{LegalFrom, Legal, items, serial, serial_from}
-use Rattle.history_laws.proofs.Premise.{FromCallLaws}
+use Rattle.history_laws.proofs.FromCallLaws.{FromCallLaws}
 use Rattle.history_laws.specs.Headline.{IsAsAsked, LegalHistoriesAreSerializable}
 use Rattle.history_laws.proofs.Beginnings.{legality_follows}
-use Rattle.history_laws.proofs.Headlines.{serial_is}
-use Rattle.history_laws.proofs.Replied.{replies_are_a_function}
+use Rattle.history_laws.proofs.Histories.{serial_is}
+use Rattle.history_laws.proofs.Replies.{replies_are_a_function}
 
 -- the serial list grows at its end alone
 serial_more : (m : Moment) (before later : List Entry) → serial_from m (before ++ later) ≡ serial_from m before ++ serial_from (after_from m before) later

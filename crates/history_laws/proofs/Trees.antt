@@ -6,12 +6,10 @@ use Rattle.model.specs.FiniteMap.{get}
 use Rattle.model.specs.State.{Kernel, Inode, Description, A_directory, kind, kind_of, links, mapped}
 use Rattle.model.specs.Changes.{is_held, openings, without_descriptions, tidy}
 use Rattle.call_laws.specs.WellFormed.{WellFormed, CanBeOpened, IsRooted}
-use Rattle.call_laws.proofs.Maps.{not_none, retained_some, sum-zero}
-use Rattle.call_laws.proofs.Reached.{reached, either_of, get_tidy}
-use Rattle.call_laws.proofs.Trees.{directories_are_a_tree_lem}
-use Rattle.history_laws.proofs.Premise.{FromCallLaws}
+use Rattle.call_laws.proofs.Laws.{not_none, retained_some, sum-zero, reached, either_of, get_tidy, directories_are_a_tree_lem}
+use Rattle.history_laws.proofs.FromCallLaws.{FromCallLaws}
 use Rattle.history_laws.specs.Trees.{IsATree, CommittedDirectoriesAreATree}
-use Rattle.history_laws.proofs.Stood.{what_stands}
+use Rattle.history_laws.proofs.Standing.{what_stands}
 
 -- no description is open on a directory
 not_open : (k : Kernel) → WellFormed k → (d : ℕ) → kind_of k d ≡ Some A_directory → openings (without_descriptions k) d ≡ 0

@@ -10,18 +10,28 @@ pub record BeforeIsAnOrder : Type 0 where
   pub first : (es : List Entry) → IsBefore [] es
   pub through : (es fs gs : List Entry) → IsBefore es fs → IsBefore fs gs → IsBefore es gs
   pub both : (es fs : List Entry) → IsBefore es fs → IsBefore fs es → es ≡ fs
-  pub either : (es fs gs : List Entry) → IsBefore es gs → IsBefore fs gs → IsBefore es fs ⊎ IsBefore fs es
+  pub either : (es fs gs : List Entry)
+      → IsBefore es gs → IsBefore fs gs → IsBefore es fs ⊎ IsBefore fs es
 
--- A process's entries in a history that goes on are those before and those that came; in a beginning they are a beginning.
+-- A process's entries in a history that goes on are those before and those that came; those in
+-- a beginning are a beginning of them.
 pub record OwnEntriesFollow : Type 0 where
   pub append : (pid : ℕ) (es fs : List Entry) → mine pid (es ++ fs) ≡ mine pid es ++ mine pid fs
-  pub before : (pid : ℕ) (es fs : List Entry) → IsBefore es fs → IsBefore (mine pid es) (mine pid fs)
+  pub before : (pid : ℕ) (es fs : List Entry) → IsBefore es fs
+      → IsBefore (mine pid es) (mine pid fs)
 
--- The moments of a history that goes on, and its legality: it is legal where it was and goes on rightly from what stood then.
+-- The moments of a history that goes on, and its legality: it is legal where it was and goes on
+-- rightly from what stood then.
 pub record LegalityFollows : Type 0 where
-  pub moments : (root : ℕ) (priorities : List ℕ) (es fs : List Entry) → after root priorities (es ++ fs) ≡ after_from (after root priorities es) fs
-  pub entries : (root : ℕ) (priorities : List ℕ) (es : List Entry) → (after root priorities es).entries ≡ length es
-  pub runs : (root : ℕ) (priorities : List ℕ) (limit : ℕ) (es : List Entry) → Legal root priorities limit es → ListsRun (after root priorities es)
+  pub moments : (root : ℕ) (priorities : List ℕ) (es fs : List Entry)
+      → after root priorities (es ++ fs) ≡ after_from (after root priorities es) fs
+  pub entries : (root : ℕ) (priorities : List ℕ) (es : List Entry)
+      → (after root priorities es).entries ≡ length es
+  pub runs : (root : ℕ) (priorities : List ℕ) (limit : ℕ) (es : List Entry)
+      → Legal root priorities limit es → ListsRun (after root priorities es)
   pub nothing : (root : ℕ) (priorities : List ℕ) (limit : ℕ) → Legal root priorities limit []
-  pub rest : (root : ℕ) (priorities : List ℕ) (limit : ℕ) (es fs : List Entry) → Legal root priorities limit (es ++ fs) → LegalFrom limit (after root priorities es) fs
-  pub joined : (root : ℕ) (priorities : List ℕ) (limit : ℕ) (es fs : List Entry) → Legal root priorities limit es → LegalFrom limit (after root priorities es) fs → Legal root priorities limit (es ++ fs)
+  pub rest : (root : ℕ) (priorities : List ℕ) (limit : ℕ) (es fs : List Entry)
+      → Legal root priorities limit (es ++ fs) → LegalFrom limit (after root priorities es) fs
+  pub joined : (root : ℕ) (priorities : List ℕ) (limit : ℕ) (es fs : List Entry)
+      → Legal root priorities limit es → LegalFrom limit (after root priorities es) fs
+      → Legal root priorities limit (es ++ fs)

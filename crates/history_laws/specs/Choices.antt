@@ -8,12 +8,16 @@ use Rattle.history_laws.specs.Each.{AfterEach}
 
 -- with some new numbers the entry that is computed for the operation is right
 abbrev pub HasRightEntry : ℕ → Moment → ℕ → Op → Type 0
-HasRightEntry limit m pid op = (chosen : List ℕ) × Right limit m (entry_for limit m (record { pid = pid; op = op; chosen = chosen }))
+HasRightEntry limit m pid op = (chosen : List ℕ)
+    × Right limit m (entry_for limit m (record { pid = pid; op = op; chosen = chosen }))
 
 -- Whatever a process asks, where as many places are free as it needs, there is a right entry.
 abbrev pub RightEntriesExist : Type 0
-RightEntriesExist = AfterEach (λ limit m. (pid : ℕ) (op : Op) → Free limit m (needed (status m pid) op) → HasRightEntry limit m pid op)
+RightEntriesExist = AfterEach (λ limit m. (pid : ℕ) (op : Op)
+    → Free limit m (needed (status m pid) op) → HasRightEntry limit m pid op)
 
--- What needs no place always has one: the end of a live transaction, its abort, and the notice to a doomed one.
+-- What needs no place always has one: the end of a live transaction, its abort, and the notice to
+-- a doomed one.
 abbrev pub EndsFindPlaces : Type 0
-EndsFindPlaces = AfterEach (λ limit m. (pid : ℕ) (op : Op) → needed (status m pid) op ≡ 0 → HasRightEntry limit m pid op)
+EndsFindPlaces = AfterEach (λ limit m. (pid : ℕ) (op : Op)
+    → needed (status m pid) op ≡ 0 → HasRightEntry limit m pid op)

@@ -6,8 +6,11 @@ use Rattle.model.specs.Legal.{Right, Legal}
 
 -- of the limit and the moment after each legal history
 abbrev pub AfterEach : (ℕ → Moment → Type 0) → Type 0
-AfterEach Holds = (root : ℕ) (priorities : List ℕ) (limit : ℕ) (es : List Entry) → Legal root priorities limit es → Holds limit (after root priorities es)
+AfterEach Holds = (root : ℕ) (priorities : List ℕ) (limit : ℕ) (es : List Entry)
+    → Legal root priorities limit es → Holds limit (after root priorities es)
 
 -- and of each right entry after it
 abbrev pub AtEach : (Moment → Entry → Type 0) → Type 0
-AtEach Holds = (root : ℕ) (priorities : List ℕ) (limit : ℕ) (es : List Entry) (e : Entry) → Legal root priorities limit es → Right limit (after root priorities es) e → Holds (after root priorities es) e
+AtEach Holds = (root : ℕ) (priorities : List ℕ) (limit : ℕ) (es : List Entry) (e : Entry)
+    → Legal root priorities limit es → Right limit (after root priorities es) e
+    → Holds (after root priorities es) e

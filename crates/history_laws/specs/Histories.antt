@@ -1,27 +1,33 @@
 -- What holds of all legal histories.
-use Rattle.std.specs.Prelude.{◌≡◌, ℕ, ◌+◌, ◌≤◌, List, [], ◌∷◌, ◌++◌, ◌⊎◌, length, true, ◌==◌, if◌then◌else◌}
+use Rattle.std.specs.Prelude.{◌≡◌, ℕ, ◌+◌, ◌≤◌, List, [], ◌∷◌, ◌++◌, ◌⊎◌, length, true, ◌==◌}
+use Rattle.std.specs.Prelude.{if◌then◌else◌}
 use Rattle.std.specs.List.{AllByRecursion}
 use Rattle.model.specs.Changes.{tidy}
 use Rattle.model.specs.Calls.{Call}
 use Rattle.model.specs.Steps.{Touch, Run}
 use Rattle.model.specs.Laws.{GoesTheSame}
 use Rattle.model.specs.Entries.{Entry}
-use Rattle.model.specs.Moments.{Moment, status, is_in, start, next, after, reserved, calls_at, seen_by, held_by, numbers, loose, loose_touches}
+use Rattle.model.specs.Moments.{Moment, status, is_in, start, next, after, reserved, calls_at}
+use Rattle.model.specs.Moments.{seen_by, held_by, numbers, loose, loose_touches}
 use Rattle.model.specs.Legal.{Right, Legal, serial, mine, IsBefore}
 use Rattle.model.specs.Replies.{spoken_at, needed}
 use Rattle.call_laws.specs.Objects.{IsThere}
 use Rattle.call_laws.specs.CallLaws.{object_of}
 use Rattle.history_laws.specs.Each.{AfterEach}
 
--- After a legal history each right entry gives a legal history: the live lists run from the new committed state, with the replies and numbers that they had.
+-- After a legal history each right entry gives a legal history: the live lists run from the new
+-- committed state, with the replies and numbers that they had.
 abbrev pub RightEntriesKeepHistoriesLegal : Type 0
-RightEntriesKeepHistoriesLegal = (root : ℕ) (priorities : List ℕ) (limit : ℕ) (es : List Entry) (e : Entry)
-    → Legal root priorities limit es → Right limit (after root priorities es) e → Legal root priorities limit (es ++ e ∷ [])
+RightEntriesKeepHistoriesLegal =
+    (root : ℕ) (priorities : List ℕ) (limit : ℕ) (es : List Entry) (e : Entry)
+    → Legal root priorities limit es → Right limit (after root priorities es) e
+    → Legal root priorities limit (es ++ e ∷ [])
 
 -- The committed state is the plain run of the serial list.
 abbrev pub CommittedIsSerial : Type 0
 CommittedIsSerial = (root : ℕ) (priorities : List ℕ) (limit : ℕ) (es : List Entry)
-    → Legal root priorities limit es → Run (start root priorities) (serial root priorities es) (after root priorities es).committed
+    → Legal root priorities limit es
+    → Run (start root priorities) (serial root priorities es) (after root priorities es).committed
 
 -- Entries and reserved places stay within the limit.
 abbrev pub PlacesSuffice : Type 0
@@ -31,7 +37,8 @@ PlacesSuffice = (root : ℕ) (priorities : List ℕ) (limit : ℕ) (es : List En
 -- A right entry's reply and doomed processes are those that are computed from what stood before.
 abbrev pub RepliesAreAFunction : Type 0
 RepliesAreAFunction = (limit : ℕ) (m : Moment) (e : Entry) → Right limit m e
-    → (e.reply ≡ (spoken_at limit m e.pid (status m e.pid) e.op).reply) × (e.doomed ≡ (spoken_at limit m e.pid (status m e.pid) e.op).doomed)
+    → (e.reply ≡ (spoken_at limit m e.pid (status m e.pid) e.op).reply)
+    × (e.doomed ≡ (spoken_at limit m e.pid (status m e.pid) e.op).doomed)
 
 -- An entry is right only where it finds the places that it needs.
 abbrev pub RightEntriesHavePlaces : Type 0
@@ -40,29 +47,36 @@ RightEntriesHavePlaces = (limit : ℕ) (m : Moment) (e : Entry) → Right limit 
 
 -- Each beginning of a legal history is legal.
 abbrev pub BeginningsAreLegal : Type 0
-BeginningsAreLegal = (root : ℕ) (priorities : List ℕ) (limit : ℕ) (es fs : List Entry) → IsBefore es fs → Legal root priorities limit fs → Legal root priorities limit es
+BeginningsAreLegal = (root : ℕ) (priorities : List ℕ) (limit : ℕ) (es fs : List Entry)
+    → IsBefore es fs → Legal root priorities limit fs → Legal root priorities limit es
 
 -- One entry more is its process's and no other's.
 abbrev pub OwnEntriesGrow : Type 0
-OwnEntriesGrow = (pid : ℕ) (es : List Entry) (e : Entry) → mine pid (es ++ e ∷ []) ≡ mine pid es ++ (if e.pid == pid then e ∷ [] else [])
+OwnEntriesGrow = (pid : ℕ) (es : List Entry) (e : Entry)
+    → mine pid (es ++ e ∷ []) ≡ mine pid es ++ (if e.pid == pid then e ∷ [] else [])
 
 -- A history with one entry more comes to the next moment.
 abbrev pub AfterOneMore : Type 0
-AfterOneMore = (root : ℕ) (priorities : List ℕ) (es : List Entry) (e : Entry) → after root priorities (es ++ e ∷ []) ≡ next (after root priorities es) e
+AfterOneMore = (root : ℕ) (priorities : List ℕ) (es : List Entry) (e : Entry)
+    → after root priorities (es ++ e ∷ []) ≡ next (after root priorities es) e
 
--- What a process sees may be held untidied: tidied it is the state after the list, the list's touches are the same, and a further call goes the same way.
+-- What a process sees may be held untidied: tidied it is the state after the list, the list's
+-- touches are the same, and a further call goes the same way.
 pub record MayBeLoose (m : Moment) (q : ℕ) : Type 0 where
   pub seen : seen_by m q ≡ tidy (loose q (calls_at m q) m.committed)
   pub held : held_by m q ≡ loose_touches q (calls_at m q) m.committed
-  pub goes_on : (call : Call) → GoesTheSame (loose q (calls_at m q) m.committed) (seen_by m q) q call
+  pub goes_on : (call : Call)
+      → GoesTheSame (loose q (calls_at m q) m.committed) (seen_by m q) q call
 
 abbrev pub ViewsMayBeLoose : Type 0
 ViewsMayBeLoose = AfterEach (λ limit m. (q : ℕ) → MayBeLoose m q)
 
 -- an object of the committed state, or one that the process's list makes
 abbrev pub IsItsOwnOrThere : Moment → ℕ → Touch → Type 0
-IsItsOwnOrThere m q t = IsThere m.committed t.aspect ⊎ (is_in (object_of t.aspect) (numbers (calls_at m q)) ≡ true)
+IsItsOwnOrThere m q t =
+    IsThere m.committed t.aspect ⊎ (is_in (object_of t.aspect) (numbers (calls_at m q)) ≡ true)
 
 -- An object that a live list touched is there in the committed state, or the list makes it.
 abbrev pub TouchedObjectsStay : Type 0
-TouchedObjectsStay = AfterEach (λ limit m. (q : ℕ) → AllByRecursion (IsItsOwnOrThere m q) (held_by m q))
+TouchedObjectsStay =
+    AfterEach (λ limit m. (q : ℕ) → AllByRecursion (IsItsOwnOrThere m q) (held_by m q))

@@ -1,18 +1,15 @@
--- The plain kernel's limits are never passed: fork, write, ftruncate and lseek refuse what would pass them (EAGAIN, EFBIG and EINVAL of
--- POSIX.1-2017, which leaves the numbers to the implementation).
+-- The plain kernel's limits are never passed: fork, write, ftruncate and lseek refuse what would
+-- pass them (EAGAIN, EFBIG and EINVAL of POSIX.1-2017, which leaves the numbers to the
+-- implementation).
 use Rattle.std.specs.Prelude.{ℕ, ◌≤◌, List, length}
 use Rattle.model.specs.State.{Kernel, file_of, pipe_of, offset_of}
-use Rattle.model.specs.Plan.{capacity}
-use Rattle.model.specs.Plans.{largest}
+pub use Rattle.model.specs.Limits.{most_processes, capacity, largest}
 use Rattle.model.specs.Entries.{Entry}
 use Rattle.model.specs.Moments.{Moment, after, seen_by}
 use Rattle.model.specs.Legal.{Legal}
 
--- how many processes are made at most
-abbrev pub most_processes : ℕ
-most_processes = 4096
-
--- At most 4,096 processes were ever made, each file has at most 1,048,576 bytes, each pipe at most 4,096, and no offset is past the largest file.
+-- At most 4,096 processes were ever made, each file has at most 1,048,576 bytes, each pipe at most
+-- 4,096, and no offset is past the largest file.
 pub record IsWithinLimits (k : Kernel) : Type 0 where
   pub made : k.made ≤ most_processes
   pub files : (n : ℕ) → length (file_of k n) ≤ largest
@@ -26,5 +23,6 @@ pub record StaysWithinLimits (m : Moment) : Type 0 where
 
 -- A legal history that starts with no more processes stays within the limits.
 abbrev pub LimitsAreKept : Type 0
-LimitsAreKept = (root : ℕ) (priorities : List ℕ) (limit : ℕ) (es : List Entry) → Legal root priorities limit es
-    → length priorities ≤ most_processes → StaysWithinLimits (after root priorities es)
+LimitsAreKept = (root : ℕ) (priorities : List ℕ) (limit : ℕ) (es : List Entry)
+    → Legal root priorities limit es → length priorities ≤ most_processes
+    → StaysWithinLimits (after root priorities es)

@@ -1,7 +1,9 @@
--- The list mode of a directory, by whether some live list has read its names and whether some has written an entry of it.
+-- The list mode of a directory, by whether some live list has read its names and whether some has
+-- written an entry of it.
 use Rattle.std.specs.Prelude.{◌≡◌, ℕ, Bool, true, false}
 use Rattle.model.specs.Moments.{Moment, bound, held_by}
-use Rattle.model.specs.Modes.{ListMode, NoTx, Read, Write, Exclusive, is_reader, is_writer, any_below, mode_of}
+use Rattle.model.specs.Modes.{ListMode, NoTx, Read, Write, Exclusive, is_reader, is_writer}
+use Rattle.model.specs.Modes.{any_below, mode_of}
 use Rattle.history_laws.specs.Each.{AfterEach}
 
 abbrev pub has_readers : Moment → ℕ → Bool
@@ -16,6 +18,8 @@ mode_by true false = Read
 mode_by false true = Write
 mode_by false false = NoTx
 
--- Where both stand it is one transaction that has done both: two would clash. So the marks need not say whose they are.
+-- Where both stand it is one transaction that has done both: two would clash. So the marks need not
+-- say whose they are.
 abbrev pub ModesFollowMarks : Type 0
-ModesFollowMarks = AfterEach (λ limit m. (d : ℕ) → mode_of m d ≡ mode_by (has_readers m d) (has_writers m d))
+ModesFollowMarks =
+    AfterEach (λ limit m. (d : ℕ) → mode_of m d ≡ mode_by (has_readers m d) (has_writers m d))

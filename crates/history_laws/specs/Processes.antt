@@ -1,5 +1,6 @@
 -- What one right entry does to the table of processes.
-use Rattle.std.specs.Prelude.{◌≡◌, ◌≢◌, ℕ, suc, ◌+◌, ◌<◌, Bool, true, false, ◌⊎◌, List, Option, Some, None}
+use Rattle.std.specs.Prelude.{◌≡◌, ◌≢◌, ℕ, suc, ◌+◌, ◌<◌, Bool, true, false, ◌⊎◌, List, Option}
+use Rattle.std.specs.Prelude.{Some, None}
 use Rattle.std.specs.List.{AllByRecursion}
 use Rattle.model.specs.Calls.{Call, Exit, Child}
 use Rattle.model.specs.Entries.{Op, Do, Reply, Answers, NoProcess, Entry}
@@ -42,12 +43,14 @@ pub record ProcessesMove (m : Moment) (e : Entry) : Type 0 where
   pub made : (next m e).committed.made ≡ m.committed.made + born e.reply
   pub born : (child : ℕ) → child_in e.reply ≡ Some child → IsBorn m e child
   pub ended : is_ended e.op e.reply ≡ true → is_alive (next m e).committed e.pid ≡ false
-  pub others : (q : ℕ) → child_in e.reply ≢ Some q → (is_ended e.op e.reply ≡ false) ⊎ (q ≢ e.pid) → IsAsBefore m e q
+  pub others : (q : ℕ) → child_in e.reply ≢ Some q
+      → (is_ended e.op e.reply ≡ false) ⊎ (q ≢ e.pid) → IsAsBefore m e q
 
 abbrev pub ForksAndExitsMove : Type 0
 ForksAndExitsMove = AtEach ProcessesMove
 
 -- The entries of a process that was never made are refused.
 abbrev pub UnmadeAreRefused : Type 0
-UnmadeAreRefused = (root : ℕ) (priorities : List ℕ) (limit : ℕ) (es : List Entry) → Legal root priorities limit es
-    → (q : ℕ) → (after root priorities es).committed.made < q → AllByRecursion (λ e. e.reply ≡ NoProcess) (mine q es)
+UnmadeAreRefused = (root : ℕ) (priorities : List ℕ) (limit : ℕ) (es : List Entry)
+    → Legal root priorities limit es → (q : ℕ) → (after root priorities es).committed.made < q
+    → AllByRecursion (λ e. e.reply ≡ NoProcess) (mine q es)

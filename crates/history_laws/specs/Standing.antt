@@ -5,7 +5,8 @@ use Rattle.model.specs.Changes.{tidy}
 use Rattle.model.specs.Steps.{IsNowhere}
 use Rattle.model.specs.Entries.{BeginFlags, is_inside}
 use Rattle.model.specs.Clashes.{any_clash}
-use Rattle.model.specs.Moments.{Status, gone, idle, live, doomed, Moment, is_alive, is_in, bound, holds_place, reserved, calls_at, held_by, numbers, loose}
+use Rattle.model.specs.Moments.{Status, gone, idle, live, doomed, Moment, is_alive, is_in, bound}
+use Rattle.model.specs.Moments.{holds_place, reserved, calls_at, held_by, numbers, loose}
 use Rattle.call_laws.specs.WellFormed.{WellFormed}
 use Rattle.history_laws.specs.Each.{AfterEach}
 use Rattle.call_laws.specs.Untidied.{Goes}
@@ -28,15 +29,17 @@ pub record CommittedStands (m : Moment) : Type 0 where
   pub well : WellFormed m.committed
   pub tidied : tidy m.committed ≡ m.committed
 
--- A transaction, live or doomed, is of a living process, whose number is below the bound. No process is `gone` by its phase.
+-- A transaction, live or doomed, is of a living process, whose number is below the bound. No
+-- process is `gone` by its phase.
 pub record PhasesStand (m : Moment) : Type 0 where
   pub processes : (q : ℕ) → is_alive m.committed q ≡ false → m.phase q ≡ idle
   pub alive : (q : ℕ) → holds_place (m.phase q) ≡ true → is_alive m.committed q ≡ true
   pub below : (q : ℕ) → holds_place (m.phase q) ≡ true → q < bound m
   pub here : (q : ℕ) → m.phase q ≢ gone
 
--- Each live list runs from the committed state untidied, each call ready in the state that it finds; what it comes to is well formed and has its process.
--- It is of calls that transactions support, and its new numbers are nowhere in the committed state.
+-- Each live list runs from the committed state untidied, each call ready in the state that it
+-- finds; what it comes to is well formed and has its process. It is of calls that transactions
+-- support, and its new numbers are nowhere in the committed state.
 pub record ListStands (m : Moment) (q : ℕ) : Type 0 where
   pub goes : Goes WellFormed m.committed q (calls_at m q)
   pub well : WellFormed (loose q (calls_at m q) m.committed)
@@ -47,7 +50,8 @@ pub record ListStands (m : Moment) (q : ℕ) : Type 0 where
 -- No two live lists clash or number the same.
 pub record ListsStandApart (m : Moment) (p q : ℕ) : Type 0 where
   pub no_clash : any_clash (held_by m p) (held_by m q) ≡ false
-  pub numbers_apart : (n : ℕ) → is_in n (numbers (calls_at m p)) ≡ true → is_in n (numbers (calls_at m q)) ≡ false
+  pub numbers_apart : (n : ℕ) → is_in n (numbers (calls_at m p)) ≡ true
+      → is_in n (numbers (calls_at m q)) ≡ false
 
 -- A transaction is as old as the place of an entry, and no two are of one age.
 pub record AgesStand (m : Moment) : Type 0 where

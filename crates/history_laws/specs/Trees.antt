@@ -1,5 +1,5 @@
--- The directories of each committed state are a tree (POSIX.1-2017, base definitions, file hierarchy: a single root, and each other
--- directory in exactly one directory).
+-- The directories of each committed state are a tree (POSIX.1-2017, base definitions, file
+-- hierarchy: a single root, and each other directory in exactly one directory).
 use Rattle.std.specs.Prelude.{◌≡◌, ◌≢◌, ℕ, List, [], Some}
 use Rattle.model.specs.State.{Name, Kernel, A_directory, kind_of, links}
 use Rattle.call_laws.specs.WellFormed.{Leads}
@@ -13,9 +13,11 @@ pub record IsATree (k : Kernel) : Type 0 where
   pub one_entry : (d : ℕ) → kind_of k d ≡ Some A_directory → d ≢ k.root → links k d ≡ 1
   -- each directory has a path from the root, and no other path
   pub path : (d : ℕ) → kind_of k d ≡ Some A_directory → (path : List Name) × Leads k k.root path d
-  pub one_path : (d : ℕ) (p q : List Name) → kind_of k d ≡ Some A_directory → Leads k k.root p d → Leads k k.root q d → p ≡ q
+  pub one_path : (d : ℕ) (p q : List Name) → kind_of k d ≡ Some A_directory
+      → Leads k k.root p d → Leads k k.root q d → p ≡ q
   -- none is below itself
-  pub no_ring : (d : ℕ) (path : List Name) → kind_of k d ≡ Some A_directory → Leads k d path d → path ≡ []
+  pub no_ring : (d : ℕ) (path : List Name) → kind_of k d ≡ Some A_directory
+      → Leads k d path d → path ≡ []
 
 abbrev pub CommittedDirectoriesAreATree : Type 0
 CommittedDirectoriesAreATree = AfterEach (λ limit m. IsATree m.committed)

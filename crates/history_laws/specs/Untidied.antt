@@ -7,4 +7,5 @@ use Rattle.model.specs.Effects.{effects, all_done}
 
 -- A list run untidied is its effects, one after the other.
 abbrev pub ListsAreTheirEffects : Type 0
-ListsAreTheirEffects = (pid : ℕ) (es : List Executed) (k : Kernel) → loose pid es k ≡ all_done (effects pid es k) k
+ListsAreTheirEffects = (pid : ℕ) (es : List Executed) (k : Kernel)
+    → loose pid es k ≡ all_done (effects pid es k) k

@@ -1,7 +1,10 @@
 -- The names of the refusals (POSIX.1-2017, errno.h).
 use Rattle.std.specs.Prelude.{ℕ, List, codes}
 use Rattle.ids.specs.declared.errno.Errno.{Errno}
-use Rattle.ids.specs.declared.errno.Errno.TheVariants.{EAGAIN, EBADF, EBUSY, EEXIST, EFBIG, EINVAL, EISDIR, EMFILE, ENAMETOOLONG, ENOENT, ENOTDIR, ENOTEMPTY, ENOTSUP, EPERM, EPIPE, ESPIPE}
+use Rattle.ids.specs.declared.errno.Errno.TheVariants.{EAGAIN, EBADF, EBUSY, EEXIST, EFBIG}
+use Rattle.ids.specs.declared.errno.Errno.TheVariants.{EINVAL, EISDIR, EMFILE, ENAMETOOLONG, ENOENT}
+use Rattle.ids.specs.declared.errno.Errno.TheVariants.{ENOTDIR, ENOTEMPTY, ENOTSUP, EPERM, EPIPE}
+use Rattle.ids.specs.declared.errno.Errno.TheVariants.{ESPIPE}
 
 abbrev pub errno_name : Errno → List ℕ
 errno_name EAGAIN = codes "EAGAIN"

@@ -1,5 +1,5 @@
 // Bytes and names that are owned. Contracts see each as a list.
-ghost use Rattle.std.specs.Prelude.{◌≡◌, IfOk, OnErr, OnOk, ◌++◌, ◌∷◌, [], length, take};
+ghost use Rattle.std.specs.Prelude.{◌≡◌, IfOk};
 
 use heap::Heap;
 use std::alloc::AllocError;
@@ -59,10 +59,11 @@ impl Bytes {
     }
 }
 
-/// A name in a directory. That it has 1 to 255 bytes and no slash is for the path that it came from.
+/// A name in a directory. That it has 1 to 255 bytes and no slash is for the path that it came
+/// from.
 #[derive(Debug, Drop)]
 pub struct Name {
-    bytes: Vec<u8, Heap>,
+    bytes: Bytes,
 }
 
 impl Model for Name {
@@ -70,25 +71,10 @@ impl Model for Name {
 
     ghost Value = { List ℕ };
 
-    ghost view = { λ b. b.bytes.items };
+    ghost view = { λ n. n.bytes };
 }
 
 impl Name {
-    /// Takes the vector as it is, with no memory.
-    pub fn new(bytes: Vec<u8, Heap>) -> Name
-        ensures { result ≡ bytes.entry.items }
-    {
-        Name { bytes }
-    }
-
-    /// Gives the vector back, with no memory.
-    pub fn into_vec(self) -> Vec<u8, Heap>
-        ensures { result.items ≡ self }
-    {
-        let Name { bytes } = self;
-        bytes
-    }
-
     /// The bytes, in order.
     pub fn as_slice(&self) -> &[u8]
         ensures { result.now ≡ self.now }
@@ -101,7 +87,7 @@ impl Name {
         ensures { IfOk result (λ b. b ≡ bytes.now) }
     {
         Ok(Name {
-            bytes: Vec::from_slice(heap, bytes)?,
+            bytes: Bytes::copy(heap, bytes)?,
         })
     }
 
@@ -109,7 +95,9 @@ impl Name {
     pub fn try_clone(&self) -> Result<Name, AllocError>
         ensures { IfOk result (λ b. b ≡ self.now) }
     {
-        Name::copy(*self.bytes.allocator(), self.as_slice())
+        Ok(Name {
+            bytes: self.bytes.try_clone()?,
+        })
     }
 }
 
@@ -133,14 +121,6 @@ impl NameList {
         ensures { result ≡ names.entry.items }
     {
         NameList { names }
-    }
-
-    /// Gives the vector back, with no memory.
-    pub fn into_vec(self) -> Vec<Name, Heap>
-        ensures { result.items ≡ self }
-    {
-        let NameList { names } = self;
-        names
     }
 
     /// The names, in order.

@@ -1,7 +1,9 @@
 // Sets of named bits. Contracts see a set as the sum of its bits.
 ghost use Rattle.std.specs.Prelude.{◌≡◌, ⊤, codes, [], ◌∷◌};
 ghost use Rattle.std.specs.Int.RustNames.{bit_or};
-ghost use Rattle.ids.specs.Flags.{open_bits, begin_bits, is_reading, is_writing, is_creating, is_exclusive, is_truncating, is_appending, is_restarting, is_aborting_unsupported};
+ghost use Rattle.ids.specs.Flags.{open_bits, is_reading, is_writing, is_creating, is_exclusive};
+ghost use Rattle.ids.specs.Flags.{is_truncating, is_appending};
+ghost use Rattle.ids.specs.Flags.{begin_bits, is_restarting, is_aborting_unsupported};
 
 use bitflags::{Flag, Flags, bitflag_items};
 
@@ -25,7 +27,8 @@ impl Flags for OpenFlags {
 
     ghost exact = { ⊤ };
 
-    ghost table = { (codes "READ", 1) ∷ (codes "WRITE", 2) ∷ (codes "CREAT", 4) ∷ (codes "EXCL", 8) ∷ (codes "TRUNC", 16) ∷ (codes "APPEND", 32) ∷ [] };
+    ghost table = { (codes "READ", 1) ∷ (codes "WRITE", 2) ∷ (codes "CREAT", 4)
+        ∷ (codes "EXCL", 8) ∷ (codes "TRUNC", 16) ∷ (codes "APPEND", 32) ∷ [] };
 
     ghost set_of = { λ f. f.0 };
 

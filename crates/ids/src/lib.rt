@@ -11,6 +11,7 @@ mod edit;
 mod entry;
 mod errno;
 mod flags;
+mod limits;
 mod lists;
 mod number;
 mod reply;
@@ -22,6 +23,10 @@ pub use edit::{Edit, Mode, Slot, Which};
 pub use entry::{Entry, ListMode, Rank};
 pub use errno::{Errno, Refusal};
 pub use flags::{BeginFlags, OpenFlags};
+pub use limits::{
+    BLOCK_LEN, DESCRIPTORS, LARGEST_FILE, MAX_ENTRIES, MAX_PROCESSES, NAME_LIMIT, PATH_LIMIT,
+    PIPE_CAPACITY, WHOLE_WRITE,
+};
 pub use lists::{Nums, Pids};
 pub use number::{Age, Fd, Num, Pid, Priority};
 pub use reply::{Answer, Kind, Reply, Stat};

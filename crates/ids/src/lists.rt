@@ -5,98 +5,44 @@ use crate::number::{Num, Pid};
 use heap::Heap;
 use smallvec::SmallVec;
 use std::alloc::AllocError;
+use std::default::MadeWith;
 use std::marker::Model;
 
 /// The numbers of the objects that a call made, in the order in which it names them.
-#[derive(Debug, Drop)]
-pub struct Nums {
-    items: SmallVec<Num, 3, Heap>,
-}
-
-impl Model for Nums {
-    ghost use Rattle.std.specs.Prelude.{List, ℕ};
-
-    ghost Value = { List ℕ };
-
-    ghost view = { λ l. l.items.items };
-}
-
-impl Nums {
-    /// None. It takes no memory.
-    pub fn new(heap: Heap) -> Nums
-        ensures { result ≡ [] }
-    {
-        Nums {
-            items: SmallVec::new(heap),
-        }
-    }
-
-    /// Takes the vector as it is, with no memory.
-    pub fn from_small(items: SmallVec<Num, 3, Heap>) -> Nums
-        ensures { result ≡ items.entry.items }
-    {
-        Nums { items }
-    }
-
-    /// Adds one behind the others. Refused memory changes nothing.
-    pub fn push(&mut self, item: Num) -> Result<(), AllocError>
-        ensures ok { OnOk result (self.new ≡ self.old ++ item ∷ []) }
-        ensures err { OnErr result (self.new ≡ self.old) }
-    {
-        self.items.push(item)?;
-        Ok(())
-    }
-
-    /// All of them, in order.
-    pub fn as_slice(&self) -> &[Num]
-        ensures { result.now ≡ self.now }
-    {
-        self.items.as_slice()
-    }
-
-    /// A copy on the same allocator. Refused memory changes nothing.
-    pub fn try_clone(&self) -> Result<Nums, AllocError>
-        ensures { IfOk result (λ l. l ≡ self.now) }
-    {
-        Ok(Nums {
-            items: SmallVec::from_slice(*self.items.allocator(), self.items.as_slice())?,
-        })
-    }
-}
+pub type Nums = ShortList<Num, 3>;
 
 /// Processes, rising: those that an operation doomed.
+pub type Pids = ShortList<Pid, 4>;
+
+/// A list that takes no memory up to `N` items.
 #[derive(Debug, Drop)]
-pub struct Pids {
-    items: SmallVec<Pid, 4, Heap>,
+pub struct ShortList<T, const N: usize> {
+    items: SmallVec<T, N, Heap>,
 }
 
-impl Model for Pids {
-    ghost use Rattle.std.specs.Prelude.{List, ℕ};
+impl<T, const N: usize> Model for ShortList<T, N> {
+    ghost use Rattle.std.specs.Prelude.{List};
+    ghost use Rattle.std.specs.Coded.{coded_list};
 
-    ghost Value = { List ℕ };
+    ghost Value = { List T };
+
+    ghost coded = { coded_list T.code };
 
     ghost view = { λ l. l.items.items };
 }
 
-impl Pids {
+impl<T: MadeWith<Heap> + Copy + Drop, const N: usize> ShortList<T, N> {
     /// None. It takes no memory.
-    pub fn new(heap: Heap) -> Pids
+    pub fn new(heap: Heap) -> ShortList<T, N>
         ensures { result ≡ [] }
     {
-        Pids {
+        ShortList {
             items: SmallVec::new(heap),
         }
     }
 
-    /// Takes the vector as it is, with no memory.
-    pub fn from_small(items: SmallVec<Pid, 4, Heap>) -> Pids
-        ensures { result ≡ items.entry.items }
-    {
-        Pids { items }
-    }
-
     /// Adds one behind the others. Refused memory changes nothing.
-    pub fn push(&mut self, item: Pid) -> Result<(), AllocError>
+    pub fn push(&mut self, item: T) -> Result<(), AllocError>
         ensures ok { OnOk result (self.new ≡ self.old ++ item ∷ []) }
         ensures err { OnErr result (self.new ≡ self.old) }
     {
@@ -105,17 +51,17 @@ impl Pids {
     }
 
     /// All of them, in order.
-    pub fn as_slice(&self) -> &[Pid]
+    pub fn as_slice(&self) -> &[T]
         ensures { result.now ≡ self.now }
     {
         self.items.as_slice()
     }
 
     /// A copy on the same allocator. Refused memory changes nothing.
-    pub fn try_clone(&self) -> Result<Pids, AllocError>
+    pub fn try_clone(&self) -> Result<ShortList<T, N>, AllocError>
         ensures { IfOk result (λ l. l ≡ self.now) }
     {
-        Ok(Pids {
+        Ok(ShortList {
             items: SmallVec::from_slice(*self.items.allocator(), self.items.as_slice())?,
         })
     }

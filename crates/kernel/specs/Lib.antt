@@ -1,9 +1,4 @@
 pub mod Operations
 pub mod Shown
 pub mod Steps
-pub mod Views
-pub mod Strikes
 pub mod States
-pub mod Rows
-pub mod Standings
-pub mod Takes

@@ -10,7 +10,7 @@ pub record Shown : Type 0 where
   pub log : Log
   pub state : State
 
--- what the history comes to: the committed state, and the status of each process. The root is number 0.
+-- What the history comes to: the committed state, and each process's status. The root has number 0.
 abbrev pub moment : Log → Moment
 moment log = after 0 log.priorities log.entries
 

@@ -1,47 +1,181 @@
--- What the fields of a kernel keep.
-use Rattle.std.specs.Prelude.{◌≡◌, ◌≢◌, ◌≤◌, ℕ, Bool, List, ◌++◌, ◌∷◌, [], length}
+-- What is kept of each process after a history, what an operation builds on, and how fields change.
+use Rattle.std.specs.Prelude.{◌≡◌, ◌≢◌, ◌<◌, ◌≤◌, ◌==◌, ℕ, Bool, true, false, if◌then◌else◌}
+use Rattle.std.specs.Prelude.{List, [], ◌∷◌, ◌++◌, length, Option, None, Some}
 use Rattle.history.specs.Log.{Log}
-use Rattle.model.specs.Entries.{BeginFlags, Entry}
-use Rattle.model.specs.Moments.{bound}
+use Rattle.model.specs.State.{Kernel}
+use Rattle.model.specs.Entries.{Op, Reply, Entry, BeginFlags, Cause, Executed}
+use Rattle.model.specs.Moments.{Moment, Status, gone, idle, live, doomed, bound, status}
+use Rattle.model.specs.Moments.{calls_at, counted_touches, seen_by}
 use Rattle.model.specs.Legal.{Legal}
-use Rattle.contention.specs.Holding.{Held, IsKept}
-use Rattle.shadow.specs.Committed.{Committed}
+use Rattle.contention.specs.Contenders.{Contender, contender_at, contender_of, live_age, nobody}
+use Rattle.contention.specs.declared.Doomed.{Doomed}
 use Rattle.history_laws.specs.Limits.{most_processes}
-use Rattle.commit.specs.Views.{View, view_at}
+use Rattle.commit.specs.Views.{Shown as Transactions}
+use Rattle.commit.specs.Views.{View, view_at, gone_slot, idle_slot, live_slot, doomed_slot}
 use Rattle.kernel.specs.declared.state.State.{State}
 use Rattle.kernel.specs.Shown.{Shown, moment}
-use Rattle.kernel.specs.Rows.{IsSettling}
-use Rattle.kernel.specs.Views.{view_of}
+use Rattle.kernel.specs.Steps.{IsStep, entry_of, has_place, is_no_entry, with_entry}
+use Rattle.model.specs.Effects.{Effect, effects, all_done}
+use Rattle.commit.specs.Dooming.{with_doom}
+use Rattle.commit.specs.declared.slot.Standing.{Standing}
+use Rattle.commit.specs.declared.slot.Standing.TheVariants.{Gone, Idle, Live, Doomed as Is_doomed}
+use Rattle.kernel.specs.Operations.{can_run}
+use Rattle.model.specs.Changes.{Edit, tidy}
+use Rattle.model.specs.Calls.{Call}
+use Rattle.model.specs.Steps.{Touch, edits}
+use Rattle.shadow.specs.Changes.{CanEdit}
+use Rattle.shadow.specs.Claims.{HaveParents}
+use Rattle.commit.specs.Edits.{with_change}
+
+abbrev pub shown_by : Status → List Effect → View
+shown_by gone changes = gone_slot
+shown_by idle changes = idle_slot
+shown_by (live flags age calls) changes = live_slot flags age changes
+shown_by (doomed cause flags age) changes = doomed_slot cause cause flags age
+
+-- what a live transaction has changed
+abbrev pub changes_of : Moment → ℕ → List Effect
+changes_of m q = effects q (calls_at m q) m.committed
+
+-- what is kept of a process: its slot, and what it holds
+pub record Part : Type 0 where
+  pub slot : View
+  pub held : Contender
+
+abbrev pub part_of : Moment → ℕ → Part
+part_of m q = record { slot = shown_by (status m q) (changes_of m q); held = contender_of m q }
+
+-- a live transaction is doomed: its changes, its age and its touches are gone
+abbrev pub doomed_part : Doomed → Part → Part
+doomed_part d p =
+    record { slot = with_doom d p.slot; held = record (p.held) { age = None; touches = [] } }
+
+-- what becomes of q's part when these are doomed, one after the other
+abbrev pub doomed_by : List Doomed → ℕ → Part → Part
+doomed_by [] q p = p
+doomed_by (d ∷ ds) q p = doomed_by ds q (if q == d.pid then doomed_part d p else p)
 
 -- the fields, as contracts see them
 pub record Fields : Type 0 where
   pub log : Log
-  pub slots : List View
-  pub held : List Held
-  pub stable : Committed
+  pub held : List Contender
+  pub transactions : Transactions
+  pub open transactions use *
 
 abbrev pub fields : State → Fields
-fields s = record { log = s.history; slots = s.transactions.slots; held = s.contenders; stable = s.transactions.stable }
+fields s = record { log = s.history; held = s.contenders; transactions = s.transactions }
 
 abbrev pub shown : Fields → Shown
 shown f = record { log = f.log; state = f.stable.state }
 
+abbrev pub part_at : Fields → ℕ → Part
+part_at f q = record { slot = view_at f.slots q; held = contender_at f.held q }
+
 -- The history is legal, and each field shows what it comes to.
-pub record Holds (f : Fields) : Type 0 where
+pub record IsConsistent (f : Fields) : Type 0 where
   pub legal : Legal 0 f.log.priorities f.log.limit f.log.entries
   pub state : f.stable.state ≡ (moment f.log).committed
-  pub held : IsKept (moment f.log) f.held
-  pub count : length f.slots ≡ bound (moment f.log)
-  pub slots : (q : ℕ) → view_at f.slots q ≡ view_of (moment f.log) q
+  pub slot_count : length f.slots ≡ bound (moment f.log)
+  pub held_count : length f.held ≡ bound (moment f.log)
+  pub parts : (q : ℕ) → part_at f q ≡ part_of (moment f.log) q
   pub few : length f.log.priorities ≤ most_processes
 
-abbrev pub with_entry : Log → Entry → Log
-with_entry log e = record log { entries = log.entries ++ e ∷ [] }
+-- such a process has a slot, and its part of the touches
+pub record IsIn (f : Fields) (pid : ℕ) : Type 0 where
+  pub slot : pid < length f.slots
+  pub held : pid < length f.held
 
--- These fields are those of a kernel but for one process's slot, and such an entry of that process can be added.
-pub record CanSettle (f : Fields) (e : Entry) (again : Bool) (flags : BeginFlags) (age : ℕ) : Type 0 where
-  pub before : List View
-  pub holds : Holds (record f { slots = before })
-  pub count : length f.slots ≡ length before
-  pub others : (q : ℕ) → q ≢ e.pid → view_at f.slots q ≡ view_at before q
-  pub settling : IsSettling f.log e again flags age
+-- What a step that can be refused memory leaves where it was.
+pub record Unchanged (old new : Fields) : Type 0 where
+  pub holds : IsConsistent new
+  pub same : shown new ≡ shown old
+
+-- a step after which the fields are consistent
+pub record Does (old new : Fields) (pid : ℕ) (op : Op) (reply : Reply) : Type 0 where
+  pub holds : IsConsistent new
+  pub step : IsStep (shown old) (shown new) pid op reply
+
+-- These are doomed, one after the other, and nothing else has changed.
+pub record Dooms (old new : Fields) (ds : List Doomed) : Type 0 where
+  pub log : new.log ≡ old.log
+  pub state : new.stable.state ≡ old.stable.state
+  pub slot_count : length new.slots ≡ length old.slots
+  pub held_count : length new.held ≡ length old.held
+  pub parts : (q : ℕ) → part_at new q ≡ doomed_by ds q (part_at old q)
+
+-- One process's part has become this and the committed state that, and these others are doomed.
+pub record Moves (old new : Fields) (pid : ℕ) (part : Part) (committed : Kernel) (ds : List Doomed)
+    : Type 0 where
+  pub log : new.log ≡ old.log
+  pub state : new.stable.state ≡ committed
+  pub slot_count : length new.slots ≡ length old.slots
+  pub held_count : length new.held ≡ length old.held
+  pub own : part_at new pid ≡ part
+  pub others : (q : ℕ) → q ≢ pid → part_at new q ≡ doomed_by ds q (part_at old q)
+
+-- The entry has its place, and with it the fields are consistent: they show already what it does.
+pub record CanEnter (now : Fields) (e : Entry) : Type 0 where
+  pub place : has_place now.log e.pid e.op ≡ true
+  pub answers : is_no_entry e.reply ≡ false
+  pub holds : IsConsistent (record now { log = with_entry now.log e })
+
+abbrev pub Stands : Standing → Status → Type 0
+Stands Gone s = s ≡ gone
+Stands Idle s = s ≡ idle
+Stands (Live flags age) s = (calls : List Executed) × (s ≡ live flags age calls)
+Stands (Is_doomed flags age) s = (cause : Cause) × (s ≡ doomed cause flags age)
+
+-- The operation is there and finds its places, and its process stands so.
+pub record Asks (f : Fields) (pid : ℕ) (standing : Standing) (op : Op) : Type 0 where
+  pub holds : IsConsistent f
+  pub stands : Stands standing (status (moment f.log) pid)
+  pub there : can_run op ≡ true
+  pub place : has_place f.log pid op ≡ true
+
+-- in no transaction, or in a live one
+abbrev pub calling : Option (BeginFlags × ℕ) → Standing
+calling None = Idle
+calling (Some within) = Live within.0 within.1
+
+-- live without calls, or idle
+abbrev pub settled_as : Bool → BeginFlags → ℕ → Status
+settled_as again flags age = if again then live flags age [] else idle
+
+-- the part of a process with this priority and status and no changes
+abbrev pub cleared : ℕ → Status → Part
+cleared priority s =
+    record { slot = shown_by s []; held = record nobody { priority = priority; age = live_age s } }
+
+-- an entry without new numbers that dooms nobody
+abbrev pub plain : ℕ → Op → Reply → Entry
+plain pid op reply = entry_of pid op reply [] []
+
+-- Such an entry can be added when its process's transaction has begun, has begun anew, or is gone.
+pub record CanEndTransaction (now : Fields) (pid : ℕ) (op : Op) (reply : Reply) (again : Bool)
+    (flags : BeginFlags) (age : ℕ) : Type 0 where
+  pub is_in : IsIn now pid
+  pub enters : (g : Fields)
+      → Moves now g pid (cleared (contender_at now.held pid).priority (settled_as again flags age))
+      now.stable.state []
+      → CanEnter g (plain pid op reply)
+
+-- what the call touches, as far as it counts, and edits, which can be done
+pub record Plans (f : Fields) (pid : ℕ) (call : Call) (ts : List Touch) (es : List Edit)
+    : Type 0 where
+  pub touches : ts ≡ counted_touches (moment f.log) pid call
+  pub edits : es ≡ edits (seen_by (moment f.log) pid) pid call
+  pub kinds : CanEdit es
+  pub parents : HaveParents f.stable.reserves es
+
+-- A change of a process in no transaction is made at once in the committed state; another is kept,
+-- with what it touched.
+abbrev pub part_with : Option (BeginFlags × ℕ) → Effect → List Touch → Part → Part
+part_with None d ts p = p
+part_with (Some within) d ts p = record {
+  slot = with_change d p.slot;
+  held = record (p.held) { touches = p.held.touches ++ ts };
+}
+
+abbrev pub state_with : Option (BeginFlags × ℕ) → Effect → Kernel → Kernel
+state_with None d k = tidy (all_done (d ∷ []) k)
+state_with (Some within) d k = k

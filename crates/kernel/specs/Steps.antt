@@ -3,7 +3,7 @@ use Rattle.std.specs.Prelude.{◌≡◌, ◌≢◌, ◌↔◌, ℕ, Bool, true, 
 use Rattle.history.specs.Log.{Log}
 use Rattle.model.specs.Moments.{status, has_free}
 use Rattle.model.specs.Replies.{needed}
-use Rattle.model.specs.Entries.{Op, Reply, HistoryFull, NoMemory}
+use Rattle.model.specs.Entries.{Entry, Op, Reply, HistoryFull, NoMemory}
 use Rattle.kernel.specs.Shown.{Shown, Kept, moment}
 
 -- whether a reply stands for no entry
@@ -12,11 +12,18 @@ is_no_entry HistoryFull = true
 is_no_entry NoMemory = true
 is_no_entry _ = false
 
+abbrev pub entry_of : ℕ → Op → Reply → List ℕ → List ℕ → Entry
+entry_of pid op reply chosen doomed =
+    record { pid = pid; op = op; reply = reply; chosen = chosen; doomed = doomed }
+
+abbrev pub with_entry : Log → Entry → Log
+with_entry log e = record log { entries = log.entries ++ e ∷ [] }
+
 -- one entry more, of this process, operation and reply, with some new numbers and some doomed
 pub record Added (old new : Log) (pid : ℕ) (op : Op) (reply : Reply) : Type 0 where
   pub chosen : List ℕ
   pub doomed : List ℕ
-  pub is : new ≡ record old { entries = old.entries ++ record { pid = pid; op = op; reply = reply; chosen = chosen; doomed = doomed } ∷ [] }
+  pub is : new ≡ with_entry old (entry_of pid op reply chosen doomed)
 
 -- whether so many places are free as the operation needs
 abbrev pub has_place : Log → ℕ → Op → Bool
@@ -33,5 +40,6 @@ pub record IsStep (old new : Shown) (pid : ℕ) (op : Op) (reply : Reply) : Type
 -- one reply an operation, each a step
 abbrev pub Steps : Shown → List (ℕ × Op) → List Reply → Shown → Type 0
 Steps old [] [] new = new ≡ old
-Steps old (o ∷ ops) (reply ∷ replies) new = (mid : Shown) × IsStep old mid o.0 o.1 reply × Kept mid × Steps mid ops replies new
+Steps old (o ∷ ops) (reply ∷ replies) new =
+    (mid : Shown) × IsStep old mid o.0 o.1 reply × Kept mid × Steps mid ops replies new
 Steps old _ _ new = ⊥

@@ -1,35 +1,27 @@
-// Calls of idle and of live processes.
-ghost use Rattle.std.specs.Prelude.{◌≡◌, ◌<◌, ◌++◌, true, length, map, IfOk, OnErr, OnOk};
-ghost use Rattle.model.specs.Effects.{all_done};
+// Calls of processes in no transaction and in live ones.
+ghost use Rattle.std.specs.Prelude.{◌≡◌, ◌∷◌, [], map, IfOk, OnErr};
+ghost use Rattle.std.specs.List.{AllByRecursion};
 ghost use Rattle.model.specs.Entries as entries;
-ghost use Rattle.model.specs.Moments.{counted_touches, is_alive};
+ghost use Rattle.model.specs.Moments.{counted_touches, seen_by};
 ghost use Rattle.model.specs.Replies.{answered};
-ghost use Rattle.model.specs.Steps.{reply, edits};
-ghost use Rattle.contention.specs.Holding.{held_at, Becomes};
+ghost use Rattle.model.specs.Steps.{reply};
 ghost use Rattle.contention.specs.Verdicts.{IsVerdict};
-ghost use Rattle.shadow.specs.Changes.{CanEdit, effect};
-ghost use Rattle.shadow.specs.Claims.{HaveParents};
-ghost use Rattle.calls.specs.Operations.{can_call};
-ghost use Rattle.calls.specs.Planned.{IsPlan};
-ghost use Rattle.commit.specs.Edits.{AreNew, with_change};
-ghost use Rattle.commit.specs.Standings.{StandsSo};
-ghost use Rattle.commit.specs.Views.{SameViews, Shows, changes_in, is_open, resting, view_at};
+ghost use Rattle.shadow.specs.Changes.{effect};
+ghost use Rattle.commit.specs.Edits.{AreNew};
+ghost use Rattle.kernel.specs.States.{Asks, Does, Dooms, IsIn, Moves, Plans, Unchanged};
+ghost use Rattle.kernel.specs.States.{calling, fields, part_at, part_with, state_with};
 ghost use Rattle.kernel.specs.Shown.{moment};
-ghost use Rattle.kernel.specs.Standings.{has_places};
-ghost use Rattle.kernel.specs.States.{Holds, fields, shown};
-ghost use Rattle.kernel.specs.Steps.{IsStep};
-ghost use Rattle.kernel.specs.Views.{changes_of, view_of};
 
-use crate::doom::doom_all;
-use crate::rest::{lose, plain_entry, put_off};
-use crate::state::State;
+use crate::state::{Live, State, add_entry, end_transaction, enter};
 use calls::{Plan, plan_of};
-use commit::Standing;
 use conflict::keep_writes;
 use contention::{Doomed, Verdict};
 use heap::Heap;
-use ids::{Age, Answer, BeginFlags, Call, Edit, Entry, Errno, Nums, Op, Pid, Pids, Reply, Touch};
+use ids::{Answer, Call, Cause, Edit, Errno, Nums, Op, Pid, Pids, Reply, Touch, Why};
 use std::alloc::AllocError;
+
+/// The live transaction that a process is in, if it is in one.
+type Within = Option<Live>;
 
 /// The answer as a reply.
 fn reply_of(answer: Result<Answer, Errno>) -> Reply
@@ -52,79 +44,64 @@ fn pids_of(heap: Heap, doomed: &[Doomed]) -> Result<Pids, AllocError>
     Ok(pids)
 }
 
-/// What is told of a call that takes effect: its reply, the same for its entry, and the processes that it dooms.
-#[derive(Drop)]
-struct Told {
-    reply: Reply,
-    entry: Reply,
-    doomed: Pids,
+/// Dooms a live transaction: its changes and its touches are gone at once. It takes no memory.
+fn doom(s: &mut State, doomed: Doomed)
+    requires { IsIn (fields s.old) doomed.pid }
+    ensures { Dooms (fields s.old) (fields s.new) (doomed ∷ []) }
+{
+    s.contenders.release(doomed.pid);
+    s.transactions.doom(doomed);
 }
 
-fn make_told(
-    heap: Heap,
-    answer: Result<Answer, Errno>,
-    doomed: &[Doomed],
-) -> Result<Told, AllocError>
-    ensures reply { IfOk result (λ t. t.reply ≡ answered answer) }
-    ensures entry { IfOk result (λ t. t.entry ≡ answered answer) }
-    ensures doomed { IfOk result (λ t. t.doomed ≡ map (λ d. d.pid) doomed.now) }
+/// Dooms these. It takes no memory.
+fn doom_each(s: &mut State, all: Vec<Doomed, Heap>)
+    requires { AllByRecursion (λ d. IsIn (fields s.old) d.pid) all.items }
+    ensures { Dooms (fields s.old) (fields s.new) all.entry.items }
 {
-    let doomed = pids_of(heap, doomed)?;
-    let reply = reply_of(answer);
-    Ok(Told {
-        entry: reply.try_clone()?,
-        reply,
-        doomed,
-    })
-}
-
-/// The entry of a call that takes effect.
-fn entry_of(pid: Pid, call: Call, reply: Reply, chosen: Nums, doomed: Pids) -> Entry
-    ensures { result ≡ record { pid = pid; op = entries.Do call; reply = reply; chosen = chosen; doomed = doomed } }
-{
-    Entry {
-        pid,
-        op: Op::Call(call),
-        reply,
-        chosen,
-        doomed,
+    for doomed in all {
+        doom(s, doomed);
     }
 }
 
-/// What a call of a living process comes to, over what it sees.
-fn plan_for(s: &State, pid: Pid, call: &Call) -> Result<Plan, AllocError>
-    requires holds { Holds (fields s.now) }
-    requires alive { is_alive (moment s.now.history).committed pid ≡ true }
-    requires there { can_call call.now ≡ true }
-    ensures is { IfOk result (IsPlan (all_done (changes_in (view_at s.now.transactions.slots pid)) s.now.transactions.stable.state) pid call.now) }
-    ensures kinds { IfOk result (λ p. CanEdit p.edits.items) }
-    ensures parents { IfOk result (λ p. HaveParents s.now.transactions.stable.reserves p.edits.items) }
+/// What a call comes to, over what its process sees. Outside a transaction only the writes count.
+fn plan_for(s: &State, pid: Pid, within: &Within, call: &Call) -> Result<Plan, AllocError>
+    requires { Asks (fields s.now) pid (calling within.now) (entries.Do call.now) }
+    ensures answer { IfOk result (λ p.
+        p.answer ≡ reply (seen_by (moment s.now.history) pid) pid call.now) }
+    ensures plans { IfOk result (λ p.
+        Plans (fields s.now) pid call.now p.touches.items p.edits.items) }
 {
     let view = s.transactions.view(pid);
-    view.names_are_in_use();
-    plan_of(s.heap, &view, pid, call)
+    s.transactions.names_are_in_use(pid);
+    let mut plan = plan_of(s.heap, &view, pid, call)?;
+    if within.is_none() {
+        keep_writes(&mut plan.touches);
+    }
+    Ok(plan)
 }
 
-/// Adds what a call of a live process touches and changes, and answers its new numbers. Refused memory changes nothing.
-fn add_within(
+/// Makes a call's change, and answers its new numbers. Refused memory changes nothing.
+fn change(
     s: &mut State,
     pid: Pid,
+    within: &Within,
+    call: &Call,
     touches: Vec<Touch, Heap>,
     edits: Vec<Edit, Heap>,
 ) -> Result<Nums, AllocError>
-    requires made { pid < length s.old.transactions.slots }
-    requires live { is_open (view_at s.old.transactions.slots pid) ≡ true }
-    requires kept { pid < length s.old.contenders }
-    requires kinds { CanEdit edits.items }
-    requires parents { HaveParents s.old.transactions.stable.reserves edits.items }
+    requires asks { Asks (fields s.old) pid (calling within.now) (entries.Do call.now) }
+    requires plans { Plans (fields s.old) pid call.now touches.items edits.items }
     ensures new { IfOk result (AreNew s.old.transactions edits.entry.items) }
-    ensures slots { IfOk result (λ chosen. Shows s.old.transactions.slots s.new.transactions.slots pid (with_change (effect chosen edits.entry.items) (view_at s.old.transactions.slots pid))) }
-    ensures held { OnOk result (Becomes s.old.contenders s.new.contenders pid (record (held_at s.old.contenders pid) { touches = (held_at s.old.contenders pid).touches ++ touches.entry.items })) }
-    ensures err_slots { OnErr result (SameViews s.old.transactions.slots s.new.transactions.slots) }
-    ensures err_held { OnErr result (Becomes s.old.contenders s.new.contenders pid (held_at s.old.contenders pid)) }
-    ensures state { s.new.transactions.stable.state ≡ s.old.transactions.stable.state }
-    ensures history { s.new.history ≡ s.old.history }
+    ensures moves { IfOk result (λ chosen. Moves (fields s.old) (fields s.new) pid
+        (part_with within.now (effect chosen edits.entry.items) touches.entry.items
+        (part_at (fields s.old) pid))
+        (state_with within.now (effect chosen edits.entry.items)
+        s.old.transactions.stable.state) []) }
+    ensures err { OnErr result (Unchanged (fields s.old) (fields s.new)) }
 {
+    if within.is_none() {
+        return s.transactions.apply(edits);
+    }
     let count = s.contenders.count(pid);
     s.contenders.add(pid, touches)?;
     match s.transactions.edit(pid, edits) {
@@ -136,120 +113,71 @@ fn add_within(
     }
 }
 
-/// A call of a live process that loses against nobody: it dooms all with whom it clashes, and takes effect.
-fn take_within(
+/// A call that loses against nobody: it dooms all with whom it clashes, and takes effect. Refused
+/// memory changes nothing.
+fn take(
     s: &mut State,
     pid: Pid,
-    within: (BeginFlags, Age),
+    within: Within,
     call: Call,
     plan: Plan,
     doomed: Vec<Doomed, Heap>,
 ) -> Result<Reply, AllocError>
-    requires holds { Holds (fields s.old) }
-    requires live { StandsSo (Standing.Live within.0 within.1) (view_of (moment s.old.history) pid) }
-    requires there { can_call call ≡ true }
-    requires places { has_places s.old.history 1 ≡ true }
-    requires planned { IsPlan (all_done (changes_of (moment s.old.history) pid) s.old.transactions.stable.state) pid call plan }
-    requires kinds { CanEdit plan.edits.items }
-    requires parents { HaveParents s.old.transactions.stable.reserves plan.edits.items }
-    requires wins { IsVerdict (moment s.old.history) pid (counted_touches (moment s.old.history) pid call) (Verdict.Go doomed) }
-    ensures holds { Holds (fields s.new) }
-    ensures ok { IfOk result (IsStep (shown (fields s.old)) (shown (fields s.new)) pid (entries.Do call)) }
-    ensures err { OnErr result (shown (fields s.new) ≡ shown (fields s.old)) }
+    requires asks { Asks (fields s.old) pid (calling within) (entries.Do call) }
+    requires answer { plan.answer ≡ reply (seen_by (moment s.old.history) pid) pid call }
+    requires plans { Plans (fields s.old) pid call plan.touches.items plan.edits.items }
+    requires wins { IsVerdict (moment s.old.history) pid
+        (counted_touches (moment s.old.history) pid call) (Verdict.Go doomed) }
+    ensures ok { IfOk result (Does (fields s.old) (fields s.new) pid (entries.Do call)) }
+    ensures err { OnErr result (Unchanged (fields s.old) (fields s.new)) }
 {
-    let Plan {
-        answer,
-        touches,
-        edits,
-    } = plan;
-    let told = make_told(s.heap, answer, doomed.as_slice())?;
-    let chosen = add_within(s, pid, touches, edits)?;
-    doom_all(s, doomed);
-    let entry = entry_of(pid, call, told.entry, chosen, told.doomed);
-    s.history.push_placed(entry);
-    Ok(told.reply)
+    let pids = pids_of(s.heap, doomed.as_slice())?;
+    let reply = reply_of(plan.answer);
+    let told = reply.try_clone()?;
+    let chosen = change(s, pid, &within, &call, plan.touches, plan.edits)?;
+    doom_each(s, doomed);
+    enter(s, pid, Op::Call(call), told, chosen, pids);
+    Ok(reply)
 }
 
-/// A call of an idle process that loses against nobody: it dooms all with whom it clashes, and is committed at once.
-fn take_plain(
-    s: &mut State,
-    pid: Pid,
-    call: Call,
-    plan: Plan,
-    doomed: Vec<Doomed, Heap>,
-) -> Result<Reply, AllocError>
-    requires holds { Holds (fields s.old) }
-    requires idle { view_of (moment s.old.history) pid ≡ resting }
-    requires there { can_call call ≡ true }
-    requires places { has_places s.old.history 1 ≡ true }
-    requires answer { plan.answer ≡ reply s.old.transactions.stable.state pid call }
-    requires edits { plan.edits.items ≡ edits s.old.transactions.stable.state pid call }
-    requires kinds { CanEdit plan.edits.items }
-    requires parents { HaveParents s.old.transactions.stable.reserves plan.edits.items }
-    requires wins { IsVerdict (moment s.old.history) pid (counted_touches (moment s.old.history) pid call) (Verdict.Go doomed) }
-    ensures holds { Holds (fields s.new) }
-    ensures ok { IfOk result (IsStep (shown (fields s.old)) (shown (fields s.new)) pid (entries.Do call)) }
-    ensures err { OnErr result (shown (fields s.new) ≡ shown (fields s.old)) }
+/// The reply that tells a cause.
+pub fn aborted(cause: Cause, restarted: bool) -> Reply
+    ensures { result ≡ entries.Aborted (entries.Clash cause) restarted }
 {
-    let Plan { answer, edits, .. } = plan;
-    let told = make_told(s.heap, answer, doomed.as_slice())?;
-    let chosen = s.transactions.apply(edits)?;
-    doom_all(s, doomed);
-    let entry = entry_of(pid, call, told.entry, chosen, told.doomed);
-    s.history.push_placed(entry);
-    Ok(told.reply)
-}
-
-/// Commits a live transaction: its changes are made in one step. It takes no memory.
-pub fn end(s: &mut State, pid: Pid, flags: BeginFlags, age: Age) -> Reply
-    requires holds { Holds (fields s.old) }
-    requires live { StandsSo (Standing.Live flags age) (view_of (moment s.old.history) pid) }
-    ensures holds { Holds (fields s.new) }
-    ensures step { IsStep (shown (fields s.old)) (shown (fields s.new)) pid entries.End result }
-{
-    s.transactions.end(pid);
-    s.contenders.release(pid);
-    let entry = plain_entry(s.heap, pid, Op::End, Reply::Committed);
-    s.history.push_placed(entry);
-    Reply::Committed
-}
-
-/// A call of an idle process. Refused memory changes nothing.
-pub fn run_plain(s: &mut State, pid: Pid, call: Call) -> Result<Reply, AllocError>
-    requires holds { Holds (fields s.old) }
-    requires idle { view_of (moment s.old.history) pid ≡ resting }
-    requires there { can_call call ≡ true }
-    requires places { has_places s.old.history 1 ≡ true }
-    ensures holds { Holds (fields s.new) }
-    ensures ok { IfOk result (IsStep (shown (fields s.old)) (shown (fields s.new)) pid (entries.Do call)) }
-    ensures err { OnErr result (shown (fields s.new) ≡ shown (fields s.old)) }
-{
-    let mut plan = plan_for(s, pid, &call)?;
-    keep_writes(&mut plan.touches);
-    match s.contenders.verdict(s.heap, pid, plan.touches.as_slice())? {
-        Verdict::Lose(entry, reply) => Ok(put_off(s, pid, call, (entry, reply))),
-        Verdict::Go(doomed) => take_plain(s, pid, call, plan, doomed),
+    Reply::Aborted {
+        why: Why::Clash(cause),
+        restarted,
     }
 }
 
-/// A call of a live process. Refused memory changes nothing.
-pub fn run_within(
-    s: &mut State,
-    pid: Pid,
-    within: (BeginFlags, Age),
-    call: Call,
-) -> Result<Reply, AllocError>
-    requires holds { Holds (fields s.old) }
-    requires live { StandsSo (Standing.Live within.0 within.1) (view_of (moment s.old.history) pid) }
-    requires there { can_call call ≡ true }
-    requires places { has_places s.old.history 1 ≡ true }
-    ensures holds { Holds (fields s.new) }
-    ensures ok { IfOk result (IsStep (shown (fields s.old)) (shown (fields s.new)) pid (entries.Do call)) }
-    ensures err { OnErr result (shown (fields s.new) ≡ shown (fields s.old)) }
+/// A call that has lost: outside a transaction it is put off, and a live transaction is undone.
+fn refuse(s: &mut State, pid: Pid, within: Within, call: Call, entry: Cause, reply: Cause) -> Reply
+    requires asks { Asks (fields s.old) pid (calling within) (entries.Do call) }
+    requires lost { IsVerdict (moment s.old.history) pid
+        (counted_touches (moment s.old.history) pid call) (Verdict.Lose entry reply) }
+    ensures { Does (fields s.old) (fields s.new) pid (entries.Do call) result }
 {
-    let plan = plan_for(s, pid, &call)?;
-    match s.contenders.verdict(s.heap, pid, plan.touches.as_slice())? {
-        Verdict::Lose(entry, reply) => Ok(lose(s, pid, call, within.0, within.1, (entry, reply))),
-        Verdict::Go(doomed) => take_within(s, pid, within, call, plan, doomed),
+    let op = Op::Call(call);
+    match within {
+        None => add_entry(s, pid, op, (Reply::Busy(entry), Reply::Busy(reply))),
+        Some(live) => {
+            let again = live.0.restarts();
+            let told = (aborted(entry, again), aborted(reply, again));
+            end_transaction(s, pid, op, told, again, live)
+        }
+    }
+}
+
+/// A call of a process in no transaction or in a live one. Refused memory changes nothing.
+pub fn run(s: &mut State, pid: Pid, within: Within, call: Call) -> Result<Reply, AllocError>
+    requires { Asks (fields s.old) pid (calling within) (entries.Do call) }
+    ensures ok { IfOk result (Does (fields s.old) (fields s.new) pid (entries.Do call)) }
+    ensures err { OnErr result (Unchanged (fields s.old) (fields s.new)) }
+{
+    let plan = plan_for(s, pid, &within, &call)?;
+    let verdict = s.contenders.verdict(s.heap, pid, plan.touches.as_slice())?;
+    match verdict {
+        Verdict::Lose(entry, reply) => Ok(refuse(s, pid, within, call, entry, reply)),
+        Verdict::Go(doomed) => take(s, pid, within, call, plan, doomed),
     }
 }

@@ -1,4 +1,5 @@
 // The kernel, and one step of it.
+ghost use Rattle.ids.specs.declared.limits.TheConstants.{MAX_ENTRIES, MAX_PROCESSES};
 ghost use Rattle.std.specs.Prelude.{◌≡◌, ◌<◌, ◌≤◌, [], true, length, is_some, IfOk, IfSome, OnErr};
 ghost use Rattle.model.specs.Changes.{tidy};
 ghost use Rattle.model.specs.Moments.{is_alive, seen_by};
@@ -29,24 +30,25 @@ pub struct Kernel {
 
 impl Model for Kernel {
     ghost use Rattle.kernel.specs.Shown.{Shown};
-    ghost use Rattle.kernel.specs.States.{Holds, fields, shown};
+    ghost use Rattle.kernel.specs.States.{IsConsistent, fields, shown};
 
     ghost Value = { Shown };
 
     ghost view = { λ k. shown (fields k.state) };
 
-    ghost invariant = { λ k. Holds (fields k.state) };
+    ghost invariant = { λ k. IsConsistent (fields k.state) };
 }
 
 impl Kernel {
-    /// A kernel with a process for each of these priorities, no names, and a history of at most `limit` entries, whose
-    /// memory it takes at once. Refused memory gives nothing.
+    /// A kernel with a process for each of these priorities, no names, and a history of at most
+    /// `limit` entries, whose memory it takes at once. Refused memory gives nothing.
     pub fn new(heap: Heap, priorities: &[Priority], limit: usize) -> Result<Kernel, AllocError>
         requires some { 0 < length priorities.now }
-        requires not_too_many { length priorities.now ≤ 4096 }
-        requires limited { limit ≤ 1048576 }
+        requires not_too_many { length priorities.now ≤ MAX_PROCESSES }
+        requires limited { limit ≤ MAX_ENTRIES }
         ensures kept { IfOk result Kept }
-        ensures log { IfOk result (λ k. k.log ≡ record { entries = []; priorities = priorities.now; limit = limit }) }
+        ensures log { IfOk result (λ k.
+            k.log ≡ record { entries = []; priorities = priorities.now; limit = limit }) }
     {
         let history = History::new(heap, priorities, limit)?;
         let contenders = Contenders::new(heap, priorities)?;
@@ -65,7 +67,8 @@ impl Kernel {
     pub fn history(&self) -> &History
         ensures value { result.now ≡ self.now.log }
         ensures kept { Kept self.now }
-        ensures serial { IsSerializable 0 self.now.log.priorities self.now.log.limit self.now.log.entries self.now.state }
+        ensures serial { IsSerializable 0 self.now.log.priorities self.now.log.limit
+            self.now.log.entries self.now.state }
     {
         &self.state.history
     }
@@ -84,8 +87,8 @@ impl Kernel {
         self.state.transactions.stable().is_living(pid)
     }
 
-    /// What is committed. A process in no transaction sees it. Its directories are a tree, and neither it nor what a process sees
-    /// passes a limit of processes, files, pipes or offsets.
+    /// What is committed. A process in no transaction sees it. Its directories are a tree, and
+    /// neither it nor what a process sees passes a limit of processes, files, pipes or offsets.
     pub fn stable(&self) -> &Stable
         ensures state { result.now.state ≡ self.now.state }
         ensures tree { IsATree self.now.state }
@@ -94,39 +97,45 @@ impl Kernel {
         self.state.transactions.stable()
     }
 
-    /// What a process has changed in its live transaction, if it is in one. With these changes on top of the committed state,
-    /// and what nothing leads to freed, it sees what the history says.
+    /// What a process has changed in its live transaction, if it is in one. With these changes on
+    /// top of the committed state, and what nothing leads to freed, it sees what the history says.
     pub fn shadow(&self, pid: Pid) -> Option<&Shadow>
         ensures live { is_some result ≡ is_live (moment self.now.log) pid }
-        ensures sees { IfSome result (λ s. tidy (all_done s.now self.now.state) ≡ seen_by (moment self.now.log) pid) }
+        ensures sees { IfSome result (λ s.
+            tidy (all_done s.now self.now.state) ≡ seen_by (moment self.now.log) pid) }
     {
         self.state.transactions.shadow(pid)
     }
 
-    /// What a process sees: what is committed, with the changes of its live transaction on top, if it is in one. With what
-    /// nothing leads to freed, it is what the history says.
+    /// What a process sees: what is committed, with the changes of its live transaction on top, if
+    /// it is in one. With what nothing leads to freed, it is what the history says.
     pub fn view(&self, pid: Pid) -> View<'_>
         ensures { tidy result.state ≡ seen_by (moment self.now.log) pid }
     {
         self.state.transactions.view(pid)
     }
 
-    /// One operation of one process. HistoryFull and NoMemory change nothing; each other reply is that of one new entry.
+    /// One operation of one process. HistoryFull and NoMemory change nothing; each other reply is
+    /// that of one new entry.
     pub fn step(&mut self, pid: Pid, op: Op) -> Reply
         requires { can_run op ≡ true }
         ensures kept { Kept self.new }
-        ensures serial { IsSerializable 0 self.new.log.priorities self.new.log.limit self.new.log.entries self.new.state }
+        ensures serial { IsSerializable 0 self.new.log.priorities self.new.log.limit
+            self.new.log.entries self.new.state }
         ensures step { IsStep self.old self.new pid op result }
     {
         step(&mut self.state, pid, op)
     }
 
-    /// Steps in a row. Refused memory for the replies means that nothing has run; a later refusal stands among the replies.
+    /// Steps in a row. Refused memory for the replies means that nothing has run; a later refusal
+    /// stands among the replies.
     pub fn run(&mut self, ops: Vec<(Pid, Op), Heap>) -> Result<Vec<Reply, Heap>, AllocError>
         requires { CanRunAll ops.items }
         ensures kept { Kept self.new }
-        ensures serial { IsSerializable 0 self.new.log.priorities self.new.log.limit self.new.log.entries self.new.state }
-        ensures steps { IfOk result (λ replies. Steps self.old ops.entry.items replies.items self.new) }
+        ensures serial { IsSerializable 0 self.new.log.priorities self.new.log.limit
+            self.new.log.entries self.new.state }
+        ensures steps { IfOk result (λ replies.
+            Steps self.old ops.entry.items replies.items self.new) }
         ensures err { OnErr result (self.new ≡ self.old) }
     {
         let _ = self.history();

@@ -1,17 +1,15 @@
 // The fields of a kernel, and the entries that change them.
-ghost use Rattle.std.specs.Prelude.{◌≡◌, ◌<◌, [], length, Some, None, if◌then◌else◌};
-ghost use Rattle.contention.specs.Holding.{held_at, Becomes};
-ghost use Rattle.commit.specs.Views.{Shows};
-ghost use Rattle.kernel.specs.Rows.{IsQuiet, settled_as};
-ghost use Rattle.kernel.specs.States.{CanSettle, Holds, fields, shown};
-ghost use Rattle.kernel.specs.Steps.{IsStep};
-ghost use Rattle.kernel.specs.Views.{shown_by};
+ghost use Rattle.std.specs.Prelude.{◌≡◌, []};
+ghost use Rattle.contention.specs.Contenders.{contender_at};
+ghost use Rattle.kernel.specs.States.{CanEnter, CanEndTransaction, Does, Fields, IsIn, Moves};
+ghost use Rattle.kernel.specs.States.{cleared, fields, plain, settled_as};
+ghost use Rattle.kernel.specs.Steps.{entry_of};
 
 use commit::Transactions;
 use contention::Contenders;
 use heap::Heap;
 use history::History;
-use ids::{Age, BeginFlags, Entry, Pid};
+use ids::{Age, BeginFlags, Entry, Nums, Op, Pid, Pids, Reply};
 
 /// The fields of a kernel.
 #[derive(Drop)]
@@ -26,49 +24,61 @@ pub struct State {
     pub transactions: Transactions,
 }
 
-/// Adds an entry that dooms nobody, commits nothing and leaves its process as it was.
-pub fn note(s: &mut State, entry: Entry)
-    requires holds { Holds (fields s.old) }
-    requires quiet { IsQuiet s.old.history entry }
-    ensures holds { Holds (fields s.new) }
-    ensures step { IsStep (shown (fields s.old)) (shown (fields s.new)) entry.pid entry.op entry.reply }
+/// The flags and the age of a live transaction.
+pub type Live = (BeginFlags, Age);
+
+/// A reply: for the entry, and for the caller.
+pub type Told = (Reply, Reply);
+
+/// Adds an entry, when the other fields show already what it does. It takes no memory.
+pub fn enter(s: &mut State, pid: Pid, op: Op, reply: Reply, chosen: Nums, doomed: Pids)
+    requires { CanEnter (fields s.old) (entry_of pid op reply chosen doomed) }
+    ensures { (old : Fields) → old.log ≡ s.old.history → Does old (fields s.new) pid op reply }
 {
-    s.history.push_placed(entry);
+    s.history.push_placed(Entry {
+        pid,
+        op,
+        reply,
+        chosen,
+        doomed,
+    });
 }
 
-/// Adds an entry that dooms nobody and commits nothing, and after which its process's transaction begins, or begins anew, or
-/// is gone. What it had changed is forgotten. Its slot before may have been taken already.
-pub fn settle(s: &mut State, entry: Entry, again: bool, flags: BeginFlags, age: Age)
-    requires { CanSettle (fields s.old) entry again flags age }
-    ensures holds { Holds (fields s.new) }
-    ensures step { IsStep (shown (fields s.old)) (shown (fields s.new)) entry.pid entry.op entry.reply }
+/// Adds an entry without new numbers that dooms nobody, and answers its reply once more.
+pub fn add_entry(s: &mut State, pid: Pid, op: Op, told: Told) -> Reply
+    requires can { CanEnter (fields s.old) (plain pid op told.0) }
+    requires twice { told.1 ≡ told.0 }
+    ensures now { Does (fields s.old) (fields s.new) pid op result }
+    ensures any { (old : Fields) → old.log ≡ s.old.history → Does old (fields s.new) pid op result }
 {
-    let pid = entry.pid;
-    settle_held(&mut s.contenders, pid, again, age);
-    settle_slot(&mut s.transactions, pid, again, flags, age);
-    s.history.push_placed(entry);
+    let (entry, reply) = told;
+    enter(s, pid, op, entry, Nums::new(s.heap), Pids::new(s.heap));
+    reply
 }
 
-/// The slot of a process that is in a transaction without calls, or in none.
-fn settle_slot(transactions: &mut Transactions, pid: Pid, again: bool, flags: BeginFlags, age: Age)
-    requires { pid < length transactions.old.slots }
-    ensures slots { Shows transactions.old.slots transactions.new.slots pid (shown_by (settled_as again flags age) []) }
-    ensures state { transactions.new.stable.state ≡ transactions.old.stable.state }
+/// Adds such an entry, after which its process's transaction begins, or begins anew, or is gone.
+pub fn end_transaction(s: &mut State, pid: Pid, op: Op, told: Told, anew: bool, live: Live) -> Reply
+    requires can { CanEndTransaction (fields s.old) pid op told.0 anew live.0 live.1 }
+    requires twice { told.1 ≡ told.0 }
+    ensures now { Does (fields s.old) (fields s.new) pid op result }
+    ensures any { (old : Fields) → old.log ≡ s.old.history → Does old (fields s.new) pid op result }
 {
-    if again {
-        transactions.begin(pid, flags, age);
+    clear(s, pid, anew, live);
+    add_entry(s, pid, op, told)
+}
+
+/// What a process had changed and touched is forgotten.
+fn clear(s: &mut State, pid: Pid, anew: bool, live: Live)
+    requires { IsIn (fields s.old) pid }
+    ensures { Moves (fields s.old) (fields s.new) pid
+        (cleared (contender_at s.old.contenders pid).priority (settled_as anew live.0 live.1))
+        s.old.transactions.stable.state [] }
+{
+    s.contenders.release(pid);
+    if anew {
+        s.contenders.begin(pid, live.1);
+        s.transactions.begin(pid, live.0, live.1);
     } else {
-        transactions.abort(pid);
-    }
-}
-
-/// What such a process holds.
-fn settle_held(contenders: &mut Contenders, pid: Pid, again: bool, age: Age)
-    requires { pid < length contenders.old }
-    ensures { Becomes contenders.old contenders.new pid (record (held_at contenders.old pid) { age = if again then Some age else None; touches = [] }) }
-{
-    contenders.release(pid);
-    if again {
-        contenders.begin(pid, age);
+        s.transactions.abort(pid);
     }
 }

@@ -1,106 +1,176 @@
 // One operation of one process.
 ghost use Rattle.std.specs.Prelude.{◌≡◌, true};
+ghost use Rattle.model.specs.Entries as entries;
+ghost use Rattle.model.specs.Legal.{restarts};
+ghost use Rattle.model.specs.Moments.{Status, has_free, status};
+ghost use Rattle.model.specs.Replies.{needed};
 ghost use Rattle.kernel.specs.Operations.{can_run};
 ghost use Rattle.kernel.specs.Shown.{moment};
-ghost use Rattle.commit.specs.Standings.{StandsSo};
-ghost use Rattle.kernel.specs.States.{Holds, fields, shown};
-ghost use Rattle.kernel.specs.Steps.{IsStep};
-ghost use Rattle.commit.specs.Views.{resting};
-ghost use Rattle.kernel.specs.Views.{view_of};
+ghost use Rattle.kernel.specs.States.{Asks, Does, IsConsistent, Stands, calling, fields};
 
-use crate::execute::{end, run_plain, run_within};
-use crate::rest::{
-    begin, give_up, has_free, notice, refuse_begin, refuse_outside, refuse_process, standing_of,
-};
-use crate::state::State;
+use crate::execute::{aborted, run};
+use crate::state::{Live, State, add_entry, end_transaction};
 use commit::Standing;
-use ids::{Age, BeginFlags, Op, Pid, Reply};
+use ids::{Age, BeginFlags, Call, Op, Pid, Reply};
 use std::alloc::AllocError;
+
+/// What the process is.
+fn standing_of(s: &State, pid: Pid) -> Standing
+    requires { IsConsistent (fields s.now) }
+    ensures { Stands result (status (moment s.now.history) pid) }
+{
+    s.transactions.standing(pid)
+}
+
+/// Whether the operation is there today: each but a call that `calls` does not have yet.
+pub fn is_there(op: &Op) -> bool
+    ensures { result ≡ can_run op.now }
+{
+    match op {
+        Op::Call(call) => calls::is_there(call),
+        Op::Begin(_) => true,
+        Op::End => true,
+        Op::Abort { no_restart: _ } => true,
+    }
+}
+
+/// How many free places of the history the operation needs.
+fn needed(standing: &Standing, op: &Op) -> usize
+    ensures { (s : Status) → Stands standing.now s → result ≡ needed s op.now }
+{
+    match standing {
+        Standing::Gone => 1,
+        Standing::Doomed(_, _) => 0,
+        Standing::Idle => match op {
+            Op::Begin(_) => 2,
+            Op::Call(_) | Op::End | Op::Abort { .. } => 1,
+        },
+        Standing::Live(_, _) => match op {
+            Op::Begin(_) | Op::Call(_) => 1,
+            Op::End | Op::Abort { .. } => 0,
+        },
+    }
+}
+
+/// Whether so many places are free.
+fn has_free(s: &State, needed: usize) -> bool
+    requires { IsConsistent (fields s.now) }
+    ensures { result ≡ has_free s.now.history.limit (moment s.now.history) needed }
+{
+    let held = s.transactions.count();
+    s.history.limit() - s.history.entries().len() - held >= needed
+}
+
+/// Whether a transaction with these flags is begun anew at this operation, if a place is free.
+fn is_restarted(s: &State, flags: BeginFlags, op: &Op) -> bool
+    requires { IsConsistent (fields s.now) }
+    ensures { result ≡ restarts s.now.history.limit (moment s.now.history) flags op.now }
+{
+    match op {
+        Op::Call(_) | Op::Begin(_) | Op::End => flags.restarts() && has_free(s, 1),
+        Op::Abort { no_restart } => flags.restarts() && (!*no_restart && has_free(s, 1)),
+    }
+}
+
+/// Begins a transaction.
+fn begin(s: &mut State, pid: Pid, flags: BeginFlags) -> Reply
+    requires { Asks (fields s.old) pid Standing.Idle (entries.Begin flags) }
+    ensures { Does (fields s.old) (fields s.new) pid (entries.Begin flags) result }
+{
+    let age = Age(s.history.entries().len() as u64 + 1);
+    let told = (Reply::Begun, Reply::Begun);
+    end_transaction(s, pid, Op::Begin(flags), told, true, (flags, age))
+}
+
+/// Gives a live transaction up, and begins it anew where its flags say so and a place is free.
+fn give_up(s: &mut State, pid: Pid, flags: BeginFlags, age: Age, no_restart: bool) -> Reply
+    requires { Asks (fields s.old) pid (Standing.Live flags age) (entries.Abort no_restart) }
+    ensures { Does (fields s.old) (fields s.new) pid (entries.Abort no_restart) result }
+{
+    let op = Op::Abort { no_restart };
+    let restarted = is_restarted(s, flags, &op);
+    let told = (Reply::GivenUp { restarted }, Reply::GivenUp { restarted });
+    end_transaction(s, pid, op, told, restarted, (flags, age))
+}
+
+/// Commits a live transaction: its changes are made in one step. It takes no memory.
+fn end(s: &mut State, pid: Pid, flags: BeginFlags, age: Age) -> Reply
+    requires { Asks (fields s.old) pid (Standing.Live flags age) entries.End }
+    ensures { Does (fields s.old) (fields s.new) pid entries.End result }
+{
+    s.transactions.end(pid);
+    let told = (Reply::Committed, Reply::Committed);
+    end_transaction(s, pid, Op::End, told, false, (flags, age))
+}
+
+/// Tells a doomed process why. The operation is not executed. It takes no memory.
+fn notice(s: &mut State, pid: Pid, flags: BeginFlags, age: Age, op: Op) -> Reply
+    requires { Asks (fields s.old) pid (Standing.Doomed flags age) op }
+    ensures { Does (fields s.old) (fields s.new) pid op result }
+{
+    let restarted = is_restarted(s, flags, &op);
+    let Some((entry, reply)) = s.transactions.take_causes(pid) else {
+        return Reply::NoProcess;
+    };
+    let told = (aborted(entry, restarted), aborted(reply, restarted));
+    end_transaction(s, pid, op, told, restarted, (flags, age))
+}
+
+/// A call of a process in no transaction or in a live one.
+fn step_call(s: &mut State, pid: Pid, within: Option<Live>, call: Call) -> Reply
+    requires { Asks (fields s.old) pid (calling within) (entries.Do call) }
+    ensures { Does (fields s.old) (fields s.new) pid (entries.Do call) result }
+{
+    match run(s, pid, within, call) {
+        Ok(reply) => reply,
+        Err(AllocError) => Reply::NoMemory,
+    }
+}
 
 /// An operation of a process that is in no transaction.
 fn step_idle(s: &mut State, pid: Pid, op: Op) -> Reply
-    requires holds { Holds (fields s.old) }
-    requires idle { view_of (moment s.old.history) pid ≡ resting }
-    requires there { can_run op ≡ true }
-    ensures holds { Holds (fields s.new) }
-    ensures step { IsStep (shown (fields s.old)) (shown (fields s.new)) pid op result }
+    requires { Asks (fields s.old) pid Standing.Idle op }
+    ensures { Does (fields s.old) (fields s.new) pid op result }
 {
+    let outside = (Reply::NotInTransaction, Reply::NotInTransaction);
     match op {
-        Op::Begin(flags) => {
-            if !has_free(s, 2) {
-                return Reply::HistoryFull;
-            }
-            begin(s, pid, flags)
-        }
-        Op::Call(call) => {
-            if !has_free(s, 1) {
-                return Reply::HistoryFull;
-            }
-            match run_plain(s, pid, call) {
-                Ok(reply) => reply,
-                Err(AllocError) => Reply::NoMemory,
-            }
-        }
-        Op::End => {
-            if !has_free(s, 1) {
-                return Reply::HistoryFull;
-            }
-            refuse_outside(s, pid, Op::End)
-        }
-        Op::Abort { no_restart } => {
-            if !has_free(s, 1) {
-                return Reply::HistoryFull;
-            }
-            refuse_outside(s, pid, Op::Abort { no_restart })
-        }
+        Op::Begin(flags) => begin(s, pid, flags),
+        Op::Call(call) => step_call(s, pid, None, call),
+        Op::End => add_entry(s, pid, Op::End, outside),
+        Op::Abort { no_restart } => add_entry(s, pid, Op::Abort { no_restart }, outside),
     }
 }
 
 /// An operation of a process that is in a live transaction.
 fn step_live(s: &mut State, pid: Pid, flags: BeginFlags, age: Age, op: Op) -> Reply
-    requires holds { Holds (fields s.old) }
-    requires live { StandsSo (Standing.Live flags age) (view_of (moment s.old.history) pid) }
-    requires there { can_run op ≡ true }
-    ensures holds { Holds (fields s.new) }
-    ensures step { IsStep (shown (fields s.old)) (shown (fields s.new)) pid op result }
+    requires { Asks (fields s.old) pid (Standing.Live flags age) op }
+    ensures { Does (fields s.old) (fields s.new) pid op result }
 {
     match op {
         Op::End => end(s, pid, flags, age),
         Op::Abort { no_restart } => give_up(s, pid, flags, age, no_restart),
-        Op::Begin(new_flags) => {
-            if !has_free(s, 1) {
-                return Reply::HistoryFull;
-            }
-            refuse_begin(s, pid, flags, age, new_flags)
-        }
-        Op::Call(call) => {
-            if !has_free(s, 1) {
-                return Reply::HistoryFull;
-            }
-            match run_within(s, pid, (flags, age), call) {
-                Ok(reply) => reply,
-                Err(AllocError) => Reply::NoMemory,
-            }
+        Op::Call(call) => step_call(s, pid, Some((flags, age)), call),
+        Op::Begin(flags) => {
+            let told = (Reply::InTransaction, Reply::InTransaction);
+            add_entry(s, pid, Op::Begin(flags), told)
         }
     }
 }
 
 /// One operation of one process. HistoryFull and NoMemory change nothing.
 pub fn step(s: &mut State, pid: Pid, op: Op) -> Reply
-    requires holds { Holds (fields s.old) }
+    requires holds { IsConsistent (fields s.old) }
     requires there { can_run op ≡ true }
-    ensures holds { Holds (fields s.new) }
-    ensures step { IsStep (shown (fields s.old)) (shown (fields s.new)) pid op result }
+    ensures { Does (fields s.old) (fields s.new) pid op result }
 {
-    match standing_of(s, pid) {
-        Standing::Doomed(flags, age) => notice(s, pid, flags, age, op),
-        Standing::Live(flags, age) => step_live(s, pid, flags, age, op),
+    let standing = standing_of(s, pid);
+    if !has_free(s, needed(&standing, &op)) {
+        return Reply::HistoryFull;
+    }
+    match standing {
+        Standing::Gone => add_entry(s, pid, op, (Reply::NoProcess, Reply::NoProcess)),
         Standing::Idle => step_idle(s, pid, op),
-        Standing::Gone => {
-            if !has_free(s, 1) {
-                return Reply::HistoryFull;
-            }
-            refuse_process(s, pid, op)
-        }
+        Standing::Live(flags, age) => step_live(s, pid, flags, age, op),
+        Standing::Doomed(flags, age) => notice(s, pid, flags, age, op),
     }
 }

@@ -1,5 +1,5 @@
-//! Tests of the layers below the kernel: each public call once where all goes well, and each refusal of memory. They stand
-//! here so that no layer is proved a second time for its tests.
+//! Tests of the layers below the kernel: each public call once where all goes well, and each
+//! refusal of memory. They stand here so that no layer is proved a second time for its tests.
 #![tactic(auto)]
 
 #[cfg(test)]
@@ -22,6 +22,8 @@ mod of_history;
 mod of_ids;
 #[cfg(test)]
 mod of_objects;
+#[cfg(test)]
+mod of_patch;
 #[cfg(test)]
 mod of_path;
 #[cfg(test)]

@@ -2,7 +2,7 @@
 use crate::refused::is_refused;
 use conflict::{
     any_clash_between, clashes_with_any, do_clash, first_clash, is_same_aspect, keep_writes,
-    told_touch,
+    reported_touch,
 };
 use heap::Heap;
 use ids::{Aspect, Name, Num, Touch};
@@ -42,13 +42,13 @@ fn is_same(first: &Touch, second: &Touch) -> bool {
 }
 
 fn assert_told(rt: &impl Abort, touches: &[Touch], others: &[Touch], expected: &Touch) {
-    let told = told_touch(touches, others).expect(rt, "memory");
+    let told = reported_touch(touches, others).expect(rt, "memory");
     let same = is_same(&told, expected);
     assert!(rt; same, "{told:?}");
 }
 
-// Whether two touches write, the directory and the name of the second, and whether it clashes with the first, on name `a` in
-// directory 1.
+// Whether two touches write, the directory and the name of the second, and whether it clashes with
+// the first, on name `a` in directory 1.
 static ENTRIES: [(bool, bool, usize, &str, bool); 6] = [
     (false, false, 1, "a", false),
     (false, true, 1, "a", true),
@@ -198,9 +198,9 @@ fn a_refused_copy_says_so(rt: HostRuntime) {
     let lists = [read(Aspect::Names(Num(1)))];
     let others = [entry(&rt, heap, 1, "a", true)];
     heap.refuse(1);
-    assert!(rt; is_refused(told_touch(&lists, &others)));
+    assert!(rt; is_refused(reported_touch(&lists, &others)));
     heap.refuse(1);
-    assert!(rt; is_refused(told_touch(&others, &others)));
+    assert!(rt; is_refused(reported_touch(&others, &others)));
     heap.refuse(0);
-    assert!(rt; !is_refused(told_touch(&lists, &others)));
+    assert!(rt; !is_refused(reported_touch(&lists, &others)));
 }

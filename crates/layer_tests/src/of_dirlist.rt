@@ -9,12 +9,12 @@ use ids::{Name, Num};
 use std::alloc::AllocError;
 use std::process::Abort;
 
-fn name(rt: &impl Abort, heap: Heap, bytes: &[u8]) -> Name {
+pub(crate) fn name(rt: &impl Abort, heap: Heap, bytes: &[u8]) -> Name {
     Name::copy(heap, bytes).expect(rt, "memory")
 }
 
 // Adds a name where it is not there yet, as its caller has to.
-fn put(dir: &mut Dir, name: Name, num: Num) -> Result<(), AllocError>
+pub(crate) fn put(dir: &mut Dir, name: Name, num: Num) -> Result<(), AllocError>
     ensures { dir.new.promised ≡ dir.old.promised }
 {
     if dir.lookup(&name).is_none() {

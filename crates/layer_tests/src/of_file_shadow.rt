@@ -135,7 +135,8 @@ fn shadows_merge_block_by_block(rt: HostRuntime) {
     assert_holds(&rt, &file, 2047, b"\0\0z");
 }
 
-// Whether a byte is written, whether its block is then the one that is changed, how many are, and the length.
+// Whether a byte is written, whether its block is then the one that is changed, how many are, and
+// the length.
 fn written(heap: Heap, shadow: &mut FileShadow, file: &FileData) -> (bool, bool, usize, usize) {
     let done = shadow.write(heap, 9000, b"z").is_ok();
     let changed = shadow.changed();
@@ -174,7 +175,7 @@ fn a_cut_takes_no_memory_and_a_refused_read_changes_nothing(rt: HostRuntime) {
     assert_eq!(rt; [len, shadow.len(&file)], [20_000; 2]);
 }
 
-// Others write in a changed block and change the length: the view is that of the file as it is then.
+// Others write in a changed block and change the length: the view is of the file as it is then.
 #[test]
 fn a_view_is_right_for_what_others_left(rt: HostRuntime) {
     let heap = heap::open(rt.alloc()).expect(&rt, "memory");

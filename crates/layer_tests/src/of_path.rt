@@ -50,7 +50,8 @@ fn refuses_other_spellings(rt: HostRuntime) {
     }
 }
 
-// Names of so many letters each, behind a beginning and before an ending: how long this path is, and why it is refused.
+// Names of so many letters each, behind a beginning and before an ending: how long this path is,
+// and why it is refused.
 fn told_of_long(
     rt: &impl Abort,
     heap: Heap,

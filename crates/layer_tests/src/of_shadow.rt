@@ -23,7 +23,7 @@ fn added(
     requires { shadow.old ≡ [] }
 {
     let view = View::new(stable, None);
-    view.names_are_in_use();
+    stable.names_are_in_use();
     let root = view.root();
     let mut edits = Vec::new(heap);
     edits.push(Edit::MakeDirectory(root, Name::copy(heap, name)?, 0))?;

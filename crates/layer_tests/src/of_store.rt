@@ -1,4 +1,10 @@
 // Numbers that are given out, objects under them, names in them, and refused memory.
+ghost use Rattle.std.specs.Prelude.{◌≡◌, false};
+ghost use Rattle.model.specs.FiniteMap as map;
+ghost use Rattle.model.specs.State.{names_of_inode};
+ghost use Rattle.store.specs.Places as places;
+ghost use Rattle.store.specs.Shown.{inode_of, inodes};
+
 use crate::refused::is_refused;
 use dirlist::Dir;
 use heap::Heap;
@@ -6,7 +12,9 @@ use ids::{Name, Num};
 use std::process::Abort;
 use store::{Object, Store};
 
-fn no_names(heap: Heap) -> Object {
+fn no_names(heap: Heap) -> Object
+    ensures { names_of_inode (inode_of result) ≡ map.empty }
+{
     Object::Directory(Dir::new(heap))
 }
 
@@ -26,6 +34,30 @@ fn name_count(store: &Store, num: Num) -> Option<usize> {
     store.directory(num).map(|dir| dir.len())
 }
 
+fn is_shown(store: &Store, num: Num) -> bool
+    ensures { result ≡ places.is_shown (map.get store.now.places num) }
+{
+    store.get(num).is_some()
+}
+
+// Whether the directory of a number is shown with names.
+#[tactic(auto, using(store::proofs::Names::no_names_left))]
+fn has_names(store: &Store, num: Num) -> bool
+    ensures { result ≡ false → names_of_inode (map.get (inodes store.now) num) ≡ map.empty }
+{
+    match store.directory(num) {
+        Some(dir) => !dir.is_empty(),
+        None => false,
+    }
+}
+
+// Loses a number that no name gives, whose directory has no names.
+fn lose_unnamed(store: &mut Store, num: Num) {
+    if !store.is_named(num) && !has_names(store, num) {
+        store.lose(num);
+    }
+}
+
 #[test]
 fn reserved_numbers_differ(rt: HostRuntime) {
     let heap = heap::open(rt.alloc()).expect(&rt, "memory");
@@ -38,7 +70,7 @@ fn reserved_numbers_differ(rt: HostRuntime) {
         [false; 3]
     );
     assert_eq!(rt; name_count(&store, root), Some(0));
-    store.lose(first);
+    lose_unnamed(&mut store, first);
     let third = reserved(&rt, heap, &mut store);
     assert_eq!(rt; [third == second, third == root], [false; 2]);
 }
@@ -64,7 +96,7 @@ fn what_is_lost_stays_away(rt: HostRuntime) {
     let mut store = Store::new(heap).expect(&rt, "memory");
     let num = added(&rt, heap, &mut store);
     heap.refuse(0);
-    store.lose(num);
+    lose_unnamed(&mut store, num);
     let lost = name_count(&store, num);
     store.install(num);
     let installed = name_count(&store, num);
@@ -78,7 +110,7 @@ fn a_lost_number_goes_with_the_last_promise(rt: HostRuntime) {
     let heap = heap::open(rt.alloc()).expect(&rt, "memory");
     let (mut store, dir) = with_room(&rt, heap);
     store.install(dir);
-    store.lose(dir);
+    lose_unnamed(&mut store, dir);
     let hidden = name_count(&store, dir);
     let other = reserved(&rt, heap, &mut store);
     store.release(dir);
@@ -98,9 +130,10 @@ fn with_room(rt: &impl Abort, heap: Heap) -> (Store, Num) {
     (store, dir)
 }
 
-// Adds a name where room for it is promised.
+// Adds a name in a directory that is shown, where room for it is promised, if what it is to give is
+// shown.
 fn add_promised(store: &mut Store, dir: Num, name: Name, num: Num) {
-    if store.is_promised(dir) {
+    if store.is_promised(dir) && is_shown(store, dir) && is_shown(store, num) {
         store.add_name(dir, name, num);
     }
 }
@@ -109,13 +142,14 @@ fn add_promised(store: &mut Store, dir: Num, name: Name, num: Num) {
 fn names_are_added_in_promised_room(rt: HostRuntime) {
     let heap = heap::open(rt.alloc()).expect(&rt, "memory");
     let (mut store, dir) = with_room(&rt, heap);
+    let root = store.root();
     let name = Name::copy(heap, b"a").expect(&rt, "memory");
     let same = Name::copy(heap, b"a").expect(&rt, "memory");
     heap.refuse(0);
-    add_promised(&mut store, dir, name, Num(7));
     store.install(dir);
+    add_promised(&mut store, dir, name, root);
     let one_is_left = store.is_promised(dir);
-    add_promised(&mut store, dir, same, Num(8));
+    add_promised(&mut store, dir, same, dir);
     assert_eq!(rt; [one_is_left, store.is_promised(dir)], [true, false]);
     assert_eq!(rt; (name_count(&store, dir), heap.made()), (Some(1), 0));
 }
@@ -124,18 +158,46 @@ fn names_are_added_in_promised_room(rt: HostRuntime) {
 fn a_name_gives_what_was_added_last(rt: HostRuntime) {
     let heap = heap::open(rt.alloc()).expect(&rt, "memory");
     let (mut store, dir) = with_room(&rt, heap);
+    let root = store.root();
     let key = Name::copy(heap, b"a").expect(&rt, "memory");
     let name = Name::copy(heap, b"a").expect(&rt, "memory");
     let same = Name::copy(heap, b"a").expect(&rt, "memory");
-    add_promised(&mut store, dir, name, Num(7));
     let to_come = store.lookup(dir, &key);
     store.install(dir);
+    add_promised(&mut store, dir, name, root);
     let first = store.lookup(dir, &key);
-    add_promised(&mut store, dir, same, Num(8));
+    add_promised(&mut store, dir, same, dir);
     let last = store.lookup(dir, &key);
     let removed = [store.remove_name(dir, &key), store.remove_name(dir, &key)];
-    assert_eq!(rt; [to_come, first, last], [None, Some(Num(7)), Some(Num(8))]);
-    assert_eq!(rt; removed, [Some(Num(8)), None]);
+    assert_eq!(rt; [to_come, first, last], [None, Some(root), Some(dir)]);
+    assert_eq!(rt; removed, [Some(dir), None]);
+}
+
+fn are_named(store: &Store, nums: [Num; 2]) -> [bool; 2] {
+    [store.is_named(nums[0]), store.is_named(nums[1])]
+}
+
+#[test]
+fn a_number_is_named_while_a_name_gives_it(rt: HostRuntime) {
+    let heap = heap::open(rt.alloc()).expect(&rt, "memory");
+    let (mut store, dir) = with_room(&rt, heap);
+    let nums = [store.root(), dir];
+    let key = Name::copy(heap, b"a").expect(&rt, "memory");
+    let name = Name::copy(heap, b"a").expect(&rt, "memory");
+    let same = Name::copy(heap, b"a").expect(&rt, "memory");
+    store.install(dir);
+    let none = are_named(&store, nums);
+    add_promised(&mut store, dir, name, nums[0]);
+    let first = are_named(&store, nums);
+    add_promised(&mut store, dir, same, nums[1]);
+    let last = are_named(&store, nums);
+    let _removed = store.remove_name(dir, &key);
+    assert_eq!(rt;
+        [none, first, last],
+        [[false; 2], [true, false], [false, true]]
+    );
+    assert_eq!(rt; are_named(&store, nums), [false; 2]);
+    assert_eq!(rt; store.is_named(Num(7)), false);
 }
 
 #[test]
@@ -152,7 +214,7 @@ fn promises_are_counted(rt: HostRuntime) {
     let one_is_left = [store.is_promised(root), store.is_promised(other)];
     store.release(root);
     let none_is_left = store.is_promised(root);
-    store.lose(other);
+    lose_unnamed(&mut store, other);
     store.promise(other).expect(&rt, "memory");
     let lost = store.is_promised(other);
     assert_eq!(rt; one_is_left, [true, false]);

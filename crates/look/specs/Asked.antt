@@ -1,4 +1,5 @@
--- What a plan comes to in a state: its result, with the touches of what it asked added to those before.
+-- What a plan comes to in a state: its result, with the touches of what it asked added to those
+-- before.
 use Rattle.std.specs.Prelude.{◌≡◌, List, ◌++◌, Bool, true, false, map, Result, Ok, Err, ⊤}
 use Rattle.model.specs.State.{Kernel}
 use Rattle.model.specs.Aspects.{Aspect}
@@ -25,13 +26,16 @@ asked k (Give x) before = (Ok x, before)
 asked k (Refuse e) before = (Err e, before)
 asked k (Ask q next) before = asked k (next (answer k q)) (before ++ reading (shown q (answer k q)))
 
-abbrev pub IsFrom : {A : Type 0} → Result A Refused × List Touch → Result A Refusal → List Touch → Type 0
+abbrev pub IsFrom : {A : Type 0} → Result A Refused × List Touch → Result A Refusal → List Touch
+    → Type 0
 IsFrom r (Ok x) after = r ≡ (Ok x, after)
 IsFrom r (Err (Errno e)) after = r ≡ (Err e, after)
 IsFrom r (Err NoMemory) after = ⊤
 
--- A function's answer is what the plan comes to, and so are the touches after it. Refused memory says nothing.
-pub record Comes {A : Type 0} (k : Kernel) (m : Plan A) (before : List Touch) (result : Result A Refusal) (after : List Touch) : Type 0 where
+-- A function's answer is what the plan comes to, and so are the touches after it. Refused memory
+-- says nothing.
+pub record Comes {A : Type 0} (k : Kernel) (m : Plan A)
+    (before : List Touch) (result : Result A Refusal) (after : List Touch) : Type 0 where
   pub is : IsFrom (asked k m before) result after
 
 -- The same of a function that asks nothing.

@@ -1,8 +1,9 @@
-pub mod Lists
-pub mod Answers
-pub mod Law
-pub mod Sums
-pub mod Inodes
-pub mod Bridges
-pub mod Places
-pub mod rows
+mod Lists
+mod Answers
+mod Law
+mod Sums
+mod Inodes
+mod Contents
+mod Places
+mod rows
+pub mod Laws

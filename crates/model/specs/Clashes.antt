@@ -1,6 +1,8 @@
--- When two touches clash (TxOS, section 4: conflicts are found when an object is accessed; section 5: additions of different names
--- to a directory do not conflict), and the touch that a doomed process is told.
-use Rattle.std.specs.Prelude.{ℕ, List, [], ◌∷◌, Bool, true, false, not, ◌&&◌, ◌||◌, ◌==◌, nat_lt, Option, Some, None, if◌then◌else◌}
+-- When two touches clash (TxOS, section 4: conflicts are found when an object is
+-- accessed; section 5: additions of different names to a directory do not conflict), and
+-- the touch that a doomed process is told.
+use Rattle.std.specs.Prelude.{ℕ, List, [], ◌∷◌, Bool, true, false, not, ◌&&◌, ◌||◌, ◌==◌, nat_lt}
+use Rattle.std.specs.Prelude.{Option, Some, None, if◌then◌else◌}
 use Rattle.std.specs.List.{list_any}
 use Rattle.model.specs.State.{Name}
 use Rattle.model.specs.Aspects.{Aspect, Entry, Names, Size, Block, Links, Ends, Offset, Front, Back}
@@ -24,9 +26,13 @@ abbrev pub names_against : Aspect → Bool → Aspect → Bool → Bool
 names_against (Names d) false (Entry e x) true = d == e
 names_against _ _ _ _ = false
 
--- Two touches of different processes clash on one aspect where one is a write, or where one reads a directory's names and the other writes an entry of it.
+-- Two touches of different processes clash on one aspect where one is a write, or where one reads a
+-- directory's names and the other writes an entry of it.
 abbrev pub clash : Touch → Touch → Bool
-clash t u = (same_aspect t.aspect u.aspect && (t.write || u.write)) || (names_against t.aspect t.write u.aspect u.write || names_against u.aspect u.write t.aspect t.write)
+clash t u =
+    (same_aspect t.aspect u.aspect && (t.write || u.write))
+    || (names_against t.aspect t.write u.aspect u.write
+    || names_against u.aspect u.write t.aspect t.write)
 
 abbrev pub clashes : Touch → List Touch → Bool
 clashes t us = list_any (clash t) us
@@ -36,7 +42,8 @@ any_clash ts us = list_any (λ t. clashes t us) ts
 
 -- whether the list has this very touch
 abbrev pub has_touch : Aspect → Bool → List Touch → Bool
-has_touch a write us = list_any (λ u. same_aspect u.aspect a && (if write then u.write else not u.write)) us
+has_touch a write us =
+    list_any (λ u. same_aspect u.aspect a && (if write then u.write else not u.write)) us
 
 -- the order of names by their bytes
 abbrev pub name_lt : Name → Name → Bool
@@ -72,7 +79,8 @@ by_names (Entry d x) us = record { aspect = Names d; write = false }
 by_names (Names d) us = entry_or d (least_written d us)
 by_names a us = record { aspect = a; write = false }
 
--- of the doomed one's touches, the one that clashes with t: on the same aspect its write before its read
+-- of the doomed one's touches, the one that clashes with t: on
+-- the same aspect its write before its read
 abbrev pub clashing_touch : Touch → List Touch → Touch
 clashing_touch t us =
     if has_touch t.aspect true us then record { aspect = t.aspect; write = true }

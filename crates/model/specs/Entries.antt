@@ -1,5 +1,6 @@
 -- Operations, replies and entries, and what of them is executed.
-use Rattle.std.specs.Prelude.{ℕ, List, Bool, true, false, Option, Some, None, Result, Ok, Err, if◌then◌else◌}
+use Rattle.std.specs.Prelude.{ℕ, List, Bool, true, false, Option, Some, None, Result, Ok, Err}
+use Rattle.std.specs.Prelude.{if◌then◌else◌}
 use Rattle.model.specs.Plan.{Errno, ENOTSUP}
 use Rattle.model.specs.Calls.{Call, Fork, Exit, Answer}
 pub use Rattle.ids.specs.declared.flags.BeginFlags.{BeginFlags}
@@ -9,7 +10,10 @@ pub use Rattle.ids.specs.declared.aspect.Cause.{Cause}
 pub use Rattle.ids.specs.declared.aspect.Why.{Why}
 pub use Rattle.ids.specs.declared.aspect.Why.TheVariants.{Clash, Unsupported}
 pub use Rattle.ids.specs.declared.reply.Reply.{Reply}
-pub use Rattle.ids.specs.declared.reply.Reply.TheVariants.{Answer as Answers, Errno as Refuses, Begun, Committed, GivenUp, Aborted, Busy, InTransaction, NotInTransaction, HistoryFull, NoMemory, NoProcess}
+pub use Rattle.ids.specs.declared.reply.Reply.TheVariants.{Answer as Answers, Errno as Refuses}
+pub use Rattle.ids.specs.declared.reply.Reply.TheVariants.{Begun, Committed, GivenUp, Aborted, Busy}
+pub use Rattle.ids.specs.declared.reply.Reply.TheVariants.{InTransaction, NotInTransaction}
+pub use Rattle.ids.specs.declared.reply.Reply.TheVariants.{HistoryFull, NoMemory, NoProcess}
 pub use Rattle.ids.specs.declared.entry.Entry.{Entry}
 
 -- one executed call

@@ -11,6 +11,9 @@ pub record GoesTheSame (now later : Kernel) (pid : ℕ) (call : Call) : Type 0 w
   pub touches : touches later pid call ≡ touches now pid call
   pub edits : edits later pid call ≡ edits now pid call
 
--- Locality: where a later state keeps all that a call saw, and the process's own part is the same, the call goes the same way.
+-- Locality: where a later state keeps all that a call saw, and the process's own part
+-- is the same, the call goes the same way.
 abbrev pub DependsOnWhatItSaw : Type 0
-DependsOnWhatItSaw = (now later : Kernel) (pid : ℕ) (call : Call) → own later pid call ≡ own now pid call → KeepsAll now later (reads now pid call) → GoesTheSame now later pid call
+DependsOnWhatItSaw =
+    (now later : Kernel) (pid : ℕ) (call : Call) → own later pid call ≡ own now pid call
+    → KeepsAll now later (reads now pid call) → GoesTheSame now later pid call

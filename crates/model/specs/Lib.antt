@@ -1,4 +1,5 @@
 pub mod FiniteMap
+pub mod Limits
 pub mod State
 pub mod Aspects
 pub mod Plan

@@ -28,7 +28,8 @@ any_below test n = list_any test (all_below (λ q. true) n)
 -- the list mode of a directory
 abbrev pub mode_of : Moment → ℕ → ListMode
 mode_of m d =
-    if any_below (λ q. is_reader d (held_by m q) && is_writer d (held_by m q)) (bound m) then Exclusive
+    if any_below (λ q. is_reader d (held_by m q) && is_writer d (held_by m q)) (bound m)
+    then Exclusive
     else if any_below (λ q. is_writer d (held_by m q)) (bound m) then Write
     else if any_below (λ q. is_reader d (held_by m q)) (bound m) then Read
     else NoTx

@@ -1,5 +1,7 @@
 -- What a history comes to: the committed state, and the status of each process.
-use Rattle.std.specs.Prelude.{ℕ, zero, suc, ◌+◌, Bool, true, false, not, ◌&&◌, ◌||◌, ◌==◌, nat_lt, nat_le, List, [], ◌∷◌, ◌++◌, Option, Some, None, Result, if◌then◌else◌, is_some, filter, length}
+use Rattle.std.specs.Prelude.{ℕ, zero, suc, ◌+◌, Bool, true, false, not, ◌&&◌, ◌||◌, ◌==◌, nat_lt}
+use Rattle.std.specs.Prelude.{nat_le, List, [], ◌∷◌, ◌++◌, Option, Some, None, Result}
+use Rattle.std.specs.Prelude.{if◌then◌else◌, is_some, filter, length}
 use Rattle.std.specs.List.{list_any}
 use Rattle.model.specs.FiniteMap.{FinMap, get, empty, insert}
 use Rattle.std.specs.Ordering.{nat_cmp}
@@ -8,17 +10,22 @@ use Rattle.model.specs.Plan.{Errno}
 use Rattle.model.specs.Changes.{all_applied, tidy, process_of}
 use Rattle.model.specs.Calls.{Call, Answer}
 use Rattle.model.specs.Steps.{Touch, touches, edits}
-use Rattle.model.specs.Entries.{BeginFlags, Op, Do, Begin, End, Abort, Cause, Reply, Answers, Refuses, Begun, Committed, GivenUp, Aborted, Busy, InTransaction, NotInTransaction, HistoryFull, NoMemory, NoProcess, Entry, Executed, answer_in}
+use Rattle.model.specs.Entries.{BeginFlags, Op, Do, Begin, End, Abort, Cause, Reply, Answers}
+use Rattle.model.specs.Entries.{Refuses, Begun, Committed, GivenUp, Aborted, Busy, InTransaction}
+use Rattle.model.specs.Entries.{NotInTransaction, HistoryFull, NoMemory, NoProcess, Entry, Executed}
+use Rattle.model.specs.Entries.{answer_in}
 use Rattle.model.specs.Clashes.{any_clash, clashes, doomed_touch}
 
--- A transaction's age is the place of its first begin. A doomed one has the cause that it will be told.
+-- A transaction's age is the place of its first begin. A
+-- doomed one has the cause that it will be told.
 pub data Status : Type 0 where
   gone : Status
   idle : Status
   live : BeginFlags → ℕ → List Executed → Status
   doomed : Cause → BeginFlags → ℕ → Status
 
--- After a beginning of a history. `phase` is idle, live or doomed, and idle for those that are no process.
+-- After a beginning of a history. `phase` is idle, live or
+-- doomed, and idle for those that are no process.
 pub record Moment : Type 0 where
   pub committed : Kernel
   pub entries : ℕ
@@ -31,16 +38,25 @@ is_alive k pid = is_some (get k.processes pid)
 abbrev pub status : Moment → ℕ → Status
 status m pid = if is_alive m.committed pid then m.phase pid else gone
 
--- the state before any entry: the empty root, and processes 1, 2, .. with these priorities and empty tables
+-- the state before any entry: the empty root, and processes 1, 2,
+-- .. with these priorities and empty tables
 abbrev pub with_processes : ℕ → List ℕ → FinMap nat_cmp Process → FinMap nat_cmp Process
 with_processes made [] m = m
-with_processes made (p ∷ ps) m = with_processes (suc made) ps (insert m (suc made) (record { table = empty; priority = p }))
+with_processes made (p ∷ ps) m =
+    with_processes (suc made) ps (insert m (suc made) (record { table = empty; priority = p }))
 
 abbrev pub start : ℕ → List ℕ → Kernel
-start root priorities = record { root = root; inodes = insert empty root (Directory empty); descriptions = empty; processes = with_processes 0 priorities empty; made = length priorities }
+start root priorities = record {
+  root = root;
+  inodes = insert empty root (Directory empty);
+  descriptions = empty;
+  processes = with_processes 0 priorities empty;
+  made = length priorities;
+}
 
 abbrev pub at_start : ℕ → List ℕ → Moment
-at_start root priorities = record { committed = start root priorities; entries = 0; phase = λ pid. idle }
+at_start root priorities =
+    record { committed = start root priorities; entries = 0; phase = λ pid. idle }
 
 -- the state after one executed call, untidied and tidied
 abbrev pub after_one : ℕ → Executed → Kernel → Kernel
@@ -131,7 +147,9 @@ is_later _ _ = false
 
 -- whether pid loses where it clashes with q
 abbrev pub loses : Moment → ℕ → ℕ → Bool
-loses m pid q = nat_lt (priority_of m pid) (priority_of m q) || ((priority_of m pid == priority_of m q) && is_later (m.phase pid) (m.phase q))
+loses m pid q =
+    nat_lt (priority_of m pid) (priority_of m q)
+    || ((priority_of m pid == priority_of m q) && is_later (m.phase pid) (m.phase q))
 
 -- whether q is another one whose live transaction clashes with these touches
 abbrev pub clashes_with : Moment → ℕ → List Touch → ℕ → Bool
@@ -147,7 +165,8 @@ cause_or t None later = later
 
 abbrev pub losing_cause : Moment → ℕ → List Touch → Option Cause
 losing_cause m pid [] = None
-losing_cause m pid (t ∷ ts) = cause_or t (lowest_below (loses_by m pid t) (bound m)) (losing_cause m pid ts)
+losing_cause m pid (t ∷ ts) =
+    cause_or t (lowest_below (loses_by m pid t) (bound m)) (losing_cause m pid ts)
 
 -- the cause that q, doomed by these touches of pid, is told
 abbrev pub doom_cause : Moment → ℕ → List Touch → ℕ → Cause
@@ -163,7 +182,8 @@ settled gone again = gone
 settled idle again = idle
 
 abbrev pub with_call : Status → Op → Option (Result Answer Errno) → List ℕ → Status
-with_call (live flags age calls) (Do call) (Some answer) chosen = live flags age (calls ++ record { call = call; answer = answer; chosen = chosen } ∷ [])
+with_call (live flags age calls) (Do call) (Some answer) chosen =
+    live flags age (calls ++ record { call = call; answer = answer; chosen = chosen } ∷ [])
 with_call s op answer chosen = s
 
 abbrev pub begun : Status → Op → ℕ → Status
@@ -203,12 +223,16 @@ is_in n ns = list_any (λ m. n == m) ns
 
 abbrev pub next_phase : Moment → Entry → ℕ → Status
 next_phase m e q =
-    let own = if q == e.pid then own_next (m.entries + 1) (m.phase q) e.op e.reply e.chosen else m.phase q in
+    let own =
+    if q == e.pid then own_next (m.entries + 1) (m.phase q) e.op e.reply e.chosen
+    else m.phase q in
     if is_in q e.doomed then doom own (doom_cause m e.pid (dooming_touches m e.pid e.op) q) else own
 
--- the calls that an entry runs on the committed state: an executed plain call, or a committed transaction's list
+-- the calls that an entry runs on the committed state: an executed
+-- plain call, or a committed transaction's list
 abbrev pub plain_calls : Call → Option (Result Answer Errno) → List ℕ → List Executed
-plain_calls call (Some answer) chosen = record { call = call; answer = answer; chosen = chosen } ∷ []
+plain_calls call (Some answer) chosen =
+    record { call = call; answer = answer; chosen = chosen } ∷ []
 plain_calls call None chosen = []
 
 abbrev pub run_by : Status → Op → Reply → List ℕ → List Executed

@@ -1,7 +1,10 @@
--- The names of a path (POSIX.1-2017, 4.13 Pathname Resolution, in this kernel's narrower spelling: a path is `/`, or one or
--- more of `/name`; empty paths, relative ones, `.`, `..` and repeated or trailing slashes are refused).
-use Rattle.std.specs.Prelude.{ℕ, List, [], ◌∷◌, Bool, true, false, ◌&&◌, ◌||◌, ◌==◌, nat_lt, if◌then◌else◌, length, Result, Ok, Err}
+-- The names of a path (POSIX.1-2017, 4.13 Pathname Resolution, in this kernel's narrower
+-- spelling: a path is `/`, or one or more of `/name`; empty paths, relative ones, `.`, `..` and
+-- repeated or trailing slashes are refused).
+use Rattle.std.specs.Prelude.{ℕ, List, [], ◌∷◌, Bool, true, false, ◌&&◌, ◌||◌, ◌==◌, nat_lt}
+use Rattle.std.specs.Prelude.{if◌then◌else◌, length, Result, Ok, Err}
 use Rattle.std.specs.List.{list_any}
+use Rattle.model.specs.Limits.{name_limit, path_limit}
 use Rattle.model.specs.State.{Name}
 use Rattle.model.specs.Plan.{Errno, EINVAL, ENAMETOOLONG}
 
@@ -37,7 +40,10 @@ with_first x (Err e) = Err e
 -- each piece from the left: too long, or no name
 abbrev pub names_in : List Name → Result (List Name) Errno
 names_in [] = Ok []
-names_in (x ∷ xs) = if nat_lt 255 (length x) then Err ENAMETOOLONG else if is_no_name x then Err EINVAL else with_first x (names_in xs)
+names_in (x ∷ xs) =
+    if nat_lt name_limit (length x) then Err ENAMETOOLONG
+    else if is_no_name x then Err EINVAL
+    else with_first x (names_in xs)
 
 -- behind the first byte, which is a slash
 abbrev pub names_behind : List ℕ → Result (List Name) Errno
@@ -50,7 +56,8 @@ absolute_names (b ∷ bytes) = if b == 47 then names_behind bytes else Err EINVA
 
 -- the names of a path, or why it is none
 abbrev pub path_names : List ℕ → Result (List Name) Errno
-path_names bytes = if nat_lt 1024 (length bytes) then Err ENAMETOOLONG else absolute_names bytes
+path_names bytes =
+    if nat_lt path_limit (length bytes) then Err ENAMETOOLONG else absolute_names bytes
 
 abbrev pub same_name : Name → Name → Bool
 same_name [] [] = true

@@ -1,9 +1,17 @@
--- A call's plan: it asks about the state, each question by the answers before, and then gives a value or a refusal.
-use Rattle.std.specs.Prelude.{ℕ, suc, ◌+◌, ◌-◌, ◌/◌, ◌++◌, List, [], ◌∷◌, Bool, true, false, map, Option, Some, None, Result, Ok, Err, nat_lt, if◌then◌else◌, length, take, drop, min, ⊤}
+-- A call's plan: it asks about the state, each question by the answers
+-- before, and then gives a value or a refusal.
+use Rattle.std.specs.Prelude.{ℕ, suc, ◌+◌, ◌-◌, ◌/◌, ◌++◌, List, [], ◌∷◌, Bool, true, false, map}
+use Rattle.std.specs.Prelude.{Option, Some, None, Result, Ok, Err, nat_lt, if◌then◌else◌, length}
+use Rattle.std.specs.Prelude.{take, drop, min, ⊤}
 use Rattle.model.specs.FiniteMap.{keys}
+pub use Rattle.model.specs.Limits.{capacity, block_length}
 pub use Rattle.ids.specs.declared.errno.Errno.{Errno}
-pub use Rattle.ids.specs.declared.errno.Errno.TheVariants.{EAGAIN, EBADF, EBUSY, EEXIST, EFBIG, EINVAL, EISDIR, EMFILE, ENAMETOOLONG, ENOENT, ENOTDIR, ENOTEMPTY, ENOTSUP, EPERM, EPIPE, ESPIPE}
-use Rattle.model.specs.State.{Name, Kind, Kernel, names_of, file_of, pipe_of, entry_of, offset_of, links, ends}
+pub use Rattle.ids.specs.declared.errno.Errno.TheVariants.{EAGAIN, EBADF, EBUSY, EEXIST, EFBIG}
+pub use Rattle.ids.specs.declared.errno.Errno.TheVariants.{EINVAL, EISDIR, EMFILE, ENAMETOOLONG}
+pub use Rattle.ids.specs.declared.errno.Errno.TheVariants.{ENOENT, ENOTDIR, ENOTEMPTY, ENOTSUP}
+pub use Rattle.ids.specs.declared.errno.Errno.TheVariants.{EPERM, EPIPE, ESPIPE}
+use Rattle.model.specs.State.{Name, Kind, Kernel, names_of, file_of, pipe_of, entry_of, offset_of}
+use Rattle.model.specs.State.{links, ends}
 use Rattle.model.specs.Aspects.{Aspect, Entry, Names, Size, Block, Links, Ends, Offset, Front, Back}
 
 -- A question about the state. Its answer shows aspects: those are what a call that asks it reads.
@@ -30,10 +38,6 @@ Shown (Find_offset d) = ℕ
 Shown (Read_pipe p count) = List ℕ
 Shown (Fit p count) = ℕ
 
--- the bytes that a pipe holds
-abbrev pub capacity : ℕ
-capacity = 4096
-
 -- what the state answers
 abbrev pub answer : Kernel → (q : Question) → Shown q
 answer k (Look d x) = entry_of k d x
@@ -54,7 +58,8 @@ rising first (suc count) = first ∷ rising (suc first) count
 -- the blocks of so many bytes from a place
 abbrev pub blocks : ℕ → ℕ → List ℕ
 blocks place ℕ.zero = []
-blocks place (suc more) = rising (place / 1024) (suc ((place + more) / 1024 - place / 1024))
+blocks place (suc more) =
+    rising (place / block_length) (suc ((place + more) / block_length - place / block_length))
 
 -- the aspects that an answer shows
 abbrev pub shown : (q : Question) → Shown q → List Aspect
@@ -65,7 +70,8 @@ shown (Read_file n place count) bytes = Size n ∷ map (Block n) (blocks place (
 shown (Count_links n) a = Links n ∷ []
 shown (Count_ends p) a = Ends p ∷ []
 shown (Find_offset d) a = Offset d ∷ []
-shown (Read_pipe p count) bytes = Front p ∷ (if nat_lt (length bytes) count then Back p ∷ [] else [])
+shown (Read_pipe p count) bytes =
+    Front p ∷ (if nat_lt (length bytes) count then Back p ∷ [] else [])
 shown (Fit p count) fitting = Back p ∷ (if nat_lt fitting count then Front p ∷ [] else [])
 
 -- a plan gives a value, refuses, or asks and goes on by the answer

@@ -1,14 +1,29 @@
--- The plan of each call: its tests in order, its answer, and its edits (POSIX.1-2017, the function of each name).
-use Rattle.std.specs.Prelude.{ℕ, suc, ◌+◌, ◌-◌, ℤ, pos, negsuc, ◌+ℤ◌, List, [], ◌∷◌, ◌++◌, Bool, true, false, not, ◌&&◌, ◌||◌, Option, Some, None, ◌==◌, nat_lt, nat_le, if◌then◌else◌, length, take, ⊤}
+-- The plan of each call: its tests in order, its answer, and its edits
+-- (POSIX.1-2017, the function of each name).
+use Rattle.std.specs.Prelude.{ℕ, suc, ◌+◌, ◌-◌, ℤ, pos, negsuc, ◌+ℤ◌, List, [], ◌∷◌, ◌++◌, Bool}
+use Rattle.std.specs.Prelude.{true, false, not, ◌&&◌, ◌||◌, Option, Some, None, ◌==◌, nat_lt}
+use Rattle.std.specs.Prelude.{nat_le, if◌then◌else◌, length, take, ⊤}
 use Rattle.std.specs.List.{flat_map, list_any}
 use Rattle.std.specs.Map.{lookup}
+pub use Rattle.model.specs.Limits.{largest, descriptor_limit, most_processes, whole_write}
 use Rattle.model.specs.State.{Kind, A_file, A_directory, A_pipe}
-use Rattle.model.specs.Plan.{EAGAIN, EBADF, EBUSY, EEXIST, EFBIG, EINVAL, EISDIR, EMFILE, ENOENT, ENOTDIR, ENOTEMPTY, EPERM, EPIPE, ESPIPE, List_names, Measure, Read_file, Count_links, Count_ends, Find_offset, Read_pipe, Fit, Plan, Give, Refuse, ◌>>=◌, ◌>>◌, ask, refuse_if, or_refuse}
+use Rattle.model.specs.Plan.{EAGAIN, EBADF, EBUSY, EEXIST, EFBIG, EINVAL, EISDIR, EMFILE, ENOENT}
+use Rattle.model.specs.Plan.{ENOTDIR, ENOTEMPTY, EPERM, EPIPE, ESPIPE, List_names, Measure}
+use Rattle.model.specs.Plan.{Read_file, Count_links, Count_ends, Find_offset, Read_pipe, Fit, Plan}
+use Rattle.model.specs.Plan.{Give, Refuse, ◌>>=◌, ◌>>◌, ask, refuse_if, or_refuse}
 use Rattle.model.specs.Paths.{is_empty, is_below}
 use Rattle.model.specs.Walks.{parsed, walk, last_of, Last, Place, is_directory}
-use Rattle.model.specs.Changes.{There, Made, Mode, Edit, Make_directory, Make_file, Name_file, Unname_file, Unname_directory, Move, Put_bytes, Cut, Take, Append, Set_offset, Open_inode, Make_pipe, Share_slot, Clear_slot, New_process, End_process}
-use Rattle.ids.specs.Flags.{is_reading, is_writing, is_creating, is_exclusive, is_truncating, is_appending}
-use Rattle.model.specs.Calls.{OpenFlags, Whence, From_start, From_offset, From_end, Call, Open, Close, Read, Write, Lseek, Ftruncate, Stat, Fstat, Link, Unlink, Rename, Mkdir, Rmdir, List_directory, Dup, Dup2, Open_pipe, Fork, Exit, Answer, Done, Descriptor, Count, New_place, Bytes, Pair, Stated, Listing, Child, Slot, Own}
+use Rattle.model.specs.Changes.{There, Made, Mode, Edit, Make_directory, Make_file, Name_file}
+use Rattle.model.specs.Changes.{Unname_file, Unname_directory, Move, Put_bytes, Cut, Take, Append}
+use Rattle.model.specs.Changes.{Set_offset, Open_inode, Make_pipe, Share_slot, Clear_slot}
+use Rattle.model.specs.Changes.{New_process, End_process}
+use Rattle.ids.specs.Flags.{is_reading, is_writing, is_creating, is_exclusive, is_truncating}
+use Rattle.ids.specs.Flags.{is_appending}
+use Rattle.model.specs.Calls.{OpenFlags, Whence, From_start, From_offset, From_end, Call, Open}
+use Rattle.model.specs.Calls.{Close, Read, Write, Lseek, Ftruncate, Stat, Fstat, Link, Unlink}
+use Rattle.model.specs.Calls.{Rename, Mkdir, Rmdir, List_directory, Dup, Dup2, Open_pipe, Fork}
+use Rattle.model.specs.Calls.{Exit, Answer, Done, Descriptor, Count, New_place, Bytes, Pair, Stated}
+use Rattle.model.specs.Calls.{Listing, Child, Slot, Own}
 
 -- what a call answers and changes
 pub record Change : Type 0 where
@@ -21,16 +36,15 @@ changed reply edits = Give (record { reply = reply; edits = edits })
 abbrev pub unchanged : Answer → Plan Change
 unchanged reply = changed reply []
 
-abbrev pub largest : ℕ
-largest = 1048576
-
 -- the descriptors from f on, so many, that the table does not have
 abbrev pub free_from : List (ℕ × Slot) → ℕ → ℕ → List ℕ
 free_from table f ℕ.zero = []
-free_from table f (suc more) = if list_any (λ e. e.0 == f) table then free_from table (suc f) more else f ∷ free_from table (suc f) more
+free_from table f (suc more) =
+    if list_any (λ e. e.0 == f) table then free_from table (suc f) more
+    else f ∷ free_from table (suc f) more
 
 abbrev pub free : Own → List ℕ
-free own = free_from own.table 0 64
+free own = free_from own.table 0 descriptor_limit
 
 abbrev pub first_of_free : List ℕ → Plan ℕ
 first_of_free [] = Refuse EMFILE
@@ -54,7 +68,8 @@ pipe_in None = []
 -- each number once, where it stands first
 abbrev pub each_once : List ℕ → List ℕ → List ℕ
 each_once before [] = []
-each_once before (n ∷ ns) = if list_any (λ m. m == n) before then each_once before ns else n ∷ each_once (n ∷ before) ns
+each_once before (n ∷ ns) =
+    if list_any (λ m. m == n) before then each_once before ns else n ∷ each_once (n ∷ before) ns
 
 abbrev pub pipes_in : Own → List ℕ
 pipes_in own = each_once [] (flat_map (λ e. pipe_in (Some e.1)) own.table)
@@ -64,13 +79,19 @@ status (n, Some A_file) = do
   size ← ask (Measure n)
   links ← ask (Count_links n)
   unchanged (Stated (record { kind = A_file; num = n; size = size; links = links }))
-status (n, Some A_directory) = unchanged (Stated (record { kind = A_directory; num = n; size = 0; links = 1 }))
-status (n, Some A_pipe) = unchanged (Stated (record { kind = A_pipe; num = n; size = 0; links = 0 }))
+status (n, Some A_directory) =
+    unchanged (Stated (record { kind = A_directory; num = n; size = 0; links = 1 }))
+status (n, Some A_pipe) =
+    unchanged (Stated (record { kind = A_pipe; num = n; size = 0; links = 0 }))
 -- a number that stands for nothing, which no well-formed state has
 status (n, None) = Refuse ENOENT
 
 abbrev pub mode : OpenFlags → Mode
-mode flags = record { reading = is_reading flags; writing = is_writing flags; appending = is_appending flags }
+mode flags = record {
+  reading = is_reading flags;
+  writing = is_writing flags;
+  appending = is_appending flags;
+}
 
 abbrev pub cut_to : ℕ → ℕ → Plan (List Edit)
 cut_to n len = do
@@ -80,7 +101,8 @@ cut_to n len = do
 abbrev pub opened : Own → OpenFlags → ℕ → Last → Option Place → Plan Change
 opened own flags f at None = do
   refuse_if (not (is_creating flags)) ENOENT
-  changed (Descriptor f) (Make_file at.parent at.name 0 ∷ Open_inode 1 (Made 0) (mode flags) own.pid f ∷ [])
+  changed (Descriptor f)
+      (Make_file at.parent at.name 0 ∷ Open_inode 1 (Made 0) (mode flags) own.pid f ∷ [])
 opened own flags f at (Some place) = do
   refuse_if (is_creating flags && is_exclusive flags) EEXIST
   refuse_if (is_directory place) EISDIR
@@ -102,7 +124,8 @@ read_some it count =
     else (do
       offset ← ask (Find_offset it.description)
       bytes ← ask (Read_file it.inode offset count)
-      changed (Bytes bytes) (if is_empty bytes then [] else Set_offset it.description (offset + length bytes) ∷ []))
+      changed (Bytes bytes)
+          (if is_empty bytes then [] else Set_offset it.description (offset + length bytes) ∷ []))
 
 abbrev pub place_to_write : Slot → Bool → Plan ℕ
 place_to_write it true = ask (Measure it.inode)
@@ -114,14 +137,16 @@ write_some it bytes =
       ends ← ask (Count_ends it.inode)
       refuse_if (ends.0 == 0) EPIPE
       fitting ← ask (Fit it.inode (length bytes))
-      refuse_if (nat_lt fitting (length bytes) && nat_le (length bytes) 512) EAGAIN
+      refuse_if (nat_lt fitting (length bytes) && nat_le (length bytes) whole_write) EAGAIN
       refuse_if (fitting == 0) EAGAIN
       changed (Count fitting) (Append it.inode (take fitting bytes) ∷ []))
     else (do
       place ← place_to_write it it.appending
       refuse_if (nat_le largest place) EFBIG
       size ← ask (Measure it.inode)
-      changed (Count (length (take (largest - place) bytes))) (Put_bytes it.inode place (take (largest - place) bytes) size ∷ Set_offset it.description (place + length (take (largest - place) bytes)) ∷ []))
+      changed (Count (length (take (largest - place) bytes)))
+          (Put_bytes it.inode place (take (largest - place) bytes) size
+          ∷ Set_offset it.description (place + length (take (largest - place) bytes)) ∷ []))
 
 abbrev pub sought : Slot → ℤ → Plan Change
 sought it (pos place) = do
@@ -161,7 +186,8 @@ absent (Some place) = Refuse EEXIST
 
 abbrev pub duplicated : Own → Slot → List ℕ → Plan Change
 duplicated own it [] = Refuse EMFILE
-duplicated own it (f ∷ fs) = changed (Descriptor f) (Share_slot own.pid f it.description (pipe_in (Some it)) ∷ [])
+duplicated own it (f ∷ fs) =
+    changed (Descriptor f) (Share_slot own.pid f it.description (pipe_in (Some it)) ∷ [])
 
 abbrev pub piped : Own → List ℕ → Plan Change
 piped own (f ∷ g ∷ fs) = changed (Pair f g) (Make_pipe 0 own.pid f g ∷ [])
@@ -169,7 +195,7 @@ piped own _ = Refuse EMFILE
 
 abbrev pub forked : Own → Option (ℕ × ℕ) → Plan Change
 forked own (Some (made, priority)) = do
-  refuse_if (nat_le 4096 made) EAGAIN
+  refuse_if (nat_le most_processes made) EAGAIN
   changed (Child (suc made)) (New_process (suc made) own.pid (pipes_in own) ∷ [])
 forked own None = Refuse EAGAIN
 
@@ -247,7 +273,7 @@ plan own (Rmdir path) = do
   refuse_if (not (is_directory what)) ENOTDIR
   entries ← ask (List_names what.0)
   refuse_if (not (is_empty entries)) ENOTEMPTY
-  changed Done (Unname_directory at.parent at.name ∷ [])
+  changed Done (Unname_directory at.parent at.name what.0 ∷ [])
 plan own (List_directory path) = do
   names ← parsed path
   place ← walk (own.root, Some A_directory) names
@@ -260,7 +286,9 @@ plan own (Dup f) = do
 plan own (Dup2 f g) = do
   it ← slot own f
   refuse_if (nat_lt 63 g) EBADF
-  if f == g then unchanged (Descriptor f) else changed (Descriptor g) (Share_slot own.pid g it.description (pipe_in (Some it) ++ pipe_in (slot_at own g)) ∷ [])
+  if f == g then unchanged (Descriptor f)
+      else changed (Descriptor g)
+      (Share_slot own.pid g it.description (pipe_in (Some it) ++ pipe_in (slot_at own g)) ∷ [])
 plan own Open_pipe = piped own (free own)
 plan own Fork = forked own own.birth
 plan own Exit = changed Done (End_process own.pid (pipes_in own) ∷ [])

@@ -1,10 +1,12 @@
--- The state of a plain kernel: maps from numbers, and counts that are taken by counting (POSIX.1-2017, 2.5 to 2.7 of the base
--- definitions' file system and open file description; unistd.h's descriptor tables).
+-- The state of a plain kernel: maps from numbers, and counts that are taken by counting
+-- (POSIX.1-2017, 2.5 to 2.7 of the base definitions' file system and open file
+-- description; unistd.h's descriptor tables).
 use Rattle.std.specs.Prelude.{ℕ, List, [], Bool, false, Option, Some, None, ◌==◌, ◌&&◌}
 use Rattle.model.specs.FiniteMap.{FinMap, get, empty, values}
 use Rattle.std.specs.Ordering.{nat_cmp}
 pub use Rattle.ids.specs.declared.reply.Kind.{Kind}
-pub use Rattle.ids.specs.declared.reply.Kind.TheVariants.{File as A_file, Dir as A_directory, Pipe as A_pipe}
+pub use Rattle.ids.specs.declared.reply.Kind.TheVariants.{File as A_file, Dir as A_directory}
+pub use Rattle.ids.specs.declared.reply.Kind.TheVariants.{Pipe as A_pipe}
 use Rattle.std.specs.declared.cmp.Ordering.{Ordering}
 use Rattle.std.specs.Cmp.Lexicographic.{slice_cmp}
 use Rattle.std.specs.List.{sum_by, count_by}
@@ -16,7 +18,8 @@ Name = List ℕ
 abbrev pub name_cmp : Name → Name → Ordering
 name_cmp = slice_cmp nat_cmp
 
--- a file's bytes, a directory's names with the numbers that they give, or a pipe's bytes, oldest first
+-- a file's bytes, a directory's names with the numbers that
+-- they give, or a pipe's bytes, oldest first
 pub data Inode : Type 0 where
   File : List ℕ → Inode
   Directory : FinMap name_cmp ℕ → Inode
@@ -35,7 +38,8 @@ pub record Process : Type 0 where
   pub table : FinMap nat_cmp ℕ
   pub priority : ℕ
 
--- inodes and descriptions have their numbers from one range; `made` is how many processes were ever made
+-- inodes and descriptions have their numbers from one range;
+-- `made` is how many processes were ever made
 pub record Kernel : Type 0 where
   pub root : ℕ
   pub inodes : FinMap nat_cmp Inode
@@ -90,7 +94,9 @@ offset_of k d = offset_in (get k.descriptions d)
 
 -- how many names give n
 unfoldable pub links : Kernel → ℕ → ℕ
-links k n = sum_by (λ inode. count_by (λ m. m == n) (values (names_of_inode (Some inode)))) (values k.inodes)
+links k n =
+    sum_by (λ inode. count_by (λ m. m == n) (values (names_of_inode (Some inode))))
+    (values k.inodes)
 
 -- whether a description of p is open in that mode
 abbrev pub is_end : (Description → Bool) → ℕ → Option Description → Bool
@@ -99,4 +105,6 @@ is_end mode p None = false
 
 -- how many descriptors of processes give a description of p that is open in that mode
 unfoldable pub ends : Kernel → ℕ → (Description → Bool) → ℕ
-ends k p mode = sum_by (λ process. count_by (λ d. is_end mode p (get k.descriptions d)) (values process.table)) (values k.processes)
+ends k p mode =
+    sum_by (λ process. count_by (λ d. is_end mode p (get k.descriptions d)) (values process.table))
+    (values k.processes)

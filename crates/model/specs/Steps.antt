@@ -1,5 +1,6 @@
 -- What a call touches, and the steps and runs of a plain kernel.
-use Rattle.std.specs.Prelude.{◌≡◌, ℕ, List, [], ◌∷◌, ◌++◌, true, false, map, Some, None, Result, Ok, Err, ◌≢◌, ⊤, length}
+use Rattle.std.specs.Prelude.{◌≡◌, ℕ, List, [], ◌∷◌, ◌++◌, true, false, map, Some, None, Result, Ok}
+use Rattle.std.specs.Prelude.{Err, ◌≢◌, ⊤, length}
 use Rattle.std.specs.List.{flat_map, sum_by, AllByRecursion}
 use Rattle.model.specs.FiniteMap.{get}
 use Rattle.model.specs.State.{Name, Kernel, names_of}
@@ -36,7 +37,9 @@ writes k pid call = flat_map marks (edits k pid call)
 
 -- what a call touches, in order: what it saw, and then what it writes
 abbrev pub touches : Kernel → ℕ → Call → List Touch
-touches k pid call = map (λ a. record { aspect = a; write = false }) (reads k pid call) ++ map (λ a. record { aspect = a; write = true }) (writes k pid call)
+touches k pid call =
+    map (λ a. record { aspect = a; write = false }) (reads k pid call)
+    ++ map (λ a. record { aspect = a; write = true }) (writes k pid call)
 
 -- a number that is nowhere in the state
 pub record IsNowhere (k : Kernel) (n : ℕ) : Type 0 where
@@ -55,7 +58,8 @@ pub record CanBeChosen (k : Kernel) (made : List Edit) (chosen : List ℕ) : Typ
   pub unused : AllByRecursion (IsNowhere k) chosen
   pub different : AllDifferent chosen
 
-pub record Step (k : Kernel) (pid : ℕ) (call : Call) (answer : Result Answer Errno) (chosen : List ℕ) (after : Kernel) : Type 0 where
+pub record Step (k : Kernel) (pid : ℕ) (call : Call) (answer : Result Answer Errno)
+    (chosen : List ℕ) (after : Kernel) : Type 0 where
   pub replied : answer ≡ reply k pid call
   pub numbers : CanBeChosen k (edits k pid call) chosen
   pub changed : after ≡ tidy (all_applied chosen (edits k pid call) k)
@@ -69,4 +73,5 @@ pub record Item : Type 0 where
 
 abbrev pub Run : Kernel → List Item → Kernel → Type 0
 Run k [] after = after ≡ k
-Run k (it ∷ items) after = (mid : Kernel) × Step k it.pid it.call it.answer it.chosen mid × Run mid items after
+Run k (it ∷ items) after =
+    (mid : Kernel) × Step k it.pid it.call it.answer it.chosen mid × Run mid items after

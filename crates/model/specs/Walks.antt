@@ -1,8 +1,10 @@
--- The walk along a path's names, from the root (POSIX.1-2017, 4.13 Pathname Resolution). Each name that is looked up is seen,
--- whether it is there or not.
-use Rattle.std.specs.Prelude.{ℕ, List, [], ◌∷◌, Bool, true, false, not, Option, Some, Result, Ok, Err}
+-- The walk along a path's names, from the root (POSIX.1-2017, 4.13 Pathname Resolution). Each name
+-- that is looked up is seen, whether it is there or not.
+use Rattle.std.specs.Prelude.{ℕ, List, [], ◌∷◌, Bool, true, false, not, Option, Some, Result, Ok}
+use Rattle.std.specs.Prelude.{Err}
 use Rattle.model.specs.State.{Name, Kind, A_directory}
-use Rattle.model.specs.Plan.{Errno, ENOENT, ENOTDIR, Look, Plan, Give, Refuse, ◌>>=◌, ◌>>◌, ask, refuse_if, or_refuse}
+use Rattle.model.specs.Plan.{Errno, ENOENT, ENOTDIR, Look, Plan, Give, Refuse, ◌>>=◌, ◌>>◌, ask}
+use Rattle.model.specs.Plan.{refuse_if, or_refuse}
 use Rattle.model.specs.Paths.{path_names}
 
 -- a path's names, or its refusal

@@ -1,5 +1,6 @@
 -- How far the names of a path were read, and what a refusal says of them.
-use Rattle.std.specs.Prelude.{◌≡◌, ℕ, suc, List, [], ◌∷◌, length, Option, Some, None, Result, Err, ⊤}
+use Rattle.std.specs.Prelude.{◌≡◌, ⊤, ℕ, suc, Option, Some, None, Result, Err}
+use Rattle.std.specs.Prelude.{List, [], ◌∷◌, length}
 use Rattle.std.specs.Borrow.{Bor}
 use Rattle.model.specs.State.{Name}
 use Rattle.model.specs.Plan.{Errno as Refused}

@@ -3,20 +3,17 @@
 //! Empty paths, relative paths, `.`, `..`, and repeated or trailing slashes are refused.
 #![tactic(auto)]
 
-ghost use Rattle.std.specs.Prelude.{◌≡◌, List, ℕ, Ok, Err, ◌∷◌, ◌++◌, [], ◌==◌, IfOk, IfErr, OnOk, IfSome, position, length, ◌<◌, ◌≤◌};
-ghost use Rattle.model.specs.Paths.{path_names, names_in, pieces, is_below, is_dots, same_name, with_first};
+ghost use Rattle.std.specs.Prelude.{◌≡◌, ◌==◌, ◌<◌, ◌≤◌, ℕ, Ok, Err, IfOk, IfErr, OnOk, IfSome};
+ghost use Rattle.std.specs.Prelude.{List, [], ◌∷◌, ◌++◌, length, position};
+ghost use Rattle.model.specs.Paths.{path_names, names_in, pieces, is_below, is_dots};
+ghost use Rattle.model.specs.Paths.{same_name, with_first};
 ghost use Rattle.path.specs.Parsing.{IsRefusalBy, pieces_left, bytes_left};
 
 use heap::Heap;
 use ids::{Errno, Name, Refusal};
+pub use ids::{NAME_LIMIT, PATH_LIMIT};
 use std::alloc::AllocError;
 use std::marker::Model;
-
-/// The most bytes that a path may have.
-pub const PATH_LIMIT: usize = 1024;
-
-/// The most bytes that a name may have.
-pub const NAME_LIMIT: usize = 255;
 
 /// The names of a path, from the root on. The path `/` has none.
 #[derive(Debug, Drop)]
@@ -35,10 +32,11 @@ impl Model for Path {
 impl Path {
     /// Reads a path.
     ///
-    /// It is refused with `ENAMETOOLONG` where it has more than [`PATH_LIMIT`] bytes, then with `EINVAL`
-    /// where it is empty or does not begin with a slash. Then its names are read from the left: the first
-    /// that has more than [`NAME_LIMIT`] bytes is refused with `ENAMETOOLONG`, and the first that is empty,
-    /// holds a zero byte, or is `.` or `..` with `EINVAL`. `NoMemory` says that memory was refused.
+    /// It is refused with `ENAMETOOLONG` where it has more than [`PATH_LIMIT`] bytes, then with
+    /// `EINVAL` where it is empty or does not begin with a slash. Then its names are read from the
+    /// left: the first that has more than [`NAME_LIMIT`] bytes is refused with `ENAMETOOLONG`, and
+    /// the first that is empty, holds a zero byte, or is `.` or `..` with `EINVAL`. `NoMemory` says
+    /// that memory was refused.
     pub fn parse(heap: Heap, bytes: &[u8]) -> Result<Path, Refusal>
         ensures ok { IfOk result (λ path. path_names bytes.now ≡ Ok path) }
         ensures refused { IfErr result (λ why. IsRefusalBy why (path_names bytes.now)) }
@@ -124,8 +122,10 @@ fn first_slash(bytes: &[u8]) -> Option<usize>
 // One more name, if it is one.
 fn push_name(heap: Heap, names: &mut Vec<Name, Heap>, piece: &[u8]) -> Result<(), Refusal>
     ensures ok { OnOk result (names.new.items ≡ names.old.items ++ piece.now ∷ []) }
-    ensures is_name { OnOk result ((others : List (List ℕ)) → names_in (piece.now ∷ others) ≡ with_first piece.now (names_in others)) }
-    ensures refused { IfErr result (λ why. (others : List (List ℕ)) → IsRefusalBy why (names_in (piece.now ∷ others))) }
+    ensures is_name { OnOk result ((others : List (List ℕ))
+        → names_in (piece.now ∷ others) ≡ with_first piece.now (names_in others)) }
+    ensures refused { IfErr result (λ why. (others : List (List ℕ))
+        → IsRefusalBy why (names_in (piece.now ∷ others))) }
 {
     if piece.len() > NAME_LIMIT {
         return Err(Refusal::Errno(Errno::ENAMETOOLONG));

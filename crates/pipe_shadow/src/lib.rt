@@ -1,12 +1,13 @@
 //! What a transaction changes in one pipe, kept beside the stable pipe until the commit.
 //!
-//! Others may take from the front of the stable pipe or append to its back meanwhile. So the changes
-//! are no copy of the pipe: they are how many bytes are taken and which are appended, and contracts
-//! speak of the view that they give of any stable pipe.
+//! Others may take from the front of the stable pipe or append to its back meanwhile. So the
+//! changes are no copy of the pipe: they are how many bytes are taken and which are appended, and
+//! contracts speak of the view that they give of any stable pipe.
 #![tactic(auto)]
 
-ghost use Rattle.std.specs.Prelude.{◌≡◌, ◌+◌, ◌-◌, ◌≤◌, IfOk, OnOk, OnErr, List, ℕ, [], ◌++◌, length, take, drop};
-ghost use Rattle.pipe_shadow.specs.Delta.{shown, TakesAlike};
+ghost use Rattle.std.specs.Prelude.{◌≡◌, ◌+◌, ◌-◌, ◌≤◌, ℕ, IfOk, OnOk, OnErr};
+ghost use Rattle.std.specs.Prelude.{List, [], ◌++◌, length, take, drop};
+ghost use Rattle.pipe_shadow.specs.View.{view_over, TakesAlike};
 
 use heap::Heap;
 use ids::Bytes;
@@ -14,8 +15,8 @@ use objects::{PIPE_CAPACITY, PipeData, part};
 use std::alloc::AllocError;
 use std::marker::Model;
 
-/// How many bytes of a pipe are taken, and which are appended. Bytes of its own that are taken again
-/// leave those that are appended.
+/// How many bytes of a pipe are taken, and which are appended. Bytes of its own that are taken
+/// again leave those that are appended.
 #[derive(Drop)]
 pub struct PipeShadow {
     taken: usize,
@@ -23,9 +24,9 @@ pub struct PipeShadow {
 }
 
 impl Model for PipeShadow {
-    ghost use Rattle.pipe_shadow.specs.Delta.{Delta};
+    ghost use Rattle.pipe_shadow.specs.View.{PipeChanges};
 
-    ghost Value = { Delta };
+    ghost Value = { PipeChanges };
 
     ghost view = { λ s. record {
       taken = s.taken;
@@ -48,7 +49,7 @@ impl PipeShadow {
     pub fn new(heap: Heap) -> PipeShadow
         ensures taken { result.taken ≡ 0 }
         ensures appended { result.appended ≡ [] }
-        ensures view { (xs : List ℕ) → shown result xs ≡ xs }
+        ensures view { (xs : List ℕ) → view_over result xs ≡ xs }
     {
         PipeShadow {
             taken: 0,
@@ -58,21 +59,21 @@ impl PipeShadow {
 
     /// How many bytes the view holds.
     pub fn len(&self, pipe: &PipeData) -> usize
-        ensures { result ≡ length (shown self.now pipe.now) }
+        ensures { result ≡ length (view_over self.now pipe.now) }
     {
         pipe.len().saturating_sub(self.taken) + self.appended.len()
     }
 
     /// How many bytes more the view can hold.
     pub fn room(&self, pipe: &PipeData) -> usize
-        ensures { result ≡ PIPE_CAPACITY - length (shown self.now pipe.now) }
+        ensures { result ≡ PIPE_CAPACITY - length (view_over self.now pipe.now) }
     {
         PIPE_CAPACITY.saturating_sub(self.len(pipe))
     }
 
     /// A copy of at most `count` bytes from the front of the view. They stay there.
     pub fn read(&self, heap: Heap, pipe: &PipeData, count: usize) -> Result<Bytes, AllocError>
-        ensures { IfOk result (λ bytes. bytes ≡ take count (shown self.now pipe.now)) }
+        ensures { IfOk result (λ bytes. bytes ≡ take count (view_over self.now pipe.now)) }
     {
         let mut bytes = pipe.read(heap, self.taken, count)?.into_vec();
         bytes.extend_from_slice(part(self.appended.as_slice(), 0, count - bytes.len()))?;
@@ -84,7 +85,7 @@ impl PipeShadow {
     pub fn take(&mut self, pipe: &PipeData, count: usize)
         requires { self.old.taken ≤ length pipe.now }
         ensures view { (xs : List ℕ) → TakesAlike self.old count pipe.now xs
-            → shown self.new xs ≡ drop count (shown self.old xs) }
+            → view_over self.new xs ≡ drop count (view_over self.old xs) }
         ensures within { self.new.taken ≤ length pipe.now }
     {
         let stable = count.min(pipe.len() - self.taken);
@@ -97,7 +98,7 @@ impl PipeShadow {
     /// nothing.
     pub fn append(&mut self, bytes: &[u8]) -> Result<(), AllocError>
         ensures view { OnOk result ((xs : List ℕ)
-            → shown self.new xs ≡ shown self.old xs ++ bytes.now) }
+            → view_over self.new xs ≡ view_over self.old xs ++ bytes.now) }
         ensures taken { self.new.taken ≡ self.old.taken }
         ensures err { OnErr result (self.new ≡ self.old) }
     {
@@ -107,8 +108,8 @@ impl PipeShadow {
     /// Makes the view the stable pipe, as others have left it. It takes no memory.
     pub fn commit_into(self, pipe: &mut PipeData)
         requires taken { self.taken ≤ length pipe.old }
-        requires fits { length (shown self pipe.old) ≤ PIPE_CAPACITY }
-        ensures { pipe.new ≡ shown self pipe.old }
+        requires fits { length (view_over self pipe.old) ≤ PIPE_CAPACITY }
+        ensures { pipe.new ≡ view_over self pipe.old }
     {
         let PipeShadow { taken, appended } = self;
         pipe.skip(taken);

@@ -15,9 +15,9 @@ NoHelp old new failed NoMemory = new ≡ old
 NoHelp old new failed _ = ⊥
 
 -- A fault is written to standard error alone, and the status is its own. Help is written to
--- standard output and nothing to standard error, or writing it has a fault. `old` and `new` are what
--- standard output holds before and after, `reported` and `reports` what standard error does, and
--- `failed` is that standard output has failed.
+-- standard output and nothing to standard error, or writing it has a fault. `old` and `new` are
+-- what standard output holds before and after, `reported` and `reports` what standard error does,
+-- and `failed` is that standard output has failed.
 abbrev pub IsCommandLineEnd :
     CommandLineFault → (old new reported reports : Option (List ℕ)) (failed : Type 0) → ℕ → Type 0
 IsCommandLineEnd (Help text) old new reported reports failed status =

@@ -1,7 +1,8 @@
 -- The faults of a run and the program's exit statuses.
 use Rattle.std.specs.Prelude.{ℕ}
 use Rattle.runner.specs.declared.fault.RunFault.{RunFault}
-use Rattle.runner.specs.declared.fault.RunFault.TheVariants.{Script, Schedule, Read, Write, HistoryFull, NoMemory}
+use Rattle.runner.specs.declared.fault.RunFault.TheVariants.{Script, Schedule, Read}
+use Rattle.runner.specs.declared.fault.RunFault.TheVariants.{Write, HistoryFull, NoMemory}
 use Rattle.script.specs.declared.faults.ScriptFault.{ScriptFault}
 use Rattle.script.specs.declared.faults.ScriptFault.TheVariants.{NoMemory as NoScriptMemory}
 use Rattle.script.specs.declared.faults.ScheduleFault.{ScheduleFault}

@@ -13,7 +13,8 @@ use Rattle.transcript.specs.Line.{transcript}
 use Rattle.runner.specs.Steps.{HasDone, Stops}
 use Rattle.runner.specs.Supported.{script_in}
 use Rattle.runner.specs.declared.fault.RunFault.{RunFault}
-use Rattle.runner.specs.declared.fault.RunFault.TheVariants.{Script, Schedule, Read, Write, HistoryFull, NoMemory}
+use Rattle.runner.specs.declared.fault.RunFault.TheVariants.{Script, Schedule, Read}
+use Rattle.runner.specs.declared.fault.RunFault.TheVariants.{Write, HistoryFull, NoMemory}
 
 -- The text is what a source gave, up to its end, or longer than a script may be.
 pub record IsRead (old new : Option (List ℕ)) (text : List ℕ) : Type 0 where

@@ -1,6 +1,7 @@
 -- What a script contains.
 use Rattle.std.specs.Prelude.{ℕ, ◌<◌, ◌≤◌, List, length, All}
-use Rattle.script.specs.declared.limits.TheConstants.{MAX_PROCESSES, TOP_PRIORITY}
+use Rattle.ids.specs.declared.limits.TheConstants.{MAX_PROCESSES}
+use Rattle.script.specs.declared.limits.TheConstants.{TOP_PRIORITY}
 use Rattle.script.specs.declared.read.Line.{Line}
 
 -- the priorities of the processes that are made at the start, and the lines

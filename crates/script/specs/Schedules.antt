@@ -1,5 +1,6 @@
 -- Schedules, and the steps that they say.
-use Rattle.std.specs.Prelude.{ℕ, ◌≡◌, ◌≢◌, ◌<◌, length, get_or, ◌+◌, ◌++◌, ◌==◌, nat_lt, List, [], ◌∷◌, Option, Some, None, Result, Ok, Err, eqb, if◌then◌else◌}
+use Rattle.std.specs.Prelude.{ℕ, ◌≡◌, ◌≢◌, ◌<◌, length, get_or, ◌+◌, ◌++◌, ◌==◌, nat_lt, eqb}
+use Rattle.std.specs.Prelude.{List, [], ◌∷◌, Option, Some, None, Result, Ok, Err, if◌then◌else◌}
 use Rattle.std.specs.List.{slice_split, count_by}
 use Rattle.std.specs.Option.{option_and_then}
 use Rattle.script.specs.Characters.{comma}

@@ -1,5 +1,7 @@
 -- The script that a text spells, or its first fault.
-use Rattle.std.specs.Prelude.{◌≡◌, ◌≢◌, ℕ, ◌+◌, ◌++◌, ◌&&◌, ◌==◌, nat_le, nat_lt, List, [], ◌∷◌, Bool, true, Option, Some, None, Result, Ok, Err, codes, eqb, length, if◌then◌else◌}
+use Rattle.std.specs.Prelude.{◌≡◌, ◌≢◌, ℕ, ◌+◌, ◌++◌, ◌&&◌, ◌==◌, nat_le, nat_lt}
+use Rattle.std.specs.Prelude.{List, [], ◌∷◌, Bool, true, Option, Some, None}
+use Rattle.std.specs.Prelude.{Result, Ok, Err, codes, eqb, length, if◌then◌else◌}
 use Rattle.std.specs.List.{slice_split}
 use Rattle.std.specs.Option.{option_and_then}
 use Rattle.std.specs.Str.{bytes_eq}
@@ -9,7 +11,8 @@ use Rattle.script.specs.Characters.{hash, newline, space}
 use Rattle.script.specs.Contents.{ScriptContents}
 use Rattle.script.specs.Verbs.{verb_in}
 use Rattle.ids.specs.declared.call.Op.{Op}
-use Rattle.script.specs.declared.limits.TheConstants.{MAX_PROCESSES, SCRIPT_LIMIT, TOP_PRIORITY}
+use Rattle.ids.specs.declared.limits.TheConstants.{MAX_PROCESSES}
+use Rattle.script.specs.declared.limits.TheConstants.{SCRIPT_LIMIT, TOP_PRIORITY}
 use Rattle.script.specs.declared.verb.Verb.{Verb}
 use Rattle.script.specs.declared.read.Line.{Line}
 use Rattle.script.specs.declared.faults.ScriptFault.{ScriptFault}

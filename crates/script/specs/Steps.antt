@@ -1,5 +1,6 @@
 -- The steps of a script and a schedule.
-use Rattle.std.specs.Prelude.{◌≡◌, ℕ, ◌<◌, ◌==◌, List, [], ◌∷◌, Option, Some, None, map, filter, slice_get, slice_index_or}
+use Rattle.std.specs.Prelude.{◌≡◌, ℕ, ◌<◌, ◌==◌, List, [], ◌∷◌}
+use Rattle.std.specs.Prelude.{Option, Some, None, map, filter, slice_get, slice_index_or}
 use Rattle.ids.specs.declared.call.Op.{Op}
 use Rattle.script.specs.declared.limits.TheConstants.{PROCESS_NUMBERS_END}
 use Rattle.script.specs.declared.read.Line.{Line}

@@ -1,5 +1,6 @@
 -- How bytes are spelled.
-use Rattle.std.specs.Prelude.{ℕ, ◌==◌, ◌&&◌, nat_le, not, List, [], ◌∷◌, ◌++◌, Bool, Option, Some, None, codes, length, if◌then◌else◌}
+use Rattle.std.specs.Prelude.{ℕ, ◌==◌, ◌&&◌, nat_le, not, List, [], ◌∷◌, ◌++◌}
+use Rattle.std.specs.Prelude.{Bool, Option, Some, None, codes, length, if◌then◌else◌}
 use Rattle.std.specs.Str.{bytes_eq}
 use Rattle.script.specs.Characters.{backslash, letter_x}
 use Rattle.script.specs.Numbers.{hex_in, with_digits}

@@ -21,7 +21,8 @@ mod verb;
 mod word;
 
 pub use faults::{ScheduleFault, ScriptFault};
-pub use limits::{MAX_PROCESSES, PROCESS_NUMBERS_END, SCRIPT_LIMIT, TOP_PRIORITY, TRANSFER_LIMIT};
+pub use ids::MAX_PROCESSES;
+pub use limits::{PROCESS_NUMBERS_END, SCRIPT_LIMIT, TOP_PRIORITY, TRANSFER_LIMIT};
 pub use read::{Line, Script, read_script};
 pub use schedule::read_schedule;
 pub use steps::steps_of;

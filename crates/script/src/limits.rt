@@ -1,10 +1,8 @@
 // The limits of scripts.
+use ids::MAX_PROCESSES;
 
 /// The most bytes that a script may have.
 pub const SCRIPT_LIMIT: usize = 1_048_576;
-
-/// The most processes that a script may have made at the start. Process numbers go from 1 to this.
-pub const MAX_PROCESSES: u32 = 4096;
 
 /// All process numbers are below this.
 pub const PROCESS_NUMBERS_END: usize = MAX_PROCESSES as usize + 1;

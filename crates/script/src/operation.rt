@@ -1,6 +1,8 @@
 // Operations in their spelling.
 ghost use Rattle.std.specs.Prelude.{◌≡◌};
-ghost use Rattle.script.specs.Operations.{abort_of, arguments, bare_arguments, begin_of, fd_arguments, fd_in, on_path, one, path_arguments, paths_arguments, three, two};
+ghost use Rattle.script.specs.Operations.{abort_of, arguments, bare_arguments};
+ghost use Rattle.script.specs.Operations.{begin_of, fd_arguments, fd_in, on_path};
+ghost use Rattle.script.specs.Operations.{one, path_arguments, paths_arguments, three, two};
 ghost use Rattle.script.specs.Numbers.{byte_in, decimal_in, offset_in};
 ghost use Rattle.script.specs.Texts.{text_in};
 ghost use Rattle.script.specs.Flags.{flags_in, whence_in};

@@ -1,5 +1,6 @@
 // A text, piece by piece: lines, words, or what stands between commas.
-ghost use Rattle.std.specs.Prelude.{◌≡◌, ◌==◌, ◌<◌, ◌++◌, ◌+◌, [], length, eqb, IfSome, IfNone, option_map, option_to_list, is_none};
+ghost use Rattle.std.specs.Prelude.{◌≡◌, ◌==◌, ◌<◌, ◌++◌, ◌+◌, [], length, eqb};
+ghost use Rattle.std.specs.Prelude.{IfSome, IfNone, option_map, option_to_list, is_none};
 ghost use Rattle.std.specs.List.{slice_split};
 ghost use Rattle.script.specs.Pieces.{behind, one_of, three_of, two_of, up_to};
 

@@ -1,18 +1,21 @@
 // Scripts in their spelling.
-ghost use Rattle.std.specs.Prelude.{◌≡◌, ◌≤◌, ◌<◌, ◌+◌, ◌^◌, ◌++◌, ◌∷◌, [], Some, Ok, IfOk, IfErr, IfSome, OnOk, All, length};
+ghost use Rattle.std.specs.Prelude.{◌≡◌, ◌≤◌, ◌<◌, ◌+◌, ◌^◌, ◌++◌, ◌∷◌, [], Some};
+ghost use Rattle.std.specs.Prelude.{Ok, IfOk, IfErr, IfSome, OnOk, All, length};
 ghost use Rattle.script.specs.Numbers.{decimal_in};
-ghost use Rattle.script.specs.Scripts.{IsFault, NoPriorities, behind_head, from_head, is_skipped, line_of, lines_after, lines_next, pid_in, priorities_after, priorities_of, script_of};
+ghost use Rattle.script.specs.Scripts.{IsFault, NoPriorities, behind_head, from_head};
+ghost use Rattle.script.specs.Scripts.{is_skipped, line_of, lines_after, lines_next};
+ghost use Rattle.script.specs.Scripts.{pid_in, priorities_after, priorities_of, script_of};
 ghost use Rattle.script.specs.Contents.{AreValidPriorities};
 
 use crate::faults::ScriptFault;
-use crate::limits::{MAX_PROCESSES, PROCESS_NUMBERS_END, SCRIPT_LIMIT, TOP_PRIORITY};
+use crate::limits::{PROCESS_NUMBERS_END, SCRIPT_LIMIT, TOP_PRIORITY};
 use crate::number::number_in;
 use crate::operation::arguments;
 use crate::pieces::Pieces;
 use crate::verb::verb_in;
 use crate::word::WordFault;
 use heap::Heap;
-use ids::{Op, Pid, Priority};
+use ids::{MAX_PROCESSES, Op, Pid, Priority};
 use std::alloc::AllocError;
 use std::marker::Model;
 

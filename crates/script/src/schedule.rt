@@ -1,6 +1,8 @@
 // Schedules in their spelling.
-ghost use Rattle.std.specs.Prelude.{◌≡◌, ◌<◌, ℕ, [], Some, None, Ok, IfOk, IfErr, OnOk, slice_index, vec_len};
-ghost use Rattle.script.specs.Schedules.{AreProcessNumbers, IsFault, NoPids, first_without, lines_for, pids_of, schedule_of, with_lines_left};
+ghost use Rattle.std.specs.Prelude.{◌≡◌, ◌<◌, ℕ, [], Some, None, Ok};
+ghost use Rattle.std.specs.Prelude.{IfOk, IfErr, OnOk, slice_index, vec_len};
+ghost use Rattle.script.specs.Schedules.{AreProcessNumbers, IsFault, NoPids, first_without};
+ghost use Rattle.script.specs.Schedules.{lines_for, pids_of, schedule_of, with_lines_left};
 
 use crate::faults::ScheduleFault;
 use crate::limits::PROCESS_NUMBERS_END;

@@ -1,5 +1,6 @@
 // The steps that a schedule says.
-ghost use Rattle.std.specs.Prelude.{◌≡◌, ◌<◌, ◌++◌, ◌∷◌, ℕ, List, [], IfOk, OnOk, OnErr, slice_index_or, vec_len, drop, replicate, slice_get, slice_set};
+ghost use Rattle.std.specs.Prelude.{◌≡◌, ◌<◌, ◌++◌, ◌∷◌, ℕ, List, [], IfOk, OnOk, OnErr};
+ghost use Rattle.std.specs.Prelude.{slice_index_or, vec_len, drop, replicate, slice_get, slice_set};
 ghost use Rattle.script.specs.Schedules.{AreProcessNumbers};
 ghost use Rattle.script.specs.Steps.{HoldOps, ops_for, steps};
 ghost use Rattle.script.specs.declared.read.Line.{Line};

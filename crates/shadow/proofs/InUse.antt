@@ -1,20 +1,19 @@
 -- What names give is there or to come.
 use Rattle.std.proofs.Common.{◌≡◌, ◌≢◌, ℕ, ◌<◌, ◌≤◌, List, Option, Some, None, IfSome, refl, sym, ap, subst, ◌∙◌, arith}
-use Rattle.model.specs.FiniteMap.{get, empty}
+use Rattle.model.specs.FiniteMap.{get}
 use Rattle.model.specs.State.{Name, A_directory, kind, mapped, names_of}
-use Rattle.call_laws.proofs.Maps.{not_none}
+use Rattle.call_laws.proofs.Laws.{not_none}
 use Rattle.model.specs.Effects.{Effect, all_done}
 use Rattle.store.specs.Numbers.{Numbers}
 use Rattle.store.specs.Shown.{inodes}
-use Rattle.store.proofs.Changes.{get-inodes_by}
-use Rattle.shadow.specs.declared.steps.Step.{Step}
+use Rattle.store.proofs.Laws.{get-inodes_by}
 use Rattle.shadow.specs.Committed.{Committed}
 use Rattle.shadow.specs.Claims.{Number, Covers, IsInUse, claimed, reserved, coming_in}
-use Rattle.shadow.specs.Index.{Given, given_at}
+use Rattle.shadow.specs.declared.changes.Change.{Change}
 use Rattle.shadow.specs.Looks.{NamesAreInUse}
-use Rattle.shadow.specs.Changes.{effects_of, Agrees, or_before}
+use Rattle.shadow.specs.Agrees.{Agrees}
 use Rattle.shadow.specs.Stored.{stored, committed_of, Sound}
-use Rattle.shadow.proofs.Agreeing.{made_is_claimed, seen_there}
+use Rattle.shadow.proofs.Agreeing.{seen_there}
 use Rattle.shadow.proofs.Living.{directories}
 use Rattle.shadow.proofs.Meets.{of_use}
 use Rattle.shadow.proofs.Views.{root_all}
@@ -41,14 +40,14 @@ pub covered : (v : Committed) (ds : List Effect) → Covers v ds → (n : ℕ) �
 covered v ds covers n some = let all : claimed (Number n) ds ≤ reserved v (Number n) = covers (Number n) in omega arith
 
 -- with changes on top
-pub viewed_in_use : (xs : List Step) (index : List Given) → Agrees (effects_of xs) index → (v : Committed) → Covers v (effects_of xs) → ((n : ℕ) → 0 < reserved v (Number n) → names_of v.state n ≡ empty)
-    → NamesAreInUse v → NamesAreInUse (record v { state = all_done (effects_of xs) v.state })
-viewed_in_use xs index a v covers bare used = record { root = subst (IsInUse v.reserves) (sym (root_all xs v.state)) used.root; names = names }
+pub viewed_in_use : (ds : List Effect) (changes : List (ℕ × Change)) (lost : List ℕ) → Agrees ds changes lost → (v : Committed) → Covers v ds → NamesAreInUse v → NamesAreInUse (record v { state = all_done ds v.state })
+viewed_in_use ds changes lost a v covers used = record { root = subst (IsInUse v.reserves) (sym same_root) used.root; names = names }
   where
-    names : (d : ℕ) (x : Name) (n : ℕ) → get (names_of (all_done (effects_of xs) v.state) d) x ≡ Some n → IsInUse v.reserves n
+    same_root : (all_done ds v.state).root ≡ v.state.root
+    same_root = ap (λ ds. (all_done ds v.state).root) a.forms ∙ root_all a.steps v.state
+
+    names : (d : ℕ) (x : Name) (n : ℕ) → get (names_of (all_done ds v.state) d) x ≡ Some n → IsInUse v.reserves n
     names d x n is =
-        let told : get (names_of (all_done (effects_of xs) v.state) d) x ≡ or_before (given_at index d x) (get (names_of v.state d) x)
-        = a.names v.state (λ n made. bare n (covered v (effects_of xs) covers n (made_is_claimed n (effects_of xs) made))) d x in
-        subst (λ o. IfSome o (IsInUse v.reserves)) (sym told ∙ is)
-        (seen_there (effects_of xs) index a (IsInUse v.reserves) (λ n some. coming_used v n (covered v (effects_of xs) covers n some)) d x (get (names_of v.state d) x)
+        subst (λ o. IfSome o (IsInUse v.reserves)) (sym (a.names v.state d x) ∙ is)
+        (seen_there ds changes lost a (IsInUse v.reserves) (λ n some. coming_used v n (covered v ds covers n some)) d x (get (names_of v.state d) x)
         (if_found (get (names_of v.state d) x) (IsInUse v.reserves) (used.names d x)))

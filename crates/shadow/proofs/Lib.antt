@@ -1,15 +1,18 @@
-pub mod Freed
-pub mod Going
-pub mod Noted
-pub mod Views
-pub mod Agreeing
-pub mod Meets
-pub mod Taking
-pub mod Plugs
-pub mod Living
-pub mod Unshown
-pub mod Changing
-pub mod Committing
-pub mod InUse
-pub mod NoFiles
-pub mod Reserving
+mod Freed
+mod Going
+mod Kept
+mod Views
+mod Touched
+mod Agreeing
+mod Meets
+mod Taking
+mod Plugs
+mod Living
+mod Unshown
+mod InUse
+mod NoFiles
+mod Reserving
+mod Giving
+mod Committing
+mod Carrying
+pub mod Laws

@@ -8,12 +8,11 @@ use Rattle.model.specs.State.{Kind, A_directory, Inode, Directory, Kernel, kind,
 use Rattle.model.specs.Changes.{process_of, tidy}
 use Rattle.model.specs.Steps.{IsNowhere}
 use Rattle.model.specs.Moments.{start, is_alive}
-use Rattle.model.proofs.Inodes.{get_same, get_other}
+use Rattle.model.proofs.Laws.{get_same, get_other}
 use Rattle.call_laws.specs.WellFormed.{CanBeNamed, WellFormed}
 use Rattle.call_laws.specs.CallLaws.{CallLaws}
 use Rattle.call_laws.specs.Numbers.{UnusedNumbersAreNowhere}
-use Rattle.call_laws.proofs.Maps.{not_none, true_is_false}
-use Rattle.call_laws.proofs.First.{first_processes_live}
+use Rattle.call_laws.proofs.Laws.{not_none, true_is_false, first_processes_live}
 use Rattle.store.specs.Numbers.{Numbers, IsFirstRoot}
 use Rattle.store.specs.Shown.{inodes, inode_in, inode_of, shown_at}
 use Rattle.store.specs.declared.Place.{Place}
@@ -21,7 +20,7 @@ use Rattle.store.specs.declared.Stage.{Stage}
 use Rattle.store.specs.declared.Stage.TheVariants.{Coming, Held, Lost}
 use Rattle.store.specs.declared.Object.{Object}
 use Rattle.store.specs.declared.Object.TheVariants.{Directory as Kept_directory}
-use Rattle.store.proofs.Changes.{get-inodes_by}
+use Rattle.store.proofs.Laws.{get-inodes_by}
 use Rattle.shadow.specs.Looks.{NamesAreDirectories}
 use Rattle.shadow.specs.Stored.{stored, IsStaged, Sound}
 

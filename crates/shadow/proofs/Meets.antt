@@ -4,22 +4,19 @@ use Rattle.std.specs.Option.{option_map, option_and_then}
 use Rattle.std.proofs.lemmas.Bool.{cases_eq}
 use Rattle.std.specs.Ordering.{nat_cmp}
 use Rattle.model.specs.FiniteMap.{empty, get, get-empty, insert, remove}
-use Rattle.model.proofs.Inodes.{get_same, get_other}
-use Rattle.call_laws.proofs.Maps.{not_none}
+use Rattle.model.proofs.Laws.{get_same, get_other, removed_same, removed_other}
+use Rattle.call_laws.proofs.Laws.{not_none}
 use Rattle.dirlist.specs.Listing.{Listing}
 use Rattle.store.specs.Numbers.{IsFirstRoot, Numbers, coming, no_names, present}
-use Rattle.store.specs.Places.{altered, installed, hidden, is_over, is_over_by, has_room, listing_of, listing_in, changed_object, with_listing, more_room, shown_stage, swept}
+use Rattle.store.specs.Places.{altered, installed, hidden, is_coming_by, is_over, is_over_by, has_room, listing_of, listing_in, changed_object, with_listing, more_room, shown_stage, swept}
 use Rattle.store.specs.declared.Place.{Place}
 use Rattle.store.specs.declared.Stage.{Stage}
 use Rattle.store.specs.declared.Stage.TheVariants.{Coming, Held, Lost}
 use Rattle.store.specs.declared.Object.{Object}
 use Rattle.store.specs.declared.Object.TheVariants.{Directory as Kept_directory}
-use Rattle.store.proofs.Chosen.{get-chosen}
-use Rattle.store.proofs.Changes.{with_place, without_place}
-use Rattle.store.proofs.Rows.{get-gone, get-left}
-use Rattle.store.proofs.Listings.{place-altered, place-other}
+use Rattle.store.proofs.Laws.{get-chosen, with_place, without_place, place-altered, place-other}
 use Rattle.shadow.specs.Claims.{Claim, Room, Number, promised_in, coming_in, reserved, IsInUse, room_in, number_as, number_of}
-use Rattle.shadow.specs.Stored.{promised_of, is_coming, reserve_in, committed_of}
+use Rattle.shadow.specs.Stored.{promised_of, reserve_in, committed_of}
 
 -- one object to come, or none
 abbrev pub coming_at : Stage → ℕ
@@ -47,7 +44,7 @@ coming_is : (o : Option Place) → coming_in (option_and_then reserve_in o) ≡ 
 coming_is None = refl
 coming_is (Some place) = by_stage place.stage
   where
-    by_stage : (t : Stage) → cond {A = ℕ} (is_coming t) 1 0 ≡ coming_at t
+    by_stage : (t : Stage) → cond {A = ℕ} (is_coming_by t) 1 0 ≡ coming_at t
     by_stage Coming = refl
     by_stage Held = refl
     by_stage Lost = refl
@@ -204,9 +201,9 @@ met_swept s n c = by_test (is_over (get s.places n)) refl
     by_test : (b : Bool) → is_over (get s.places n) ≡ b → met (cond b (without_place s n) s) c ≡ met s c
     by_test false e = refl
     by_test true e = elim (cases_eq (number_of c) n) [
-      | inl same ↦ ap (λ m. at_place c (get (remove s.places n) m)) same ∙ ap (at_place c) (get-gone s.places n) ∙ none_meets_none c
+      | inl same ↦ ap (λ m. at_place c (get (remove s.places n) m)) same ∙ ap (at_place c) (removed_same s.places n) ∙ none_meets_none c
           ∙ sym (over_meets_none (get s.places n) c e) ∙ sym (ap (λ m. at_place c (get s.places m)) same)
-      | inr away ↦ ap (at_place c) (get-left s.places n (number_of c) away)
+      | inr away ↦ ap (at_place c) (removed_other s.places n (number_of c) away)
     ]
 
 -- claims on a reserved number are met

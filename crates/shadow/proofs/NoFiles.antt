@@ -5,18 +5,17 @@ use Rattle.std.specs.List.{sum_by}
 use Rattle.std.proofs.lemmas.Bool.{cases_eq}
 use Rattle.std.proofs.lemmas.List.Sums.{sum_by-cons}
 use Rattle.model.specs.FiniteMap.{FinMap, get, empty, insert, remove, entries, entries-empty, values, get-empty}
-use Rattle.model.specs.State.{name_cmp, Kind, A_file, A_directory, A_pipe, Inode, File, Directory, Pipe, Description, Process, Kernel, kind, mapped, names_of, file_of, file_of_inode, pipe_of, pipe_of_inode, kind_of, is_end, ends, offset_of, offset_in}
+use Rattle.model.specs.State.{name_cmp, Kind, A_file, A_directory, A_pipe, Inode, File, Directory, Pipe, Description, Process, Kernel, kind, mapped, names_of, file_of, file_of_inode, pipe_of, pipe_of_inode, kind_of, is_end, ends}
 use Rattle.model.specs.Calls.{Slot, slot_of}
 use Rattle.model.specs.Changes.{or_new, set_inode, applied}
 use Rattle.model.specs.Moments.{with_processes}
-use Rattle.model.proofs.Inodes.{get_same, get_other}
+use Rattle.model.proofs.Laws.{get_same, get_other}
 use Rattle.model.specs.Effects.{all_done}
 use Rattle.look.specs.Shown.{table_of}
 use Rattle.store.specs.Numbers.{Numbers}
 use Rattle.store.specs.Shown.{inodes}
-use Rattle.store.proofs.Changes.{get-inodes_by}
-use Rattle.shadow.specs.declared.steps.Step.{Step}
-use Rattle.shadow.specs.declared.steps.Step.TheVariants.{Nothing, Make, Unname}
+use Rattle.store.proofs.Laws.{get-inodes_by}
+use Rattle.shadow.specs.Changes.{Step, Nothing, Make, Unname}
 use Rattle.shadow.specs.Changes.{effect_of}
 use Rattle.shadow.specs.Looks.{HasNoFiles, birth_of}
 use Rattle.shadow.specs.Stored.{stored}
@@ -62,7 +61,7 @@ no_files_after : (s : Step) (k : Kernel) → HasNoFiles k → HasNoFiles (one_do
 unfolding applied
 no_files_after Nothing k h = h
 no_files_after (Make d x n) k h = set_no_files (set_inode n (Directory empty) k) d (insert (names_of (set_inode n (Directory empty) k) d) x n) (set_no_files k n empty h)
-no_files_after (Unname d x) k h = set_no_files k d (remove (names_of k d) x) h
+no_files_after (Unname d x n) k h = set_no_files k d (remove (names_of k d) x) h
 
 pub no_files_all : (steps : List Step) (k : Kernel) → HasNoFiles k → HasNoFiles (all_done (map effect_of steps) k)
 no_files_all [] k h = h
@@ -73,7 +72,7 @@ birth_after : (s : Step) (k : Kernel) (pid : ℕ) → birth_of (one_done s k) pi
 unfolding applied
 birth_after Nothing k pid = refl
 birth_after (Make d x n) k pid = refl
-birth_after (Unname d x) k pid = refl
+birth_after (Unname d x n) k pid = refl
 
 pub birth_all : (steps : List Step) (k : Kernel) (pid : ℕ) → birth_of (all_done (map effect_of steps) k) pid ≡ birth_of k pid
 birth_all [] k pid = refl
@@ -97,9 +96,6 @@ no_file k h n = file_in (get k.inodes n) (h.directories n)
 
 pub no_pipe : (k : Kernel) → HasNoFiles k → (n : ℕ) → pipe_of k n ≡ []
 no_pipe k h n = pipe_in (get k.inodes n) (h.directories n)
-
-pub no_offset : (k : Kernel) → HasNoFiles k → (d : ℕ) → 0 ≡ offset_of k d
-no_offset k h d = ap offset_in (sym (h.descriptions d))
 
 none_of : (count : ℕ) → [] ≡ take {A = ℕ} count []
 none_of zero = refl

@@ -1,35 +1,35 @@
 -- What one change makes of the store.
-use Rattle.std.proofs.Common.{◌≡◌, ◌≢◌, ℕ, ◌+◌, ◌<◌, ◌≤◌, cond, List, [], ◌∷◌, Option, Some, None, refl, sym, ap, subst, ◌∙◌, arith, eq-eqb}
+use Rattle.std.proofs.Common.{◌≡◌, ◌≢◌, ℕ, ◌+◌, ◌<◌, ◌≤◌, true, false, cond, List, [], ◌∷◌, Option, Some, None, refl, sym, ap, subst, ◌∙◌, arith, eq-eqb}
 use Rattle.std.specs.Option.{option_map, option_and_then}
 use Rattle.std.specs.Cmp.Lexicographic.{nat_list_cmp_total}
 use Rattle.model.specs.FiniteMap.{get, empty, insert, remove, same_map, get-empty}
-use Rattle.model.specs.State.{Name, A_directory, Kernel, Inode, File, Directory, Pipe, kind, mapped, names_of, names_of_inode, kind_of}
+use Rattle.model.specs.State.{Name, A_directory, Kernel, Inode, File, Directory, Pipe, kind, mapped, names_of, names_of_inode, kind_of, links}
 use Rattle.model.specs.Changes.{Make_directory, Unname_directory, set_inode, set_name, clear_name, applied, all_applied, tidy}
-use Rattle.model.proofs.Inodes.{name_exact}
+use Rattle.model.proofs.Laws.{name_exact}
 use Rattle.call_laws.specs.WellFormed.{WellFormed}
 use Rattle.call_laws.specs.Fits.{Fits, FitsAll}
-use Rattle.call_laws.proofs.Laws.{calls_are_lawful_lem}
-use Rattle.call_laws.proofs.Maps.{not_none, none_by_keys}
-use Rattle.call_laws.proofs.NameEdits.{kept_kind}
-use Rattle.call_laws.proofs.Well.{well_stays}
+use Rattle.call_laws.proofs.Laws.{calls_are_lawful_lem, not_none, none_by_keys, kept_kind, well_stays}
 use Rattle.dirlist.specs.Listing.{Listing}
 use Rattle.store.specs.Numbers.{Numbers, coming}
-use Rattle.store.specs.Places.{altered, installed, hidden, lost, listing_of, listing_in, listing_at, number_in, with_listing, with_name, without_name, shown_stage}
+use Rattle.store.specs.Places.{altered, installed, is_coming, may_be_named, listing_at, with_listing, with_name, without_name, shown_stage}
 use Rattle.store.specs.Shown.{inodes, inode_in, inode_of, shown_at, with_names}
 use Rattle.store.specs.declared.Place.{Place}
 use Rattle.store.specs.declared.Stage.{Stage}
 use Rattle.store.specs.declared.Stage.TheVariants.{Coming, Held, Lost}
 use Rattle.store.specs.declared.Object.{Object}
 use Rattle.store.specs.declared.Object.TheVariants.{Directory as Kept_directory}
-use Rattle.store.proofs.Changes.{get-inodes_by, inodes-installed, inodes-lost, inodes-changed, with_names-there}
-use Rattle.store.proofs.Listings.{place-other, listing-staged}
-use Rattle.shadow.specs.declared.steps.Step.TheVariants.{Make}
+use Rattle.store.proofs.Laws.{get-inodes_by, inodes-installed, inodes-changed, with_names-there, place-altered, place-other, listing-staged}
+use Rattle.shadow.specs.Changes.{Make}
 use Rattle.shadow.specs.Claims.{Claim, Room, Number, claimed_by, room_in, number_as}
 use Rattle.shadow.specs.Changes.{effect_of}
 use Rattle.shadow.specs.Stored.{stored, promised_of, FitsStage, IsStaged, Sound}
-use Rattle.shadow.proofs.Meets.{met, coming_at, coming_by, installs, takes_one, takes_none, hides_held, met_swept}
-use Rattle.shadow.proofs.Freed.{made_tidy, unnamed_tidy}
-use Rattle.shadow.proofs.Unshown.{altered_staged, lost_root, lost_staged}
+use Rattle.shadow.proofs.Meets.{met, coming_at, coming_by, installs, takes_one, takes_none}
+use Rattle.shadow.proofs.Freed.{freed_state, made_tidy, unnamed_tidy}
+use Rattle.shadow.specs.Laid.{freed}
+use Rattle.freeing_laws.specs.Counts.{free_inode}
+use Rattle.freeing_laws.specs.Sweep.{AreParented}
+use Rattle.freeing_laws.proofs.Laws.{sweep_is_tidy_lem}
+use Rattle.shadow.proofs.Unshown.{altered_staged, freed_kept, freed_root, freed_staged}
 
 -- an inode that is a directory, by its names
 pub directory_inode : (o : Option Inode) → mapped kind o ≡ Some A_directory → o ≡ Some (Directory (names_of_inode o))
@@ -67,12 +67,6 @@ staged_installed (Some place) fits = by_stage place.stage place.object fits
     by_stage Held object fits = tt
     by_stage Lost object fits = fits
 
-shown_names : (o : Option Place) (y : Name) → IsHeld o → number_in (listing_in o) y ≡ get (names_of_inode (option_and_then inode_in o)) y
-shown_names o y h = subst (λ o. number_in (listing_in o) y ≡ get (names_of_inode (option_and_then inode_in o)) y) (sym h.is) (by_object h.object)
-  where
-    by_object : (object : Object) → number_in (listing_of object) y ≡ get (names_of_inode (inode_of object)) y
-    by_object (Kept_directory l) = refl
-
 -- the object to come of a number that is claimed
 pub to_come : (o : Option Place) → 0 < coming_by o → (l : Listing) × (o ≡ Some (coming (Kept_directory l)))
 to_come None h = absurd (omega arith)
@@ -99,9 +93,6 @@ module _ (ps : List ℕ) (s : Numbers) where
   pub shown_there : (m : ℕ) → kind_of shown m ≡ Some A_directory → IsHeld (get s.places m)
   shown_there m e = held_if_shown (get s.places m) (λ none. no_inode (get (inodes s) m) e (get-inodes_by s m (get s.places m) refl ∙ none))
 
-  pub shown_number : (m : ℕ) (y : Name) → kind_of shown m ≡ Some A_directory → number_in (listing_at s m) y ≡ get (names_of shown m) y
-  shown_number m y e = shown_names (get s.places m) y (shown_there m e) ∙ ap (λ o. get (names_of_inode o) y) (sym (get-inodes_by s m (get s.places m) refl))
-
 -- a new directory with its name
 module _ (ps : List ℕ) (s : Numbers) (d : ℕ) (x : Name) (n : ℕ) (sound : Sound ps s) (all : FitsAll (n ∷ []) (shown ps s) (Make_directory d x 0 ∷ [])) (covers : (c : Claim) → claimed_by c (effect_of (Make d x n)) ≤ met s c) where
   abbrev pub first : Numbers
@@ -121,14 +112,14 @@ module _ (ps : List ℕ) (s : Numbers) (d : ℕ) (x : Name) (n : ℕ) (sound : S
       let some : claimed_by (Number n) (effect_of (Make d x n)) ≤ met s (Number n) = covers (Number n) in
       let one : claimed_by (Number n) (effect_of (Make d x n)) ≡ 1 = ap (λ b. 0 + cond b 1 0) (eq-eqb n n refl) in omega arith
 
-  is_coming : (l : Listing) × (get s.places n ≡ Some (coming (Kept_directory l)))
-  is_coming = to_come (get s.places n) some_number
+  is_coming_place : (l : Listing) × (get s.places n ≡ Some (coming (Kept_directory l)))
+  is_coming_place = to_come (get s.places n) some_number
 
-  no_names : is_coming.0.names ≡ empty
-  no_names = same_map nat_list_cmp_total name_exact is_coming.0.names empty (λ y. subst IsStaged is_coming.1 (sound.staged n) y ∙ sym (get-empty _ y))
+  no_names : is_coming_place.0.names ≡ empty
+  no_names = same_map nat_list_cmp_total name_exact is_coming_place.0.names empty (λ y. subst IsStaged is_coming_place.1 (sound.staged n) y ∙ sym (get-empty _ y))
 
   inodes_first : inodes first ≡ insert (inodes s) n (Directory empty)
-  inodes_first = inodes-installed s n (Kept_directory is_coming.0) is_coming.1 ∙ ap (λ ns. insert (inodes s) n (Directory ns)) no_names
+  inodes_first = inodes-installed s n (Kept_directory is_coming_place.0) is_coming_place.1 ∙ ap (λ ns. insert (inodes s) n (Directory ns)) no_names
 
   parent : get (insert (inodes s) n (Directory empty)) d ≡ Some (Directory (names_of (set_inode n (Directory empty) k) d))
   parent = directory_inode _ (kept_kind k n d (Directory empty) A_directory fits.1.inode fits.0.parent.directory)
@@ -156,6 +147,16 @@ module _ (ps : List ℕ) (s : Numbers) (d : ℕ) (x : Name) (n : ℕ) (sound : S
   pub made_room : (l : Listing) → listing_at first d ≡ Some l → 0 < l.promised
   made_room l is = let some : 0 < met s (Room d) = some_room in let room : met s (Room d) ≡ l.promised = sym same_room ∙ ap promised_of is in omega arith
 
+  held_after : IsHeld (get first.places d)
+  held_after = held_if_shown (get first.places d) (λ none. not_none _ (sym parent ∙ ap (λ m. get m d) (sym inodes_first) ∙ get-inodes_by first d (get first.places d) refl ∙ none))
+
+  -- the parent is not to come, and the new directory is shown
+  pub made_parent : is_coming (get first.places d) ≡ false
+  made_parent = ap is_coming held_after.is
+
+  pub made_number : may_be_named (get first.places n) ≡ true
+  made_number = ap may_be_named (place-altered installed s n ∙ ap (option_map installed) is_coming_place.1)
+
   pub made_kept : (c : Claim) → met made c + claimed_by c (effect_of (Make d x n)) ≡ met s c
   made_kept c =
       let one : met first c + number_as n c ≡ met s c = installs s n some_number c in
@@ -166,9 +167,6 @@ module _ (ps : List ℕ) (s : Numbers) (d : ℕ) (x : Name) (n : ℕ) (sound : S
       by_claim (Room r) = let same : claimed_by (Room r) (effect_of (Make d x n)) ≡ 0 + room_in d (Room r) = refl in omega arith
       by_claim (Number m) = let same : claimed_by (Number m) (effect_of (Make d x n)) ≡ 0 + number_as n (Number m) = refl in omega arith
 
-  held_after : IsHeld (get first.places d)
-  held_after = held_if_shown (get first.places d) (λ none. not_none _ (sym parent ∙ ap (λ m. get m d) (sym inodes_first) ∙ get-inodes_by first d (get first.places d) refl ∙ none))
-
   pub made_sound : Sound ps made
   made_sound = record {
     root = sound.root;
@@ -178,47 +176,49 @@ module _ (ps : List ℕ) (s : Numbers) (d : ℕ) (x : Name) (n : ℕ) (sound : S
   }
 
 -- a directory's name that goes
-module _ (ps : List ℕ) (s : Numbers) (d : ℕ) (x : Name) (sound : Sound ps s) (all : FitsAll [] (shown ps s) (Unname_directory d x ∷ [])) where
+module _ (ps : List ℕ) (s : Numbers) (d : ℕ) (x : Name) (n : ℕ) (sound : Sound ps s) (all : FitsAll [] (shown ps s) (Unname_directory d x n ∷ [])) where
   abbrev pub unnamed : Numbers
   unnamed = altered (with_listing (without_name x)) s d
 
   abbrev pub old : Kernel
   old = shown ps s
 
-  abbrev pub fitting : Fits [] old (Unname_directory d x)
+  abbrev pub fitting : Fits [] old (Unname_directory d x n)
   fitting = all.0
 
-  abbrev pub gone : ℕ
-  gone = fitting.0
-
-  pub gone_is : number_in (listing_at s d) x ≡ Some gone
-  gone_is = shown_number ps s d x fitting.1.parent.directory ∙ fitting.1.gives
-
   there : get (inodes s) d ≡ Some (Directory (names_of old d))
-  there = directory_inode (get (inodes s) d) fitting.1.parent.directory
+  there = directory_inode (get (inodes s) d) fitting.0.parent.directory
 
   inodes_unnamed : inodes unnamed ≡ (clear_name d x old).inodes
   inodes_unnamed = inodes-changed (without_name x) (λ names. remove names x) (λ l. refl) s d ∙ with_names-there (λ names. remove names x) (inodes s) d (names_of old d) there
 
-  pub lost_state : stored ps (inodes (lost unnamed gone)) ≡ tidy (all_applied [] (Unname_directory d x ∷ []) old)
-  lost_state = ap (stored ps) (inodes-lost unnamed gone ∙ ap (λ m. remove m gone) inodes_unnamed) ∙ sym (unnamed_tidy old d x (record { well = sound.well; tidied = sound.tidied }) fitting)
+  well_unnamed : WellFormed (clear_name d x old)
+  unfolding applied
+  well_unnamed = well_stays [] old (Unname_directory d x n) sound.well fitting
 
-  empty_names : (y : Name) → get (names_of old gone) y ≡ None
-  empty_names y = none_by_keys nat_list_cmp_total (names_of old gone) fitting.2 y
+  pub parented : AreParented (stored [] (inodes unnamed))
+  unfolding links
+  parented = subst (λ m. AreParented (stored [] m)) (sym inodes_unnamed) (sweep_is_tidy_lem.parented (clear_name d x old) well_unnamed)
 
-  apart : gone ≢ d
-  apart same = not_none gone (sym fitting.1.gives ∙ ap (λ t. get (names_of old t) x) (sym same) ∙ empty_names x)
+  pub lost_state : stored ps (inodes (freed unnamed n)) ≡ tidy (all_applied [] (Unname_directory d x n ∷ []) old)
+  lost_state = freed_state ps unnamed n ∙ ap (λ m. free_inode n (stored ps m)) inodes_unnamed ∙ unnamed_tidy old d x n (record { well = sound.well; tidied = sound.tidied }) fitting
 
-  not_to_come : met unnamed (Number gone) ≡ 0
-  not_to_come = ap coming_by (place-other (with_listing (without_name x)) s d gone apart) ∙ ap coming_by (shown_there ps s gone fitting.1.kind).is
+  empty_names : (y : Name) → get (names_of old n) y ≡ None
+  empty_names y = none_by_keys nat_list_cmp_total (names_of old n) fitting.1 y
 
-  pub lost_kept : (c : Claim) → met (lost unnamed gone) c ≡ met s c
-  lost_kept c = met_swept (altered hidden unnamed gone) gone c ∙ hides_held unnamed gone not_to_come c ∙ takes_none (without_name x) (λ l. refl) s d c
+  apart : n ≢ d
+  apart same = not_none n (sym fitting.0.gives ∙ ap (λ t. get (names_of old t) x) (sym same) ∙ empty_names x)
 
-  pub lost_sound : Sound ps (lost unnamed gone)
+  not_to_come : met unnamed (Number n) ≡ 0
+  not_to_come = ap coming_by (place-other (with_listing (without_name x)) s d n apart) ∙ ap coming_by (shown_there ps s n fitting.0.kind).is
+
+  pub lost_kept : (c : Claim) → met (freed unnamed n) c ≡ met s c
+  lost_kept c = freed_kept unnamed n not_to_come c ∙ takes_none (without_name x) (λ l. refl) s d c
+
+  pub lost_sound : Sound ps (freed unnamed n)
   lost_sound = record {
-    root = lost_root unnamed gone ∙ sound.root;
-    well = subst WellFormed (sym lost_state) (well_after [] old (Unname_directory d x) sound.well fitting);
-    tidied = subst (λ (t : Kernel). tidy t ≡ t) (sym lost_state) (tidied_after [] old (Unname_directory d x) sound.well fitting);
-    staged = lost_staged unnamed gone (altered_staged (with_listing (without_name x)) s d sound.staged (staged_if_held (without_name x) (get s.places d) (shown_there ps s d fitting.1.parent.directory)));
+    root = freed_root unnamed n ∙ sound.root;
+    well = subst WellFormed (sym lost_state) (well_after [] old (Unname_directory d x n) sound.well fitting);
+    tidied = subst (λ (t : Kernel). tidy t ≡ t) (sym lost_state) (tidied_after [] old (Unname_directory d x n) sound.well fitting);
+    staged = freed_staged unnamed n (altered_staged (with_listing (without_name x)) s d sound.staged (staged_if_held (without_name x) (get s.places d) (shown_there ps s d fitting.0.parent.directory)));
   }

@@ -1,13 +1,15 @@
 -- Changes of the store that are not seen in the state: numbers are reserved and given back, and promises come and go.
-use Rattle.std.proofs.Common.{◌≡◌, ◌≢◌, ℕ, ◌+◌, ◌<◌, ◌≤◌, Bool, true, false, not, List, Option, Some, None, refl, sym, ap, subst, ◌∙◌, arith, lt-ltb, inl, inr}
+use Rattle.std.proofs.Common.{◌≡◌, ◌≢◌, ℕ, ◌+◌, ◌<◌, ◌≤◌, Bool, true, false, cond, not, List, [], Option, Some, None, refl, sym, ap, subst, ◌∙◌, arith, lt-ltb, inl, inr}
 use Rattle.std.specs.Option.{option_map, option_and_then}
 use Rattle.std.proofs.lemmas.Bool.{cases_eq}
 use Rattle.model.specs.FiniteMap.{FinMap, get, insert, empty, get-empty}
-use Rattle.model.specs.State.{Inode, name_cmp}
-use Rattle.model.specs.Changes.{tidy}
-use Rattle.model.proofs.Inodes.{get_same, get_other}
-use Rattle.call_laws.specs.WellFormed.{WellFormed}
-use Rattle.call_laws.proofs.Maps.{not_none}
+use Rattle.model.specs.State.{Inode, name_cmp, kind, mapped, names_of_inode}
+use Rattle.store.specs.Links.{links_in}
+use Rattle.store.proofs.Laws.{links-links_in, remove-absent, get-inodes_by, with_place, inodes-reserved, inodes-lost, inodes-kept, inodes-released, place-altered, place-other, place-over, place-swept-other, swept-stays}
+use Rattle.call_laws.proofs.Laws.{none_count, not_none}
+use Rattle.model.specs.Changes.{is_reached, tidy}
+use Rattle.model.proofs.Laws.{get_same, get_other}
+use Rattle.call_laws.specs.WellFormed.{CanBeNamed, WellFormed}
 use Rattle.dirlist.specs.Listing.{Listing}
 use Rattle.store.specs.Numbers.{Numbers, coming}
 use Rattle.store.specs.Places.{altered, hidden, is_over, is_over_by, has_room, listing_of, changed_object, with_listing, more_room, less_room, lost, released, swept}
@@ -17,12 +19,10 @@ use Rattle.store.specs.declared.Stage.{Stage}
 use Rattle.store.specs.declared.Stage.TheVariants.{Coming, Held, Lost}
 use Rattle.store.specs.declared.Object.{Object}
 use Rattle.store.specs.declared.Object.TheVariants.{Directory as Kept_directory}
-use Rattle.store.proofs.Chosen.{remove-absent}
-use Rattle.store.proofs.Changes.{get-inodes_by, with_place, inodes-reserved, inodes-lost, inodes-kept, inodes-released}
-use Rattle.store.proofs.Listings.{place-altered, place-other, place-over, place-swept-other, swept-stays}
-use Rattle.shadow.specs.Claims.{Number}
+use Rattle.shadow.specs.Claims.{Claim, Number}
 use Rattle.shadow.specs.Stored.{stored, FitsStage, IsStaged, Sound}
-use Rattle.shadow.proofs.Meets.{met, coming_at, coming_by}
+use Rattle.shadow.proofs.Meets.{met, coming_at, coming_by, hides_held, met_swept}
+use Rattle.shadow.specs.Laid.{freed}
 
 pub same_sound : (ps : List ℕ) (s after : Numbers) → Sound ps s → after.root ≡ s.root → inodes after ≡ inodes s → ((n : ℕ) → IsStaged (get after.places n)) → Sound ps after
 same_sound ps s after sound root is staged = record {
@@ -89,7 +89,7 @@ promised_sound ps s d sound = same_sound ps s (altered (with_listing more_room) 
 swept_root : (s : Numbers) (n : ℕ) → (swept s n).root ≡ s.root
 swept_root s n = by_test (is_over (get s.places n))
   where
-    by_test : (b : Bool) → (Rattle.std.proofs.Common.cond b (Rattle.store.proofs.Changes.without_place s n) s).root ≡ s.root
+    by_test : (b : Bool) → (Rattle.std.proofs.Common.cond b (Rattle.store.proofs.Laws.without_place s n) s).root ≡ s.root
     by_test true = refl
     by_test false = refl
 
@@ -134,3 +134,33 @@ stays s q n l there none = elim (cases_eq q n) [
   | inl here ↦ not_none _ (sym (get_same s.places n (coming (Kept_directory l))) ∙ ap (get (insert s.places n (coming (Kept_directory l)))) (sym here) ∙ none)
   | inr away ↦ there (sym (get_other s.places n q (coming (Kept_directory l)) away) ∙ none)
 ]
+
+-- what is freed is not what is to come
+pub freed_root : (s : Numbers) (n : ℕ) → (freed s n).root ≡ s.root
+freed_root s n = by_test (is_reached (stored [] (inodes s)) n)
+  where
+    by_test : (b : Bool) → (cond b s (lost s n)).root ≡ s.root
+    by_test true = refl
+    by_test false = lost_root s n
+
+pub freed_staged : (s : Numbers) (n : ℕ) → ((m : ℕ) → IsStaged (get s.places m)) → (m : ℕ) → IsStaged (get (freed s n).places m)
+freed_staged s n staged m = by_test (is_reached (stored [] (inodes s)) n)
+  where
+    by_test : (b : Bool) → IsStaged (get (cond b s (lost s n)).places m)
+    by_test true = staged m
+    by_test false = lost_staged s n staged m
+
+pub freed_kept : (s : Numbers) (n : ℕ) → met s (Number n) ≡ 0 → (c : Claim) → met (freed s n) c ≡ met s c
+freed_kept s n none c = by_test (is_reached (stored [] (inodes s)) n)
+  where
+    by_test : (b : Bool) → met (cond b s (lost s n)) c ≡ met s c
+    by_test true = refl
+    by_test false = met_swept (altered hidden s n) n c ∙ hides_held s n none c
+
+-- no name gives what is to come, and it has no names
+pub coming_unnamed : (ps : List ℕ) (s : Numbers) (n : ℕ) → Sound ps s → 0 < met s (Number n) → links_in (inodes s) n ≡ 0
+coming_unnamed ps s n sound some =
+    sym (links-links_in (stored ps (inodes s)) n) ∙ none_count (stored ps (inodes s)) n (λ d x is. subst CanBeNamed (ap (mapped kind) (get-inodes_by s n (get s.places n) refl ∙ coming_unseen (get s.places n) some)) (sound.well.names d x n is))
+
+pub coming_bare : (s : Numbers) (n : ℕ) → 0 < met s (Number n) → names_of_inode (get (inodes s) n) ≡ empty
+coming_bare s n some = ap names_of_inode (get-inodes_by s n (get s.places n) refl ∙ coming_unseen (get s.places n) some)

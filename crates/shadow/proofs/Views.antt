@@ -6,14 +6,16 @@ use Rattle.std.proofs.lemmas.Bool.{cases_eq}
 use Rattle.model.specs.FiniteMap.{FinMap, get, empty, insert, remove, get-insert, get-remove, get-empty}
 use Rattle.model.specs.State.{Name, name_cmp, Kind, A_directory, Kernel, Directory, kind, mapped, names_of, names_of_inode, kind_of, entry_of}
 use Rattle.model.specs.Changes.{set_inode, set_name, clear_name, applied, all_applied}
-use Rattle.model.proofs.Inodes.{get_same, get_other}
-use Rattle.call_laws.proofs.Maps.{not_none, some_same}
+use Rattle.model.proofs.Laws.{get_same, get_other}
+use Rattle.call_laws.proofs.Laws.{not_none, some_same}
 use Rattle.model.specs.Effects.{Effect, all_done}
-use Rattle.shadow.specs.declared.steps.Step.{Step}
-use Rattle.shadow.specs.declared.steps.Step.TheVariants.{Nothing, Make, Unname}
+use Rattle.shadow.specs.Changes.{Step, Nothing, Make, Unname}
 use Rattle.shadow.specs.Looks.{NamesAreDirectories, directory_at}
-use Rattle.shadow.specs.Index.{is_place}
 use Rattle.shadow.specs.Changes.{effect_of}
+
+-- whether a name in a directory is that one
+abbrev pub is_place : ℕ → Name → ℕ × Name → Bool
+is_place d x place = (d == place.0) && eq_by_cmp name_cmp x place.1
 
 abbrev pub found : Kernel → ℕ → Name → Option ℕ
 found k e y = get (names_of k e) y
@@ -56,7 +58,7 @@ found_unnamed k d x e y = elim (cases_eq e d) [
 abbrev pub after_step : Step → ℕ → Name → Option ℕ → Option ℕ
 after_step Nothing e y before = before
 after_step (Make d x n) e y before = cond (is_place e y (d, x)) (Some n) (cond (e == n) None before)
-after_step (Unname d x) e y before = cond (is_place e y (d, x)) None before
+after_step (Unname d x n) e y before = cond (is_place e y (d, x)) None before
 
 abbrev pub one_done : Step → Kernel → Kernel
 one_done s k = all_applied (effect_of s).chosen (effect_of s).edits k
@@ -65,26 +67,26 @@ pub found_after : (s : Step) (k : Kernel) (e : ℕ) (y : Name) → found (one_do
 unfolding applied
 found_after Nothing k e y = refl
 found_after (Make d x n) k e y = found_named (set_inode n (Directory empty) k) d x n e y ∙ ap (cond (is_place e y (d, x)) (Some n)) (found_cleared k n e y)
-found_after (Unname d x) k e y = found_unnamed k d x e y
+found_after (Unname d x n) k e y = found_unnamed k d x e y
 
 pub done_more : (ds : List Effect) (d : Effect) (k : Kernel) → all_done (ds ++ d ∷ []) k ≡ all_applied d.chosen d.edits (all_done ds k)
 done_more [] d k = refl
 done_more (x ∷ ds) d k = done_more ds d (all_applied x.chosen x.edits k)
 
 -- a directory stays one where some inode becomes a directory
-kind_set : (k : Kernel) (d : ℕ) (names : FinMap name_cmp ℕ) (m : ℕ) → (m ≡ d) ⊎ (kind_of k m ≡ Some A_directory) → kind_of (set_inode d (Directory names) k) m ≡ Some A_directory
+pub kind_set : (k : Kernel) (d : ℕ) (names : FinMap name_cmp ℕ) (m : ℕ) → (m ≡ d) ⊎ (kind_of k m ≡ Some A_directory) → kind_of (set_inode d (Directory names) k) m ≡ Some A_directory
 kind_set k d names m h = elim (cases_eq m d) [
   | inl same ↦ ap (λ t. kind_of (set_inode d (Directory names) k) t) same ∙ ap (mapped kind) (get_same k.inodes d (Directory names))
   | inr away ↦ ap (mapped kind) (get_other k.inodes d m (Directory names) away) ∙ elim h [ inl same ↦ absurd (away same) | inr is ↦ is ]
 ]
 
-kind_made : (k : Kernel) (d : ℕ) (x : Name) (n m : ℕ) → (m ≡ n) ⊎ (kind_of k m ≡ Some A_directory) → kind_of (one_done (Make d x n) k) m ≡ Some A_directory
+pub kind_made : (k : Kernel) (d : ℕ) (x : Name) (n m : ℕ) → (m ≡ n) ⊎ (kind_of k m ≡ Some A_directory) → kind_of (one_done (Make d x n) k) m ≡ Some A_directory
 unfolding applied
 kind_made k d x n m h = kind_set (set_inode n (Directory empty) k) d (insert (names_of (set_inode n (Directory empty) k) d) x n) m (inr (kind_set k n empty m h))
 
-kind_unnamed : (k : Kernel) (d : ℕ) (x : Name) (m : ℕ) → kind_of k m ≡ Some A_directory → kind_of (one_done (Unname d x) k) m ≡ Some A_directory
+pub kind_unnamed : (k : Kernel) (d : ℕ) (x : Name) (n m : ℕ) → kind_of k m ≡ Some A_directory → kind_of (one_done (Unname d x n) k) m ≡ Some A_directory
 unfolding applied
-kind_unnamed k d x m h = kind_set k d (remove (names_of k d) x) m (inr h)
+kind_unnamed k d x n m h = kind_set k d (remove (names_of k d) x) m (inr h)
 
 from_cond : (b : Bool) (n m : ℕ) (o : Option ℕ) → cond b (Some n) o ≡ Some m → (m ≡ n) ⊎ (o ≡ Some m)
 from_cond true n m o e = inl (sym (some_same n m e))
@@ -100,7 +102,7 @@ directories_after (Make d x n) k h e y m is = elim (from_cond (is_place e y (d, 
   | inl new ↦ kind_made k d x n m (inl new)
   | inr old ↦ kind_made k d x n m (inr (h e y m (from_none (e == n) m (found k e y) old)))
 ]
-directories_after (Unname d x) k h e y m is = kind_unnamed k d x m (h e y m (from_none (is_place e y (d, x)) m (found k e y) (sym (found_after (Unname d x) k e y) ∙ is)))
+directories_after (Unname d x n) k h e y m is = kind_unnamed k d x n m (h e y m (from_none (is_place e y (d, x)) m (found k e y) (sym (found_after (Unname d x n) k e y) ∙ is)))
 
 pub directories_all : (steps : List Step) (k : Kernel) → NamesAreDirectories k → NamesAreDirectories (all_done (map effect_of steps) k)
 directories_all [] k h = h
@@ -115,7 +117,7 @@ root_after : (s : Step) (k : Kernel) → (one_done s k).root ≡ k.root
 unfolding applied
 root_after Nothing k = refl
 root_after (Make d x n) k = refl
-root_after (Unname d x) k = refl
+root_after (Unname d x n) k = refl
 
 pub root_all : (steps : List Step) (k : Kernel) → (all_done (map effect_of steps) k).root ≡ k.root
 root_all [] k = refl

@@ -1,6 +1,7 @@
--- What a transaction's changes need of the committed state to be committed without memory: room for each name that they add, and
--- their new numbers.
-use Rattle.std.specs.Prelude.{◌≡◌, ◌≢◌, ℕ, ◌+◌, ◌≤◌, Bool, true, false, List, length, Option, Some, None, ◌==◌, if◌then◌else◌, ⊤}
+-- What a transaction's changes need of the committed state to be committed without memory: room for
+-- each name that they add, and their new numbers.
+use Rattle.std.specs.Prelude.{◌≡◌, ◌≢◌, ℕ, ◌+◌, ◌≤◌, Bool, true, false, List, length, Option, Some}
+use Rattle.std.specs.Prelude.{None, ◌==◌, if◌then◌else◌, ⊤}
 use Rattle.std.specs.Ordering.{nat_cmp}
 use Rattle.std.specs.List.{AllByRecursion, count_by, sum_by}
 use Rattle.model.specs.FiniteMap.{FinMap, get}
@@ -71,8 +72,8 @@ KeepsSame s t = (c : Claim) → reserved t c ≡ reserved s c
 abbrev pub KeepsNothing : Committed → Type 0
 KeepsNothing s = (c : Claim) → reserved s c ≡ 0
 
--- Numbers for what these edits make: as many as they need, all different, of no object, and of none that a transaction has made or
--- in which it needs room.
+-- Numbers for what these edits make: as many as they need, all different, of no object, and of none
+-- that a transaction has made or in which it needs room.
 pub record AreUnused (s : Committed) (made : List Edit) (chosen : List ℕ) : Type 0 where
   pub count : length chosen ≡ sum_by news made
   pub unused : (c : Claim) → is_in (number_of c) chosen ≡ true → reserved s c ≡ 0

@@ -4,7 +4,8 @@ use Rattle.std.specs.Ordering.{nat_cmp}
 use Rattle.model.specs.FiniteMap.{FinMap}
 use Rattle.model.specs.State.{Kernel}
 
--- what is kept of a number that is in use: whether its object is still to come, and for how many further names room is promised
+-- what is kept of a number that is in use: whether its object is still to come, and for how many
+-- further names room is promised
 pub record Reserve : Type 0 where
   pub coming : Bool
   pub promised : ℕ

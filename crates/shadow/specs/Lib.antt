@@ -1,7 +1,10 @@
 pub mod Committed
 pub mod Claims
 pub mod Looks
-pub mod Index
+pub mod Changed
 pub mod Changes
 pub mod Stored
 pub mod Effects
+pub mod Laid
+pub mod Log
+pub mod Agrees

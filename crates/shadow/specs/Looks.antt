@@ -18,7 +18,8 @@ changes_of None = []
 
 -- all that names give are directories
 abbrev pub NamesAreDirectories : Kernel → Type 0
-NamesAreDirectories k = (d : ℕ) (x : Name) (n : ℕ) → get (names_of k d) x ≡ Some n → kind_of k n ≡ Some A_directory
+NamesAreDirectories k = (d : ℕ) (x : Name) (n : ℕ) → get (names_of k d) x ≡ Some n
+    → kind_of k n ≡ Some A_directory
 
 -- all inodes are directories, and no process has anything open
 pub record HasNoFiles (k : Kernel) : Type 0 where
@@ -29,7 +30,8 @@ pub record HasNoFiles (k : Kernel) : Type 0 where
 -- what names give, and the root, is there or to come
 pub record NamesAreInUse (v : Committed) : Type 0 where
   pub root : IsInUse v.reserves v.state.root
-  pub names : (d : ℕ) (x : Name) (n : ℕ) → get (names_of v.state d) x ≡ Some n → IsInUse v.reserves n
+  pub names : (d : ℕ) (x : Name) (n : ℕ) → get (names_of v.state d) x ≡ Some n
+      → IsInUse v.reserves n
 
 -- how many processes were made, and a process's priority
 abbrev pub birth_of : Kernel → ℕ → ℕ × ℕ

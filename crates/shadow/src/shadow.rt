@@ -1,43 +1,51 @@
 // A transaction's changes.
-ghost use Rattle.std.specs.Prelude.{ℕ, ◌≡◌, ◌++◌, ◌∷◌, [], IfOk, OnErr, OnOk};
-ghost use Rattle.model.specs.State.{Kernel, entry_of, names_of};
-ghost use Rattle.model.specs.Changes.{Make_directory};
+ghost use Rattle.std.specs.Prelude.{◌≡◌, ◌++◌, ◌∷◌, [], IfOk, OnErr, OnOk};
+ghost use Rattle.model.specs.FiniteMap.{keys};
+ghost use Rattle.model.specs.Paths.{is_empty};
+ghost use Rattle.model.specs.State.{entry_of, names_of};
+ghost use Rattle.model.specs.Changes.{Make_directory, Unname_directory};
 ghost use Rattle.model.specs.Effects.{all_done};
-ghost use Rattle.shadow.specs.Effects.{CanCommit, in_turn};
-ghost use Rattle.shadow.specs.declared.steps.Step.TheVariants as steps;
-ghost use Rattle.shadow.specs.Changes.{CanEdit, effect, effect_of};
+ghost use Rattle.model.specs.Changes.{tidy};
+ghost use Rattle.freeing_laws.specs.Sweep.{AllFit};
+ghost use Rattle.shadow.specs.Changes.{CanEdit, effect};
 ghost use Rattle.shadow.specs.Looks.{HasNoFiles, NamesAreInUse, birth_of, directory_at};
-ghost use Rattle.shadow.specs.Claims.{AreUnused, Claim, Covers, HaveParents, IsInUse, KeepsMore, KeepsSame, claimed, claimed_by};
+ghost use Rattle.shadow.specs.Claims.{AreUnused, Claim, Covers, HaveParents, IsInUse, KeepsMore};
+ghost use Rattle.shadow.specs.Claims.{KeepsSame, claimed, claimed_by};
 
-use crate::index::Index;
+use crate::changes::Changes;
+use crate::laying::{free_all, lay_all};
+use crate::log::Log;
 use crate::stable::Stable;
-use crate::steps::Step;
 use dirlist::Dir;
 use heap::Heap;
-use ids::{Edit, Name, Num, Nums, Pid};
+use ids::{Edit, Name, NameList, Num, Nums, Pid};
 use std::alloc::AllocError;
 use std::marker::Model;
+use std::snapshot::Snapshot;
 
 /// A transaction's changes, which nobody else sees before they are committed.
 ///
-/// There is one for each call that was added, also for those that change nothing. A look at a name costs the logarithm of
-/// their number.
+/// They are kept object by object, so a look costs the logarithm of their number, and a commit
+/// costs what was changed. What each call changed is known to clauses alone.
 #[derive(Drop)]
 pub struct Shadow {
-    pub(crate) steps: Vec<Step, Heap>,
-    pub(crate) index: Index,
+    log: Log,
+    changes: Changes,
+    // What has lost a name, in order.
+    lost: Vec<Num, Heap>,
 }
 
 impl Model for Shadow {
     ghost use Rattle.std.specs.Prelude.{List};
     ghost use Rattle.model.specs.Effects.{Effect};
-    ghost use Rattle.shadow.specs.Changes.{effects_of, Agrees};
+    ghost use Rattle.shadow.specs.Agrees.{Agrees};
+    ghost use Rattle.shadow.specs.Log.{effects_in};
 
     ghost Value = { List Effect };
 
-    ghost view = { λ s. effects_of s.steps.items };
+    ghost view = { λ s. effects_in s.log };
 
-    ghost invariant = { λ s. Agrees (effects_of s.steps.items) s.index };
+    ghost invariant = { λ s. Agrees (effects_in s.log) s.changes s.lost.items };
 }
 
 impl Shadow {
@@ -46,13 +54,14 @@ impl Shadow {
         ensures { result ≡ [] }
     {
         Shadow {
-            steps: Vec::new(heap),
-            index: Index::new(heap),
+            log: Log::Start,
+            changes: Changes::new(heap),
+            lost: Vec::new(heap),
         }
     }
 
-    /// Adds what a call changes, with new numbers for what it makes, which are answered, and keeps the room that the commit needs.
-    /// Refused memory changes nothing.
+    /// Adds what a call changes, with new numbers for what it makes, which are answered, and keeps
+    /// the room that the commit needs. Refused memory changes nothing.
     pub fn edit(
         &mut self,
         stable: &mut Stable,
@@ -61,124 +70,181 @@ impl Shadow {
         requires kinds { CanEdit edits.items }
         requires parents { HaveParents stable.old.reserves edits.items }
         requires covers { Covers stable.old self.old }
-        ensures ok { IfOk result (λ chosen. self.new ≡ self.old ++ effect chosen edits.entry.items ∷ []) }
+        ensures ok { IfOk result (λ chosen. self.new
+            ≡ self.old ++ effect chosen edits.entry.items ∷ []) }
         ensures new { IfOk result (AreUnused stable.old edits.entry.items) }
-        ensures kept { IfOk result (λ chosen. KeepsMore stable.old stable.new (λ c. claimed_by c (effect chosen edits.entry.items))) }
+        ensures kept { IfOk result (λ chosen. KeepsMore stable.old stable.new
+            (λ c. claimed_by c (effect chosen edits.entry.items))) }
         ensures state { stable.new.state ≡ stable.old.state }
         ensures err { OnErr result (self.new ≡ self.old) }
         ensures same { OnErr result (KeepsSame stable.old stable.new) }
     {
         let heap = *edits.allocator();
+        let logged = Snapshot::of(&edits);
         match edits.pop() {
-            None => {
-                self.add_nothing()?;
-                Ok(Nums::new(heap))
-            }
-            Some(edit) => self.add(stable, heap, edit),
+            None => Ok(self.add_nothing(heap, logged)),
+            Some(edit) => self.add(stable, heap, edit, logged),
         }
     }
 
     /// One call that changes a name.
-    fn add(&mut self, stable: &mut Stable, heap: Heap, edit: Edit) -> Result<Nums, AllocError>
+    fn add(
+        &mut self,
+        stable: &mut Stable,
+        heap: Heap,
+        edit: Edit,
+        logged: Snapshot<Vec<Edit, Heap>>,
+    ) -> Result<Nums, AllocError>
+        requires logged { logged.value.items ≡ edit ∷ [] }
         requires kinds { CanEdit (edit ∷ []) }
         requires parents { HaveParents stable.old.reserves (edit ∷ []) }
         requires covers { Covers stable.old self.old }
         ensures ok { IfOk result (λ chosen. self.new ≡ self.old ++ effect chosen (edit ∷ []) ∷ []) }
         ensures new { IfOk result (AreUnused stable.old (edit ∷ [])) }
-        ensures kept { IfOk result (λ chosen. KeepsMore stable.old stable.new (λ c. claimed_by c (effect chosen (edit ∷ [])))) }
+        ensures kept { IfOk result (λ chosen. KeepsMore stable.old stable.new
+            (λ c. claimed_by c (effect chosen (edit ∷ [])))) }
         ensures state { stable.new.state ≡ stable.old.state }
         ensures err { OnErr result (self.new ≡ self.old) }
         ensures same { OnErr result (KeepsSame stable.old stable.new) }
     {
         match edit {
-            Edit::MakeDirectory(parent, name, _place) => self.add_made(stable, parent, name),
-            Edit::UnnameDirectory(parent, name) => {
-                self.add_unnamed(parent, name)?;
-                Ok(Nums::new(heap))
+            Edit::MakeDirectory(parent, name, _place) => {
+                self.add_made(stable, parent, name, logged)
+            }
+            Edit::UnnameDirectory(parent, name, num) => {
+                self.add_unnamed(heap, parent, name, num, logged)
             }
             _ => unreachable!(),
         }
     }
 
-    /// One call that changes nothing.
-    fn add_nothing(&mut self) -> Result<(), AllocError>
-        ensures ok { OnOk result (self.new ≡ self.old ++ effect_of steps.Nothing ∷ []) }
-        ensures err { OnErr result (self.new ≡ self.old) }
+    /// One call that changes nothing. It takes no memory.
+    fn add_nothing(&mut self, heap: Heap, logged: Snapshot<Vec<Edit, Heap>>) -> Nums
+        requires { logged.value.items ≡ [] }
+        ensures none { result ≡ [] }
+        ensures log { self.new ≡ self.old ++ effect [] [] ∷ [] }
     {
-        self.steps.push(Step::Nothing)?;
-        Ok(())
+        let none = Nums::new(heap);
+        self.log.add(&none, logged);
+        none
     }
 
     /// One call that makes a directory.
-    fn add_made(&mut self, stable: &mut Stable, parent: Num, name: Name) -> Result<Nums, AllocError>
+    fn add_made(
+        &mut self,
+        stable: &mut Stable,
+        parent: Num,
+        name: Name,
+        logged: Snapshot<Vec<Edit, Heap>>,
+    ) -> Result<Nums, AllocError>
+        requires logged { logged.value.items ≡ Make_directory parent name 0 ∷ [] }
         requires parent { IsInUse stable.old.reserves parent }
         requires covers { Covers stable.old self.old }
-        ensures ok { IfOk result (λ chosen. self.new ≡ self.old ++ effect chosen (Make_directory parent name 0 ∷ []) ∷ []) }
+        ensures ok { IfOk result (λ chosen. self.new
+            ≡ self.old ++ effect chosen (Make_directory parent name 0 ∷ []) ∷ []) }
         ensures new { IfOk result (AreUnused stable.old (Make_directory parent name 0 ∷ [])) }
-        ensures kept { IfOk result (λ chosen. KeepsMore stable.old stable.new (λ c. claimed_by c (effect chosen (Make_directory parent name 0 ∷ [])))) }
+        ensures kept { IfOk result (λ chosen. KeepsMore stable.old stable.new
+            (λ c. claimed_by c (effect chosen (Make_directory parent name 0 ∷ [])))) }
         ensures state { stable.new.state ≡ stable.old.state }
         ensures err { OnErr result (self.new ≡ self.old) }
         ensures same { OnErr result (KeepsSame stable.old stable.new) }
     {
-        self.steps.reserve(1)?;
-        let noted = name.try_clone()?;
         let chosen = stable.reserve_made(parent)?;
         let num = chosen.as_slice()[0];
-        let step = Step::Make { parent, name, num };
-        match self.index.note(parent, noted, Some(num)) {
+        match self.changes.note_made(parent, name, num) {
             Ok(()) => {
-                self.steps.push(step).unwrap();
+                self.log.add(&chosen, logged);
                 Ok(chosen)
             }
             Err(AllocError) => {
-                stable.release(&step);
+                stable.unpromise(parent);
+                stable.give_back(num);
                 Err(AllocError)
             }
         }
     }
 
     /// One call that takes a directory's name away.
-    fn add_unnamed(&mut self, parent: Num, name: Name) -> Result<(), AllocError>
-        ensures ok { OnOk result (self.new ≡ self.old ++ effect_of (steps.Unname parent name) ∷ []) }
+    fn add_unnamed(
+        &mut self,
+        heap: Heap,
+        parent: Num,
+        name: Name,
+        num: Num,
+        logged: Snapshot<Vec<Edit, Heap>>,
+    ) -> Result<Nums, AllocError>
+        requires { logged.value.items ≡ Unname_directory parent name num ∷ [] }
+        ensures none { IfOk result (λ chosen. chosen ≡ []) }
+        ensures ok { OnOk result (self.new
+            ≡ self.old ++ effect [] (Unname_directory parent name num ∷ []) ∷ []) }
         ensures err { OnErr result (self.new ≡ self.old) }
     {
-        self.steps.reserve(1)?;
-        self.index.note(parent, name.try_clone()?, None)?;
-        self.steps.push(Step::Unname { parent, name }).unwrap();
-        Ok(())
+        self.lost.reserve(1)?;
+        self.changes.note(parent, name, None)?;
+        self.lost.push(num).unwrap();
+        let none = Nums::new(heap);
+        self.log.add(&none, logged);
+        Ok(none)
     }
 
     /// The root's number, which no change changes.
     pub(crate) fn root(&self, stable: &Stable) -> Num
         ensures { result ≡ (all_done self.now stable.now.state).root }
     {
-        let _steps = &self.steps;
+        let _log = &self.log;
         stable.root()
     }
 
-    /// The number of the directory that a name gives in the committed state with these changes on top. Refused memory changes
-    /// nothing.
-    pub(crate) fn find(
+    /// The number of the directory that a name gives in the committed state with these changes on
+    /// top.
+    pub(crate) fn find(&self, stable: &Stable, dir: Num, name: &Name) -> Option<Num>
+        ensures { entry_of (all_done self.now stable.now.state) dir name.now ≡ directory_at result }
+    {
+        let stored = stable.find(dir, name);
+        match self.changes.get(dir) {
+            Some(change) => change.given(name, stored),
+            None => stored,
+        }
+    }
+
+    /// All names of a directory in the committed state with these changes on top, in byte order.
+    /// Refused memory changes nothing.
+    pub(crate) fn names(
         &self,
+        heap: Heap,
         stable: &Stable,
         dir: Num,
-        name: &Name,
-    ) -> Result<Option<Num>, AllocError>
-        requires { Covers stable.now self.now }
-        ensures { IfOk result (λ found. entry_of (all_done self.now stable.now.state) dir name.now ≡ directory_at found) }
+    ) -> Result<NameList, AllocError>
+        ensures { IfOk result (λ names. names
+            ≡ keys (names_of (all_done self.now stable.now.state) dir)) }
     {
-        stable.has_no_names_to_come();
-        let stored = stable.find(dir, name);
-        Ok(self.index.look(dir, name)?.unwrap_or(stored))
+        let none = Dir::new(heap);
+        let stored = stable.directory(dir, &none);
+        match self.changes.get(dir) {
+            Some(change) => change.all_names(heap, stored),
+            None => stored.names(heap),
+        }
+    }
+
+    /// Whether a directory has no names in the committed state with these changes on top.
+    pub(crate) fn is_empty(&self, stable: &Stable, dir: Num) -> bool
+        ensures { result ≡ is_empty (keys (names_of (all_done self.now stable.now.state) dir)) }
+    {
+        let heap = stable.heap();
+        let none = Dir::new(heap);
+        let stored = stable.directory(dir, &none);
+        match self.changes.get(dir) {
+            Some(change) => change.is_empty(heap, stored),
+            None => stored.is_empty(),
+        }
     }
 
     /// What names give in the committed state with these changes on top is there or to come.
-    pub(crate) fn names_are_in_use(&self, stable: &Stable)
+    pub fn names_are_in_use(&self, stable: &Stable)
         requires { Covers stable.now self.now }
         ensures { NamesAreInUse (record stable.now { state = all_done self.now stable.now.state }) }
     {
-        let _index = &self.index;
-        stable.has_no_names_to_come();
+        let _changes = &self.changes;
         stable.names_are_in_use();
     }
 
@@ -186,7 +252,7 @@ impl Shadow {
     pub(crate) fn has_no_files(&self, stable: &Stable)
         ensures { HasNoFiles (all_done self.now stable.now.state) }
     {
-        let _steps = &self.steps;
+        let _log = &self.log;
         stable.has_no_files();
     }
 
@@ -194,52 +260,33 @@ impl Shadow {
     pub(crate) fn birth(&self, stable: &Stable, pid: Pid) -> Result<(u32, u8), AllocError>
         ensures { IfOk result (λ b. b ≡ birth_of (all_done self.now stable.now.state) pid) }
     {
-        let _steps = &self.steps;
+        let _log = &self.log;
         stable.birth(pid)
     }
 
-    /// Makes the changes to the names of one directory. Where memory is refused, some are made.
-    pub(crate) fn change_names(
-        &self,
-        heap: Heap,
-        dir: Num,
-        names: &mut Dir,
-    ) -> Result<(), AllocError>
-        ensures { OnOk result ((k : Kernel) → names.old.names ≡ names_of k dir → names.new.names ≡ names_of (all_done self.now k) dir) }
-    {
-        for step in &self.steps {
-            step.change_names(heap, dir, names)?;
-        }
-        Ok(())
-    }
-
-    /// Makes the changes in the committed state, and frees what nothing leads to any more. It takes no memory.
+    /// Makes the changes in the committed state, object by object, and frees what nothing leads to
+    /// any more. It takes no memory.
     pub fn commit_into(self, stable: &mut Stable)
-        requires can { CanCommit stable.old.state self }
+        requires fits { AllFit self stable.old.state }
         requires covers { Covers stable.old self }
-        ensures state { stable.new.state ≡ in_turn self stable.old.state }
+        ensures state { stable.new.state ≡ tidy (all_done self stable.old.state) }
         ensures kept { KeepsMore stable.new stable.old (λ c. claimed c self) }
     {
-        let Shadow { steps, index: _ } = self;
-        for step in steps {
-            stable.take(step);
-        }
+        let Shadow { changes, lost, .. } = self;
+        lay_all(&mut stable.store, changes);
+        free_all(&mut stable.store, lost);
     }
 
     /// Forgets the changes, and gives back what was kept for them. It takes no memory.
-    ///
-    /// The last comes first, so that a new directory in which room was promised is freed after that was given back.
     pub fn drop_into(self, stable: &mut Stable)
         requires { Covers stable.old self }
         ensures state { stable.new.state ≡ stable.old.state }
         ensures kept { KeepsMore stable.new stable.old (λ c. claimed c self) }
     {
-        let Shadow {
-            mut steps,
-            index: _,
-        } = self;
-        while let Some(step) = steps.pop() {
-            stable.release(&step);
+        let Shadow { changes, lost, .. } = self;
+        drop(lost);
+        for (num, change) in changes.each {
+            stable.give_up(num, &change);
         }
     }
 }

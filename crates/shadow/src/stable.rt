@@ -1,17 +1,28 @@
 // The committed state.
-ghost use Rattle.std.specs.Prelude.{ℕ, ◌≡◌, ◌≤◌, ◌<◌, ◌∷◌, [], List, true, IfOk, OnErr, OnOk};
+ghost use Rattle.std.specs.Prelude.{ℕ, ◌≡◌, ◌≢◌, ◌≤◌, ◌<◌, ◌∷◌, [], List, None, true, IfOk, OnErr};
+ghost use Rattle.std.specs.Prelude.{OnOk, if◌then◌else◌};
+ghost use Rattle.std.specs.List.{AllByRecursion};
 ghost use Rattle.model.specs.FiniteMap.{empty, get};
 ghost use Rattle.model.specs.State.{Name, names_of};
-ghost use Rattle.model.specs.Changes.{Make_directory, Unname_directory, all_applied, process_of, tidy};
+ghost use Rattle.model.specs.Changes.{Make_directory, Unname_directory, all_applied, process_of};
+ghost use Rattle.model.specs.Changes.{tidy};
 ghost use Rattle.model.specs.Steps.{IsNowhere};
 ghost use Rattle.model.specs.Moments.{start, is_alive};
+ghost use Rattle.model.specs.Changes.{is_reached};
 ghost use Rattle.call_laws.specs.Fits.{FitsAll};
-ghost use Rattle.shadow.specs.declared.steps.Step.TheVariants as steps;
+ghost use Rattle.freeing_laws.specs.Sweep.{AreParented};
+ghost use Rattle.store.specs.Places.{lost};
+ghost use Rattle.store.specs.Shown.{inodes};
+ghost use Rattle.shadow.specs.Stored.{stored};
+ghost use Rattle.shadow.specs.Changes as steps;
+ghost use Rattle.shadow.specs.Changed.{claim_in, claim_of};
 ghost use Rattle.shadow.specs.Changes.{CanEdit, IsOne, effect, effect_of};
-ghost use Rattle.shadow.specs.Claims.{AreUnused, Claim, Covers, HaveParents, IsInUse, KeepsMore, KeepsNothing, KeepsSame, Number, Room, claimed_by, number_as, number_of, reserved, room_in};
+ghost use Rattle.shadow.specs.Claims.{AreUnused, Claim, Covers, HaveParents, IsInUse, KeepsMore};
+ghost use Rattle.shadow.specs.Claims.{KeepsNothing, KeepsSame, Number, Room, claimed_by, number_as};
+ghost use Rattle.shadow.specs.Claims.{number_of, reserved, room_in};
 ghost use Rattle.shadow.specs.Looks.{HasNoFiles, NamesAreDirectories, NamesAreInUse, birth_of};
 
-use crate::steps::Step;
+use crate::changes::Change;
 use dirlist::Dir;
 use heap::Heap;
 use ids::{Edit, Name, Num, Nums, Pid, Priority};
@@ -19,7 +30,8 @@ use std::alloc::AllocError;
 use std::marker::Model;
 use store::{Object, Store};
 
-/// The committed state: the objects, the processes with their priorities, and what is kept for transactions that may commit.
+/// The committed state: the objects, the processes with their priorities, and what is kept for
+/// transactions that may commit.
 #[derive(Drop)]
 pub struct Stable {
     pub(crate) priorities: Vec<Priority, Heap>,
@@ -84,7 +96,8 @@ impl Stable {
         }
     }
 
-    /// How many processes were made, and a process's priority. `AllocError` where the count does not fit.
+    /// How many processes were made, and a process's priority. `AllocError` where the count does
+    /// not fit.
     pub(crate) fn birth(&self, pid: Pid) -> Result<(u32, u8), AllocError>
         ensures { IfOk result (λ b. b ≡ birth_of self.now.state pid) }
     {
@@ -111,7 +124,7 @@ impl Stable {
     }
 
     /// What names give is there or to come.
-    pub(crate) fn names_are_in_use(&self)
+    pub fn names_are_in_use(&self)
         ensures { NamesAreInUse self.now }
     {
         let _store = &self.store;
@@ -124,31 +137,32 @@ impl Stable {
         let _store = &self.store;
     }
 
-    /// What is to come has no names yet.
-    pub(crate) fn has_no_names_to_come(&self)
-        ensures { (n : ℕ) → 0 < reserved self.now (Number n) → names_of self.now.state n ≡ empty }
-    {
-        let _store = &self.store;
+    /// Where its memory comes from.
+    pub(crate) fn heap(&self) -> Heap {
+        *self.priorities.allocator()
     }
 
-    /// A copy of a directory; of a number that is none, an empty one. Refused memory changes nothing.
-    pub(crate) fn directory(&self, heap: Heap, dir: Num) -> Result<Dir, AllocError>
-        ensures { IfOk result (λ d. d.names ≡ names_of self.now.state dir) }
+    /// A directory; where the number is of none, this one without names.
+    pub(crate) fn directory<'a>(&'a self, dir: Num, none: &'a Dir) -> &'a Dir
+        requires { none.now.names ≡ empty }
+        ensures { result.now.names ≡ names_of self.now.state dir }
     {
         match self.store.directory(dir) {
-            Some(dir) => dir.copy(heap),
-            None => Ok(Dir::new(heap)),
+            Some(dir) => dir,
+            None => none,
         }
     }
 
-    /// Makes the changes of one call at once, with new numbers for what they make, which are answered. What nothing leads to then is
-    /// freed. Refused memory changes nothing.
+    /// Makes the changes of one call at once, with new numbers for what they make, which are
+    /// answered. What nothing leads to then is freed. Refused memory changes nothing.
     pub fn apply(&mut self, mut edits: Vec<Edit, Heap>) -> Result<Nums, AllocError>
         requires kinds { CanEdit edits.items }
         requires parents { HaveParents self.old.reserves edits.items }
-        requires fits { (chosen : List ℕ) → AreUnused self.old edits.items chosen → FitsAll chosen self.old.state edits.items }
+        requires fits { (chosen : List ℕ) → AreUnused self.old edits.items chosen
+            → FitsAll chosen self.old.state edits.items }
         ensures new { IfOk result (AreUnused self.old edits.entry.items) }
-        ensures state { IfOk result (λ chosen. self.new.state ≡ tidy (all_applied chosen edits.entry.items self.old.state)) }
+        ensures state { IfOk result (λ chosen. self.new.state
+            ≡ tidy (all_applied chosen edits.entry.items self.old.state)) }
         ensures kept { KeepsSame self.old self.new }
         ensures err { OnErr result (self.new.state ≡ self.old.state) }
     {
@@ -162,9 +176,11 @@ impl Stable {
     fn apply_one(&mut self, edit: Edit) -> Result<Nums, AllocError>
         requires kinds { CanEdit (edit ∷ []) }
         requires parents { HaveParents self.old.reserves (edit ∷ []) }
-        requires fits { (chosen : List ℕ) → AreUnused self.old (edit ∷ []) chosen → FitsAll chosen self.old.state (edit ∷ []) }
+        requires fits { (chosen : List ℕ) → AreUnused self.old (edit ∷ []) chosen
+            → FitsAll chosen self.old.state (edit ∷ []) }
         ensures new { IfOk result (AreUnused self.old (edit ∷ [])) }
-        ensures state { IfOk result (λ chosen. self.new.state ≡ tidy (all_applied chosen (edit ∷ []) self.old.state)) }
+        ensures state { IfOk result (λ chosen. self.new.state
+            ≡ tidy (all_applied chosen (edit ∷ []) self.old.state)) }
         ensures kept { KeepsSame self.old self.new }
         ensures err { OnErr result (self.new.state ≡ self.old.state) }
     {
@@ -174,8 +190,8 @@ impl Stable {
                 self.make(parent, name, chosen.as_slice()[0]);
                 Ok(chosen)
             }
-            Edit::UnnameDirectory(parent, name) => {
-                self.unname(parent, &name);
+            Edit::UnnameDirectory(parent, name, num) => {
+                self.unname(parent, &name, num);
                 Ok(Nums::new(*self.priorities.allocator()))
             }
             _ => unreachable!(),
@@ -186,8 +202,11 @@ impl Stable {
     pub(crate) fn reserve_made(&mut self, parent: Num) -> Result<Nums, AllocError>
         requires { IsInUse self.old.reserves parent }
         ensures one { IfOk result IsOne }
-        ensures new { IfOk result (λ chosen. (x : Name) → AreUnused self.old (Make_directory parent x 0 ∷ []) chosen) }
-        ensures kept { IfOk result (λ chosen. (x : Name) → KeepsMore self.old self.new (λ c. claimed_by c (effect chosen (Make_directory parent x 0 ∷ [])))) }
+        ensures apart { IfOk result (AllByRecursion (λ n. n ≢ parent)) }
+        ensures new { IfOk result (λ chosen. (x : Name)
+            → AreUnused self.old (Make_directory parent x 0 ∷ []) chosen) }
+        ensures kept { IfOk result (λ chosen. (x : Name) → KeepsMore self.old self.new
+            (λ c. claimed_by c (effect chosen (Make_directory parent x 0 ∷ [])))) }
         ensures state { self.new.state ≡ self.old.state }
         ensures err { OnErr result (KeepsSame self.old self.new) }
     {
@@ -203,7 +222,9 @@ impl Stable {
 
     /// One new number, for a directory to come. Refused memory changes nothing.
     fn reserve(&mut self) -> Result<Num, AllocError>
-        ensures unused { IfOk result (λ num. (c : Claim) → number_of c ≡ num → reserved self.old c ≡ 0) }
+        ensures fresh { IfOk result (λ num. get self.old.reserves num ≡ None) }
+        ensures unused { IfOk result (λ num. (c : Claim) → number_of c ≡ num
+            → reserved self.old c ≡ 0) }
         ensures nowhere { IfOk result (IsNowhere self.old.state) }
         ensures kept { IfOk result (λ num. KeepsMore self.old self.new (number_as num)) }
         ensures state { self.new.state ≡ self.old.state }
@@ -231,7 +252,7 @@ impl Stable {
     }
 
     /// Gives back a number whose object is still to come. It takes no memory.
-    fn give_back(&mut self, num: Num)
+    pub(crate) fn give_back(&mut self, num: Num)
         requires { 0 < reserved self.old (Number num) }
         ensures kept { KeepsMore self.new self.old (number_as num) }
         ensures state { self.new.state ≡ self.old.state }
@@ -239,7 +260,8 @@ impl Stable {
         self.store.lose(num);
     }
 
-    /// Promises room for one more name in a directory, which may be to come. Refused memory changes nothing.
+    /// Promises room for one more name in a directory, which may be to come. Refused memory changes
+    /// nothing.
     fn promise(&mut self, dir: Num) -> Result<(), AllocError>
         requires { IsInUse self.old.reserves dir }
         ensures kept { OnOk result (KeepsMore self.old self.new (room_in dir)) }
@@ -250,7 +272,7 @@ impl Stable {
     }
 
     /// Gives up the promised room of one name. It takes no memory.
-    fn unpromise(&mut self, dir: Num)
+    pub(crate) fn unpromise(&mut self, dir: Num)
         requires { 0 < reserved self.old (Room dir) }
         ensures kept { KeepsMore self.new self.old (room_in dir) }
         ensures state { self.new.state ≡ self.old.state }
@@ -258,51 +280,58 @@ impl Stable {
         self.store.release(dir);
     }
 
-    /// Makes one change. What has no name any more goes. It takes no memory.
-    pub(crate) fn take(&mut self, step: Step)
-        requires fits { FitsAll (effect_of step).chosen self.old.state (effect_of step).edits }
-        requires covers { Covers self.old (effect_of step ∷ []) }
-        ensures state { self.new.state ≡ tidy (all_applied (effect_of step).chosen (effect_of step).edits self.old.state) }
-        ensures kept { KeepsMore self.new self.old (λ c. claimed_by c (effect_of step)) }
-    {
-        let _store = &self.store;
-        match step {
-            Step::Nothing => {}
-            Step::Make { parent, name, num } => self.make(parent, name, num),
-            Step::Unname { parent, name } => self.unname(parent, &name),
-        }
-    }
-
     /// The new directory of a reserved number is there, with its name.
     fn make(&mut self, parent: Num, name: Name, num: Num)
         requires fits { FitsAll (num ∷ []) self.old.state (Make_directory parent name 0 ∷ []) }
         requires covers { Covers self.old (effect_of (steps.Make parent name num) ∷ []) }
-        ensures state { self.new.state ≡ tidy (all_applied (num ∷ []) (Make_directory parent name 0 ∷ []) self.old.state) }
-        ensures kept { KeepsMore self.new self.old (λ c. claimed_by c (effect_of (steps.Make parent name num))) }
+        ensures state { self.new.state
+            ≡ tidy (all_applied (num ∷ []) (Make_directory parent name 0 ∷ []) self.old.state) }
+        ensures kept { KeepsMore self.new self.old
+            (λ c. claimed_by c (effect_of (steps.Make parent name num))) }
     {
         self.store.install(num);
         self.store.add_name(parent, name, num);
     }
 
     /// A directory's name goes, and the directory with it.
-    fn unname(&mut self, parent: Num, name: &Name)
-        requires { FitsAll [] self.old.state (Unname_directory parent name.now ∷ []) }
-        ensures state { self.new.state ≡ tidy (all_applied [] (Unname_directory parent name.now ∷ []) self.old.state) }
+    fn unname(&mut self, parent: Num, name: &Name, num: Num)
+        requires { FitsAll [] self.old.state (Unname_directory parent name.now num ∷ []) }
+        ensures state { self.new.state
+            ≡ tidy (all_applied [] (Unname_directory parent name.now num ∷ []) self.old.state) }
         ensures kept { KeepsSame self.old self.new }
     {
-        let gone = self.store.remove_name(parent, name).unwrap();
-        self.store.lose(gone);
+        self.store.remove_name(parent, name);
+        free(&mut self.store, num);
     }
 
-    /// Gives back what was kept for one change. It takes no memory.
-    pub(crate) fn release(&mut self, step: &Step)
-        requires { Covers self.old (effect_of step.now ∷ []) }
-        ensures kept { KeepsMore self.new self.old (λ c. claimed_by c (effect_of step.now)) }
+    /// Gives back what was kept for a transaction's changes of one object. It takes no memory.
+    pub(crate) fn give_up(&mut self, object: Num, change: &Change)
+        requires { (c : Claim) → number_of c ≡ object
+            → claim_in change.now c ≤ reserved self.old c }
+        ensures kept { KeepsMore self.new self.old (claim_of object change.now) }
         ensures state { self.new.state ≡ self.old.state }
     {
-        if let Step::Make { parent, num, .. } = step {
-            self.unpromise(*parent);
-            self.give_back(*num);
+        for _given in 0..change.promised {
+            self.unpromise(object);
+        }
+        if change.made {
+            self.give_back(object);
         }
     }
+}
+
+/// An object goes to which no name leads, unless it is the root. It takes no memory.
+pub(crate) fn free(store: &mut Store, num: Num)
+    requires root { store.old.root ≡ 0 }
+    requires parented { AreParented (stored [] (inodes store.old)) }
+    ensures { store.new ≡ (if is_reached (stored [] (inodes store.old)) num then store.old
+        else lost store.old num) }
+{
+    if num == store.root() {
+        return;
+    }
+    if store.is_named(num) {
+        return;
+    }
+    store.lose(num);
 }

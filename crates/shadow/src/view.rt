@@ -2,19 +2,16 @@
 ghost use Rattle.std.specs.Prelude.{◌≡◌, IfOk, option_map};
 ghost use Rattle.model.specs.State.{entry_of};
 ghost use Rattle.model.specs.Effects.{all_done};
-ghost use Rattle.shadow.specs.Claims.{Covers};
-ghost use Rattle.shadow.specs.Looks.{HasNoFiles, NamesAreInUse, changes_of, directory_at};
+ghost use Rattle.shadow.specs.Looks.{HasNoFiles, changes_of, directory_at};
 
 use crate::shadow::Shadow;
 use crate::stable::Stable;
+use dirlist::Dir;
 use heap::Heap;
-use ids::{Bytes, Fd, Kind, Name, NameList, Num, Pid, Slot};
+use ids::{Bytes, Fd, Kind, Name, NameList, Num, PIPE_CAPACITY, Pid, Slot};
 use look::Look;
 use std::alloc::AllocError;
 use std::marker::Model;
-
-/// How many bytes a pipe holds.
-const PIPE_CAPACITY: usize = 4096;
 
 /// The committed state with a transaction's changes on top.
 #[derive(Drop)]
@@ -27,33 +24,24 @@ impl<'a> Model for View<'a> {
     ghost use Rattle.std.specs.Prelude.{option_map};
     ghost use Rattle.model.specs.Effects.{all_done};
     ghost use Rattle.shadow.specs.Committed.{Committed};
-    ghost use Rattle.shadow.specs.Claims.{Covers};
     ghost use Rattle.shadow.specs.Looks.{changes_of};
 
     ghost Value = { Committed };
 
-    ghost view = { λ v. record v.stable.now { state = all_done (changes_of (option_map (λ s. s.now) v.shadow)) v.stable.now.state } };
-
-    ghost invariant = { λ v. Covers v.stable.now (changes_of (option_map (λ s. s.now) v.shadow)) };
+    ghost view = { λ v. record v.stable.now {
+      state = all_done (changes_of (option_map (λ s. s.now) v.shadow)) v.stable.now.state;
+    } };
 }
 
 impl<'a> View<'a> {
     /// The committed state with the changes of a process's transaction on top, if it is in one.
     pub fn new(stable: &'a Stable, shadow: Option<&'a Shadow>) -> View<'a>
-        requires { Covers stable.now (changes_of (option_map (λ s. s.now) shadow)) }
-        ensures { result ≡ record stable.now { state = all_done (changes_of (option_map (λ s. s.now) shadow.entry)) stable.now.state } }
+        ensures { result ≡ record stable.now {
+          state = all_done
+              (changes_of (option_map (λ s. s.now) shadow.entry)) stable.now.state;
+        } }
     {
         View { stable, shadow }
-    }
-
-    /// What names give is there or to come.
-    pub fn names_are_in_use(&self)
-        ensures { NamesAreInUse self.now }
-    {
-        match self.shadow {
-            None => self.stable.names_are_in_use(),
-            Some(shadow) => shadow.names_are_in_use(self.stable),
-        }
     }
 
     // There are no files, no pipes, and nothing is open.
@@ -67,11 +55,11 @@ impl<'a> View<'a> {
     }
 
     // The number of the directory that a name gives.
-    fn find_directory(&self, dir: Num, name: &Name) -> Result<Option<Num>, AllocError>
-        ensures { IfOk result (λ found. entry_of self.now.state dir name.now ≡ directory_at found) }
+    fn find_directory(&self, dir: Num, name: &Name) -> Option<Num>
+        ensures { entry_of self.now.state dir name.now ≡ directory_at result }
     {
         match self.shadow {
-            None => Ok(self.stable.find(dir, name)),
+            None => self.stable.find(dir, name),
             Some(shadow) => shadow.find(self.stable, dir, name),
         }
     }
@@ -87,7 +75,8 @@ fn as_directory(found: Option<Num>) -> Option<(Num, Option<Kind>)>
     }
 }
 
-/// Today there are no files and no pipes, and no process has anything open: so what is asked of them has one answer each.
+/// Today there are no files and no pipes, and no process has anything open: so what is asked of
+/// them has one answer each.
 impl<'a> Look for View<'a> {
     ghost state = { λ v. v.state };
 
@@ -98,16 +87,25 @@ impl<'a> Look for View<'a> {
         }
     }
 
-    fn find(&self, dir: Num, name: &Name) -> Result<Option<(Num, Option<Kind>)>, AllocError> {
-        Ok(as_directory(self.find_directory(dir, name)?))
+    fn find(&self, dir: Num, name: &Name) -> Option<(Num, Option<Kind>)> {
+        as_directory(self.find_directory(dir, name))
     }
 
     fn names(&self, heap: Heap, dir: Num) -> Result<NameList, AllocError> {
-        let mut names = self.stable.directory(heap, dir)?;
-        if let Some(shadow) = self.shadow {
-            shadow.change_names(heap, dir, &mut names)?;
+        match self.shadow {
+            None => self.stable.directory(dir, &Dir::new(heap)).names(heap),
+            Some(shadow) => shadow.names(heap, self.stable, dir),
         }
-        names.names(heap)
+    }
+
+    fn is_empty(&self, dir: Num) -> bool {
+        match self.shadow {
+            None => self
+                .stable
+                .directory(dir, &Dir::new(self.stable.heap()))
+                .is_empty(),
+            Some(shadow) => shadow.is_empty(self.stable, dir),
+        }
     }
 
     fn size(&self, _file: Num) -> Result<u32, AllocError> {
@@ -126,7 +124,8 @@ impl<'a> Look for View<'a> {
         Ok(Bytes::new(Vec::new(heap)))
     }
 
-    // The names that give a directory are not counted: plans ask this of files alone, and there are none.
+    // The names that give a directory are not counted: plans ask this of files alone, and there are
+    // none.
     fn links(&self, _file: Num) -> Result<u32, AllocError> {
         Err(AllocError)
     }

@@ -14,9 +14,9 @@ use Rattle.store.specs.declared.Object.{Object}
 use Rattle.store.specs.declared.Object.TheVariants.{Directory as Kept_directory}
 use Rattle.store.proofs.Chosen.{get-chosen, chosen-insert, chosen-insert-none, chosen-remove, chosen-empty, remove-absent, insert-held}
 
-inode_at : (o : Option Place) → option_and_then inode_in o ≡ option_and_then inode_of (held o)
-inode_at None = refl
-inode_at (Some place) = by_stage place.stage place.object
+inode_of-held : (o : Option Place) → option_and_then inode_in o ≡ option_and_then inode_of (held o)
+inode_of-held None = refl
+inode_of-held (Some place) = by_stage place.stage place.object
   where
     by_stage : (t : Stage) (object : Object) → shown_at t (inode_of object) ≡ option_and_then inode_of (if_held t object)
     by_stage Held object = refl
@@ -25,7 +25,7 @@ inode_at (Some place) = by_stage place.stage place.object
 
 -- the inode of a number is that of its object
 pub get-inodes : (s : Numbers) (n : ℕ) → get (inodes s) n ≡ option_and_then inode_of (object_at s n)
-get-inodes s n = get-chosen inode_in s.places n ∙ inode_at (get s.places n)
+get-inodes s n = get-chosen inode_in s.places n ∙ inode_of-held (get s.places n)
 
 -- and that of its place
 pub get-inodes_by : (s : Numbers) (n : ℕ) (o : Option Place) → get s.places n ≡ o → get (inodes s) n ≡ option_and_then inode_in o
@@ -107,12 +107,9 @@ module _ (f : Listing → Listing) (g : FinMap name_cmp ℕ → FinMap name_cmp 
       by_place (Some place) is = inodes-altered (with_listing f) s n place is ∙ by_stage place.stage place.object is
       by_place None is = ap inodes (altered-none (with_listing f) s n is)
 
--- the names of a directory that is there, and of one that is not
+-- a change of the names of a directory that is there
 pub with_names-there : (g : FinMap name_cmp ℕ → FinMap name_cmp ℕ) (m : FinMap nat_cmp Inode) (n : ℕ) (names : FinMap name_cmp ℕ) → get m n ≡ Some (Directory names) → with_names g m n ≡ insert m n (Directory (g names))
 with_names-there g m n names is = ap (λ (o : Option Inode). with_names_by g o m n) is
-
-pub with_names-absent : (g : FinMap name_cmp ℕ → FinMap name_cmp ℕ) (m : FinMap nat_cmp Inode) (n : ℕ) → get m n ≡ None → with_names g m n ≡ m
-with_names-absent g m n none = ap (λ (o : Option Inode). with_names_by g o m n) none
 
 with_same_names : (m : FinMap nat_cmp Inode) (n : ℕ) → with_names (λ names. names) m n ≡ m
 with_same_names m n = by_inode (get m n) refl

@@ -1,5 +1,11 @@
-pub mod Names
-pub mod Rows
-pub mod Chosen
-pub mod Changes
-pub mod Listings
+mod Names
+mod Rows
+mod Counts
+mod Chosen
+mod Changes
+mod Listings
+mod Laying
+mod Laid
+mod Counted
+mod Renamed
+pub mod Laws

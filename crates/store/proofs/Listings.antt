@@ -4,7 +4,7 @@ use Rattle.std.proofs.lemmas.Bool.Decides.{nat_tests}
 use Rattle.std.proofs.lemmas.Bool.{cases_eq}
 use Rattle.std.specs.Option.{option_map}
 use Rattle.model.specs.FiniteMap.{get}
-use Rattle.model.proofs.Inodes.{get_same, get_other}
+use Rattle.model.proofs.Laws.{get_same, get_other, removed_same, removed_other}
 use Rattle.dirlist.specs.Listing.{Listing}
 use Rattle.store.specs.Numbers.{Numbers}
 use Rattle.store.specs.Places.{altered_by, altered, listing_of, listing_in, listing_at, with_listing, has_room, is_over, swept}
@@ -12,7 +12,6 @@ use Rattle.store.specs.declared.Place.{Place}
 use Rattle.store.specs.declared.Object.{Object}
 use Rattle.store.specs.declared.Object.TheVariants.{Directory}
 use Rattle.store.proofs.Changes.{without_place}
-use Rattle.store.proofs.Rows.{get-gone, get-left}
 
 tested_room : (n : ℕ) (listing : Listing) → listing.promised ≡ n → 0 < n → IsTrue (has_room (Some listing))
 tested_room n listing is low = grind (arith, nat_tests)
@@ -65,11 +64,11 @@ module _ (s : Numbers) (n : ℕ) where
   place-swept-other q away = by_test (is_over (get s.places n))
     where
       by_test : (b : Bool) → get (cond b (without_place s n) s).places q ≡ get s.places q
-      by_test true = get-left s.places n q away
+      by_test true = removed_other s.places n q away
       by_test false = refl
 
   pub place-over : is_over (get s.places n) ≡ true → get (swept s n).places n ≡ None
-  place-over over = ap (λ b. get (cond b (without_place s n) s).places n) over ∙ get-gone s.places n
+  place-over over = ap (λ b. get (cond b (without_place s n) s).places n) over ∙ removed_same s.places n
 
   pub swept-stays : is_over (get s.places n) ≡ false → swept s n ≡ s
   swept-stays left = ap (λ b. cond b (without_place s n) s) left

@@ -1,5 +1,7 @@
--- How the places of a store change: an object to come is shown, an object is lost, or the listing of a directory changes.
-use Rattle.std.specs.Prelude.{ℕ, ◌+◌, ◌-◌, Bool, false, not, nat_lt, Option, Some, None, if◌then◌else◌}
+-- How the places of a store change: an object to come is shown, an object is lost, or the listing
+-- of a directory changes.
+use Rattle.std.specs.Prelude.{ℕ, ◌+◌, ◌-◌, Bool, true, false, not, nat_lt, Option, Some, None}
+use Rattle.std.specs.Prelude.{if◌then◌else◌}
 use Rattle.std.specs.Ordering.{nat_cmp}
 use Rattle.model.specs.FiniteMap.{FinMap, get, insert, remove}
 use Rattle.model.specs.State.{Name}
@@ -11,7 +13,8 @@ use Rattle.store.specs.declared.Stage.TheVariants.{Coming, Held, Lost}
 use Rattle.store.specs.declared.Object.{Object}
 use Rattle.store.specs.declared.Object.TheVariants.{Directory}
 
-abbrev pub altered_by : (Place → Place) → Option Place → FinMap nat_cmp Place → ℕ → FinMap nat_cmp Place
+abbrev pub altered_by : (Place → Place) → Option Place → FinMap nat_cmp Place → ℕ
+    → FinMap nat_cmp Place
 altered_by f (Some place) places n = insert places n (f place)
 altered_by f None places n = places
 
@@ -59,7 +62,10 @@ less_room listing = record listing { promised = listing.promised - 1 }
 
 -- a name that gives a number, in promised room
 abbrev pub with_name : Name → ℕ → Listing → Listing
-with_name name n listing = record listing { names = insert listing.names name n; promised = listing.promised - 1 }
+with_name name n listing = record listing {
+  names = insert listing.names name n;
+  promised = listing.promised - 1;
+}
 
 abbrev pub without_name : Name → Listing → Listing
 without_name name listing = record listing { names = remove listing.names name }
@@ -68,6 +74,35 @@ without_name name listing = record listing { names = remove listing.names name }
 abbrev pub number_in : Option Listing → Name → Option ℕ
 number_in (Some listing) name = get listing.names name
 number_in None name = None
+
+-- whether the object of a number is shown, and whether it is to come
+abbrev pub is_shown_by : Stage → Bool
+is_shown_by Held = true
+is_shown_by Coming = false
+is_shown_by Lost = false
+
+abbrev pub is_shown : Option Place → Bool
+is_shown (Some place) = is_shown_by place.stage
+is_shown None = false
+
+abbrev pub is_coming_by : Stage → Bool
+is_coming_by Coming = true
+is_coming_by Held = false
+is_coming_by Lost = false
+
+abbrev pub is_coming : Option Place → Bool
+is_coming (Some place) = is_coming_by place.stage
+is_coming None = false
+
+-- whether names may give the number: its object is shown or to come
+abbrev pub may_be_named_by : Stage → Bool
+may_be_named_by Held = true
+may_be_named_by Coming = true
+may_be_named_by Lost = false
+
+abbrev pub may_be_named : Option Place → Bool
+may_be_named (Some place) = may_be_named_by place.stage
+may_be_named None = false
 
 -- whether there is promised room
 abbrev pub has_room : Option Listing → Bool

@@ -1,4 +1,5 @@
--- The inodes of a store, as a plain kernel has them: without objects to come and lost ones, and without promised room.
+-- The inodes of a store, as a plain kernel has them: without objects to come and lost ones, and
+-- without promised room.
 use Rattle.std.specs.Prelude.{ℕ, List, [], ◌∷◌, Option, Some, None}
 use Rattle.std.specs.Ordering.{nat_cmp}
 use Rattle.model.specs.FiniteMap.{FinMap, entries, get, insert, remove, from_entries}
@@ -44,10 +45,12 @@ with_inode m n (Some inode) = insert m n inode
 with_inode m n None = remove m n
 
 -- a change of the names of the directory that an inode is, if it is one
-abbrev pub with_names_by : (FinMap name_cmp ℕ → FinMap name_cmp ℕ) → Option Inode → FinMap nat_cmp Inode → ℕ → FinMap nat_cmp Inode
+abbrev pub with_names_by : (FinMap name_cmp ℕ → FinMap name_cmp ℕ) → Option Inode
+    → FinMap nat_cmp Inode → ℕ → FinMap nat_cmp Inode
 with_names_by f (Some (Directory names)) m n = insert m n (Directory (f names))
 with_names_by f _ m n = m
 
 -- the inodes, with the names of the directory of this number changed by f, where there is one
-abbrev pub with_names : (FinMap name_cmp ℕ → FinMap name_cmp ℕ) → FinMap nat_cmp Inode → ℕ → FinMap nat_cmp Inode
+abbrev pub with_names : (FinMap name_cmp ℕ → FinMap name_cmp ℕ) → FinMap nat_cmp Inode → ℕ
+    → FinMap nat_cmp Inode
 with_names f m n = with_names_by f (get m n) m n

@@ -15,3 +15,7 @@ pub lines_from-more : (first i : ℕ) (xs : List Entry) (x : Entry) → i < leng
 lines_from-more first i xs x below is =
     ap (lines_from first) (take_more xs i x below ∙ ap (λ (y : Entry). take i xs ++ y ∷ []) (sym is))
     ∙ lines_from-push first (first + i) (take i xs) x (omega (arith, length-take {A = Entry} i xs))
+
+-- the lines of one entry are its line
+pub lines_from-one : (place : ℕ) (entry : Entry) (entries : List Entry) → entries ≡ entry ∷ [] → lines_from place entries ≡ line_of place entry
+lines_from-one place entry entries is = ap (lines_from place) is ∙ append-nil (line_of place entry)

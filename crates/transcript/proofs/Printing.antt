@@ -6,7 +6,7 @@ use Rattle.std.proofs.lemmas.List.{get_or_default, take_all, take_more}
 use Rattle.std.proofs.lemmas.List.Concat.{flat_map-append}
 use Rattle.device.specs.Device.{IsPart}
 use Rattle.device.specs.declared.DeviceFailed.{DeviceFailed}
-use Rattle.device.proofs.Parts.{append_known-append_known, append_known-nil}
+use Rattle.device.proofs.Laws.{append_known-append_known, append_known-nil}
 use Rattle.transcript.specs.Printer.{CanPrint, Prints, Reaches}
 use Rattle.transcript.specs.declared.printer.Printer.{Printer}
 

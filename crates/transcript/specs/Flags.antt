@@ -1,8 +1,10 @@
 -- How sets of flags are printed.
-use Rattle.std.specs.Prelude.{◌≡◌, ℕ, List, [], ◌∷◌, ◌++◌, Option, Bool, true, false, codes, flat_map, if◌then◌else◌}
+use Rattle.std.specs.Prelude.{◌≡◌, ℕ, List, [], ◌∷◌, ◌++◌, Option}
+use Rattle.std.specs.Prelude.{Bool, true, false, codes, flat_map, if◌then◌else◌}
 use Rattle.ids.specs.declared.flags.OpenFlags.{OpenFlags}
 use Rattle.ids.specs.declared.flags.BeginFlags.{BeginFlags}
-use Rattle.ids.specs.Flags.{is_reading, is_writing, is_creating, is_exclusive, is_truncating, is_appending, is_restarting, is_aborting_unsupported}
+use Rattle.ids.specs.Flags.{is_reading, is_writing, is_creating, is_exclusive}
+use Rattle.ids.specs.Flags.{is_truncating, is_appending, is_restarting, is_aborting_unsupported}
 use Rattle.transcript.specs.Printer.{Prints}
 use Rattle.transcript.specs.declared.printer.Printer.{Printer}
 

@@ -1,5 +1,6 @@
 -- How replies are printed.
-use Rattle.std.specs.Prelude.{ℕ, List, [], ◌++◌, Bool, codes, decimal, flat_map, length, if◌then◌else◌}
+use Rattle.std.specs.Prelude.{ℕ, List, [], ◌++◌, Bool, codes}
+use Rattle.std.specs.Prelude.{decimal, flat_map, length, if◌then◌else◌}
 use Rattle.ids.specs.Errnos.{errno_name}
 use Rattle.ids.specs.declared.aspect.Aspect.{Aspect}
 use Rattle.ids.specs.declared.aspect.Aspect.TheVariants as aspect

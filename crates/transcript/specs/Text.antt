@@ -1,5 +1,6 @@
 -- How bytes are spelled in scripts and transcripts.
-use Rattle.std.specs.Prelude.{ℕ, ◌+◌, ◌/◌, ◌%◌, ◌==◌, nat_le, nat_lt, ◌&&◌, not, List, [], ◌∷◌, Bool, flat_map, if◌then◌else◌}
+use Rattle.std.specs.Prelude.{ℕ, ◌+◌, ◌/◌, ◌%◌, ◌==◌, nat_le, nat_lt, ◌&&◌}
+use Rattle.std.specs.Prelude.{not, List, [], ◌∷◌, Bool, flat_map, if◌then◌else◌}
 
 abbrev pub backslash : ℕ
 backslash = 92

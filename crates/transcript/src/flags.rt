@@ -1,6 +1,7 @@
 // Sets of flags in their spelling.
 ghost use Rattle.std.specs.Prelude.{◌≡◌, ◌||◌};
-ghost use Rattle.transcript.specs.Flags.{PrintsNames, access_names, begin_flags_text, flag_names, flags_text, next_name, with_commas};
+ghost use Rattle.transcript.specs.Flags.{PrintsNames, access_names, begin_flags_text};
+ghost use Rattle.transcript.specs.Flags.{flag_names, flags_text, next_name, with_commas};
 ghost use Rattle.transcript.specs.Printer.{CanPrint, Prints};
 
 use crate::printer::Printer;

@@ -1,5 +1,5 @@
 // One line, and all lines.
-ghost use Rattle.std.specs.Prelude.{◌≡◌, ◌+◌, ◌<◌, ◌^◌, flat_map, length, OnErr, OnOk};
+ghost use Rattle.std.specs.Prelude.{◌≡◌, ◌+◌, ◌<◌, ◌≤◌, ◌^◌, flat_map, length, OnErr, OnOk};
 ghost use Rattle.std.specs.Io.KnownBytes.{append_known};
 ghost use Rattle.device.specs.Device.{CanCount, IsPart};
 ghost use Rattle.transcript.specs.Line.{dooms_text, line_of, lines_from, more_text};
@@ -10,6 +10,7 @@ use crate::printer::Printer;
 use crate::reply::put_reply;
 use device::{DeviceFailed, Sink};
 use ids::{Entry, Pid};
+use std::slice;
 
 fn put_pids<S: Sink>(out: &mut Printer<'_, S>, pids: &[Pid])
     requires { CanPrint S.failures out.old }
@@ -47,7 +48,7 @@ fn put_line<S: Sink>(out: &mut Printer<'_, S>, place: usize, entry: &Entry)
 
 fn put_lines<S: Sink>(out: &mut Printer<'_, S>, first: usize, entries: &[Entry])
     requires can { CanPrint S.failures out.old }
-    requires small { first + length entries.now < 2 ^ 64 }
+    requires small { first + length entries.now ≤ 2 ^ 64 }
     ensures { Prints S.written S.failures out.old out.new (lines_from first entries.now) }
 {
     for (index, entry) in entries.iter().enumerate() {
@@ -66,9 +67,7 @@ pub fn print_line<S: Sink>(place: usize, entry: &Entry, sink: &mut S) -> Result<
     ensures part { IsPart (S.written sink.old) (S.written sink.new) (line_of place entry.now) }
     ensures failure { OnErr result (S.failures sink.old < S.failures sink.new) }
 {
-    let mut out = Printer::new(sink);
-    put_line(&mut out, place, entry);
-    out.finish()
+    print(place, slice::from_ref(entry), sink)
 }
 
 /// Prints the lines of entries that follow each other in a history. `first` is the number of the
@@ -77,7 +76,7 @@ pub fn print_line<S: Sink>(place: usize, entry: &Entry, sink: &mut S) -> Result<
 /// Where the sink fails a beginning of the lines is written.
 pub fn print<S: Sink>(first: usize, entries: &[Entry], sink: &mut S) -> Result<(), DeviceFailed>
     requires device { CanCount (S.failures sink.old) }
-    requires small { first + length entries.now < 2 ^ 64 }
+    requires small { first + length entries.now ≤ 2 ^ 64 }
     ensures ok { OnOk result (S.written sink.new
         ≡ append_known (S.written sink.old) (lines_from first entries.now)) }
     ensures no_failure { OnOk result (S.failures sink.new ≡ S.failures sink.old) }

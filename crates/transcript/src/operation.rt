@@ -2,7 +2,8 @@
 ghost use Rattle.std.specs.Prelude.{◌≡◌, ◌++◌, codes, decimal};
 ghost use Rattle.std.specs.Fmt.{signed_decimal};
 ghost use Rattle.transcript.specs.Flags.{begin_flags_text, flags_text};
-ghost use Rattle.transcript.specs.Operation.{call_text, numbers_text, op_text, path_text, paths_text, whence_text};
+ghost use Rattle.transcript.specs.Operation.{call_text, numbers_text, op_text};
+ghost use Rattle.transcript.specs.Operation.{path_text, paths_text, whence_text};
 ghost use Rattle.transcript.specs.Printer.{CanPrint, Prints};
 ghost use Rattle.transcript.specs.Text.{text_of};
 

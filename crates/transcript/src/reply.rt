@@ -1,7 +1,9 @@
 // Replies in their spelling.
 ghost use Rattle.std.specs.Prelude.{◌≡◌, ◌++◌, codes, decimal, flat_map, length};
 ghost use Rattle.transcript.specs.Printer.{CanPrint, Prints};
-ghost use Rattle.transcript.specs.Reply.{access_text, answer_text, aspect_text, cause_text, kind_text, name_text, names_text, reply_text, restarted_text, stat_text, why_text};
+ghost use Rattle.transcript.specs.Reply.{access_text, answer_text, aspect_text};
+ghost use Rattle.transcript.specs.Reply.{cause_text, kind_text, name_text, names_text};
+ghost use Rattle.transcript.specs.Reply.{reply_text, restarted_text, stat_text, why_text};
 ghost use Rattle.transcript.specs.Text.{text_of};
 
 use crate::printer::Printer;

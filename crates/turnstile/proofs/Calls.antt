@@ -8,11 +8,11 @@ use Rattle.kernel.specs.Shown.{Shown}
 use Rattle.kernel.specs.Steps.{is_no_entry, has_place, Added, IsStep}
 use Rattle.model.specs.Entries.{Op, Reply}
 use Rattle.turnstile.specs.Histories.{IsLegal, Begins, own, shown}
-use Rattle.turnstile.specs.Rule.{sees, Follows, Learns}
-use Rattle.turnstile.specs.Passes.{seen_by, own_of}
+use Rattle.turnstile.specs.Rule.{having_seen, Follows, Learns}
+use Rattle.turnstile.specs.Passes.{pass_view, pass_of}
 use Rattle.turnstile.specs.Calls.{IsSamePass, Called, Ends}
 use Rattle.turnstile.specs.Holding.{Place, HasTaken, Stepped, taker_of}
-use Rattle.turnstile.specs.declared.rule.Own.{Own}
+use Rattle.turnstile.specs.declared.rule.PassState.{PassState}
 use Rattle.turnstile.specs.declared.rule.Role.{Role}
 use Rattle.turnstile.specs.declared.rule.Role.TheVariants.{Takes}
 use Rattle.turnstile.proofs.Beginnings.{before_self, before_trans, last, before_added, own_added, own_other}
@@ -42,8 +42,8 @@ step_follows old new pid op reply s = go (is_no_entry reply) s.entry
     go true e = subst (λ x. Follows pid old x) (sym (log_is old new e)) record { longer = before_self old; others = λ q ne. refl }
     go false a = record { longer = before_added old new pid op reply a; others = λ q ne. own_other old new pid op reply a q ne }
 
-step_called : (z : TableId) (o : Own) (old new : Log) (op : Op) (reply : Reply) → Begins o.seen old → own o.pid old ≡ own o.pid o.seen → IsStep (shown old) (shown new) o.pid op reply
-    → Called (seen_by z o) op reply (seen_by z (sees o new))
+step_called : (z : TableId) (o : PassState) (old new : Log) (op : Op) (reply : Reply) → Begins o.seen old → own o.pid old ≡ own o.pid o.seen → IsStep (shown old) (shown new) o.pid op reply
+    → Called (pass_view z o) op reply (pass_view z (having_seen o new))
 step_called z o old new op reply before same s = record {
   found = old;
   longer = before;
@@ -53,7 +53,7 @@ step_called z o old new op reply before same s = record {
   full = λ e. ap (λ x. has_place x o.pid op) (log_is old new (subst (λ r. MatchBool (is_no_entry r) (shown new ≡ shown old) (Added old new o.pid op r)) e s.entry)) ∙ s.full.0 e;
 }
   where
-    go : (b : Bool) → MatchBool b (shown new ≡ shown old) (Added old new o.pid op reply) → MatchBool b (own o.pid new ≡ own o.pid o.seen) (Ends (seen_by z o) op reply (seen_by z (sees o new)))
+    go : (b : Bool) → MatchBool b (shown new ≡ shown old) (Added old new o.pid op reply) → MatchBool b (own o.pid new ≡ own o.pid o.seen) (Ends (pass_view z o) op reply (pass_view z (having_seen o new)))
     go true e = ap (own o.pid) (log_is old new e) ∙ same
     go false a = record {
       entry = last old new o.pid op reply a;
@@ -67,14 +67,14 @@ step_called z o old new op reply before same s = record {
 
 -- what the pass of a seat has seen after the call
 pub called_pass : (p q r : Place) (log : Log) (op : Op) (reply : Reply) → HasTaken p log q → Stepped q op reply r
-    → IsSamePass (seen_by p.table_id (own_of p.me.0)) (seen_by r.table_id (own_of r.me.0)) × Called (seen_by p.table_id (own_of p.me.0)) op reply (seen_by r.table_id (own_of r.me.0))
-called_pass p q r log op reply taken stepped = let o : Own = own_of p.me.0 in let new : Log = stepped.log in
-    let taker : taker_of q.me.0 ≡ sees o log = ap (λ (m : Me (Option Kernel) Role). taker_of m.0) taken.me in
-    let step : IsStep (shown log) (shown new) o.pid op reply = subst (λ (x : Own). IsStep (shown x.seen) (shown new) x.pid op reply) taker stepped.step in
-    let own_is : own_of r.me.0 ≡ sees o new = ap (λ (m : Me (Option Kernel) Role). own_of m.0) stepped.me ∙ ap (λ (x : Own). sees x new) taker in
+    → IsSamePass (pass_view p.table_id (pass_of p.me.0)) (pass_view r.table_id (pass_of r.me.0)) × Called (pass_view p.table_id (pass_of p.me.0)) op reply (pass_view r.table_id (pass_of r.me.0))
+called_pass p q r log op reply taken stepped = let o : PassState = pass_of p.me.0 in let new : Log = stepped.log in
+    let taker : taker_of q.me.0 ≡ having_seen o log = ap (λ (m : Me (Option Kernel) Role). taker_of m.0) taken.me in
+    let step : IsStep (shown log) (shown new) o.pid op reply = subst (λ (x : PassState). IsStep (shown x.seen) (shown new) x.pid op reply) taker stepped.step in
+    let pass_is : pass_of r.me.0 ≡ having_seen o new = ap (λ (m : Me (Option Kernel) Role). pass_of m.0) stepped.me ∙ ap (λ (x : PassState). having_seen x new) taker in
     let table : r.table_id ≡ p.table_id = stepped.same.0 ∙ taken.same.0 in
-    let P : TableId × Own → Type 0 = λ x. IsSamePass (seen_by p.table_id o) (seen_by x.0 x.1) × Called (seen_by p.table_id o) op reply (seen_by x.0 x.1) in
-    subst P (λ i. (sym table i, sym own_is i)) (
+    let P : TableId × PassState → Type 0 = λ x. IsSamePass (pass_view p.table_id o) (pass_view x.0 x.1) × Called (pass_view p.table_id o) op reply (pass_view x.0 x.1) in
+    subst P (λ i. (sym table i, sym pass_is i)) (
       record {
         gate = refl;
         pid = refl;
@@ -85,7 +85,7 @@ called_pass p q r log op reply taken stepped = let o : Own = own_of p.me.0 in le
     )
 
 -- the kernel that comes out of the slot
-pub takes_out : (p q r : Place) (x : Option Kernel) (k : Kernel) → q.table_id ≡ p.table_id → q.id ≡ p.id → q.me ≡ (Takes (sees (own_of p.me.0) k.log), (0, Some k) ∷ []) → Learns (λ (k : Kernel). k.log) IsLegal (own_of p.me.0) k.log
+pub takes_out : (p q r : Place) (x : Option Kernel) (k : Kernel) → q.table_id ≡ p.table_id → q.id ≡ p.id → q.me ≡ (Takes (having_seen (pass_of p.me.0) k.log), (0, Some k) ∷ []) → Learns (λ (k : Kernel). k.log) IsLegal (pass_of p.me.0) k.log
     → r.table_id ≡ q.table_id → r.id ≡ q.id → q.me.1 ≡ (0, x) ∷ rest q.me.1 → r.me ≡ (q.me.0, (0, None) ∷ rest q.me.1)
     → IfSome x (λ k. HasTaken p k.log r) × IfNone x (r ≡ p)
 takes_out p q r x k t i is learns t' i' out me = let e : x ≡ Some k = ap head (sym out ∙ ap (λ (m : Me (Option Kernel) Role). m.1) is) in

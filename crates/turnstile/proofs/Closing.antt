@@ -1,34 +1,34 @@
--- What the closing seat is told of the passes, and what it starts with.
+-- What the closing seat learns of the passes that it collects, and what it starts with.
 use Rattle.std.proofs.Common.{◌≡◌, ℕ, arith, map, Option, Some, None, IfSome, All, List, [], ◌∷◌, ◌++◌, refl, sym, ap, ◌∙◌, subst}
 use Rattle.std.proofs.lemmas.List.Elements.{All-cons, All-push, All-same}
 use Rattle.atomic_table.specs.Table.{Me, Step, rest, opening}
 use Rattle.history.specs.Log.{Log}
 use Rattle.turnstile.specs.Histories.{IsLegal}
 use Rattle.kernel.specs.declared.kernel.Kernel.{Kernel}
-use Rattle.turnstile.specs.Rule.{Kept, told, heard}
+use Rattle.turnstile.specs.Rule.{Kept, collected, checked}
 use Rattle.model.specs.State.{Kernel as State}
 use Rattle.turnstile.specs.Calls.{KeepsPass, first_pass, first_passes, living_numbers}
-use Rattle.turnstile.specs.Passes.{Gate, Seen, own_of, seen_by}
+use Rattle.turnstile.specs.Passes.{Gate, PassView, pass_of, pass_view}
 use Rattle.turnstile.specs.Holding.{closer_of}
 use Rattle.turnstile.specs.declared.rule.Role.{Role}
-use Rattle.turnstile.specs.declared.rule.Role.TheVariants.{Deals, Process, Closes, Hears}
+use Rattle.turnstile.specs.declared.rule.Role.TheVariants.{Deals, Process, Closes, Checks}
 use Rattle.turnstile.proofs.Calls.{history}
-use Rattle.turnstile.proofs.Steps.{opens, heard_all}
+use Rattle.turnstile.proofs.Steps.{opens, checked_all}
 
 pub opens_at : (key : Log) (items : List (Option Kernel)) (k : Kernel) → key ≡ history k → items ≡ Some k ∷ [] → IsLegal (history k) → Kept history IsLegal key (opening (0 ∷ []) items (Deals 0 key))
 opens_at key items k is at legal = subst (λ (x : Log × List (Option Kernel)). Kept history IsLegal x.0 (opening (0 ∷ []) x.1 (Deals 0 x.0))) (λ i. (sym is i, sym at i)) (opens history IsLegal (history k) k refl legal)
 
--- the role of the closing seat while it is told of a pass
-pub telling : (v w : Role) → v ≡ Closes (closer_of v) → w ≡ Process (own_of w) → told v w ≡ Hears (closer_of v) (own_of w)
-telling v w is at = λ i. told (is i) (at i)
+-- the state of the closing seat that has collected a pass
+pub collected_is : (v w : Role) → v ≡ Closes (closer_of v) → w ≡ Process (pass_of w) → collected v w ≡ Checks (closer_of v) (pass_of w)
+collected_is v w is at = λ i. collected (is i) (at i)
 
 -- the history has all that the pass had seen
-pub hears_pass : (st : Step (Option Kernel)) (m m' : Me (Option Kernel) Role) (n : ℕ) (z : _) (v w : Role) (cs : List (ℕ × Option Kernel)) → v ≡ Closes (closer_of v) → w ≡ Process (own_of w) → m ≡ (told v w, cs) → heard st m n m'
-    → (m' ≡ (v, cs)) × KeepsPass (closer_of v) (seen_by z (own_of w))
-hears_pass st m m' n z v w cs is at mid then = let t = heard_all st m m' n (closer_of v) (own_of w) (ap (λ (x : Me (Option Kernel) Role). x.0) mid ∙ telling v w is at) then in
+pub checks_pass : (st : Step (Option Kernel)) (m m' : Me (Option Kernel) Role) (n : ℕ) (z : _) (v w : Role) (cs : List (ℕ × Option Kernel)) → v ≡ Closes (closer_of v) → w ≡ Process (pass_of w) → m ≡ (collected v w, cs) → checked st m n m'
+    → (m' ≡ (v, cs)) × KeepsPass (closer_of v) (pass_view z (pass_of w))
+checks_pass st m m' n z v w cs is at mid then = let t = checked_all st m m' n (closer_of v) (pass_of w) (ap (λ (x : Me (Option Kernel) Role). x.0) mid ∙ collected_is v w is at) then in
     (t.0 ∙ (λ i. (sym is i, (ap (λ (x : Me (Option Kernel) Role). x.1) mid) i)), record { longer = t.1; own_kept = t.2 })
 
-pub one_more : (P : Seen → Type 0) (all xs ys : List Seen) (p : Seen) → xs ≡ ys ++ p ∷ [] → P p → (All P xs → All P all) → All P ys → All P all
+pub one_more : (P : PassView → Type 0) (all xs ys : List PassView) (p : PassView) → xs ≡ ys ++ p ∷ [] → P p → (All P xs → All P all) → All P ys → All P all
 one_more P all xs ys p is here so rest = so (All-same P xs (ys ++ p ∷ []) is (All-push P ys p rest here))
 
 abbrev head_or : List (ℕ × Option Kernel) → Option Kernel
@@ -36,7 +36,7 @@ head_or [] = None
 head_or (y ∷ ys) = y.1
 
 -- the kernel that comes out of the slot at the end
-pub closes_out : (x : Option Kernel) (m m' : Me (Option Kernel) Role) (k : Kernel) (passes : List Seen) → m ≡ (Closes (history k), (0, Some k) ∷ []) → m' ≡ m → m'.1 ≡ (0, x) ∷ rest m'.1
+pub closes_out : (x : Option Kernel) (m m' : Me (Option Kernel) Role) (k : Kernel) (passes : List PassView) → m ≡ (Closes (history k), (0, Some k) ∷ []) → m' ≡ m → m'.1 ≡ (0, x) ∷ rest m'.1
     → All (KeepsPass (closer_of m.0)) passes → IfSome x (λ kernel. All (KeepsPass kernel.log) passes)
 closes_out x m m' k passes is same out keeps = let e : x ≡ Some k = ap head_or (sym out ∙ ap (λ (m : Me (Option Kernel) Role). m.1) (same ∙ is)) in
     subst (λ (x : Option Kernel). IfSome x (λ kernel. All (KeepsPass kernel.log) passes)) (sym e) (subst (λ (m : Me (Option Kernel) Role). All (KeepsPass (closer_of m.0)) passes) is keeps)
@@ -46,4 +46,4 @@ first_gates gate k = go (living_numbers k)
   where
     go : (ns : List ℕ) → All (λ p. p.gate ≡ gate) (map (first_pass gate) ns)
     go [] = λ k d l. absurd (omega arith)
-    go (n ∷ ns) = All-cons (λ (p : Seen). p.gate ≡ gate) (first_pass gate n) (map (first_pass gate) ns) refl (go ns)
+    go (n ∷ ns) = All-cons (λ (p : PassView). p.gate ≡ gate) (first_pass gate n) (map (first_pass gate) ns) refl (go ns)

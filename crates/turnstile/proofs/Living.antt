@@ -7,7 +7,7 @@ use Rattle.model.specs.State.{Kernel as State}
 use Rattle.model.specs.Moments.{is_alive, all_below}
 use Rattle.turnstile.specs.Calls.{has_pass, first_pass, first_passes}
 use Rattle.turnstile.specs.Holding.{is_set, Lives}
-use Rattle.turnstile.specs.Passes.{Gate, Seen}
+use Rattle.turnstile.specs.Passes.{Gate, PassView}
 
 and_first : (a b : Bool) → (a && b) ≡ true → a ≡ true
 and_first true b is = refl
@@ -26,6 +26,6 @@ marks_small k marks lives i set = elim (cases_lt i (length marks)) [
 ]
 
 -- the marked numbers are those of the living processes
-pub marked_passes : (gate : Gate) (k : State) (marks : List Bool) → Lives k marks → (passes : List Seen) → passes ≡ map (first_pass gate) (all_below (is_set marks) (length marks)) → passes ≡ first_passes gate k
+pub marked_passes : (gate : Gate) (k : State) (marks : List Bool) → Lives k marks → (passes : List PassView) → passes ≡ map (first_pass gate) (all_below (is_set marks) (length marks)) → passes ≡ first_passes gate k
 marked_passes gate k marks lives passes is =
     is ∙ (ap (λ n. map (first_pass gate) (all_below (is_set marks) n)) lives.whole ∙ ap (map (first_pass gate)) (below_same (is_set marks) (has_pass k) (suc k.made) lives.each))

@@ -11,10 +11,10 @@ use Rattle.atomic_table.proofs.Lists.{at_set, set_here, set_else}
 use Rattle.history.specs.Log.{Log}
 use Rattle.turnstile.specs.Histories.{Begins, own}
 use Rattle.turnstile.proofs.Beginnings.{before_self, before_trans, before_linear, own_between}
-use Rattle.turnstile.specs.Rule.{Follows, owning, sees, IsOwn, Fits, IsHome, Kept, Learns, Got, took, closed, gave, Heard, hearing_on, heard, dealt_on, dealt, told, copied, informed, compared}
-use Rattle.turnstile.specs.declared.rule.Own.{Own}
+use Rattle.turnstile.specs.Rule.{Follows, pass_state, having_seen, IsPass, Fits, IsHome, Kept, Learns, Got, took, closed, gave, Checked, closing_on, checked, dealt_on, dealt, collected, copied, informed, compared}
+use Rattle.turnstile.specs.declared.rule.PassState.{PassState}
 use Rattle.turnstile.specs.declared.rule.Role.{Role}
-use Rattle.turnstile.specs.declared.rule.Role.TheVariants.{Nobody, Deals, Process, Takes, Knows, Meets, Closes, Hears}
+use Rattle.turnstile.specs.declared.rule.Role.TheVariants.{Nobody, Deals, Process, Takes, Knows, Meets, Closes, Checks}
 
 at_end : {A : Type 0} (l : List A) (a b : A) (j : ℕ) → get_elem? (l ++ a ∷ []) j ≡ some b → ((j < length l) × (get_elem? l j ≡ some b)) ⊎ ((j ≡ length l) × (a ≡ b))
 at_end [] a b zero e = inr (refl, some-injective a b e)
@@ -34,11 +34,11 @@ seats_more F vs w last others j v e = ⊎_elim (λ (t : (j < length vs) × (get_
 
 module _ (key log log' : Log) (owner owner' : ℕ → ℕ) (j : ℕ) (longer : Begins log log')
     (same_owner : (q : ℕ) → owner q ≡ j → owner' q ≡ j) (same : (q : ℕ) → owner q ≡ j → own q log' ≡ own q log) where
-  own_fits : (o : Own) → IsOwn key log owner j o → IsOwn key log' owner' j o
-  own_fits o f = record {
+  pass_fits : (o : PassState) → IsPass key log owner j o → IsPass key log' owner' j o
+  pass_fits o f = record {
     mine = same_owner o.pid f.mine;
     begun = f.begun;
-    seen_before = before_trans o.seen log log' f.seen_before longer;
+    has_seen = before_trans o.seen log log' f.has_seen longer;
     entries = same o.pid f.mine ∙ f.entries;
   }
 
@@ -51,12 +51,12 @@ module _ (key log log' : Log) (owner owner' : ℕ → ℕ) (j : ℕ) (longer : B
     mine = λ p l. same_owner p (f.mine p l);
     entries = λ p l. same p (f.mine p l) ∙ f.entries p l;
   }
-  other_fits word word' holder holder' keep (Process o) f = own_fits o f
-  other_fits word word' holder holder' keep (Takes o) f = let k = keep f.1.taken f.1.holds in (own_fits o f.0, record { taken = k.0; holds = k.1; whole = f.1.whole ∙ sym k.2 })
+  other_fits word word' holder holder' keep (Process o) f = pass_fits o f
+  other_fits word word' holder holder' keep (Takes o) f = let k = keep f.1.taken f.1.holds in (pass_fits o f.0, record { taken = k.0; holds = k.1; whole = f.1.whole ∙ sym k.2 })
   other_fits word word' holder holder' keep (Knows h) f = before_trans h log log' f longer
-  other_fits word word' holder holder' keep (Meets o h) f = (own_fits o f.0, before_trans h log log' f.1 longer)
+  other_fits word word' holder holder' keep (Meets o h) f = (pass_fits o f.0, before_trans h log log' f.1 longer)
   other_fits word word' holder holder' keep (Closes h) f = let k = keep f.taken f.holds in record { taken = k.0; holds = k.1; whole = f.whole ∙ sym k.2 }
-  other_fits word word' holder holder' keep (Hears h o) f = let k = keep f.0.taken f.0.holds in (record { taken = k.0; holds = k.1; whole = f.0.whole ∙ sym k.2 }, f.1, f.2)
+  other_fits word word' holder holder' keep (Checks h o) f = let k = keep f.0.taken f.0.holds in (record { taken = k.0; holds = k.1; whole = f.0.whole ∙ sym k.2 }, f.1, f.2)
 
 module _ {K : Type 0} (history : K → Log) (IsLawful : Log → Type 0) (key : Log) where
   abbrev St : Type 0
@@ -114,22 +114,22 @@ module _ {K : Type 0} (history : K → Log) (IsLawful : Log → Type 0) (key : L
     each_seat = seats_more (Fits key key 0 0 (λ _. 0)) [] (Deals 0 key) record { begun = refl; mine = λ _ _. refl; entries = λ _ _. refl } (λ j v l e. absurd (omega arith));
   }
 
-  pub takes_kernel : (slots id : ℕ) (o : Own) → Allows Rule slots id (Process o, []) 0 (λ n. either (eqb n 0) 1 n) (took history IsLawful (step slots 0 0 1 none) (Process o, []))
+  pub takes_kernel : (slots id : ℕ) (o : PassState) → Allows Rule slots id (Process o, []) 0 (λ n. either (eqb n 0) 1 n) (took history IsLawful (step slots 0 0 1 none) (Process o, []))
   takes_kernel slots id o s r wide at _ = dite (ℕ_discrete (word s) 0)
-      (λ hit. let home = r.at_home hit in let k = home.0 in let f : IsOwn key r.log r.owner id o = r.each_seat id (Process o) at in let w : Role = Takes (sees o r.log) in let act = takes 0 (Some k) in (
+      (λ hit. let home = r.at_home hit in let k = home.0 in let f : IsPass key r.log r.owner id o = r.each_seat id (Process o) at in let w : Role = Takes (having_seen o r.log) in let act = takes 0 (Some k) in (
         w,
         act,
         home.1,
         subst (λ b. Rule (stepped s 0 (either b 1 (word s)) id [] w act)) (sym (eq-eqb (word s) 0 hit))
             (kept_still s r (set s.words 0 1) 1 (set s.homes 0 none) (set s.views id w) id r.owner (length-set s.words 0 1 ∙ r.one_word) (set_word s r 1) (λ z. absurd (omega arith))
-            (seats_stay (Fits key r.log 1 id r.owner) s.views id w (record { mine = f.mine; begun = f.begun; seen_before = before_self r.log; entries = refl }, record { taken = λ z. omega arith; holds = refl; whole = refl })
+            (seats_stay (Fits key r.log 1 id r.owner) s.views id w (record { mine = f.mine; begun = f.begun; has_seen = before_self r.log; entries = refl }, record { taken = λ z. omega arith; holds = refl; whole = refl })
             (λ j v other e. stays s r 1 id j (λ taken _. absurd (taken hit)) v e))),
         subst (λ b. MatchBool b (Got history IsLawful (Process o, []) (w, (0, Some k) ∷ [])) (◌≡◌ {A = M} (w, (0, Some k) ∷ []) (Process o, []))) (sym (eq-eqb (word s) 0 hit)) (
           k,
-          (λ i. (Takes (sees o (sym home.2 i)), (0, Some k) ∷ [])),
+          (λ i. (Takes (having_seen o (sym home.2 i)), (0, Some k) ∷ [])),
           subst (Learns history IsLawful o) (sym home.2) record {
             lawful = r.lawful;
-            before = f.seen_before;
+            before = f.has_seen;
             entries = f.entries;
           },
         ),
@@ -144,16 +144,16 @@ module _ {K : Type 0} (history : K → Log) (IsLawful : Log → Type 0) (key : L
         subst (λ b. MatchBool b (Got history IsLawful (Process o, []) (w, [])) (◌≡◌ {A = M} (w, []) (Process o, []))) (sym (ne_eqb (word s) 0 miss)) refl,
       ))
 
-  pub gives_kernel : (slots id : ℕ) (o : Own) (k : K) → slots ≡ 1 → IsLawful (history k) → Follows o.pid o.seen (history k)
+  pub gives_kernel : (slots id : ℕ) (o : PassState) (k : K) → slots ≡ 1 → IsLawful (history k) → Follows o.pid o.seen (history k)
       → Allows Rule slots id (Takes o, (0, Some k) ∷ []) 0 (λ _. 0) (λ _. gave history (step slots 0 0 0 none) (Takes o, (0, Some k) ∷ []) 0)
-  gives_kernel slots id o k one lawful follows s r wide at _ = let f = r.each_seat id (Takes o) at in let log : Log = history k in let w : Role = Process (sees o log) in
+  gives_kernel slots id o k one lawful follows s r wide at _ = let f = r.each_seat id (Takes o) at in let log : Log = history k in let w : Role = Process (having_seen o log) in
       let next : Follows o.pid r.log log = subst (λ x. Follows o.pid x log) f.1.whole follows in let here : 0 < length s.homes = omega arith in (
         w,
         gives,
         tt,
         kept_as s r (set s.words 0 0) 0 (set s.homes 0 (some (Some k))) (set s.views id w) log r.holder r.owner (length-set s.words 0 0 ∙ r.one_word) (set_word s r 0) lawful next.longer
             (λ _. (k, set_here s.homes 0 (some (Some k)) here, refl))
-            (seats_stay (Fits key log 0 r.holder r.owner) s.views id w record { mine = f.0.mine; begun = f.0.begun; seen_before = before_self log; entries = refl }
+            (seats_stay (Fits key log 0 r.holder r.owner) s.views id w record { mine = f.0.mine; begun = f.0.begun; has_seen = before_self log; entries = refl }
             (λ j v other e. other_fits key r.log log r.owner r.owner j next.longer (λ _ q. q) (λ q is. next.others q (λ same. other (sym is ∙ (ap r.owner same ∙ f.0.mine))))
             (word s) 0 r.holder r.holder (λ _ holds. absurd (other (sym holds ∙ f.1.holds))) v (r.each_seat j v e))),
         refl,
@@ -179,8 +179,8 @@ module _ {K : Type 0} (history : K → Log) (IsLawful : Log → Type 0) (key : L
         subst (λ b. MatchBool b ((k : K) × (◌≡◌ {A = M} (w, []) (Closes (history k), (0, Some k) ∷ [])) × IsLawful (history k)) (Unit {0})) (sym (ne_eqb (word s) 0 miss)) tt,
       ))
 
-  pub hears : (slots id : ℕ) (h : Log) (o : Own) (cs : List (ℕ × Option K)) → Allows Rule slots id (Hears h o, cs) 0 (λ n. n) (heard (step slots 0 0 0 none) (Hears h o, cs))
-  hears slots id h o cs s r wide at _ = let f = r.each_seat id (Hears h o) at in let w : Role = Closes h in (
+  pub checks : (slots id : ℕ) (h : Log) (o : PassState) (cs : List (ℕ × Option K)) → Allows Rule slots id (Checks h o, cs) 0 (λ n. n) (checked (step slots 0 0 0 none) (Checks h o, cs))
+  checks slots id h o cs s r wide at _ = let f = r.each_seat id (Checks h o) at in let w : Role = Closes h in (
     w,
     keeps,
     tt,
@@ -189,24 +189,24 @@ module _ {K : Type 0} (history : K → Log) (IsLawful : Log → Type 0) (key : L
     (refl, (f.1, f.2)),
   )
 
-  pub tells : (id other : ℕ) (h : Log) (o : Own) → Joins Rule id (Closes h) other (Process o) (Hears h o) Nobody
-  tells id other h o s r at apart there = let was = sym (set_else s.views id other (Hears h o) apart) ∙ there in let f = r.each_seat id (Closes h) at in let g : IsOwn key r.log r.owner other o = r.each_seat other (Process o) was in
-      kept_still s r s.words (word s) s.homes (set (set s.views id (Hears h o)) other Nobody) r.holder r.owner r.one_word refl r.at_home
-      (seats_stay (Fits key r.log (word s) r.holder r.owner) (set s.views id (Hears h o)) other Nobody tt
-      (λ j v _ e. seats_stay (Fits key r.log (word s) r.holder r.owner) s.views id (Hears h o)
-      (f, subst (Begins o.seen) (sym f.whole) g.seen_before, ap (own o.pid) f.whole ∙ g.entries) (λ i u _ d. r.each_seat i u d) j v e))
+  pub collects : (id other : ℕ) (h : Log) (o : PassState) → Joins Rule id (Closes h) other (Process o) (Checks h o) Nobody
+  collects id other h o s r at apart there = let was = sym (set_else s.views id other (Checks h o) apart) ∙ there in let f = r.each_seat id (Closes h) at in let g : IsPass key r.log r.owner other o = r.each_seat other (Process o) was in
+      kept_still s r s.words (word s) s.homes (set (set s.views id (Checks h o)) other Nobody) r.holder r.owner r.one_word refl r.at_home
+      (seats_stay (Fits key r.log (word s) r.holder r.owner) (set s.views id (Checks h o)) other Nobody tt
+      (λ j v _ e. seats_stay (Fits key r.log (word s) r.holder r.owner) s.views id (Checks h o)
+      (f, subst (Begins o.seen) (sym f.whole) g.has_seen, ap (own o.pid) f.whole ∙ g.entries) (λ i u _ d. r.each_seat i u d) j v e))
 
-  pub deals : (id next : ℕ) (h : Log) → Splits Rule id (Deals next h) (Deals (next + 1) h) (Process (owning next h h))
+  pub deals : (id next : ℕ) (h : Log) → Splits Rule id (Deals next h) (Deals (next + 1) h) (Process (pass_state next h h))
   deals id next h s r at = let f = r.each_seat id (Deals next h) at in let vs : List Role = set s.views id (Deals (next + 1) h) in let n : ℕ = length vs in
       let owner : ℕ → ℕ = λ q. cond (eqb q next) n (r.owner q) in
       let here : r.owner next ≡ id = f.mine next (omega arith) in
       let else_same = λ (q : ℕ) (ne : q ≢ next). let e : owner q ≡ r.owner q = ap (λ b. cond b n (r.owner q)) (ne_eqb q next ne) in e in
-      kept_still s r s.words (word s) s.homes (vs ++ Process (owning next h h) ∷ []) r.holder owner r.one_word refl r.at_home
-      (seats_more (Fits key r.log (word s) r.holder owner) vs (Process (owning next h h))
+      kept_still s r s.words (word s) s.homes (vs ++ Process (pass_state next h h) ∷ []) r.holder owner r.one_word refl r.at_home
+      (seats_more (Fits key r.log (word s) r.holder owner) vs (Process (pass_state next h h))
       record {
         mine = ap (λ b. cond b n (r.owner next)) (eq-eqb next next refl);
         begun = f.begun;
-        seen_before = subst (λ x. Begins x r.log) (sym f.begun) r.started;
+        has_seen = subst (λ x. Begins x r.log) (sym f.begun) r.started;
         entries = f.entries next (omega arith) ∙ ap (own next) (sym f.begun);
       }
       (λ j v _ e. seats_stay (Fits key r.log (word s) r.holder owner) s.views id (Deals (next + 1) h)
@@ -219,62 +219,62 @@ module _ {K : Type 0} (history : K → Log) (IsLawful : Log → Type 0) (key : L
       (word s) (word s) r.holder r.holder (λ taken holds. (taken, holds, refl)) u (r.each_seat i u d)) j v e))
 
   -- the same for a seat of which only an equation is known
-  pub takes_at : (slots id : ℕ) (m : M) (o : Own) → m ≡ (Process o, []) → Allows Rule slots id m 0 (λ n. either (eqb n 0) 1 n) (took history IsLawful (step slots 0 0 1 none) m)
+  pub takes_at : (slots id : ℕ) (m : M) (o : PassState) → m ≡ (Process o, []) → Allows Rule slots id m 0 (λ n. either (eqb n 0) 1 n) (took history IsLawful (step slots 0 0 1 none) m)
   takes_at slots id m o is = subst (λ (m : M). Allows Rule slots id m 0 (λ n. either (eqb n 0) 1 n) (took history IsLawful (step slots 0 0 1 none) m)) (sym is) (takes_kernel slots id o)
 
-  pub gives_at : (slots id : ℕ) (m : M) (o : Own) (k : K) → m ≡ (Takes o, (0, Some k) ∷ []) → slots ≡ 1 → IsLawful (history k) → Follows o.pid o.seen (history k)
+  pub gives_at : (slots id : ℕ) (m : M) (o : PassState) (k : K) → m ≡ (Takes o, (0, Some k) ∷ []) → slots ≡ 1 → IsLawful (history k) → Follows o.pid o.seen (history k)
       → Allows Rule slots id m 0 (λ _. 0) (λ _. gave history (step slots 0 0 0 none) m 0)
   gives_at slots id m o k is one lawful follows = subst (λ (m : M). Allows Rule slots id m 0 (λ _. 0) (λ _. gave history (step slots 0 0 0 none) m 0)) (sym is) (gives_kernel slots id o k one lawful follows)
 
   pub deals_at : (id next : ℕ) (v : Role) (h : Log) → v ≡ Deals next h → Splits Rule id v (dealt_on v) (dealt v)
   deals_at id next v h is = subst (λ v. Splits Rule id v (dealt_on v) (dealt v)) (sym is) (deals id next h)
 
-  pub tells_at : (id other : ℕ) (v w : Role) (h : Log) (o : Own) → v ≡ Closes h → w ≡ Process o → Joins Rule id v other w (told v w) Nobody
-  tells_at id other v w h o is at = subst (λ (x : Role × Role). Joins Rule id x.0 other x.1 (told x.0 x.1) Nobody) (λ i. (sym is i, sym at i)) (tells id other h o)
+  pub collects_at : (id other : ℕ) (v w : Role) (h : Log) (o : PassState) → v ≡ Closes h → w ≡ Process o → Joins Rule id v other w (collected v w) Nobody
+  collects_at id other v w h o is at = subst (λ (x : Role × Role). Joins Rule id x.0 other x.1 (collected x.0 x.1) Nobody) (λ i. (sym is i, sym at i)) (collects id other h o)
 
-  pub hears_at : (slots id : ℕ) (m : M) (h : Log) (o : Own) → m.0 ≡ Hears h o → Allows Rule slots id m 0 (λ n. n) (heard (step slots 0 0 0 none) m)
-  hears_at slots id m h o is = subst (λ v. Allows Rule slots id (v, m.1) 0 (λ n. n) (heard (step slots 0 0 0 none) (v, m.1))) (sym is) (hears slots id h o m.1)
+  pub checks_at : (slots id : ℕ) (m : M) (h : Log) (o : PassState) → m.0 ≡ Checks h o → Allows Rule slots id m 0 (λ n. n) (checked (step slots 0 0 0 none) m)
+  checks_at slots id m h o is = subst (λ v. Allows Rule slots id (v, m.1) 0 (λ n. n) (checked (step slots 0 0 0 none) (v, m.1))) (sym is) (checks slots id h o m.1)
 
   pub closed_hit : (st : Step (Option K)) (m m' : M) (n : ℕ) → n ≡ 0 → closed history IsLawful st m n m' → (k : K) × (m' ≡ (Closes (history k), (0, Some k) ∷ [])) × IsLawful (history k)
   closed_hit st m m' n hit then = subst (λ b. MatchBool b ((k : K) × (m' ≡ (Closes (history k), (0, Some k) ∷ [])) × IsLawful (history k)) (Unit {0})) (eq-eqb n 0 hit) then
 
-  copies : (id : ℕ) (o : Own) → Splits Rule id (Process o) (Process o) (Knows o.seen)
-  copies id o s r at = let f : IsOwn key r.log r.owner id o = r.each_seat id (Process o) at in let vs : List Role = set s.views id (Process o) in
+  copies : (id : ℕ) (o : PassState) → Splits Rule id (Process o) (Process o) (Knows o.seen)
+  copies id o s r at = let f : IsPass key r.log r.owner id o = r.each_seat id (Process o) at in let vs : List Role = set s.views id (Process o) in
       kept_still s r s.words (word s) s.homes (vs ++ Knows o.seen ∷ []) r.holder r.owner r.one_word refl r.at_home
-      (seats_more (Fits key r.log (word s) r.holder r.owner) vs (Knows o.seen) f.seen_before
+      (seats_more (Fits key r.log (word s) r.holder r.owner) vs (Knows o.seen) f.has_seen
       (λ j v _ e. seats_stay (Fits key r.log (word s) r.holder r.owner) s.views id (Process o) f (λ i u _ d. r.each_seat i u d) j v e))
 
-  pub copies_at : (id : ℕ) (v : Role) (o : Own) → v ≡ Process o → Splits Rule id v v (copied v)
+  pub copies_at : (id : ℕ) (v : Role) (o : PassState) → v ≡ Process o → Splits Rule id v v (copied v)
   copies_at id v o is = subst (λ v. Splits Rule id v v (copied v)) (sym is) (copies id o)
 
-  informs : (id other : ℕ) (o : Own) (h : Log) → Joins Rule id (Process o) other (Knows h) (Meets o h) Nobody
-  informs id other o h s r at apart there = let was = sym (set_else s.views id other (Meets o h) apart) ∙ there in let f : IsOwn key r.log r.owner id o = r.each_seat id (Process o) at in let g : Begins h r.log = r.each_seat other (Knows h) was in
+  informs : (id other : ℕ) (o : PassState) (h : Log) → Joins Rule id (Process o) other (Knows h) (Meets o h) Nobody
+  informs id other o h s r at apart there = let was = sym (set_else s.views id other (Meets o h) apart) ∙ there in let f : IsPass key r.log r.owner id o = r.each_seat id (Process o) at in let g : Begins h r.log = r.each_seat other (Knows h) was in
       kept_still s r s.words (word s) s.homes (set (set s.views id (Meets o h)) other Nobody) r.holder r.owner r.one_word refl r.at_home
       (seats_stay (Fits key r.log (word s) r.holder r.owner) (set s.views id (Meets o h)) other Nobody tt
       (λ j v _ e. seats_stay (Fits key r.log (word s) r.holder r.owner) s.views id (Meets o h) (f, g) (λ i u _ d. r.each_seat i u d) j v e))
 
-  pub informs_at : (id other : ℕ) (v w : Role) (o : Own) (h : Log) → v ≡ Process o → w ≡ Knows h → Joins Rule id v other w (informed v w) Nobody
+  pub informs_at : (id other : ℕ) (v w : Role) (o : PassState) (h : Log) → v ≡ Process o → w ≡ Knows h → Joins Rule id v other w (informed v w) Nobody
   informs_at id other v w o h is at = subst (λ (x : Role × Role). Joins Rule id x.0 other x.1 (informed x.0 x.1) Nobody) (λ i. (sym is i, sym at i)) (informs id other o h)
 
-  compares : (slots id : ℕ) (o : Own) (h : Log) (cs : List (ℕ × Option K)) → Allows Rule slots id (Meets o h, cs) 0 (λ n. n) (compared (step slots 0 0 0 none) (Meets o h, cs))
+  compares : (slots id : ℕ) (o : PassState) (h : Log) (cs : List (ℕ × Option K)) → Allows Rule slots id (Meets o h, cs) 0 (λ n. n) (compared (step slots 0 0 0 none) (Meets o h, cs))
   compares slots id o h cs s r wide at _ = let f = r.each_seat id (Meets o h) at in let w : Role = Process o in (
     w,
     keeps,
     tt,
     kept_still s r (set s.words 0 (word s)) (word s) s.homes (set s.views id w) r.holder r.owner (length-set s.words 0 (word s) ∙ r.one_word) (set_word s r (word s)) r.at_home
         (seats_stay (Fits key r.log (word s) r.holder r.owner) s.views id w f.0 (λ j v _ e. r.each_seat j v e)),
-    (refl, (λ before. own_between o.pid o.seen h r.log before f.1 f.0.entries, before_linear o.seen h r.log f.0.seen_before f.1)),
+    (refl, (λ before. own_between o.pid o.seen h r.log before f.1 f.0.entries, before_linear o.seen h r.log f.0.has_seen f.1)),
   )
 
-  pub compares_at : (slots id : ℕ) (m : M) (o : Own) (h : Log) → m.0 ≡ Meets o h → Allows Rule slots id m 0 (λ n. n) (compared (step slots 0 0 0 none) m)
+  pub compares_at : (slots id : ℕ) (m : M) (o : PassState) (h : Log) → m.0 ≡ Meets o h → Allows Rule slots id m 0 (λ n. n) (compared (step slots 0 0 0 none) m)
   compares_at slots id m o h is = subst (λ v. Allows Rule slots id (v, m.1) 0 (λ n. n) (compared (step slots 0 0 0 none) (v, m.1))) (sym is) (compares slots id o h m.1)
 
-module _ {K : Type 0} (history : K → Log) (IsLawful : Log → Type 0) (st : Step (Option K)) (m m' : Me (Option K) Role) (o : Own) (is : m ≡ (Process o, [])) (n : ℕ) where
-  pub took_hit : n ≡ 0 → took history IsLawful st m n m' → (k : K) × (m' ≡ (Takes (sees o (history k)), (0, Some k) ∷ [])) × Learns history IsLawful o (history k)
+module _ {K : Type 0} (history : K → Log) (IsLawful : Log → Type 0) (st : Step (Option K)) (m m' : Me (Option K) Role) (o : PassState) (is : m ≡ (Process o, [])) (n : ℕ) where
+  pub took_hit : n ≡ 0 → took history IsLawful st m n m' → (k : K) × (m' ≡ (Takes (having_seen o (history k)), (0, Some k) ∷ [])) × Learns history IsLawful o (history k)
   took_hit hit then = subst (λ (z : Me (Option K) Role). Got history IsLawful z m') is (subst (λ b. MatchBool b (Got history IsLawful m m') (m' ≡ m)) (eq-eqb n 0 hit) then)
 
   pub took_miss : n ≢ 0 → took history IsLawful st m n m' → m' ≡ m
   took_miss miss then = subst (λ b. MatchBool b (Got history IsLawful m m') (m' ≡ m)) (ne_eqb n 0 miss) then
 
-pub heard_all : {S : Type 0} (st : Step S) (m m' : Me S Role) (n : ℕ) (h : Log) (o : Own) → m.0 ≡ Hears h o → heard st m n m' → (m' ≡ (Closes h, m.1)) × Begins o.seen h × (own o.pid h ≡ own o.pid o.seen)
-heard_all st m m' n h o is then = let k = subst Heard is then.1 in (then.0 ∙ (λ i. (hearing_on (is i), m.1)), k.0, k.1)
+pub checked_all : {S : Type 0} (st : Step S) (m m' : Me S Role) (n : ℕ) (h : Log) (o : PassState) → m.0 ≡ Checks h o → checked st m n m' → (m' ≡ (Closes h, m.1)) × Begins o.seen h × (own o.pid h ≡ own o.pid o.seen)
+checked_all st m m' n h o is then = let k = subst Checked is then.1 in (then.0 ∙ (λ i. (closing_on (is i), m.1)), k.0, k.1)

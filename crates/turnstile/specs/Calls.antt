@@ -1,12 +1,13 @@
 -- What the calls of a turnstile promise.
-use Rattle.std.specs.Prelude.{◌≡◌, ℕ, suc, Bool, ◌&&◌, nat_lt, false, ◌⊎◌, List, [], ◌∷◌, ◌++◌, map, MatchBool}
+use Rattle.std.specs.Prelude.{◌≡◌, ℕ, suc, Bool, ◌&&◌, nat_lt, false, ◌⊎◌, MatchBool}
+use Rattle.std.specs.Prelude.{List, [], ◌∷◌, ◌++◌, map}
 use Rattle.history.specs.Log.{Log}
 use Rattle.model.specs.Entries.{Op, Reply, HistoryFull, Entry}
 use Rattle.model.specs.State.{Kernel as State}
 use Rattle.model.specs.Moments.{is_alive, all_below}
 use Rattle.kernel.specs.Steps.{is_no_entry, has_place, IsStep}
 use Rattle.turnstile.specs.Histories.{IsLegal, Begins, own, shown}
-use Rattle.turnstile.specs.Passes.{Gate, Seen}
+use Rattle.turnstile.specs.Passes.{Gate, PassView}
 
 -- the numbers of the living processes, rising. A number is below 2^32.
 abbrev pub has_pass : State → ℕ → Bool
@@ -16,22 +17,24 @@ abbrev pub living_numbers : State → List ℕ
 living_numbers k = all_below (has_pass k) (suc k.made)
 
 -- a pass that has seen the history with which the turnstile was made
-abbrev pub first_pass : Gate → ℕ → Seen
+abbrev pub first_pass : Gate → ℕ → PassView
 first_pass gate pid = record { gate = gate; pid = pid; seen = gate.start }
 
 -- one for each living process, rising
-abbrev pub first_passes : Gate → State → List Seen
+abbrev pub first_passes : Gate → State → List PassView
 first_passes gate k = map (first_pass gate) (living_numbers k)
 
--- the pass is of the same turnstile and process, and has seen a legal history that begins with what it had seen
-pub record IsSamePass (p q : Seen) : Type 0 where
+-- the pass is of the same turnstile and process, and has seen a legal history that begins with what
+-- it had seen
+pub record IsSamePass (p q : PassView) : Type 0 where
   pub gate : q.gate ≡ p.gate
   pub pid : q.pid ≡ p.pid
   pub legal : IsLegal q.seen
   pub longer : Begins p.seen q.seen
 
--- the history that the pass has seen ends with the entry of this operation and reply, by which the process's own entries grew
-pub record Ends (p : Seen) (op : Op) (reply : Reply) (q : Seen) : Type 0 where
+-- the history that the pass has seen ends with the entry of this operation and reply, by which the
+-- process's own entries grew
+pub record Ends (p : PassView) (op : Op) (reply : Reply) (q : PassView) : Type 0 where
   pub entry : Entry
   pub of_pid : entry.pid ≡ p.pid
   pub of_op : entry.op ≡ op
@@ -40,21 +43,23 @@ pub record Ends (p : Seen) (op : Op) (reply : Reply) (q : Seen) : Type 0 where
   pub last : q.seen.entries ≡ before ++ entry ∷ []
   pub own_grew : own p.pid q.seen ≡ own p.pid p.seen ++ entry ∷ []
 
--- An operation was answered by one step of the kernel, from a history that begins with what the pass had seen and has
--- just its own entries of its process, to what it has seen now.
-pub record Called (p : Seen) (op : Op) (reply : Reply) (q : Seen) : Type 0 where
+-- An operation was answered by one step of the kernel, from a history that begins with what the
+-- pass had seen and has just its own entries of its process, to what it has seen now.
+pub record Called (p : PassView) (op : Op) (reply : Reply) (q : PassView) : Type 0 where
   pub found : Log
   pub longer : Begins p.seen found
   pub own_found : own p.pid found ≡ own p.pid p.seen
   pub step : IsStep (shown found) (shown q.seen) p.pid op reply
-  pub own_after : MatchBool (is_no_entry reply) (own p.pid q.seen ≡ own p.pid p.seen) (Ends p op reply q)
+  pub own_after : MatchBool (is_no_entry reply) (own p.pid q.seen ≡ own p.pid p.seen)
+      (Ends p op reply q)
   pub full : reply ≡ HistoryFull → has_place q.seen p.pid op ≡ false
 
 -- the history begins with what the pass had seen, and has just its own entries of its process
-pub record KeepsPass (log : Log) (p : Seen) : Type 0 where
+pub record KeepsPass (log : Log) (p : PassView) : Type 0 where
   pub longer : Begins p.seen log
   pub own_kept : own p.pid log ≡ own p.pid p.seen
 
--- what one pass has seen begins what the other has, and the longer one has just their own entries of both processes
-abbrev pub Met : Seen → Seen → Type 0
+-- what one pass has seen begins what the other has, and the longer one has just their own entries
+-- of both processes
+abbrev pub Met : PassView → PassView → Type 0
 Met p q = KeepsPass q.seen p ⊎ KeepsPass p.seen q

@@ -1,5 +1,6 @@
 -- A seat at rest, and one that has the kernel; and the marks of living processes.
-use Rattle.std.specs.Prelude.{◌≡◌, ℕ, suc, ◌<◌, Bool, false, List, [], ◌∷◌, length, get_or, Option, None}
+use Rattle.std.specs.Prelude.{◌≡◌, ℕ, suc, ◌<◌, Bool, false, Option, None}
+use Rattle.std.specs.Prelude.{List, [], ◌∷◌, length, get_or}
 use Rattle.atomic_table.specs.Table.{Me}
 use Rattle.atomic_table.specs.declared.shared.Seat.{Seat}
 use Rattle.history.specs.Log.{Log}
@@ -9,21 +10,21 @@ use Rattle.model.specs.Entries.{Op, Reply}
 use Rattle.model.specs.State.{Kernel as State}
 use Rattle.turnstile.specs.Histories.{IsLegal, shown}
 use Rattle.turnstile.specs.Calls.{has_pass}
-use Rattle.turnstile.specs.Rule.{sees, Learns}
-use Rattle.turnstile.specs.Passes.{own_of, nobody, no_log}
-use Rattle.turnstile.specs.declared.rule.Own.{Own}
+use Rattle.turnstile.specs.Rule.{having_seen, Learns}
+use Rattle.turnstile.specs.Passes.{pass_of, no_pass, no_log}
+use Rattle.turnstile.specs.declared.rule.PassState.{PassState}
 use Rattle.turnstile.specs.declared.rule.Role.{Role}
 use Rattle.turnstile.specs.declared.rule.Role.TheVariants.{Process, Takes, Closes}
 
 abbrev pub Place : Type 0
 Place = Seat (Option Kernel) Role
 
-abbrev pub taker_of : Role → Own
+abbrev pub taker_of : Role → PassState
 taker_of (Takes o) = o
-taker_of _ = nobody
+taker_of _ = no_pass
 
 abbrev pub IsAtRest : Me (Option Kernel) Role → Type 0
-IsAtRest m = m ≡ (Process (own_of m.0), [])
+IsAtRest m = m ≡ (Process (pass_of m.0), [])
 
 -- it has the kernel in hand, and the slot is empty
 abbrev pub IsTaking : Me (Option Kernel) Role → Type 0
@@ -43,14 +44,14 @@ IsClosing m = m.0 ≡ Closes (closer_of m.0)
 -- the seat took the kernel, and has seen its history
 pub record HasTaken (p : Place) (log : Log) (q : Place) : Type 0 where
   pub same : IsSameSeat p q
-  pub me : q.me ≡ (Takes (sees (own_of p.me.0) log), (0, None) ∷ [])
-  pub learns : Learns (λ (k : Kernel). k.log) IsLegal (own_of p.me.0) log
+  pub me : q.me ≡ (Takes (having_seen (pass_of p.me.0) log), (0, None) ∷ [])
+  pub learns : Learns (λ (k : Kernel). k.log) IsLegal (pass_of p.me.0) log
 
 -- the seat gave the kernel back after a step of its process
 pub record Stepped (p : Place) (op : Op) (reply : Reply) (q : Place) : Type 0 where
   pub log : Log
   pub same : IsSameSeat p q
-  pub me : q.me ≡ (Process (sees (taker_of p.me.0) log), [])
+  pub me : q.me ≡ (Process (having_seen (taker_of p.me.0) log), [])
   pub legal : IsLegal log
   pub step : IsStep (shown (taker_of p.me.0).seen) (shown log) (taker_of p.me.0).pid op reply
 

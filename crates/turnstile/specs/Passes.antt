@@ -2,7 +2,7 @@
 use Rattle.std.specs.Prelude.{ℕ, []}
 use Rattle.atomic_table.specs.Seated.{TableId}
 use Rattle.history.specs.Log.{Log}
-use Rattle.turnstile.specs.declared.rule.Own.{Own}
+use Rattle.turnstile.specs.declared.rule.PassState.{PassState}
 use Rattle.turnstile.specs.declared.rule.Role.{Role}
 use Rattle.turnstile.specs.declared.rule.Role.TheVariants.{Process}
 
@@ -12,7 +12,7 @@ pub record Gate : Type 0 where
   pub start : Log
 
 -- a pass of a turnstile: its process, and what it has seen
-pub record Seen : Type 0 where
+pub record PassView : Type 0 where
   pub gate : Gate
   pub pid : ℕ
   pub seen : Log
@@ -23,12 +23,12 @@ gate_of z start = record { table = z; start = start }
 abbrev pub no_log : Log
 no_log = record { entries = []; priorities = []; limit = 0 }
 
-abbrev pub nobody : Own
-nobody = record { pid = 0; seen = no_log; start = no_log }
+abbrev pub no_pass : PassState
+no_pass = record { pid = 0; seen = no_log; start = no_log }
 
-abbrev pub own_of : Role → Own
-own_of (Process o) = o
-own_of _ = nobody
+abbrev pub pass_of : Role → PassState
+pass_of (Process o) = o
+pass_of _ = no_pass
 
-abbrev pub seen_by : TableId → Own → Seen
-seen_by z o = record { gate = gate_of z o.start; pid = o.pid; seen = o.seen }
+abbrev pub pass_view : TableId → PassState → PassView
+pass_view z o = record { gate = gate_of z o.start; pid = o.pid; seen = o.seen }

@@ -7,8 +7,8 @@ use ids::Pid;
 use kernel::Kernel;
 use std::marker::Model;
 
-/// The right to make the steps of one process at one turnstile. Contracts see the process, and what the pass has seen of the
-/// history.
+/// The right to make the steps of one process at one turnstile. Contracts see the process, and what
+/// the pass has seen of the history.
 #[derive(Drop)]
 pub struct Pass {
     pub(crate) pid: Pid,
@@ -18,14 +18,16 @@ pub struct Pass {
 impl Model for Pass {
     ghost use Rattle.std.specs.Prelude.{◌≡◌, []};
     ghost use Rattle.turnstile.specs.Histories.{IsLegal};
-    ghost use Rattle.turnstile.specs.Passes.{Seen, seen_by, own_of};
+    ghost use Rattle.turnstile.specs.Passes.{PassView, pass_view, pass_of};
     ghost use Rattle.turnstile.specs.declared.rule.Role.TheVariants.{Process};
 
-    ghost Value = { Seen };
+    ghost Value = { PassView };
 
-    ghost view = { λ p. seen_by p.seat.table_id (own_of p.seat.me.0) };
+    ghost view = { λ p. pass_view p.seat.table_id (pass_of p.seat.me.0) };
 
-    ghost invariant = { λ p. (p.seat.me ≡ (Process (own_of p.seat.me.0), [])) × (p.pid ≡ (own_of p.seat.me.0).pid) × IsLegal (own_of p.seat.me.0).seen };
+    ghost invariant = { λ p. (p.seat.me ≡ (Process (pass_of p.seat.me.0), []))
+        × (p.pid ≡ (pass_of p.seat.me.0).pid)
+        × IsLegal (pass_of p.seat.me.0).seen };
 }
 
 impl Pass {

@@ -1,11 +1,11 @@
-//! The table of one word and one slot, what its seats know, and what each step tells.
+//! The table of one word and one slot, what its seats know, and what each step collects.
 use atomic_table::{Join, Play, Split, TableRule};
 use history::History;
 use kernel::Kernel;
 use std::snapshot::Snapshot;
 
-/// What a pass knows. No value of it is made.
-pub struct Own {
+/// The state of a pass. No value of it is made.
+pub struct PassState {
     /// Its process.
     pub pid: u64,
     /// A beginning of the history, with all of the process's own entries.
@@ -14,24 +14,24 @@ pub struct Own {
     pub start: History,
 }
 
-/// What a seat is. No value of it is made.
+/// The state of a seat. No value of it is made. `specs/Rule.antt` draws its moves.
 pub enum Role {
     /// It knows nothing.
     Nobody,
     /// It gives out the passes of the processes from this number on.
     Deals(u64, History),
     /// It is the pass of a process.
-    Process(Own),
+    Process(PassState),
     /// It has the kernel, whose history is what it has seen.
-    Takes(Own),
+    Takes(PassState),
     /// It is no process, and knows a beginning of the history.
     Knows(History),
     /// A pass that was told of another beginning of the history.
-    Meets(Own, History),
+    Meets(PassState, History),
     /// It has the kernel for ever, with this history.
     Closes(History),
-    /// It has been told what a pass had seen.
-    Hears(History, Own),
+    /// It has the kernel for ever, and has collected a pass of which nothing is told yet.
+    Checks(History, PassState),
 }
 
 /// The rule of the table.
@@ -76,13 +76,13 @@ impl Play<Option<Kernel>, Role> for Close {
     ghost then = { closed (λ k. k.log) IsLegal };
 }
 
-/// Holds the closed history against what a pass had seen.
-pub struct Hear;
+/// Tells that the closed history begins with what the collected pass had seen.
+pub struct Check;
 
-impl Play<Option<Kernel>, Role> for Hear {
-    ghost use Rattle.turnstile.specs.Rule.{heard};
+impl Play<Option<Kernel>, Role> for Check {
+    ghost use Rattle.turnstile.specs.Rule.{checked};
 
-    ghost then = { heard };
+    ghost then = { checked };
 }
 
 /// Cuts off the seat of the next process.
@@ -96,14 +96,14 @@ impl Split<Role> for Deal {
     ghost right = { dealt };
 }
 
-/// The closing seat takes in a pass.
-pub struct Tell;
+/// The closing seat collects a pass.
+pub struct Collect;
 
-impl Join<Role> for Tell {
+impl Join<Role> for Collect {
     ghost use Rattle.turnstile.specs.declared.rule.Role.TheVariants.{Nobody};
-    ghost use Rattle.turnstile.specs.Rule.{told};
+    ghost use Rattle.turnstile.specs.Rule.{collected};
 
-    ghost both = { told };
+    ghost both = { collected };
 
     ghost spent = { Nobody };
 }

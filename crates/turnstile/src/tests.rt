@@ -1,4 +1,5 @@
-// What the calls answer while the kernel is taken. Only this crate can hold the kernel taken, so the test stands here.
+// What the calls answer while the kernel is taken. Only this crate can hold the kernel taken, so
+// the test stands here.
 ghost use Rattle.std.specs.Prelude.{◌≡◌, All};
 
 use super::*;

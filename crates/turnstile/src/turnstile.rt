@@ -1,16 +1,21 @@
 // The turnstile, and the calls through it.
-ghost use Rattle.std.specs.Prelude.{◌≡◌, ◌<◌, ℕ, true, [], length, map, All, IfOk, IfErr, IfSome, IfNone, vec_capacity};
+ghost use Rattle.std.specs.Prelude.{◌≡◌, ◌<◌, ℕ, true, [], length, map, All, vec_capacity};
+ghost use Rattle.std.specs.Prelude.{IfOk, IfErr, IfSome, IfNone};
 ghost use Rattle.kernel.specs.Operations.{can_run};
 ghost use Rattle.model.specs.Moments.{all_below};
 ghost use Rattle.turnstile.specs.Histories.{IsLegal};
-ghost use Rattle.turnstile.specs.Calls.{Called, IsSamePass, KeepsPass, Met, has_pass, first_pass, first_passes};
-ghost use Rattle.turnstile.specs.Rule.{sees, Follows, Compares};
-ghost use Rattle.turnstile.specs.Holding.{IsAtRest, IsTaking, IsClosing, IsSameSeat, HasTaken, Stepped, Lives, is_set, taker_of, closer_of};
+ghost use Rattle.turnstile.specs.Calls.{Called, IsSamePass, KeepsPass, Met};
+ghost use Rattle.turnstile.specs.Calls.{has_pass, first_pass, first_passes};
+ghost use Rattle.turnstile.specs.Rule.{having_seen, Follows, Compares};
+ghost use Rattle.turnstile.specs.Holding.{IsAtRest, IsTaking, IsClosing, IsSameSeat};
+ghost use Rattle.turnstile.specs.Holding.{HasTaken, Stepped, Lives, is_set, taker_of, closer_of};
 ghost use Rattle.turnstile.specs.declared.rule.Role.TheVariants.{Deals, Process};
-ghost use Rattle.turnstile.specs.Passes.{gate_of, own_of};
+ghost use Rattle.turnstile.specs.Passes.{gate_of, pass_of};
 
 use crate::pass::Pass;
-use crate::rule::{Close, Compare, Copied, Deal, Give, Hear, Inform, OneLock, Role, Take, Tell};
+use crate::rule::{
+    Check, Close, Collect, Compare, Copied, Deal, Give, Inform, OneLock, Role, Take,
+};
 use atomic_table::{Refused, Seat, Table};
 use heap::Heap;
 use history::History;
@@ -29,8 +34,8 @@ type Place = Seat<Option<Kernel>, Role>;
 
 type Lock = Table<Option<Kernel>, Role, Snapshot<History>, OneLock, Heap>;
 
-/// The one lock around a kernel. Threads share it by reference, each with passes of its own. Contracts see which one it is,
-/// and the history with which it was made.
+/// The one lock around a kernel. Threads share it by reference, each with passes of its own.
+/// Contracts see which one it is, and the history with which it was made.
 #[derive(Drop)]
 pub struct Turnstile {
     table: Lock,
@@ -44,7 +49,8 @@ impl Model for Turnstile {
 
     ghost view = { λ t. gate_of t.table.shared.table_id t.table.shared.key.value };
 
-    ghost invariant = { λ t. (t.table.shared.table_id.words ≡ 1) × (t.table.shared.table_id.slots ≡ 1) };
+    ghost invariant = { λ t. (t.table.shared.table_id.words ≡ 1)
+        × (t.table.shared.table_id.slots ≡ 1) };
 }
 
 // Whether this is the number of a living process.
@@ -76,10 +82,13 @@ fn deal(
     living: &[bool],
 ) -> Vec<Pass, Heap>
     requires lock { (lock.now.shared.table_id.words ≡ 1) × IsLegal lock.now.shared.key.value }
-    requires dealer { (dealer.table_id ≡ lock.now.shared.table_id) × (dealer.me ≡ (Deals 0 lock.now.shared.key.value, [])) }
+    requires dealer { (dealer.table_id ≡ lock.now.shared.table_id)
+        × (dealer.me ≡ (Deals 0 lock.now.shared.key.value, [])) }
     requires room { (passes.items ≡ []) × (vec_capacity passes ≡ length living.now) }
     requires small { (i : ℕ) → is_set living.now i ≡ true → i < 4294967296 }
-    ensures { result.items ≡ map (first_pass (gate_of lock.now.shared.table_id lock.now.shared.key.value)) (all_below (is_set living.now) (length living.now)) }
+    ensures { result.items
+        ≡ map (first_pass (gate_of lock.now.shared.table_id lock.now.shared.key.value))
+        (all_below (is_set living.now) (length living.now)) }
 {
     for i in 0..living.len() {
         let seat = lock.shared.split_seat::<Deal>(&mut dealer);
@@ -93,11 +102,13 @@ fn deal(
     passes
 }
 
-// Holds the history of the seat, which has the kernel for ever, against what the passes had seen.
-fn hear(lock: &Lock, seat: &mut Place, mut passes: Vec<Pass, Heap>)
+// Shows that the history of the seat, which has the kernel for ever, begins with what each of the
+// passes had seen. It is for contracts alone: the word that it loads is not used.
+fn check_passes(lock: &Lock, seat: &mut Place, mut passes: Vec<Pass, Heap>)
     requires lock { lock.now.shared.table_id.words ≡ 1 }
     requires seat { (seat.old.table_id ≡ lock.now.shared.table_id) × IsClosing seat.old.me }
-    requires passes { All (λ p. p.gate ≡ gate_of lock.now.shared.table_id lock.now.shared.key.value) passes.items }
+    requires passes { All
+        (λ p. p.gate ≡ gate_of lock.now.shared.table_id lock.now.shared.key.value) passes.items }
     ensures seat { IsSameSeat seat.old seat.new × (seat.new.me ≡ seat.old.me) }
     ensures passes { All (KeepsPass (closer_of seat.old.me.0)) passes.entry.items }
 {
@@ -106,8 +117,8 @@ fn hear(lock: &Lock, seat: &mut Place, mut passes: Vec<Pass, Heap>)
             pid: _,
             seat: other,
         } = pass;
-        lock.shared.join_seat::<Tell>(seat, other);
-        lock.shared.load::<Hear>(seat, 0);
+        lock.shared.join_seat::<Collect>(seat, other);
+        lock.shared.load::<Check>(seat, 0);
     }
 }
 
@@ -121,7 +132,8 @@ struct Room {
 
 fn make_room(heap: Heap, kernel: &Kernel) -> Result<Room, AllocError>
     ensures living { IfOk result (λ r. Lives kernel.now.state r.living.items) }
-    ensures passes { IfOk result (λ r. (r.passes.items ≡ []) × (vec_capacity r.passes ≡ length r.living.items)) }
+    ensures passes { IfOk result (λ r. (r.passes.items ≡ [])
+        × (vec_capacity r.passes ≡ length r.living.items)) }
     ensures slots { IfOk result (λ r. (r.slots.items ≡ []) × (vec_capacity r.slots ≡ 1)) }
 {
     let living = living(heap, kernel)?;
@@ -134,16 +146,20 @@ fn make_room(heap: Heap, kernel: &Kernel) -> Result<Room, AllocError>
     })
 }
 
-// The table of a kernel, and the seat that deals its passes. Refused memory gives the same kernel back.
+// The table of a kernel, and the seat that deals its passes. Refused memory gives the same kernel
+// back.
 fn table_of(
     heap: Heap,
     kernel: Kernel,
     mut slots: Vec<Option<Kernel>, Heap>,
 ) -> Result<(Lock, Place), Kernel>
     requires { (slots.items ≡ []) × (vec_capacity slots ≡ 1) }
-    ensures start { IfOk result (λ t. (t.0.shared.key.value ≡ kernel.log) × IsLegal t.0.shared.key.value) }
-    ensures table { IfOk result (λ t. (t.0.shared.table_id.words ≡ 1) × (t.0.shared.table_id.slots ≡ 1)) }
-    ensures dealer { IfOk result (λ t. (t.1.table_id ≡ t.0.shared.table_id) × (t.1.me ≡ (Deals 0 t.0.shared.key.value, []))) }
+    ensures start { IfOk result (λ t. (t.0.shared.key.value ≡ kernel.log)
+        × IsLegal t.0.shared.key.value) }
+    ensures table { IfOk result (λ t. (t.0.shared.table_id.words ≡ 1)
+        × (t.0.shared.table_id.slots ≡ 1)) }
+    ensures dealer { IfOk result (λ t. (t.1.table_id ≡ t.0.shared.table_id)
+        × (t.1.me ≡ (Deals 0 t.0.shared.key.value, []))) }
     ensures err { IfErr result (λ k. k ≡ kernel) }
 {
     let start = Snapshot::of(kernel.history());
@@ -158,7 +174,8 @@ fn table_of(
 }
 
 impl Turnstile {
-    /// A pass for each living process, rising; each has seen the kernel's history. Refused memory gives the same kernel back.
+    /// A pass for each living process, rising; each has seen the kernel's history. Refused memory
+    /// gives the same kernel back.
     pub fn new(heap: Heap, kernel: Kernel) -> Result<(Turnstile, Vec<Pass, Heap>), Kernel>
         ensures start { IfOk result (λ t. (t.0.start ≡ kernel.log) × IsLegal t.0.start) }
         ensures passes { IfOk result (λ t. t.1.items ≡ first_passes t.0 kernel.state) }
@@ -178,9 +195,10 @@ impl Turnstile {
         Ok((Turnstile { table }, passes))
     }
 
-    /// The kernel, once no thread shares the turnstile. Its history begins with what each of these passes had seen, and has
-    /// just that pass's own entries of its process. `None` stands where the kernel was taken and not given back, as by a thread
-    /// that ended in the midst of a call; when it comes no clause says.
+    /// The kernel, once no thread shares the turnstile. Its history begins with what each of these
+    /// passes had seen, and has just that pass's own entries of its process. `None` stands where
+    /// the kernel was taken and not given back, as by a thread that ended in the midst of a call;
+    /// when it comes no clause says.
     pub fn close(self, passes: Vec<Pass, Heap>) -> Option<Kernel>
         requires { All (λ p. p.gate ≡ self) passes.items }
         ensures legal { IfSome result (λ kernel. IsLegal kernel.log) }
@@ -191,7 +209,7 @@ impl Turnstile {
         if found != FREE {
             return None;
         }
-        hear(&table, &mut seat, passes);
+        check_passes(&table, &mut seat, passes);
         table.shared.exchange(&mut seat, 0, None)
     }
 
@@ -225,8 +243,10 @@ impl Turnstile {
     // Gives the kernel back after one step of the seat's process.
     fn give(&self, seat: &mut Place, kernel: Kernel)
         requires seat { (seat.old.table_id ≡ self.now.table) × IsTaking seat.old.me }
-        requires kernel { IsLegal kernel.log × Follows (taker_of seat.old.me.0).pid (taker_of seat.old.me.0).seen kernel.log }
-        ensures { IsSameSeat seat.old seat.new × (seat.new.me ≡ (Process (sees (taker_of seat.old.me.0) kernel.log), [])) }
+        requires kernel { IsLegal kernel.log
+            × Follows (taker_of seat.old.me.0).pid (taker_of seat.old.me.0).seen kernel.log }
+        ensures { IsSameSeat seat.old seat.new
+            × (seat.new.me ≡ (Process (having_seen (taker_of seat.old.me.0) kernel.log), [])) }
     {
         let shared = &self.table.shared;
         // The slot had none.
@@ -238,7 +258,8 @@ impl Turnstile {
     // One step of the process whose seat has the kernel.
     fn step(&self, seat: &mut Place, pid: Pid, mut kernel: Kernel, op: Op) -> Reply
         requires seat { (seat.old.table_id ≡ self.now.table) × IsTaking seat.old.me }
-        requires kernel { ((taker_of seat.old.me.0).seen ≡ kernel.log) × ((taker_of seat.old.me.0).pid ≡ pid) }
+        requires kernel { ((taker_of seat.old.me.0).seen ≡ kernel.log)
+            × ((taker_of seat.old.me.0).pid ≡ pid) }
         requires op { can_run op ≡ true }
         ensures { Stepped seat.old op result seat.new }
     {
@@ -247,8 +268,8 @@ impl Turnstile {
         reply
     }
 
-    /// One operation of the pass's process, where the kernel is free. It waits for nobody: `None` stands where the kernel was
-    /// taken, and then nothing has changed.
+    /// One operation of the pass's process, where the kernel is free. It waits for nobody: `None`
+    /// stands where the kernel was taken, and then nothing has changed.
     pub fn try_call(&self, pass: &mut Pass, op: Op) -> Option<Reply>
         requires gate { pass.old.gate ≡ self.now }
         requires op { can_run op ≡ true }
@@ -281,7 +302,7 @@ impl Turnstile {
         requires seat { (seat.old.table_id ≡ self.now.table) × IsAtRest seat.old.me }
         requires other { (other.old.table_id ≡ self.now.table) × IsAtRest other.old.me }
         ensures same { (seat.new ≡ seat.old) × (other.new ≡ other.old) }
-        ensures compared { Compares (own_of seat.old.me.0) (own_of other.old.me.0).seen }
+        ensures compared { Compares (pass_of seat.old.me.0) (pass_of other.old.me.0).seen }
     {
         let shared = &self.table.shared;
         let copy = shared.split_seat::<Copied>(other);
@@ -289,7 +310,8 @@ impl Turnstile {
         shared.load::<Compare>(seat, 0);
     }
 
-    /// What one of the two passes has seen begins what the other has seen. Both stay as they are, and it waits for nobody.
+    /// What one of the two passes has seen begins what the other has seen. Both stay as they are,
+    /// and it waits for nobody.
     pub fn meet(&self, first: &mut Pass, second: &mut Pass)
         requires { (first.old.gate ≡ self.now) × (second.old.gate ≡ self.now) }
         ensures same { (first.new ≡ first.old) × (second.new ≡ second.old) }

@@ -1,5 +1,5 @@
-//! `txsh`: executes the operations of processes on a kernel with transactions, and prints the reply to
-//! each.
+//! `txsh`: executes the operations of processes on a kernel with transactions, and prints the reply
+//! to each.
 #![tactic(auto)]
 
 ghost use Rattle.std.specs.Prelude.{◌≤◌, IfOk};

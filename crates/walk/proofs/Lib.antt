@@ -1,2 +1,3 @@
-pub mod Then
-pub mod Walks
+mod Then
+mod Walks
+pub mod Laws

@@ -1,7 +1,7 @@
 //! The walk along a path's names, from the root of any state that can be looked at.
 //!
-//! Each name that is looked up is touched, whether it is there or not. The touches are added to those before; where memory
-//! is refused, some may have been added.
+//! Each name that is looked up is touched, whether it is there or not. The touches are added to
+//! those before; where memory is refused, some may have been added.
 #![tactic(auto)]
 
 mod last;
@@ -55,7 +55,7 @@ fn find<L: Look>(
     ensures { Comes (L.state look.now) (ask (Look_up dir name.now)) touches.old result touches.new }
 {
     touches.read(Aspect::Entry(dir, name.try_clone()?))?;
-    Ok(look.find(dir, name)?)
+    Ok(look.find(dir, name))
 }
 
 // One name, where the place that was reached is a directory.

@@ -1,10 +1,12 @@
 -- The command line, as clap reads it.
-use Rattle.std.specs.Prelude.{◌≡◌, ◌≢◌, ℕ, pos, min, List, Option, Some, None, Result, true, codes, map, string_bytes, unwrap_or, []}
+use Rattle.std.specs.Prelude.{◌≡◌, ◌≢◌, ℕ, pos, min, List, Option, Some, None}
+use Rattle.std.specs.Prelude.{Result, true, codes, map, string_bytes, unwrap_or, []}
 use Rattle.std.specs.Borrow.{Bor}
 use Rattle.std.specs.Result.{result_unwrap_or}
 use Rattle.std.specs.Str.Parse.{ParsesUnsigned}
 use Rattle.std.specs.declared.num.ParseIntError.{ParseIntError}
-use Rattle.clap.specs.Words.{App, Rule, Text, IsAmong, fault_of, first_of, kind_of, matches_of, new_app, new_rule, one_of, with_rule}
+use Rattle.clap.specs.Words.{App, Rule, Text, IsAmong, fault_of, first_of}
+use Rattle.clap.specs.Words.{kind_of, matches_of, new_app, new_rule, one_of, with_rule}
 use Rattle.clap.specs.declared.builder.ArgAction.TheVariants.{Set}
 use Rattle.clap.specs.declared.builder.value_parser.ValueParser.TheVariants.{Signed}
 use Rattle.clap.specs.declared.error.Error.{Error}
@@ -14,7 +16,8 @@ use Rattle.words.specs.declared.Way.{Way}
 use Rattle.words.specs.declared.Way.TheVariants.{Schedule}
 use Rattle.words.specs.declared.Job.{Job}
 use Rattle.words.specs.declared.CommandLineFault.{CommandLineFault}
-use Rattle.words.specs.declared.CommandLineFault.TheVariants.{OneWay, NotUtf8, Help, Usage, NoMemory}
+use Rattle.words.specs.declared.CommandLineFault.TheVariants.{OneWay, NotUtf8}
+use Rattle.words.specs.declared.CommandLineFault.TheVariants.{Help, Usage, NoMemory}
 
 abbrev pub schedule_rule : Rule
 schedule_rule = record (new_rule (codes "schedule")) {

@@ -3,7 +3,9 @@
 
 ghost use Rattle.std.specs.Prelude.{◌≡◌, ◌≤◌, [], false, IfOk, IfErr, codes, string_bytes};
 ghost use Rattle.clap.specs.Words.{app_of, fault_of, first_value, found_of, one_text, rule_of};
-ghost use Rattle.words.specs.Txsh.{IsFaultOf, IsJob, IsJobFault, IsLimit, IsParseFault, IsReportedAs, SameMatches, file_rule, limit_rule, number_in, schedule_rule, status_of, texts, txsh, value_in};
+ghost use Rattle.words.specs.Txsh.{IsFaultOf, IsJob, IsJobFault, IsLimit, IsParseFault};
+ghost use Rattle.words.specs.Txsh.{IsReportedAs, SameMatches, file_rule, limit_rule};
+ghost use Rattle.words.specs.Txsh.{number_in, schedule_rule, status_of, texts, txsh, value_in};
 
 use clap::error::ErrorKind;
 use clap::{Arg, ArgAction, ArgMatches, Command, Error};

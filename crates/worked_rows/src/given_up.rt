@@ -30,8 +30,8 @@ fn number_of_a(heap: Heap, kernel: &mut Kernel) -> Result<usize, Fail> {
     }
 }
 
-// How many requests the second of such transactions makes, the most that one of the next does, and the number that a directory gets
-// then.
+// How many requests the second of such transactions makes, the most that one of the next does, and
+// the number that a directory gets then.
 fn requests_after_the_first(heap: Heap, kernel: &mut Kernel) -> Result<[u64; 3], Fail> {
     let _ = requests_of_giving_up(heap, kernel)?;
     let first = requests_of_giving_up(heap, kernel)?;
@@ -48,7 +48,8 @@ fn requests_and_number(heap: Heap) -> Result<[u64; 3], Fail> {
     requests_after_the_first(heap, &mut kernel)
 }
 
-// The numbers are given again, and no transaction after the first needs more memory than the one before.
+// The numbers are given again, and no transaction after the first needs more memory than the one
+// before.
 #[test]
 fn what_is_given_up_is_given_back(rt: HostRuntime) -> Result<(), Fail> {
     let [first, most, number] = requests_and_number(heap::open(rt.alloc())?)?;

@@ -1,4 +1,5 @@
-// The forms of paths: four names of 255 bytes are 1,024 bytes with their slashes, which is the most that a path may have.
+// The forms of paths: four names of 255 bytes are 1,024 bytes with their slashes, which is the most
+// that a path may have.
 use crate::row::kernel_of;
 use heap::Heap;
 use ids::{Bytes, Call, Errno, Op, Pid, Reply};

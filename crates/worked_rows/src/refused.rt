@@ -1,5 +1,5 @@
-// Refused memory. Whichever request of a step is refused, the step is answered NoMemory and nothing has changed: the same
-// step then goes through.
+// Refused memory. Whichever request of a step is refused, the step is answered NoMemory and nothing
+// has changed: the same step then goes through.
 use crate::row::{do_script, do_steps, kernel_of, steps_in, transcript_of};
 use heap::Heap;
 use ids::Priority;
@@ -11,7 +11,8 @@ struct Part {
     schedule: &'static str,
 }
 
-// A step, what comes before and after it, the transcript of all, and how many requests for memory the step makes at least.
+// A step, what comes before and after it, the transcript of all, and how many requests for memory
+// the step makes at least.
 struct Refused {
     before: Part,
     step: Part,
@@ -211,7 +212,8 @@ fn is_refused(kernel: &mut Kernel, heap: Heap, step: &Part, number: u64) -> Resu
     Ok(kernel.history().entries().len() == before)
 }
 
-// Does a row's parts, with a request of its step refused. Answers whether it was, and the transcript at the end.
+// Does a row's parts, with a request of its step refused. Answers whether it was, and the
+// transcript at the end.
 fn do_parts(
     kernel: &mut Kernel,
     heap: Heap,

@@ -1,5 +1,5 @@
 // A worked run: a script, a schedule of it, and the transcript of the history that it leaves.
-ghost use Rattle.std.specs.Prelude.{◌≡◌, ◌≤◌, ◌<◌, IfOk, length, true};
+ghost use Rattle.std.specs.Prelude.{◌≡◌, ◌≤◌, ◌<◌, IfOk, true};
 ghost use Rattle.kernel.specs.Operations.{can_run, CanRunAll};
 
 use device::Halting;

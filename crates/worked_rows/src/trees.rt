@@ -2,7 +2,7 @@
 use crate::row::Row;
 
 pub(crate) static TREES: [Row; 11] = [
-    // Two transactions add to one directory. What they have added is seen by others after both ends.
+    // Two transactions add to one directory. Others see what they have added after both ends.
     Row {
         script: "priorities 0 0 0
 1 mkdir /d

@@ -17,7 +17,7 @@ static TWO_ADD: &str = "priorities 0 0 0
 // The names of `/d` in what a process sees, each with a line feed.
 fn seen_names(heap: Heap, kernel: &Kernel, pid: Pid) -> Result<Vec<u8, Heap>, Fail> {
     let view = kernel.view(pid);
-    let found = view.find(view.root(), &Name::copy(heap, b"d")?)?;
+    let found = view.find(view.root(), &Name::copy(heap, b"d")?);
     let (dir, _kind) = found.ok_or("no directory")?;
     let mut told = Vec::new(heap);
     for name in view.names(heap, dir)?.as_slice() {

@@ -1,4 +1,4 @@
-use Rattle.call_laws.proofs.First.{first_processes_live}
+use Rattle.call_laws.proofs.FirstProcesses.{first_processes_live}
 use Rattle.call_laws.proofs.first_processes_live.Goals as goal
 
 pub returns : goal.returns

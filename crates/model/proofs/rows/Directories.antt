@@ -4,7 +4,7 @@ use Rattle.std.specs.Prelude.{codes}
 use Rattle.model.specs.FiniteMap.{keys}
 use Rattle.model.specs.Plan.{EBUSY, EEXIST, EINVAL, EISDIR, ENAMETOOLONG, ENOENT, ENOTDIR, ENOTEMPTY, EPERM}
 use Rattle.model.specs.Calls.{Open, Close, Stat, Fstat, Link, Unlink, Rename, Mkdir, Rmdir, List_directory, Done, Listing, Descriptor}
-use Rattle.model.specs.Script.{runs, fresh, script_replies, last_state, rdwr_creat, wronly_creat, a_file, a_directory}
+use Rattle.model.specs.Script.{runs, fresh, script_replies, last_state, rdonly, rdwr_creat, wronly_creat, a_file, a_directory}
 
 made_and_removed : script_replies fresh ((1, Mkdir (codes "/d"), 1 ∷ []) ∷ (1, Mkdir (codes "/d/e"), 2 ∷ []) ∷ (1, Rmdir (codes "/d"), []) ∷ (1, Rmdir (codes "/d/e"), []) ∷ (1, Rmdir (codes "/d"), []) ∷ (1, Rmdir (codes "/"), []) ∷ (1, Stat (codes "/d/e"), []) ∷ (1, Mkdir (codes "/"), []) ∷ [])
     ≡ Ok Done ∷ Ok Done ∷ Err ENOTEMPTY ∷ Ok Done ∷ Ok Done ∷ Err EBUSY ∷ Err ENOENT ∷ Err EEXIST ∷ []
@@ -25,6 +25,10 @@ renamed_to_its_own_link : script_replies fresh ((1, Open (codes "/a") wronly_cre
     ≡ Ok (Descriptor 0) ∷ Ok Done ∷ Ok Done ∷ Ok (a_file 1 0 2) ∷ Ok (a_file 1 0 2) ∷ []
 unfolding runs
 renamed_to_its_own_link = refl
+
+directory_not_opened : script_replies fresh ((1, Mkdir (codes "/d"), 1 ∷ []) ∷ (1, Open (codes "/d") rdonly, []) ∷ []) ≡ Ok Done ∷ Err EISDIR ∷ []
+unfolding runs
+directory_not_opened = refl
 
 -- a file that loses its name to another goes, and a directory that does must be empty
 renamed_over : script_replies fresh ((1, Open (codes "/a") wronly_creat, 1 ∷ 2 ∷ []) ∷ (1, Open (codes "/b") wronly_creat, 3 ∷ 4 ∷ []) ∷ (1, Mkdir (codes "/d"), 5 ∷ []) ∷ (1, Mkdir (codes "/e"), 6 ∷ []) ∷ (1, Rename (codes "/a") (codes "/d"), []) ∷ (1, Rename (codes "/d") (codes "/a"), []) ∷ (1, Rename (codes "/a") (codes "/b"), []) ∷ (1, Fstat 1, []) ∷ (1, Stat (codes "/b"), []) ∷ (1, Rename (codes "/b") (codes "/d/b"), []) ∷ (1, Rename (codes "/e") (codes "/d"), []) ∷ (1, Rename (codes "/d") (codes "/e"), []) ∷ (1, Stat (codes "/e/b"), []) ∷ (1, Rename (codes "/") (codes "/e"), []) ∷ [])

@@ -3,7 +3,7 @@ use Rattle.std.proofs.Common.{◌≡◌, List, [], ◌∷◌, ◌++◌, map, pos
 use Rattle.std.specs.Prelude.{codes}
 use Rattle.model.specs.Aspects.{Entry, Names, Size, Block, Links, Ends, Offset, Front, Back}
 use Rattle.model.specs.Plan.{rising}
-use Rattle.model.specs.Calls.{From_start, Open, Close, Read, Write, Lseek, Ftruncate, Stat, Fstat, Link, Unlink, Rename, Mkdir, Rmdir, List_directory, Dup, Open_pipe, Fork, Exit}
+use Rattle.model.specs.Calls.{From_start, Open, Close, Read, Write, Lseek, Ftruncate, Stat, Fstat, Link, Unlink, Rename, Mkdir, Rmdir, List_directory, Dup, Dup2, Open_pipe, Fork, Exit}
 use Rattle.model.specs.Steps.{reads, writes}
 use Rattle.model.specs.Script.{runs, Line, fresh, last_state, flags, rdwr_creat, rdonly}
 
@@ -12,6 +12,9 @@ made_a = (1, Open (codes "/a") rdwr_creat, 1 ∷ 2 ∷ []) ∷ []
 
 abbrev two_directories : List Line
 two_directories = (1, Mkdir (codes "/a"), 1 ∷ []) ∷ (1, Mkdir (codes "/b"), 2 ∷ []) ∷ []
+
+abbrev two_pipes : List Line
+two_pipes = (1, Open_pipe, 1 ∷ 2 ∷ 3 ∷ []) ∷ (1, Open_pipe, 4 ∷ 5 ∷ 6 ∷ []) ∷ []
 
 abbrev two_in_a_pipe : List Line
 two_in_a_pipe = (1, Open_pipe, 1 ∷ 2 ∷ 3 ∷ []) ∷ (1, Write 1 (5 ∷ 6 ∷ []), []) ∷ []
@@ -123,6 +126,15 @@ written_into_a_full_pipe = refl
 closed_end : writes (last_state fresh two_in_a_pipe) 1 (Close 1) ≡ Ends 1 ∷ []
 unfolding runs
 closed_end = refl
+
+one_more_end : writes (last_state fresh two_pipes) 1 (Dup 0) ≡ Ends 1 ∷ []
+unfolding runs
+one_more_end = refl
+
+-- the pipe that comes, and the one that goes
+another_end : writes (last_state fresh two_pipes) 1 (Dup2 0 3) ≡ Ends 1 ∷ Ends 4 ∷ []
+unfolding runs
+another_end = refl
 
 forked : writes (last_state fresh (two_in_a_pipe ++ (1, Open_pipe, 4 ∷ 5 ∷ 6 ∷ []) ∷ [])) 1 Fork ≡ Ends 1 ∷ Ends 4 ∷ []
 unfolding runs

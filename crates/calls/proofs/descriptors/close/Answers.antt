@@ -3,7 +3,7 @@ use Rattle.std.proofs.Common.{[], ◌∷◌}
 use Rattle.model.specs.Plans.{changed}
 use Rattle.model.specs.Calls.{Done}
 use Rattle.model.specs.Changes.{Clear_slot}
-use Rattle.walk.proofs.Then.{goes, stops, via}
+use Rattle.walk.proofs.Laws.{goes, stops, via}
 use Rattle.calls.proofs.descriptors.close.Goals as goal
 
 pub returns-in_err-it : goal.returns-in_err-it

@@ -1,7 +1,7 @@
 use Rattle.std.proofs.Common.{sym}
 use Rattle.std.proofs.Common.{◌∙◌}
 use Rattle.model.specs.Plans.{duplicated}
-use Rattle.walk.proofs.Then.{goes, stops, via}
+use Rattle.walk.proofs.Laws.{goes, stops, via}
 use Rattle.calls.proofs.descriptors.dup.Goals as goal
 
 pub returns-in_err-it : goal.returns-in_err-it

@@ -3,7 +3,7 @@ use Rattle.std.proofs.Common.{[], ◌∷◌, ◌++◌, ap, ◌∙◌, Some, if�
 use Rattle.model.specs.Plans.{changed, unchanged, pipe_in, slot_at}
 use Rattle.model.specs.Calls.{Descriptor}
 use Rattle.model.specs.Changes.{Share_slot}
-use Rattle.walk.proofs.Then.{goes, stops, via}
+use Rattle.walk.proofs.Laws.{goes, stops, via}
 use Rattle.calls.proofs.descriptors.dup2.Goals as goal
 
 pub returns-in_err-it : goal.returns-in_err-it

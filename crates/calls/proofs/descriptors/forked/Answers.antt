@@ -3,7 +3,7 @@ use Rattle.std.proofs.Common.{[], ◌∷◌, add-one}
 use Rattle.model.specs.Plans.{changed}
 use Rattle.model.specs.Calls.{Child}
 use Rattle.model.specs.Changes.{New_process}
-use Rattle.walk.proofs.Then.{goes, stops, via}
+use Rattle.walk.proofs.Laws.{goes, stops, via}
 use Rattle.calls.proofs.descriptors.forked.Goals as goal
 
 pub returns-in_err-must_be_below : goal.returns-in_err-must_be_below

@@ -1,5 +1,5 @@
 use Rattle.std.proofs.Common.{sym, ◌∙◌}
-use Rattle.walk.proofs.Then.{via}
+use Rattle.walk.proofs.Laws.{via}
 use Rattle.std.proofs.Common.{◌∙◌}
 use Rattle.model.specs.Plans.{piped}
 use Rattle.calls.proofs.descriptors.pipe.Goals as goal

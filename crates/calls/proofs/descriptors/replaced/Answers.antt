@@ -1,5 +1,5 @@
 use Rattle.std.proofs.Common.{[], ◌∷◌, Some, sym, ap, ◌∙◌, ◌++◌}
-use Rattle.walk.proofs.Then.{via}
+use Rattle.walk.proofs.Laws.{via}
 use Rattle.std.proofs.Common.{[], ◌∷◌, ◌++◌, ap, ◌∙◌, Some}
 use Rattle.model.specs.Plans.{changed, pipe_in}
 use Rattle.model.specs.Calls.{Descriptor}

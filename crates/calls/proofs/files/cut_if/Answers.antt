@@ -1,5 +1,5 @@
 use Rattle.std.proofs.Common.{[], sym, ap, ◌∙◌, if◌then◌else◌}
-use Rattle.walk.proofs.Then.{via, gives}
+use Rattle.walk.proofs.Laws.{via, gives}
 use Rattle.std.proofs.Common.{[], ap, ◌∙◌, if◌then◌else◌}
 use Rattle.model.specs.Plan.{Give}
 use Rattle.model.specs.Plans.{cut_to}

@@ -2,7 +2,7 @@ use Rattle.std.proofs.Common.{sym}
 use Rattle.std.proofs.Common.{[], ◌∷◌, ◌++◌, ap, ◌∙◌}
 use Rattle.model.specs.Plan.{Give}
 use Rattle.model.specs.Changes.{Cut}
-use Rattle.walk.proofs.Then.{goes, stops, via, gives}
+use Rattle.walk.proofs.Laws.{goes, stops, via, gives}
 use Rattle.calls.proofs.files.cut_to.Goals as goal
 
 pub returns-in_err-size : goal.returns-in_err-size

@@ -1,6 +1,6 @@
 use Rattle.model.specs.Plans.{changed}
 use Rattle.model.specs.Calls.{Done}
-use Rattle.walk.proofs.Then.{goes, stops}
+use Rattle.walk.proofs.Laws.{goes, stops}
 use Rattle.calls.proofs.files.ftruncate.Goals as goal
 
 pub returns-in_err-it : goal.returns-in_err-it

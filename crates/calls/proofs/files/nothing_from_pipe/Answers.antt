@@ -2,7 +2,7 @@ use Rattle.std.proofs.Common.{sym}
 use Rattle.std.proofs.Common.{ap}
 use Rattle.model.specs.Plans.{unchanged}
 use Rattle.model.specs.Calls.{Bytes}
-use Rattle.walk.proofs.Then.{goes, stops, via}
+use Rattle.walk.proofs.Laws.{goes, stops, via}
 use Rattle.calls.proofs.files.nothing_from_pipe.Goals as goal
 
 pub returns-in_err-ends : goal.returns-in_err-ends

@@ -1,5 +1,5 @@
 use Rattle.std.proofs.Common.{sym}
-use Rattle.walk.proofs.Then.{goes, stops}
+use Rattle.walk.proofs.Laws.{goes, stops}
 use Rattle.calls.proofs.files.open.Goals as goal
 
 pub returns-in_err-must_read_or_write : goal.returns-in_err-must_read_or_write

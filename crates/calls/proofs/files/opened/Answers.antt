@@ -1,5 +1,5 @@
 use Rattle.std.proofs.Common.{sym, ap, ◌∙◌}
-use Rattle.walk.proofs.Then.{via}
+use Rattle.walk.proofs.Laws.{via}
 use Rattle.std.proofs.Common.{ap, ◌∙◌}
 use Rattle.model.specs.Plans.{opened}
 use Rattle.calls.proofs.files.opened.Goals as goal

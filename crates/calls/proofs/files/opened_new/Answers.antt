@@ -3,7 +3,7 @@ use Rattle.std.proofs.Common.{[], ◌∷◌, ◌++◌, ap, ◌∙◌}
 use Rattle.model.specs.Plans.{changed}
 use Rattle.model.specs.Calls.{Descriptor}
 use Rattle.model.specs.Changes.{Made, Make_file, Open_inode}
-use Rattle.walk.proofs.Then.{goes, stops, via}
+use Rattle.walk.proofs.Laws.{goes, stops, via}
 use Rattle.calls.proofs.files.opened_new.Goals as goal
 
 pub returns-in_err-must_create : goal.returns-in_err-must_create

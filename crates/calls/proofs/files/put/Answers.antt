@@ -1,5 +1,5 @@
 use Rattle.std.proofs.Common.{[], ◌∷◌, ◌++◌, ◌+◌, ap, ◌∙◌, length, sym}
-use Rattle.walk.proofs.Then.{via}
+use Rattle.walk.proofs.Laws.{via}
 use Rattle.model.specs.Plans.{changed}
 use Rattle.model.specs.Calls.{Count}
 use Rattle.model.specs.Changes.{Put_bytes, Set_offset}

@@ -1,5 +1,5 @@
 use Rattle.std.proofs.Common.{sym, ◌∙◌}
-use Rattle.walk.proofs.Then.{via}
+use Rattle.walk.proofs.Laws.{via}
 use Rattle.std.proofs.Common.{◌∙◌}
 use Rattle.calls.proofs.Blocks.{taken_plan}
 use Rattle.calls.proofs.files.read_from_pipe.Goals as goal

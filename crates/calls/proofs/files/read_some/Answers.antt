@@ -1,7 +1,7 @@
 use Rattle.std.proofs.Common.{sym}
 use Rattle.std.proofs.Common.{ap, ◌∙◌, if◌then◌else◌}
 use Rattle.calls.specs.Parts.{some_of_pipe, some_of_file}
-use Rattle.walk.proofs.Then.{via}
+use Rattle.walk.proofs.Laws.{via}
 use Rattle.calls.proofs.files.read_some.Goals as goal
 
 pub returns-then-is_pipe : goal.returns-then-is_pipe

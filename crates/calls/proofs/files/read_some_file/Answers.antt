@@ -2,7 +2,7 @@ use Rattle.std.proofs.Common.{sym}
 use Rattle.std.proofs.Common.{ap}
 use Rattle.model.specs.Plans.{changed}
 use Rattle.model.specs.Calls.{Bytes}
-use Rattle.walk.proofs.Then.{goes, stops, via}
+use Rattle.walk.proofs.Laws.{goes, stops, via}
 use Rattle.calls.proofs.files.read_some_file.Goals as goal
 
 pub returns-in_err-offset : goal.returns-in_err-offset

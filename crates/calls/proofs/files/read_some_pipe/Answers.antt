@@ -1,4 +1,4 @@
-use Rattle.walk.proofs.Then.{goes, stops}
+use Rattle.walk.proofs.Laws.{goes, stops}
 use Rattle.calls.proofs.files.read_some_pipe.Goals as goal
 
 pub returns-in_err-bytes : goal.returns-in_err-bytes

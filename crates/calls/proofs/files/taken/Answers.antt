@@ -1,5 +1,5 @@
 use Rattle.std.proofs.Common.{[], ◌∷◌, sym}
-use Rattle.walk.proofs.Then.{via}
+use Rattle.walk.proofs.Laws.{via}
 use Rattle.std.proofs.Common.{[], ◌∷◌, length}
 use Rattle.model.specs.Plans.{changed}
 use Rattle.model.specs.Calls.{Bytes}

@@ -2,7 +2,7 @@ use Rattle.std.proofs.Common.{sym}
 use Rattle.std.proofs.Common.{ap, ◌∙◌, if◌then◌else◌}
 use Rattle.model.specs.Plans.{unchanged, write_some}
 use Rattle.model.specs.Calls.{Count}
-use Rattle.walk.proofs.Then.{goes, stops, via}
+use Rattle.walk.proofs.Laws.{goes, stops, via}
 use Rattle.calls.proofs.files.write.Goals as goal
 
 pub returns-in_err-it : goal.returns-in_err-it

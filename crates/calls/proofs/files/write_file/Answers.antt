@@ -3,7 +3,7 @@ use Rattle.std.proofs.Common.{[], ◌∷◌, ◌+◌, length, ap}
 use Rattle.model.specs.Plans.{changed}
 use Rattle.model.specs.Calls.{Count}
 use Rattle.model.specs.Changes.{Put_bytes, Set_offset}
-use Rattle.walk.proofs.Then.{goes, stops, via}
+use Rattle.walk.proofs.Laws.{goes, stops, via}
 use Rattle.calls.proofs.files.write_file.Goals as goal
 
 pub returns-in_err-place : goal.returns-in_err-place

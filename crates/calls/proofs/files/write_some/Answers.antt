@@ -1,7 +1,7 @@
 use Rattle.std.proofs.Common.{sym}
 use Rattle.std.proofs.Common.{ap, ◌∙◌, if◌then◌else◌}
 use Rattle.calls.specs.Parts.{some_to_pipe, some_to_file}
-use Rattle.walk.proofs.Then.{via}
+use Rattle.walk.proofs.Laws.{via}
 use Rattle.calls.proofs.files.write_some.Goals as goal
 
 pub returns-then-is_pipe : goal.returns-then-is_pipe

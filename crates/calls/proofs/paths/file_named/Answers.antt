@@ -1,4 +1,4 @@
-use Rattle.walk.proofs.Then.{goes, stops, gives}
+use Rattle.walk.proofs.Laws.{goes, stops, gives}
 use Rattle.calls.proofs.paths.file_named.Goals as goal
 
 pub returns-in_err-what : goal.returns-in_err-what

@@ -1,4 +1,4 @@
-use Rattle.walk.proofs.Then.{goes, stops}
+use Rattle.walk.proofs.Laws.{goes, stops}
 use Rattle.calls.proofs.Binds.{place_go, place_stop}
 use Rattle.calls.proofs.paths.list.Goals as goal
 

@@ -5,7 +5,7 @@ use Rattle.model.specs.Plans.{changed}
 use Rattle.model.specs.Walks.{Last}
 use Rattle.model.specs.Calls.{Done}
 use Rattle.model.specs.Changes.{Make_directory}
-use Rattle.walk.proofs.Then.{goes, stops, via}
+use Rattle.walk.proofs.Laws.{goes, stops, via}
 use Rattle.calls.proofs.Binds.{last_go, last_stop}
 use Rattle.calls.proofs.paths.mkdir.Goals as goal
 

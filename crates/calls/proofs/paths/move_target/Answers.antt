@@ -1,4 +1,4 @@
-use Rattle.walk.proofs.Then.{goes, stops}
+use Rattle.walk.proofs.Laws.{goes, stops}
 use Rattle.calls.proofs.paths.move_target.Goals as goal
 
 pub returns-in_err-must_not_go_below : goal.returns-in_err-must_not_go_below

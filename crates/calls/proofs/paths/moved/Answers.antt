@@ -3,7 +3,7 @@ use Rattle.model.specs.Plan.{◌>>=◌}
 use Rattle.model.specs.Plans.{changed, unchanged}
 use Rattle.model.specs.Calls.{Done}
 use Rattle.calls.specs.Parts.{gives, replaced}
-use Rattle.walk.proofs.Then.{goes, stops, via}
+use Rattle.walk.proofs.Laws.{goes, stops, via}
 use Rattle.calls.proofs.Binds.{move_by, moved_then}
 use Rattle.calls.proofs.paths.moved.Goals as goal
 

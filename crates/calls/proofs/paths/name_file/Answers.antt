@@ -4,7 +4,7 @@ use Rattle.model.specs.Plans.{changed}
 use Rattle.model.specs.Walks.{Last}
 use Rattle.model.specs.Calls.{Done}
 use Rattle.model.specs.Changes.{Name_file}
-use Rattle.walk.proofs.Then.{goes, stops, via}
+use Rattle.walk.proofs.Laws.{goes, stops, via}
 use Rattle.calls.proofs.paths.name_file.Goals as goal
 
 pub returns-in_err-last : goal.returns-in_err-last

@@ -1,4 +1,4 @@
-use Rattle.walk.proofs.Then.{goes, stops}
+use Rattle.walk.proofs.Laws.{goes, stops}
 use Rattle.calls.proofs.paths.place_at.Goals as goal
 
 pub returns-in_err-path : goal.returns-in_err-path

@@ -1,4 +1,4 @@
-use Rattle.walk.proofs.Then.{goes, stops}
+use Rattle.walk.proofs.Laws.{goes, stops}
 use Rattle.calls.proofs.paths.rename.Goals as goal
 
 pub returns-in_err-from : goal.returns-in_err-from

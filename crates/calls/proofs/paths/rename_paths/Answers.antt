@@ -1,7 +1,7 @@
 use Rattle.std.proofs.Common.{sym}
 use Rattle.model.specs.Walks.{Last}
 use Rattle.model.specs.Plans.{moved}
-use Rattle.walk.proofs.Then.{goes, stops, via}
+use Rattle.walk.proofs.Laws.{goes, stops, via}
 use Rattle.calls.proofs.Binds.{target_then}
 use Rattle.calls.proofs.paths.rename_paths.Goals as goal
 

@@ -1,5 +1,5 @@
 use Rattle.std.proofs.Common.{sym, ap, ◌∙◌}
-use Rattle.walk.proofs.Then.{via}
+use Rattle.walk.proofs.Laws.{via}
 use Rattle.model.specs.Plans.{replaced_by_name}
 use Rattle.calls.proofs.paths.replaced_by_name.Goals as goal
 

@@ -1,7 +1,7 @@
 use Rattle.std.proofs.Common.{sym}
 use Rattle.std.proofs.Common.{[], ap}
 use Rattle.model.specs.Plan.{Give}
-use Rattle.walk.proofs.Then.{goes, stops, via, gives}
+use Rattle.walk.proofs.Laws.{goes, stops, via, gives}
 use Rattle.calls.proofs.Binds.{bare_then}
 use Rattle.calls.proofs.paths.replaced_directory.Goals as goal
 

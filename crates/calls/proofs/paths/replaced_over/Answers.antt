@@ -1,4 +1,4 @@
-use Rattle.walk.proofs.Then.{goes, stops}
+use Rattle.walk.proofs.Laws.{goes, stops}
 use Rattle.calls.proofs.paths.replaced_over.Goals as goal
 
 pub returns-in_err-must_be_no_directory_for : goal.returns-in_err-must_be_no_directory_for

@@ -1,5 +1,5 @@
 use Rattle.std.proofs.Common.{ap}
-use Rattle.walk.proofs.Then.{via}
+use Rattle.walk.proofs.Laws.{via}
 use Rattle.model.specs.Plans.{status}
 use Rattle.calls.proofs.paths.status.Goals as goal
 

@@ -1,5 +1,5 @@
 use Rattle.std.proofs.Common.{ap}
-use Rattle.walk.proofs.Then.{via}
+use Rattle.walk.proofs.Laws.{via}
 use Rattle.model.specs.Plans.{plan}
 use Rattle.model.specs.Calls.{own}
 use Rattle.calls.proofs.plan.change_by_paths.Goals as goal

@@ -1,5 +1,5 @@
 use Rattle.std.proofs.Common.{sym, ap, ◌∙◌}
-use Rattle.walk.proofs.Then.{via}
+use Rattle.walk.proofs.Laws.{via}
 use Rattle.model.specs.Plans.{plan}
 use Rattle.calls.proofs.Ends.{own_same}
 use Rattle.calls.proofs.plan.change_of.Goals as goal

@@ -2,7 +2,7 @@ use Rattle.std.proofs.Common.{sym, pos, ◌+ℤ◌}
 use Rattle.std.proofs.lemmas.Int.{to_z-of_z}
 use Rattle.calls.specs.Parts.{place_in}
 use Rattle.std.proofs.Common.{ap, ◌∙◌}
-use Rattle.walk.proofs.Then.{goes, stops}
+use Rattle.walk.proofs.Laws.{goes, stops}
 use Rattle.calls.proofs.seek.lseek.Goals as goal
 
 pub returns-in_err-it : goal.returns-in_err-it

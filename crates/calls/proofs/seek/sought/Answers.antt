@@ -1,5 +1,5 @@
 use Rattle.std.proofs.Common.{◌∙◌, refl}
-use Rattle.walk.proofs.Then.{via}
+use Rattle.walk.proofs.Laws.{via}
 use Rattle.calls.proofs.Seeks.{sought_some, sought_none}
 use Rattle.calls.proofs.seek.sought.Goals as goal
 

@@ -3,12 +3,12 @@ use Rattle.model.specs.FiniteMap as map
 use Rattle.fdtable.proofs.Taken.{given, given_past}
 use Rattle.fdtable.proofs.FdTable.get.Goals as goal
 
-pub returns-then-fd-lt64-clause-value : goal.returns-then-fd-lt64-clause-value
-returns-then-fd-lt64-clause-value c =
+pub returns-then-fd-lt-DESCRIPTORS-clause-value : goal.returns-then-fd-lt-DESCRIPTORS-clause-value
+returns-then-fd-lt-DESCRIPTORS-clause-value c =
     sym c.index-self-fd.is ∙ given c.self.inside.slots c.fd.inside.0 c.index-self-fd.result (omega (arith, c.self.invariant)) c.index-self-fd.is
     ∙ ap (λ m. map.get m c.fd.inside.0) c.self.view_is ∙ ap (map.get c.args.self.now) c.fd.view_is
 
-pub returns-else-fd-lt64-clause-value : goal.returns-else-fd-lt64-clause-value
-returns-else-fd-lt64-clause-value c =
+pub returns-else-fd-lt-DESCRIPTORS-clause-value : goal.returns-else-fd-lt-DESCRIPTORS-clause-value
+returns-else-fd-lt-DESCRIPTORS-clause-value c =
     sym (given_past c.self.inside.slots c.fd.inside.0 (omega (arith, c.self.invariant)))
     ∙ ap (λ m. map.get m c.fd.inside.0) c.self.view_is ∙ ap (map.get c.args.self.now) c.fd.view_is

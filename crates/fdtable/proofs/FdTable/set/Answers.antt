@@ -1,6 +1,6 @@
 use Rattle.std.proofs.Common.{ap, ◌∙◌, arith}
 use Rattle.model.specs.FiniteMap as map
-use Rattle.model.proofs.Places.{insert-placed}
+use Rattle.model.proofs.Laws.{insert-placed}
 use Rattle.fdtable.proofs.FdTable.set.Goals as goal
 
 pub returns : goal.returns

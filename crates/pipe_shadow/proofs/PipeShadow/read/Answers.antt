@@ -1,6 +1,6 @@
 use Rattle.std.proofs.Common.{◌≡◌, ◌-◌, ℕ, List, ◌++◌, length, take, drop, sym, ap, ◌∙◌, arith}
-use Rattle.objects.proofs.Places.{take_append}
-use Rattle.pipe_shadow.specs.Delta.{Delta, shown}
+use Rattle.objects.proofs.Laws.{take_append}
+use Rattle.pipe_shadow.specs.View.{PipeChanges, view_over}
 use Rattle.pipe_shadow.proofs.PipeShadow.read.Goals as goal
 
 pub returns : goal.returns
@@ -12,4 +12,4 @@ returns c =
     let rest : c.part.result.now ≡ take (c.args.count - length (take c.args.count front)) own =
     c.part.ensures.value ∙ ap (take (c.args.count - c.len.result)) c.as_slice.ensures.value ∙ ap (λ n. take (c.args.count - n) own) len in
     c.new.ensures ∙ c.in_ok-extend_from_slice.ensures.items ∙ ap (λ (b : List ℕ). b ++ c.part.result.now) read ∙ ap (λ (b : List ℕ). take c.args.count front ++ b) rest
-    ∙ sym (take_append c.args.count front own) ∙ ap (λ (d : Delta). take c.args.count (shown d c.args.pipe.now)) c.self.view_is
+    ∙ sym (take_append c.args.count front own) ∙ ap (λ (d : PipeChanges). take c.args.count (view_over d c.args.pipe.now)) c.self.view_is

@@ -6,7 +6,7 @@ use Rattle.std.proofs.lemmas.List.{map-id}
 use Rattle.device.specs.Device.{IsPart}
 use Rattle.transcript.specs.Line.{lines_from, transcript}
 use Rattle.runner.specs.declared.fault.RunFault.TheVariants.{Write}
-use Rattle.device.proofs.Parts.{append_known-append_known}
+use Rattle.device.proofs.Laws.{append_known-append_known}
 use Rattle.runner.proofs.Stepping.{transcript-took, HasDone-took, stops-before, stops-writing, so_far-more}
 use Rattle.runner.proofs.steps.do_steps.Goals as goal
 

@@ -1,9 +1,27 @@
-use Rattle.std.proofs.Common.{ap, ◌∙◌}
+use Rattle.std.proofs.Common.{sym, ap, subst, ◌∙◌}
+use Rattle.slab.specs.Slab.{Updates}
+use Rattle.slab.specs.Slab as slab
+use Rattle.std.specs.Option.{option_map}
+use Rattle.model.specs.FiniteMap as map
+use Rattle.model.specs.State.{names_of_inode}
+use Rattle.store.specs.Headers.{at_place}
+use Rattle.store.specs.Links.{links_in}
+use Rattle.store.specs.Numbers.{Numbers}
 use Rattle.store.specs.Places.{hidden, swept}
 use Rattle.store.specs.Shown.{inodes}
+use Rattle.store.proofs.Counted.{counted-altered, counted_number, get-inodes_of, kept-hidden, names_at}
 use Rattle.store.proofs.Rows.{store-altered}
 use Rattle.store.proofs.Changes.{inodes-lost}
 use Rattle.store.proofs.Store.lose.Goals as goal
+
+pub invariant_of-self : goal.invariant_of-self
+invariant_of-self c =
+    let headers = c.self.inside.headers in
+    counted-altered hidden _ _ _ c.self.invariant
+    (subst (λ k. Updates headers c.hide_at.new.headers k (option_map (at_place hidden) (slab.get headers k))) c.num.view_is c.hide_at.ensures)
+    (λ header found sound. kept-hidden header sound
+    (counted_number headers c.self.invariant _ header found ∙ ap (λ (s : Numbers). links_in (inodes s) c.args.num) c.self.view_is ∙ c.requires.unnamed)
+    (ap names_at (sym found) ∙ sym (ap names_of_inode (get-inodes_of headers _)) ∙ ap (λ (s : Numbers). names_of_inode (map.get (inodes s) c.args.num)) c.self.view_is ∙ c.requires.bare))
 
 pub returns-clause-lost : goal.returns-clause-lost
 returns-clause-lost c = c.sweep.ensures ∙ ap (λ s. swept s c.args.num) (store-altered _ _ _ _ c.self.view_is _ _ c.num.view_is hidden c.hide_at.ensures)

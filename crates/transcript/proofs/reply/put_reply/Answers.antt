@@ -37,39 +37,3 @@ returns-in-NoMemory g c = Prints-as c.put-in-NoMemory.ensures (search rules)
 
 pub returns-in-NoProcess : goal.returns-in-NoProcess
 returns-in-NoProcess g c = Prints-as c.put-in-NoProcess.ensures (search rules)
-
-pub put_answer-requires : goal.put_answer-requires
-put_answer-requires g c = c.requires
-
-pub put-requires : goal.put-requires
-put-requires g c = c.requires
-
-pub put-requires-in-Begun : goal.put-requires-in-Begun
-put-requires-in-Begun g c = c.requires
-
-pub put-requires-in-Committed : goal.put-requires-in-Committed
-put-requires-in-Committed g c = c.requires
-
-pub put_given_up-requires : goal.put_given_up-requires
-put_given_up-requires g c = c.requires
-
-pub put_aborted-requires : goal.put_aborted-requires
-put_aborted-requires g c = c.requires
-
-pub put_busy-requires : goal.put_busy-requires
-put_busy-requires g c = c.requires
-
-pub put-requires-in-InTransaction : goal.put-requires-in-InTransaction
-put-requires-in-InTransaction g c = c.requires
-
-pub put-requires-in-NotInTransaction : goal.put-requires-in-NotInTransaction
-put-requires-in-NotInTransaction g c = c.requires
-
-pub put-requires-in-HistoryFull : goal.put-requires-in-HistoryFull
-put-requires-in-HistoryFull g c = c.requires
-
-pub put-requires-in-NoMemory : goal.put-requires-in-NoMemory
-put-requires-in-NoMemory g c = c.requires
-
-pub put-requires-in-NoProcess : goal.put-requires-in-NoProcess
-put-requires-in-NoProcess g c = c.requires

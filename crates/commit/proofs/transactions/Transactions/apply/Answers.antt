@@ -1,6 +1,5 @@
-use Rattle.std.proofs.Common.{[], ◌∷◌, sym, subst, ◌∙◌}
-use Rattle.shadow.specs.Changes.{effect}
-use Rattle.shadow.specs.Effects.{CanCommit}
+use Rattle.std.proofs.Common.{sym, subst, ◌∙◌}
+use Rattle.call_laws.specs.Fits.{FitsAll}
 use Rattle.commit.specs.Edits.{AreNew}
 use Rattle.commit.specs.Slots.{views}
 use Rattle.commit.proofs.Claims.{are_new}
@@ -8,8 +7,8 @@ use Rattle.commit.proofs.transactions.Transactions.apply.Goals as goal
 
 pub apply-requires-clause-fits : goal.apply-requires-clause-fits
 apply-requires-clause-fits c = λ chosen new.
-    (subst (λ v. CanCommit v.stable.state (effect chosen c.args.edits.items ∷ [])) (sym c.self.view_is)
-    (c.requires.can chosen (subst (λ v. AreNew v c.args.edits.items chosen) c.self.view_is (are_new (views c.self.inside.slots.items) c.self.inside.stable c.args.edits.items chosen c.self.invariant new)))).0
+    subst (λ v. FitsAll chosen v.stable.state c.args.edits.items) (sym c.self.view_is)
+    (c.requires.fits chosen (subst (λ v. AreNew v c.args.edits.items chosen) c.self.view_is (are_new (views c.self.inside.slots.items) c.self.inside.stable c.args.edits.items chosen c.self.invariant new)))
 
 pub invariant_of-self : goal.invariant_of-self
 invariant_of-self c = λ claim. c.self.invariant claim ∙ sym (c.apply.ensures.kept claim)

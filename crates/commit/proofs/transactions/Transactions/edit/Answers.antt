@@ -4,14 +4,14 @@ use Rattle.shadow.specs.Changes.{effect}
 use Rattle.shadow.specs.Claims.{Covers}
 use Rattle.commit.specs.Edits.{AreNew, with_change}
 use Rattle.commit.specs.Slots.{views, slot_at}
-use Rattle.commit.specs.Views.{Shows, SameViews, changes_in, is_open, view_at}
+use Rattle.commit.specs.Views.{Shows, SameViews, changes_in, is_live_slot, view_at}
 use Rattle.commit.proofs.Claims.{are_new, covers_one}
 use Rattle.commit.proofs.Keeping.{covered_with_change, covered_with_none}
 use Rattle.commit.proofs.Slots.{at_is, same_views, shows}
 use Rattle.commit.proofs.transactions.Transactions.edit.Goals as goal
 
 pub edit_slot-requires-clause-live : goal.edit_slot-requires-clause-live
-edit_slot-requires-clause-live c = ap is_open (sym (at_is c.self.inside.slots.items c.args.pid)) ∙ ap (λ v. is_open (view_at v.slots c.args.pid)) c.self.view_is ∙ c.requires.live
+edit_slot-requires-clause-live c = ap is_live_slot (sym (at_is c.self.inside.slots.items c.args.pid)) ∙ ap (λ v. is_live_slot (view_at v.slots c.args.pid)) c.self.view_is ∙ c.requires.live
 
 pub edit_slot-requires-clause-covers : goal.edit_slot-requires-clause-covers
 edit_slot-requires-clause-covers c = subst (λ v. Covers c.self.inside.stable (changes_in v)) (at_is c.self.inside.slots.items c.args.pid) (covers_one (views c.self.inside.slots.items) c.self.inside.stable c.self.invariant c.args.pid)
@@ -21,7 +21,7 @@ invariant_of-self c = covered_with_none c.self.inside.slots.items c.edit_slot.ne
 
 pub invariant_of-self-2 : goal.invariant_of-self-2
 invariant_of-self-2 c = covered_with_change c.self.inside.slots.items c.edit_slot.new.slots.items c.args.pid (effect c.in_ok-chosen.chosen c.args.edits.items) c.self.inside.stable c.edit_slot.new.stable c.self.invariant
-    (ap is_open (sym (at_is c.self.inside.slots.items c.args.pid)) ∙ ap (λ v. is_open (view_at v.slots c.args.pid)) c.self.view_is ∙ c.requires.live) c.in_ok-chosen.ensures.kept c.in_ok-chosen.ensures.ok
+    (ap is_live_slot (sym (at_is c.self.inside.slots.items c.args.pid)) ∙ ap (λ v. is_live_slot (view_at v.slots c.args.pid)) c.self.view_is ∙ c.requires.live) c.in_ok-chosen.ensures.kept c.in_ok-chosen.ensures.ok
 
 either_way : {A E P : Type 0} (r : Result A E) → P → OnErr r P
 either_way (Ok x) h = tt

@@ -1,6 +1,5 @@
-use Rattle.std.proofs.Common.{subst}
+use Rattle.kernel.proofs.Words.{subst, serializable_at}
 use Rattle.history_laws.specs.Headline.{IsSerializable}
-use Rattle.history_laws.proofs.Laws.{serializable_at}
 use Rattle.kernel.proofs.kernel.Kernel.history.Goals as goal
 
 -- by the headline of legal histories

@@ -1,5 +1,37 @@
-use Rattle.kernel.proofs.First.{first_holds, holds_kept}
+use Rattle.kernel.proofs.Words.{◌≡◌, ℕ, zero, suc, ◌<◌, ◌≤◌, List, [], Option, Some, None, is_some, length, get_or, refl, sym, ◌∙◌, ap₂, subst, true, false}
+use Rattle.kernel.proofs.Words.{inl, inr, arith, cases_lt, false≢true, get_or_past, get, Process, or_new, idle, is_alive, start, at_start, most_processes}
+use Rattle.kernel.proofs.Words.{legal_start, Contender, nobody, contender_at, Fields, IsConsistent, part_at, Part, part_of, View, AreFirst, gone_slot}
+use Rattle.call_laws.proofs.Laws.{first_processes_live}
+use Rattle.kernel.proofs.Entries.{parts_alike}
 use Rattle.kernel.proofs.kernel.Kernel.new.Goals as goal
+
+no_priority : (o : Option Process) → is_some o ≡ false → (or_new o).priority ≡ 0
+no_priority None h = refl
+no_priority (Some process) h = absurd (false≢true (sym h))
+
+abbrev part : View → Contender → Part
+part v h = record { slot = v; held = h }
+
+module _ (priorities : List ℕ) (limit : ℕ) (f : Fields) (log : f.log ≡ record { entries = []; priorities = priorities; limit = limit })
+    (slot_count : length f.slots ≡ suc (length priorities)) (slots : AreFirst f.slots (length priorities))
+    (held_count : length f.held ≡ suc (length priorities)) (held_first : contender_at f.held 0 ≡ nobody)
+    (held_each : (i : ℕ) → i < length priorities → contender_at f.held (suc i) ≡ record { priority = get_or priorities i 0; age = None; touches = [] })
+    (state : f.stable.state ≡ start 0 priorities) (few : length priorities ≤ most_processes) where
+  no_part : (q : ℕ) → is_alive (start 0 priorities) q ≡ false → part gone_slot nobody ≡ part_of (at_start 0 priorities) q
+  no_part q dead = sym (parts_alike _ false idle idle [] [] _ 0 [] [] dead refl refl (no_priority (get (start 0 priorities).processes q) dead) refl)
+
+  parts : (q : ℕ) → part_at f q ≡ part_of (at_start 0 priorities) q
+  parts zero = ap₂ part slots.none held_first ∙ no_part 0 ((first_processes_live 0 priorities).none 0 (inl refl))
+  parts (suc i) = elim (cases_lt i (length priorities)) [
+    | inl below ↦ ap₂ part (slots.made i below) (held_each i below) ∙ sym (parts_alike _ true idle idle [] [] _ _ [] [] ((first_processes_live 0 priorities).alive i below) refl refl ((first_processes_live 0 priorities).priority i below) refl)
+    | inr above ↦ ap₂ part (get_or_past f.slots (suc i) gone_slot (omega (arith, slot_count))) (get_or_past f.held (suc i) nobody (omega (arith, held_count)))
+        ∙ no_part (suc i) ((first_processes_live 0 priorities).none (suc i) (inr (omega arith)))
+  ]
+
+  -- what the fields of a new kernel show
+  first_holds : IsConsistent f
+  first_holds = subst (λ l. IsConsistent (record f { log = l })) (sym log)
+      (record { legal = legal_start 0 priorities limit; state = state; slot_count = slot_count; held_count = held_count; parts = parts; few = few })
 
 pub invariant_of-result : goal.invariant_of-result
 invariant_of-result c = first_holds c.args.priorities.now c.args.limit _
@@ -7,4 +39,4 @@ invariant_of-result c = first_holds c.args.priorities.now c.args.limit _
     c.in_ok-transactions.ensures.count c.in_ok-transactions.ensures.first c.in_ok-contenders.ensures.count c.in_ok-contenders.ensures.first c.in_ok-contenders.ensures.each c.in_ok-transactions.ensures.state c.requires.not_too_many
 
 pub returns-clause-kept : goal.returns-clause-kept
-returns-clause-kept c = holds_kept _ (invariant_of-result c)
+returns-clause-kept c = let holds = invariant_of-result c in record { legal = holds.legal; state = holds.state }

@@ -1,14 +1,7 @@
-use Rattle.std.proofs.Common.{rules, ◌≡◌, ◌≤◌, ◌+◌, List, [], ◌∷◌, ◌++◌, length, refl, sym, ap, subst, ◌∙◌, arith}
-use Rattle.std.proofs.lemmas.List.{append_assoc, append-nil}
+use Rattle.kernel.proofs.Words.{rules, ◌≡◌, ◌≤◌, ◌+◌, [], ◌∷◌, ◌++◌, length, refl, sym, ap, subst, ◌∙◌, append_assoc, append-nil, nil_from_length}
+use Rattle.kernel.proofs.Words.{into_iter_items, serializable_at, Steps}
 use Rattle.std.specs.Vec.{vec_capacity}
-use Rattle.std.specs.Vec.Iter.{into_iter_items}
-use Rattle.history_laws.proofs.Laws.{serializable_at}
-use Rattle.kernel.specs.Steps.{Steps}
 use Rattle.kernel.proofs.kernel.Kernel.run.Goals as goal
-
-empty_of : {A : Type 0} (xs : List A) → length xs ≡ 0 → xs ≡ []
-empty_of [] h = refl
-empty_of (x ∷ xs) h = absurd (omega (arith, h))
 
 pub loop-pid-preserved : goal.loop-pid-preserved
 loop-pid-preserved c =
@@ -29,7 +22,7 @@ loop-pid-preserved c =
 pub returns-clause-steps : goal.returns-clause-steps
 returns-clause-steps c =
     let zero : length (into_iter_items c.loop-pid.pid-iterator) ≡ 0 = search rules in
-    let none : into_iter_items c.loop-pid.pid-iterator ≡ [] = empty_of _ zero in
+    let none : into_iter_items c.loop-pid.pid-iterator ≡ [] = nil_from_length _ zero in
     subst (λ replies. Steps c.args.self.now c.args.ops.items replies c.loop-pid.self) (append-nil c.loop-pid.replies.items)
     (c.loop-pid.invariant.goes_on [] c.loop-pid.self (subst (λ ops. Steps c.loop-pid.self ops [] c.loop-pid.self) (sym none) refl))
 

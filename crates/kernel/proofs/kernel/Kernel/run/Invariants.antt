@@ -1,8 +1,4 @@
-use Rattle.std.proofs.Common.{◌≡◌, ◌≤◌, ◌+◌, ◌++◌, List, length, vec_capacity}
-use Rattle.std.specs.Vec.Iter.{into_iter_items}
-use Rattle.model.specs.Entries.{Reply}
-use Rattle.kernel.specs.Shown.{Shown, Kept}
-use Rattle.kernel.specs.Steps.{Steps}
+use Rattle.kernel.proofs.Words.{◌≡◌, ◌≤◌, ◌+◌, ◌++◌, List, length, vec_capacity, into_iter_items, Reply, Shown, Kept, Steps}
 use Rattle.kernel.proofs.kernel.Kernel.run.Given as goal
 
 -- whatever steps the other operations are, with those done they are steps of all

@@ -1,8 +1,5 @@
-use Rattle.std.proofs.Common.{subst}
-use Rattle.history_laws.specs.Limits.{StaysWithinLimits}
+use Rattle.kernel.proofs.Words.{subst, StaysWithinLimits, limits_are_kept, tree_at, moment}
 use Rattle.history_laws.specs.Trees.{IsATree}
-use Rattle.history_laws.proofs.Laws.{limits_are_kept, tree_at}
-use Rattle.kernel.specs.Shown.{moment}
 use Rattle.kernel.proofs.kernel.Kernel.stable.Goals as goal
 
 -- by the law of committed directories

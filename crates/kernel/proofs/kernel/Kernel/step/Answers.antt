@@ -1,4 +1,4 @@
-use Rattle.history_laws.proofs.Laws.{serializable_at}
+use Rattle.kernel.proofs.Words.{serializable_at}
 use Rattle.kernel.proofs.kernel.Kernel.step.Goals as goal
 
 -- by the headline of legal histories

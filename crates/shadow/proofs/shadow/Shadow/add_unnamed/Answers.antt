@@ -1,15 +1,20 @@
-use Rattle.std.proofs.Common.{◌≡◌, ◌++◌, ◌∷◌, [], sym, subst, rules, ap, ◌∙◌, Some, None, cond}
-use Rattle.shadow.specs.declared.steps.Step.TheVariants as steps
-use Rattle.shadow.specs.Index.{given_at, is_place}
-use Rattle.shadow.specs.Changes.{effect_of, effects_of, Agrees}
-use Rattle.shadow.proofs.Agreeing.{agrees_after, effects_more}
+use Rattle.std.proofs.Common.{◌≡◌, ◌++◌, ◌∷◌, [], sym, subst, rules, ap₂, ◌∙◌}
+use Rattle.shadow.specs.Changes.{Unname, effect, effect_of}
+use Rattle.shadow.specs.Agrees.{Agrees}
+use Rattle.shadow.specs.Log.{effects_in}
+use Rattle.shadow.proofs.Agreeing.{agrees_after, agrees_still}
 use Rattle.shadow.proofs.shadow.Shadow.add_unnamed.Goals as goal
 
 pub invariant_of-self-2 : goal.invariant_of-self-2
 invariant_of-self-2 c =
-    let ds = effects_of c.self.inside.steps.items in
-    let step = steps.Unname c.args.parent c.args.name in
-    let items : c.push.new.self.items ≡ c.self.inside.steps.items ++ step ∷ [] = search rules in
-    let is : effects_of c.push.new.self.items ≡ ds ++ effect_of (step) ∷ [] = ap effects_of items ∙ effects_more c.self.inside.steps.items (step) in
-    subst (λ all. Agrees all c.note.new.self) (sym is) (agrees_after ds c.self.inside.index c.note.new.self step c.self.invariant tt
-    (λ d x. c.in_ok-note.ensures.ok d x ∙ ap (λ y. cond (is_place d x (c.args.parent, y)) (Some None) (given_at c.self.inside.index d x)) c.in_ok-try_clone.ensures))
+    let ds = effects_in c.self.inside.log in let lost = c.self.inside.lost.items in
+    let step = Unname c.args.parent c.args.name c.args.num in
+    let is : effects_in c.add.new.self ≡ ds ++ effect_of step ∷ [] = c.add.ensures ∙ ap₂ (λ chosen edits. ds ++ effect chosen edits ∷ []) c.new-none.ensures c.requires in
+    let items : c.push.new.self.items ≡ lost ++ c.args.num ∷ [] = search rules in
+    subst (λ ds. Agrees ds c.note.new.self c.push.new.self.items) (sym is) (subst (Agrees (ds ++ effect_of step ∷ []) c.note.new.self) (sym items) (agrees_after ds c.self.inside.changes c.note.new.self lost step c.self.invariant tt tt c.in_ok-note.ensures.ok))
+
+pub invariant_of-self-in_err-note : goal.invariant_of-self-in_err-note
+invariant_of-self-in_err-note c =
+    let lost = c.self.inside.lost.items in
+    let items : c.reserve.new.self.items ≡ lost = search rules in
+    subst (Agrees (effects_in c.self.inside.log) c.note.new.self) (sym items) (agrees_still (effects_in c.self.inside.log) c.self.inside.changes c.note.new.self lost c.self.invariant c.in_err-note.ensures.err)

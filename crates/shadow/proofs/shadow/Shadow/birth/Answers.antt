@@ -7,4 +7,4 @@ use Rattle.shadow.proofs.shadow.Shadow.birth.Goals as goal
 pub returns : goal.returns
 returns c =
     let k = c.args.stable.now.state in
-    subst (λ birth. IfOk c.birth.result (λ b. b ≡ birth)) (sym (birth_all c.self.inside.steps.items k c.args.pid) ∙ ap (λ ds. birth_of (all_done ds k) c.args.pid) c.self.view_is) c.birth.ensures
+    subst (λ birth. IfOk c.birth.result (λ b. b ≡ birth)) (sym (birth_all c.self.invariant.steps k c.args.pid) ∙ ap (λ ds. birth_of (all_done ds k) c.args.pid) (sym c.self.invariant.forms ∙ c.self.view_is)) c.birth.ensures

@@ -1,12 +1,13 @@
 use Rattle.std.proofs.Common.{sym, subst, ap, ◌∙◌}
+use Rattle.std.specs.Option.{option_and_then}
 use Rattle.model.specs.FiniteMap.{get}
 use Rattle.model.specs.Steps.{IsNowhere}
 use Rattle.store.specs.Numbers.{Numbers, coming}
 use Rattle.store.specs.declared.Object.TheVariants.{Directory as Kept_directory}
-use Rattle.store.proofs.Changes.{with_place}
+use Rattle.store.proofs.Laws.{with_place, get-chosen}
 use Rattle.shadow.specs.Committed.{Committed}
 use Rattle.shadow.specs.Claims.{IsInUse, KeepsMore, number_as}
-use Rattle.shadow.specs.Stored.{Sound, committed_of}
+use Rattle.shadow.specs.Stored.{Sound, committed_of, reserve_in}
 use Rattle.shadow.proofs.Living.{unused_nowhere}
 use Rattle.shadow.proofs.Meets.{of_use, reserves, unused_met, use_of}
 use Rattle.shadow.proofs.Unshown.{reserved_sound, stays}
@@ -38,3 +39,8 @@ returns-clause-places c = λ n there.
     of_use c.self.inside.priorities.items c.reserve_num.new.self n (λ none.
     let was = use_of c.self.inside.priorities.items c.self.inside.store n (subst (λ (v : Committed). IsInUse v.reserves n) (sym c.self.view_is) there) in
     stays c.self.inside.store n c.in_ok-num.num c.new-dir.result was (ap (λ (t : Numbers). get t.places n) (sym c.in_ok-num.ensures.reserved) ∙ none))
+
+pub returns-clause-fresh : goal.returns-clause-fresh
+returns-clause-fresh c =
+    let n = c.in_ok-num.num in
+    ap (λ (v : Committed). get v.reserves n) (sym c.self.view_is) ∙ get-chosen reserve_in c.self.inside.store.places n ∙ ap (option_and_then reserve_in) c.in_ok-num.ensures.unused

@@ -22,10 +22,10 @@ any_step = step 0 0 0 0 none
 pub exchange-requires : goal.exchange-requires
 exchange-requires c = let n = c.swap_new_seat-found.ensures in
     let t = closed_hit history IsLegal c.self.inside.table.shared.key.value any_step (Deals 0 c.self.inside.table.shared.key.value, []) c.swap_new_seat-found.result.1.me c.swap_new_seat-found.result.0 c.if-found-ne-FREE.false n.1 in
-    let out = ap (λ (m : M). m.1) (c.hear.ensures.seat.1 ∙ t.1) in
-    (c.hear.ensures.seat.0.0 ∙ n.0, (Some t.0, out ∙ ap (λ (xs : List (ℕ × Option Kernel)). (0, Some t.0) ∷ rest xs) (sym out)))
+    let out = ap (λ (m : M). m.1) (c.check_passes.ensures.seat.1 ∙ t.1) in
+    (c.check_passes.ensures.seat.0.0 ∙ n.0, (Some t.0, out ∙ ap (λ (xs : List (ℕ × Option Kernel)). (0, Some t.0) ∷ rest xs) (sym out)))
 
 pub returns-clause-passes : goal.returns-clause-passes
 returns-clause-passes c = let n = c.swap_new_seat-found.ensures in
     let t = closed_hit history IsLegal c.self.inside.table.shared.key.value any_step (Deals 0 c.self.inside.table.shared.key.value, []) c.swap_new_seat-found.result.1.me c.swap_new_seat-found.result.0 c.if-found-ne-FREE.false n.1 in
-    closes_out c.exchange.result c.swap_new_seat-found.result.1.me c.hear.new.seat.me t.0 c.args.passes.items t.1 c.hear.ensures.seat.1 c.exchange.ensures.2 c.hear.ensures.passes
+    closes_out c.exchange.result c.swap_new_seat-found.result.1.me c.check_passes.new.seat.me t.0 c.args.passes.items t.1 c.check_passes.ensures.seat.1 c.exchange.ensures.2 c.check_passes.ensures.passes

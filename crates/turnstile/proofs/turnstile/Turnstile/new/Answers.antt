@@ -2,7 +2,7 @@ use Rattle.std.proofs.Common.{◌≡◌, sym, subst}
 use Rattle.std.proofs.lemmas.List.Elements.{All-same}
 use Rattle.turnstile.specs.Calls.{first_passes}
 use Rattle.turnstile.specs.Holding.{Lives}
-use Rattle.turnstile.specs.Passes.{Seen, gate_of}
+use Rattle.turnstile.specs.Passes.{PassView, gate_of}
 use Rattle.turnstile.proofs.Closing.{first_gates}
 use Rattle.turnstile.proofs.Living.{marks_small, marked_passes}
 use Rattle.turnstile.proofs.turnstile.Turnstile.new.Goals as goal
@@ -18,4 +18,4 @@ returns-clause-passes c = let lives : Lives c.args.kernel.state c.as_slice.resul
 pub returns-clause-gates : goal.returns-clause-gates
 returns-clause-gates c = let gate = gate_of c.in_ok-table.table.shared.table_id c.in_ok-table.table.shared.key.value in
     let lives : Lives c.args.kernel.state c.as_slice.result.now = subst (Lives c.args.kernel.state) (sym c.as_slice.ensures.value) c.in-Ok.ensures.living in
-    All-same (λ (p : Seen). p.gate ≡ gate) c.deal-passes.result.items (first_passes gate c.args.kernel.state) (marked_passes gate c.args.kernel.state c.as_slice.result.now lives c.deal-passes.result.items c.deal-passes.ensures) (first_gates gate c.args.kernel.state)
+    All-same (λ (p : PassView). p.gate ≡ gate) c.deal-passes.result.items (first_passes gate c.args.kernel.state) (marked_passes gate c.args.kernel.state c.as_slice.result.now lives c.deal-passes.result.items c.deal-passes.ensures) (first_gates gate c.args.kernel.state)

@@ -1,0 +1,10 @@
+pub mod Rules
+pub mod OwnSlots
+pub mod OpenSlots
+pub mod NoRing
+pub mod WillFit
+pub mod NamesFit
+pub mod ContentsFit
+pub mod SlotsFit
+pub mod Fits
+pub mod Reads

@@ -1,0 +1,85 @@
+-- The edits of each call fit a well-formed state, are the caller's own, and mark objects that are there.
+use Rattle.std.proofs.Common.{ℕ, pos, ◌+ℤ◌, true, false, not, ◌&&◌, ◌||◌, List, [], if◌then◌else◌, Some, IfOk, refl, sym, ◌==◌, nat_lt}
+use Rattle.model.specs.State.{A_directory, Kernel}
+use Rattle.model.specs.Plan.{given, ENOTDIR, EEXIST, EBUSY, EPERM, EINVAL, EISDIR, EBADF, EFBIG, ESPIPE}
+use Rattle.model.specs.Paths.{is_empty}
+use Rattle.model.specs.Walks.{parsed, walk, is_directory, last_of}
+use Rattle.ids.specs.Flags.{is_reading, is_writing, is_creating, is_exclusive, is_truncating}
+use Rattle.model.specs.Calls.{Call, Open, Close, Read, Write, Lseek, Ftruncate, Stat, Fstat, Link, Unlink, Rename, Mkdir, Rmdir, List_directory, Dup, Dup2, Open_pipe, Fork, Exit, Count, Bytes, own}
+use Rattle.model.specs.Plans.{unchanged, is_pipe, read_some, write_some, largest, base, free, first_of_free}
+use Rattle.model.specs.Steps.{outcome}
+use Rattle.model.specs.Entries.{is_inside}
+use Rattle.call_laws.specs.WellFormed.{WellFormed}
+use Rattle.call_laws.specs.Fits.{IsAlive}
+use Rattle.call_laws.proofs.edits.InodeMarks.{file_is_other}
+use Rattle.call_laws.proofs.calls.Rules.{after_bind, whatever, weaken, allowed, either_given, IsLast, root_place, last_of_right, walk_right}
+use Rattle.call_laws.proofs.calls.NoRing.{IsLedTo, last_of_led}
+use Rattle.call_laws.proofs.calls.OwnSlots.{IsFreeIn, all_free, free_different}
+use Rattle.call_laws.proofs.calls.OpenSlots.{is_open, with_slot}
+use Rattle.call_laws.proofs.calls.WillFit.{WillFit, both_ok, unchanged_fits}
+use Rattle.call_laws.proofs.calls.NamesFit.{mkdir_at, rmdir_at, status_fits, not_directory, link_at, unlink_at, rename_at}
+use Rattle.call_laws.proofs.calls.ContentsFit.{read_at, write_at, seek_at, truncated}
+use Rattle.call_laws.proofs.calls.SlotsFit.{close_at, dup_with, dup2_at, pipe_with, fork_at, exit_at, open_at_last, first_free}
+
+-- the plan's change fits, whatever call it is
+pub call_fits : (k : Kernel) (pid : ℕ) (call : Call) (chosen : List ℕ) → WellFormed k → IsAlive k pid → IfOk (outcome k pid call) (WillFit k pid (is_inside call) chosen)
+call_fits k pid (Open path flags) chosen well alive =
+    allowed k (WillFit k pid true chosen) (not (is_reading flags || is_writing flags)) EINVAL _ (λ _.
+    allowed k (WillFit k pid true chosen) (is_exclusive flags && not (is_creating flags)) EINVAL _ (λ _.
+    allowed k (WillFit k pid true chosen) (is_truncating flags && not (is_writing flags)) EINVAL _ (λ _.
+    after_bind k (WillFit k pid true chosen) (parsed path) _ (whatever (given k (parsed path)) (λ names.
+    after_bind k (WillFit k pid true chosen) (first_of_free (free (own k pid (Open path flags)))) _ (weaken (given k (first_of_free (free (own k pid (Open path flags)))))
+    (first_free k well pid alive true chosen (IsFreeIn (own k pid (Open path flags)).table 0 64) (free (own k pid (Open path flags))) (all_free (own k pid (Open path flags)).table 0 64)) (λ f is_free.
+    after_bind k (WillFit k pid true chosen) (last_of k.root (if is_creating flags && is_exclusive flags then EEXIST else EISDIR) names) _
+    (weaken (given k (last_of k.root (if is_creating flags && is_exclusive flags then EEXIST else EISDIR) names)) (last_of_right k well (if is_creating flags && is_exclusive flags then EEXIST else EISDIR) names) (λ at last.
+    open_at_last k well pid alive true chosen (Open path flags) flags f at is_free last at.found refl)))))))))
+call_fits k pid (Close f) chosen well alive = with_slot k pid (Close f) f (WillFit k pid true chosen) _ (λ s held. close_at k well pid alive true chosen f s held)
+call_fits k pid (Read f count) chosen well alive = with_slot k pid (Read f count) f (WillFit k pid true chosen) _ (λ s held.
+    allowed k (WillFit k pid true chosen) (not s.reading) EBADF _ (λ _.
+    either_given k (WillFit k pid true chosen) (count == 0) (unchanged (Bytes [])) (read_some s count) (λ _. unchanged_fits k pid true chosen (Bytes [])) (λ _. read_at k well pid alive true chosen s count (is_open k well pid f s held))))
+call_fits k pid (Write f bytes) chosen well alive = with_slot k pid (Write f bytes) f (WillFit k pid true chosen) _ (λ s held.
+    allowed k (WillFit k pid true chosen) (not s.writing) EBADF _ (λ _.
+    either_given k (WillFit k pid true chosen) (is_empty bytes) (unchanged (Count 0)) (write_some s bytes) (λ _. unchanged_fits k pid true chosen (Count 0)) (λ _. write_at k well pid alive true chosen s bytes (is_open k well pid f s held))))
+call_fits k pid (Lseek f move whence) chosen well alive = with_slot k pid (Lseek f move whence) f (WillFit k pid true chosen) _ (λ s held.
+    allowed k (WillFit k pid true chosen) (is_pipe s.kind) ESPIPE _ (λ _.
+    after_bind k (WillFit k pid true chosen) (base s whence) _ (whatever (given k (base s whence)) (λ place. seek_at k well pid alive true chosen s (pos place +ℤ move) (is_open k well pid f s held)))))
+call_fits k pid (Ftruncate f len) chosen well alive = with_slot k pid (Ftruncate f len) f (WillFit k pid true chosen) _ (λ s held.
+    allowed k (WillFit k pid true chosen) (not s.writing) EBADF _ (λ _.
+    allowed k (WillFit k pid true chosen) (is_pipe s.kind) EINVAL _ (λ file.
+    allowed k (WillFit k pid true chosen) (nat_lt largest len) EFBIG _ (λ _. truncated k well pid alive true chosen s len (is_open k well pid f s held) file))))
+call_fits k pid (Stat path) chosen well alive =
+    after_bind k (WillFit k pid true chosen) (parsed path) _ (whatever (given k (parsed path)) (λ names.
+    after_bind k (WillFit k pid true chosen) (walk (k.root, Some A_directory) names) _ (whatever (given k (walk (k.root, Some A_directory) names)) (λ place. status_fits k well pid alive true chosen place))))
+call_fits k pid (Fstat f) chosen well alive = with_slot k pid (Fstat f) f (WillFit k pid true chosen) _ (λ s held. status_fits k well pid alive true chosen (s.inode, s.kind))
+call_fits k pid (Link old path) chosen well alive =
+    after_bind k (WillFit k pid true chosen) (parsed old) _ (whatever (given k (parsed old)) (λ from.
+    after_bind k (WillFit k pid true chosen) (parsed path) _ (whatever (given k (parsed path)) (λ to.
+    after_bind k (WillFit k pid true chosen) (walk (k.root, Some A_directory) from) _ (weaken (given k (walk (k.root, Some A_directory) from)) (walk_right k well k.root (Some A_directory) from (root_place k well)) (λ what place.
+    not_directory k well pid alive true chosen (WillFit k pid true chosen) what EPERM _ place (λ file.
+    after_bind k (WillFit k pid true chosen) (last_of k.root EEXIST to) _ (weaken (given k (last_of k.root EEXIST to)) (last_of_right k well EEXIST to) (λ at last.
+    link_at k well pid alive true chosen what.0 at file (λ none. file_is_other k k.root what.0 well.root file (sym (place.rooted none))) last at.found refl)))))))))
+call_fits k pid (Unlink path) chosen well alive =
+    after_bind k (WillFit k pid true chosen) (parsed path) _ (whatever (given k (parsed path)) (λ names.
+    after_bind k (WillFit k pid true chosen) (last_of k.root EPERM names) _ (weaken (given k (last_of k.root EPERM names)) (last_of_right k well EPERM names) (λ at last. unlink_at k well pid alive true chosen at last at.found refl))))
+call_fits k pid (Rename old path) chosen well alive =
+    after_bind k (WillFit k pid true chosen) (parsed old) _ (whatever (given k (parsed old)) (λ from.
+    after_bind k (WillFit k pid true chosen) (parsed path) _ (whatever (given k (parsed path)) (λ to.
+    allowed k (WillFit k pid true chosen) (is_empty from || is_empty to) EBUSY _ (λ _.
+    after_bind k (WillFit k pid true chosen) (last_of k.root EBUSY from) _
+    (weaken (given k (last_of k.root EBUSY from)) (both_ok (IsLast k) (IsLedTo k k.root from) (given k (last_of k.root EBUSY from)) (last_of_right k well EBUSY from) (last_of_led k EBUSY from)) (λ at both.
+    rename_at k well pid alive true chosen from to at both.0 both.1 at.found refl)))))))
+call_fits k pid (Mkdir path) chosen well alive =
+    after_bind k (WillFit k pid true chosen) (parsed path) _ (whatever (given k (parsed path)) (λ names.
+    after_bind k (WillFit k pid true chosen) (last_of k.root EEXIST names) _ (weaken (given k (last_of k.root EEXIST names)) (last_of_right k well EEXIST names) (λ at last. mkdir_at k well pid alive true chosen at last at.found refl))))
+call_fits k pid (Rmdir path) chosen well alive =
+    after_bind k (WillFit k pid true chosen) (parsed path) _ (whatever (given k (parsed path)) (λ names.
+    after_bind k (WillFit k pid true chosen) (last_of k.root EBUSY names) _ (weaken (given k (last_of k.root EBUSY names)) (last_of_right k well EBUSY names) (λ at last. rmdir_at k well pid alive true chosen at last at.found refl))))
+call_fits k pid (List_directory path) chosen well alive =
+    after_bind k (WillFit k pid true chosen) (parsed path) _ (whatever (given k (parsed path)) (λ names.
+    after_bind k (WillFit k pid true chosen) (walk (k.root, Some A_directory) names) _ (whatever (given k (walk (k.root, Some A_directory) names)) (λ place.
+    allowed k (WillFit k pid true chosen) (not (is_directory place)) ENOTDIR _ (λ _. unchanged_fits k pid true chosen _)))))
+call_fits k pid (Dup f) chosen well alive = with_slot k pid (Dup f) f (WillFit k pid true chosen) _ (λ s held. dup_with k well pid alive true chosen f (Dup f) s held (free (own k pid (Dup f))) (all_free (own k pid (Dup f)).table 0 64))
+call_fits k pid (Dup2 f g) chosen well alive = with_slot k pid (Dup2 f g) f (WillFit k pid true chosen) _ (λ s held. dup2_at k well pid alive true chosen f g s held (nat_lt 63 g) refl (f == g))
+call_fits k pid Open_pipe chosen well alive = pipe_with k well pid alive true chosen Open_pipe (free (own k pid Open_pipe)) (all_free (own k pid Open_pipe).table 0 64) (free_different (own k pid Open_pipe).table 0 64)
+call_fits k pid Fork chosen well alive = fork_at k well pid alive false chosen
+call_fits k pid Exit chosen well alive = exit_at k well pid alive false chosen refl

@@ -1,0 +1,12 @@
+pub mod Names
+pub mod NamesAlike
+pub mod NamesWell
+pub mod Tree
+pub mod Contents
+pub mod Blocks
+pub mod InodeMarks
+pub mod Offsets
+pub mod Processes
+pub mod Ends
+pub mod SlotsAlike
+pub mod SlotMarks

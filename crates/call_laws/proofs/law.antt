@@ -1,0 +1,13 @@
+pub mod Marks
+pub mod Alike
+pub mod OwnTold
+pub mod OwnAlike
+pub mod OwnLeft
+pub mod There
+pub mod Nowhere
+pub mod Well
+pub mod Alive
+pub mod WellTidy
+pub mod TidyUnseen
+pub mod TidyLater
+pub mod Start

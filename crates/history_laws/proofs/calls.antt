@@ -1,0 +1,3 @@
+-- What single calls come to.
+pub mod Outcomes
+pub mod Processes

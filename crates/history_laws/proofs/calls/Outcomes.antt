@@ -1,0 +1,310 @@
+-- What the plans of calls come to: none refuses as unsupported, and but for fork and exit each edit
+-- of processes is of the caller's own table.
+use Rattle.std.proofs.Common.{◌≡◌, ℕ, List, [], ◌∷◌, Bool, true, false, not, ◌||◌, ◌&&◌, Option, Some, None, Result, Ok, Err, IfOk, refl, ap, ◌==◌, nat_lt, nat_le, if◌then◌else◌, length}
+use Rattle.std.specs.Prelude.{⊤, ℤ, pos, negsuc, ◌+ℤ◌}
+use Rattle.std.specs.List.{AllByRecursion}
+use Rattle.std.proofs.lemmas.Bool.{false≢true}
+use Rattle.model.proofs.Laws.{append-all}
+use Rattle.model.specs.State.{Name, A_file, A_directory, A_pipe, Kernel}
+use Rattle.model.specs.Plan.{Errno, EAGAIN, EBADF, EBUSY, EEXIST, EFBIG, EINVAL, EISDIR, ENAMETOOLONG, ENOENT, ENOTDIR, ENOTEMPTY, EPERM, EPIPE, ESPIPE, Shown, answer, Plan, Give, Refuse, Ask, ◌>>=◌, refuse_if, or_refuse, given}
+use Rattle.model.specs.Paths.{is_empty, is_below, is_no_name, with_first, names_in, names_behind, absolute_names, path_names, pieces}
+use Rattle.model.specs.Walks.{told, parsed, Place, is_directory, look, walk, Last, last, last_of}
+use Rattle.model.specs.Changes.{Edit, Open_inode, Make_pipe, Share_slot, Clear_slot, New_process, End_process}
+use Rattle.ids.specs.Flags.{is_reading, is_writing, is_creating, is_exclusive, is_truncating}
+use Rattle.model.specs.Calls.{own, Call, Open, Close, Read, Write, Lseek, Ftruncate, Stat, Fstat, Link, Unlink, Rename, Mkdir, Rmdir, List_directory, Dup, Dup2, Open_pipe, Fork, Exit, Whence, From_start, From_offset, From_end, OpenFlags, Answer, Child, Slot, Own}
+use Rattle.model.specs.Plans.{Change, plan, largest, is_pipe, status, cut_to, opened, read_pipe, read_some, place_to_write, write_some, sought, base, replaced_by_name, move_onto, moved, absent, duplicated, piped, forked, first_of_free, slot, slot_at, free}
+use Rattle.model.specs.Entries.{is_unsupported, is_inside, answer_in}
+use Rattle.model.specs.Replies.{answered}
+use Rattle.model.specs.Steps.{outcome, reply, reply_of}
+
+-- what holds of each value that a plan may give, where no refusal is as unsupported
+abbrev pub Ends : {A : Type 0} → (A → Type 0) → Plan A → Type 0
+Ends P (Give x) = P x
+Ends P (Refuse e) = is_unsupported e ≡ false
+Ends P (Ask q next) = (a : Shown q) → Ends P (next a)
+
+abbrev Any : {A : Type 0} → A → Type 0
+Any x = ⊤
+
+pub then_by : {A B : Type 0} (P : A → Type 0) (Q : B → Type 0) (m : Plan A) (f : A → Plan B) → Ends P m → ((x : A) → P x → Ends Q (f x)) → Ends Q (m >>= f)
+then_by P Q (Give x) f h g = g x h
+then_by P Q (Refuse e) f h g = h
+then_by P Q (Ask q next) f h g = λ a. then_by P Q (next a) f (h a) g
+
+-- where nothing is asked of the first part's value
+pub then_any : {A B : Type 0} (Q : B → Type 0) (m : Plan A) (f : A → Plan B) → Ends Any m → ((x : A) → Ends Q (f x)) → Ends Q (m >>= f)
+then_any Q m f h g = then_by Any Q m f h (λ x _. g x)
+
+tested : (b : Bool) (e : Errno) → is_unsupported e ≡ false → Ends Any (refuse_if b e)
+tested true e h = h
+tested false e h = tt
+
+found : {A : Type 0} (e : Errno) (o : Option A) → is_unsupported e ≡ false → Ends Any (or_refuse e o)
+found e (Some x) h = tt
+found e None h = h
+
+abbrev Fine : {A : Type 0} → Result A Errno → Type 0
+Fine (Ok x) = ⊤
+Fine (Err e) = is_unsupported e ≡ false
+
+fine_first : (x : Name) (r : Result (List Name) Errno) → Fine r → Fine (with_first x r)
+fine_first x (Ok xs) h = tt
+fine_first x (Err e) h = h
+
+fine_names : (xs : List Name) → Fine (names_in xs)
+fine_names [] = tt
+fine_names (x ∷ xs) = by (nat_lt 255 (length x)) (is_no_name x) (fine_names xs) where
+  by : (a b : Bool) → Fine (names_in xs) → Fine (if a then Err ENAMETOOLONG else if b then Err EINVAL else with_first x (names_in xs))
+  by true b h = refl
+  by false true h = refl
+  by false false h = fine_first x (names_in xs) h
+
+fine_behind : (bytes : List ℕ) → Fine (names_behind bytes)
+fine_behind [] = tt
+fine_behind (b ∷ bytes) = fine_names (pieces (b ∷ bytes))
+
+fine_absolute : (bytes : List ℕ) → Fine (absolute_names bytes)
+fine_absolute [] = refl
+fine_absolute (b ∷ bytes) = by (b == 47) where
+  by : (a : Bool) → Fine (if a then names_behind bytes else Err EINVAL)
+  by true = fine_behind bytes
+  by false = refl
+
+fine_path : (bytes : List ℕ) → Fine (path_names bytes)
+fine_path bytes = by (nat_lt 1024 (length bytes)) where
+  by : (a : Bool) → Fine (if a then Err ENAMETOOLONG else absolute_names bytes)
+  by true = refl
+  by false = fine_absolute bytes
+
+told_any : {A : Type 0} (r : Result A Errno) → Fine r → Ends Any (told r)
+told_any (Ok x) h = tt
+told_any (Err e) h = h
+
+parsed_any : (bytes : List ℕ) → Ends Any (parsed bytes)
+parsed_any bytes = told_any (path_names bytes) (fine_path bytes)
+
+look_any : (place : Place) (x : Name) → Ends Any (look place x)
+look_any place x = then_any Any (refuse_if (not (is_directory place)) ENOTDIR) _ (tested _ ENOTDIR refl) (λ _ a. tt)
+
+walk_any : (place : Place) (xs : List Name) → Ends Any (walk place xs)
+walk_any place [] = tt
+walk_any place (x ∷ xs) = then_any Any (look place x) _ (look_any place x) (λ o. then_any Any (or_refuse ENOENT o) _ (found ENOENT o refl) (λ next. walk_any next xs))
+
+last_any : (place : Place) (x : Name) (xs : List Name) → Ends Any (last place x xs)
+last_any place x [] = then_any Any (look place x) _ (look_any place x) (λ o. tt)
+last_any place x (y ∷ ys) = then_any Any (look place x) _ (look_any place x) (λ o. then_any Any (or_refuse ENOENT o) _ (found ENOENT o refl) (λ next. last_any next y ys))
+
+last_of_any : (root : ℕ) (e : Errno) (xs : List Name) → is_unsupported e ≡ false → Ends Any (last_of root e xs)
+last_of_any root e [] h = h
+last_of_any root e (x ∷ xs) h = last_any (root, Some A_directory) x xs
+
+-- no edit of another process, nor of the table of processes
+abbrev pub IsOf : ℕ → Edit → Type 0
+IsOf pid (Open_inode i inode mode p f) = p ≡ pid
+IsOf pid (Make_pipe i p f g) = p ≡ pid
+IsOf pid (Share_slot p f d pipes) = p ≡ pid
+IsOf pid (Clear_slot p f pipes) = p ≡ pid
+IsOf pid (New_process child parent pipes) = ⊥
+IsOf pid (End_process p pipes) = ⊥
+IsOf pid e = ⊤
+
+abbrev pub is_child : Answer → Bool
+is_child (Child pid) = true
+is_child _ = false
+
+pub record Tame (pid : ℕ) (c : Change) : Type 0 where
+  pub edits : AllByRecursion (IsOf pid) c.edits
+  pub childless : is_child c.reply ≡ false
+
+tame_status : (pid : ℕ) (place : Place) → Ends (Tame pid) (status place)
+tame_status pid (n, Some A_file) = λ a b. record { edits = tt; childless = refl }
+tame_status pid (n, Some A_directory) = record { edits = tt; childless = refl }
+tame_status pid (n, Some A_pipe) = record { edits = tt; childless = refl }
+tame_status pid (n, None) = refl
+
+cut_by : (pid : ℕ) (n len : ℕ) → Ends (AllByRecursion (IsOf pid)) (cut_to n len)
+cut_by pid n len = λ size. (tt, tt)
+
+cut_if : (pid : ℕ) (b : Bool) (n : ℕ) → Ends (AllByRecursion (IsOf pid)) (if b then cut_to n 0 else Give [])
+cut_if pid true n = cut_by pid n 0
+cut_if pid false n = tt
+
+tame_opened : (own : Own) (flags : OpenFlags) (f : ℕ) (at : Last) (o : Option Place) → Ends (Tame own.pid) (opened own flags f at o)
+tame_opened own flags f at None = then_any (Tame own.pid) (refuse_if (not (is_creating flags)) ENOENT) _ (tested _ ENOENT refl) (λ _. record { edits = (tt, (refl, tt)); childless = refl })
+tame_opened own flags f at (Some place) =
+    then_any (Tame own.pid) (refuse_if (is_creating flags && is_exclusive flags) EEXIST) _ (tested _ EEXIST refl) (λ _.
+    then_any (Tame own.pid) (refuse_if (is_directory place) EISDIR) _ (tested _ EISDIR refl) (λ _.
+    then_by (AllByRecursion (IsOf own.pid)) (Tame own.pid) (if is_truncating flags then cut_to place.0 0 else Give []) _ (cut_if own.pid _ place.0) (λ cut h.
+    record { edits = append-all (IsOf own.pid) cut _ h (refl, tt); childless = refl })))
+
+tame_read_pipe : (pid p : ℕ) (bytes : List ℕ) → Ends (Tame pid) (read_pipe p bytes)
+tame_read_pipe pid p [] = λ ends. then_any (Tame pid) (refuse_if (nat_lt 0 ends.1) EAGAIN) _ (tested _ EAGAIN refl) (λ _. record { edits = tt; childless = refl })
+tame_read_pipe pid p (b ∷ bytes) = record { edits = (tt, tt); childless = refl }
+
+either : {A : Type 0} (P : A → Type 0) (b : Bool) (m n : Plan A) → Ends P m → Ends P n → Ends P (if b then m else n)
+either P true m n h g = h
+either P false m n h g = g
+
+edits_unless : (pid : ℕ) (b : Bool) (e : Edit) → IsOf pid e → AllByRecursion (IsOf pid) (if b then [] else e ∷ [])
+edits_unless pid true e h = tt
+edits_unless pid false e h = (h, tt)
+
+tame_read : (pid : ℕ) (it : Slot) (count : ℕ) → Ends (Tame pid) (read_some it count)
+tame_read pid it count = either (Tame pid) (is_pipe it.kind) _ _ (λ bytes. tame_read_pipe pid it.inode bytes) (λ offset bytes. record { edits = edits_unless pid _ _ tt; childless = refl })
+
+place_any : (it : Slot) (b : Bool) → Ends Any (place_to_write it b)
+place_any it true = λ a. tt
+place_any it false = λ a. tt
+
+tame_write : (pid : ℕ) (it : Slot) (bytes : List ℕ) → Ends (Tame pid) (write_some it bytes)
+tame_write pid it bytes = either (Tame pid) (is_pipe it.kind) _ _
+    (λ ends.
+    then_any (Tame pid) (refuse_if (ends.0 == 0) EPIPE) _ (tested _ EPIPE refl) (λ _ fitting.
+    then_any (Tame pid) (refuse_if (nat_lt fitting (length bytes) && nat_le (length bytes) 512) EAGAIN) _ (tested _ EAGAIN refl) (λ _.
+    then_any (Tame pid) (refuse_if (fitting == 0) EAGAIN) _ (tested _ EAGAIN refl) (λ _. record { edits = (tt, tt); childless = refl }))))
+    (then_any (Tame pid) (place_to_write it it.appending) _ (place_any it it.appending) (λ place.
+    then_any (Tame pid) (refuse_if (nat_le largest place) EFBIG) _ (tested _ EFBIG refl) (λ _ size. record { edits = (tt, (tt, tt)); childless = refl })))
+
+tame_sought : (pid : ℕ) (it : Slot) (z : ℤ) → Ends (Tame pid) (sought it z)
+tame_sought pid it (pos place) = then_any (Tame pid) (refuse_if (nat_lt largest place) EINVAL) _ (tested _ EINVAL refl) (λ _. record { edits = (tt, tt); childless = refl })
+tame_sought pid it (negsuc place) = refl
+
+base_any : (it : Slot) (w : Whence) → Ends Any (base it w)
+base_any it From_start = tt
+base_any it From_offset = λ a. tt
+base_any it From_end = λ a. tt
+
+replaced_any : (n : ℕ) (b : Bool) → Ends Any (replaced_by_name n b)
+replaced_any n true = λ names. then_any {B = List ℕ} Any (refuse_if (not (is_empty names)) ENOTEMPTY) _ (tested _ ENOTEMPTY refl) (λ _. tt)
+replaced_any n false = tt
+
+tame_onto : (pid : ℕ) (at : Last) (what : Place) (to : Last) (old : Place) → Ends (Tame pid) (move_onto at what to old)
+tame_onto pid at what to old = either (Tame pid) (what.0 == old.0) _ _ (record { edits = tt; childless = refl })
+    (then_any (Tame pid) (refuse_if (not (is_directory what) && is_directory old) EISDIR) _ (tested _ EISDIR refl) (λ _.
+    then_any (Tame pid) (refuse_if (is_directory what && not (is_directory old)) ENOTDIR) _ (tested _ ENOTDIR refl) (λ _.
+    then_any (Tame pid) (replaced_by_name old.0 (is_directory old)) _ (replaced_any old.0 _) (λ replaced. record { edits = (tt, tt); childless = refl }))))
+
+tame_moved : (pid : ℕ) (at : Last) (what : Place) (to : Last) (o : Option Place) → Ends (Tame pid) (moved at what to o)
+tame_moved pid at what to None = record { edits = (tt, tt); childless = refl }
+tame_moved pid at what to (Some old) = tame_onto pid at what to old
+
+absent_any : (o : Option Place) → Ends Any (absent o)
+absent_any None = tt
+absent_any (Some place) = refl
+
+tame_duplicated : (own : Own) (it : Slot) (fs : List ℕ) → Ends (Tame own.pid) (duplicated own it fs)
+tame_duplicated own it [] = refl
+tame_duplicated own it (f ∷ fs) = record { edits = (refl, tt); childless = refl }
+
+tame_piped : (own : Own) (fs : List ℕ) → Ends (Tame own.pid) (piped own fs)
+tame_piped own [] = refl
+tame_piped own (f ∷ []) = refl
+tame_piped own (f ∷ g ∷ fs) = record { edits = (refl, tt); childless = refl }
+
+first_any : (fs : List ℕ) → Ends Any (first_of_free fs)
+first_any [] = refl
+first_any (f ∷ fs) = tt
+
+slot_any : (own : Own) (f : ℕ) → Ends Any (slot own f)
+slot_any own f = found EBADF (slot_at own f) refl
+
+same_or : (b : Bool) → is_unsupported (if b then EEXIST else EISDIR) ≡ false
+same_or true = refl
+same_or false = refl
+
+-- each call but fork and exit
+pub tame_plan : (own : Own) (call : Call) → is_inside call ≡ true → Ends (Tame own.pid) (plan own call)
+tame_plan own (Open path flags) is =
+    then_any (Tame own.pid) (refuse_if (not (is_reading flags || is_writing flags)) EINVAL) _ (tested _ EINVAL refl) (λ _.
+    then_any (Tame own.pid) (refuse_if (is_exclusive flags && not (is_creating flags)) EINVAL) _ (tested _ EINVAL refl) (λ _.
+    then_any (Tame own.pid) (refuse_if (is_truncating flags && not (is_writing flags)) EINVAL) _ (tested _ EINVAL refl) (λ _.
+    then_any (Tame own.pid) (parsed path) _ (parsed_any path) (λ names.
+    then_any (Tame own.pid) (first_of_free (free own)) _ (first_any (free own)) (λ f.
+    then_any (Tame own.pid) (last_of own.root (if is_creating flags && is_exclusive flags then EEXIST else EISDIR) names) _ (last_of_any own.root _ names (same_or _)) (λ at.
+    tame_opened own flags f at at.found))))))
+tame_plan own (Close f) is = then_any (Tame own.pid) (slot own f) _ (slot_any own f) (λ it. record { edits = (refl, tt); childless = refl })
+tame_plan own (Read f count) is = then_any (Tame own.pid) (slot own f) _ (slot_any own f) (λ it.
+    then_any (Tame own.pid) (refuse_if (not it.reading) EBADF) _ (tested _ EBADF refl) (λ _. either (Tame own.pid) (count == 0) _ _ (record { edits = tt; childless = refl }) (tame_read own.pid it count)))
+tame_plan own (Write f bytes) is = then_any (Tame own.pid) (slot own f) _ (slot_any own f) (λ it.
+    then_any (Tame own.pid) (refuse_if (not it.writing) EBADF) _ (tested _ EBADF refl) (λ _. either (Tame own.pid) (is_empty bytes) _ _ (record { edits = tt; childless = refl }) (tame_write own.pid it bytes)))
+tame_plan own (Lseek f move whence) is = then_any (Tame own.pid) (slot own f) _ (slot_any own f) (λ it.
+    then_any (Tame own.pid) (refuse_if (is_pipe it.kind) ESPIPE) _ (tested _ ESPIPE refl) (λ _.
+    then_any (Tame own.pid) (base it whence) _ (base_any it whence) (λ place. tame_sought own.pid it (pos place +ℤ move))))
+tame_plan own (Ftruncate f len) is = then_any (Tame own.pid) (slot own f) _ (slot_any own f) (λ it.
+    then_any (Tame own.pid) (refuse_if (not it.writing) EBADF) _ (tested _ EBADF refl) (λ _.
+    then_any (Tame own.pid) (refuse_if (is_pipe it.kind) EINVAL) _ (tested _ EINVAL refl) (λ _.
+    then_any (Tame own.pid) (refuse_if (nat_lt largest len) EFBIG) _ (tested _ EFBIG refl) (λ _ size. record { edits = (tt, tt); childless = refl }))))
+tame_plan own (Stat path) is = then_any (Tame own.pid) (parsed path) _ (parsed_any path) (λ names.
+    then_any (Tame own.pid) (walk (own.root, Some A_directory) names) _ (walk_any _ names) (λ place. tame_status own.pid place))
+tame_plan own (Fstat f) is = then_any (Tame own.pid) (slot own f) _ (slot_any own f) (λ it. tame_status own.pid (it.inode, it.kind))
+tame_plan own (Link old path) is =
+    then_any (Tame own.pid) (parsed old) _ (parsed_any old) (λ from_names.
+    then_any (Tame own.pid) (parsed path) _ (parsed_any path) (λ to.
+    then_any (Tame own.pid) (walk (own.root, Some A_directory) from_names) _ (walk_any _ from_names) (λ what.
+    then_any (Tame own.pid) (refuse_if (is_directory what) EPERM) _ (tested _ EPERM refl) (λ _.
+    then_any (Tame own.pid) (last_of own.root EEXIST to) _ (last_of_any own.root EEXIST to refl) (λ at.
+    then_any (Tame own.pid) (absent at.found) _ (absent_any at.found) (λ _. record { edits = (tt, tt); childless = refl }))))))
+tame_plan own (Unlink path) is =
+    then_any (Tame own.pid) (parsed path) _ (parsed_any path) (λ names.
+    then_any (Tame own.pid) (last_of own.root EPERM names) _ (last_of_any own.root EPERM names refl) (λ at.
+    then_any (Tame own.pid) (or_refuse ENOENT at.found) _ (found ENOENT at.found refl) (λ what.
+    then_any (Tame own.pid) (refuse_if (is_directory what) EPERM) _ (tested _ EPERM refl) (λ _. record { edits = (tt, tt); childless = refl }))))
+tame_plan own (Rename old path) is =
+    then_any (Tame own.pid) (parsed old) _ (parsed_any old) (λ from_names.
+    then_any (Tame own.pid) (parsed path) _ (parsed_any path) (λ to.
+    then_any (Tame own.pid) (refuse_if (is_empty from_names || is_empty to) EBUSY) _ (tested _ EBUSY refl) (λ _.
+    then_any (Tame own.pid) (last_of own.root EBUSY from_names) _ (last_of_any own.root EBUSY from_names refl) (λ at.
+    then_any (Tame own.pid) (or_refuse ENOENT at.found) _ (found ENOENT at.found refl) (λ what.
+    then_any (Tame own.pid) (refuse_if (is_directory what && is_below from_names to) EINVAL) _ (tested _ EINVAL refl) (λ _.
+    then_any (Tame own.pid) (last_of own.root EBUSY to) _ (last_of_any own.root EBUSY to refl) (λ onto. tame_moved own.pid at what onto onto.found)))))))
+tame_plan own (Mkdir path) is =
+    then_any (Tame own.pid) (parsed path) _ (parsed_any path) (λ names.
+    then_any (Tame own.pid) (last_of own.root EEXIST names) _ (last_of_any own.root EEXIST names refl) (λ at.
+    then_any (Tame own.pid) (absent at.found) _ (absent_any at.found) (λ _. record { edits = (tt, tt); childless = refl })))
+tame_plan own (Rmdir path) is =
+    then_any (Tame own.pid) (parsed path) _ (parsed_any path) (λ names.
+    then_any (Tame own.pid) (last_of own.root EBUSY names) _ (last_of_any own.root EBUSY names refl) (λ at.
+    then_any (Tame own.pid) (or_refuse ENOENT at.found) _ (found ENOENT at.found refl) (λ what.
+    then_any (Tame own.pid) (refuse_if (not (is_directory what)) ENOTDIR) _ (tested _ ENOTDIR refl) (λ _ entries.
+    then_any (Tame own.pid) (refuse_if (not (is_empty entries)) ENOTEMPTY) _ (tested _ ENOTEMPTY refl) (λ _. record { edits = (tt, tt); childless = refl })))))
+tame_plan own (List_directory path) is =
+    then_any (Tame own.pid) (parsed path) _ (parsed_any path) (λ names.
+    then_any (Tame own.pid) (walk (own.root, Some A_directory) names) _ (walk_any _ names) (λ place.
+    then_any (Tame own.pid) (refuse_if (not (is_directory place)) ENOTDIR) _ (tested _ ENOTDIR refl) (λ _ entries. record { edits = tt; childless = refl })))
+tame_plan own (Dup f) is = then_any (Tame own.pid) (slot own f) _ (slot_any own f) (λ it. tame_duplicated own it (free own))
+tame_plan own (Dup2 f g) is = then_any (Tame own.pid) (slot own f) _ (slot_any own f) (λ it.
+    then_any (Tame own.pid) (refuse_if (nat_lt 63 g) EBADF) _ (tested _ EBADF refl) (λ _. either (Tame own.pid) (f == g) _ _ (record { edits = tt; childless = refl }) (record { edits = (refl, tt); childless = refl })))
+tame_plan own Open_pipe is = tame_piped own (free own)
+tame_plan own Fork is = absurd (false≢true is)
+tame_plan own Exit is = absurd (false≢true is)
+
+forked_any : (own : Own) (o : Option (ℕ × ℕ)) → Ends Any (forked own o)
+forked_any own (Some (made, priority)) = then_any Any (refuse_if (nat_le 4096 made) EAGAIN) _ (tested _ EAGAIN refl) (λ _. tt)
+forked_any own None = refl
+
+weakened : {A : Type 0} (P : A → Type 0) (m : Plan A) → Ends P m → Ends Any m
+weakened P (Give x) h = tt
+weakened P (Refuse e) h = h
+weakened P (Ask q next) h = λ a. weakened P (next a) (h a)
+
+any_plan : (own : Own) (call : Call) → Ends Any (plan own call)
+any_plan own Fork = forked_any own own.birth
+any_plan own Exit = tt
+any_plan own call = weakened (Tame own.pid) (plan own call) (tame_plan own call refl)
+
+pub ends_given : {A : Type 0} (k : Kernel) (P : A → Type 0) (m : Plan A) → Ends P m → IfOk (given k m) P
+ends_given k P (Give x) h = h
+ends_given k P (Refuse e) h = tt
+ends_given k P (Ask q next) h = ends_given k P (next (answer k q)) (h (answer k q))
+
+fine_given : {A : Type 0} (k : Kernel) (m : Plan A) → Ends Any m → Fine (given k m)
+fine_given k (Give x) h = tt
+fine_given k (Refuse e) h = h
+fine_given k (Ask q next) h = fine_given k (next (answer k q)) (h (answer k q))
+
+-- each call is executed: its answer, as a reply, is an answer again
+pub executed_again : (k : Kernel) (pid : ℕ) (call : Call) → answer_in (answered (reply k pid call)) ≡ Some (reply k pid call)
+executed_again k pid call = by (outcome k pid call) (fine_given k (plan (own k pid call) call) (any_plan (own k pid call) call)) where
+  by : (r : Result Change Errno) → Fine r → answer_in (answered (reply_of r)) ≡ Some (reply_of r)
+  by (Ok change) h = refl
+  by (Err e) h = ap (λ b. if b then None else Some (Err e)) h

@@ -1,0 +1,4 @@
+-- Lists of calls.
+pub mod Touches
+pub mod UntidiedRuns
+pub mod LiveLists

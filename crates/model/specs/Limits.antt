@@ -1,0 +1,37 @@
+-- The limits, each once. POSIX.1-2017 leaves the numbers to the implementation (limits.h).
+use Rattle.std.specs.Prelude.{ℕ}
+
+-- the most processes that are ever made
+abbrev pub most_processes : ℕ
+most_processes = 4096
+
+-- how many descriptors a process can have (OPEN_MAX)
+abbrev pub descriptor_limit : ℕ
+descriptor_limit = 64
+
+-- the most bytes of a path (PATH_MAX), and of a name (NAME_MAX)
+abbrev pub path_limit : ℕ
+path_limit = 1024
+
+abbrev pub name_limit : ℕ
+name_limit = 255
+
+-- the most bytes of a file, and so the largest offset
+abbrev pub largest : ℕ
+largest = 1048576
+
+-- how many bytes of a file are one block, the unit in which touches speak of content
+abbrev pub block_length : ℕ
+block_length = 1024
+
+-- how many bytes a pipe holds
+abbrev pub capacity : ℕ
+capacity = 4096
+
+-- the most bytes that a write to a pipe puts whole or not at all (PIPE_BUF)
+abbrev pub whole_write : ℕ
+whole_write = 512
+
+-- the most entries of a history
+abbrev pub most_entries : ℕ
+most_entries = 1048576
