@@ -41,7 +41,7 @@ fn is_shown(store: &Store, num: Num) -> bool
 }
 
 // Whether the directory of a number is shown with names.
-#[tactic(auto, using(store::proofs::Names::no_names_left))]
+#[tactic(auto, using(crate::proofs::Bare::no_names_left))]
 fn has_names(store: &Store, num: Num) -> bool
     ensures { result ≡ false → names_of_inode (map.get (inodes store.now) num) ≡ map.empty }
 {
