@@ -1,4 +1,3 @@
 mod Words
 mod Entries
-mod Edits
 mod Calls

@@ -1,7 +1,6 @@
 //! The kernel: one step of one process at a time, with transactions.
 //!
-//! Today there are directories and files, and the calls on them and on descriptors but those that
-//! add, remove or move a name of a file.
+//! Today there are directories, and the calls mkdir, stat, rmdir and list on them.
 #![tactic(auto)]
 
 mod execute;

@@ -5,7 +5,6 @@ mod Chosen
 mod Changes
 mod Listings
 mod Laying
-mod Beside
 mod Laid
 mod Counted
 mod Renamed
