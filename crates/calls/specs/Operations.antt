@@ -5,6 +5,13 @@ use Rattle.model.specs.Calls.{Mkdir, Rmdir, List_directory, Dup, Dup2, Open_pipe
 
 -- the calls that the kernel can run today
 abbrev pub can_call : Call → Bool
+can_call (Open path flags) = true
+can_call (Close fd) = true
+can_call (Read fd count) = true
+can_call (Write fd bytes) = true
+can_call (Lseek fd offset whence) = true
+can_call (Ftruncate fd length) = true
+can_call (Fstat fd) = true
 can_call (Stat path) = true
 can_call (Mkdir path) = true
 can_call (Rmdir path) = true

@@ -30,13 +30,24 @@ pub struct Plan {
     pub edits: Vec<Edit, Heap>,
 }
 
-/// Whether the kernel can run the call today: mkdir, stat, rmdir and list. It takes no memory.
+/// Whether the kernel can run the call today: those on files and directories that make or remove no
+/// further name. It takes no memory.
 pub fn is_there(call: &Call) -> bool
     ensures { result ≡ can_call call.now }
 {
     matches!(
         call,
-        Call::Mkdir(_) | Call::Stat(_) | Call::Rmdir(_) | Call::List(_)
+        Call::Open(_, _)
+            | Call::Close(_)
+            | Call::Read(_, _)
+            | Call::Write(_, _)
+            | Call::Lseek(_, _, _)
+            | Call::Ftruncate(_, _)
+            | Call::Stat(_)
+            | Call::Fstat(_)
+            | Call::Mkdir(_)
+            | Call::Rmdir(_)
+            | Call::List(_)
     )
 }
 

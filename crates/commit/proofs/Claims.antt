@@ -1,14 +1,14 @@
 -- How often the transactions make a claim, and how that changes with them.
 use Rattle.std.proofs.Common.{◌≡◌, ◌≢◌, ℕ, zero, suc, ◌+◌, ◌≤◌, List, [], ◌∷◌, ◌++◌, length, get_or, refl, sym, ◌∙◌, ap, true, false, Bool, eqb, cond, inl, inr, arith}
-use Rattle.std.specs.Prelude.{◌||◌}
-use Rattle.std.specs.List.{AllByRecursion, count_by, sum_by}
+use Rattle.std.specs.Prelude.{◌||◌, ◌&&◌, not}
+use Rattle.std.specs.List.{AllByRecursion, count_by, flat_map, sum_by}
 use Rattle.std.proofs.lemmas.Bool.{false≢true, eqb-true, eq-eqb, ne_eqb, cases_Bool}
 use Rattle.std.proofs.lemmas.List.Sums.{sum_by-cons, sum_by_push}
 use Rattle.model.specs.Changes.{Edit}
 use Rattle.model.specs.Moments.{is_in}
 use Rattle.model.specs.Effects.{Effect}
 use Rattle.shadow.specs.Committed.{Committed}
-use Rattle.shadow.specs.Claims.{AreUnused, Claim, Number, Covers, KeepsMore, KeepsNothing, KeepsSame, claimed_by, claimed, reserved}
+use Rattle.shadow.specs.Claims.{AreUnused, Claim, New_directory, Number, Covers, KeepsMore, KeepsNothing, KeepsSame, claimed_by, claimed_in, claimed, kinds_in, reserved, with_kinds}
 use Rattle.commit.specs.Claims.{total, AreCovered}
 use Rattle.commit.specs.Edits.{AreNew, with_change, made_by}
 use Rattle.commit.specs.Views.{View, SameViews, Shows, gone_slot, view_at, changes_in}
@@ -142,8 +142,33 @@ counted_where n (m ∷ ns) h = by (eqb n m) refl (counted_where n ns) where
       let count : times n (m ∷ ns) ≡ 0 + times n ns = times_cons n m ns ∙ ap (λ b. cond b 1 0 + times n ns) (turned n m ∙ is) in
       ap (λ b. b || is_in n ns) is ∙ rest (omega (arith, count, h))
 
-pub stands_in : (n : ℕ) (d : Effect) → claimed_by (Number n) d ≡ 0 → is_in n d.chosen ≡ false
-stands_in n d h = counted_where n d.chosen h
+-- a new number is one of a directory or of another object
+abbrev of_both : ℕ → List (ℕ × Bool) → ℕ
+of_both n ms = claimed_in (New_directory n) ms [] + claimed_in (Number n) ms []
+
+one_kind : (n m : ℕ) (b : Bool) (ns : List ℕ) (rest : List (ℕ × Bool)) → of_both n rest ≡ times n ns → of_both n ((m, b) ∷ rest) ≡ times n (m ∷ ns)
+one_kind n m b ns rest is =
+    let first : claimed_in (New_directory n) ((m, b) ∷ rest) [] ≡ cond (eqb m n && b) 1 0 + claimed_in (New_directory n) rest [] = sum_by-cons (λ (x : ℕ × Bool). cond (eqb x.0 n && x.1) 1 0) (m, b) rest in
+    let second : claimed_in (Number n) ((m, b) ∷ rest) [] ≡ cond (eqb m n && not b) 1 0 + claimed_in (Number n) rest [] = sum_by-cons (λ (x : ℕ × Bool). cond (eqb x.0 n && not x.1) 1 0) (m, b) rest in
+    let all : times n (m ∷ ns) ≡ cond (eqb m n) 1 0 + times n ns = times_cons n m ns in
+    let one : cond (eqb m n && b) 1 0 + cond (eqb m n && not b) 1 0 ≡ cond (eqb m n) 1 0 = by (eqb m n) b in
+    omega (arith, first, second, all, one, is)
+  where
+    by : (t b : Bool) → cond (t && b) 1 0 + cond (t && not b) 1 0 ≡ cond t 1 0
+    by true true = refl
+    by true false = refl
+    by false true = refl
+    by false false = refl
+
+both_kinds : (n : ℕ) (ns : List ℕ) (bs : List Bool) → of_both n (with_kinds ns bs) ≡ times n ns
+both_kinds n [] bs = refl
+both_kinds n (m ∷ ns) [] = one_kind n m false ns (with_kinds ns []) (both_kinds n ns [])
+both_kinds n (m ∷ ns) (b ∷ bs) = one_kind n m b ns (with_kinds ns bs) (both_kinds n ns bs)
+
+pub stands_in : (n : ℕ) (d : Effect) → claimed_by (New_directory n) d ≡ 0 → claimed_by (Number n) d ≡ 0 → is_in n d.chosen ≡ false
+stands_in n d h i = counted_where n d.chosen (
+    let all : claimed_by (New_directory n) d + claimed_by (Number n) d ≡ times n d.chosen = both_kinds n d.chosen (flat_map kinds_in d.edits) in
+    omega (arith, h, i, all))
 
 -- new numbers are made by no transaction
 in_neither : (n : ℕ) (ms ns : List ℕ) → is_in n ms ≡ false → is_in n ns ≡ false → is_in n (ms ++ ns) ≡ false
@@ -153,18 +178,17 @@ in_neither n (m ∷ ms) ns a b = by (eqb n m) a (in_neither n ms ns) where
   by true h rest = absurd (false≢true (sym h))
   by false h rest = rest h b
 
-unmade : (n : ℕ) (ds : List Effect) → claimed (Number n) ds ≡ 0 → is_in n (made_by ds) ≡ false
-unmade n [] h = refl
-unmade n (d ∷ ds) h =
-    let sum : claimed (Number n) (d ∷ ds) ≡ claimed_by (Number n) d + claimed (Number n) ds = sum_by-cons (claimed_by (Number n)) d ds in
-    let here : claimed_by (Number n) d ≡ 0 = omega (arith, sum, h) in
-    let rest : claimed (Number n) ds ≡ 0 = omega (arith, sum, h) in
-    in_neither n d.chosen (made_by ds) (stands_in n d here) (unmade n ds rest)
+unmade : (n : ℕ) (ds : List Effect) → claimed (New_directory n) ds ≡ 0 → claimed (Number n) ds ≡ 0 → is_in n (made_by ds) ≡ false
+unmade n [] h i = refl
+unmade n (d ∷ ds) h i =
+    let first : claimed (New_directory n) (d ∷ ds) ≡ claimed_by (New_directory n) d + claimed (New_directory n) ds = sum_by-cons (claimed_by (New_directory n)) d ds in
+    let second : claimed (Number n) (d ∷ ds) ≡ claimed_by (Number n) d + claimed (Number n) ds = sum_by-cons (claimed_by (Number n)) d ds in
+    in_neither n d.chosen (made_by ds) (stands_in n d (omega (arith, first, h)) (omega (arith, second, i))) (unmade n ds (omega (arith, first, h)) (omega (arith, second, i)))
 
 pub are_new : (views : List View) (s : Committed) (made : List Edit) (chosen : List ℕ) → AreCovered views s → AreUnused s made chosen → AreNew (record { slots = views; stable = s }) made chosen
 are_new views s made chosen covered new = record {
   count = new.count;
-  unmade = all_in (λ n. (q : ℕ) → is_in n (made_by (changes_in (view_at views q))) ≡ false) chosen (λ n among q. unmade n (changes_in (view_at views q)) (unclaimed views s covered (Number n) (new.unused (Number n) among) q));
+  unmade = all_in (λ n. (q : ℕ) → is_in n (made_by (changes_in (view_at views q))) ≡ false) chosen (λ n among q. unmade n (changes_in (view_at views q)) (unclaimed views s covered (New_directory n) (new.unused (New_directory n) among) q) (unclaimed views s covered (Number n) (new.unused (Number n) among) q));
   different = new.different;
   nowhere = new.nowhere;
 }

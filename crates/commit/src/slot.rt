@@ -2,10 +2,11 @@
 ghost use Rattle.ids.specs.declared.limits.TheConstants.{MAX_PROCESSES};
 ghost use Rattle.std.specs.Prelude.{◌≡◌, ◌<◌, ◌≤◌, true, length, suc, is_some, option_map, IfOk};
 ghost use Rattle.std.specs.Prelude.{IfSome, OnErr};
-ghost use Rattle.shadow.specs.Changes.{CanEdit, effect};
 ghost use Rattle.shadow.specs.Claims.{AreUnused, Covers, HaveParents, KeepsMore, KeepsSame};
 ghost use Rattle.shadow.specs.Claims.{claimed, claimed_by};
+ghost use Rattle.shadow.specs.Log.{effect};
 ghost use Rattle.shadow.specs.Looks as looks;
+ghost use Rattle.shadow.specs.Steps.{CanEdit};
 ghost use Rattle.commit.specs.Dooming.{with_doom};
 ghost use Rattle.commit.specs.Edits.{with_change};
 ghost use Rattle.commit.specs.Slots.{AreFirstSlots, Sets, slot_at, slot_view};

@@ -5,9 +5,10 @@ ghost use Rattle.std.specs.Prelude.{count_by, IfOk, IfSome, OnErr};
 ghost use Rattle.model.specs.Changes.{all_applied, tidy};
 ghost use Rattle.model.specs.Effects.{all_done};
 ghost use Rattle.model.specs.Moments.{start};
-ghost use Rattle.shadow.specs.Changes.{CanEdit, effect};
 ghost use Rattle.shadow.specs.Claims.{HaveParents};
-ghost use Rattle.shadow.specs.Looks.{NamesAreInUse};
+ghost use Rattle.shadow.specs.Log.{effect};
+ghost use Rattle.shadow.specs.Looks.{DirectoriesAreKept, HasNoPipes};
+ghost use Rattle.shadow.specs.Steps.{CanEdit};
 ghost use Rattle.call_laws.specs.Fits.{FitsAll};
 ghost use Rattle.freeing_laws.specs.Sweep.{AllFit};
 ghost use Rattle.commit.specs.Dooming.{with_dooms};
@@ -86,7 +87,9 @@ impl Transactions {
     }
 
     /// What a process sees: what is committed, with what its live transaction has changed on top.
+    /// The changes fit the states that they find.
     pub fn view(&self, pid: Pid) -> View<'_>
+        requires { AllFit (changes_in (view_at self.now.slots pid)) self.now.stable.state }
         ensures { result ≡ record self.now.stable {
           state = all_done (changes_in (view_at self.now.slots pid)) self.now.stable.state;
         } }
@@ -94,15 +97,27 @@ impl Transactions {
         View::new(&self.stable, shadow_of(&self.slots, pid))
     }
 
-    /// What names give in what a process sees is there or to come.
-    pub fn names_are_in_use(&self, pid: Pid)
-        ensures { NamesAreInUse (record self.now.stable {
+    /// Each directory that a process sees can have room promised.
+    pub fn directories_are_kept(&self, pid: Pid)
+        requires { AllFit (changes_in (view_at self.now.slots pid)) self.now.stable.state }
+        ensures { DirectoriesAreKept (record self.now.stable {
           state = all_done (changes_in (view_at self.now.slots pid)) self.now.stable.state;
         }) }
     {
         match shadow_of(&self.slots, pid) {
-            None => self.stable.names_are_in_use(),
-            Some(shadow) => shadow.names_are_in_use(&self.stable),
+            None => self.stable.directories_are_kept(),
+            Some(shadow) => shadow.directories_are_kept(&self.stable),
+        }
+    }
+
+    /// Today a process sees no pipes.
+    pub fn has_no_pipes(&self, pid: Pid)
+        ensures { HasNoPipes
+            (all_done (changes_in (view_at self.now.slots pid)) self.now.stable.state) }
+    {
+        match shadow_of(&self.slots, pid) {
+            None => self.stable.has_no_pipes(),
+            Some(shadow) => shadow.has_no_pipes(&self.stable),
         }
     }
 

@@ -10,18 +10,12 @@ use Rattle.model.specs.Places.{placed}
 use Rattle.model.proofs.Laws.{apart, get-placed}
 use Rattle.fdtable.specs.Free.{free_from}
 
-abbrev pub Places : Type 0
-Places = List (Option ℕ)
-
-abbrev pub table_of : Places → FinMap nat_cmp ℕ
-table_of xs = from_entries (placed 0 xs)
-
 -- what was read at a place is what the table gives
-pub given : (xs : Places) (q : ℕ) (x : Option ℕ) → q < length xs → x ≡ get_or xs q x → x ≡ get (table_of xs) q
+pub given : {X : Type 0} (xs : List (Option X)) (q : ℕ) (x : Option X) → q < length xs → x ≡ get_or xs q x → x ≡ get (from_entries {R = nat_cmp} (placed 0 xs)) q
 given xs q x low is = get_or_read xs q x low is None ∙ sym (get-placed xs q)
 
 -- past the places it gives nothing
-pub given_past : (xs : Places) (q : ℕ) → length xs ≤ q → get (table_of xs) q ≡ None
+pub given_past : {X : Type 0} (xs : List (Option X)) (q : ℕ) → length xs ≤ q → get (from_entries {R = nat_cmp} (placed 0 xs)) q ≡ None
 given_past xs q past = get-placed xs q ∙ get_or_past xs q None past
 
 -- what is not there is not taken away

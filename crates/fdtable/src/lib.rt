@@ -1,12 +1,17 @@
 //! A process's table of descriptors: which of the descriptors 0 to 63 are open, and on which
-//! description. Contracts see it as a finite map. No call takes memory.
+//! description; and changes of one. Contracts see both as finite maps.
 #![tactic(auto)]
 
-ghost use Rattle.std.specs.Prelude.{◌≡◌, ◌+◌, ◌-◌, ◌<◌, ◌≤◌, MatchOption, IfSome, IsSome, [], ◌∷◌};
+ghost use Rattle.std.specs.Prelude.{◌≡◌, ◌+◌, ◌-◌, ◌<◌, ◌≤◌, MatchOption, IfOk, IfSome, IsSome, [], ◌∷◌};
 ghost use Rattle.model.specs.FiniteMap as map;
 ghost use Rattle.fdtable.specs.Free.{free, free_from, first_of, first_two};
 
+mod patch;
+
+use heap::Heap;
 use ids::{DESCRIPTORS, Fd, Num};
+pub use patch::Patch;
+use std::alloc::AllocError;
 use std::marker::Model;
 
 /// The open descriptors, with the numbers of their descriptions.
@@ -112,5 +117,26 @@ impl FdTable {
         let mut slots = [None; DESCRIPTORS];
         slots.copy_from_slice(&self.slots);
         FdTable { slots }
+    }
+
+    /// The open descriptors with their descriptions, rising. Refused memory gives nothing.
+    pub fn entries(&self, heap: Heap) -> Result<Vec<(Fd, Num), Heap>, AllocError>
+        ensures { IfOk result (λ list. list.items ≡ map.entries self.now) }
+    {
+        let _slots = &self.slots;
+        let mut entries = Vec::new(heap);
+        for number in 0..DESCRIPTORS as u32 {
+            if let Some(description) = self.get(Fd(number)) {
+                entries.push((Fd(number), description))?;
+            }
+        }
+        Ok(entries)
+    }
+
+    /// There are no more open descriptors than a process may have.
+    pub fn open_are_few(&self)
+        ensures { map.len self.now ≤ DESCRIPTORS }
+    {
+        let _slots = &self.slots;
     }
 }

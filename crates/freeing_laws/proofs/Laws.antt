@@ -28,7 +28,7 @@ wider k lost more ds ns covers = record {
   inodes = λ n there. elim (covers.inodes n there) [ inl is ↦ inl is | inr has ↦ inr (ns n has) ];
 }
 
-has_regrouped : (n : ℕ) (a b c : List ℕ) → Has ((a ++ b) ++ c) n → Has (a ++ (b ++ c)) n
+pub has_regrouped : (n : ℕ) (a b c : List ℕ) → Has ((a ++ b) ++ c) n → Has (a ++ (b ++ c)) n
 has_regrouped n a b c has =
     let p : times n ((a ++ b) ++ c) ≡ times n (a ++ b) + times n c = times_append n (a ++ b) c in
     let q : times n (a ++ b) ≡ times n a + times n b = times_append n a b in
@@ -38,7 +38,7 @@ has_regrouped n a b c has =
     omega arith
 
 -- in a tidied state all is led to
-nothing_lost : (k : Kernel) → tidy k ≡ k → Covers nothing k
+pub nothing_lost : (k : Kernel) → tidy k ≡ k → Covers nothing k
 unfolding tidy
 nothing_lost k tidied = record { descriptions = λ d there. held d there (is_held k d) refl; inodes = λ n there. kept n there (reached k n) refl }
   where

@@ -105,7 +105,7 @@ holders_opened k d n how q f free e =
     let new : times e (d ∷ []) ≡ one d e = times_one e d in
     omega arith
 
-described : (k : Kernel) (d : ℕ) (it : Description) (m : ℕ) → openings (set_description d it k) m + weight (λ (v : Description). one v.inode m) (get k.descriptions d) ≡ openings k m + one it.inode m
+pub described : (k : Kernel) (d : ℕ) (it : Description) (m : ℕ) → openings (set_description d it k) m + weight (λ (v : Description). one v.inode m) (get k.descriptions d) ≡ openings k m + one it.inode m
 unfolding openings
 described k d it m = sum-insert nat_cmp_total nat_cmp-IsAntisymmetric (λ (v : Description). one v.inode m) k.descriptions d it
 

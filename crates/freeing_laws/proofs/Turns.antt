@@ -7,7 +7,7 @@ use Rattle.model.specs.State.{Kernel, Description, links, ends, is_end}
 use Rattle.model.specs.Changes.{Edit, applied, holders, openings, is_held, is_reached, without_descriptions, or_new, tidy}
 use Rattle.model.proofs.Laws.{weight, sum-remove}
 use Rattle.call_laws.proofs.Laws.{one_some, not_none, true_is_false, some_part, Part, sum-alike, removed_same, removed_other, held, held-alike, one, reached, either_of, held_by, rooted_reached, open_reached, alike_tidied}
-use Rattle.freeing_laws.specs.Counts.{times, opens, let_go, unnamed, named, free_description, free_inode, EditCounts, FreeingCounts}
+use Rattle.freeing_laws.specs.Counts.{times, opens, let_go, unnamed, named, opened, free_description, free_inode, EditCounts, FreeingCounts}
 use Rattle.freeing_laws.specs.Sweep.{AreParented, nothing, inode_in, free_inodes, closed, all_closed, freed_in_turn}
 use Rattle.freeing_laws.proofs.Times.{Has, has_rest, has_left, has_right, times_one, same_one, fewer}
 use Rattle.freeing_laws.proofs.Freeing.{Covers, rooted_is_reached, unreached_bare, without_inode, removed_links, same_reached, parents_left, covered_is_tidy}
@@ -29,11 +29,11 @@ gone_openings : (k : Kernel) (d n : ℕ) → weight (λ (v : Description). one v
 unfolding openings
 gone_openings k d n = sum-remove nat_cmp_total nat_cmp-IsAntisymmetric (λ (v : Description). one v.inode n) k.descriptions d
 
-opens_weight : (n : ℕ) (o : Option Description) → opens n o ≡ weight (λ (v : Description). one v.inode n) o
+pub opens_weight : (n : ℕ) (o : Option Description) → opens n o ≡ weight (λ (v : Description). one v.inode n) o
 opens_weight n None = refl
 opens_weight n (Some it) = times_one n it.inode
 
-fewer_openings : (k : Kernel) (d n : ℕ) → openings (without_description d k) n + opens n (get k.descriptions d) ≡ openings k n
+pub fewer_openings : (k : Kernel) (d n : ℕ) → openings (without_description d k) n + opens n (get k.descriptions d) ≡ openings k n
 fewer_openings k d n =
     let all : weight (λ (v : Description). one v.inode n) (get k.descriptions d) + openings (without_description d k) n ≡ openings k n = gone_openings k d n in
     let o : opens n (get k.descriptions d) ≡ weight (λ (v : Description). one v.inode n) (get k.descriptions d) = opens_weight n (get k.descriptions d) in
@@ -242,39 +242,50 @@ done end k w =
     none_stands : (n : ℕ) → Has [] n → ⊥
     none_stands n has = absurd (let some : 0 < times n [] = has in omega arith)
 
--- after an edit of a state where all is led to
-edit_waits : (chosen : List ℕ) (k : Kernel) (e : Edit) → EditCounts chosen k e → Comes k (applied chosen e k) → AreParented (applied chosen e k) → Covers nothing k → Waits (tidy (applied chosen e k)) (let_go k e) (unnamed k e) (applied chosen e k)
-edit_waits chosen k e counts comes parents covers = record { tidied = refl; parents = parents; descriptions = (edit_covers chosen k e nothing counts comes covers).descriptions; inodes = kept }
+-- to free in turn all that waits is to tidy
+pub all_turned : (end : Kernel) (ds ns : List ℕ) (k : Kernel) → Waits end ds ns k → free_inodes ns (all_closed ds k) ≡ end
+all_turned end ds ns k w =
+    let closing : Waits end [] ns (all_closed ds k) = closed_waits end ds ns k w in
+    let longer : Waits end [] (ns ++ []) (all_closed ds k) = record {
+      tidied = closing.tidied;
+      parents = closing.parents;
+      descriptions = closing.descriptions;
+      inodes = λ n there. elim (closing.inodes n there) [ inl is ↦ inl is | inr has ↦ inr (has_left n ns [] has) ];
+    } in
+    done end (free_inodes ns (all_closed ds k)) (inodes_wait end [] ns [] (all_closed ds k) longer)
+
+-- by the counts, what nothing leads to is among these inodes
+abbrev pub Led : List ℕ → Kernel → Type 0
+Led ns k = (n : ℕ) → get k.inodes n ≢ None → (is_reached k n ≡ true) ⊎ Has ns n
+
+-- after an edit it is among them or has lost a name: openings never fall
+pub edit_leads : (chosen : List ℕ) (k : Kernel) (e : Edit) (ns : List ℕ) → EditCounts chosen k e → Comes k (applied chosen e k) → Led ns k → Led (ns ++ unnamed k e) (applied chosen e k)
+edit_leads chosen k e ns counts comes led n there = elim (comes.inodes n there) [
+  | inr is ↦ inl (left_is_counted after n is)
+  | inl was ↦ elim (led n was) [
+    | inr has ↦ inr (has_left n ns (unnamed k e) has)
+    | inl is ↦ either_of (n == k.root) (nat_lt 0 (links k n)) (nat_lt 0 (openings k n)) ((is_reached after n ≡ true) ⊎ Has (ns ++ unnamed k e) n) is
+        (λ root. inl (rooted_is_reached after n (λ _. eqb-true n k.root root ∙ sym comes.root)))
+        (λ some. elim (fewer (links after n) (times n (unnamed k e)) (links k n) (times n (named chosen e)) (counts.links n) (ltb-true 0 (links k n) some)) [
+          | inl still ↦ inl (rooted_is_reached after n (λ none. absurd (omega arith)))
+          | inr gone ↦ inr (has_right n ns (unnamed k e) gone)
+        ])
+        (λ some.
+        let before : 0 < openings k n = ltb-true 0 (openings k n) some in
+        let more : openings after n ≡ openings k n + times n (opened chosen e) = counts.openings n in
+        inl (opened_reached after n (omega arith)))
+  ]
+]
   where
     after : Kernel
     after = applied chosen e k
 
-    kept : (n : ℕ) → get after.inodes n ≢ None → (is_reached after n ≡ true) ⊎ Has (unnamed k e) n
-    kept n there = elim (comes.inodes n there) [
-      | inr is ↦ inl (left_is_counted after n is)
-      | inl was ↦ elim (covers.inodes n was) [
-        | inr has ↦ absurd (let some : 0 < times n [] = has in omega arith)
-        | inl is ↦ either_of (n == k.root) (nat_lt 0 (links (without_descriptions k) n)) (nat_lt 0 (openings (without_descriptions k) n)) ((is_reached after n ≡ true) ⊎ Has (unnamed k e) n) is
-            (λ root. inl (rooted_is_reached after n (λ _. eqb-true n k.root root ∙ sym comes.root)))
-            (λ some. elim (fewer (links after n) (times n (unnamed k e)) (links k n) (times n (named chosen e)) (counts.links n) (subst (λ c. 0 < c) (same_links k n) (ltb-true 0 (links (without_descriptions k) n) some))) [
-              | inl still ↦ inl (rooted_is_reached after n (λ none. absurd (omega arith)))
-              | inr gone ↦ inr gone
-            ])
-            (λ some.
-            let o : IsOpen k n = opened_by k n (ltb-true 0 (openings (without_descriptions k) n) some) in
-            let now = comes.opens o.description o.it o.is in
-            inl (subst (λ n. is_reached after n ≡ true) (now.2 ∙ o.inode) (opened_reached after now.0.inode (opens_some after o.description now.0 now.1))))
-      ]
-    ]
+-- a state where all is led to, and the state after an edit of it
+pub all_led : (k : Kernel) → Covers nothing k → Led [] k
+all_led k covers n there = elim (covers.inodes n there) [ inl is ↦ inl (left_is_counted k n is) | inr has ↦ inr has ]
+
+edit_waits : (chosen : List ℕ) (k : Kernel) (e : Edit) → EditCounts chosen k e → Comes k (applied chosen e k) → AreParented (applied chosen e k) → Covers nothing k → Waits (tidy (applied chosen e k)) (let_go k e) (unnamed k e) (applied chosen e k)
+edit_waits chosen k e counts comes parents covers = record { tidied = refl; parents = parents; descriptions = (edit_covers chosen k e nothing counts comes covers).descriptions; inodes = edit_leads chosen k e [] counts comes (all_led k covers) }
 
 pub turned_is_tidy : (chosen : List ℕ) (k : Kernel) (e : Edit) → EditCounts chosen k e → Comes k (applied chosen e k) → AreParented (applied chosen e k) → Covers nothing k → freed_in_turn chosen e k ≡ tidy (applied chosen e k)
-turned_is_tidy chosen k e counts comes parents covers =
-    let end : Kernel = tidy (applied chosen e k) in
-    let closing : Waits end [] (unnamed k e) (all_closed (let_go k e) (applied chosen e k)) = closed_waits end (let_go k e) (unnamed k e) (applied chosen e k) (edit_waits chosen k e counts comes parents covers) in
-    let longer : Waits end [] (unnamed k e ++ []) (all_closed (let_go k e) (applied chosen e k)) = record {
-      tidied = closing.tidied;
-      parents = closing.parents;
-      descriptions = closing.descriptions;
-      inodes = λ n there. elim (closing.inodes n there) [ inl is ↦ inl is | inr has ↦ inr (has_left n (unnamed k e) [] has) ];
-    } in
-    done end (freed_in_turn chosen e k) (inodes_wait end [] (unnamed k e) [] (all_closed (let_go k e) (applied chosen e k)) longer)
+turned_is_tidy chosen k e counts comes parents covers = all_turned (tidy (applied chosen e k)) (let_go k e) (unnamed k e) (applied chosen e k) (edit_waits chosen k e counts comes parents covers)

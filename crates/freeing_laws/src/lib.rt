@@ -7,6 +7,8 @@
 #![tactic(auto)]
 
 ghost use Rattle.freeing_laws.specs.Counts.{CountsChange, FreeingCounts};
+ghost use Rattle.freeing_laws.specs.Left.{LeftIsTidy};
+ghost use Rattle.freeing_laws.specs.Openings.{OpeningsChange};
 ghost use Rattle.freeing_laws.specs.Sweep.{SweepIsTidy};
 
 /// Each edit changes the counts of names, holders, openings and
@@ -24,4 +26,16 @@ pub fn freeing_counts()
 /// drops is among what the edits may have lost.
 pub fn sweep_is_tidy()
     ensures { SweepIsTidy }
+{}
+
+/// What effects leave to free is what slots let go and what has lost a name, and to free it in turn
+/// is to tidy. Proved in `proofs/Left.antt`.
+pub fn left_is_tidy()
+    ensures { LeftIsTidy }
+{}
+
+/// How openings change where one description comes or goes, on what openings and holders
+/// depend, and how many there are at most. Proved in `proofs/Openings.antt`.
+pub fn openings_change()
+    ensures { OpeningsChange }
 {}

@@ -8,7 +8,12 @@ use Rattle.kernel.proofs.Words.{executed_again, nowhere_seen, childless, phase_i
 use Rattle.kernel.proofs.Words.{IsDoomedBy, Doomed, effect, made_by, AreNew, with_change, view_at, changes_in, can_call, part_with, state_with, Asks, Stands}
 use Rattle.kernel.proofs.Words.{calling, moment, Fields, Dooms, CanEnter, IsIn, Moves, part_at, part_of, shown_by, changes_of, doomed_by, is_no_entry, is_some}
 use Rattle.kernel.proofs.Words.{Edit, FitsAll, is_alive, sum_by, news, not, IfOk, filter, get, Name, A_file, A_directory, A_pipe, names_of, Make_directory}
-use Rattle.kernel.proofs.Words.{Unname_directory, Touch, touches, edits_of, counted, all_done, CanEdit, Committed, NamesAreInUse, IsPlan, Plans, Live}
+use Rattle.kernel.proofs.Words.{Unname_directory, Touch, touches, edits_of, counted, all_done, CanEdit, Committed, IsPlan, Plans, Live}
+use Rattle.model.specs.Changes.{Make_file, Put_bytes, Cut, Open_inode, Set_offset, Clear_slot}
+use Rattle.call_laws.specs.Fits.{Fits}
+use Rattle.shadow.specs.Looks.{DirectoriesAreKept, HasNoPipes}
+use Rattle.shadow.specs.Steps.{IsOne, IsLast}
+use Rattle.kernel.proofs.Edits.{calls_edit}
 use Rattle.call_laws.specs.WellFormed.{WellFormed, IsRooted, Leads}
 use Rattle.std.proofs.lemmas.Bool.{cases_Bool, false≢true, or_left, or_right}
 use Rattle.model.specs.Plan.{Errno, Plan, answer as answer_to, given, ◌>>=◌, ◌>>◌, ENOENT, ENOTDIR, ENOTEMPTY, EEXIST, EBUSY, List_names, refuse_if, or_refuse}
@@ -17,46 +22,9 @@ use Rattle.call_laws.proofs.Laws.{fits, can_be_made, after_bind, whatever}
 use Rattle.model.specs.Paths.{is_empty}
 use Rattle.model.specs.Walks.{Place, parsed, walk, last_of, is_directory}
 use Rattle.model.specs.Plans.{Change, plan, status as told_status, absent}
-use Rattle.shadow.specs.Claims.{IsInUse, HaveParents}
+use Rattle.shadow.specs.Claims.{HasParent, HaveParents}
 use Rattle.calls.specs.declared.plan.Plan.{Plan as Planned}
 use Rattle.kernel.proofs.Entries.{IsSteady, pids, not_doomed, comes_to, enters, moves, stays, slot_changes, slot_views, caller_lives, free_at}
-
--- the edits of what a plan gives are those that are there
-abbrev Edits : Change → Type 0
-Edits change = CanEdit change.edits
-
--- whatever the first part of a plan gives
-after : {A : Type 0} (k : Kernel) (m : Plan A) (f : A → Plan Change) → ((x : A) → IfOk (given k (f x)) Edits) → IfOk (given k (m >>= f)) Edits
-after k m f h = after_bind k Edits m f (whatever (given k m) h)
-
-tells : (k : Kernel) (place : Place) → IfOk (given k (told_status place)) Edits
-tells k (n, Some A_file) = tt
-tells k (n, Some A_directory) = tt
-tells k (n, Some A_pipe) = tt
-tells k (n, None) = tt
-
-unless : (k : Kernel) (refused : Bool) (e : Errno) (m : Plan Change) → IfOk (given k m) Edits → IfOk (given k (refuse_if refused e >> m)) Edits
-unless k true e m h = tt
-unless k false e m h = h
-
-planned : (k : Kernel) (pid : ℕ) (call : Call) → can_call call ≡ true → IfOk (given k (plan (own k pid call) call)) Edits
-planned k pid (Stat path) h = after k (parsed path) _ (λ names. after k (walk (k.root, Some A_directory) names) _ (tells k))
-planned k pid (Mkdir path) h = after k (parsed path) _ (λ names. after k (last_of k.root EEXIST names) _ (λ at. after k (absent at.found) _ (λ _. refl)))
-planned k pid (Rmdir path) h =
-    after k (parsed path) _ (λ names. after k (last_of k.root EBUSY names) _ (λ at. after k (or_refuse ENOENT at.found) _ (λ what. unless k (not (is_directory what)) ENOTDIR _ (unless k (not (is_empty (answer_to k (List_names what.0)))) ENOTEMPTY _ tt))))
-planned k pid (List_directory path) h = after k (parsed path) _ (λ names. after k (walk (k.root, Some A_directory) names) _ (λ place. unless k (not (is_directory place)) ENOTDIR _ tt))
-planned k pid call h = absurd (false≢true h)
-
-calls_edit : (k : Kernel) (pid : ℕ) (call : Call) → can_call call ≡ true → CanEdit (edits k pid call)
-calls_edit k pid call h = by (given k (plan (own k pid call) call)) (planned k pid call h) where
-  by : (r : Result Change Errno) → IfOk r Edits → CanEdit (edits_of r)
-  by (Ok change) is = is
-  by (Err e) is = tt
-
--- where a path leads to is in use
-led : (P : ℕ → Type 0) (k : Kernel) → ((d : ℕ) (x : Name) (n : ℕ) → get (names_of k d) x ≡ Some n → P n) → (path : List Name) (a b : ℕ) → P a → Leads k a path b → P b
-led P k names [] a b here leads = subst P leads here
-led P k names (x ∷ xs) a b here leads = led P k names xs leads.0 b (names a x leads.0 leads.1) leads.2
 
 -- the touches that count
 abbrev counted_by : Option (BeginFlags × ℕ) → List Touch → List Touch
@@ -66,21 +34,37 @@ counts : (m : Moment) (pid : ℕ) (call : Call) (within : Option (BeginFlags × 
 counts m pid call None is = ap (λ s. counted s (touches (seen_by m pid) pid call)) (sym (phase_is m pid idle is (λ h. absurd cc)))
 counts m pid call (Some within) is = ap (λ s. counted s (touches (seen_by m pid) pid call)) (sym (phase_is m pid (live within.0 within.1 is.0) is.1 (λ h. absurd cc)))
 
--- a call's new name stands in a directory that a path leads to
-have_parents : (v : Committed) (pid : ℕ) (call : Call) → WellFormed v.state → is_alive v.state pid ≡ true → NamesAreInUse v → can_call call ≡ true → HaveParents v.reserves (edits v.state pid call)
-have_parents v pid call well alive used there =
-    let can = can_be_made v.state pid call well alive in
-    by can.0 (edits v.state pid call) (calls_edit v.state pid call there) (fits v.state pid call can.0 can.1)
-  where
-    in_use : (d : ℕ) → IsRooted v.state d → IsInUse v.reserves d
-    in_use d rooted = let path = well.leads d rooted in led (IsInUse v.reserves) v.state used.names path.0 v.state.root d used.root path.1
+-- a call's new name stands in a directory, which is kept
+abbrev Parents : Committed → List Edit → Type 0
+Parents v es = HaveParents v.reserves es
 
+first_parents : (v : Committed) → DirectoriesAreKept v → (chosen : List ℕ) (e : Edit) → Fits chosen v.state e → IsOne e → HasParent v.reserves e
+first_parents v kept chosen (Make_directory d x i) fit is = (kept d fit.0.parent.directory, tt)
+first_parents v kept chosen (Make_file d x i) fit is = (kept d fit.0.parent.directory, tt)
+first_parents v kept chosen (Unname_directory d x n) fit is = tt
+first_parents v kept chosen (Put_bytes n place bytes before) fit is = tt
+first_parents v kept chosen (Cut n before later) fit is = tt
+first_parents v kept chosen (Open_inode i inode mode pid f) fit is = tt
+first_parents v kept chosen (Set_offset d place) fit is = tt
+first_parents v kept chosen (Clear_slot pid f pipes) fit is = tt
+first_parents v kept chosen e fit is = elim is [ inl first ↦ absurd first | inr last ↦ absurd last.1 ]
+
+last_parents : (v : Committed) (m : ℕ) (e : Edit) → IsLast m e → HasParent v.reserves e
+last_parents v m (Open_inode i inode mode pid f) is = tt
+last_parents v m (Set_offset d place) is = tt
+last_parents v m (Clear_slot pid f pipes) is = tt
+last_parents v m e is = absurd is
+
+have_parents : (v : Committed) (pid : ℕ) (call : Call) → WellFormed v.state → HasNoPipes v.state → is_alive v.state pid ≡ true → DirectoriesAreKept v → can_call call ≡ true → HaveParents v.reserves (edits v.state pid call)
+have_parents v pid call well none alive kept there =
+    let can = can_be_made v.state pid call well alive in
+    by can.0 (edits v.state pid call) (calls_edit v.state pid well none call there) (fits v.state pid call can.0 can.1)
+  where
     by : (chosen : List ℕ) (es : List Edit) → CanEdit es → FitsAll chosen v.state es → HaveParents v.reserves es
     by chosen [] can fit = tt
-    by chosen (Make_directory d x i ∷ []) can fit = (in_use d fit.0.0.parent, tt)
-    by chosen (Unname_directory d x n ∷ []) can fit = (tt, tt)
-    by chosen (e ∷ []) can fit = absurd can
-    by chosen (e ∷ f ∷ es) can fit = absurd can
+    by chosen (e ∷ []) can fit = (first_parents v kept chosen e fit.0 (elim can [ inl first ↦ inl first | inr last ↦ inr (0, last) ]), tt)
+    by chosen (e ∷ f ∷ []) can fit = (first_parents v kept chosen e fit.0 (inl can.0), last_parents v (news e) f can.1.1, tt)
+    by chosen (e ∷ f ∷ g ∷ es) can fit = absurd can
 
 -- what a plan over the slots gives is what the history says
 module _ (f : Fields) (pid : ℕ) (within : Option (BeginFlags × ℕ)) (call : Call) (asks : Asks f pid (calling within) (Do call)) where
@@ -88,9 +72,9 @@ module _ (f : Fields) (pid : ℕ) (within : Option (BeginFlags × ℕ)) (call : 
   sees = record (f.stable) { state = all_done (changes_in (view_at f.slots pid)) f.stable.state }
 
   -- with the touches that count
-  pub plans : (p q : Planned) → IsPlan sees.state pid call p → NamesAreInUse sees → q.answer ≡ p.answer → q.touches.items ≡ counted_by within p.touches.items → q.edits.items ≡ p.edits.items
+  pub plans : (p q : Planned) → IsPlan sees.state pid call p → DirectoriesAreKept sees → HasNoPipes sees.state → q.answer ≡ p.answer → q.touches.items ≡ counted_by within p.touches.items → q.edits.items ≡ p.edits.items
       → record { answer : q.answer ≡ reply (seen_by (moment f.log) pid) pid call; plans : Plans f pid call q.touches.items q.edits.items }
-  plans p q is used answers counts_only edits_same =
+  plans p q is used none answers counts_only edits_same =
       let seen = slot_views f asks.holds pid in
       let goes = (views_may_be_loose 0 f.log.priorities f.log.limit f.log.entries asks.holds.legal pid).goes_on call in
       let list = (what_stands 0 f.log.priorities f.log.limit f.log.entries asks.holds.legal).lists pid in
@@ -101,8 +85,8 @@ module _ (f : Fields) (pid : ℕ) (within : Option (BeginFlags × ℕ)) (call : 
         plans = record {
           touches = counts_only ∙ ap (counted_by within) (is.touches ∙ ap (λ k. touches k pid call) seen ∙ sym goes.touches) ∙ counts (moment f.log) pid call within asks.stands;
           edits = edits_same ∙ is.edits ∙ ap (λ k. edits k pid call) seen ∙ sym goes.edits;
-          kinds = subst CanEdit (sym (edits_same ∙ is.edits)) (calls_edit sees.state pid call asks.there);
-          parents = subst (HaveParents f.stable.reserves) (sym (edits_same ∙ is.edits)) (have_parents sees pid call well alive used asks.there);
+          kinds = subst CanEdit (sym (edits_same ∙ is.edits)) (calls_edit sees.state pid well none call asks.there);
+          parents = subst (HaveParents f.stable.reserves) (sym (edits_same ∙ is.edits)) (have_parents sees pid call well none alive used asks.there);
         };
       }
 

@@ -1,3 +1,4 @@
 mod Words
 mod Entries
+mod Edits
 mod Calls

@@ -33,9 +33,9 @@ pub use Rattle.commit.specs.Views.{AreFirst, View, gone_slot, causes_of, changes
 pub use Rattle.contention.specs.Contenders.{SetsContender, Contender, contender_at, contender_of, live_age, nobody}
 pub use Rattle.contention.specs.Verdicts.{IsDoomedBy, IsVerdict}
 pub use Rattle.contention.specs.declared.Doomed.{Doomed}
-pub use Rattle.shadow.specs.Changes.{CanEdit, effect}
+pub use Rattle.shadow.specs.Log.{effect}
+pub use Rattle.shadow.specs.Steps.{CanEdit}
 pub use Rattle.shadow.specs.Committed.{Committed}
-pub use Rattle.shadow.specs.Looks.{NamesAreInUse}
 pub use Rattle.kernel.specs.Shown.{Kept, Shown, is_live, is_live_status, moment}
 pub use Rattle.kernel.specs.States.{Asks, CanEnter, CanEndTransaction, Does, Dooms, Fields, IsConsistent, IsIn, Moves, Part, Plans, Stands, Unchanged, calling}
 pub use Rattle.kernel.specs.States.{changes_of, cleared, doomed_by, fields, part_at, part_of, part_with, plain, settled_as, shown, shown_by, state_with}

@@ -23,7 +23,7 @@ use Rattle.kernel.specs.Operations.{can_run}
 use Rattle.model.specs.Changes.{Edit, tidy}
 use Rattle.model.specs.Calls.{Call}
 use Rattle.model.specs.Steps.{Touch, edits}
-use Rattle.shadow.specs.Changes.{CanEdit}
+use Rattle.shadow.specs.Steps.{CanEdit}
 use Rattle.shadow.specs.Claims.{HaveParents}
 use Rattle.commit.specs.Edits.{with_change}
 

@@ -6,7 +6,7 @@ ghost use Rattle.model.specs.Moments.{counted_touches, seen_by};
 ghost use Rattle.model.specs.Replies.{answered};
 ghost use Rattle.model.specs.Steps.{reply};
 ghost use Rattle.contention.specs.Verdicts.{IsVerdict};
-ghost use Rattle.shadow.specs.Changes.{effect};
+ghost use Rattle.shadow.specs.Log.{effect};
 ghost use Rattle.commit.specs.Edits.{AreNew};
 ghost use Rattle.kernel.specs.States.{Asks, Does, Dooms, IsIn, Moves, Plans, Unchanged};
 ghost use Rattle.kernel.specs.States.{calling, fields, part_at, part_with, state_with};
@@ -72,7 +72,8 @@ fn plan_for(s: &State, pid: Pid, within: &Within, call: &Call) -> Result<Plan, A
         Plans (fields s.now) pid call.now p.touches.items p.edits.items) }
 {
     let view = s.transactions.view(pid);
-    s.transactions.names_are_in_use(pid);
+    s.transactions.directories_are_kept(pid);
+    s.transactions.has_no_pipes(pid);
     let mut plan = plan_of(s.heap, &view, pid, call)?;
     if within.is_none() {
         keep_writes(&mut plan.touches);

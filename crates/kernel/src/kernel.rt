@@ -4,6 +4,7 @@ ghost use Rattle.std.specs.Prelude.{◌≡◌, ◌<◌, ◌≤◌, [], true, len
 ghost use Rattle.model.specs.Changes.{tidy};
 ghost use Rattle.model.specs.Moments.{is_alive, seen_by};
 ghost use Rattle.model.specs.Effects.{all_done};
+ghost use Rattle.freeing_laws.specs.Sweep.{AllFit};
 ghost use Rattle.history_laws.specs.Headline.{IsSerializable};
 ghost use Rattle.history_laws.specs.Limits.{StaysWithinLimits};
 ghost use Rattle.history_laws.specs.Trees.{IsATree};
@@ -99,8 +100,10 @@ impl Kernel {
 
     /// What a process has changed in its live transaction, if it is in one. With these changes on
     /// top of the committed state, and what nothing leads to freed, it sees what the history says.
+    /// The changes fit the states that they find.
     pub fn shadow(&self, pid: Pid) -> Option<&Shadow>
         ensures live { is_some result ≡ is_live (moment self.now.log) pid }
+        ensures fits { IfSome result (λ s. AllFit s.now self.now.state) }
         ensures sees { IfSome result (λ s.
             tidy (all_done s.now self.now.state) ≡ seen_by (moment self.now.log) pid) }
     {

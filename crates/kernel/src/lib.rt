@@ -1,6 +1,7 @@
 //! The kernel: one step of one process at a time, with transactions.
 //!
-//! Today there are directories, and the calls mkdir, stat, rmdir and list on them.
+//! Today there are directories and files, and the calls on them and on descriptors but those that
+//! add, remove or move a name of a file.
 #![tactic(auto)]
 
 mod execute;

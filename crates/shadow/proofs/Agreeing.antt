@@ -1,269 +1,213 @@
--- What is noted of names agrees with the changes, and still does after one change more.
-use Rattle.std.proofs.Common.{◌≡◌, ◌≢◌, ℕ, suc, ◌+◌, ◌<◌, ◌≤◌, not, Bool, true, false, cond, List, [], ◌∷◌, ◌++◌, length, map, Option, Some, None, IfSome, refl, sym, ap, ◌∙◌, arith, ◌==◌, eq-eqb, eqb-true, ne_eqb, ap₂, subst, Result, Ok, Err, IfOk, inl, inr, ◌⊎◌}
-use Rattle.std.specs.Prelude.{⊤}
-use Rattle.std.specs.List.{AllByRecursion}
-use Rattle.std.specs.Ordering.{eq_by_cmp}
-use Rattle.std.specs.Cmp.Lexicographic.{nat_list_cmp_total}
-use Rattle.std.proofs.lemmas.List.Sums.{sum_by_push}
-use Rattle.model.specs.FiniteMap.{FinMap, entries, get, insert, keys, len, len-empty, len-entries, get-insert, get-empty, same_map}
-use Rattle.model.specs.Paths.{is_empty}
-use Rattle.model.specs.State.{Name, name_cmp, A_directory, Kernel, kind_of, names_of, entry_of}
+-- What a transaction keeps agrees with its changes, and still does after one call more.
+use Rattle.std.proofs.Common.{◌≡◌, ◌↔◌, ℕ, ◌+◌, ◌==◌, ◌≤◌, max, Bool, true, cond, Contains, length, sum_by, List, [], ◌∷◌, ◌++◌, append_assoc, append-nil, Option, None, is_some, refl, sym, ap, ap₂, subst, ◌∙◌, arith, inl, inr, ◌⊎◌}
+use Rattle.std.specs.List.{AllByRecursion, flat_map}
+use Rattle.std.proofs.lemmas.List.Elements.{Contains-append_cases, Contains-append_left, Contains-append_right}
+use Rattle.std.proofs.lemmas.List.Sums.{sum_by-append, sum_by_push}
+use Rattle.model.specs.FiniteMap.{get}
+use Rattle.model.specs.State.{Kernel, file_of, kind_of}
+use Rattle.model.specs.Changes.{Edit, all_applied, news}
 use Rattle.model.specs.Effects.{Effect, all_done}
-use Rattle.model.proofs.Laws.{name_exact}
-use Rattle.call_laws.proofs.Laws.{not_none, some_same, true_is_false}
-use Rattle.dirlist.specs.Patches.{IsLaid, or_before}
-use Rattle.shadow.specs.Changes.{Step, Nothing, Make, Unname}
-use Rattle.shadow.specs.declared.changes.Change.{Change}
-use Rattle.shadow.specs.Claims.{Claim, Room, Number, claimed, claimed_by, number_of}
-use Rattle.shadow.specs.Changes.{effect_of}
-use Rattle.shadow.specs.Agrees.{Agrees}
-use Rattle.shadow.specs.Laid.{is_touched}
-use Rattle.shadow.proofs.Touched.{added_after, added_none, changed_after, come, fit_split, found_after, gone_after, kinds_after, lost_of, others_after, there_after}
-use Rattle.shadow.specs.Changed.{bare, change_at, claim_in, fresh, kept_at, noted, now_given, or_untouched, untouched}
-use Rattle.shadow.specs.Looks.{NamesAreDirectories, directory_at}
-use Rattle.shadow.proofs.Views.{found, after_step, found_after as found_after_step, done_more, directories_all, entry_told}
+use Rattle.model.specs.Moments.{is_in}
+use Rattle.model.specs.Steps.{AllDifferent}
+use Rattle.call_laws.specs.Fits.{FitsAll}
+use Rattle.freeing_laws.specs.Counts.{times}
+use Rattle.freeing_laws.specs.Left.{all_named, all_unnamed, named_along, unnamed_along}
+use Rattle.freeing_laws.specs.Sweep.{AllFit}
+use Rattle.shadow.specs.Agrees.{Agrees, IsOver, IsOverDescription, blocks_written}
+use Rattle.shadow.specs.Claims.{AreUnused, Claim, Covers, KeepsMore, KeepsSame, Room, New_directory, Number, as_count, claim_in, claimed, claimed_by, claimed_in, is_directory_made, kinds_in, number_of, reserved, with_kinds}
+use Rattle.shadow.specs.Committed.{Committed}
+use Rattle.shadow.specs.Log.{effect}
+use Rattle.shadow.specs.Notes.{SamePatches}
+use Rattle.shadow.specs.Patches.{Net, Patches, added_by, form_of, is_new, kept_at, net_at, numbers_in, patched, reopened, reslotted_by, slots_in}
+use Rattle.shadow.specs.Steps.{AreApart, CanEdit, IsOne, TakesAll, blocks_by, parents_in}
+use Rattle.shadow.proofs.Along.{Along, along_all, along_same}
+use Rattle.shadow.proofs.EditsClaim.{AreFree, all_one, claims_more, other_claims}
 
-pub untouched_kept : is_touched untouched ≡ false
-untouched_kept = ap (λ n. not (n == 0)) (len-empty name_cmp (Option ℕ))
-
-pub agrees_none : Agrees [] [] []
+-- nothing is changed
+pub agrees_none : Agrees [] (record { inodes = []; openings = []; slots = []; lost = [] })
 agrees_none = record {
-  steps = [];
-  forms = refl;
-  names = λ k d x. sym (ap (λ o. or_before o (found k d x)) (get-empty name_cmp x));
-  numbers = λ d x n is. absurd (not_none (Some n) (sym is ∙ get-empty name_cmp x));
-  kinds = λ k n t. absurd (true_is_false (sym t ∙ untouched_kept));
-  others = λ k n t. refl;
-  found = λ k n f t m. absurd (true_is_false (sym t ∙ untouched_kept));
+  root = λ k. refl;
+  count = λ k. refl;
+  inodes = λ k n. refl;
+  descriptions = λ k d. refl;
+  processes = λ k pid. refl;
+  named = λ n. refl;
+  unnamed = λ n. refl;
+  lost = λ k. refl;
   claims = none;
-  added = λ n. added_none;
-  gone = λ k. refl;
-  there = λ k f. tt;
+  added = λ n. omega arith;
+  kinds = λ k n f. tt;
+  rooms = λ k n f. omega arith;
+  written = λ k n b f. (λ has. has, λ has. has);
+  moved = λ k d f. tt;
+  alive = λ k pid f some. absurd (some refl);
 }
   where
-    none : (c : Claim) → claimed c [] ≡ claim_in untouched c
+    none : (c : Claim) → claimed c [] ≡ claim_in (record { inodes = []; openings = []; slots = []; lost = [] }) c
     none (Room d) = refl
+    none (New_directory n) = refl
     none (Number n) = refl
 
--- what a name gives after a note of it or of another name, and in a new directory
-now_noted : (c : Change) (x : Name) (g : Option ℕ) (y : Name) (f : Option ℕ) → now_given (noted x g c) y f ≡ cond (eq_by_cmp name_cmp y x) g (now_given c y f)
-now_noted c x g y f = ap (λ o. or_before o (cond c.made None f)) (get-insert nat_list_cmp_total c.names x g y) ∙ by_test (eq_by_cmp name_cmp y x)
-  where
-    by_test : (b : Bool) → or_before (cond b (Some g) (get c.names y)) (cond c.made None f) ≡ cond b g (now_given c y f)
-    by_test true = refl
-    by_test false = refl
+-- effects in a row, and one more
+pub done_more : (ds : List Effect) (d : Effect) (k : Kernel) → all_done (ds ++ d ∷ []) k ≡ all_applied d.chosen d.edits (all_done ds k)
+done_more [] d k = refl
+done_more (x ∷ ds) d k = done_more ds d (all_applied x.chosen x.edits k)
 
-now_fresh : (y : Name) (f : Option ℕ) → now_given fresh y f ≡ None
-now_fresh y f = ap (λ o. or_before o None) (get-empty name_cmp y)
+pub fit_split : (ds : List Effect) (d : Effect) (k : Kernel) → AllFit (ds ++ d ∷ []) k → AllFit ds k × FitsAll d.chosen (all_done ds k) d.edits
+fit_split [] d k f = (tt, f.0)
+fit_split (x ∷ ds) d k f = let rest = fit_split ds d (all_applied x.chosen x.edits k) f.1 in ((f.0, rest.0), rest.1)
 
-pub untouched_given : (x : Name) (f : Option ℕ) → now_given untouched x f ≡ f
-untouched_given x f = ap (λ o. or_before o f) (get-empty name_cmp x)
+named_more : (n : ℕ) (ds : List Effect) (d : Effect) → times n (named_along (ds ++ d ∷ [])) ≡ times n (named_along ds) + times n (all_named d.chosen d.edits)
+named_more n [] d = ap (times n) (append-nil (all_named d.chosen d.edits)) ∙ omega arith
+named_more n (x ∷ ds) d =
+    let now : List ℕ = all_named x.chosen x.edits in
+    let more : times n (now ++ named_along (ds ++ d ∷ [])) ≡ times n now + times n (named_along (ds ++ d ∷ [])) = sum_by-append (λ v. cond (v == n) 1 0) now (named_along (ds ++ d ∷ [])) in
+    let old : times n (now ++ named_along ds) ≡ times n now + times n (named_along ds) = sum_by-append (λ v. cond (v == n) 1 0) now (named_along ds) in
+    let rest : times n (named_along (ds ++ d ∷ [])) ≡ times n (named_along ds) + times n (all_named d.chosen d.edits) = named_more n ds d in omega arith
 
--- a new number is not the one of its parent
-abbrev pub IsApart : Step → Type 0
-IsApart Nothing = ⊤
-IsApart (Make d x n) = n ≢ d
-IsApart (Unname d x n) = ⊤
+unnamed_more : (ds : List Effect) (d : Effect) (k : Kernel) → unnamed_along (ds ++ d ∷ []) k ≡ unnamed_along ds k ++ all_unnamed d.chosen d.edits (all_done ds k)
+unnamed_more [] d k = append-nil (all_unnamed d.chosen d.edits k)
+unnamed_more (x ∷ ds) d k =
+    let now : List ℕ = all_unnamed x.chosen x.edits k in let later : Kernel = all_applied x.chosen x.edits k in
+    ap (λ l. now ++ l) (unnamed_more ds d later) ∙ sym (append_assoc now (unnamed_along ds later) (all_unnamed d.chosen d.edits (all_done ds later)))
 
-given_after : (s : Step) → IsApart s → (at : ℕ → Change) (e : ℕ) (y : Name) (f : Option ℕ) → after_step s e y (now_given (at e) y f) ≡ now_given (changed_after s at e) y f
-given_after Nothing apart at e y f = refl
-given_after (Unname d x n) apart at e y f = by_test (e == d)
-  where
-    by_test : (b : Bool) → cond (Rattle.std.proofs.Common.◌&&◌ b (eq_by_cmp name_cmp y x)) None (now_given (at e) y f) ≡ now_given (cond b (noted x None (at e)) (at e)) y f
-    by_test true = sym (now_noted (at e) x None y f)
-    by_test false = refl
-given_after (Make d x n) apart at e y f = by_tests (e == d) (e == n) refl refl
-  where
-    by_tests : (b c : Bool) → (e == d) ≡ b → (e == n) ≡ c
-        → cond (Rattle.std.proofs.Common.◌&&◌ b (eq_by_cmp name_cmp y x)) (Some n) (cond c None (now_given (at e) y f)) ≡ now_given (cond b (noted x (Some n) (at e)) (cond c fresh (at e))) y f
-    by_tests true true h i = absurd (apart (sym (eqb-true e n i) ∙ eqb-true e d h))
-    by_tests true false h i = sym (now_noted (at e) x (Some n) y f)
-    by_tests false true h i = sym (now_fresh y f)
-    by_tests false false h i = refl
+written_more : (n : ℕ) (ds : List Effect) (d : Effect) → blocks_written n (ds ++ d ∷ []) ≡ blocks_written n ds ++ flat_map (blocks_by n) d.edits
+written_more n [] d = append-nil (flat_map (blocks_by n) d.edits)
+written_more n (x ∷ ds) d =
+    ap (λ l. flat_map (blocks_by n) x.edits ++ l) (written_more n ds d) ∙ sym (append_assoc (flat_map (blocks_by n) x.edits) (blocks_written n ds) (flat_map (blocks_by n) d.edits))
 
-pub claimed_more : (c : Claim) (ds : List Effect) (d : Effect) → claimed c (ds ++ d ∷ []) ≡ claimed c ds + claimed_by c d
-claimed_more c ds d = sum_by_push (claimed_by c) ds d
+-- `Agrees` is `Along` with the claims
+abbrev AlongAll : List Effect → Patches → Type 0
+AlongAll ds p = Along (all_done ds) (AllFit ds) (λ n. times n (named_along ds)) (unnamed_along ds) (λ n b. Contains (blocks_written n ds) b) p
 
--- what is noted to give a number was so before, or gives it now
-noted_came : (c : Change) (x : Name) (g : Option ℕ) (y : Name) (m : ℕ) → get (insert c.names x g) y ≡ Some (Some m) → (get c.names y ≡ Some (Some m)) ⊎ (g ≡ Some m)
-noted_came c x g y m is = by_test (eq_by_cmp name_cmp y x) (sym (get-insert nat_list_cmp_total c.names x g y) ∙ is)
-  where
-    by_test : (b : Bool) → cond b (Some g) (get c.names y) ≡ Some (Some m) → (get c.names y ≡ Some (Some m)) ⊎ (g ≡ Some m)
-    by_test true e = inr (some_same g (Some m) e)
-    by_test false e = inl e
-
-came : (s : Step) (at : ℕ → Change) (e : ℕ) (y : Name) (m : ℕ) → get (changed_after s at e).names y ≡ Some (Some m) → (get (at e).names y ≡ Some (Some m)) ⊎ (0 < claimed_by (Number m) (effect_of s))
-came Nothing at e y m is = inl is
-came (Unname d x n) at e y m is = by_test (e == d) is
-  where
-    by_test : (b : Bool) → get (cond b (noted x None (at e)) (at e)).names y ≡ Some (Some m) → (get (at e).names y ≡ Some (Some m)) ⊎ (0 < 0)
-    by_test true is = elim (noted_came (at e) x None y m is) [ inl old ↦ inl old | inr new ↦ absurd (not_none m (sym new)) ]
-    by_test false is = inl is
-came (Make d x n) at e y m is = by_tests (e == d) (e == n) is
-  where
-    one : Some n ≡ Some m → 0 < claimed_by (Number m) (effect_of (Make d x n))
-    one new = let is : claimed_by (Number m) (effect_of (Make d x n)) ≡ 1 = ap (λ b. 0 + cond b 1 0) (eq-eqb n m (some_same n m new)) in omega arith
-
-    by_tests : (b c : Bool) → get (cond b (noted x (Some n) (at e)) (cond c fresh (at e))).names y ≡ Some (Some m) → (get (at e).names y ≡ Some (Some m)) ⊎ (0 < claimed_by (Number m) (effect_of (Make d x n)))
-    by_tests true c is = elim (noted_came (at e) x (Some n) y m is) [ inl old ↦ inl old | inr new ↦ inr (one new) ]
-    by_tests false true is = absurd (not_none (Some m) (sym is ∙ get-empty name_cmp y))
-    by_tests false false is = inl is
-
--- what one change more claims
-claim_after : (s : Step) → IsApart s → (at : ℕ → Change) (ds : List Effect) → AllByRecursion (λ n. (c : Claim) → number_of c ≡ n → claimed c ds ≡ 0) (effect_of s).chosen
-    → ((c : Claim) → claimed c ds ≡ claim_in (at (number_of c)) c) → (c : Claim) → claimed c ds + claimed_by c (effect_of s) ≡ claim_in (changed_after s at (number_of c)) c
-claim_after Nothing apart at ds unused is c = (let same : claimed c ds ≡ claim_in (at (number_of c)) c = is c in let none : claimed_by c (effect_of Nothing) ≡ 0 = by_claim c in omega arith)
-  where
-    by_claim : (c : Claim) → claimed_by c (effect_of Nothing) ≡ 0
-    by_claim (Room r) = refl
-    by_claim (Number m) = refl
-claim_after (Unname d x n) apart at ds unused is c = (
-    let same : claimed c ds ≡ claim_in (at (number_of c)) c = is c in
-    let none : claimed_by c (effect_of (Unname d x n)) ≡ 0 = by_claim c in
-    let still : claim_in (changed_after (Unname d x n) at (number_of c)) c ≡ claim_in (at (number_of c)) c = by_test (number_of c == d) c in omega arith)
-  where
-    by_claim : (c : Claim) → claimed_by c (effect_of (Unname d x n)) ≡ 0
-    by_claim (Room r) = refl
-    by_claim (Number m) = refl
-
-    by_test : (b : Bool) (c : Claim) → claim_in (cond b (noted x None (at (number_of c))) (at (number_of c))) c ≡ claim_in (at (number_of c)) c
-    by_test true (Room r) = omega arith
-    by_test true (Number m) = refl
-    by_test false c = refl
-claim_after (Make d x n) apart at ds unused is (Room r) = by_tests (r == d) (r == n) refl refl
-  where
-    here : claimed_by (Room r) (effect_of (Make d x n)) ≡ 0 + cond (d == r) 1 0
-    here = refl
-
-    by_tests : (b c : Bool) → (r == d) ≡ b → (r == n) ≡ c → claimed (Room r) ds + claimed_by (Room r) (effect_of (Make d x n)) ≡ (cond b (noted x (Some n) (at r)) (cond c fresh (at r))).promised
-    by_tests true c h i = (
-        let same : claimed (Room r) ds ≡ (at r).promised = is (Room r) in
-        let one : claimed_by (Room r) (effect_of (Make d x n)) ≡ 1 = here ∙ ap (λ b. 0 + cond b 1 0) (eq-eqb d r (sym (eqb-true r d h))) in omega arith)
-    by_tests false true h i = (
-        let zero : claimed (Room r) ds ≡ 0 = unused.0 (Room r) (eqb-true r n i) in
-        let none : claimed_by (Room r) (effect_of (Make d x n)) ≡ 0 = here ∙ ap (λ b. 0 + cond b 1 0) (ne_eqb d r (λ e. true_is_false (sym (eq-eqb r d (sym e)) ∙ h))) in omega arith)
-    by_tests false false h i = (
-        let same : claimed (Room r) ds ≡ (at r).promised = is (Room r) in
-        let none : claimed_by (Room r) (effect_of (Make d x n)) ≡ 0 = here ∙ ap (λ b. 0 + cond b 1 0) (ne_eqb d r (λ e. true_is_false (sym (eq-eqb r d (sym e)) ∙ h))) in omega arith)
-claim_after (Make d x n) apart at ds unused is (Number m) = by_tests (m == d) (m == n) refl refl
-  where
-    here : claimed_by (Number m) (effect_of (Make d x n)) ≡ 0 + cond (n == m) 1 0
-    here = refl
-
-    away : (m == n) ≡ false → claimed_by (Number m) (effect_of (Make d x n)) ≡ 0
-    away h = here ∙ ap (λ b. 0 + cond b 1 0) (ne_eqb n m (λ e. true_is_false (sym (eq-eqb m n (sym e)) ∙ h)))
-
-    by_tests : (b c : Bool) → (m == d) ≡ b → (m == n) ≡ c → claimed (Number m) ds + claimed_by (Number m) (effect_of (Make d x n)) ≡ cond (cond b (noted x (Some n) (at m)) (cond c fresh (at m))).made 1 0
-    by_tests true true h i = absurd (apart (sym (eqb-true m n i) ∙ eqb-true m d h))
-    by_tests true false h i = (let same : claimed (Number m) ds ≡ cond (at m).made 1 0 = is (Number m) in let none : claimed_by (Number m) (effect_of (Make d x n)) ≡ 0 = away i in omega arith)
-    by_tests false true h i = (
-        let zero : claimed (Number m) ds ≡ 0 = unused.0 (Number m) (eqb-true m n i) in
-        let one : claimed_by (Number m) (effect_of (Make d x n)) ≡ 1 = here ∙ ap (λ b. 0 + cond b 1 0) (eq-eqb n m (sym (eqb-true m n i))) in omega arith)
-    by_tests false false h i = (let same : claimed (Number m) ds ≡ cond (at m).made 1 0 = is (Number m) in let none : claimed_by (Number m) (effect_of (Make d x n)) ≡ 0 = away i in omega arith)
-
-steps_more : (xs : List Step) (s : Step) → map effect_of (xs ++ s ∷ []) ≡ map effect_of xs ++ effect_of s ∷ []
-steps_more [] s = refl
-steps_more (x ∷ xs) s = ap (λ ds. effect_of x ∷ ds) (steps_more xs s)
-
-pub agrees_after : (ds : List Effect) (changes after : List (ℕ × Change)) (lost : List ℕ) (s : Step) → Agrees ds changes lost → IsApart s → AllByRecursion (λ n. (c : Claim) → number_of c ≡ n → claimed c ds ≡ 0) (effect_of s).chosen
-    → ((n : ℕ) → change_at after n ≡ changed_after s (change_at changes) n) → Agrees (ds ++ effect_of s ∷ []) after (lost ++ lost_of s)
-agrees_after ds changes after lost s a apart unused is = record {
-  steps = a.steps ++ s ∷ [];
-  forms = ap (λ ds. ds ++ effect_of s ∷ []) a.forms ∙ sym (steps_more a.steps s);
-  names = λ k d x.
-      ap (λ t. found t d x) (done_more ds (effect_of s) k) ∙ found_after_step s (all_done ds k) d x ∙ ap (after_step s d x) (a.names k d x)
-      ∙ given_after s apart (change_at changes) d x (found k d x) ∙ ap (λ (c : Change). now_given c x (found k d x)) (sym (is d));
-  numbers = λ d x n has. (
-      let more : claimed (Number n) (ds ++ effect_of s ∷ []) ≡ claimed (Number n) ds + claimed_by (Number n) (effect_of s) = claimed_more (Number n) ds (effect_of s) in
-      elim (came s (change_at changes) d x n (ap (λ (c : Change). get c.names x) (sym (is d)) ∙ has)) [
-        | inl old ↦ (let some : 0 < claimed (Number n) ds = a.numbers d x n old in omega arith)
-        | inr new ↦ omega (arith, new)
-      ]);
-  kinds = λ k n t. ap (λ k. kind_of k n) (done_more ds (effect_of s) k) ∙ kinds_after s (all_done ds k) (change_at changes) n (a.kinds k n) (ap is_touched (sym (is n)) ∙ t);
-  others = λ k n t. (
-      let before = others_after s (all_done ds k) (change_at changes) n (ap is_touched (sym (is n)) ∙ t) in
-      ap (λ (k : Kernel). get k.inodes n) (done_more ds (effect_of s) k) ∙ before.0 ∙ a.others k n before.1);
-  found = λ k n f t m. (
-      let parts = fit_split ds (effect_of s) k f in
-      found_after s k (all_done ds k) (change_at changes) n parts.1 (a.found k n parts.0) (a.others k n) (ap is_touched (sym (is n)) ∙ t) (ap (λ (c : Change). c.made) (sym (is n)) ∙ m));
-  claims = λ c. claimed_more c ds (effect_of s) ∙ claim_after s apart (change_at changes) ds unused a.claims c ∙ ap (λ (kept : Change). claim_in kept c) (sym (is (number_of c)));
-  added = λ n. subst (λ (c : Change). come (entries c.names) ≤ c.promised) (sym (is n)) (added_after s (change_at changes) n (a.added n));
-  gone = λ k. gone_after ds s lost k (a.gone k);
-  there = λ k f. (
-      let parts = fit_split ds (effect_of s) k f in
-      subst (λ k. AllByRecursion (λ n. kind_of k n ≡ Some A_directory) (lost ++ lost_of s)) (sym (done_more ds (effect_of s) k)) (there_after s (all_done ds k) lost parts.1 (a.there k parts.0)));
+along_of : (ds : List Effect) (p : Patches) → Agrees ds p → AlongAll ds p
+along_of ds p a = record {
+  root = a.root;
+  count = a.count;
+  inodes = a.inodes;
+  descriptions = a.descriptions;
+  processes = a.processes;
+  named = a.named;
+  unnamed = a.unnamed;
+  lost = a.lost;
+  added = a.added;
+  kinds = a.kinds;
+  rooms = a.rooms;
+  written = a.written;
+  moved = a.moved;
+  alive = a.alive;
 }
 
-pub all_of : (ns : List ℕ) → ns ++ [] ≡ ns
-all_of [] = refl
-all_of (n ∷ ns) = ap (λ ms. n ∷ ms) (all_of ns)
-
--- where what is kept stays as it is
-pub agrees_still : (ds : List Effect) (changes after : List (ℕ × Change)) (lost : List ℕ) → Agrees ds changes lost → ((n : ℕ) → change_at after n ≡ change_at changes n) → Agrees ds after lost
-agrees_still ds changes after lost a is = record {
-  steps = a.steps;
-  forms = a.forms;
-  names = λ k d x. a.names k d x ∙ ap (λ (c : Change). now_given c x (found k d x)) (sym (is d));
-  numbers = λ d x n has. a.numbers d x n (ap (λ (c : Change). get c.names x) (sym (is d)) ∙ has);
-  kinds = λ k n t. a.kinds k n (ap is_touched (sym (is n)) ∙ t);
-  others = λ k n t. a.others k n (ap is_touched (sym (is n)) ∙ t);
-  found = λ k n f t m. a.found k n f (ap is_touched (sym (is n)) ∙ t) (ap (λ (c : Change). c.made) (sym (is n)) ∙ m);
-  claims = λ c. a.claims c ∙ ap (λ (kept : Change). claim_in kept c) (sym (is (number_of c)));
-  added = λ n. subst (λ (c : Change). come (entries c.names) ≤ c.promised) (sym (is n)) (a.added n);
-  gone = a.gone;
-  there = a.there;
+of_along : (ds : List Effect) (p : Patches) → ((c : Claim) → claimed c ds ≡ claim_in p c) → AlongAll ds p → Agrees ds p
+of_along ds p claims a = record {
+  root = a.root;
+  count = a.count;
+  inodes = a.inodes;
+  descriptions = a.descriptions;
+  processes = a.processes;
+  named = a.named;
+  unnamed = a.unnamed;
+  lost = a.lost;
+  claims = claims;
+  added = a.added;
+  kinds = a.kinds;
+  rooms = a.rooms;
+  written = a.written;
+  moved = a.moved;
+  alive = a.alive;
 }
 
--- what a look finds
-pub seen : (ds : List Effect) (changes : List (ℕ × Change)) (lost : List ℕ) → Agrees ds changes lost → (k : Kernel) → NamesAreDirectories k
-    → (d : ℕ) (x : Name) → entry_of (all_done ds k) d x ≡ directory_at (now_given (change_at changes d) x (get (names_of k d) x))
-seen ds changes lost a k dirs d x =
-    entry_told (all_done ds k) (subst (λ ds. NamesAreDirectories (all_done ds k)) (sym a.forms) (directories_all a.steps k dirs)) d x (now_given (change_at changes d) x (get (names_of k d) x)) (a.names k d x)
+both_all : (P Q : Edit → Type 0) (es : List Edit) → AllByRecursion P es → AllByRecursion Q es → AllByRecursion (λ e. P e × Q e) es
+both_all P Q [] h g = tt
+both_all P Q (e ∷ es) h g = ((h.0, g.0), both_all P Q es h.1 g.1)
 
--- the names of a directory are those below with what is kept laid on top
-pub laid : (ds : List Effect) (changes : List (ℕ × Change)) (lost : List ℕ) → Agrees ds changes lost → (k : Kernel) (d : ℕ) → IsLaid (change_at changes d).names (bare (change_at changes d).made (names_of k d)) (names_of (all_done ds k) d)
-laid ds changes lost a k d x = a.names k d x ∙ ap (or_before (get (change_at changes d).names x)) (by_test (change_at changes d).made)
+-- one call more
+along_more : (ds : List Effect) (p q : Patches) (chosen : List ℕ) (edits : List Edit) → AllByRecursion (λ e. IsOne e × AreApart chosen e) edits → TakesAll chosen edits p q → AlongAll ds p → AlongAll (ds ++ effect chosen edits ∷ []) q
+along_more ds p q chosen edits all t a =
+    along_same (λ k. all_applied chosen edits (all_done ds k)) (all_done (ds ++ effect chosen edits ∷ []))
+    (λ k. AllFit ds k × FitsAll chosen (all_done ds k) edits) (AllFit (ds ++ effect chosen edits ∷ []))
+    (λ n. times n (named_along ds) + times n (all_named chosen edits)) (λ n. times n (named_along (ds ++ effect chosen edits ∷ [])))
+    (λ k. unnamed_along ds k ++ all_unnamed chosen edits (all_done ds k)) (unnamed_along (ds ++ effect chosen edits ∷ []))
+    (λ n b. Contains (blocks_written n ds) b ⊎ Contains (flat_map (blocks_by n) edits) b) (λ n b. Contains (blocks_written n (ds ++ effect chosen edits ∷ [])) b) q
+    (done_more ds (effect chosen edits)) (fit_split ds (effect chosen edits)) (λ n. named_more n ds (effect chosen edits)) (unnamed_more ds (effect chosen edits))
+    (λ n b. (there n b, back n b))
+    (along_all chosen edits all (all_done ds) (AllFit ds) (λ n. times n (named_along ds)) (unnamed_along ds) (λ n b. Contains (blocks_written n ds) b) p q t a)
   where
-    by_test : (b : Bool) → cond b None (get (names_of k d) x) ≡ get (bare b (names_of k d)) x
-    by_test true = sym (get-empty name_cmp x)
-    by_test false = refl
+    part : (n b : ℕ) → Contains (blocks_written n ds) b ⊎ Contains (flat_map (blocks_by n) edits) b → Contains (blocks_written n ds ++ flat_map (blocks_by n) edits) b
+    part n b (inl old) = Contains-append_left (blocks_written n ds) (flat_map (blocks_by n) edits) b old
+    part n b (inr new) = Contains-append_right (blocks_written n ds) (flat_map (blocks_by n) edits) b new
 
-pub unchanged : (ds : List Effect) (changes : List (ℕ × Change)) (lost : List ℕ) → Agrees ds changes lost → (k : Kernel) (d : ℕ) → kept_at changes d ≡ None → names_of (all_done ds k) d ≡ names_of k d
-unchanged ds changes lost a k d none = same_map nat_list_cmp_total name_exact _ _ (λ x.
-    a.names k d x ∙ ap (λ o. now_given (or_untouched o) x (get (names_of k d) x)) none ∙ ap (λ o. or_before o (get (names_of k d) x)) (get-empty name_cmp x))
+    there : (n b : ℕ) → Contains (blocks_written n ds) b ⊎ Contains (flat_map (blocks_by n) edits) b → Contains (blocks_written n (ds ++ effect chosen edits ∷ [])) b
+    there n b has = subst (λ l. Contains l b) (sym (written_more n ds (effect chosen edits))) (part n b has)
 
--- the same where both are known by other names
-pub laid_by : (ds all : List Effect) (changes : List (ℕ × Change)) (lost : List ℕ) → Agrees ds changes lost → ds ≡ all → (k : Kernel) (d : ℕ) (c : Change) → Some c ≡ kept_at changes d → (stored : FinMap name_cmp ℕ) → stored ≡ names_of k d
-    → IsLaid c.names (bare c.made stored) (names_of (all_done all k) d)
-laid_by ds all changes lost a same k d c is stored was =
-    subst (λ ds. IsLaid c.names (bare c.made stored) (names_of (all_done ds k) d)) same
-    (λ x. laid ds changes lost a k d x ∙ ap₂ (λ (c : Change) (names : FinMap name_cmp ℕ). or_before (get c.names x) (get (bare c.made names) x)) (sym (ap or_untouched is)) (sym was))
+    back : (n b : ℕ) → Contains (blocks_written n (ds ++ effect chosen edits ∷ [])) b → Contains (blocks_written n ds) b ⊎ Contains (flat_map (blocks_by n) edits) b
+    back n b has = Contains-append_cases (blocks_written n ds) (flat_map (blocks_by n) edits) b (subst (λ l. Contains l b) (written_more n ds (effect chosen edits)) has)
 
-pub unchanged_by : (ds all : List Effect) (changes : List (ℕ × Change)) (lost : List ℕ) → Agrees ds changes lost → ds ≡ all → (k : Kernel) (d : ℕ) → None ≡ kept_at changes d → (stored : FinMap name_cmp ℕ) → stored ≡ names_of k d
-    → stored ≡ names_of (all_done all k) d
-unchanged_by ds all changes lost a same k d is stored was = was ∙ sym (unchanged ds changes lost a k d (sym is)) ∙ ap (λ ds. names_of (all_done ds k) d) same
-
-pub if_ok_so : {A E : Type 0} {P Q : A → Type 0} (r : Result A E) → ((x : A) → P x → Q x) → IfOk r P → IfOk r Q
-if_ok_so (Ok x) f h = f x h
-if_ok_so (Err e) f h = tt
-
--- no names are no names
-pub no_keys : (names : FinMap name_cmp ℕ) → (len names == 0) ≡ is_empty (keys names)
-no_keys names = ap (λ n. n == 0) (len-entries names) ∙ by_list (entries names)
+pub agrees_more : (ds : List Effect) (p q : Patches) (chosen : List ℕ) (edits : List Edit) → CanEdit edits → length chosen ≡ sum_by news edits → AllDifferent chosen
+    → ((c : Claim) → is_in (number_of c) chosen ≡ true → claimed c ds ≡ 0) → AllByRecursion (AreApart chosen) edits → TakesAll chosen edits p q → Agrees ds p → Agrees (ds ++ effect chosen edits ∷ []) q
+agrees_more ds p q chosen edits can long different unused apart t a =
+    of_along (ds ++ effect chosen edits ∷ []) q
+    (λ c. sum_by_push (claimed_by c) ds (effect chosen edits) ∙ ap (λ m. m + claimed_by c (effect chosen edits)) (a.claims c) ∙ sym (claims_more chosen edits can long different p q free t c))
+    (along_more ds p q chosen edits (both_all IsOne (AreApart chosen) edits (all_one edits can) apart) t (along_of ds p a))
   where
-    by_list : (es : List (Name × ℕ)) → (length es == 0) ≡ is_empty (map (λ e. e.0) es)
-    by_list [] = refl
-    by_list (e ∷ es) = ne_eqb (suc (length es)) 0 (λ h. absurd (omega (arith, h)))
+    free : AreFree p chosen
+    free n h = (sym (a.claims (New_directory n)) ∙ unused (New_directory n) h, sym (a.claims (Number n)) ∙ unused (Number n) h)
 
--- and what names give is in use
-pub seen_there : (ds : List Effect) (changes : List (ℕ × Change)) (lost : List ℕ) → Agrees ds changes lost → (P : ℕ → Type 0) → ((n : ℕ) → 0 < claimed (Number n) ds → P n) → (d : ℕ) (x : Name) (before : Option ℕ) → IfSome before P → IfSome (now_given (change_at changes d) x before) P
-seen_there ds changes lost a P made d x before there = by_note (get (change_at changes d).names x) refl
+-- where all shows as before
+no_slots : (gs : List (ℕ × Option ℕ)) → reslotted_by gs None ≡ None → gs ≡ []
+no_slots [] e = refl
+no_slots (g ∷ gs) e = absurd cc
+
+pub agrees_same : (ds : List Effect) (p q : Patches) → SamePatches p q → Agrees ds p → Agrees ds q
+agrees_same ds p q s a = record {
+  root = a.root;
+  count = a.count;
+  inodes = λ k n. a.inodes k n ∙ ap (λ c. patched c (get k.inodes n)) (sym (contents n));
+  descriptions = λ k d. a.descriptions k d ∙ ap (λ o. reopened o (get k.descriptions d)) (sym (s.openings d));
+  processes = λ k pid. a.processes k pid ∙ sym (s.processes pid (get k.processes pid));
+  named = λ n. a.named n ∙ sym (ap (λ (net : Net). net.named) ((s.inodes.nets n).rest));
+  unnamed = λ n. ap (times n) s.lost ∙ a.unnamed n ∙ sym (ap (λ (net : Net). net.unnamed) ((s.inodes.nets n).rest));
+  lost = λ k. a.lost k ∙ sym s.lost;
+  claims = λ c. a.claims c ∙ sym (same_claim c);
+  added = λ n. subst (λ c. added_by c ≤ (net_at q.inodes n).promised) (sym (contents n)) (subst (λ m. added_by (net_at p.inodes n).contents ≤ m) (sym (promised n)) (a.added n));
+  kinds = λ k n fit. subst (λ m. IsOver (kind_of k n) m (form_of (net_at q.inodes n).contents)) (sym (made n)) (subst (λ c. IsOver (kind_of k n) (net_at p.inodes n).made (form_of c)) (sym (contents n)) (a.kinds k n fit));
+  rooms = λ k n fit. (
+      let old : length (file_of (all_done ds k) n) ≤ max (length (file_of k n)) (net_at p.inodes n).room = a.rooms k n fit in
+      let more : (net_at p.inodes n).room ≤ (net_at q.inodes n).room = (s.inodes.nets n).room in omega arith);
+  written = λ k n b fit. subst (λ c. Contains (numbers_in c) b ↔ Contains (blocks_written n ds) b) (sym (contents n)) (a.written k n b fit);
+  moved = λ k d fit. subst (λ o. IsOverDescription o (is_some (get k.descriptions d))) (sym (s.openings d)) (a.moved k d fit);
+  alive = λ k pid fit some. a.alive k pid fit (λ none. some (no_slots (slots_in (kept_at q.slots pid)) (s.processes pid None ∙ ap (λ gs. reslotted_by gs None) none)));
+}
   where
-    by_test : (b : Bool) → IfSome (cond b None before) P
-    by_test true = tt
-    by_test false = there
+    contents : (n : ℕ) → (net_at q.inodes n).contents ≡ (net_at p.inodes n).contents
+    contents n = ap (λ (net : Net). net.contents) ((s.inodes.nets n).rest)
 
-    by_note : (g : Option (Option ℕ)) → get (change_at changes d).names x ≡ g → IfSome (or_before g (cond (change_at changes d).made None before)) P
-    by_note None is = by_test (change_at changes d).made
-    by_note (Some None) is = tt
-    by_note (Some (Some n)) is = made n (a.numbers d x n is)
+    made : (n : ℕ) → (net_at q.inodes n).made ≡ (net_at p.inodes n).made
+    made n = ap (λ (net : Net). net.made) ((s.inodes.nets n).rest)
+
+    promised : (n : ℕ) → (net_at q.inodes n).promised ≡ (net_at p.inodes n).promised
+    promised n = ap (λ (net : Net). net.promised) ((s.inodes.nets n).rest)
+
+    same_claim : (c : Claim) → claim_in q c ≡ claim_in p c
+    same_claim (Room d) = promised d
+    same_claim (New_directory n) = ap (λ m. as_count (is_directory_made m)) (made n)
+    same_claim (Number n) = ap₂ other_claims (made n) (ap is_new (s.openings n))
+
+-- nothing of what came before claims an unused number
+pub unused_claims : (s : Committed) (ds : List Effect) (edits : List Edit) (chosen : List ℕ) → Covers s ds → AreUnused s edits chosen → (c : Claim) → is_in (number_of c) chosen ≡ true → claimed c ds ≡ 0
+unused_claims s ds edits chosen covers new c h =
+    let low : claimed c ds ≤ reserved s c = covers c in let none : reserved s c ≡ 0 = new.unused c h in omega arith
+
+-- what was kept for a call can be given back, and then all is as before
+pub can_give : (s t : Committed) (edits : List Edit) (chosen given parents : List ℕ) → KeepsMore s t (λ c. claimed_by c (effect chosen edits)) → given ≡ chosen → parents ≡ flat_map parents_in edits
+    → (c : Claim) → claimed_in c (with_kinds given (flat_map kinds_in edits)) parents ≤ reserved t c
+can_give s t edits chosen given parents kept same is c =
+    let more : reserved t c ≡ reserved s c + claimed_by c (effect chosen edits) = kept c in
+    let alike : claimed_in c (with_kinds given (flat_map kinds_in edits)) parents ≡ claimed_by c (effect chosen edits) = ap₂ (λ ns ps. claimed_in c (with_kinds ns (flat_map kinds_in edits)) ps) same is in omega arith
+
+pub given_back : (s t u : Committed) (edits : List Edit) (chosen given parents : List ℕ) → KeepsMore s t (λ c. claimed_by c (effect chosen edits)) → given ≡ chosen → parents ≡ flat_map parents_in edits
+    → ((bs : List Bool) → ((c : Claim) → claimed_in c (with_kinds given bs) parents ≤ reserved t c) → KeepsMore u t (λ c. claimed_in c (with_kinds given bs) parents)) → KeepsSame s u
+given_back s t u edits chosen given parents kept same is back c =
+    let more : reserved t c ≡ reserved s c + claimed_by c (effect chosen edits) = kept c in
+    let alike : claimed_in c (with_kinds given (flat_map kinds_in edits)) parents ≡ claimed_by c (effect chosen edits) = ap₂ (λ ns ps. claimed_in c (with_kinds ns (flat_map kinds_in edits)) ps) same is in
+    let less : reserved t c ≡ reserved u c + claimed_in c (with_kinds given (flat_map kinds_in edits)) parents = back (flat_map kinds_in edits) (can_give s t edits chosen given parents kept same is) c in omega arith

@@ -1,102 +1,93 @@
--- The stored state: its processes, its first form, its directories, and the numbers that are nowhere in it.
-use Rattle.std.proofs.Common.{◌≡◌, ℕ, zero, suc, ◌≤◌, ◌<◌, Bool, true, false, List, length, get_or, Option, Some, None, refl, sym, ap, subst, ◌∙◌, arith, nat_cmp, ◌⊎◌, inl, inr}
-use Rattle.std.specs.Prelude.{nat_le}
-use Rattle.std.specs.Option.{option_and_then}
+-- The stored processes, by their numbers, and those of the start.
+use Rattle.std.proofs.Common.{◌≡◌, ◌≢◌, ℕ, zero, suc, ◌-◌, ◌≤◌, ◌<◌, Bool, true, false, cond, List, [], ◌∷◌, map, length, get_or, Option, Some, None, is_some, nat_cmp, nat_le, refl, sym, ap, ◌∙◌, arith, ◌⊎◌, inl, inr}
+use Rattle.std.specs.Cmp.{nat_cmp_total}
+use Rattle.std.specs.FinMap.Entries.{find}
 use Rattle.std.proofs.lemmas.Bool.{cases_eq, leb-true, leb-false}
-use Rattle.model.specs.FiniteMap.{FinMap, get, empty, insert, get-empty}
-use Rattle.model.specs.State.{Kind, A_directory, Inode, Directory, Kernel, kind, mapped, kind_of}
-use Rattle.model.specs.Changes.{process_of, tidy}
-use Rattle.model.specs.Steps.{IsNowhere}
-use Rattle.model.specs.Moments.{start, is_alive}
-use Rattle.model.proofs.Laws.{get_same, get_other}
-use Rattle.call_laws.specs.WellFormed.{CanBeNamed, WellFormed}
-use Rattle.call_laws.specs.CallLaws.{CallLaws}
-use Rattle.call_laws.specs.Numbers.{UnusedNumbersAreNowhere}
-use Rattle.call_laws.proofs.Laws.{not_none, true_is_false, first_processes_live}
-use Rattle.store.specs.Numbers.{Numbers, IsFirstRoot}
-use Rattle.store.specs.Shown.{inodes, inode_in, inode_of, shown_at}
-use Rattle.store.specs.declared.Place.{Place}
-use Rattle.store.specs.declared.Stage.{Stage}
-use Rattle.store.specs.declared.Stage.TheVariants.{Coming, Held, Lost}
-use Rattle.store.specs.declared.Object.{Object}
-use Rattle.store.specs.declared.Object.TheVariants.{Directory as Kept_directory}
-use Rattle.store.proofs.Laws.{get-inodes_by}
-use Rattle.shadow.specs.Looks.{NamesAreDirectories}
-use Rattle.shadow.specs.Stored.{stored, IsStaged, Sound}
+use Rattle.std.proofs.lemmas.List.{get_or_past, length-map}
+use Rattle.model.specs.FiniteMap.{FinMap, empty, get, get-empty, get-from_entries, insert, same_map, nat_cmp-IsAntisymmetric}
+use Rattle.model.specs.Places.{placed}
+use Rattle.model.specs.State.{Process}
+use Rattle.model.specs.Moments.{with_processes}
+use Rattle.model.proofs.Laws.{get_same, get_other, tied, untied}
+use Rattle.call_laws.proofs.Laws.{true_is_false}
+use Rattle.shadow.specs.Stored.{numbered}
+use Rattle.shadow.proofs.Places.{find_placed, none_before}
 
--- the processes are those of the start
-living : (ps : List ℕ) (m : FinMap nat_cmp Inode) (q : ℕ) → 0 < q → q ≤ length ps → is_alive (stored ps m) q ≡ true
-living ps m zero some low = absurd (omega arith)
-living ps m (suc i) some low = (first_processes_live 0 ps).alive i (omega arith)
+given : (ps : List Process) (i : ℕ) (d : Process) → i < length ps → get_or (map (λ p. Some p) ps) i None ≡ Some (get_or ps i d)
+given [] i d low = absurd (omega arith)
+given (p ∷ ps) zero d low = refl
+given (p ∷ ps) (suc i) d low = given ps i d (omega arith)
 
-pub none_living : (ps : List ℕ) (m : FinMap nat_cmp Inode) (q : ℕ) → (q ≡ 0) ⊎ (length ps < q) → is_alive (stored ps m) q ≡ false
-none_living ps m q h = (first_processes_live 0 ps).none q h
+-- the i-th process has the number after i
+pub process_at : (ps : List Process) (i : ℕ) (d : Process) → i < length ps → get (numbered ps) (suc i) ≡ Some (get_or ps i d)
+process_at ps i d low =
+    let same : suc i - 1 ≡ i = omega arith in
+    get-from_entries nat_cmp_total (placed 1 (map (λ p. Some p) ps)) (suc i) ∙ find_placed 1 (map (λ p. Some p) ps) (suc i) (omega arith) ∙ ap (λ j. get_or (map (λ p. Some p) ps) j None) same ∙ given ps i d low
 
-pub stored_priority : (ps : List ℕ) (m : FinMap nat_cmp Inode) (i : ℕ) → i < length ps → (process_of (stored ps m) (suc i)).priority ≡ get_or ps i 0
-stored_priority ps m i low = (first_processes_live 0 ps).priority i low
+pub no_process : (ps : List Process) (q : ℕ) → (q ≡ 0) ⊎ (length ps < q) → get (numbered ps) q ≡ None
+no_process ps q (inl none) = get-from_entries nat_cmp_total (placed 1 (map (λ p. Some p) ps)) q ∙ none_before 1 (map (λ p. Some p) ps) q (omega arith)
+no_process ps q (inr high) =
+    let long : length (map (λ p. Some p) ps) ≡ length ps = length-map ps (λ p. Some p) in
+    get-from_entries nat_cmp_total (placed 1 (map (λ p. Some p) ps)) q ∙ find_placed 1 (map (λ p. Some p) ps) q (omega arith) ∙ get_or_past (map (λ p. Some p) ps) (q - 1) None (omega arith)
 
-pub is_living : (ps : List ℕ) (m : FinMap nat_cmp Inode) (q : ℕ) → 0 < q → nat_le q (length ps) ≡ is_alive (stored ps m) q
-is_living ps m q some = by_test (nat_le q (length ps)) refl
+pub process_of_number : (ps : List Process) (q : ℕ) (d : Process) → 0 < q → q ≤ length ps → get (numbered ps) q ≡ Some (get_or ps (q - 1) d)
+process_of_number ps zero d some low = absurd (omega arith)
+process_of_number ps (suc i) d some low =
+    let same : suc i - 1 ≡ i = omega arith in
+    process_at ps i d (omega arith) ∙ ap (λ j. Some (get_or ps j d)) (sym same)
+
+none : Process
+none = record { table = empty; priority = 0 }
+
+pub is_living : (ps : List Process) (q : ℕ) → 0 < q → nat_le q (length ps) ≡ is_some (get (numbered ps) q)
+is_living ps q some = by_test (nat_le q (length ps)) refl
   where
-    by_test : (b : Bool) → nat_le q (length ps) ≡ b → b ≡ is_alive (stored ps m) q
-    by_test true is = sym (living ps m q some (leb-true q (length ps) is))
-    by_test false is = sym (none_living ps m q (inr (leb-false q (length ps) is)))
+    by_test : (b : Bool) → nat_le q (length ps) ≡ b → b ≡ is_some (get (numbered ps) q)
+    by_test true is = sym (ap is_some (process_of_number ps q none some (leb-true q (length ps) is)))
+    by_test false is = sym (ap is_some (no_process ps q (inr (leb-false q (length ps) is))))
 
-pub record IsProcess (ps : List ℕ) (q : ℕ) : Type 0 where
+pub record IsProcess (ps : List Process) (q : ℕ) : Type 0 where
   pub some : 0 < q
   pub low : q ≤ length ps
 
-pub is_process : (ps : List ℕ) (m : FinMap nat_cmp Inode) (q : ℕ) → is_alive (stored ps m) q ≡ true → IsProcess ps q
-is_process ps m zero is = absurd (true_is_false (sym is ∙ none_living ps m zero (inl refl)))
-is_process ps m (suc i) is = by_test (nat_le (suc i) (length ps)) refl
+pub is_process : (ps : List Process) (q : ℕ) → is_some (get (numbered ps) q) ≡ true → IsProcess ps q
+is_process ps zero is = absurd (true_is_false (sym is ∙ ap is_some (no_process ps zero (inl refl))))
+is_process ps (suc i) is = by_test (nat_le (suc i) (length ps)) refl
   where
     by_test : (b : Bool) → nat_le (suc i) (length ps) ≡ b → IsProcess ps (suc i)
     by_test true le = record { some = omega arith; low = leb-true (suc i) (length ps) le }
-    by_test false le = absurd (true_is_false (sym is ∙ none_living ps m (suc i) (inr (leb-false (suc i) (length ps) le))))
+    by_test false le = absurd (true_is_false (sym is ∙ ap is_some (no_process ps (suc i) (inr (leb-false (suc i) (length ps) le)))))
 
--- all inodes are directories
-pub directory_kind : (o : Option Place) (what : Kind) → mapped kind (option_and_then inode_in o) ≡ Some what → what ≡ A_directory
-directory_kind None what e = absurd (not_none what (sym e))
-directory_kind (Some place) what e = by_stage place.stage place.object e
+pub not_process : (ps : List Process) (q : ℕ) → is_some (get (numbered ps) q) ≡ false → get (numbered ps) q ≡ None
+not_process ps q is = by_option (get (numbered ps) q) is
   where
-    some_kind : (a b : Kind) → Some a ≡ Some b → b ≡ a
-    some_kind a b e = sym (ap (λ (o : Option Kind). or_kind a o) e)
-      where
-        or_kind : Kind → Option Kind → Kind
-        or_kind d (Some k) = k
-        or_kind d None = d
+    by_option : (o : Option Process) → is_some o ≡ false → o ≡ None
+    by_option None is = refl
+    by_option (Some p) is = absurd (true_is_false is)
 
-    by_stage : (t : Stage) (object : Object) → mapped kind (shown_at t (inode_of object)) ≡ Some what → what ≡ A_directory
-    by_stage Coming object e = absurd (not_none what (sym e))
-    by_stage Lost object e = absurd (not_none what (sym e))
-    by_stage Held (Kept_directory l) e = some_kind A_directory what e
+-- a process that has just begun
+abbrev pub fresh : ℕ → Process
+fresh p = record { table = empty; priority = p }
 
-named_kind : (o : Option Kind) → CanBeNamed o → ((what : Kind) → o ≡ Some what → what ≡ A_directory) → o ≡ Some A_directory
-named_kind None can all = absurd can
-named_kind (Some what) can all = ap Some (all what refl)
+abbrev or_else : Option Process → Option Process → Option Process
+or_else (Some p) o = Some p
+or_else None o = o
 
-pub directories : (ps : List ℕ) (s : Numbers) → Sound ps s → NamesAreDirectories (stored ps (inodes s))
-directories ps s sound d x n e = named_kind (kind_of (stored ps (inodes s)) n) (sound.well.names d x n e)
-    (λ what is. directory_kind (get s.places n) what (ap (mapped kind) (sym (get-inodes_by s n (get s.places n) refl)) ∙ is))
+get_begun : (made : ℕ) (ps : List ℕ) (m : FinMap nat_cmp Process) (q : ℕ) → get (with_processes made ps m) q ≡ or_else (find nat_cmp q (placed (suc made) (map (λ p. Some p) (map fresh ps)))) (get m q)
+get_begun made [] m q = refl
+get_begun made (p ∷ ps) m q = get_begun (suc made) ps (insert m (suc made) (fresh p)) q ∙ elim (cases_eq q (suc made)) [
+  | inl same ↦ ap (λ o. or_else o (get (insert m (suc made) (fresh p)) q)) (none_before (suc (suc made)) (map (λ p. Some p) (map fresh ps)) q (omega arith))
+      ∙ ap (get (insert m (suc made) (fresh p))) same ∙ get_same m (suc made) (fresh p)
+      ∙ sym (ap (λ o. or_else o (get m q)) (tied q (suc made) (Some (fresh p)) (find nat_cmp q (placed (suc (suc made)) (map (λ p. Some p) (map fresh ps)))) same))
+  | inr away ↦ ap (or_else (find nat_cmp q (placed (suc (suc made)) (map (λ p. Some p) (map fresh ps))))) (get_other m (suc made) q (fresh p) away)
+      ∙ sym (ap (λ o. or_else o (get m q)) (untied q (suc made) (Some (fresh p)) (find nat_cmp q (placed (suc (suc made)) (map (λ p. Some p) (map fresh ps)))) away))
+]
 
--- a number that is not in use is nowhere
-pub unused_nowhere : UnusedNumbersAreNowhere → (ps : List ℕ) (s : Numbers) (n : ℕ) → Sound ps s → get s.places n ≡ None → IsNowhere (stored ps (inodes s)) n
-unused_nowhere law ps s n sound none = law (stored ps (inodes s)) n sound.well (get-inodes_by s n None none) (get-empty nat_cmp n)
+or_none : (o : Option Process) → or_else o None ≡ o
+or_none None = refl
+or_none (Some p) = refl
 
--- the first form
-pub first_state : (ps : List ℕ) (s : Numbers) → s.root ≡ 0 → inodes s ≡ insert empty s.root (Directory empty) → stored ps (inodes s) ≡ start 0 ps
-first_state ps s root is = ap (stored ps) (is ∙ ap (λ r. insert empty r (Directory empty)) root)
-
-pub first_sound : CallLaws WellFormed → (ps : List ℕ) (s : Numbers) → s.root ≡ 0 → inodes s ≡ insert empty s.root (Directory empty) → IsFirstRoot s → Sound ps s
-first_sound laws ps s root is first = record {
-  root = root;
-  well = subst WellFormed (sym (first_state ps s root is)) (laws.well_start 0 ps);
-  tidied = subst (λ (k : Kernel). tidy k ≡ k) (sym (first_state ps s root is)) (laws.tidy_start 0 ps);
-  staged = staged;
-}
-  where
-    staged : (n : ℕ) → IsStaged (get s.places n)
-    staged n = elim (cases_eq n s.root) [
-      | inl same ↦ subst IsStaged (sym (ap (λ m. get m n) first ∙ ap (get (insert empty s.root _)) same ∙ get_same empty s.root _)) tt
-      | inr away ↦ subst IsStaged (sym (ap (λ m. get m n) first ∙ get_other empty s.root n _ away ∙ get-empty nat_cmp n)) tt
-    ]
+pub begun : (ps : List ℕ) → with_processes 0 ps empty ≡ numbered (map fresh ps)
+begun ps = same_map nat_cmp_total nat_cmp-IsAntisymmetric _ _ (λ q.
+    get_begun 0 ps empty q ∙ ap (or_else (find nat_cmp q (placed 1 (map (λ p. Some p) (map fresh ps))))) (get-empty nat_cmp q) ∙ or_none (find nat_cmp q (placed 1 (map (λ p. Some p) (map fresh ps))))
+    ∙ sym (get-from_entries nat_cmp_total (placed 1 (map (λ p. Some p) (map fresh ps))) q))

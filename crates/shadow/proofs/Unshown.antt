@@ -1,58 +1,79 @@
 -- Changes of the store that are not seen in the state: numbers are reserved and given back, and promises come and go.
-use Rattle.std.proofs.Common.{◌≡◌, ◌≢◌, ℕ, ◌+◌, ◌<◌, ◌≤◌, Bool, true, false, cond, not, List, [], Option, Some, None, refl, sym, ap, subst, ◌∙◌, arith, lt-ltb, inl, inr}
+use Rattle.std.proofs.Common.{◌≡◌, ◌≢◌, ℕ, ◌+◌, ◌<◌, ◌≤◌, Bool, true, false, cond, not, List, [], Option, Some, None, refl, sym, ap, ap₂, subst, ◌∙◌, arith, lt-ltb, inl, inr}
+use Rattle.std.specs.Prelude.{⊤}
 use Rattle.std.specs.Option.{option_map, option_and_then}
 use Rattle.std.proofs.lemmas.Bool.{cases_eq}
-use Rattle.model.specs.FiniteMap.{FinMap, get, insert, empty, get-empty}
-use Rattle.model.specs.State.{Inode, name_cmp, kind, mapped, names_of_inode}
-use Rattle.store.specs.Links.{links_in}
-use Rattle.store.proofs.Laws.{links-links_in, remove-absent, get-inodes_by, with_place, inodes-reserved, inodes-lost, inodes-kept, inodes-released, place-altered, place-other, place-over, place-swept-other, swept-stays}
-use Rattle.call_laws.proofs.Laws.{none_count, not_none}
-use Rattle.model.specs.Changes.{is_reached, tidy}
+use Rattle.std.specs.Ordering.{nat_cmp}
+use Rattle.model.specs.FiniteMap.{FinMap, get, insert, remove, empty, get-empty}
+use Rattle.model.specs.State.{Description, Inode, Kernel, Process, name_cmp, kind, mapped, names_of_inode, links}
+use Rattle.model.specs.Changes.{holders, openings, tidy}
+use Rattle.model.specs.Moments.{start}
+use Rattle.model.specs.Steps.{IsNowhere}
 use Rattle.model.proofs.Laws.{get_same, get_other}
+use Rattle.call_laws.specs.CallLaws.{CallLaws}
+use Rattle.call_laws.specs.Numbers.{UnusedNumbersAreNowhere}
 use Rattle.call_laws.specs.WellFormed.{CanBeNamed, WellFormed}
+use Rattle.call_laws.proofs.Laws.{none_count, not_none}
 use Rattle.dirlist.specs.Listing.{Listing}
-use Rattle.store.specs.Numbers.{Numbers, coming}
+use Rattle.store.specs.Links.{links_in}
+use Rattle.store.specs.Numbers.{IsFirstRoot, Numbers, coming, held, if_held, no_names, object_at, present}
 use Rattle.store.specs.Places.{altered, hidden, is_over, is_over_by, has_room, listing_of, changed_object, with_listing, more_room, less_room, lost, released, swept}
-use Rattle.store.specs.Shown.{inodes, inode_in, inode_of, shown_at}
+use Rattle.store.specs.Shown.{inodes, descriptions, inode_in, inode_of, description_in, description_of, shown_at}
 use Rattle.store.specs.declared.Place.{Place}
+use Rattle.store.specs.declared.OpenFile.{OpenFile}
+use Rattle.store.specs.declared.Opened.{Opened}
 use Rattle.store.specs.declared.Stage.{Stage}
 use Rattle.store.specs.declared.Stage.TheVariants.{Coming, Held, Lost}
 use Rattle.store.specs.declared.Object.{Object}
-use Rattle.store.specs.declared.Object.TheVariants.{Directory as Kept_directory}
-use Rattle.shadow.specs.Claims.{Claim, Number}
-use Rattle.shadow.specs.Stored.{stored, FitsStage, IsStaged, Sound}
-use Rattle.shadow.proofs.Meets.{met, coming_at, coming_by, hides_held, met_swept}
-use Rattle.shadow.specs.Laid.{freed}
+use Rattle.store.specs.declared.Object.TheVariants.{Directory as Kept_directory, File as Kept_file, Description as Kept_description, Nothing}
+use Rattle.shadow.specs.Claims.{Claim, new_number}
+use Rattle.shadow.specs.Stored.{AreCounted, stored, state_of, numbered, FitsStage, IsBare, IsStaged, IsUnsettled, Sound}
+use Rattle.shadow.proofs.Places.{get_chosen, remove_absent, place_altered, place_other, place_over, place_swept_other, swept_stays, without_place}
+use Rattle.shadow.proofs.Meets.{IsAwaited, at_place, with_place}
 
-pub same_sound : (ps : List ℕ) (s after : Numbers) → Sound ps s → after.root ≡ s.root → inodes after ≡ inodes s → ((n : ℕ) → IsStaged (get after.places n)) → Sound ps after
-same_sound ps s after sound root is staged = record {
-  root = root ∙ sound.root;
-  well = subst (λ m. WellFormed (stored ps m)) (sym is) sound.well;
-  tidied = subst (λ m. tidy (stored ps m) ≡ stored ps m) (sym is) sound.tidied;
-  staged = staged;
-}
+-- what is shown of files and descriptions was shown before
+abbrev pub ShowsNoMore : Numbers → Numbers → Type 0
+ShowsNoMore s after = (n : ℕ) (object : Object) → listing_of object ≡ None → object_at after n ≡ Some object → object_at s n ≡ Some object
+
+pub same_state : (ps : List Process) (s after : Numbers) → inodes after ≡ inodes s → descriptions after ≡ descriptions s → state_of ps after ≡ state_of ps s
+same_state ps s after is opened_same = ap₂ (stored ps) is opened_same
+
+pub same_sound : (ps : List Process) (s after : Numbers) → Sound ps s → after.root ≡ s.root → inodes after ≡ inodes s → descriptions after ≡ descriptions s
+    → ((n : ℕ) → IsStaged (get after.places n)) → ShowsNoMore s after → Sound ps after
+same_sound ps s after sound root is opened_same staged shows =
+    let same : state_of ps after ≡ state_of ps s = same_state ps s after is opened_same in
+    record {
+      root = root ∙ sound.root;
+      well = subst WellFormed (sym same) sound.well;
+      tidied = subst (λ (k : Kernel). tidy k ≡ k) (sym same) sound.tidied;
+      staged = staged;
+      counted = record {
+        openings = λ n file there. sound.counted.openings n file (shows n (Kept_file file) refl there) ∙ ap (λ (k : Kernel). openings k n) (sym same);
+        holders = λ d opened there. sound.counted.holders d opened (shows d (Kept_description opened) refl there) ∙ ap (λ (k : Kernel). holders k d) (sym same);
+      };
+    }
 
 -- a change of one place, and a sweep after it
 pub altered_staged : (f : Place → Place) (s : Numbers) (n : ℕ) → ((m : ℕ) → IsStaged (get s.places m)) → IsStaged (option_map f (get s.places n)) → (m : ℕ) → IsStaged (get (altered f s n).places m)
 altered_staged f s n staged one m = elim (cases_eq m n) [
-  | inl same ↦ subst IsStaged (sym (ap (get (altered f s n).places) same ∙ place-altered f s n)) one
-  | inr away ↦ subst IsStaged (sym (place-other f s n m away)) (staged m)
+  | inl same ↦ subst IsStaged (sym (ap (get (altered f s n).places) same ∙ place_altered f s n)) one
+  | inr away ↦ subst IsStaged (sym (place_other f s n m away)) (staged m)
 ]
 
 swept_staged : (s : Numbers) (n : ℕ) → ((m : ℕ) → m ≢ n → IsStaged (get s.places m)) → (is_over (get s.places n) ≡ false → IsStaged (get s.places n)) → (m : ℕ) → IsStaged (get (swept s n).places m)
 swept_staged s n others one m = elim (cases_eq m n) [
   | inl same ↦ subst (λ m. IsStaged (get (swept s n).places m)) (sym same) (by_test (is_over (get s.places n)) refl)
-  | inr away ↦ subst IsStaged (sym (place-swept-other s n m away)) (others m away)
+  | inr away ↦ subst IsStaged (sym (place_swept_other s n m away)) (others m away)
 ]
   where
     by_test : (b : Bool) → is_over (get s.places n) ≡ b → IsStaged (get (swept s n).places n)
-    by_test true over = subst IsStaged (sym (place-over s n over)) tt
-    by_test false left = subst (λ t. IsStaged (get t.places n)) (sym (swept-stays s n left)) (one left)
+    by_test true over = subst IsStaged (sym (place_over s n over)) tt
+    by_test false left = subst (λ t. IsStaged (get t.places n)) (sym (swept_stays s n left)) (one left)
 
 pub altered_swept_staged : (f : Place → Place) (s : Numbers) (n : ℕ) → ((m : ℕ) → IsStaged (get s.places m)) → (is_over (option_map f (get s.places n)) ≡ false → IsStaged (option_map f (get s.places n)))
     → (m : ℕ) → IsStaged (get (swept (altered f s n) n).places m)
-altered_swept_staged f s n staged one = swept_staged (altered f s n) n (λ m away. subst IsStaged (sym (place-other f s n m away)) (staged m))
-    (λ left. subst IsStaged (sym (place-altered f s n)) (one (ap is_over (sym (place-altered f s n)) ∙ left)))
+altered_swept_staged f s n staged one = swept_staged (altered f s n) n (λ m away. subst IsStaged (sym (place_other f s n m away)) (staged m))
+    (λ left. subst IsStaged (sym (place_altered f s n)) (one (ap is_over (sym (place_altered f s n)) ∙ left)))
 
 not_false : (b : Bool) → not b ≡ false → b ≡ true
 not_false true e = refl
@@ -63,6 +84,15 @@ pub hidden_staged : (o : Option Place) → is_over (option_map hidden o) ≡ fal
 hidden_staged None left = tt
 hidden_staged (Some place) left = not_false (has_room (listing_of place.object)) left
 
+abbrev IsSomething : Object → Type 0
+IsSomething Nothing = ⊥
+IsSomething (Kept_directory l) = ⊤
+IsSomething (Kept_file file) = ⊤
+IsSomething (Kept_description opened) = ⊤
+
+something : (l : Listing) → Kept_directory l ≢ Nothing
+something l e = subst IsSomething e tt
+
 -- one promise more
 more_staged : (o : Option Place) → IsStaged o → IsStaged (option_map (with_listing more_room) o)
 more_staged None fits = tt
@@ -70,8 +100,11 @@ more_staged (Some place) fits = by_stage place.stage place.object fits
   where
     by_stage : (t : Stage) (object : Object) → FitsStage t object → FitsStage t (changed_object more_room object)
     by_stage Coming (Kept_directory l) fits = fits
-    by_stage Held (Kept_directory l) fits = tt
+    by_stage Held (Kept_directory l) fits = something (more_room l)
     by_stage Lost (Kept_directory l) fits = lt-ltb 0 (l.promised + 1) (omega arith)
+    by_stage t (Kept_file file) fits = fits
+    by_stage t (Kept_description opened) fits = fits
+    by_stage t Nothing fits = fits
 
 -- and one less
 less_staged : (o : Option Place) → IsStaged o → is_over (option_map (with_listing less_room) o) ≡ false → IsStaged (option_map (with_listing less_room) o)
@@ -80,87 +113,181 @@ less_staged (Some place) fits left = by_stage place.stage place.object fits left
   where
     by_stage : (t : Stage) (object : Object) → FitsStage t object → is_over_by t (has_room (listing_of (changed_object less_room object))) ≡ false → FitsStage t (changed_object less_room object)
     by_stage Coming (Kept_directory l) fits left = fits
-    by_stage Held (Kept_directory l) fits left = tt
+    by_stage Held (Kept_directory l) fits left = something (less_room l)
     by_stage Lost (Kept_directory l) fits left = not_false (has_room (listing_of (changed_object less_room (Kept_directory l)))) left
+    by_stage t (Kept_file file) fits left = fits
+    by_stage t (Kept_description opened) fits left = fits
+    by_stage t Nothing fits left = fits
 
-pub promised_sound : (ps : List ℕ) (s : Numbers) (d : ℕ) → Sound ps s → Sound ps (altered (with_listing more_room) s d)
-promised_sound ps s d sound = same_sound ps s (altered (with_listing more_room) s d) sound refl (inodes-kept more_room (λ l. refl) s d) (altered_staged (with_listing more_room) s d sound.staged (more_staged (get s.places d) (sound.staged d)))
+-- files and descriptions, where the place of a directory changes
+none_is_some : {A : Type 0} {Q : Type 0} (x : A) → None ≡ Some x → Q
+none_is_some x e = absurd (not_none x (sym e))
+
+no_listing : (l : Listing) (object : Object) → Kept_directory l ≡ object → listing_of object ≡ None → ⊥
+no_listing l object is none = not_none l (ap listing_of is ∙ none)
+
+some_object : (a b : Object) → Some a ≡ Some b → a ≡ b
+some_object a b e = ap (λ (o : Option Object). or_object a o) e
+  where
+    or_object : Object → Option Object → Object
+    or_object d (Some k) = k
+    or_object d None = d
+
+shows_in : (f : Listing → Listing) (s : Numbers) (d : ℕ) → ShowsNoMore s (altered (with_listing f) s d)
+shows_in f s d n object none is = elim (cases_eq n d) [
+  | inl same ↦ ap (object_at s) same ∙ by_place (get s.places d) (sym (ap held (place_altered (with_listing f) s d)) ∙ ap (object_at (altered (with_listing f) s d)) (sym same) ∙ is)
+  | inr away ↦ ap held (sym (place_other (with_listing f) s d n away)) ∙ is
+]
+  where
+    by_stage : (t : Stage) (o : Object) → if_held t (changed_object f o) ≡ Some object → if_held t o ≡ Some object
+    by_stage Held (Kept_directory l) is = absurd (no_listing (f l) object (some_object (Kept_directory (f l)) object is) none)
+    by_stage Held (Kept_file file) is = is
+    by_stage Held (Kept_description opened) is = is
+    by_stage Held Nothing is = is
+    by_stage Coming o is = is
+    by_stage Lost o is = is
+
+    by_place : (o : Option Place) → held (option_map (with_listing f) o) ≡ Some object → held o ≡ Some object
+    by_place None is = is
+    by_place (Some place) is = by_stage place.stage place.object is
+
+shows_swept : (s : Numbers) (d : ℕ) → ShowsNoMore s (swept s d)
+shows_swept s d n object none is = elim (cases_eq n d) [
+  | inl same ↦ ap (object_at s) same ∙ by_test (is_over (get s.places d)) refl (ap (object_at (swept s d)) (sym same) ∙ is)
+  | inr away ↦ ap held (sym (place_swept_other s d n away)) ∙ is
+]
+  where
+    by_test : (b : Bool) → is_over (get s.places d) ≡ b → object_at (swept s d) d ≡ Some object → object_at s d ≡ Some object
+    by_test true over is = none_is_some object (sym (ap held (place_over s d over)) ∙ is)
+    by_test false left is = ap (λ (t : Numbers). object_at t d) (sym (swept_stays s d left)) ∙ is
+
+shows_hidden : (s : Numbers) (d : ℕ) → ShowsNoMore s (altered hidden s d)
+shows_hidden s d n object none is = elim (cases_eq n d) [
+  | inl same ↦ by_place (get s.places d) (sym (ap held (place_altered hidden s d)) ∙ ap (object_at (altered hidden s d)) (sym same) ∙ is)
+  | inr away ↦ ap held (sym (place_other hidden s d n away)) ∙ is
+]
+  where
+    by_place : (o : Option Place) → held (option_map hidden o) ≡ Some object → object_at s n ≡ Some object
+    by_place None is = none_is_some object is
+    by_place (Some place) is = none_is_some object is
 
 swept_root : (s : Numbers) (n : ℕ) → (swept s n).root ≡ s.root
 swept_root s n = by_test (is_over (get s.places n))
   where
-    by_test : (b : Bool) → (Rattle.std.proofs.Common.cond b (Rattle.store.proofs.Laws.without_place s n) s).root ≡ s.root
+    by_test : (b : Bool) → (cond b (without_place s n) s).root ≡ s.root
     by_test true = refl
     by_test false = refl
 
-pub released_sound : (ps : List ℕ) (s : Numbers) (d : ℕ) → Sound ps s → Sound ps (released s d)
-released_sound ps s d sound = same_sound ps s (released s d) sound (swept_root (altered (with_listing less_room) s d) d) (inodes-released less_room (λ l. refl) s d) (altered_swept_staged (with_listing less_room) s d sound.staged (less_staged (get s.places d) (sound.staged d)))
+pub promised_sound : (ps : List Process) (s after : Numbers) (d : ℕ) → Sound ps s → after ≡ altered (with_listing more_room) s d → inodes after ≡ inodes s → descriptions after ≡ descriptions s → Sound ps after
+promised_sound ps s after d sound is shown opened_same = same_sound ps s after sound (ap (λ (t : Numbers). t.root) is) shown opened_same
+    (subst (λ (t : Numbers). (n : ℕ) → IsStaged (get t.places n)) (sym is) (altered_staged (with_listing more_room) s d sound.staged (more_staged (get s.places d) (sound.staged d))))
+    (subst (ShowsNoMore s) (sym is) (shows_in more_room s d))
 
--- a number that is lost
-pub lost_root : (s : Numbers) (n : ℕ) → (lost s n).root ≡ s.root
-lost_root s n = swept_root (altered hidden s n) n
+pub released_sound : (ps : List Process) (s after : Numbers) (d : ℕ) → Sound ps s → after ≡ released s d → inodes after ≡ inodes s → descriptions after ≡ descriptions s → Sound ps after
+released_sound ps s after d sound is shown opened_same = same_sound ps s after sound (ap (λ (t : Numbers). t.root) is ∙ swept_root (altered (with_listing less_room) s d) d) shown opened_same
+    (subst (λ (t : Numbers). (n : ℕ) → IsStaged (get t.places n)) (sym is) (altered_swept_staged (with_listing less_room) s d sound.staged (less_staged (get s.places d) (sound.staged d))))
+    (subst (ShowsNoMore s) (sym is) (λ n object none there. shows_in less_room s d n object none (shows_swept (altered (with_listing less_room) s d) d n object none there)))
 
-pub lost_staged : (s : Numbers) (n : ℕ) → ((m : ℕ) → IsStaged (get s.places m)) → (m : ℕ) → IsStaged (get (lost s n).places m)
-lost_staged s n staged = altered_swept_staged hidden s n staged (hidden_staged (get s.places n))
-
-coming_unseen : (o : Option Place) → 0 < coming_by o → option_and_then inode_in o ≡ None
-coming_unseen None some = refl
-coming_unseen (Some place) some = by_stage place.stage (inode_of place.object) some
+-- what is to come is not seen
+coming_unseen : {X : Type 0} (b : Bool) (n : ℕ) (f : Object → Option X) (o : Option Place) → IsAwaited b n o → option_and_then (λ (place : Place). shown_at place.stage (f place.object)) o ≡ None
+coming_unseen b n f None some = refl
+coming_unseen b n f (Some place) some = by_stage place.stage place.object b some
   where
-    by_stage : (t : Stage) (inode : Option Inode) → 0 < coming_at t → shown_at t inode ≡ None
-    by_stage Coming inode some = refl
-    by_stage Lost inode some = refl
-    by_stage Held inode some = absurd (omega arith)
+    by_stage : (t : Stage) (object : Object) (b : Bool) → IsAwaited b n (Some (record { stage = t; object = object })) → shown_at t (f object) ≡ None
+    by_stage Coming object b some = refl
+    by_stage Lost object b some = refl
+    by_stage Held object true some = absurd (omega arith)
+    by_stage Held object false some = absurd (omega arith)
+
+pub no_inode : (b : Bool) (s : Numbers) (n : ℕ) → IsAwaited b n (get s.places n) → get (inodes s) n ≡ None
+no_inode b s n some = get_chosen inode_in s.places n ∙ coming_unseen b n inode_of (get s.places n) some
+
+pub no_description : (b : Bool) (s : Numbers) (n : ℕ) → IsAwaited b n (get s.places n) → get (descriptions s) n ≡ None
+no_description b s n some = get_chosen description_in s.places n ∙ coming_unseen b n description_of (get s.places n) some
 
 -- a number of an object to come is given back
-pub given_back_inodes : (s : Numbers) (n : ℕ) → 0 < met s (Number n) → inodes (lost s n) ≡ inodes s
-given_back_inodes s n some = inodes-lost s n ∙ remove-absent (inodes s) n (get-inodes_by s n (get s.places n) refl ∙ coming_unseen (get s.places n) some)
+module _ (ps : List Process) (s after : Numbers) (b : Bool) (n : ℕ) (some : IsAwaited b n (get s.places n)) (shown : inodes after ≡ remove (inodes s) n) (opened_same : descriptions after ≡ remove (descriptions s) n) where
+  pub given_back_state : state_of ps after ≡ state_of ps s
+  given_back_state = same_state ps s after (shown ∙ remove_absent (inodes s) n (no_inode b s n some)) (opened_same ∙ remove_absent (descriptions s) n (no_description b s n some))
 
-pub given_back_sound : (ps : List ℕ) (s : Numbers) (n : ℕ) → 0 < met s (Number n) → Sound ps s → Sound ps (lost s n)
-given_back_sound ps s n some sound = same_sound ps s (lost s n) sound (lost_root s n) (given_back_inodes s n some) (lost_staged s n sound.staged)
+  pub given_back_sound : after ≡ lost s n → Sound ps s → Sound ps after
+  given_back_sound is sound = same_sound ps s after sound (ap (λ (t : Numbers). t.root) is ∙ swept_root (altered hidden s n) n)
+      (shown ∙ remove_absent (inodes s) n (no_inode b s n some)) (opened_same ∙ remove_absent (descriptions s) n (no_description b s n some))
+      (subst (λ (t : Numbers). (n : ℕ) → IsStaged (get t.places n)) (sym is) (altered_swept_staged hidden s n sound.staged (hidden_staged (get s.places n))))
+      (subst (ShowsNoMore s) (sym is) (λ m object none there. shows_hidden s n m object none (shows_swept (altered hidden s n) n m object none there)))
+
+-- no name gives what is to come, and it has no names
+pub links_links_in : (k : Kernel) (n : ℕ) → links k n ≡ links_in k.inodes n
+unfolding links
+links_links_in k n = refl
+
+pub coming_unnamed : (ps : List Process) (s : Numbers) (b : Bool) (n : ℕ) → Sound ps s → IsAwaited b n (get s.places n) → links_in (inodes s) n ≡ 0
+coming_unnamed ps s b n sound some =
+    sym (links_links_in (state_of ps s) n) ∙ none_count (state_of ps s) n (λ d x is. subst CanBeNamed (ap (mapped kind) (no_inode b s n some)) (sound.well.names d x n is))
+
+pub coming_bare : (s : Numbers) (b : Bool) (n : ℕ) → IsAwaited b n (get s.places n) → names_of_inode (get (inodes s) n) ≡ empty
+coming_bare s b n some = ap names_of_inode (no_inode b s n some)
 
 -- a number that is reserved
-pub reserved_sound : (ps : List ℕ) (s : Numbers) (n : ℕ) (l : Listing) → Sound ps s → get s.places n ≡ None → l.names ≡ empty → Sound ps (with_place s n (coming (Kept_directory l)))
-reserved_sound ps s n l sound none bare = same_sound ps s (with_place s n (coming (Kept_directory l))) sound refl (inodes-reserved s n (Kept_directory l) none) staged
+pub bare_names : (object : Object) → IsBare object → names_of_inode (inode_of object) ≡ empty
+bare_names (Kept_directory l) bare = bare.0
+bare_names Nothing bare = refl
+bare_names (Kept_file file) bare = absurd bare
+bare_names (Kept_description opened) bare = absurd bare
+
+unsettled : (object : Object) → IsBare object → IsUnsettled object
+unsettled (Kept_directory l) bare = λ x. ap (λ (ns : FinMap name_cmp ℕ). get ns x) bare.0 ∙ get-empty name_cmp x
+unsettled Nothing bare = tt
+unsettled (Kept_file file) bare = absurd bare
+unsettled (Kept_description opened) bare = absurd bare
+
+shows_coming : (s : Numbers) (n : ℕ) (o : Object) → ShowsNoMore s (with_place s n (coming o))
+shows_coming s n o m object none is = elim (cases_eq m n) [
+  | inl same ↦ none_is_some object (sym (ap held (ap (get (insert s.places n (coming o))) same ∙ get_same s.places n (coming o))) ∙ is)
+  | inr away ↦ ap held (sym (get_other s.places n m (coming o) away)) ∙ is
+]
+
+pub reserved_sound : (ps : List Process) (s after : Numbers) (n : ℕ) (object : Object) → Sound ps s → IsBare object → after ≡ with_place s n (coming object) → inodes after ≡ inodes s → descriptions after ≡ descriptions s → Sound ps after
+reserved_sound ps s after n object sound bare is shown opened_same = same_sound ps s after sound (ap (λ (t : Numbers). t.root) is) shown opened_same
+    (subst (λ (t : Numbers). (n : ℕ) → IsStaged (get t.places n)) (sym is) staged) (subst (ShowsNoMore s) (sym is) (shows_coming s n object))
   where
-    staged : (m : ℕ) → IsStaged (get (insert s.places n (coming (Kept_directory l))) m)
+    staged : (m : ℕ) → IsStaged (get (insert s.places n (coming object)) m)
     staged m = elim (cases_eq m n) [
-      | inl here ↦ subst IsStaged (sym (ap (get (insert s.places n (coming (Kept_directory l)))) here ∙ get_same s.places n _)) (λ x. ap (λ (ns : FinMap name_cmp ℕ). get ns x) bare ∙ get-empty name_cmp x)
+      | inl here ↦ subst IsStaged (sym (ap (get (insert s.places n (coming object))) here ∙ get_same s.places n _)) (unsettled object bare)
       | inr away ↦ subst IsStaged (sym (get_other s.places n m _ away)) (sound.staged m)
     ]
 
-pub stays : (s : Numbers) (q n : ℕ) (l : Listing) → get s.places q ≢ None → get (with_place s n (coming (Kept_directory l))).places q ≢ None
-stays s q n l there none = elim (cases_eq q n) [
-  | inl here ↦ not_none _ (sym (get_same s.places n (coming (Kept_directory l))) ∙ ap (get (insert s.places n (coming (Kept_directory l)))) (sym here) ∙ none)
-  | inr away ↦ there (sym (get_other s.places n q (coming (Kept_directory l)) away) ∙ none)
-]
+-- a number that is not in use is nowhere
+pub unused_nowhere : UnusedNumbersAreNowhere → (ps : List Process) (s : Numbers) (n : ℕ) → Sound ps s → get s.places n ≡ None → IsNowhere (state_of ps s) n
+unused_nowhere law ps s n sound none = law (state_of ps s) n sound.well (get_chosen inode_in s.places n ∙ ap (option_and_then inode_in) none) (get_chosen description_in s.places n ∙ ap (option_and_then description_in) none)
 
--- what is freed is not what is to come
-pub freed_root : (s : Numbers) (n : ℕ) → (freed s n).root ≡ s.root
-freed_root s n = by_test (is_reached (stored [] (inodes s)) n)
+-- the first form
+pub first_sound : CallLaws WellFormed → (ps : List Process) (priorities : List ℕ) (s : Numbers) → state_of ps s ≡ start 0 priorities → s.root ≡ 0 → IsFirstRoot s → Sound ps s
+first_sound laws ps priorities s is root first = record {
+  root = root;
+  well = subst WellFormed (sym is) (laws.well_start 0 priorities);
+  tidied = subst (λ (k : Kernel). tidy k ≡ k) (sym is) (laws.tidy_start 0 priorities);
+  staged = staged;
+  counted = record {
+    openings = λ n file there. absurd (only n (Kept_file file) refl there);
+    holders = λ d opened there. absurd (only d (Kept_description opened) refl there);
+  };
+}
   where
-    by_test : (b : Bool) → (cond b s (lost s n)).root ≡ s.root
-    by_test true = refl
-    by_test false = lost_root s n
+    at_root : get s.places s.root ≡ Some (present (Kept_directory no_names))
+    at_root = ap (λ m. get m s.root) first ∙ get_same empty s.root _
 
-pub freed_staged : (s : Numbers) (n : ℕ) → ((m : ℕ) → IsStaged (get s.places m)) → (m : ℕ) → IsStaged (get (freed s n).places m)
-freed_staged s n staged m = by_test (is_reached (stored [] (inodes s)) n)
-  where
-    by_test : (b : Bool) → IsStaged (get (cond b s (lost s n)).places m)
-    by_test true = staged m
-    by_test false = lost_staged s n staged m
+    at_other : (n : ℕ) → n ≢ s.root → get s.places n ≡ None
+    at_other n away = ap (λ m. get m n) first ∙ get_other empty s.root n _ away ∙ get-empty nat_cmp n
 
-pub freed_kept : (s : Numbers) (n : ℕ) → met s (Number n) ≡ 0 → (c : Claim) → met (freed s n) c ≡ met s c
-freed_kept s n none c = by_test (is_reached (stored [] (inodes s)) n)
-  where
-    by_test : (b : Bool) → met (cond b s (lost s n)) c ≡ met s c
-    by_test true = refl
-    by_test false = met_swept (altered hidden s n) n c ∙ hides_held s n none c
+    staged : (n : ℕ) → IsStaged (get s.places n)
+    staged n = elim (cases_eq n s.root) [
+      | inl same ↦ subst IsStaged (sym (ap (get s.places) same ∙ at_root)) (something no_names)
+      | inr away ↦ subst IsStaged (sym (at_other n away)) tt
+    ]
 
--- no name gives what is to come, and it has no names
-pub coming_unnamed : (ps : List ℕ) (s : Numbers) (n : ℕ) → Sound ps s → 0 < met s (Number n) → links_in (inodes s) n ≡ 0
-coming_unnamed ps s n sound some =
-    sym (links-links_in (stored ps (inodes s)) n) ∙ none_count (stored ps (inodes s)) n (λ d x is. subst CanBeNamed (ap (mapped kind) (get-inodes_by s n (get s.places n) refl ∙ coming_unseen (get s.places n) some)) (sound.well.names d x n is))
-
-pub coming_bare : (s : Numbers) (n : ℕ) → 0 < met s (Number n) → names_of_inode (get (inodes s) n) ≡ empty
-coming_bare s n some = ap names_of_inode (get-inodes_by s n (get s.places n) refl ∙ coming_unseen (get s.places n) some)
+    only : (n : ℕ) (object : Object) → listing_of object ≡ None → object_at s n ≡ Some object → ⊥
+    only n object none there = elim (cases_eq n s.root) [
+      | inl same ↦ no_listing no_names object (some_object (Kept_directory no_names) object (sym (ap held (ap (get s.places) same ∙ at_root)) ∙ there)) none
+      | inr away ↦ none_is_some object (sym (ap held (at_other n away)) ∙ there)
+    ]

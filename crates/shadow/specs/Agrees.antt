@@ -1,38 +1,68 @@
 -- What a transaction keeps of its changes agrees with them.
-use Rattle.std.specs.Prelude.{◌≡◌, ℕ, ◌<◌, ◌≤◌, true, false, List, [], Some, is_some, count_by, map}
-use Rattle.std.specs.List.{AllByRecursion}
-use Rattle.model.specs.FiniteMap.{entries, get}
-use Rattle.model.specs.State.{Name, A_directory, Kernel, kind_of, names_of}
+use Rattle.std.specs.Prelude.{◌≡◌, ◌≢◌, ◌↔◌, ℕ, ◌≤◌, max, Bool, true, false, List, []}
+use Rattle.std.specs.Prelude.{Contains, length, Option, Some, None, is_some, ⊤}
+use Rattle.std.specs.List.{flat_map}
+use Rattle.model.specs.FiniteMap.{get}
+use Rattle.model.specs.State.{Kind, A_file, A_directory, Kernel, kind_of, file_of}
+use Rattle.model.specs.Moments.{is_alive}
 use Rattle.model.specs.Effects.{Effect, all_done}
-use Rattle.freeing_laws.specs.Sweep.{AllFit, lost_along}
-use Rattle.shadow.specs.declared.changes.Change.{Change}
-use Rattle.shadow.specs.Changes.{Step, effect_of}
-use Rattle.shadow.specs.Changed.{change_at, claim_in, now_given}
-use Rattle.shadow.specs.Claims.{Claim, Number, claimed, number_of}
-use Rattle.shadow.specs.Laid.{is_touched}
+use Rattle.freeing_laws.specs.Counts.{times}
+use Rattle.freeing_laws.specs.Left.{named_along, unnamed_along}
+use Rattle.freeing_laws.specs.Sweep.{AllFit}
+use Rattle.shadow.specs.declared.change.Made.{Made}
+use Rattle.shadow.specs.declared.change.Made.TheVariants.{Directory, File}
+use Rattle.shadow.specs.declared.opening.Opening.{Opening}
+use Rattle.shadow.specs.declared.opening.Opening.TheVariants.{Kept, New, Moved}
+use Rattle.shadow.specs.Claims.{Claim, claimed, claim_in}
+use Rattle.shadow.specs.Patches.{Form, no_change, of_names, of_bytes, Patches}
+use Rattle.shadow.specs.Patches.{added_by, form_of, kept_at, net_at, opening_at, patched, reopened}
+use Rattle.shadow.specs.Patches.{numbers_in, reslotted, slots_in}
+use Rattle.shadow.specs.Steps.{blocks_by}
 
-pub record Agrees (ds : List Effect) (changes : List (ℕ × Change)) (lost : List ℕ) : Type 0 where
-  -- the changes are of the forms that are there today
-  pub steps : List Step
-  pub forms : ds ≡ map effect_of steps
-  -- what names give after the changes, whatever the state is below them; what is noted to be given
-  -- is new
-  pub names : (k : Kernel) (d : ℕ) (x : Name) → get (names_of (all_done ds k) d) x
-      ≡ now_given (change_at changes d) x (get (names_of k d) x)
-  pub numbers : (d : ℕ) (x : Name) (n : ℕ) → get (change_at changes d).names x ≡ Some (Some n)
-      → 0 < claimed (Number n) ds
-  -- which inodes the changes change: directories, which are new or were directories before
-  pub kinds : (k : Kernel) (n : ℕ) → is_touched (change_at changes n) ≡ true
-      → kind_of (all_done ds k) n ≡ Some A_directory
-  pub others : (k : Kernel) (n : ℕ) → is_touched (change_at changes n) ≡ false
-      → get (all_done ds k).inodes n ≡ get k.inodes n
-  pub found : (k : Kernel) (n : ℕ) → AllFit ds k → is_touched (change_at changes n) ≡ true
-      → (change_at changes n).made ≡ false → kind_of k n ≡ Some A_directory
+-- The kind of what stands below changes: an object that is new was made so, and any other is of
+-- that kind already.
+abbrev pub IsOver : Option Kind → Option Made → Form → Type 0
+IsOver kind (Some Directory) form = form ≡ of_names true
+IsOver kind (Some File) form = form ≡ of_bytes true
+IsOver kind None no_change = ⊤
+IsOver kind None (of_names fresh) = (fresh ≡ false) × (kind ≡ Some A_directory)
+IsOver kind None (of_bytes fresh) = (fresh ≡ false) × (kind ≡ Some A_file)
+
+abbrev pub IsOverDescription : Opening → Bool → Type 0
+IsOverDescription (Moved place) there = there ≡ true
+IsOverDescription Kept there = ⊤
+IsOverDescription (New it) there = ⊤
+
+-- the blocks of a file into which writes put bytes
+abbrev pub blocks_written : ℕ → List Effect → List ℕ
+blocks_written n ds = flat_map (λ d. flat_map (blocks_by n) d.edits) ds
+
+pub record Agrees (ds : List Effect) (p : Patches) : Type 0 where
+  -- what stands at each number after the changes, whatever the state is below them
+  pub root : (k : Kernel) → (all_done ds k).root ≡ k.root
+  pub count : (k : Kernel) → (all_done ds k).made ≡ k.made
+  pub inodes : (k : Kernel) (n : ℕ)
+      → get (all_done ds k).inodes n ≡ patched (net_at p.inodes n).contents (get k.inodes n)
+  pub descriptions : (k : Kernel) (d : ℕ)
+      → get (all_done ds k).descriptions d ≡ reopened (opening_at p.openings d) (get k.descriptions d)
+  pub processes : (k : Kernel) (pid : ℕ)
+      → get (all_done ds k).processes pid ≡ reslotted (kept_at p.slots pid) (get k.processes pid)
+  -- how many names were given and taken, and from what
+  pub named : (n : ℕ) → times n (named_along ds) ≡ (net_at p.inodes n).named
+  pub unnamed : (n : ℕ) → times n p.lost ≡ (net_at p.inodes n).unnamed
+  pub lost : (k : Kernel) → unnamed_along ds k ≡ p.lost
   -- what is claimed, and that it is enough for the names that come
-  pub claims : (c : Claim) → claimed c ds ≡ claim_in (change_at changes (number_of c)) c
-  pub added : (n : ℕ) → count_by (λ g. is_some g.1) (entries (change_at changes n).names)
-      ≤ (change_at changes n).promised
-  -- what has lost a name
-  pub gone : (k : Kernel) → lost_along ds k ≡ record { descriptions = []; inodes = lost }
-  pub there : (k : Kernel) → AllFit ds k
-      → AllByRecursion (λ n. kind_of (all_done ds k) n ≡ Some A_directory) lost
+  pub claims : (c : Claim) → claimed c ds ≡ claim_in p c
+  pub added : (n : ℕ) → added_by (net_at p.inodes n).contents ≤ (net_at p.inodes n).promised
+  -- where the changes fit: what stands below them is of their kind, and there is room for what has
+  -- grown
+  pub kinds : (k : Kernel) (n : ℕ) → AllFit ds k
+      → IsOver (kind_of k n) (net_at p.inodes n).made (form_of (net_at p.inodes n).contents)
+  pub rooms : (k : Kernel) (n : ℕ) → AllFit ds k
+      → length (file_of (all_done ds k) n) ≤ max (length (file_of k n)) (net_at p.inodes n).room
+  pub written : (k : Kernel) (n b : ℕ) → AllFit ds k
+      → Contains (numbers_in (net_at p.inodes n).contents) b ↔ Contains (blocks_written n ds) b
+  pub moved : (k : Kernel) (d : ℕ) → AllFit ds k
+      → IsOverDescription (opening_at p.openings d) (is_some (get k.descriptions d))
+  pub alive : (k : Kernel) (pid : ℕ) → AllFit ds k → slots_in (kept_at p.slots pid) ≢ []
+      → is_alive k pid ≡ true

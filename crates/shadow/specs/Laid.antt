@@ -1,55 +1,214 @@
--- What a commit makes of the places: the changes of each object are laid over what is there.
-use Rattle.std.specs.Prelude.{◌≡◌, ℕ, ◌≤◌, ◌==◌, ◌||◌, nat_lt, not, Bool, true, List, [], ◌∷◌}
-use Rattle.std.specs.Prelude.{Option, Some, None, IfSome, is_some, option_map, count_by}
+-- What a commit makes of the places and of the processes, part by part.
+use Rattle.std.specs.Prelude.{◌≡◌, ◌≢◌, ℕ, ◌<◌, ◌≤◌, max, Bool, true, false, List, [], ◌∷◌}
+use Rattle.std.specs.Prelude.{length, Option, Some, None, IfSome, is_some, option_map, count_by}
+use Rattle.ids.specs.declared.limits.TheConstants.{DESCRIPTORS}
 use Rattle.std.specs.Prelude.{if◌then◌else◌}
-use Rattle.std.specs.List.{AllByRecursion}
-use Rattle.model.specs.FiniteMap.{entries, get, len}
-use Rattle.model.specs.Changes.{is_reached}
+use Rattle.std.specs.Ordering.{nat_cmp}
+use Rattle.std.specs.List.{AllByRecursion, flat_map}
+use Rattle.model.specs.FiniteMap.{FinMap, entries, get}
+use Rattle.model.specs.State.{A_directory as Directory_kind, Kernel, Name, Process, kind_of}
+use Rattle.model.specs.State.{names_of}
+use Rattle.model.specs.Changes.{holders, openings, or_new}
 use Rattle.dirlist.specs.Listing.{Listing}
-use Rattle.store.specs.Numbers.{Numbers}
-use Rattle.store.specs.Places.{installed, is_shown, listing_at, lost, may_be_named, with_listing}
+use Rattle.dirlist.specs.Patches.{Notes}
+use Rattle.fdtable.specs.Patches.{Given}
+use Rattle.file_shadow.specs.View.{FileChanges, view_over}
+use Rattle.freeing_laws.specs.Counts.{times}
+use Rattle.freeing_laws.specs.Sweep.{AreParented}
+use Rattle.objects.specs.Contents.{Content}
+use Rattle.store.specs.Numbers.{Numbers, coming, present}
+use Rattle.store.specs.Places.{file_in, installed, may_be_named, openings_of, with_listing}
 use Rattle.store.specs.Laid.{laid_listing}
-use Rattle.store.specs.Shown.{inodes}
+use Rattle.store.specs.Shown.{chosen, descriptions, inodes}
 use Rattle.store.specs.declared.Place.{Place}
-use Rattle.shadow.specs.declared.changes.Change.{Change}
-use Rattle.shadow.specs.Changed.{kept_at}
-use Rattle.shadow.specs.Stored.{stored}
+use Rattle.store.specs.declared.Object.TheVariants.{Directory as A_directory, File as A_file}
+use Rattle.store.specs.declared.Object.TheVariants.{Nothing}
+use Rattle.store.specs.declared.OpenFile.{OpenFile}
+use Rattle.shadow.specs.declared.change.Change.{Change}
+use Rattle.shadow.specs.declared.change.Contents.{Contents}
+use Rattle.shadow.specs.declared.change.Contents.TheVariants.{Same, Names, Bytes}
+use Rattle.shadow.specs.declared.opening.Opening.{Opening}
+use Rattle.shadow.specs.Claims.{Claim, reserved}
+use Rattle.shadow.specs.Committed.{Reserve}
+use Rattle.shadow.specs.Openings.{slot_noted}
+use Rattle.shadow.specs.Patches.{is_new, kept_at, opening_at, reopened, reslotted}
+use Rattle.shadow.specs.Stored.{AreCounted, IsStaged, committed_of, numbered, reserve_in, state_of}
 
--- whether anything is changed of an object
-abbrev pub is_touched : Change → Bool
-is_touched c = c.made || (nat_lt 0 c.promised || not (len c.names == 0))
+-- what is kept for transactions
+abbrev pub reserves_of : Numbers → FinMap nat_cmp Reserve
+reserves_of s = chosen reserve_in s.places
 
 -- what is new is shown from now on
-abbrev pub shown_if_made : Bool → Place → Place
-shown_if_made made place = if made then installed place else place
+abbrev pub shown_if : Bool → Place → Place
+shown_if made place = if made then installed place else place
 
--- an object after its changes: it is shown, and its notes are laid over its names
-abbrev pub carried_by : Change → Place → Place
-carried_by c place =
-    with_listing (laid_listing (entries c.names) c.promised) (shown_if_made c.made place)
+-- a directory after its changes: it is shown, and its notes are laid over its names
+abbrev pub named_by : Bool → Notes → ℕ → Place → Place
+named_by made notes promised place =
+    with_listing (laid_listing (entries notes) promised) (shown_if made place)
 
-abbrev pub carried : Option Change → Option Place → Option Place
-carried (Some c) place = if is_touched c then option_map (carried_by c) place else place
-carried None place = place
+-- the bytes of the file of a place
+abbrev pub bytes_in : Option OpenFile → List ℕ
+bytes_in (Some file) = file.bytes.bytes
+bytes_in None = []
 
--- The changes of an object can be made: it is shown, or is new; its names have room, and their
+-- a file after its changes: it is shown, and its bytes are those of the view
+pub record IsWrittenOver (bytes : FileChanges) (before after : Option Place) : Type 0 where
+  pub content : Content
+  pub place : after ≡ Some (present (A_file (record {
+    bytes = content;
+    openings = openings_of (file_in before);
+  })))
+  pub shown : content.bytes ≡ view_over bytes (bytes_in (file_in before))
+
+-- a place after the changes of its inode
+abbrev pub IsCarriedBy : Change → Contents → Option Place → Option Place → Type 0
+IsCarriedBy c Same before after = after ≡ before
+IsCarriedBy c (Names fresh notes) before after =
+    after ≡ option_map (named_by (is_some c.made) notes c.promised) before
+IsCarriedBy c (Bytes fresh bytes) before after = IsWrittenOver bytes before after
+
+abbrev pub IsCarried : Option Change → Option Place → Option Place → Type 0
+IsCarried (Some c) before after = IsCarriedBy c c.contents before after
+IsCarried None before after = after ≡ before
+
+-- The changes of a directory can be made: it is shown, or is new; its names have room, and their
 -- numbers are there.
-pub record IsReady (s : Numbers) (n : ℕ) (c : Change) : Type 0 where
-  pub shown : is_shown (option_map (shown_if_made c.made) (get s.places n)) ≡ true
-  pub room : (listing : Listing) → listing_at s n ≡ Some listing → c.promised ≤ listing.promised
-  pub added : count_by (λ g. is_some g.1) (entries c.names) ≤ c.promised
+pub record IsReadyDirectory (s : Numbers) (n : ℕ) (c : Change) (notes : Notes) : Type 0 where
+  pub listing : Listing
+  pub there : option_map (shown_if (is_some c.made)) (get s.places n)
+      ≡ Some (present (A_directory listing))
+  pub room : c.promised ≤ listing.promised
+  pub added : count_by (λ g. is_some g.1) (entries notes) ≤ c.promised
   pub numbers : AllByRecursion
-      (λ g. IfSome g.1 (λ m. may_be_named (get s.places m) ≡ true)) (entries c.names)
+      (λ g. IfSome g.1 (λ m. may_be_named (get s.places m) ≡ true)) (entries notes)
+
+-- Those of a file can be made: it is to come, and there is room for it; or it is shown, and it has
+-- room, or there is room to move it to.
+abbrev pub IsReadyFile : Bool → Option Place → Content → ℕ → Type 0
+IsReadyFile true before room end = (before ≡ Some (coming Nothing)) × (end ≤ room.room)
+IsReadyFile false before room end =
+    (file : OpenFile) × (before ≡ Some (present (A_file file))) × (end ≤ max file.bytes.room room.room)
+
+abbrev pub IsReadyContents : Numbers → ℕ → Change → Contents → Type 0
+IsReadyContents s n c Same = c.made ≡ None
+IsReadyContents s n c (Names fresh notes) = IsReadyDirectory s n c notes
+IsReadyContents s n c (Bytes fresh bytes) =
+    IsReadyFile (is_some c.made) (get s.places n) c.room bytes.extent.end
+
+abbrev pub IsReady : Numbers → ℕ → Change → Type 0
+IsReady s n c = IsReadyContents s n c c.contents
 
 abbrev pub AreReady : List (ℕ × Change) → Numbers → Type 0
-AreReady changes s = (n : ℕ) (c : Change) → kept_at changes n ≡ Some c → is_touched c ≡ true
-    → IsReady s n c
+AreReady changes s = (n : ℕ) (c : Change) → kept_at changes n ≡ Some c → IsReady s n c
 
--- What an object without a name leaves of the store when it goes, and what objects leave one after
--- the other.
-abbrev pub freed : Numbers → ℕ → Numbers
-freed s n = if is_reached (stored [] (inodes s)) n then s else lost s n
+-- what is kept of a number whose object is no longer to come
+abbrev pub settled : Option Reserve → Option Reserve
+settled (Some r) = Some (record r { coming = false })
+settled None = None
 
-abbrev pub all_freed : List ℕ → Numbers → Numbers
-all_freed [] s = s
-all_freed (n ∷ ns) s = all_freed ns (freed s n)
+-- One store after another in which the inodes, the root, and what is kept for transactions are as
+-- before; staged stays so.
+pub record SameStore (old new : Numbers) : Type 0 where
+  pub root : new.root ≡ old.root
+  pub inodes : inodes new ≡ inodes old
+  pub staged : ((n : ℕ) → IsStaged (get old.places n)) → (n : ℕ) → IsStaged (get new.places n)
+
+-- The changes of descriptions are made.
+pub record AreReopened (openings : List (ℕ × Opening)) (old new : Numbers) : Type 0 where
+  pub same : SameStore old new
+  pub descriptions : (d : ℕ)
+      → get (descriptions new) d ≡ reopened (opening_at openings d) (get (descriptions old) d)
+  pub reserves : (n : ℕ) → get (reserves_of new) n
+      ≡ (if is_new (opening_at openings n) then settled (get (reserves_of old) n)
+      else get (reserves_of old) n)
+  pub counted : (ps : List Process) → AreCounted ps old
+      → ((d : ℕ) → is_new (opening_at openings d) ≡ true → holders (state_of ps old) d ≡ 0)
+      → AreCounted ps new
+
+-- the descriptors of a process, if there is one
+abbrev pub table_in : Option Process → FinMap nat_cmp ℕ
+table_in o = (or_new o).table
+
+-- the descriptions that slots give in a patch of each process, in order
+abbrev pub given_by : Option ℕ → List ℕ
+given_by (Some d) = d ∷ []
+given_by None = []
+
+abbrev pub given_in : List (ℕ × Given) → List ℕ
+given_in slots = flat_map (λ p. flat_map (λ g. given_by g.1) (entries p.1)) slots
+
+-- the descriptors of each process are below the limit
+abbrev pub AreLow : List Process → Type 0
+AreLow ps = (pid f d : ℕ) → get (table_in (get (numbered ps) pid)) f ≡ Some d → f < DESCRIPTORS
+
+-- What changes of slots leave of the store.
+pub record SlotsStay (ps qs : List Process) (old new : Numbers) : Type 0 where
+  pub same : SameStore old new
+  pub descriptions : descriptions new ≡ descriptions old
+  pub reserves : (n : ℕ) → get (reserves_of new) n ≡ get (reserves_of old) n
+  pub count : length qs ≡ length ps
+  pub low : AreLow ps → AreLow qs
+  pub counted : AreLow ps → AreCounted ps old → AreCounted qs new
+
+-- The changes of slots are made.
+pub record AreReslotted (slots former : List (ℕ × Given)) (ps qs : List Process)
+    (old new : Numbers) : Type 0 where
+  pub stay : SlotsStay ps qs old new
+  pub processes : (pid : ℕ)
+      → get (numbered qs) pid ≡ reslotted (kept_at slots pid) (get (numbered ps) pid)
+  pub let_go : (pid f d : ℕ) → get (table_in (get (numbered ps) pid)) f ≡ Some d
+      → get (table_in (get (numbered qs) pid)) f ≢ Some d
+      → 0 < times d (given_in former)
+
+-- The store holds, on the way: its root is number 0, names stand in directories that have one and
+-- give no description, no directory is open, what is to come is empty, and the counts are right.
+pub record Holds (ps : List Process) (s : Numbers) : Type 0 where
+  pub root : s.root ≡ 0
+  pub parented : AreParented (state_of ps s)
+  pub unnamed : (d n : ℕ) (x : Name) → get (descriptions s) d ≢ None
+      → get (names_of (state_of ps s) n) x ≢ Some d
+  pub unopened : (n : ℕ) → kind_of (state_of ps s) n ≡ Some Directory_kind
+      → openings (state_of ps s) n ≡ 0
+  pub staged : (n : ℕ) → IsStaged (get s.places n)
+  pub counted : AreCounted ps s
+
+-- The changes of one description are made.
+pub record IsReopened (d : ℕ) (opening : Opening) (old new : Numbers) : Type 0 where
+  pub same : SameStore old new
+  pub here : get (descriptions new) d ≡ reopened opening (get (descriptions old) d)
+  pub others : (e : ℕ) → e ≢ d → get (descriptions new) e ≡ get (descriptions old) e
+  pub places : (n : ℕ) → get old.places n ≡ Some (coming Nothing) → n ≢ d
+      → get new.places n ≡ Some (coming Nothing)
+  pub reserve : get (reserves_of new) d
+      ≡ (if is_new opening then settled (get (reserves_of old) d) else get (reserves_of old) d)
+  pub reserves : (n : ℕ) → n ≢ d → get (reserves_of new) n ≡ get (reserves_of old) n
+  pub counted : (ps : List Process) → AreCounted ps old
+      → (is_new opening ≡ true → holders (state_of ps old) d ≡ 0) → AreCounted ps new
+
+-- One slot gives this from now on.
+pub record IsSlotted (pid f : ℕ) (given : Option ℕ) (ps qs : List Process) (old new : Numbers)
+    : Type 0 where
+  pub stay : SlotsStay ps qs old new
+  pub here : get (numbered qs) pid ≡ slot_noted f given (get (numbered ps) pid)
+  pub others : (q : ℕ) → q ≢ pid → get (numbered qs) q ≡ get (numbered ps) q
+
+-- The changes of one process's slots are made.
+pub record IsReslotted (pid : ℕ) (given former : Given) (ps qs : List Process) (old new : Numbers)
+    : Type 0 where
+  pub stay : SlotsStay ps qs old new
+  pub here : get (numbered qs) pid ≡ reslotted (Some given) (get (numbered ps) pid)
+  pub others : (q : ℕ) → q ≢ pid → get (numbered qs) q ≡ get (numbered ps) q
+  pub let_go : (f d : ℕ) → get (table_in (get (numbered ps) pid)) f ≡ Some d
+      → get (table_in (get (numbered qs) pid)) f ≢ Some d
+      → 0 < times d (flat_map (λ g. given_by g.1) (entries former))
+
+-- how often a claim can be met
+abbrev pub kept_in : Numbers → Claim → ℕ
+kept_in s c = reserved (committed_of [] s) c
+
+-- Objects go as f says, and what is kept for transactions is kept as before.
+pub record Frees (f : Kernel → Kernel) (ps : List Process) (old new : Numbers) : Type 0 where
+  pub state : state_of ps new ≡ f (state_of ps old)
+  pub holds : Holds ps new
+  pub kept : (c : Claim) → kept_in new c ≡ kept_in old c

@@ -1,8 +1,10 @@
 pub mod Committed
+pub mod Patches
+pub mod Steps
+pub mod Notes
+pub mod Openings
 pub mod Claims
 pub mod Looks
-pub mod Changed
-pub mod Changes
 pub mod Stored
 pub mod Effects
 pub mod Laid

@@ -1,38 +1,41 @@
--- What is told of a look at a name.
-use Rattle.std.specs.Prelude.{◌≡◌, ℕ, List, [], Option, Some, None}
-use Rattle.model.specs.FiniteMap.{get, empty}
-use Rattle.model.specs.State.{Name, Kind, A_directory, Kernel, mapped, names_of, kind_of}
+-- What is told of looks.
+use Rattle.std.specs.Prelude.{◌≡◌, ◌≢◌, ℕ, ◌+◌, List, [], Option, Some, None}
+use Rattle.model.specs.FiniteMap.{get}
+use Rattle.model.specs.State.{A_directory, A_pipe, Kernel, kind_of, links, pipe_of}
 use Rattle.model.specs.Changes.{process_of}
-use Rattle.model.specs.Effects.{Effect}
+use Rattle.model.specs.Effects.{Effect, all_done}
+use Rattle.freeing_laws.specs.Sweep.{AllFit}
 use Rattle.shadow.specs.Committed.{Committed}
-use Rattle.shadow.specs.Claims.{IsInUse}
-
--- the directory that a name gives, if it gives one
-abbrev pub directory_at : Option ℕ → Option (ℕ × Option Kind)
-directory_at n = mapped (λ n. (n, Some A_directory)) n
+use Rattle.shadow.specs.Claims.{IsDirectory}
+use Rattle.shadow.specs.Patches.{Net, patched}
 
 -- no changes, for a process in no transaction
 abbrev pub changes_of : Option (List Effect) → List Effect
 changes_of (Some ds) = ds
 changes_of None = []
 
--- all that names give are directories
-abbrev pub NamesAreDirectories : Kernel → Type 0
-NamesAreDirectories k = (d : ℕ) (x : Name) (n : ℕ) → get (names_of k d) x ≡ Some n
-    → kind_of k n ≡ Some A_directory
-
--- all inodes are directories, and no process has anything open
-pub record HasNoFiles (k : Kernel) : Type 0 where
-  pub directories : (n : ℕ) (what : Kind) → kind_of k n ≡ Some what → what ≡ A_directory
-  pub descriptions : (d : ℕ) → get k.descriptions d ≡ None
-  pub tables : (pid : ℕ) → (process_of k pid).table ≡ empty
-
--- what names give, and the root, is there or to come
-pub record NamesAreInUse (v : Committed) : Type 0 where
-  pub root : IsInUse v.reserves v.state.root
-  pub names : (d : ℕ) (x : Name) (n : ℕ) → get (names_of v.state d) x ≡ Some n
-      → IsInUse v.reserves n
+-- each directory can have room promised
+abbrev pub DirectoriesAreKept : Committed → Type 0
+DirectoriesAreKept s = (d : ℕ) → kind_of s.state d ≡ Some A_directory → IsDirectory s.reserves d
 
 -- how many processes were made, and a process's priority
 abbrev pub birth_of : Kernel → ℕ → ℕ × ℕ
 birth_of k pid = (k.made, (process_of k pid).priority)
+
+-- there are no pipes
+abbrev pub HasNoPipes : Kernel → Type 0
+HasNoPipes k = (n : ℕ) → kind_of k n ≢ Some A_pipe
+
+-- What changes make of an inode and of its names, in any state that they fit, where this is what
+-- counts of them.
+pub record IsNet (ds : List Effect) (n : ℕ) (net : Net) : Type 0 where
+  pub inode : (k : Kernel)
+      → get (all_done ds k).inodes n ≡ patched net.contents (get k.inodes n)
+  pub links : (k : Kernel) → AllFit ds k
+      → links (all_done ds k) n + net.unnamed ≡ links k n + net.named
+
+-- Changes leave the root, the count of processes and the priorities, and make no pipe.
+pub record KeepsRest (ds : List Effect) : Type 0 where
+  pub root : (k : Kernel) → (all_done ds k).root ≡ k.root
+  pub birth : (k : Kernel) (pid : ℕ) → birth_of (all_done ds k) pid ≡ birth_of k pid
+  pub pipes : (k : Kernel) (p : ℕ) → pipe_of k p ≡ [] → pipe_of (all_done ds k) p ≡ []

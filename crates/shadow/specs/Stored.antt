@@ -1,64 +1,89 @@
--- How the committed state is stored: the priorities of the processes, and the objects under their
--- numbers.
-use Rattle.std.specs.Prelude.{◌≡◌, ℕ, true, List, length, Option, Some, None, ⊤}
+-- How the committed state is stored: the processes in the order of their numbers, and the objects
+-- under theirs.
+use Rattle.std.specs.Prelude.{◌≡◌, ℕ, ◌≢◌, true, List, length, map, Option, Some, None, ⊤}
 use Rattle.std.specs.Ordering.{nat_cmp}
-use Rattle.model.specs.FiniteMap.{FinMap, get, empty}
-use Rattle.model.specs.State.{Name, Inode, Kernel}
-use Rattle.model.specs.Changes.{tidy}
-use Rattle.model.specs.Moments.{with_processes}
+use Rattle.model.specs.FiniteMap.{FinMap, empty, from_entries, get}
+use Rattle.model.specs.Places.{placed}
+use Rattle.model.specs.State.{Name, Inode, Description, Process, Kernel, mapped}
+use Rattle.model.specs.Changes.{holders, openings, tidy}
 use Rattle.call_laws.specs.WellFormed.{WellFormed}
-use Rattle.dirlist.specs.Listing.{Listing}
-use Rattle.store.specs.Numbers.{Numbers}
-use Rattle.store.specs.Places.{has_room, is_coming_by, listing_of, number_in}
-use Rattle.store.specs.Shown.{inodes, chosen}
+use Rattle.store.specs.Numbers.{Numbers, object_at}
+use Rattle.store.specs.Places.{has_room, is_coming_by, listing_of}
+use Rattle.store.specs.Shown.{chosen, descriptions, inodes}
+use Rattle.store.specs.declared.OpenFile.{OpenFile}
+use Rattle.store.specs.declared.Opened.{Opened}
 use Rattle.store.specs.declared.Place.{Place}
 use Rattle.store.specs.declared.Object.{Object}
+use Rattle.store.specs.declared.Object.TheVariants.{Directory as A_directory, File as A_file}
+use Rattle.store.specs.declared.Object.TheVariants.{Description as A_description, Nothing}
 use Rattle.store.specs.declared.Stage.{Stage}
 use Rattle.store.specs.declared.Stage.TheVariants.{Coming, Held, Lost}
 use Rattle.shadow.specs.Committed.{Committed, Reserve}
 
--- the state of a plain kernel whose root is number 0, with these priorities and inodes, and nothing
--- open
-abbrev pub stored : List ℕ → FinMap nat_cmp Inode → Kernel
-stored priorities inodes = record {
+-- the processes with their numbers, from 1 on
+abbrev pub numbered : List Process → FinMap nat_cmp Process
+numbered processes = from_entries (placed 1 (map (λ p. Some p) processes))
+
+-- the state of a plain kernel whose root is number 0
+abbrev pub stored : List Process → FinMap nat_cmp Inode → FinMap nat_cmp Description → Kernel
+stored processes inodes descriptions = record {
   root = 0;
   inodes = inodes;
-  descriptions = empty;
-  processes = with_processes 0 priorities empty;
-  made = length priorities;
+  descriptions = descriptions;
+  processes = numbered processes;
+  made = length processes;
 }
 
-abbrev pub promised_of : Option Listing → ℕ
-promised_of (Some listing) = listing.promised
-promised_of None = 0
+abbrev pub state_of : List Process → Numbers → Kernel
+state_of processes s = stored processes (inodes s) (descriptions s)
 
 -- what is kept of a place that is in use
 abbrev pub reserve_in : Place → Option Reserve
 reserve_in place = Some (record {
   coming = is_coming_by place.stage;
-  promised = promised_of (listing_of place.object);
+  promised = mapped (λ listing. listing.promised) (listing_of place.object);
 })
 
-abbrev pub committed_of : List ℕ → Numbers → Committed
-committed_of priorities s = record {
-  state = stored priorities (inodes s);
+abbrev pub committed_of : List Process → Numbers → Committed
+committed_of processes s = record {
+  state = state_of processes s;
   reserves = chosen reserve_in s.places;
 }
 
--- an object to come has no names, and room is promised in a lost one
+-- a directory to come has no names, and what else is to come is not settled; room is promised in
+-- what is lost
+abbrev pub IsUnsettled : Object → Type 0
+IsUnsettled (A_directory listing) = (x : Name) → get listing.names x ≡ None
+IsUnsettled Nothing = ⊤
+IsUnsettled _ = ⊥
+
+-- such an object, before room is promised in it
+abbrev pub IsBare : Object → Type 0
+IsBare (A_directory listing) = (listing.names ≡ empty) × (listing.promised ≡ 0)
+IsBare Nothing = ⊤
+IsBare _ = ⊥
+
 abbrev pub FitsStage : Stage → Object → Type 0
-FitsStage Coming object = (x : Name) → number_in (listing_of object) x ≡ None
-FitsStage Held object = ⊤
+FitsStage Coming object = IsUnsettled object
+FitsStage Held object = object ≢ Nothing
 FitsStage Lost object = has_room (listing_of object) ≡ true
 
 abbrev pub IsStaged : Option Place → Type 0
 IsStaged (Some place) = FitsStage place.stage place.object
 IsStaged None = ⊤
 
+-- the counts that are stored are those of the state
+pub record AreCounted (processes : List Process) (s : Numbers) : Type 0 where
+  pub openings : (n : ℕ) (file : OpenFile) → object_at s n ≡ Some (A_file file)
+      → file.openings ≡ openings (state_of processes s) n
+  pub holders : (d : ℕ) (opened : Opened) → object_at s d ≡ Some (A_description opened)
+      → opened.holders ≡ holders (state_of processes s) d
+
 -- The root is number 0, the state is well formed, nothing in it is unreached, what is to come is
--- empty, and nothing is lost that no transaction needs.
-pub record Sound (priorities : List ℕ) (s : Numbers) : Type 0 where
+-- empty, nothing is lost that no transaction needs, and the counts are right.
+pub record Sound (processes : List Process) (s : Numbers) : Type 0 where
   pub root : s.root ≡ 0
-  pub well : WellFormed (stored priorities (inodes s))
-  pub tidied : tidy (stored priorities (inodes s)) ≡ stored priorities (inodes s)
+  pub well : WellFormed (state_of processes s)
+  pub tidied : tidy (state_of processes s) ≡ state_of processes s
   pub staged : (n : ℕ) → IsStaged (get s.places n)
+  pub counted : AreCounted processes s

@@ -1,59 +1,151 @@
-// What a commit makes in the store.
-ghost use Rattle.std.specs.Prelude.{◌≡◌, ℕ, [], true, if◌then◌else◌};
+// The changes of inodes and of descriptions, made in the store.
+ghost use Rattle.std.specs.Prelude.{◌≡◌, ◌≢◌, ◌≤◌, ◌<◌, ◌^◌, ◌⊎◌, ℕ, false, true, Some};
 ghost use Rattle.model.specs.FiniteMap.{get};
-ghost use Rattle.freeing_laws.specs.Sweep.{AreParented};
-ghost use Rattle.store.specs.Places.{altered};
-ghost use Rattle.store.specs.Shown.{inodes};
-ghost use Rattle.shadow.specs.Changed.{kept_at};
-ghost use Rattle.shadow.specs.Laid.{AreReady, IsReady, all_freed, carried, carried_by, is_touched};
-ghost use Rattle.shadow.specs.Stored.{stored};
+ghost use Rattle.store.specs.Numbers.{coming};
+ghost use Rattle.store.specs.declared.Object.TheVariants.{Nothing};
+ghost use Rattle.shadow.specs.Laid.{AreReady, AreReopened, IsCarried, IsReady, IsReadyFile};
+ghost use Rattle.shadow.specs.Laid.{IsReopened, IsWrittenOver};
+ghost use Rattle.shadow.specs.declared.opening.Opening.TheVariants.{New};
+ghost use Rattle.shadow.specs.Patches.{is_new, kept_at, opening_at};
 
-use crate::changes::{Change, Changes};
-use crate::stable::free;
+use crate::change::{Change, Contents};
+use crate::inodes::Inodes;
+use crate::opening::{Opening, Openings};
+use file_shadow::FileShadow;
 use heap::Heap;
 use ids::Num;
-use store::Store;
+use objects::{Description, FileData};
+use store::{Object, OpenFile, Opened, Store};
 
-/// Makes what is changed of one object, in the room that is kept for it. It takes no memory.
-fn lay(store: &mut Store, num: Num, change: Change)
-    requires { is_touched change ≡ true → IsReady store.old num change }
-    ensures { store.new ≡ (if is_touched change
-        then altered (carried_by change) store.old num else store.old) }
+/// Makes what is changed of inodes, in the room that is kept for it. It takes no memory.
+pub(crate) fn lay_inodes(store: &mut Store, heap: Heap, inodes: Inodes)
+    requires { AreReady inodes store.old }
+    ensures root { store.new.root ≡ store.old.root }
+    ensures places { (n : ℕ)
+        → IsCarried (kept_at inodes n) (get store.old.places n) (get store.new.places n) }
 {
-    if !change.is_touched() {
-        return;
+    for (num, change) in inodes.each {
+        lay_inode(store, heap, num, change);
     }
-    if change.made {
-        store.install(num);
-    }
+}
+
+// Makes what is changed of one inode.
+fn lay_inode(store: &mut Store, heap: Heap, num: Num, change: Change)
+    requires { IsReady store.old num change }
+    ensures root { store.new.root ≡ store.old.root }
+    ensures here { IsCarried (Some change) (get store.old.places num) (get store.new.places num) }
+    ensures others { (n : ℕ) → n ≢ num → get store.new.places n ≡ get store.old.places n }
+{
     let Change {
-        names,
+        made,
         promised,
+        room,
+        contents,
         ..
     } = change;
-    store.lay(num, names.into_given(), promised);
-}
-
-/// Makes a transaction's changes, object by object, in the room that is kept for them. It takes no
-/// memory.
-pub(crate) fn lay_all(store: &mut Store, changes: Changes)
-    requires { AreReady changes store.old }
-    ensures root { store.new.root ≡ store.old.root }
-    ensures places { (n : ℕ) → get store.new.places n
-        ≡ carried (kept_at changes n) (get store.old.places n) }
-{
-    for (num, change) in changes.each {
-        lay(store, num, change);
+    match contents {
+        Contents::Same => (),
+        Contents::Names(_fresh, names) => {
+            if made.is_some() {
+                store.install(num);
+            }
+            store.lay(num, names.into_given(), promised);
+        }
+        Contents::Bytes(_fresh, bytes) => {
+            if made.is_some() {
+                install_file(store, num, bytes, room);
+            } else {
+                lay_bytes(store, heap, num, bytes, room);
+            }
+        }
     }
 }
 
-/// Frees those of these objects to which no name leads. It takes no memory.
-pub(crate) fn free_all(store: &mut Store, lost: Vec<Num, Heap>)
-    requires root { store.old.root ≡ 0 }
-    requires parented { AreParented (stored [] (inodes store.old)) }
-    ensures { store.new ≡ all_freed lost.entry.items store.old }
+// Shows a new file, in its room.
+fn install_file(store: &mut Store, num: Num, bytes: FileShadow, room: FileData)
+    requires ready { IsReadyFile true (get store.old.places num) room bytes.extent.end }
+    ensures root { store.new.root ≡ store.old.root }
+    ensures here { IsWrittenOver bytes (get store.old.places num) (get store.new.places num) }
+    ensures others { (n : ℕ) → n ≢ num → get store.new.places n ≡ get store.old.places n }
 {
-    for num in lost {
-        free(store, num);
+    let mut data = room;
+    data.cut(0).unwrap();
+    bytes.commit_into(&mut data);
+    store.install_as(
+        num,
+        Object::File(OpenFile {
+            bytes: data,
+            openings: 0,
+        }),
+    );
+}
+
+// Lays bytes over those of a file. Where it has too little room they are moved.
+fn lay_bytes(store: &mut Store, heap: Heap, num: Num, bytes: FileShadow, room: FileData)
+    requires ready { IsReadyFile false (get store.old.places num) room bytes.extent.end }
+    ensures root { store.new.root ≡ store.old.root }
+    ensures here { IsWrittenOver bytes (get store.old.places num) (get store.new.places num) }
+    ensures others { (n : ℕ) → n ≢ num → get store.new.places n ≡ get store.old.places n }
+{
+    let file = store.swap_file(num, FileData::new(heap));
+    let mut file = roomy(file, room, bytes.room());
+    bytes.commit_into(&mut file);
+    let _empty = store.swap_file(num, file);
+}
+
+// A file with room for so many bytes: the file itself, or its bytes moved to this room.
+fn roomy(file: FileData, mut room: FileData, end: usize) -> FileData
+    requires { (end ≤ file.room) ⊎ (end ≤ room.room) }
+    ensures bytes { result.bytes ≡ file.bytes }
+    ensures room { end ≤ result.room }
+{
+    if file.has_room(end) {
+        return file;
+    }
+    room.cut(0).unwrap();
+    room.write_at(0, file.as_slice()).unwrap();
+    room
+}
+
+/// Makes what is changed of descriptions. It takes no memory.
+pub(crate) fn lay_openings(store: &mut Store, openings: &Openings)
+    requires { (d : ℕ) → is_new (opening_at openings.now d) ≡ true
+        → get store.old.places d ≡ Some (coming Nothing) }
+    ensures { AreReopened openings.now store.old store.new }
+{
+    for (num, opening) in &openings.each {
+        lay_opening(store, *num, *opening);
+    }
+}
+
+// Makes what is changed of one description.
+fn lay_opening(store: &mut Store, num: Num, opening: Opening)
+    requires { is_new opening ≡ true → get store.old.places num ≡ Some (coming Nothing) }
+    ensures { IsReopened num opening store.old store.new }
+{
+    match opening {
+        Opening::Kept => (),
+        Opening::Moved(place) => store.set_offset(num, place),
+        Opening::New(description) => open(store, num, description),
+    }
+}
+
+/// Shows a new description, which is counted at its inode.
+pub(crate) fn open(store: &mut Store, num: Num, description: Description)
+    requires { get store.old.places num ≡ Some (coming Nothing) }
+    ensures { IsReopened num (New description) store.old store.new }
+{
+    let inode = description.inode;
+    store.numbers_are_few();
+    store.install_as(
+        num,
+        Object::Description(Opened {
+            description,
+            holders: 0,
+        }),
+    );
+    // It is always so: there are as many openings as descriptions at most.
+    if store.openings(inode) < u128::MAX {
+        store.add_opening(inode);
     }
 }

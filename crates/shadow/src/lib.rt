@@ -1,14 +1,20 @@
 //! The committed state, and a transaction's changes to it.
-//!
-//! Today there are directories, and the changes that mkdir and rmdir make.
 #![tactic(auto)]
 
 ghost use Rattle.shadow.specs.Effects.{CallsCanBeCommitted};
 
-mod changes;
+mod applying;
+mod change;
+mod claiming;
+mod closing;
+mod inodes;
 mod laying;
 mod log;
+mod opening;
+mod patches;
+mod reslotting;
 mod shadow;
+mod slots;
 mod stable;
 mod view;
 

@@ -1,6 +1,6 @@
 // The changes of a transaction as clauses see them: nothing of them is stored.
 ghost use Rattle.std.specs.Prelude.{◌≡◌, ◌++◌, ◌∷◌, []};
-ghost use Rattle.shadow.specs.Changes.{effect};
+ghost use Rattle.shadow.specs.Log.{effect};
 ghost use Rattle.shadow.specs.Log.{effects_in};
 
 use heap::Heap;

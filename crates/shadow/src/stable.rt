@@ -1,40 +1,56 @@
 // The committed state.
-ghost use Rattle.std.specs.Prelude.{ℕ, ◌≡◌, ◌≢◌, ◌≤◌, ◌<◌, ◌∷◌, [], List, None, true, IfOk, OnErr};
-ghost use Rattle.std.specs.Prelude.{OnOk, if◌then◌else◌};
+ghost use Rattle.std.specs.Prelude.{ℕ, ◌≡◌, ◌≢◌, ◌≤◌, ◌<◌, ◌+◌, ◌∷◌, [], List, None, true, IfOk, OnErr};
+ghost use Rattle.std.specs.Prelude.{OnOk, option_copied, length, map, if◌then◌else◌};
 ghost use Rattle.std.specs.List.{AllByRecursion};
 ghost use Rattle.model.specs.FiniteMap.{empty, get};
-ghost use Rattle.model.specs.State.{Name, names_of};
-ghost use Rattle.model.specs.Changes.{Make_directory, Unname_directory, all_applied, process_of};
-ghost use Rattle.model.specs.Changes.{tidy};
+ghost use Rattle.model.specs.State.{file_of, kind_of, links, mapped, names_of, File as A_file};
+ghost use Rattle.model.specs.Changes.{all_applied, process_of, tidy};
 ghost use Rattle.model.specs.Steps.{IsNowhere};
 ghost use Rattle.model.specs.Moments.{start, is_alive};
-ghost use Rattle.model.specs.Changes.{is_reached};
 ghost use Rattle.call_laws.specs.Fits.{FitsAll};
-ghost use Rattle.freeing_laws.specs.Sweep.{AreParented};
-ghost use Rattle.store.specs.Places.{lost};
-ghost use Rattle.store.specs.Shown.{inodes};
-ghost use Rattle.shadow.specs.Stored.{stored};
-ghost use Rattle.shadow.specs.Changes as steps;
-ghost use Rattle.shadow.specs.Changed.{claim_in, claim_of};
-ghost use Rattle.shadow.specs.Changes.{CanEdit, IsOne, effect, effect_of};
-ghost use Rattle.shadow.specs.Claims.{AreUnused, Claim, Covers, HaveParents, IsInUse, KeepsMore};
-ghost use Rattle.shadow.specs.Claims.{KeepsNothing, KeepsSame, Number, Room, claimed_by, number_as};
-ghost use Rattle.shadow.specs.Claims.{number_of, reserved, room_in};
-ghost use Rattle.shadow.specs.Looks.{HasNoFiles, NamesAreDirectories, NamesAreInUse, birth_of};
+ghost use Rattle.store.specs.Shown.{file_inode};
+ghost use Rattle.shadow.specs.Claims.{AreUnused, Claim, Covers, HaveParents, IsDirectory, KeepsMore};
+ghost use Rattle.shadow.specs.Claims.{KeepsNothing, KeepsSame, claimed_by, number_as, number_of};
+ghost use Rattle.shadow.specs.Claims.{reserved, room_in};
+ghost use Rattle.shadow.specs.Log.{effect};
+ghost use Rattle.shadow.specs.Looks.{DirectoriesAreKept, HasNoPipes, birth_of};
+ghost use Rattle.shadow.specs.Steps.{CanEdit};
 
-use crate::changes::Change;
+use crate::shadow::Shadow;
 use dirlist::Dir;
+use fdtable::FdTable;
 use heap::Heap;
-use ids::{Edit, Name, Num, Nums, Pid, Priority};
+use ids::{Edit, Fd, Kind, Name, Num, Nums, Pid, Priority};
+use objects::{Description, FileData};
 use std::alloc::AllocError;
 use std::marker::Model;
 use store::{Object, Store};
 
-/// The committed state: the objects, the processes with their priorities, and what is kept for
-/// transactions that may commit.
+/// A process.
+#[derive(Drop)]
+pub(crate) struct Process {
+    /// Its open descriptors.
+    pub(crate) table: FdTable,
+    /// Its priority.
+    pub(crate) priority: Priority,
+}
+
+impl Model for Process {
+    ghost use Rattle.model.specs.State.{Process};
+
+    ghost Value = { Process };
+
+    ghost view = { λ p. record {
+      table = p.table;
+      priority = p.priority;
+    } };
+}
+
+/// The committed state: the objects, the processes with their descriptors and priorities, and what
+/// is kept for transactions that may commit.
 #[derive(Drop)]
 pub struct Stable {
-    pub(crate) priorities: Vec<Priority, Heap>,
+    pub(crate) processes: Vec<Process, Heap>,
     pub(crate) store: Store,
 }
 
@@ -44,9 +60,24 @@ impl Model for Stable {
 
     ghost Value = { Committed };
 
-    ghost view = { λ s. committed_of s.priorities.items s.store };
+    ghost view = { λ s. committed_of s.processes.items s.store };
 
-    ghost invariant = { λ s. Sound s.priorities.items s.store };
+    ghost invariant = { λ s. Sound s.processes.items s.store };
+}
+
+// A process without open descriptors for each of these priorities.
+fn first_processes(heap: Heap, priorities: &[Priority]) -> Result<Vec<Process, Heap>, AllocError>
+    ensures { IfOk result (λ ps. ps.items ≡ map (λ p. record { table = empty; priority = p })
+        priorities.now) }
+{
+    let mut processes = Vec::with_capacity(heap, priorities.len())?;
+    for priority in priorities {
+        processes.push(Process {
+            table: FdTable::new(),
+            priority: *priority,
+        })?;
+    }
+    Ok(processes)
 }
 
 impl Stable {
@@ -56,7 +87,7 @@ impl Stable {
         ensures kept { IfOk result KeepsNothing }
     {
         Ok(Stable {
-            priorities: Vec::from_slice(heap, priorities)?,
+            processes: first_processes(heap, priorities)?,
             store: Store::new(heap)?,
         })
     }
@@ -65,7 +96,7 @@ impl Stable {
     pub fn made(&self) -> usize
         ensures { result ≡ self.now.state.made }
     {
-        self.priorities.len()
+        self.processes.len()
     }
 
     /// Whether there is such a process.
@@ -73,7 +104,7 @@ impl Stable {
         ensures { result ≡ is_alive self.now.state pid }
     {
         let number = pid.0 as usize;
-        0 < number && number <= self.priorities.len()
+        0 < number && number <= self.processes.len()
     }
 
     /// A process's priority.
@@ -82,7 +113,7 @@ impl Stable {
         ensures { result ≡ (process_of self.now.state pid).priority }
     {
         let number = pid.0 as usize;
-        self.priorities[number - 1]
+        self.processes[number - 1].priority
     }
 
     /// A process's priority as a number; 0 where there is no such process.
@@ -108,6 +139,17 @@ impl Stable {
         Ok((made as u32, self.level_of(pid)))
     }
 
+    /// A copy of a process's open descriptors; none where there is no such process.
+    pub(crate) fn table(&self, pid: Pid) -> FdTable
+        ensures { result ≡ (process_of self.now.state pid).table }
+    {
+        if self.is_living(pid) {
+            self.processes[pid.0 as usize - 1].table.copy()
+        } else {
+            FdTable::new()
+        }
+    }
+
     /// The number of the root.
     pub(crate) fn root(&self) -> Num
         ensures { result ≡ self.now.state.root }
@@ -115,31 +157,18 @@ impl Stable {
         self.store.root()
     }
 
-    /// The number of the directory that a name in a directory gives.
-    pub(crate) fn find(&self, dir: Num, name: &Name) -> Option<Num>
-        ensures value { result ≡ get (names_of self.now.state dir) name.now }
-        ensures directories { NamesAreDirectories self.now.state }
+    /// What kind of inode a number stands for.
+    pub(crate) fn kind(&self, num: Num) -> Option<Kind>
+        ensures { result ≡ kind_of self.now.state num }
+    {
+        self.store.kind(num)
+    }
+
+    /// The number that a name in a directory gives.
+    pub(crate) fn lookup(&self, dir: Num, name: &Name) -> Option<Num>
+        ensures { result ≡ get (names_of self.now.state dir) name.now }
     {
         self.store.lookup(dir, name)
-    }
-
-    /// What names give is there or to come.
-    pub fn names_are_in_use(&self)
-        ensures { NamesAreInUse self.now }
-    {
-        let _store = &self.store;
-    }
-
-    /// There are no files, no pipes, and nothing is open.
-    pub(crate) fn has_no_files(&self)
-        ensures { HasNoFiles self.now.state }
-    {
-        let _store = &self.store;
-    }
-
-    /// Where its memory comes from.
-    pub(crate) fn heap(&self) -> Heap {
-        *self.priorities.allocator()
     }
 
     /// A directory; where the number is of none, this one without names.
@@ -153,185 +182,47 @@ impl Stable {
         }
     }
 
-    /// Makes the changes of one call at once, with new numbers for what they make, which are
-    /// answered. What nothing leads to then is freed. Refused memory changes nothing.
-    pub fn apply(&mut self, mut edits: Vec<Edit, Heap>) -> Result<Nums, AllocError>
-        requires kinds { CanEdit edits.items }
-        requires parents { HaveParents self.old.reserves edits.items }
-        requires fits { (chosen : List ℕ) → AreUnused self.old edits.items chosen
-            → FitsAll chosen self.old.state edits.items }
-        ensures new { IfOk result (AreUnused self.old edits.entry.items) }
-        ensures state { IfOk result (λ chosen. self.new.state
-            ≡ tidy (all_applied chosen edits.entry.items self.old.state)) }
-        ensures kept { KeepsSame self.old self.new }
-        ensures err { OnErr result (self.new.state ≡ self.old.state) }
+    /// A file; where the number is of none, this one without bytes.
+    pub(crate) fn file<'a>(&'a self, num: Num, none: &'a FileData) -> &'a FileData
+        requires { none.now.bytes ≡ [] }
+        ensures { result.now.bytes ≡ file_of self.now.state num }
     {
-        match edits.pop() {
-            None => Ok(Nums::new(*self.priorities.allocator())),
-            Some(edit) => self.apply_one(edit),
+        match self.store.file(num) {
+            Some(file) => file,
+            None => none,
         }
     }
 
-    /// One change of a name, made at once.
-    fn apply_one(&mut self, edit: Edit) -> Result<Nums, AllocError>
-        requires kinds { CanEdit (edit ∷ []) }
-        requires parents { HaveParents self.old.reserves (edit ∷ []) }
-        requires fits { (chosen : List ℕ) → AreUnused self.old (edit ∷ []) chosen
-            → FitsAll chosen self.old.state (edit ∷ []) }
-        ensures new { IfOk result (AreUnused self.old (edit ∷ [])) }
-        ensures state { IfOk result (λ chosen. self.new.state
-            ≡ tidy (all_applied chosen (edit ∷ []) self.old.state)) }
-        ensures kept { KeepsSame self.old self.new }
-        ensures err { OnErr result (self.new.state ≡ self.old.state) }
+    /// An open file description.
+    pub(crate) fn description(&self, num: Num) -> Option<Description>
+        ensures { result ≡ get self.now.state.descriptions num }
     {
-        match edit {
-            Edit::MakeDirectory(parent, name, _place) => {
-                let chosen = self.reserve_made(parent)?;
-                self.make(parent, name, chosen.as_slice()[0]);
-                Ok(chosen)
-            }
-            Edit::UnnameDirectory(parent, name, num) => {
-                self.unname(parent, &name, num);
-                Ok(Nums::new(*self.priorities.allocator()))
-            }
-            _ => unreachable!(),
-        }
+        self.store.description(num)
     }
 
-    /// A new number for a directory to come, and room for its name. Refused memory changes nothing.
-    pub(crate) fn reserve_made(&mut self, parent: Num) -> Result<Nums, AllocError>
-        requires { IsInUse self.old.reserves parent }
-        ensures one { IfOk result IsOne }
-        ensures apart { IfOk result (AllByRecursion (λ n. n ≢ parent)) }
-        ensures new { IfOk result (λ chosen. (x : Name)
-            → AreUnused self.old (Make_directory parent x 0 ∷ []) chosen) }
-        ensures kept { IfOk result (λ chosen. (x : Name) → KeepsMore self.old self.new
-            (λ c. claimed_by c (effect chosen (Make_directory parent x 0 ∷ [])))) }
-        ensures state { self.new.state ≡ self.old.state }
-        ensures err { OnErr result (KeepsSame self.old self.new) }
+    /// How many names give an inode.
+    pub(crate) fn links(&self, num: Num) -> u128
+        ensures { result ≡ links self.now.state num }
     {
-        let num = self.reserve()?;
-        match self.promise_for(parent, num) {
-            Ok(chosen) => Ok(chosen),
-            Err(AllocError) => {
-                self.give_back(num);
-                Err(AllocError)
-            }
-        }
+        self.store.links(num)
     }
 
-    /// One new number, for a directory to come. Refused memory changes nothing.
-    fn reserve(&mut self) -> Result<Num, AllocError>
-        ensures fresh { IfOk result (λ num. get self.old.reserves num ≡ None) }
-        ensures unused { IfOk result (λ num. (c : Claim) → number_of c ≡ num
-            → reserved self.old c ≡ 0) }
-        ensures nowhere { IfOk result (IsNowhere self.old.state) }
-        ensures kept { IfOk result (λ num. KeepsMore self.old self.new (number_as num)) }
-        ensures state { self.new.state ≡ self.old.state }
-        ensures places { (n : ℕ) → IsInUse self.old.reserves n → IsInUse self.new.reserves n }
-        ensures err { OnErr result (self.new ≡ self.old) }
+    /// Each directory can have room promised.
+    pub fn directories_are_kept(&self)
+        ensures { DirectoriesAreKept self.now }
     {
-        call_laws::unused_numbers_are_nowhere();
-        let dir = Dir::new(*self.priorities.allocator());
-        let num = self.store.reserve_num(Object::Directory(dir))?;
-        Ok(num)
+        let _store = &self.store;
     }
 
-    /// A list of this one number, and room for its name. Refused memory changes nothing.
-    fn promise_for(&mut self, parent: Num, num: Num) -> Result<Nums, AllocError>
-        requires { IsInUse self.old.reserves parent }
-        ensures list { IfOk result (λ chosen. chosen ≡ num ∷ []) }
-        ensures kept { OnOk result (KeepsMore self.old self.new (room_in parent)) }
-        ensures state { self.new.state ≡ self.old.state }
-        ensures err { OnErr result (self.new ≡ self.old) }
+    /// Today there are no pipes.
+    pub fn has_no_pipes(&self)
+        ensures { HasNoPipes self.now.state }
     {
-        let mut chosen = Nums::new(*self.priorities.allocator());
-        chosen.push(num)?;
-        self.promise(parent)?;
-        Ok(chosen)
+        let _store = &self.store;
     }
 
-    /// Gives back a number whose object is still to come. It takes no memory.
-    pub(crate) fn give_back(&mut self, num: Num)
-        requires { 0 < reserved self.old (Number num) }
-        ensures kept { KeepsMore self.new self.old (number_as num) }
-        ensures state { self.new.state ≡ self.old.state }
-    {
-        self.store.lose(num);
+    /// Where its memory comes from.
+    pub(crate) fn heap(&self) -> Heap {
+        *self.processes.allocator()
     }
-
-    /// Promises room for one more name in a directory, which may be to come. Refused memory changes
-    /// nothing.
-    fn promise(&mut self, dir: Num) -> Result<(), AllocError>
-        requires { IsInUse self.old.reserves dir }
-        ensures kept { OnOk result (KeepsMore self.old self.new (room_in dir)) }
-        ensures state { self.new.state ≡ self.old.state }
-        ensures err { OnErr result (self.new ≡ self.old) }
-    {
-        self.store.promise(dir)
-    }
-
-    /// Gives up the promised room of one name. It takes no memory.
-    pub(crate) fn unpromise(&mut self, dir: Num)
-        requires { 0 < reserved self.old (Room dir) }
-        ensures kept { KeepsMore self.new self.old (room_in dir) }
-        ensures state { self.new.state ≡ self.old.state }
-    {
-        self.store.release(dir);
-    }
-
-    /// The new directory of a reserved number is there, with its name.
-    fn make(&mut self, parent: Num, name: Name, num: Num)
-        requires fits { FitsAll (num ∷ []) self.old.state (Make_directory parent name 0 ∷ []) }
-        requires covers { Covers self.old (effect_of (steps.Make parent name num) ∷ []) }
-        ensures state { self.new.state
-            ≡ tidy (all_applied (num ∷ []) (Make_directory parent name 0 ∷ []) self.old.state) }
-        ensures kept { KeepsMore self.new self.old
-            (λ c. claimed_by c (effect_of (steps.Make parent name num))) }
-    {
-        self.store.install(num);
-        self.store.add_name(parent, name, num);
-    }
-
-    /// A directory's name goes, and the directory with it.
-    fn unname(&mut self, parent: Num, name: &Name, num: Num)
-        requires { FitsAll [] self.old.state (Unname_directory parent name.now num ∷ []) }
-        ensures state { self.new.state
-            ≡ tidy (all_applied [] (Unname_directory parent name.now num ∷ []) self.old.state) }
-        ensures kept { KeepsSame self.old self.new }
-    {
-        self.store.remove_name(parent, name);
-        free(&mut self.store, num);
-    }
-
-    /// Gives back what was kept for a transaction's changes of one object. It takes no memory.
-    pub(crate) fn give_up(&mut self, object: Num, change: &Change)
-        requires { (c : Claim) → number_of c ≡ object
-            → claim_in change.now c ≤ reserved self.old c }
-        ensures kept { KeepsMore self.new self.old (claim_of object change.now) }
-        ensures state { self.new.state ≡ self.old.state }
-    {
-        for _given in 0..change.promised {
-            self.unpromise(object);
-        }
-        if change.made {
-            self.give_back(object);
-        }
-    }
-}
-
-/// An object goes to which no name leads, unless it is the root. It takes no memory.
-pub(crate) fn free(store: &mut Store, num: Num)
-    requires root { store.old.root ≡ 0 }
-    requires parented { AreParented (stored [] (inodes store.old)) }
-    ensures { store.new ≡ (if is_reached (stored [] (inodes store.old)) num then store.old
-        else lost store.old num) }
-{
-    if num == store.root() {
-        return;
-    }
-    if store.is_named(num) {
-        return;
-    }
-    store.lose(num);
 }

@@ -1,15 +1,27 @@
 // What a process sees.
-ghost use Rattle.std.specs.Prelude.{◌≡◌, IfOk, option_map};
-ghost use Rattle.model.specs.State.{entry_of};
+ghost use Rattle.std.specs.Prelude.{ℕ, ◌≡◌, ◌+◌, ◌-◌, [], IfOk, Option, drop, length};
+ghost use Rattle.std.specs.Prelude.{option_copied, option_map, take};
+ghost use Rattle.model.specs.FiniteMap.{get, keys};
+ghost use Rattle.model.specs.Paths.{is_empty};
+ghost use Rattle.model.specs.State.{Inode, file_of, file_of_inode, kind, kind_of, mapped, names_of};
+ghost use Rattle.model.specs.State.{names_of_inode, pipe_of};
+ghost use Rattle.model.specs.Changes.{process_of};
+ghost use Rattle.model.specs.Calls.{slot_of};
 ghost use Rattle.model.specs.Effects.{all_done};
-ghost use Rattle.shadow.specs.Looks.{HasNoFiles, changes_of, directory_at};
+ghost use Rattle.freeing_laws.specs.Sweep.{AllFit};
+ghost use Rattle.shadow.specs.Looks.{IsNet, KeepsRest, changes_of};
+ghost use Rattle.shadow.specs.Patches.{net_of, patched};
 
+use crate::change::{Change, Contents};
 use crate::shadow::Shadow;
 use crate::stable::Stable;
 use dirlist::Dir;
+use fdtable::FdTable;
+use freeing_laws::left_is_tidy;
 use heap::Heap;
 use ids::{Bytes, Fd, Kind, Name, NameList, Num, PIPE_CAPACITY, Pid, Slot};
 use look::Look;
+use objects::{Description, FileData};
 use std::alloc::AllocError;
 use std::marker::Model;
 
@@ -23,6 +35,7 @@ pub struct View<'a> {
 impl<'a> Model for View<'a> {
     ghost use Rattle.std.specs.Prelude.{option_map};
     ghost use Rattle.model.specs.Effects.{all_done};
+    ghost use Rattle.freeing_laws.specs.Sweep.{AllFit};
     ghost use Rattle.shadow.specs.Committed.{Committed};
     ghost use Rattle.shadow.specs.Looks.{changes_of};
 
@@ -31,11 +44,47 @@ impl<'a> Model for View<'a> {
     ghost view = { λ v. record v.stable.now {
       state = all_done (changes_of (option_map (λ s. s.now) v.shadow)) v.stable.now.state;
     } };
+
+    ghost invariant = { λ v.
+        AllFit (changes_of (option_map (λ s. s.now) v.shadow)) v.stable.now.state };
+}
+
+// What is changed of an inode, where something may be.
+fn change<'a>(shadow: Option<&'a Shadow>, num: Num) -> Option<&'a Change>
+    ensures { IsNet (changes_of (option_map (λ s. s.now) shadow.entry)) num
+        (net_of (option_copied result)) }
+{
+    left_is_tidy();
+    match shadow {
+        Some(shadow) => shadow.patches.inodes.get(num),
+        None => None,
+    }
+}
+
+// No change changes the root, how many processes were made, or a priority, and none makes a pipe.
+fn keeps_rest(shadow: Option<&Shadow>)
+    ensures { KeepsRest (changes_of (option_map (λ s. s.now) shadow.entry)) }
+{
+    match shadow {
+        Some(shadow) => {
+            let _patches = &shadow.patches;
+        }
+        None => (),
+    }
+}
+
+// There are no pipes in the committed state.
+fn stable_has_no_pipes(stable: &Stable)
+    ensures { (p : ℕ) → pipe_of stable.now.state p ≡ [] }
+{
+    let _store = &stable.store;
 }
 
 impl<'a> View<'a> {
-    /// The committed state with the changes of a process's transaction on top, if it is in one.
+    /// The committed state with the changes of a process's transaction on top, if it is in one. The
+    /// changes fit the states that they find.
     pub fn new(stable: &'a Stable, shadow: Option<&'a Shadow>) -> View<'a>
+        requires { AllFit (changes_of (option_map (λ s. s.now) shadow)) stable.now.state }
         ensures { result ≡ record stable.now {
           state = all_done
               (changes_of (option_map (λ s. s.now) shadow.entry)) stable.now.state;
@@ -44,121 +93,306 @@ impl<'a> View<'a> {
         View { stable, shadow }
     }
 
-    // There are no files, no pipes, and nothing is open.
-    fn has_no_files(&self)
-        ensures { HasNoFiles self.now.state }
+    // What kind of inode a number stands for.
+    fn kind(&self, num: Num) -> Option<Kind>
+        ensures { result ≡ kind_of self.now.state num }
     {
-        match self.shadow {
-            None => self.stable.has_no_files(),
-            Some(shadow) => shadow.has_no_files(self.stable),
+        let stored = self.stable.kind(num);
+        match change(self.shadow, num) {
+            Some(change) => kind_over(&change.contents, stored),
+            None => stored,
         }
     }
 
-    // The number of the directory that a name gives.
-    fn find_directory(&self, dir: Num, name: &Name) -> Option<Num>
-        ensures { entry_of self.now.state dir name.now ≡ directory_at result }
+    // The number that a name gives.
+    fn lookup(&self, dir: Num, name: &Name) -> Option<Num>
+        ensures { result ≡ get (names_of self.now.state dir) name.now }
     {
+        let stored = self.stable.lookup(dir, name);
+        match change(self.shadow, dir) {
+            Some(change) => given_over(&change.contents, name, stored),
+            None => stored,
+        }
+    }
+
+    // An open file description.
+    fn description(&self, num: Num) -> Option<Description>
+        ensures { result ≡ get self.now.state.descriptions num }
+    {
+        let stored = self.stable.description(num);
         match self.shadow {
-            None => self.stable.find(dir, name),
-            Some(shadow) => shadow.find(self.stable, dir, name),
+            Some(shadow) => shadow.patches.openings.get(num).over(stored),
+            None => stored,
+        }
+    }
+
+    // How many bytes a file has.
+    fn len(&self, file: Num) -> usize
+        ensures { result ≡ length (file_of self.now.state file) }
+    {
+        let heap = self.stable.heap();
+        let none = FileData::new(heap);
+        let stored = self.stable.file(file, &none);
+        match change(self.shadow, file) {
+            Some(change) => len_over(heap, &change.contents, stored),
+            None => stored.len(),
+        }
+    }
+
+    // Bytes of a file from a place on.
+    fn bytes(&self, heap: Heap, file: Num, place: usize, count: usize) -> Result<Bytes, AllocError>
+        ensures { IfOk result
+            (λ bytes. bytes ≡ take count (drop place (file_of self.now.state file))) }
+    {
+        let none = FileData::new(heap);
+        let stored = self.stable.file(file, &none);
+        match change(self.shadow, file) {
+            Some(change) => bytes_over(heap, &change.contents, stored, place, count),
+            None => stored.read_at(heap, place, count),
+        }
+    }
+
+    // What never changes of a description, with its inode's kind.
+    fn slot(&self, num: Num) -> Slot
+        ensures { result ≡ slot_of self.now.state num (get self.now.state.descriptions num) }
+    {
+        match self.description(num) {
+            Some(description) => Slot {
+                description: num,
+                inode: description.inode,
+                kind: self.kind(description.inode),
+                reading: description.reading,
+                writing: description.writing,
+                appending: description.appending,
+            },
+            None => Slot {
+                description: num,
+                inode: Num(0),
+                kind: None,
+                reading: false,
+                writing: false,
+                appending: false,
+            },
+        }
+    }
+
+    // There are no pipes.
+    fn has_no_pipes(&self)
+        ensures { (p : ℕ) → pipe_of self.now.state p ≡ [] }
+    {
+        stable_has_no_pipes(self.stable);
+        keeps_rest(self.shadow);
+    }
+
+    // A copy of a process's open descriptors.
+    fn own_table(&self, pid: Pid) -> FdTable
+        ensures { result ≡ (process_of self.now.state pid).table }
+    {
+        let stored = self.stable.table(pid);
+        match self.shadow {
+            Some(shadow) => shadow.patches.slots.over(pid, stored),
+            None => stored,
         }
     }
 }
 
-// A directory's number with its kind.
-fn as_directory(found: Option<Num>) -> Option<(Num, Option<Kind>)>
-    ensures { result ≡ directory_at found }
+// The kind of an inode, with changes of its contents.
+fn kind_over(contents: &Contents, stored: Option<Kind>) -> Option<Kind>
+    ensures { (o : Option Inode) → mapped kind o ≡ stored
+        → result ≡ mapped kind (patched contents.now o) }
 {
-    match found {
-        Some(num) => Some((num, Some(Kind::Dir))),
-        None => None,
+    match contents {
+        Contents::Same => stored,
+        Contents::Names(_, _) => Some(Kind::Dir),
+        Contents::Bytes(_, _) => Some(Kind::File),
     }
 }
 
-/// Today there are no files and no pipes, and no process has anything open: so what is asked of
-/// them has one answer each.
+// What a name gives, with changes of the contents of its directory.
+fn given_over(contents: &Contents, name: &Name, stored: Option<Num>) -> Option<Num>
+    ensures { (o : Option Inode) → get (names_of_inode o) name.now ≡ stored
+        → result ≡ get (names_of_inode (patched contents.now o)) name.now }
+{
+    match contents {
+        Contents::Same => stored,
+        Contents::Bytes(_, _) => None,
+        Contents::Names(fresh, names) => match names.look(name) {
+            Some(given) => given,
+            None if *fresh => None,
+            None => stored,
+        },
+    }
+}
+
+// All names, with changes of the contents of their directory.
+fn names_over(heap: Heap, contents: &Contents, stored: &Dir) -> Result<NameList, AllocError>
+    ensures { IfOk result (λ list. (o : Option Inode) → names_of_inode o ≡ stored.now.names
+        → list ≡ keys (names_of_inode (patched contents.now o))) }
+{
+    match contents {
+        Contents::Same => stored.names(heap),
+        Contents::Bytes(_, _) => Dir::new(heap).names(heap),
+        Contents::Names(true, names) => names.names_over(heap, &Dir::new(heap)),
+        Contents::Names(false, names) => names.names_over(heap, stored),
+    }
+}
+
+// Whether there are no names, with changes of the contents of their directory.
+fn is_empty_over(heap: Heap, contents: &Contents, stored: &Dir) -> bool
+    ensures { (o : Option Inode) → names_of_inode o ≡ stored.now.names
+        → result ≡ is_empty (keys (names_of_inode (patched contents.now o))) }
+{
+    match contents {
+        Contents::Same => stored.is_empty(),
+        Contents::Bytes(_, _) => true,
+        Contents::Names(true, names) => names.is_empty_over(&Dir::new(heap)),
+        Contents::Names(false, names) => names.is_empty_over(stored),
+    }
+}
+
+// How many bytes there are, with changes of the file's contents.
+fn len_over(heap: Heap, contents: &Contents, stored: &FileData) -> usize
+    ensures { (o : Option Inode) → file_of_inode o ≡ stored.now.bytes
+        → result ≡ length (file_of_inode (patched contents.now o)) }
+{
+    match contents {
+        Contents::Same => stored.len(),
+        Contents::Names(_, _) => 0,
+        Contents::Bytes(true, bytes) => bytes.len(&FileData::new(heap)),
+        Contents::Bytes(false, bytes) => bytes.len(stored),
+    }
+}
+
+// Bytes from a place on, with changes of the file's contents.
+fn bytes_over(
+    heap: Heap,
+    contents: &Contents,
+    stored: &FileData,
+    place: usize,
+    count: usize,
+) -> Result<Bytes, AllocError>
+    ensures { IfOk result (λ bytes. (o : Option Inode) → file_of_inode o ≡ stored.now.bytes
+        → bytes ≡ take count (drop place (file_of_inode (patched contents.now o)))) }
+{
+    match contents {
+        Contents::Same => stored.read_at(heap, place, count),
+        Contents::Names(_, _) => Ok(Bytes::new(Vec::new(heap))),
+        Contents::Bytes(true, bytes) => bytes.read(heap, &FileData::new(heap), place, count),
+        Contents::Bytes(false, bytes) => bytes.read(heap, stored, place, count),
+    }
+}
+
+// A count that plans know with 32 bits.
+fn small(count: u128) -> Result<u32, AllocError>
+    ensures { IfOk result (λ n. n ≡ count) }
+{
+    if count > u32::MAX as u128 {
+        return Err(AllocError);
+    }
+    Ok(count as u32)
+}
+
+// How many names give an inode, with those that changes gave it and took from it.
+fn links_over(stored: u128, named: usize, unnamed: usize) -> Result<u32, AllocError>
+    ensures { IfOk result (λ n. n ≡ stored + named - unnamed) }
+{
+    match stored.checked_add(named as u128) {
+        Some(count) => small(count.saturating_sub(unnamed as u128)),
+        None => Err(AllocError),
+    }
+}
+
+/// Today there are no pipes: so what is asked of their bytes has one answer each.
 impl<'a> Look for View<'a> {
     ghost state = { λ v. v.state };
 
     fn root(&self) -> Num {
-        match self.shadow {
-            None => self.stable.root(),
-            Some(shadow) => shadow.root(self.stable),
-        }
+        keeps_rest(self.shadow);
+        self.stable.root()
     }
 
     fn find(&self, dir: Num, name: &Name) -> Option<(Num, Option<Kind>)> {
-        as_directory(self.find_directory(dir, name))
+        match self.lookup(dir, name) {
+            Some(num) => Some((num, self.kind(num))),
+            None => None,
+        }
     }
 
     fn names(&self, heap: Heap, dir: Num) -> Result<NameList, AllocError> {
-        match self.shadow {
-            None => self.stable.directory(dir, &Dir::new(heap)).names(heap),
-            Some(shadow) => shadow.names(heap, self.stable, dir),
+        let none = Dir::new(heap);
+        let stored = self.stable.directory(dir, &none);
+        match change(self.shadow, dir) {
+            Some(change) => names_over(heap, &change.contents, stored),
+            None => stored.names(heap),
         }
     }
 
     fn is_empty(&self, dir: Num) -> bool {
-        match self.shadow {
-            None => self
-                .stable
-                .directory(dir, &Dir::new(self.stable.heap()))
-                .is_empty(),
-            Some(shadow) => shadow.is_empty(self.stable, dir),
+        let heap = self.stable.heap();
+        let none = Dir::new(heap);
+        let stored = self.stable.directory(dir, &none);
+        match change(self.shadow, dir) {
+            Some(change) => is_empty_over(heap, &change.contents, stored),
+            None => stored.is_empty(),
         }
     }
 
-    fn size(&self, _file: Num) -> Result<u32, AllocError> {
-        self.has_no_files();
-        Ok(0)
+    fn size(&self, file: Num) -> Result<u32, AllocError> {
+        small(self.len(file) as u128)
     }
 
     fn read_file(
         &self,
         heap: Heap,
-        _file: Num,
-        _place: u32,
-        _count: u32,
+        file: Num,
+        place: u32,
+        count: u32,
     ) -> Result<Bytes, AllocError> {
-        self.has_no_files();
-        Ok(Bytes::new(Vec::new(heap)))
+        small(self.len(file) as u128)?;
+        self.bytes(heap, file, place as usize, count as usize)
     }
 
-    // The names that give a directory are not counted: plans ask this of files alone, and there are
-    // none.
-    fn links(&self, _file: Num) -> Result<u32, AllocError> {
+    fn links(&self, file: Num) -> Result<u32, AllocError> {
+        let stored = self.stable.links(file);
+        match change(self.shadow, file) {
+            Some(change) => links_over(stored, change.named, change.unnamed),
+            None => small(stored),
+        }
+    }
+
+    // Plans ask this of pipes alone, and there are none.
+    fn ends(&self, _pipe: Num) -> Result<(u32, u32), AllocError> {
         Err(AllocError)
     }
 
-    fn ends(&self, _pipe: Num) -> Result<(u32, u32), AllocError> {
-        self.has_no_files();
-        Ok((0, 0))
-    }
-
-    fn offset(&self, _description: Num) -> Result<u32, AllocError> {
-        self.has_no_files();
-        Ok(0)
+    fn offset(&self, description: Num) -> Result<u32, AllocError> {
+        match self.description(description) {
+            Some(description) => Ok(description.offset),
+            None => Ok(0),
+        }
     }
 
     fn read_pipe(&self, heap: Heap, _pipe: Num, _count: u32) -> Result<Bytes, AllocError> {
-        self.has_no_files();
+        self.has_no_pipes();
         Ok(Bytes::new(Vec::new(heap)))
     }
 
     fn fit(&self, _pipe: Num, count: usize) -> Result<u32, AllocError> {
-        self.has_no_files();
+        self.has_no_pipes();
         Ok(count.min(PIPE_CAPACITY) as u32)
     }
 
-    fn table(&self, heap: Heap, _pid: Pid) -> Result<Vec<(Fd, Slot), Heap>, AllocError> {
-        self.has_no_files();
-        Ok(Vec::new(heap))
+    fn table(&self, heap: Heap, pid: Pid) -> Result<Vec<(Fd, Slot), Heap>, AllocError> {
+        let entries = self.own_table(pid).entries(heap)?;
+        let mut slots = Vec::with_capacity(heap, entries.len())?;
+        for (fd, description) in &entries {
+            slots.push((*fd, self.slot(*description)))?;
+        }
+        Ok(slots)
     }
 
     fn birth(&self, pid: Pid) -> Result<(u32, u8), AllocError> {
-        match self.shadow {
-            None => self.stable.birth(pid),
-            Some(shadow) => shadow.birth(self.stable, pid),
-        }
+        keeps_rest(self.shadow);
+        self.stable.birth(pid)
     }
 }

@@ -11,11 +11,13 @@ use Rattle.dirlist.specs.Listing.{Listing}
 use Rattle.store.specs.Headers.{AreCounted, IsSound, IsStaged, at_place, links_of, names_in, place_of, places_of}
 use Rattle.store.specs.Links.{links_in}
 use Rattle.store.specs.Numbers.{coming, present}
-use Rattle.store.specs.Places.{hidden, installed, changed_object, is_over, is_over_by, has_room, listing_of, with_listing}
+use Rattle.store.specs.Places.{hidden, installed, changed_file, changed_object, changed_opened, is_over, is_over_by, has_room, listing_of, with_file, with_listing, with_opened}
 use Rattle.store.specs.Shown.{chosen, inode_in, inode_of, shown_at, with_inode}
 use Rattle.store.specs.declared.Header.{Header}
 use Rattle.store.specs.declared.Object.{Object}
-use Rattle.store.specs.declared.Object.TheVariants.{Directory}
+use Rattle.store.specs.declared.Object.TheVariants.{Directory, File, Description, Nothing}
+use Rattle.store.specs.declared.OpenFile.{OpenFile}
+use Rattle.store.specs.declared.Opened.{Opened}
 use Rattle.store.specs.declared.Place.{Place}
 use Rattle.store.specs.declared.Stage.{Stage}
 use Rattle.store.specs.declared.Stage.TheVariants.{Coming, Held, Lost}
@@ -109,17 +111,49 @@ kept-installed header sound = by_stage header.place.stage header.place.object he
 pub kept-hidden : (header : Header) → IsSound header → header.links ≡ 0 → names_at (Some header) ≡ empty → IsKept hidden header
 kept-hidden header sound unnamed bare = (record { staged = unnamed; few = sound.few }, sym bare)
 
--- a change of promised room
-pub kept-room : (f : Listing → Listing) → ((listing : Listing) → (f listing).names ≡ listing.names) → (header : Header) → IsSound header → IsKept (with_listing f) header
-kept-room f same header sound = by_object header.place.stage header.place.object header.links sound
+-- a change of an object that leaves its names
+pub kept-names : (g : Object → Object) → ((object : Object) → names_in (g object) ≡ names_in object) → (header : Header) → IsSound header → IsKept (λ place. record place { object = g place.object }) header
+kept-names g same header sound = (record { staged = subst (λ names. IsStaged header.place.stage names header.links) (sym (same header.place.object)) sound.staged; few = subst (λ (names : FinMap name_cmp ℕ). len names < 2 ^ 64) (sym (same header.place.object)) sound.few }, shown_names header.place.stage header.place.object (same header.place.object))
   where
-    shown_names : (t : Stage) (object : Object) → names_in (changed_object f object) ≡ names_in object → names_of_inode (shown_at t (inode_of (changed_object f object))) ≡ names_of_inode (shown_at t (inode_of object))
+    shown_names : (t : Stage) (object : Object) → names_in (g object) ≡ names_in object → names_of_inode (shown_at t (inode_of (g object))) ≡ names_of_inode (shown_at t (inode_of object))
     shown_names Coming object e = refl
     shown_names Held object e = e
     shown_names Lost object e = refl
 
-    by_object : (t : Stage) (object : Object) (links : ℕ) → IsSound (record { place = record { stage = t; object = object }; links = links }) → IsKept (with_listing f) (record { place = record { stage = t; object = object }; links = links })
-    by_object t (Directory listing) links sound = (record { staged = subst (λ names. IsStaged t names links) (sym (same listing)) sound.staged; few = subst (λ (names : FinMap name_cmp ℕ). len names < 2 ^ 64) (sym (same listing)) sound.few }, shown_names t (Directory listing) (same listing))
+-- a change of promised room, of a file, and of a description
+pub kept-room : (f : Listing → Listing) → ((listing : Listing) → (f listing).names ≡ listing.names) → (header : Header) → IsSound header → IsKept (with_listing f) header
+kept-room f same = kept-names (changed_object f) by_object
+  where
+    by_object : (object : Object) → names_in (changed_object f object) ≡ names_in object
+    by_object (Directory listing) = same listing
+    by_object (File file) = refl
+    by_object (Description opened) = refl
+    by_object Nothing = refl
+
+pub kept-file : (f : OpenFile → OpenFile) (header : Header) → IsSound header → IsKept (with_file f) header
+kept-file f = kept-names (changed_file f) by_object
+  where
+    by_object : (object : Object) → names_in (changed_file f object) ≡ names_in object
+    by_object (Directory listing) = refl
+    by_object (File file) = refl
+    by_object (Description opened) = refl
+    by_object Nothing = refl
+
+pub kept-opened : (f : Opened → Opened) (header : Header) → IsSound header → IsKept (with_opened f) header
+kept-opened f = kept-names (changed_opened f) by_object
+  where
+    by_object : (object : Object) → names_in (changed_opened f object) ≡ names_in object
+    by_object (Directory listing) = refl
+    by_object (File file) = refl
+    by_object (Description opened) = refl
+    by_object Nothing = refl
+
+few_of : (object : Object) → names_in object ≡ empty → len (names_in object) < 2 ^ 64
+few_of object e = let none : len (names_in object) ≡ 0 = ap len e ∙ len-empty name_cmp ℕ in omega arith
+
+-- an object without names comes where nothing was settled
+pub kept-settled : (object : Object) → names_in object ≡ empty → (header : Header) → header.place ≡ coming Nothing → IsKept (λ place. present object) header
+kept-settled object bare header is = (record { staged = tt; few = few_of object bare }, bare ∙ sym (ap (λ (place : Place). names_of_inode (inode_in place)) is))
 
 pub counted-kept : (old new : Slab Header) (n : ℕ) → AreCounted old → Updates old new n (slab.get old n) → AreCounted new
 counted-kept old new n was u = counted-updated old new n (slab.get old n) u was (was.sound n) refl refl
@@ -141,19 +175,13 @@ module _ (old new : Slab Header) (n : ℕ) where
   -- a new header
   pub counted-reserved : (object : Object) → AreCounted old → Updates old new n (Some (record { place = coming object; links = 0 })) → slab.get old n ≡ None → names_in object ≡ empty → AreCounted new
   counted-reserved object was u none bare = counted-updated old new n (Some (record { place = coming object; links = 0 })) u was
-      (λ header e. some_same IsSound _ header e (record { staged = bare; few = few_of bare }))
+      (λ header e. some_same IsSound _ header e (record { staged = bare; few = few_of object bare }))
       (ap links_of (sym none)) (ap names_at (sym none))
-    where
-      few_of : names_in object ≡ empty → len (names_in object) < 2 ^ 64
-      few_of e = let none : len (names_in object) ≡ 0 = ap len e ∙ len-empty name_cmp ℕ in omega arith
 
   pub counted-root : (object : Object) → AreCounted old → Updates old new n (Some (record { place = present object; links = 0 })) → slab.get old n ≡ None → names_in object ≡ empty → AreCounted new
   counted-root object was u none bare = counted-updated old new n (Some (record { place = present object; links = 0 })) u was
-      (λ header e. some_same IsSound _ header e (record { staged = tt; few = few_of bare }))
+      (λ header e. some_same IsSound _ header e (record { staged = tt; few = few_of object bare }))
       (ap links_of (sym none)) (bare ∙ ap names_at (sym none))
-    where
-      few_of : names_in object ≡ empty → len (names_in object) < 2 ^ 64
-      few_of e = let none : len (names_in object) ≡ 0 = ap len e ∙ len-empty name_cmp ℕ in omega arith
 
 -- a slab that is alike, and one with nothing in it
 pub counted-alike : (old new : Slab Header) → new.slots ≡ old.slots → AreCounted old → AreCounted new

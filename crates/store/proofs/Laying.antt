@@ -17,7 +17,7 @@ use Rattle.store.specs.declared.Place.{Place}
 use Rattle.store.specs.declared.Stage.{Stage}
 use Rattle.store.specs.declared.Stage.TheVariants.{Coming, Held, Lost}
 use Rattle.store.specs.declared.Object.{Object}
-use Rattle.store.specs.declared.Object.TheVariants.{Directory}
+use Rattle.store.specs.declared.Object.TheVariants.{Directory, File, Description, Nothing}
 use Rattle.store.proofs.Changes.{altered-none, altered-some, with_place}
 use Rattle.store.proofs.Chosen.{insert-held}
 use Rattle.store.proofs.Listings.{listing-changed, place-altered, place-other, swept-stays}
@@ -80,6 +80,9 @@ module _ (f g h : Listing → Listing) (s : Numbers) (n : ℕ) where
     where
       by_object : (t : Stage) (object : Object) → with_listing f (with_listing g (record { stage = t; object = object })) ≡ with_listing h (record { stage = t; object = object })
       by_object t (Directory listing) = ap (λ (listing : Listing). record { stage = t; object = Directory listing }) (same listing)
+      by_object t (File file) = refl
+      by_object t (Description opened) = refl
+      by_object t Nothing = refl
 
 -- what is shown is not to come, and is not given up
 pub shown-comes_not : (o : Option Place) → is_shown o ≡ true → is_coming o ≡ false
@@ -115,6 +118,9 @@ module _ (s : Numbers) (n : ℕ) where
 
       by_object : (t : Stage) (object : Object) → with_listing (laid_listing [] 0) (record { stage = t; object = object }) ≡ record { stage = t; object = object }
       by_object t (Directory listing) = ap (λ (room : ℕ). record { stage = t; object = Directory (record listing { promised = room }) }) (all_left listing.promised)
+      by_object t (File file) = refl
+      by_object t (Description opened) = refl
+      by_object t Nothing = refl
 
   -- one promise more is given up
   pub one-released : is_shown (get s.places n) ≡ true → (now : Numbers) (count : ℕ) → now ≡ altered (with_listing (laid_listing [] count)) s n → released now n ≡ altered (with_listing (laid_listing [] (count + 1))) s n

@@ -5,6 +5,7 @@ mod Chosen
 mod Changes
 mod Listings
 mod Laying
+mod Beside
 mod Laid
 mod Counted
 mod Renamed

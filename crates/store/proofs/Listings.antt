@@ -1,24 +1,16 @@
 -- The places after a change, and the listings of directories, however far they are.
-use Rattle.std.proofs.Common.{◌≡◌, ◌≢◌, ℕ, ◌<◌, Bool, true, false, cond, Option, Some, None, IsTrue, refl, sym, ap, ◌∙◌, arith, inl, inr}
-use Rattle.std.proofs.lemmas.Bool.Decides.{nat_tests}
+use Rattle.std.proofs.Common.{◌≡◌, ◌≢◌, ℕ, Bool, true, false, cond, Option, Some, None, refl, sym, ap, ◌∙◌, inl, inr}
 use Rattle.std.proofs.lemmas.Bool.{cases_eq}
 use Rattle.std.specs.Option.{option_map}
 use Rattle.model.specs.FiniteMap.{get}
 use Rattle.model.proofs.Laws.{get_same, get_other, removed_same, removed_other}
 use Rattle.dirlist.specs.Listing.{Listing}
 use Rattle.store.specs.Numbers.{Numbers}
-use Rattle.store.specs.Places.{altered_by, altered, listing_of, listing_in, listing_at, with_listing, has_room, is_over, swept}
+use Rattle.store.specs.Places.{altered_by, altered, changed_object, listing_of, listing_in, listing_at, with_listing, is_over, swept}
 use Rattle.store.specs.declared.Place.{Place}
 use Rattle.store.specs.declared.Object.{Object}
-use Rattle.store.specs.declared.Object.TheVariants.{Directory}
+use Rattle.store.specs.declared.Object.TheVariants.{Directory, File, Description, Nothing}
 use Rattle.store.proofs.Changes.{without_place}
-
-tested_room : (n : ℕ) (listing : Listing) → listing.promised ≡ n → 0 < n → IsTrue (has_room (Some listing))
-tested_room n listing is low = grind (arith, nat_tests)
-
--- every object has a listing today
-pub room_of : (object : Object) → ((listing : Listing) → listing_of object ≡ Some listing → 0 < listing.promised) → IsTrue (has_room (listing_of object))
-room_of (Directory listing) low = tested_room _ listing refl (low listing refl)
 
 module _ (f : Place → Place) (s : Numbers) (n : ℕ) where
   -- the places after a change of one
@@ -40,8 +32,11 @@ module _ (f : Listing → Listing) (s : Numbers) (n : ℕ) where
   pub listing-changed : listing_at (altered (with_listing f) s n) n ≡ option_map f (listing_at s n)
   listing-changed = ap listing_in (place-altered (with_listing f) s n) ∙ by_place (get s.places n)
     where
-      by_object : (object : Object) → listing_of (Rattle.store.specs.Places.changed_object f object) ≡ option_map f (listing_of object)
+      by_object : (object : Object) → listing_of (changed_object f object) ≡ option_map f (listing_of object)
       by_object (Directory listing) = refl
+      by_object (File file) = refl
+      by_object (Description opened) = refl
+      by_object Nothing = refl
 
       by_place : (o : Option Place) → listing_in (option_map (with_listing f) o) ≡ option_map f (listing_in o)
       by_place (Some place) = by_object place.object

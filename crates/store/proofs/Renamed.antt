@@ -15,11 +15,12 @@ use Rattle.dirlist.specs.Listing.{Listing}
 use Rattle.dirlist.proofs.Laws.{name_total, name_exact}
 use Rattle.store.specs.Headers.{AreCounted, GainsLink, IsSound, IsStaged, LosesLink, at_place, counted, given_by, links_of, names_in, place_of, places_of}
 use Rattle.store.specs.Links.{links_in}
-use Rattle.store.specs.Places.{changed_object, is_coming, is_coming_by, is_shown, is_shown_by, listing_in, listing_of, may_be_named, may_be_named_by, number_in, with_listing, with_name, without_name}
+use Rattle.store.specs.Places.{changed_object, is_coming, is_coming_by, is_directory, shows_names, listing_in, listing_of, may_be_named, may_be_named_by, number_in, with_listing, with_name, without_name}
+use Rattle.store.specs.Numbers.{if_held}
 use Rattle.store.specs.Shown.{chosen, chosen_entries, in_front, inode_in, inode_of, shown_at}
 use Rattle.store.specs.declared.Header.{Header}
 use Rattle.store.specs.declared.Object.{Object}
-use Rattle.store.specs.declared.Object.TheVariants.{Directory}
+use Rattle.store.specs.declared.Object.TheVariants.{Directory, File, Description, Nothing}
 use Rattle.store.specs.declared.Place.{Place}
 use Rattle.store.specs.declared.Stage.{Stage}
 use Rattle.store.specs.declared.Stage.TheVariants.{Coming, Held, Lost}
@@ -36,19 +37,25 @@ pub given-named : (name : Name) (n : ℕ) (o : Option Header) (q : ℕ) → give
 given-named name n None q = refl
 given-named name n (Some header) q = by_object header.place.stage header.place.object
   where
-    by_object : (t : Stage) (object : Object) → given_in q (names_of_inode (shown_at t (inode_of (changed_object (with_name name n) object)))) + given_by (cond (is_shown_by t) (number_in (listing_of object) name) None) q ≡ given_in q (names_of_inode (shown_at t (inode_of object))) + given_by (cond (is_shown_by t) (Some n) None) q
+    by_object : (t : Stage) (object : Object) → given_in q (names_of_inode (shown_at t (inode_of (changed_object (with_name name n) object)))) + given_by (cond (is_directory (if_held t object)) (number_in (listing_of object) name) None) q ≡ given_in q (names_of_inode (shown_at t (inode_of object))) + given_by (cond (is_directory (if_held t object)) (Some n) None) q
     by_object Held (Directory listing) = given-insert listing.names name n q
-    by_object Coming (Directory listing) = refl
-    by_object Lost (Directory listing) = refl
+    by_object Held (File file) = refl
+    by_object Held (Description opened) = refl
+    by_object Held Nothing = refl
+    by_object Coming object = refl
+    by_object Lost object = refl
 
 pub given-unnamed : (name : Name) (o : Option Header) (q : ℕ) → given_in q (names_at (option_map (at_place (with_listing (without_name name))) o)) + given_by (former_at o name) q ≡ given_in q (names_at o) + given_by None q
 given-unnamed name None q = refl
 given-unnamed name (Some header) q = by_object header.place.stage header.place.object
   where
-    by_object : (t : Stage) (object : Object) → given_in q (names_of_inode (shown_at t (inode_of (changed_object (without_name name) object)))) + given_by (cond (is_shown_by t) (number_in (listing_of object) name) None) q ≡ given_in q (names_of_inode (shown_at t (inode_of object))) + 0
+    by_object : (t : Stage) (object : Object) → given_in q (names_of_inode (shown_at t (inode_of (changed_object (without_name name) object)))) + given_by (cond (is_directory (if_held t object)) (number_in (listing_of object) name) None) q ≡ given_in q (names_of_inode (shown_at t (inode_of object))) + 0
     by_object Held (Directory listing) = let less : given_in q (remove listing.names name) + given_by (get listing.names name) q ≡ given_in q listing.names = given-remove listing.names name q in omega arith
-    by_object Coming (Directory listing) = refl
-    by_object Lost (Directory listing) = refl
+    by_object Held (File file) = refl
+    by_object Held (Description opened) = refl
+    by_object Held Nothing = refl
+    by_object Coming object = refl
+    by_object Lost object = refl
 
 -- what a name gives is counted
 pub former-counted : (headers : Slab Header) → AreCounted headers → (d : ℕ) (name : Name) (n : ℕ) → former_at (slab.get headers d) name ≡ Some n → 0 < links_of (slab.get headers n)
@@ -59,8 +66,11 @@ former-counted headers was d name n is =
     let count : links_of (slab.get headers n) ≡ links_in (inodes_of headers) n = was.counts n in
     omega arith
   where
-    by_object : (t : Stage) (object : Object) → cond (is_shown_by t) (number_in (listing_of object) name) None ≡ Some n → 0 < given_in n (names_of_inode (shown_at t (inode_of object)))
+    by_object : (t : Stage) (object : Object) → cond (is_directory (if_held t object)) (number_in (listing_of object) name) None ≡ Some n → 0 < given_in n (names_of_inode (shown_at t (inode_of object)))
     by_object Held (Directory listing) e = given-some listing.names name n e
+    by_object Held (File file) e = absurd cc
+    by_object Held (Description opened) e = absurd cc
+    by_object Held Nothing e = absurd cc
     by_object Coming object e = absurd cc
     by_object Lost object e = absurd cc
 
@@ -139,7 +149,7 @@ pub loses-none : (headers : Slab Header) (former : Option ℕ) → former ≡ No
 loses-none headers former none = record { places = λ q. refl; links = λ q. ap (λ o. links_of (slab.get headers q) + given_by o q) none ∙ (let same : links_of (slab.get headers q) + 0 ≡ links_of (slab.get headers q) = omega arith in same) }
 
 pub counted-none : (place : Option Place) (target : Option ℕ) → target ≡ None → counted place target ≡ None
-counted-none place target none = ap (counted place) none ∙ by_test (is_shown place)
+counted-none place target none = ap (counted place) none ∙ by_test (shows_names place)
   where
     by_test : (b : Bool) → cond {A = Option ℕ} b None None ≡ None
     by_test true = refl
@@ -170,6 +180,9 @@ sound-unnamed name header sound = by_object header.place.stage header.place.obje
       staged = staged t listing.names links sound.staged;
       few = (let less : cond (contains_key listing.names name) 1 0 + len (remove listing.names name) ≡ len listing.names = len_before_remove name_total listing.names name in let few : len listing.names < 2 ^ 64 = sound.few in omega arith);
     }
+    by_object t (File file) links sound = sound
+    by_object t (Description opened) links sound = sound
+    by_object t Nothing links sound = sound
 
 pub sound-named : (name : Name) (n : ℕ) (header : Header) → IsSound header → is_coming (Some header.place) ≡ false → ((listing : Listing) → listing_in (Some (with_listing (with_name name n) header.place)) ≡ Some listing → len listing.names < 2 ^ 64) → IsSound (at_place (with_listing (with_name name n)) header)
 sound-named name n header sound = by_object header.place.stage header.place.object header.links sound
@@ -184,6 +197,9 @@ sound-named name n header sound = by_object header.place.stage header.place.obje
       staged = staged t listing.names (insert listing.names name n) links away sound.staged;
       few = few (with_name name n listing) refl;
     }
+    by_object t (File file) links sound away few = sound
+    by_object t (Description opened) links sound away few = sound
+    by_object t Nothing links sound away few = sound
 
 -- a count is less than 2^128
 chosen-le : (es : List (ℕ × Place)) → length (chosen_entries inode_in es) ≤ length es
@@ -210,14 +226,20 @@ length-placed first (Some header ∷ slots) =
     let step : count_by is_some (Some header ∷ slots) ≡ 1 + count_by is_some slots = sum_by-cons (λ (o : Option Header). cond (is_some o) 1 0) (Some header) slots in
     omega arith
 
+-- no more numbers are in use than the slab holds headers
+pub len-places-le : (headers : Slab Header) → len (places_of headers) ≤ slab_len headers
+len-places-le headers =
+    let used : len (places_of headers) ≤ length (placed 0 (map place_of headers.slots)) = len-from_entries-le (placed 0 (map place_of headers.slots)) in
+    let slots : length (placed 0 (map place_of headers.slots)) ≡ slab_len headers = length-placed 0 headers.slots in
+    omega arith
+
 len-inodes_of-le : (headers : Slab Header) → len (inodes_of headers) ≤ slab_len headers
 unfolding chosen
 len-inodes_of-le headers =
     let all : len (from_entries {R = nat_cmp} (chosen_entries inode_in (entries (places_of headers)))) ≤ length (chosen_entries inode_in (entries (places_of headers))) = len-from_entries-le (chosen_entries inode_in (entries (places_of headers))) in
     let some : length (chosen_entries inode_in (entries (places_of headers))) ≤ length (entries (places_of headers)) = chosen-le (entries (places_of headers)) in
     let is : len (places_of headers) ≡ length (entries (places_of headers)) = len-entries (places_of headers) in
-    let used : len (places_of headers) ≤ length (placed 0 (map place_of headers.slots)) = len-from_entries-le (placed 0 (map place_of headers.slots)) in
-    let slots : length (placed 0 (map place_of headers.slots)) ≡ slab_len headers = length-placed 0 headers.slots in
+    let used : len (places_of headers) ≤ slab_len headers = len-places-le headers in
     omega arith
 
 few_in : (headers : Slab Header) → AreCounted headers → (n : ℕ) (inode : Inode) → get (inodes_of headers) n ≡ Some inode → len (names_of_inode (Some inode)) ≤ 18446744073709551615
@@ -252,9 +274,17 @@ module _ (f : Listing → Listing) (old named : Slab Header) (d : ℕ) (u : Upda
       by_slot None = refl
       by_slot (Some header) = same header.place
 
-  -- what is counted is decided by the stage alone
+  -- what is counted is decided by the stage and the kind of the object
   pub counted-kept_stage : (target : Option ℕ) → counted (place_of (slab.get named d)) target ≡ counted (place_of (slab.get old d)) target
-  counted-kept_stage target = ap (λ (b : Bool). cond b target None) (stage-kept is_shown (λ place. refl) d)
+  counted-kept_stage target = ap (λ (b : Bool). cond b target None) (stage-kept shows_names (λ place. by_object place.stage place.object) d)
+    where
+      by_object : (t : Stage) (object : Object) → is_directory (if_held t (changed_object f object)) ≡ is_directory (if_held t object)
+      by_object Held (Directory listing) = refl
+      by_object Held (File file) = refl
+      by_object Held (Description opened) = refl
+      by_object Held Nothing = refl
+      by_object Coming object = refl
+      by_object Lost object = refl
 
   pub links-kept : (q : ℕ) → links_of (slab.get named q) ≡ links_of (slab.get old q)
   links-kept q = same-links old named d (option_map (at_place (with_listing f)) (slab.get old d)) u (counted-kept_links (with_listing f) (slab.get old d)) q
@@ -298,7 +328,7 @@ module _ (name : Name) (n : ℕ) (old named less : Slab Header) (d : ℕ) (u : U
       (sound-changed (with_name name n) old named d u was (λ header found sound. sound-named name n header sound (ap (λ o. is_coming (place_of o)) (sym found) ∙ settled) (λ listing e. few listing (ap (λ o. listing_in (place_of o)) (u.changed ∙ ap (option_map (at_place (with_listing (with_name name n)))) found) ∙ e))))
       (subst (LosesLink named less) (former-is (with_name name n) old named d u name target is) loses)
       (subst (GainsLink less more) (ap (λ place. counted place (Some n)) (loses.places d) ∙ counted-kept_stage (with_name name n) old named d u (Some n)) gains)
-      (only_new (is_shown (place_of (slab.get old d))))
+      (only_new (shows_names (place_of (slab.get old d))))
     where
       only_new : (b : Bool) (m : ℕ) → cond b (Some n) None ≡ Some m → may_be_named (place_of (slab.get less m)) ≡ true
       only_new true m e = some_same (λ m. may_be_named (place_of (slab.get less m)) ≡ true) n m e (may_be_named-after in_use)

@@ -14,7 +14,7 @@ use Rattle.store.specs.declared.Place.{Place}
 use Rattle.store.specs.declared.Stage.{Stage}
 use Rattle.store.specs.declared.Stage.TheVariants.{Coming, Held, Lost}
 use Rattle.store.specs.Links.{links_in}
-use Rattle.store.specs.Places.{is_shown}
+use Rattle.store.specs.Places.{shows_names}
 use Rattle.store.specs.Shown.{chosen, inode_in, inode_of}
 
 abbrev pub place_of : Option Header → Option Place
@@ -53,7 +53,7 @@ given_by None q = 0
 
 -- what is counted of a name's target: all in a directory that is shown, and nothing elsewhere
 abbrev pub counted : Option Place → Option ℕ → Option ℕ
-counted dir target = if is_shown dir then target else None
+counted dir target = if shows_names dir then target else None
 
 -- every number has its place as before, and one name more, or one less, gives the target
 pub record GainsLink (old new : Slab Header) (target : Option ℕ) : Type 0 where

@@ -1,17 +1,21 @@
--- How the places of a store change: an object to come is shown, an object is lost, or the listing
--- of a directory changes.
+-- How the places of a store change: an object to come is shown, an object is lost, or what it holds
+-- changes.
 use Rattle.std.specs.Prelude.{ℕ, ◌+◌, ◌-◌, Bool, true, false, not, nat_lt, Option, Some, None}
 use Rattle.std.specs.Prelude.{if◌then◌else◌}
 use Rattle.std.specs.Ordering.{nat_cmp}
 use Rattle.model.specs.FiniteMap.{FinMap, get, insert, remove}
 use Rattle.model.specs.State.{Name}
+use Rattle.model.specs.Changes.{at_offset}
+use Rattle.objects.specs.Contents.{Content}
 use Rattle.dirlist.specs.Listing.{Listing}
-use Rattle.store.specs.Numbers.{Numbers}
+use Rattle.store.specs.Numbers.{Numbers, held}
 use Rattle.store.specs.declared.Place.{Place}
 use Rattle.store.specs.declared.Stage.{Stage}
 use Rattle.store.specs.declared.Stage.TheVariants.{Coming, Held, Lost}
 use Rattle.store.specs.declared.Object.{Object}
-use Rattle.store.specs.declared.Object.TheVariants.{Directory}
+use Rattle.store.specs.declared.Object.TheVariants.{Directory, File, Description, Nothing}
+use Rattle.store.specs.declared.OpenFile.{OpenFile}
+use Rattle.store.specs.declared.Opened.{Opened}
 
 abbrev pub altered_by : (Place → Place) → Option Place → FinMap nat_cmp Place → ℕ
     → FinMap nat_cmp Place
@@ -37,6 +41,15 @@ hidden place = record place { stage = Lost }
 
 abbrev pub listing_of : Object → Option Listing
 listing_of (Directory listing) = Some listing
+listing_of _ = None
+
+abbrev pub file_of : Object → Option OpenFile
+file_of (File file) = Some file
+file_of _ = None
+
+abbrev pub opened_of : Object → Option Opened
+opened_of (Description opened) = Some opened
+opened_of _ = None
 
 abbrev pub listing_in : Option Place → Option Listing
 listing_in (Some place) = listing_of place.object
@@ -48,10 +61,76 @@ listing_at s n = listing_in (get s.places n)
 
 abbrev pub changed_object : (Listing → Listing) → Object → Object
 changed_object f (Directory listing) = Directory (f listing)
+changed_object f (File file) = File file
+changed_object f (Description opened) = Description opened
+changed_object f Nothing = Nothing
 
 -- a change of a directory's listing, which leaves how far it is
 abbrev pub with_listing : (Listing → Listing) → Place → Place
 with_listing f place = record place { object = changed_object f place.object }
+
+-- the same of a file, and of a description
+abbrev pub changed_file : (OpenFile → OpenFile) → Object → Object
+changed_file f (File file) = File (f file)
+changed_file f (Directory listing) = Directory listing
+changed_file f (Description opened) = Description opened
+changed_file f Nothing = Nothing
+
+abbrev pub changed_opened : (Opened → Opened) → Object → Object
+changed_opened f (Description opened) = Description (f opened)
+changed_opened f (Directory listing) = Directory listing
+changed_opened f (File file) = File file
+changed_opened f Nothing = Nothing
+
+abbrev pub with_file : (OpenFile → OpenFile) → Place → Place
+with_file f place = record place { object = changed_file f place.object }
+
+abbrev pub with_opened : (Opened → Opened) → Place → Place
+with_opened f place = record place { object = changed_opened f place.object }
+
+-- a file with other bytes, and with one opening more or less
+abbrev pub with_bytes : Content → OpenFile → OpenFile
+with_bytes content file = record file { bytes = content }
+
+abbrev pub more_openings : OpenFile → OpenFile
+more_openings file = record file { openings = file.openings + 1 }
+
+abbrev pub less_openings : OpenFile → OpenFile
+less_openings file = record file { openings = file.openings - 1 }
+
+-- a description with another offset, and with one holder more or less
+abbrev pub moved_to : ℕ → Opened → Opened
+moved_to place opened = record opened { description = at_offset place opened.description }
+
+abbrev pub more_holders : Opened → Opened
+more_holders opened = record opened { holders = opened.holders + 1 }
+
+abbrev pub less_holders : Opened → Opened
+less_holders opened = record opened { holders = opened.holders - 1 }
+
+-- the file of a number, and its description, however far it is
+abbrev pub file_in : Option Place → Option OpenFile
+file_in (Some place) = file_of place.object
+file_in None = None
+
+abbrev pub opened_in : Option Place → Option Opened
+opened_in (Some place) = opened_of place.object
+opened_in None = None
+
+-- how many descriptions are open on a file, and how many descriptors name a description
+abbrev pub openings_of : Option OpenFile → ℕ
+openings_of (Some file) = file.openings
+openings_of None = 0
+
+abbrev pub openings_at : Numbers → ℕ → ℕ
+openings_at s n = openings_of (file_in (get s.places n))
+
+abbrev pub holders_of : Option Opened → ℕ
+holders_of (Some opened) = opened.holders
+holders_of None = 0
+
+abbrev pub holders_at : Numbers → ℕ → ℕ
+holders_at s n = holders_of (opened_in (get s.places n))
 
 -- one promise more, and one less where there is one
 abbrev pub more_room : Listing → Listing
@@ -84,6 +163,14 @@ is_shown_by Lost = false
 abbrev pub is_shown : Option Place → Bool
 is_shown (Some place) = is_shown_by place.stage
 is_shown None = false
+
+-- whether a directory is shown, so that its names are counted
+abbrev pub is_directory : Option Object → Bool
+is_directory (Some (Directory listing)) = true
+is_directory _ = false
+
+abbrev pub shows_names : Option Place → Bool
+shows_names place = is_directory (held place)
 
 abbrev pub is_coming_by : Stage → Bool
 is_coming_by Coming = true

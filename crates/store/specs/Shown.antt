@@ -1,27 +1,39 @@
--- The inodes of a store, as a plain kernel has them: without objects to come and lost ones, and
--- without promised room.
+-- The inodes and the descriptions of a store, as a plain kernel has them: without objects to come
+-- and lost ones, without promised room, and without counts.
 use Rattle.std.specs.Prelude.{ℕ, List, [], ◌∷◌, Option, Some, None}
 use Rattle.std.specs.Ordering.{nat_cmp}
 use Rattle.model.specs.FiniteMap.{FinMap, entries, get, insert, remove, from_entries}
-use Rattle.model.specs.State.{Inode, Directory, name_cmp}
+use Rattle.model.specs.State.{Inode, Directory, File, Description, name_cmp}
+use Rattle.model.specs.Changes.{at_offset}
 use Rattle.store.specs.Numbers.{Numbers}
 use Rattle.store.specs.declared.Place.{Place}
 use Rattle.store.specs.declared.Stage.{Stage}
 use Rattle.store.specs.declared.Stage.TheVariants.{Coming, Held, Lost}
 use Rattle.store.specs.declared.Object.{Object}
 use Rattle.store.specs.declared.Object.TheVariants.{Directory as Kept_directory}
+use Rattle.store.specs.declared.Object.TheVariants.{File as Kept_file}
+use Rattle.store.specs.declared.Object.TheVariants.{Description as Kept_description}
 
 abbrev pub inode_of : Object → Option Inode
 inode_of (Kept_directory listing) = Some (Directory listing.names)
+inode_of (Kept_file file) = Some (File file.bytes.bytes)
+inode_of _ = None
+
+abbrev pub description_of : Object → Option Description
+description_of (Kept_description opened) = Some opened.description
+description_of _ = None
 
 -- an object is shown where it is neither to come nor lost
-abbrev pub shown_at : Stage → Option Inode → Option Inode
-shown_at Held inode = inode
-shown_at Coming inode = None
-shown_at Lost inode = None
+abbrev pub shown_at : {X : Type 0} → Stage → Option X → Option X
+shown_at Held x = x
+shown_at Coming x = None
+shown_at Lost x = None
 
 abbrev pub inode_in : Place → Option Inode
 inode_in place = shown_at place.stage (inode_of place.object)
+
+abbrev pub description_in : Place → Option Description
+description_in place = shown_at place.stage (description_of place.object)
 
 abbrev pub in_front : {Y : Type 0} → ℕ → Option Y → List (ℕ × Y) → List (ℕ × Y)
 in_front n (Some y) es = (n, y) ∷ es
@@ -39,10 +51,18 @@ chosen f m = from_entries (chosen_entries f (entries m))
 abbrev pub inodes : Numbers → FinMap nat_cmp Inode
 inodes s = chosen inode_in s.places
 
+-- the open file descriptions under their numbers
+abbrev pub descriptions : Numbers → FinMap nat_cmp Description
+descriptions s = chosen description_in s.places
+
+-- the number has this value, or none
+abbrev pub with_value : {X : Type 0} → FinMap nat_cmp X → ℕ → Option X → FinMap nat_cmp X
+with_value m n (Some x) = insert m n x
+with_value m n None = remove m n
+
 -- the number has this inode, or none
 abbrev pub with_inode : FinMap nat_cmp Inode → ℕ → Option Inode → FinMap nat_cmp Inode
-with_inode m n (Some inode) = insert m n inode
-with_inode m n None = remove m n
+with_inode = with_value
 
 -- a change of the names of the directory that an inode is, if it is one
 abbrev pub with_names_by : (FinMap name_cmp ℕ → FinMap name_cmp ℕ) → Option Inode
@@ -54,3 +74,17 @@ with_names_by f _ m n = m
 abbrev pub with_names : (FinMap name_cmp ℕ → FinMap name_cmp ℕ) → FinMap nat_cmp Inode → ℕ
     → FinMap nat_cmp Inode
 with_names f m n = with_names_by f (get m n) m n
+
+-- the description of a number with another offset, where there is one
+abbrev pub with_offset_by : ℕ → Option Description → FinMap nat_cmp Description → ℕ
+    → FinMap nat_cmp Description
+with_offset_by place (Some it) m d = insert m d (at_offset place it)
+with_offset_by place None m d = m
+
+abbrev pub with_offset : ℕ → FinMap nat_cmp Description → ℕ → FinMap nat_cmp Description
+with_offset place m d = with_offset_by place (get m d) m d
+
+-- an inode, where it is a file
+abbrev pub file_inode : Option Inode → Option Inode
+file_inode (Some (File bytes)) = Some (File bytes)
+file_inode _ = None

@@ -1,13 +1,14 @@
 //! The header of one number, and changes of it: its place, and the count of the names that give it.
 //! A number that is not in use does not change.
-ghost use Rattle.std.specs.Prelude.{◌≡◌, ◌<◌, ◌+◌, ◌^◌, ℕ, IsTrue, OnOk, OnErr, Some, true};
+ghost use Rattle.std.specs.Prelude.{◌≡◌, ◌<◌, ◌+◌, ◌^◌, ℕ, OnOk, OnErr, Some, None, true};
 ghost use Rattle.std.specs.Prelude.{option_copied, option_map};
 ghost use Rattle.model.specs.FiniteMap as map;
 ghost use Rattle.slab.specs.Slab.{get, slab_len, Updates};
 ghost use Rattle.dirlist.specs.Listing.{Listing};
 ghost use Rattle.store.specs.Numbers.{held};
-ghost use Rattle.store.specs.Places.{installed, hidden, is_over, is_shown, may_be_named, has_room};
-ghost use Rattle.store.specs.Places.{listing_of, listing_in, changed_object, with_listing};
+ghost use Rattle.store.specs.Places.{installed, hidden, is_over, may_be_named, has_room};
+ghost use Rattle.store.specs.Places.{shows_names, listing_of, listing_in, changed_object};
+ghost use Rattle.store.specs.Places.{with_listing};
 ghost use Rattle.store.specs.Places.{more_room, less_room, number_in, with_name, without_name};
 ghost use Rattle.store.specs.Headers.{at_place, count_at, place_at, more_links, less_links};
 ghost use Rattle.store.specs.Headers.{counted, GainsLink, LosesLink};
@@ -39,11 +40,17 @@ fn held_object(place: &Place) -> Option<&Object>
     }
 }
 
-/// Whether the object of a number is shown.
-pub fn is_shown_at(headers: &Slab<Header, Heap>, key: usize) -> bool
-    ensures { result ≡ is_shown (place_at headers.now key) }
+/// Whether a directory is shown at a number, so that its names are counted.
+pub fn shows_names_at(headers: &Slab<Header, Heap>, key: usize) -> bool
+    ensures { result ≡ shows_names (place_at headers.now key) }
 {
-    object_in(headers, key).is_some()
+    match object_in(headers, key) {
+        Some(Object::Directory(_)) => true,
+        Some(Object::File(_)) => false,
+        Some(Object::Description(_)) => false,
+        Some(Object::Nothing) => false,
+        None => false,
+    }
 }
 
 /// Whether room for a name is promised at a number.
@@ -61,6 +68,9 @@ fn is_promised_in(object: &Object) -> bool
 {
     match object {
         Object::Directory(dir) => dir.is_promised(),
+        Object::File(_) => false,
+        Object::Description(_) => false,
+        Object::Nothing => false,
     }
 }
 
@@ -76,6 +86,13 @@ pub fn is_over_at(headers: &Slab<Header, Heap>, key: usize) -> bool
         },
         None => false,
     }
+}
+
+/// The number is not in use any more.
+pub fn free_at(headers: &mut Slab<Header, Heap>, key: usize)
+    ensures { Updates headers.old headers.new key None }
+{
+    let _header = headers.try_remove(key);
 }
 
 /// Shows the object of a number, where it is to come.
@@ -124,6 +141,9 @@ fn promise_in(object: &mut Object) -> Result<(), AllocError>
 {
     match object {
         Object::Directory(dir) => dir.promise(),
+        Object::File(_) => Ok(()),
+        Object::Description(_) => Ok(()),
+        Object::Nothing => Ok(()),
     }
 }
 
@@ -142,6 +162,9 @@ fn release_in(object: &mut Object)
 {
     match object {
         Object::Directory(dir) => release_one(dir),
+        Object::File(_) => (),
+        Object::Description(_) => (),
+        Object::Nothing => (),
     }
 }
 
@@ -175,7 +198,8 @@ pub fn add_name_at(
 }
 
 fn add_name_in(object: &mut Object, name: Name, num: Num) -> Option<Num>
-    requires { IsTrue (has_room (listing_of object.old)) }
+    requires { (listing : Listing) →
+        listing_of object.old ≡ Some listing → 0 < listing.promised }
     ensures value { result ≡ number_in (listing_of object.old) name }
     ensures added { object.new ≡ changed_object (with_name name num) object.old }
     ensures few { (listing : Listing) →
@@ -183,6 +207,9 @@ fn add_name_in(object: &mut Object, name: Name, num: Num) -> Option<Num>
 {
     match object {
         Object::Directory(dir) => put_name(dir, name, num),
+        Object::File(_) => None,
+        Object::Description(_) => None,
+        Object::Nothing => None,
     }
 }
 
@@ -224,6 +251,9 @@ fn remove_name_in(object: &mut Object, name: &Name) -> Option<Num>
 {
     match object {
         Object::Directory(dir) => dir.remove(name),
+        Object::File(_) => None,
+        Object::Description(_) => None,
+        Object::Nothing => None,
     }
 }
 
@@ -243,7 +273,7 @@ pub fn add_link(headers: &mut Slab<Header, Heap>, dir: usize, num: Num)
     requires fits { count_at headers.old num + 1 < 2 ^ 128 }
     ensures { GainsLink headers.old headers.new (counted (place_at headers.old dir) (Some num)) }
 {
-    if is_shown_at(headers, dir) {
+    if shows_names_at(headers, dir) {
         add_link_at(headers, num.0);
     }
 }
@@ -264,7 +294,7 @@ pub fn remove_link(headers: &mut Slab<Header, Heap>, dir: usize, former: Option<
     ensures { LosesLink headers.old headers.new (counted (place_at headers.old dir) former) }
 {
     if let Some(num) = former {
-        if is_shown_at(headers, dir) {
+        if shows_names_at(headers, dir) {
             remove_link_at(headers, num.0);
         }
     }

@@ -3,33 +3,65 @@
 
 ghost use Rattle.std.specs.Prelude.{[], ◌≡◌, ◌<◌, ◌≤◌, ◌==◌, not, true, false, Some, None};
 ghost use Rattle.std.specs.Prelude.{IfOk, IfSome, OnOk, OnErr, count_by, is_some};
-ghost use Rattle.std.specs.Prelude.{option_and_then, option_copied};
+ghost use Rattle.std.specs.Prelude.{option_and_then, option_copied, option_map, IsSome, ◌+◌, ◌^◌};
 ghost use Rattle.std.specs.List.{AllByRecursion};
 ghost use Rattle.model.specs.FiniteMap as map;
-ghost use Rattle.model.specs.State.{mapped, names_of_inode, Directory as A_directory};
+ghost use Rattle.model.specs.State.{kind, mapped, names_of_inode};
+ghost use Rattle.model.specs.State.{Directory as A_directory, File as A_file};
 ghost use Rattle.dirlist.specs.Listing.{Listing};
-ghost use Rattle.store.specs.Numbers.{coming, object_at, IsFirstRoot};
+ghost use Rattle.store.specs.Numbers.{coming, object_at, present, IsFirstRoot};
 ghost use Rattle.store.specs.Places.{altered, installed, lost, released, swept, with_listing};
 ghost use Rattle.store.specs.Places.{is_coming, is_shown, may_be_named, listing_of, listing_at};
 ghost use Rattle.store.specs.Places.{has_room, more_room, number_in, with_name, without_name};
-ghost use Rattle.store.specs.Shown.{inodes, inode_of, with_inode, with_names};
+ghost use Rattle.store.specs.Places.{file_in, file_of, holders_at, less_holders, less_openings};
+ghost use Rattle.store.specs.Places.{more_holders, more_openings, moved_to, openings_at};
+ghost use Rattle.store.specs.Places.{with_bytes, with_file, with_opened};
+ghost use Rattle.store.specs.Shown.{inodes, inode_of, with_inode, with_names, with_value};
+ghost use Rattle.store.specs.Shown.{description_of, descriptions, file_inode, with_offset};
+ghost use Rattle.store.specs.declared.Object.TheVariants.{Nothing};
 ghost use Rattle.store.specs.Links.{links_in};
 ghost use Rattle.store.specs.Laid.{laid, laid_listing};
 
+mod contents;
 mod headers;
 
 use dirlist::Dir;
 use heap::Heap;
-use ids::{Name, Num};
+use ids::{Kind, Name, Num};
+use objects::{Description, FileData};
 use slab::Slab;
 use std::alloc::AllocError;
 use std::marker::Model;
+
+/// A file, and how many open file descriptions are of it.
+#[derive(Drop)]
+pub struct OpenFile {
+    /// Its bytes.
+    pub bytes: FileData,
+    /// How many descriptions are open on it.
+    pub openings: u128,
+}
+
+/// An open file description, and how many descriptors of processes name it.
+#[derive(Drop)]
+pub struct Opened {
+    /// What is open, how, and at which offset.
+    pub description: Description,
+    /// How many descriptors name it.
+    pub holders: u128,
+}
 
 /// What a number stands for.
 #[derive(Drop)]
 pub enum Object {
     /// A directory.
     Directory(Dir),
+    /// A file.
+    File(OpenFile),
+    /// An open file description.
+    Description(Opened),
+    /// Not settled yet: a file or a description is to come.
+    Nothing,
 }
 
 /// How far an object is, from the reservation of its number until the number is given up.
@@ -95,6 +127,7 @@ impl Store {
         ensures root { IfOk result (λ s. s.root ≡ 0) }
         ensures shown { IfOk result
             (λ s. inodes s ≡ map.insert map.empty s.root (A_directory map.empty)) }
+        ensures open { IfOk result (λ s. descriptions s ≡ map.empty) }
     {
         let mut headers = Slab::new(heap);
         let root = headers.insert(Header {
@@ -127,6 +160,7 @@ impl Store {
         }) }
         ensures ready { IfOk result (λ num. map.get self.new.places num ≡ Some (coming object)) }
         ensures shown { OnOk result (inodes self.new ≡ inodes self.old) }
+        ensures open { OnOk result (descriptions self.new ≡ descriptions self.old) }
         ensures err { OnErr result (self.new ≡ self.old) }
     {
         let num = self.headers.insert(Header {
@@ -146,8 +180,27 @@ impl Store {
         ensures shown { (object : Object) →
             map.get self.old.places num ≡ Some (coming object) →
             inodes self.new ≡ with_inode (inodes self.old) num (inode_of object) }
+        ensures open { (object : Object) →
+            map.get self.old.places num ≡ Some (coming object) →
+            descriptions self.new
+            ≡ with_value (descriptions self.old) num (description_of object) }
     {
         headers::install_at(&mut self.headers, num.0);
+    }
+
+    /// The number for a file or a description to come stands for this one from now on, which is
+    /// shown. It takes no memory.
+    pub fn install_as(&mut self, num: Num, object: Object)
+        requires coming { map.get self.old.places num ≡ Some (coming Nothing) }
+        requires bare { names_of_inode (inode_of object) ≡ map.empty }
+        ensures installed { self.new ≡ record self.old {
+          places = map.insert self.old.places num (present object);
+        } }
+        ensures shown { inodes self.new ≡ with_inode (inodes self.old) num (inode_of object) }
+        ensures open { descriptions self.new
+            ≡ with_value (descriptions self.old) num (description_of object) }
+    {
+        contents::settle_at(&mut self.headers, num.0, object);
     }
 
     /// The object of a number is shown no more. The number is given up with it, unless room in it
@@ -160,6 +213,7 @@ impl Store {
         requires bare { names_of_inode (map.get (inodes self.old) num) ≡ map.empty }
         ensures lost { self.new ≡ lost self.old num }
         ensures shown { inodes self.new ≡ map.remove (inodes self.old) num }
+        ensures open { descriptions self.new ≡ map.remove (descriptions self.old) num }
     {
         headers::hide_at(&mut self.headers, num.0);
         self.sweep(num);
@@ -170,7 +224,7 @@ impl Store {
         ensures { self.new ≡ swept self.old num }
     {
         if headers::is_over_at(&self.headers, num.0) {
-            let _header = self.headers.try_remove(num.0);
+            headers::free_at(&mut self.headers, num.0);
         }
     }
 
@@ -187,11 +241,56 @@ impl Store {
     pub fn directory(&self, dir: Num) -> Option<&Dir>
         ensures listing { option_copied result ≡
             option_and_then listing_of (object_at self.now dir) }
-        ensures shown { map.get (inodes self.now) dir ≡
-            mapped (λ listing. A_directory listing.names) (option_copied result) }
+        ensures shown { names_of_inode (map.get (inodes self.now) dir) ≡
+            names_of_inode (mapped (λ listing. A_directory listing.names) (option_copied result)) }
     {
         match self.get(dir) {
             Some(Object::Directory(dir)) => Some(dir),
+            Some(Object::File(_)) => None,
+            Some(Object::Description(_)) => None,
+            Some(Object::Nothing) => None,
+            None => None,
+        }
+    }
+
+    /// The file of a number, where it is shown.
+    pub fn file(&self, num: Num) -> Option<&FileData>
+        ensures content { option_copied result
+            ≡ option_map (λ f. f.bytes) (option_and_then file_of (object_at self.now num)) }
+        ensures shown { file_inode (map.get (inodes self.now) num)
+            ≡ mapped (λ content. A_file content.bytes) (option_copied result) }
+    {
+        match self.get(num) {
+            Some(Object::File(file)) => Some(&file.bytes),
+            Some(Object::Directory(_)) => None,
+            Some(Object::Description(_)) => None,
+            Some(Object::Nothing) => None,
+            None => None,
+        }
+    }
+
+    /// The open file description of a number, where it is shown.
+    pub fn description(&self, num: Num) -> Option<Description>
+        ensures { result ≡ map.get (descriptions self.now) num }
+    {
+        match self.get(num) {
+            Some(Object::Description(opened)) => Some(opened.description),
+            Some(Object::Directory(_)) => None,
+            Some(Object::File(_)) => None,
+            Some(Object::Nothing) => None,
+            None => None,
+        }
+    }
+
+    /// What kind of inode a number stands for, where one is shown.
+    pub fn kind(&self, num: Num) -> Option<Kind>
+        ensures { result ≡ mapped kind (map.get (inodes self.now) num) }
+    {
+        match self.get(num) {
+            Some(Object::Directory(_)) => Some(Kind::Dir),
+            Some(Object::File(_)) => Some(Kind::File),
+            Some(Object::Description(_)) => None,
+            Some(Object::Nothing) => None,
             None => None,
         }
     }
@@ -214,6 +313,14 @@ impl Store {
         headers::links_at(&self.headers, num.0) != 0
     }
 
+    /// How many names of shown directories give this number. It takes no memory, and costs nothing
+    /// but a look at the header.
+    pub fn links(&self, num: Num) -> u128
+        ensures { result ≡ links_in (inodes self.now) num }
+    {
+        headers::links_at(&self.headers, num.0)
+    }
+
     /// Whether room for a name is promised in a directory, which may be to come or lost.
     pub fn is_promised(&self, dir: Num) -> bool
         ensures { result ≡ has_room (listing_at self.now dir) }
@@ -227,6 +334,7 @@ impl Store {
         ensures ok { OnOk result (self.new ≡ altered (with_listing more_room) self.old dir) }
         ensures err { OnErr result (self.new ≡ self.old) }
         ensures shown { inodes self.new ≡ inodes self.old }
+        ensures open { descriptions self.new ≡ descriptions self.old }
     {
         headers::promise_at(&mut self.headers, dir.0)
     }
@@ -237,6 +345,7 @@ impl Store {
     pub fn release(&mut self, dir: Num)
         ensures released { self.new ≡ released self.old dir }
         ensures shown { inodes self.new ≡ inodes self.old }
+        ensures open { descriptions self.new ≡ descriptions self.old }
     {
         headers::release_at(&mut self.headers, dir.0);
         self.sweep(dir);
@@ -253,6 +362,7 @@ impl Store {
         ensures added { self.new ≡ altered (with_listing (with_name name num)) self.old dir }
         ensures shown { inodes self.new ≡
             with_names (λ names. map.insert names name num) (inodes self.old) dir }
+        ensures open { descriptions self.new ≡ descriptions self.old }
     {
         // So a count of one name more fits.
         headers::numbers_are_few(&self.headers);
@@ -268,6 +378,7 @@ impl Store {
         ensures removed { self.new ≡ altered (with_listing (without_name name.now)) self.old dir }
         ensures shown { inodes self.new ≡
             with_names (λ names. map.remove names name.now) (inodes self.old) dir }
+        ensures open { descriptions self.new ≡ descriptions self.old }
     {
         let num = headers::remove_name_at(&mut self.headers, dir.0, name)?;
         headers::remove_link(&mut self.headers, dir.0, Some(num));
@@ -288,6 +399,7 @@ impl Store {
             altered (with_listing (laid_listing notes.entry.items promised)) self.old dir }
         ensures shown { inodes self.new ≡
             with_names (laid notes.entry.items) (inodes self.old) dir }
+        ensures open { descriptions self.new ≡ descriptions self.old }
     {
         let mut left = promised;
         for (name, num) in notes {
@@ -312,5 +424,89 @@ impl Store {
         for _i in 0..count {
             self.release(dir);
         }
+    }
+
+    /// Puts other bytes in the place of a file's, which are answered. The file is shown. It takes
+    /// no memory.
+    pub fn swap_file(&mut self, num: Num, bytes: FileData) -> FileData
+        requires { IsSome (option_and_then file_of (object_at self.old num)) }
+        ensures former { option_map (λ f. f.bytes) (file_in (map.get self.old.places num))
+            ≡ Some result }
+        ensures swapped { self.new ≡ altered (with_file (with_bytes bytes)) self.old num }
+        ensures shown { inodes self.new ≡ map.insert (inodes self.old) num (A_file bytes.bytes) }
+        ensures open { descriptions self.new ≡ descriptions self.old }
+    {
+        contents::swap_file_at(&mut self.headers, num.0, bytes)
+    }
+
+    /// A description's next read or write begins at this place; where the number is of none,
+    /// nothing changes. It takes no memory.
+    pub fn set_offset(&mut self, num: Num, place: u32)
+        ensures moved { self.new ≡ altered (with_opened (moved_to place)) self.old num }
+        ensures shown { inodes self.new ≡ inodes self.old }
+        ensures open { descriptions self.new ≡ with_offset place (descriptions self.old) num }
+    {
+        contents::set_offset_at(&mut self.headers, num.0, place);
+    }
+
+    /// How many descriptions are counted as open on a file.
+    pub fn openings(&self, num: Num) -> u128
+        ensures { result ≡ openings_at self.now num }
+    {
+        contents::openings_at(&self.headers, num.0)
+    }
+
+    /// Counts one description more, or one less, as open on a file; where the number is of none,
+    /// nothing changes.
+    pub fn add_opening(&mut self, num: Num)
+        requires { openings_at self.old num + 1 < 2 ^ 128 }
+        ensures counted { self.new ≡ altered (with_file more_openings) self.old num }
+        ensures shown { inodes self.new ≡ inodes self.old }
+        ensures open { descriptions self.new ≡ descriptions self.old }
+    {
+        contents::add_opening_at(&mut self.headers, num.0);
+    }
+
+    /// See [`Store::add_opening`].
+    pub fn remove_opening(&mut self, num: Num)
+        ensures counted { self.new ≡ altered (with_file less_openings) self.old num }
+        ensures shown { inodes self.new ≡ inodes self.old }
+        ensures open { descriptions self.new ≡ descriptions self.old }
+    {
+        contents::remove_opening_at(&mut self.headers, num.0);
+    }
+
+    /// How many descriptors are counted that name a description.
+    pub fn holders(&self, num: Num) -> u128
+        ensures { result ≡ holders_at self.now num }
+    {
+        contents::holders_at(&self.headers, num.0)
+    }
+
+    /// Counts one descriptor more, or one less, that names a description; where the number is of
+    /// none, nothing changes.
+    pub fn add_holder(&mut self, num: Num)
+        requires { holders_at self.old num + 1 < 2 ^ 128 }
+        ensures counted { self.new ≡ altered (with_opened more_holders) self.old num }
+        ensures shown { inodes self.new ≡ inodes self.old }
+        ensures open { descriptions self.new ≡ descriptions self.old }
+    {
+        contents::add_holder_at(&mut self.headers, num.0);
+    }
+
+    /// See [`Store::add_holder`].
+    pub fn remove_holder(&mut self, num: Num)
+        ensures counted { self.new ≡ altered (with_opened less_holders) self.old num }
+        ensures shown { inodes self.new ≡ inodes self.old }
+        ensures open { descriptions self.new ≡ descriptions self.old }
+    {
+        contents::remove_holder_at(&mut self.headers, num.0);
+    }
+
+    /// A `usize` can count the numbers that are in use.
+    pub fn numbers_are_few(&self)
+        ensures { map.len self.now.places < 2 ^ 64 }
+    {
+        headers::numbers_are_few(&self.headers);
     }
 }

@@ -1,8 +1,8 @@
 use Rattle.std.proofs.Common.{◌≡◌, ◌<◌, ◌∷◌, length, Some, None, refl, sym, subst, ap, ◌∙◌, rules, arith}
 use Rattle.std.specs.Vec.Iter.{into_iter_items}
 use Rattle.store.specs.Laid.{laid, laid_listing}
-use Rattle.store.specs.Shown.{inodes}
-use Rattle.store.proofs.Changes.{inodes-changed}
+use Rattle.store.specs.Shown.{descriptions, inodes}
+use Rattle.store.proofs.Changes.{descriptions-changed, inodes-changed}
 use Rattle.store.proofs.Laying.{Lays, begins, ended, goes_on, goes_on-gone, room_left, shown-comes_not, some_left}
 use Rattle.store.proofs.Store.lay.Goals as goal
 
@@ -59,3 +59,6 @@ returns-clause-laid c =
 
 pub returns-clause-shown : goal.returns-clause-shown
 returns-clause-shown c = ap inodes (returns-clause-laid c) ∙ inodes-changed (laid_listing c.args.notes.items c.args.promised) (laid c.args.notes.items) (λ _. refl) c.args.self.now c.args.dir
+
+pub returns-clause-open : goal.returns-clause-open
+returns-clause-open c = ap descriptions (returns-clause-laid c) ∙ descriptions-changed (laid_listing c.args.notes.items c.args.promised) c.args.self.now c.args.dir

@@ -8,10 +8,10 @@ use Rattle.store.specs.Headers.{at_place}
 use Rattle.store.specs.Links.{links_in}
 use Rattle.store.specs.Numbers.{Numbers}
 use Rattle.store.specs.Places.{hidden, swept}
-use Rattle.store.specs.Shown.{inodes}
+use Rattle.store.specs.Shown.{descriptions, inodes}
 use Rattle.store.proofs.Counted.{counted-altered, counted_number, get-inodes_of, kept-hidden, names_at}
 use Rattle.store.proofs.Rows.{store-altered}
-use Rattle.store.proofs.Changes.{inodes-lost}
+use Rattle.store.proofs.Changes.{descriptions-lost, inodes-lost}
 use Rattle.store.proofs.Store.lose.Goals as goal
 
 pub invariant_of-self : goal.invariant_of-self
@@ -28,3 +28,6 @@ returns-clause-lost c = c.sweep.ensures ∙ ap (λ s. swept s c.args.num) (store
 
 pub returns-clause-shown : goal.returns-clause-shown
 returns-clause-shown c = ap inodes (returns-clause-lost c) ∙ inodes-lost c.args.self.now c.args.num
+
+pub returns-clause-open : goal.returns-clause-open
+returns-clause-open c = ap descriptions (returns-clause-lost c) ∙ descriptions-lost c.args.self.now c.args.num

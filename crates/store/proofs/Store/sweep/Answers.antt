@@ -7,18 +7,16 @@ use Rattle.store.proofs.Counted.{counted-over}
 use Rattle.store.proofs.Rows.{places-remove, slot, with_places}
 use Rattle.store.proofs.Changes.{without_place}
 use Rattle.store.proofs.Store.sweep.Goals as goal
-use Rattle.store.proofs.Store.sweep.Goals.{in-Some-1, in-None-1}
 
 pub invariant_of-self : goal.invariant_of-self
-invariant_of-self c = counted-over _ _ _ c.self.invariant c.try_remove-header.ensures.updates (sym c.is_over_at.ensures ∙ c.if-is_over_at.true)
+invariant_of-self c = counted-over _ _ _ c.self.invariant c.free_at.ensures (sym c.is_over_at.ensures ∙ c.if-is_over_at.true)
 
 pub returns-then-is_over_at : goal.returns-then-is_over_at
 returns-then-is_over_at c =
     let s = c.args.self.now in
     let over : is_over (map.get s.places c.args.num) ≡ true
     = ap is_over (sym (slot _ c.self.inside.headers _ c.self.view_is _ _ c.num.view_is)) ∙ sym c.is_over_at.ensures ∙ c.if-is_over_at.true in
-    let gone = ap (with_places c.self.inside.root) (places-remove _ _ _ c.try_remove-header.ensures.updates) ∙ ap (λ n. without_place (with_places c.self.inside.root (places_of c.self.inside.headers)) n) c.num.view_is ∙ ap (λ (s : Numbers). without_place s c.args.num) c.self.view_is ∙ sym (ap (λ b. cond b (without_place s c.args.num) s) over) in
-    elim c.match-header.branch [ in-Some-1 w ↦ w.self-is ∙ gone | in-None-1 w ↦ w.self-is ∙ gone ]
+    ap (with_places c.self.inside.root) (places-remove _ _ _ c.free_at.ensures) ∙ ap (λ n. without_place (with_places c.self.inside.root (places_of c.self.inside.headers)) n) c.num.view_is ∙ ap (λ (s : Numbers). without_place s c.args.num) c.self.view_is ∙ sym (ap (λ b. cond b (without_place s c.args.num) s) over)
 
 pub returns-else-is_over_at : goal.returns-else-is_over_at
 returns-else-is_over_at c =

@@ -1,10 +1,8 @@
--- So much of the room is given back.
-use Rattle.std.proofs.Common.{◌≡◌, ◌+◌, ◌*◌}
-use Rattle.shadow.specs.Claims.{Claim, reserved, room_in}
+-- What is left of the numbers is kept.
+use Rattle.std.proofs.Common.{drop}
+use Rattle.freeing_laws.specs.Counts.{listed}
+use Rattle.shadow.proofs.Giving.{GivesNumbers}
 use Rattle.shadow.proofs.stable.Stable.give_up.Given as goal
 
-abbrev pub invariant-loop-given : goal.invariant-loop-given
-invariant-loop-given l = record {
-  state : l.self.state ≡ l.fn.self.state;
-  kept : (c : Claim) → reserved l.fn.self c ≡ reserved l.self c + l._given * room_in l.object c;
-}
+abbrev pub invariant-loop-num : goal.invariant-loop-num
+invariant-loop-num l = GivesNumbers l.fn.self l.self l.chosen (listed l.parent) (drop l.num-index l.chosen)

@@ -1,12 +1,11 @@
 use Rattle.std.proofs.Common.{Result, Ok, Err, sym, subst}
 use Rattle.std.specs.Result.{OnOk, OnErr}
 use Rattle.store.specs.Places.{altered, more_room, with_listing}
-use Rattle.shadow.specs.Committed.{Committed}
-use Rattle.shadow.specs.Claims.{IsInUse, KeepsMore, room_in}
+use Rattle.shadow.specs.Claims.{KeepsMore, room_in}
 use Rattle.shadow.specs.Stored.{Sound, committed_of}
-use Rattle.shadow.proofs.Meets.{gives_one, use_of}
+use Rattle.shadow.proofs.Meets.{gives_one}
 use Rattle.shadow.proofs.Unshown.{promised_sound}
-use Rattle.shadow.proofs.Plugs.{more_of}
+use Rattle.shadow.proofs.Plugs.{listed_in, more_of}
 use Rattle.shadow.proofs.stable.Stable.promise.Goals as goal
 
 on_ok_by : {X E P Q : Type 0} (r : Result X E) → (P → Q) → OnOk r P → OnOk r Q
@@ -19,12 +18,12 @@ either_way (Err e) f g h k = g k
 
 pub invariant_of-self : goal.invariant_of-self
 invariant_of-self c =
-    let ps = c.self.inside.priorities.items in let s = c.self.inside.store in
-    either_way c.promise.result (λ e. subst (Sound ps) (sym e) (promised_sound ps s c.args.dir c.self.invariant)) (λ e. subst (Sound ps) (sym e) c.self.invariant) c.promise.ensures.ok c.promise.ensures.err
+    let ps = c.self.inside.processes.items in let s = c.self.inside.store in
+    either_way c.promise.result (λ e. promised_sound ps s c.promise.new.self c.args.dir c.self.invariant e c.promise.ensures.shown c.promise.ensures.open) (λ e. subst (Sound ps) (sym e) c.self.invariant) c.promise.ensures.ok c.promise.ensures.err
 
 pub returns-clause-kept : goal.returns-clause-kept
 returns-clause-kept c =
-    let ps = c.self.inside.priorities.items in let s = c.self.inside.store in
+    let ps = c.self.inside.processes.items in let s = c.self.inside.store in
     on_ok_by c.promise.result (λ e. subst (λ t. KeepsMore c.args.self.now (committed_of ps t) (room_in c.args.dir)) (sym e)
     (more_of ps s c.args.self.now c.self.view_is (altered (with_listing more_room) s c.args.dir) (room_in c.args.dir)
-    (gives_one s c.args.dir (use_of ps s c.args.dir (subst (λ (v : Committed). IsInUse v.reserves c.args.dir) (sym c.self.view_is) c.requires))))) c.promise.ensures.ok
+    (gives_one s c.args.dir (listed_in ps s c.args.self.now c.self.view_is c.args.dir c.requires)))) c.promise.ensures.ok

@@ -1,46 +1,37 @@
-use Rattle.std.proofs.Common.{sym, subst, ap, ◌∙◌}
-use Rattle.std.specs.Option.{option_and_then}
-use Rattle.model.specs.FiniteMap.{get}
-use Rattle.model.specs.Steps.{IsNowhere}
-use Rattle.store.specs.Numbers.{Numbers, coming}
-use Rattle.store.specs.declared.Object.TheVariants.{Directory as Kept_directory}
-use Rattle.store.proofs.Laws.{with_place, get-chosen}
+use Rattle.std.proofs.Common.{◌≡◌, ◌+◌, ◌<◌, sym, subst, is_some, arith}
+use Rattle.store.specs.Places.{listing_of}
 use Rattle.shadow.specs.Committed.{Committed}
-use Rattle.shadow.specs.Claims.{IsInUse, KeepsMore, number_as}
-use Rattle.shadow.specs.Stored.{Sound, committed_of, reserve_in}
-use Rattle.shadow.proofs.Living.{unused_nowhere}
-use Rattle.shadow.proofs.Meets.{of_use, reserves, unused_met, use_of}
-use Rattle.shadow.proofs.Unshown.{reserved_sound, stays}
-use Rattle.shadow.proofs.Plugs.{met_of, more_of}
+use Rattle.shadow.specs.Claims.{new_number, number_as, reserved}
+use Rattle.shadow.proofs.Meets.{number_counts}
 use Rattle.shadow.proofs.stable.Stable.reserve.Goals as goal
 
-pub invariant_of-self-2 : goal.invariant_of-self-2
-invariant_of-self-2 c =
-    subst (Sound c.self.inside.priorities.items) (sym c.in_ok-num.ensures.reserved)
-    (reserved_sound c.self.inside.priorities.items c.self.inside.store c.in_ok-num.num c.new-dir.result c.self.invariant c.in_ok-num.ensures.unused c.new-dir.ensures.names)
-
-pub returns-clause-unused : goal.returns-clause-unused
-returns-clause-unused c = λ claim is.
-    sym (met_of c.self.inside.priorities.items c.self.inside.store c.args.self.now c.self.view_is claim) ∙ unused_met c.self.inside.store c.in_ok-num.num claim c.in_ok-num.ensures.unused is
-
-pub returns-clause-nowhere : goal.returns-clause-nowhere
-returns-clause-nowhere c =
-    subst (λ (v : Committed). IsNowhere v.state c.in_ok-num.num) c.self.view_is
-    (unused_nowhere c.unused_numbers_are_nowhere.ensures c.self.inside.priorities.items c.self.inside.store c.in_ok-num.num c.self.invariant c.in_ok-num.ensures.unused)
-
-pub returns-clause-kept : goal.returns-clause-kept
-returns-clause-kept c =
-    let ps = c.self.inside.priorities.items in let s = c.self.inside.store in let n = c.in_ok-num.num in
-    subst (λ t. KeepsMore c.args.self.now (committed_of ps t) (number_as n)) (sym c.in_ok-num.ensures.reserved)
-    (more_of ps s c.args.self.now c.self.view_is (with_place s n (coming (Kept_directory c.new-dir.result))) (number_as n) (reserves s n c.new-dir.result c.in_ok-num.ensures.unused c.new-dir.ensures.promised))
-
-pub returns-clause-places : goal.returns-clause-places
-returns-clause-places c = λ n there.
-    of_use c.self.inside.priorities.items c.reserve_num.new.self n (λ none.
-    let was = use_of c.self.inside.priorities.items c.self.inside.store n (subst (λ (v : Committed). IsInUse v.reserves n) (sym c.self.view_is) there) in
-    stays c.self.inside.store n c.in_ok-num.num c.new-dir.result was (ap (λ (t : Numbers). get t.places n) (sym c.in_ok-num.ensures.reserved) ∙ none))
-
-pub returns-clause-fresh : goal.returns-clause-fresh
-returns-clause-fresh c =
+pub give_back-requires : goal.give_back-requires
+give_back-requires c =
     let n = c.in_ok-num.num in
-    ap (λ (v : Committed). get v.reserves n) (sym c.self.view_is) ∙ get-chosen reserve_in c.self.inside.store.places n ∙ ap (option_and_then reserve_in) c.in_ok-num.ensures.unused
+    let b = is_some (listing_of c.args.object) in
+    let is : reserved c.reserve_num.new.self (new_number (is_some (listing_of c.args.object)) n) ≡ reserved c.args.self.now (new_number (is_some (listing_of c.args.object)) n) + number_as (is_some (listing_of c.args.object)) n (new_number (is_some (listing_of c.args.object)) n) = c.in_ok-num.ensures.kept (new_number b n) in
+    let one : number_as (is_some (listing_of c.args.object)) n (new_number (is_some (listing_of c.args.object)) n) ≡ 1 = number_counts b n in
+    let some : 0 < reserved c.reserve_num.new.self (new_number (is_some (listing_of c.args.object)) n) = omega arith in
+    (b, some)
+
+pub returns-in-Err-clause-same : goal.returns-in-Err-clause-same
+returns-in-Err-clause-same c = λ claim.
+    let n = c.in_ok-num.num in
+    let b = is_some (listing_of c.args.object) in
+    let is : reserved c.reserve_num.new.self (new_number (is_some (listing_of c.args.object)) n) ≡ reserved c.args.self.now (new_number (is_some (listing_of c.args.object)) n) + number_as (is_some (listing_of c.args.object)) n (new_number (is_some (listing_of c.args.object)) n) = c.in_ok-num.ensures.kept (new_number b n) in
+    let one : number_as (is_some (listing_of c.args.object)) n (new_number (is_some (listing_of c.args.object)) n) ≡ 1 = number_counts b n in
+    let some : 0 < reserved c.reserve_num.new.self (new_number (is_some (listing_of c.args.object)) n) = omega arith in
+    let more : reserved c.reserve_num.new.self claim ≡ reserved c.args.self.now claim + number_as (is_some (listing_of c.args.object)) n claim = c.in_ok-num.ensures.kept claim in
+    let less : reserved c.reserve_num.new.self claim ≡ reserved c.give_back.new.self claim + number_as (is_some (listing_of c.args.object)) n claim = c.give_back.ensures.kept b some claim in
+    omega arith
+
+pub returns-in-Ok-clause-ok : goal.returns-in-Ok-clause-ok
+returns-in-Ok-clause-ok c = record {
+  num = c.in_ok-num.num;
+  list = c.in-Ok.ensures.ok;
+  unused = c.in_ok-num.ensures.unused;
+  nowhere = c.in_ok-num.ensures.nowhere;
+  used = c.in_ok-num.ensures.used;
+  kept = c.in_ok-num.ensures.kept;
+  stays = c.in_ok-num.ensures.stays;
+}

@@ -1,6 +1,12 @@
-use Rattle.std.proofs.Common.{◌∙◌}
-use Rattle.shadow.proofs.NoFiles.{no_bytes, no_file}
+use Rattle.std.proofs.Common.{◌≡◌, ◌<◌, ◌^◌, length, arith, rules, sym, ◌∙◌, ap, subst}
+use Rattle.model.specs.State.{file_of}
+use Rattle.shadow.proofs.Seeing.{end_small}
 use Rattle.shadow.proofs.view.ViewLook.read_file.Goals as goal
 
-pub returns-clause-value : goal.returns-clause-value
-returns-clause-value c = c.new-2.ensures ∙ c.new.ensures.items ∙ no_bytes _ c.args._place c.args._count (no_file c.args.self.now.state c.has_no_files.ensures c.args._file)
+pub returns-clause-small : goal.returns-clause-small
+returns-clause-small c =
+    let low : c.args.place < 2 ^ 32 = omega arith in
+    let is : c.in_ok-small.field-0 ≡ length (file_of c.args.self.now.state c.args.file) = c.in_ok-small.ensures ∙ c.len.ensures in
+    let fits : c.in_ok-small.field-0 < 2 ^ 32 = search rules in
+    let few : length (file_of c.args.self.now.state c.args.file) < 2 ^ 32 = omega arith in
+    end_small c.bytes.result (file_of c.args.self.now.state c.args.file) c.args.place c.args.count low few c.bytes.ensures

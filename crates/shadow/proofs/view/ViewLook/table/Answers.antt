@@ -1,6 +1,15 @@
-use Rattle.std.proofs.Common.{◌∙◌}
-use Rattle.shadow.proofs.NoFiles.{no_slots}
+use Rattle.std.proofs.Common.{◌≡◌, ap, length, take, ◌∙◌, map}
+use Rattle.std.proofs.lemmas.List.{take_all}
+use Rattle.model.specs.FiniteMap.{entries}
+use Rattle.shadow.proofs.Seeing.{slot_at, slots_more}
 use Rattle.shadow.proofs.view.ViewLook.table.Goals as goal
 
+pub loop-fd-preserved : goal.loop-fd-preserved
+loop-fd-preserved c =
+    c.in_ok-push.ensures.items
+    ∙ slots_more c.args.self.now.state c.loop-fd.slots.items c.deref-fd-items.result.now c.loop-fd.fd-index c.loop-fd-item.result c.slot.result c.loop-fd-test.true c.loop-fd-item.is c.loop-fd.invariant c.slot.ensures
+
 pub returns : goal.returns
-returns c = c.new.ensures.items ∙ no_slots c.args.self.now.state c.has_no_files.ensures c.args._pid
+returns c =
+    let all : take c.loop-fd.fd-index c.deref-fd-items.result.now ≡ entries c.own_table.result = take_all _ _ c.loop-fd-test.false ∙ c.deref-fd-items.ensures.value ∙ c.in_ok-entries.ensures in
+    c.loop-fd.invariant ∙ ap (map (slot_at c.args.self.now.state)) (all ∙ ap entries c.own_table.ensures)

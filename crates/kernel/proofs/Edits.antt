@@ -1,0 +1,160 @@
+-- What the calls that are there edit, in a well-formed state without pipes.
+use Rattle.std.proofs.Common.{◌≡◌, ◌≢◌, ℕ, zero, suc, ◌+◌, ◌-◌, ◌<◌, ◌≤◌, ◌==◌, nat_le, nat_lt, not, Bool, true, false, cond, if◌then◌else◌, List, [], ◌∷◌, map, length, take, Option, Some, None, Result, Ok, Err, IfOk, refl, sym, ap, subst, ◌∙◌, arith, inl, inr, nat_cmp, eqb-true, ltb-true}
+use Rattle.std.specs.Prelude.{ℤ, pos, negsuc, ◌+ℤ◌, ◌++◌, ◌&&◌, ◌||◌}
+use Rattle.std.specs.List.{AllByRecursion, list_any}
+use Rattle.std.specs.Map.{lookup}
+use Rattle.std.specs.Cmp.{nat_cmp_total}
+use Rattle.std.proofs.lemmas.Bool.{false≢true}
+
+use Rattle.model.specs.FiniteMap.{entries, get}
+use Rattle.model.specs.State.{A_file, A_directory, A_pipe, Kernel, Description, kind_of}
+use Rattle.model.specs.Plan.{Errno, Plan, Give, answer as answer_to, given, ◌>>=◌, ◌>>◌, ENOENT, ENOTDIR, ENOTEMPTY, EEXIST, EBUSY, EISDIR, EINVAL, EBADF, EFBIG, ESPIPE, List_names, Measure, refuse_if, or_refuse}
+use Rattle.model.specs.Calls.{Call, Whence, Open, Close, Read, Write, Lseek, Ftruncate, Stat, Fstat, Mkdir, Rmdir, List_directory, OpenFlags, Own, Slot, slot_of, own}
+use Rattle.model.specs.Changes.{process_of, There, Made}
+use Rattle.model.specs.Paths.{is_empty}
+use Rattle.model.specs.Walks.{Place, Last, parsed, walk, last_of, is_directory}
+use Rattle.model.specs.Plans.{Change, plan, status as told_status, absent, slot, slot_at, free, free_from, first_of_free, is_pipe, opened, cut_to, read_some, write_some, place_to_write, base, sought, largest, descriptor_limit}
+use Rattle.model.specs.Steps.{edits, edits_of}
+use Rattle.ids.specs.Flags.{is_reading, is_writing, is_creating, is_exclusive, is_truncating}
+use Rattle.model.proofs.Laws.{all_entries}
+use Rattle.call_laws.specs.WellFormed.{WellFormed}
+use Rattle.call_laws.proofs.Laws.{after_bind, allowed, either_given, weaken, whatever}
+use Rattle.calls.specs.Operations.{can_call}
+use Rattle.shadow.specs.Looks.{HasNoPipes}
+use Rattle.shadow.specs.Steps.{CanEdit}
+
+-- the edits of what a plan gives are those that are there
+abbrev Edits : Change → Type 0
+Edits change = CanEdit change.edits
+
+-- whatever the first part of a plan gives
+after : {A : Type 0} (k : Kernel) (m : Plan A) (f : A → Plan Change) → ((x : A) → IfOk (given k (f x)) Edits) → IfOk (given k (m >>= f)) Edits
+after k m f h = after_bind k Edits m f (whatever (given k m) h)
+
+unless : (k : Kernel) (refused : Bool) (e : Errno) (m : Plan Change) → IfOk (given k m) Edits → IfOk (given k (refuse_if refused e >> m)) Edits
+unless k refused e m h = allowed k Edits refused e m (λ _. h)
+
+tells : (k : Kernel) (place : Place) → IfOk (given k (told_status place)) Edits
+tells k (n, Some A_file) = tt
+tells k (n, Some A_directory) = tt
+tells k (n, Some A_pipe) = tt
+tells k (n, None) = tt
+
+-- a descriptor that is open: it is below the limit, and not on a pipe
+record IsOpened (f : ℕ) (it : Slot) : Type 0 where
+  low : f < descriptor_limit
+  file : is_pipe it.kind ≡ false
+
+no_pipe : (k : Kernel) → HasNoPipes k → (n : ℕ) → is_pipe (kind_of k n) ≡ false
+no_pipe k none n = by_kind (kind_of k n) refl
+  where
+    by_kind : (o : Option Rattle.model.specs.State.Kind) → kind_of k n ≡ o → is_pipe o ≡ false
+    by_kind None is = refl
+    by_kind (Some A_file) is = refl
+    by_kind (Some A_directory) is = refl
+    by_kind (Some A_pipe) is = absurd (none n is)
+
+slot_kind : (k : Kernel) → HasNoPipes k → (d : ℕ) (o : Option Description) → is_pipe (slot_of k d o).kind ≡ false
+slot_kind k none d None = refl
+slot_kind k none d (Some it) = no_pipe k none it.inode
+
+abbrev slots_of : Kernel → List (ℕ × ℕ) → List (ℕ × Slot)
+slots_of k es = map (λ e. (e.0, slot_of k e.1 (get k.descriptions e.1))) es
+
+found : (k : Kernel) → HasNoPipes k → (f : ℕ) (es : List (ℕ × ℕ)) → AllByRecursion (λ e. e.0 < descriptor_limit) es → IfOk (given k (or_refuse EBADF (lookup (λ g. g == f) (slots_of k es)))) (IsOpened f)
+found k none f [] low = tt
+found k none f (e ∷ es) low = by_test (e.0 == f) refl (found k none f es low.1)
+  where
+    by_test : (b : Bool) → (e.0 == f) ≡ b → IfOk (given k (or_refuse EBADF (lookup (λ g. g == f) (slots_of k es)))) (IsOpened f)
+        → IfOk (given k (or_refuse EBADF (if b then Some (slot_of k e.1 (get k.descriptions e.1)) else lookup (λ g. g == f) (slots_of k es)))) (IsOpened f)
+    by_test true is rest = record { low = subst (λ n. n < descriptor_limit) (eqb-true e.0 f is) low.0; file = slot_kind k none e.1 (get k.descriptions e.1) }
+    by_test false is rest = rest
+
+module _ (k : Kernel) (pid : ℕ) (well : WellFormed k) (none : HasNoPipes k) where
+  opened_slot : (call : Call) (f : ℕ) → IfOk (given k (slot (own k pid call) f)) (IsOpened f)
+  opened_slot call f = found k none f (entries (process_of k pid).table) (all_entries nat_cmp_total (λ g d. g < descriptor_limit) (process_of k pid).table (λ g d is. well.low pid g d is))
+
+  -- of a call on an open descriptor
+  on : (call : Call) (f : ℕ) (m : Slot → Plan Change) → ((it : Slot) → IsOpened f it → IfOk (given k (m it)) Edits) → IfOk (given k (slot (own k pid call) f >>= m)) Edits
+  on call f m h = after_bind k Edits (slot (own k pid call) f) m (weaken (given k (slot (own k pid call) f)) (opened_slot call f) h)
+
+-- free descriptors are below the limit
+all_free : (table : List (ℕ × Slot)) (f more : ℕ) → AllByRecursion (λ g. g < f + more) (free_from table f more)
+all_free table f zero = tt
+all_free table f (suc more) = by_test (list_any (λ e. e.0 == f) table) (higher (free_from table (suc f) more) (all_free table (suc f) more))
+  where
+    higher : (gs : List ℕ) → AllByRecursion (λ g. g < suc f + more) gs → AllByRecursion (λ g. g < f + suc more) gs
+    higher [] all = tt
+    higher (g ∷ gs) all = ((let low : g < suc f + more = all.0 in omega arith), higher gs all.1)
+
+    by_test : (b : Bool) → AllByRecursion (λ g. g < f + suc more) (free_from table (suc f) more) → AllByRecursion (λ g. g < f + suc more) (if b then free_from table (suc f) more else f ∷ free_from table (suc f) more)
+    by_test true rest = rest
+    by_test false rest = (omega arith, rest)
+
+first_low : (k : Kernel) (fs : List ℕ) → AllByRecursion (λ g. g < descriptor_limit) fs → IfOk (given k (first_of_free fs)) (λ f. f < descriptor_limit)
+first_low k [] all = tt
+first_low k (f ∷ fs) all = all.0
+
+open_edits : (k : Kernel) (o : Own) (flags : OpenFlags) (f : ℕ) → f < descriptor_limit → (at : Last) (there : Option Place) → IfOk (given k (opened o flags f at there)) Edits
+open_edits k o flags f low at None = unless k (not (is_creating flags)) ENOENT _ (refl, refl, refl, omega arith, low)
+open_edits k o flags f low at (Some place) =
+    unless k (is_creating flags && is_exclusive flags) EEXIST _ (unless k (is_directory place) EISDIR _ (
+    either_given_bind (is_truncating flags)))
+  where
+    either_given_bind : (b : Bool) → IfOk (given k ((if b then cut_to place.0 0 else Give []) >>= (λ es. Rattle.model.specs.Plans.changed (Rattle.model.specs.Calls.Descriptor f) (es ++ Rattle.model.specs.Changes.Open_inode 0 (There place.0) (Rattle.model.specs.Plans.mode flags) o.pid f ∷ [])))) Edits
+    either_given_bind true = (omega arith, refl, refl, tt, low)
+    either_given_bind false = inr (refl, tt, low)
+
+read_edits : (k : Kernel) (it : Slot) (count : ℕ) → is_pipe it.kind ≡ false → IfOk (given k (read_some it count)) Edits
+read_edits k it count file = either_given k Edits (is_pipe it.kind) _ _ (λ pipe. absurd (false≢true (sym file ∙ pipe))) (λ _. by_test (is_empty (answer_to k (Rattle.model.specs.Plan.Read_file it.inode (answer_to k (Rattle.model.specs.Plan.Find_offset it.description)) count))))
+  where
+    by_test : (b : Bool) {d place : ℕ} → CanEdit (if b then [] else Rattle.model.specs.Changes.Set_offset d place ∷ [])
+    by_test true = tt
+    by_test false = inr tt
+
+not_above : (a b : ℕ) → nat_le a b ≡ false → b < a
+not_above a b e = search (arith, e)
+
+not_below : (a b : ℕ) → nat_lt a b ≡ false → b ≤ a
+not_below a b e = search (arith, e)
+
+write_edits : (k : Kernel) (it : Slot) (bytes : List ℕ) → is_pipe it.kind ≡ false → IfOk (given k (write_some it bytes)) Edits
+write_edits k it bytes file = either_given k Edits (is_pipe it.kind) _ _ (λ pipe. absurd (false≢true (sym file ∙ pipe)))
+    (λ _. after k (place_to_write it it.appending) _ (λ place. allowed k Edits (nat_le largest place) EFBIG _ (λ low. (
+    (let room : place < largest = not_above largest place low in
+    let few : length (take (largest - place) bytes) ≤ largest - place = take_few (largest - place) bytes in omega arith), refl, tt))))
+  where
+    take_few : (n : ℕ) (xs : List ℕ) → length (take n xs) ≤ n
+    take_few zero xs = omega arith
+    take_few (suc n) [] = omega arith
+    take_few (suc n) (x ∷ xs) = let rest : length (take n xs) ≤ n = take_few n xs in omega arith
+
+seek_edits : (k : Kernel) (it : Slot) (place : ℤ) → IfOk (given k (sought it place)) Edits
+seek_edits k it (pos place) = unless k (nat_lt largest place) EINVAL _ (inr tt)
+seek_edits k it (negsuc place) = tt
+
+module _ (k : Kernel) (pid : ℕ) (well : WellFormed k) (none : HasNoPipes k) where
+  planned : (call : Call) → can_call call ≡ true → IfOk (given k (plan (own k pid call) call)) Edits
+  planned (Open path flags) h =
+      unless k (not (is_reading flags || is_writing flags)) EINVAL _ (unless k (is_exclusive flags && not (is_creating flags)) EINVAL _ (unless k (is_truncating flags && not (is_writing flags)) EINVAL _ (
+      after k (parsed path) _ (λ names. after_bind k Edits (first_of_free (free (own k pid (Open path flags)))) _ (weaken (given k (first_of_free (free (own k pid (Open path flags)))))
+      (first_low k (free (own k pid (Open path flags))) (all_free (own k pid (Open path flags)).table 0 descriptor_limit))
+      (λ f low. after k (last_of k.root (if is_creating flags && is_exclusive flags then EEXIST else EISDIR) names) _ (λ at. open_edits k (own k pid (Open path flags)) flags f low at at.found)))))))
+  planned (Close f) h = on k pid well none (Close f) f _ (λ it opened. inr opened.low)
+  planned (Read f count) h = on k pid well none (Read f count) f _ (λ it opened. unless k (not it.reading) EBADF _ (either_given k Edits (count == 0) _ _ (λ _. tt) (λ _. read_edits k it count opened.file)))
+  planned (Write f bytes) h = on k pid well none (Write f bytes) f _ (λ it opened. unless k (not it.writing) EBADF _ (either_given k Edits (is_empty bytes) _ _ (λ _. tt) (λ _. write_edits k it bytes opened.file)))
+  planned (Lseek f move whence) h = on k pid well none (Lseek f move whence) f _ (λ it opened. unless k (is_pipe it.kind) ESPIPE _ (after k (base it whence) _ (λ place. seek_edits k it (pos place +ℤ move))))
+  planned (Ftruncate f len) h = on k pid well none (Ftruncate f len) f _ (λ it opened. unless k (not it.writing) EBADF _ (unless k (is_pipe it.kind) EINVAL _ (allowed k Edits (nat_lt largest len) EFBIG _ (λ low. inl (not_below largest len low)))))
+  planned (Fstat f) h = on k pid well none (Fstat f) f _ (λ it opened. tells k (it.inode, it.kind))
+  planned (Stat path) h = after k (parsed path) _ (λ names. after k (walk (k.root, Some A_directory) names) _ (tells k))
+  planned (Mkdir path) h = after k (parsed path) _ (λ names. after k (last_of k.root EEXIST names) _ (λ at. after k (absent at.found) _ (λ _. inl refl)))
+  planned (Rmdir path) h =
+      after k (parsed path) _ (λ names. after k (last_of k.root EBUSY names) _ (λ at. after k (or_refuse ENOENT at.found) _ (λ what. unless k (not (is_directory what)) ENOTDIR _ (unless k (not (is_empty (answer_to k (List_names what.0)))) ENOTEMPTY _ (inl tt)))))
+  planned (List_directory path) h = after k (parsed path) _ (λ names. after k (walk (k.root, Some A_directory) names) _ (λ place. unless k (not (is_directory place)) ENOTDIR _ tt))
+  planned call h = absurd (false≢true h)
+
+  pub calls_edit : (call : Call) → can_call call ≡ true → CanEdit (edits k pid call)
+  calls_edit call h = by (given k (plan (own k pid call) call)) (planned call h) where
+    by : (r : Result Change Errno) → IfOk r Edits → CanEdit (edits_of r)
+    by (Ok change) is = is
+    by (Err e) is = tt

@@ -1,0 +1,424 @@
+-- What a transaction keeps agrees with its edits, and still does after one edit more.
+use Rattle.std.proofs.Common.{◌≡◌, ◌≢◌, ◌↔◌, ℕ, suc, ◌+◌, ◌<◌, ◌≤◌, max, ◌==◌, nat_lt, ◌||◌, Bool, true, false, cond, Contains, length, is_some, List, [], ◌∷◌, ◌++◌, append_assoc, append-nil, Option, Some, None, refl, sym, ap, ap₂, subst, ◌∙◌, arith, eqb-true, ltb-false, inl, inr, ◌⊎◌}
+use Rattle.std.specs.List.{AllByRecursion, flat_map}
+use Rattle.std.proofs.lemmas.List.Elements.{Contains-append_cases, Contains-append_left, Contains-append_right}
+use Rattle.std.proofs.lemmas.List.Sums.{sum_by-append}
+use Rattle.model.specs.FiniteMap.{get}
+use Rattle.model.specs.State.{Kind, A_file, A_directory, Kernel, Inode, Description, Process, Name, file_of, file_of_inode, kind, kind_of, mapped, offset_in}
+use Rattle.model.specs.Changes.{Edit, Set_offset, all_applied, applied, at_offset, at_start, number, sized, written}
+use Rattle.model.specs.Moments.{is_alive, is_in}
+use Rattle.model.proofs.Laws.{length-sized, length-written}
+use Rattle.call_laws.specs.Fits.{Fits, FitsAll}
+use Rattle.freeing_laws.specs.Counts.{named, times, unnamed}
+use Rattle.freeing_laws.specs.Left.{all_named, all_unnamed}
+use Rattle.shadow.specs.declared.change.Contents.{Contents}
+use Rattle.shadow.specs.declared.change.Contents.TheVariants.{Same, Names, Bytes}
+use Rattle.shadow.specs.declared.change.Made.{Made as What}
+use Rattle.shadow.specs.declared.change.Made.TheVariants.{Directory as Dir_made, File as File_made}
+use Rattle.shadow.specs.declared.opening.Opening.{Opening}
+use Rattle.shadow.specs.declared.opening.Opening.TheVariants.{Kept, New, Moved}
+use Rattle.shadow.specs.Agrees.{IsOver, IsOverDescription}
+use Rattle.shadow.specs.Patches.{Patches, added_by, form_of, is_new, kept_at, net_at, numbers_in, opening_at, patched, reopened, reslotted, reslotted_by, slots_in}
+use Rattle.shadow.specs.Steps.{Applies, AreApart, IsOne, TakesAll, TakesIn, blocks_by, bytes_cut, bytes_written, description_after, filed, form_after, grown_to, growth, inode_after, listed, made_after, made_at, name_noted, new_form, new_in, new_inode, numbers_kept, opened_in, parents_in, process_after, unnamed_by}
+use Rattle.shadow.proofs.Applied.{applies, by_one}
+
+-- the same as `Agrees` but for the claims, of a change of states that fits some, gives inodes so many
+-- names, takes names from these, and writes into these blocks
+pub record Along (done : Kernel → Kernel) (Fit : Kernel → Type 0) (given : ℕ → ℕ) (gone : Kernel → List ℕ) (Wrote : ℕ → ℕ → Type 0) (p : Patches) : Type 0 where
+  pub root : (k : Kernel) → (done k).root ≡ k.root
+  pub count : (k : Kernel) → (done k).made ≡ k.made
+  pub inodes : (k : Kernel) (n : ℕ) → get (done k).inodes n ≡ patched (net_at p.inodes n).contents (get k.inodes n)
+  pub descriptions : (k : Kernel) (d : ℕ) → get (done k).descriptions d ≡ reopened (opening_at p.openings d) (get k.descriptions d)
+  pub processes : (k : Kernel) (pid : ℕ) → get (done k).processes pid ≡ reslotted (kept_at p.slots pid) (get k.processes pid)
+  pub named : (n : ℕ) → given n ≡ (net_at p.inodes n).named
+  pub unnamed : (n : ℕ) → times n p.lost ≡ (net_at p.inodes n).unnamed
+  pub lost : (k : Kernel) → gone k ≡ p.lost
+  pub added : (n : ℕ) → added_by (net_at p.inodes n).contents ≤ (net_at p.inodes n).promised
+  pub kinds : (k : Kernel) (n : ℕ) → Fit k → IsOver (kind_of k n) (net_at p.inodes n).made (form_of (net_at p.inodes n).contents)
+  pub rooms : (k : Kernel) (n : ℕ) → Fit k → length (file_of (done k) n) ≤ max (length (file_of k n)) (net_at p.inodes n).room
+  pub written : (k : Kernel) (n b : ℕ) → Fit k → Contains (numbers_in (net_at p.inodes n).contents) b ↔ Wrote n b
+  pub moved : (k : Kernel) (d : ℕ) → Fit k → IsOverDescription (opening_at p.openings d) (is_some (get k.descriptions d))
+  pub alive : (k : Kernel) (pid : ℕ) → Fit k → slots_in (kept_at p.slots pid) ≢ [] → is_alive k pid ≡ true
+
+-- what is known of a value by a test
+some_not_none : {A : Type 0} (x : A) → Some x ≢ None
+some_not_none x e = absurd cc
+
+some_of : {A : Type 0} (o : Option A) → o ≢ None → is_some o ≡ true
+some_of None h = absurd (h refl)
+some_of (Some x) h = refl
+
+-- a directory's changes stay a directory's, and a file's a file's
+listed_over : (c : Contents) (o : Option Inode) (made : Option What) → mapped kind (patched c o) ≡ Some A_directory → IsOver (mapped kind o) made (form_of c) → IsOver (mapped kind o) made (listed (form_of c))
+listed_over Same o None is over = (refl, is)
+listed_over Same o (Some Dir_made) is over = absurd cc
+listed_over Same o (Some File_made) is over = absurd cc
+listed_over (Names fresh notes) o made is over = over
+listed_over (Bytes fresh bytes) o made is over = absurd cc
+
+filed_over : (c : Contents) (o : Option Inode) (made : Option What) → mapped kind (patched c o) ≡ Some A_file → IsOver (mapped kind o) made (form_of c) → IsOver (mapped kind o) made (filed (form_of c))
+filed_over Same o None is over = (refl, is)
+filed_over Same o (Some Dir_made) is over = absurd cc
+filed_over Same o (Some File_made) is over = absurd cc
+filed_over (Bytes fresh bytes) o made is over = over
+filed_over (Names fresh notes) o made is over = absurd cc
+
+over_new : (kind : Option Kind) (what : What) → IsOver kind (Some what) (new_form what)
+over_new kind Dir_made = refl
+over_new kind File_made = refl
+
+-- nothing was written into a directory, or where nothing stands
+unwritten : (c : Contents) (o : Option Inode) → mapped kind (patched c o) ≡ Some A_directory → [] ≡ numbers_in c
+unwritten Same o is = refl
+unwritten (Names fresh notes) o is = refl
+unwritten (Bytes fresh bytes) o is = absurd cc
+
+unwritten_none : (c : Contents) (o : Option Inode) → patched c o ≡ None → [] ≡ numbers_in c
+unwritten_none Same o is = refl
+unwritten_none (Names fresh notes) o is = refl
+unwritten_none (Bytes fresh bytes) o is = absurd cc
+
+-- what an edit finds at a number
+found_kind : (mid : Kernel) (n m : ℕ) (c : Contents) (o : Option Inode) (what : Kind) → get mid.inodes n ≡ patched c o → (n == m) ≡ true → kind_of mid m ≡ Some what → mapped kind (patched c o) ≡ Some what
+found_kind mid n m c o what is h k = ap (mapped kind) (sym is) ∙ ap (kind_of mid) (eqb-true n m h) ∙ k
+
+abbrev OverAfter : List ℕ → Edit → Type 0
+OverAfter chosen e = AreApart chosen e → (mid : Kernel) → Fits chosen mid e → (n : ℕ) (o : Option Inode) (made : Option What) (c : Contents) → get mid.inodes n ≡ patched c o
+    → IsOver (mapped kind o) made (form_of c) → IsOver (mapped kind o) (made_after chosen e n made) (form_after chosen e n (form_of c))
+
+made_over : (what : What) (d m : ℕ) → m ≢ d → (mid : Kernel) → kind_of mid d ≡ Some A_directory → (n : ℕ) (o : Option Inode) (made : Option What) (c : Contents) → get mid.inodes n ≡ patched c o
+    → IsOver (mapped kind o) made (form_of c)
+    → IsOver (mapped kind o) (cond (n == m) (Some what) made) (cond (n == d) (listed (cond (n == m) (new_form what) (form_of c))) (cond (n == m) (new_form what) (form_of c)))
+made_over what d m apart mid parent n o made c is over = by_tests (n == d) (n == m) refl refl
+  where
+    by_tests : (b e : Bool) → (n == d) ≡ b → (n == m) ≡ e → IsOver (mapped kind o) (cond e (Some what) made) (cond b (listed (cond e (new_form what) (form_of c))) (cond e (new_form what) (form_of c)))
+    by_tests true true h i = absurd (apart (sym (eqb-true n m i) ∙ eqb-true n d h))
+    by_tests true false h i = listed_over c o made (found_kind mid n d c o A_directory is h parent) over
+    by_tests false true h i = over_new (mapped kind o) what
+    by_tests false false h i = over
+
+filed_at : (m : ℕ) (mid : Kernel) → kind_of mid m ≡ Some A_file → (n : ℕ) (o : Option Inode) (made : Option What) (c : Contents) → get mid.inodes n ≡ patched c o
+    → IsOver (mapped kind o) made (form_of c) → IsOver (mapped kind o) made (cond (n == m) (filed (form_of c)) (form_of c))
+filed_at m mid is_file n o made c is over = by_test (n == m) refl
+  where
+    by_test : (b : Bool) → (n == m) ≡ b → IsOver (mapped kind o) made (cond b (filed (form_of c)) (form_of c))
+    by_test true h = filed_over c o made (found_kind mid n m c o A_file is h is_file) over
+    by_test false h = over
+
+listed_at : (m : ℕ) (mid : Kernel) → kind_of mid m ≡ Some A_directory → (n : ℕ) (o : Option Inode) (made : Option What) (c : Contents) → get mid.inodes n ≡ patched c o
+    → IsOver (mapped kind o) made (form_of c) → IsOver (mapped kind o) made (cond (n == m) (listed (form_of c)) (form_of c))
+listed_at m mid is_directory n o made c is over = by_test (n == m) refl
+  where
+    by_test : (b : Bool) → (n == m) ≡ b → IsOver (mapped kind o) made (cond b (listed (form_of c)) (form_of c))
+    by_test true h = listed_over c o made (found_kind mid n m c o A_directory is h is_directory) over
+    by_test false h = over
+
+over_after : (chosen : List ℕ) (e : Edit) → IsOne e → OverAfter chosen e
+over_after chosen e one = by_one (OverAfter chosen)
+    (λ d x i apart mid f. made_over Dir_made d (new_in chosen i) apart mid f.0.parent.directory)
+    (λ d x i apart mid f. made_over File_made d (new_in chosen i) apart mid f.0.parent.directory)
+    (λ d x m apart mid f. listed_at d mid f.0.parent.directory)
+    (λ m place bytes before apart mid f. filed_at m mid f.0)
+    (λ m before after apart mid f. filed_at m mid f.0)
+    (λ i inode mode pid s apart mid f n o made c is over. over)
+    (λ d place apart mid f n o made c is over. over)
+    (λ pid s pipes apart mid f n o made c is over. over)
+    e one
+
+-- the length of a file after an edit
+abbrev RoomAfter : List ℕ → Edit → Type 0
+RoomAfter chosen e = (mid : Kernel) → Fits chosen mid e → (n low r new : ℕ) → length (file_of mid n) ≤ max low r → r ≤ new → grown_to e n ≤ new
+    → length (file_of_inode (inode_after chosen e n (get mid.inodes n))) ≤ max low new
+
+no_bytes : (what : What) → length (file_of_inode (Some (new_inode what))) ≡ 0
+no_bytes Dir_made = refl
+no_bytes File_made = refl
+
+made_room : (what : What) (d : ℕ) (x : Name) (m : ℕ) (mid : Kernel) (n low r new : ℕ) → length (file_of mid n) ≤ max low r → r ≤ new
+    → length (file_of_inode (made_at what d x m n (get mid.inodes n))) ≤ max low new
+made_room what d x m mid n low r new is more = by_tests (n == d) (n == m)
+  where
+    by_tests : (b e : Bool) → length (file_of_inode (cond b (name_noted x (Some m) (cond e (Some (new_inode what)) (get mid.inodes n))) (cond e (Some (new_inode what)) (get mid.inodes n)))) ≤ max low new
+    by_tests true e = omega arith
+    by_tests false true = (let none : length (file_of_inode (Some (new_inode what))) ≡ 0 = no_bytes what in omega arith)
+    by_tests false false = (let old : length (file_of mid n) ≤ max low r = is in omega arith)
+
+written_room : (m place : ℕ) (bytes : List ℕ) (before : ℕ) (mid : Kernel) → length (file_of mid m) ≡ before → (n low r new : ℕ) → length (file_of mid n) ≤ max low r → r ≤ new
+    → cond (n == m) (growth before (place + length bytes)) 0 ≤ new → length (file_of_inode (cond (n == m) (bytes_written place bytes (get mid.inodes n)) (get mid.inodes n))) ≤ max low new
+written_room m place bytes before mid was n low r new is more grown = by_test (n == m) refl grown
+  where
+    by_less : length (file_of mid n) ≡ before → (b : Bool) → nat_lt before (place + length bytes) ≡ b → cond b (place + length bytes) 0 ≤ new → length (written (file_of mid n) place bytes) ≤ max low new
+    by_less here true h g = (let is_long : length (written (file_of mid n) place bytes) ≡ max (length (file_of mid n)) (place + length bytes) = length-written (file_of mid n) place bytes in let old : length (file_of mid n) ≤ max low r = is in omega arith)
+    by_less here false h g = (
+        let is_long : length (written (file_of mid n) place bytes) ≡ max (length (file_of mid n)) (place + length bytes) = length-written (file_of mid n) place bytes in
+        let old : length (file_of mid n) ≤ max low r = is in let short : place + length bytes ≤ before = ltb-false before (place + length bytes) h in omega arith)
+
+    by_test : (b : Bool) → (n == m) ≡ b → cond b (growth before (place + length bytes)) 0 ≤ new → length (file_of_inode (cond b (bytes_written place bytes (get mid.inodes n)) (get mid.inodes n))) ≤ max low new
+    by_test true h g = by_less (ap (λ t. length (file_of mid t)) (eqb-true n m h) ∙ was) (nat_lt before (place + length bytes)) refl g
+    by_test false h g = (let old : length (file_of mid n) ≤ max low r = is in omega arith)
+
+cut_room : (m before after : ℕ) (mid : Kernel) → length (file_of mid m) ≡ before → (n low r new : ℕ) → length (file_of mid n) ≤ max low r → r ≤ new
+    → cond (n == m) (growth before after) 0 ≤ new → length (file_of_inode (cond (n == m) (bytes_cut after (get mid.inodes n)) (get mid.inodes n))) ≤ max low new
+cut_room m before after mid was n low r new is more grown = by_test (n == m) refl grown
+  where
+    by_less : length (file_of mid n) ≡ before → (b : Bool) → nat_lt before after ≡ b → cond b after 0 ≤ new → length (sized after (file_of mid n)) ≤ max low new
+    by_less here true h g = (let is_long : length (sized after (file_of mid n)) ≡ after = length-sized after (file_of mid n) in omega arith)
+    by_less here false h g = (
+        let is_long : length (sized after (file_of mid n)) ≡ after = length-sized after (file_of mid n) in
+        let old : length (file_of mid n) ≤ max low r = is in let short : after ≤ before = ltb-false before after h in omega arith)
+
+    by_test : (b : Bool) → (n == m) ≡ b → cond b (growth before after) 0 ≤ new → length (file_of_inode (cond b (bytes_cut after (get mid.inodes n)) (get mid.inodes n))) ≤ max low new
+    by_test true h g = by_less (ap (λ t. length (file_of mid t)) (eqb-true n m h) ∙ was) (nat_lt before after) refl g
+    by_test false h g = (let old : length (file_of mid n) ≤ max low r = is in omega arith)
+
+unnamed_room : (d : ℕ) (x : Name) (mid : Kernel) (n low r new : ℕ) → length (file_of mid n) ≤ max low r → r ≤ new
+    → length (file_of_inode (cond (n == d) (name_noted x None (get mid.inodes n)) (get mid.inodes n))) ≤ max low new
+unnamed_room d x mid n low r new is more = by_test (n == d)
+  where
+    by_test : (b : Bool) → length (file_of_inode (cond b (name_noted x None (get mid.inodes n)) (get mid.inodes n))) ≤ max low new
+    by_test true = omega arith
+    by_test false = (let old : length (file_of mid n) ≤ max low r = is in omega arith)
+
+same_room : (mid : Kernel) (n low r new : ℕ) → length (file_of mid n) ≤ max low r → r ≤ new → length (file_of_inode (get mid.inodes n)) ≤ max low new
+same_room mid n low r new is more = (let old : length (file_of mid n) ≤ max low r = is in omega arith)
+
+room_after : (chosen : List ℕ) (e : Edit) → IsOne e → RoomAfter chosen e
+room_after chosen e one = by_one (RoomAfter chosen)
+    (λ d x i mid f n low r new is more grown. made_room Dir_made d x (new_in chosen i) mid n low r new is more)
+    (λ d x i mid f n low r new is more grown. made_room File_made d x (new_in chosen i) mid n low r new is more)
+    (λ d x m mid f n low r new is more grown. unnamed_room d x mid n low r new is more)
+    (λ m place bytes before mid f. written_room m place bytes before mid f.1)
+    (λ m before after mid f. cut_room m before after mid f.1)
+    (λ i inode mode pid s mid f n low r new is more grown. same_room mid n low r new is more)
+    (λ d place mid f n low r new is more grown. same_room mid n low r new is more)
+    (λ pid s pipes mid f n low r new is more grown. same_room mid n low r new is more)
+    e one
+
+-- what was written before an edit is kept
+abbrev KeptSame : List ℕ → Edit → Type 0
+KeptSame chosen e = (mid : Kernel) → Fits chosen mid e → (n : ℕ) (o : Option Inode) (c : Contents) → get mid.inodes n ≡ patched c o → numbers_kept chosen e n (numbers_in c) ≡ numbers_in c
+
+made_kept : (d m : ℕ) (mid : Kernel) → kind_of mid d ≡ Some A_directory → get mid.inodes m ≡ None → (n : ℕ) (o : Option Inode) (c : Contents) → get mid.inodes n ≡ patched c o → cond ((n == d) || (n == m)) [] (numbers_in c) ≡ numbers_in c
+made_kept d m mid parent nothing n o c is = by_tests (n == d) (n == m) refl refl
+  where
+    by_tests : (b e : Bool) → (n == d) ≡ b → (n == m) ≡ e → cond (b || e) [] (numbers_in c) ≡ numbers_in c
+    by_tests true e h i = unwritten c o (found_kind mid n d c o A_directory is h parent)
+    by_tests false true h i = unwritten_none c o (sym is ∙ ap (get mid.inodes) (eqb-true n m i) ∙ nothing)
+    by_tests false false h i = refl
+
+listed_kept : (d : ℕ) (mid : Kernel) → kind_of mid d ≡ Some A_directory → (n : ℕ) (o : Option Inode) (c : Contents) → get mid.inodes n ≡ patched c o → cond (n == d) [] (numbers_in c) ≡ numbers_in c
+listed_kept d mid parent n o c is = by_test (n == d) refl
+  where
+    by_test : (b : Bool) → (n == d) ≡ b → cond b [] (numbers_in c) ≡ numbers_in c
+    by_test true h = unwritten c o (found_kind mid n d c o A_directory is h parent)
+    by_test false h = refl
+
+kept_same : (chosen : List ℕ) (e : Edit) → IsOne e → KeptSame chosen e
+kept_same chosen e one = by_one (KeptSame chosen)
+    (λ d x i mid f. made_kept d (new_in chosen i) mid f.0.parent.directory f.1.inode)
+    (λ d x i mid f. made_kept d (new_in chosen i) mid f.0.parent.directory f.1.inode)
+    (λ d x m mid f. listed_kept d mid f.0.parent.directory)
+    (λ m place bytes before mid f n o c is. refl)
+    (λ m before after mid f n o c is. refl)
+    (λ i inode mode pid s mid f n o c is. refl)
+    (λ d place mid f n o c is. refl)
+    (λ pid s pipes mid f n o c is. refl)
+    e one
+
+-- a description whose offset was set is there
+abbrev sample : ℕ → Description
+sample place = record { inode = 0; reading = true; writing = true; appending = true; offset = place }
+
+not_still : (place : ℕ) → ((o : Option Description) → mapped (at_offset place) o ≡ o) → ⊥
+not_still place f = let same : place ≡ suc place = ap offset_in (f (Some (sample (suc place)))) in absurd (omega arith)
+
+abbrev MovedThere : List ℕ → Edit → Type 0
+MovedThere chosen e = (mid : Kernel) → Fits chosen mid e → (d place : ℕ) (o : Option Description) → get mid.descriptions d ≡ o → is_in d (opened_in chosen e) ≡ false
+    → ((o : Option Description) → mapped (at_offset place) o ≡ description_after chosen e d o) → is_some o ≡ true
+
+set_moved : (m pl : ℕ) (mid : Kernel) → Fits [] mid (Set_offset m pl) → (d place : ℕ) (o : Option Description) → get mid.descriptions d ≡ o
+    → ((o : Option Description) → mapped (at_offset place) o ≡ cond (d == m) (mapped (at_offset pl) o) o) → is_some o ≡ true
+set_moved m pl mid f d place o is same = by_test (d == m) refl same
+  where
+    by_test : (b : Bool) → (d == m) ≡ b → ((o : Option Description) → mapped (at_offset place) o ≡ cond b (mapped (at_offset pl) o) o) → is_some o ≡ true
+    by_test true h g = ap is_some (sym is ∙ ap (get mid.descriptions) (eqb-true d m h) ∙ f.1)
+    by_test false h g = absurd (not_still place g)
+
+open_moved : (d m place : ℕ) (new : Option Description) (o : Option Description) → is_in d (m ∷ []) ≡ false → ((o : Option Description) → mapped (at_offset place) o ≡ cond (d == m) new o) → is_some o ≡ true
+open_moved d m place new o away same = by_test (d == m) away same
+  where
+    by_test : (b : Bool) → (b || false) ≡ false → ((o : Option Description) → mapped (at_offset place) o ≡ cond b new o) → is_some o ≡ true
+    by_test true h g = absurd cc
+    by_test false h g = absurd (not_still place g)
+
+moved_there : (chosen : List ℕ) (e : Edit) → IsOne e → MovedThere chosen e
+moved_there chosen e one = by_one (MovedThere chosen)
+    (λ d x i mid f q place o is away same. absurd (not_still place same))
+    (λ d x i mid f q place o is away same. absurd (not_still place same))
+    (λ d x m mid f q place o is away same. absurd (not_still place same))
+    (λ m pl bytes before mid f q place o is away same. absurd (not_still place same))
+    (λ m before after mid f q place o is away same. absurd (not_still place same))
+    (λ i inode mode pid s mid f q place o is away same. open_moved q (new_in chosen i) place (Some (at_start (number chosen inode) mode)) o away same)
+    (λ d pl mid f q place o is away same. set_moved d pl mid f q place o is same)
+    (λ pid s pipes mid f q place o is away same. absurd (not_still place same))
+    e one
+
+moved_over : (new old : Opening) (there : Bool) (opened : Bool) → is_new new ≡ (opened || is_new old) → IsOverDescription old there
+    → ((place : ℕ) → new ≡ Moved place → old ≡ Kept → opened ≡ false → there ≡ true) → IsOverDescription new there
+moved_over Kept old there opened news over then = tt
+moved_over (New it) old there opened news over then = tt
+moved_over (Moved place) Kept there false news over then = then place refl refl refl
+moved_over (Moved place) Kept there true news over then = absurd cc
+moved_over (Moved place) (New it) there false news over then = absurd cc
+moved_over (Moved place) (New it) there true news over then = absurd cc
+moved_over (Moved place) (Moved old) there opened news over then = over
+
+-- a process whose slots change is alive
+abbrev LivesBefore : List ℕ → Edit → Type 0
+LivesBefore chosen e = (mid : Kernel) → Fits chosen mid e → (pid : ℕ) (o : Option Process) → get mid.processes pid ≡ o → process_after chosen e pid None ≢ None → is_some o ≡ true
+
+slot_lives : (q : ℕ) (mid : Kernel) → get mid.processes q ≢ None → (pid : ℕ) (o : Option Process) → get mid.processes pid ≡ o → (new : Process) → cond (pid == q) (Some new) None ≢ None → is_some o ≡ true
+slot_lives q mid alive pid o is new changed = by_test (pid == q) refl changed
+  where
+    by_test : (b : Bool) → (pid == q) ≡ b → cond b (Some new) None ≢ None → is_some o ≡ true
+    by_test true h g = some_of o (λ none. alive (ap (get mid.processes) (sym (eqb-true pid q h)) ∙ is ∙ none))
+    by_test false h g = absurd (g refl)
+
+lives_before : (chosen : List ℕ) (e : Edit) → IsOne e → LivesBefore chosen e
+lives_before chosen e one = by_one (LivesBefore chosen)
+    (λ d x i mid f pid o is changed. absurd (changed refl))
+    (λ d x i mid f pid o is changed. absurd (changed refl))
+    (λ d x m mid f pid o is changed. absurd (changed refl))
+    (λ m pl bytes before mid f pid o is changed. absurd (changed refl))
+    (λ m before after mid f pid o is changed. absurd (changed refl))
+    (λ i inode mode q s mid f pid o is changed. slot_lives q mid f.slot.alive pid o is _ changed)
+    (λ d pl mid f pid o is changed. absurd (changed refl))
+    (λ q s pipes mid f pid o is changed. slot_lives q mid f.alive pid o is _ changed)
+    e one
+
+alive_over : (new old : List (ℕ × Option ℕ)) (o : Option Process) → new ≢ [] → (old ≢ [] → is_some o ≡ true) → (old ≡ [] → reslotted_by new None ≢ None → is_some o ≡ true) → is_some o ≡ true
+alive_over new (g ∷ gs) o some was then = was (λ e. absurd cc)
+alive_over [] [] o some was then = absurd (some refl)
+alive_over (g ∷ gs) [] o some was then = then refl (λ e. some_not_none _ e)
+
+-- the inodes that lose a name are those of the edit, whatever the state
+unnamed_is : (chosen : List ℕ) (e : Edit) → IsOne e → (k : Kernel) → unnamed k e ≡ unnamed_by e
+unnamed_is chosen e one k = by_one (λ e. unnamed k e ≡ unnamed_by e)
+    (λ d x i. refl) (λ d x i. refl) (λ d x m. refl) (λ m place bytes before. refl) (λ m before after. refl)
+    (λ i inode mode pid f. refl) (λ d place. refl) (λ pid f pipes. refl) e one
+
+-- one edit more
+pub along_step : (done : Kernel → Kernel) (Fit : Kernel → Type 0) (given : ℕ → ℕ) (gone : Kernel → List ℕ) (Wrote : ℕ → ℕ → Type 0) (p q : Patches) (chosen : List ℕ) (e : Edit)
+    → IsOne e → AreApart chosen e → TakesIn chosen e p q → Along done Fit given gone Wrote p
+    → Along (λ k. applied chosen e (done k)) (λ k. Fit k × Fits chosen (done k) e) (λ n. given n + times n (named chosen e)) (λ k. gone k ++ unnamed (done k) e) (λ n b. Wrote n b ⊎ Contains (blocks_by n e) b) q
+along_step done Fit given gone Wrote p q chosen e one apart t a = record {
+  root = λ k. (step k).root ∙ a.root k;
+  count = λ k. (step k).made ∙ a.count k;
+  inodes = λ k n. (step k).inodes n ∙ ap (inode_after chosen e n) (a.inodes k n) ∙ sym (t.inodes n (get k.inodes n));
+  descriptions = λ k d. (step k).descriptions d ∙ ap (description_after chosen e d) (a.descriptions k d) ∙ sym (t.descriptions d (get k.descriptions d));
+  processes = λ k pid. (step k).processes pid ∙ ap (process_after chosen e pid) (a.processes k pid) ∙ sym (t.processes pid (get k.processes pid));
+  named = λ n. ap (λ m. m + times n (named chosen e)) (a.named n) ∙ sym (t.named n);
+  unnamed = λ n. ap (times n) t.lost ∙ sum_by-append (λ v. cond (v == n) 1 0) p.lost (unnamed_by e) ∙ ap (λ m. m + times n (unnamed_by e)) (a.unnamed n) ∙ sym (t.unnamed n);
+  lost = λ k. ap₂ (λ xs ys. xs ++ ys) (a.lost k) (unnamed_is chosen e one (done k)) ∙ sym t.lost;
+  added = added;
+  kinds = λ k n fit.
+      subst (λ m. IsOver (kind_of k n) m (form_of (net_at q.inodes n).contents)) (sym (t.made n))
+      (subst (λ f. IsOver (kind_of k n) (made_after chosen e n (net_at p.inodes n).made) f) (sym (t.forms n))
+      (over_after chosen e one apart (done k) fit.1 n (get k.inodes n) (net_at p.inodes n).made (net_at p.inodes n).contents (a.inodes k n) (a.kinds k n fit.0)));
+  rooms = λ k n fit.
+      subst (λ o. length (file_of_inode o) ≤ max (length (file_of k n)) (net_at q.inodes n).room) (sym ((step k).inodes n))
+      (room_after chosen e one (done k) fit.1 n (length (file_of k n)) (net_at p.inodes n).room (net_at q.inodes n).room (a.rooms k n fit.0) (t.room n) (t.grown n));
+  written = λ k n b fit. (there k n b fit, back k n b fit);
+  moved = λ k d fit.
+      moved_over (opening_at q.openings d) (opening_at p.openings d) (is_some (get k.descriptions d)) (is_in d (opened_in chosen e)) (t.news d) (a.moved k d fit.0)
+      (λ place new old away. moved_there chosen e one (done k) fit.1 d place (get k.descriptions d) (a.descriptions k d ∙ ap (λ o. reopened o (get k.descriptions d)) old) away
+      (λ o. ap (λ it. reopened it o) (sym new) ∙ t.descriptions d o ∙ ap (λ it. description_after chosen e d (reopened it o)) old));
+  alive = λ k pid fit some.
+      alive_over (slots_in (kept_at q.slots pid)) (slots_in (kept_at p.slots pid)) (get k.processes pid) some (a.alive k pid fit.0)
+      (λ old new. lives_before chosen e one (done k) fit.1 pid (get k.processes pid) (a.processes k pid ∙ ap (λ gs. reslotted_by gs (get k.processes pid)) old)
+      (λ none. new (t.processes pid None ∙ ap (λ gs. process_after chosen e pid (reslotted_by gs None)) old ∙ none)));
+}
+  where
+    step : (k : Kernel) → Applies chosen e (done k) (applied chosen e (done k))
+    step k = applies chosen e one (done k)
+
+    added : (n : ℕ) → added_by (net_at q.inodes n).contents ≤ (net_at q.inodes n).promised
+    added n =
+        let more : added_by (net_at q.inodes n).contents ≤ added_by (net_at p.inodes n).contents + times n (parents_in e) = t.added n in
+        let room : (net_at q.inodes n).promised ≡ (net_at p.inodes n).promised + times n (parents_in e) = t.promised n in
+        let before : added_by (net_at p.inodes n).contents ≤ (net_at p.inodes n).promised = a.added n in omega arith
+
+    kept : (k : Kernel) (n : ℕ) → Fit k × Fits chosen (done k) e → numbers_kept chosen e n (numbers_in (net_at p.inodes n).contents) ≡ numbers_in (net_at p.inodes n).contents
+    kept k n fit = kept_same chosen e one (done k) fit.1 n (get k.inodes n) (net_at p.inodes n).contents (a.inodes k n)
+
+    there : (k : Kernel) (n b : ℕ) → Fit k × Fits chosen (done k) e → Contains (numbers_in (net_at q.inodes n).contents) b → Wrote n b ⊎ Contains (blocks_by n e) b
+    there k n b fit has = elim (Contains-append_cases (numbers_in (net_at p.inodes n).contents) (blocks_by n e) b (subst (λ ns. Contains (ns ++ blocks_by n e) b) (kept k n fit) ((t.written n b).0 has))) [
+      | inl old ↦ inl ((a.written k n b fit.0).0 old)
+      | inr new ↦ inr new
+    ]
+
+    back : (k : Kernel) (n b : ℕ) → Fit k × Fits chosen (done k) e → Wrote n b ⊎ Contains (blocks_by n e) b → Contains (numbers_in (net_at q.inodes n).contents) b
+    back k n b fit has = (t.written n b).1 (subst (λ ns. Contains (ns ++ blocks_by n e) b) (sym (kept k n fit)) (by_part has))
+      where
+        by_part : Wrote n b ⊎ Contains (blocks_by n e) b → Contains (numbers_in (net_at p.inodes n).contents ++ blocks_by n e) b
+        by_part (inl old) = Contains-append_left (numbers_in (net_at p.inodes n).contents) (blocks_by n e) b ((a.written k n b fit.0).1 old)
+        by_part (inr new) = Contains-append_right (numbers_in (net_at p.inodes n).contents) (blocks_by n e) b new
+
+-- the same with other names
+pub along_same : (done other : Kernel → Kernel) (Fit Fits' : Kernel → Type 0) (given given' : ℕ → ℕ) (gone gone' : Kernel → List ℕ) (Wrote Wrote' : ℕ → ℕ → Type 0) (p : Patches)
+    → ((k : Kernel) → other k ≡ done k) → ((k : Kernel) → Fits' k → Fit k) → ((n : ℕ) → given' n ≡ given n) → ((k : Kernel) → gone' k ≡ gone k) → ((n b : ℕ) → Wrote n b ↔ Wrote' n b)
+    → Along done Fit given gone Wrote p → Along other Fits' given' gone' Wrote' p
+along_same done other Fit Fits' given given' gone gone' Wrote Wrote' p same fits is left wrote a = record {
+  root = λ k. ap (λ (k : Kernel). k.root) (same k) ∙ a.root k;
+  count = λ k. ap (λ (k : Kernel). k.made) (same k) ∙ a.count k;
+  inodes = λ k n. ap (λ (k : Kernel). get k.inodes n) (same k) ∙ a.inodes k n;
+  descriptions = λ k d. ap (λ (k : Kernel). get k.descriptions d) (same k) ∙ a.descriptions k d;
+  processes = λ k pid. ap (λ (k : Kernel). get k.processes pid) (same k) ∙ a.processes k pid;
+  named = λ n. is n ∙ a.named n;
+  unnamed = a.unnamed;
+  lost = λ k. left k ∙ a.lost k;
+  added = a.added;
+  kinds = λ k n fit. a.kinds k n (fits k fit);
+  rooms = λ k n fit. subst (λ later. length (file_of later n) ≤ max (length (file_of k n)) (net_at p.inodes n).room) (sym (same k)) (a.rooms k n (fits k fit));
+  written = λ k n b fit. (λ has. (wrote n b).0 ((a.written k n b (fits k fit)).0 has), λ has. (a.written k n b (fits k fit)).1 ((wrote n b).1 has));
+  moved = λ k d fit. a.moved k d (fits k fit);
+  alive = λ k pid fit. a.alive k pid (fits k fit);
+}
+
+-- all edits of a call
+pub along_all : (chosen : List ℕ) (es : List Edit) → AllByRecursion (λ e. IsOne e × AreApart chosen e) es
+    → (done : Kernel → Kernel) (Fit : Kernel → Type 0) (given : ℕ → ℕ) (gone : Kernel → List ℕ) (Wrote : ℕ → ℕ → Type 0) (p q : Patches) → TakesAll chosen es p q → Along done Fit given gone Wrote p
+    → Along (λ k. all_applied chosen es (done k)) (λ k. Fit k × FitsAll chosen (done k) es) (λ n. given n + times n (all_named chosen es)) (λ k. gone k ++ all_unnamed chosen es (done k))
+    (λ n b. Wrote n b ⊎ Contains (flat_map (blocks_by n) es) b) q
+along_all chosen [] all done Fit given gone Wrote p q t a =
+    along_same done done Fit (λ k. Fit k × FitsAll chosen (done k) []) given (λ n. given n + times n []) gone (λ k. gone k ++ []) Wrote (λ n b. Wrote n b ⊎ Contains [] b) q
+    (λ k. refl) (λ k fit. fit.0) (λ n. omega arith) (λ k. append-nil (gone k)) (λ n b. (λ has. inl has, λ has. by_part n b has)) (subst (Along done Fit given gone Wrote) t a)
+  where
+    by_part : (n b : ℕ) → Wrote n b ⊎ Contains [] b → Wrote n b
+    by_part n b (inl old) = old
+    by_part n b (inr new) = absurd (let low : new.0 < 0 = new.1 in omega arith)
+along_all chosen (e ∷ es) all done Fit given gone Wrote p q t a =
+    along_same (λ k. all_applied chosen es (applied chosen e (done k))) (λ k. all_applied chosen (e ∷ es) (done k))
+    (λ k. (Fit k × Fits chosen (done k) e) × FitsAll chosen (applied chosen e (done k)) es) (λ k. Fit k × FitsAll chosen (done k) (e ∷ es))
+    (λ n. (given n + times n (named chosen e)) + times n (all_named chosen es)) (λ n. given n + times n (all_named chosen (e ∷ es)))
+    (λ k. (gone k ++ unnamed (done k) e) ++ all_unnamed chosen es (applied chosen e (done k))) (λ k. gone k ++ all_unnamed chosen (e ∷ es) (done k))
+    (λ n b. (Wrote n b ⊎ Contains (blocks_by n e) b) ⊎ Contains (flat_map (blocks_by n) es) b) (λ n b. Wrote n b ⊎ Contains (flat_map (blocks_by n) (e ∷ es)) b) q
+    (λ k. refl) (λ k fit. ((fit.0, fit.1.0), fit.1.1))
+    (λ n. (let both : times n (named chosen e ++ all_named chosen es) ≡ times n (named chosen e) + times n (all_named chosen es) = sum_by-append (λ v. cond (v == n) 1 0) (named chosen e) (all_named chosen es) in omega arith))
+    (λ k. sym (append_assoc (gone k) (unnamed (done k) e) (all_unnamed chosen es (applied chosen e (done k)))))
+    (λ n b. (there n b, back n b))
+    (along_all chosen es all.1 (λ k. applied chosen e (done k)) (λ k. Fit k × Fits chosen (done k) e) (λ n. given n + times n (named chosen e)) (λ k. gone k ++ unnamed (done k) e) (λ n b. Wrote n b ⊎ Contains (blocks_by n e) b) t.0 q t.2
+    (along_step done Fit given gone Wrote p t.0 chosen e all.0.0 all.0.1 t.1 a))
+  where
+    there : (n b : ℕ) → (Wrote n b ⊎ Contains (blocks_by n e) b) ⊎ Contains (flat_map (blocks_by n) es) b → Wrote n b ⊎ Contains (blocks_by n e ++ flat_map (blocks_by n) es) b
+    there n b (inl (inl old)) = inl old
+    there n b (inl (inr now)) = inr (Contains-append_left (blocks_by n e) (flat_map (blocks_by n) es) b now)
+    there n b (inr later) = inr (Contains-append_right (blocks_by n e) (flat_map (blocks_by n) es) b later)
+
+    part : (n b : ℕ) → Contains (blocks_by n e) b ⊎ Contains (flat_map (blocks_by n) es) b → (Wrote n b ⊎ Contains (blocks_by n e) b) ⊎ Contains (flat_map (blocks_by n) es) b
+    part n b (inl now) = inl (inr now)
+    part n b (inr later) = inr later
+
+    back : (n b : ℕ) → Wrote n b ⊎ Contains (blocks_by n e ++ flat_map (blocks_by n) es) b → (Wrote n b ⊎ Contains (blocks_by n e) b) ⊎ Contains (flat_map (blocks_by n) es) b
+    back n b (inl old) = inl (inl old)
+    back n b (inr new) = part n b (Contains-append_cases (blocks_by n e) (flat_map (blocks_by n) es) b new)

@@ -1,0 +1,203 @@
+-- What an edit of today makes of each object.
+use Rattle.std.proofs.Common.{◌≡◌, ℕ, ◌==◌, cond, List, Option, Some, None, refl, sym, ap, ◌∙◌, eq-eqb, ne_eqb, inl, inr}
+use Rattle.std.specs.Ordering.{nat_cmp}
+use Rattle.std.proofs.lemmas.Bool.{cases_eq}
+use Rattle.model.specs.FiniteMap.{FinMap, get, insert, remove}
+use Rattle.model.specs.State.{Name, Kernel, Inode, File, Directory, Description, mapped, names_of_inode, file_of_inode}
+use Rattle.model.specs.Changes.{Edit, Which, Mode, Make_directory, Make_file, Name_file, Unname_file, Unname_directory, Move, Put_bytes, Cut, Take, Append, Set_offset, Open_inode, Make_pipe, Share_slot, Clear_slot, New_process, End_process}
+use Rattle.model.specs.Changes.{number, applied, at_offset, at_start, or_new, set_inode, set_name, set_offset, sized, written, with_slot, without_slot}
+use Rattle.model.proofs.Laws.{get_same, get_other}
+use Rattle.shadow.specs.declared.change.Made.{Made as What}
+use Rattle.shadow.specs.declared.change.Made.TheVariants.{Directory as Dir_made, File as File_made}
+use Rattle.shadow.specs.Steps.{Applies, IsFirst, IsLast, IsOne, made_at, name_noted, new_in, new_inode}
+
+-- what holds of each edit that may come today
+pub by_one : (P : Edit → Type 0)
+    → ((d : ℕ) (x : Name) (i : ℕ) → P (Make_directory d x i))
+    → ((d : ℕ) (x : Name) (i : ℕ) → P (Make_file d x i))
+    → ((d : ℕ) (x : Name) (n : ℕ) → P (Unname_directory d x n))
+    → ((n place : ℕ) (bytes : List ℕ) (before : ℕ) → P (Put_bytes n place bytes before))
+    → ((n before after : ℕ) → P (Cut n before after))
+    → ((i : ℕ) (inode : Which) (mode : Mode) (pid f : ℕ) → P (Open_inode i inode mode pid f))
+    → ((d place : ℕ) → P (Set_offset d place))
+    → ((pid f : ℕ) (pipes : List ℕ) → P (Clear_slot pid f pipes))
+    → (e : Edit) → IsOne e → P e
+by_one P a b c d e f g h (Make_directory p x i) one = a p x i
+by_one P a b c d e f g h (Make_file p x i) one = b p x i
+by_one P a b c d e f g h (Unname_directory p x n) one = c p x n
+by_one P a b c d e f g h (Put_bytes n place bytes before) one = d n place bytes before
+by_one P a b c d e f g h (Cut n before after) one = e n before after
+by_one P a b c d e f g h (Open_inode i inode mode pid s) one = f i inode mode pid s
+by_one P a b c d e f g h (Set_offset m place) one = g m place
+by_one P a b c d e f g h (Clear_slot pid s pipes) one = h pid s pipes
+by_one P a b c d e f g h (Name_file p x n) (inl one) = absurd one
+by_one P a b c d e f g h (Name_file p x n) (inr one) = absurd one.1
+by_one P a b c d e f g h (Unname_file p x n) (inl one) = absurd one
+by_one P a b c d e f g h (Unname_file p x n) (inr one) = absurd one.1
+by_one P a b c d e f g h (Move p x q y n replaced) (inl one) = absurd one
+by_one P a b c d e f g h (Move p x q y n replaced) (inr one) = absurd one.1
+by_one P a b c d e f g h (Take p count) (inl one) = absurd one
+by_one P a b c d e f g h (Take p count) (inr one) = absurd one.1
+by_one P a b c d e f g h (Append p bytes) (inl one) = absurd one
+by_one P a b c d e f g h (Append p bytes) (inr one) = absurd one.1
+by_one P a b c d e f g h (Make_pipe i pid s t) (inl one) = absurd one
+by_one P a b c d e f g h (Make_pipe i pid s t) (inr one) = absurd one.1
+by_one P a b c d e f g h (Share_slot pid s m pipes) (inl one) = absurd one
+by_one P a b c d e f g h (Share_slot pid s m pipes) (inr one) = absurd one.1
+by_one P a b c d e f g h (New_process child parent pipes) (inl one) = absurd one
+by_one P a b c d e f g h (New_process child parent pipes) (inr one) = absurd one.1
+by_one P a b c d e f g h (End_process pid pipes) (inl one) = absurd one
+by_one P a b c d e f g h (End_process pid pipes) (inr one) = absurd one.1
+
+-- what holds of each edit that may come first, and of each that may come last
+pub first_cases : (P : Edit → Type 0)
+    → ((d : ℕ) (x : Name) (i : ℕ) → i ≡ 0 → P (Make_directory d x i))
+    → ((d : ℕ) (x : Name) (i : ℕ) → i ≡ 0 → P (Make_file d x i))
+    → ((d : ℕ) (x : Name) (n : ℕ) → P (Unname_directory d x n))
+    → ((n place : ℕ) (bytes : List ℕ) (before : ℕ) → P (Put_bytes n place bytes before))
+    → ((n before after : ℕ) → P (Cut n before after))
+    → (e : Edit) → IsFirst e → P e
+first_cases P a b c d e (Make_directory p x i) first = a p x i first
+first_cases P a b c d e (Make_file p x i) first = b p x i first
+first_cases P a b c d e (Unname_directory p x n) first = c p x n
+first_cases P a b c d e (Put_bytes n place bytes before) first = d n place bytes before
+first_cases P a b c d e (Cut n before after) first = e n before after
+first_cases P a b c d e (Open_inode i inode mode pid s) first = absurd first
+first_cases P a b c d e (Set_offset m place) first = absurd first
+first_cases P a b c d e (Clear_slot pid s pipes) first = absurd first
+first_cases P a b c d e (Name_file p x n) first = absurd first
+first_cases P a b c d e (Unname_file p x n) first = absurd first
+first_cases P a b c d e (Move p x q y n replaced) first = absurd first
+first_cases P a b c d e (Take p count) first = absurd first
+first_cases P a b c d e (Append p bytes) first = absurd first
+first_cases P a b c d e (Make_pipe i pid s t) first = absurd first
+first_cases P a b c d e (Share_slot pid s m pipes) first = absurd first
+first_cases P a b c d e (New_process child parent pipes) first = absurd first
+first_cases P a b c d e (End_process pid pipes) first = absurd first
+
+pub last_cases : (m : ℕ) (P : Edit → Type 0)
+    → ((i : ℕ) (inode : Which) (mode : Mode) (pid f : ℕ) → i ≡ m → P (Open_inode i inode mode pid f))
+    → ((d place : ℕ) → P (Set_offset d place))
+    → ((pid f : ℕ) (pipes : List ℕ) → P (Clear_slot pid f pipes))
+    → (e : Edit) → IsLast m e → P e
+last_cases k P f g h (Open_inode i inode mode pid s) last = f i inode mode pid s last.0
+last_cases k P f g h (Set_offset m place) last = g m place
+last_cases k P f g h (Clear_slot pid s pipes) last = h pid s pipes
+last_cases k P f g h (Make_directory p x i) last = absurd last
+last_cases k P f g h (Make_file p x i) last = absurd last
+last_cases k P f g h (Unname_directory p x n) last = absurd last
+last_cases k P f g h (Put_bytes n place bytes before) last = absurd last
+last_cases k P f g h (Cut n before after) last = absurd last
+last_cases k P f g h (Name_file p x n) last = absurd last
+last_cases k P f g h (Unname_file p x n) last = absurd last
+last_cases k P f g h (Move p x q y n replaced) last = absurd last
+last_cases k P f g h (Take p count) last = absurd last
+last_cases k P f g h (Append p bytes) last = absurd last
+last_cases k P f g h (Make_pipe i pid s t) last = absurd last
+last_cases k P f g h (Share_slot pid s m pipes) last = absurd last
+last_cases k P f g h (New_process child parent pipes) last = absurd last
+last_cases k P f g h (End_process pid pipes) last = absurd last
+
+-- a value that changes as a function of what was there
+pub changed_at : {X : Type 0} (m : FinMap nat_cmp X) (n q : ℕ) (f : Option X → X) → get (insert m n (f (get m n))) q ≡ cond (q == n) (Some (f (get m q))) (get m q)
+changed_at m n q f = elim (cases_eq q n) [
+  | inl same ↦ ap (get (insert m n (f (get m n)))) same ∙ get_same m n (f (get m n)) ∙ ap (λ t. Some (f (get m t))) (sym same) ∙ sym (ap (λ b. cond b (Some (f (get m q))) (get m q)) (eq-eqb q n same))
+  | inr away ↦ get_other m n q (f (get m n)) away ∙ sym (ap (λ b. cond b (Some (f (get m q))) (get m q)) (ne_eqb q n away))
+]
+
+pub put_at : {X : Type 0} (m : FinMap nat_cmp X) (n q : ℕ) (v : X) → get (insert m n v) q ≡ cond (q == n) (Some v) (get m q)
+put_at m n q v = changed_at m n q (λ o. v)
+
+-- a new object with its name
+made_applies : (what : What) (d : ℕ) (x : Name) (m : ℕ) (k : Kernel) (n : ℕ) → get (set_name d x m (set_inode m (new_inode what) k)).inodes n ≡ made_at what d x m n (get k.inodes n)
+made_applies what d x m k n =
+    changed_at (set_inode m (new_inode what) k).inodes d n (λ o. Directory (insert (names_of_inode o) x m))
+    ∙ ap (λ (o : Option Inode). cond (n == d) (name_noted x (Some m) o) o) (put_at k.inodes m n (new_inode what))
+
+-- an offset, where there is such a description
+offset_applies : (chosen : List ℕ) (d place : ℕ) (k : Kernel) (o : Option Description) → get k.descriptions d ≡ o → Applies chosen (Set_offset d place) k (set_offset d place o k)
+offset_applies chosen d place k None is = record {
+  root = refl;
+  made = refl;
+  inodes = λ n. refl;
+  descriptions = same;
+  processes = λ pid. refl;
+}
+  where
+    same : (e : ℕ) → get k.descriptions e ≡ cond (e == d) (mapped (at_offset place) (get k.descriptions e)) (get k.descriptions e)
+    same e = elim (cases_eq e d) [
+      | inl here ↦ ap (get k.descriptions) here ∙ is ∙ sym (ap (mapped (at_offset place)) (ap (get k.descriptions) here ∙ is)) ∙ sym (ap (λ b. cond b (mapped (at_offset place) (get k.descriptions e)) (get k.descriptions e)) (eq-eqb e d here))
+      | inr away ↦ sym (ap (λ b. cond b (mapped (at_offset place) (get k.descriptions e)) (get k.descriptions e)) (ne_eqb e d away))
+    ]
+offset_applies chosen d place k (Some old) is = record {
+  root = refl;
+  made = refl;
+  inodes = λ n. refl;
+  descriptions = moved;
+  processes = λ pid. refl;
+}
+  where
+    moved : (e : ℕ) → get (insert k.descriptions d (at_offset place old)) e ≡ cond (e == d) (mapped (at_offset place) (get k.descriptions e)) (get k.descriptions e)
+    moved e = elim (cases_eq e d) [
+      | inl here ↦
+          ap (get (insert k.descriptions d (at_offset place old))) here ∙ get_same k.descriptions d (at_offset place old)
+          ∙ sym (ap (mapped (at_offset place)) (ap (get k.descriptions) here ∙ is)) ∙ sym (ap (λ b. cond b (mapped (at_offset place) (get k.descriptions e)) (get k.descriptions e)) (eq-eqb e d here))
+      | inr away ↦
+          get_other k.descriptions d e (at_offset place old) away
+          ∙ sym (ap (λ b. cond b (mapped (at_offset place) (get k.descriptions e)) (get k.descriptions e)) (ne_eqb e d away))
+    ]
+
+pub applies : (chosen : List ℕ) (e : Edit) → IsOne e → (k : Kernel) → Applies chosen e k (applied chosen e k)
+unfolding applied
+applies chosen e one k = by_one (λ e. Applies chosen e k (applied chosen e k))
+    (λ d x i. record {
+      root = refl;
+      made = refl;
+      inodes = made_applies Dir_made d x (new_in chosen i) k;
+      descriptions = λ d. refl;
+      processes = λ pid. refl;
+    })
+    (λ d x i. record {
+      root = refl;
+      made = refl;
+      inodes = made_applies File_made d x (new_in chosen i) k;
+      descriptions = λ d. refl;
+      processes = λ pid. refl;
+    })
+    (λ d x n. record {
+      root = refl;
+      made = refl;
+      inodes = λ q. changed_at k.inodes d q (λ o. Directory (remove (names_of_inode o) x));
+      descriptions = λ d. refl;
+      processes = λ pid. refl;
+    })
+    (λ n place bytes before. record {
+      root = refl;
+      made = refl;
+      inodes = λ q. changed_at k.inodes n q (λ o. File (written (file_of_inode o) place bytes));
+      descriptions = λ d. refl;
+      processes = λ pid. refl;
+    })
+    (λ n before after. record {
+      root = refl;
+      made = refl;
+      inodes = λ q. changed_at k.inodes n q (λ o. File (sized after (file_of_inode o)));
+      descriptions = λ d. refl;
+      processes = λ pid. refl;
+    })
+    (λ i inode mode pid f. record {
+      root = refl;
+      made = refl;
+      inodes = λ n. refl;
+      descriptions = λ d. put_at k.descriptions (new_in chosen i) d (at_start (number chosen inode) mode);
+      processes = λ q. changed_at k.processes pid q (λ o. with_slot f (new_in chosen i) (or_new o));
+    })
+    (λ d place. offset_applies chosen d place k (get k.descriptions d) refl)
+    (λ pid f pipes. record {
+      root = refl;
+      made = refl;
+      inodes = λ n. refl;
+      descriptions = λ d. refl;
+      processes = λ q. changed_at k.processes pid q (λ o. without_slot f (or_new o));
+    })
+    e one

@@ -1,0 +1,39 @@
+-- A file's bytes are noted, in changes that have room.
+use Rattle.std.proofs.Common.{◌≡◌, ◌↔◌, ℕ, ◌≤◌, List, [], ◌++◌, Option, true, false, refl, sym, ap, subst, ◌∙◌, arith}
+use Rattle.std.specs.List.{Contains}
+use Rattle.std.specs.Prelude.{⊤}
+use Rattle.model.specs.State.{Inode}
+use Rattle.shadow.specs.declared.change.Contents.{Contents}
+use Rattle.shadow.specs.declared.change.Contents.TheVariants.{Same, Names, Bytes}
+use Rattle.shadow.specs.Patches.{Form, Net, added_by, form_of, no_change, numbers_in, of_bytes, of_names, patched}
+use Rattle.shadow.specs.Notes.{IsFiled, SameNet}
+use Rattle.shadow.specs.Steps.{filed}
+
+abbrev is_filed : Form → Type 0
+is_filed (of_bytes fresh) = ⊤
+is_filed _ = ⊥
+
+filed_is : (form : Form) → is_filed (filed form)
+filed_is no_change = tt
+filed_is (of_bytes fresh) = tt
+filed_is (of_names fresh) = tt
+
+adds_none : (c : Contents) → is_filed (form_of c) → added_by c ≡ 0
+adds_none Same h = absurd h
+adds_none (Names fresh notes) h = absurd h
+adds_none (Bytes fresh bytes) h = refl
+
+pub filed_on : (f : Option Inode → Option Inode) (reach : ℕ) (more : List ℕ) (old mid : Net) (contents : Contents) → SameNet old mid → reach ≤ mid.room
+    → ((o : Option Inode) → patched contents o ≡ f (patched mid.contents o)) → form_of contents ≡ filed (form_of mid.contents)
+    → ((b : ℕ) → Contains (numbers_in contents) b ↔ Contains (numbers_in mid.contents ++ more) b) → IsFiled f reach more old (record mid { contents = contents })
+filed_on f reach more old mid contents same room so form numbers =
+    let was : mid.contents ≡ old.contents = ap (λ (net : Net). net.contents) same.rest in
+    record {
+      contents = λ o. so o ∙ ap (λ (c : Contents). f (patched c o)) was;
+      form = form ∙ ap (λ (c : Contents). filed (form_of c)) was;
+      added = adds_none contents (subst is_filed (sym form) (filed_is (form_of mid.contents)));
+      room = same.room;
+      grown = room;
+      numbers = λ b. subst (λ (c : Contents). Contains (numbers_in contents) b ↔ Contains (numbers_in c ++ more) b) was (numbers b);
+      rest = ap (λ (net : Net). record net { contents = old.contents }) same.rest;
+    }

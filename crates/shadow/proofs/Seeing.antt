@@ -1,0 +1,102 @@
+-- What a look at a state with changes on top tells.
+use Rattle.std.proofs.Common.{◌≡◌, ℕ, suc, ◌+◌, ◌<◌, Bool, true, List, [], ◌∷◌, length, map, take, drop, Option, Some, None, Result, Ok, Err, IfOk, refl, sym, ap, ◌∙◌, ◌==◌, ne_eqb, arith, ◌++◌, get_or, ap₂, ◌^◌, ◌-◌, length-drop, length-take}
+use Rattle.std.specs.Prelude.{min}
+use Rattle.std.proofs.lemmas.List.{map_more}
+use Rattle.model.specs.FiniteMap.{FinMap, entries, get, keys, len, empty, len-entries, entries-empty}
+use Rattle.model.specs.State.{A_pipe, Name, name_cmp, Kernel, Inode, Process, kind, kind_of, mapped, names_of_inode, pipe_of, pipe_of_inode}
+use Rattle.model.specs.Paths.{is_empty}
+use Rattle.model.specs.Calls.{Slot, slot_of}
+use Rattle.dirlist.specs.Patches.{IsLaid, Notes, or_before}
+use Rattle.store.specs.Laid.{laid}
+use Rattle.store.specs.Numbers.{Numbers}
+use Rattle.store.specs.Shown.{inode_of, shown_at}
+use Rattle.store.specs.declared.Place.{Place}
+use Rattle.store.specs.declared.Object.{Object}
+use Rattle.store.specs.declared.Stage.{Stage}
+use Rattle.store.specs.declared.Object.TheVariants.{Directory as Kept_directory, File as Kept_file, Description as Kept_description, Nothing}
+use Rattle.store.specs.declared.Stage.TheVariants.{Coming, Held, Lost}
+use Rattle.store.proofs.Laws.{get-inodes_by, laid_is}
+use Rattle.shadow.specs.Patches.{names_before, patched}
+use Rattle.shadow.specs.Stored.{state_of}
+use Rattle.shadow.specs.declared.change.Contents.{Contents}
+use Rattle.shadow.specs.declared.change.Contents.TheVariants.{Names}
+
+-- no object of the store is a pipe
+no_pipe_in : (stage : Stage) (object : Object) → pipe_of_inode (shown_at stage (inode_of object)) ≡ []
+no_pipe_in Coming object = refl
+no_pipe_in Lost object = refl
+no_pipe_in Held (Kept_directory listing) = refl
+no_pipe_in Held (Kept_file file) = refl
+no_pipe_in Held (Kept_description opened) = refl
+no_pipe_in Held Nothing = refl
+
+pub stored_no_pipes : (processes : List Process) (s : Numbers) (p : ℕ) → pipe_of (state_of processes s) p ≡ []
+stored_no_pipes processes s p = by_place (get s.places p) refl
+  where
+    by_place : (o : Option Place) → get s.places p ≡ o → pipe_of (state_of processes s) p ≡ []
+    by_place (Some place) is = ap pipe_of_inode (get-inodes_by s p (Some place) is) ∙ no_pipe_in place.stage place.object
+    by_place None is = ap pipe_of_inode (get-inodes_by s p None is)
+
+-- the names of a directory with notes on top
+is_laid : (fresh : Bool) (notes : Notes) (dir : FinMap name_cmp ℕ) (o : Option Inode) → names_before fresh o ≡ dir → IsLaid notes dir (laid (entries notes) (names_before fresh o))
+is_laid fresh notes dir o is x = laid_is notes (names_before fresh o) x ∙ ap (λ names. or_before (get notes x) (get names x)) is
+
+abbrev pub AreBefore : Bool → FinMap name_cmp ℕ → FinMap name_cmp ℕ → Type 0
+AreBefore fresh stored dir = (o : Option Inode) → names_of_inode o ≡ stored → names_before fresh o ≡ dir
+
+pub keys_told : {E : Type 0} (contents : Contents) (fresh : Bool) (notes : Notes) (stored dir : FinMap name_cmp ℕ) (r : Result (List Name) E) → contents ≡ Names fresh notes → AreBefore fresh stored dir → IfOk r (λ list. (names : FinMap name_cmp ℕ) → IsLaid notes dir names → list ≡ keys names) → IfOk r (λ list. (o : Option Inode) → names_of_inode o ≡ stored → list ≡ keys (names_of_inode (patched contents o)))
+keys_told contents fresh notes stored dir (Err e) is before told = tt
+keys_told contents fresh notes stored dir (Ok list) is before told = λ o same. told (laid (entries notes) (names_before fresh o)) (is_laid fresh notes dir o (before o same)) ∙ ap (λ c. keys (names_of_inode (patched c o))) (sym is)
+
+pub given_told : (contents : Contents) (fresh : Bool) (notes : Notes) (x : Name) (noted : Option (Option ℕ)) (stored found : Option ℕ) → contents ≡ Names fresh notes → noted ≡ get notes x → ((o : Option Inode) → get (names_of_inode o) x ≡ stored → found ≡ or_before noted (get (names_before fresh o) x)) → (o : Option Inode) → get (names_of_inode o) x ≡ stored → found ≡ get (names_of_inode (patched contents o)) x
+given_told contents fresh notes x noted stored found is look told o same =
+    told o same ∙ ap (λ n. or_before n (get (names_before fresh o) x)) look ∙ sym (laid_is notes (names_before fresh o) x)
+    ∙ ap (λ c. get (names_of_inode (patched c o)) x) (sym is)
+
+-- no names are no names
+pub no_keys : (names : FinMap name_cmp ℕ) → (len names == 0) ≡ is_empty (keys names)
+no_keys names = ap (λ n. n == 0) (len-entries names) ∙ by_list (entries names)
+  where
+    by_list : (es : List (Name × ℕ)) → (length es == 0) ≡ is_empty (map (λ e. e.0) es)
+    by_list [] = refl
+    by_list (e ∷ es) = ne_eqb (suc (length es)) 0 (λ h. absurd (omega (arith, h)))
+
+pub empty_has_none : true ≡ is_empty (keys (empty {X = ℕ} {R = name_cmp}))
+empty_has_none = ap (λ (es : List (Name × ℕ)). is_empty (map (λ e. e.0) es)) (sym (entries-empty name_cmp))
+
+pub empty_told : (contents : Contents) (fresh : Bool) (notes : Notes) (stored dir : FinMap name_cmp ℕ) (b : Bool) → contents ≡ Names fresh notes → AreBefore fresh stored dir → ((names : FinMap name_cmp ℕ) → IsLaid notes dir names → b ≡ (len names == 0)) → (o : Option Inode) → names_of_inode o ≡ stored → b ≡ is_empty (keys (names_of_inode (patched contents o)))
+empty_told contents fresh notes stored dir b is before told o same =
+    told (laid (entries notes) (names_before fresh o)) (is_laid fresh notes dir o (before o same)) ∙ no_keys (laid (entries notes) (names_before fresh o))
+    ∙ ap (λ c. is_empty (keys (names_of_inode (patched c o)))) (sym is)
+
+-- a descriptor with what never changes of its description
+abbrev pub slot_at : Kernel → ℕ × ℕ → ℕ × Slot
+slot_at k e = (e.0, slot_of k e.1 (get k.descriptions e.1))
+
+pub slots_more : (k : Kernel) (slots : List (ℕ × Slot)) (es : List (ℕ × ℕ)) (i : ℕ) (e : ℕ × ℕ) (slot : Slot) → i < length es → e ≡ get_or es i e → slots ≡ map (slot_at k) (take i es) → slot ≡ (slot_at k e).1 → slots ++ (e.0, slot) ∷ [] ≡ map (slot_at k) (take (i + 1) es)
+slots_more k slots es i e slot below same so_far is =
+    ap₂ (λ (a : List (ℕ × Slot)) (s : Slot). a ++ (e.0, s) ∷ []) so_far is ∙ ap (λ x. map (slot_at k) (take i es) ++ slot_at k x ∷ []) same
+    ∙ sym (map_more (slot_at k) es i e below)
+
+-- bytes of a short file end soon
+pub end_small : {E : Type 0} (r : Result (List ℕ) E) (bytes : List ℕ) (place count : ℕ) → place < 2 ^ 32 → length bytes < 2 ^ 32 → IfOk r (λ a. a ≡ take count (drop place bytes)) → IfOk r (λ a. place + length a < 2 ^ 32)
+end_small (Err e) bytes place count low few is = tt
+end_small (Ok a) bytes place count low few is =
+    let part : length a ≡ min count (length bytes - place) = ap length is ∙ length-take count (drop place bytes) ∙ ap (min count) (length-drop place bytes) in
+    omega arith
+
+-- nor has an inode of the committed state the kind of one
+pub no_pipe_kind : (processes : List Process) (s : Numbers) (n : ℕ) → kind_of (state_of processes s) n ≡ Some A_pipe → ⊥
+no_pipe_kind processes s n is = by_place (get s.places n) refl
+  where
+    not_one : (t : Stage) (object : Object) → mapped kind (shown_at t (inode_of object)) ≡ Some A_pipe → ⊥
+    not_one Coming object is = absurd cc
+    not_one Lost object is = absurd cc
+    not_one Held (Kept_directory listing) is = absurd cc
+    not_one Held (Kept_file file) is = absurd cc
+    not_one Held (Kept_description opened) is = absurd cc
+    not_one Held Nothing is = absurd cc
+
+    by_place : (o : Option Place) → get s.places n ≡ o → ⊥
+    by_place (Some place) at = not_one place.stage place.object (sym (ap (mapped kind) (get-inodes_by s n (Some place) at)) ∙ is)
+    by_place None at = absurd (let none : None ≡ Some A_pipe = sym (ap (mapped kind) (get-inodes_by s n None at)) ∙ is in cc)

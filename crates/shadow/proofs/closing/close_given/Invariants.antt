@@ -1,0 +1,11 @@
+-- What slots gave of the numbers that are left is still to be closed.
+use Rattle.std.proofs.Common.{◌-◌}
+use Rattle.std.specs.List.{flat_map}
+use Rattle.model.specs.FiniteMap.{entries, get}
+use Rattle.freeing_laws.specs.Sweep.{all_closed}
+use Rattle.shadow.specs.Laid.{given_by}
+use Rattle.shadow.proofs.Turning.{Leaves, given_from}
+use Rattle.shadow.proofs.closing.close_given.Given as goal
+
+abbrev pub invariant-loop-number : goal.invariant-loop-number
+invariant-loop-number l = Leaves all_closed l.fn.store l.store (flat_map (λ g. given_by g.1) (entries l.fn.former)) (given_from (get l.former) l.number (64 - l.number))

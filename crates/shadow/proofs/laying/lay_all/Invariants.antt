@@ -1,6 +1,0 @@
--- What is left of the changes is still to be made.
-use Rattle.shadow.proofs.Carrying.{Carries}
-use Rattle.shadow.proofs.laying.lay_all.Given as goal
-
-abbrev pub invariant-loop-num : goal.invariant-loop-num
-invariant-loop-num l = Carries l.fn.store l.store l.fn.changes l.num-iterator

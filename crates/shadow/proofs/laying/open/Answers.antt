@@ -1,0 +1,18 @@
+use Rattle.std.proofs.Common.{rules, ◌≡◌, ◌≢◌, ◌≤◌, ◌<◌, ◌^◌, ◌⊎◌, ℕ, false, true, Some, ◌+◌, ◌-◌, ◌*◌, length, ◌/◌, ◌%◌, Bool, nat_eq, nat_lt, List, [], ◌∷◌, ◌++◌, slice_index_or, slice_set, bit_and, bit_or, Fits, w8, w32, w64, Bor, MutBor}
+use Rattle.model.specs.FiniteMap.{get}
+use Rattle.store.specs.Numbers.{coming}
+use Rattle.store.specs.declared.Object.TheVariants.{Nothing}
+use Rattle.shadow.specs.Laid.{AreReady, AreReopened, IsCarried, IsReady, IsReadyFile, IsReopened, IsWrittenOver}
+use Rattle.shadow.specs.declared.opening.Opening.TheVariants.{New}
+use Rattle.shadow.specs.Patches.{is_new, kept_at, opening_at}
+use Rattle.shadow.proofs.laying.open.Goals as goal
+
+-- src/laying.rt:134:1
+pub returns-then-openings-lt340282366920938463463374607431768211455 :
+    goal.returns-then-openings-lt340282366920938463463374607431768211455
+returns-then-openings-lt340282366920938463463374607431768211455 c = ?
+
+-- src/laying.rt:134:1
+pub returns-else-openings-lt340282366920938463463374607431768211455 :
+    goal.returns-else-openings-lt340282366920938463463374607431768211455
+returns-else-openings-lt340282366920938463463374607431768211455 c = ?

@@ -1,0 +1,50 @@
+use Rattle.std.proofs.Common.{◌≡◌, ◌+◌, ◌<◌, ◌≤◌, ℕ, List, length, sym, subst, ◌∙◌, arith}
+use Rattle.std.proofs.lemmas.List.{get_or_read}
+use Rattle.model.specs.Changes.{Edit, news}
+use Rattle.shadow.specs.Steps.{IsFirst, TakesIn, new_in}
+use Rattle.shadow.proofs.Alike.{cut_taken, directory_taken, file_taken, put_taken, unnaming_taken}
+use Rattle.shadow.proofs.Outcomes.{ok_so}
+use Rattle.shadow.proofs.patches.Patches.note_first.Goals as goal
+
+pub returns-in-MakeDirectory-clause-ok : goal.returns-in-MakeDirectory-clause-ok
+returns-in-MakeDirectory-clause-ok c =
+    let chosen : List ℕ = c.args.chosen.now in
+    let count = subst (λ (e : Edit). news e ≤ length chosen) c.in-MakeDirectory.is c.requires.count in
+    let low : 0 < length chosen = omega (arith, count) in
+    let at : c.index-chosen-0.result ≡ new_in chosen 0 = get_or_read chosen 0 c.index-chosen-0.result low c.index-chosen-0.is 0 in
+    ok_so c.make.result
+    (λ t. subst (λ (e : Edit). TakesIn chosen e c.args.self.now c.make.new.self) (sym c.in-MakeDirectory.is)
+    (directory_taken chosen c.args.self.now c.make.new.self c.in-MakeDirectory.parent c.index-chosen-0.result c.in-MakeDirectory._place c.in-MakeDirectory.name (subst IsFirst c.in-MakeDirectory.is c.requires.first) at t))
+    c.make.ensures.ok
+
+pub returns-in-MakeFile-clause-ok : goal.returns-in-MakeFile-clause-ok
+returns-in-MakeFile-clause-ok c =
+    let chosen : List ℕ = c.args.chosen.now in
+    let count = subst (λ (e : Edit). news e ≤ length chosen) c.in-MakeFile.is c.requires.count in
+    let low : 0 < length chosen = omega (arith, count) in
+    let at : c.index-chosen-0-in-MakeFile.result ≡ new_in chosen 0 = get_or_read chosen 0 c.index-chosen-0-in-MakeFile.result low c.index-chosen-0-in-MakeFile.is 0 in
+    ok_so c.make-in-MakeFile.result
+    (λ t. subst (λ (e : Edit). TakesIn chosen e c.args.self.now c.make-in-MakeFile.new.self) (sym c.in-MakeFile.is)
+    (file_taken chosen c.args.self.now c.make-in-MakeFile.new.self c.in-MakeFile.parent c.index-chosen-0-in-MakeFile.result c.in-MakeFile._place c.in-MakeFile.name (subst IsFirst c.in-MakeFile.is c.requires.first) at t))
+    c.make-in-MakeFile.ensures.ok
+
+pub returns-in-UnnameDirectory-clause-ok : goal.returns-in-UnnameDirectory-clause-ok
+returns-in-UnnameDirectory-clause-ok c =
+    ok_so c.unname.result
+    (λ t. subst (λ (e : Edit). TakesIn c.args.chosen.now e c.args.self.now c.unname.new.self) (sym c.in-UnnameDirectory.is)
+    (unnaming_taken c.args.chosen.now c.args.self.now c.unname.new.self c.in-UnnameDirectory.parent c.in-UnnameDirectory.name c.in-UnnameDirectory.num t))
+    c.unname.ensures.ok
+
+pub returns-in-PutBytes-clause-ok : goal.returns-in-PutBytes-clause-ok
+returns-in-PutBytes-clause-ok c =
+    ok_so c.write.result
+    (λ t. subst (λ (e : Edit). TakesIn c.args.chosen.now e c.args.self.now c.write.new.self) (sym c.in-PutBytes.is)
+    (put_taken c.args.chosen.now c.args.self.now c.write.new.self c.in-PutBytes.file c.in-PutBytes.place c.in-PutBytes.bytes c.in-PutBytes.before t))
+    c.write.ensures.ok
+
+pub returns-in-Cut-clause-ok : goal.returns-in-Cut-clause-ok
+returns-in-Cut-clause-ok c =
+    ok_so c.cut.result
+    (λ t. subst (λ (e : Edit). TakesIn c.args.chosen.now e c.args.self.now c.cut.new.self) (sym c.in-Cut.is)
+    (cut_taken c.args.chosen.now c.args.self.now c.cut.new.self c.in-Cut.file c.in-Cut.before c.in-Cut.after t))
+    c.cut.ensures.ok

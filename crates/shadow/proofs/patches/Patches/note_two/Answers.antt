@@ -1,0 +1,15 @@
+use Rattle.std.proofs.Common.{refl}
+use Rattle.shadow.proofs.Noted.{on_err, same_patches, same_then_takes}
+use Rattle.shadow.proofs.patches.Patches.note_two.Goals as goal
+
+pub returns-in_err-note_first-clause-err : goal.returns-in_err-note_first-clause-err
+returns-in_err-note_first-clause-err c =
+    on_err c.from_residual-in_err-note_first.result
+    (same_patches c.args.self.now c.make_places.new.self c.note_first.new.self c.make_places.ensures.same c.in_err-note_first.ensures.err)
+
+pub returns-clause-ok : goal.returns-clause-ok
+returns-clause-ok c = (
+  c.note_first.new.self,
+  same_then_takes c.args.chosen.now c.args.first c.args.self.now c.make_places.new.self c.note_first.new.self c.make_places.ensures.same c.in_ok-note_first.ensures.ok,
+  (c.note_last.new.self, c.note_last.ensures, refl),
+)

@@ -1,0 +1,23 @@
+use Rattle.std.proofs.Common.{ℕ, List, [], refl, subst}
+use Rattle.model.specs.Changes.{Put_bytes}
+use Rattle.shadow.specs.Notes.{At, IsWritten}
+use Rattle.shadow.specs.Patches.{Patches}
+use Rattle.shadow.specs.Steps.{TakesIn}
+use Rattle.shadow.proofs.Noted.{ok_so, only_inodes, put_takes, same_then_takes}
+use Rattle.shadow.proofs.patches.Patches.write.Goals as goal
+
+pub returns-clause-ok : goal.returns-clause-ok
+returns-clause-ok c =
+    let was = c.self.inside in
+    let old : Patches = record { inodes = was.inodes; openings = was.openings; slots = was.slots; lost = was.lost.items } in
+    let mid : Patches = record old { inodes = c.make_place.new.self } in
+    let new : Patches = record old { inodes = c.write.new.self } in
+    let edit = Put_bytes c.args.file c.args.place c.args.bytes.now c.args.before in
+    ok_so c.write.result
+    (λ noted. subst (λ (p : Patches). TakesIn [] edit p new) c.self.view_is
+    (same_then_takes [] edit old mid new
+    (only_inodes old mid c.make_place.ensures.same refl refl refl)
+    (put_takes c.args.file c.args.place c.args.bytes.now c.args.before mid new
+    (subst (λ (bytes : List ℕ). At c.args.file (IsWritten c.args.place bytes c.args.before) mid.inodes new.inodes) c.as_slice.ensures noted)
+    refl refl refl)))
+    c.write.ensures.ok

@@ -1,0 +1,90 @@
+-- What noting one thing changes of what is kept of an inode.
+use Rattle.std.specs.Prelude.{◌≡◌, ◌≢◌, ◌↔◌, ℕ, ◌+◌, ◌≤◌, List, [], ◌++◌, Contains, length}
+use Rattle.std.specs.Prelude.{Option, Some, None}
+use Rattle.model.specs.State.{Name, Inode, Process}
+use Rattle.model.specs.Plan.{blocks}
+use Rattle.shadow.specs.declared.change.Change.{Change}
+use Rattle.shadow.specs.declared.change.Made.{Made}
+use Rattle.shadow.specs.Patches.{Net, Patches, added_by, form_of, kept_at, net_at, opening_at}
+use Rattle.shadow.specs.Patches.{numbers_in, patched, reslotted}
+use Rattle.shadow.specs.Steps.{bytes_cut, bytes_written, filed, growth, listed, name_noted, new_form}
+use Rattle.shadow.specs.Steps.{new_inode}
+
+-- how much room in its directory a name takes that comes
+abbrev pub room_for : Option ℕ → ℕ
+room_for (Some n) = 1
+room_for None = 0
+
+-- the same changes, with as much room or more
+pub record SameNet (old new : Net) : Type 0 where
+  pub rest : record new { room = old.room } ≡ old
+  pub room : old.room ≤ new.room
+
+-- a name of the directory gives this from now on
+pub record IsNamed (x : Name) (given : Option ℕ) (old new : Net) : Type 0 where
+  pub contents : (o : Option Inode)
+      → patched new.contents o ≡ name_noted x given (patched old.contents o)
+  pub form : form_of new.contents ≡ listed (form_of old.contents)
+  pub added : added_by new.contents ≤ added_by old.contents + room_for given
+  pub promised : new.promised ≡ old.promised + room_for given
+  pub numbers : numbers_in new.contents ≡ []
+  pub rest : record new { contents = old.contents; promised = old.promised } ≡ old
+
+-- the file has other bytes, as a function f of those before, in these blocks more; there is room for
+-- growth
+pub record IsFiled (f : Option Inode → Option Inode) (reach : ℕ) (more : List ℕ) (old new : Net)
+    : Type 0 where
+  pub contents : (o : Option Inode) → patched new.contents o ≡ f (patched old.contents o)
+  pub form : form_of new.contents ≡ filed (form_of old.contents)
+  pub added : added_by new.contents ≡ 0
+  pub room : old.room ≤ new.room
+  pub grown : reach ≤ new.room
+  pub numbers : (b : ℕ) → Contains (numbers_in new.contents) b
+      ↔ Contains (numbers_in old.contents ++ more) b
+  pub rest : record new { contents = old.contents; room = old.room } ≡ old
+
+abbrev pub IsWritten : ℕ → List ℕ → ℕ → Net → Net → Type 0
+IsWritten place bytes before =
+    IsFiled (bytes_written place bytes) (growth before (place + length bytes))
+    (blocks place (length bytes))
+
+abbrev pub IsCut : ℕ → ℕ → Net → Net → Type 0
+IsCut before after = IsFiled (bytes_cut after) (growth before after) []
+
+-- the transaction made the object, with a name
+pub record IsMade (what : Made) (old new : Net) : Type 0 where
+  pub contents : (o : Option Inode) → patched new.contents o ≡ Some (new_inode what)
+  pub form : form_of new.contents ≡ new_form what
+  pub added : added_by new.contents ≡ 0
+  pub made : new.made ≡ Some what
+  pub named : new.named ≡ old.named + 1
+  pub numbers : numbers_in new.contents ≡ []
+  pub rest : record new {
+    contents = old.contents;
+    made = old.made;
+    named = old.named;
+  } ≡ old
+
+-- a name was taken from the inode
+pub record IsUnnamed (old new : Net) : Type 0 where
+  pub unnamed : new.unnamed ≡ old.unnamed + 1
+  pub rest : record new { unnamed = old.unnamed } ≡ old
+
+-- At one number it is so, all others are as before, and places stay.
+pub record At (n : ℕ) (R : Net → Net → Type 0) (old new : List (ℕ × Change)) : Type 0 where
+  pub here : R (net_at old n) (net_at new n)
+  pub others : (m : ℕ) → m ≢ n → net_at new m ≡ net_at old m
+  pub places : (m : ℕ) → kept_at old m ≢ None → kept_at new m ≢ None
+
+-- All is as before but for room.
+pub record SameInodes (old new : List (ℕ × Change)) : Type 0 where
+  pub nets : (n : ℕ) → SameNet (net_at old n) (net_at new n)
+  pub places : (n : ℕ) → kept_at old n ≢ None → kept_at new n ≢ None
+
+-- Patches after which all shows as before.
+pub record SamePatches (old new : Patches) : Type 0 where
+  pub inodes : SameInodes old.inodes new.inodes
+  pub openings : (d : ℕ) → opening_at new.openings d ≡ opening_at old.openings d
+  pub processes : (pid : ℕ) (o : Option Process)
+      → reslotted (kept_at new.slots pid) o ≡ reslotted (kept_at old.slots pid) o
+  pub lost : new.lost ≡ old.lost

@@ -1,0 +1,281 @@
+-- One edit of a call with the call's new numbers, and what it makes of each object.
+use Rattle.std.specs.Prelude.{◌≡◌, ◌≢◌, ◌↔◌, Contains}
+use Rattle.std.specs.Prelude.{ℕ, ◌+◌, ◌<◌, ◌≤◌, ◌==◌, ◌||◌, ◌⊎◌, nat_lt, Bool, true, false, ⊤}
+use Rattle.std.specs.Prelude.{List, [], ◌∷◌, ◌++◌, map, length, Option, Some, None, if◌then◌else◌}
+use Rattle.std.specs.List.{flat_map}
+use Rattle.model.specs.FiniteMap.{get, empty}
+use Rattle.model.specs.Moments.{is_in}
+use Rattle.model.specs.State.{Name, Kernel, Inode, File, Directory, Description, Process, mapped}
+use Rattle.model.specs.State.{names_of_inode, file_of_inode}
+use Rattle.model.specs.Changes.{Edit, Which, There, Made, number, news, Make_directory, Make_file}
+use Rattle.model.specs.Changes.{Unname_file, Unname_directory, Put_bytes, Cut, Set_offset}
+use Rattle.model.specs.Changes.{Open_inode, Clear_slot, applied, sized, written, at_start, at_offset}
+use Rattle.model.specs.Changes.{with_slot, without_slot, or_new}
+use Rattle.model.specs.Effects.{Effect}
+use Rattle.model.specs.Limits.{largest, descriptor_limit}
+use Rattle.model.specs.Plan.{blocks}
+use Rattle.call_laws.specs.Fits.{Fits}
+use Rattle.freeing_laws.specs.Counts.{named, times}
+use Rattle.freeing_laws.specs.Sweep.{loses}
+use Rattle.store.specs.Laid.{with_note}
+use Rattle.shadow.specs.declared.change.Made.{Made as What}
+use Rattle.shadow.specs.declared.change.Made.TheVariants.{Directory as A_directory, File as A_file}
+use Rattle.shadow.specs.declared.opening.Opening.{Opening}
+use Rattle.shadow.specs.declared.opening.Opening.TheVariants.{Kept, New, Moved}
+use Rattle.shadow.specs.Patches.{Form, no_change, of_names, of_bytes, Net, Patches}
+use Rattle.shadow.specs.Patches.{added_by, form_of, kept_at, net_at, opening_at, patched, reopened}
+use Rattle.shadow.specs.Patches.{is_new, numbers_in, reslotted}
+
+pub record Step : Type 0 where
+  pub chosen : List ℕ
+  pub edit : Edit
+
+abbrev pub steps_in : Effect → List Step
+steps_in d = map (λ e. record { chosen = d.chosen; edit = e }) d.edits
+
+abbrev pub steps_of : List Effect → List Step
+steps_of ds = flat_map steps_in ds
+
+-- the state after steps, and whether each fits the state that it finds
+abbrev pub one_done : Step → Kernel → Kernel
+one_done s k = applied s.chosen s.edit k
+
+abbrev pub steps_done : List Step → Kernel → Kernel
+steps_done [] k = k
+steps_done (s ∷ ss) k = steps_done ss (one_done s k)
+
+abbrev pub StepsFit : List Step → Kernel → Type 0
+StepsFit [] k = ⊤
+StepsFit (s ∷ ss) k = Fits s.chosen k s.edit × StepsFit ss (one_done s k)
+
+-- the number of the first new object of an edit
+abbrev pub new_in : List ℕ → ℕ → ℕ
+new_in chosen i = number chosen (Made i)
+
+-- What a call may change today: first a name or a file's bytes, and then a description or a slot.
+-- Writes and cuts end within the largest file, and descriptors are below the limit.
+abbrev pub IsFirst : Edit → Type 0
+IsFirst (Make_directory d x i) = i ≡ 0
+IsFirst (Make_file d x i) = i ≡ 0
+IsFirst (Unname_directory d x n) = ⊤
+IsFirst (Put_bytes n place bytes before) = place + length bytes ≤ largest
+IsFirst (Cut n before after) = after ≤ largest
+IsFirst _ = ⊥
+
+abbrev pub IsBelow : ℕ → Which → Type 0
+IsBelow m (There n) = ⊤
+IsBelow m (Made j) = j < m
+
+abbrev pub IsLast : ℕ → Edit → Type 0
+IsLast m (Open_inode i inode mode pid f) = (i ≡ m) × IsBelow m inode × (f < descriptor_limit)
+IsLast m (Set_offset d place) = ⊤
+IsLast m (Clear_slot pid f pipes) = f < descriptor_limit
+IsLast m _ = ⊥
+
+abbrev pub CanEdit : List Edit → Type 0
+CanEdit [] = ⊤
+CanEdit (e ∷ []) = IsFirst e ⊎ IsLast 0 e
+CanEdit (e ∷ f ∷ []) = IsFirst e × (loses e ≡ false) × IsLast (news e) f
+CanEdit (e ∷ f ∷ g ∷ es) = ⊥
+
+abbrev pub IsOne : Edit → Type 0
+IsOne e = IsFirst e ⊎ ((m : ℕ) × IsLast m e)
+
+-- what a name gives from now on, in a directory; bytes that are written into a file; its length
+abbrev pub name_noted : Name → Option ℕ → Option Inode → Option Inode
+name_noted x given o = Some (Directory (with_note x given (names_of_inode o)))
+
+abbrev pub bytes_written : ℕ → List ℕ → Option Inode → Option Inode
+bytes_written place bytes o = Some (File (written (file_of_inode o) place bytes))
+
+abbrev pub bytes_cut : ℕ → Option Inode → Option Inode
+bytes_cut len o = Some (File (sized len (file_of_inode o)))
+
+abbrev pub new_inode : What → Inode
+new_inode A_directory = Directory empty
+new_inode A_file = File []
+
+-- a new object with its name
+abbrev pub made_at : What → ℕ → Name → ℕ → ℕ → Option Inode → Option Inode
+made_at what d x m n o =
+    if n == d then name_noted x (Some m) (if n == m then Some (new_inode what) else o)
+    else if n == m then Some (new_inode what) else o
+
+-- what stands at a number after an edit, by what stood there
+abbrev pub inode_after : List ℕ → Edit → ℕ → Option Inode → Option Inode
+inode_after chosen (Make_directory d x i) n o = made_at A_directory d x (new_in chosen i) n o
+inode_after chosen (Make_file d x i) n o = made_at A_file d x (new_in chosen i) n o
+inode_after chosen (Unname_directory d x m) n o = if n == d then name_noted x None o else o
+inode_after chosen (Put_bytes m place bytes before) n o =
+    if n == m then bytes_written place bytes o else o
+inode_after chosen (Cut m before after) n o = if n == m then bytes_cut after o else o
+inode_after chosen _ n o = o
+
+abbrev pub description_after : List ℕ → Edit → ℕ → Option Description → Option Description
+description_after chosen (Open_inode i inode mode pid f) d o =
+    if d == new_in chosen i then Some (at_start (number chosen inode) mode) else o
+description_after chosen (Set_offset m place) d o = if d == m then mapped (at_offset place) o else o
+description_after chosen _ d o = o
+
+abbrev pub process_after : List ℕ → Edit → ℕ → Option Process → Option Process
+process_after chosen (Open_inode i inode mode q f) pid o =
+    if pid == q then Some (with_slot f (new_in chosen i) (or_new o)) else o
+process_after chosen (Clear_slot q f pipes) pid o =
+    if pid == q then Some (without_slot f (or_new o)) else o
+process_after chosen _ pid o = o
+
+-- An edit changes a state so, number by number.
+pub record Applies (chosen : List ℕ) (e : Edit) (k after : Kernel) : Type 0 where
+  pub root : after.root ≡ k.root
+  pub made : after.made ≡ k.made
+  pub inodes : (n : ℕ) → get after.inodes n ≡ inode_after chosen e n (get k.inodes n)
+  pub descriptions : (d : ℕ)
+      → get after.descriptions d ≡ description_after chosen e d (get k.descriptions d)
+  pub processes : (pid : ℕ)
+      → get after.processes pid ≡ process_after chosen e pid (get k.processes pid)
+
+-- the inodes that an edit takes a name from, whatever the state
+abbrev pub unnamed_by : Edit → List ℕ
+unnamed_by (Unname_directory d x n) = n ∷ []
+unnamed_by (Unname_file d x n) = n ∷ []
+unnamed_by _ = []
+
+-- the new directories of an edit, its other new numbers, and the descriptions among these
+abbrev pub directories_in : List ℕ → Edit → List ℕ
+directories_in chosen (Make_directory d x i) = new_in chosen i ∷ []
+directories_in chosen _ = []
+
+abbrev pub files_in : List ℕ → Edit → List ℕ
+files_in chosen (Make_file d x i) = new_in chosen i ∷ []
+files_in chosen _ = []
+
+abbrev pub opened_in : List ℕ → Edit → List ℕ
+opened_in chosen (Open_inode i inode mode pid f) = new_in chosen i ∷ []
+opened_in chosen _ = []
+
+-- the directory to which an edit adds a name
+abbrev pub parents_in : Edit → List ℕ
+parents_in (Make_directory d x i) = d ∷ []
+parents_in (Make_file d x i) = d ∷ []
+parents_in _ = []
+
+-- of what kind the changes are after one more
+abbrev pub listed : Form → Form
+listed no_change = of_names false
+listed (of_names fresh) = of_names fresh
+listed (of_bytes fresh) = of_names true
+
+abbrev pub filed : Form → Form
+filed no_change = of_bytes false
+filed (of_bytes fresh) = of_bytes fresh
+filed (of_names fresh) = of_bytes true
+
+abbrev pub new_form : What → Form
+new_form A_directory = of_names true
+new_form A_file = of_bytes true
+
+abbrev pub made_form : What → ℕ → ℕ → ℕ → Form → Form
+made_form what d m n form =
+    if n == d then listed (if n == m then new_form what else form)
+    else if n == m then new_form what else form
+
+abbrev pub form_after : List ℕ → Edit → ℕ → Form → Form
+form_after chosen (Make_directory d x i) n form = made_form A_directory d (new_in chosen i) n form
+form_after chosen (Make_file d x i) n form = made_form A_file d (new_in chosen i) n form
+form_after chosen (Unname_directory d x m) n form = if n == d then listed form else form
+form_after chosen (Put_bytes m place bytes before) n form = if n == m then filed form else form
+form_after chosen (Cut m before after) n form = if n == m then filed form else form
+form_after chosen _ n form = form
+
+-- what the transaction has made under a number
+abbrev pub made_after : List ℕ → Edit → ℕ → Option What → Option What
+made_after chosen (Make_directory d x i) n made =
+    if n == new_in chosen i then Some A_directory else made
+made_after chosen (Make_file d x i) n made = if n == new_in chosen i then Some A_file else made
+made_after chosen _ n made = made
+
+-- how far a file reaches that an edit makes longer, and else 0
+abbrev pub growth : ℕ → ℕ → ℕ
+growth before after = if nat_lt before after then after else 0
+
+abbrev pub grown_to : Edit → ℕ → ℕ
+grown_to (Put_bytes m place bytes before) n =
+    if n == m then growth before (place + length bytes) else 0
+grown_to (Cut m before after) n = if n == m then growth before after else 0
+grown_to _ n = 0
+
+-- the blocks of a file into which an edit puts bytes
+abbrev pub blocks_by : ℕ → Edit → List ℕ
+blocks_by n (Put_bytes m place bytes before) =
+    if n == m then blocks place (length bytes) else []
+blocks_by n _ = []
+
+-- the blocks into which bytes were written before an edit: a new object has none, nor has a directory
+abbrev pub numbers_kept : List ℕ → Edit → ℕ → List ℕ → List ℕ
+numbers_kept chosen (Make_directory d x i) n bs =
+    if (n == d) || (n == new_in chosen i) then [] else bs
+numbers_kept chosen (Make_file d x i) n bs =
+    if (n == d) || (n == new_in chosen i) then [] else bs
+numbers_kept chosen (Unname_directory d x m) n bs = if n == d then [] else bs
+numbers_kept chosen _ n bs = bs
+
+-- Patches take in one edit more.
+pub record TakesIn (chosen : List ℕ) (e : Edit) (old new : Patches) : Type 0 where
+  pub inodes : (n : ℕ) (o : Option Inode) → patched (net_at new.inodes n).contents o
+      ≡ inode_after chosen e n (patched (net_at old.inodes n).contents o)
+  pub descriptions : (d : ℕ) (o : Option Description) → reopened (opening_at new.openings d) o
+      ≡ description_after chosen e d (reopened (opening_at old.openings d) o)
+  pub processes : (pid : ℕ) (o : Option Process) → reslotted (kept_at new.slots pid) o
+      ≡ process_after chosen e pid (reslotted (kept_at old.slots pid) o)
+  pub made : (n : ℕ) → (net_at new.inodes n).made
+      ≡ made_after chosen e n (net_at old.inodes n).made
+  pub promised : (n : ℕ) → (net_at new.inodes n).promised
+      ≡ (net_at old.inodes n).promised + times n (parents_in e)
+  pub named : (n : ℕ) → (net_at new.inodes n).named
+      ≡ (net_at old.inodes n).named + times n (named chosen e)
+  pub unnamed : (n : ℕ) → (net_at new.inodes n).unnamed
+      ≡ (net_at old.inodes n).unnamed + times n (unnamed_by e)
+  pub lost : new.lost ≡ old.lost ++ unnamed_by e
+  pub forms : (n : ℕ) → form_of (net_at new.inodes n).contents
+      ≡ form_after chosen e n (form_of (net_at old.inodes n).contents)
+  pub room : (n : ℕ) → (net_at old.inodes n).room ≤ (net_at new.inodes n).room
+  pub grown : (n : ℕ) → grown_to e n ≤ (net_at new.inodes n).room
+  pub added : (n : ℕ) → added_by (net_at new.inodes n).contents
+      ≤ added_by (net_at old.inodes n).contents + times n (parents_in e)
+  pub news : (d : ℕ) → is_new (opening_at new.openings d)
+      ≡ (is_in d (opened_in chosen e) || is_new (opening_at old.openings d))
+  pub written : (n b : ℕ) → Contains (numbers_in (net_at new.inodes n).contents) b
+      ↔ Contains (numbers_kept chosen e n (numbers_in (net_at old.inodes n).contents)
+      ++ blocks_by n e) b
+
+-- the new numbers of an edit are not its parent's
+abbrev pub AreApart : List ℕ → Edit → Type 0
+AreApart chosen (Make_directory d x i) = new_in chosen i ≢ d
+AreApart chosen (Make_file d x i) = new_in chosen i ≢ d
+AreApart chosen _ = ⊤
+
+-- an edit that makes such an object
+abbrev pub making : What → ℕ → Name → Edit
+making A_directory d x = Make_directory d x 0
+making A_file d x = Make_file d x 0
+
+-- there are places for an edit of a description or a slot
+abbrev pub HasPlaces : List ℕ → Edit → Patches → Type 0
+HasPlaces chosen (Open_inode i inode mode pid f) p =
+    (kept_at p.openings (new_in chosen i) ≢ None) × (kept_at p.slots pid ≢ None)
+HasPlaces chosen (Set_offset d place) p = kept_at p.openings d ≢ None
+HasPlaces chosen (Clear_slot pid f pipes) p = kept_at p.slots pid ≢ None
+HasPlaces chosen _ p = ⊥
+
+-- whether an edit is of a description or a slot
+abbrev pub is_last : Edit → Bool
+is_last (Open_inode i inode mode pid f) = true
+is_last (Set_offset d place) = true
+is_last (Clear_slot pid f pipes) = true
+is_last _ = false
+
+-- Patches take in edits one after the other.
+abbrev pub TakesAll : List ℕ → List Edit → Patches → Patches → Type 0
+TakesAll chosen [] old new = old ≡ new
+TakesAll chosen (e ∷ es) old new =
+    (mid : Patches) × TakesIn chosen e old mid × TakesAll chosen es mid new

@@ -1,0 +1,244 @@
+// What a plain call changes, made at once in the committed state.
+ghost use Rattle.std.specs.Prelude.{◌≡◌, ◌≤◌, ◌+◌, ◌∷◌, [], ℕ, List, Some, IfOk, OnErr, OnOk};
+ghost use Rattle.std.specs.Prelude.{length};
+ghost use Rattle.std.specs.List.{sum_by};
+ghost use Rattle.ids.specs.declared.limits.TheConstants.{LARGEST_FILE};
+ghost use Rattle.model.specs.State.{A_file, kind_of};
+ghost use Rattle.model.specs.Changes.{Cut, Clear_slot, Make_directory, Make_file, Open_inode};
+ghost use Rattle.model.specs.Changes.{Put_bytes, Set_offset, Unname_directory, all_applied, applied};
+ghost use Rattle.model.specs.Changes.{news, tidy};
+ghost use Rattle.call_laws.specs.Fits.{Fits, FitsAll};
+ghost use Rattle.shadow.specs.Claims.{AreUnused, Claim, Covers, HaveParents, KeepsMore, KeepsSame};
+ghost use Rattle.shadow.specs.Claims.{claimed_by, claimed_by_one, reserved};
+ghost use Rattle.shadow.specs.Log.{effect};
+ghost use Rattle.shadow.specs.Steps.{CanEdit, IsFirst, IsLast};
+
+use crate::claiming::parent_of;
+use crate::closing::{close, free};
+use crate::laying::open;
+use crate::patches::{at_start, is_last, number};
+use crate::reslotting::lay_slot;
+use crate::stable::Stable;
+use heap::Heap;
+use ids::{Edit, Fd, Name, Num, Nums, Pid};
+use objects::{Description, FileData};
+use std::alloc::AllocError;
+use store::{Object, OpenFile};
+
+impl Stable {
+    /// Makes the changes of one call at once, with new numbers for what they make, which are
+    /// answered. What nothing leads to then is freed. Refused memory changes nothing.
+    pub fn apply(&mut self, edits: Vec<Edit, Heap>) -> Result<Nums, AllocError>
+        requires kinds { CanEdit edits.items }
+        requires parents { HaveParents self.old.reserves edits.items }
+        requires fits { (chosen : List ℕ) → AreUnused self.old edits.items chosen
+            → FitsAll chosen self.old.state edits.items }
+        ensures new { IfOk result (AreUnused self.old edits.entry.items) }
+        ensures state { IfOk result (λ chosen. self.new.state
+            ≡ tidy (all_applied chosen edits.entry.items self.old.state)) }
+        ensures kept { KeepsSame self.old self.new }
+        ensures err { OnErr result (self.new.state ≡ self.old.state) }
+    {
+        let heap = *edits.allocator();
+        let parent = parent_of(edits.as_slice());
+        let chosen = self.claim(heap, edits.as_slice())?;
+        match self.perform(chosen.as_slice(), edits) {
+            Ok(()) => Ok(chosen),
+            Err(AllocError) => {
+                self.give_up(chosen.as_slice(), parent);
+                Err(AllocError)
+            }
+        }
+    }
+
+    // Makes a call's changes, with what was kept for them. Refused memory changes nothing.
+    fn perform(&mut self, chosen: &[Num], mut edits: Vec<Edit, Heap>) -> Result<(), AllocError>
+        requires kinds { CanEdit edits.items }
+        requires count { length chosen.now ≡ sum_by news edits.items }
+        requires fits { FitsAll chosen.now self.old.state edits.items }
+        requires covers { Covers self.old (effect chosen.now edits.items ∷ []) }
+        ensures state { OnOk result (self.new.state
+            ≡ tidy (all_applied chosen.now edits.entry.items self.old.state)) }
+        ensures kept { OnOk result (KeepsMore self.new self.old
+            (λ c. claimed_by c (effect chosen.now edits.entry.items))) }
+        ensures err { OnErr result (self.new.state ≡ self.old.state) }
+        ensures same { OnErr result (KeepsSame self.old self.new) }
+    {
+        match edits.pop() {
+            None => Ok(()),
+            Some(last) => match edits.pop() {
+                None => self.perform_one(chosen, last),
+                Some(first) => {
+                    self.perform_first(chosen, first)?;
+                    self.perform_last(chosen, last);
+                    Ok(())
+                }
+            },
+        }
+    }
+
+    // A call with one edit.
+    fn perform_one(&mut self, chosen: &[Num], edit: Edit) -> Result<(), AllocError>
+        requires kinds { CanEdit (edit ∷ []) }
+        requires count { length chosen.now ≡ news edit }
+        requires fits { Fits chosen.now self.old.state edit }
+        requires covers { Covers self.old (effect chosen.now (edit ∷ []) ∷ []) }
+        ensures state { OnOk result (self.new.state ≡ tidy (applied chosen.now edit self.old.state)) }
+        ensures kept { OnOk result (KeepsMore self.new self.old
+            (λ c. claimed_by c (effect chosen.now (edit ∷ [])))) }
+        ensures err { OnErr result (self.new.state ≡ self.old.state) }
+        ensures same { OnErr result (KeepsSame self.old self.new) }
+    {
+        if is_last(&edit) {
+            self.perform_last(chosen, edit);
+            Ok(())
+        } else {
+            self.perform_first(chosen, edit)
+        }
+    }
+
+    // An edit of a name or of a file's bytes. Refused memory changes nothing.
+    fn perform_first(&mut self, chosen: &[Num], edit: Edit) -> Result<(), AllocError>
+        requires first { IsFirst edit }
+        requires count { news edit ≤ length chosen.now }
+        requires fits { Fits chosen.now self.old.state edit }
+        requires covers { (c : Claim) → claimed_by_one c chosen.now edit ≤ reserved self.old c }
+        ensures state { OnOk result (self.new.state ≡ tidy (applied chosen.now edit self.old.state)) }
+        ensures kept { OnOk result (KeepsMore self.new self.old
+            (λ c. claimed_by_one c chosen.now edit)) }
+        ensures err { OnErr result (self.new.state ≡ self.old.state) }
+        ensures same { OnErr result (KeepsSame self.old self.new) }
+    {
+        match edit {
+            Edit::MakeDirectory(parent, name, _place) => {
+                self.make_directory(parent, name, chosen[0]);
+                Ok(())
+            }
+            Edit::MakeFile(parent, name, _place) => {
+                self.make_file(parent, name, chosen[0]);
+                Ok(())
+            }
+            Edit::UnnameDirectory(parent, name, num) => {
+                self.unname(parent, &name, num);
+                Ok(())
+            }
+            Edit::PutBytes(file, place, bytes, _before) => {
+                self.write(file, place as usize, bytes.as_slice())
+            }
+            Edit::Cut(file, _before, after) => self.cut(file, after as usize),
+            _ => unreachable!(),
+        }
+    }
+
+    // An edit of a description or a slot. It takes no memory.
+    fn perform_last(&mut self, chosen: &[Num], edit: Edit)
+        requires last { (m : ℕ) × IsLast m edit × (m + news edit ≤ length chosen.now) }
+        requires fits { Fits chosen.now self.old.state edit }
+        requires covers { (c : Claim) → claimed_by_one c chosen.now edit ≤ reserved self.old c }
+        ensures state { self.new.state ≡ tidy (applied chosen.now edit self.old.state) }
+        ensures kept { KeepsMore self.new self.old (λ c. claimed_by_one c chosen.now edit) }
+    {
+        match edit {
+            Edit::OpenInode(place, inode, mode, pid, fd) => {
+                let description = at_start(number(chosen, inode), mode);
+                self.open_inode(chosen[place as usize], description, pid, fd);
+            }
+            Edit::SetOffset(description, place) => self.store.set_offset(description, place),
+            Edit::ClearSlot(pid, fd, _pipes) => self.clear_slot(pid, fd),
+            _ => unreachable!(),
+        }
+    }
+
+    // The new directory of a reserved number is there, with its name.
+    fn make_directory(&mut self, parent: Num, name: Name, num: Num)
+        requires fits { Fits (num ∷ []) self.old.state (Make_directory parent name 0) }
+        requires covers { (c : Claim)
+            → claimed_by_one c (num ∷ []) (Make_directory parent name 0) ≤ reserved self.old c }
+        ensures state { self.new.state
+            ≡ tidy (applied (num ∷ []) (Make_directory parent name 0) self.old.state) }
+        ensures kept { KeepsMore self.new self.old
+            (λ c. claimed_by_one c (num ∷ []) (Make_directory parent name 0)) }
+    {
+        self.store.install(num);
+        self.store.add_name(parent, name, num);
+    }
+
+    // The new file of a reserved number is there, with its name.
+    fn make_file(&mut self, parent: Num, name: Name, num: Num)
+        requires fits { Fits (num ∷ []) self.old.state (Make_file parent name 0) }
+        requires covers { (c : Claim)
+            → claimed_by_one c (num ∷ []) (Make_file parent name 0) ≤ reserved self.old c }
+        ensures state { self.new.state
+            ≡ tidy (applied (num ∷ []) (Make_file parent name 0) self.old.state) }
+        ensures kept { KeepsMore self.new self.old
+            (λ c. claimed_by_one c (num ∷ []) (Make_file parent name 0)) }
+    {
+        let bytes = FileData::new(self.heap());
+        let file = OpenFile { bytes, openings: 0 };
+        self.store.install_as(num, Object::File(file));
+        self.store.add_name(parent, name, num);
+    }
+
+    // A directory's name goes, and the directory with it.
+    fn unname(&mut self, parent: Num, name: &Name, num: Num)
+        requires { Fits [] self.old.state (Unname_directory parent name.now num) }
+        ensures state { self.new.state
+            ≡ tidy (applied [] (Unname_directory parent name.now num) self.old.state) }
+        ensures kept { KeepsSame self.old self.new }
+    {
+        self.store.remove_name(parent, name);
+        free(&mut self.store, num);
+    }
+
+    // Bytes are written into a file. Refused memory changes nothing.
+    fn write(&mut self, file: Num, place: usize, bytes: &[u8]) -> Result<(), AllocError>
+        requires small { place + length bytes.now ≤ LARGEST_FILE }
+        requires file { kind_of self.old.state file ≡ Some A_file }
+        ensures state { OnOk result ((before : ℕ) → self.new.state
+            ≡ applied [] (Put_bytes file place bytes.now before) self.old.state) }
+        ensures kept { KeepsSame self.old self.new }
+        ensures err { OnErr result (self.new.state ≡ self.old.state) }
+    {
+        let empty = FileData::new(self.heap());
+        let mut data = self.store.swap_file(file, empty);
+        let written = data.write_at(place, bytes);
+        let _empty = self.store.swap_file(file, data);
+        written
+    }
+
+    // A file's length changes. Refused memory changes nothing.
+    fn cut(&mut self, file: Num, after: usize) -> Result<(), AllocError>
+        requires small { after ≤ LARGEST_FILE }
+        requires file { kind_of self.old.state file ≡ Some A_file }
+        ensures state { OnOk result ((before : ℕ) → self.new.state
+            ≡ applied [] (Cut file before after) self.old.state) }
+        ensures kept { KeepsSame self.old self.new }
+        ensures err { OnErr result (self.new.state ≡ self.old.state) }
+    {
+        let empty = FileData::new(self.heap());
+        let mut data = self.store.swap_file(file, empty);
+        let cut = data.cut(after);
+        let _empty = self.store.swap_file(file, data);
+        cut
+    }
+
+    // The new description of a reserved number is there, with its slot.
+    fn open_inode(&mut self, num: Num, description: Description, pid: Pid, fd: Fd)
+    {
+        open(&mut self.store, num, description);
+        let _none = lay_slot(&mut self.store, &mut self.processes, pid, fd, Some(num));
+    }
+
+    // A slot is closed, and its description goes where no other slot gives it.
+    fn clear_slot(&mut self, pid: Pid, fd: Fd)
+        requires { (pipes : List ℕ) × Fits [] self.old.state (Clear_slot pid fd pipes) }
+        ensures state { (pipes : List ℕ) → Fits [] self.old.state (Clear_slot pid fd pipes)
+            → self.new.state ≡ tidy (applied [] (Clear_slot pid fd pipes) self.old.state) }
+        ensures kept { KeepsSame self.old self.new }
+    {
+        let former = lay_slot(&mut self.store, &mut self.processes, pid, fd, None);
+        if let Some(description) = former {
+            close(&mut self.store, description);
+        }
+    }
+}

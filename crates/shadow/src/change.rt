@@ -1,0 +1,289 @@
+// What a transaction has changed of one inode.
+ghost use Rattle.std.specs.Prelude.{◌≡◌, ◌↔◌, ◌++◌, ◌+◌, ◌≤◌, ◌<◌, ◌^◌, [], ℕ, Contains, IfOk, OnErr};
+ghost use Rattle.std.specs.Prelude.{OnOk, Option, Some, length};
+ghost use Rattle.ids.specs.declared.limits.TheConstants.{LARGEST_FILE};
+ghost use Rattle.model.specs.FiniteMap.{empty, insert};
+ghost use Rattle.model.specs.State.{File, Inode};
+ghost use Rattle.model.specs.Changes.{sized, written};
+ghost use Rattle.model.specs.Plan.{blocks};
+ghost use Rattle.shadow.specs.Patches.{added_by, bytes_before, form_of, net_of, of_bytes, patched};
+ghost use Rattle.shadow.specs.Patches.{numbers_in, untouched};
+ghost use Rattle.shadow.specs.declared.change.Contents.TheVariants.{Names};
+ghost use Rattle.shadow.specs.Notes.{IsCut, IsMade, IsNamed, IsUnnamed, IsWritten, SameNet, room_for};
+ghost use Rattle.shadow.specs.Steps.{bytes_cut, bytes_written, filed, growth, listed, name_noted};
+ghost use Rattle.shadow.specs.Steps.{new_form, new_inode};
+
+use dirlist::Patch;
+use file_shadow::FileShadow;
+use heap::Heap;
+use ids::{Name, Num};
+use objects::FileData;
+use std::alloc::AllocError;
+
+/// What a transaction can make.
+#[derive(Clone, Copy)]
+pub(crate) enum Made {
+    /// A directory.
+    Directory,
+    /// A file.
+    File,
+}
+
+/// What has changed of an inode's contents.
+#[derive(Drop)]
+pub(crate) enum Contents {
+    /// Nothing.
+    Same,
+    /// The names that changed, and whether they are laid over none.
+    Names(bool, Patch),
+    /// The bytes that changed, and whether they are laid over none.
+    Bytes(bool, FileShadow),
+}
+
+/// What a transaction has changed of one inode.
+#[derive(Drop)]
+pub(crate) struct Change {
+    /// What the transaction has made under this number.
+    pub(crate) made: Option<Made>,
+    /// For how many names room is promised in the directory.
+    pub(crate) promised: usize,
+    /// How many names the transaction gave the inode.
+    pub(crate) named: usize,
+    /// How many names it took from the inode.
+    pub(crate) unnamed: usize,
+    /// Room for the bytes of a file that has grown; it holds none.
+    pub(crate) room: FileData,
+    /// What has changed of its contents.
+    pub(crate) contents: Contents,
+}
+
+impl Change {
+    /// Nothing is changed. It takes no memory.
+    pub(crate) fn new(heap: Heap) -> Change
+        ensures { SameNet untouched (net_of (Some result)) }
+    {
+        Change {
+            made: None,
+            promised: 0,
+            named: 0,
+            unnamed: 0,
+            room: FileData::new(heap),
+            contents: Contents::Same,
+        }
+    }
+
+    /// Notes what a name of the directory gives now, and the room that is promised for it where it
+    /// gives something. Refused memory changes nothing.
+    pub(crate) fn note_name(
+        &mut self,
+        heap: Heap,
+        name: Name,
+        given: Option<Num>,
+    ) -> Result<(), AllocError>
+        ensures ok { OnOk result
+            (IsNamed name given (net_of (Some self.old)) (net_of (Some self.new))) }
+        ensures err { OnErr result (self.new ≡ self.old) }
+    {
+        let Some(promised) = self.promised.checked_add(room_for(&given)) else {
+            return Err(AllocError);
+        };
+        note_in(&mut self.contents, heap, name, given)?;
+        self.promised = promised;
+        Ok(())
+    }
+
+    /// Notes bytes that are written into the file from a place on, and makes room where it grows
+    /// from this length. Refused memory changes nothing that shows.
+    pub(crate) fn write(
+        &mut self,
+        heap: Heap,
+        place: usize,
+        bytes: &[u8],
+        before: usize,
+    ) -> Result<(), AllocError>
+        requires { place + length bytes.now ≤ LARGEST_FILE }
+        ensures ok { OnOk result
+            (IsWritten place bytes.now before (net_of (Some self.old)) (net_of (Some self.new))) }
+        ensures err { OnErr result (SameNet (net_of (Some self.old)) (net_of (Some self.new))) }
+    {
+        self.make_room(before, place + bytes.len())?;
+        write_in(&mut self.contents, heap, place, bytes)
+    }
+
+    /// Notes that the file is cut, or filled up, to this length, and makes room where it grows from
+    /// that before. Refused memory changes nothing that shows.
+    pub(crate) fn cut(&mut self, heap: Heap, before: usize, after: usize) -> Result<(), AllocError>
+        requires { after ≤ LARGEST_FILE }
+        ensures ok { OnOk result
+            (IsCut before after (net_of (Some self.old)) (net_of (Some self.new))) }
+        ensures err { OnErr result (SameNet (net_of (Some self.old)) (net_of (Some self.new))) }
+    {
+        self.make_room(before, after)?;
+        cut_in(&mut self.contents, heap, after);
+        Ok(())
+    }
+
+    // Makes room for a file that grows.
+    fn make_room(&mut self, before: usize, after: usize) -> Result<(), AllocError>
+        ensures same { SameNet (net_of (Some self.old)) (net_of (Some self.new)) }
+        ensures ok { OnOk result (growth before after ≤ (net_of (Some self.new)).room) }
+    {
+        if before < after {
+            self.room.promise(after)?;
+        }
+        Ok(())
+    }
+
+    /// Notes that the transaction made the object, with its first name. It takes no memory.
+    pub(crate) fn note_made(&mut self, heap: Heap, what: Made)
+        requires { self.old.named + 1 < 2 ^ 64 }
+        ensures { IsMade what (net_of (Some self.old)) (net_of (Some self.new)) }
+    {
+        self.made = Some(what);
+        self.named += 1;
+        self.contents = fresh_of(heap, what);
+    }
+
+    /// Notes that a name was taken from the inode. It takes no memory.
+    pub(crate) fn note_unnamed(&mut self)
+        requires { self.old.unnamed + 1 < 2 ^ 64 }
+        ensures { IsUnnamed (net_of (Some self.old)) (net_of (Some self.new)) }
+    {
+        self.unnamed += 1;
+    }
+}
+
+// The changes of what is new and empty.
+fn fresh_of(heap: Heap, what: Made) -> Contents
+    ensures contents { (o : Option Inode) → patched result o ≡ Some (new_inode what) }
+    ensures form { form_of result ≡ new_form what }
+    ensures added { added_by result ≡ 0 }
+    ensures numbers { numbers_in result ≡ [] }
+{
+    match what {
+        Made::Directory => Contents::Names(true, Patch::new(heap)),
+        Made::File => Contents::Bytes(true, FileShadow::new(heap)),
+    }
+}
+
+// How much room in its directory a name takes that comes.
+fn room_for(given: &Option<Num>) -> usize
+    ensures { result ≡ room_for given.now }
+{
+    match given {
+        Some(_) => 1,
+        None => 0,
+    }
+}
+
+// Notes what a name gives now; bytes of a file go.
+fn note_in(
+    contents: &mut Contents,
+    heap: Heap,
+    name: Name,
+    given: Option<Num>,
+) -> Result<(), AllocError>
+    ensures contents { OnOk result ((o : Option Inode)
+        → patched contents.new o ≡ name_noted name given (patched contents.old o)) }
+    ensures form { OnOk result (form_of contents.new ≡ listed (form_of contents.old)) }
+    ensures added { OnOk result
+        (added_by contents.new ≤ added_by contents.old + room_for given) }
+    ensures numbers { OnOk result (numbers_in contents.new ≡ []) }
+    ensures err { OnErr result (contents.new ≡ contents.old) }
+{
+    match contents {
+        Contents::Names(_fresh, names) => names.note(name, given),
+        Contents::Same => {
+            *contents = first_name(heap, false, name, given)?;
+            Ok(())
+        }
+        Contents::Bytes(_fresh, _bytes) => {
+            *contents = first_name(heap, true, name, given)?;
+            Ok(())
+        }
+    }
+}
+
+// The changes of a directory with one name.
+fn first_name(
+    heap: Heap,
+    fresh: bool,
+    name: Name,
+    given: Option<Num>,
+) -> Result<Contents, AllocError>
+    ensures { IfOk result (λ c. c ≡ Names fresh (insert empty name given)) }
+{
+    let mut names = Patch::new(heap);
+    names.note(name, given)?;
+    Ok(Contents::Names(fresh, names))
+}
+
+// Notes bytes that are written; names of a directory go.
+fn write_in(
+    contents: &mut Contents,
+    heap: Heap,
+    place: usize,
+    bytes: &[u8],
+) -> Result<(), AllocError>
+    requires { place + length bytes.now ≤ LARGEST_FILE }
+    ensures contents { OnOk result ((o : Option Inode)
+        → patched contents.new o ≡ bytes_written place bytes.now (patched contents.old o)) }
+    ensures form { OnOk result (form_of contents.new ≡ filed (form_of contents.old)) }
+    ensures numbers { OnOk result ((b : ℕ) → Contains (numbers_in contents.new) b
+        ↔ Contains (numbers_in contents.old ++ blocks place (length bytes.now)) b) }
+    ensures err { OnErr result (contents.new ≡ contents.old) }
+{
+    match contents {
+        Contents::Bytes(_fresh, changes) => changes.write(place, bytes),
+        Contents::Same => {
+            *contents = first_bytes(heap, false, place, bytes)?;
+            Ok(())
+        }
+        Contents::Names(_fresh, _names) => {
+            *contents = first_bytes(heap, true, place, bytes)?;
+            Ok(())
+        }
+    }
+}
+
+// The changes of a file with the bytes of one write.
+fn first_bytes(heap: Heap, fresh: bool, place: usize, bytes: &[u8]) -> Result<Contents, AllocError>
+    requires { place + length bytes.now ≤ LARGEST_FILE }
+    ensures contents { IfOk result (λ c. (o : Option Inode)
+        → patched c o ≡ Some (File (written (bytes_before fresh o) place bytes.now))) }
+    ensures form { IfOk result (λ c. form_of c ≡ of_bytes fresh) }
+    ensures numbers { IfOk result (λ c. (b : ℕ)
+        → Contains (numbers_in c) b ↔ Contains (blocks place (length bytes.now)) b) }
+{
+    let mut changes = FileShadow::new(heap);
+    changes.write(place, bytes)?;
+    Ok(Contents::Bytes(fresh, changes))
+}
+
+// Notes a file's length; names of a directory go.
+fn cut_in(contents: &mut Contents, heap: Heap, len: usize)
+    requires { len ≤ LARGEST_FILE }
+    ensures contents { (o : Option Inode)
+        → patched contents.new o ≡ bytes_cut len (patched contents.old o) }
+    ensures form { form_of contents.new ≡ filed (form_of contents.old) }
+    ensures numbers { numbers_in contents.new ≡ numbers_in contents.old }
+{
+    match contents {
+        Contents::Bytes(_fresh, changes) => changes.cut(len),
+        Contents::Same => *contents = first_cut(heap, false, len),
+        Contents::Names(_fresh, _names) => *contents = first_cut(heap, true, len),
+    }
+}
+
+// The changes of a file with one cut.
+fn first_cut(heap: Heap, fresh: bool, len: usize) -> Contents
+    requires { len ≤ LARGEST_FILE }
+    ensures contents { (o : Option Inode)
+        → patched result o ≡ Some (File (sized len (bytes_before fresh o))) }
+    ensures form { form_of result ≡ of_bytes fresh }
+    ensures numbers { numbers_in result ≡ [] }
+{
+    let mut changes = FileShadow::new(heap);
+    changes.cut(len);
+    Contents::Bytes(fresh, changes)
+}

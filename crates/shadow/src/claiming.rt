@@ -1,0 +1,249 @@
+// What is kept of the committed state for a transaction's changes, and given back.
+ghost use Rattle.std.specs.Prelude.{ℕ, ◌≡◌, ◌≢◌, ◌≤◌, ◌<◌, Bool, List, None, Some, IfOk, OnErr, OnOk};
+ghost use Rattle.std.specs.Prelude.{is_some};
+ghost use Rattle.std.specs.List.{AllByRecursion, flat_map};
+ghost use Rattle.model.specs.FiniteMap.{get};
+ghost use Rattle.model.specs.Changes.{news};
+ghost use Rattle.model.specs.Steps.{IsNowhere};
+ghost use Rattle.freeing_laws.specs.Counts.{listed};
+ghost use Rattle.store.specs.Places.{listing_of};
+ghost use Rattle.shadow.specs.Claims.{AreUnused, Claim, HaveClaimed, HaveParents, IsClaimed, IsComing};
+ghost use Rattle.shadow.specs.Claims.{IsDirectory, IsReserved, KeepsMore, KeepsSame, Room, claim_in};
+ghost use Rattle.shadow.specs.Claims.{claimed_by, claimed_in, inode_claim, inodes_claim, new_number};
+ghost use Rattle.shadow.specs.Claims.{Stays, number_as, openings_claim, reserved, room_in};
+ghost use Rattle.shadow.specs.Claims.{with_kinds};
+ghost use Rattle.shadow.specs.Log.{effect};
+ghost use Rattle.shadow.specs.Patches.{net_of};
+ghost use Rattle.shadow.specs.Steps.{AreApart, CanEdit, parents_in};
+ghost use Rattle.shadow.specs.Stored.{IsBare};
+
+use crate::change::Change;
+use crate::inodes::Inodes;
+use crate::opening::{Opening, Openings};
+use crate::patches::Patches;
+use crate::stable::Stable;
+use dirlist::Dir;
+use heap::Heap;
+use ids::{Edit, Num, Nums};
+use std::alloc::AllocError;
+use store::Object;
+
+/// The directory to which a call adds a name, if it adds one.
+pub(crate) fn parent_of(edits: &[Edit]) -> Option<Num>
+    requires { CanEdit edits.now }
+    ensures { listed result ≡ flat_map parents_in edits.now }
+{
+    match edits.first() {
+        Some(Edit::MakeDirectory(parent, _, _)) => Some(*parent),
+        Some(Edit::MakeFile(parent, _, _)) => Some(*parent),
+        _ => None,
+    }
+}
+
+impl Stable {
+    /// New numbers for what a call makes, and room for the name that it adds. Refused memory
+    /// changes nothing.
+    pub(crate) fn claim(&mut self, heap: Heap, edits: &[Edit]) -> Result<Nums, AllocError>
+        requires kinds { CanEdit edits.now }
+        requires parents { HaveParents self.old.reserves edits.now }
+        ensures new { IfOk result (AreUnused self.old edits.now) }
+        ensures apart { IfOk result (λ chosen. AllByRecursion (AreApart chosen) edits.now) }
+        ensures kept { IfOk result (λ chosen. KeepsMore self.old self.new
+            (λ c. claimed_by c (effect chosen edits.now))) }
+        ensures state { self.new.state ≡ self.old.state }
+        ensures err { OnErr result (KeepsSame self.old self.new) }
+    {
+        let chosen = self.claim_numbers(heap, edits)?;
+        match parent_of(edits) {
+            None => Ok(chosen),
+            Some(parent) => match self.promise(parent) {
+                Ok(()) => Ok(chosen),
+                Err(AllocError) => {
+                    self.give_up(chosen.as_slice(), None);
+                    Err(AllocError)
+                }
+            },
+        }
+    }
+
+    // New numbers for what a call makes. Refused memory changes nothing.
+    fn claim_numbers(&mut self, heap: Heap, edits: &[Edit]) -> Result<Nums, AllocError>
+        requires { CanEdit edits.now }
+        ensures ok { IfOk result (HaveClaimed self.old self.new edits.now) }
+        ensures state { self.new.state ≡ self.old.state }
+        ensures err { OnErr result (KeepsSame self.old self.new) }
+    {
+        let mut chosen = Nums::new(heap);
+        for edit in edits {
+            match self.claim_number(edit, &mut chosen) {
+                Ok(()) => (),
+                Err(AllocError) => {
+                    self.give_up(chosen.as_slice(), None);
+                    return Err(AllocError);
+                }
+            }
+        }
+        Ok(chosen)
+    }
+
+    // A number for the new object of an edit, if it makes one. Refused memory changes nothing.
+    fn claim_number(&mut self, edit: &Edit, chosen: &mut Nums) -> Result<(), AllocError>
+        requires { news edit.now ≤ 1 }
+        ensures ok { OnOk result
+            (IsClaimed self.old self.new edit.now chosen.old chosen.new) }
+        ensures state { self.new.state ≡ self.old.state }
+        ensures err { OnErr result (chosen.new ≡ chosen.old) }
+        ensures same { OnErr result (KeepsSame self.old self.new) }
+    {
+        match edit {
+            Edit::MakeDirectory(_, _, _) => {
+                let dir = Dir::new(self.heap());
+                self.reserve(Object::Directory(dir), chosen)
+            }
+            Edit::MakeFile(_, _, _) => self.reserve(Object::Nothing, chosen),
+            Edit::OpenInode(_, _, _, _, _) => self.reserve(Object::Nothing, chosen),
+            _ => Ok(()),
+        }
+    }
+
+    // One new number for an object to come, behind these. Refused memory changes nothing.
+    fn reserve(&mut self, object: Object, chosen: &mut Nums) -> Result<(), AllocError>
+        requires { IsBare object }
+        ensures ok { OnOk result (IsReserved (is_some (listing_of object))
+            self.old self.new chosen.old chosen.new) }
+        ensures state { self.new.state ≡ self.old.state }
+        ensures err { OnErr result (chosen.new ≡ chosen.old) }
+        ensures same { OnErr result (KeepsSame self.old self.new) }
+    {
+        let num = self.reserve_num(object)?;
+        match chosen.push(num) {
+            Ok(()) => Ok(()),
+            Err(AllocError) => {
+                self.give_back(num);
+                Err(AllocError)
+            }
+        }
+    }
+
+    // One new number, for an object to come. Refused memory changes nothing.
+    fn reserve_num(&mut self, object: Object) -> Result<Num, AllocError>
+        requires { IsBare object }
+        ensures unused { IfOk result (λ num. get self.old.reserves num ≡ None) }
+        ensures nowhere { IfOk result (IsNowhere self.old.state) }
+        ensures kept { IfOk result (λ num.
+            KeepsMore self.old self.new (number_as (is_some (listing_of object)) num)) }
+        ensures used { IfOk result (λ num. get self.new.reserves num ≢ None) }
+        ensures stays { OnOk result (Stays self.old self.new) }
+        ensures state { self.new.state ≡ self.old.state }
+        ensures err { OnErr result (self.new ≡ self.old) }
+    {
+        call_laws::unused_numbers_are_nowhere();
+        let num = self.store.reserve_num(object)?;
+        Ok(num)
+    }
+
+    /// Gives back new numbers, and the room of a name. It takes no memory.
+    pub(crate) fn give_up(&mut self, chosen: &[Num], parent: Option<Num>)
+        requires { (bs : List Bool) × ((c : Claim)
+            → claimed_in c (with_kinds chosen.now bs) (listed parent) ≤ reserved self.old c) }
+        ensures kept { (bs : List Bool) → ((c : Claim)
+            → claimed_in c (with_kinds chosen.now bs) (listed parent) ≤ reserved self.old c)
+            → KeepsMore self.new self.old
+            (λ c. claimed_in c (with_kinds chosen.now bs) (listed parent)) }
+        ensures state { self.new.state ≡ self.old.state }
+    {
+        for num in chosen {
+            self.give_back(*num);
+        }
+        match parent {
+            Some(parent) => self.unpromise(parent),
+            None => (),
+        }
+    }
+
+    /// Gives back a number whose object is still to come. It takes no memory.
+    pub(crate) fn give_back(&mut self, num: Num)
+        requires { IsComing self.old num }
+        ensures kept { (directory : Bool) → 0 < reserved self.old (new_number directory num)
+            → KeepsMore self.new self.old (number_as directory num) }
+        ensures state { self.new.state ≡ self.old.state }
+    {
+        self.store.lose(num);
+    }
+
+    /// Promises room for one more name in a directory, which may be to come. Refused memory changes
+    /// nothing.
+    fn promise(&mut self, dir: Num) -> Result<(), AllocError>
+        requires { IsDirectory self.old.reserves dir }
+        ensures kept { OnOk result (KeepsMore self.old self.new (room_in dir)) }
+        ensures state { self.new.state ≡ self.old.state }
+        ensures err { OnErr result (self.new ≡ self.old) }
+    {
+        self.store.promise(dir)
+    }
+
+    /// Gives up the promised room of one name. It takes no memory.
+    pub(crate) fn unpromise(&mut self, dir: Num)
+        requires { 0 < reserved self.old (Room dir) }
+        ensures kept { KeepsMore self.new self.old (room_in dir) }
+        ensures state { self.new.state ≡ self.old.state }
+    {
+        self.store.release(dir);
+    }
+
+    /// Gives back all that was kept for a transaction's changes. It takes no memory.
+    pub(crate) fn give_up_all(&mut self, patches: Patches)
+        requires { (c : Claim) → claim_in patches c ≤ reserved self.old c }
+        ensures kept { KeepsMore self.new self.old (claim_in patches) }
+        ensures state { self.new.state ≡ self.old.state }
+    {
+        let Patches {
+            inodes,
+            openings,
+            ..
+        } = patches;
+        self.give_up_inodes(inodes);
+        self.give_up_openings(openings);
+    }
+
+    // Gives back what was kept for the changes of inodes.
+    fn give_up_inodes(&mut self, inodes: Inodes)
+        requires { (c : Claim) → inodes_claim inodes c ≤ reserved self.old c }
+        ensures kept { KeepsMore self.new self.old (inodes_claim inodes) }
+        ensures state { self.new.state ≡ self.old.state }
+    {
+        for (num, change) in inodes.each {
+            self.give_up_inode(num, change);
+        }
+    }
+
+    // Gives back the numbers of new descriptions.
+    fn give_up_openings(&mut self, openings: Openings)
+        requires { (c : Claim) → openings_claim openings c ≤ reserved self.old c }
+        ensures kept { KeepsMore self.new self.old (openings_claim openings) }
+        ensures state { self.new.state ≡ self.old.state }
+    {
+        for (num, opening) in openings.each {
+            match opening {
+                Opening::New(_) => self.give_back(num),
+                Opening::Kept => (),
+                Opening::Moved(_) => (),
+            }
+        }
+    }
+
+    // Gives back what was kept for the changes of one inode.
+    fn give_up_inode(&mut self, num: Num, change: Change)
+        requires { (c : Claim) → inode_claim num (net_of (Some change)) c ≤ reserved self.old c }
+        ensures kept { KeepsMore self.new self.old (inode_claim num (net_of (Some change))) }
+        ensures state { self.new.state ≡ self.old.state }
+    {
+        for _given in 0..change.promised {
+            self.unpromise(num);
+        }
+        match change.made {
+            Some(_) => self.give_back(num),
+            None => (),
+        }
+    }
+}

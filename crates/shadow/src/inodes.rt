@@ -1,0 +1,193 @@
+// What a transaction has changed of all inodes.
+ghost use Rattle.std.specs.Prelude.{◌≡◌, ◌≢◌, ◌+◌, ◌≤◌, ◌<◌, ◌^◌, [], None, OnErr, OnOk, length};
+ghost use Rattle.std.specs.Prelude.{option_copied};
+ghost use Rattle.std.specs.List.Sorted.{IsStrictlyIncreasing};
+ghost use Rattle.ids.specs.declared.limits.TheConstants.{LARGEST_FILE};
+ghost use Rattle.shadow.specs.Patches.{kept_at, net_at, numbers_in};
+ghost use Rattle.shadow.specs.Notes.{At, IsCut, IsMade, IsNamed, IsUnnamed, IsWritten, SameInodes};
+
+use crate::change::{Change, Contents, Made};
+use heap::Heap;
+use ids::{Name, Num};
+use std::alloc::AllocError;
+use std::collections::BTreeMap;
+use std::marker::Model;
+
+/// The changes of all inodes, by their numbers.
+#[derive(Drop)]
+pub(crate) struct Inodes {
+    heap: Heap,
+    pub(crate) each: BTreeMap<Num, Change, Heap>,
+}
+
+impl Model for Inodes {
+    ghost use Rattle.std.specs.Prelude.{ℕ, List};
+    ghost use Rattle.shadow.specs.declared.change.Change.{Change as Changed};
+
+    ghost Value = { List (ℕ × Changed) };
+
+    ghost view = { λ c. c.each.entries };
+}
+
+impl Inodes {
+    /// Nothing is changed. It takes no memory.
+    pub(crate) fn new(heap: Heap) -> Inodes
+        ensures { result ≡ [] }
+    {
+        Inodes {
+            heap,
+            each: BTreeMap::new(heap),
+        }
+    }
+
+    /// What is changed of an inode, where something may be. It takes no memory.
+    pub(crate) fn get(&self, num: Num) -> Option<&Change>
+        ensures { option_copied result ≡ kept_at self.now num }
+    {
+        self.each.get(&num)
+    }
+
+    /// Makes a place for what will be changed of an inode. Refused memory changes nothing.
+    pub(crate) fn make_place(&mut self, num: Num) -> Result<(), AllocError>
+        ensures same { SameInodes self.old self.new }
+        ensures ok { OnOk result (kept_at self.new num ≢ None) }
+    {
+        let heap = self.heap;
+        if self.get(num).is_some() {
+            return Ok(());
+        }
+        self.each.insert(num, Change::new(heap))?;
+        Ok(())
+    }
+
+    /// Makes a place where one name more can be counted that was given to the inode. Refused memory
+    /// changes nothing.
+    pub(crate) fn make_named(&mut self, num: Num) -> Result<(), AllocError>
+        ensures same { SameInodes self.old self.new }
+        ensures ok { OnOk result (kept_at self.new num ≢ None) }
+        ensures count { OnOk result ((net_at self.new num).named + 1 < 2 ^ 64) }
+    {
+        self.make_place(num)?;
+        match self.get(num) {
+            Some(change) if change.named < usize::MAX => Ok(()),
+            _ => Err(AllocError),
+        }
+    }
+
+    /// Makes a place where one name more can be counted that was taken from the inode. Refused
+    /// memory changes nothing.
+    pub(crate) fn make_unnamed(&mut self, num: Num) -> Result<(), AllocError>
+        ensures same { SameInodes self.old self.new }
+        ensures ok { OnOk result (kept_at self.new num ≢ None) }
+        ensures count { OnOk result ((net_at self.new num).unnamed + 1 < 2 ^ 64) }
+    {
+        self.make_place(num)?;
+        match self.get(num) {
+            Some(change) if change.unnamed < usize::MAX => Ok(()),
+            _ => Err(AllocError),
+        }
+    }
+
+    /// Notes what a name in a directory gives now, where there is a place for it. Refused memory
+    /// changes nothing.
+    pub(crate) fn note_name(
+        &mut self,
+        dir: Num,
+        name: Name,
+        given: Option<Num>,
+    ) -> Result<(), AllocError>
+        requires { kept_at self.old dir ≢ None }
+        ensures ok { OnOk result (At dir (IsNamed name given) self.old self.new) }
+        ensures err { OnErr result (SameInodes self.old self.new) }
+    {
+        let heap = self.heap;
+        match self.each.get_mut(&dir) {
+            Some(change) => change.note_name(heap, name, given),
+            None => unreachable!(),
+        }
+    }
+
+    /// Notes bytes that are written into a file, where there is a place for it. Refused memory
+    /// changes nothing that shows.
+    pub(crate) fn write(
+        &mut self,
+        file: Num,
+        place: usize,
+        bytes: &[u8],
+        before: usize,
+    ) -> Result<(), AllocError>
+        requires place { kept_at self.old file ≢ None }
+        requires small { place + length bytes.now ≤ LARGEST_FILE }
+        ensures ok { OnOk result (At file (IsWritten place bytes.now before) self.old self.new) }
+        ensures err { OnErr result (SameInodes self.old self.new) }
+    {
+        let heap = self.heap;
+        match self.each.get_mut(&file) {
+            Some(change) => change.write(heap, place, bytes, before),
+            None => unreachable!(),
+        }
+    }
+
+    /// Notes a file's length, where there is a place for it. Refused memory changes nothing that
+    /// shows.
+    pub(crate) fn cut(&mut self, file: Num, before: usize, after: usize) -> Result<(), AllocError>
+        requires place { kept_at self.old file ≢ None }
+        requires small { after ≤ LARGEST_FILE }
+        ensures ok { OnOk result (At file (IsCut before after) self.old self.new) }
+        ensures err { OnErr result (SameInodes self.old self.new) }
+    {
+        let heap = self.heap;
+        match self.each.get_mut(&file) {
+            Some(change) => change.cut(heap, before, after),
+            None => unreachable!(),
+        }
+    }
+
+    /// Notes that an object is new, in its place. It takes no memory.
+    pub(crate) fn note_made(&mut self, num: Num, what: Made)
+        requires place { kept_at self.old num ≢ None }
+        requires count { (net_at self.old num).named + 1 < 2 ^ 64 }
+        ensures { At num (IsMade what) self.old self.new }
+    {
+        let heap = self.heap;
+        match self.each.get_mut(&num) {
+            Some(change) => change.note_made(heap, what),
+            None => unreachable!(),
+        }
+    }
+
+    /// Notes that a name was taken from an inode, in its place. It takes no memory.
+    pub(crate) fn note_unnamed(&mut self, num: Num)
+        requires place { kept_at self.old num ≢ None }
+        requires count { (net_at self.old num).unnamed + 1 < 2 ^ 64 }
+        ensures { At num IsUnnamed self.old self.new }
+    {
+        match self.each.get_mut(&num) {
+            Some(change) => change.note_unnamed(),
+            None => unreachable!(),
+        }
+    }
+
+    /// The numbers of the blocks of a file into which bytes were written, rising; none where the
+    /// file was not written. It takes no memory.
+    pub(crate) fn changed(&self, num: Num) -> &[u32]
+        ensures value { result.now ≡ numbers_in (net_at self.now num).contents }
+        ensures rising { IsStrictlyIncreasing result.now }
+    {
+        match self.get(num) {
+            Some(change) => changed_in(&change.contents),
+            None => &[],
+        }
+    }
+}
+
+fn changed_in(contents: &Contents) -> &[u32]
+    ensures value { result.now ≡ numbers_in contents.now }
+    ensures rising { IsStrictlyIncreasing result.now }
+{
+    match contents {
+        Contents::Bytes(_fresh, bytes) => bytes.changed(),
+        Contents::Names(_fresh, _names) => &[],
+        Contents::Same => &[],
+    }
+}

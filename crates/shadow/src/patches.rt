@@ -1,0 +1,261 @@
+// All that a transaction has changed, object by object.
+ghost use Rattle.std.specs.Prelude.{◌≡◌, ◌≢◌, ◌+◌, ◌≤◌, ◌∷◌, [], ℕ, length, OnErr, OnOk};
+ghost use Rattle.ids.specs.declared.limits.TheConstants.{LARGEST_FILE};
+ghost use Rattle.model.specs.Changes.{Unname_directory, Put_bytes, Cut, news, number, at_start};
+ghost use Rattle.shadow.specs.Notes.{SamePatches};
+ghost use Rattle.std.specs.List.{AllByRecursion, sum_by};
+ghost use Rattle.shadow.specs.Steps.{AreApart, CanEdit, HasPlaces, IsBelow, IsFirst, IsLast};
+ghost use Rattle.shadow.specs.Steps.{TakesAll, TakesIn, is_last, making};
+
+use crate::change::Made;
+use crate::inodes::Inodes;
+use crate::opening::Openings;
+use crate::slots::Slots;
+use heap::Heap;
+use ids::{Bytes, Edit, Fd, Mode, Name, Num, Nums, Pid, Which};
+use objects::Description;
+use std::alloc::AllocError;
+use std::marker::Model;
+
+/// All that a transaction has changed, by the numbers of inodes, of descriptions and of processes,
+/// and what has lost a name, in order.
+#[derive(Drop)]
+pub(crate) struct Patches {
+    pub(crate) inodes: Inodes,
+    pub(crate) openings: Openings,
+    pub(crate) slots: Slots,
+    pub(crate) lost: Vec<Num, Heap>,
+}
+
+impl Model for Patches {
+    ghost use Rattle.shadow.specs.Patches.{Patches};
+
+    ghost Value = { Patches };
+
+    ghost view = { λ p. record {
+      inodes = p.inodes;
+      openings = p.openings;
+      slots = p.slots;
+      lost = p.lost.items;
+    } };
+}
+
+// The number of an object that was there, or that the call makes.
+pub(crate) fn number(chosen: &[Num], which: Which) -> Num
+    requires { IsBelow (length chosen.now) which }
+    ensures { result ≡ number chosen.now which }
+{
+    match which {
+        Which::There(num) => num,
+        Which::Made(place) => chosen[place as usize],
+    }
+}
+
+// A description that is open on an inode, at its beginning.
+pub(crate) fn at_start(inode: Num, mode: Mode) -> Description
+    ensures { result ≡ at_start inode mode }
+{
+    Description {
+        inode,
+        reading: mode.reading,
+        writing: mode.writing,
+        appending: mode.appending,
+        offset: 0,
+    }
+}
+
+impl Patches {
+    /// Nothing is changed. It takes no memory.
+    pub(crate) fn new(heap: Heap) -> Patches
+        ensures { result ≡ record { inodes = []; openings = []; slots = []; lost = [] } }
+    {
+        Patches {
+            inodes: Inodes::new(heap),
+            openings: Openings::new(heap),
+            slots: Slots::new(heap),
+            lost: Vec::new(heap),
+        }
+    }
+
+    /// Makes places for an edit of a description or a slot. Refused memory changes nothing.
+    pub(crate) fn make_places(&mut self, chosen: &[Num], edit: &Edit) -> Result<(), AllocError>
+        requires { (m : ℕ) × IsLast m edit.now × (m + news edit.now ≤ length chosen.now) }
+        ensures same { SamePatches self.old self.new }
+        ensures ok { OnOk result (HasPlaces chosen.now edit.now self.new) }
+    {
+        match edit {
+            Edit::OpenInode(place, _, _, pid, _) => {
+                self.openings.make_place(chosen[*place as usize])?;
+                self.slots.make_place(*pid)
+            }
+            Edit::SetOffset(description, _) => self.openings.make_place(*description),
+            Edit::ClearSlot(pid, _, _) => self.slots.make_place(*pid),
+            _ => unreachable!(),
+        }
+    }
+
+    /// Notes an edit of a description or a slot, in its places. It takes no memory.
+    pub(crate) fn note_last(&mut self, chosen: &[Num], edit: &Edit)
+        requires last { (m : ℕ) × IsLast m edit.now × (m + news edit.now ≤ length chosen.now) }
+        requires places { HasPlaces chosen.now edit.now self.old }
+        ensures { TakesIn chosen.now edit.now self.old self.new }
+    {
+        match edit {
+            Edit::OpenInode(place, inode, mode, pid, fd) => {
+                let description = chosen[*place as usize];
+                let opened = at_start(number(chosen, *inode), *mode);
+                self.openings.open(description, opened);
+                self.slots.note(*pid, *fd, Some(description));
+            }
+            Edit::SetOffset(description, place) => self.openings.move_to(*description, *place),
+            Edit::ClearSlot(pid, fd, _) => self.slots.note(*pid, *fd, None),
+            _ => unreachable!(),
+        }
+    }
+
+    /// Notes an edit of a name or of a file's bytes. Refused memory changes nothing that shows.
+    pub(crate) fn note_first(&mut self, chosen: &[Num], edit: Edit) -> Result<(), AllocError>
+        requires first { IsFirst edit }
+        requires count { news edit ≤ length chosen.now }
+        requires apart { AreApart chosen.now edit }
+        ensures ok { OnOk result (TakesIn chosen.now edit self.old self.new) }
+        ensures err { OnErr result (SamePatches self.old self.new) }
+        ensures openings { self.new.openings ≡ self.old.openings }
+        ensures slots { self.new.slots ≡ self.old.slots }
+    {
+        match edit {
+            Edit::MakeDirectory(parent, name, _place) => {
+                self.make(Made::Directory, parent, name, chosen[0])
+            }
+            Edit::MakeFile(parent, name, _place) => {
+                self.make(Made::File, parent, name, chosen[0])
+            }
+            Edit::UnnameDirectory(parent, name, num) => self.unname(parent, name, num),
+            Edit::PutBytes(file, place, bytes, before) => {
+                self.write(file, place, &bytes, before)
+            }
+            Edit::Cut(file, before, after) => self.cut(file, before, after),
+            _ => unreachable!(),
+        }
+    }
+
+    // A new object with its name.
+    fn make(&mut self, what: Made, parent: Num, name: Name, num: Num) -> Result<(), AllocError>
+        requires { num ≢ parent }
+        ensures ok { OnOk result (TakesIn (num ∷ []) (making what parent name) self.old self.new) }
+        ensures err { OnErr result (SamePatches self.old self.new) }
+        ensures openings { self.new.openings ≡ self.old.openings }
+        ensures slots { self.new.slots ≡ self.old.slots }
+    {
+        self.inodes.make_named(num)?;
+        self.inodes.make_place(parent)?;
+        self.inodes.note_name(parent, name, Some(num))?;
+        self.inodes.note_made(num, what);
+        Ok(())
+    }
+
+    // A name goes.
+    fn unname(&mut self, parent: Num, name: Name, num: Num) -> Result<(), AllocError>
+        ensures ok { OnOk result
+            (TakesIn [] (Unname_directory parent name num) self.old self.new) }
+        ensures err { OnErr result (SamePatches self.old self.new) }
+        ensures openings { self.new.openings ≡ self.old.openings }
+        ensures slots { self.new.slots ≡ self.old.slots }
+    {
+        self.lost.reserve(1)?;
+        self.inodes.make_unnamed(num)?;
+        self.inodes.make_place(parent)?;
+        self.inodes.note_name(parent, name, None)?;
+        self.inodes.note_unnamed(num);
+        self.lost.push(num).unwrap();
+        Ok(())
+    }
+
+    // Bytes are written into a file.
+    fn write(&mut self, file: Num, place: u32, bytes: &Bytes, before: u32) -> Result<(), AllocError>
+        requires { place + length bytes.now ≤ LARGEST_FILE }
+        ensures ok { OnOk result
+            (TakesIn [] (Put_bytes file place bytes.now before) self.old self.new) }
+        ensures err { OnErr result (SamePatches self.old self.new) }
+        ensures openings { self.new.openings ≡ self.old.openings }
+        ensures slots { self.new.slots ≡ self.old.slots }
+    {
+        self.inodes.make_place(file)?;
+        self.inodes
+            .write(file, place as usize, bytes.as_slice(), before as usize)
+    }
+
+    // A file's length changes.
+    fn cut(&mut self, file: Num, before: u32, after: u32) -> Result<(), AllocError>
+        requires { after ≤ LARGEST_FILE }
+        ensures ok { OnOk result (TakesIn [] (Cut file before after) self.old self.new) }
+        ensures err { OnErr result (SamePatches self.old self.new) }
+        ensures openings { self.new.openings ≡ self.old.openings }
+        ensures slots { self.new.slots ≡ self.old.slots }
+    {
+        self.inodes.make_place(file)?;
+        self.inodes.cut(file, before as usize, after as usize)
+    }
+
+    /// Notes what a call changes. Refused memory changes nothing that shows.
+    pub(crate) fn note(
+        &mut self,
+        chosen: &[Num],
+        mut edits: Vec<Edit, Heap>,
+    ) -> Result<(), AllocError>
+        requires kinds { CanEdit edits.items }
+        requires count { length chosen.now ≡ sum_by news edits.items }
+        requires apart { AllByRecursion (AreApart chosen.now) edits.items }
+        ensures ok { OnOk result (TakesAll chosen.now edits.entry.items self.old self.new) }
+        ensures err { OnErr result (SamePatches self.old self.new) }
+    {
+        match edits.pop() {
+            None => Ok(()),
+            Some(last) => match edits.pop() {
+                None => self.note_one(chosen, last),
+                Some(first) => self.note_two(chosen, first, last),
+            },
+        }
+    }
+
+    // A call with one edit.
+    fn note_one(&mut self, chosen: &[Num], edit: Edit) -> Result<(), AllocError>
+        requires kinds { CanEdit (edit ∷ []) }
+        requires count { length chosen.now ≡ news edit }
+        requires apart { AreApart chosen.now edit }
+        ensures ok { OnOk result (TakesAll chosen.now (edit ∷ []) self.old self.new) }
+        ensures err { OnErr result (SamePatches self.old self.new) }
+    {
+        if is_last(&edit) {
+            self.make_places(chosen, &edit)?;
+            self.note_last(chosen, &edit);
+            Ok(())
+        } else {
+            self.note_first(chosen, edit)
+        }
+    }
+
+    // A call with two edits: the places for the second are made first.
+    fn note_two(&mut self, chosen: &[Num], first: Edit, last: Edit) -> Result<(), AllocError>
+        requires kinds { CanEdit (first ∷ last ∷ []) }
+        requires count { length chosen.now ≡ news first + news last }
+        requires apart { AreApart chosen.now first }
+        ensures ok { OnOk result (TakesAll chosen.now (first ∷ last ∷ []) self.old self.new) }
+        ensures err { OnErr result (SamePatches self.old self.new) }
+    {
+        self.make_places(chosen, &last)?;
+        self.note_first(chosen, first)?;
+        self.note_last(chosen, &last);
+        Ok(())
+    }
+}
+
+// Whether an edit is of a description or a slot.
+pub(crate) fn is_last(edit: &Edit) -> bool
+    ensures { result ≡ is_last edit.now }
+{
+    matches!(
+        edit,
+        Edit::OpenInode(_, _, _, _, _) | Edit::SetOffset(_, _) | Edit::ClearSlot(_, _, _)
+    )
+}

@@ -1,0 +1,78 @@
+// The changes of slots, made of the processes.
+ghost use Rattle.std.specs.Prelude.{◌≡◌, ◌≢◌, ◌≤◌, ◌<◌, [], ℕ, length};
+ghost use Rattle.ids.specs.declared.limits.TheConstants.{DESCRIPTORS};
+ghost use Rattle.model.specs.FiniteMap.{entries, get};
+ghost use Rattle.shadow.specs.Laid.{AreReslotted, IsReslotted, IsSlotted, table_in};
+ghost use Rattle.shadow.specs.Stored.{numbered};
+ghost use Rattle.shadow.specs.Patches.{kept_at, slots_in};
+
+use crate::slots::Slots;
+use crate::stable::Process;
+use fdtable::Patch;
+use heap::Heap;
+use ids::{DESCRIPTORS, Fd, Num, Pid};
+use store::Store;
+
+/// Makes what is changed of slots; what these gave before stands in the place of the changes. It
+/// takes no memory.
+pub(crate) fn lay_slots(store: &mut Store, processes: &mut Vec<Process, Heap>, slots: &mut Slots)
+    requires { (pid : ℕ) → slots_in (kept_at slots.old pid) ≢ []
+        → (0 < pid) × (pid ≤ length processes.old.items) }
+    ensures { AreReslotted slots.old slots.new processes.old.items processes.new.items
+        store.old store.new }
+{
+    for i in 0..slots.each.len() {
+        let pid = slots.each[i].0;
+        let former = lay_table(store, processes, pid, &slots.each[i].1);
+        slots.each[i].1 = former;
+    }
+}
+
+// Makes what is changed of one process's slots, and answers what they gave before.
+fn lay_table(
+    store: &mut Store,
+    processes: &mut Vec<Process, Heap>,
+    pid: Pid,
+    patch: &Patch,
+) -> Patch
+    requires { entries patch.now ≢ [] → (0 < pid) × (pid ≤ length processes.old.items) }
+    ensures { IsReslotted pid patch.now result processes.old.items processes.new.items
+        store.old store.new }
+{
+    let mut former = Patch::new();
+    for number in 0..DESCRIPTORS as u32 {
+        if let Some(given) = patch.get(Fd(number)) {
+            former.note(Fd(number), lay_slot(store, processes, pid, Fd(number), given));
+        }
+    }
+    former
+}
+
+/// One slot gives this from now on; what it gave is answered. It takes no memory.
+pub(crate) fn lay_slot(
+    store: &mut Store,
+    processes: &mut Vec<Process, Heap>,
+    pid: Pid,
+    fd: Fd,
+    given: Option<Num>,
+) -> Option<Num>
+    requires pid { (0 < pid) × (pid ≤ length processes.old.items) }
+    requires fd { fd < DESCRIPTORS }
+    ensures former { result ≡ get (table_in (get (numbered processes.old.items) pid)) fd }
+    ensures laid { IsSlotted pid fd given processes.old.items processes.new.items
+        store.old store.new }
+{
+    let process = &mut processes[pid.0 as usize - 1];
+    let former = process.table.get(fd);
+    match given {
+        Some(description) => process.table.set(fd, description),
+        None => process.table.clear(fd),
+    }
+    if let Some(description) = given {
+        store.add_holder(description);
+    }
+    if let Some(description) = former {
+        store.remove_holder(description);
+    }
+    former
+}

@@ -1,0 +1,192 @@
+//! Files and open file descriptions: their bytes, offsets and counts.
+//! A number that is of no such object does not change.
+ghost use Rattle.std.specs.Prelude.{◌≡◌, ◌+◌, ◌<◌, ◌^◌, IsSome, Some, option_and_then, option_map};
+ghost use Rattle.slab.specs.Slab.{get, Updates};
+ghost use Rattle.store.specs.Headers.{at_place, place_at};
+ghost use Rattle.store.specs.Numbers.{coming, held, present};
+ghost use Rattle.store.specs.Places.{changed_file, changed_opened, file_in, file_of, holders_of};
+ghost use Rattle.store.specs.Places.{less_holders, less_openings, more_holders, more_openings};
+ghost use Rattle.store.specs.Places.{moved_to, opened_in, opened_of, openings_of, with_bytes};
+ghost use Rattle.store.specs.Places.{with_file, with_opened};
+ghost use Rattle.store.specs.declared.Object.TheVariants.{Nothing};
+ghost use Rattle.store.specs.declared.Place.{Place};
+
+use crate::{Header, Object, Stage};
+use heap::Heap;
+use objects::FileData;
+use slab::Slab;
+use std::mem::replace;
+
+/// A number for an object to come stands for this one from now on, which is shown.
+pub fn settle_at(headers: &mut Slab<Header, Heap>, key: usize, object: Object)
+    requires { place_at headers.old key ≡ Some (coming Nothing) }
+    ensures { Updates headers.old headers.new key
+        (option_map (at_place (λ p. present object)) (get headers.old key)) }
+{
+    if let Some(header) = headers.get_mut(key) {
+        header.place.stage = Stage::Held;
+        header.place.object = object;
+    }
+}
+
+/// Puts other bytes in the place of a file's, which are answered.
+pub fn swap_file_at(headers: &mut Slab<Header, Heap>, key: usize, bytes: FileData) -> FileData
+    requires { IsSome (option_and_then file_of (held (place_at headers.old key))) }
+    ensures former { option_map (λ f. f.bytes) (file_in (place_at headers.old key)) ≡ Some result }
+    ensures swapped { Updates headers.old headers.new key
+        (option_map (at_place (with_file (with_bytes bytes))) (get headers.old key)) }
+{
+    match headers.get_mut(key) {
+        Some(header) => swap_file_in(&mut header.place.object, bytes),
+        None => unreachable!(),
+    }
+}
+
+fn swap_file_in(object: &mut Object, bytes: FileData) -> FileData
+    requires { IsSome (file_of object.old) }
+    ensures former { option_map (λ f. f.bytes) (file_of object.old) ≡ Some result }
+    ensures swapped { object.new ≡ changed_file (with_bytes bytes) object.old }
+{
+    match object {
+        Object::File(file) => replace(&mut file.bytes, bytes),
+        Object::Directory(_) => unreachable!(),
+        Object::Description(_) => unreachable!(),
+        Object::Nothing => unreachable!(),
+    }
+}
+
+/// The next read or write of a description begins at this place.
+pub fn set_offset_at(headers: &mut Slab<Header, Heap>, key: usize, place: u32)
+    ensures { Updates headers.old headers.new key
+        (option_map (at_place (with_opened (moved_to place))) (get headers.old key)) }
+{
+    if let Some(header) = headers.get_mut(key) {
+        set_offset_in(&mut header.place.object, place);
+    }
+}
+
+fn set_offset_in(object: &mut Object, place: u32)
+    ensures { object.new ≡ changed_opened (moved_to place) object.old }
+{
+    if let Object::Description(opened) = object {
+        opened.description.offset = place;
+    }
+}
+
+/// How many descriptions are counted as open on a file.
+pub fn openings_at(headers: &Slab<Header, Heap>, key: usize) -> u128
+    ensures { result ≡ openings_of (file_in (place_at headers.now key)) }
+{
+    match headers.get(key) {
+        Some(header) => openings_in(&header.place.object),
+        None => 0,
+    }
+}
+
+fn openings_in(object: &Object) -> u128
+    ensures { result ≡ openings_of (file_of object.now) }
+{
+    match object {
+        Object::File(file) => file.openings,
+        Object::Directory(_) => 0,
+        Object::Description(_) => 0,
+        Object::Nothing => 0,
+    }
+}
+
+/// Counts one description more that is open on a file.
+pub fn add_opening_at(headers: &mut Slab<Header, Heap>, key: usize)
+    requires { openings_of (file_in (place_at headers.old key)) + 1 < 2 ^ 128 }
+    ensures { Updates headers.old headers.new key
+        (option_map (at_place (with_file more_openings)) (get headers.old key)) }
+{
+    if let Some(header) = headers.get_mut(key) {
+        add_opening_in(&mut header.place.object);
+    }
+}
+
+fn add_opening_in(object: &mut Object)
+    requires { openings_of (file_of object.old) + 1 < 2 ^ 128 }
+    ensures { object.new ≡ changed_file more_openings object.old }
+{
+    if let Object::File(file) = object {
+        file.openings += 1;
+    }
+}
+
+/// Counts one description less that is open on a file.
+pub fn remove_opening_at(headers: &mut Slab<Header, Heap>, key: usize)
+    ensures { Updates headers.old headers.new key
+        (option_map (at_place (with_file less_openings)) (get headers.old key)) }
+{
+    if let Some(header) = headers.get_mut(key) {
+        remove_opening_in(&mut header.place.object);
+    }
+}
+
+fn remove_opening_in(object: &mut Object)
+    ensures { object.new ≡ changed_file less_openings object.old }
+{
+    if let Object::File(file) = object {
+        file.openings = file.openings.saturating_sub(1);
+    }
+}
+
+/// How many descriptors are counted that name a description.
+pub fn holders_at(headers: &Slab<Header, Heap>, key: usize) -> u128
+    ensures { result ≡ holders_of (opened_in (place_at headers.now key)) }
+{
+    match headers.get(key) {
+        Some(header) => holders_in(&header.place.object),
+        None => 0,
+    }
+}
+
+fn holders_in(object: &Object) -> u128
+    ensures { result ≡ holders_of (opened_of object.now) }
+{
+    match object {
+        Object::Description(opened) => opened.holders,
+        Object::Directory(_) => 0,
+        Object::File(_) => 0,
+        Object::Nothing => 0,
+    }
+}
+
+/// Counts one descriptor more that names a description.
+pub fn add_holder_at(headers: &mut Slab<Header, Heap>, key: usize)
+    requires { holders_of (opened_in (place_at headers.old key)) + 1 < 2 ^ 128 }
+    ensures { Updates headers.old headers.new key
+        (option_map (at_place (with_opened more_holders)) (get headers.old key)) }
+{
+    if let Some(header) = headers.get_mut(key) {
+        add_holder_in(&mut header.place.object);
+    }
+}
+
+fn add_holder_in(object: &mut Object)
+    requires { holders_of (opened_of object.old) + 1 < 2 ^ 128 }
+    ensures { object.new ≡ changed_opened more_holders object.old }
+{
+    if let Object::Description(opened) = object {
+        opened.holders += 1;
+    }
+}
+
+/// Counts one descriptor less that names a description.
+pub fn remove_holder_at(headers: &mut Slab<Header, Heap>, key: usize)
+    ensures { Updates headers.old headers.new key
+        (option_map (at_place (with_opened less_holders)) (get headers.old key)) }
+{
+    if let Some(header) = headers.get_mut(key) {
+        remove_holder_in(&mut header.place.object);
+    }
+}
+
+fn remove_holder_in(object: &mut Object)
+    ensures { object.new ≡ changed_opened less_holders object.old }
+{
+    if let Object::Description(opened) = object {
+        opened.holders = opened.holders.saturating_sub(1);
+    }
+}
