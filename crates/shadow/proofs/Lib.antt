@@ -34,3 +34,4 @@ mod FiledOn
 mod Alike
 mod GivingOpened
 mod KeptDirectories
+pub mod Committing
