@@ -36,3 +36,4 @@ mod GivingOpened
 mod KeptDirectories
 pub mod Committing
 pub mod Laws
+pub mod Finished
