@@ -26,6 +26,7 @@ mod InOrder
 mod Carrying
 mod Overwriting
 mod Reopening
+mod OpeningNew
 mod Edited
 mod Bytes
 mod Making
