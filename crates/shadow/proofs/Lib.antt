@@ -27,6 +27,7 @@ mod Carrying
 mod Overwriting
 mod Reopening
 mod OpeningNew
+mod OpeningMoved
 mod Edited
 mod Bytes
 mod Making

@@ -1,12 +1,8 @@
-use Rattle.std.proofs.Common.{rules, ◌≡◌, ◌≢◌, ◌≤◌, ◌<◌, ◌^◌, ◌⊎◌, ℕ, false, true, Some, ◌+◌, ◌-◌, ◌*◌, length, ◌/◌, ◌%◌, Bool, nat_eq, nat_lt, List, [], ◌∷◌, ◌++◌, slice_index_or, slice_set, bit_and, bit_or, Fits, w8, w32, w64, Bor, MutBor}
-use Rattle.model.specs.FiniteMap.{get}
-use Rattle.store.specs.Numbers.{coming}
-use Rattle.store.specs.declared.Object.TheVariants.{Nothing}
-use Rattle.shadow.specs.Laid.{AreReady, AreReopened, IsCarried, IsReady, IsReadyFile, IsReopened, IsWrittenOver}
-use Rattle.shadow.specs.declared.opening.Opening.TheVariants.{New}
-use Rattle.shadow.specs.Patches.{is_new, kept_at, opening_at}
+use Rattle.std.proofs.Common.{sym, subst}
+use Rattle.shadow.specs.Laid.{IsReopened}
+use Rattle.shadow.proofs.OpeningMoved.{opening_moved}
 use Rattle.shadow.proofs.laying.lay_opening.Goals as goal
 
--- src/laying.rt:122:1
 pub returns-in-Moved : goal.returns-in-Moved
-returns-in-Moved c = ?
+returns-in-Moved c = subst (λ o. IsReopened c.args.num o c.args.store.now c.set_offset.new.self) (sym c.in-Moved.is)
+    (opening_moved c.args.store.now c.args.num c.in-Moved.place c.set_offset.new.self c.set_offset.ensures.moved)
