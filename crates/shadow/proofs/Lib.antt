@@ -28,6 +28,7 @@ mod Overwriting
 mod Reopening
 mod OpeningNew
 mod OpeningMoved
+mod OpeningsInTurn
 mod Edited
 mod Bytes
 mod Making
