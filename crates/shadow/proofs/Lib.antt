@@ -26,6 +26,9 @@ mod InOrder
 mod Carrying
 mod Overwriting
 mod Reopening
+mod OpeningNew
+mod OpeningMoved
+mod OpeningsInTurn
 mod Edited
 mod Bytes
 mod Making
