@@ -34,4 +34,5 @@ mod FiledOn
 mod Alike
 mod GivingOpened
 mod KeptDirectories
+mod Carried_over
 pub mod Committing
