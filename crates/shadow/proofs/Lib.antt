@@ -34,5 +34,6 @@ mod FiledOn
 mod Alike
 mod GivingOpened
 mod KeptDirectories
+mod Becoming
 mod Carried_over
 pub mod Committing
