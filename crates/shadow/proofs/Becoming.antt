@@ -1,9 +1,9 @@
 -- What the changes of an inode make of its place: the inode to come, staged, with its counts, and with what was claimed used.
-use Rattle.std.proofs.Common.{◌≡◌, ◌≢◌, ℕ, ◌+◌, ◌-◌, ◌<◌, ◌≤◌, Bool, true, false, List, [], Option, Some, None, is_some, refl, sym, ap, subst, ◌∙◌, arith}
+use Rattle.std.proofs.Common.{◌≡◌, ℕ, ◌+◌, ◌-◌, ◌≤◌, Bool, true, false, [], Option, Some, None, is_some, refl, sym, ap, subst, ◌∙◌, arith}
 use Rattle.std.specs.Option.{option_and_then, option_map}
 use Rattle.std.specs.Cmp.Lexicographic.{nat_list_cmp_total}
-use Rattle.model.specs.FiniteMap.{empty, entries, get, get-empty, same_map}
-use Rattle.model.specs.State.{A_directory, A_file, Description, Directory, File, Inode, kind, mapped}
+use Rattle.model.specs.FiniteMap.{empty, entries, get-empty, same_map}
+use Rattle.model.specs.State.{Description, Directory, File, Inode, kind, mapped}
 use Rattle.model.proofs.Laws.{name_exact}
 use Rattle.call_laws.proofs.Laws.{some_same}
 use Rattle.dirlist.specs.Listing.{Listing}
@@ -12,20 +12,19 @@ use Rattle.file_shadow.specs.View.{FileChanges, view_over}
 use Rattle.objects.specs.Contents.{Content}
 use Rattle.store.specs.Laid.{laid, laid_listing}
 use Rattle.store.specs.Numbers.{coming, held, present}
-use Rattle.store.specs.Places.{file_in, installed, listing_in, openings_of, with_listing}
+use Rattle.store.specs.Places.{file_in, listing_in, openings_of}
 use Rattle.store.specs.Shown.{description_of, inode_of}
 use Rattle.store.specs.declared.OpenFile.{OpenFile}
 use Rattle.store.specs.declared.Place.{Place}
 use Rattle.store.specs.declared.Object.TheVariants.{Directory as Kept_directory, File as Kept_file, Nothing}
-use Rattle.shadow.specs.declared.change.Change.{Change}
 use Rattle.shadow.specs.declared.change.Contents.{Contents}
 use Rattle.shadow.specs.declared.change.Contents.TheVariants.{Same, Names, Bytes}
 use Rattle.shadow.specs.declared.change.Made.{Made}
 use Rattle.shadow.specs.declared.change.Made.TheVariants.{Directory as New_one, File as New_file}
 use Rattle.shadow.specs.Agrees.{IsOver}
 use Rattle.shadow.specs.Claims.{Claim, New_directory, Number, Room, as_count, is_directory_made, is_file_made, number_of}
-use Rattle.shadow.specs.Laid.{IsCarriedBy, IsReadyContents, IsReadyFile, IsWrittenOver, bytes_in, named_by, shown_if}
-use Rattle.shadow.specs.Patches.{bytes_before, form_of, names_before, of_bytes, of_names, patched}
+use Rattle.shadow.specs.Laid.{IsReadyFile, IsWrittenOver, bytes_in, named_by, shown_if}
+use Rattle.shadow.specs.Patches.{of_bytes, of_names, patched}
 use Rattle.shadow.specs.Stored.{IsStaged}
 use Rattle.shadow.proofs.Edited.{holders_seen, openings_seen}
 use Rattle.shadow.proofs.Kept_on.{kept_by}
@@ -149,7 +148,7 @@ shown_before None place is = is
 
 module _ (n promised : ℕ) (before after : Option Place) (staged : IsStaged before) where
   -- a directory
-  names_become : (made : Option Made) (fresh : Bool) (notes : Notes) → IsOver (mapped kind (inode_seen before)) made (of_names fresh) → ((c : Claim) → number_of c ≡ n → claim_of made promised c ≤ kept_by c before)
+  pub names_become : (made : Option Made) (fresh : Bool) (notes : Notes) → IsOver (mapped kind (inode_seen before)) made (of_names fresh) → ((c : Claim) → number_of c ≡ n → claim_of made promised c ≤ kept_by c before)
       → (listing : Listing) → option_map (shown_if (is_some made)) before ≡ Some (present (Kept_directory listing)) → promised ≤ listing.promised → after ≡ option_map (named_by (is_some made) notes promised) before
       → Becomes (Names fresh notes) made promised before after
   names_become (Some New_file) fresh notes over covers listing there room is = absurd cc
@@ -184,7 +183,7 @@ module _ (n promised : ℕ) (before after : Option Place) (staged : IsStaged bef
       is_fresh e = cc
 
   -- a file
-  bytes_become : (made : Option Made) (fresh : Bool) (bytes : FileChanges) (room : Content) → IsOver (mapped kind (inode_seen before)) made (of_bytes fresh) → ((c : Claim) → number_of c ≡ n → claim_of made promised c ≤ kept_by c before)
+  pub bytes_become : (made : Option Made) (fresh : Bool) (bytes : FileChanges) (room : Content) → IsOver (mapped kind (inode_seen before)) made (of_bytes fresh) → ((c : Claim) → number_of c ≡ n → claim_of made promised c ≤ kept_by c before)
       → IsReadyFile (is_some made) before room bytes.extent.end → IsWrittenOver bytes before after → Becomes (Bytes fresh bytes) made promised before after
   bytes_become (Some New_one) fresh bytes room over covers ready is = absurd cc
   bytes_become None fresh bytes room over covers ready is =

@@ -35,5 +35,6 @@ mod Alike
 mod GivingOpened
 mod KeptDirectories
 mod Becoming
-mod Carried_over
+mod Promised
 pub mod Committing
+pub mod Carried

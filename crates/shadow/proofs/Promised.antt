@@ -1,5 +1,5 @@
--- Where room is claimed in a directory an inode is left, so that its changes are not none.
-use Rattle.std.proofs.Common.{◌≡◌, ◌≢◌, ℕ, ◌+◌, ◌<◌, ◌≤◌, ◌==◌, List, [], ◌∷◌, ◌++◌, Option, Some, None, cond, flat_map, nat_cmp, refl, sym, ap, ◌∙◌, arith, ne_eqb, inl, inr, ◌⊎◌}
+-- Room is promised only in what has changed: where a name comes, an inode is left in any state, so that the changes of its directory are not none.
+use Rattle.std.proofs.Common.{◌≡◌, ◌≢◌, ℕ, ◌+◌, ◌<◌, ◌==◌, List, [], ◌∷◌, ◌++◌, Option, Some, None, flat_map, nat_cmp, refl, sym, ap, ◌∙◌, arith, ne_eqb, inl, inr, ◌⊎◌}
 use Rattle.std.proofs.lemmas.Bool.{cases_eq}
 use Rattle.std.proofs.lemmas.List.Concat.{flat_map-cons}
 use Rattle.std.proofs.lemmas.List.Sums.{sum_by-append, sum_by-cons}
