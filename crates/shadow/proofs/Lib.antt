@@ -37,6 +37,9 @@ mod FiledOn
 mod Alike
 mod GivingOpened
 mod KeptDirectories
+mod Becoming
+mod Promised
 pub mod Committing
 pub mod Laws
 pub mod Finished
+pub mod Carried
