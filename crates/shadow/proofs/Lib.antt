@@ -35,3 +35,4 @@ mod Alike
 mod GivingOpened
 mod KeptDirectories
 pub mod Committing
+pub mod Ready
