@@ -89,7 +89,7 @@ abbrev pub IsReadyFile : Bool → Option Place → Content → ℕ → Type 0
 IsReadyFile true before room end = (before ≡ Some (coming Nothing)) × (end ≤ room.room)
 IsReadyFile false before room end =
     (file : OpenFile) × (before ≡ Some (present (A_file file)))
-        × (end ≤ max (length file.bytes.bytes) room.room)
+    × (end ≤ max (length file.bytes.bytes) room.room)
 
 abbrev pub IsReadyContents : Numbers → ℕ → Change → Contents → Type 0
 IsReadyContents s n c Same = c.made ≡ None
