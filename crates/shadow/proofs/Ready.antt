@@ -16,6 +16,7 @@ use Rattle.file_shadow.specs.View.{FileChanges, len_on, view_over}
 use Rattle.file_shadow.proofs.Views.{length-view_over}
 use Rattle.objects.specs.Contents.{Content}
 use Rattle.call_laws.specs.WellFormed.{CanBeNamed, WellFormed}
+use Rattle.freeing_laws.specs.Sweep.{AllFit}
 use Rattle.freeing_laws.proofs.Laws.{sweep_is_tidy_lem}
 use Rattle.store.specs.Numbers.{Numbers, coming, present}
 use Rattle.store.specs.Places.{may_be_named}
@@ -29,17 +30,17 @@ use Rattle.store.specs.declared.Object.TheVariants.{Directory as Kept_directory}
 use Rattle.store.specs.declared.Object.TheVariants.{File as Kept_file}
 use Rattle.store.specs.declared.Object.TheVariants.{Description as Kept_description, Nothing}
 use Rattle.store.proofs.Laws.{get-chosen, get-inodes_by, laid_is}
-use Rattle.shadow.specs.Agrees.{IsOver}
-use Rattle.shadow.specs.Claims.{Claim, New_directory, Number, Room, as_count, claim_in, claimed}
-use Rattle.shadow.specs.Claims.{coming_directory, coming_other, is_directory_made, is_file_made}
-use Rattle.shadow.specs.Claims.{or_zero, reserved, room_of}
-use Rattle.shadow.specs.Committed.{Reserve}
-use Rattle.shadow.specs.Laid.{AreReady, IsReadyContents, IsReadyDirectory, IsReadyFile}
-use Rattle.shadow.specs.Laid.{reserves_of, shown_if}
+use Rattle.shadow.specs.Agrees.{Agrees, IsOver}
+use Rattle.shadow.specs.Claims.{Claim, Covers, New_directory, Number, Room, as_count, claim_in}
+use Rattle.shadow.specs.Claims.{claimed, coming_directory, coming_other, is_directory_made}
+use Rattle.shadow.specs.Claims.{is_file_made, or_zero, reserved, room_of}
+use Rattle.shadow.specs.Committed.{Committed, Reserve}
+use Rattle.shadow.specs.Laid.{AreReady, IsCarried, IsCarriedBy, IsReadyContents}
+use Rattle.shadow.specs.Laid.{IsReadyDirectory, IsReadyFile, reserves_of, shown_if}
 use Rattle.shadow.specs.Patches.{Net, Patches, added_by, bytes_before, form_of, is_new, kept_at}
 use Rattle.shadow.specs.Patches.{names_before, net_at, net_of, no_change, of_bytes, of_names}
 use Rattle.shadow.specs.Patches.{opening_at, patched, slots_in}
-use Rattle.shadow.specs.Stored.{IsStaged, committed_of, reserve_in, state_of}
+use Rattle.shadow.specs.Stored.{IsStaged, Sound, committed_of, reserve_in, state_of}
 use Rattle.shadow.specs.declared.change.Change.{Change}
 use Rattle.shadow.specs.declared.change.Contents.{Contents}
 use Rattle.shadow.specs.declared.change.Contents.TheVariants.{Same, Names, Bytes}
@@ -260,6 +261,17 @@ record Fits (ps : List Process) (s : Numbers) (ds : List Effect) (n : ℕ) (net 
   grown : length (file_of (all_done ds (state_of ps s)) n)
       ≤ max (length (bytes_seen (get s.places n))) net.room
 
+-- what a commit finds, by what it sees of the changes and of the committed state
+pub can_commit : (ps : List Process) (s : Numbers) (logged ds : List Effect) (p noted : Patches)
+    (stable : Committed) → Sound ps s → Agrees logged noted → logged ≡ ds → p ≡ noted
+    → committed_of ps s ≡ stable → AllFit ds stable.state → Covers stable ds → CanCommit ps s ds p
+can_commit ps s logged ds p noted stable sound agrees same alike is fits covers = record {
+  sound = sound;
+  agrees = subst (λ ds. Agrees ds p) same (subst (Agrees logged) (sym alike) agrees);
+  fits = subst (λ (c : Committed). AllFit ds c.state) (sym is) fits;
+  covers = subst (λ c. Covers c ds) (sym is) covers;
+}
+
 module _ {ps : List Process} {s : Numbers} {ds : List Effect} {p : Patches}
     (can : CanCommit ps s ds p) where
   abbrev done : Kernel
@@ -425,3 +437,20 @@ module _ {ps : List Process} {s : Numbers} {ds : List Effect} {p : Patches}
       ≤ coming_other (reserve_seen (get s.places d)) = file_kept d in
       nothing_there (get s.places d) (net_at p.inodes d).made (net_at p.inodes d).contents
       (to_come d new) (under_at d) (omega arith)
+
+  -- so it is to come still after the changes of inodes
+  pub still_to_come : (after : Numbers)
+      → ((n : ℕ) → IsCarried (kept_at p.inodes n) (get s.places n) (get after.places n))
+      → (d : ℕ) → is_new (opening_at p.openings d) ≡ true
+      → get after.places d ≡ Some (coming Nothing)
+  still_to_come after carried d new = by_change (kept_at p.inodes d) refl ∙ to_come d new
+    where
+      by_change : (o : Option Change) → kept_at p.inodes d ≡ o
+          → get after.places d ≡ get s.places d
+      by_change None is = subst (λ o. IsCarried o (get s.places d) (get after.places d)) is
+          (carried d)
+      by_change (Some c) is =
+          let same : c.contents ≡ Same =
+          sym (ap (λ o. (net_of o).contents) is) ∙ (same_where_new d new).0 in
+          subst (λ w. IsCarriedBy c w (get s.places d) (get after.places d)) same
+          (subst (λ o. IsCarried o (get s.places d) (get after.places d)) is (carried d))
