@@ -43,3 +43,4 @@ pub mod Committing
 pub mod Laws
 pub mod Finished
 pub mod Carried
+pub mod Ready
