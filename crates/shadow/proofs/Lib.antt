@@ -1,5 +1,6 @@
 mod Outcomes
 mod NamesNoted
+mod Holding
 mod InodesKept
 mod Slots_over
 mod Openings_at
