@@ -3,6 +3,7 @@ mod NamesNoted
 mod Holding
 mod InodesKept
 mod Slots_over
+mod Slotting
 mod Openings_at
 mod Seeing
 mod Noted
