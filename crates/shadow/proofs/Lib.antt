@@ -1,7 +1,10 @@
 mod Outcomes
 mod NamesNoted
+mod Holding
 mod InodesKept
 mod Slots_over
+mod Slotting
+mod Tabling
 mod Openings_at
 mod Seeing
 mod Noted
