@@ -32,6 +32,8 @@ mod OpeningsInTurn
 mod Edited
 mod Bytes
 mod Making
+mod Freed
+mod Unnaming
 mod BlocksNoted
 mod FiledOn
 mod Alike
