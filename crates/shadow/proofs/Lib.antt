@@ -34,6 +34,7 @@ mod Bytes
 mod Making
 mod Freed
 mod Unnaming
+mod Slotting
 mod BlocksNoted
 mod FiledOn
 mod Alike
