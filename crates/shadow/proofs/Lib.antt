@@ -35,6 +35,7 @@ mod Making
 mod Freed
 mod Unnaming
 mod Slotting
+mod OpeningMade
 mod BlocksNoted
 mod FiledOn
 mod Alike

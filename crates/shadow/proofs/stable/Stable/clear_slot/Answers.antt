@@ -61,3 +61,8 @@ returns-in_default-clause-state c = λ pipes fits.
     None (sym c.in_default.is ∙ c.lay_slot-former.ensures.former) t
     (frees_nothing qs t (cleared_holds ps qs s t c.args.pid c.args.fd pipes c.self.invariant c.lay_slot-former.ensures.laid c.args.self.now c.self.view_is fits
     c.lay_slot-former.result c.lay_slot-former.ensures.former))
+
+pub returns-in_default-clause-kept : goal.returns-in_default-clause-kept
+returns-in_default-clause-kept c =
+    let ps = c.self.inside.processes.items in let qs = c.lay_slot-former.new.processes.items in let s = c.self.inside.store in let t = c.lay_slot-former.new.store in
+    same_of ps qs s c.args.self.now c.self.view_is t (slotted_keeps ps qs s t c.args.pid c.args.fd None c.lay_slot-former.ensures.laid)
