@@ -34,7 +34,7 @@ mod Bytes
 mod Making
 mod Freed
 mod Unnaming
-mod Slotting
+mod SlotInState
 mod OpeningMade
 mod BlocksNoted
 mod FiledOn

@@ -23,7 +23,7 @@ use Rattle.shadow.proofs.Freed.{IsMade, freed_sound, freed_state, made_holds}
 use Rattle.shadow.proofs.Kept_on.{kept_by, kept_is}
 use Rattle.shadow.proofs.Making.{other_to_come}
 use Rattle.shadow.proofs.Reopening.{reserve_at}
-use Rattle.shadow.proofs.Slotting.{alive_process, frees_nothing, kept_met, met_by, slotted_keeps, slotted_state, sound_low}
+use Rattle.shadow.proofs.SlotInState.{alive_process, frees_nothing, kept_met, met_by, slotted_keeps, slotted_state, sound_low}
 
 -- what a new description claims: its number
 abbrev pub opening_edit : ℕ → Mode → ℕ → ℕ → Edit

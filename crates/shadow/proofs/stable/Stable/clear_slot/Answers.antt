@@ -5,7 +5,7 @@ use Rattle.freeing_laws.specs.Sweep.{closed}
 use Rattle.shadow.specs.Committed.{Committed}
 use Rattle.shadow.specs.Laid.{Frees}
 use Rattle.shadow.proofs.Edited.{same_of}
-use Rattle.shadow.proofs.Slotting.{alive_process, cleared_holds, cleared_sound, cleared_state, frees_nothing, slotted_keeps}
+use Rattle.shadow.proofs.SlotInState.{alive_process, cleared_holds, cleared_sound, cleared_state, frees_nothing, slotted_keeps}
 use Rattle.shadow.proofs.stable.Stable.clear_slot.Goals as goal
 
 pub lay_slot-former-requires-clause-pid : goal.lay_slot-former-requires-clause-pid
