@@ -1,7 +1,9 @@
 mod Outcomes
 mod NamesNoted
+mod Holding
 mod InodesKept
 mod Slots_over
+mod Slotting
 mod Openings_at
 mod Seeing
 mod Noted
