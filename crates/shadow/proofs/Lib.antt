@@ -38,6 +38,7 @@ mod Freed
 mod Unnaming
 mod SlotInState
 mod OpeningMade
+mod OffsetInState
 mod BlocksNoted
 mod FiledOn
 mod Alike
