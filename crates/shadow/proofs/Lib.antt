@@ -35,6 +35,11 @@ mod OpeningsInTurn
 mod Edited
 mod Bytes
 mod Making
+mod Freed
+mod Unnaming
+mod SlotInState
+mod OpeningMade
+mod OffsetInState
 mod BlocksNoted
 mod FiledOn
 mod Alike
