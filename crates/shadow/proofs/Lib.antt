@@ -34,4 +34,6 @@ mod FiledOn
 mod Alike
 mod GivingOpened
 mod KeptDirectories
+pub mod Cleared
 pub mod Committing
+pub mod Stubs
