@@ -36,4 +36,5 @@ mod GivingOpened
 mod KeptDirectories
 pub mod Cleared
 pub mod Committing
+pub mod Composed
 pub mod Stubs
