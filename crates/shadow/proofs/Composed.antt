@@ -34,7 +34,7 @@ module _ {ps : List Process} {s mid : Numbers} {ds : List Effect} {p : Patches}
   pub has_inodes : HasInodes ps s mid ds p
   has_inodes =
       carried can (ready can)
-      (λ d new. ((same_where_new can d new).0, (same_where_new can d new).1, to_come can d new)) inodes
+      (λ d new. (to_come can d new, (same_where_new can d new).0, (same_where_new can d new).1)) inodes
 
   module _ {qs : List Process} {after last : Numbers} {former : List (ℕ × Given)}
       (openings : AreReopened p.openings mid after)

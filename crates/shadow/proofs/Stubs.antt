@@ -33,8 +33,8 @@ same_where_new can = ?
 pub carried : {ps : List Process} {s after : Numbers} {ds : List Effect} {p : Patches}
     → CanCommit ps s ds p → AreReady p.inodes s
     → ((d : ℕ) → is_new (opening_at p.openings d) ≡ true
-    → ((net_at p.inodes d).contents ≡ Same) × ((net_at p.inodes d).made ≡ None)
-    × (get s.places d ≡ Some (coming Nothing)))
+    → (get s.places d ≡ Some (coming Nothing))
+    × ((net_at p.inodes d).contents ≡ Same) × ((net_at p.inodes d).made ≡ None))
     → AreCarried s after p → HasInodes ps s after ds p
 carried can = ?
 
