@@ -1,7 +1,8 @@
 -- When all changes are made and what nothing leads to is gone, the state is tidied and sound, and
 -- keeps all that was not claimed.
 use Rattle.std.proofs.Common.{◌≡◌, ◌≢◌, ◌⊎◌, ℕ, ◌+◌, ◌<◌, ◌==◌, true, cond, List, [], ◌∷◌, ◌++◌}
-use Rattle.std.proofs.Common.{Option, Some, None, refl, sym, ap, subst, ◌∙◌, inl, inr, arith, eq-eqb}
+use Rattle.std.proofs.Common.{Option, Some, None, refl, sym, ap, subst, ◌∙◌, inl, inr, arith}
+use Rattle.std.proofs.Common.{eq-eqb}
 use Rattle.std.proofs.lemmas.Bool.{cases_eq}
 use Rattle.std.proofs.lemmas.List.Sums.{sum_by-cons, sum_by-append}
 use Rattle.std.specs.Map.{keys_of}
@@ -22,7 +23,7 @@ use Rattle.shadow.specs.declared.opening.Opening.{Opening}
 use Rattle.shadow.specs.declared.opening.Opening.TheVariants.{Kept, New, Moved}
 use Rattle.shadow.specs.Claims.{Claim, claimed}
 use Rattle.shadow.specs.Laid.{AreReopened, AreReslotted, Frees, given_in, kept_in, table_in}
-use Rattle.shadow.specs.Patches.{Patches, is_new, opening_at, or_kept, reopened}
+use Rattle.shadow.specs.Patches.{Patches, is_new, kept_at, opening_at, or_kept, reopened}
 use Rattle.shadow.specs.Stored.{Sound, numbered, state_of}
 use Rattle.shadow.proofs.Committing.{CanCommit, HasAll, HasInodes}
 use Rattle.shadow.proofs.Edited.{tidied_of}
@@ -32,12 +33,14 @@ use Rattle.shadow.proofs.Turning.{closed_append}
 -- what stands in one of two lists stands in both together
 has_left : (n : ℕ) (ms ns : List ℕ) → 0 < times n ms → 0 < times n (ms ++ ns)
 has_left n ms ns has =
-    let both : times n (ms ++ ns) ≡ times n ms + times n ns = sum_by-append (λ v. cond (v == n) 1 0) ms ns in
+    let both : times n (ms ++ ns) ≡ times n ms + times n ns =
+        sum_by-append (λ v. cond (v == n) 1 0) ms ns in
     omega arith
 
 has_right : (n : ℕ) (ms ns : List ℕ) → 0 < times n ns → 0 < times n (ms ++ ns)
 has_right n ms ns has =
-    let both : times n (ms ++ ns) ≡ times n ms + times n ns = sum_by-append (λ v. cond (v == n) 1 0) ms ns in
+    let both : times n (ms ++ ns) ≡ times n ms + times n ns =
+        sum_by-append (λ v. cond (v == n) 1 0) ms ns in
     omega arith
 
 -- what is first stands in a list, and so does what stands in the rest
@@ -60,7 +63,11 @@ pub new_is_key : (openings : List (ℕ × Opening)) (d : ℕ) → is_new (openin
 new_is_key [] d is = absurd (true_is_false (sym is))
 new_is_key ((n, opening) ∷ rest) d is = elim (cases_eq n d) [
   | inl same ↦ has_first d n (keys_of rest) same
-  | inr away ↦ has_rest d n (keys_of rest) (new_is_key rest d (ap (λ o. is_new (or_kept o)) (sym (later_kept n opening rest d (λ e. away (sym e)))) ∙ is))
+  | inr away ↦ (
+      let later : kept_at ((n, opening) ∷ rest) d ≡ kept_at rest d =
+          later_kept n opening rest d (λ e. away (sym e)) in
+      has_rest d n (keys_of rest)
+      (new_is_key rest d (ap (λ o. is_new (or_kept o)) (sym later) ∙ is)))
 ]
 
 module _ (ps qs : List Process) (s after last : Numbers) (ds : List Effect) (p : Patches)
@@ -97,7 +104,8 @@ module _ (ps qs : List Process) (s after last : Numbers) (ds : List Effect) (p :
   of_before : (d : ℕ) → get before.descriptions d ≢ None
       → (is_held done d ≡ true) ⊎ (0 < times d closing)
   of_before d there =
-      let slot : HasSlot before d = left_is_tidy_lem.held before d (tidied_of ps s can.sound) there in
+      let slot : HasSlot before d =
+          left_is_tidy_lem.held before d (tidied_of ps s can.sound) there in
       elim (of_slot slot.pid slot.descriptor d slot.is.gives) [
         | inl held ↦ inl held
         | inr has ↦ inr (has_left d (given_in former) (keys_of p.openings) has)
@@ -106,17 +114,21 @@ module _ (ps qs : List Process) (s after last : Numbers) (ds : List Effect) (p :
   description_left : (d : ℕ) → get done.descriptions d ≢ None
       → (is_held done d ≡ true) ⊎ (0 < times d closing)
   description_left d there =
-      by_opening (opening_at p.openings d) refl (λ none. there (can.agrees.descriptions before d ∙ none))
+      by_opening (opening_at p.openings d) refl
+      (λ none. there (can.agrees.descriptions before d ∙ none))
     where
       by_opening : (o : Opening) → opening_at p.openings d ≡ o
           → reopened o (get before.descriptions d) ≢ None
           → (is_held done d ≡ true) ⊎ (0 < times d closing)
       by_opening Kept e there = of_before d there
-      by_opening (Moved place) e there = of_before d (λ none. there (ap (mapped (at_offset place)) none))
+      by_opening (Moved place) e there =
+          of_before d (λ none. there (ap (mapped (at_offset place)) none))
       by_opening (New it) e there =
-          inr (has_right d (given_in former) (keys_of p.openings) (new_is_key p.openings d (ap is_new e)))
+          inr (has_right d (given_in former) (keys_of p.openings)
+          (new_is_key p.openings d (ap is_new e)))
 
-  inode_left : (n : ℕ) → get done.inodes n ≢ None → (is_reached done n ≡ true) ⊎ (0 < times n p.lost)
+  inode_left : (n : ℕ) → get done.inodes n ≢ None
+      → (is_reached done n ≡ true) ⊎ (0 < times n p.lost)
   inode_left n there =
       elim (left_is_tidy_lem.inodes before ds (tidied_of ps s can.sound) can.fits n there) [
         | inl is ↦ inl is
@@ -154,7 +166,8 @@ cleared {ps} {qs} {s} {mid} {after} {last} {one} {two} {three} {ds} {p} {former}
     state =
         third.state
         ∙ ap (free_inodes p.lost) (second.state
-        ∙ ap (all_closed (keys_of p.openings)) (first.state ∙ ap (all_closed (given_in former)) all.state)
+        ∙ ap (all_closed (keys_of p.openings)) (first.state
+        ∙ ap (all_closed (given_in former)) all.state)
         ∙ sym (closed_append (given_in former) (keys_of p.openings) done))
         ∙ left_is_tidy_lem.closed (given_in former ++ keys_of p.openings) p.lost done
         (are_left ps qs s after last ds p former can slots all)
@@ -166,7 +179,9 @@ cleared {ps} {qs} {s} {mid} {after} {last} {one} {two} {three} {ds} {p} {former}
     sound = record {
       root = third.holds.root;
       well = subst WellFormed (sym state) (calls_are_lawful_lem.well_tidy done well);
-      tidied = subst (λ (k : Kernel). tidy k ≡ k) (sym state) (calls_are_lawful_lem.tidy_twice done well);
+      tidied =
+          subst (λ (k : Kernel). tidy k ≡ k) (sym state)
+          (calls_are_lawful_lem.tidy_twice done well);
       staged = third.holds.staged;
       counted = third.holds.counted;
     }

@@ -34,7 +34,9 @@ module _ {ps : List Process} {s mid : Numbers} {ds : List Effect} {p : Patches}
   pub has_inodes : HasInodes ps s mid ds p
   has_inodes =
       carried can (ready can)
-      (λ d new. (to_come can d new, (same_where_new can d new).0, (same_where_new can d new).1)) inodes
+      (λ d new.
+      let same = same_where_new can d new in
+      (to_come can d new, same.0, same.1)) inodes
 
   module _ {qs : List Process} {after last : Numbers} {former : List (ℕ × Given)}
       (openings : AreReopened p.openings mid after)
@@ -65,7 +67,8 @@ module _ {ps : List Process} {s mid : Numbers} {ds : List Effect} {p : Patches}
           pub has_state : {v : Committed} → committed_of ps s ≡ v
               → state_of qs three ≡ tidy (all_done ds v.state)
           has_state {v} view =
-              state_is ps qs s v view (state_of qs three) (λ (k : Kernel). tidy (all_done ds k)) all.1
+              state_is ps qs s v view (state_of qs three)
+              (λ (k : Kernel). tidy (all_done ds k)) all.1
 
           pub has_kept : {v : Committed} → committed_of ps s ≡ v
               → KeepsMore (committed_of qs three) v (λ c. claimed c ds)
