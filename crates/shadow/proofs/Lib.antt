@@ -38,3 +38,4 @@ pub mod Cleared
 pub mod Committing
 pub mod Composed
 pub mod Stubs
+pub mod Ready

@@ -83,12 +83,13 @@ pub record IsReadyDirectory (s : Numbers) (n : ℕ) (c : Change) (notes : Notes)
   pub numbers : AllByRecursion
       (λ g. IfSome g.1 (λ m. may_be_named (get s.places m) ≡ true)) (entries notes)
 
--- Those of a file can be made: it is to come, and there is room for it; or it is shown, and it has
--- room, or there is room to move it to.
+-- Those of a file can be made: it is to come, and there is room for it; or it is shown, and it
+-- reaches so far, or there is room to move it to.
 abbrev pub IsReadyFile : Bool → Option Place → Content → ℕ → Type 0
 IsReadyFile true before room end = (before ≡ Some (coming Nothing)) × (end ≤ room.room)
 IsReadyFile false before room end =
-    (file : OpenFile) × (before ≡ Some (present (A_file file))) × (end ≤ max file.bytes.room room.room)
+    (file : OpenFile) × (before ≡ Some (present (A_file file)))
+    × (end ≤ max (length file.bytes.bytes) room.room)
 
 abbrev pub IsReadyContents : Numbers → ℕ → Change → Contents → Type 0
 IsReadyContents s n c Same = c.made ≡ None
