@@ -31,7 +31,7 @@ fn edit(
     let ones = [1u8; 3000];
     let bytes = part(&ones, 0, count as usize);
     let place = place as usize;
-    shadow.write(heap, place, bytes).expect(rt, "memory");
+    shadow.write(place, bytes).expect(rt, "memory");
     plain.write_at(place, bytes).expect(rt, "memory");
     shadow.cut(len as usize);
     plain.cut(len as usize).expect(rt, "memory");
@@ -89,7 +89,7 @@ fn a_cut_and_a_growth_hide_what_was_there(rt: HostRuntime) {
     let heap = heap::open(rt.alloc()).expect(&rt, "memory");
     let mut file = filled(&rt, heap, b'x');
     let mut shadow = FileShadow::new(heap);
-    shadow.write(heap, 1500, b"y").expect(&rt, "memory");
+    shadow.write(1500, b"y").expect(&rt, "memory");
     shadow.cut(100);
     shadow.cut(2000);
     file.promise(shadow.room()).expect(&rt, "memory");
@@ -110,7 +110,7 @@ fn with_byte(rt: &impl Abort, heap: Heap, file: &mut FileData, place: u16, byte:
 {
     let mut shadow = FileShadow::new(heap);
     shadow
-        .write(heap, place as usize, &[byte; 1])
+        .write(place as usize, &[byte; 1])
         .expect(rt, "memory");
     file.promise(shadow.room()).expect(rt, "memory");
     shadow
@@ -138,7 +138,7 @@ fn shadows_merge_block_by_block(rt: HostRuntime) {
 // Whether a byte is written, whether its block is then the one that is changed, how many are, and
 // the length.
 fn written(heap: Heap, shadow: &mut FileShadow, file: &FileData) -> (bool, bool, usize, usize) {
-    let done = shadow.write(heap, 9000, b"z").is_ok();
+    let done = shadow.write(9000, b"z").is_ok();
     let changed = shadow.changed();
     (
         done,
@@ -181,7 +181,7 @@ fn a_view_is_right_for_what_others_left(rt: HostRuntime) {
     let heap = heap::open(rt.alloc()).expect(&rt, "memory");
     let mut file = filled(&rt, heap, b'a');
     let mut shadow = FileShadow::new(heap);
-    shadow.write(heap, 10, b"yy").expect(&rt, "memory");
+    shadow.write(10, b"yy").expect(&rt, "memory");
     file.write_at(8, b"oooooo").expect(&rt, "memory");
     assert_reads(&rt, heap, &shadow, &file, 7, b"aooyyooa");
     file.cut(11).expect(&rt, "memory");

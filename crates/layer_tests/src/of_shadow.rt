@@ -1,6 +1,8 @@
-// Numbers for new directories, and refused memory.
-ghost use Rattle.std.specs.Prelude.{◌≡◌, []};
+// Numbers for new objects, and refused memory.
+ghost use Rattle.std.specs.Prelude.{◌≡◌, [], Some};
+ghost use Rattle.model.specs.State.{A_directory, Kernel, kind_of};
 
+use crate::refused::is_refused;
 use heap::Heap;
 use ids::{Edit, Name, Num, Priority};
 use look::Look;
@@ -8,7 +10,10 @@ use shadow::{Shadow, Stable, View};
 use std::alloc::AllocError;
 use std::process::Abort;
 
-fn first_stable(rt: &impl Abort, heap: Heap) -> Stable {
+#[tactic(auto, using(crate::proofs::Root::root_is_directory))]
+fn first_stable(rt: &impl Abort, heap: Heap) -> Stable
+    ensures { kind_of result.state result.state.root ≡ Some A_directory }
+{
     let priorities = [Priority::new(3).unwrap()];
     Stable::new(heap, &priorities).expect(rt, "memory")
 }
@@ -20,48 +25,53 @@ fn added(
     shadow: &mut Shadow,
     name: &[u8],
 ) -> Result<Num, AllocError>
-    requires { shadow.old ≡ [] }
+    requires root { kind_of stable.old.state stable.old.state.root ≡ Some A_directory }
+    requires none { shadow.old ≡ [] }
+    ensures { stable.new.state ≡ stable.old.state }
 {
-    let view = View::new(stable, None);
-    stable.names_are_in_use();
-    let root = view.root();
+    stable.directories_are_kept();
+    let root = View::new(stable, None).root();
     let mut edits = Vec::new(heap);
     edits.push(Edit::MakeDirectory(root, Name::copy(heap, name)?, 0))?;
     let chosen = shadow.edit(stable, edits)?;
     Ok(chosen.as_slice()[0])
 }
 
-// Whether a new directory can be added where this request for memory is refused.
-fn tried(heap: Heap, stable: &mut Stable, request: u64) -> Result<Num, AllocError> {
+// Whether a new directory could not be added where this request for memory was refused, and the
+// number of one that is added then.
+fn added_again(rt: &impl Abort, heap: Heap, request: u64) -> (bool, Num) {
+    let mut stable = first_stable(rt, heap);
     let mut shadow = Shadow::new(heap);
     heap.refuse(request);
-    let result = added(heap, stable, &mut shadow, b"a");
+    let refused = is_refused(added(heap, &mut stable, &mut shadow, b"a"));
     heap.refuse(0);
-    result
+    let num = begun(rt, heap, &mut stable, b"b").1;
+    (refused, num)
+}
+
+// A transaction with a new directory in the root, whose number stands beside it.
+fn begun(rt: &impl Abort, heap: Heap, stable: &mut Stable, name: &[u8]) -> (Shadow, Num)
+    requires { kind_of stable.old.state stable.old.state.root ≡ Some A_directory }
+    ensures { stable.new.state ≡ stable.old.state }
+{
+    let mut shadow = Shadow::new(heap);
+    let num = added(heap, stable, &mut shadow, name).expect(rt, "memory");
+    (shadow, num)
 }
 
 #[test]
 fn refused_memory_gives_numbers_back(rt: HostRuntime) {
     let heap = heap::open(rt.alloc()).expect(&rt, "memory");
-    let mut stable = first_stable(&rt, heap);
     for request in 1..20 {
-        match tried(heap, &mut stable, request) {
-            Err(_refused) => {}
-            Ok(num) => {
-                assert!(rt; request > 3);
-                assert_eq!(rt; num, Num(1));
-                return;
-            }
+        let (refused, num) = added_again(&rt, heap, request);
+        if !refused {
+            assert!(rt; request > 3);
+            assert_eq!(rt; num, Num(2));
+            return;
         }
+        assert_eq!(rt; num, Num(1));
     }
     panic!(rt; "still refused")
-}
-
-// A transaction with a new directory in the root, whose number stands beside it.
-fn begun(rt: &impl Abort, heap: Heap, stable: &mut Stable, name: &[u8]) -> (Shadow, Num) {
-    let mut shadow = Shadow::new(heap);
-    let num = added(heap, stable, &mut shadow, name).expect(rt, "memory");
-    (shadow, num)
 }
 
 #[test]

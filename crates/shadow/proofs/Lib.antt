@@ -26,6 +26,9 @@ mod InOrder
 mod Carrying
 mod Overwriting
 mod Reopening
+mod OpeningNew
+mod OpeningMoved
+mod OpeningsInTurn
 mod Edited
 mod Bytes
 mod Making
@@ -39,3 +42,9 @@ pub mod Committing
 pub mod Composed
 pub mod Stubs
 pub mod Ready
+mod Becoming
+mod Promised
+pub mod Committing
+pub mod Laws
+pub mod Finished
+pub mod Carried

@@ -30,7 +30,7 @@ use Rattle.shadow.specs.Laid.{AreReopened, IsReopened, SameStore, reserves_of, s
 use Rattle.shadow.proofs.InOrder.{first_absent, first_kept, later_kept, not_first, rest_sorted}
 
 -- what a change of one place leaves to each of them
-over : (f : Place → Place) (s : Numbers) (n : ℕ) (P : Option Place → Type 0) → ((o : Option Place) → P o → P (option_map f o)) → (q : ℕ) → P (get s.places q) → P (get (altered f s n).places q)
+pub over : (f : Place → Place) (s : Numbers) (n : ℕ) (P : Option Place → Type 0) → ((o : Option Place) → P o → P (option_map f o)) → (q : ℕ) → P (get s.places q) → P (get (altered f s n).places q)
 over f s n P keeps q h = elim (cases_eq q n) [
   | inl same ↦ subst (λ (q : ℕ). P (get (altered f s n).places q)) (sym same) (subst P (sym (place-altered f s n)) (keeps (get s.places n) (subst (λ (q : ℕ). P (get s.places q)) same h)))
   | inr away ↦ subst P (sym (place-other f s n q away)) h
@@ -64,41 +64,41 @@ fewer_chosen f m =
     let all : len m ≡ length (entries m) = len-entries m in
     omega arith
 
-few_openings : (ps : List Process) (s : Numbers) (n : ℕ) → openings (state_of ps s) n ≤ len s.places
+pub few_openings : (ps : List Process) (s : Numbers) (n : ℕ) → openings (state_of ps s) n ≤ len s.places
 few_openings ps s n =
     let low : openings (state_of ps s) n ≤ len (descriptions s) = openings_change_lem.most_openings (state_of ps s) n in
     let fewer : len (descriptions s) ≤ len s.places = fewer_chosen description_in s.places in
     omega arith
 
 -- what is kept of a number
-reserve_at : (s : Numbers) (n : ℕ) → get (reserves_of s) n ≡ option_and_then reserve_in (get s.places n)
+pub reserve_at : (s : Numbers) (n : ℕ) → get (reserves_of s) n ≡ option_and_then reserve_in (get s.places n)
 reserve_at s n = get-chosen reserve_in s.places n
 
-reserve_as : (s t : Numbers) (n : ℕ) → option_and_then reserve_in (get t.places n) ≡ option_and_then reserve_in (get s.places n) → get (reserves_of t) n ≡ get (reserves_of s) n
+pub reserve_as : (s t : Numbers) (n : ℕ) → option_and_then reserve_in (get t.places n) ≡ option_and_then reserve_in (get s.places n) → get (reserves_of t) n ≡ get (reserves_of s) n
 reserve_as s t n same = reserve_at t n ∙ same ∙ sym (reserve_at s n)
 
-abbrev is_file : Option Object → Bool
+abbrev pub is_file : Option Object → Bool
 is_file (Some (A_file file)) = true
 is_file _ = false
 
-not_file : (opened : Opened) (file : OpenFile) → Some (A_description opened) ≡ Some (A_file file) → ⊥
+pub not_file : (opened : Opened) (file : OpenFile) → Some (A_description opened) ≡ Some (A_file file) → ⊥
 not_file opened file is = true_is_false (sym (ap is_file is))
 
-none_held : (object : Object) → None ≡ Some object → ⊥
+pub none_held : (object : Object) → None ≡ Some object → ⊥
 none_held object is = absurd cc
 
 -- a count of a file's openings changes, or it does not
-abbrev counted_if : Bool → OpenFile → OpenFile
+abbrev pub counted_if : Bool → OpenFile → OpenFile
 counted_if true file = more_openings file
 counted_if false file = file
 
-same_bytes : (b : Bool) (file : OpenFile) → (counted_if b file).bytes ≡ file.bytes
+pub same_bytes : (b : Bool) (file : OpenFile) → (counted_if b file).bytes ≡ file.bytes
 same_bytes true file = refl
 same_bytes false file = refl
 
 -- what such a change of a place leaves
 module _ (g : OpenFile → OpenFile) where
-  staged_filed : (o : Option Place) → IsStaged o → IsStaged (option_map (with_file g) o)
+  pub staged_filed : (o : Option Place) → IsStaged o → IsStaged (option_map (with_file g) o)
   staged_filed None h = h
   staged_filed (Some place) h = by_stage place.stage place.object h
     where
@@ -110,7 +110,7 @@ module _ (g : OpenFile → OpenFile) where
       by_stage Held (A_file file) h = λ is. true_is_false (ap (λ o. is_file (Some o)) is)
       by_stage Lost (A_file file) h = h
 
-  reserve_filed : (o : Option Place) → option_and_then reserve_in (option_map (with_file g) o) ≡ option_and_then reserve_in o
+  pub reserve_filed : (o : Option Place) → option_and_then reserve_in (option_map (with_file g) o) ≡ option_and_then reserve_in o
   reserve_filed None = refl
   reserve_filed (Some place) = by_object place.object
     where
@@ -121,7 +121,7 @@ module _ (g : OpenFile → OpenFile) where
       by_object Nothing = refl
 
   -- a description that is held was held
-  held_opened : (o : Option Place) (opened : Opened) → held (option_map (with_file g) o) ≡ Some (A_description opened) → held o ≡ Some (A_description opened)
+  pub held_opened : (o : Option Place) (opened : Opened) → held (option_map (with_file g) o) ≡ Some (A_description opened) → held o ≡ Some (A_description opened)
   held_opened None opened is = is
   held_opened (Some place) opened is = by_stage place.stage place.object is
     where
@@ -134,13 +134,13 @@ module _ (g : OpenFile → OpenFile) where
       by_stage Lost (A_file file) is = is
 
   -- and a file that is held was one
-  record HeldBefore (o : Option Place) (file : OpenFile) : Type 0 where
-    before : OpenFile
-    held : held o ≡ Some (A_file before)
-    is : file ≡ g before
-    count : openings_of (file_in o) ≡ before.openings
+  pub record HeldBefore (o : Option Place) (file : OpenFile) : Type 0 where
+    pub before : OpenFile
+    pub held : held o ≡ Some (A_file before)
+    pub is : file ≡ g before
+    pub count : openings_of (file_in o) ≡ before.openings
 
-  held_file : (o : Option Place) (file : OpenFile) → held (option_map (with_file g) o) ≡ Some (A_file file) → HeldBefore o file
+  pub held_file : (o : Option Place) (file : OpenFile) → held (option_map (with_file g) o) ≡ Some (A_file file) → HeldBefore o file
   held_file None file is = absurd (none_held (A_file file) is)
   held_file (Some place) file is = by_stage place.stage place.object is
     where

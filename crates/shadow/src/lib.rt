@@ -23,7 +23,7 @@ pub use stable::Stable;
 pub use view::View;
 
 /// What calls change that are answered as they were can be committed: each change fits where it
-/// stands. Proved in `proofs/Going.antt`.
+/// stands. Proved in `proofs/Laws.antt`.
 pub fn calls_can_be_committed()
     ensures { CallsCanBeCommitted }
 {}

@@ -1,24 +1,25 @@
-use Rattle.std.proofs.Common.{rules, ◌≡◌, ◌≢◌, ◌≤◌, ◌<◌, ◌^◌, ◌⊎◌, ℕ, false, true, Some, ◌+◌, ◌-◌, ◌*◌, length, ◌/◌, ◌%◌, Bool, nat_eq, nat_lt, List, [], ◌∷◌, ◌++◌, slice_index_or, slice_set, bit_and, bit_or, Fits, w8, w32, w64, Bor, MutBor}
-use Rattle.model.specs.FiniteMap.{get}
-use Rattle.store.specs.Numbers.{coming}
-use Rattle.store.specs.declared.Object.TheVariants.{Nothing}
-use Rattle.shadow.specs.Laid.{AreReady, AreReopened, IsCarried, IsReady, IsReadyFile, IsReopened, IsWrittenOver}
-use Rattle.shadow.specs.declared.opening.Opening.TheVariants.{New}
-use Rattle.shadow.specs.Patches.{is_new, kept_at, opening_at}
+use Rattle.std.proofs.Common.{◌≡◌, ◌∷◌, ◌∙◌, List, [], sym, subst, nat_cmp}
+use Rattle.std.specs.List.Sorted.{IsStrictlySortedBy}
+use Rattle.std.specs.Map.{keys_of}
+use Rattle.shadow.proofs.OpeningsInTurn.{Reopens, all_reopened, first_to_come, reopens_nothing, reopens_on}
 use Rattle.shadow.proofs.laying.lay_openings.Goals as goal
 
--- src/laying.rt:116:5
 pub loop-num-init : goal.loop-num-init
-loop-num-init c = ?
+loop-num-init c =
+    let s = c.args.store.now in
+    let is : c.into_iter-num-iterator.result ≡ c.args.openings.now = c.into_iter-num-iterator.ensures.into_iter_gives.0 ∙ c.openings.view_is in
+    subst (Reopens s s c.args.openings.now) (sym is)
+    (reopens_nothing s c.args.openings.now c.requires (subst (λ es. IsStrictlySortedBy nat_cmp (keys_of es)) c.openings.view_is c.into_iter-num-iterator.ensures.into_iter_gives.5))
 
--- src/laying.rt:117:9
+left : (c : goal.After-lay_opening-arg-in-loop-num-2-1) → Reopens c.args.store.now c.loop-num.store c.args.openings.now ((c.in-Some.num.now, c.in-Some.opening.now) ∷ c.next.new.self)
+left c = subst (Reopens c.args.store.now c.loop-num.store c.args.openings.now) c.in-Some.ensures.steps c.loop-num.invariant
+
 pub lay_opening-requires : goal.lay_opening-requires
-lay_opening-requires c = ?
+lay_opening-requires c = first_to_come c.in-Some.num.now c.in-Some.opening.now c.next.new.self c.loop-num.store (left c).coming
 
--- src/laying.rt:116:5
 pub loop-num-preserved : goal.loop-num-preserved
-loop-num-preserved c = ?
+loop-num-preserved c =
+    reopens_on c.args.store.now c.loop-num.store c.args.openings.now c.in-Some.num.now c.in-Some.opening.now c.next.new.self (left c.before) c.lay_opening.new.store c.lay_opening.ensures
 
--- src/laying.rt:111:1
 pub returns : goal.returns
-returns c = ?
+returns c = all_reopened c.args.store.now c.loop-num.store c.args.openings.now (subst (Reopens c.args.store.now c.loop-num.store c.args.openings.now) c.in-None.ensures.steps.0 c.loop-num.invariant)

@@ -1,18 +1,26 @@
-use Rattle.std.proofs.Common.{rules, ◌≡◌, ◌≢◌, ◌≤◌, ◌<◌, ◌^◌, ◌⊎◌, ℕ, false, true, Some, ◌+◌, ◌-◌, ◌*◌, length, ◌/◌, ◌%◌, Bool, nat_eq, nat_lt, List, [], ◌∷◌, ◌++◌, slice_index_or, slice_set, bit_and, bit_or, Fits, w8, w32, w64, Bor, MutBor}
-use Rattle.model.specs.FiniteMap.{get}
-use Rattle.store.specs.Numbers.{coming}
-use Rattle.store.specs.declared.Object.TheVariants.{Nothing}
-use Rattle.shadow.specs.Laid.{AreReady, AreReopened, IsCarried, IsReady, IsReadyFile, IsReopened, IsWrittenOver}
-use Rattle.shadow.specs.declared.opening.Opening.TheVariants.{New}
-use Rattle.shadow.specs.Patches.{is_new, kept_at, opening_at}
+use Rattle.std.proofs.Common.{◌≡◌, ◌<◌, ◌≤◌, ◌^◌, ℕ, true, false, refl, sym, subst, ap, ◌∙◌, arith}
+use Rattle.model.specs.State.{Description}
+use Rattle.store.specs.Numbers.{Numbers}
+use Rattle.store.specs.Places.{altered, more_openings, openings_at, with_file}
+use Rattle.store.proofs.Laws.{altered-same, with_place}
+use Rattle.shadow.proofs.OpeningNew.{new_place, not_counted, opening_new}
+use Rattle.shadow.proofs.Reopening.{counted_if}
 use Rattle.shadow.proofs.laying.open.Goals as goal
 
--- src/laying.rt:134:1
 pub returns-then-openings-lt340282366920938463463374607431768211455 :
     goal.returns-then-openings-lt340282366920938463463374607431768211455
-returns-then-openings-lt340282366920938463463374607431768211455 c = ?
+returns-then-openings-lt340282366920938463463374607431768211455 c =
+    opening_new c.args.store.now c.args.num c.args.description true c.add_opening.new.self c.requires c.numbers_are_few.ensures
+    (c.add_opening.ensures.counted ∙ ap (λ (m : Numbers). altered (with_file more_openings) m c.description.inside.inode) c.install_as.ensures.installed
+    ∙ ap (λ (it : Description). altered (with_file more_openings) (with_place c.args.store.now c.args.num (new_place c.args.description)) it.inode) c.description.view_is)
+    (λ e. cc)
 
--- src/laying.rt:134:1
 pub returns-else-openings-lt340282366920938463463374607431768211455 :
     goal.returns-else-openings-lt340282366920938463463374607431768211455
-returns-else-openings-lt340282366920938463463374607431768211455 c = ?
+returns-else-openings-lt340282366920938463463374607431768211455 c =
+    opening_new c.args.store.now c.args.num c.args.description false c.install_as.new.self c.requires c.numbers_are_few.ensures
+    (c.install_as.ensures.installed ∙ sym (altered-same (with_file (counted_if false)) (with_place c.args.store.now c.args.num (new_place c.args.description)) c.args.description.inode not_counted))
+    (λ e. let same : c.openings.result ≡ openings_at (with_place c.args.store.now c.args.num (new_place c.args.description)) c.args.description.inode =
+    c.openings.ensures ∙ ap (λ (m : Numbers). openings_at m c.description.inside.inode) c.install_as.ensures.installed
+    ∙ ap (λ (it : Description). openings_at (with_place c.args.store.now c.args.num (new_place c.args.description)) it.inode) c.description.view_is in
+    let high : 340282366920938463463374607431768211455 ≤ c.openings.result = c.if-openings-lt340282366920938463463374607431768211455.false in omega arith)
