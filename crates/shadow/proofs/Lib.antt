@@ -1,7 +1,9 @@
 mod Outcomes
 mod NamesNoted
+mod Holding
 mod InodesKept
 mod Slots_over
+mod Slotting
 mod Openings_at
 mod Seeing
 mod Noted
@@ -32,6 +34,10 @@ mod OpeningsInTurn
 mod Edited
 mod Bytes
 mod Making
+mod Freed
+mod Unnaming
+mod SlotInState
+mod OpeningMade
 mod BlocksNoted
 mod FiledOn
 mod Alike
