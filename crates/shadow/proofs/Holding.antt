@@ -144,7 +144,7 @@ module _ (g : Opened → Opened) where
     }
 
 -- how often a number stands in a list of one
-once_here : (d : ℕ) → times d (d ∷ []) ≡ 1
+pub once_here : (d : ℕ) → times d (d ∷ []) ≡ 1
 once_here d =
     let sum : times d (d ∷ []) ≡ cond {A = ℕ} (d == d) 1 0 + times d [] = sum_by-cons (λ v. cond {A = ℕ} (v == d) 1 0) d [] in
     let one : cond {A = ℕ} (d == d) 1 0 ≡ 1 = ap (λ b. cond {A = ℕ} b 1 0) (eq-eqb d d refl) in

@@ -4,6 +4,7 @@ mod Holding
 mod InodesKept
 mod Slots_over
 mod Slotting
+mod Tabling
 mod Openings_at
 mod Seeing
 mod Noted

@@ -42,9 +42,11 @@ fn lay_table(
         store.old store.new }
 {
     let mut former = Patch::new();
+    patch.noted_are_low();
     for number in 0..DESCRIPTORS as u32 {
         if let Some(given) = patch.get(Fd(number)) {
-            former.note(Fd(number), lay_slot(store, processes, pid, Fd(number), given));
+            let was = lay_slot(store, processes, pid, Fd(number), given);
+            former.note(Fd(number), was);
         }
     }
     former
