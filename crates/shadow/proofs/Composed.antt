@@ -16,7 +16,9 @@ use Rattle.shadow.specs.Stored.{Sound, committed_of, state_of}
 use Rattle.shadow.proofs.Cleared.{cleared}
 use Rattle.shadow.proofs.Committing.{AreCarried, CanCommit, HasAll, HasInodes}
 use Rattle.shadow.proofs.Edited.{less_of, state_is}
-use Rattle.shadow.proofs.Stubs.{carried, finished, ready, same_where_new, to_come}
+use Rattle.shadow.proofs.Carried.{carried}
+use Rattle.shadow.proofs.Finished.{finished}
+use Rattle.shadow.proofs.Ready.{ready, same_where_new, to_come}
 
 -- what is said of a committed state and of a shadow, said of what they keep
 pub can_commit : {ps : List Process} {s : Numbers} {ds es : List Effect} {p q : Patches}

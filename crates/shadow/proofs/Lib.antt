@@ -47,11 +47,9 @@ mod KeptDirectories
 pub mod Cleared
 pub mod Committing
 pub mod Composed
-pub mod Stubs
 pub mod Ready
 mod Becoming
 mod Promised
-pub mod Committing
 pub mod Laws
 pub mod Finished
 pub mod Carried
