@@ -45,10 +45,12 @@ mod FiledOn
 mod Alike
 mod GivingOpened
 mod KeptDirectories
+pub mod Cleared
+pub mod Committing
+pub mod Composed
+pub mod Ready
 mod Becoming
 mod Promised
-pub mod Committing
 pub mod Laws
 pub mod Finished
 pub mod Carried
-pub mod Ready
