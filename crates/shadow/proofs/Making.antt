@@ -104,7 +104,7 @@ file_claims d n x (Number m) = (let one : claimed_by_one (Number m) (n ∷ []) (
 file_claims d n x (New_directory m) = (let none : number_as false n (New_directory m) ≡ 0 = and_false (n == m) in let zero : claimed_by_one (New_directory m) (n ∷ []) (Make_file d x 0) ≡ 0 = refl in let room : room_in d (New_directory m) ≡ 0 = refl in omega arith)
 
 -- the object to come of a number that is claimed
-directory_to_come : (o : Option Place) (n : ℕ) → 0 < kept_by (New_directory n) o → (l : Listing) × (o ≡ Some (coming (Kept_directory l)))
+pub directory_to_come : (o : Option Place) (n : ℕ) → 0 < kept_by (New_directory n) o → (l : Listing) × (o ≡ Some (coming (Kept_directory l)))
 directory_to_come None n h = absurd (omega arith)
 directory_to_come (Some place) n h = by_stage place.stage place.object h
   where

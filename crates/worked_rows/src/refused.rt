@@ -21,7 +21,7 @@ struct Refused {
     requests: u64,
 }
 
-static REFUSED: [Refused; 6] = [
+static REFUSED: [Refused; 12] = [
     // A call that dooms a reader.
     Refused {
         before: Part {
@@ -195,6 +195,186 @@ static REFUSED: [Refused; 6] = [
 5 P2 list / -> names 1 b
 ",
         requests: 5,
+    },
+    // A plain call makes a file and opens it.
+    Refused {
+        before: Part {
+            script: "priorities 0 0
+",
+            schedule: "",
+        },
+        step: Part {
+            script: "priorities 0 0
+1 open /a RDWR,CREAT
+",
+            schedule: "1",
+        },
+        after: Part {
+            script: "priorities 0 0
+1 fstat 0
+",
+            schedule: "1",
+        },
+        transcript: "1 P1 open /a RDWR,CREAT -> 0
+2 P1 fstat 0 -> file size 0 links 1
+",
+        requests: 5,
+    },
+    // So does a transaction.
+    Refused {
+        before: Part {
+            script: "priorities 0 0
+1 begin
+",
+            schedule: "1",
+        },
+        step: Part {
+            script: "priorities 0 0
+1 open /a RDWR,CREAT
+",
+            schedule: "1",
+        },
+        after: Part {
+            script: "priorities 0 0
+1 end
+1 fstat 0
+",
+            schedule: "1,1",
+        },
+        transcript: "1 P1 begin -> begun
+2 P1 open /a RDWR,CREAT -> 0
+3 P1 end -> committed
+4 P1 fstat 0 -> file size 0 links 1
+",
+        requests: 5,
+    },
+    // A plain call writes into a file.
+    Refused {
+        before: Part {
+            script: "priorities 0 0
+1 open /a RDWR,CREAT
+",
+            schedule: "1",
+        },
+        step: Part {
+            script: "priorities 0 0
+1 write 0 hi
+",
+            schedule: "1",
+        },
+        after: Part {
+            script: "priorities 0 0
+1 lseek 0 0 SET
+1 read 0 5
+",
+            schedule: "1,1",
+        },
+        transcript: "1 P1 open /a RDWR,CREAT -> 0
+2 P1 write 0 hi -> 2
+3 P1 lseek 0 0 SET -> 0
+4 P1 read 0 5 -> 2 hi
+",
+        requests: 3,
+    },
+    // So does a transaction.
+    Refused {
+        before: Part {
+            script: "priorities 0 0
+1 open /a RDWR,CREAT
+1 begin
+",
+            schedule: "1,1",
+        },
+        step: Part {
+            script: "priorities 0 0
+1 write 0 hi
+",
+            schedule: "1",
+        },
+        after: Part {
+            script: "priorities 0 0
+1 write 0 !
+1 end
+1 lseek 0 0 SET
+1 read 0 5
+",
+            schedule: "1,1,1,1",
+        },
+        transcript: "1 P1 open /a RDWR,CREAT -> 0
+2 P1 begin -> begun
+3 P1 write 0 hi -> 2
+4 P1 write 0 ! -> 1
+5 P1 end -> committed
+6 P1 lseek 0 0 SET -> 0
+7 P1 read 0 5 -> 3 hi!
+",
+        requests: 5,
+    },
+    // A transaction lengthens a file that it has cut.
+    Refused {
+        before: Part {
+            script: "priorities 0 0
+1 open /a RDWR,CREAT
+1 write 0 hi
+1 begin
+1 ftruncate 0 1
+",
+            schedule: "1,1,1,1",
+        },
+        step: Part {
+            script: "priorities 0 0
+1 ftruncate 0 3
+",
+            schedule: "1",
+        },
+        after: Part {
+            script: "priorities 0 0
+1 end
+1 lseek 0 0 SET
+1 read 0 5
+",
+            schedule: "1,1,1",
+        },
+        transcript: "1 P1 open /a RDWR,CREAT -> 0
+2 P1 write 0 hi -> 2
+3 P1 begin -> begun
+4 P1 ftruncate 0 1 -> ok
+5 P1 ftruncate 0 3 -> ok
+6 P1 end -> committed
+7 P1 lseek 0 0 SET -> 0
+8 P1 read 0 5 -> 3 h\\x00\\x00
+",
+        requests: 2,
+    },
+    // A transaction closes a descriptor.
+    Refused {
+        before: Part {
+            script: "priorities 0 0
+1 open /a RDWR,CREAT
+1 begin
+",
+            schedule: "1,1",
+        },
+        step: Part {
+            script: "priorities 0 0
+1 close 0
+",
+            schedule: "1",
+        },
+        after: Part {
+            script: "priorities 0 0
+1 end
+1 fstat 0
+",
+            schedule: "1,1",
+        },
+        transcript: "1 P1 open /a RDWR,CREAT -> 0
+2 P1 begin -> begun
+3 P1 close 0 -> ok
+4 P1 end -> committed
+5 P1 fstat 0 -> EBADF
+",
+        requests: 2,
     },
 ];
 

@@ -1,4 +1,5 @@
 // Each row is run step by step, and as one run of the kernel.
+use crate::files::FILES;
 use crate::row::{Row, do_script, kernel_of, steps_in, transcript_of};
 use crate::transactions::TRANSACTIONS;
 use crate::trees::TREES;
@@ -31,7 +32,7 @@ fn transcript_at_once(heap: Heap, row: &Row) -> Result<Vec<u8, Heap>, Fail> {
 #[test]
 fn steps_leave_the_transcript_of_the_row(rt: HostRuntime) -> Result<(), Fail> {
     let heap = heap::open(rt.alloc())?;
-    for row in TRANSACTIONS.iter().chain(TREES.iter()) {
+    for row in TRANSACTIONS.iter().chain(TREES.iter()).chain(FILES.iter()) {
         assert_eq!(rt;
             transcript_by_steps(heap, row)?.as_slice(),
             row.transcript.as_bytes()
@@ -43,11 +44,51 @@ fn steps_leave_the_transcript_of_the_row(rt: HostRuntime) -> Result<(), Fail> {
 #[test]
 fn a_run_leaves_the_transcript_of_the_row(rt: HostRuntime) -> Result<(), Fail> {
     let heap = heap::open(rt.alloc())?;
-    for row in TRANSACTIONS.iter().chain(TREES.iter()) {
+    for row in TRANSACTIONS.iter().chain(TREES.iter()).chain(FILES.iter()) {
         assert_eq!(rt;
             transcript_at_once(heap, row)?.as_slice(),
             row.transcript.as_bytes()
         );
     }
+    Ok(())
+}
+
+// Opens a file so often in one process.
+fn open_often(kernel: &mut Kernel, heap: Heap, count: u32) -> Result<(), Fail> {
+    for _ in 0..count {
+        do_script(kernel, heap, "priorities 0\n1 open /a RDWR,CREAT\n", "1")?;
+    }
+    Ok(())
+}
+
+static AFTER_64: &str = "priorities 0
+1 open /a/b RDONLY
+1 close 5
+1 open /a RDONLY
+1 write 5 x
+1 read 64 1
+";
+
+static TOLD_AFTER_64: &str = "64 P1 open /a RDWR,CREAT -> 63
+65 P1 open /a/b RDONLY -> EMFILE
+66 P1 close 5 -> ok
+67 P1 open /a RDONLY -> 5
+68 P1 write 5 x -> EBADF
+69 P1 read 64 1 -> EBADF
+";
+
+// A process that has opened a file 64 times, and the calls after that.
+fn opened_often(kernel: &mut Kernel, heap: Heap) -> Result<Vec<u8, Heap>, Fail> {
+    open_often(kernel, heap, 64)?;
+    do_script(kernel, heap, AFTER_64, "1,1,1,1,1")?;
+    transcript_of(heap, kernel)
+}
+
+#[test]
+fn a_process_has_64_descriptors(rt: HostRuntime) -> Result<(), Fail> {
+    let heap = heap::open(rt.alloc())?;
+    let mut kernel = kernel_of(heap, AFTER_64, 100)?;
+    let told = opened_often(&mut kernel, heap)?;
+    assert!(rt; told.as_slice().ends_with(TOLD_AFTER_64.as_bytes()));
     Ok(())
 }

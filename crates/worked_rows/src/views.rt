@@ -51,3 +51,40 @@ fn each_sees_its_own_name(rt: HostRuntime) -> Result<(), Fail> {
     }
     Ok(())
 }
+
+static WRITES: &str = "priorities 0
+1 open /a RDWR,CREAT
+1 begin
+1 lseek 0 2000 SET
+1 write 0 x
+1 write 0 y
+1 lseek 0 5000 SET
+1 write 0 z
+1 ftruncate 0 9000
+";
+
+// The numbers of the blocks of `/a` into which process 1 has written.
+fn blocks_of(heap: Heap, kernel: &Kernel) -> Result<Vec<u32, Heap>, Fail> {
+    let view = kernel.view(Pid(1));
+    let found = view.find(view.root(), &Name::copy(heap, b"a")?);
+    let (file, _kind) = found.ok_or("no file")?;
+    let shadow = kernel.shadow(Pid(1)).ok_or("no transaction")?;
+    let mut told = Vec::new(heap);
+    told.extend_from_slice(shadow.changed(file))?;
+    Ok(told)
+}
+
+fn written_blocks(kernel: &mut Kernel, heap: Heap) -> Result<Vec<u32, Heap>, Fail> {
+    do_script(kernel, heap, WRITES, "1,1,1,1,1,1,1,1")?;
+    blocks_of(heap, kernel)
+}
+
+// A gap and a growth add none.
+#[test]
+fn blocks_of_writes_are_told(rt: HostRuntime) -> Result<(), Fail> {
+    let heap = heap::open(rt.alloc())?;
+    let mut kernel = kernel_of(heap, WRITES, 100)?;
+    let told = written_blocks(&mut kernel, heap)?;
+    assert_eq!(rt; told.as_slice(), [1u32, 4].as_slice());
+    Ok(())
+}
