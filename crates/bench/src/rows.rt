@@ -1,19 +1,19 @@
 // The rows that are timed.
-use crate::work::{Verb, begin, call, end, kernel_of, path, step};
+use crate::work::{Verb, begin, call, end, kernel_of, open_file, path, rewind, step};
 use anyhow::Result;
 use heap::Heap;
 use ids::{Bytes, Pid};
 use kernel::Kernel;
 use std::time::Instant;
 
-// A row of calls in `/d`.
+// A row of calls in `/d`, or on the file `/f`.
 struct Row {
     name: &'static str,
     verb: Verb,
     count: u64,
 }
 
-static ROWS: [Row; 4] = [
+static ROWS: [Row; 6] = [
     Row {
         name: "mkdir",
         verb: Verb::Mkdir,
@@ -34,10 +34,21 @@ static ROWS: [Row; 4] = [
         verb: Verb::List,
         count: 10,
     },
+    Row {
+        name: "write",
+        verb: Verb::Write,
+        count: 1000,
+    },
+    Row {
+        name: "read",
+        verb: Verb::Read,
+        count: 1000,
+    },
 ];
 
-// Makes the directory `/d` and so many in it.
+// Makes the file `/f`, the directory `/d` and so many in it.
 fn fill(kernel: &mut Kernel, heap: Heap, names: u64) -> Result<()> {
+    open_file(kernel, heap)?;
     step(kernel, 1, call(Verb::Mkdir, Bytes::copy(heap, b"/d")?))?;
     for number in 0..names {
         step(
@@ -60,20 +71,23 @@ fn open(kernel: &mut Kernel, heap: Heap, live: u32) -> Result<()> {
     Ok(())
 }
 
-// The path of a row's i-th call, where there are so many names.
-fn path_in(heap: Heap, verb: Verb, i: u64, names: u64) -> Result<Bytes> {
-    let path = match verb {
+// The path of a row's i-th call, where there are so many names, or what it writes.
+fn bytes_in(heap: Heap, verb: Verb, i: u64, names: u64) -> Result<Bytes> {
+    let bytes = match verb {
         Verb::List => Bytes::copy(heap, b"/d"),
         Verb::Stat => path(heap, "/d", b'n', i.saturating_mul(names / 1000)),
         Verb::Mkdir | Verb::Rmdir => path(heap, "/d", b'm', i),
+        Verb::Write => Bytes::copy(heap, &[b'x'; 64]),
+        Verb::Read => Bytes::copy(heap, b""),
     };
-    Ok(path?)
+    Ok(bytes?)
 }
 
 fn do_row(kernel: &mut Kernel, heap: Heap, row: &Row, names: u64) -> Result<()> {
+    rewind(kernel)?;
     for i in 0..row.count {
-        let path = path_in(heap, row.verb, i, names)?;
-        step(kernel, 1, call(row.verb, path))?;
+        let bytes = bytes_in(heap, row.verb, i, names)?;
+        step(kernel, 1, call(row.verb, bytes))?;
     }
     Ok(())
 }
@@ -97,8 +111,8 @@ fn rate(rt: &HostRuntime, start: &Instant, row: &Row) -> Result<u64> {
 }
 
 // The rate of each row by plain calls.
-fn plain_rates(rt: &HostRuntime, kernel: &mut Kernel, heap: Heap, names: u64) -> Result<[u64; 4]> {
-    let mut plain = [0u64; 4];
+fn plain_rates(rt: &HostRuntime, kernel: &mut Kernel, heap: Heap, names: u64) -> Result<[u64; 6]> {
+    let mut plain = [0u64; 6];
     for (row, found) in ROWS.iter().zip(&mut plain) {
         let start = Instant::now(rt)?;
         do_row(kernel, heap, row, names)?;

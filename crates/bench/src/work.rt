@@ -4,7 +4,7 @@ ghost use Rattle.kernel.specs.Operations.{can_run};
 
 use anyhow::{Result, bail};
 use heap::Heap;
-use ids::{BeginFlags, Bytes, Call, Op, Pid, Priority, Reply};
+use ids::{BeginFlags, Bytes, Call, Fd, Op, OpenFlags, Pid, Priority, Reply, Whence};
 use kernel::Kernel;
 use std::alloc::AllocError;
 
@@ -14,6 +14,8 @@ pub(crate) enum Verb {
     Stat,
     Rmdir,
     List,
+    Write,
+    Read,
 }
 
 // A kernel of so many processes, and 4,096 at most, with room for a million entries.
@@ -25,15 +27,35 @@ pub(crate) fn kernel_of(heap: Heap, processes: u64) -> Result<Kernel> {
     Ok(Kernel::new(heap, priorities.as_slice(), 1_048_576)?)
 }
 
-pub(crate) fn call(verb: Verb, path: Bytes) -> Op
+// A call with these bytes: a path, or what is written. Reads and writes are those of descriptor 0,
+// and a read is of 64 bytes.
+pub(crate) fn call(verb: Verb, bytes: Bytes) -> Op
     ensures { can_run result ≡ true }
 {
     match verb {
-        Verb::Mkdir => Op::Call(Call::Mkdir(path)),
-        Verb::Stat => Op::Call(Call::Stat(path)),
-        Verb::Rmdir => Op::Call(Call::Rmdir(path)),
-        Verb::List => Op::Call(Call::List(path)),
+        Verb::Mkdir => Op::Call(Call::Mkdir(bytes)),
+        Verb::Stat => Op::Call(Call::Stat(bytes)),
+        Verb::Rmdir => Op::Call(Call::Rmdir(bytes)),
+        Verb::List => Op::Call(Call::List(bytes)),
+        Verb::Write => Op::Call(Call::Write(Fd(0), bytes)),
+        Verb::Read => {
+            drop(bytes);
+            Op::Call(Call::Read(Fd(0), 64))
+        }
     }
+}
+
+// Opens the file `/f`, which is new.
+pub(crate) fn open_file(kernel: &mut Kernel, heap: Heap) -> Result<()> {
+    let flags = OpenFlags::READ
+        .with(OpenFlags::WRITE)
+        .with(OpenFlags::CREAT);
+    step(kernel, 1, Op::Call(Call::Open(Bytes::copy(heap, b"/f")?, flags)))
+}
+
+// The next call on descriptor 0 is at the first byte.
+pub(crate) fn rewind(kernel: &mut Kernel) -> Result<()> {
+    step(kernel, 1, Op::Call(Call::Lseek(Fd(0), 0, Whence::Set)))
 }
 
 fn digit(number: u64) -> u8 {

@@ -1,7 +1,10 @@
 mod Outcomes
 mod NamesNoted
+mod Holding
 mod InodesKept
 mod Slots_over
+mod Slotting
+mod Tabling
 mod Openings_at
 mod Seeing
 mod Noted
@@ -32,14 +35,22 @@ mod OpeningsInTurn
 mod Edited
 mod Bytes
 mod Making
+mod Freed
+mod Unnaming
+mod SlotInState
+mod OpeningMade
+mod OffsetInState
 mod BlocksNoted
 mod FiledOn
 mod Alike
 mod GivingOpened
 mod KeptDirectories
+pub mod Cleared
+pub mod Committing
+pub mod Composed
+pub mod Ready
 mod Becoming
 mod Promised
-pub mod Committing
 pub mod Laws
 pub mod Finished
 pub mod Carried

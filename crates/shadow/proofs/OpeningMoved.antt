@@ -20,23 +20,11 @@ use Rattle.shadow.specs.Stored.{AreCounted, FitsStage, IsStaged, reserve_in, sta
 use Rattle.shadow.specs.declared.opening.Opening.TheVariants.{Moved}
 use Rattle.shadow.specs.Laid.{IsReopened, reserves_of}
 use Rattle.shadow.proofs.Edited.{Counts, counted_by, counts_of, counts_of_state, counts_stay, holders_seen, openings_seen}
-use Rattle.shadow.proofs.Reopening.{over, reserve_as}
+use Rattle.shadow.proofs.Kept_on.{opened_staged}
+use Rattle.shadow.proofs.Reopening.{reserve_as}
 
 -- what a change of a description leaves of a place
 module _ (f : Opened → Opened) where
-  pub staged_opened : (o : Option Place) → IsStaged o → IsStaged (option_map (with_opened f) o)
-  staged_opened None h = h
-  staged_opened (Some place) h = by_stage place.stage place.object h
-    where
-
-      by_stage : (t : Stage) (object : Object) → FitsStage t object → FitsStage t (changed_opened f object)
-      by_stage t (A_directory listing) h = h
-      by_stage t (A_file file) h = h
-      by_stage t Nothing h = h
-      by_stage Coming (A_description opened) h = h
-      by_stage Held (A_description opened) h = λ is. cc
-      by_stage Lost (A_description opened) h = h
-
   pub reserve_opened : (place : Place) → reserve_in (with_opened f place) ≡ reserve_in place
   reserve_opened place = by_object place.object
     where
@@ -107,20 +95,21 @@ offset_counted ps s d place counted = counted_by ps t (counts_of_state (state_of
     t : Numbers
     t = altered (with_opened (moved_to place)) s d
 
+-- and what is kept
+pub offset_reserves : (s : Numbers) (d place n : ℕ) → get (reserves_of (altered (with_opened (moved_to place)) s d)) n ≡ get (reserves_of s) n
+offset_reserves s d place n = reserve_as s (altered (with_opened (moved_to place)) s d) n (left-altered (option_and_then reserve_in) (with_opened (moved_to place)) (reserve_opened (moved_to place)) s d n)
+
 pub opening_moved : (s : Numbers) (d place : ℕ) (t : Numbers) → t ≡ altered (with_opened (moved_to place)) s d → IsReopened d (Moved place) s t
 opening_moved s d place t is = subst (IsReopened d (Moved place) s) (sym is) (record {
   same = record {
     root = refl;
     inodes = inodes-opened (moved_to place) s d;
-    staged = λ staged n. over (with_opened (moved_to place)) s d IsStaged (staged_opened (moved_to place)) n (staged n);
+    staged = opened_staged (moved_to place) s d;
   };
   here = ap (λ m. get m d) (descriptions-moved place s d) ∙ offset_here place (descriptions s) d;
   others = λ e away. ap (λ m. get m e) (descriptions-moved place s d) ∙ offset_there place (descriptions s) d e away;
   places = λ n is away. place-other (with_opened (moved_to place)) s d n away ∙ is;
-  reserve = reserve_same d;
-  reserves = λ n away. reserve_same n;
+  reserve = offset_reserves s d place d;
+  reserves = λ n away. offset_reserves s d place n;
   counted = λ ps counted unheld. offset_counted ps s d place counted;
 })
-  where
-    reserve_same : (n : ℕ) → get (reserves_of (altered (with_opened (moved_to place)) s d)) n ≡ get (reserves_of s) n
-    reserve_same n = reserve_as s (altered (with_opened (moved_to place)) s d) n (left-altered (option_and_then reserve_in) (with_opened (moved_to place)) (reserve_opened (moved_to place)) s d n)

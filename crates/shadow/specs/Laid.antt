@@ -1,5 +1,5 @@
 -- What a commit makes of the places and of the processes, part by part.
-use Rattle.std.specs.Prelude.{◌≡◌, ◌≢◌, ℕ, ◌<◌, ◌≤◌, max, Bool, true, false, List, [], ◌∷◌}
+use Rattle.std.specs.Prelude.{◌≡◌, ◌≢◌, ℕ, ◌<◌, ◌≤◌, ◌+◌, ◌-◌, ◌^◌, max, Bool, true, false, List, [], ◌∷◌}
 use Rattle.std.specs.Prelude.{length, Option, Some, None, IfSome, is_some, option_map, count_by}
 use Rattle.ids.specs.declared.limits.TheConstants.{DESCRIPTORS}
 use Rattle.std.specs.Prelude.{if◌then◌else◌}
@@ -13,17 +13,18 @@ use Rattle.dirlist.specs.Listing.{Listing}
 use Rattle.dirlist.specs.Patches.{Notes}
 use Rattle.fdtable.specs.Patches.{Given}
 use Rattle.file_shadow.specs.View.{FileChanges, view_over}
-use Rattle.freeing_laws.specs.Counts.{times}
+use Rattle.freeing_laws.specs.Counts.{listed, times}
 use Rattle.freeing_laws.specs.Sweep.{AreParented}
 use Rattle.objects.specs.Contents.{Content}
-use Rattle.store.specs.Numbers.{Numbers, coming, present}
+use Rattle.store.specs.Numbers.{Numbers, coming, object_at, present}
 use Rattle.store.specs.Places.{file_in, installed, may_be_named, openings_of, with_listing}
 use Rattle.store.specs.Laid.{laid_listing}
 use Rattle.store.specs.Shown.{chosen, descriptions, inodes}
 use Rattle.store.specs.declared.Place.{Place}
 use Rattle.store.specs.declared.Object.TheVariants.{Directory as A_directory, File as A_file}
-use Rattle.store.specs.declared.Object.TheVariants.{Nothing}
+use Rattle.store.specs.declared.Object.TheVariants.{Description as A_description, Nothing}
 use Rattle.store.specs.declared.OpenFile.{OpenFile}
+use Rattle.store.specs.declared.Opened.{Opened}
 use Rattle.shadow.specs.declared.change.Change.{Change}
 use Rattle.shadow.specs.declared.change.Contents.{Contents}
 use Rattle.shadow.specs.declared.change.Contents.TheVariants.{Same, Names, Bytes}
@@ -83,12 +84,13 @@ pub record IsReadyDirectory (s : Numbers) (n : ℕ) (c : Change) (notes : Notes)
   pub numbers : AllByRecursion
       (λ g. IfSome g.1 (λ m. may_be_named (get s.places m) ≡ true)) (entries notes)
 
--- Those of a file can be made: it is to come, and there is room for it; or it is shown, and it has
--- room, or there is room to move it to.
+-- Those of a file can be made: it is to come, and there is room for it; or it is shown, and it
+-- reaches so far, or there is room to move it to.
 abbrev pub IsReadyFile : Bool → Option Place → Content → ℕ → Type 0
 IsReadyFile true before room end = (before ≡ Some (coming Nothing)) × (end ≤ room.room)
 IsReadyFile false before room end =
-    (file : OpenFile) × (before ≡ Some (present (A_file file))) × (end ≤ max file.bytes.room room.room)
+    (file : OpenFile) × (before ≡ Some (present (A_file file)))
+    × (end ≤ max (length file.bytes.bytes) room.room)
 
 abbrev pub IsReadyContents : Numbers → ℕ → Change → Contents → Type 0
 IsReadyContents s n c Same = c.made ≡ None
@@ -150,6 +152,30 @@ pub record SlotsStay (ps qs : List Process) (old new : Numbers) : Type 0 where
   pub count : length qs ≡ length ps
   pub low : AreLow ps → AreLow qs
   pub counted : AreLow ps → AreCounted ps old → AreCounted qs new
+
+-- of a count of holders, after a slot more that gives a description, and after one less
+abbrev pub IsOneMore : Option ℕ → ℕ → ℕ → ℕ → Type 0
+IsOneMore given d before after =
+    before + 1 < 2 ^ 128 → after ≡ before + times d (listed given)
+
+abbrev pub IsOneLess : Option ℕ → ℕ → ℕ → ℕ → Type 0
+IsOneLess former d before after = after ≡ before - times d (listed former)
+
+-- A description that is shown was shown before, and its count of holders changed so.
+pub record WasHeld (R : ℕ → ℕ → Type 0) (old : Numbers) (d : ℕ) (opened : Opened) : Type 0 where
+  pub before : Opened
+  pub held : object_at old d ≡ Some (A_description before)
+  pub count : R before.holders opened.holders
+
+-- Counts of holders change so, and nothing else does.
+pub record AreHeld (R : ℕ → ℕ → ℕ → Type 0) (old new : Numbers) : Type 0 where
+  pub same : SameStore old new
+  pub descriptions : descriptions new ≡ descriptions old
+  pub reserves : (n : ℕ) → get (reserves_of new) n ≡ get (reserves_of old) n
+  pub files : (n : ℕ) (file : OpenFile) → object_at new n ≡ Some (A_file file)
+      → object_at old n ≡ Some (A_file file)
+  pub opened : (d : ℕ) (opened : Opened) → object_at new d ≡ Some (A_description opened)
+      → WasHeld (R d) old d opened
 
 -- The changes of slots are made.
 pub record AreReslotted (slots former : List (ℕ × Given)) (ps qs : List Process)

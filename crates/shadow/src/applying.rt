@@ -1,12 +1,12 @@
 // What a plain call changes, made at once in the committed state.
-ghost use Rattle.std.specs.Prelude.{◌≡◌, ◌≤◌, ◌+◌, ◌∷◌, [], ℕ, List, Some, IfOk, OnErr, OnOk};
+ghost use Rattle.std.specs.Prelude.{◌≡◌, ◌≤◌, ◌<◌, ◌+◌, ◌∷◌, [], ℕ, List, Some, IfOk, OnErr, OnOk};
 ghost use Rattle.std.specs.Prelude.{length};
 ghost use Rattle.std.specs.List.{sum_by};
-ghost use Rattle.ids.specs.declared.limits.TheConstants.{LARGEST_FILE};
+ghost use Rattle.ids.specs.declared.limits.TheConstants.{DESCRIPTORS, LARGEST_FILE};
 ghost use Rattle.model.specs.State.{A_file, kind_of};
 ghost use Rattle.model.specs.Changes.{Cut, Clear_slot, Make_directory, Make_file, Open_inode};
-ghost use Rattle.model.specs.Changes.{Put_bytes, Set_offset, Unname_directory, all_applied, applied};
-ghost use Rattle.model.specs.Changes.{news, tidy};
+ghost use Rattle.model.specs.Changes.{Put_bytes, Set_offset, There, Unname_directory, all_applied};
+ghost use Rattle.model.specs.Changes.{applied, news, tidy};
 ghost use Rattle.call_laws.specs.Fits.{Fits, FitsAll};
 ghost use Rattle.shadow.specs.Claims.{AreUnused, Claim, Covers, HaveParents, KeepsMore, KeepsSame};
 ghost use Rattle.shadow.specs.Claims.{claimed_by, claimed_by_one, reserved};
@@ -20,8 +20,8 @@ use crate::patches::{at_start, is_last, number};
 use crate::reslotting::lay_slot;
 use crate::stable::Stable;
 use heap::Heap;
-use ids::{Edit, Fd, Name, Num, Nums, Pid};
-use objects::{Description, FileData};
+use ids::{Edit, Fd, Mode, Name, Num, Nums, Pid};
+use objects::FileData;
 use std::alloc::AllocError;
 use store::{Object, OpenFile};
 
@@ -140,8 +140,8 @@ impl Stable {
     {
         match edit {
             Edit::OpenInode(place, inode, mode, pid, fd) => {
-                let description = at_start(number(chosen, inode), mode);
-                self.open_inode(chosen[place as usize], description, pid, fd);
+                let inode = number(chosen, inode);
+                self.open_inode(chosen[place as usize], inode, mode, pid, fd);
             }
             Edit::SetOffset(description, place) => self.store.set_offset(description, place),
             Edit::ClearSlot(pid, fd, _pipes) => self.clear_slot(pid, fd),
@@ -223,15 +223,25 @@ impl Stable {
     }
 
     // The new description of a reserved number is there, with its slot.
-    fn open_inode(&mut self, num: Num, description: Description, pid: Pid, fd: Fd)
+    fn open_inode(&mut self, num: Num, inode: Num, mode: Mode, pid: Pid, fd: Fd)
+        requires fits { Fits (num ∷ []) self.old.state (Open_inode 0 (There inode) mode pid fd) }
+        requires low { fd < DESCRIPTORS }
+        requires covers { (c : Claim)
+            → claimed_by_one c (num ∷ []) (Open_inode 0 (There inode) mode pid fd)
+            ≤ reserved self.old c }
+        ensures state { self.new.state
+            ≡ tidy (applied (num ∷ []) (Open_inode 0 (There inode) mode pid fd) self.old.state) }
+        ensures kept { KeepsMore self.new self.old
+            (λ c. claimed_by_one c (num ∷ []) (Open_inode 0 (There inode) mode pid fd)) }
     {
-        open(&mut self.store, num, description);
+        open(&mut self.store, num, at_start(inode, mode));
         let _none = lay_slot(&mut self.store, &mut self.processes, pid, fd, Some(num));
     }
 
     // A slot is closed, and its description goes where no other slot gives it.
     fn clear_slot(&mut self, pid: Pid, fd: Fd)
-        requires { (pipes : List ℕ) × Fits [] self.old.state (Clear_slot pid fd pipes) }
+        requires fits { (pipes : List ℕ) × Fits [] self.old.state (Clear_slot pid fd pipes) }
+        requires low { fd < DESCRIPTORS }
         ensures state { (pipes : List ℕ) → Fits [] self.old.state (Clear_slot pid fd pipes)
             → self.new.state ≡ tidy (applied [] (Clear_slot pid fd pipes) self.old.state) }
         ensures kept { KeepsSame self.old self.new }

@@ -1,5 +1,6 @@
 // The changes of inodes and of descriptions, made in the store.
 ghost use Rattle.std.specs.Prelude.{◌≡◌, ◌≢◌, ◌≤◌, ◌<◌, ◌^◌, ◌⊎◌, ℕ, false, true, Some};
+ghost use Rattle.std.specs.Prelude.{length};
 ghost use Rattle.model.specs.FiniteMap.{get};
 ghost use Rattle.store.specs.Numbers.{coming};
 ghost use Rattle.store.specs.declared.Object.TheVariants.{Nothing};
@@ -95,7 +96,7 @@ fn lay_bytes(store: &mut Store, heap: Heap, num: Num, bytes: FileShadow, room: F
 
 // A file with room for so many bytes: the file itself, or its bytes moved to this room.
 fn roomy(file: FileData, mut room: FileData, end: usize) -> FileData
-    requires { (end ≤ file.room) ⊎ (end ≤ room.room) }
+    requires { (end ≤ length file.bytes) ⊎ (end ≤ room.room) }
     ensures bytes { result.bytes ≡ file.bytes }
     ensures room { end ≤ result.room }
 {

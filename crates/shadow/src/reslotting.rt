@@ -1,8 +1,10 @@
 // The changes of slots, made of the processes.
-ghost use Rattle.std.specs.Prelude.{◌≡◌, ◌≢◌, ◌≤◌, ◌<◌, [], ℕ, length};
+ghost use Rattle.std.specs.Prelude.{◌≡◌, ◌≢◌, ◌≤◌, ◌<◌, [], ℕ, Some, length};
 ghost use Rattle.ids.specs.declared.limits.TheConstants.{DESCRIPTORS};
 ghost use Rattle.model.specs.FiniteMap.{entries, get};
-ghost use Rattle.shadow.specs.Laid.{AreReslotted, IsReslotted, IsSlotted, table_in};
+ghost use Rattle.shadow.specs.Laid.{AreHeld, AreReslotted, IsOneLess, IsOneMore, IsReslotted};
+ghost use Rattle.shadow.specs.Laid.{IsSlotted, table_in};
+ghost use Rattle.shadow.specs.Openings.{slot_noted};
 ghost use Rattle.shadow.specs.Stored.{numbered};
 ghost use Rattle.shadow.specs.Patches.{kept_at, slots_in};
 
@@ -40,9 +42,11 @@ fn lay_table(
         store.old store.new }
 {
     let mut former = Patch::new();
+    patch.noted_are_low();
     for number in 0..DESCRIPTORS as u32 {
         if let Some(given) = patch.get(Fd(number)) {
-            former.note(Fd(number), lay_slot(store, processes, pid, Fd(number), given));
+            let was = lay_slot(store, processes, pid, Fd(number), given);
+            former.note(Fd(number), was);
         }
     }
     former
@@ -62,17 +66,42 @@ pub(crate) fn lay_slot(
     ensures laid { IsSlotted pid fd given processes.old.items processes.new.items
         store.old store.new }
 {
-    let process = &mut processes[pid.0 as usize - 1];
-    let former = process.table.get(fd);
+    let index = pid.0 as usize - 1;
+    let former = processes[index].table.get(fd);
+    give(&mut processes[index], fd, given);
+    count_more(store, &given);
+    count_less(store, &former);
+    former
+}
+
+// A slot of a process gives this from now on.
+fn give(process: &mut Process, fd: Fd, given: Option<Num>)
+    requires { fd < DESCRIPTORS }
+    ensures { Some process.new ≡ slot_noted fd given (Some process.old) }
+{
     match given {
         Some(description) => process.table.set(fd, description),
         None => process.table.clear(fd),
     }
+}
+
+// Counts one slot more that gives this.
+fn count_more(store: &mut Store, given: &Option<Num>)
+    ensures { AreHeld (IsOneMore given.now) store.old store.new }
+{
     if let Some(description) = given {
-        store.add_holder(description);
+        // It is always so: each process has a few slots, and all processes have room.
+        if store.holders(*description) < u128::MAX {
+            store.add_holder(*description);
+        }
     }
+}
+
+// Counts one slot less that gives this.
+fn count_less(store: &mut Store, former: &Option<Num>)
+    ensures { AreHeld (IsOneLess former.now) store.old store.new }
+{
     if let Some(description) = former {
-        store.remove_holder(description);
+        store.remove_holder(*description);
     }
-    former
 }

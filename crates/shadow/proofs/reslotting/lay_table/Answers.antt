@@ -1,0 +1,40 @@
+use Rattle.std.proofs.Common.{◌≡◌, ◌≤◌, ◌<◌, ◌+◌, ◌∙◌, ℕ, Some, length, sym, subst, ap, arith}
+use Rattle.shadow.proofs.Tabling.{Reslots, noted_somewhere, reslots_all, reslots_nothing, reslots_on, reslots_past}
+use Rattle.shadow.proofs.reslotting.lay_table.Goals as goal
+use Rattle.shadow.proofs.reslotting.lay_table.Goals.{in-Some, in_default}
+
+pub loop-number-init : goal.loop-number-init
+loop-number-init c = reslots_nothing c.args.pid c.args.patch.now c.new-former.result c.args.processes.now.items c.args.store.now c.new-former.ensures
+
+pub lay_slot-was-requires-clause-pid : goal.lay_slot-was-requires-clause-pid
+lay_slot-was-requires-clause-pid c =
+    let there = c.requires (noted_somewhere c.args.patch.now c.loop-number.number c.in-Some.given (sym c.get.ensures ∙ c.in-Some.is)) in
+    let low : c.args.pid ≤ length c.args.processes.now.items = there.1 in
+    let count : length c.loop-number.processes.items ≡ length c.args.processes.now.items = c.loop-number.invariant.stay.count in
+    (there.0, omega (arith, low, count))
+
+pub loop-number-preserved : goal.loop-number-preserved
+loop-number-preserved c =
+    let pid = c.args.pid in
+    let n = c.loop-number.number in
+    let given = c.args.patch.now in
+    let ps = c.args.processes.now.items in
+    let old = c.args.store.now in
+    elim c.match-get.branch [
+      | in-Some w ↦
+          subst (λ later. Reslots pid (n + 1) given c.match-get.former ps c.match-get.processes.items old later) (sym w.store-is)
+          (subst (λ rs. Reslots pid (n + 1) given c.match-get.former ps rs old w.lay_slot-was.new.store) (sym (ap (λ v. v.items) w.processes-is))
+          (reslots_on pid n given c.loop-number.former ps c.loop-number.processes.items old c.loop-number.store c.loop-number.invariant
+          w.in-Some.given w.lay_slot-was.result (sym c.get.ensures ∙ w.in-Some.is) c.match-get.former w.lay_slot-was.new.processes.items w.lay_slot-was.new.store
+          w.lay_slot-was.ensures.laid w.lay_slot-was.ensures.former (w.former-is ∙ w.note.ensures)))
+      | in_default w ↦
+          subst (λ later. Reslots pid (n + 1) given c.match-get.former ps c.match-get.processes.items old later) (sym w.store-is)
+          (subst (λ rs. Reslots pid (n + 1) given c.match-get.former ps rs old c.loop-number.store) (sym (ap (λ v. v.items) w.processes-is))
+          (subst (λ former. Reslots pid (n + 1) given former ps c.loop-number.processes.items old c.loop-number.store) (sym w.former-is)
+          (reslots_past pid n given c.loop-number.former ps c.loop-number.processes.items old c.loop-number.store c.loop-number.invariant (sym c.get.ensures ∙ w.in_default.is))))
+    ]
+
+pub returns : goal.returns
+returns c =
+    reslots_all c.args.pid c.loop-number.number c.args.patch.now c.loop-number.former c.args.processes.now.items c.loop-number.processes.items c.args.store.now c.loop-number.store
+    c.loop-number.invariant (λ f some. let low = c.noted_are_low.ensures f some in omega (arith, low, c.loop-number-test.false))

@@ -1,0 +1,82 @@
+use Rattle.shadow.proofs.Composed.{can_commit, has_all, has_inodes, has_kept, has_state}
+use Rattle.shadow.proofs.Composed.{holds_first, holds_second, is_sound}
+use Rattle.shadow.proofs.Ready.{ready, slots_alive}
+use Rattle.shadow.proofs.shadow.Shadow.commit_into.Goals as goal
+
+pub lay_inodes-requires : goal.lay_inodes-requires
+lay_inodes-requires c =
+    ready
+    (can_commit c.stable.invariant c.stable.view_is c.self.invariant c.self.view_is
+    c.patches.view_is c.requires.fits c.requires.covers)
+
+pub lay_openings-requires : goal.lay_openings-requires
+lay_openings-requires c =
+    (has_inodes
+    (can_commit c.stable.invariant c.stable.view_is c.self.invariant c.self.view_is
+    c.patches.view_is c.requires.fits c.requires.covers)
+    (record { root = c.lay_inodes.ensures.root; places = c.lay_inodes.ensures.places })).coming
+
+pub lay_slots-requires : goal.lay_slots-requires
+lay_slots-requires c =
+    slots_alive
+    (can_commit c.stable.invariant c.stable.view_is c.self.invariant c.self.view_is
+    c.patches.view_is c.requires.fits c.requires.covers)
+
+pub close_former-requires : goal.close_former-requires
+close_former-requires c = (
+  c.lay_slots.new.processes.items,
+  (has_all
+    (can_commit c.stable.invariant c.stable.view_is c.self.invariant c.self.view_is
+    c.patches.view_is c.requires.fits c.requires.covers)
+    (record { root = c.lay_inodes.ensures.root; places = c.lay_inodes.ensures.places })
+    c.lay_openings.ensures c.lay_slots.ensures).holds,
+)
+
+pub close_new-requires : goal.close_new-requires
+close_new-requires c = (
+  c.lay_slots.new.processes.items,
+  holds_first
+    (can_commit c.stable.invariant c.stable.view_is c.self.invariant c.self.view_is
+    c.patches.view_is c.requires.fits c.requires.covers)
+    (record { root = c.lay_inodes.ensures.root; places = c.lay_inodes.ensures.places })
+    c.lay_openings.ensures c.lay_slots.ensures c.close_former.ensures,
+)
+
+pub free_all-requires : goal.free_all-requires
+free_all-requires c = (
+  c.lay_slots.new.processes.items,
+  holds_second
+    (can_commit c.stable.invariant c.stable.view_is c.self.invariant c.self.view_is
+    c.patches.view_is c.requires.fits c.requires.covers)
+    (record { root = c.lay_inodes.ensures.root; places = c.lay_inodes.ensures.places })
+    c.lay_openings.ensures c.lay_slots.ensures c.close_former.ensures c.close_new.ensures,
+)
+
+pub invariant_of-stable : goal.invariant_of-stable
+invariant_of-stable c =
+    is_sound
+    (can_commit c.stable.invariant c.stable.view_is c.self.invariant c.self.view_is
+    c.patches.view_is c.requires.fits c.requires.covers)
+    (record { root = c.lay_inodes.ensures.root; places = c.lay_inodes.ensures.places })
+    c.lay_openings.ensures c.lay_slots.ensures
+    c.close_former.ensures c.close_new.ensures c.free_all.ensures
+
+pub returns-clause-state : goal.returns-clause-state
+returns-clause-state c =
+    has_state
+    (can_commit c.stable.invariant c.stable.view_is c.self.invariant c.self.view_is
+    c.patches.view_is c.requires.fits c.requires.covers)
+    (record { root = c.lay_inodes.ensures.root; places = c.lay_inodes.ensures.places })
+    c.lay_openings.ensures c.lay_slots.ensures
+    c.close_former.ensures c.close_new.ensures c.free_all.ensures
+    c.stable.view_is
+
+pub returns-clause-kept : goal.returns-clause-kept
+returns-clause-kept c =
+    has_kept
+    (can_commit c.stable.invariant c.stable.view_is c.self.invariant c.self.view_is
+    c.patches.view_is c.requires.fits c.requires.covers)
+    (record { root = c.lay_inodes.ensures.root; places = c.lay_inodes.ensures.places })
+    c.lay_openings.ensures c.lay_slots.ensures
+    c.close_former.ensures c.close_new.ensures c.free_all.ensures
+    c.stable.view_is
