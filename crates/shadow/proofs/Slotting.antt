@@ -1,5 +1,5 @@
 -- One slot of a process gives another description: the processes, and how often each is held.
-use Rattle.std.proofs.Common.{◌≡◌, ◌≢◌, ℕ, zero, suc, ◌+◌, ◌*◌, ◌-◌, ◌<◌, ◌≤◌, ◌^◌, Bool, true, false, cond, List, [], ◌∷◌, length, get_or, set, Option, Some, None, nat_cmp, refl, sym, ap, subst, ◌∙◌, arith, inl, inr}
+use Rattle.std.proofs.Common.{◌≡◌, ◌≢◌, ℕ, zero, suc, ◌+◌, ◌*◌, ◌-◌, ◌<◌, ◌≤◌, ◌^◌, Bool, true, false, cond, List, [], ◌∷◌, length, set, Option, Some, None, nat_cmp, refl, sym, ap, subst, ◌∙◌, arith, inl, inr}
 use Rattle.std.specs.List.{AllByRecursion}
 use Rattle.std.specs.Cmp.{nat_cmp_total}
 use Rattle.std.proofs.lemmas.Bool.{cases_eq, cases_lt}
@@ -7,20 +7,17 @@ use Rattle.std.proofs.lemmas.List.{get_or-set_other, get_or-set_same, length-set
 use Rattle.ids.specs.declared.limits.TheConstants.{DESCRIPTORS}
 use Rattle.model.specs.FiniteMap.{FinMap, contains_key, entries, get, insert, len, len-entries, len_before_remove, remove, same_map, nat_cmp-IsAntisymmetric}
 use Rattle.model.specs.State.{Kernel, Process}
-use Rattle.model.specs.Changes.{holders, openings, or_new, process_of, set_process, with_slot, without_slot}
+use Rattle.model.specs.Changes.{holders, or_new, set_process, with_slot, without_slot}
 use Rattle.model.proofs.Laws.{all_entries, get_other, get_same, removed_other, removed_same}
 use Rattle.call_laws.proofs.Laws.{not_none, some_same}
 use Rattle.freeing_laws.specs.Counts.{listed, times}
 use Rattle.freeing_laws.proofs.Left.{left_is_tidy_lem}
 use Rattle.freeing_laws.proofs.Openings.{openings_change_lem}
-use Rattle.store.specs.Numbers.{Numbers, object_at}
-use Rattle.store.specs.Shown.{descriptions}
-use Rattle.store.specs.declared.OpenFile.{OpenFile}
+use Rattle.store.specs.Numbers.{Numbers}
 use Rattle.store.specs.declared.Opened.{Opened}
-use Rattle.store.specs.declared.Object.TheVariants.{Description as A_description}
-use Rattle.shadow.specs.Stored.{AreCounted, IsStaged, numbered, state_of}
+use Rattle.shadow.specs.Stored.{AreCounted, numbered, state_of}
 use Rattle.shadow.specs.Openings.{slot_noted}
-use Rattle.shadow.specs.Laid.{AreHeld, AreLow, IsOneLess, IsOneMore, IsSlotted, SameStore, SlotsStay, WasHeld, table_in}
+use Rattle.shadow.specs.Laid.{AreHeld, AreLow, IsOneLess, IsOneMore, IsSlotted, SameStore, WasHeld, table_in}
 use Rattle.shadow.proofs.Living.{no_process, process_of_number}
 
 at_most_one : (b : Bool) → cond {A = ℕ} b 1 0 ≤ 1
