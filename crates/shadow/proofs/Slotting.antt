@@ -81,13 +81,13 @@ module _ (ps : List Process) (pid : ℕ) (new : Process) (some : 0 < pid) (low :
   numbered_others q away = elim (cases_eq q 0) [
     | inl none ↦ no_process after q (inl none) ∙ sym (no_process ps q (inl none))
     | inr more ↦ elim (cases_lt (length ps) q) [
-        | inl high ↦ no_process after q (inr (let count : length after ≡ length ps = same_count in omega (arith, high))) ∙ sym (no_process ps q (inr high))
-        | inr there ↦
-            (let count : length after ≡ length ps = same_count in
-            process_of_number after q new (omega (arith, more)) (omega (arith, there))
-            ∙ ap (λ p. Some p) (get_or-set_other ps (pid - 1) (q - 1) new new (λ same. away (omega (arith, same, more))))
-            ∙ sym (process_of_number ps q new (omega (arith, more)) (omega (arith, there))))
-      ]
+      | inl high ↦ no_process after q (inr (let count : length after ≡ length ps = same_count in omega (arith, high))) ∙ sym (no_process ps q (inr high))
+      | inr there ↦
+          (let count : length after ≡ length ps = same_count in
+          process_of_number after q new (omega (arith, more)) (omega (arith, there))
+          ∙ ap (λ p. Some p) (get_or-set_other ps (pid - 1) (q - 1) new new (λ same. away (omega (arith, same, more))))
+          ∙ sym (process_of_number ps q new (omega (arith, more)) (omega (arith, there))))
+    ]
   ]
 
   pub numbered_set : numbered after ≡ insert (numbered ps) pid new
@@ -128,8 +128,8 @@ same_store_same s t u first later = record {
 }
 
 module _ (ps : List Process) (pid f : ℕ) (given former : Option ℕ) (new : Process) (s t u : Numbers) (some : 0 < pid) (low : pid ≤ length ps) (fits : f < DESCRIPTORS) (few : length ps < 2 ^ 64)
-  (was : former ≡ get (table_in (get (numbered ps) pid)) f) (gives : Some new ≡ slot_noted f given (get (numbered ps) pid))
-  (more : AreHeld (IsOneMore given) s t) (less : AreHeld (IsOneLess former) t u) where
+    (was : former ≡ get (table_in (get (numbered ps) pid)) f) (gives : Some new ≡ slot_noted f given (get (numbered ps) pid))
+    (more : AreHeld (IsOneMore given) s t) (less : AreHeld (IsOneLess former) t u) where
   abbrev qs : List Process
   qs = set ps (pid - 1) new
 

@@ -122,7 +122,7 @@ module _ (pid n : ℕ) (given former : Given) (ps qs : List Process) (old now : 
 
   -- the next slot changes
   module _ (g was : Option ℕ) (noted : get given n ≡ Some g) (former' : Given) (rs : List Process) (later : Numbers)
-    (slotted : IsSlotted pid n g qs rs now later) (kept : was ≡ get (table_in (get (numbered qs) pid)) n) (is : former' ≡ insert former n was) where
+      (slotted : IsSlotted pid n g qs rs now later) (kept : was ≡ get (table_in (get (numbered qs) pid)) n) (is : former' ≡ insert former n was) where
     before_at : get former' n ≡ Some (get (table_in (get (numbered ps) pid)) n)
     before_at = ap (λ (m : Given). get m n) is ∙ get_same former n was ∙ ap (λ o. Some o) (kept ∙ unchanged n (so.above n (omega arith)))
 

@@ -102,7 +102,7 @@ fn count_more(store: &mut Store, given: &Option<Num>)
     ensures { AreHeld (IsOneMore given.now) store.old store.new }
 {
     if let Some(description) = given {
-        // It is always so: each process has a few slots, and all processes have room.
+        // It is always so: all processes together have fewer slots.
         if store.holders(*description) < u128::MAX {
             store.add_holder(*description);
         }

@@ -44,8 +44,8 @@ loop-i-preserved c =
     let two : get_or now i c.index-each-i-in-loop-i.result ≡ get_or es i (0, empty) = read now i c.index-each-i-in-loop-i.result low c.index-each-i-in-loop-i.is ∙ stands in
     let three : get_or now i c.index-each-i-in-loop-i-2.result ≡ get_or es i (0, empty) = read now i c.index-each-i-in-loop-i-2.result low c.index-each-i-in-loop-i-2.is ∙ stands in
     let laid : IsReslotted (key_at es i) (patch_at es i) former qs rs t u =
-        subst (λ (e : ℕ × Given). IsReslotted (key_at es i) e.1 former qs rs t u) two
-        (subst (λ (e : ℕ × Given). IsReslotted e.0 (get_or now i c.index-each-i-in-loop-i.result).1 former qs rs t u) one c.lay_table-former.ensures) in
+    subst (λ (e : ℕ × Given). IsReslotted (key_at es i) e.1 former qs rs t u) two
+    (subst (λ (e : ℕ × Given). IsReslotted e.0 (get_or now i c.index-each-i-in-loop-i.result).1 former qs rs t u) one c.lay_table-former.ensures) in
     subst (λ (e : ℕ × Given). Lays (i + 1) es (set now i (e.0, former)) ps rs s u) (sym three)
     (lays_on i es now ps qs s t c.requires.once c.loop-i-test.true c.loop-i.invariant former rs u laid)
 
