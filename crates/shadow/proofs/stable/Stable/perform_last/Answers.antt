@@ -9,6 +9,7 @@ use Rattle.shadow.specs.Steps.{IsLast, new_in}
 use Rattle.shadow.proofs.Edited.{less_of}
 use Rattle.shadow.proofs.OffsetInState.{moving_kept, moving_sound, moving_state}
 use Rattle.shadow.proofs.OpeningMade.{opened_alike}
+use Rattle.shadow.proofs.SlotInState.{cleared_alike}
 use Rattle.shadow.proofs.stable.Stable.perform_last.Goals as goal
 
 pub invariant_of-self : goal.invariant_of-self
@@ -41,4 +42,7 @@ returns-in-OpenInode-clause-state c =
     ∙ ap (λ (e : Edit). tidy (applied chosen e c.args.self.now.state)) (sym c.in-OpenInode.is)
 
 pub returns-in-ClearSlot-clause-state : goal.returns-in-ClearSlot-clause-state
-returns-in-ClearSlot-clause-state c = ?
+returns-in-ClearSlot-clause-state c =
+    c.clear_slot.ensures.state c.in-ClearSlot._pipes (subst (Fits c.args.chosen.now c.args.self.now.state) c.in-ClearSlot.is c.requires.fits)
+    ∙ ap (λ (k : Kernel). tidy k) (cleared_alike c.args.chosen.now c.in-ClearSlot.pid c.in-ClearSlot.fd c.in-ClearSlot._pipes c.args.self.now.state)
+    ∙ ap (λ (e : Edit). tidy (applied c.args.chosen.now e c.args.self.now.state)) (sym c.in-ClearSlot.is)
