@@ -116,8 +116,3 @@ module _ (ps qs : List Process) (s t : Numbers) (pid f : ℕ) (pipes : List ℕ)
     pub cleared_state : state_of qs now ≡ tidy (applied [] (Clear_slot pid f pipes) v.state)
     cleared_state = state_is ps qs s v is (state_of qs now) (λ k. tidy (applied [] (Clear_slot pid f pipes) k))
         (freed_state ps qs s t [] (Clear_slot pid f pipes) sound stored_fits (clearing_made ps qs s t pid f pipes sound laid) (all_closed (listed former)) tidies now freed)
-
--- it makes nothing, so that the new numbers of its call do not matter
-pub cleared_alike : (chosen : List ℕ) (pid f : ℕ) (pipes : List ℕ) (k : Kernel) → applied [] (Clear_slot pid f pipes) k ≡ applied chosen (Clear_slot pid f pipes) k
-unfolding applied
-cleared_alike chosen pid f pipes k = refl
