@@ -1,4 +1,4 @@
-use Rattle.std.proofs.Common.{◌≡◌, ◌+◌, ◌<◌, ◌≤◌, ℕ, List, length, arith, refl, sym, subst, ap, ◌∙◌}
+use Rattle.std.proofs.Common.{◌≡◌, ◌+◌, ◌<◌, ◌≤◌, ℕ, List, [], length, arith, refl, sym, subst, ap, ◌∙◌}
 use Rattle.std.proofs.lemmas.List.{get_or_read}
 use Rattle.model.specs.State.{Kernel}
 use Rattle.model.specs.Changes.{Cut, Edit, Make_directory, Make_file, Put_bytes, Unname_directory, applied, news, tidy}
@@ -37,7 +37,11 @@ returns-in-UnnameDirectory-clause-state c =
 pub returns-in-PutBytes-clause-state : goal.returns-in-PutBytes-clause-state
 returns-in-PutBytes-clause-state c =
     let chosen : List ℕ = c.args.chosen.now in let k : Kernel = c.args.self.now.state in
-    ok_so c.write.result (λ h. ?) c.write.ensures.state
+    let e : Edit = Put_bytes c.in-PutBytes.file c.in-PutBytes.place c.in-PutBytes.bytes c.in-PutBytes._before in
+    ok_so c.write.result (λ h. h c.in-PutBytes._before ∙ ap (λ bytes. applied [] (Put_bytes c.in-PutBytes.file c.in-PutBytes.place bytes c.in-PutBytes._before) k) c.as_slice.ensures
+    ∙ same_bytes_put chosen k c.in-PutBytes.file c.in-PutBytes.place c.in-PutBytes.bytes c.in-PutBytes._before
+    ∙ none_goes chosen k e c.state_is_tidied.ensures (subst (Fits chosen k) c.in-PutBytes.is c.requires.fits) refl
+    ∙ ap (λ (e : Edit). tidy (applied chosen e k)) (sym c.in-PutBytes.is)) c.write.ensures.state
 
 pub returns-in-Cut-clause-state : goal.returns-in-Cut-clause-state
 returns-in-Cut-clause-state c =
