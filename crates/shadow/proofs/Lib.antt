@@ -45,6 +45,7 @@ mod OffsetInState
 mod BlocksNoted
 mod FiledOn
 mod Alike
+mod SameEdit
 mod GivingOpened
 mod KeptDirectories
 pub mod Cleared
