@@ -5,7 +5,6 @@ use Rattle.std.specs.List.{AllByRecursion, list_any}
 use Rattle.std.specs.Map.{lookup}
 use Rattle.std.specs.Cmp.{nat_cmp_total}
 use Rattle.std.proofs.lemmas.Bool.{false≢true}
-
 use Rattle.model.specs.FiniteMap.{entries, get}
 use Rattle.model.specs.State.{A_file, A_directory, A_pipe, Kernel, Description, kind_of}
 use Rattle.model.specs.Plan.{Errno, Plan, Give, answer as answer_to, given, ◌>>=◌, ◌>>◌, ENOENT, ENOTDIR, ENOTEMPTY, EEXIST, EBUSY, EISDIR, EINVAL, EBADF, EFBIG, ESPIPE, List_names, Measure, refuse_if, or_refuse}
@@ -121,8 +120,11 @@ not_below a b e = search (arith, e)
 write_edits : (k : Kernel) (it : Slot) (bytes : List ℕ) → is_pipe it.kind ≡ false → IfOk (given k (write_some it bytes)) Edits
 write_edits k it bytes file = either_given k Edits (is_pipe it.kind) _ _ (λ pipe. absurd (false≢true (sym file ∙ pipe)))
     (λ _. after k (place_to_write it it.appending) _ (λ place. allowed k Edits (nat_le largest place) EFBIG _ (λ low. (
-    (let room : place < largest = not_above largest place low in
-    let few : length (take (largest - place) bytes) ≤ largest - place = take_few (largest - place) bytes in omega arith), refl, tt))))
+      (let room : place < largest = not_above largest place low in
+          let few : length (take (largest - place) bytes) ≤ largest - place = take_few (largest - place) bytes in omega arith),
+      refl,
+      tt,
+    ))))
   where
     take_few : (n : ℕ) (xs : List ℕ) → length (take n xs) ≤ n
     take_few zero xs = omega arith
