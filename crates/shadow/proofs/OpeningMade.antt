@@ -6,7 +6,7 @@ use Rattle.std.proofs.lemmas.Bool.{cases_eq}
 use Rattle.ids.specs.declared.edit.Mode.{Mode}
 use Rattle.model.specs.FiniteMap.{get, insert, nat_cmp-IsAntisymmetric, same_map}
 use Rattle.model.specs.State.{Description, Kernel, Process}
-use Rattle.model.specs.Changes.{Edit, Open_inode, There, Which, applied, at_start, holders, number, open_at, process_of, set_description, set_process, tidy, with_slot}
+use Rattle.model.specs.Changes.{Edit, Open_inode, There, applied, at_start, holders, open_at, process_of, set_description, set_process, tidy, with_slot}
 use Rattle.model.proofs.Laws.{get_other, get_same}
 use Rattle.call_laws.specs.Fits.{Fits}
 use Rattle.freeing_laws.proofs.Openings.{openings_change_lem}
@@ -17,7 +17,6 @@ use Rattle.shadow.specs.declared.opening.Opening.TheVariants.{New}
 use Rattle.shadow.specs.Claims.{Claim, New_directory, Number, Room, claimed_by_one, number_of, reserved}
 use Rattle.shadow.specs.Committed.{Committed, Reserve}
 use Rattle.shadow.specs.Laid.{Frees, Holds, IsReopened, IsSlotted, kept_in, reserves_of, settled}
-use Rattle.shadow.specs.Steps.{new_in}
 use Rattle.shadow.specs.Stored.{Sound, committed_of, numbered, reserve_in, state_of, stored}
 use Rattle.shadow.proofs.Edited.{kept_of, state_is, tidied_of, tidy_after}
 use Rattle.shadow.proofs.Freed.{IsMade, freed_sound, freed_state, made_holds}
@@ -132,9 +131,3 @@ module _ (ps : List Process) (s : Numbers) (v : Committed) (is : committed_of ps
           let none : claimed_by_one c (n ∷ []) e ≡ 0 = elsewhere c away in
           omega arith)
     ]
-
--- An edit with new numbers of its call is the same as one with its own new number alone.
-pub opened_alike : (chosen : List ℕ) (i : ℕ) (inode : Which) (mode : Mode) (pid f n m : ℕ) → n ≡ new_in chosen i → m ≡ number chosen inode → (k : Kernel)
-    → applied (n ∷ []) (Open_inode 0 (There m) mode pid f) k ≡ applied chosen (Open_inode i inode mode pid f) k
-unfolding applied
-opened_alike chosen i inode mode pid f n m new is k = ap (λ n. open_at n m mode pid f k) new ∙ ap (λ m. open_at (new_in chosen i) m mode pid f k) is

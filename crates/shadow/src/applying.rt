@@ -69,6 +69,7 @@ impl Stable {
             Some(last) => match edits.pop() {
                 None => self.perform_one(chosen, last),
                 Some(first) => {
+                    self.state_is_tidied();
                     self.perform_first(chosen, first)?;
                     self.perform_last(chosen, last);
                     Ok(())
@@ -109,6 +110,7 @@ impl Stable {
         ensures err { OnErr result (self.new.state ≡ self.old.state) }
         ensures same { OnErr result (KeepsSame self.old self.new) }
     {
+        self.state_is_tidied();
         match edit {
             Edit::MakeDirectory(parent, name, _place) => {
                 self.make_directory(parent, name, chosen[0]);

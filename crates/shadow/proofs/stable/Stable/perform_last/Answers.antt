@@ -8,7 +8,7 @@ use Rattle.shadow.specs.Stored.{committed_of}
 use Rattle.shadow.specs.Steps.{IsLast, new_in}
 use Rattle.shadow.proofs.Edited.{less_of}
 use Rattle.shadow.proofs.OffsetInState.{moving_kept, moving_sound, moving_state}
-use Rattle.shadow.proofs.OpeningMade.{opened_alike}
+use Rattle.shadow.proofs.SameEdit.{same_clearing, same_opening}
 use Rattle.shadow.proofs.stable.Stable.perform_last.Goals as goal
 
 pub invariant_of-self : goal.invariant_of-self
@@ -37,8 +37,11 @@ returns-in-OpenInode-clause-state c =
     let low : c.in-OpenInode.place < length chosen = omega (arith, here, last.2) in
     let at : c.index-chosen-place.result ≡ new_in chosen c.in-OpenInode.place = get_or_read chosen c.in-OpenInode.place c.index-chosen-place.result low c.index-chosen-place.is 0 in
     c.open_inode.ensures.state
-    ∙ ap (λ (k : Kernel). tidy k) (opened_alike chosen c.in-OpenInode.place c.in-OpenInode.inode c.in-OpenInode.mode c.in-OpenInode.pid c.in-OpenInode.fd c.index-chosen-place.result c.number-inode.result at c.number-inode.ensures c.args.self.now.state)
+    ∙ ap (λ (k : Kernel). tidy k) (same_opening chosen c.in-OpenInode.place c.in-OpenInode.inode c.in-OpenInode.mode c.in-OpenInode.pid c.in-OpenInode.fd c.index-chosen-place.result c.number-inode.result at c.number-inode.ensures c.args.self.now.state)
     ∙ ap (λ (e : Edit). tidy (applied chosen e c.args.self.now.state)) (sym c.in-OpenInode.is)
 
 pub returns-in-ClearSlot-clause-state : goal.returns-in-ClearSlot-clause-state
-returns-in-ClearSlot-clause-state c = ?
+returns-in-ClearSlot-clause-state c =
+    c.clear_slot.ensures.state c.in-ClearSlot._pipes (subst (Fits c.args.chosen.now c.args.self.now.state) c.in-ClearSlot.is c.requires.fits)
+    ∙ ap (λ (k : Kernel). tidy k) (same_clearing c.args.chosen.now c.in-ClearSlot.pid c.in-ClearSlot.fd c.in-ClearSlot._pipes c.args.self.now.state)
+    ∙ ap (λ (e : Edit). tidy (applied c.args.chosen.now e c.args.self.now.state)) (sym c.in-ClearSlot.is)
