@@ -43,6 +43,7 @@ mod BlocksNoted
 mod FiledOn
 mod Alike
 mod SameEdit
+mod ClaimsOfCall
 mod GivingOpened
 mod KeptDirectories
 pub mod Committing
