@@ -136,3 +136,10 @@ module _ (v : Committed) (chosen : List ℕ) (e f : Edit) (can : CanEdit (e ∷ 
           let more : reserved mid c ≡ reserved new c + claimed_by_one c chosen f = later c in
           let two : claimed_by c (effect chosen (e ∷ f ∷ [])) ≡ claimed_by_one c chosen e + claimed_by_one c chosen f = claimed_of_two c in
           omega arith
+
+-- what is asked where a call's edits are performed
+pub record CanPerform (v : Committed) (chosen : List ℕ) (edits : List Edit) : Type 0 where
+  pub kinds : CanEdit edits
+  pub count : length chosen ≡ sum_by news edits
+  pub fits : FitsAll chosen v.state edits
+  pub covers : Covers v (effect chosen edits ∷ [])
