@@ -1,4 +1,5 @@
-use Rattle.std.proofs.Common.{◌≡◌, ℕ, List, [], ◌∷◌, sym, ap, subst, ◌∙◌}
+use Rattle.std.proofs.Common.{◌≡◌, ℕ, ◌-◌, ◌++◌, List, [], ◌∷◌, sym, ap, subst, ◌∙◌}
+use Rattle.std.specs.Prelude.{take}
 use Rattle.model.specs.Changes.{Edit, all_applied, tidy}
 use Rattle.shadow.specs.Claims.{KeepsMore, claimed_by}
 use Rattle.shadow.specs.Log.{effect}
@@ -22,8 +23,14 @@ both c = subst (CanPerform c.args.self.now c.args.chosen.now)
     (two_edits c.args.edits.items c.pop.new.self.items c.pop-in-Some.new.self.items c.in-Some-pop.first c.in-Some.last c.in-Some.ensures.items c.in-Some-pop.ensures.items c.requires.kinds)
     (record { kinds = c.requires.kinds; count = c.requires.count; fits = c.requires.fits; covers = c.requires.covers })
 
+-- there are none
+no_edits : (c : goal.After-drop-edits) → c.args.edits.items ≡ []
+no_edits c = c.in-None.ensures.items ∙ ap (λ (es : List Edit). es ++ []) (c.in-None.ensures.rest ∙ ap (λ n. take (n - 1) c.args.edits.items) c.in-None.ensures.cases.0)
+
 pub returns-in-None-clause-state : goal.returns-in-None-clause-state
-returns-in-None-clause-state c = ?
+returns-in-None-clause-state c =
+    sym c.state_is_tidied.ensures.tidied
+    ∙ ap (λ (es : List Edit). tidy (all_applied c.args.chosen.now es c.args.self.now.state)) (sym (no_edits c))
 
 pub perform_first-requires-clause-first : goal.perform_first-requires-clause-first
 perform_first-requires-clause-first c = (firstly c).kinds.0
