@@ -46,6 +46,7 @@ mod BlocksNoted
 mod FiledOn
 mod Alike
 mod SameEdit
+mod ClaimsOfCall
 mod GivingOpened
 mod KeptDirectories
 pub mod Cleared

@@ -64,12 +64,12 @@ impl Stable {
         ensures err { OnErr result (self.new.state ≡ self.old.state) }
         ensures same { OnErr result (KeepsSame self.old self.new) }
     {
+        self.state_is_tidied();
         match edits.pop() {
             None => Ok(()),
             Some(last) => match edits.pop() {
                 None => self.perform_one(chosen, last),
                 Some(first) => {
-                    self.state_is_tidied();
                     self.perform_first(chosen, first)?;
                     self.perform_last(chosen, last);
                     Ok(())

@@ -1,14 +1,18 @@
-use Rattle.std.proofs.Common.{rules, ◌≡◌, ◌≤◌, ◌<◌, ◌+◌, ◌∷◌, [], ℕ, List, Some, IfOk, OnErr, OnOk, length, ◌-◌, ◌*◌, ◌/◌, ◌%◌, Bool, true, false, nat_eq, nat_lt, ◌++◌, slice_index_or, slice_set, bit_and, bit_or, w8, w32, w64, Bor, MutBor}
-use Rattle.std.specs.List.{sum_by}
-use Rattle.ids.specs.declared.limits.TheConstants.{DESCRIPTORS, LARGEST_FILE}
-use Rattle.model.specs.State.{A_file, kind_of}
-use Rattle.model.specs.Changes.{Cut, Clear_slot, Make_directory, Make_file, Open_inode, Put_bytes, Set_offset, There, Unname_directory, all_applied, applied, news, tidy}
-use Rattle.call_laws.specs.Fits.{Fits, FitsAll}
-use Rattle.shadow.specs.Claims.{AreUnused, Claim, Covers, HaveParents, KeepsMore, KeepsSame, claimed_by, claimed_by_one, reserved}
+use Rattle.std.proofs.Common.{◌≡◌, ◌≤◌, ap, sym, subst, ◌∙◌}
+use Rattle.std.specs.List.{flat_map}
+use Rattle.freeing_laws.specs.Counts.{listed}
+use Rattle.shadow.specs.Claims.{KeepsMore, claimed_by, claimed_in, kinds_in, with_kinds}
 use Rattle.shadow.specs.Log.{effect}
-use Rattle.shadow.specs.Steps.{CanEdit, IsFirst, IsLast}
+use Rattle.shadow.specs.Steps.{parents_in}
+use Rattle.shadow.proofs.Agreeing.{can_give}
 use Rattle.shadow.proofs.stable.Stable.apply.Goals as goal
 
--- src/applying.rt:48:17
+-- what was kept for the call is kept still
 pub give_up-requires : goal.give_up-requires
-give_up-requires c = ?
+give_up-requires c = (
+  flat_map kinds_in c.args.edits.items,
+  λ claim. subst (λ n. claimed_in claim (with_kinds c.as_slice-in-Err.result.now (flat_map kinds_in c.args.edits.items)) (listed c.parent_of-parent.result) ≤ n) (sym (c.in-Err.ensures.same claim))
+      (can_give c.args.self.now c.claim.new.self c.args.edits.items c.in_ok-chosen.chosen c.as_slice-in-Err.result.now (listed c.parent_of-parent.result)
+      (subst (λ es. KeepsMore c.args.self.now c.claim.new.self (λ q. claimed_by q (effect c.in_ok-chosen.chosen es))) c.as_slice-2.ensures.value c.in_ok-chosen.ensures.kept)
+      c.as_slice-in-Err.ensures (c.parent_of-parent.ensures ∙ ap (flat_map parents_in) c.as_slice.ensures.value) claim),
+)

@@ -43,5 +43,5 @@ returns-in-OpenInode-clause-state c =
 pub returns-in-ClearSlot-clause-state : goal.returns-in-ClearSlot-clause-state
 returns-in-ClearSlot-clause-state c =
     c.clear_slot.ensures.state c.in-ClearSlot._pipes (subst (Fits c.args.chosen.now c.args.self.now.state) c.in-ClearSlot.is c.requires.fits)
-    ∙ ap (λ (k : Kernel). tidy k) (same_clearing c.args.chosen.now c.in-ClearSlot.pid c.in-ClearSlot.fd c.in-ClearSlot._pipes c.args.self.now.state)
+    ∙ ap (λ (k : Kernel). tidy k) (same_clearing c.args.chosen.now c.args.self.now.state c.in-ClearSlot.pid c.in-ClearSlot.fd c.in-ClearSlot._pipes)
     ∙ ap (λ (e : Edit). tidy (applied c.args.chosen.now e c.args.self.now.state)) (sym c.in-ClearSlot.is)

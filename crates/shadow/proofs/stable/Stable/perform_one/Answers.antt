@@ -1,14 +1,10 @@
-use Rattle.std.proofs.Common.{rules, ◌≡◌, ◌≤◌, ◌<◌, ◌+◌, ◌∷◌, [], ℕ, List, Some, IfOk, OnErr, OnOk, length, ◌-◌, ◌*◌, ◌/◌, ◌%◌, Bool, true, false, nat_eq, nat_lt, ◌++◌, slice_index_or, slice_set, bit_and, bit_or, w8, w32, w64, Bor, MutBor}
-use Rattle.std.specs.List.{sum_by}
-use Rattle.ids.specs.declared.limits.TheConstants.{DESCRIPTORS, LARGEST_FILE}
-use Rattle.model.specs.State.{A_file, kind_of}
-use Rattle.model.specs.Changes.{Cut, Clear_slot, Make_directory, Make_file, Open_inode, Put_bytes, Set_offset, There, Unname_directory, all_applied, applied, news, tidy}
-use Rattle.call_laws.specs.Fits.{Fits, FitsAll}
-use Rattle.shadow.specs.Claims.{AreUnused, Claim, Covers, HaveParents, KeepsMore, KeepsSame, claimed_by, claimed_by_one, reserved}
-use Rattle.shadow.specs.Log.{effect}
-use Rattle.shadow.specs.Steps.{CanEdit, IsFirst, IsLast}
+use Rattle.std.proofs.Common.{◌≡◌, ◌+◌, [], ◌∷◌, sym, ap, ◌∙◌}
+use Rattle.shadow.specs.Claims.{reserved}
+use Rattle.shadow.proofs.ClaimsOfCall.{claimed_of_one}
+use Rattle.shadow.proofs.Outcomes.{ok_so}
 use Rattle.shadow.proofs.stable.Stable.perform_one.Goals as goal
 
--- src/applying.rt:82:5
 pub returns-else-is_last-clause-kept : goal.returns-else-is_last-clause-kept
-returns-else-is_last-clause-kept c = ?
+returns-else-is_last-clause-kept c =
+    ok_so c.perform_first.result (λ kept claim. kept claim ∙ ap (λ n. reserved c.perform_first.new.self claim + n) (sym (claimed_of_one c.args.chosen.now c.args.edit c.requires.kinds c.requires.count claim)))
+    c.perform_first.ensures.kept
