@@ -1,12 +1,11 @@
 -- What a call claims is what its edits claim, one after the other, and so the second finds its claims kept.
-use Rattle.std.proofs.Common.{◌≡◌, ℕ, ◌+◌, ◌≤◌, ◌==◌, ◌&&◌, not, Bool, true, false, cond, sum_by, length, List, [], ◌∷◌, ◌++◌, append-nil, refl, sym, ap, ap₂, subst, ◌∙◌, arith, inl, inr, ◌⊎◌}
+use Rattle.std.proofs.Common.{◌≡◌, ℕ, ◌+◌, ◌≤◌, ◌==◌, ◌&&◌, Bool, true, false, cond, sum_by, length, List, [], ◌∷◌, ◌++◌, append-nil, refl, sym, ap, ap₂, subst, ◌∙◌, arith, inl, inr, ◌⊎◌}
 use Rattle.std.proofs.lemmas.List.Sums.{sum_by-cons}
 use Rattle.ids.specs.declared.edit.Mode.{Mode}
 use Rattle.model.specs.State.{Kernel, Name}
 use Rattle.model.specs.Changes.{Clear_slot, Cut, Edit, Make_directory, Make_file, Open_inode, Put_bytes, Set_offset, Unname_directory, Which, all_applied, applied, news, tidy}
-use Rattle.model.specs.Effects.{Effect}
 use Rattle.call_laws.specs.Fits.{Fits, FitsAll}
-use Rattle.freeing_laws.specs.Sweep.{IsTidied, loses}
+use Rattle.freeing_laws.specs.Sweep.{IsTidied}
 use Rattle.shadow.specs.Claims.{Claim, Covers, KeepsMore, New_directory, Number, Room, claimed, claimed_by, claimed_by_one, claimed_in, kinds_in, reserved, with_kinds}
 use Rattle.shadow.specs.Committed.{Committed}
 use Rattle.shadow.specs.Log.{effect}

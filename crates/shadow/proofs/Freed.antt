@@ -1,14 +1,14 @@
 -- A well-formed state that is stored holds on the way, and what is freed then makes it sound again.
-use Rattle.std.proofs.Common.{◌≡◌, ◌≢◌, ℕ, List, Option, Some, None, refl, sym, ap, subst, ◌∙◌}
+use Rattle.std.proofs.Common.{◌≡◌, ◌≢◌, ℕ, List, Some, None, sym, ap, subst, ◌∙◌}
 use Rattle.model.specs.FiniteMap.{get}
-use Rattle.model.specs.State.{A_directory, Description, Kernel, Name, Process, kind, kind_of, mapped, names_of}
+use Rattle.model.specs.State.{A_directory, Kernel, Name, Process, kind, kind_of, mapped, names_of}
 use Rattle.model.specs.Changes.{Edit, applied, openings, tidy}
 use Rattle.call_laws.specs.WellFormed.{CanBeNamed, CanBeOpened, WellFormed}
 use Rattle.call_laws.specs.Fits.{Fits}
 use Rattle.call_laws.proofs.Laws.{well_stays}
 use Rattle.freeing_laws.proofs.Openings.{openings_change_lem}
 use Rattle.store.specs.Numbers.{Numbers}
-use Rattle.store.specs.Shown.{descriptions, inodes}
+use Rattle.store.specs.Shown.{descriptions}
 use Rattle.shadow.specs.Laid.{Frees, Holds}
 use Rattle.shadow.specs.Stored.{AreCounted, IsStaged, Sound, state_of}
 use Rattle.shadow.proofs.Edited.{sound_after}

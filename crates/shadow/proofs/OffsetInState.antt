@@ -1,5 +1,5 @@
 -- The offset of a description changes in the committed state.
-use Rattle.std.proofs.Common.{◌≡◌, ◌≢◌, ℕ, ◌+◌, List, Option, refl, sym, ap, subst, ◌∙◌, arith}
+use Rattle.std.proofs.Common.{◌≡◌, ℕ, ◌+◌, List, refl, sym, ap, subst, ◌∙◌, arith}
 use Rattle.model.specs.FiniteMap.{get}
 use Rattle.model.specs.State.{Process}
 use Rattle.model.specs.Changes.{Set_offset, applied, set_offset, tidy}

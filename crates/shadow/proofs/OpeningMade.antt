@@ -1,11 +1,11 @@
 -- A new description of a number that was reserved, with its slot.
-use Rattle.std.proofs.Common.{◌≡◌, ◌≢◌, ℕ, ◌+◌, ◌<◌, ◌≤◌, ◌==◌, ◌&&◌, ◌++◌, Bool, true, false, cond, not, List, [], ◌∷◌, length, Option, Some, None, nat_cmp, refl, sym, ap, subst, ◌∙◌, arith, inl, inr, eq-eqb, ne_eqb}
+use Rattle.std.proofs.Common.{◌≡◌, ◌≢◌, ℕ, ◌+◌, ◌<◌, ◌≤◌, ◌==◌, true, false, cond, List, [], ◌∷◌, length, Some, None, refl, sym, ap, subst, ◌∙◌, arith, inl, inr, eq-eqb, ne_eqb}
 use Rattle.std.specs.Cmp.{nat_cmp_total}
 use Rattle.std.specs.Option.{option_and_then}
 use Rattle.std.proofs.lemmas.Bool.{cases_eq}
 use Rattle.ids.specs.declared.edit.Mode.{Mode}
 use Rattle.model.specs.FiniteMap.{get, insert, nat_cmp-IsAntisymmetric, same_map}
-use Rattle.model.specs.State.{Description, Kernel, Process}
+use Rattle.model.specs.State.{Kernel, Process}
 use Rattle.model.specs.Changes.{Edit, Open_inode, There, applied, at_start, holders, open_at, process_of, set_description, set_process, tidy, with_slot}
 use Rattle.model.proofs.Laws.{get_other, get_same}
 use Rattle.call_laws.specs.Fits.{Fits}
@@ -15,10 +15,10 @@ use Rattle.store.specs.Shown.{descriptions, inodes}
 use Rattle.store.specs.declared.Object.TheVariants.{Nothing}
 use Rattle.shadow.specs.declared.opening.Opening.TheVariants.{New}
 use Rattle.shadow.specs.Claims.{Claim, New_directory, Number, Room, claimed_by_one, number_of, reserved}
-use Rattle.shadow.specs.Committed.{Committed, Reserve}
-use Rattle.shadow.specs.Laid.{Frees, Holds, IsReopened, IsSlotted, kept_in, reserves_of, settled}
-use Rattle.shadow.specs.Stored.{Sound, committed_of, numbered, reserve_in, state_of, stored}
-use Rattle.shadow.proofs.Edited.{kept_of, state_is, tidied_of, tidy_after}
+use Rattle.shadow.specs.Committed.{Committed}
+use Rattle.shadow.specs.Laid.{Frees, IsReopened, IsSlotted, kept_in, reserves_of, settled}
+use Rattle.shadow.specs.Stored.{Sound, committed_of, reserve_in, state_of, stored}
+use Rattle.shadow.proofs.Edited.{kept_of, state_is, tidy_after}
 use Rattle.shadow.proofs.Freed.{IsMade, freed_sound, freed_state, made_holds}
 use Rattle.shadow.proofs.Kept_on.{kept_by, kept_is}
 use Rattle.shadow.proofs.Making.{other_to_come}

@@ -1,12 +1,12 @@
 -- The offset of a description changes.
 use Rattle.std.proofs.Common.{◌≡◌, ◌≢◌, ℕ, List, Option, Some, None, refl, sym, ap, subst, ◌∙◌}
-use Rattle.std.specs.Option.{option_and_then, option_map}
+use Rattle.std.specs.Option.{option_and_then}
 use Rattle.model.specs.FiniteMap.{FinMap, get}
 use Rattle.model.specs.State.{Kernel, Description, Process, mapped}
-use Rattle.model.specs.Changes.{at_offset, holders, openings, set_offset}
+use Rattle.model.specs.Changes.{at_offset, openings, set_offset}
 use Rattle.model.proofs.Laws.{get_other, get_same}
 use Rattle.freeing_laws.proofs.Openings.{openings_change_lem}
-use Rattle.store.specs.Numbers.{Numbers, coming, held}
+use Rattle.store.specs.Numbers.{Numbers, held}
 use Rattle.store.specs.Places.{altered, changed_opened, moved_to, with_opened}
 use Rattle.store.specs.Shown.{descriptions, inodes, with_offset, with_offset_by}
 use Rattle.store.specs.declared.Opened.{Opened}
@@ -16,10 +16,10 @@ use Rattle.store.specs.declared.Stage.TheVariants.{Coming, Held, Lost}
 use Rattle.store.specs.declared.Object.{Object}
 use Rattle.store.specs.declared.Object.TheVariants.{Directory as A_directory, File as A_file, Description as A_description, Nothing}
 use Rattle.store.proofs.Laws.{descriptions-moved, inodes-opened, left-altered, place-other}
-use Rattle.shadow.specs.Stored.{AreCounted, FitsStage, IsStaged, reserve_in, state_of, stored}
+use Rattle.shadow.specs.Stored.{AreCounted, reserve_in, state_of, stored}
 use Rattle.shadow.specs.declared.opening.Opening.TheVariants.{Moved}
 use Rattle.shadow.specs.Laid.{IsReopened, reserves_of}
-use Rattle.shadow.proofs.Edited.{Counts, counted_by, counts_of, counts_of_state, counts_stay, holders_seen, openings_seen}
+use Rattle.shadow.proofs.Edited.{counted_by, counts_of, counts_of_state, counts_stay, holders_seen, openings_seen}
 use Rattle.shadow.proofs.Kept_on.{opened_staged}
 use Rattle.shadow.proofs.Reopening.{reserve_as}
 

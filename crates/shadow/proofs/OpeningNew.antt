@@ -1,15 +1,15 @@
 -- A new description is shown, and it is counted at its inode.
-use Rattle.std.proofs.Common.{◌≡◌, ◌≢◌, ℕ, ◌+◌, ◌<◌, ◌≤◌, ◌^◌, ◌==◌, Bool, true, false, cond, List, Option, Some, None, refl, sym, ap, subst, ◌∙◌, arith, inl, inr, eq-eqb, ne_eqb}
+use Rattle.std.proofs.Common.{◌≡◌, ◌≢◌, ℕ, ◌+◌, ◌<◌, ◌≤◌, ◌^◌, ◌==◌, Bool, true, false, cond, List, Some, refl, sym, ap, subst, ◌∙◌, arith, inl, inr, eq-eqb, ne_eqb}
 use Rattle.std.specs.Option.{option_and_then, option_map}
 use Rattle.std.proofs.lemmas.Bool.{cases_eq}
 use Rattle.model.specs.FiniteMap.{get, insert, len}
 use Rattle.model.specs.State.{Kernel, Description, Process}
 use Rattle.model.specs.Changes.{holders, openings, set_description}
 use Rattle.model.proofs.Laws.{get_other, get_same}
-use Rattle.call_laws.proofs.Laws.{some_same, true_is_false}
+use Rattle.call_laws.proofs.Laws.{some_same}
 use Rattle.freeing_laws.proofs.Openings.{openings_change_lem}
 use Rattle.store.specs.Numbers.{Numbers, coming, held, object_at, present}
-use Rattle.store.specs.Places.{altered, file_in, openings_at, openings_of, with_file}
+use Rattle.store.specs.Places.{altered, openings_at, with_file}
 use Rattle.store.specs.Shown.{descriptions, inodes}
 use Rattle.store.specs.declared.OpenFile.{OpenFile}
 use Rattle.store.specs.declared.Opened.{Opened}

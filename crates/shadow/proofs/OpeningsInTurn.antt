@@ -1,22 +1,22 @@
 -- The changes of descriptions, made in the store one description after the other.
-use Rattle.std.proofs.Common.{◌≡◌, ◌≢◌, ℕ, Bool, true, false, cond, List, [], ◌∷◌, Option, Some, None, nat_cmp, refl, sym, ap, subst, ◌∙◌, inl, inr}
+use Rattle.std.proofs.Common.{◌≡◌, ◌≢◌, ℕ, true, cond, List, [], ◌∷◌, Option, Some, nat_cmp, refl, sym, ap, subst, ◌∙◌, inl, inr}
 use Rattle.std.specs.List.Sorted.{IsStrictlySortedBy}
 use Rattle.std.specs.Map.{keys_of}
 use Rattle.std.proofs.lemmas.Bool.{cases_eq}
 use Rattle.model.specs.FiniteMap.{get}
-use Rattle.model.specs.State.{Description, Process}
+use Rattle.model.specs.State.{Process}
 use Rattle.model.specs.Changes.{holders}
 use Rattle.call_laws.proofs.Laws.{true_is_false}
 use Rattle.freeing_laws.proofs.Openings.{openings_change_lem}
 use Rattle.store.specs.Numbers.{Numbers, coming}
 use Rattle.store.specs.Shown.{descriptions}
 use Rattle.store.specs.declared.Object.TheVariants.{Nothing}
-use Rattle.shadow.specs.Stored.{AreCounted, state_of}
+use Rattle.shadow.specs.Stored.{state_of}
 use Rattle.shadow.specs.Committed.{Reserve}
 use Rattle.shadow.specs.declared.opening.Opening.{Opening}
 use Rattle.shadow.specs.declared.opening.Opening.TheVariants.{Kept}
-use Rattle.shadow.specs.Patches.{is_new, kept_at, opening_at, or_kept, reopened}
-use Rattle.shadow.specs.Laid.{AreReopened, IsReopened, SameStore, reserves_of, settled}
+use Rattle.shadow.specs.Patches.{is_new, opening_at, or_kept, reopened}
+use Rattle.shadow.specs.Laid.{AreReopened, IsReopened, reserves_of, settled}
 use Rattle.shadow.proofs.InOrder.{first_absent, first_kept, later_kept, rest_sorted}
 
 -- what is new is still to come

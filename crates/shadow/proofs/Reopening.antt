@@ -1,19 +1,16 @@
 -- The changes of descriptions, made in the store one after the other.
-use Rattle.std.proofs.Common.{◌≡◌, ◌≢◌, ℕ, ◌+◌, ◌<◌, ◌≤◌, ◌==◌, nat_lt, ltb-true, eq-eqb, ne_eqb, suc, Bool, true, false, cond, if◌then◌else◌, List, [], ◌∷◌, length, Option, Some, None, nat_cmp, refl, sym, ap, subst, ◌∙◌, arith, inl, inr}
-use Rattle.std.specs.List.Sorted.{IsStrictlySortedBy}
-use Rattle.std.specs.Map.{keys_of}
+use Rattle.std.proofs.Common.{◌≡◌, ℕ, ◌+◌, ◌≤◌, suc, Bool, true, false, cond, List, [], ◌∷◌, length, Option, Some, None, nat_cmp, refl, sym, ap, subst, ◌∙◌, arith, inl, inr}
 use Rattle.std.specs.Option.{option_and_then, option_map}
 use Rattle.std.specs.Cmp.{nat_cmp_total}
 use Rattle.std.proofs.lemmas.Bool.{cases_eq}
-use Rattle.model.specs.FiniteMap.{FinMap, contains_key, empty, entries, from_entries, get, insert, len, len-empty, len-entries, len-insert, remove}
-use Rattle.model.specs.State.{Kernel, Description, Process, mapped}
-use Rattle.model.specs.Changes.{at_offset, holders, openings, set_description, set_offset}
-use Rattle.model.proofs.Laws.{get_other, get_same}
-use Rattle.call_laws.proofs.Laws.{some_same, true_is_false}
+use Rattle.model.specs.FiniteMap.{FinMap, contains_key, entries, from_entries, get, insert, len, len-empty, len-entries, len-insert}
+use Rattle.model.specs.State.{Process}
+use Rattle.model.specs.Changes.{openings}
+use Rattle.call_laws.proofs.Laws.{true_is_false}
 use Rattle.freeing_laws.proofs.Openings.{openings_change_lem}
-use Rattle.store.specs.Numbers.{Numbers, coming, held, if_held, object_at, present}
-use Rattle.store.specs.Places.{altered, changed_file, changed_opened, file_in, listing_of, more_openings, moved_to, openings_at, openings_of, with_file, with_opened}
-use Rattle.store.specs.Shown.{chosen, chosen_entries, description_in, descriptions, in_front, inodes, with_offset, with_offset_by}
+use Rattle.store.specs.Numbers.{Numbers, held, if_held}
+use Rattle.store.specs.Places.{altered, changed_file, file_in, more_openings, openings_of, with_file}
+use Rattle.store.specs.Shown.{chosen, chosen_entries, description_in, descriptions, in_front}
 use Rattle.store.specs.declared.OpenFile.{OpenFile}
 use Rattle.store.specs.declared.Opened.{Opened}
 use Rattle.store.specs.declared.Place.{Place}
@@ -21,13 +18,9 @@ use Rattle.store.specs.declared.Stage.{Stage}
 use Rattle.store.specs.declared.Stage.TheVariants.{Coming, Held, Lost}
 use Rattle.store.specs.declared.Object.{Object}
 use Rattle.store.specs.declared.Object.TheVariants.{Directory as A_directory, File as A_file, Description as A_description, Nothing}
-use Rattle.store.proofs.Laws.{altered-same, descriptions-filed, descriptions-set, get-chosen, get-descriptions_by, get-inodes_by, inodes-filed, inodes-set, place-altered, place-other, remove-absent, with_place}
-use Rattle.shadow.specs.Stored.{AreCounted, FitsStage, IsStaged, reserve_in, state_of}
-use Rattle.shadow.specs.declared.opening.Opening.{Opening}
-use Rattle.shadow.specs.declared.opening.Opening.TheVariants.{Kept, New, Moved}
-use Rattle.shadow.specs.Patches.{is_new, kept_at, opening_at, or_kept, reopened}
-use Rattle.shadow.specs.Laid.{AreReopened, IsReopened, SameStore, reserves_of, settled}
-use Rattle.shadow.proofs.InOrder.{first_absent, first_kept, later_kept, not_first, rest_sorted}
+use Rattle.store.proofs.Laws.{get-chosen, place-altered, place-other}
+use Rattle.shadow.specs.Stored.{FitsStage, IsStaged, reserve_in, state_of}
+use Rattle.shadow.specs.Laid.{reserves_of}
 
 -- what a change of one place leaves to each of them
 pub over : (f : Place → Place) (s : Numbers) (n : ℕ) (P : Option Place → Type 0) → ((o : Option Place) → P o → P (option_map f o)) → (q : ℕ) → P (get s.places q) → P (get (altered f s n).places q)

@@ -1,12 +1,10 @@
 -- One slot of the committed state changes.
-use Rattle.std.proofs.Common.{◌≡◌, ◌≢◌, ℕ, ◌+◌, ◌<◌, ◌≤◌, ◌==◌, ◌&&◌, Bool, true, false, cond, List, [], ◌∷◌, length, Option, Some, None, is_some, nat_cmp, refl, sym, ap, subst, ◌∙◌, arith, inl, inr, eq-eqb, ne_eqb}
+use Rattle.std.proofs.Common.{◌≡◌, ◌≢◌, ℕ, ◌<◌, ◌≤◌, true, List, [], length, Option, Some, None, is_some, refl, sym, ap, subst, ◌∙◌, inl, inr}
 use Rattle.std.specs.Cmp.{nat_cmp_total}
 use Rattle.std.proofs.lemmas.Bool.{cases_eq}
-use Rattle.ids.specs.declared.edit.Mode.{Mode}
-use Rattle.ids.specs.declared.limits.TheConstants.{DESCRIPTORS}
 use Rattle.model.specs.FiniteMap.{get, insert, nat_cmp-IsAntisymmetric, same_map}
 use Rattle.model.specs.State.{Kernel, Process}
-use Rattle.model.specs.Changes.{Clear_slot, Edit, applied, or_new, process_of, set_process, tidy, with_slot, without_slot}
+use Rattle.model.specs.Changes.{Clear_slot, applied, or_new, process_of, set_process, tidy, with_slot, without_slot}
 use Rattle.model.proofs.Laws.{get_other, get_same}
 use Rattle.call_laws.specs.Fits.{Fits}
 use Rattle.freeing_laws.specs.Counts.{listed}

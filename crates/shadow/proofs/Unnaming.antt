@@ -1,8 +1,8 @@
 -- A directory's name goes, and the directory with it.
-use Rattle.std.proofs.Common.{◌≡◌, ◌≢◌, ℕ, ◌+◌, List, [], ◌∷◌, Option, Some, None, refl, sym, ap, subst, ◌∙◌, arith}
+use Rattle.std.proofs.Common.{◌≡◌, ℕ, List, [], Some, None, refl, sym, ap, subst, ◌∙◌}
 use Rattle.std.specs.Option.{option_and_then}
 use Rattle.model.specs.FiniteMap.{get, insert, remove}
-use Rattle.model.specs.State.{Directory, Inode, Kernel, Name, Process, names_of, names_of_inode}
+use Rattle.model.specs.State.{Directory, Kernel, Name, Process, names_of, names_of_inode}
 use Rattle.model.specs.Changes.{Unname_directory, applied, clear_name, tidy}
 use Rattle.call_laws.specs.Fits.{Fits}
 use Rattle.freeing_laws.specs.Counts.{free_inode}
@@ -11,14 +11,14 @@ use Rattle.freeing_laws.proofs.Openings.{openings_change_lem}
 use Rattle.dirlist.specs.Listing.{Listing}
 use Rattle.store.specs.Numbers.{Numbers, held, present}
 use Rattle.store.specs.Places.{altered, changed_object, with_listing, without_name}
-use Rattle.store.specs.Shown.{description_of, descriptions, inode_of, inodes}
+use Rattle.store.specs.Shown.{descriptions, inode_of, inodes}
 use Rattle.store.specs.declared.Place.{Place}
 use Rattle.store.specs.declared.Stage.{Stage}
 use Rattle.store.specs.declared.Object.{Object}
 use Rattle.store.specs.declared.Object.TheVariants.{Directory as Kept_directory, File as Kept_file, Description as Kept_description, Nothing}
 use Rattle.store.proofs.Laws.{altered-some, descriptions-changed, get-inodes, inodes-set, left-altered, with_place}
 use Rattle.shadow.specs.Claims.{Claim, New_directory, Number, Room}
-use Rattle.shadow.specs.Laid.{Frees, Holds, kept_in}
+use Rattle.shadow.specs.Laid.{kept_in}
 use Rattle.shadow.specs.Stored.{AreCounted, Sound, state_of, stored}
 use Rattle.shadow.proofs.Edited.{Counts, counted_by, counts_of, counts_of_state, tidied_of}
 use Rattle.shadow.proofs.Freed.{IsMade}

@@ -1,4 +1,4 @@
-use Rattle.std.proofs.Common.{◌≡◌, ◌≤◌, ap, sym, subst, ◌∙◌}
+use Rattle.std.proofs.Common.{◌≤◌, ap, sym, subst, ◌∙◌}
 use Rattle.std.specs.List.{flat_map}
 use Rattle.freeing_laws.specs.Counts.{listed}
 use Rattle.shadow.specs.Claims.{KeepsMore, claimed_by, claimed_in, kinds_in, with_kinds}

@@ -1,5 +1,4 @@
-use Rattle.std.proofs.Common.{◌≡◌, ℕ, List, [], ◌∷◌, Option, None, Some, sym, ap, subst, ◌∙◌}
-use Rattle.model.specs.State.{Process}
+use Rattle.std.proofs.Common.{None, Some, sym, subst, ◌∙◌}
 use Rattle.call_laws.specs.Fits.{IsAlive}
 use Rattle.freeing_laws.specs.Sweep.{closed}
 use Rattle.shadow.specs.Committed.{Committed}

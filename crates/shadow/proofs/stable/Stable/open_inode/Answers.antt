@@ -1,7 +1,7 @@
-use Rattle.std.proofs.Common.{◌≡◌, ℕ, [], ◌∷◌, sym, ap, subst, ◌∙◌}
+use Rattle.std.proofs.Common.{[], ◌∷◌, subst}
 use Rattle.model.specs.State.{Description}
 use Rattle.model.specs.Changes.{Open_inode, There, at_start}
-use Rattle.shadow.specs.Claims.{Claim, claimed_by_one}
+use Rattle.shadow.specs.Claims.{claimed_by_one}
 use Rattle.shadow.specs.declared.opening.Opening.TheVariants.{New}
 use Rattle.shadow.specs.Laid.{IsReopened}
 use Rattle.shadow.proofs.Edited.{less_of}

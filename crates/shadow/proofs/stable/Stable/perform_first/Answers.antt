@@ -1,7 +1,7 @@
-use Rattle.std.proofs.Common.{◌≡◌, ◌+◌, ◌<◌, ◌≤◌, ℕ, List, [], length, arith, refl, sym, subst, ap, ◌∙◌}
+use Rattle.std.proofs.Common.{◌≡◌, ◌<◌, ◌≤◌, ℕ, List, [], length, arith, refl, sym, subst, ap, ◌∙◌}
 use Rattle.std.proofs.lemmas.List.{get_or_read}
 use Rattle.model.specs.State.{Kernel}
-use Rattle.model.specs.Changes.{Cut, Edit, Make_directory, Make_file, Put_bytes, Unname_directory, applied, news, tidy}
+use Rattle.model.specs.Changes.{Cut, Edit, Put_bytes, applied, news, tidy}
 use Rattle.call_laws.specs.Fits.{Fits}
 use Rattle.shadow.specs.Steps.{IsFirst, new_in}
 use Rattle.shadow.proofs.Outcomes.{ok_so}

@@ -1,9 +1,9 @@
 use Rattle.std.proofs.Common.{◌≡◌, ◌+◌, ◌<◌, ◌≤◌, ℕ, List, length, arith, sym, subst, ap, ◌∙◌}
 use Rattle.std.proofs.lemmas.List.{get_or_read}
 use Rattle.model.specs.State.{Kernel}
-use Rattle.model.specs.Changes.{Clear_slot, Edit, Open_inode, Set_offset, applied, news, number, tidy}
+use Rattle.model.specs.Changes.{Edit, Set_offset, applied, news, tidy}
 use Rattle.call_laws.specs.Fits.{Fits}
-use Rattle.shadow.specs.Claims.{Claim, KeepsMore, claimed_by_one}
+use Rattle.shadow.specs.Claims.{KeepsMore, claimed_by_one}
 use Rattle.shadow.specs.Stored.{committed_of}
 use Rattle.shadow.specs.Steps.{IsLast, new_in}
 use Rattle.shadow.proofs.Edited.{less_of}

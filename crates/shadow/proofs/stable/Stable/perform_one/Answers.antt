@@ -1,4 +1,4 @@
-use Rattle.std.proofs.Common.{◌≡◌, ◌+◌, [], ◌∷◌, sym, ap, ◌∙◌}
+use Rattle.std.proofs.Common.{◌+◌, sym, ap, ◌∙◌}
 use Rattle.shadow.specs.Claims.{reserved}
 use Rattle.shadow.proofs.ClaimsOfCall.{claimed_of_one}
 use Rattle.shadow.proofs.Outcomes.{ok_so}
