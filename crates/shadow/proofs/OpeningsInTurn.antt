@@ -36,7 +36,7 @@ reopened_none s = record {
 
 -- the first is changed
 module _ (n : ℕ) (o : Opening) (rest : List (ℕ × Opening)) (sorted : IsStrictlySortedBy nat_cmp (keys_of ((n, o) ∷ rest)))
-  (s t : Numbers) (first : IsReopened n o s t) where
+    (s t : Numbers) (first : IsReopened n o s t) where
   abbrev whole : List (ℕ × Opening)
   whole = (n, o) ∷ rest
 

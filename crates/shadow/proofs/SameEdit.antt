@@ -1,6 +1,6 @@
 -- What an edit makes of a state does not hang on numbers of the call that the edit does not use, nor on
 -- what it says of the state before.
-use Rattle.std.proofs.Common.{◌≡◌, ℕ, List, [], ◌∷◌, refl, sym, ap, ◌∙◌}
+use Rattle.std.proofs.Common.{◌≡◌, ℕ, List, [], ◌∷◌, false, refl, sym, ap, ◌∙◌}
 use Rattle.ids.specs.declared.edit.Mode.{Mode}
 use Rattle.model.specs.State.{Directory, File, Kernel, Name}
 use Rattle.model.specs.FiniteMap.{empty}
@@ -44,5 +44,5 @@ module _ (chosen : List ℕ) (k : Kernel) where
   same_clearing pid f pipes = refl
 
 -- after an edit that loses nothing, nothing is to go
-pub none_goes : (chosen : List ℕ) (k : Kernel) (e : Edit) → IsTidied k → Fits chosen k e → loses e ≡ Rattle.std.proofs.Common.false → applied chosen e k ≡ tidy (applied chosen e k)
+pub none_goes : (chosen : List ℕ) (k : Kernel) (e : Edit) → IsTidied k → Fits chosen k e → loses e ≡ false → applied chosen e k ≡ tidy (applied chosen e k)
 none_goes chosen k e tidied fits none = sym (sweep_is_tidy_lem.none chosen k e tidied fits none)

@@ -16,9 +16,11 @@ lay_slot-former-requires-clause-fd c = c.requires.low
 
 pub close-requires : goal.close-requires
 close-requires c =
-    let ps = c.self.inside.processes.items in let qs = c.lay_slot-former.new.processes.items in let s = c.self.inside.store in let t = c.lay_slot-former.new.store in
-    (qs, cleared_holds ps qs s t c.args.pid c.args.fd c.requires.fits.0 c.self.invariant c.lay_slot-former.ensures.laid c.args.self.now c.self.view_is c.requires.fits.1
-    c.lay_slot-former.result c.lay_slot-former.ensures.former)
+    let ps = c.self.inside.processes.items in let qs = c.lay_slot-former.new.processes.items in let s = c.self.inside.store in let t = c.lay_slot-former.new.store in (
+      qs,
+      cleared_holds ps qs s t c.args.pid c.args.fd c.requires.fits.0 c.self.invariant c.lay_slot-former.ensures.laid c.args.self.now c.self.view_is c.requires.fits.1
+          c.lay_slot-former.result c.lay_slot-former.ensures.former,
+    )
 
 -- what the slot gave goes
 closes : (c : goal.After-close) → Frees (closed c.in-Some.description) c.lay_slot-former.new.processes.items c.lay_slot-former.new.store c.close.new.store
