@@ -50,7 +50,11 @@ pub(crate) fn open_file(kernel: &mut Kernel, heap: Heap) -> Result<()> {
     let flags = OpenFlags::READ
         .with(OpenFlags::WRITE)
         .with(OpenFlags::CREAT);
-    step(kernel, 1, Op::Call(Call::Open(Bytes::copy(heap, b"/f")?, flags)))
+    step(
+        kernel,
+        1,
+        Op::Call(Call::Open(Bytes::copy(heap, b"/f")?, flags)),
+    )
 }
 
 // The next call on descriptor 0 is at the first byte.

@@ -30,8 +30,8 @@ pub struct Plan {
     pub edits: Vec<Edit, Heap>,
 }
 
-/// Whether the kernel can run the call today: those on files and directories that make or remove no
-/// further name. It takes no memory.
+/// Whether the kernel can run the call today: those on files and directories that give a file no
+/// second name and take none away from it. It takes no memory.
 pub fn is_there(call: &Call) -> bool
     ensures { result ≡ can_call call.now }
 {

@@ -65,7 +65,7 @@ static FIRST_LINES: &str = "1 P1 begin -> begun
 5 P2 stat /a -> dir size 0 links 1
 ";
 
-static RUNS: [(&str, Expected); 10] = [
+static RUNS: [(&str, Expected); 11] = [
     (
         "priorities 0 0\n1 begin\n2 stat /a\n",
         Expected {
@@ -90,7 +90,19 @@ static RUNS: [(&str, Expected); 10] = [
         },
     ),
     (
-        "priorities 0 0\n1 begin\n1 mkdir /a\n1 end\n2 stat /a\n2 stat /a\n",
+        "priorities 0\n1 open /a RDWR,CREAT\n1 fill 0 3 78\n1 fstat 0\n1 close 0\n",
+        Expected {
+            list: "1,1,1,1",
+            limit: 100,
+            room: 1000,
+            status: 0,
+            out: "1 P1 open /a RDWR,CREAT -> 0\n2 P1 write 0 xxx -> 3\n\
+                3 P1 fstat 0 -> file size 3 links 1\n4 P1 close 0 -> ok\n",
+            err: "",
+        },
+    ),
+    (
+        "priorities 0 0\n1 begin\n1 open /a WRONLY,CREAT\n1 end\n2 stat /a\n2 stat /a\n",
         Expected {
             list: "1,1,2,1,2",
             limit: 100,
@@ -180,15 +192,7 @@ static RUNS: [(&str, Expected); 10] = [
 ];
 
 // A line with each call that is not supported yet, and what is expected of each.
-static UNSUPPORTED: [&str; 16] = [
-    "open /a RDONLY",
-    "close 0",
-    "read 0 1",
-    "write 0 a",
-    "fill 0 1 00",
-    "lseek 0 0 SET",
-    "ftruncate 0 0",
-    "fstat 0",
+static UNSUPPORTED: [&str; 8] = [
     "link /a /b",
     "unlink /a",
     "rename /a /b",

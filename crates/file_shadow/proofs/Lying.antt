@@ -26,8 +26,8 @@ same_block old new q was is same =
     let m : length (block_at old q) ≡ BLOCK_LEN = long_block old q was in
     let n : length (block_at new q) ≡ BLOCK_LEN = long_block new q is in
     ext_get_or None (block_at new q) (block_at old q) (n ∙ sym m) (λ i low.
-        let short : i < BLOCK_LEN = omega arith in
-        at_block new q i short ∙ same (q * BLOCK_LEN + i) (omega arith) (omega arith) ∙ sym (at_block old q i short))
+    let short : i < BLOCK_LEN = omega arith in
+    at_block new q i short ∙ same (q * BLOCK_LEN + i) (omega arith) (omega arith) ∙ sym (at_block old q i short))
 
 -- what was written through the slice of a list is the list
 pub written : (n : ℕ) (ws xs : Bytes) → n ≡ length ws → take n (ws ++ drop (length ws) xs) ≡ ws
@@ -213,8 +213,8 @@ module _ (places : List ℕ) (old new : Bytes) (index : ℕ) (low : index ≤ le
       let whole : length old ≡ length places * BLOCK_LEN = apart.whole in
       let n : length (block_at new (length places)) ≡ BLOCK_LEN = long_block new (length places) (omega (arith, long)) in
       ext_get_or None (block_at new (length places)) (replicate BLOCK_LEN None) (n ∙ sym (length-replicate {A = Option ℕ} BLOCK_LEN None)) (λ i low.
-          let short : i < BLOCK_LEN = omega arith in
-          at_block new (length places) i short ∙ ap (λ n. get_or new (n + i) None) (sym whole) ∙ at_end None i short ∙ sym (get_or-replicate BLOCK_LEN i None None short))
+      let short : i < BLOCK_LEN = omega arith in
+      at_block new (length places) i short ∙ ap (λ n. get_or new (n + i) None) (sym whole) ∙ at_end None i short ∙ sym (get_or-replicate BLOCK_LEN i None None short))
 
   whole_old : (q : ℕ) → q < length places → block_at new q ≡ block_at old q
   whole_old q short =
@@ -234,15 +234,15 @@ module _ (places : List ℕ) (old new : Bytes) (index : ℕ) (low : index ≤ le
   pub one_more : blocks_at new ps ≡ insert bs index (replicate BLOCK_LEN None)
   one_more =
       ext_get_or [] (blocks_at new ps) (insert bs index (replicate BLOCK_LEN None)) (length-map ps (block_at new) ∙ more ∙ sym (length-insert bs index (replicate BLOCK_LEN None) (omega (arith, many)) ∙ ap (λ n. n + 1) many)) (λ j short.
-          let inside : j < length ps = omega (arith, length-map ps (block_at new)) in
-          block_is new ps j inside ∙ elim (cases_eq j index) [
-            | inl is ↦ ap (λ n. block_at new (get_or ps n 0)) is ∙ ap (block_at new) here ∙ whole_new ∙ sym (ap (λ n. get_or (insert bs index (replicate BLOCK_LEN None)) n []) is ∙ get_or-insert_at bs index (replicate BLOCK_LEN None) [] (omega (arith, many)))
-            | inr not ↦ elim (cases_lt j index) [
-              | inl less ↦ ap (block_at new) (before j less) ∙ old_block j (omega arith) ∙ sym (get_or-insert_below bs index (replicate BLOCK_LEN None) [] j less (omega (arith, many)))
-              | inr from ↦
-                  let far : index < j = omega arith in
-                  let e : j - 1 + 1 ≡ j = omega arith in
-                  ap (block_at new) (behind j far) ∙ old_block (j - 1) (omega (arith, more))
-                  ∙ sym (ap (λ n. get_or (insert bs index (replicate BLOCK_LEN None)) n []) (sym e) ∙ get_or-insert_above bs index (replicate BLOCK_LEN None) [] (j - 1) (omega arith) (omega (arith, many)))
-            ]
-          ])
+      let inside : j < length ps = omega (arith, length-map ps (block_at new)) in
+      block_is new ps j inside ∙ elim (cases_eq j index) [
+        | inl is ↦ ap (λ n. block_at new (get_or ps n 0)) is ∙ ap (block_at new) here ∙ whole_new ∙ sym (ap (λ n. get_or (insert bs index (replicate BLOCK_LEN None)) n []) is ∙ get_or-insert_at bs index (replicate BLOCK_LEN None) [] (omega (arith, many)))
+        | inr not ↦ elim (cases_lt j index) [
+          | inl less ↦ ap (block_at new) (before j less) ∙ old_block j (omega arith) ∙ sym (get_or-insert_below bs index (replicate BLOCK_LEN None) [] j less (omega (arith, many)))
+          | inr from ↦
+              let far : index < j = omega arith in
+              let e : j - 1 + 1 ≡ j = omega arith in
+              ap (block_at new) (behind j far) ∙ old_block (j - 1) (omega (arith, more))
+              ∙ sym (ap (λ n. get_or (insert bs index (replicate BLOCK_LEN None)) n []) (sym e) ∙ get_or-insert_above bs index (replicate BLOCK_LEN None) [] (j - 1) (omega arith) (omega (arith, many)))
+        ]
+      ])

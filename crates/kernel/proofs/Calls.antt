@@ -63,7 +63,7 @@ have_parents v pid call well none alive kept there =
     by : (chosen : List ℕ) (es : List Edit) → CanEdit es → FitsAll chosen v.state es → HaveParents v.reserves es
     by chosen [] can fit = tt
     by chosen (e ∷ []) can fit = (first_parents v kept chosen e fit.0 (elim can [ inl first ↦ inl first | inr last ↦ inr (0, last) ]), tt)
-    by chosen (e ∷ f ∷ []) can fit = (first_parents v kept chosen e fit.0 (inl can.0), last_parents v (news e) f can.1.1, tt)
+    by chosen (e ∷ f ∷ []) can fit = (first_parents v kept chosen e fit.0 (inl can.0), (last_parents v (news e) f can.2, tt))
     by chosen (e ∷ f ∷ g ∷ es) can fit = absurd can
 
 -- what a plan over the slots gives is what the history says

@@ -5,7 +5,6 @@ use Rattle.std.specs.List.{AllByRecursion, list_any}
 use Rattle.std.specs.Map.{lookup}
 use Rattle.std.specs.Cmp.{nat_cmp_total}
 use Rattle.std.proofs.lemmas.Bool.{false≢true}
-
 use Rattle.model.specs.FiniteMap.{entries, get}
 use Rattle.model.specs.State.{A_file, A_directory, A_pipe, Kernel, Description, kind_of}
 use Rattle.model.specs.Plan.{Errno, Plan, Give, answer as answer_to, given, ◌>>=◌, ◌>>◌, ENOENT, ENOTDIR, ENOTEMPTY, EEXIST, EBUSY, EISDIR, EINVAL, EBADF, EFBIG, ESPIPE, List_names, Measure, refuse_if, or_refuse}
@@ -96,21 +95,21 @@ first_low k [] all = tt
 first_low k (f ∷ fs) all = all.0
 
 open_edits : (k : Kernel) (o : Own) (flags : OpenFlags) (f : ℕ) → f < descriptor_limit → (at : Last) (there : Option Place) → IfOk (given k (opened o flags f at there)) Edits
-open_edits k o flags f low at None = unless k (not (is_creating flags)) ENOENT _ (refl, refl, refl, omega arith, low)
+open_edits k o flags f low at None = unless k (not (is_creating flags)) ENOENT _ (refl, refl, (refl, omega arith, low))
 open_edits k o flags f low at (Some place) =
     unless k (is_creating flags && is_exclusive flags) EEXIST _ (unless k (is_directory place) EISDIR _ (
     either_given_bind (is_truncating flags)))
   where
     either_given_bind : (b : Bool) → IfOk (given k ((if b then cut_to place.0 0 else Give []) >>= (λ es. Rattle.model.specs.Plans.changed (Rattle.model.specs.Calls.Descriptor f) (es ++ Rattle.model.specs.Changes.Open_inode 0 (There place.0) (Rattle.model.specs.Plans.mode flags) o.pid f ∷ [])))) Edits
-    either_given_bind true = (omega arith, refl, refl, tt, low)
+    either_given_bind true = (omega arith, refl, (refl, tt, low))
     either_given_bind false = inr (refl, tt, low)
 
 read_edits : (k : Kernel) (it : Slot) (count : ℕ) → is_pipe it.kind ≡ false → IfOk (given k (read_some it count)) Edits
-read_edits k it count file = either_given k Edits (is_pipe it.kind) _ _ (λ pipe. absurd (false≢true (sym file ∙ pipe))) (λ _. by_test (is_empty (answer_to k (Rattle.model.specs.Plan.Read_file it.inode (answer_to k (Rattle.model.specs.Plan.Find_offset it.description)) count))))
+read_edits k it count file = either_given k Edits (is_pipe it.kind) _ _ (λ pipe. absurd (false≢true (sym file ∙ pipe))) (λ _. by_test (is_empty (answer_to k (Rattle.model.specs.Plan.Read_file it.inode (answer_to k (Rattle.model.specs.Plan.Find_offset it.description)) count))) _ _)
   where
-    by_test : (b : Bool) {d place : ℕ} → CanEdit (if b then [] else Rattle.model.specs.Changes.Set_offset d place ∷ [])
-    by_test true = tt
-    by_test false = inr tt
+    by_test : (b : Bool) (d place : ℕ) → CanEdit (if b then [] else Rattle.model.specs.Changes.Set_offset d place ∷ [])
+    by_test true d place = tt
+    by_test false d place = inr tt
 
 not_above : (a b : ℕ) → nat_le a b ≡ false → b < a
 not_above a b e = search (arith, e)
@@ -121,8 +120,11 @@ not_below a b e = search (arith, e)
 write_edits : (k : Kernel) (it : Slot) (bytes : List ℕ) → is_pipe it.kind ≡ false → IfOk (given k (write_some it bytes)) Edits
 write_edits k it bytes file = either_given k Edits (is_pipe it.kind) _ _ (λ pipe. absurd (false≢true (sym file ∙ pipe)))
     (λ _. after k (place_to_write it it.appending) _ (λ place. allowed k Edits (nat_le largest place) EFBIG _ (λ low. (
-    (let room : place < largest = not_above largest place low in
-    let few : length (take (largest - place) bytes) ≤ largest - place = take_few (largest - place) bytes in omega arith), refl, tt))))
+      (let room : place < largest = not_above largest place low in
+          let few : length (take (largest - place) bytes) ≤ largest - place = take_few (largest - place) bytes in omega arith),
+      refl,
+      tt,
+    ))))
   where
     take_few : (n : ℕ) (xs : List ℕ) → length (take n xs) ≤ n
     take_few zero xs = omega arith

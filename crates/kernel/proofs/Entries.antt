@@ -13,6 +13,8 @@ use Rattle.commit.specs.Views.{SameViews, live_slot, doomed_slot, View, view_at,
 use Rattle.history_laws.proofs.Laws.{after_one_more, forks_and_exits_move, legal_push, legality_follows, lists_stay, phases_move, places_suffice}
 use Rattle.history_laws.proofs.Laws.{right_entries_have_places, status_alive, what_stands, right_by, free_from, phase_is, alive_is, lists_are_their_effects}
 use Rattle.history_laws.proofs.Laws.{views_may_be_loose}
+use Rattle.freeing_laws.specs.Sweep.{AllFit}
+use Rattle.shadow.proofs.Laws.{calls_can_be_committed_lem}
 use Rattle.history.specs.Log.{Log}
 use Rattle.commit.specs.Standings.{IsStandingOf}
 use Rattle.commit.specs.declared.slot.Standing.{Standing}
@@ -228,6 +230,14 @@ module _ (f : Fields) (holds : IsConsistent f) (q : ℕ) where
   pub slot_changes : changes_in (view_at f.slots q) ≡ changes_of (moment f.log) q
   slot_changes = ap (λ p. changes_in p.slot) (holds.parts q)
       ∙ changes_shown (is_alive (moment f.log).committed q) ((moment f.log).phase q) (changes_of (moment f.log) q) dead_is_idle (λ none. ap (λ calls. effects q calls (moment f.log).committed) none)
+
+  -- each change fits the state that it finds
+  pub slot_fits : AllFit (changes_in (view_at f.slots q)) f.stable.state
+  slot_fits =
+      let m = moment f.log in
+      let lists = (what_stands 0 f.log.priorities f.log.limit f.log.entries holds.legal).lists q in
+      subst (AllFit (changes_in (view_at f.slots q))) (sym holds.state)
+      (subst (λ ds. AllFit ds m.committed) (sym slot_changes) (calls_can_be_committed_lem m.committed q (calls_at m q) lists.goes))
 
   -- with its changes on top of the committed state a process sees what the history says, not tidied
   pub slot_views : all_done (changes_in (view_at f.slots q)) f.stable.state ≡ view (moment f.log) q

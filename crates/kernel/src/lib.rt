@@ -1,7 +1,7 @@
 //! The kernel: one step of one process at a time, with transactions.
 //!
-//! Today there are directories and files, and the calls on them and on descriptors but those that
-//! add, remove or move a name of a file.
+//! Today there are directories and files: open, close, read, write, lseek, ftruncate, fstat, stat,
+//! mkdir, rmdir and list run, and no other call.
 #![tactic(auto)]
 
 mod execute;

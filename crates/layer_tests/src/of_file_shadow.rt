@@ -152,8 +152,8 @@ fn written(heap: Heap, shadow: &mut FileShadow, file: &FileData) -> (bool, bool,
 fn a_refused_write_changes_nothing(rt: HostRuntime) {
     let heap = heap::open(rt.alloc()).expect(&rt, "memory");
     let file = filled(&rt, heap, 9);
-    // Room for the numbers, for the blocks, a block and its place among the spare ones.
-    for number in 1..5 {
+    // Room for the numbers, for where the blocks lie, and for their bytes.
+    for number in 1..4 {
         let mut shadow = FileShadow::new(heap);
         heap.refuse(number);
         let refused = written(heap, &mut shadow, &file);

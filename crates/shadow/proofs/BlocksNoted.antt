@@ -10,13 +10,15 @@ not_in b h = omega (arith, h.1)
 pub joined : (old now more : List ℕ) → ((b : ℕ) → Contains now b ↔ (Contains old b ⊎ Contains more b)) → (b : ℕ) → Contains now b ↔ Contains (old ++ more) b
 joined old now more is b = (
   λ h. elim ((is b).0 h) [ inl x ↦ Contains-append_left old more b x | inr y ↦ Contains-append_right old more b y ],
-  λ h. (is b).1 (Contains-append_cases old more b h))
+  λ h. (is b).1 (Contains-append_cases old more b h),
+)
 
 -- where there were none before
 pub first_ones : (old now more : List ℕ) → old ≡ [] → ((b : ℕ) → Contains now b ↔ (Contains old b ⊎ Contains more b)) → (b : ℕ) → Contains now b ↔ Contains more b
 first_ones old now more none is b = (
   λ h. elim ((is b).0 h) [ inl x ↦ absurd (not_in b (subst (λ xs. Contains xs b) none x)) | inr y ↦ y ],
-  λ h. (is b).1 (inr h))
+  λ h. (is b).1 (inr h),
+)
 
 pub behind_none : (old now more : List ℕ) → old ≡ [] → ((b : ℕ) → Contains now b ↔ Contains more b) → (b : ℕ) → Contains now b ↔ Contains (old ++ more) b
 behind_none old now more none is b = subst (λ xs. Contains now b ↔ Contains (xs ++ more) b) (sym none) (is b)

@@ -110,7 +110,7 @@ carried_named c (Bytes fresh bytes) before after is named = ap may_be_named is.p
 
 -- the changes of the first inode are made
 module _ (n : ℕ) (c : Change) (rest : List (ℕ × Change)) (sorted : IsStrictlySortedBy nat_cmp (keys_of ((n, c) ∷ rest)))
-  (s t : Numbers) (here : IsCarried (Some c) (get s.places n) (get t.places n)) (others : (m : ℕ) → m ≢ n → get t.places m ≡ get s.places m) where
+    (s t : Numbers) (here : IsCarried (Some c) (get s.places n) (get t.places n)) (others : (m : ℕ) → m ≢ n → get t.places m ≡ get s.places m) where
   abbrev whole : List (ℕ × Change)
   whole = (n, c) ∷ rest
 

@@ -298,9 +298,12 @@ module _ (s t : Committed) (edits : List Edit) (i : ℕ) (chosen : List ℕ) (on
 -- where no number could be had for an edit, the others may be given up, and then as much is kept as before
 module _ (s t u : Committed) (done : List Edit) (chosen new : List ℕ) (have : HaveClaimed s t done chosen) (same : new ≡ chosen) (kept : (c : Claim) → reserved u c ≡ reserved t c) where
   pub may_still_give_up : (bs : List Bool) × ((c : Claim) → claimed_in c (with_kinds new bs) (listed None) ≤ reserved u c)
-  may_still_give_up = (flat_map kinds_in done, subst (λ ns. (c : Claim) → claimed_in c (with_kinds ns (flat_map kinds_in done)) [] ≤ reserved u c) (sym same) (λ c. (
-      let more : reserved t c ≡ reserved s c + claimed_in c (with_kinds chosen (flat_map kinds_in done)) [] = have.kept c in
-      let as_was : reserved u c ≡ reserved t c = kept c in omega arith)))
+  may_still_give_up = (
+    flat_map kinds_in done,
+    subst (λ ns. (c : Claim) → claimed_in c (with_kinds ns (flat_map kinds_in done)) [] ≤ reserved u c) (sym same) (λ c. (
+        let more : reserved t c ≡ reserved s c + claimed_in c (with_kinds chosen (flat_map kinds_in done)) [] = have.kept c in
+        let as_was : reserved u c ≡ reserved t c = kept c in omega arith)),
+  )
 
   pub same_kept : (v : Committed)
       → ((bs : List Bool) → ((c : Claim) → claimed_in c (with_kinds new bs) (listed None) ≤ reserved u c) → KeepsMore v u (λ c. claimed_in c (with_kinds new bs) (listed None)))

@@ -34,27 +34,27 @@ use Rattle.shadow.proofs.Turning.{closed_append}
 has_left : (n : ℕ) (ms ns : List ℕ) → 0 < times n ms → 0 < times n (ms ++ ns)
 has_left n ms ns has =
     let both : times n (ms ++ ns) ≡ times n ms + times n ns =
-        sum_by-append (λ v. cond (v == n) 1 0) ms ns in
+    sum_by-append (λ v. cond (v == n) 1 0) ms ns in
     omega arith
 
 has_right : (n : ℕ) (ms ns : List ℕ) → 0 < times n ns → 0 < times n (ms ++ ns)
 has_right n ms ns has =
     let both : times n (ms ++ ns) ≡ times n ms + times n ns =
-        sum_by-append (λ v. cond (v == n) 1 0) ms ns in
+    sum_by-append (λ v. cond (v == n) 1 0) ms ns in
     omega arith
 
 -- what is first stands in a list, and so does what stands in the rest
 has_first : (n m : ℕ) (ms : List ℕ) → m ≡ n → 0 < times n (m ∷ ms)
 has_first n m ms same =
     let both : times n (m ∷ ms) ≡ cond {A = ℕ} (m == n) 1 0 + times n ms =
-        sum_by-cons (λ v. cond (v == n) 1 0) m ms in
+    sum_by-cons (λ v. cond (v == n) 1 0) m ms in
     let one : cond {A = ℕ} (m == n) 1 0 ≡ 1 = ap (λ b. cond {A = ℕ} b 1 0) (eq-eqb m n same) in
     omega arith
 
 has_rest : (n m : ℕ) (ms : List ℕ) → 0 < times n ms → 0 < times n (m ∷ ms)
 has_rest n m ms has =
     let both : times n (m ∷ ms) ≡ cond {A = ℕ} (m == n) 1 0 + times n ms =
-        sum_by-cons (λ v. cond (v == n) 1 0) m ms in
+    sum_by-cons (λ v. cond (v == n) 1 0) m ms in
     omega arith
 
 -- a new description stands among the openings
@@ -65,7 +65,7 @@ new_is_key ((n, opening) ∷ rest) d is = elim (cases_eq n d) [
   | inl same ↦ has_first d n (keys_of rest) same
   | inr away ↦ (
       let later : kept_at ((n, opening) ∷ rest) d ≡ kept_at rest d =
-          later_kept n opening rest d (λ e. away (sym e)) in
+      later_kept n opening rest d (λ e. away (sym e)) in
       has_rest d n (keys_of rest)
       (new_is_key rest d (ap (λ o. is_new (or_kept o)) (sym later) ∙ is)))
 ]
@@ -105,7 +105,7 @@ module _ (ps qs : List Process) (s after last : Numbers) (ds : List Effect) (p :
       → (is_held done d ≡ true) ⊎ (0 < times d closing)
   of_before d there =
       let slot : HasSlot before d =
-          left_is_tidy_lem.held before d (tidied_of ps s can.sound) there in
+      left_is_tidy_lem.held before d (tidied_of ps s can.sound) there in
       elim (of_slot slot.pid slot.descriptor d slot.is.gives) [
         | inl held ↦ inl held
         | inr has ↦ inr (has_left d (given_in former) (keys_of p.openings) has)

@@ -142,11 +142,11 @@ abbrev pub all_mine : List ℕ → List Edit → List (ℕ × Bool)
 all_mine chosen [] = []
 all_mine chosen (e ∷ es) = mine chosen e ++ all_mine chosen es
 
-no_more : (ns : List ℕ) → length ns ≡ 0 → ns ≡ []
+pub no_more : (ns : List ℕ) → length ns ≡ 0 → ns ≡ []
 no_more [] e = refl
 no_more (n ∷ ns) e = absurd (let none : suc (length ns) ≡ 0 = e in omega arith)
 
-claimed_append : (c : Claim) (xs ys : List (ℕ × Bool)) (ps qs : List ℕ) → claimed_in c (xs ++ ys) (ps ++ qs) ≡ claimed_in c xs ps + claimed_in c ys qs
+pub claimed_append : (c : Claim) (xs ys : List (ℕ × Bool)) (ps qs : List ℕ) → claimed_in c (xs ++ ys) (ps ++ qs) ≡ claimed_in c xs ps + claimed_in c ys qs
 claimed_append (Room r) xs ys ps qs = sum_by-append (λ v. cond (v == r) 1 0) ps qs
 claimed_append (New_directory n) xs ys ps qs = sum_by-append (λ (z : ℕ × Bool). cond ((z.0 == n) && z.1) 1 0) xs ys
 claimed_append (Number n) xs ys ps qs = sum_by-append (λ (z : ℕ × Bool). cond ((z.0 == n) && not z.1) 1 0) xs ys
@@ -204,7 +204,7 @@ second_other chosen e first long different = first_each chosen (λ m. m ≢ get_
     first_other chosen (omega (arith, one, long)) different (same ∙ ap (λ j. get_or chosen j 0) one))
 
 -- new numbers with their kinds
-kinds_last : (m : ℕ) (cs chosen : List ℕ) → get_or chosen m 0 ≡ get_or cs 0 0 → (e : Edit) → IsLast m e → length cs ≡ news e → with_kinds cs (kinds_in e ++ []) ≡ mine chosen e ++ []
+pub kinds_last : (m : ℕ) (cs chosen : List ℕ) → get_or chosen m 0 ≡ get_or cs 0 0 → (e : Edit) → IsLast m e → length cs ≡ news e → with_kinds cs (kinds_in e ++ []) ≡ mine chosen e ++ []
 kinds_last m cs chosen same e last = last_cases m (λ e. length cs ≡ news e → with_kinds cs (kinds_in e ++ []) ≡ mine chosen e ++ [])
     (λ i inode mode pid f is long. by_list cs same i is long)
     (λ d place long. ap (λ ns. with_kinds ns []) (no_more cs long))
@@ -221,7 +221,7 @@ one_kind directory [] i is long = absurd (omega (arith, long))
 one_kind directory (c ∷ []) i is long = ap (λ j. (get_or (c ∷ []) j 0, directory) ∷ []) (sym is)
 one_kind directory (c ∷ d ∷ cs) i is long = absurd (let some : suc (suc (length cs)) ≡ 1 = long in omega arith)
 
-kinds_first : (chosen : List ℕ) (e : Edit) → IsFirst e → length chosen ≡ news e → with_kinds chosen (kinds_in e ++ []) ≡ mine chosen e ++ []
+pub kinds_first : (chosen : List ℕ) (e : Edit) → IsFirst e → length chosen ≡ news e → with_kinds chosen (kinds_in e ++ []) ≡ mine chosen e ++ []
 kinds_first chosen e first = first_cases (λ e. length chosen ≡ news e → with_kinds chosen (kinds_in e ++ []) ≡ mine chosen e ++ [])
     (λ d x i is long. one_kind true chosen i is long)
     (λ d x i is long. one_kind false chosen i is long)
@@ -236,7 +236,7 @@ two_kinds directory (c ∷ cs) i is f last long =
     ap₂ (λ j ms. (get_or (c ∷ cs) j 0, directory) ∷ ms) (sym is)
     (kinds_last 1 cs (c ∷ cs) refl f last (let some : suc (length cs) ≡ 1 + news f = long in omega arith))
 
-kinds_two : (chosen : List ℕ) (e f : Edit) → IsFirst e → IsLast (news e) f → length chosen ≡ news e + news f → with_kinds chosen (kinds_in e ++ (kinds_in f ++ [])) ≡ mine chosen e ++ (mine chosen f ++ [])
+pub kinds_two : (chosen : List ℕ) (e f : Edit) → IsFirst e → IsLast (news e) f → length chosen ≡ news e + news f → with_kinds chosen (kinds_in e ++ (kinds_in f ++ [])) ≡ mine chosen e ++ (mine chosen f ++ [])
 kinds_two chosen e f first = first_cases (λ e. IsLast (news e) f → length chosen ≡ news e + news f → with_kinds chosen (kinds_in e ++ (kinds_in f ++ [])) ≡ mine chosen e ++ (mine chosen f ++ []))
     (λ d x i is last long. two_kinds true chosen i is f last long)
     (λ d x i is last long. two_kinds false chosen i is f last long)
@@ -245,7 +245,7 @@ kinds_two chosen e f first = first_cases (λ e. IsLast (news e) f → length cho
     (λ n before after last long. kinds_last 0 chosen chosen refl f last (long ∙ omega arith))
     e first
 
-none_claimed : (c : Claim) → claimed_in c [] [] ≡ 0
+pub none_claimed : (c : Claim) → claimed_in c [] [] ≡ 0
 none_claimed (Room r) = refl
 none_claimed (New_directory n) = refl
 none_claimed (Number n) = refl

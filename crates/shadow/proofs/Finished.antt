@@ -68,7 +68,7 @@ pub unheld_new : {ps : List Process} {s : Numbers} {ds : List Effect} {p : Patch
     → holders (state_of ps s) d ≡ 0
 unheld_new {ps} {s} {ds} {p} can d new =
     openings_change_lem.unheld (state_of ps s) d (λ pid f gives.
-        let it = can.sound.well.slots pid f d gives in not_there (sym it.1 ∙ unseen))
+    let it = can.sound.well.slots pid f d gives in not_there (sym it.1 ∙ unseen))
   where
     not_there : {it : Description} → Some it ≡ None → ⊥
     not_there is = absurd cc
@@ -77,11 +77,11 @@ unheld_new {ps} {s} {ds} {p} can d new =
     claims_one =
         let one : as_count (is_new (opening_at p.openings d)) ≡ 1 = ap as_count new in
         let claims : claimed (Number d) ds ≡ as_count (is_file_made (net_at p.inodes d).made)
-            + as_count (is_new (opening_at p.openings d)) = can.agrees.claims (Number d) in
+        + as_count (is_new (opening_at p.openings d)) = can.agrees.claims (Number d) in
         let covers : claimed (Number d) ds ≤ reserved (committed_of ps s) (Number d) =
-            can.covers (Number d) in
+        can.covers (Number d) in
         let meets : reserved (committed_of ps s) (Number d)
-            ≡ at_place (Number d) (get s.places d) = met_is ps s (Number d) in
+        ≡ at_place (Number d) (get s.places d) = met_is ps s (Number d) in
         omega arith
 
     unseen : get (descriptions s) d ≡ None
@@ -105,7 +105,7 @@ not_opened : (k : Kernel) → WellFormed k → (n : ℕ) → kind_of k n ≡ Som
     → openings k n ≡ 0
 not_opened k well n is =
     openings_change_lem.unopened k n (λ d it there same.
-        subst CanBeOpened (ap (kind_of k) same ∙ is) (well.descriptions d it there))
+    subst CanBeOpened (ap (kind_of k) same ∙ is) (well.descriptions d it there))
 
 -- what a name gives is an inode, and so no description
 not_named : (ps : List Process) (s : Numbers) → WellFormed (state_of ps s) → (d n : ℕ) (x : Name)
@@ -154,7 +154,7 @@ number_goes true o waits =
 -- a new description takes one claim on its number
 module _ (openings : List (ℕ × Opening)) (s t : Numbers) (opened : AreReopened openings s t)
     (comes : (d : ℕ) → is_new (opening_at openings d) ≡ true
-        → get s.places d ≡ Some (coming Nothing)) where
+    → get s.places d ≡ Some (coming Nothing)) where
   waits : (d : ℕ) → is_new (opening_at openings d) ≡ true → get (reserves_of s) d ≡ awaited
   waits d new =
       get-chosen reserve_in s.places d ∙ ap (option_and_then reserve_in) (comes d new)
@@ -162,13 +162,13 @@ module _ (openings : List (ℕ × Opening)) (s t : Numbers) (opened : AreReopene
   opened_kept : (c : Claim) → kept_in t c + openings_claim openings c ≡ kept_in s c
   opened_kept (Room d) =
       let same : kept_in t (Room d) ≡ kept_in s (Room d) =
-          ap (λ o. or_zero (room_of o)) (opened.reserves d)
-          ∙ room_stays (is_new (opening_at openings d)) (get (reserves_of s) d) in
+      ap (λ o. or_zero (room_of o)) (opened.reserves d)
+      ∙ room_stays (is_new (opening_at openings d)) (get (reserves_of s) d) in
       omega arith
   opened_kept (New_directory n) =
       let same : kept_in t (New_directory n) ≡ kept_in s (New_directory n) =
-          ap coming_directory (opened.reserves n)
-          ∙ directory_stays (is_new (opening_at openings n)) (get (reserves_of s) n) (waits n) in
+      ap coming_directory (opened.reserves n)
+      ∙ directory_stays (is_new (opening_at openings n)) (get (reserves_of s) n) (waits n) in
       omega arith
   opened_kept (Number n) =
       ap (λ o. coming_other o + as_count (is_new (opening_at openings n))) (opened.reserves n)
@@ -232,13 +232,13 @@ module _ {ps qs : List Process} {s mid after last : Numbers} {ds : List Effect} 
   kept : (c : Claim) → kept_in last c + claimed c ds ≡ kept_in s c
   kept c =
       let slots : kept_in last c ≡ kept_in after c =
-          same_kept after last slotted.stay.reserves c in
+      same_kept after last slotted.stay.reserves c in
       let descriptions : kept_in after c + openings_claim p.openings c ≡ kept_in mid c =
-          opened_kept p.openings mid after opened made.coming c in
+      opened_kept p.openings mid after opened made.coming c in
       let inodes : kept_in mid c + inodes_claim p.inodes c ≡ kept_in s c = made.kept c in
       let claims : claimed c ds ≡ claim_in p c = can.agrees.claims c in
       let parts : claim_in p c ≡ inodes_claim p.inodes c + openings_claim p.openings c =
-          both_claims p c in
+      both_claims p c in
       omega arith
 
 -- so all changes are made

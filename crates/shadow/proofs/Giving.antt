@@ -58,9 +58,9 @@ module _ (start now : Committed) (all parents : List ℕ) (n : ℕ) (rest : List
       let b = first_kind ds in
       let c = new_number b n in
       let sum : reserved start (new_number (first_kind (gives.left bs are).kinds) n) + claimed_in (new_number (first_kind (gives.left bs are).kinds) n) (with_kinds (n ∷ rest) (gives.left bs are).kinds) []
-          ≡ reserved now (new_number (first_kind (gives.left bs are).kinds) n) + claimed_in (new_number (first_kind (gives.left bs are).kinds) n) (with_kinds all bs) [] = (gives.left bs are).kept c in
+      ≡ reserved now (new_number (first_kind (gives.left bs are).kinds) n) + claimed_in (new_number (first_kind (gives.left bs are).kinds) n) (with_kinds all bs) [] = (gives.left bs are).kept c in
       let first : claimed_in (new_number (first_kind (gives.left bs are).kinds) n) (with_kinds (n ∷ rest) (gives.left bs are).kinds) []
-          ≡ number_as (first_kind (gives.left bs are).kinds) n (new_number (first_kind (gives.left bs are).kinds) n) + claimed_in (new_number (first_kind (gives.left bs are).kinds) n) (with_kinds rest (later_kinds (gives.left bs are).kinds)) [] = first_claimed c n rest ds in
+      ≡ number_as (first_kind (gives.left bs are).kinds) n (new_number (first_kind (gives.left bs are).kinds) n) + claimed_in (new_number (first_kind (gives.left bs are).kinds) n) (with_kinds rest (later_kinds (gives.left bs are).kinds)) [] = first_claimed c n rest ds in
       let one : number_as (first_kind (gives.left bs are).kinds) n (new_number (first_kind (gives.left bs are).kinds) n) ≡ 1 = number_counts b n in
       let most : claimed_in (new_number (first_kind (gives.left bs are).kinds) n) (with_kinds all bs) [] ≤ claimed_in (new_number (first_kind (gives.left bs are).kinds) n) (with_kinds all bs) parents = without_parents c (with_kinds all bs) parents in
       let there : claimed_in (new_number (first_kind (gives.left bs are).kinds) n) (with_kinds all bs) parents ≤ reserved start (new_number (first_kind (gives.left bs are).kinds) n) = are c in
@@ -170,12 +170,15 @@ module _ (start now : Committed) (n given : ℕ) (net : Net) (gives : GivesRoom 
   }
 
   pub number_left : (what : Made) → net.made ≡ Some what → given ≡ net.promised → IsComing now n
-  number_left what made all = (kind_made what, (
-      let sum : reserved start (new_number (kind_made what) n) ≡ reserved now (new_number (kind_made what) n) + given * room_in n (new_number (kind_made what) n) = gives.kept (new_number (kind_made what) n) in
-      let claims : inode_claim n net (new_number (kind_made what) n) ≡ net.promised * room_in n (new_number (kind_made what) n) + made_part net.made n (new_number (kind_made what) n) = inode_parts n net (new_number (kind_made what) n) in
-      let part : made_part net.made n (new_number (kind_made what) n) ≡ 1 = ap (λ m. made_part m n (new_number (kind_made what) n)) made ∙ number_counts (kind_made what) n in
-      let same : given * room_in n (new_number (kind_made what) n) ≡ net.promised * room_in n (new_number (kind_made what) n) = ap (λ k. k * room_in n (new_number (kind_made what) n)) all in
-      let most : inode_claim n net (new_number (kind_made what) n) ≤ reserved start (new_number (kind_made what) n) = there (new_number (kind_made what) n) in omega arith))
+  number_left what made all = (
+    kind_made what,
+    (
+        let sum : reserved start (new_number (kind_made what) n) ≡ reserved now (new_number (kind_made what) n) + given * room_in n (new_number (kind_made what) n) = gives.kept (new_number (kind_made what) n) in
+        let claims : inode_claim n net (new_number (kind_made what) n) ≡ net.promised * room_in n (new_number (kind_made what) n) + made_part net.made n (new_number (kind_made what) n) = inode_parts n net (new_number (kind_made what) n) in
+        let part : made_part net.made n (new_number (kind_made what) n) ≡ 1 = ap (λ m. made_part m n (new_number (kind_made what) n)) made ∙ number_counts (kind_made what) n in
+        let same : given * room_in n (new_number (kind_made what) n) ≡ net.promised * room_in n (new_number (kind_made what) n) = ap (λ k. k * room_in n (new_number (kind_made what) n)) all in
+        let most : inode_claim n net (new_number (kind_made what) n) ≤ reserved start (new_number (kind_made what) n) = there (new_number (kind_made what) n) in omega arith),
+  )
 
   pub inode_given : (after : Committed) → given ≡ net.promised → KeepsMore after now (made_part net.made n) → KeepsMore after start (inode_claim n net)
   inode_given after all less c =

@@ -11,7 +11,7 @@ module _ (start now : Committed) (all : List (ℕ × Opening)) (n : ℕ) (openin
   pub number_kept : is_new opening ≡ true → ((c : Claim) → openings_claim all c ≤ reserved start c) → 0 < reserved now (new_number false n)
   number_kept new there =
       let one : opened_at (Some opening) (new_number false n) ≤ reserved now (new_number false n) = one_kept opened_at nothing_opened start now all n opening rest gives
-          (λ c. subst (λ m. m ≤ reserved start c) (openings_at all c) (there c)) (new_number false n) refl in
+      (λ c. subst (λ m. m ≤ reserved start c) (openings_at all c) (there c)) (new_number false n) refl in
       let is : opened_at (Some opening) (new_number false n) ≡ 1 = ap (λ b. cond b 1 0) new in
       omega arith
 

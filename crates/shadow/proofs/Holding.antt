@@ -111,7 +111,7 @@ module _ (g : Opened → Opened) where
       by_stage Held Nothing is = absurd cc
 
   module _ (same : (opened : Opened) → (g opened).description ≡ opened.description) (R : ℕ → ℕ → ℕ → Type 0) (s : Numbers) (d : ℕ)
-    (here : (before : Opened) → object_at s d ≡ Some (A_description before) → R d before.holders (g before).holders) (away : (e count : ℕ) → e ≢ d → R e count count) where
+      (here : (before : Opened) → object_at s d ≡ Some (A_description before) → R d before.holders (g before).holders) (away : (e count : ℕ) → e ≢ d → R e count count) where
     abbrev after : Numbers
     after = altered (with_opened g) s d
 

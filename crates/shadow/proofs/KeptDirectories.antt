@@ -43,8 +43,8 @@ pub kept_over : (ds : List Effect) (p : Patches) (s : Committed) → Agrees ds p
 kept_over ds p s a fits covers kept d is =
     by_made s.reserves d (get s.state.inodes d) (net_at p.inodes d).made (net_at p.inodes d).contents (a.kinds s.state d fits)
     (λ made.
-      let one : as_count (is_directory_made (net_at p.inodes d).made) ≡ 1 = ap (λ m. as_count (is_directory_made m)) made in
-      let most = covers (New_directory d) in
-      let claims = a.claims (New_directory d) in
-      omega (arith, most, claims, one))
+    let one : as_count (is_directory_made (net_at p.inodes d).made) ≡ 1 = ap (λ m. as_count (is_directory_made m)) made in
+    let most = covers (New_directory d) in
+    let claims = a.claims (New_directory d) in
+    omega (arith, most, claims, one))
     (kept d) (sym (ap (mapped kind) (a.inodes s.state d)) ∙ is)

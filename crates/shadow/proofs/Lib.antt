@@ -12,6 +12,7 @@ mod Moved
 mod Pairs
 mod Applied
 mod Along
+mod Each_laid
 mod EditsClaim
 mod Agreeing
 mod Places
@@ -26,6 +27,7 @@ mod Going
 mod Turning
 mod Rows
 mod InOrder
+mod Once
 mod Carrying
 mod Overwriting
 mod Reopening
@@ -43,6 +45,8 @@ mod OffsetInState
 mod BlocksNoted
 mod FiledOn
 mod Alike
+mod SameEdit
+mod ClaimsOfCall
 mod GivingOpened
 mod KeptDirectories
 pub mod Cleared

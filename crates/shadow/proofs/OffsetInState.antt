@@ -1,5 +1,5 @@
 -- The offset of a description changes in the committed state.
-use Rattle.std.proofs.Common.{◌≡◌, ◌≢◌, ℕ, ◌+◌, List, Option, refl, sym, ap, subst, ◌∙◌, arith}
+use Rattle.std.proofs.Common.{◌≡◌, ℕ, ◌+◌, List, refl, sym, ap, subst, ◌∙◌, arith}
 use Rattle.model.specs.FiniteMap.{get}
 use Rattle.model.specs.State.{Process}
 use Rattle.model.specs.Changes.{Set_offset, applied, set_offset, tidy}
@@ -17,17 +17,21 @@ use Rattle.shadow.proofs.Kept_on.{opened_staged}
 use Rattle.shadow.proofs.OpeningMoved.{offset_counted, offset_reserves, offset_state}
 use Rattle.shadow.proofs.SlotInState.{frees_nothing, kept_met, met_by}
 
-claims_none : (c : Claim) (chosen : List ℕ) (d place : ℕ) → claimed_by_one c chosen (Set_offset d place) ≡ 0
+claims_none : (c : Claim) (chosen : List ℕ) (d place : ℕ)
+    → claimed_by_one c chosen (Set_offset d place) ≡ 0
 claims_none (Room r) chosen d place = refl
 claims_none (New_directory m) chosen d place = refl
 claims_none (Number m) chosen d place = refl
 
-module _ (ps : List Process) (s : Numbers) (v : Committed) (is : committed_of ps s ≡ v) (chosen : List ℕ) (d place : ℕ) (sound : Sound ps s)
-    (fits : Fits chosen v.state (Set_offset d place)) (t : Numbers) (moved : t ≡ altered (with_opened (moved_to place)) s d) where
+module _ (ps : List Process) (s : Numbers) (v : Committed) (is : committed_of ps s ≡ v)
+    (chosen : List ℕ) (d place : ℕ) (sound : Sound ps s)
+    (fits : Fits chosen v.state (Set_offset d place)) (t : Numbers)
+    (moved : t ≡ altered (with_opened (moved_to place)) s d) where
   stored_fits : Fits chosen (state_of ps s) (Set_offset d place)
   stored_fits = subst (λ (v : Committed). Fits chosen v.state (Set_offset d place)) (sym is) fits
 
-  moves : applied chosen (Set_offset d place) (state_of ps s) ≡ set_offset d place (get (descriptions s) d) (state_of ps s)
+  moves : applied chosen (Set_offset d place) (state_of ps s)
+      ≡ set_offset d place (get (descriptions s) d) (state_of ps s)
   unfolding applied
   moves = refl
 
@@ -40,20 +44,28 @@ module _ (ps : List Process) (s : Numbers) (v : Committed) (is : committed_of ps
   })
 
   freed : Frees (λ k. k) ps t t
-  freed = frees_nothing ps t (made_holds ps ps s t chosen (Set_offset d place) sound stored_fits made)
+  freed = frees_nothing ps t
+      (made_holds ps ps s t chosen (Set_offset d place) sound stored_fits made)
 
-  tidies : applied chosen (Set_offset d place) (state_of ps s) ≡ tidy (applied chosen (Set_offset d place) (state_of ps s))
+  tidies : applied chosen (Set_offset d place) (state_of ps s)
+      ≡ tidy (applied chosen (Set_offset d place) (state_of ps s))
   tidies = sym (tidy_after ps s chosen (Set_offset d place) sound stored_fits refl)
 
   pub moving_sound : Sound ps t
-  moving_sound = freed_sound ps ps s t chosen (Set_offset d place) sound stored_fits made (λ k. k) tidies t freed
+  moving_sound = freed_sound ps ps s t chosen (Set_offset d place) sound stored_fits made (λ k. k)
+      tidies t freed
 
   pub moving_state : state_of ps t ≡ tidy (applied chosen (Set_offset d place) v.state)
-  moving_state = state_is ps ps s v is (state_of ps t) (λ k. tidy (applied chosen (Set_offset d place) k))
-      (freed_state ps ps s t chosen (Set_offset d place) sound stored_fits made (λ k. k) tidies t freed)
+  moving_state = state_is ps ps s v is (state_of ps t)
+      (λ k. tidy (applied chosen (Set_offset d place) k))
+      (freed_state ps ps s t chosen (Set_offset d place) sound stored_fits made (λ k. k) tidies t
+      freed)
 
-  pub moving_kept : (c : Claim) → kept_in t c + claimed_by_one c chosen (Set_offset d place) ≡ kept_in s c
+  pub moving_kept : (c : Claim)
+      → kept_in t c + claimed_by_one c chosen (Set_offset d place) ≡ kept_in s c
   moving_kept c =
-      let same : kept_in t c ≡ kept_in s c = ap (λ (t : Numbers). kept_in t c) moved ∙ kept_met (altered (with_opened (moved_to place)) s d) c ∙ ap (met_by c) (offset_reserves s d place (number_of c)) ∙ sym (kept_met s c) in
+      let same : kept_in t c ≡ kept_in s c = ap (λ (t : Numbers). kept_in t c) moved
+      ∙ kept_met (altered (with_opened (moved_to place)) s d) c
+      ∙ ap (met_by c) (offset_reserves s d place (number_of c)) ∙ sym (kept_met s c) in
       let none : claimed_by_one c chosen (Set_offset d place) ≡ 0 = claims_none c chosen d place in
       omega arith

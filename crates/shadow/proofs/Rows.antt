@@ -73,10 +73,10 @@ module _ {X : Type 0} where
       here : (((q : ℕ) → find nat_cmp q es ≢ None → (first + 1 ≤ q) × (q < first + 1 + more)) → es ≡ listed (λ q. find nat_cmp q es) (first + 1) more) → first ≡ e.0 → e ∷ es ≡ listed rest first (suc more)
       here behind same =
           ap (λ es. e ∷ es) (behind (λ q found.
-              let above : e.0 < q = beyond q found in
-              let far : q ≢ e.0 = λ is. omega arith in
-              let high : q < first + suc more = (within q (λ none. found (sym (untied q e.0 (Some e.1) (find nat_cmp q es) far) ∙ none))).1 in
-              (omega arith, omega arith))
+          let above : e.0 < q = beyond q found in
+          let far : q ≢ e.0 = λ is. omega arith in
+          let high : q < first + suc more = (within q (λ none. found (sym (untied q e.0 (Some e.1) (find nat_cmp q es) far) ∙ none))).1 in
+          (omega arith, omega arith))
           ∙ listed_alike (λ q. find nat_cmp q es) rest (first + 1) more (λ q above. sym (untied q e.0 (Some e.1) (find nat_cmp q es) (λ is. omega arith))))
           ∙ ap (λ n. (n, e.1) ∷ listed rest (first + 1) more) (sym same)
           ∙ ap (λ o. in_front first o (listed rest (first + 1) more)) (sym (ap rest same ∙ first_found e es))
@@ -86,11 +86,11 @@ module _ {X : Type 0} where
           let low : first ≤ e.0 = (within e.0 there).0 in
           let none : rest first ≡ None = untied first e.0 (Some e.1) (find nat_cmp first es) away ∙ nothing (find nat_cmp first es) refl in
           behind (λ q found.
-              let within_q : (first ≤ q) × (q < first + suc more) = within q found in
-              let low_q : first ≤ q = within_q.0 in
-              let high_q : q < first + suc more = within_q.1 in
-              let far : q ≢ first = λ is. found (ap rest is ∙ none) in
-              (omega arith, omega arith))
+          let within_q : (first ≤ q) × (q < first + suc more) = within q found in
+          let low_q : first ≤ q = within_q.0 in
+          let high_q : q < first + suc more = within_q.1 in
+          let far : q ≢ first = λ is. found (ap rest is ∙ none) in
+          (omega arith, omega arith))
           ∙ ap (λ o. in_front first o (listed rest (first + 1) more)) (sym none)
         where
           nothing : (o : Option X) → find nat_cmp first es ≡ o → find nat_cmp first es ≡ None

@@ -1,12 +1,12 @@
 -- One slot of the committed state changes.
-use Rattle.std.proofs.Common.{◌≡◌, ◌≢◌, ℕ, ◌+◌, ◌<◌, ◌≤◌, ◌==◌, ◌&&◌, Bool, true, false, cond, List, [], ◌∷◌, length, Option, Some, None, is_some, nat_cmp, refl, sym, ap, subst, ◌∙◌, arith, inl, inr, eq-eqb, ne_eqb}
+use Rattle.std.proofs.Common.{◌≡◌, ◌≢◌, ℕ, ◌<◌, ◌≤◌, true, List, [], length, Option, Some, None}
+use Rattle.std.proofs.Common.{is_some, refl, sym, ap, subst, ◌∙◌, inl, inr}
 use Rattle.std.specs.Cmp.{nat_cmp_total}
 use Rattle.std.proofs.lemmas.Bool.{cases_eq}
-use Rattle.ids.specs.declared.edit.Mode.{Mode}
-use Rattle.ids.specs.declared.limits.TheConstants.{DESCRIPTORS}
 use Rattle.model.specs.FiniteMap.{get, insert, nat_cmp-IsAntisymmetric, same_map}
 use Rattle.model.specs.State.{Kernel, Process}
-use Rattle.model.specs.Changes.{Clear_slot, Edit, applied, or_new, process_of, set_process, tidy, with_slot, without_slot}
+use Rattle.model.specs.Changes.{Clear_slot, applied, or_new, process_of, set_process, tidy}
+use Rattle.model.specs.Changes.{with_slot, without_slot}
 use Rattle.model.proofs.Laws.{get_other, get_same}
 use Rattle.call_laws.specs.Fits.{Fits}
 use Rattle.freeing_laws.specs.Counts.{listed}
@@ -14,7 +14,8 @@ use Rattle.freeing_laws.specs.Sweep.{all_closed}
 use Rattle.freeing_laws.proofs.Laws.{sweep_is_tidy_lem}
 use Rattle.store.specs.Numbers.{Numbers}
 use Rattle.store.specs.Shown.{descriptions, inodes}
-use Rattle.shadow.specs.Claims.{Claim, New_directory, Number, Room, coming_directory, coming_other, number_of, or_zero, room_of}
+use Rattle.shadow.specs.Claims.{Claim, New_directory, Number, Room, coming_directory, coming_other}
+use Rattle.shadow.specs.Claims.{number_of, or_zero, room_of}
 use Rattle.shadow.specs.Committed.{Committed, Reserve}
 use Rattle.shadow.specs.Laid.{AreLow, Frees, Holds, IsSlotted, kept_in, reserves_of, table_in}
 use Rattle.shadow.specs.Openings.{slot_noted}
@@ -28,12 +29,14 @@ abbrev pub noted : ℕ → Option ℕ → Process → Process
 noted f (Some d) process = with_slot f d process
 noted f None process = without_slot f process
 
-noted_is : (f : ℕ) (given : Option ℕ) (o : Option Process) → slot_noted f given o ≡ Some (noted f given (or_new o))
+noted_is : (f : ℕ) (given : Option ℕ) (o : Option Process)
+    → slot_noted f given o ≡ Some (noted f given (or_new o))
 noted_is f (Some d) o = refl
 noted_is f None o = refl
 
 -- a process that there is has a number that is in use
-pub alive_process : (ps : List Process) (pid : ℕ) → get (numbered ps) pid ≢ None → (0 < pid) × (pid ≤ length ps)
+pub alive_process : (ps : List Process) (pid : ℕ) → get (numbered ps) pid ≢ None
+    → (0 < pid) × (pid ≤ length ps)
 alive_process ps pid alive = (is.some, is.low)
   where
     there : (o : Option Process) → o ≢ None → is_some o ≡ true
@@ -53,38 +56,62 @@ met_by (Room d) r = or_zero (room_of r)
 met_by (New_directory n) r = coming_directory r
 met_by (Number n) r = coming_other r
 
-pub kept_met : (s : Numbers) (c : Claim) → kept_in s c ≡ met_by c (get (reserves_of s) (number_of c))
+pub kept_met : (s : Numbers) (c : Claim)
+    → kept_in s c ≡ met_by c (get (reserves_of s) (number_of c))
 kept_met s (Room d) = refl
 kept_met s (New_directory n) = refl
 kept_met s (Number n) = refl
 
-module _ (ps qs : List Process) (s t : Numbers) (pid f : ℕ) (given : Option ℕ) (laid : IsSlotted pid f given ps qs s t) where
+module _ (ps qs : List Process) (s t : Numbers) (pid f : ℕ) (given : Option ℕ)
+    (laid : IsSlotted pid f given ps qs s t) where
   abbrev k : Kernel
   k = state_of ps s
 
   processes_are : numbered qs ≡ insert (numbered ps) pid (noted f given (process_of k pid))
   processes_are = same_map nat_cmp_total nat_cmp-IsAntisymmetric _ _ (λ q. elim (cases_eq q pid) [
-    | inl same ↦ ap (get (numbered qs)) same ∙ laid.here ∙ noted_is f given (get (numbered ps) pid) ∙ sym (get_same (numbered ps) pid (noted f given (process_of k pid)))
+    | inl same ↦ ap (get (numbered qs)) same ∙ laid.here ∙ noted_is f given (get (numbered ps) pid)
+        ∙ sym (get_same (numbered ps) pid (noted f given (process_of k pid)))
         ∙ sym (ap (get (insert (numbered ps) pid (noted f given (process_of k pid)))) same)
-    | inr away ↦ laid.others q away ∙ sym (get_other (numbered ps) pid q (noted f given (process_of k pid)) away)
+    | inr away ↦ laid.others q away
+        ∙ sym (get_other (numbered ps) pid q (noted f given (process_of k pid)) away)
   ])
 
-  pub slotted_state : state_of qs t ≡ set_process pid (noted f given (process_of (state_of ps s) pid)) (state_of ps s)
+  pub slotted_state : state_of qs t
+      ≡ set_process pid (noted f given (process_of (state_of ps s) pid)) (state_of ps s)
   slotted_state =
-      ap (λ m. stored qs m (descriptions t)) laid.stay.same.inodes ∙ ap (stored qs (inodes s)) laid.stay.descriptions
-      ∙ ap (λ m. record { root = 0; inodes = inodes s; descriptions = descriptions s; processes = m; made = length qs }) processes_are
-      ∙ ap (λ made. record { root = 0; inodes = inodes s; descriptions = descriptions s; processes = insert (numbered ps) pid (noted f given (process_of k pid)); made = made }) laid.stay.count
+      ap (λ m. stored qs m (descriptions t)) laid.stay.same.inodes
+      ∙ ap (stored qs (inodes s)) laid.stay.descriptions
+      ∙ ap (λ m. record {
+        root = 0;
+        inodes = inodes s;
+        descriptions = descriptions s;
+        processes =
+            m;
+        made = length qs;
+      }) processes_are
+      ∙ ap (λ made. record {
+        root = 0;
+        inodes = inodes s;
+        descriptions = descriptions s;
+        processes =
+            insert (numbered ps) pid (noted f given (process_of k pid));
+        made = made;
+      })
+      laid.stay.count
 
   pub slotted_keeps : (c : Claim) → kept_in t c ≡ kept_in s c
-  slotted_keeps c = kept_met t c ∙ ap (met_by c) (laid.stay.reserves (number_of c)) ∙ sym (kept_met s c)
+  slotted_keeps c = kept_met t c ∙ ap (met_by c) (laid.stay.reserves (number_of c))
+      ∙ sym (kept_met s c)
 
 -- nothing more goes
 pub frees_nothing : (ps : List Process) (s : Numbers) → Holds ps s → Frees (λ k. k) ps s s
 frees_nothing ps s holds = record { state = refl; holds = holds; kept = λ c. refl }
 
 -- a slot is cleared
-module _ (ps qs : List Process) (s t : Numbers) (pid f : ℕ) (pipes : List ℕ) (sound : Sound ps s) (laid : IsSlotted pid f None ps qs s t) where
-  clears : applied [] (Clear_slot pid f pipes) (state_of ps s) ≡ set_process pid (without_slot f (process_of (state_of ps s) pid)) (state_of ps s)
+module _ (ps qs : List Process) (s t : Numbers) (pid f : ℕ) (pipes : List ℕ) (sound : Sound ps s)
+    (laid : IsSlotted pid f None ps qs s t) where
+  clears : applied [] (Clear_slot pid f pipes) (state_of ps s)
+      ≡ set_process pid (without_slot f (process_of (state_of ps s) pid)) (state_of ps s)
   unfolding applied
   clears = refl
 
@@ -97,22 +124,33 @@ module _ (ps qs : List Process) (s t : Numbers) (pid f : ℕ) (pipes : List ℕ)
   }
 
 -- and what it gave goes where no other slot gives it
-module _ (ps qs : List Process) (s t : Numbers) (pid f : ℕ) (pipes : List ℕ) (sound : Sound ps s) (laid : IsSlotted pid f None ps qs s t)
-    (v : Committed) (is : committed_of ps s ≡ v) (fits : Fits [] v.state (Clear_slot pid f pipes)) (former : Option ℕ) (gave : former ≡ get (table_in (get (numbered ps) pid)) f) where
+module _ (ps qs : List Process) (s t : Numbers) (pid f : ℕ) (pipes : List ℕ) (sound : Sound ps s)
+    (laid : IsSlotted pid f None ps qs s t)
+    (v : Committed) (is : committed_of ps s ≡ v) (fits : Fits [] v.state (Clear_slot pid f pipes))
+    (former : Option ℕ) (gave : former ≡ get (table_in (get (numbered ps) pid)) f) where
   stored_fits : Fits [] (state_of ps s) (Clear_slot pid f pipes)
   stored_fits = subst (λ (v : Committed). Fits [] v.state (Clear_slot pid f pipes)) (sym is) fits
 
   pub cleared_holds : Holds qs t
-  cleared_holds = made_holds ps qs s t [] (Clear_slot pid f pipes) sound stored_fits (clearing_made ps qs s t pid f pipes sound laid)
+  cleared_holds = made_holds ps qs s t [] (Clear_slot pid f pipes) sound stored_fits
+      (clearing_made ps qs s t pid f pipes sound laid)
 
-  tidies : all_closed (listed former) (applied [] (Clear_slot pid f pipes) (state_of ps s)) ≡ tidy (applied [] (Clear_slot pid f pipes) (state_of ps s))
-  tidies = ap (λ o. all_closed (listed o) (applied [] (Clear_slot pid f pipes) (state_of ps s))) gave
-      ∙ sweep_is_tidy_lem.in_turn [] (state_of ps s) (Clear_slot pid f pipes) (tidied_of ps s sound) stored_fits
+  tidies : all_closed (listed former) (applied [] (Clear_slot pid f pipes) (state_of ps s))
+      ≡ tidy (applied [] (Clear_slot pid f pipes) (state_of ps s))
+  tidies = ap (λ o. all_closed (listed o) (applied [] (Clear_slot pid f pipes) (state_of ps s)))
+      gave
+      ∙ sweep_is_tidy_lem.in_turn [] (state_of ps s) (Clear_slot pid f pipes) (tidied_of ps s sound)
+      stored_fits
 
   module _ (now : Numbers) (freed : Frees (all_closed (listed former)) qs t now) where
     pub cleared_sound : Sound qs now
-    cleared_sound = freed_sound ps qs s t [] (Clear_slot pid f pipes) sound stored_fits (clearing_made ps qs s t pid f pipes sound laid) (all_closed (listed former)) tidies now freed
+    cleared_sound = freed_sound ps qs s t [] (Clear_slot pid f pipes) sound stored_fits
+        (clearing_made ps qs s t pid f pipes sound laid) (all_closed (listed former)) tidies now
+        freed
 
     pub cleared_state : state_of qs now ≡ tidy (applied [] (Clear_slot pid f pipes) v.state)
-    cleared_state = state_is ps qs s v is (state_of qs now) (λ k. tidy (applied [] (Clear_slot pid f pipes) k))
-        (freed_state ps qs s t [] (Clear_slot pid f pipes) sound stored_fits (clearing_made ps qs s t pid f pipes sound laid) (all_closed (listed former)) tidies now freed)
+    cleared_state = state_is ps qs s v is (state_of qs now)
+        (λ k. tidy (applied [] (Clear_slot pid f pipes) k))
+        (freed_state ps qs s t [] (Clear_slot pid f pipes) sound stored_fits
+        (clearing_made ps qs s t pid f pipes sound laid) (all_closed (listed former)) tidies now
+        freed)

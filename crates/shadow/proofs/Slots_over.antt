@@ -175,14 +175,14 @@ noted_slots es now pid f given place is = record { here = λ o. by_kept o (kept_
     ]
 
 -- a place at the end for a process that had none
-pushed_same : (es : Entries) (pid : ℕ) (w : Given) → kept_at es pid ≡ None → kept_at (es ++ (pid, w) ∷ []) pid ≡ Some w
+pub pushed_same : (es : Entries) (pid : ℕ) (w : Given) → kept_at es pid ≡ None → kept_at (es ++ (pid, w) ∷ []) pid ≡ Some w
 pushed_same [] pid w none = kept_first (pid, w) [] pid refl
 pushed_same (e ∷ es) pid w none = elim (cases_eq pid e.0) [
   | inl same ↦ absurd (something (kept_at (e ∷ es) pid) e.1 (kept_first e es pid same) none)
   | inr away ↦ kept_later e (es ++ (pid, w) ∷ []) pid away ∙ pushed_same es pid w (sym (kept_later e es pid away) ∙ none)
 ]
 
-pushed_other : (es : Entries) (pid : ℕ) (w : Given) (q : ℕ) → q ≢ pid → kept_at (es ++ (pid, w) ∷ []) q ≡ kept_at es q
+pub pushed_other : (es : Entries) (pid : ℕ) (w : Given) (q : ℕ) → q ≢ pid → kept_at (es ++ (pid, w) ∷ []) q ≡ kept_at es q
 pushed_other [] pid w q away = kept_later (pid, w) [] q away
 pushed_other (e ∷ es) pid w q away = ap (cond (is_eq (nat_cmp q e.0)) (Some e.1)) (pushed_other es pid w q away)
 

@@ -1,5 +1,5 @@
 -- One slot of a process gives another description: the processes, and how often each is held.
-use Rattle.std.proofs.Common.{◌≡◌, ◌≢◌, ℕ, zero, suc, ◌+◌, ◌*◌, ◌-◌, ◌<◌, ◌≤◌, ◌^◌, Bool, true, false, cond, List, [], ◌∷◌, length, get_or, set, Option, Some, None, nat_cmp, refl, sym, ap, subst, ◌∙◌, arith, inl, inr}
+use Rattle.std.proofs.Common.{◌≡◌, ◌≢◌, ℕ, zero, suc, ◌+◌, ◌*◌, ◌-◌, ◌<◌, ◌≤◌, ◌^◌, Bool, true, false, cond, List, [], ◌∷◌, length, set, Option, Some, None, nat_cmp, refl, sym, ap, subst, ◌∙◌, arith, inl, inr}
 use Rattle.std.specs.List.{AllByRecursion}
 use Rattle.std.specs.Cmp.{nat_cmp_total}
 use Rattle.std.proofs.lemmas.Bool.{cases_eq, cases_lt}
@@ -7,20 +7,17 @@ use Rattle.std.proofs.lemmas.List.{get_or-set_other, get_or-set_same, length-set
 use Rattle.ids.specs.declared.limits.TheConstants.{DESCRIPTORS}
 use Rattle.model.specs.FiniteMap.{FinMap, contains_key, entries, get, insert, len, len-entries, len_before_remove, remove, same_map, nat_cmp-IsAntisymmetric}
 use Rattle.model.specs.State.{Kernel, Process}
-use Rattle.model.specs.Changes.{holders, openings, or_new, process_of, set_process, with_slot, without_slot}
+use Rattle.model.specs.Changes.{holders, or_new, set_process, with_slot, without_slot}
 use Rattle.model.proofs.Laws.{all_entries, get_other, get_same, removed_other, removed_same}
 use Rattle.call_laws.proofs.Laws.{not_none, some_same}
 use Rattle.freeing_laws.specs.Counts.{listed, times}
 use Rattle.freeing_laws.proofs.Left.{left_is_tidy_lem}
 use Rattle.freeing_laws.proofs.Openings.{openings_change_lem}
-use Rattle.store.specs.Numbers.{Numbers, object_at}
-use Rattle.store.specs.Shown.{descriptions}
-use Rattle.store.specs.declared.OpenFile.{OpenFile}
+use Rattle.store.specs.Numbers.{Numbers}
 use Rattle.store.specs.declared.Opened.{Opened}
-use Rattle.store.specs.declared.Object.TheVariants.{Description as A_description}
-use Rattle.shadow.specs.Stored.{AreCounted, IsStaged, numbered, state_of}
+use Rattle.shadow.specs.Stored.{AreCounted, numbered, state_of}
 use Rattle.shadow.specs.Openings.{slot_noted}
-use Rattle.shadow.specs.Laid.{AreHeld, AreLow, IsOneLess, IsOneMore, IsSlotted, SameStore, SlotsStay, WasHeld, table_in}
+use Rattle.shadow.specs.Laid.{AreHeld, AreLow, IsOneLess, IsOneMore, IsSlotted, SameStore, WasHeld, table_in}
 use Rattle.shadow.proofs.Living.{no_process, process_of_number}
 
 at_most_one : (b : Bool) → cond {A = ℕ} b 1 0 ≤ 1
@@ -84,13 +81,13 @@ module _ (ps : List Process) (pid : ℕ) (new : Process) (some : 0 < pid) (low :
   numbered_others q away = elim (cases_eq q 0) [
     | inl none ↦ no_process after q (inl none) ∙ sym (no_process ps q (inl none))
     | inr more ↦ elim (cases_lt (length ps) q) [
-        | inl high ↦ no_process after q (inr (let count : length after ≡ length ps = same_count in omega (arith, high))) ∙ sym (no_process ps q (inr high))
-        | inr there ↦
-            (let count : length after ≡ length ps = same_count in
-            process_of_number after q new (omega (arith, more)) (omega (arith, there))
-            ∙ ap (λ p. Some p) (get_or-set_other ps (pid - 1) (q - 1) new new (λ same. away (omega (arith, same, more))))
-            ∙ sym (process_of_number ps q new (omega (arith, more)) (omega (arith, there))))
-      ]
+      | inl high ↦ no_process after q (inr (let count : length after ≡ length ps = same_count in omega (arith, high))) ∙ sym (no_process ps q (inr high))
+      | inr there ↦
+          (let count : length after ≡ length ps = same_count in
+          process_of_number after q new (omega (arith, more)) (omega (arith, there))
+          ∙ ap (λ p. Some p) (get_or-set_other ps (pid - 1) (q - 1) new new (λ same. away (omega (arith, same, more))))
+          ∙ sym (process_of_number ps q new (omega (arith, more)) (omega (arith, there))))
+    ]
   ]
 
   pub numbered_set : numbered after ≡ insert (numbered ps) pid new
@@ -131,8 +128,8 @@ same_store_same s t u first later = record {
 }
 
 module _ (ps : List Process) (pid f : ℕ) (given former : Option ℕ) (new : Process) (s t u : Numbers) (some : 0 < pid) (low : pid ≤ length ps) (fits : f < DESCRIPTORS) (few : length ps < 2 ^ 64)
-  (was : former ≡ get (table_in (get (numbered ps) pid)) f) (gives : Some new ≡ slot_noted f given (get (numbered ps) pid))
-  (more : AreHeld (IsOneMore given) s t) (less : AreHeld (IsOneLess former) t u) where
+    (was : former ≡ get (table_in (get (numbered ps) pid)) f) (gives : Some new ≡ slot_noted f given (get (numbered ps) pid))
+    (more : AreHeld (IsOneMore given) s t) (less : AreHeld (IsOneLess former) t u) where
   abbrev qs : List Process
   qs = set ps (pid - 1) new
 

@@ -1,15 +1,13 @@
 -- The slots of one process that change, one after the other.
-use Rattle.std.proofs.Common.{◌≡◌, ◌≢◌, ℕ, suc, ◌+◌, ◌<◌, ◌≤◌, ◌==◌, Bool, true, false, cond, List, [], ◌∷◌, ◌++◌, length, Option, Some, None, nat_cmp, refl, sym, ap, subst, ◌∙◌, arith, inl, inr}
+use Rattle.std.proofs.Common.{◌≡◌, ◌≢◌, ℕ, ◌+◌, ◌<◌, ◌≤◌, ◌==◌, Bool, true, false, cond, List, [], ◌∷◌, ◌++◌, Option, Some, None, nat_cmp, refl, sym, ap, subst, ◌∙◌, arith, inl, inr}
 use Rattle.std.specs.Cmp.{nat_cmp_total}
 use Rattle.std.specs.List.{flat_map}
 use Rattle.std.proofs.lemmas.Bool.{cases_eq, cases_lt}
 use Rattle.std.proofs.lemmas.List.Sums.{sum_by-append}
 use Rattle.std.proofs.lemmas.List.Concat.{flat_map-cons}
 use Rattle.std.specs.Ordering.{eq_by_cmp}
-use Rattle.ids.specs.declared.limits.TheConstants.{DESCRIPTORS}
-use Rattle.model.specs.FiniteMap.{FinMap, empty, entries, entries-empty, find, get, get-empty, get-entries, insert, same_map, nat_cmp-IsAntisymmetric}
+use Rattle.model.specs.FiniteMap.{empty, entries, find, get, get-empty, get-entries, insert, same_map, nat_cmp-IsAntisymmetric}
 use Rattle.model.specs.State.{Process}
-use Rattle.model.specs.Changes.{or_new}
 use Rattle.model.proofs.Laws.{get_other, get_same}
 use Rattle.call_laws.proofs.Laws.{not_none, some_same}
 use Rattle.fdtable.specs.Patches.{Given, or_before}
@@ -17,7 +15,7 @@ use Rattle.freeing_laws.specs.Counts.{times}
 use Rattle.store.specs.Numbers.{Numbers}
 use Rattle.shadow.specs.Stored.{numbered}
 use Rattle.shadow.specs.Openings.{slot_noted}
-use Rattle.shadow.specs.Patches.{reslotted, slots_over}
+use Rattle.shadow.specs.Patches.{reslotted}
 use Rattle.shadow.specs.Laid.{IsReslotted, IsSlotted, SlotsStay, given_by, table_in}
 use Rattle.shadow.proofs.Holding.{once_here}
 use Rattle.shadow.proofs.Slots_over.{map_over, new_of, none_over, noted_over}
@@ -52,7 +50,7 @@ table_over m o f = ap (λ (p : Process). get p.table f) (new_of (entries m) o) �
 abbrev given_all : List (ℕ × Option ℕ) → List ℕ
 given_all es = flat_map (λ g. given_by g.1) es
 
-times_both : (d : ℕ) (xs ys : List ℕ) → times d (xs ++ ys) ≡ times d xs + times d ys
+pub times_both : (d : ℕ) (xs ys : List ℕ) → times d (xs ++ ys) ≡ times d xs + times d ys
 times_both d xs ys = sum_by-append (λ v. cond {A = ℕ} (v == d) 1 0) xs ys
 
 given_entry : (es : List (ℕ × Option ℕ)) (f d : ℕ) → find nat_cmp f es ≡ Some (Some d) → 0 < times d (given_all es)
@@ -124,7 +122,7 @@ module _ (pid n : ℕ) (given former : Given) (ps qs : List Process) (old now : 
 
   -- the next slot changes
   module _ (g was : Option ℕ) (noted : get given n ≡ Some g) (former' : Given) (rs : List Process) (later : Numbers)
-    (slotted : IsSlotted pid n g qs rs now later) (kept : was ≡ get (table_in (get (numbered qs) pid)) n) (is : former' ≡ insert former n was) where
+      (slotted : IsSlotted pid n g qs rs now later) (kept : was ≡ get (table_in (get (numbered qs) pid)) n) (is : former' ≡ insert former n was) where
     before_at : get former' n ≡ Some (get (table_in (get (numbered ps) pid)) n)
     before_at = ap (λ (m : Given). get m n) is ∙ get_same former n was ∙ ap (λ o. Some o) (kept ∙ unchanged n (so.above n (omega arith)))
 

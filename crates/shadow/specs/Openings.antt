@@ -1,5 +1,5 @@
 -- What noting one thing changes of what is kept of descriptions and of slots.
-use Rattle.std.specs.Prelude.{◌≡◌, ◌≢◌, ℕ, ◌||◌, Bool, true, List, Option, Some, None}
+use Rattle.std.specs.Prelude.{◌≡◌, ◌≢◌, ℕ, true, List, [], ◌∷◌, Option, Some, None, ⊤}
 use Rattle.model.specs.State.{Description, Process, mapped}
 use Rattle.model.specs.Changes.{at_offset, or_new, with_slot, without_slot}
 use Rattle.fdtable.specs.Patches.{Given}
@@ -42,3 +42,8 @@ pub record SameSlots (old new : List (ℕ × Given)) : Type 0 where
   pub each : (pid : ℕ) (o : Option Process)
       → reslotted (kept_at new pid) o ≡ reslotted (kept_at old pid) o
   pub places : (pid : ℕ) → kept_at old pid ≢ None → kept_at new pid ≢ None
+
+-- each number stands once
+abbrev pub AreOnce : {X : Type 0} → List (ℕ × X) → Type 0
+AreOnce [] = ⊤
+AreOnce (e ∷ es) = (kept_at es e.0 ≡ None) × AreOnce es

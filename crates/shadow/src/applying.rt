@@ -64,6 +64,7 @@ impl Stable {
         ensures err { OnErr result (self.new.state ≡ self.old.state) }
         ensures same { OnErr result (KeepsSame self.old self.new) }
     {
+        self.state_is_tidied();
         match edits.pop() {
             None => Ok(()),
             Some(last) => match edits.pop() {
@@ -109,6 +110,7 @@ impl Stable {
         ensures err { OnErr result (self.new.state ≡ self.old.state) }
         ensures same { OnErr result (KeepsSame self.old self.new) }
     {
+        self.state_is_tidied();
         match edit {
             Edit::MakeDirectory(parent, name, _place) => {
                 self.make_directory(parent, name, chosen[0]);

@@ -146,7 +146,8 @@ pub(crate) fn open(store: &mut Store, num: Num, description: Description)
         }),
     );
     // It is always so: there are as many openings as descriptions at most.
-    if store.openings(inode) < u128::MAX {
+    let is_few = store.openings(inode) < u128::MAX;
+    if is_few {
         store.add_opening(inode);
     }
 }

@@ -4,7 +4,7 @@ ghost use Rattle.ids.specs.declared.limits.TheConstants.{DESCRIPTORS};
 ghost use Rattle.model.specs.FiniteMap.{entries, get};
 ghost use Rattle.shadow.specs.Laid.{AreHeld, AreReslotted, IsOneLess, IsOneMore, IsReslotted};
 ghost use Rattle.shadow.specs.Laid.{IsSlotted, table_in};
-ghost use Rattle.shadow.specs.Openings.{slot_noted};
+ghost use Rattle.shadow.specs.Openings.{AreOnce, slot_noted};
 ghost use Rattle.shadow.specs.Stored.{numbered};
 ghost use Rattle.shadow.specs.Patches.{kept_at, slots_in};
 
@@ -23,10 +23,22 @@ pub(crate) fn lay_slots(store: &mut Store, processes: &mut Vec<Process, Heap>, s
     ensures { AreReslotted slots.old slots.new processes.old.items processes.new.items
         store.old store.new }
 {
-    for i in 0..slots.each.len() {
-        let pid = slots.each[i].0;
-        let former = lay_table(store, processes, pid, &slots.each[i].1);
-        slots.each[i].1 = former;
+    lay_each(store, processes, slots.each.as_mut_slice());
+}
+
+// Makes what is changed of each process's slots, and puts what they gave before in its place.
+fn lay_each(store: &mut Store, processes: &mut Vec<Process, Heap>, each: &mut [(Pid, Patch)])
+    requires once { AreOnce each.old }
+    requires living { (pid : ℕ) → slots_in (kept_at each.old pid) ≢ []
+        → (0 < pid) × (pid ≤ length processes.old.items) }
+    ensures laid { AreReslotted each.old each.new processes.old.items processes.new.items
+        store.old store.new }
+    ensures once { AreOnce each.new }
+{
+    for i in 0..each.len() {
+        let pid = each[i].0;
+        let former = lay_table(store, processes, pid, &each[i].1);
+        each[i].1 = former;
     }
 }
 
@@ -90,7 +102,7 @@ fn count_more(store: &mut Store, given: &Option<Num>)
     ensures { AreHeld (IsOneMore given.now) store.old store.new }
 {
     if let Some(description) = given {
-        // It is always so: each process has a few slots, and all processes have room.
+        // It is always so: all processes together have fewer slots.
         if store.holders(*description) < u128::MAX {
             store.add_holder(*description);
         }

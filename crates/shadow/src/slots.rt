@@ -6,7 +6,7 @@ ghost use Rattle.ids.specs.declared.limits.TheConstants.{DESCRIPTORS};
 ghost use Rattle.model.specs.State.{Process};
 ghost use Rattle.model.specs.Changes.{or_new};
 ghost use Rattle.shadow.specs.Patches.{kept_at, reslotted};
-ghost use Rattle.shadow.specs.Openings.{AtSlots, SameSlots};
+ghost use Rattle.shadow.specs.Openings.{AreOnce, AtSlots, SameSlots};
 
 use fdtable::{FdTable, Patch};
 use heap::Heap;
@@ -14,8 +14,8 @@ use ids::{Fd, Num, Pid};
 use std::alloc::AllocError;
 use std::marker::Model;
 
-/// The changes of the descriptors of all processes, by their numbers; a transaction changes those
-/// of its own process.
+/// The changes of the descriptors of all processes, by their numbers, each of which stands once; a
+/// transaction changes those of its own process.
 #[derive(Drop)]
 pub(crate) struct Slots {
     pub(crate) each: Vec<(Pid, Patch), Heap>,
@@ -24,10 +24,13 @@ pub(crate) struct Slots {
 impl Model for Slots {
     ghost use Rattle.std.specs.Prelude.{ℕ, List};
     ghost use Rattle.fdtable.specs.Patches.{Given};
+    ghost use Rattle.shadow.specs.Openings.{AreOnce};
 
     ghost Value = { List (ℕ × Given) };
 
     ghost view = { λ s. s.each.items };
+
+    ghost invariant = { λ s. AreOnce s.each.items };
 }
 
 impl Slots {
@@ -98,9 +101,10 @@ fn find(each: &[(Pid, Patch)], pid: Pid) -> Option<&Patch>
 fn note_in(each: &mut [(Pid, Patch)], pid: Pid, fd: Fd, given: Option<Num>)
     requires place { kept_at each.old pid ≢ None }
     requires small { fd < DESCRIPTORS }
-    ensures { (q : ℕ) → kept_at each.new q
+    ensures noted { (q : ℕ) → kept_at each.new q
         ≡ (if q == pid then option_map (λ g. insert g fd given) (kept_at each.old q)
         else kept_at each.old q) }
+    ensures once { AreOnce each.old → AreOnce each.new }
 {
     for i in 0..each.len() {
         if each[i].0 == pid {

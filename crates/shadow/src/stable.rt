@@ -8,6 +8,7 @@ ghost use Rattle.model.specs.Changes.{all_applied, process_of, tidy};
 ghost use Rattle.model.specs.Steps.{IsNowhere};
 ghost use Rattle.model.specs.Moments.{start, is_alive};
 ghost use Rattle.call_laws.specs.Fits.{FitsAll};
+ghost use Rattle.freeing_laws.specs.Sweep.{IsTidied};
 ghost use Rattle.store.specs.Shown.{file_inode};
 ghost use Rattle.shadow.specs.Claims.{AreUnused, Claim, Covers, HaveParents, IsDirectory, KeepsMore};
 ghost use Rattle.shadow.specs.Claims.{KeepsNothing, KeepsSame, claimed_by, number_as, number_of};
@@ -217,6 +218,13 @@ impl Stable {
     /// Today there are no pipes.
     pub fn has_no_pipes(&self)
         ensures { HasNoPipes self.now.state }
+    {
+        let _store = &self.store;
+    }
+
+    /// Its state is well formed, and nothing in it is unreached.
+    pub(crate) fn state_is_tidied(&self)
+        ensures { IsTidied self.now.state }
     {
         let _store = &self.store;
     }

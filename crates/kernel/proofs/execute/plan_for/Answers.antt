@@ -1,8 +1,16 @@
 use Rattle.kernel.proofs.Words.{subst, ap, sym, ◌∙◌, filter, if◌then◌else◌, not, Committed, IsPlan, fields}
 use Rattle.calls.specs.declared.plan.Plan.{Plan}
+use Rattle.kernel.proofs.Entries.{slot_fits}
 use Rattle.kernel.proofs.Calls.{plans}
 use Rattle.kernel.proofs.execute.plan_for.Goals as goal
 use Rattle.kernel.proofs.execute.plan_for.Goals.{then-is_none, else-is_none}
+
+-- the changes that the process sees fit
+pub view-view-requires : goal.view-view-requires
+view-view-requires c = slot_fits (fields c.args.s.now) c.requires.holds c.args.pid
+
+pub directories_are_kept-requires : goal.directories_are_kept-requires
+directories_are_kept-requires c = slot_fits (fields c.args.s.now) c.requires.holds c.args.pid
 
 pub returns : goal.returns
 returns c =

@@ -1,4 +1,4 @@
-use Rattle.std.proofs.Common.{◌≡◌, ◌≤◌, ◌<◌, ◌+◌, ◌∙◌, ℕ, Some, length, sym, subst, ap, arith}
+use Rattle.std.proofs.Common.{◌≡◌, ◌≤◌, ◌+◌, ◌∙◌, length, sym, subst, ap, arith}
 use Rattle.shadow.proofs.Tabling.{Reslots, noted_somewhere, reslots_all, reslots_nothing, reslots_on, reslots_past}
 use Rattle.shadow.proofs.reslotting.lay_table.Goals as goal
 use Rattle.shadow.proofs.reslotting.lay_table.Goals.{in-Some, in_default}

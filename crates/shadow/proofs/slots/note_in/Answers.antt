@@ -4,11 +4,13 @@ use Rattle.std.proofs.lemmas.List.{get_or_read}
 use Rattle.model.specs.FiniteMap.{empty, insert}
 use Rattle.fdtable.specs.Patches.{Given}
 use Rattle.shadow.specs.Patches.{kept_at}
+use Rattle.shadow.specs.Openings.{AreOnce}
+use Rattle.shadow.proofs.Once.{once_set}
 use Rattle.shadow.proofs.Slots_over.{Entries, NoneBefore, kept_here, kept_nowhere, noted_in, set_here, set_others}
 use Rattle.shadow.proofs.slots.note_in.Goals as goal
 
-pub returns-then-eq : goal.returns-then-eq
-returns-then-eq c =
+pub returns-then-eq-clause-noted : goal.returns-then-eq-clause-noted
+returns-then-eq-clause-noted c =
     λ q.
     let es : Entries = c.loop-i.each in
     let i : ℕ = c.loop-i.i in
@@ -25,6 +27,15 @@ returns-then-eq c =
     (kept_here es pid i c.loop-i.invariant.none low is)
     (set_here es pid i new c.loop-i.invariant.none low ∙ ap (λ (g : Given). Some g) noted)
     (set_others es pid i new is) q)
+
+pub returns-then-eq-clause-once : goal.returns-then-eq-clause-once
+returns-then-eq-clause-once c =
+    λ once.
+    let es : Entries = c.loop-i.each in
+    let i : ℕ = c.loop-i.i in
+    let low : i < length es = omega (arith, c.loop-i-test.true, c.loop-i.auto.each) in
+    let second : get_or es i c.index-each-i-then-eq.result ≡ get_or es i (0, empty) = sym c.index-each-i-then-eq.is ∙ get_or_read es i c.index-each-i-then-eq.result low c.index-each-i-then-eq.is (0, empty) in
+    once_set es i (get_or es i c.index-each-i-then-eq.result).0 c.note.new.self (ap (λ e. e.0) (sym second)) (subst (λ (es : Entries). AreOnce es) (sym c.loop-i.invariant.same) once)
 
 pub returns : goal.returns
 returns c =

@@ -26,30 +26,30 @@ pub close_former-requires : goal.close_former-requires
 close_former-requires c = (
   c.lay_slots.new.processes.items,
   (has_all
-    (can_commit c.stable.invariant c.stable.view_is c.self.invariant c.self.view_is
-    c.patches.view_is c.requires.fits c.requires.covers)
-    (record { root = c.lay_inodes.ensures.root; places = c.lay_inodes.ensures.places })
-    c.lay_openings.ensures c.lay_slots.ensures).holds,
+      (can_commit c.stable.invariant c.stable.view_is c.self.invariant c.self.view_is
+      c.patches.view_is c.requires.fits c.requires.covers)
+      (record { root = c.lay_inodes.ensures.root; places = c.lay_inodes.ensures.places })
+      c.lay_openings.ensures c.lay_slots.ensures).holds,
 )
 
 pub close_new-requires : goal.close_new-requires
 close_new-requires c = (
   c.lay_slots.new.processes.items,
   holds_first
-    (can_commit c.stable.invariant c.stable.view_is c.self.invariant c.self.view_is
-    c.patches.view_is c.requires.fits c.requires.covers)
-    (record { root = c.lay_inodes.ensures.root; places = c.lay_inodes.ensures.places })
-    c.lay_openings.ensures c.lay_slots.ensures c.close_former.ensures,
+      (can_commit c.stable.invariant c.stable.view_is c.self.invariant c.self.view_is
+      c.patches.view_is c.requires.fits c.requires.covers)
+      (record { root = c.lay_inodes.ensures.root; places = c.lay_inodes.ensures.places })
+      c.lay_openings.ensures c.lay_slots.ensures c.close_former.ensures,
 )
 
 pub free_all-requires : goal.free_all-requires
 free_all-requires c = (
   c.lay_slots.new.processes.items,
   holds_second
-    (can_commit c.stable.invariant c.stable.view_is c.self.invariant c.self.view_is
-    c.patches.view_is c.requires.fits c.requires.covers)
-    (record { root = c.lay_inodes.ensures.root; places = c.lay_inodes.ensures.places })
-    c.lay_openings.ensures c.lay_slots.ensures c.close_former.ensures c.close_new.ensures,
+      (can_commit c.stable.invariant c.stable.view_is c.self.invariant c.self.view_is
+      c.patches.view_is c.requires.fits c.requires.covers)
+      (record { root = c.lay_inodes.ensures.root; places = c.lay_inodes.ensures.places })
+      c.lay_openings.ensures c.lay_slots.ensures c.close_former.ensures c.close_new.ensures,
 )
 
 pub invariant_of-stable : goal.invariant_of-stable

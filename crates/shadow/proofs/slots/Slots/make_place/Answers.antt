@@ -1,7 +1,15 @@
-use Rattle.std.proofs.Common.{rules, ◌≡◌, ◌++◌, ◌∷◌, [], None}
+use Rattle.std.proofs.Common.{rules, ◌≡◌, ◌++◌, ◌∷◌, [], None, sym, subst}
 use Rattle.shadow.specs.Patches.{kept_at}
-use Rattle.shadow.proofs.Slots_over.{placed_slots, placed_there}
+use Rattle.shadow.specs.Openings.{AreOnce}
+use Rattle.shadow.proofs.Once.{once_pushed}
+use Rattle.shadow.proofs.Slots_over.{Entries, placed_slots, placed_there}
 use Rattle.shadow.proofs.slots.Slots.make_place.Goals as goal
+
+pub invariant_of-self-2 : goal.invariant_of-self-2
+invariant_of-self-2 c =
+    let none : kept_at c.args.self.now c.args.pid ≡ None = search rules in
+    let grown : c.push.new.self.items ≡ c.args.self.now ++ (c.args.pid, c.new.result) ∷ [] = search rules in
+    subst (λ (es : Entries). AreOnce es) (sym grown) (once_pushed c.args.self.now c.args.pid c.new.result none (subst (λ (es : Entries). AreOnce es) c.self.view_is c.self.invariant))
 
 pub returns-clause-same : goal.returns-clause-same
 returns-clause-same c =

@@ -13,4 +13,4 @@ returns c =
     let h2 = c.note_in.auto.each in
     subst (λ (es : Entries). AtSlots c.args.pid c.args.fd c.args.given c.args.self.now es) (sym (written c.self.inside.each.len now c.self.inside.each.items long))
     (subst (λ (es : Entries). AtSlots c.args.pid c.args.fd c.args.given es now) before
-    (noted_slots c.as_mut_slice.result.now now c.args.pid c.args.fd c.args.given (subst (λ (es : Entries). kept_at es c.args.pid ≡ None → ⊥) (sym before) c.requires.place) c.note_in.ensures))
+    (noted_slots c.as_mut_slice.result.now now c.args.pid c.args.fd c.args.given (subst (λ (es : Entries). kept_at es c.args.pid ≡ None → ⊥) (sym before) c.requires.place) c.note_in.ensures.noted))

@@ -1,44 +1,68 @@
 use Rattle.std.proofs.Common.{◌≡◌, ◌+◌, ◌<◌, ◌≤◌, ℕ, List, length, arith, sym, subst, ap, ◌∙◌}
 use Rattle.std.proofs.lemmas.List.{get_or_read}
 use Rattle.model.specs.State.{Kernel}
-use Rattle.model.specs.Changes.{Clear_slot, Edit, Open_inode, Set_offset, applied, news, number, tidy}
+use Rattle.model.specs.Changes.{Edit, Set_offset, applied, news, tidy}
 use Rattle.call_laws.specs.Fits.{Fits}
-use Rattle.shadow.specs.Claims.{Claim, KeepsMore, claimed_by_one}
+use Rattle.shadow.specs.Claims.{KeepsMore, claimed_by_one}
 use Rattle.shadow.specs.Stored.{committed_of}
 use Rattle.shadow.specs.Steps.{IsLast, new_in}
 use Rattle.shadow.proofs.Edited.{less_of}
 use Rattle.shadow.proofs.OffsetInState.{moving_kept, moving_sound, moving_state}
-use Rattle.shadow.proofs.OpeningMade.{opened_alike}
+use Rattle.shadow.proofs.SameEdit.{same_clearing, same_opening}
 use Rattle.shadow.proofs.stable.Stable.perform_last.Goals as goal
 
 pub invariant_of-self : goal.invariant_of-self
-invariant_of-self c = moving_sound c.self.inside.processes.items c.self.inside.store c.args.self.now c.self.view_is c.args.chosen.now c.in-SetOffset.description c.in-SetOffset.place c.self.invariant
-    (subst (Fits c.args.chosen.now c.args.self.now.state) c.in-SetOffset.is c.requires.fits) c.set_offset.new.self c.set_offset.ensures.moved
+invariant_of-self c = moving_sound c.self.inside.processes.items c.self.inside.store c.args.self.now
+    c.self.view_is c.args.chosen.now c.in-SetOffset.description c.in-SetOffset.place
+    c.self.invariant
+    (subst (Fits c.args.chosen.now c.args.self.now.state) c.in-SetOffset.is c.requires.fits)
+    c.set_offset.new.self c.set_offset.ensures.moved
 
 pub returns-in-SetOffset-clause-state : goal.returns-in-SetOffset-clause-state
 returns-in-SetOffset-clause-state c =
-    moving_state c.self.inside.processes.items c.self.inside.store c.args.self.now c.self.view_is c.args.chosen.now c.in-SetOffset.description c.in-SetOffset.place c.self.invariant
-    (subst (Fits c.args.chosen.now c.args.self.now.state) c.in-SetOffset.is c.requires.fits) c.set_offset.new.self c.set_offset.ensures.moved
-    ∙ ap (λ (e : Edit). tidy (applied c.args.chosen.now e c.args.self.now.state)) (sym c.in-SetOffset.is)
+    moving_state c.self.inside.processes.items c.self.inside.store c.args.self.now c.self.view_is
+    c.args.chosen.now c.in-SetOffset.description c.in-SetOffset.place c.self.invariant
+    (subst (Fits c.args.chosen.now c.args.self.now.state) c.in-SetOffset.is c.requires.fits)
+    c.set_offset.new.self c.set_offset.ensures.moved
+    ∙ ap (λ (e : Edit). tidy (applied c.args.chosen.now e c.args.self.now.state))
+    (sym c.in-SetOffset.is)
 
 pub returns-in-SetOffset-clause-kept : goal.returns-in-SetOffset-clause-kept
 returns-in-SetOffset-clause-kept c =
     let ps = c.self.inside.processes.items in
-    subst (λ (e : Edit). KeepsMore (committed_of ps c.set_offset.new.self) c.args.self.now (λ claim. claimed_by_one claim c.args.chosen.now e)) (sym c.in-SetOffset.is)
-    (less_of ps ps c.self.inside.store c.args.self.now c.self.view_is c.set_offset.new.self (λ claim. claimed_by_one claim c.args.chosen.now (Set_offset c.in-SetOffset.description c.in-SetOffset.place))
-    (moving_kept ps c.self.inside.store c.args.self.now c.self.view_is c.args.chosen.now c.in-SetOffset.description c.in-SetOffset.place c.self.invariant
-    (subst (Fits c.args.chosen.now c.args.self.now.state) c.in-SetOffset.is c.requires.fits) c.set_offset.new.self c.set_offset.ensures.moved))
+    subst (λ (e : Edit). KeepsMore (committed_of ps c.set_offset.new.self) c.args.self.now
+    (λ claim. claimed_by_one claim c.args.chosen.now e)) (sym c.in-SetOffset.is)
+    (less_of ps ps c.self.inside.store c.args.self.now c.self.view_is c.set_offset.new.self
+    (λ claim. claimed_by_one claim c.args.chosen.now
+    (Set_offset c.in-SetOffset.description c.in-SetOffset.place))
+    (moving_kept ps c.self.inside.store c.args.self.now c.self.view_is c.args.chosen.now
+    c.in-SetOffset.description c.in-SetOffset.place c.self.invariant
+    (subst (Fits c.args.chosen.now c.args.self.now.state) c.in-SetOffset.is c.requires.fits)
+    c.set_offset.new.self c.set_offset.ensures.moved))
 
 pub returns-in-OpenInode-clause-state : goal.returns-in-OpenInode-clause-state
 returns-in-OpenInode-clause-state c =
     let chosen : List ℕ = c.args.chosen.now in
-    let last = subst (λ (e : Edit). (m : ℕ) × IsLast m e × (m + news e ≤ length chosen)) c.in-OpenInode.is c.requires.last in
+    let last = subst (λ (e : Edit). (m : ℕ) × IsLast m e × (m + news e ≤ length chosen))
+    c.in-OpenInode.is c.requires.last in
     let here : c.in-OpenInode.place ≡ last.0 = last.1.0 in
     let low : c.in-OpenInode.place < length chosen = omega (arith, here, last.2) in
-    let at : c.index-chosen-place.result ≡ new_in chosen c.in-OpenInode.place = get_or_read chosen c.in-OpenInode.place c.index-chosen-place.result low c.index-chosen-place.is 0 in
+    let at : c.index-chosen-place.result ≡ new_in chosen c.in-OpenInode.place =
+    get_or_read chosen c.in-OpenInode.place c.index-chosen-place.result low
+    c.index-chosen-place.is 0 in
     c.open_inode.ensures.state
-    ∙ ap (λ (k : Kernel). tidy k) (opened_alike chosen c.in-OpenInode.place c.in-OpenInode.inode c.in-OpenInode.mode c.in-OpenInode.pid c.in-OpenInode.fd c.index-chosen-place.result c.number-inode.result at c.number-inode.ensures c.args.self.now.state)
+    ∙ ap (λ (k : Kernel). tidy k)
+    (same_opening chosen c.in-OpenInode.place c.in-OpenInode.inode c.in-OpenInode.mode
+    c.in-OpenInode.pid c.in-OpenInode.fd c.index-chosen-place.result c.number-inode.result at
+    c.number-inode.ensures c.args.self.now.state)
     ∙ ap (λ (e : Edit). tidy (applied chosen e c.args.self.now.state)) (sym c.in-OpenInode.is)
 
 pub returns-in-ClearSlot-clause-state : goal.returns-in-ClearSlot-clause-state
-returns-in-ClearSlot-clause-state c = ?
+returns-in-ClearSlot-clause-state c =
+    c.clear_slot.ensures.state c.in-ClearSlot._pipes
+    (subst (Fits c.args.chosen.now c.args.self.now.state) c.in-ClearSlot.is c.requires.fits)
+    ∙ ap (λ (k : Kernel). tidy k)
+    (same_clearing c.args.chosen.now c.args.self.now.state c.in-ClearSlot.pid c.in-ClearSlot.fd
+    c.in-ClearSlot._pipes)
+    ∙ ap (λ (e : Edit). tidy (applied c.args.chosen.now e c.args.self.now.state))
+    (sym c.in-ClearSlot.is)

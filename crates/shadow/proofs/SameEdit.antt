@@ -1,0 +1,64 @@
+-- What an edit makes of a state does not hang on numbers of the call that the edit does not use,
+-- nor on
+-- what it says of the state before.
+use Rattle.std.proofs.Common.{◌≡◌, ℕ, List, [], ◌∷◌, false, refl, sym, ap, ◌∙◌}
+use Rattle.ids.specs.declared.edit.Mode.{Mode}
+use Rattle.model.specs.State.{Directory, File, Kernel, Name}
+use Rattle.model.specs.FiniteMap.{empty}
+use Rattle.model.specs.Changes.{Clear_slot, Cut, Edit, Make_directory, Make_file, Open_inode}
+use Rattle.model.specs.Changes.{Put_bytes, There, Unname_directory, Which, applied, number, open_at}
+use Rattle.model.specs.Changes.{set_inode, set_name, tidy}
+use Rattle.call_laws.specs.Fits.{Fits}
+use Rattle.freeing_laws.specs.Sweep.{IsTidied, loses}
+use Rattle.freeing_laws.proofs.Laws.{sweep_is_tidy_lem}
+use Rattle.shadow.specs.Steps.{new_in}
+
+-- a new object by its own number alone
+module _ (chosen : List ℕ) (d : ℕ) (x : Name) (n i : ℕ) (first : i ≡ 0) (new : n ≡ new_in chosen 0)
+    (k : Kernel) where
+  pub same_directory : applied (n ∷ []) (Make_directory d x 0) k
+      ≡ applied chosen (Make_directory d x i) k
+  unfolding applied
+  same_directory = ap (λ n. set_name d x n (set_inode n (Directory empty) k))
+      (new ∙ sym (ap (new_in chosen) first))
+
+  pub same_file : applied (n ∷ []) (Make_file d x 0) k ≡ applied chosen (Make_file d x i) k
+  unfolding applied
+  same_file = ap (λ n. set_name d x n (set_inode n (File []) k))
+      (new ∙ sym (ap (new_in chosen) first))
+
+pub same_opening : (chosen : List ℕ) (i : ℕ) (inode : Which) (mode : Mode) (pid f n m : ℕ)
+    → n ≡ new_in chosen i → m ≡ number chosen inode → (k : Kernel)
+    → applied (n ∷ []) (Open_inode 0 (There m) mode pid f) k
+    ≡ applied chosen (Open_inode i inode mode pid f) k
+unfolding applied
+same_opening chosen i inode mode pid f n m new is k = ap (λ n. open_at n m mode pid f k) new
+    ∙ ap (λ m. open_at (new_in chosen i) m mode pid f k) is
+
+-- edits that make nothing
+module _ (chosen : List ℕ) (k : Kernel) where
+  pub same_unnaming : (d : ℕ) (x : Name) (n : ℕ)
+      → applied [] (Unname_directory d x n) k ≡ applied chosen (Unname_directory d x n) k
+  unfolding applied
+  same_unnaming d x n = refl
+
+  pub same_bytes_put : (n place : ℕ) (bytes : List ℕ) (before : ℕ)
+      → applied [] (Put_bytes n place bytes before) k
+      ≡ applied chosen (Put_bytes n place bytes before) k
+  unfolding applied
+  same_bytes_put n place bytes before = refl
+
+  pub same_cut : (n before after : ℕ)
+      → applied [] (Cut n before after) k ≡ applied chosen (Cut n before after) k
+  unfolding applied
+  same_cut n before after = refl
+
+  pub same_clearing : (pid f : ℕ) (pipes : List ℕ)
+      → applied [] (Clear_slot pid f pipes) k ≡ applied chosen (Clear_slot pid f pipes) k
+  unfolding applied
+  same_clearing pid f pipes = refl
+
+-- after an edit that loses nothing, nothing is to go
+pub none_goes : (chosen : List ℕ) (k : Kernel) (e : Edit) → IsTidied k → Fits chosen k e
+    → loses e ≡ false → applied chosen e k ≡ tidy (applied chosen e k)
+none_goes chosen k e tidied fits none = sym (sweep_is_tidy_lem.none chosen k e tidied fits none)

@@ -1,0 +1,74 @@
+use Rattle.std.proofs.Common.{◌≡◌, ◌<◌, ◌≤◌, ℕ, List, [], length, arith, refl, sym, subst, ap, ◌∙◌}
+use Rattle.std.proofs.lemmas.List.{get_or_read}
+use Rattle.model.specs.State.{Kernel}
+use Rattle.model.specs.Changes.{Cut, Edit, Put_bytes, applied, news, tidy}
+use Rattle.call_laws.specs.Fits.{Fits}
+use Rattle.shadow.specs.Steps.{IsFirst, new_in}
+use Rattle.shadow.proofs.Outcomes.{ok_so}
+use Rattle.shadow.proofs.SameEdit.{none_goes, same_bytes_put, same_cut, same_directory, same_file}
+use Rattle.shadow.proofs.SameEdit.{same_unnaming}
+use Rattle.shadow.proofs.stable.Stable.perform_first.Goals as goal
+
+pub returns-in-MakeDirectory-clause-state : goal.returns-in-MakeDirectory-clause-state
+returns-in-MakeDirectory-clause-state c =
+    let chosen : List ℕ = c.args.chosen.now in
+    let count = subst (λ (e : Edit). news e ≤ length chosen) c.in-MakeDirectory.is c.requires.count
+    in
+    let low : 0 < length chosen = omega (arith, count) in
+    let at : c.index-chosen-0.result ≡ new_in chosen 0 =
+    get_or_read chosen 0 c.index-chosen-0.result low c.index-chosen-0.is 0 in
+    c.make_directory.ensures.state
+    ∙ ap (λ (k : Kernel). tidy k)
+    (same_directory chosen c.in-MakeDirectory.parent c.in-MakeDirectory.name
+    c.index-chosen-0.result c.in-MakeDirectory._place
+    (subst IsFirst c.in-MakeDirectory.is c.requires.first) at c.args.self.now.state)
+    ∙ ap (λ (e : Edit). tidy (applied chosen e c.args.self.now.state)) (sym c.in-MakeDirectory.is)
+
+pub returns-in-MakeFile-clause-state : goal.returns-in-MakeFile-clause-state
+returns-in-MakeFile-clause-state c =
+    let chosen : List ℕ = c.args.chosen.now in
+    let count = subst (λ (e : Edit). news e ≤ length chosen) c.in-MakeFile.is c.requires.count in
+    let low : 0 < length chosen = omega (arith, count) in
+    let at : c.index-chosen-0-in-MakeFile.result ≡ new_in chosen 0 =
+    get_or_read chosen 0 c.index-chosen-0-in-MakeFile.result low c.index-chosen-0-in-MakeFile.is
+    0 in
+    c.make_file.ensures.state
+    ∙ ap (λ (k : Kernel). tidy k)
+    (same_file chosen c.in-MakeFile.parent c.in-MakeFile.name
+    c.index-chosen-0-in-MakeFile.result c.in-MakeFile._place
+    (subst IsFirst c.in-MakeFile.is c.requires.first) at c.args.self.now.state)
+    ∙ ap (λ (e : Edit). tidy (applied chosen e c.args.self.now.state)) (sym c.in-MakeFile.is)
+
+pub returns-in-UnnameDirectory-clause-state : goal.returns-in-UnnameDirectory-clause-state
+returns-in-UnnameDirectory-clause-state c =
+    c.unname.ensures.state
+    ∙ ap (λ (k : Kernel). tidy k)
+    (same_unnaming c.args.chosen.now c.args.self.now.state c.in-UnnameDirectory.parent
+    c.in-UnnameDirectory.name c.in-UnnameDirectory.num)
+    ∙ ap (λ (e : Edit). tidy (applied c.args.chosen.now e c.args.self.now.state))
+    (sym c.in-UnnameDirectory.is)
+
+pub returns-in-PutBytes-clause-state : goal.returns-in-PutBytes-clause-state
+returns-in-PutBytes-clause-state c =
+    let chosen : List ℕ = c.args.chosen.now in let k : Kernel = c.args.self.now.state in
+    let e : Edit = Put_bytes c.in-PutBytes.file c.in-PutBytes.place c.in-PutBytes.bytes
+    c.in-PutBytes._before in
+    ok_so c.write.result (λ h. h c.in-PutBytes._before
+    ∙ ap (λ bytes. applied []
+    (Put_bytes c.in-PutBytes.file c.in-PutBytes.place bytes c.in-PutBytes._before) k)
+    c.as_slice.ensures
+    ∙ same_bytes_put chosen k c.in-PutBytes.file c.in-PutBytes.place c.in-PutBytes.bytes
+    c.in-PutBytes._before
+    ∙ none_goes chosen k e c.state_is_tidied.ensures
+    (subst (Fits chosen k) c.in-PutBytes.is c.requires.fits) refl
+    ∙ ap (λ (e : Edit). tidy (applied chosen e k)) (sym c.in-PutBytes.is)) c.write.ensures.state
+
+pub returns-in-Cut-clause-state : goal.returns-in-Cut-clause-state
+returns-in-Cut-clause-state c =
+    let chosen : List ℕ = c.args.chosen.now in let k : Kernel = c.args.self.now.state in
+    let e : Edit = Cut c.in-Cut.file c.in-Cut._before c.in-Cut.after in
+    ok_so c.cut.result (λ h. h c.in-Cut._before
+    ∙ same_cut chosen k c.in-Cut.file c.in-Cut._before c.in-Cut.after
+    ∙ none_goes chosen k e c.state_is_tidied.ensures
+    (subst (Fits chosen k) c.in-Cut.is c.requires.fits) refl
+    ∙ ap (λ (e : Edit). tidy (applied chosen e k)) (sym c.in-Cut.is)) c.cut.ensures.state
