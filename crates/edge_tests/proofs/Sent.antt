@@ -26,11 +26,20 @@ use Rattle.atomic_table.specs.contracts.send_lease.SendLease as SendLease
 use Rattle.atomic_table.proofs.Rights.{right_send}
 use Rattle.atomic_table.proofs.Sent.{seat_keyless, shares_keyless}
 use Rattle.dirlist.specs.contracts.patch.Patch as Patch
-use Rattle.shadow.specs.contracts.changes.Change as Change
-use Rattle.shadow.specs.contracts.changes.Changes as Changes
+use Rattle.file_shadow.specs.contracts.shadow.FileShadow as FileShadow
+use Rattle.objects.specs.contracts.file.FileData as FileData
+use Rattle.fdtable.specs.contracts.FdTable as FdTable
+use Rattle.fdtable.specs.contracts.Patch as FdPatch
+use Rattle.shadow.specs.contracts.change.Contents as Contents
+use Rattle.shadow.specs.contracts.change.Change as Change
+use Rattle.shadow.specs.contracts.inodes.Inodes as Inodes
+use Rattle.shadow.specs.contracts.opening.Openings as Openings
+use Rattle.shadow.specs.contracts.slots.Slots as Slots
+use Rattle.shadow.specs.contracts.patches.Patches as Patches
 use Rattle.shadow.specs.contracts.shadow.Shadow as Shadow
 use Rattle.store.specs.contracts.Header as Header
 use Rattle.store.specs.contracts.Store as Store
+use Rattle.shadow.specs.contracts.stable.Process as Process
 use Rattle.shadow.specs.contracts.stable.Stable as Stable
 use Rattle.ids.specs.contracts.aspect.Touch as Touch
 use Rattle.ids.specs.contracts.aspect.Cause as Cause
@@ -57,25 +66,52 @@ frees_by : {D : Type 0} {G : Type 1} (g : G) (holds : D → Ty → Ptr → Fml)
 frees_by g holds h = record { frees = h }
 
 patch_sent : IsSend Patch.the_row
-patch_sent = search (sendable, crosses, over.crosses, frees_by, frees.frees) depth 40
+patch_sent = search (sendable, crosses, over.crosses, frees_by, frees.frees) depth 40 fits 30000
 
-change_sent : IsSend Change.the_row
-change_sent = search (patch_sent, sendable, crosses) depth 40
+bytes_sent : IsSend FileShadow.the_row
+bytes_sent = search (sendable, crosses, over.crosses, frees_by, frees.frees) depth 40 fits 30000
 
-changes_sent : IsSend Changes.the_row
-changes_sent = search (change_sent, sendable, crosses, maps.crosses, frees_by, frees.frees) depth 40
+room_sent : IsSend FileData.the_row
+room_sent = search (sendable, crosses, over.crosses, frees_by, frees.frees) depth 40 fits 30000
+
+table_sent : IsSend FdTable.the_row
+table_sent = search (sendable, crosses, over.crosses) depth 40 fits 30000
+
+given_sent : IsSend FdPatch.the_row
+given_sent = search (sendable, crosses, over.crosses) depth 40 fits 30000
+
+contents_sent : IsSend (Contents.the_field).row
+contents_sent = search (patch_sent, bytes_sent, sendable, crosses, over.crosses) depth 40 fits 30000
+
+change_sent : IsSend (Change.the_field).row
+change_sent = search (contents_sent, room_sent, sendable, crosses, over.crosses) depth 40 fits 30000
+
+inodes_sent : IsSend Inodes.the_row
+inodes_sent = search (change_sent, sendable, crosses, over.crosses, maps.crosses, frees_by, frees.frees) depth 40 fits 30000
+
+openings_sent : IsSend Openings.the_row
+openings_sent = search (sendable, crosses, over.crosses, maps.crosses, frees_by, frees.frees) depth 40 fits 30000
+
+slots_sent : IsSend Slots.the_row
+slots_sent = search (given_sent, sendable, crosses, over.crosses, frees_by, frees.frees) depth 40 fits 30000
+
+patches_sent : IsSend Patches.the_row
+patches_sent = search (inodes_sent, openings_sent, slots_sent, sendable, crosses, over.crosses, frees_by, frees.frees) depth 40 fits 30000
 
 shadow_sent : IsSend Shadow.the_row
-shadow_sent = search (changes_sent, sendable, crosses, over.crosses, frees_by, frees.frees) depth 40
+shadow_sent = search (patches_sent, sendable, crosses, over.crosses) depth 40 fits 30000
 
 header_sent : IsSend Header.the_row
-header_sent = search (sendable, crosses, over.crosses, frees_by, frees.frees) depth 40 fits 30000
+header_sent = search (room_sent, sendable, crosses, over.crosses, frees_by, frees.frees) depth 40 fits 30000
 
 store_sent : IsSend Store.the_row
 store_sent = search (header_sent, sendable, crosses, over.crosses, frees_by, frees.frees) depth 40 fits 30000
 
+process_sent : IsSend Process.the_row
+process_sent = search (table_sent, sendable, crosses, over.crosses) depth 40 fits 30000
+
 stable_sent : IsSend Stable.the_row
-stable_sent = search (store_sent, sendable, crosses, over.crosses, frees_by, frees.frees) depth 40 fits 30000
+stable_sent = search (store_sent, process_sent, sendable, crosses, over.crosses, frees_by, frees.frees) depth 40 fits 30000
 
 touch_sent : IsSend Touch.the_row
 touch_sent = search (sendable, crosses, over.crosses, frees_by, frees.frees) depth 40 fits 30000
