@@ -15,6 +15,7 @@ use Rattle.model.specs.Changes.{Made, number, Edit, Make_directory, Make_file, N
 use Rattle.model.specs.Changes.{Unname_file, Unname_directory, Move, Put_bytes, Cut, Take, Append}
 use Rattle.model.specs.Changes.{Set_offset, Open_inode, Make_pipe, Share_slot, Clear_slot}
 use Rattle.model.specs.Changes.{New_process, End_process, marks, applied, process_of}
+use Rattle.model.specs.Changes.{Replaced, Over_nothing, Over_file, Over_directory}
 use Rattle.call_laws.specs.Objects.{IsThere, LeavesAlone}
 use Rattle.call_laws.specs.WellFormed.{IsRooted, Leads, descriptor_limit}
 
@@ -30,16 +31,16 @@ pub record Gives (k : Kernel) (d : ℕ) (x : Name) (n : ℕ) (what : Kind) : Typ
   pub kind : kind_of k n ≡ Some what
 
 -- what stands where a name is moved to: nothing, a file, or a directory with no names
-abbrev pub CanBeReplaced : Kernel → ℕ → Option ℕ → List ℕ → Type 0
-CanBeReplaced k n None [] = ⊤
-CanBeReplaced k n (Some m) [] =
-    (n ≢ m) × (kind_of k m ≡ Some A_directory) × (keys (names_of k m) ≡ [])
-CanBeReplaced k n (Some m) (r ∷ []) = (n ≢ m) × (kind_of k m ≡ Some A_file) × (r ≡ m)
+abbrev pub CanBeReplaced : Kernel → ℕ → Option ℕ → Replaced → Type 0
+CanBeReplaced k n None Over_nothing = ⊤
+CanBeReplaced k n (Some m) (Over_directory r) =
+    (n ≢ m) × (kind_of k m ≡ Some A_directory) × (r ≡ m) × (keys (names_of k m) ≡ [])
+CanBeReplaced k n (Some m) (Over_file r) = (n ≢ m) × (kind_of k m ≡ Some A_file) × (r ≡ m)
 CanBeReplaced k n _ _ = ⊥
 
 -- what moves is named, does not go to below itself, and may replace what has the new name
 pub record CanMove (k : Kernel) (d : ℕ) (x : Name) (e : ℕ) (y : Name) (n : ℕ)
-    (replaced : List ℕ) : Type 0 where
+    (replaced : Replaced) : Type 0 where
   pub what : Kind
   pub from : Gives k d x n what
   pub onto : IsRooted k e

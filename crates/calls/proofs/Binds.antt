@@ -6,7 +6,7 @@ use Rattle.model.specs.Plan.{Errno as Refused, EISDIR, EINVAL, ENOENT, ENOTDIR, 
 use Rattle.model.specs.Walks.{Place, Last, is_directory, parsed, walk, last_of}
 use Rattle.model.specs.Paths.{is_empty, is_below}
 use Rattle.model.specs.Calls.{Done}
-use Rattle.model.specs.Changes.{Move}
+use Rattle.model.specs.Changes.{Move, Replaced}
 use Rattle.model.specs.Plans.{Change, changed, unchanged, moved, replaced_by_name}
 use Rattle.model.specs.Steps.{Touch}
 use Rattle.ids.specs.declared.errno.Refusal.{Refusal}
@@ -59,12 +59,12 @@ two_then : {A B : Type 0} (a b : Bool) (m : Plan A) (g : A → Plan B) → (refu
 two_then true b m g = refl
 two_then false b m g = test_then b ENOTDIR m g
 
-over_then : {B : Type 0} (what old : Place) (g : List ℕ → Plan B) → (refuse_if (not (is_directory what) && is_directory old) EISDIR >> (refuse_if (is_directory what && not (is_directory old)) ENOTDIR >> (replaced_by_name old.0 (is_directory old) >>= g))) ≡ (replaced_over what old >>= g)
+over_then : {B : Type 0} (what old : Place) (g : Replaced → Plan B) → (refuse_if (not (is_directory what) && is_directory old) EISDIR >> (refuse_if (is_directory what && not (is_directory old)) ENOTDIR >> (replaced_by_name old.0 (is_directory old) >>= g))) ≡ (replaced_over what old >>= g)
 over_then what old g = two_then (not (is_directory what) && is_directory old) (is_directory what && not (is_directory old)) (replaced_by_name old.0 (is_directory old)) g
 
--- a rename by the file that loses its name, where something moves
-abbrev pub move_by : Last → Place → Last → List ℕ → Plan Change
-move_by from what to files = changed Done (Move from.parent from.name to.parent to.name what.0 files ∷ [])
+-- a rename by what loses its name, where something moves
+abbrev pub move_by : Last → Place → Last → Replaced → Plan Change
+move_by from what to replaced = changed Done (Move from.parent from.name to.parent to.name what.0 replaced ∷ [])
 
 onto_then : (from : Last) (what : Place) (to : Last) (old : Place) (same : Bool) → (if same then unchanged Done else (refuse_if (not (is_directory what) && is_directory old) EISDIR >> (refuse_if (is_directory what && not (is_directory old)) ENOTDIR >> (replaced_by_name old.0 (is_directory old) >>= move_by from what to)))) ≡ (if same then unchanged Done else (replaced_over what old >>= move_by from what to))
 onto_then from what to old true = refl

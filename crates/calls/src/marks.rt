@@ -2,11 +2,11 @@
 ghost use Rattle.std.specs.Prelude.{◌≡◌, ◌++◌, ◌∷◌, [], OnOk, map};
 ghost use Rattle.std.specs.List.{flat_map};
 ghost use Rattle.model.specs.Aspects.{Ends, Entry, Links};
-ghost use Rattle.model.specs.Changes.{marks, Put_bytes, Cut};
+ghost use Rattle.model.specs.Changes.{marks, file_replaced, Put_bytes, Cut};
 ghost use Rattle.look.specs.Asked.{writing};
 
 use crate::asking::touch_blocks;
-use ids::{Aspect, Edit, Name, Num};
+use ids::{Aspect, Edit, Name, Num, Replaced};
 use std::alloc::AllocError;
 use walk::Touches;
 
@@ -29,15 +29,6 @@ fn mark_ends(pipes: &[Num], touches: &mut Touches) -> Result<(), AllocError>
     Ok(())
 }
 
-fn mark_links(files: &[Num], touches: &mut Touches) -> Result<(), AllocError>
-    ensures { OnOk result (touches.new ≡ touches.old ++ writing (map Links files.now)) }
-{
-    for file in files {
-        touches.write(Aspect::Links(*file))?;
-    }
-    Ok(())
-}
-
 // A name in a directory.
 fn mark_entry(dir: Num, name: &Name, touches: &mut Touches) -> Result<(), AllocError>
     ensures { OnOk result (touches.new ≡ touches.old ++ writing (Entry dir name.now ∷ [])) }
@@ -54,21 +45,25 @@ fn mark_name(dir: Num, name: &Name, file: Num, touches: &mut Touches) -> Result<
     touches.write(Aspect::Links(file))
 }
 
-// Two names, and the files that the second gave.
+// Two names, and the file that the second gave.
 fn mark_move(
     dir: Num,
     name: &Name,
     to: Num,
     onto: &Name,
-    replaced: &[Num],
+    replaced: Replaced,
     touches: &mut Touches,
 ) -> Result<(), AllocError>
     ensures { OnOk result (touches.new ≡ touches.old
-        ++ writing (Entry dir name.now ∷ Entry to onto.now ∷ map Links replaced.now)) }
+        ++ writing (Entry dir name.now ∷ Entry to onto.now ∷ map Links (file_replaced replaced))) }
 {
     mark_entry(dir, name, touches)?;
     mark_entry(to, onto, touches)?;
-    mark_links(replaced, touches)
+    match replaced {
+        Replaced::File(file) => touches.write(Aspect::Links(file)),
+        Replaced::Directory(_) => Ok(()),
+        Replaced::Nothing => Ok(()),
+    }
 }
 
 // Bytes of a file that had so many before.
@@ -116,7 +111,7 @@ fn mark(edit: &Edit, touches: &mut Touches) -> Result<(), AllocError>
         Edit::NameFile(dir, name, file) => mark_name(*dir, name, *file, touches),
         Edit::UnnameFile(dir, name, file) => mark_name(*dir, name, *file, touches),
         Edit::Move(dir, name, to, onto, _, replaced) => {
-            mark_move(*dir, name, *to, onto, replaced.as_slice(), touches)
+            mark_move(*dir, name, *to, onto, *replaced, touches)
         }
         Edit::PutBytes(file, place, bytes, before) => {
             mark_bytes(*file, *place, bytes.as_slice(), *before, touches)

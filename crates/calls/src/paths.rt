@@ -17,7 +17,7 @@ use crate::steps::{
     must_not_be_directory, must_not_be_root, must_not_go_below, parsed, refuse_if,
 };
 use heap::Heap;
-use ids::{Answer, Bytes, Edit, Errno, Kind, Num, Nums, Refusal, Stat};
+use ids::{Answer, Bytes, Edit, Errno, Kind, Num, Refusal, Replaced, Stat};
 use look::Look;
 use path::Path;
 use walk::{Last, Touches, must_be_directory, or_refuse, walk_to_last};
@@ -305,7 +305,7 @@ fn move_target<L: Look>(
 }
 
 // The change of a name that moves.
-fn move_edit(from: Last, to: Last, num: Num, replaced: Nums) -> Edit
+fn move_edit(from: Last, to: Last, num: Num, replaced: Replaced) -> Edit
     ensures { result ≡ Move from.parent from.name to.parent to.name num replaced }
 {
     Edit::Move(from.parent, from.name, to.parent, to.name, num, replaced)
@@ -340,18 +340,18 @@ fn gives(found: Option<(Num, Option<Kind>)>, num: Num) -> bool
     }
 }
 
-// The file that loses its name to what moves, if any does.
+// What loses its name to what moves.
 fn replaced<L: Look>(
     look: &L,
     what: &(Num, Option<Kind>),
     found: Option<(Num, Option<Kind>)>,
     touches: &mut Touches,
-) -> Result<Nums, Refusal>
+) -> Result<Replaced, Refusal>
     ensures { Comes (L.state look.now) (replaced what.now found) touches.old result touches.new }
 {
     match found {
         Some(old) => replaced_over(look, what, &old, touches),
-        None => Ok(Nums::new(touches.heap())),
+        None => Ok(Replaced::Nothing),
     }
 }
 
@@ -360,7 +360,7 @@ fn replaced_over<L: Look>(
     what: &(Num, Option<Kind>),
     old: &(Num, Option<Kind>),
     touches: &mut Touches,
-) -> Result<Nums, Refusal>
+) -> Result<Replaced, Refusal>
     ensures { Comes (L.state look.now)
         (replaced_over what.now old.now) touches.old result touches.new }
 {
@@ -369,33 +369,29 @@ fn replaced_over<L: Look>(
     replaced_by_name(look, *old, touches)
 }
 
-// The file whose name goes; a directory has to be empty.
+// What loses the name: a file, or a directory, which has to be empty.
 fn replaced_by_name<L: Look>(
     look: &L,
     old: (Num, Option<Kind>),
     touches: &mut Touches,
-) -> Result<Nums, Refusal>
+) -> Result<Replaced, Refusal>
     ensures { Comes (L.state look.now)
         (replaced_by_name old.0 (is_directory old)) touches.old result touches.new }
 {
     if is_directory(&old) {
         replaced_directory(look, old.0, touches)
     } else {
-        replaced_file(touches.heap(), old.0)
+        Ok(Replaced::File(old.0))
     }
 }
 
-fn replaced_directory<L: Look>(look: &L, num: Num, touches: &mut Touches) -> Result<Nums, Refusal>
+fn replaced_directory<L: Look>(
+    look: &L,
+    num: Num,
+    touches: &mut Touches,
+) -> Result<Replaced, Refusal>
     ensures { Comes (L.state look.now) (replaced_by_name num true) touches.old result touches.new }
 {
     must_have_no_names(look, num, touches)?;
-    Ok(Nums::new(touches.heap()))
-}
-
-fn replaced_file(heap: Heap, num: Num) -> Result<Nums, Refusal>
-    ensures { Tells (replaced_by_name num false) result }
-{
-    let mut replaced = Nums::new(heap);
-    replaced.push(num)?;
-    Ok(replaced)
+    Ok(Replaced::Directory(num))
 }

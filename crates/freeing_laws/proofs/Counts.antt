@@ -1,10 +1,11 @@
 -- By how much each edit changes the counts.
-use Rattle.std.proofs.Common.{◌≡◌, ◌≢◌, ℕ, ◌+◌, ◌==◌, Bool, cond, ◌&&◌, List, [], ◌∷◌, ◌++◌, drop, Some, None, refl, sym, ap, ◌∙◌, arith, nat_cmp}
+use Rattle.std.proofs.Common.{◌≡◌, ◌≢◌, ℕ, ◌+◌, ◌==◌, Bool, cond, ◌&&◌, List, Option, [], ◌∷◌, ◌++◌, drop, Some, None, refl, sym, ap, ◌∙◌, arith, nat_cmp}
 use Rattle.model.specs.FiniteMap.{FinMap, get, empty, insert, remove, values}
 use Rattle.model.specs.State.{Name, name_cmp, A_directory, A_pipe, Kernel, Inode, File, Directory, Pipe, Description, Process, kind, names_of, file_of, pipe_of, kind_of, links, ends, is_end}
 use Rattle.model.specs.Changes.{Edit, Made, number, Make_directory, Make_file, Name_file, Unname_file, Unname_directory, Move, Put_bytes, Cut, Take, Append, Set_offset, Open_inode, Make_pipe, Share_slot, Clear_slot, New_process, End_process, Mode, to_read, to_write, applied, process_of, set_inode, set_name, clear_name, at_offset, at_start, open_at, set_offset, set_process, without_slot, sized, written, holders, openings}
 use Rattle.model.proofs.Laws.{get_same, get_other}
-use Rattle.call_laws.specs.Fits.{Fits, CanMove, CanPipe, IsUnused, table_of}
+use Rattle.call_laws.specs.Fits.{Fits, CanBeReplaced, CanMove, CanPipe, IsUnused, table_of}
+use Rattle.model.specs.Changes.{Replaced, Over_nothing, Over_file, Over_directory, inode_replaced}
 use Rattle.call_laws.proofs.Laws.{has_names, one, counted, links_named, links_unnamed, same_links, IsNew, is_new, kept_kind, HasBytes, has_bytes, no_names_file, no_names_pipe, still_gives, other_old, set_there, ends_unmoved, with_tables, pipe_at, unused_after, free_after, end_count, ends-open_at, without_process}
 use Rattle.freeing_laws.specs.Counts.{times, listed, named, unnamed, opened, taken, let_go, ends_among, EditCounts}
 use Rattle.freeing_laws.proofs.Times.{times_one, times_cons, times_listed}
@@ -24,9 +25,9 @@ inode_ends k m p mode = refl
 
 -- an edit of inodes alone
 by_inodes : (chosen : List ℕ) (k : Kernel) (e : Edit) (m : FinMap nat_cmp Inode) → applied chosen e k ≡ record k { inodes = m } → opened chosen e ≡ [] → taken chosen k e ≡ [] → let_go k e ≡ []
-    → ((n : ℕ) → links (record k { inodes = m }) n + times n (unnamed k e) ≡ links k n + times n (named chosen e)) → EditCounts chosen k e
+    → ((n : ℕ) → links (record k { inodes = m }) n + times n (unnamed e) ≡ links k n + times n (named chosen e)) → EditCounts chosen k e
 by_inodes chosen k e m is no_opened no_taken no_let_go linked = record {
-  links = λ n. ap (λ s. links s n + times n (unnamed k e)) is ∙ linked n;
+  links = λ n. ap (λ s. links s n + times n (unnamed e)) is ∙ linked n;
   openings = λ n.
       let same : openings (applied chosen e k) n ≡ openings k n = ap (λ s. openings s n) is ∙ inode_openings k m n in
       let none : times n (opened chosen e) ≡ 0 = ap (times n) no_opened in
@@ -52,7 +53,7 @@ unfolding openings
 table_openings k ps made n = refl
 
 -- an edit of processes alone
-by_processes : (chosen : List ℕ) (k : Kernel) (e : Edit) (ps : FinMap nat_cmp Process) (made : ℕ) → applied chosen e k ≡ with_tables k k.descriptions ps made → opened chosen e ≡ [] → named chosen e ≡ [] → unnamed k e ≡ []
+by_processes : (chosen : List ℕ) (k : Kernel) (e : Edit) (ps : FinMap nat_cmp Process) (made : ℕ) → applied chosen e k ≡ with_tables k k.descriptions ps made → opened chosen e ≡ [] → named chosen e ≡ [] → unnamed e ≡ []
     → ((d : ℕ) → holders (with_tables k k.descriptions ps made) d + times d (let_go k e) ≡ holders k d + times d (taken chosen k e))
     → ((p : ℕ) (mode : Description → Bool) → ends (with_tables k k.descriptions ps made) p mode + ends_among k p mode (let_go k e) ≡ ends k p mode + ends_among k p mode (taken chosen k e))
     → EditCounts chosen k e
@@ -60,7 +61,7 @@ by_processes chosen k e ps made is no_opened no_named no_unnamed held ended = re
   links = λ n.
       let same : links (applied chosen e k) n ≡ links k n = ap (λ s. links s n) is ∙ table_links k k.descriptions ps made n in
       let none : times n (named chosen e) ≡ 0 = ap (times n) no_named in
-      let none_too : times n (unnamed k e) ≡ 0 = ap (times n) no_unnamed in
+      let none_too : times n (unnamed e) ≡ 0 = ap (times n) no_unnamed in
       omega arith;
   openings = λ n.
       let same : openings (applied chosen e k) n ≡ openings k n = ap (λ s. openings s n) is ∙ table_openings k ps made n in
@@ -92,7 +93,16 @@ unnamed_links k d x n is gives m =
     let o : times m (n ∷ []) ≡ one n m = times_one m n in
     omega arith
 
-moved_links : (k : Kernel) (d : ℕ) (x : Name) (e : ℕ) (y : Name) (n : ℕ) (replaced : List ℕ) → CanMove k d x e y n replaced → (m : ℕ) → links (set_name e y n (clear_name d x k)) m + times m (listed (get (names_of k e) y)) ≡ links k m + times m []
+-- what is listed as replaced is what had the name
+old_is_replaced : (k : Kernel) (n : ℕ) (old : Option ℕ) (replaced : Replaced) → CanBeReplaced k n old replaced → inode_replaced replaced ≡ listed old
+old_is_replaced k n None Over_nothing can = refl
+old_is_replaced k n None (Over_file r) can = absurd can
+old_is_replaced k n None (Over_directory r) can = absurd can
+old_is_replaced k n (Some m) Over_nothing can = absurd can
+old_is_replaced k n (Some m) (Over_file r) can = ap (λ r. r ∷ []) can.2
+old_is_replaced k n (Some m) (Over_directory r) can = ap (λ r. r ∷ []) can.2
+
+moved_links : (k : Kernel) (d : ℕ) (x : Name) (e : ℕ) (y : Name) (n : ℕ) (replaced : Replaced) → CanMove k d x e y n replaced → (m : ℕ) → links (set_name e y n (clear_name d x k)) m + times m (inode_replaced replaced) ≡ links k m + times m []
 moved_links k d x e y n replaced can m =
     let mid : Kernel = clear_name d x k in
     let is : kind_of k d ≡ Some A_directory = can.from.parent.directory in
@@ -100,14 +110,14 @@ moved_links k d x e y n replaced can m =
     let still : get (names_of mid e) y ≡ can.old = still_gives k d x e y n can.old is can.from.gives can.gives (other_old k n can.old replaced can.replaces) in
     let gone : links mid m + one n m ≡ links k m = ap (λ c. links mid m + c) (sym (ap (counted m) can.from.gives)) ∙ links_unnamed k d x is m in
     let come : links (set_name e y n mid) m + counted m can.old ≡ links mid m + one n m = ap (λ c. links (set_name e y n mid) m + c) (sym (ap (counted m) still)) ∙ links_named mid e y n is_too m in
-    let o : times m (listed (get (names_of k e) y)) ≡ counted m can.old = times_listed m (get (names_of k e) y) ∙ ap (counted m) can.gives in
+    let o : times m (inode_replaced replaced) ≡ counted m can.old = ap (times m) (old_is_replaced k n can.old replaced can.replaces) ∙ times_listed m can.old in
     omega arith
 
 bytes_links : (k : Kernel) (n : ℕ) (new : Inode) → HasBytes k (set_inode n new k) → (m : ℕ) → links (set_inode n new k) m + times m [] ≡ links k m + times m []
 bytes_links k n new has m = let same : links (set_inode n new k) m ≡ links k m = has.links m in omega arith
 
 -- a new description with its slot
-open_counts : (chosen : List ℕ) (k : Kernel) (e : Edit) (d n : ℕ) (how : Mode) (q f : ℕ) → applied chosen e k ≡ open_at d n how q f k → named chosen e ≡ [] → unnamed k e ≡ [] → let_go k e ≡ [] → opened chosen e ≡ n ∷ [] → taken chosen k e ≡ d ∷ []
+open_counts : (chosen : List ℕ) (k : Kernel) (e : Edit) (d n : ℕ) (how : Mode) (q f : ℕ) → applied chosen e k ≡ open_at d n how q f k → named chosen e ≡ [] → unnamed e ≡ [] → let_go k e ≡ [] → opened chosen e ≡ n ∷ [] → taken chosen k e ≡ d ∷ []
     → IsUnused k d → get (table_of k q) f ≡ None → EditCounts chosen k e
 open_counts chosen k e d n how q f is no_named no_unnamed no_let_go opens takes unused free =
     let after : Kernel = open_at d n how q f k in
@@ -115,7 +125,7 @@ open_counts chosen k e d n how q f is no_named no_unnamed no_let_go opens takes 
       links = λ m.
           let same : links (applied chosen e k) m ≡ links k m = ap (λ s. links s m) is ∙ table_links k after.descriptions after.processes k.made m in
           let none : times m (named chosen e) ≡ 0 = ap (times m) no_named in
-          let none_too : times m (unnamed k e) ≡ 0 = ap (times m) no_unnamed in
+          let none_too : times m (unnamed e) ≡ 0 = ap (times m) no_unnamed in
           omega arith;
       openings = λ m.
           let more : openings (applied chosen e k) m ≡ openings k m + one n m = ap (λ s. openings s m) is ∙ openings_opened k d n how q f unused.description m in

@@ -139,7 +139,7 @@ freed_call k c t ready =
     along c.chosen (edits k c.pid c.call) k k t.well (sym t.tidied) fit (fits_freed c.chosen (edits k c.pid c.call) k (only_last k c.pid c.call) fit)
 
 -- a directory that loses its name goes
-nothing_more : (chosen : List ℕ) (k : Kernel) (e : Edit) (n : ℕ) → 0 < times n (unnamed k e) → (times n (named chosen e) ≡ 0) × (times n (opened chosen e) ≡ 0)
+nothing_more : (chosen : List ℕ) (k : Kernel) (e : Edit) (n : ℕ) → 0 < times n (unnamed e) → (times n (named chosen e) ≡ 0) × (times n (opened chosen e) ≡ 0)
 nothing_more chosen k (Unname_file d x m) n has = (refl, refl)
 nothing_more chosen k (Unname_directory d x m) n has = (refl, refl)
 nothing_more chosen k (Move d x a y m replaced) n has = (refl, refl)
@@ -150,7 +150,7 @@ unfolding openings
 not_open k n well is = sum-zero nat_cmp_total (λ (v : Description). cond (v.inode == n) 1 0) k.descriptions (λ d it gives.
     not_counted it.inode n (λ same. subst CanBeOpened (ap (kind_of k) same ∙ is) (well.descriptions d it gives)))
 
-directory_goes : (chosen : List ℕ) (k : Kernel) (e : Edit) (n : ℕ) → WellFormed k → Fits chosen k e → kind_of k n ≡ Some A_directory → 0 < times n (unnamed k e) → is_reached (applied chosen e k) n ≡ false
+directory_goes : (chosen : List ℕ) (k : Kernel) (e : Edit) (n : ℕ) → WellFormed k → Fits chosen k e → kind_of k n ≡ Some A_directory → 0 < times n (unnamed e) → is_reached (applied chosen e k) n ≡ false
 directory_goes chosen k e n well f is has = by_test (is_reached after n) refl
   where
     after : Kernel
@@ -159,17 +159,17 @@ directory_goes chosen k e n well f is has = by_test (is_reached after n) refl
     counts : EditCounts chosen k e
     counts = counts_change chosen k e f
 
-    linked : links after n + times n (unnamed k e) ≡ links k n
-    linked = let equal : links after n + times n (unnamed k e) ≡ links k n + times n (named chosen e) = counts.links n in let none : times n (named chosen e) ≡ 0 = (nothing_more chosen k e n has).0 in omega arith
+    linked : links after n + times n (unnamed e) ≡ links k n
+    linked = let equal : links after n + times n (unnamed e) ≡ links k n + times n (named chosen e) = counts.links n in let none : times n (named chosen e) ≡ 0 = (nothing_more chosen k e n has).0 in omega arith
 
     no_links : links after n ≡ 0
-    no_links = let equal : links after n + times n (unnamed k e) ≡ links k n = linked in let low : links k n ≤ 1 = well.one_name n is in omega arith
+    no_links = let equal : links after n + times n (unnamed e) ≡ links k n = linked in let low : links k n ≤ 1 = well.one_name n is in omega arith
 
     no_openings : openings after n ≡ 0
     no_openings = let same : openings after n ≡ openings k n + times n (opened chosen e) = counts.openings n in let none : times n (opened chosen e) ≡ 0 = (nothing_more chosen k e n has).1 in let before : openings k n ≡ 0 = not_open k n well is in omega arith
 
     not_root : n ≡ after.root → ⊥
-    not_root e' = let equal : links after n + times n (unnamed k e) ≡ links k n = linked in let none : links k n ≡ 0 = ap (links k) (e' ∙ (edit_comes chosen k e f counts).root) ∙ well.root_unnamed in absurd (omega arith)
+    not_root e' = let equal : links after n + times n (unnamed e) ≡ links k n = linked in let none : links k n ≡ 0 = ap (links k) (e' ∙ (edit_comes chosen k e f counts).root) ∙ well.root_unnamed in absurd (omega arith)
 
     by_test : (b : Bool) → is_reached after n ≡ b → b ≡ false
     by_test false e' = refl

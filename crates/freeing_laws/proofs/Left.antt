@@ -36,44 +36,44 @@ held k d t there = elim ((nothing_lost k t.tidied).descriptions d there) [
 ]
 
 -- along edits in a row, and along effects
-edits_lead : (chosen : List ℕ) (es : List Edit) (k : Kernel) (ns : List ℕ) → FitsAll chosen k es → Led ns k → Led (ns ++ all_unnamed chosen es k) (all_applied chosen es k)
+edits_lead : (chosen : List ℕ) (es : List Edit) (k : Kernel) (ns : List ℕ) → FitsAll chosen k es → Led ns k → Led (ns ++ all_unnamed es) (all_applied chosen es k)
 edits_lead chosen [] k ns f led n there = elim (led n there) [ inl is ↦ inl is | inr has ↦ inr (has_left n ns [] has) ]
 edits_lead chosen (e ∷ es) k ns f led n there =
     let counts = counts_change chosen k e f.0 in
-    elim (edits_lead chosen es (applied chosen e k) (ns ++ unnamed k e) f.1 (edit_leads chosen k e ns counts (edit_comes chosen k e f.0 counts) led) n there) [
+    elim (edits_lead chosen es (applied chosen e k) (ns ++ unnamed e) f.1 (edit_leads chosen k e ns counts (edit_comes chosen k e f.0 counts) led) n there) [
       | inl is ↦ inl is
-      | inr has ↦ inr (has_regrouped n ns (unnamed k e) (all_unnamed chosen es (applied chosen e k)) has)
+      | inr has ↦ inr (has_regrouped n ns (unnamed e) (all_unnamed es) has)
     ]
 
-effects_lead : (fs : List Effect) (k : Kernel) (ns : List ℕ) → AllFit fs k → Led ns k → Led (ns ++ unnamed_along fs k) (all_done fs k)
+effects_lead : (fs : List Effect) (k : Kernel) (ns : List ℕ) → AllFit fs k → Led ns k → Led (ns ++ unnamed_along fs) (all_done fs k)
 effects_lead [] k ns f led n there = elim (led n there) [ inl is ↦ inl is | inr has ↦ inr (has_left n ns [] has) ]
 effects_lead (e ∷ fs) k ns f led n there =
     let after : Kernel = all_applied e.chosen e.edits k in
-    let now : List ℕ = all_unnamed e.chosen e.edits k in
+    let now : List ℕ = all_unnamed e.edits in
     elim (effects_lead fs after (ns ++ now) f.1 (edits_lead e.chosen e.edits k ns f.0 led) n there) [
       | inl is ↦ inl is
-      | inr has ↦ inr (has_regrouped n ns now (unnamed_along fs after) has)
+      | inr has ↦ inr (has_regrouped n ns now (unnamed_along fs) has)
     ]
 
-edits_link : (chosen : List ℕ) (es : List Edit) (k : Kernel) → FitsAll chosen k es → (n : ℕ) → links (all_applied chosen es k) n + times n (all_unnamed chosen es k) ≡ links k n + times n (all_named chosen es)
+edits_link : (chosen : List ℕ) (es : List Edit) (k : Kernel) → FitsAll chosen k es → (n : ℕ) → links (all_applied chosen es k) n + times n (all_unnamed es) ≡ links k n + times n (all_named chosen es)
 edits_link chosen [] k f n = refl
 edits_link chosen (e ∷ es) k f n =
     let after : Kernel = applied chosen e k in
-    let first : links after n + times n (unnamed k e) ≡ links k n + times n (named chosen e) = (counts_change chosen k e f.0).links n in
-    let rest : links (all_applied chosen es after) n + times n (all_unnamed chosen es after) ≡ links after n + times n (all_named chosen es) = edits_link chosen es after f.1 n in
-    let lost : times n (unnamed k e ++ all_unnamed chosen es after) ≡ times n (unnamed k e) + times n (all_unnamed chosen es after) = times_append n (unnamed k e) (all_unnamed chosen es after) in
+    let first : links after n + times n (unnamed e) ≡ links k n + times n (named chosen e) = (counts_change chosen k e f.0).links n in
+    let rest : links (all_applied chosen es after) n + times n (all_unnamed es) ≡ links after n + times n (all_named chosen es) = edits_link chosen es after f.1 n in
+    let lost : times n (unnamed e ++ all_unnamed es) ≡ times n (unnamed e) + times n (all_unnamed es) = times_append n (unnamed e) (all_unnamed es) in
     let gained : times n (named chosen e ++ all_named chosen es) ≡ times n (named chosen e) + times n (all_named chosen es) = times_append n (named chosen e) (all_named chosen es) in
     omega arith
 
-effects_link : (fs : List Effect) (k : Kernel) → AllFit fs k → (n : ℕ) → links (all_done fs k) n + times n (unnamed_along fs k) ≡ links k n + times n (named_along fs)
+effects_link : (fs : List Effect) (k : Kernel) → AllFit fs k → (n : ℕ) → links (all_done fs k) n + times n (unnamed_along fs) ≡ links k n + times n (named_along fs)
 effects_link [] k f n = refl
 effects_link (e ∷ fs) k f n =
     let after : Kernel = all_applied e.chosen e.edits k in
-    let now : List ℕ = all_unnamed e.chosen e.edits k in
+    let now : List ℕ = all_unnamed e.edits in
     let come : List ℕ = all_named e.chosen e.edits in
     let first : links after n + times n now ≡ links k n + times n come = edits_link e.chosen e.edits k f.0 n in
-    let rest : links (all_done fs after) n + times n (unnamed_along fs after) ≡ links after n + times n (named_along fs) = effects_link fs after f.1 n in
-    let lost : times n (now ++ unnamed_along fs after) ≡ times n now + times n (unnamed_along fs after) = times_append n now (unnamed_along fs after) in
+    let rest : links (all_done fs after) n + times n (unnamed_along fs) ≡ links after n + times n (named_along fs) = effects_link fs after f.1 n in
+    let lost : times n (now ++ unnamed_along fs) ≡ times n now + times n (unnamed_along fs) = times_append n now (unnamed_along fs) in
     let gained : times n (come ++ named_along fs) ≡ times n come + times n (named_along fs) = times_append n come (named_along fs) in
     omega arith
 

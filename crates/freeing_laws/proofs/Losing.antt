@@ -61,15 +61,15 @@ edit_covers chosen k e lost counts comes covers = record { descriptions = descri
     ]
 
     by_name : (n : ℕ) → 0 < links k n → (reached after n ≡ true) ⊎ Has (both lost (lost_by k e)).inodes n
-    by_name n some = elim (fewer (links after n) (times n (unnamed k e)) (links k n) (times n (named chosen e)) (counts.links n) some) [
+    by_name n some = elim (fewer (links after n) (times n (unnamed e)) (links k n) (times n (named chosen e)) (counts.links n) some) [
       | inl still ↦ inl (rooted_reached after n (λ none. absurd (omega arith)))
-      | inr gone ↦ inr (has_right n lost.inodes (lost_by k e).inodes (has_left n (unnamed k e) (inodes_of k (let_go k e)) gone))
+      | inr gone ↦ inr (has_right n lost.inodes (lost_by k e).inodes (has_left n (unnamed e) (inodes_of k (let_go k e)) gone))
     ]
 
     by_opening : (n : ℕ) → IsOpen k n → (reached after n ≡ true) ⊎ Has (both lost (lost_by k e)).inodes n
     by_opening n o = elim (held_still o.description o.held) [
       | inl still ↦ let now = comes.opens o.description o.it o.is in inl (subst (λ n. reached after n ≡ true) (now.2 ∙ o.inode) (open_reached after o.description now.0 still now.1))
-      | inr gone ↦ inr (has_right n lost.inodes (lost_by k e).inodes (has_right n (unnamed k e) (inodes_of k (let_go k e)) (subst (Has (inodes_of k (let_go k e))) o.inode (has_inode k (let_go k e) o.description o.it gone o.is))))
+      | inr gone ↦ inr (has_right n lost.inodes (lost_by k e).inodes (has_right n (unnamed e) (inodes_of k (let_go k e)) (subst (Has (inodes_of k (let_go k e))) o.inode (has_inode k (let_go k e) o.description o.it gone o.is))))
     ]
 
     kept : (n : ℕ) → get after.inodes n ≢ None → (reached after n ≡ true) ⊎ Has (both lost (lost_by k e)).inodes n

@@ -259,16 +259,16 @@ abbrev pub Led : List ℕ → Kernel → Type 0
 Led ns k = (n : ℕ) → get k.inodes n ≢ None → (is_reached k n ≡ true) ⊎ Has ns n
 
 -- after an edit it is among them or has lost a name: openings never fall
-pub edit_leads : (chosen : List ℕ) (k : Kernel) (e : Edit) (ns : List ℕ) → EditCounts chosen k e → Comes k (applied chosen e k) → Led ns k → Led (ns ++ unnamed k e) (applied chosen e k)
+pub edit_leads : (chosen : List ℕ) (k : Kernel) (e : Edit) (ns : List ℕ) → EditCounts chosen k e → Comes k (applied chosen e k) → Led ns k → Led (ns ++ unnamed e) (applied chosen e k)
 edit_leads chosen k e ns counts comes led n there = elim (comes.inodes n there) [
   | inr is ↦ inl (left_is_counted after n is)
   | inl was ↦ elim (led n was) [
-    | inr has ↦ inr (has_left n ns (unnamed k e) has)
-    | inl is ↦ either_of (n == k.root) (nat_lt 0 (links k n)) (nat_lt 0 (openings k n)) ((is_reached after n ≡ true) ⊎ Has (ns ++ unnamed k e) n) is
+    | inr has ↦ inr (has_left n ns (unnamed e) has)
+    | inl is ↦ either_of (n == k.root) (nat_lt 0 (links k n)) (nat_lt 0 (openings k n)) ((is_reached after n ≡ true) ⊎ Has (ns ++ unnamed e) n) is
         (λ root. inl (rooted_is_reached after n (λ _. eqb-true n k.root root ∙ sym comes.root)))
-        (λ some. elim (fewer (links after n) (times n (unnamed k e)) (links k n) (times n (named chosen e)) (counts.links n) (ltb-true 0 (links k n) some)) [
+        (λ some. elim (fewer (links after n) (times n (unnamed e)) (links k n) (times n (named chosen e)) (counts.links n) (ltb-true 0 (links k n) some)) [
           | inl still ↦ inl (rooted_is_reached after n (λ none. absurd (omega arith)))
-          | inr gone ↦ inr (has_right n ns (unnamed k e) gone)
+          | inr gone ↦ inr (has_right n ns (unnamed e) gone)
         ])
         (λ some.
         let before : 0 < openings k n = ltb-true 0 (openings k n) some in
@@ -284,8 +284,8 @@ edit_leads chosen k e ns counts comes led n there = elim (comes.inodes n there) 
 pub all_led : (k : Kernel) → Covers nothing k → Led [] k
 all_led k covers n there = elim (covers.inodes n there) [ inl is ↦ inl (left_is_counted k n is) | inr has ↦ inr has ]
 
-edit_waits : (chosen : List ℕ) (k : Kernel) (e : Edit) → EditCounts chosen k e → Comes k (applied chosen e k) → AreParented (applied chosen e k) → Covers nothing k → Waits (tidy (applied chosen e k)) (let_go k e) (unnamed k e) (applied chosen e k)
+edit_waits : (chosen : List ℕ) (k : Kernel) (e : Edit) → EditCounts chosen k e → Comes k (applied chosen e k) → AreParented (applied chosen e k) → Covers nothing k → Waits (tidy (applied chosen e k)) (let_go k e) (unnamed e) (applied chosen e k)
 edit_waits chosen k e counts comes parents covers = record { tidied = refl; parents = parents; descriptions = (edit_covers chosen k e nothing counts comes covers).descriptions; inodes = edit_leads chosen k e [] counts comes (all_led k covers) }
 
 pub turned_is_tidy : (chosen : List ℕ) (k : Kernel) (e : Edit) → EditCounts chosen k e → Comes k (applied chosen e k) → AreParented (applied chosen e k) → Covers nothing k → freed_in_turn chosen e k ≡ tidy (applied chosen e k)
-turned_is_tidy chosen k e counts comes parents covers = all_turned (tidy (applied chosen e k)) (let_go k e) (unnamed k e) (applied chosen e k) (edit_waits chosen k e counts comes parents covers)
+turned_is_tidy chosen k e counts comes parents covers = all_turned (tidy (applied chosen e k)) (let_go k e) (unnamed e) (applied chosen e k) (edit_waits chosen k e counts comes parents covers)

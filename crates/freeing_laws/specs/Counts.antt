@@ -8,7 +8,8 @@ use Rattle.model.specs.State.{Kernel, Description, names_of, links, ends, is_end
 use Rattle.model.specs.Changes.{Edit, Made, number, Make_directory, Make_file, Name_file}
 use Rattle.model.specs.Changes.{Unname_file, Unname_directory, Move, Open_inode, Make_pipe}
 use Rattle.model.specs.Changes.{Share_slot, Clear_slot, New_process, End_process, process_of}
-use Rattle.model.specs.Changes.{at_offset, applied, holders, openings, is_held, is_reached}
+use Rattle.model.specs.Changes.{at_offset, applied, holders, openings, inode_replaced, is_held}
+use Rattle.model.specs.Changes.{is_reached}
 use Rattle.call_laws.specs.WellFormed.{WellFormed}
 use Rattle.call_laws.specs.Fits.{Fits}
 
@@ -28,11 +29,11 @@ named chosen (Name_file d x n) = n ∷ []
 named chosen _ = []
 
 -- the inodes that lose a name; what moves has one in place of the other
-abbrev pub unnamed : Kernel → Edit → List ℕ
-unnamed k (Unname_file d x n) = n ∷ []
-unnamed k (Unname_directory d x n) = n ∷ []
-unnamed k (Move d x e y n replaced) = listed (get (names_of k e) y)
-unnamed k _ = []
+abbrev pub unnamed : Edit → List ℕ
+unnamed (Unname_file d x n) = n ∷ []
+unnamed (Unname_directory d x n) = n ∷ []
+unnamed (Move d x e y n replaced) = inode_replaced replaced
+unnamed _ = []
 
 -- the inodes that a new description opens
 abbrev pub opened : List ℕ → Edit → List ℕ
@@ -66,7 +67,7 @@ IsMode mode = (place : ℕ) (it : Description) → mode (at_offset place it) ≡
 -- What a count was with what it gains is what it is with what it loses.
 pub record EditCounts (chosen : List ℕ) (k : Kernel) (e : Edit) : Type 0 where
   pub links : (n : ℕ)
-      → links (applied chosen e k) n + times n (unnamed k e) ≡ links k n + times n (named chosen e)
+      → links (applied chosen e k) n + times n (unnamed e) ≡ links k n + times n (named chosen e)
   pub openings : (n : ℕ)
       → openings (applied chosen e k) n ≡ openings k n + times n (opened chosen e)
   pub holders : (d : ℕ)

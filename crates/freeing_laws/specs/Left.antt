@@ -9,23 +9,22 @@ use Rattle.call_laws.specs.Fits.{table_of}
 use Rattle.freeing_laws.specs.Counts.{listed, times, named, unnamed}
 use Rattle.freeing_laws.specs.Sweep.{AllFit, AreParented, IsTidied, all_closed, free_inodes}
 
--- the inodes that edits give a name, and those that lose one, each of the state that it finds
+-- the inodes that edits give a name, and those that lose one
 abbrev pub all_named : List ℕ → List Edit → List ℕ
 all_named chosen [] = []
 all_named chosen (e ∷ es) = named chosen e ++ all_named chosen es
 
-abbrev pub all_unnamed : List ℕ → List Edit → Kernel → List ℕ
-all_unnamed chosen [] k = []
-all_unnamed chosen (e ∷ es) k = unnamed k e ++ all_unnamed chosen es (applied chosen e k)
+abbrev pub all_unnamed : List Edit → List ℕ
+all_unnamed [] = []
+all_unnamed (e ∷ es) = unnamed e ++ all_unnamed es
 
 abbrev pub named_along : List Effect → List ℕ
 named_along [] = []
 named_along (f ∷ fs) = all_named f.chosen f.edits ++ named_along fs
 
-abbrev pub unnamed_along : List Effect → Kernel → List ℕ
-unnamed_along [] k = []
-unnamed_along (f ∷ fs) k =
-    all_unnamed f.chosen f.edits k ++ unnamed_along fs (all_applied f.chosen f.edits k)
+abbrev pub unnamed_along : List Effect → List ℕ
+unnamed_along [] = []
+unnamed_along (f ∷ fs) = all_unnamed f.edits ++ unnamed_along fs
 
 -- by the counts, what nothing leads to is among these descriptions and inodes
 pub record AreLeft (ds ns : List ℕ) (k : Kernel) : Type 0 where
@@ -54,10 +53,10 @@ pub record LeftIsTidy : Type 0 where
   -- An inode that nothing leads to after effects on a tidied state has lost a name.
   pub inodes : (k : Kernel) (fs : List Effect) → IsTidied k → AllFit fs k → (n : ℕ)
       → get (all_done fs k).inodes n ≢ None
-      → (is_reached (all_done fs k) n ≡ true) ⊎ (0 < times n (unnamed_along fs k))
+      → (is_reached (all_done fs k) n ≡ true) ⊎ (0 < times n (unnamed_along fs))
   -- how many names give an inode after effects
   pub links : (k : Kernel) (fs : List Effect) → AllFit fs k → (n : ℕ)
-      → links (all_done fs k) n + times n (unnamed_along fs k)
+      → links (all_done fs k) n + times n (unnamed_along fs)
       ≡ links k n + times n (named_along fs)
   -- how many slots give a description where one slot changes
   pub set : (k : Kernel) (pid f d e : ℕ)

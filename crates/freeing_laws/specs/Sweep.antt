@@ -37,7 +37,7 @@ inodes_of k (d ∷ ds) = inode_in (get k.descriptions d) ++ inodes_of k ds
 -- By an edit of this state: the descriptions that descriptors name no more, what lost
 -- a name, and what those descriptions open.
 abbrev pub lost_by : Kernel → Edit → Lost
-lost_by k e = record { descriptions = let_go k e; inodes = unnamed k e ++ inodes_of k (let_go k e) }
+lost_by k e = record { descriptions = let_go k e; inodes = unnamed e ++ inodes_of k (let_go k e) }
 
 abbrev pub free_descriptions : List ℕ → Kernel → Kernel
 free_descriptions [] k = k
@@ -66,7 +66,7 @@ all_closed (d ∷ ds) k = all_closed ds (closed d k)
 
 -- an edit, with its losses freed so
 abbrev pub freed_in_turn : List ℕ → Edit → Kernel → Kernel
-freed_in_turn chosen e k = free_inodes (unnamed k e) (all_closed (let_go k e) (applied chosen e k))
+freed_in_turn chosen e k = free_inodes (unnamed e) (all_closed (let_go k e) (applied chosen e k))
 
 -- edits in a row, each with what it lost freed at once
 abbrev pub all_freed : List ℕ → List Edit → Kernel → Kernel
@@ -149,7 +149,7 @@ pub record SweepIsTidy : Type 0 where
       → loses e ≡ false → tidy (applied chosen e k) ≡ applied chosen e k
   -- a directory that loses its name goes, so that code need not count for directories
   pub directory : (chosen : List ℕ) (k : Kernel) (e : Edit) (n : ℕ) → WellFormed k → Fits chosen k e
-      → kind_of k n ≡ Some A_directory → 0 < times n (unnamed k e)
+      → kind_of k n ≡ Some A_directory → 0 < times n (unnamed e)
       → is_reached (applied chosen e k) n ≡ false
   -- calls in a row, as of a transaction: one sweep at the end,
   -- which may look at more than what was lost

@@ -19,7 +19,7 @@ mod reply;
 pub use aspect::{Aspect, Cause, Touch, Why};
 pub use bytes::{Bytes, Name, NameList};
 pub use call::{Call, Op, Whence};
-pub use edit::{Edit, Mode, Slot, Which};
+pub use edit::{Edit, Mode, Replaced, Slot, Which};
 pub use entry::{Entry, ListMode, Rank};
 pub use errno::{Errno, Refusal};
 pub use flags::{BeginFlags, OpenFlags};

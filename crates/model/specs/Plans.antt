@@ -15,6 +15,7 @@ use Rattle.model.specs.Paths.{is_empty, is_below}
 use Rattle.model.specs.Walks.{parsed, walk, last_of, Last, Place, is_directory}
 use Rattle.model.specs.Changes.{There, Made, Mode, Edit, Make_directory, Make_file, Name_file}
 use Rattle.model.specs.Changes.{Unname_file, Unname_directory, Move, Put_bytes, Cut, Take, Append}
+use Rattle.model.specs.Changes.{Replaced, Over_nothing, Over_file, Over_directory}
 use Rattle.model.specs.Changes.{Set_offset, Open_inode, Make_pipe, Share_slot, Clear_slot}
 use Rattle.model.specs.Changes.{New_process, End_process}
 use Rattle.ids.specs.Flags.{is_reading, is_writing, is_creating, is_exclusive, is_truncating}
@@ -159,13 +160,13 @@ base it From_start = Give 0
 base it From_offset = ask (Find_offset it.description)
 base it From_end = ask (Measure it.inode)
 
--- the file whose name goes, or the directory, which must be empty
-abbrev pub replaced_by_name : ℕ → Bool → Plan (List ℕ)
+-- what loses the name: a file, or a directory, which must be empty
+abbrev pub replaced_by_name : ℕ → Bool → Plan Replaced
 replaced_by_name n true = do
   names ← ask (List_names n)
   refuse_if (not (is_empty names)) ENOTEMPTY
-  Give []
-replaced_by_name n false = Give (n ∷ [])
+  Give (Over_directory n)
+replaced_by_name n false = Give (Over_file n)
 
 abbrev pub move_onto : Last → Place → Last → Place → Plan Change
 move_onto from what to old =
@@ -176,7 +177,8 @@ move_onto from what to old =
       changed Done (Move from.parent from.name to.parent to.name what.0 replaced ∷ []))
 
 abbrev pub moved : Last → Place → Last → Option Place → Plan Change
-moved from what to None = changed Done (Move from.parent from.name to.parent to.name what.0 [] ∷ [])
+moved from what to None =
+    changed Done (Move from.parent from.name to.parent to.name what.0 Over_nothing ∷ [])
 moved from what to (Some old) = move_onto from what to old
 
 -- a name that must not be there

@@ -6,6 +6,7 @@ use Rattle.model.specs.Plan.{Errno, Plan, Give, given, ◌>>=◌, ◌>>◌, ask,
 use Rattle.model.specs.Paths.{is_empty, is_below}
 use Rattle.model.specs.Walks.{Place, is_directory, Last, last_of}
 use Rattle.model.specs.Changes.{Make_directory, Name_file, Unname_file, Unname_directory, Move}
+use Rattle.model.specs.Changes.{Replaced, Over_nothing, Over_file, Over_directory}
 use Rattle.model.specs.Calls.{Done}
 use Rattle.model.specs.Plans.{Change, changed, unchanged, absent, status, replaced_by_name, moved}
 use Rattle.call_laws.specs.WellFormed.{Leads, WellFormed}
@@ -73,7 +74,7 @@ module _ (k : Kernel) (well : WellFormed k) (pid : ℕ) (alive : IsAlive k pid) 
       })
 
   -- a name that moves
-  can_move : (at onto : Last) (n : ℕ) (what : Kind) (old : Option ℕ) (replaced : List ℕ) → IsLast k at → IsLast k onto → get (names_of k at.parent) at.name ≡ Some n → kind_of k n ≡ Some what
+  can_move : (at onto : Last) (n : ℕ) (what : Kind) (old : Option ℕ) (replaced : Replaced) → IsLast k at → IsLast k onto → get (names_of k at.parent) at.name ≡ Some n → kind_of k n ≡ Some what
       → get (names_of k onto.parent) onto.name ≡ old → ((path : List Name) → Leads k n path onto.parent → ⊥) → CanBeReplaced k n old replaced → CanMove k at.parent at.name onto.parent onto.name n replaced
   can_move at onto n what old replaced last last_onto gives is was ring can = record {
     what = what;
@@ -85,19 +86,19 @@ module _ (k : Kernel) (well : WellFormed k) (pid : ℕ) (alive : IsAlive k pid) 
     no_ring = ring;
   }
 
-  replaced_at : (at onto : Last) (what old : Place) → IsLast k at → IsLast k onto → IsPlace k old → (kind_of k old.0 ≡ old.1) → what.0 ≢ old.0 → ((replaced : List ℕ) → CanBeReplaced k what.0 (Some old.0) replaced → CanMove k at.parent at.name onto.parent onto.name what.0 replaced)
+  replaced_at : (at onto : Last) (what old : Place) → IsLast k at → IsLast k onto → IsPlace k old → (kind_of k old.0 ≡ old.1) → what.0 ≢ old.0 → ((replaced : Replaced) → CanBeReplaced k what.0 (Some old.0) replaced → CanMove k at.parent at.name onto.parent onto.name what.0 replaced)
       → IfOk (given k (replaced_by_name old.0 (is_directory old) >>= (λ replaced. changed Done (Move at.parent at.name onto.parent onto.name what.0 replaced ∷ [])))) Fine
   replaced_at at onto what (m, None) last last_onto place is away h = absurd place.can_be_named
   replaced_at at onto what (m, Some A_pipe) last last_onto place is away h = absurd place.can_be_named
   replaced_at at onto what (m, Some A_file) last last_onto place is away h = record {
-    fits = λ can. (h (m ∷ []) (away, is, refl), tt);
+    fits = λ can. (h (Over_file m) (away, is, refl), tt);
     by = (tt, tt);
     there = (last.parent.directory, (last_onto.parent.directory, (is, tt)));
   }
   replaced_at at onto what (m, Some A_directory) last last_onto place is away h =
       after_bind k Fine (replaced_by_name m true) (λ replaced. changed Done (Move at.parent at.name onto.parent onto.name what.0 replaced ∷ []))
-      (allowed k (λ replaced. IfOk (given k (changed Done (Move at.parent at.name onto.parent onto.name what.0 replaced ∷ []))) Fine) (not (is_empty (keys (names_of k m)))) ENOTEMPTY (Give []) (λ empty. record {
-        fits = λ can. (h [] (away, is, no_keys (keys (names_of k m)) (not-false (is_empty (keys (names_of k m))) empty)), tt);
+      (allowed k (λ replaced. IfOk (given k (changed Done (Move at.parent at.name onto.parent onto.name what.0 replaced ∷ []))) Fine) (not (is_empty (keys (names_of k m)))) ENOTEMPTY (Give (Over_directory m)) (λ empty. record {
+        fits = λ can. (h (Over_directory m) (away, is, refl, no_keys (keys (names_of k m)) (not-false (is_empty (keys (names_of k m))) empty)), tt);
         by = (tt, tt);
         there = (last.parent.directory, (last_onto.parent.directory, tt));
       }))
@@ -105,7 +106,7 @@ module _ (k : Kernel) (well : WellFormed k) (pid : ℕ) (alive : IsAlive k pid) 
   moved_at : (at onto : Last) (what : Place) (kind : Kind) → IsLast k at → IsLast k onto → get (names_of k at.parent) at.name ≡ Some what.0 → kind_of k what.0 ≡ Some kind → ((path : List Name) → Leads k what.0 path onto.parent → ⊥)
       → (o : Option Place) → onto.found ≡ o → IfOk (given k (moved at what onto o)) Fine
   moved_at at onto what kind last last_onto gives is ring None e = record {
-    fits = λ can. (can_move at onto what.0 kind None [] last last_onto gives is (nothing_given k (get (names_of k onto.parent) onto.name) (sym last_onto.found ∙ e)) ring tt, tt);
+    fits = λ can. (can_move at onto what.0 kind None Over_nothing last last_onto gives is (nothing_given k (get (names_of k onto.parent) onto.name) (sym last_onto.found ∙ e)) ring tt, tt);
     by = (tt, tt);
     there = (last.parent.directory, (last_onto.parent.directory, tt));
   }

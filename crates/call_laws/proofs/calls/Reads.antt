@@ -7,7 +7,7 @@ use Rattle.model.specs.Aspects.{Aspect, Entry, Names, Size, Block, Links, Ends, 
 use Rattle.model.specs.Plan.{Errno, EINVAL, ENOENT, EEXIST, EBUSY, EBADF, EPERM, ENOTDIR, ENOTEMPTY, EISDIR, EFBIG, ESPIPE, EPIPE, EAGAIN, Plan, Give, Refuse, Ask, Count_ends, Find_offset, Read_file, Read_pipe, Fit, answer, shown, given, seen, ◌>>=◌, ◌>>◌, ask, refuse_if, or_refuse}
 use Rattle.model.specs.Paths.{is_empty, is_below, path_names}
 use Rattle.model.specs.Walks.{Place, told, parsed, is_directory, walk, last, last_of, Last}
-use Rattle.model.specs.Changes.{Mode, There, Move, Set_offset, Append, Open_inode, is_held}
+use Rattle.model.specs.Changes.{Mode, There, Move, Set_offset, Append, Open_inode, is_held, Replaced, Over_directory}
 use Rattle.ids.specs.Flags.{is_reading, is_writing, is_creating, is_exclusive, is_truncating}
 use Rattle.model.specs.Calls.{OpenFlags, Whence, From_start, From_offset, From_end, Call, Open, Close, Read, Write, Lseek, Ftruncate, Stat, Fstat, Link, Unlink, Rename, Mkdir, Rmdir, List_directory, Dup, Dup2, Open_pipe, Fork, Exit, Done, Descriptor, Count, New_place, Bytes, Slot, own}
 use Rattle.model.specs.Plans.{Change, absent, status, changed, unchanged, slot, slot_at, is_pipe, read_pipe, read_some, place_to_write, write_some, largest, base, sought, replaced_by_name, moved, cut_to, opened, mode, free, first_of_free, duplicated, piped}
@@ -153,7 +153,7 @@ module _ (k : Kernel) (well : WellFormed k) where
       either k (what.0 == old.0) (unchanged Done) (refuse_if (not (is_directory what) && is_directory old) EISDIR >> (refuse_if (is_directory what && not (is_directory old)) ENOTDIR >> rest)) (λ _. tt)
       (λ _. refusal k (not (is_directory what) && is_directory old) EISDIR _ (λ _. refusal k (is_directory what && not (is_directory old)) ENOTDIR rest (λ _. replaced_seen (is_directory old) refl)))
     where
-      when_empty : (b : Bool) → AllLeft k (seen k ((refuse_if b ENOTEMPTY >> Give []) >>= (λ (replaced : List ℕ). changed Done (Move at.parent at.name onto.parent onto.name what.0 replaced ∷ []))))
+      when_empty : (b : Bool) → AllLeft k (seen k ((refuse_if b ENOTEMPTY >> Give (Over_directory old.0)) >>= (λ (replaced : Replaced). changed Done (Move at.parent at.name onto.parent onto.name what.0 replaced ∷ []))))
       when_empty true = tt
       when_empty false = tt
 

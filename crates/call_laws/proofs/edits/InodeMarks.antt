@@ -10,7 +10,8 @@ use Rattle.std.proofs.lemmas.List.{get_or_past}
 use Rattle.model.specs.State.{Name, name_cmp, A_file, A_directory, A_pipe, Kernel, Inode, File, Directory, Pipe, kind, names_of, file_of, pipe_of, kind_of, entry_of, links, ends, file_of_inode, pipe_of_inode}
 use Rattle.model.specs.Aspects.{Aspect, Entry, Names, Size, Block, Links, Ends, Offset, Front, Back, SameBlock, Keeps}
 use Rattle.model.specs.Plan.{blocks}
-use Rattle.model.specs.Changes.{Put_bytes, Cut, marks, set_inode, set_name, clear_name, sized, written}
+use Rattle.model.specs.Changes.{Put_bytes, Cut, marks, set_inode, set_name, clear_name, sized, written, file_replaced}
+use Rattle.model.specs.Changes.{Replaced, Over_nothing, Over_file, Over_directory}
 use Rattle.model.specs.Steps.{IsNowhere}
 use Rattle.call_laws.specs.Objects.{IsThere, LeavesAlone}
 use Rattle.call_laws.specs.Fits.{CanBeReplaced}
@@ -136,18 +137,16 @@ made_marks k d x n new nowhere f is free a there alone =
     same_when_named (set_inode n new k) d x n m mid (ap (λ (ns : FinMap name_cmp ℕ). get ns x) (f.names d) ∙ free) (λ same. not_new k n m A_file nowhere.inode (subst (IsThere k) e there) (sym same)))) alone)
 
 -- what stood where a name is moved to does not lose a link, where it is not marked
-not_replaced : (k : Kernel) (n m : ℕ) (old : Option ℕ) (replaced : List ℕ) → CanBeReplaced k n old replaced → kind_of k m ≡ Some A_file → AllByRecursion (λ w. LeavesAlone w (Links m)) (map Links replaced) → counted m old ≡ 0
-not_replaced k n m None [] can is alone = refl
-not_replaced k n m (Some t) [] can is alone = not_counted t m (file_is_other k t m can.1 is)
-not_replaced k n m (Some t) (r ∷ []) can is alone = not_counted t m (λ same. alone.0 (ap Links (can.2 ∙ same)))
-not_replaced k n m None (r ∷ []) can is alone = absurd can
-not_replaced k n m None (r ∷ s ∷ rs) can is alone = absurd can
-not_replaced k n m (Some t) (r ∷ s ∷ rs) can is alone = absurd can
+not_replaced : (k : Kernel) (n m : ℕ) (old : Option ℕ) (replaced : Replaced) → CanBeReplaced k n old replaced → kind_of k m ≡ Some A_file → AllByRecursion (λ w. LeavesAlone w (Links m)) (map Links (file_replaced replaced)) → counted m old ≡ 0
+not_replaced k n m None replaced can is alone = refl
+not_replaced k n m (Some t) (Over_directory r) can is alone = not_counted t m (file_is_other k t m can.1 is)
+not_replaced k n m (Some t) (Over_file r) can is alone = not_counted t m (λ same. alone.0 (ap Links (can.2 ∙ same)))
+not_replaced k n m (Some t) Over_nothing can is alone = absurd can
 
 -- a name that moves
-pub moved_marks : (k : Kernel) (d : ℕ) (x : Name) (e : ℕ) (y : Name) (n : ℕ) (old : Option ℕ) (replaced : List ℕ) → kind_of k d ≡ Some A_directory → kind_of k e ≡ Some A_directory
+pub moved_marks : (k : Kernel) (d : ℕ) (x : Name) (e : ℕ) (y : Name) (n : ℕ) (old : Option ℕ) (replaced : Replaced) → kind_of k d ≡ Some A_directory → kind_of k e ≡ Some A_directory
     → get (names_of k d) x ≡ Some n → get (names_of (clear_name d x k) e) y ≡ old → CanBeReplaced k n old replaced
-    → (a : Aspect) → IsThere k a → LeavesAlone (Entry d x) a → LeavesAlone (Entry e y) a → AllByRecursion (λ w. LeavesAlone w a) (map Links replaced) → Keeps k (set_name e y n (clear_name d x k)) a
+    → (a : Aspect) → IsThere k a → LeavesAlone (Entry d x) a → LeavesAlone (Entry e y) a → AllByRecursion (λ w. LeavesAlone w a) (map Links (file_replaced replaced)) → Keeps k (set_name e y n (clear_name d x k)) a
 moved_marks k d x e y n old replaced f g gives was can (Links m) there one_alone two_alone alone =
     let gone : links (clear_name d x k) m + counted m (get (names_of k d) x) ≡ links k m = links_unnamed k d x f m in
     let gone_here : counted m (get (names_of k d) x) ≡ one n m = ap (counted m) gives in
@@ -169,11 +168,11 @@ still_gives k d x e y n old is gives was away =
       | inr other ↦ ap (λ (ns : FinMap name_cmp ℕ). get ns y) ((has_names k d (remove (names_of k d) x) is).there e other) ∙ was
     ]
 
-pub other_old : (k : Kernel) (n : ℕ) (old : Option ℕ) (replaced : List ℕ) → CanBeReplaced k n old replaced → old ≢ Some n
+pub other_old : (k : Kernel) (n : ℕ) (old : Option ℕ) (replaced : Replaced) → CanBeReplaced k n old replaced → old ≢ Some n
 other_old k n None replaced can e = absurd cc
-other_old k n (Some m) [] can e = can.0 (sym (some_same m n e))
-other_old k n (Some m) (r ∷ []) can e = can.0 (sym (some_same m n e))
-other_old k n (Some m) (r ∷ s ∷ rs) can e = absurd can
+other_old k n (Some m) (Over_directory r) can e = can.0 (sym (some_same m n e))
+other_old k n (Some m) (Over_file r) can e = can.0 (sym (some_same m n e))
+other_old k n (Some m) Over_nothing can e = absurd can
 
 -- a file's new bytes
 file_marks : (k : Kernel) (n : ℕ) (new : List ℕ) → kind_of k n ≡ Some A_file → (a : Aspect) → (a ≡ Size n → length new ≡ length (file_of k n)) → ((block : ℕ) → a ≡ Block n block → SameBlock block new (file_of k n)) → Keeps k (set_inode n (File new) k) a

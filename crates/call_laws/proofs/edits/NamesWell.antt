@@ -7,6 +7,7 @@ use Rattle.model.specs.FiniteMap.{FinMap, get, insert, remove, get-insert, get-r
 use Rattle.std.proofs.lemmas.Bool.{cases_eq}
 use Rattle.model.specs.State.{Name, name_cmp, Kind, A_file, A_directory, Kernel, Inode, File, Directory, Pipe, kind, mapped, names_of, names_of_inode, kind_of, links}
 use Rattle.model.specs.Changes.{set_inode, set_name, clear_name}
+use Rattle.model.specs.Changes.{Replaced, Over_nothing, Over_file, Over_directory}
 use Rattle.model.specs.Steps.{IsNowhere}
 use Rattle.call_laws.specs.Fits.{CanBeReplaced}
 use Rattle.call_laws.specs.WellFormed.{CanBeNamed, IsRooted, WellFormed}
@@ -153,14 +154,14 @@ unnamed_names k d x n well is gives bare =
     }
 
 -- what may be replaced has no names in it
-pub bare_old : (k : Kernel) (n t : ℕ) (old : Option ℕ) (replaced : List ℕ) → CanBeReplaced k n old replaced → (y : Name) (m : ℕ) → get (names_of k t) y ≡ Some m → counted t old ≡ 0
+pub bare_old : (k : Kernel) (n t : ℕ) (old : Option ℕ) (replaced : Replaced) → CanBeReplaced k n old replaced → (y : Name) (m : ℕ) → get (names_of k t) y ≡ Some m → counted t old ≡ 0
 bare_old k n t None replaced can y m e = refl
-bare_old k n t (Some r) [] can y m e = not_counted r t (λ same. not_none m (sym e ∙ ap (λ t. get (names_of k t) y) (sym same) ∙ none_by_keys nat_list_cmp_total (names_of k r) can.2 y))
-bare_old k n t (Some r) (s ∷ []) can y m e = not_counted r t (λ same. file_is_other k t r (has_names_in k t y m e) can.1 (sym same))
-bare_old k n t (Some r) (s ∷ s' ∷ rs) can y m e = absurd can
+bare_old k n t (Some r) (Over_directory s) can y m e = not_counted r t (λ same. not_none m (sym e ∙ ap (λ t. get (names_of k t) y) (sym same) ∙ none_by_keys nat_list_cmp_total (names_of k r) can.3 y))
+bare_old k n t (Some r) (Over_file s) can y m e = not_counted r t (λ same. file_is_other k t r (has_names_in k t y m e) can.1 (sym same))
+bare_old k n t (Some r) Over_nothing can y m e = absurd can
 
 -- a name that moves
-pub moved_names : (k : Kernel) (d : ℕ) (x : Name) (e : ℕ) (y : Name) (n : ℕ) (old : Option ℕ) (replaced : List ℕ) → WellFormed k → kind_of k d ≡ Some A_directory → IsRooted k e → get (names_of k d) x ≡ Some n
+pub moved_names : (k : Kernel) (d : ℕ) (x : Name) (e : ℕ) (y : Name) (n : ℕ) (old : Option ℕ) (replaced : Replaced) → WellFormed k → kind_of k d ≡ Some A_directory → IsRooted k e → get (names_of k d) x ≡ Some n
     → get (names_of k e) y ≡ old → get (names_of (clear_name d x k) e) y ≡ old → CanBeReplaced k n old replaced → NamesAreWell k (set_name e y n (clear_name d x k))
 moved_names k d x e y n old replaced well is onto gives old_there was can =
     let mid : Kernel = clear_name d x k in

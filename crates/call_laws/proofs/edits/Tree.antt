@@ -7,6 +7,7 @@ use Rattle.model.specs.FiniteMap.{FinMap, get, insert, remove, get-insert, get-r
 use Rattle.std.proofs.lemmas.Bool.{cases_eq}
 use Rattle.model.specs.State.{Name, name_cmp, A_file, A_directory, Kernel, Inode, kind, names_of, kind_of, links}
 use Rattle.model.specs.Changes.{set_inode, set_name, clear_name}
+use Rattle.model.specs.Changes.{Replaced, Over_nothing, Over_file, Over_directory}
 use Rattle.call_laws.specs.Fits.{CanBeReplaced}
 use Rattle.call_laws.specs.WellFormed.{IsRooted, Leads, WellFormed}
 use Rattle.model.proofs.Laws.{name_exact, tie}
@@ -170,13 +171,13 @@ module _ (k : Kernel) (d : ℕ) (x : Name) (e : ℕ) (y : Name) (n : ℕ) (old :
       (λ not_to. f (h.0, set_other (clear_name d x k) e y n ((has_names k d (remove (names_of k d) x) is).kinds e ∙ is_too) a z not_to ∙ clear_other k d x is a z not_from ∙ h.1, rest))))
       g
 
-old_bare : (k : Kernel) (n m : ℕ) (old : Option ℕ) (replaced : List ℕ) → CanBeReplaced k n old replaced → old ≡ Some m → (y : Name) (t : ℕ) → get (names_of k m) y ≢ Some t
+old_bare : (k : Kernel) (n m : ℕ) (old : Option ℕ) (replaced : Replaced) → CanBeReplaced k n old replaced → old ≡ Some m → (y : Name) (t : ℕ) → get (names_of k m) y ≢ Some t
 old_bare k n m None replaced can e y t g = absurd cc
-old_bare k n m (Some r) [] can e y t g = not_none t (sym g ∙ ap (λ m. get (names_of k m) y) (sym (some_same r m e)) ∙ none_by_keys nat_list_cmp_total (names_of k r) can.2 y)
-old_bare k n m (Some r) (s ∷ []) can e y t g = file_is_other k m r (has_names_in k m y t g) can.1 (sym (some_same r m e))
-old_bare k n m (Some r) (s ∷ s' ∷ rs) can e y t g = absurd can
+old_bare k n m (Some r) (Over_directory s) can e y t g = not_none t (sym g ∙ ap (λ m. get (names_of k m) y) (sym (some_same r m e)) ∙ none_by_keys nat_list_cmp_total (names_of k r) can.3 y)
+old_bare k n m (Some r) (Over_file s) can e y t g = file_is_other k m r (has_names_in k m y t g) can.1 (sym (some_same r m e))
+old_bare k n m (Some r) Over_nothing can e y t g = absurd can
 
-pub moved_tree : (k : Kernel) (d : ℕ) (x : Name) (e : ℕ) (y : Name) (n : ℕ) (old : Option ℕ) (replaced : List ℕ) → WellFormed k → kind_of k d ≡ Some A_directory → IsRooted k e → get (names_of k d) x ≡ Some n
+pub moved_tree : (k : Kernel) (d : ℕ) (x : Name) (e : ℕ) (y : Name) (n : ℕ) (old : Option ℕ) (replaced : Replaced) → WellFormed k → kind_of k d ≡ Some A_directory → IsRooted k e → get (names_of k d) x ≡ Some n
     → get (names_of k e) y ≡ old → get (names_of (clear_name d x k) e) y ≡ old → CanBeReplaced k n old replaced → ((path : List Name) → Leads k n path e → ⊥) → HasPaths k → HasPaths (set_name e y n (clear_name d x k))
 unfolding After mid after
 moved_tree k d x e y n old replaced well is onto gives was was_too can no_ring tree = record {

@@ -9,7 +9,7 @@ use Rattle.model.specs.State.{Name, A_file, A_directory, A_pipe, Kernel}
 use Rattle.model.specs.Plan.{Errno, EAGAIN, EBADF, EBUSY, EEXIST, EFBIG, EINVAL, EISDIR, ENAMETOOLONG, ENOENT, ENOTDIR, ENOTEMPTY, EPERM, EPIPE, ESPIPE, Shown, answer, Plan, Give, Refuse, Ask, ◌>>=◌, refuse_if, or_refuse, given}
 use Rattle.model.specs.Paths.{is_empty, is_below, is_no_name, with_first, names_in, names_behind, absolute_names, path_names, pieces}
 use Rattle.model.specs.Walks.{told, parsed, Place, is_directory, look, walk, Last, last, last_of}
-use Rattle.model.specs.Changes.{Edit, Open_inode, Make_pipe, Share_slot, Clear_slot, New_process, End_process}
+use Rattle.model.specs.Changes.{Edit, Replaced, Open_inode, Make_pipe, Share_slot, Clear_slot, New_process, End_process}
 use Rattle.ids.specs.Flags.{is_reading, is_writing, is_creating, is_exclusive, is_truncating}
 use Rattle.model.specs.Calls.{own, Call, Open, Close, Read, Write, Lseek, Ftruncate, Stat, Fstat, Link, Unlink, Rename, Mkdir, Rmdir, List_directory, Dup, Dup2, Open_pipe, Fork, Exit, Whence, From_start, From_offset, From_end, OpenFlags, Answer, Child, Slot, Own}
 use Rattle.model.specs.Plans.{Change, plan, largest, is_pipe, status, cut_to, opened, read_pipe, read_some, place_to_write, write_some, sought, base, replaced_by_name, move_onto, moved, absent, duplicated, piped, forked, first_of_free, slot, slot_at, free}
@@ -175,7 +175,7 @@ base_any it From_offset = λ a. tt
 base_any it From_end = λ a. tt
 
 replaced_any : (n : ℕ) (b : Bool) → Ends Any (replaced_by_name n b)
-replaced_any n true = λ names. then_any {B = List ℕ} Any (refuse_if (not (is_empty names)) ENOTEMPTY) _ (tested _ ENOTEMPTY refl) (λ _. tt)
+replaced_any n true = λ names. then_any {B = Replaced} Any (refuse_if (not (is_empty names)) ENOTEMPTY) _ (tested _ ENOTEMPTY refl) (λ _. tt)
 replaced_any n false = tt
 
 tame_onto : (pid : ℕ) (at : Last) (what : Place) (to : Last) (old : Place) → Ends (Tame pid) (move_onto at what to old)
