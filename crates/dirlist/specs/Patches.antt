@@ -16,6 +16,19 @@ abbrev pub or_before : Option (Option ℕ) → Option ℕ → Option ℕ
 or_before (Some now) before = now
 or_before None before = before
 
+-- the notes with what stood before of a noted name, or without its note where there was none
+abbrev pub note_back : Name → Option (Option ℕ) → Notes → Notes
+note_back x (Some given) notes = map.insert notes x given
+note_back x None notes = map.remove notes x
+
+-- the same where the name is noted, and else the notes as they are
+abbrev pub back_over : Option (Option ℕ) → Name → Option (Option ℕ) → Notes → Notes
+back_over (Some now) x former notes = note_back x former notes
+back_over None x former notes = notes
+
+abbrev pub noted_back : Name → Option (Option ℕ) → Notes → Notes
+noted_back x former notes = back_over (map.get notes x) x former notes
+
 -- these names are the ones before, with a patch laid on top
 abbrev pub IsLaid : Notes → map.FinMap name_cmp ℕ → map.FinMap name_cmp ℕ → Type 0
 IsLaid patch before after = (x : Name)

@@ -3,7 +3,7 @@ ghost use Rattle.std.specs.Prelude.{◌≡◌, ◌++◌, ◌==◌, ℕ, IfOk, Is
 ghost use Rattle.std.specs.Prelude.{map as list_map};
 ghost use Rattle.model.specs.FiniteMap as map;
 ghost use Rattle.model.specs.State.{name_cmp};
-ghost use Rattle.dirlist.specs.Patches.{IsLaid};
+ghost use Rattle.dirlist.specs.Patches.{IsLaid, noted_back};
 ghost use Rattle.dirlist.specs.Places.{after, before};
 
 use crate::{Dir, place};
@@ -78,6 +78,22 @@ impl Patch {
                 self.given.insert(at, (name, given))?;
                 Ok(())
             }
+        }
+    }
+
+    /// Takes a name's note back: what was noted of the name before comes in its place. A name that
+    /// is not noted stays so. It takes no memory.
+    pub fn put_back(&mut self, name: &Name, former: Option<Option<Num>>)
+        ensures { self.new ≡ noted_back name.now former self.old }
+    {
+        match place(self.given.as_slice(), name) {
+            Ok(at) => match former {
+                Some(given) => self.given[at].1 = given,
+                None => {
+                    let _note = self.given.remove(at);
+                }
+            },
+            Err(_at) => (),
         }
     }
 

@@ -50,7 +50,7 @@ pub record Agrees (ds : List Effect) (p : Patches) : Type 0 where
   -- how many names were given and taken, and from what
   pub named : (n : ℕ) → times n (named_along ds) ≡ (net_at p.inodes n).named
   pub unnamed : (n : ℕ) → times n p.lost ≡ (net_at p.inodes n).unnamed
-  pub lost : (k : Kernel) → unnamed_along ds k ≡ p.lost
+  pub lost : unnamed_along ds ≡ p.lost
   -- what is claimed, and that it is enough for the names that come
   pub claims : (c : Claim) → claimed c ds ≡ claim_in p c
   pub added : (n : ℕ) → added_by (net_at p.inodes n).contents ≤ (net_at p.inodes n).promised

@@ -1,9 +1,14 @@
 -- What noting one thing changes of what is kept of an inode.
 use Rattle.std.specs.Prelude.{◌≡◌, ◌≢◌, ◌↔◌, ℕ, ◌+◌, ◌≤◌, List, [], ◌++◌, Contains, length}
 use Rattle.std.specs.Prelude.{Option, Some, None}
+use Rattle.dirlist.specs.Patches.{noted_back}
 use Rattle.model.specs.State.{Name, Inode, Process}
 use Rattle.model.specs.Plan.{blocks}
 use Rattle.shadow.specs.declared.change.Change.{Change}
+use Rattle.shadow.specs.declared.change.Contents.{Contents}
+use Rattle.shadow.specs.declared.change.Contents.TheVariants.{Same, Names, Bytes}
+use Rattle.shadow.specs.declared.change.Former.{Former}
+use Rattle.shadow.specs.declared.change.Former.TheVariants.{Noted, Other}
 use Rattle.shadow.specs.declared.change.Made.{Made}
 use Rattle.shadow.specs.Patches.{Net, Patches, added_by, form_of, kept_at, net_at, opening_at}
 use Rattle.shadow.specs.Patches.{numbers_in, patched, reslotted}
@@ -65,6 +70,11 @@ pub record IsMade (what : Made) (old new : Net) : Type 0 where
     named = old.named;
   } ≡ old
 
+-- the inode has a name more
+pub record IsGiven (old new : Net) : Type 0 where
+  pub named : new.named ≡ old.named + 1
+  pub rest : record new { named = old.named } ≡ old
+
 -- a name was taken from the inode
 pub record IsUnnamed (old new : Net) : Type 0 where
   pub unnamed : new.unnamed ≡ old.unnamed + 1
@@ -75,6 +85,28 @@ pub record At (n : ℕ) (R : Net → Net → Type 0) (old new : List (ℕ × Cha
   pub here : R (net_at old n) (net_at new n)
   pub others : (m : ℕ) → m ≢ n → net_at new m ≡ net_at old m
   pub places : (m : ℕ) → kept_at old m ≢ None → kept_at new m ≢ None
+
+-- A name of directory d went, and then one of e gave n.
+pub record AreNamed (d : ℕ) (x : Name) (e : ℕ) (y : Name) (n : ℕ) (old new : List (ℕ × Change))
+    : Type 0 where
+  pub mid : List (ℕ × Change)
+  pub gone : At d (IsNamed x None) old mid
+  pub come : At e (IsNamed y (Some n)) mid new
+
+-- the contents with what was noted of a name before its note, or what was there before the first
+abbrev pub put_back : Former → Name → Contents → Contents
+put_back (Other contents) x now = contents
+put_back (Noted given) x (Names fresh notes) = Names fresh (noted_back x given notes)
+put_back (Noted given) x Same = Same
+put_back (Noted given) x (Bytes fresh bytes) = Bytes fresh bytes
+
+-- The name of the directory is gone, and the note can be taken back.
+pub record IsGone (x : Name) (former : Former) (old new : Net) : Type 0 where
+  pub named : IsNamed x None old new
+  pub back : put_back former x new.contents ≡ old.contents
+
+abbrev pub IsPutBack : Name → Former → Net → Net → Type 0
+IsPutBack x former old new = new ≡ record old { contents = put_back former x old.contents }
 
 -- All is as before but for room.
 pub record SameInodes (old new : List (ℕ × Change)) : Type 0 where

@@ -8,14 +8,15 @@ use Rattle.model.specs.Moments.{is_in}
 use Rattle.model.specs.State.{Name, Kernel, Inode, File, Directory, Description, Process, mapped}
 use Rattle.model.specs.State.{names_of_inode, file_of_inode}
 use Rattle.model.specs.Changes.{Edit, Which, There, Made, number, news, Make_directory, Make_file}
-use Rattle.model.specs.Changes.{Unname_file, Unname_directory, Put_bytes, Cut, Set_offset}
+use Rattle.model.specs.Changes.{Name_file, Unname_file, Unname_directory, Move, Put_bytes, Cut}
+use Rattle.model.specs.Changes.{Set_offset}
 use Rattle.model.specs.Changes.{Open_inode, Clear_slot, applied, sized, written, at_start, at_offset}
 use Rattle.model.specs.Changes.{with_slot, without_slot, or_new}
 use Rattle.model.specs.Effects.{Effect}
 use Rattle.model.specs.Limits.{largest, descriptor_limit}
 use Rattle.model.specs.Plan.{blocks}
 use Rattle.call_laws.specs.Fits.{Fits}
-use Rattle.freeing_laws.specs.Counts.{named, times}
+use Rattle.freeing_laws.specs.Counts.{named, times, unnamed}
 use Rattle.freeing_laws.specs.Sweep.{loses}
 use Rattle.store.specs.Laid.{with_note}
 use Rattle.shadow.specs.declared.change.Made.{Made as What}
@@ -57,7 +58,10 @@ new_in chosen i = number chosen (Made i)
 abbrev pub IsFirst : Edit → Type 0
 IsFirst (Make_directory d x i) = i ≡ 0
 IsFirst (Make_file d x i) = i ≡ 0
+IsFirst (Name_file d x n) = ⊤
+IsFirst (Unname_file d x n) = ⊤
 IsFirst (Unname_directory d x n) = ⊤
+IsFirst (Move d x e y n replaced) = ⊤
 IsFirst (Put_bytes n place bytes before) = place + length bytes ≤ largest
 IsFirst (Cut n before after) = after ≤ largest
 IsFirst _ = ⊥
@@ -101,11 +105,19 @@ made_at what d x m n o =
     if n == d then name_noted x (Some m) (if n == m then Some (new_inode what) else o)
     else if n == m then Some (new_inode what) else o
 
+-- what stands at a number where a name of directory d gives this from now on
+abbrev pub named_at : ℕ → Name → Option ℕ → ℕ → Option Inode → Option Inode
+named_at d x given n o = if n == d then name_noted x given o else o
+
 -- what stands at a number after an edit, by what stood there
 abbrev pub inode_after : List ℕ → Edit → ℕ → Option Inode → Option Inode
 inode_after chosen (Make_directory d x i) n o = made_at A_directory d x (new_in chosen i) n o
 inode_after chosen (Make_file d x i) n o = made_at A_file d x (new_in chosen i) n o
-inode_after chosen (Unname_directory d x m) n o = if n == d then name_noted x None o else o
+inode_after chosen (Name_file d x m) n o = named_at d x (Some m) n o
+inode_after chosen (Unname_file d x m) n o = named_at d x None n o
+inode_after chosen (Unname_directory d x m) n o = named_at d x None n o
+inode_after chosen (Move d x e y m replaced) n o =
+    named_at e y (Some m) n (named_at d x None n o)
 inode_after chosen (Put_bytes m place bytes before) n o =
     if n == m then bytes_written place bytes o else o
 inode_after chosen (Cut m before after) n o = if n == m then bytes_cut after o else o
@@ -134,12 +146,6 @@ pub record Applies (chosen : List ℕ) (e : Edit) (k after : Kernel) : Type 0 wh
   pub processes : (pid : ℕ)
       → get after.processes pid ≡ process_after chosen e pid (get k.processes pid)
 
--- the inodes that an edit takes a name from, whatever the state
-abbrev pub unnamed_by : Edit → List ℕ
-unnamed_by (Unname_directory d x n) = n ∷ []
-unnamed_by (Unname_file d x n) = n ∷ []
-unnamed_by _ = []
-
 -- the new directories of an edit, its other new numbers, and the descriptions among these
 abbrev pub directories_in : List ℕ → Edit → List ℕ
 directories_in chosen (Make_directory d x i) = new_in chosen i ∷ []
@@ -157,6 +163,8 @@ opened_in chosen _ = []
 abbrev pub parents_in : Edit → List ℕ
 parents_in (Make_directory d x i) = d ∷ []
 parents_in (Make_file d x i) = d ∷ []
+parents_in (Name_file d x n) = d ∷ []
+parents_in (Move d x e y n replaced) = e ∷ []
 parents_in _ = []
 
 -- of what kind the changes are after one more
@@ -179,10 +187,16 @@ made_form what d m n form =
     if n == d then listed (if n == m then new_form what else form)
     else if n == m then new_form what else form
 
+abbrev pub listed_at : ℕ → ℕ → Form → Form
+listed_at d n form = if n == d then listed form else form
+
 abbrev pub form_after : List ℕ → Edit → ℕ → Form → Form
 form_after chosen (Make_directory d x i) n form = made_form A_directory d (new_in chosen i) n form
 form_after chosen (Make_file d x i) n form = made_form A_file d (new_in chosen i) n form
-form_after chosen (Unname_directory d x m) n form = if n == d then listed form else form
+form_after chosen (Name_file d x m) n form = listed_at d n form
+form_after chosen (Unname_file d x m) n form = listed_at d n form
+form_after chosen (Unname_directory d x m) n form = listed_at d n form
+form_after chosen (Move d x e y m replaced) n form = listed_at e n (listed_at d n form)
 form_after chosen (Put_bytes m place bytes before) n form = if n == m then filed form else form
 form_after chosen (Cut m before after) n form = if n == m then filed form else form
 form_after chosen _ n form = form
@@ -211,12 +225,18 @@ blocks_by n (Put_bytes m place bytes before) =
 blocks_by n _ = []
 
 -- the blocks into which bytes were written before an edit: a new object has none, nor has a directory
+abbrev pub kept_beside : ℕ → ℕ → List ℕ → List ℕ
+kept_beside d n bs = if n == d then [] else bs
+
 abbrev pub numbers_kept : List ℕ → Edit → ℕ → List ℕ → List ℕ
 numbers_kept chosen (Make_directory d x i) n bs =
     if (n == d) || (n == new_in chosen i) then [] else bs
 numbers_kept chosen (Make_file d x i) n bs =
     if (n == d) || (n == new_in chosen i) then [] else bs
-numbers_kept chosen (Unname_directory d x m) n bs = if n == d then [] else bs
+numbers_kept chosen (Name_file d x m) n bs = kept_beside d n bs
+numbers_kept chosen (Unname_file d x m) n bs = kept_beside d n bs
+numbers_kept chosen (Unname_directory d x m) n bs = kept_beside d n bs
+numbers_kept chosen (Move d x e y m replaced) n bs = kept_beside e n (kept_beside d n bs)
 numbers_kept chosen _ n bs = bs
 
 -- Patches take in one edit more.
@@ -234,8 +254,8 @@ pub record TakesIn (chosen : List ℕ) (e : Edit) (old new : Patches) : Type 0 w
   pub named : (n : ℕ) → (net_at new.inodes n).named
       ≡ (net_at old.inodes n).named + times n (named chosen e)
   pub unnamed : (n : ℕ) → (net_at new.inodes n).unnamed
-      ≡ (net_at old.inodes n).unnamed + times n (unnamed_by e)
-  pub lost : new.lost ≡ old.lost ++ unnamed_by e
+      ≡ (net_at old.inodes n).unnamed + times n (unnamed e)
+  pub lost : new.lost ≡ old.lost ++ unnamed e
   pub forms : (n : ℕ) → form_of (net_at new.inodes n).contents
       ≡ form_after chosen e n (form_of (net_at old.inodes n).contents)
   pub room : (n : ℕ) → (net_at old.inodes n).room ≤ (net_at new.inodes n).room
@@ -258,6 +278,11 @@ AreApart chosen _ = ⊤
 abbrev pub making : What → ℕ → Name → Edit
 making A_directory d x = Make_directory d x 0
 making A_file d x = Make_file d x 0
+
+-- an edit that takes such an object's name
+abbrev pub unnaming : What → ℕ → Name → ℕ → Edit
+unnaming A_directory d x n = Unname_directory d x n
+unnaming A_file d x n = Unname_file d x n
 
 -- there are places for an edit of a description or a slot
 abbrev pub HasPlaces : List ℕ → Edit → Patches → Type 0

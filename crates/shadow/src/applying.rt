@@ -5,22 +5,23 @@ ghost use Rattle.std.specs.List.{sum_by};
 ghost use Rattle.ids.specs.declared.limits.TheConstants.{DESCRIPTORS, LARGEST_FILE};
 ghost use Rattle.model.specs.State.{A_file, kind_of};
 ghost use Rattle.model.specs.Changes.{Cut, Clear_slot, Make_directory, Make_file, Open_inode};
-ghost use Rattle.model.specs.Changes.{Put_bytes, Set_offset, There, Unname_directory, all_applied};
+ghost use Rattle.model.specs.Changes.{Move, Name_file, Put_bytes, Set_offset, There, all_applied};
 ghost use Rattle.model.specs.Changes.{applied, news, tidy};
 ghost use Rattle.call_laws.specs.Fits.{Fits, FitsAll};
 ghost use Rattle.shadow.specs.Claims.{AreUnused, Claim, Covers, HaveParents, KeepsMore, KeepsSame};
 ghost use Rattle.shadow.specs.Claims.{claimed_by, claimed_by_one, reserved};
 ghost use Rattle.shadow.specs.Log.{effect};
-ghost use Rattle.shadow.specs.Steps.{CanEdit, IsFirst, IsLast};
+ghost use Rattle.shadow.specs.Steps.{CanEdit, IsFirst, IsLast, unnaming};
+ghost use Rattle.shadow.specs.declared.change.Made.{Made as What};
 
 use crate::claiming::parent_of;
 use crate::closing::{close, free};
 use crate::laying::open;
-use crate::patches::{at_start, is_last, number};
+use crate::patches::{at_start, inode_replaced, is_last, number};
 use crate::reslotting::lay_slot;
 use crate::stable::Stable;
 use heap::Heap;
-use ids::{Edit, Fd, Mode, Name, Num, Nums, Pid};
+use ids::{Edit, Fd, Mode, Name, Num, Nums, Pid, Replaced};
 use objects::FileData;
 use std::alloc::AllocError;
 use store::{Object, OpenFile};
@@ -120,8 +121,20 @@ impl Stable {
                 self.make_file(parent, name, chosen[0]);
                 Ok(())
             }
+            Edit::NameFile(parent, name, file) => {
+                self.link(parent, name, file);
+                Ok(())
+            }
+            Edit::UnnameFile(parent, name, num) => {
+                self.unname(parent, &name, num);
+                Ok(())
+            }
             Edit::UnnameDirectory(parent, name, num) => {
                 self.unname(parent, &name, num);
+                Ok(())
+            }
+            Edit::Move(from, old, to, new, num, replaced) => {
+                self.rename(from, &old, to, new, num, replaced);
                 Ok(())
             }
             Edit::PutBytes(file, place, bytes, _before) => {
@@ -181,11 +194,51 @@ impl Stable {
         self.store.add_name(parent, name, num);
     }
 
-    // A directory's name goes, and the directory with it.
-    fn unname(&mut self, parent: Num, name: &Name, num: Num)
-        requires { Fits [] self.old.state (Unname_directory parent name.now num) }
+    // One more name for a file, in the room that is kept for it.
+    fn link(&mut self, parent: Num, name: Name, file: Num)
+        requires fits { Fits [] self.old.state (Name_file parent name file) }
+        requires covers { (c : Claim)
+            → claimed_by_one c [] (Name_file parent name file) ≤ reserved self.old c }
         ensures state { self.new.state
-            ≡ tidy (applied [] (Unname_directory parent name.now num) self.old.state) }
+            ≡ tidy (applied [] (Name_file parent name file) self.old.state) }
+        ensures kept { KeepsMore self.new self.old
+            (λ c. claimed_by_one c [] (Name_file parent name file)) }
+    {
+        self.store.add_name(parent, name, file);
+    }
+
+    // A name moves, in the room that is kept for it, and what had the new name goes where nothing
+    // else leads to it.
+    fn rename(
+        &mut self,
+        from: Num,
+        old: &Name,
+        to: Num,
+        new: Name,
+        num: Num,
+        replaced: Replaced,
+    )
+        requires fits { Fits [] self.old.state (Move from old.now to new num replaced) }
+        requires covers { (c : Claim)
+            → claimed_by_one c [] (Move from old.now to new num replaced) ≤ reserved self.old c }
+        ensures state { self.new.state
+            ≡ tidy (applied [] (Move from old.now to new num replaced) self.old.state) }
+        ensures kept { KeepsMore self.new self.old
+            (λ c. claimed_by_one c [] (Move from old.now to new num replaced)) }
+    {
+        self.store.remove_name(from, old);
+        self.store.add_name(to, new, num);
+        if let Some(lost) = inode_replaced(replaced) {
+            free(&mut self.store, lost);
+        }
+    }
+
+    // A name goes, and what it gave where nothing else leads to it.
+    fn unname(&mut self, parent: Num, name: &Name, num: Num)
+        requires { (what : What) × Fits [] self.old.state (unnaming what parent name.now num) }
+        ensures state { (what : What) → Fits [] self.old.state (unnaming what parent name.now num)
+            → self.new.state
+            ≡ tidy (applied [] (unnaming what parent name.now num) self.old.state) }
         ensures kept { KeepsSame self.old self.new }
     {
         self.store.remove_name(parent, name);

@@ -1,6 +1,6 @@
 // What a transaction has changed of one inode.
 ghost use Rattle.std.specs.Prelude.{◌≡◌, ◌↔◌, ◌++◌, ◌+◌, ◌≤◌, ◌<◌, ◌^◌, [], ℕ, Contains, IfOk, OnErr};
-ghost use Rattle.std.specs.Prelude.{OnOk, Option, Some, length};
+ghost use Rattle.std.specs.Prelude.{OnOk, Option, None, Some, length};
 ghost use Rattle.ids.specs.declared.limits.TheConstants.{LARGEST_FILE};
 ghost use Rattle.model.specs.FiniteMap.{empty, insert};
 ghost use Rattle.model.specs.State.{File, Inode};
@@ -9,7 +9,9 @@ ghost use Rattle.model.specs.Plan.{blocks};
 ghost use Rattle.shadow.specs.Patches.{added_by, bytes_before, form_of, net_of, of_bytes, patched};
 ghost use Rattle.shadow.specs.Patches.{numbers_in, untouched};
 ghost use Rattle.shadow.specs.declared.change.Contents.TheVariants.{Names};
-ghost use Rattle.shadow.specs.Notes.{IsCut, IsMade, IsNamed, IsUnnamed, IsWritten, SameNet, room_for};
+ghost use Rattle.shadow.specs.declared.change.Former.TheVariants.{Noted};
+ghost use Rattle.shadow.specs.Notes.{IsCut, IsGiven, IsGone, IsMade, IsNamed, IsPutBack, IsUnnamed};
+ghost use Rattle.shadow.specs.Notes.{IsWritten, SameNet, put_back, room_for};
 ghost use Rattle.shadow.specs.Steps.{bytes_cut, bytes_written, filed, growth, listed, name_noted};
 ghost use Rattle.shadow.specs.Steps.{new_form, new_inode};
 
@@ -19,6 +21,7 @@ use heap::Heap;
 use ids::{Name, Num};
 use objects::FileData;
 use std::alloc::AllocError;
+use std::mem;
 
 /// What a transaction can make.
 #[derive(Clone, Copy)]
@@ -38,6 +41,15 @@ pub(crate) enum Contents {
     Names(bool, Patch),
     /// The bytes that changed, and whether they are laid over none.
     Bytes(bool, FileShadow),
+}
+
+/// What a note of a name took the place of.
+#[derive(Drop)]
+pub(crate) enum Former {
+    /// What was noted of the name before, if anything was.
+    Noted(Option<Option<Num>>),
+    /// Contents without names.
+    Other(Contents),
 }
 
 /// What a transaction has changed of one inode.
@@ -92,6 +104,26 @@ impl Change {
         Ok(())
     }
 
+    /// Notes that a name of the directory is gone, and gives what the note took the place of.
+    /// Refused memory changes nothing.
+    pub(crate) fn note_gone(&mut self, heap: Heap, name: Name) -> Result<Former, AllocError>
+        ensures ok { IfOk result (λ former.
+            IsGone name former (net_of (Some self.old)) (net_of (Some self.new))) }
+        ensures err { OnErr result (self.new ≡ self.old) }
+    {
+        note_gone_in(&mut self.contents, heap, name)
+    }
+
+    /// Takes the note of a name back. It takes no memory.
+    pub(crate) fn put_back(&mut self, name: &Name, former: Former)
+        ensures { IsPutBack name.now former (net_of (Some self.old)) (net_of (Some self.new)) }
+    {
+        match former {
+            Former::Other(contents) => self.contents = contents,
+            Former::Noted(given) => put_back_in(&mut self.contents, name, given),
+        }
+    }
+
     /// Notes bytes that are written into the file from a place on, and makes room where it grows
     /// from this length. Refused memory changes nothing that shows.
     pub(crate) fn write(
@@ -142,6 +174,14 @@ impl Change {
         self.made = Some(what);
         self.named += 1;
         self.contents = fresh_of(heap, what);
+    }
+
+    /// Notes that the inode has a name more. It takes no memory.
+    pub(crate) fn note_named(&mut self)
+        requires { self.old.named + 1 < 2 ^ 64 }
+        ensures { IsGiven (net_of (Some self.old)) (net_of (Some self.new)) }
+    {
+        self.named += 1;
     }
 
     /// Notes that a name was taken from the inode. It takes no memory.
@@ -201,6 +241,44 @@ fn note_in(
             *contents = first_name(heap, true, name, given)?;
             Ok(())
         }
+    }
+}
+
+// Notes that a name is gone, and gives what the note took the place of; bytes of a file go.
+fn note_gone_in(contents: &mut Contents, heap: Heap, name: Name) -> Result<Former, AllocError>
+    ensures contents { OnOk result ((o : Option Inode)
+        → patched contents.new o ≡ name_noted name None (patched contents.old o)) }
+    ensures form { OnOk result (form_of contents.new ≡ listed (form_of contents.old)) }
+    ensures added { OnOk result (added_by contents.new ≤ added_by contents.old) }
+    ensures numbers { OnOk result (numbers_in contents.new ≡ []) }
+    ensures back { IfOk result (λ former. put_back former name contents.new ≡ contents.old) }
+    ensures err { OnErr result (contents.new ≡ contents.old) }
+{
+    match contents {
+        Contents::Names(_fresh, names) => {
+            let former = names.look(&name);
+            names.note(name, None)?;
+            Ok(Former::Noted(former))
+        }
+        Contents::Same => {
+            let noted = first_name(heap, false, name, None)?;
+            Ok(Former::Other(mem::replace(contents, noted)))
+        }
+        Contents::Bytes(_fresh, _bytes) => {
+            let noted = first_name(heap, true, name, None)?;
+            Ok(Former::Other(mem::replace(contents, noted)))
+        }
+    }
+}
+
+// Takes a name's note back, where there are notes of names.
+fn put_back_in(contents: &mut Contents, name: &Name, given: Option<Option<Num>>)
+    ensures { contents.new ≡ put_back (Noted given) name.now contents.old }
+{
+    match contents {
+        Contents::Names(_fresh, names) => names.put_back(name, given),
+        Contents::Same => (),
+        Contents::Bytes(_fresh, _bytes) => (),
     }
 }
 

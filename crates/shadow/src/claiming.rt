@@ -36,6 +36,8 @@ pub(crate) fn parent_of(edits: &[Edit]) -> Option<Num>
     match edits.first() {
         Some(Edit::MakeDirectory(parent, _, _)) => Some(*parent),
         Some(Edit::MakeFile(parent, _, _)) => Some(*parent),
+        Some(Edit::NameFile(parent, _, _)) => Some(*parent),
+        Some(Edit::Move(_, _, parent, _, _, _)) => Some(*parent),
         _ => None,
     }
 }

@@ -1,12 +1,13 @@
 // What a transaction has changed of all inodes.
-ghost use Rattle.std.specs.Prelude.{◌≡◌, ◌≢◌, ◌+◌, ◌≤◌, ◌<◌, ◌^◌, [], None, OnErr, OnOk, length};
+ghost use Rattle.std.specs.Prelude.{◌≡◌, ◌≢◌, ◌+◌, ◌≤◌, ◌<◌, ◌^◌, [], IfOk, None, OnErr, OnOk, length};
 ghost use Rattle.std.specs.Prelude.{option_copied};
 ghost use Rattle.std.specs.List.Sorted.{IsStrictlyIncreasing};
 ghost use Rattle.ids.specs.declared.limits.TheConstants.{LARGEST_FILE};
 ghost use Rattle.shadow.specs.Patches.{kept_at, net_at, numbers_in};
-ghost use Rattle.shadow.specs.Notes.{At, IsCut, IsMade, IsNamed, IsUnnamed, IsWritten, SameInodes};
+ghost use Rattle.shadow.specs.Notes.{AreNamed, At, IsCut, IsGiven, IsGone, IsMade, IsNamed};
+ghost use Rattle.shadow.specs.Notes.{IsPutBack, IsUnnamed, IsWritten, SameInodes};
 
-use crate::change::{Change, Contents, Made};
+use crate::change::{Change, Contents, Former, Made};
 use heap::Heap;
 use ids::{Name, Num};
 use std::alloc::AllocError;
@@ -107,6 +108,58 @@ impl Inodes {
         }
     }
 
+    /// Notes that a name of one directory is gone, and then that a name of another, or of the same,
+    /// gives this number, where there are places for both. Refused memory changes nothing that
+    /// shows.
+    pub(crate) fn note_names(
+        &mut self,
+        from: Num,
+        old: Name,
+        to: Num,
+        new: Name,
+        num: Num,
+    ) -> Result<(), AllocError>
+        requires from { kept_at self.old from ≢ None }
+        requires to { kept_at self.old to ≢ None }
+        ensures ok { OnOk result (AreNamed from old to new num self.old self.new) }
+        ensures err { OnErr result (SameInodes self.old self.new) }
+    {
+        let noted = old.try_clone()?;
+        let former = self.note_gone(from, noted)?;
+        match self.note_name(to, new, Some(num)) {
+            Ok(()) => Ok(()),
+            Err(AllocError) => {
+                self.put_back(from, &old, former);
+                Err(AllocError)
+            }
+        }
+    }
+
+    // Notes that a name of a directory is gone, where there is a place for it, and gives what the
+    // note took the place of. Refused memory changes nothing that shows.
+    fn note_gone(&mut self, dir: Num, name: Name) -> Result<Former, AllocError>
+        requires { kept_at self.old dir ≢ None }
+        ensures ok { IfOk result (λ former. At dir (IsGone name former) self.old self.new) }
+        ensures err { OnErr result (SameInodes self.old self.new) }
+    {
+        let heap = self.heap;
+        match self.each.get_mut(&dir) {
+            Some(change) => change.note_gone(heap, name),
+            None => unreachable!(),
+        }
+    }
+
+    // Takes the note of a name back, in its place. It takes no memory.
+    fn put_back(&mut self, dir: Num, name: &Name, former: Former)
+        requires { kept_at self.old dir ≢ None }
+        ensures { At dir (IsPutBack name.now former) self.old self.new }
+    {
+        match self.each.get_mut(&dir) {
+            Some(change) => change.put_back(name, former),
+            None => unreachable!(),
+        }
+    }
+
     /// Notes bytes that are written into a file, where there is a place for it. Refused memory
     /// changes nothing that shows.
     pub(crate) fn write(
@@ -152,6 +205,18 @@ impl Inodes {
         let heap = self.heap;
         match self.each.get_mut(&num) {
             Some(change) => change.note_made(heap, what),
+            None => unreachable!(),
+        }
+    }
+
+    /// Notes that an inode has a name more, in its place. It takes no memory.
+    pub(crate) fn note_named(&mut self, num: Num)
+        requires place { kept_at self.old num ≢ None }
+        requires count { (net_at self.old num).named + 1 < 2 ^ 64 }
+        ensures { At num IsGiven self.old self.new }
+    {
+        match self.each.get_mut(&num) {
+            Some(change) => change.note_named(),
             None => unreachable!(),
         }
     }

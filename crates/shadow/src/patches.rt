@@ -1,18 +1,21 @@
 // All that a transaction has changed, object by object.
-ghost use Rattle.std.specs.Prelude.{◌≡◌, ◌≢◌, ◌+◌, ◌≤◌, ◌∷◌, [], ℕ, length, OnErr, OnOk};
+ghost use Rattle.std.specs.Prelude.{◌≡◌, ◌≢◌, ◌+◌, ◌≤◌, ◌∷◌, [], ℕ, List, length, OnErr, OnOk};
 ghost use Rattle.ids.specs.declared.limits.TheConstants.{LARGEST_FILE};
-ghost use Rattle.model.specs.Changes.{Unname_directory, Put_bytes, Cut, news, number, at_start};
+ghost use Rattle.model.specs.Changes.{Name_file, Move, Put_bytes, Cut, news, number, at_start};
+ghost use Rattle.model.specs.Changes.{inode_replaced};
+ghost use Rattle.freeing_laws.specs.Counts.{listed};
 ghost use Rattle.shadow.specs.Notes.{SamePatches};
 ghost use Rattle.std.specs.List.{AllByRecursion, sum_by};
 ghost use Rattle.shadow.specs.Steps.{AreApart, CanEdit, HasPlaces, IsBelow, IsFirst, IsLast};
-ghost use Rattle.shadow.specs.Steps.{TakesAll, TakesIn, is_last, making};
+ghost use Rattle.shadow.specs.Steps.{TakesAll, TakesIn, is_last, making, unnaming};
+ghost use Rattle.shadow.specs.declared.change.Made.{Made as What};
 
 use crate::change::Made;
 use crate::inodes::Inodes;
 use crate::opening::Openings;
 use crate::slots::Slots;
 use heap::Heap;
-use ids::{Bytes, Edit, Fd, Mode, Name, Num, Nums, Pid, Which};
+use ids::{Bytes, Edit, Fd, Mode, Name, Num, Nums, Pid, Replaced, Which};
 use objects::Description;
 use std::alloc::AllocError;
 use std::marker::Model;
@@ -61,6 +64,17 @@ pub(crate) fn at_start(inode: Num, mode: Mode) -> Description
         writing: mode.writing,
         appending: mode.appending,
         offset: 0,
+    }
+}
+
+// What had the name that another takes over, if anything had.
+pub(crate) fn inode_replaced(replaced: Replaced) -> Option<Num>
+    ensures { listed result ≡ inode_replaced replaced }
+{
+    match replaced {
+        Replaced::File(num) => Some(num),
+        Replaced::Directory(num) => Some(num),
+        Replaced::Nothing => None,
     }
 }
 
@@ -130,7 +144,12 @@ impl Patches {
             Edit::MakeFile(parent, name, _place) => {
                 self.make(Made::File, parent, name, chosen[0])
             }
+            Edit::NameFile(parent, name, file) => self.link(parent, name, file),
+            Edit::UnnameFile(parent, name, num) => self.unname(parent, name, num),
             Edit::UnnameDirectory(parent, name, num) => self.unname(parent, name, num),
+            Edit::Move(from, old, to, new, num, replaced) => {
+                self.rename(from, old, to, new, num, replaced)
+            }
             Edit::PutBytes(file, place, bytes, before) => {
                 self.write(file, place, &bytes, before)
             }
@@ -154,10 +173,25 @@ impl Patches {
         Ok(())
     }
 
+    // One more name for a file.
+    fn link(&mut self, parent: Num, name: Name, file: Num) -> Result<(), AllocError>
+        ensures ok { OnOk result ((chosen : List ℕ)
+            → TakesIn chosen (Name_file parent name file) self.old self.new) }
+        ensures err { OnErr result (SamePatches self.old self.new) }
+        ensures openings { self.new.openings ≡ self.old.openings }
+        ensures slots { self.new.slots ≡ self.old.slots }
+    {
+        self.inodes.make_named(file)?;
+        self.inodes.make_place(parent)?;
+        self.inodes.note_name(parent, name, Some(file))?;
+        self.inodes.note_named(file);
+        Ok(())
+    }
+
     // A name goes.
     fn unname(&mut self, parent: Num, name: Name, num: Num) -> Result<(), AllocError>
-        ensures ok { OnOk result
-            (TakesIn [] (Unname_directory parent name num) self.old self.new) }
+        ensures ok { OnOk result ((chosen : List ℕ) (what : What)
+            → TakesIn chosen (unnaming what parent name num) self.old self.new) }
         ensures err { OnErr result (SamePatches self.old self.new) }
         ensures openings { self.new.openings ≡ self.old.openings }
         ensures slots { self.new.slots ≡ self.old.slots }
@@ -169,6 +203,37 @@ impl Patches {
         self.inodes.note_unnamed(num);
         self.lost.push(num).unwrap();
         Ok(())
+    }
+
+    // A name moves, and takes the place of what had the new name.
+    fn rename(
+        &mut self,
+        from: Num,
+        old: Name,
+        to: Num,
+        new: Name,
+        num: Num,
+        replaced: Replaced,
+    ) -> Result<(), AllocError>
+        ensures ok { OnOk result ((chosen : List ℕ)
+            → TakesIn chosen (Move from old to new num replaced) self.old self.new) }
+        ensures err { OnErr result (SamePatches self.old self.new) }
+        ensures openings { self.new.openings ≡ self.old.openings }
+        ensures slots { self.new.slots ≡ self.old.slots }
+    {
+        self.inodes.make_place(from)?;
+        self.inodes.make_place(to)?;
+        match inode_replaced(replaced) {
+            None => self.inodes.note_names(from, old, to, new, num),
+            Some(lost) => {
+                self.lost.reserve(1)?;
+                self.inodes.make_unnamed(lost)?;
+                self.inodes.note_names(from, old, to, new, num)?;
+                self.inodes.note_unnamed(lost);
+                self.lost.push(lost).unwrap();
+                Ok(())
+            }
+        }
     }
 
     // Bytes are written into a file.
