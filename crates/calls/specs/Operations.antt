@@ -1,7 +1,8 @@
 -- Kinds of calls.
 use Rattle.std.specs.Prelude.{Bool, true, false}
 use Rattle.model.specs.Calls.{Call, Open, Close, Read, Write, Lseek, Ftruncate, Stat, Fstat}
-use Rattle.model.specs.Calls.{Mkdir, Rmdir, List_directory, Dup, Dup2, Open_pipe, Exit}
+use Rattle.model.specs.Calls.{Mkdir, Rmdir, List_directory, Link, Unlink, Rename, Dup, Dup2}
+use Rattle.model.specs.Calls.{Open_pipe, Exit}
 
 -- the calls that the kernel can run today
 abbrev pub can_call : Call → Bool
@@ -16,6 +17,9 @@ can_call (Stat path) = true
 can_call (Mkdir path) = true
 can_call (Rmdir path) = true
 can_call (List_directory path) = true
+can_call (Link old path) = true
+can_call (Unlink path) = true
+can_call (Rename old path) = true
 can_call _ = false
 
 -- the calls whose plans read the process's own descriptors; a fork reads more of the process

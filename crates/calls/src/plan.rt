@@ -30,8 +30,7 @@ pub struct Plan {
     pub edits: Vec<Edit, Heap>,
 }
 
-/// Whether the kernel can run the call today: those on files and directories that give a file no
-/// second name and take none away from it. It takes no memory.
+/// Whether the kernel can run the call today: those on files and directories. It takes no memory.
 pub fn is_there(call: &Call) -> bool
     ensures { result ≡ can_call call.now }
 {
@@ -48,6 +47,9 @@ pub fn is_there(call: &Call) -> bool
             | Call::Mkdir(_)
             | Call::Rmdir(_)
             | Call::List(_)
+            | Call::Link(_, _)
+            | Call::Unlink(_)
+            | Call::Rename(_, _)
     )
 }
 
