@@ -1,4 +1,5 @@
 // The rows that are timed.
+use crate::names::print_names;
 use crate::work::{Verb, begin, call, end, kernel_of, open_file, path, rewind, step};
 use anyhow::Result;
 use heap::Heap;
@@ -165,5 +166,6 @@ fn measure_on(
 ) -> Result<()> {
     fill(kernel, heap, names)?;
     open(kernel, heap, live)?;
-    print_rates(rt, kernel, heap, names)
+    print_rates(rt, kernel, heap, names)?;
+    print_names(rt, kernel, heap)
 }
