@@ -33,7 +33,7 @@ agrees_none = record {
   processes = λ k pid. refl;
   named = λ n. refl;
   unnamed = λ n. refl;
-  lost = λ k. refl;
+  lost = refl;
   claims = none;
   added = λ n. omega arith;
   kinds = λ k n f. tt;
@@ -65,11 +65,9 @@ named_more n (x ∷ ds) d =
     let old : times n (now ++ named_along ds) ≡ times n now + times n (named_along ds) = sum_by-append (λ v. cond (v == n) 1 0) now (named_along ds) in
     let rest : times n (named_along (ds ++ d ∷ [])) ≡ times n (named_along ds) + times n (all_named d.chosen d.edits) = named_more n ds d in omega arith
 
-unnamed_more : (ds : List Effect) (d : Effect) (k : Kernel) → unnamed_along (ds ++ d ∷ []) k ≡ unnamed_along ds k ++ all_unnamed d.chosen d.edits (all_done ds k)
-unnamed_more [] d k = append-nil (all_unnamed d.chosen d.edits k)
-unnamed_more (x ∷ ds) d k =
-    let now : List ℕ = all_unnamed x.chosen x.edits k in let later : Kernel = all_applied x.chosen x.edits k in
-    ap (λ l. now ++ l) (unnamed_more ds d later) ∙ sym (append_assoc now (unnamed_along ds later) (all_unnamed d.chosen d.edits (all_done ds later)))
+unnamed_more : (ds : List Effect) (d : Effect) → unnamed_along (ds ++ d ∷ []) ≡ unnamed_along ds ++ all_unnamed d.edits
+unnamed_more [] d = append-nil (all_unnamed d.edits)
+unnamed_more (x ∷ ds) d = ap (λ l. all_unnamed x.edits ++ l) (unnamed_more ds d) ∙ sym (append_assoc (all_unnamed x.edits) (unnamed_along ds) (all_unnamed d.edits))
 
 written_more : (n : ℕ) (ds : List Effect) (d : Effect) → blocks_written n (ds ++ d ∷ []) ≡ blocks_written n ds ++ flat_map (blocks_by n) d.edits
 written_more n [] d = append-nil (flat_map (blocks_by n) d.edits)
@@ -127,7 +125,7 @@ along_more ds p q chosen edits all t a =
     along_same (λ k. all_applied chosen edits (all_done ds k)) (all_done (ds ++ effect chosen edits ∷ []))
     (λ k. AllFit ds k × FitsAll chosen (all_done ds k) edits) (AllFit (ds ++ effect chosen edits ∷ []))
     (λ n. times n (named_along ds) + times n (all_named chosen edits)) (λ n. times n (named_along (ds ++ effect chosen edits ∷ [])))
-    (λ k. unnamed_along ds k ++ all_unnamed chosen edits (all_done ds k)) (unnamed_along (ds ++ effect chosen edits ∷ []))
+    (unnamed_along ds ++ all_unnamed edits) (unnamed_along (ds ++ effect chosen edits ∷ []))
     (λ n b. Contains (blocks_written n ds) b ⊎ Contains (flat_map (blocks_by n) edits) b) (λ n b. Contains (blocks_written n (ds ++ effect chosen edits ∷ [])) b) q
     (done_more ds (effect chosen edits)) (fit_split ds (effect chosen edits)) (λ n. named_more n ds (effect chosen edits)) (unnamed_more ds (effect chosen edits))
     (λ n b. (there n b, back n b))
@@ -167,7 +165,7 @@ agrees_same ds p q s a = record {
   processes = λ k pid. a.processes k pid ∙ sym (s.processes pid (get k.processes pid));
   named = λ n. a.named n ∙ sym (ap (λ (net : Net). net.named) ((s.inodes.nets n).rest));
   unnamed = λ n. ap (times n) s.lost ∙ a.unnamed n ∙ sym (ap (λ (net : Net). net.unnamed) ((s.inodes.nets n).rest));
-  lost = λ k. a.lost k ∙ sym s.lost;
+  lost = a.lost ∙ sym s.lost;
   claims = λ c. a.claims c ∙ sym (same_claim c);
   added = λ n. subst (λ c. added_by c ≤ (net_at q.inodes n).promised) (sym (contents n)) (subst (λ m. added_by (net_at p.inodes n).contents ≤ m) (sym (promised n)) (a.added n));
   kinds = λ k n fit. subst (λ m. IsOver (kind_of k n) m (form_of (net_at q.inodes n).contents)) (sym (made n)) (subst (λ c. IsOver (kind_of k n) (net_at p.inodes n).made (form_of c)) (sym (contents n)) (a.kinds k n fit));

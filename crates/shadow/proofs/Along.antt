@@ -18,13 +18,13 @@ use Rattle.shadow.specs.declared.change.Made.TheVariants.{Directory as Dir_made,
 use Rattle.shadow.specs.declared.opening.Opening.{Opening}
 use Rattle.shadow.specs.declared.opening.Opening.TheVariants.{Kept, New, Moved}
 use Rattle.shadow.specs.Agrees.{IsOver, IsOverDescription}
-use Rattle.shadow.specs.Patches.{Patches, added_by, form_of, is_new, kept_at, net_at, numbers_in, opening_at, patched, reopened, reslotted, reslotted_by, slots_in}
-use Rattle.shadow.specs.Steps.{Applies, AreApart, IsOne, TakesAll, TakesIn, blocks_by, bytes_cut, bytes_written, description_after, filed, form_after, grown_to, growth, inode_after, listed, made_after, made_at, name_noted, new_form, new_in, new_inode, numbers_kept, opened_in, parents_in, process_after, unnamed_by}
+use Rattle.shadow.specs.Patches.{Form, no_change, of_names, of_bytes, Patches, added_by, form_of, is_new, kept_at, net_at, numbers_in, opening_at, patched, reopened, reslotted, reslotted_by, slots_in}
+use Rattle.shadow.specs.Steps.{Applies, AreApart, IsOne, TakesAll, TakesIn, blocks_by, bytes_cut, bytes_written, description_after, filed, form_after, grown_to, growth, inode_after, listed, made_after, made_at, name_noted, named_at, new_form, new_in, new_inode, numbers_kept, opened_in, parents_in, process_after}
 use Rattle.shadow.proofs.Applied.{applies, by_one}
 
 -- the same as `Agrees` but for the claims, of a change of states that fits some, gives inodes so many
 -- names, takes names from these, and writes into these blocks
-pub record Along (done : Kernel → Kernel) (Fit : Kernel → Type 0) (given : ℕ → ℕ) (gone : Kernel → List ℕ) (Wrote : ℕ → ℕ → Type 0) (p : Patches) : Type 0 where
+pub record Along (done : Kernel → Kernel) (Fit : Kernel → Type 0) (given : ℕ → ℕ) (gone : List ℕ) (Wrote : ℕ → ℕ → Type 0) (p : Patches) : Type 0 where
   pub root : (k : Kernel) → (done k).root ≡ k.root
   pub count : (k : Kernel) → (done k).made ≡ k.made
   pub inodes : (k : Kernel) (n : ℕ) → get (done k).inodes n ≡ patched (net_at p.inodes n).contents (get k.inodes n)
@@ -32,7 +32,7 @@ pub record Along (done : Kernel → Kernel) (Fit : Kernel → Type 0) (given : �
   pub processes : (k : Kernel) (pid : ℕ) → get (done k).processes pid ≡ reslotted (kept_at p.slots pid) (get k.processes pid)
   pub named : (n : ℕ) → given n ≡ (net_at p.inodes n).named
   pub unnamed : (n : ℕ) → times n p.lost ≡ (net_at p.inodes n).unnamed
-  pub lost : (k : Kernel) → gone k ≡ p.lost
+  pub lost : gone ≡ p.lost
   pub added : (n : ℕ) → added_by (net_at p.inodes n).contents ≤ (net_at p.inodes n).promised
   pub kinds : (k : Kernel) (n : ℕ) → Fit k → IsOver (kind_of k n) (net_at p.inodes n).made (form_of (net_at p.inodes n).contents)
   pub rooms : (k : Kernel) (n : ℕ) → Fit k → length (file_of (done k) n) ≤ max (length (file_of k n)) (net_at p.inodes n).room
@@ -113,11 +113,29 @@ listed_at m mid is_directory n o made c is over = by_test (n == m) refl
     by_test true h = listed_over c o made (found_kind mid n m c o A_directory is h is_directory) over
     by_test false h = over
 
+listed_again : (form : Form) → listed (listed form) ≡ listed form
+listed_again no_change = refl
+listed_again (of_names fresh) = refl
+listed_again (of_bytes fresh) = refl
+
+moved_listed : (d e : ℕ) (mid : Kernel) → kind_of mid d ≡ Some A_directory → kind_of mid e ≡ Some A_directory → (n : ℕ) (o : Option Inode) (made : Option What) (c : Contents) → get mid.inodes n ≡ patched c o
+    → IsOver (mapped kind o) made (form_of c) → IsOver (mapped kind o) made (cond (n == e) (listed (cond (n == d) (listed (form_of c)) (form_of c))) (cond (n == d) (listed (form_of c)) (form_of c)))
+moved_listed d e mid from onto n o made c is over = by_tests (n == d) (n == e) refl refl
+  where
+    by_tests : (b t : Bool) → (n == d) ≡ b → (n == e) ≡ t → IsOver (mapped kind o) made (cond t (listed (cond b (listed (form_of c)) (form_of c))) (cond b (listed (form_of c)) (form_of c)))
+    by_tests true true h i = subst (IsOver (mapped kind o) made) (sym (listed_again (form_of c))) (listed_over c o made (found_kind mid n d c o A_directory is h from) over)
+    by_tests false true h i = listed_over c o made (found_kind mid n e c o A_directory is i onto) over
+    by_tests true false h i = listed_over c o made (found_kind mid n d c o A_directory is h from) over
+    by_tests false false h i = over
+
 over_after : (chosen : List ℕ) (e : Edit) → IsOne e → OverAfter chosen e
 over_after chosen e one = by_one (OverAfter chosen)
     (λ d x i apart mid f. made_over Dir_made d (new_in chosen i) apart mid f.0.parent.directory)
     (λ d x i apart mid f. made_over File_made d (new_in chosen i) apart mid f.0.parent.directory)
     (λ d x m apart mid f. listed_at d mid f.0.parent.directory)
+    (λ d x m apart mid f. listed_at d mid f.0.parent.directory)
+    (λ d x m apart mid f. listed_at d mid f.parent.directory)
+    (λ d x e y m replaced apart mid f. moved_listed d e mid f.from.parent.directory f.onto.directory)
     (λ m place bytes before apart mid f. filed_at m mid f.0)
     (λ m before after apart mid f. filed_at m mid f.0)
     (λ i inode mode pid s apart mid f n o made c is over. over)
@@ -171,13 +189,13 @@ cut_room m before after mid was n low r new is more grown = by_test (n == m) ref
     by_test true h g = by_less (ap (λ t. length (file_of mid t)) (eqb-true n m h) ∙ was) (nat_lt before after) refl g
     by_test false h g = (let old : length (file_of mid n) ≤ max low r = is in omega arith)
 
-unnamed_room : (d : ℕ) (x : Name) (mid : Kernel) (n low r new : ℕ) → length (file_of mid n) ≤ max low r → r ≤ new
-    → length (file_of_inode (cond (n == d) (name_noted x None (get mid.inodes n)) (get mid.inodes n))) ≤ max low new
-unnamed_room d x mid n low r new is more = by_test (n == d)
+named_room : (d : ℕ) (x : Name) (given : Option ℕ) (n : ℕ) (o : Option Inode) (low new : ℕ) → length (file_of_inode o) ≤ max low new
+    → length (file_of_inode (named_at d x given n o)) ≤ max low new
+named_room d x given n o low new is = by_test (n == d)
   where
-    by_test : (b : Bool) → length (file_of_inode (cond b (name_noted x None (get mid.inodes n)) (get mid.inodes n))) ≤ max low new
+    by_test : (b : Bool) → length (file_of_inode (cond b (name_noted x given o) o)) ≤ max low new
     by_test true = omega arith
-    by_test false = (let old : length (file_of mid n) ≤ max low r = is in omega arith)
+    by_test false = is
 
 same_room : (mid : Kernel) (n low r new : ℕ) → length (file_of mid n) ≤ max low r → r ≤ new → length (file_of_inode (get mid.inodes n)) ≤ max low new
 same_room mid n low r new is more = (let old : length (file_of mid n) ≤ max low r = is in omega arith)
@@ -186,7 +204,10 @@ room_after : (chosen : List ℕ) (e : Edit) → IsOne e → RoomAfter chosen e
 room_after chosen e one = by_one (RoomAfter chosen)
     (λ d x i mid f n low r new is more grown. made_room Dir_made d x (new_in chosen i) mid n low r new is more)
     (λ d x i mid f n low r new is more grown. made_room File_made d x (new_in chosen i) mid n low r new is more)
-    (λ d x m mid f n low r new is more grown. unnamed_room d x mid n low r new is more)
+    (λ d x m mid f n low r new is more grown. named_room d x None n (get mid.inodes n) low new (same_room mid n low r new is more))
+    (λ d x m mid f n low r new is more grown. named_room d x (Some m) n (get mid.inodes n) low new (same_room mid n low r new is more))
+    (λ d x m mid f n low r new is more grown. named_room d x None n (get mid.inodes n) low new (same_room mid n low r new is more))
+    (λ d x e y m replaced mid f n low r new is more grown. named_room e y (Some m) n (named_at d x None n (get mid.inodes n)) low new (named_room d x None n (get mid.inodes n) low new (same_room mid n low r new is more)))
     (λ m place bytes before mid f. written_room m place bytes before mid f.1)
     (λ m before after mid f. cut_room m before after mid f.1)
     (λ i inode mode pid s mid f n low r new is more grown. same_room mid n low r new is more)
@@ -213,11 +234,18 @@ listed_kept d mid parent n o c is = by_test (n == d) refl
     by_test true h = unwritten c o (found_kind mid n d c o A_directory is h parent)
     by_test false h = refl
 
+moved_kept : (d e : ℕ) (mid : Kernel) → kind_of mid d ≡ Some A_directory → kind_of mid e ≡ Some A_directory → (n : ℕ) (o : Option Inode) (c : Contents) → get mid.inodes n ≡ patched c o
+    → cond (n == e) [] (cond (n == d) [] (numbers_in c)) ≡ numbers_in c
+moved_kept d e mid from onto n o c is = ap (cond (n == e) []) (listed_kept d mid from n o c is) ∙ listed_kept e mid onto n o c is
+
 kept_same : (chosen : List ℕ) (e : Edit) → IsOne e → KeptSame chosen e
 kept_same chosen e one = by_one (KeptSame chosen)
     (λ d x i mid f. made_kept d (new_in chosen i) mid f.0.parent.directory f.1.inode)
     (λ d x i mid f. made_kept d (new_in chosen i) mid f.0.parent.directory f.1.inode)
     (λ d x m mid f. listed_kept d mid f.0.parent.directory)
+    (λ d x m mid f. listed_kept d mid f.0.parent.directory)
+    (λ d x m mid f. listed_kept d mid f.parent.directory)
+    (λ d x e y m replaced mid f. moved_kept d e mid f.from.parent.directory f.onto.directory)
     (λ m place bytes before mid f n o c is. refl)
     (λ m before after mid f n o c is. refl)
     (λ i inode mode pid s mid f n o c is. refl)
@@ -256,6 +284,9 @@ moved_there chosen e one = by_one (MovedThere chosen)
     (λ d x i mid f q place o is away same. absurd (not_still place same))
     (λ d x i mid f q place o is away same. absurd (not_still place same))
     (λ d x m mid f q place o is away same. absurd (not_still place same))
+    (λ d x m mid f q place o is away same. absurd (not_still place same))
+    (λ d x m mid f q place o is away same. absurd (not_still place same))
+    (λ d x e y m replaced mid f q place o is away same. absurd (not_still place same))
     (λ m pl bytes before mid f q place o is away same. absurd (not_still place same))
     (λ m before after mid f q place o is away same. absurd (not_still place same))
     (λ i inode mode pid s mid f q place o is away same. open_moved q (new_in chosen i) place (Some (at_start (number chosen inode) mode)) o away same)
@@ -289,6 +320,9 @@ lives_before chosen e one = by_one (LivesBefore chosen)
     (λ d x i mid f pid o is changed. absurd (changed refl))
     (λ d x i mid f pid o is changed. absurd (changed refl))
     (λ d x m mid f pid o is changed. absurd (changed refl))
+    (λ d x m mid f pid o is changed. absurd (changed refl))
+    (λ d x m mid f pid o is changed. absurd (changed refl))
+    (λ d x e y m replaced mid f pid o is changed. absurd (changed refl))
     (λ m pl bytes before mid f pid o is changed. absurd (changed refl))
     (λ m before after mid f pid o is changed. absurd (changed refl))
     (λ i inode mode q s mid f pid o is changed. slot_lives q mid f.slot.alive pid o is _ changed)
@@ -301,16 +335,10 @@ alive_over new (g ∷ gs) o some was then = was (λ e. absurd cc)
 alive_over [] [] o some was then = absurd (some refl)
 alive_over (g ∷ gs) [] o some was then = then refl (λ e. some_not_none _ e)
 
--- the inodes that lose a name are those of the edit, whatever the state
-unnamed_is : (chosen : List ℕ) (e : Edit) → IsOne e → (k : Kernel) → unnamed k e ≡ unnamed_by e
-unnamed_is chosen e one k = by_one (λ e. unnamed k e ≡ unnamed_by e)
-    (λ d x i. refl) (λ d x i. refl) (λ d x m. refl) (λ m place bytes before. refl) (λ m before after. refl)
-    (λ i inode mode pid f. refl) (λ d place. refl) (λ pid f pipes. refl) e one
-
 -- one edit more
-pub along_step : (done : Kernel → Kernel) (Fit : Kernel → Type 0) (given : ℕ → ℕ) (gone : Kernel → List ℕ) (Wrote : ℕ → ℕ → Type 0) (p q : Patches) (chosen : List ℕ) (e : Edit)
+pub along_step : (done : Kernel → Kernel) (Fit : Kernel → Type 0) (given : ℕ → ℕ) (gone : List ℕ) (Wrote : ℕ → ℕ → Type 0) (p q : Patches) (chosen : List ℕ) (e : Edit)
     → IsOne e → AreApart chosen e → TakesIn chosen e p q → Along done Fit given gone Wrote p
-    → Along (λ k. applied chosen e (done k)) (λ k. Fit k × Fits chosen (done k) e) (λ n. given n + times n (named chosen e)) (λ k. gone k ++ unnamed (done k) e) (λ n b. Wrote n b ⊎ Contains (blocks_by n e) b) q
+    → Along (λ k. applied chosen e (done k)) (λ k. Fit k × Fits chosen (done k) e) (λ n. given n + times n (named chosen e)) (gone ++ unnamed e) (λ n b. Wrote n b ⊎ Contains (blocks_by n e) b) q
 along_step done Fit given gone Wrote p q chosen e one apart t a = record {
   root = λ k. (step k).root ∙ a.root k;
   count = λ k. (step k).made ∙ a.count k;
@@ -318,8 +346,8 @@ along_step done Fit given gone Wrote p q chosen e one apart t a = record {
   descriptions = λ k d. (step k).descriptions d ∙ ap (description_after chosen e d) (a.descriptions k d) ∙ sym (t.descriptions d (get k.descriptions d));
   processes = λ k pid. (step k).processes pid ∙ ap (process_after chosen e pid) (a.processes k pid) ∙ sym (t.processes pid (get k.processes pid));
   named = λ n. ap (λ m. m + times n (named chosen e)) (a.named n) ∙ sym (t.named n);
-  unnamed = λ n. ap (times n) t.lost ∙ sum_by-append (λ v. cond (v == n) 1 0) p.lost (unnamed_by e) ∙ ap (λ m. m + times n (unnamed_by e)) (a.unnamed n) ∙ sym (t.unnamed n);
-  lost = λ k. ap₂ (λ xs ys. xs ++ ys) (a.lost k) (unnamed_is chosen e one (done k)) ∙ sym t.lost;
+  unnamed = λ n. ap (times n) t.lost ∙ sum_by-append (λ v. cond (v == n) 1 0) p.lost (unnamed e) ∙ ap (λ m. m + times n (unnamed e)) (a.unnamed n) ∙ sym (t.unnamed n);
+  lost = ap (λ xs. xs ++ unnamed e) a.lost ∙ sym t.lost;
   added = added;
   kinds = λ k n fit.
       subst (λ m. IsOver (kind_of k n) m (form_of (net_at q.inodes n).contents)) (sym (t.made n))
@@ -365,8 +393,8 @@ along_step done Fit given gone Wrote p q chosen e one apart t a = record {
         by_part (inr new) = Contains-append_right (numbers_in (net_at p.inodes n).contents) (blocks_by n e) b new
 
 -- the same with other names
-pub along_same : (done other : Kernel → Kernel) (Fit Fits' : Kernel → Type 0) (given given' : ℕ → ℕ) (gone gone' : Kernel → List ℕ) (Wrote Wrote' : ℕ → ℕ → Type 0) (p : Patches)
-    → ((k : Kernel) → other k ≡ done k) → ((k : Kernel) → Fits' k → Fit k) → ((n : ℕ) → given' n ≡ given n) → ((k : Kernel) → gone' k ≡ gone k) → ((n b : ℕ) → Wrote n b ↔ Wrote' n b)
+pub along_same : (done other : Kernel → Kernel) (Fit Fits' : Kernel → Type 0) (given given' : ℕ → ℕ) (gone gone' : List ℕ) (Wrote Wrote' : ℕ → ℕ → Type 0) (p : Patches)
+    → ((k : Kernel) → other k ≡ done k) → ((k : Kernel) → Fits' k → Fit k) → ((n : ℕ) → given' n ≡ given n) → (gone' ≡ gone) → ((n b : ℕ) → Wrote n b ↔ Wrote' n b)
     → Along done Fit given gone Wrote p → Along other Fits' given' gone' Wrote' p
 along_same done other Fit Fits' given given' gone gone' Wrote Wrote' p same fits is left wrote a = record {
   root = λ k. ap (λ (k : Kernel). k.root) (same k) ∙ a.root k;
@@ -376,7 +404,7 @@ along_same done other Fit Fits' given given' gone gone' Wrote Wrote' p same fits
   processes = λ k pid. ap (λ (k : Kernel). get k.processes pid) (same k) ∙ a.processes k pid;
   named = λ n. is n ∙ a.named n;
   unnamed = a.unnamed;
-  lost = λ k. left k ∙ a.lost k;
+  lost = left ∙ a.lost;
   added = a.added;
   kinds = λ k n fit. a.kinds k n (fits k fit);
   rooms = λ k n fit. subst (λ later. length (file_of later n) ≤ max (length (file_of k n)) (net_at p.inodes n).room) (sym (same k)) (a.rooms k n (fits k fit));
@@ -387,12 +415,12 @@ along_same done other Fit Fits' given given' gone gone' Wrote Wrote' p same fits
 
 -- all edits of a call
 pub along_all : (chosen : List ℕ) (es : List Edit) → AllByRecursion (λ e. IsOne e × AreApart chosen e) es
-    → (done : Kernel → Kernel) (Fit : Kernel → Type 0) (given : ℕ → ℕ) (gone : Kernel → List ℕ) (Wrote : ℕ → ℕ → Type 0) (p q : Patches) → TakesAll chosen es p q → Along done Fit given gone Wrote p
-    → Along (λ k. all_applied chosen es (done k)) (λ k. Fit k × FitsAll chosen (done k) es) (λ n. given n + times n (all_named chosen es)) (λ k. gone k ++ all_unnamed chosen es (done k))
+    → (done : Kernel → Kernel) (Fit : Kernel → Type 0) (given : ℕ → ℕ) (gone : List ℕ) (Wrote : ℕ → ℕ → Type 0) (p q : Patches) → TakesAll chosen es p q → Along done Fit given gone Wrote p
+    → Along (λ k. all_applied chosen es (done k)) (λ k. Fit k × FitsAll chosen (done k) es) (λ n. given n + times n (all_named chosen es)) (gone ++ all_unnamed es)
     (λ n b. Wrote n b ⊎ Contains (flat_map (blocks_by n) es) b) q
 along_all chosen [] all done Fit given gone Wrote p q t a =
-    along_same done done Fit (λ k. Fit k × FitsAll chosen (done k) []) given (λ n. given n + times n []) gone (λ k. gone k ++ []) Wrote (λ n b. Wrote n b ⊎ Contains [] b) q
-    (λ k. refl) (λ k fit. fit.0) (λ n. omega arith) (λ k. append-nil (gone k)) (λ n b. (λ has. inl has, λ has. by_part n b has)) (subst (Along done Fit given gone Wrote) t a)
+    along_same done done Fit (λ k. Fit k × FitsAll chosen (done k) []) given (λ n. given n + times n []) gone (gone ++ []) Wrote (λ n b. Wrote n b ⊎ Contains [] b) q
+    (λ k. refl) (λ k fit. fit.0) (λ n. omega arith) (append-nil gone) (λ n b. (λ has. inl has, λ has. by_part n b has)) (subst (Along done Fit given gone Wrote) t a)
   where
     by_part : (n b : ℕ) → Wrote n b ⊎ Contains [] b → Wrote n b
     by_part n b (inl old) = old
@@ -401,13 +429,13 @@ along_all chosen (e ∷ es) all done Fit given gone Wrote p q t a =
     along_same (λ k. all_applied chosen es (applied chosen e (done k))) (λ k. all_applied chosen (e ∷ es) (done k))
     (λ k. (Fit k × Fits chosen (done k) e) × FitsAll chosen (applied chosen e (done k)) es) (λ k. Fit k × FitsAll chosen (done k) (e ∷ es))
     (λ n. (given n + times n (named chosen e)) + times n (all_named chosen es)) (λ n. given n + times n (all_named chosen (e ∷ es)))
-    (λ k. (gone k ++ unnamed (done k) e) ++ all_unnamed chosen es (applied chosen e (done k))) (λ k. gone k ++ all_unnamed chosen (e ∷ es) (done k))
+    ((gone ++ unnamed e) ++ all_unnamed es) (gone ++ all_unnamed (e ∷ es))
     (λ n b. (Wrote n b ⊎ Contains (blocks_by n e) b) ⊎ Contains (flat_map (blocks_by n) es) b) (λ n b. Wrote n b ⊎ Contains (flat_map (blocks_by n) (e ∷ es)) b) q
     (λ k. refl) (λ k fit. ((fit.0, fit.1.0), fit.1.1))
     (λ n. (let both : times n (named chosen e ++ all_named chosen es) ≡ times n (named chosen e) + times n (all_named chosen es) = sum_by-append (λ v. cond (v == n) 1 0) (named chosen e) (all_named chosen es) in omega arith))
-    (λ k. sym (append_assoc (gone k) (unnamed (done k) e) (all_unnamed chosen es (applied chosen e (done k)))))
+    (sym (append_assoc gone (unnamed e) (all_unnamed es)))
     (λ n b. (there n b, back n b))
-    (along_all chosen es all.1 (λ k. applied chosen e (done k)) (λ k. Fit k × Fits chosen (done k) e) (λ n. given n + times n (named chosen e)) (λ k. gone k ++ unnamed (done k) e) (λ n b. Wrote n b ⊎ Contains (blocks_by n e) b) t.0 q t.2
+    (along_all chosen es all.1 (λ k. applied chosen e (done k)) (λ k. Fit k × Fits chosen (done k) e) (λ n. given n + times n (named chosen e)) (gone ++ unnamed e) (λ n b. Wrote n b ⊎ Contains (blocks_by n e) b) t.0 q t.2
     (along_step done Fit given gone Wrote p t.0 chosen e all.0.0 all.0.1 t.1 a))
   where
     there : (n b : ℕ) → (Wrote n b ⊎ Contains (blocks_by n e) b) ⊎ Contains (flat_map (blocks_by n) es) b → Wrote n b ⊎ Contains (blocks_by n e ++ flat_map (blocks_by n) es) b

@@ -5,75 +5,78 @@ use Rattle.std.proofs.lemmas.Bool.{cases_eq}
 use Rattle.model.specs.FiniteMap.{FinMap, get, insert, remove}
 use Rattle.model.specs.State.{Name, Kernel, Inode, File, Directory, Description, mapped, names_of_inode, file_of_inode}
 use Rattle.model.specs.Changes.{Edit, Which, Mode, Make_directory, Make_file, Name_file, Unname_file, Unname_directory, Move, Put_bytes, Cut, Take, Append, Set_offset, Open_inode, Make_pipe, Share_slot, Clear_slot, New_process, End_process}
-use Rattle.model.specs.Changes.{number, applied, at_offset, at_start, or_new, set_inode, set_name, set_offset, sized, written, with_slot, without_slot}
+use Rattle.model.specs.Changes.{Replaced, clear_name, number, applied, at_offset, at_start, or_new, set_inode, set_name, set_offset, sized, written, with_slot, without_slot}
 use Rattle.model.proofs.Laws.{get_same, get_other}
 use Rattle.shadow.specs.declared.change.Made.{Made as What}
 use Rattle.shadow.specs.declared.change.Made.TheVariants.{Directory as Dir_made, File as File_made}
-use Rattle.shadow.specs.Steps.{Applies, IsFirst, IsLast, IsOne, made_at, name_noted, new_in, new_inode}
+use Rattle.shadow.specs.Steps.{Applies, IsFirst, IsLast, IsOne, made_at, name_noted, named_at, new_in, new_inode}
 
 -- what holds of each edit that may come today
 pub by_one : (P : Edit → Type 0)
     → ((d : ℕ) (x : Name) (i : ℕ) → P (Make_directory d x i))
     → ((d : ℕ) (x : Name) (i : ℕ) → P (Make_file d x i))
     → ((d : ℕ) (x : Name) (n : ℕ) → P (Unname_directory d x n))
+    → ((d : ℕ) (x : Name) (n : ℕ) → P (Name_file d x n))
+    → ((d : ℕ) (x : Name) (n : ℕ) → P (Unname_file d x n))
+    → ((d : ℕ) (x : Name) (e : ℕ) (y : Name) (n : ℕ) (replaced : Replaced) → P (Move d x e y n replaced))
     → ((n place : ℕ) (bytes : List ℕ) (before : ℕ) → P (Put_bytes n place bytes before))
     → ((n before after : ℕ) → P (Cut n before after))
     → ((i : ℕ) (inode : Which) (mode : Mode) (pid f : ℕ) → P (Open_inode i inode mode pid f))
     → ((d place : ℕ) → P (Set_offset d place))
     → ((pid f : ℕ) (pipes : List ℕ) → P (Clear_slot pid f pipes))
     → (e : Edit) → IsOne e → P e
-by_one P a b c d e f g h (Make_directory p x i) one = a p x i
-by_one P a b c d e f g h (Make_file p x i) one = b p x i
-by_one P a b c d e f g h (Unname_directory p x n) one = c p x n
-by_one P a b c d e f g h (Put_bytes n place bytes before) one = d n place bytes before
-by_one P a b c d e f g h (Cut n before after) one = e n before after
-by_one P a b c d e f g h (Open_inode i inode mode pid s) one = f i inode mode pid s
-by_one P a b c d e f g h (Set_offset m place) one = g m place
-by_one P a b c d e f g h (Clear_slot pid s pipes) one = h pid s pipes
-by_one P a b c d e f g h (Name_file p x n) (inl one) = absurd one
-by_one P a b c d e f g h (Name_file p x n) (inr one) = absurd one.1
-by_one P a b c d e f g h (Unname_file p x n) (inl one) = absurd one
-by_one P a b c d e f g h (Unname_file p x n) (inr one) = absurd one.1
-by_one P a b c d e f g h (Move p x q y n replaced) (inl one) = absurd one
-by_one P a b c d e f g h (Move p x q y n replaced) (inr one) = absurd one.1
-by_one P a b c d e f g h (Take p count) (inl one) = absurd one
-by_one P a b c d e f g h (Take p count) (inr one) = absurd one.1
-by_one P a b c d e f g h (Append p bytes) (inl one) = absurd one
-by_one P a b c d e f g h (Append p bytes) (inr one) = absurd one.1
-by_one P a b c d e f g h (Make_pipe i pid s t) (inl one) = absurd one
-by_one P a b c d e f g h (Make_pipe i pid s t) (inr one) = absurd one.1
-by_one P a b c d e f g h (Share_slot pid s m pipes) (inl one) = absurd one
-by_one P a b c d e f g h (Share_slot pid s m pipes) (inr one) = absurd one.1
-by_one P a b c d e f g h (New_process child parent pipes) (inl one) = absurd one
-by_one P a b c d e f g h (New_process child parent pipes) (inr one) = absurd one.1
-by_one P a b c d e f g h (End_process pid pipes) (inl one) = absurd one
-by_one P a b c d e f g h (End_process pid pipes) (inr one) = absurd one.1
+by_one P a b c l u m d e f g h (Make_directory p x i) one = a p x i
+by_one P a b c l u m d e f g h (Make_file p x i) one = b p x i
+by_one P a b c l u m d e f g h (Unname_directory p x n) one = c p x n
+by_one P a b c l u m d e f g h (Put_bytes n place bytes before) one = d n place bytes before
+by_one P a b c l u m d e f g h (Cut n before after) one = e n before after
+by_one P a b c l u m d e f g h (Open_inode i inode mode pid s) one = f i inode mode pid s
+by_one P a b c l u m d e f g h (Set_offset o place) one = g o place
+by_one P a b c l u m d e f g h (Clear_slot pid s pipes) one = h pid s pipes
+by_one P a b c l u m d e f g h (Name_file p x n) one = l p x n
+by_one P a b c l u m d e f g h (Unname_file p x n) one = u p x n
+by_one P a b c l u m d e f g h (Move p x q y n replaced) one = m p x q y n replaced
+by_one P a b c l u m d e f g h (Take p count) (inl one) = absurd one
+by_one P a b c l u m d e f g h (Take p count) (inr one) = absurd one.1
+by_one P a b c l u m d e f g h (Append p bytes) (inl one) = absurd one
+by_one P a b c l u m d e f g h (Append p bytes) (inr one) = absurd one.1
+by_one P a b c l u m d e f g h (Make_pipe i pid s t) (inl one) = absurd one
+by_one P a b c l u m d e f g h (Make_pipe i pid s t) (inr one) = absurd one.1
+by_one P a b c l u m d e f g h (Share_slot pid s o pipes) (inl one) = absurd one
+by_one P a b c l u m d e f g h (Share_slot pid s o pipes) (inr one) = absurd one.1
+by_one P a b c l u m d e f g h (New_process child parent pipes) (inl one) = absurd one
+by_one P a b c l u m d e f g h (New_process child parent pipes) (inr one) = absurd one.1
+by_one P a b c l u m d e f g h (End_process pid pipes) (inl one) = absurd one
+by_one P a b c l u m d e f g h (End_process pid pipes) (inr one) = absurd one.1
 
 -- what holds of each edit that may come first, and of each that may come last
 pub first_cases : (P : Edit → Type 0)
     → ((d : ℕ) (x : Name) (i : ℕ) → i ≡ 0 → P (Make_directory d x i))
     → ((d : ℕ) (x : Name) (i : ℕ) → i ≡ 0 → P (Make_file d x i))
     → ((d : ℕ) (x : Name) (n : ℕ) → P (Unname_directory d x n))
+    → ((d : ℕ) (x : Name) (n : ℕ) → P (Name_file d x n))
+    → ((d : ℕ) (x : Name) (n : ℕ) → P (Unname_file d x n))
+    → ((d : ℕ) (x : Name) (e : ℕ) (y : Name) (n : ℕ) (replaced : Replaced) → P (Move d x e y n replaced))
     → ((n place : ℕ) (bytes : List ℕ) (before : ℕ) → P (Put_bytes n place bytes before))
     → ((n before after : ℕ) → P (Cut n before after))
     → (e : Edit) → IsFirst e → P e
-first_cases P a b c d e (Make_directory p x i) first = a p x i first
-first_cases P a b c d e (Make_file p x i) first = b p x i first
-first_cases P a b c d e (Unname_directory p x n) first = c p x n
-first_cases P a b c d e (Put_bytes n place bytes before) first = d n place bytes before
-first_cases P a b c d e (Cut n before after) first = e n before after
-first_cases P a b c d e (Open_inode i inode mode pid s) first = absurd first
-first_cases P a b c d e (Set_offset m place) first = absurd first
-first_cases P a b c d e (Clear_slot pid s pipes) first = absurd first
-first_cases P a b c d e (Name_file p x n) first = absurd first
-first_cases P a b c d e (Unname_file p x n) first = absurd first
-first_cases P a b c d e (Move p x q y n replaced) first = absurd first
-first_cases P a b c d e (Take p count) first = absurd first
-first_cases P a b c d e (Append p bytes) first = absurd first
-first_cases P a b c d e (Make_pipe i pid s t) first = absurd first
-first_cases P a b c d e (Share_slot pid s m pipes) first = absurd first
-first_cases P a b c d e (New_process child parent pipes) first = absurd first
-first_cases P a b c d e (End_process pid pipes) first = absurd first
+first_cases P a b c l u m d e (Make_directory p x i) first = a p x i first
+first_cases P a b c l u m d e (Make_file p x i) first = b p x i first
+first_cases P a b c l u m d e (Unname_directory p x n) first = c p x n
+first_cases P a b c l u m d e (Put_bytes n place bytes before) first = d n place bytes before
+first_cases P a b c l u m d e (Cut n before after) first = e n before after
+first_cases P a b c l u m d e (Open_inode i inode mode pid s) first = absurd first
+first_cases P a b c l u m d e (Set_offset o place) first = absurd first
+first_cases P a b c l u m d e (Clear_slot pid s pipes) first = absurd first
+first_cases P a b c l u m d e (Name_file p x n) first = l p x n
+first_cases P a b c l u m d e (Unname_file p x n) first = u p x n
+first_cases P a b c l u m d e (Move p x q y n replaced) first = m p x q y n replaced
+first_cases P a b c l u m d e (Take p count) first = absurd first
+first_cases P a b c l u m d e (Append p bytes) first = absurd first
+first_cases P a b c l u m d e (Make_pipe i pid s t) first = absurd first
+first_cases P a b c l u m d e (Share_slot pid s o pipes) first = absurd first
+first_cases P a b c l u m d e (New_process child parent pipes) first = absurd first
+first_cases P a b c l u m d e (End_process pid pipes) first = absurd first
 
 pub last_cases : (m : ℕ) (P : Edit → Type 0)
     → ((i : ℕ) (inode : Which) (mode : Mode) (pid f : ℕ) → i ≡ m → P (Open_inode i inode mode pid f))
@@ -113,6 +116,12 @@ made_applies : (what : What) (d : ℕ) (x : Name) (m : ℕ) (k : Kernel) (n : �
 made_applies what d x m k n =
     changed_at (set_inode m (new_inode what) k).inodes d n (λ o. Directory (insert (names_of_inode o) x m))
     ∙ ap (λ (o : Option Inode). cond (n == d) (name_noted x (Some m) o) o) (put_at k.inodes m n (new_inode what))
+
+-- a name that moves
+moved_applies : (d : ℕ) (x : Name) (e : ℕ) (y : Name) (n : ℕ) (k : Kernel) (q : ℕ) → get (set_name e y n (clear_name d x k)).inodes q ≡ named_at e y (Some n) q (named_at d x None q (get k.inodes q))
+moved_applies d x e y n k q =
+    changed_at (clear_name d x k).inodes e q (λ o. Directory (insert (names_of_inode o) y n))
+    ∙ ap (λ (o : Option Inode). cond (q == e) (name_noted y (Some n) o) o) (changed_at k.inodes d q (λ o. Directory (remove (names_of_inode o) x)))
 
 -- an offset, where there is such a description
 offset_applies : (chosen : List ℕ) (d place : ℕ) (k : Kernel) (o : Option Description) → get k.descriptions d ≡ o → Applies chosen (Set_offset d place) k (set_offset d place o k)
@@ -168,6 +177,27 @@ applies chosen e one k = by_one (λ e. Applies chosen e k (applied chosen e k))
       root = refl;
       made = refl;
       inodes = λ q. changed_at k.inodes d q (λ o. Directory (remove (names_of_inode o) x));
+      descriptions = λ d. refl;
+      processes = λ pid. refl;
+    })
+    (λ d x n. record {
+      root = refl;
+      made = refl;
+      inodes = λ q. changed_at k.inodes d q (λ o. Directory (insert (names_of_inode o) x n));
+      descriptions = λ d. refl;
+      processes = λ pid. refl;
+    })
+    (λ d x n. record {
+      root = refl;
+      made = refl;
+      inodes = λ q. changed_at k.inodes d q (λ o. Directory (remove (names_of_inode o) x));
+      descriptions = λ d. refl;
+      processes = λ pid. refl;
+    })
+    (λ d x e y n replaced. record {
+      root = refl;
+      made = refl;
+      inodes = moved_applies d x e y n k;
       descriptions = λ d. refl;
       processes = λ pid. refl;
     })

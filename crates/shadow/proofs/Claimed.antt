@@ -7,7 +7,7 @@ use Rattle.std.proofs.lemmas.List.Concat.{flat_map-cons}
 use Rattle.std.proofs.lemmas.Grind.{flat_map-append}
 use Rattle.std.specs.Ordering.{nat_cmp}
 use Rattle.model.specs.FiniteMap.{FinMap, get}
-use Rattle.model.specs.Changes.{Edit, Make_directory, Make_file, Unname_directory, Put_bytes, Cut, Open_inode, Set_offset, Clear_slot, news}
+use Rattle.model.specs.Changes.{Edit, Make_directory, Make_file, Name_file, Unname_file, Unname_directory, Move, Put_bytes, Cut, Open_inode, Set_offset, Clear_slot, news}
 use Rattle.model.specs.Moments.{is_in}
 use Rattle.model.specs.Steps.{AllDifferent, IsNowhere}
 use Rattle.model.proofs.Laws.{append-all}
@@ -241,6 +241,9 @@ few_first : (e : Edit) → IsFirst e → news e ≤ 1
 few_first (Make_directory d x i) first = omega arith
 few_first (Make_file d x i) first = omega arith
 few_first (Unname_directory d x n) first = omega arith
+few_first (Name_file d x n) first = omega arith
+few_first (Unname_file d x n) first = omega arith
+few_first (Move d x e y n replaced) first = omega arith
 few_first (Put_bytes n place bytes before) first = omega arith
 few_first (Cut n before after) first = omega arith
 few_first _ first = absurd first

@@ -7,6 +7,7 @@ use Rattle.std.proofs.lemmas.List.Sums.{sum_by-cons}
 use Rattle.ids.specs.declared.edit.Mode.{Mode}
 use Rattle.model.specs.State.{Kernel, Name}
 use Rattle.model.specs.Changes.{Clear_slot, Cut, Edit, Make_directory, Make_file, Open_inode}
+use Rattle.model.specs.Changes.{Move, Name_file, Replaced, Unname_file}
 use Rattle.model.specs.Changes.{Put_bytes, Set_offset, Unname_directory, Which, all_applied}
 use Rattle.model.specs.Changes.{applied, news, tidy}
 use Rattle.call_laws.specs.Fits.{Fits, FitsAll}
@@ -38,12 +39,29 @@ and_false false = refl
 -- the claims of one edit
 claimed_alone : (chosen : List ℕ) (e : Edit) → IsOne e → ClaimsAlone chosen e
 claimed_alone chosen e one =
-    by_one (ClaimsAlone chosen) directory file unnaming put cut opening moving clearing e one
+    by_one (ClaimsAlone chosen) directory file unnaming linking unlinking renaming put cut opening
+    moving clearing e one
   where
     unnaming : (d : ℕ) (x : Name) (m : ℕ) → ClaimsAlone chosen (Unname_directory d x m)
     unnaming d x m (Room r) = refl
     unnaming d x m (New_directory n) = refl
     unnaming d x m (Number n) = refl
+
+    linking : (d : ℕ) (x : Name) (m : ℕ) → ClaimsAlone chosen (Name_file d x m)
+    linking d x m (Room r) = refl
+    linking d x m (New_directory n) = refl
+    linking d x m (Number n) = refl
+
+    unlinking : (d : ℕ) (x : Name) (m : ℕ) → ClaimsAlone chosen (Unname_file d x m)
+    unlinking d x m (Room r) = refl
+    unlinking d x m (New_directory n) = refl
+    unlinking d x m (Number n) = refl
+
+    renaming : (d : ℕ) (x : Name) (e : ℕ) (y : Name) (m : ℕ) (replaced : Replaced)
+        → ClaimsAlone chosen (Move d x e y m replaced)
+    renaming d x e y m replaced (Room r) = refl
+    renaming d x e y m replaced (New_directory n) = refl
+    renaming d x e y m replaced (Number n) = refl
 
     put : (m place : ℕ) (bytes : List ℕ) (before : ℕ)
         → ClaimsAlone chosen (Put_bytes m place bytes before)

@@ -1,13 +1,15 @@
 -- One name more among those that a transaction changed in a directory.
 use Rattle.std.proofs.Common.{◌≡◌, ℕ, ◌+◌, ◌≤◌, Bool, true, false, cond, count_by, is_some, List, [], ◌∷◌, Option, Some, None, refl, sym, ap, ◌∙◌, arith}
-use Rattle.std.specs.Ordering.{eq_by_cmp}
+use Rattle.std.specs.Ordering.{eq_by_cmp, is_eq}
+use Rattle.std.specs.Cmp.{tied_itself}
+use Rattle.model.proofs.Laws.{tie}
 use Rattle.std.specs.declared.cmp.Ordering.{Ordering}
 use Rattle.std.specs.declared.cmp.Ordering.TheVariants.{Less, Equal, Greater}
 use Rattle.std.specs.FinMap.Entries.{by_order, put}
 use Rattle.std.proofs.lemmas.List.Sums.{sum_by-cons}
 use Rattle.model.specs.FiniteMap.{FinMap, empty, entries, get, insert, entries-insert, entries-empty, get-insert, get-remove, same_map}
 use Rattle.model.specs.State.{Name, name_cmp, Inode, Directory}
-use Rattle.dirlist.specs.Patches.{Notes, or_before}
+use Rattle.dirlist.specs.Patches.{Notes, back_over, note_back, noted_back, or_before}
 use Rattle.dirlist.proofs.Laws.{name_total, name_exact}
 use Rattle.store.specs.Laid.{laid, with_note}
 use Rattle.store.proofs.Laws.{laid_is}
@@ -97,3 +99,29 @@ added_first fresh x g new is n =
     let after : added_by new ≡ come (entries (insert empty x g)) = ap added_by is in
     let more : come (entries (insert empty x g)) ≤ come (entries (empty {K = Name} {X = Option ℕ} {R = name_cmp})) + room_for g = come_insert empty x g in
     let none : come (entries (empty {K = Name} {X = Option ℕ} {R = name_cmp})) ≡ 0 = none_added in omega arith
+
+-- the note that a name had before comes back
+given_back : (b : Bool) (h g : Option ℕ) (o : Option (Option ℕ)) → (b ≡ true → o ≡ Some h) → cond b (Some h) (cond b (Some g) o) ≡ o
+given_back true h g o same = sym (same refl)
+given_back false h g o same = refl
+
+none_back : (b : Bool) (g : Option ℕ) (o : Option (Option ℕ)) → (b ≡ true → o ≡ None) → cond b None (cond b (Some g) o) ≡ o
+none_back true g o same = sym (same refl)
+none_back false g o same = refl
+
+same_name : (q x : Name) → eq_by_cmp name_cmp q x ≡ true → q ≡ x
+same_name q x h = name_exact q x (tie (name_cmp q x) h)
+
+noted_again : (notes : Notes) (x : Name) (g : Option ℕ) (former : Option (Option ℕ)) → get notes x ≡ former → note_back x former (insert notes x g) ≡ notes
+noted_again notes x g (Some h) is = same_map name_total name_exact _ _ (λ q.
+    get-insert name_total (insert notes x g) x h q
+    ∙ ap (cond (eq_by_cmp name_cmp q x) (Some h)) (get-insert name_total notes x g q)
+    ∙ given_back (eq_by_cmp name_cmp q x) h g (get notes q) (λ e. ap (get notes) (same_name q x e) ∙ is))
+noted_again notes x g None is = same_map name_total name_exact _ _ (λ q.
+    get-remove name_total (insert notes x g) x q
+    ∙ ap (cond (eq_by_cmp name_cmp q x) None) (get-insert name_total notes x g q)
+    ∙ none_back (eq_by_cmp name_cmp q x) g (get notes q) (λ e. ap (get notes) (same_name q x e) ∙ is))
+
+pub taken_back : (notes : Notes) (x : Name) (g : Option ℕ) → noted_back x (get notes x) (insert notes x g) ≡ notes
+taken_back notes x g = ap (λ now. back_over now x (get notes x) (insert notes x g)) (get-insert name_total notes x g x ∙ ap (λ r. cond (is_eq r) (Some g) (get notes x)) (tied_itself name_total x))
+    ∙ noted_again notes x g (get notes x) refl

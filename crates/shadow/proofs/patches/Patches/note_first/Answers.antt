@@ -2,7 +2,8 @@ use Rattle.std.proofs.Common.{◌≡◌, ◌+◌, ◌<◌, ◌≤◌, ℕ, List,
 use Rattle.std.proofs.lemmas.List.{get_or_read}
 use Rattle.model.specs.Changes.{Edit, news}
 use Rattle.shadow.specs.Steps.{IsFirst, TakesIn, new_in}
-use Rattle.shadow.proofs.Alike.{cut_taken, directory_taken, file_taken, put_taken, unnaming_taken}
+use Rattle.shadow.specs.declared.change.Made.TheVariants.{Directory as A_directory, File as A_file}
+use Rattle.shadow.proofs.Alike.{cut_taken, directory_taken, file_taken, put_taken}
 use Rattle.shadow.proofs.Outcomes.{ok_so}
 use Rattle.shadow.proofs.patches.Patches.note_first.Goals as goal
 
@@ -28,12 +29,29 @@ returns-in-MakeFile-clause-ok c =
     (file_taken chosen c.args.self.now c.make-in-MakeFile.new.self c.in-MakeFile.parent c.index-chosen-0-in-MakeFile.result c.in-MakeFile._place c.in-MakeFile.name (subst IsFirst c.in-MakeFile.is c.requires.first) at t))
     c.make-in-MakeFile.ensures.ok
 
+pub returns-in-NameFile-clause-ok : goal.returns-in-NameFile-clause-ok
+returns-in-NameFile-clause-ok c =
+    ok_so c.link.result
+    (λ t. subst (λ (e : Edit). TakesIn c.args.chosen.now e c.args.self.now c.link.new.self) (sym c.in-NameFile.is) (t c.args.chosen.now))
+    c.link.ensures.ok
+
+pub returns-in-UnnameFile-clause-ok : goal.returns-in-UnnameFile-clause-ok
+returns-in-UnnameFile-clause-ok c =
+    ok_so c.unname.result
+    (λ t. subst (λ (e : Edit). TakesIn c.args.chosen.now e c.args.self.now c.unname.new.self) (sym c.in-UnnameFile.is) (t c.args.chosen.now A_file))
+    c.unname.ensures.ok
+
 pub returns-in-UnnameDirectory-clause-ok : goal.returns-in-UnnameDirectory-clause-ok
 returns-in-UnnameDirectory-clause-ok c =
-    ok_so c.unname.result
-    (λ t. subst (λ (e : Edit). TakesIn c.args.chosen.now e c.args.self.now c.unname.new.self) (sym c.in-UnnameDirectory.is)
-    (unnaming_taken c.args.chosen.now c.args.self.now c.unname.new.self c.in-UnnameDirectory.parent c.in-UnnameDirectory.name c.in-UnnameDirectory.num t))
-    c.unname.ensures.ok
+    ok_so c.unname-in-UnnameDirectory.result
+    (λ t. subst (λ (e : Edit). TakesIn c.args.chosen.now e c.args.self.now c.unname-in-UnnameDirectory.new.self) (sym c.in-UnnameDirectory.is) (t c.args.chosen.now A_directory))
+    c.unname-in-UnnameDirectory.ensures.ok
+
+pub returns-in-Move-clause-ok : goal.returns-in-Move-clause-ok
+returns-in-Move-clause-ok c =
+    ok_so c.rename.result
+    (λ t. subst (λ (e : Edit). TakesIn c.args.chosen.now e c.args.self.now c.rename.new.self) (sym c.in-Move.is) (t c.args.chosen.now))
+    c.rename.ensures.ok
 
 pub returns-in-PutBytes-clause-ok : goal.returns-in-PutBytes-clause-ok
 returns-in-PutBytes-clause-ok c =
