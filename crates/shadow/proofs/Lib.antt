@@ -30,6 +30,8 @@ mod InOrder
 mod Once
 mod Carrying
 mod Overwriting
+mod Relisting
+mod Renaming
 mod Reopening
 mod OpeningNew
 mod OpeningMoved

@@ -261,7 +261,7 @@ module _ (ps : List Process) (s : Numbers) (d : ℕ) (x : Name) (n : ℕ) (was o
   }
 
 -- what is claimed is there
-covered : (ps : List Process) (s : Numbers) (v : Committed) → committed_of ps s ≡ v → (c : Claim) (some : ℕ) → some ≤ reserved v c → 0 < some → 0 < kept_in s c
+pub covered : (ps : List Process) (s : Numbers) (v : Committed) → committed_of ps s ≡ v → (c : Claim) (some : ℕ) → some ≤ reserved v c → 0 < some → 0 < kept_in s c
 covered ps s v is c some covers one = (let same : kept_in s c ≡ reserved v c = kept_of ps ps s v is c in omega (arith, covers, one))
 
 module _ (ps : List Process) (s : Numbers) (v : Committed) (is : committed_of ps s ≡ v) (d : ℕ) (x : Name) (n : ℕ) (sound : Sound ps s) where

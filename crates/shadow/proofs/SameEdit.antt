@@ -6,12 +6,15 @@ use Rattle.ids.specs.declared.edit.Mode.{Mode}
 use Rattle.model.specs.State.{Directory, File, Kernel, Name}
 use Rattle.model.specs.FiniteMap.{empty}
 use Rattle.model.specs.Changes.{Clear_slot, Cut, Edit, Make_directory, Make_file, Open_inode}
-use Rattle.model.specs.Changes.{Put_bytes, There, Unname_directory, Which, applied, number, open_at}
+use Rattle.model.specs.Changes.{Move, Name_file, Put_bytes, Replaced, There, Which, applied, number}
+use Rattle.model.specs.Changes.{open_at}
 use Rattle.model.specs.Changes.{set_inode, set_name, tidy}
 use Rattle.call_laws.specs.Fits.{Fits}
 use Rattle.freeing_laws.specs.Sweep.{IsTidied, loses}
 use Rattle.freeing_laws.proofs.Laws.{sweep_is_tidy_lem}
-use Rattle.shadow.specs.Steps.{new_in}
+use Rattle.shadow.specs.declared.change.Made.{Made as What}
+use Rattle.shadow.specs.declared.change.Made.TheVariants.{Directory as A_directory, File as A_file}
+use Rattle.shadow.specs.Steps.{new_in, unnaming}
 
 -- a new object by its own number alone
 module _ (chosen : List ℕ) (d : ℕ) (x : Name) (n i : ℕ) (first : i ≡ 0) (new : n ≡ new_in chosen 0)
@@ -37,10 +40,21 @@ same_opening chosen i inode mode pid f n m new is k = ap (λ n. open_at n m mode
 
 -- edits that make nothing
 module _ (chosen : List ℕ) (k : Kernel) where
-  pub same_unnaming : (d : ℕ) (x : Name) (n : ℕ)
-      → applied [] (Unname_directory d x n) k ≡ applied chosen (Unname_directory d x n) k
+  pub same_unnaming : (what : What) (d : ℕ) (x : Name) (n : ℕ)
+      → applied [] (unnaming what d x n) k ≡ applied chosen (unnaming what d x n) k
   unfolding applied
-  same_unnaming d x n = refl
+  same_unnaming A_directory d x n = refl
+  same_unnaming A_file d x n = refl
+
+  pub same_linking : (d : ℕ) (x : Name) (n : ℕ)
+      → applied [] (Name_file d x n) k ≡ applied chosen (Name_file d x n) k
+  unfolding applied
+  same_linking d x n = refl
+
+  pub same_moving : (d : ℕ) (x : Name) (e : ℕ) (y : Name) (n : ℕ) (replaced : Replaced)
+      → applied [] (Move d x e y n replaced) k ≡ applied chosen (Move d x e y n replaced) k
+  unfolding applied
+  same_moving d x e y n replaced = refl
 
   pub same_bytes_put : (n place : ℕ) (bytes : List ℕ) (before : ℕ)
       → applied [] (Put_bytes n place bytes before) k

@@ -6,7 +6,8 @@ use Rattle.call_laws.specs.Fits.{Fits}
 use Rattle.shadow.specs.Steps.{IsFirst, new_in}
 use Rattle.shadow.proofs.Outcomes.{ok_so}
 use Rattle.shadow.proofs.SameEdit.{none_goes, same_bytes_put, same_cut, same_directory, same_file}
-use Rattle.shadow.proofs.SameEdit.{same_unnaming}
+use Rattle.shadow.proofs.SameEdit.{same_linking, same_moving, same_unnaming}
+use Rattle.shadow.specs.declared.change.Made.TheVariants.{Directory as A_directory, File as A_file}
 use Rattle.shadow.proofs.stable.Stable.perform_first.Goals as goal
 
 pub returns-in-MakeDirectory-clause-state : goal.returns-in-MakeDirectory-clause-state
@@ -39,14 +40,45 @@ returns-in-MakeFile-clause-state c =
     (subst IsFirst c.in-MakeFile.is c.requires.first) at c.args.self.now.state)
     ∙ ap (λ (e : Edit). tidy (applied chosen e c.args.self.now.state)) (sym c.in-MakeFile.is)
 
+pub returns-in-NameFile-clause-state : goal.returns-in-NameFile-clause-state
+returns-in-NameFile-clause-state c =
+    c.link.ensures.state
+    ∙ ap (λ (k : Kernel). tidy k)
+    (same_linking c.args.chosen.now c.args.self.now.state c.in-NameFile.parent c.in-NameFile.name
+    c.in-NameFile.file)
+    ∙ ap (λ (e : Edit). tidy (applied c.args.chosen.now e c.args.self.now.state))
+    (sym c.in-NameFile.is)
+
+pub unname-requires : goal.unname-requires
+unname-requires c = (A_file, subst (λ (e : Edit). Fits c.args.chosen.now c.args.self.now.state e) c.in-UnnameFile.is c.requires.fits)
+
+pub returns-in-UnnameFile-clause-state : goal.returns-in-UnnameFile-clause-state
+returns-in-UnnameFile-clause-state c =
+    c.unname.ensures.state A_file (subst (λ (e : Edit). Fits c.args.chosen.now c.args.self.now.state e) c.in-UnnameFile.is c.requires.fits)
+    ∙ ap (λ (k : Kernel). tidy k)
+    (same_unnaming c.args.chosen.now c.args.self.now.state A_file c.in-UnnameFile.parent c.in-UnnameFile.name
+    c.in-UnnameFile.num)
+    ∙ ap (λ (e : Edit). tidy (applied c.args.chosen.now e c.args.self.now.state)) (sym c.in-UnnameFile.is)
+
+pub unname-requires-in-UnnameDirectory : goal.unname-requires-in-UnnameDirectory
+unname-requires-in-UnnameDirectory c = (A_directory, subst (λ (e : Edit). Fits c.args.chosen.now c.args.self.now.state e) c.in-UnnameDirectory.is c.requires.fits)
+
 pub returns-in-UnnameDirectory-clause-state : goal.returns-in-UnnameDirectory-clause-state
 returns-in-UnnameDirectory-clause-state c =
-    c.unname.ensures.state
+    c.unname-in-UnnameDirectory.ensures.state A_directory (subst (λ (e : Edit). Fits c.args.chosen.now c.args.self.now.state e) c.in-UnnameDirectory.is c.requires.fits)
     ∙ ap (λ (k : Kernel). tidy k)
-    (same_unnaming c.args.chosen.now c.args.self.now.state c.in-UnnameDirectory.parent
-    c.in-UnnameDirectory.name c.in-UnnameDirectory.num)
+    (same_unnaming c.args.chosen.now c.args.self.now.state A_directory c.in-UnnameDirectory.parent c.in-UnnameDirectory.name
+    c.in-UnnameDirectory.num)
+    ∙ ap (λ (e : Edit). tidy (applied c.args.chosen.now e c.args.self.now.state)) (sym c.in-UnnameDirectory.is)
+
+pub returns-in-Move-clause-state : goal.returns-in-Move-clause-state
+returns-in-Move-clause-state c =
+    c.rename.ensures.state
+    ∙ ap (λ (k : Kernel). tidy k)
+    (same_moving c.args.chosen.now c.args.self.now.state c.in-Move.from c.in-Move.old c.in-Move.to
+    c.in-Move.new c.in-Move.num c.in-Move.replaced)
     ∙ ap (λ (e : Edit). tidy (applied c.args.chosen.now e c.args.self.now.state))
-    (sym c.in-UnnameDirectory.is)
+    (sym c.in-Move.is)
 
 pub returns-in-PutBytes-clause-state : goal.returns-in-PutBytes-clause-state
 returns-in-PutBytes-clause-state c =
