@@ -1,13 +1,12 @@
 -- A file whose bytes are changed outside the store, and swapped in again.
-use Rattle.std.proofs.Common.{◌≡◌, ◌≢◌, ℕ, ◌+◌, Bool, true, false, List, [], ◌∷◌, length, Option, Some, None, Result, Ok, Err, OnOk, OnErr, refl, sym, ap, subst, ◌∙◌}
+use Rattle.std.proofs.Common.{◌≡◌, ℕ, List, [], length, Option, Some, None, Result, Ok, Err, OnOk, OnErr, refl, sym, ap, subst, ◌∙◌}
 use Rattle.std.specs.Prelude.{IsSome}
 use Rattle.std.specs.Option.{option_and_then, option_map}
 use Rattle.model.specs.FiniteMap.{get, insert}
-use Rattle.model.specs.State.{A_file, Kernel, Inode, File, Directory, Pipe, Process, kind, kind_of, mapped, file_of, file_of_inode}
-use Rattle.model.specs.Changes.{Edit, Put_bytes, Cut, applied, holders, openings, sized, written, set_inode, tidy}
+use Rattle.model.specs.State.{A_file, Kernel, File, Process, kind, kind_of, mapped, file_of}
+use Rattle.model.specs.Changes.{Put_bytes, Cut, applied, sized, written, set_inode, tidy}
 use Rattle.model.proofs.Laws.{get_same}
 use Rattle.call_laws.specs.Fits.{Fits}
-use Rattle.call_laws.proofs.Laws.{not_none}
 use Rattle.freeing_laws.proofs.Openings.{openings_change_lem}
 use Rattle.objects.specs.Contents.{Content}
 use Rattle.store.specs.Numbers.{Numbers, held, if_held, object_at}
@@ -20,10 +19,8 @@ use Rattle.store.specs.declared.Stage.TheVariants.{Coming, Held, Lost}
 use Rattle.store.specs.declared.Object.{Object}
 use Rattle.store.specs.declared.Object.TheVariants.{Directory as Kept_directory, File as Kept_file, Description as Kept_description, Nothing}
 use Rattle.store.proofs.Laws.{altered-alike, altered-twice, descriptions-filed, get-inodes, inodes-swapped, insert-held, left-altered}
-use Rattle.shadow.specs.Claims.{Claim}
-use Rattle.shadow.specs.Laid.{kept_in}
 use Rattle.shadow.specs.Stored.{AreCounted, Sound, state_of, stored}
-use Rattle.shadow.proofs.Kept_on.{file_keeps, file_staged}
+use Rattle.shadow.proofs.Kept_on.{file_staged}
 use Rattle.shadow.proofs.Edited.{Counts, counted_by, counts_of, counts_of_state, counts_stay, holders_seen, openings_seen, sound_after, tidy_after}
 
 -- what is a file in the state is one in the store

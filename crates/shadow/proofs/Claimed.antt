@@ -1,6 +1,6 @@
 -- New numbers of edits, with what is kept for them.
-use Rattle.std.proofs.Common.{◌≡◌, ◌≢◌, ℕ, zero, suc, ◌+◌, ◌<◌, ◌≤◌, ◌==◌, Bool, true, false, ◌&&◌, ◌||◌, not, cond, List, [], ◌∷◌, ◌++◌, map, length, replicate, drop, get_or, sum_by, flat_map, Option, Some, None, refl, sym, ap, subst, ◌∙◌, arith, eq-eqb, eqb-true, inl, inr, ◌⊎◌}
-use Rattle.std.specs.List.{AllByRecursion, count_by}
+use Rattle.std.proofs.Common.{◌≡◌, ◌≢◌, ℕ, zero, suc, ◌+◌, ◌≤◌, ◌==◌, Bool, true, false, ◌&&◌, ◌||◌, not, cond, List, [], ◌∷◌, ◌++◌, length, replicate, drop, sum_by, flat_map, Some, None, refl, sym, ap, subst, ◌∙◌, arith, eqb-true, inl, inr}
+use Rattle.std.specs.List.{AllByRecursion}
 use Rattle.std.proofs.lemmas.List.{length-append}
 use Rattle.std.proofs.lemmas.List.Sums.{sum_by-append, sum_by-cons}
 use Rattle.std.proofs.lemmas.List.Concat.{flat_map-cons}
@@ -14,7 +14,7 @@ use Rattle.model.proofs.Laws.{append-all}
 use Rattle.call_laws.proofs.Laws.{all-mapped}
 use Rattle.freeing_laws.specs.Counts.{listed, times}
 use Rattle.shadow.specs.Committed.{Committed, Reserve}
-use Rattle.shadow.specs.Claims.{AreUnused, Claim, Room, New_directory, Number, HasParent, HaveClaimed, HaveParents, IsClaimed, IsDirectory, IsReserved, KeepsMore, Stays, claimed_by, claimed_in, kinds_in, number_as, number_of, reserved, room_in, room_of, with_kinds, or_zero, coming_directory, coming_other}
+use Rattle.shadow.specs.Claims.{AreUnused, Claim, Room, New_directory, Number, HasParent, HaveClaimed, HaveParents, IsClaimed, IsDirectory, IsReserved, KeepsMore, claimed_by, claimed_in, kinds_in, number_as, number_of, reserved, room_in, room_of, with_kinds, or_zero, coming_directory, coming_other}
 use Rattle.shadow.specs.Log.{effect}
 use Rattle.shadow.specs.Steps.{AreApart, CanEdit, IsFirst, IsLast, new_in, parents_in}
 

@@ -7,7 +7,7 @@ use Rattle.std.proofs.lemmas.Bool.{cases_eq}
 use Rattle.std.proofs.lemmas.List.Sums.{sum_by-cons, sum_by-append}
 use Rattle.std.specs.Map.{keys_of}
 use Rattle.model.specs.FiniteMap.{get}
-use Rattle.model.specs.State.{Description, Kernel, Process, mapped}
+use Rattle.model.specs.State.{Kernel, Process, mapped}
 use Rattle.model.specs.Changes.{at_offset, is_held, is_reached, tidy}
 use Rattle.model.specs.Effects.{Effect, all_done}
 use Rattle.fdtable.specs.Patches.{Given}
@@ -132,7 +132,7 @@ module _ (ps qs : List Process) (s after last : Numbers) (ds : List Effect) (p :
   inode_left n there =
       elim (left_is_tidy_lem.inodes before ds (tidied_of ps s can.sound) can.fits n there) [
         | inl is ↦ inl is
-        | inr has ↦ inr (subst (λ ns. 0 < times n ns) (can.agrees.lost before) has)
+        | inr has ↦ inr (subst (λ ns. 0 < times n ns) can.agrees.lost has)
       ]
 
   pub are_left : AreLeft closing p.lost done

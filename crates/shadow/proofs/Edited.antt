@@ -1,17 +1,14 @@
 -- What one edit makes of the committed state: it is sound again.
-use Rattle.std.proofs.Common.{◌≡◌, ◌≢◌, ℕ, ◌+◌, Bool, true, false, List, [], ◌∷◌, Option, Some, None, refl, sym, ap, subst, ◌∙◌}
-use Rattle.std.specs.Option.{option_and_then, option_map}
+use Rattle.std.proofs.Common.{◌≡◌, ℕ, ◌+◌, false, List, Option, Some, None, refl, sym, ap, subst, ◌∙◌}
 use Rattle.model.specs.FiniteMap.{get}
-use Rattle.model.specs.State.{Kernel, Inode, Description, Process, A_directory, kind_of, names_of, mapped}
+use Rattle.model.specs.State.{Kernel, Process}
 use Rattle.model.specs.Changes.{Edit, applied, holders, openings, tidy}
-use Rattle.call_laws.specs.WellFormed.{WellFormed, CanBeNamed, CanBeOpened}
+use Rattle.call_laws.specs.WellFormed.{WellFormed}
 use Rattle.call_laws.specs.Fits.{Fits}
 use Rattle.call_laws.proofs.Laws.{calls_are_lawful_lem, some_same, well_stays}
 use Rattle.freeing_laws.specs.Sweep.{IsTidied, loses}
 use Rattle.freeing_laws.proofs.Laws.{sweep_is_tidy_lem}
 use Rattle.store.specs.Numbers.{Numbers, object_at}
-use Rattle.store.specs.declared.OpenFile.{OpenFile}
-use Rattle.store.specs.declared.Opened.{Opened}
 use Rattle.store.specs.declared.Object.{Object}
 use Rattle.store.specs.declared.Object.TheVariants.{Directory as Kept_directory, File as Kept_file, Description as Kept_description, Nothing}
 use Rattle.shadow.specs.Claims.{Claim, KeepsMore, KeepsSame, Room, New_directory, Number, reserved}

@@ -1,5 +1,5 @@
 -- What is kept is given back, number after number.
-use Rattle.std.proofs.Common.{◌≡◌, ◌≢◌, ℕ, zero, suc, ◌+◌, ◌*◌, ◌<◌, ◌≤◌, ◌==◌, Bool, true, false, ◌&&◌, not, cond, List, [], ◌∷◌, drop, length, Option, Some, None, refl, sym, ap, subst, ◌∙◌, arith, eq-eqb, eqb-true, ne_eqb, inl, inr, nat_cmp}
+use Rattle.std.proofs.Common.{◌≡◌, ◌≢◌, ℕ, suc, ◌+◌, ◌*◌, ◌<◌, ◌≤◌, ◌==◌, Bool, true, false, ◌&&◌, cond, List, [], ◌∷◌, Option, Some, None, refl, sym, ap, subst, ◌∙◌, arith, eq-eqb, eqb-true, ne_eqb, inl, inr, nat_cmp}
 use Rattle.std.specs.List.{AllByRecursion}
 use Rattle.std.specs.List.Sorted.{IsStrictlySortedBy}
 use Rattle.std.specs.Map.{keys_of}
@@ -15,12 +15,11 @@ use Rattle.shadow.specs.declared.change.Change.{Change}
 use Rattle.shadow.specs.declared.change.Made.{Made}
 use Rattle.shadow.specs.declared.change.Made.TheVariants.{Directory, File}
 use Rattle.shadow.specs.declared.opening.Opening.{Opening}
-use Rattle.shadow.specs.declared.opening.Opening.TheVariants.{Kept, New, Moved}
 use Rattle.shadow.specs.Committed.{Committed}
 use Rattle.shadow.specs.Patches.{Net, Patches, is_new, kept_at, net_of, or_kept}
 use Rattle.shadow.specs.Claims.{Claim, Room, New_directory, Number, IsComing, KeepsMore, as_count, claim_in, claimed_in, inode_claim, inodes_claim, is_directory_made, is_file_made, new_number, number_as, number_of, openings_claim, reserved, room_in, with_kinds}
 use Rattle.shadow.proofs.Claimed.{none_claimed, one_claimed, parent_claimed, without_parents}
-use Rattle.shadow.proofs.Meets.{no_number_as, number_counts}
+use Rattle.shadow.proofs.Meets.{number_counts}
 
 -- numbers with their kinds
 first_kind : List Bool → Bool

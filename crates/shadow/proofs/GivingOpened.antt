@@ -1,7 +1,7 @@
 -- A new description is given back, and one that is not new claims nothing.
-use Rattle.std.proofs.Common.{◌≡◌, ◌≢◌, ℕ, ◌+◌, ◌≤◌, ◌<◌, ◌==◌, cond, Bool, true, false, List, [], ◌∷◌, Option, Some, None, refl, sym, ap, subst, ◌∙◌, arith}
+use Rattle.std.proofs.Common.{◌≡◌, ℕ, ◌≤◌, ◌<◌, cond, true, false, List, ◌∷◌, Some, refl, ap, subst, arith}
 use Rattle.shadow.specs.declared.opening.Opening.{Opening}
-use Rattle.shadow.specs.Claims.{Claim, KeepsMore, new_number, number_as, number_of, openings_claim, reserved}
+use Rattle.shadow.specs.Claims.{Claim, KeepsMore, new_number, number_as, openings_claim, reserved}
 use Rattle.shadow.specs.Committed.{Committed}
 use Rattle.shadow.specs.Patches.{is_new}
 use Rattle.shadow.proofs.Giving.{GivesUp, gives_up_next, new_here, nothing_opened, old_here, one_kept, opened_at, openings_at}

@@ -1,9 +1,9 @@
 -- Each directory of a state with changes on top can have room promised.
-use Rattle.std.proofs.Common.{◌≡◌, ◌≢◌, ℕ, ◌+◌, ◌<◌, ◌≤◌, ◌&&◌, List, Bool, true, false, Option, Some, None, refl, sym, ap, subst, ◌∙◌, arith}
+use Rattle.std.proofs.Common.{◌≡◌, ℕ, ◌<◌, ◌&&◌, List, Bool, true, false, Option, Some, None, refl, sym, ap, ◌∙◌, arith}
 use Rattle.std.specs.Ordering.{nat_cmp}
 use Rattle.std.specs.Option.{is_some}
 use Rattle.model.specs.FiniteMap.{FinMap, get}
-use Rattle.model.specs.State.{A_directory, A_file, Inode, Kernel, kind, kind_of, mapped}
+use Rattle.model.specs.State.{A_directory, Inode, kind, mapped}
 use Rattle.model.specs.Effects.{Effect, all_done}
 use Rattle.freeing_laws.specs.Sweep.{AllFit}
 use Rattle.shadow.specs.declared.change.Contents.{Contents}
@@ -14,7 +14,7 @@ use Rattle.shadow.specs.Agrees.{Agrees, IsOver}
 use Rattle.shadow.specs.Claims.{Covers, IsDirectory, New_directory, as_count, coming_directory, is_directory_made, room_of}
 use Rattle.shadow.specs.Committed.{Committed, Reserve}
 use Rattle.shadow.specs.Looks.{DirectoriesAreKept}
-use Rattle.shadow.specs.Patches.{Patches, form_of, net_at, no_change, of_bytes, of_names, patched}
+use Rattle.shadow.specs.Patches.{Patches, form_of, net_at, patched}
 
 none_coming : (o : Option Reserve) → room_of o ≡ None → coming_directory o ≡ 0
 none_coming None none = refl

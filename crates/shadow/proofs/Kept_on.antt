@@ -1,12 +1,10 @@
 -- What a lost object leaves: the other places, what is staged, and what is kept for transactions.
-use Rattle.std.proofs.Common.{◌≡◌, ◌≢◌, ℕ, ◌≤◌, Bool, true, false, ◌&&◌, cond, not, is_some, Option, Some, None, refl, sym, ap, subst, ◌∙◌, arith, ltb-false, inl, inr}
+use Rattle.std.proofs.Common.{◌≡◌, ◌≢◌, ℕ, ◌≤◌, Bool, true, false, cond, not, Option, Some, None, refl, sym, ap, subst, ◌∙◌, arith, ltb-false, inl, inr}
 use Rattle.std.specs.Option.{option_map, option_and_then}
 use Rattle.std.proofs.lemmas.Bool.{cases_eq}
-use Rattle.model.specs.FiniteMap.{get, remove}
-use Rattle.model.specs.State.{Inode, Description}
-use Rattle.model.proofs.Laws.{removed_same, removed_other}
+use Rattle.model.specs.FiniteMap.{get}
 use Rattle.store.specs.Numbers.{Numbers, held, if_held, object_at}
-use Rattle.store.specs.Places.{altered, changed_file, changed_opened, hidden, has_room, is_coming, is_coming_by, is_over, is_over_by, less_openings, listing_of, lost, swept, with_file, with_opened}
+use Rattle.store.specs.Places.{altered, changed_file, changed_opened, hidden, has_room, is_coming, is_coming_by, is_over, is_over_by, listing_of, lost, with_file, with_opened}
 use Rattle.store.specs.Shown.{inodes, inode_of, descriptions, description_of}
 use Rattle.store.specs.declared.OpenFile.{OpenFile}
 use Rattle.store.specs.declared.Opened.{Opened}
@@ -16,7 +14,7 @@ use Rattle.store.specs.declared.Stage.TheVariants.{Coming, Held, Lost}
 use Rattle.store.specs.declared.Object.{Object}
 use Rattle.store.specs.declared.Object.TheVariants.{Directory as Kept_directory, File as Kept_file, Description as Kept_description, Nothing}
 use Rattle.store.proofs.Laws.{get-chosen, get-inodes, get-descriptions, left-altered, place-altered, place-other, place-over, place-swept-other, swept-stays, without_place}
-use Rattle.shadow.specs.Claims.{Claim, Room, New_directory, Number, number_of, or_zero, room_of, coming_directory, coming_other, as_count}
+use Rattle.shadow.specs.Claims.{Claim, Room, New_directory, Number, number_of, or_zero, room_of, coming_directory, coming_other}
 use Rattle.shadow.specs.Laid.{kept_in}
 use Rattle.shadow.specs.Stored.{FitsStage, IsStaged, reserve_in}
 

@@ -1,10 +1,10 @@
 -- A new inode with its name.
 use Rattle.std.proofs.Common.{◌≡◌, ◌≢◌, ℕ, ◌+◌, ◌-◌, ◌<◌, ◌≤◌, ◌==◌, ◌&&◌, Bool, true, false, cond, List, [], ◌∷◌, Option, Some, None, refl, sym, ap, subst, ◌∙◌, arith, eq-eqb, ne_eqb, inl, inr}
-use Rattle.std.specs.Option.{option_and_then, option_map}
+use Rattle.std.specs.Option.{option_and_then}
 use Rattle.std.specs.Cmp.Lexicographic.{nat_list_cmp_total}
 use Rattle.std.proofs.lemmas.Bool.{cases_eq}
-use Rattle.model.specs.FiniteMap.{FinMap, empty, get, get-empty, insert, remove, same_map}
-use Rattle.model.specs.State.{A_directory, Description, Kernel, Inode, File, Directory, Pipe, Name, Process, kind, kind_of, mapped, name_cmp, names_of, names_of_inode}
+use Rattle.model.specs.FiniteMap.{empty, get, get-empty, insert, same_map}
+use Rattle.model.specs.State.{A_directory, Kernel, Inode, File, Directory, Name, Process, kind, kind_of, mapped, names_of, names_of_inode}
 use Rattle.model.specs.Changes.{Edit, Make_directory, Make_file, applied, holders, openings, set_inode, set_name, tidy}
 use Rattle.model.proofs.Laws.{get_same, get_other, name_exact}
 use Rattle.call_laws.specs.WellFormed.{CanBeOpened}
@@ -15,10 +15,9 @@ use Rattle.freeing_laws.proofs.Openings.{openings_change_lem}
 use Rattle.freeing_laws.specs.Sweep.{loses}
 use Rattle.dirlist.specs.Listing.{Listing}
 use Rattle.objects.specs.Contents.{Content}
-use Rattle.store.specs.Numbers.{Numbers, coming, held, if_held, object_at, present}
+use Rattle.store.specs.Numbers.{Numbers, coming, held, if_held, present}
 use Rattle.store.specs.Places.{altered, installed, is_coming, listing_at, may_be_named, with_listing, with_name}
 use Rattle.store.specs.Shown.{descriptions, description_of, inodes, inode_of}
-use Rattle.store.specs.declared.OpenFile.{OpenFile}
 use Rattle.store.specs.declared.Place.{Place}
 use Rattle.store.specs.declared.Stage.{Stage}
 use Rattle.store.specs.declared.Stage.TheVariants.{Coming, Held, Lost}

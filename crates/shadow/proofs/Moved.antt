@@ -1,10 +1,10 @@
 -- What patches take in of an edit of a description's offset.
-use Rattle.std.proofs.Common.{◌≡◌, ℕ, ◌==◌, ◌||◌, true, false, cond, if◌then◌else◌, Bool, List, [], ◌∷◌, Option, Some, None, refl, sym, ap, ◌∙◌, subst, arith, eq-eqb, ne_eqb, inl, inr, append-nil}
+use Rattle.std.proofs.Common.{◌≡◌, ℕ, ◌==◌, ◌||◌, true, false, cond, Bool, List, [], ◌∷◌, Option, Some, None, refl, sym, ap, ◌∙◌, subst, arith, eq-eqb, ne_eqb, inl, inr, append-nil}
 use Rattle.std.proofs.lemmas.Bool.{cases_eq}
 use Rattle.ids.specs.declared.edit.Mode.{Mode}
 use Rattle.fdtable.specs.Patches.{Given}
 use Rattle.model.specs.State.{Description, Process, mapped}
-use Rattle.model.specs.Changes.{Clear_slot, Open_inode, Set_offset, Which, at_offset, at_start, number, or_new, with_slot, without_slot}
+use Rattle.model.specs.Changes.{Clear_slot, Open_inode, Set_offset, Which, at_offset, at_start, number}
 use Rattle.model.specs.Moments.{is_in}
 use Rattle.shadow.specs.declared.opening.Opening.{Opening}
 use Rattle.shadow.specs.Patches.{Patches, is_new, net_at, kept_at, numbers_in, opening_at, reopened, reslotted}

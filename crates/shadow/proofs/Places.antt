@@ -9,7 +9,7 @@ use Rattle.std.specs.Cmp.{nat_cmp_total}
 use Rattle.std.specs.FinMap.Entries.{find, is_sorted, below_all}
 use Rattle.std.proofs.lemmas.Bool.{cases_eq}
 use Rattle.std.proofs.lemmas.List.{get_or_past}
-use Rattle.model.specs.FiniteMap.{FinMap, get, insert, remove, entries, entries_sorted, get-entries, get-from_entries, get-remove, same_map, nat_cmp-IsAntisymmetric}
+use Rattle.model.specs.FiniteMap.{FinMap, get, remove, entries, entries_sorted, get-entries, get-from_entries, get-remove, same_map, nat_cmp-IsAntisymmetric}
 use Rattle.model.specs.Places.{placed}
 use Rattle.model.proofs.Laws.{get_same, get_other, removed_same, removed_other, tie, tied, untied}
 use Rattle.store.specs.Numbers.{Numbers}

@@ -68,6 +68,8 @@ parent_there : (chosen : List ℕ) (e : Edit) (k : Kernel) (n : ℕ) → 0 < tim
 unfolding applied
 parent_there chosen (Make_directory d x i) k n some = put_there _ d n _ (is_one n d some)
 parent_there chosen (Make_file d x i) k n some = put_there _ d n _ (is_one n d some)
+parent_there chosen (Name_file d x m) k n some = put_there _ d n _ (is_one n d some)
+parent_there chosen (Move d x e y m replaced) k n some = put_there _ e n _ (is_one n e some)
 parent_there chosen _ k n some = absurd (no_times n some)
 
 either : (a b : ℕ) → 0 < a + b → (0 < a) ⊎ (0 < b)

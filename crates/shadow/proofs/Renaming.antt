@@ -1,7 +1,7 @@
 -- A name more for a file, and a name that moves, in the store.
-use Rattle.std.proofs.Common.{◌≡◌, ℕ, ◌+◌, ◌<◌, ◌≤◌, ◌==◌, Bool, true, false, cond, List, [], ◌∷◌, Option, Some, None, refl, sym, ap, subst, ◌∙◌, arith, eq-eqb}
+use Rattle.std.proofs.Common.{◌≡◌, ℕ, ◌+◌, ◌<◌, ◌≤◌, ◌==◌, true, false, cond, List, [], ◌∷◌, Some, refl, sym, ap, subst, ◌∙◌, arith, eq-eqb}
 use Rattle.model.specs.FiniteMap.{get, remove}
-use Rattle.model.specs.State.{A_directory, A_file, Kernel, Kind, Name, Process, kind, kind_of, mapped, names_of}
+use Rattle.model.specs.State.{A_directory, A_file, Kernel, Name, Process, kind_of, names_of}
 use Rattle.model.specs.Changes.{Edit, Move, Name_file, Replaced, applied, clear_name, inode_replaced, set_name, tidy}
 use Rattle.call_laws.specs.Fits.{Fits}
 use Rattle.call_laws.proofs.Laws.{has_names}

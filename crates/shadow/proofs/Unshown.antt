@@ -1,11 +1,11 @@
 -- Changes of the store that are not seen in the state: numbers are reserved and given back, and promises come and go.
-use Rattle.std.proofs.Common.{◌≡◌, ◌≢◌, ℕ, ◌+◌, ◌<◌, ◌≤◌, Bool, true, false, cond, not, List, [], Option, Some, None, refl, sym, ap, ap₂, subst, ◌∙◌, arith, lt-ltb, inl, inr}
+use Rattle.std.proofs.Common.{◌≡◌, ◌≢◌, ℕ, ◌+◌, Bool, true, false, cond, not, List, Option, Some, None, refl, sym, ap, ap₂, subst, ◌∙◌, arith, lt-ltb, inl, inr}
 use Rattle.std.specs.Prelude.{⊤}
 use Rattle.std.specs.Option.{option_map, option_and_then}
 use Rattle.std.proofs.lemmas.Bool.{cases_eq}
 use Rattle.std.specs.Ordering.{nat_cmp}
 use Rattle.model.specs.FiniteMap.{FinMap, get, insert, remove, empty, get-empty}
-use Rattle.model.specs.State.{Description, Inode, Kernel, Process, name_cmp, kind, mapped, names_of_inode, links}
+use Rattle.model.specs.State.{Kernel, Process, name_cmp, kind, mapped, names_of_inode, links}
 use Rattle.model.specs.Changes.{holders, openings, tidy}
 use Rattle.model.specs.Moments.{start}
 use Rattle.model.specs.Steps.{IsNowhere}
@@ -20,16 +20,13 @@ use Rattle.store.specs.Numbers.{IsFirstRoot, Numbers, coming, held, if_held, no_
 use Rattle.store.specs.Places.{altered, hidden, is_over, is_over_by, has_room, listing_of, changed_object, with_listing, more_room, less_room, lost, released, swept}
 use Rattle.store.specs.Shown.{inodes, descriptions, inode_in, inode_of, description_in, description_of, shown_at}
 use Rattle.store.specs.declared.Place.{Place}
-use Rattle.store.specs.declared.OpenFile.{OpenFile}
-use Rattle.store.specs.declared.Opened.{Opened}
 use Rattle.store.specs.declared.Stage.{Stage}
 use Rattle.store.specs.declared.Stage.TheVariants.{Coming, Held, Lost}
 use Rattle.store.specs.declared.Object.{Object}
 use Rattle.store.specs.declared.Object.TheVariants.{Directory as Kept_directory, File as Kept_file, Description as Kept_description, Nothing}
-use Rattle.shadow.specs.Claims.{Claim, new_number}
-use Rattle.shadow.specs.Stored.{AreCounted, stored, state_of, numbered, FitsStage, IsBare, IsStaged, IsUnsettled, Sound}
+use Rattle.shadow.specs.Stored.{stored, state_of, FitsStage, IsBare, IsStaged, IsUnsettled, Sound}
 use Rattle.shadow.proofs.Places.{get_chosen, remove_absent, place_altered, place_other, place_over, place_swept_other, swept_stays, without_place}
-use Rattle.shadow.proofs.Meets.{IsAwaited, at_place, with_place}
+use Rattle.shadow.proofs.Meets.{IsAwaited, with_place}
 
 -- what is shown of files and descriptions was shown before
 abbrev pub ShowsNoMore : Numbers → Numbers → Type 0

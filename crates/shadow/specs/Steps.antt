@@ -21,9 +21,7 @@ use Rattle.freeing_laws.specs.Sweep.{loses}
 use Rattle.store.specs.Laid.{with_note}
 use Rattle.shadow.specs.declared.change.Made.{Made as What}
 use Rattle.shadow.specs.declared.change.Made.TheVariants.{Directory as A_directory, File as A_file}
-use Rattle.shadow.specs.declared.opening.Opening.{Opening}
-use Rattle.shadow.specs.declared.opening.Opening.TheVariants.{Kept, New, Moved}
-use Rattle.shadow.specs.Patches.{Form, no_change, of_names, of_bytes, Net, Patches}
+use Rattle.shadow.specs.Patches.{Form, no_change, of_names, of_bytes, Patches}
 use Rattle.shadow.specs.Patches.{added_by, form_of, kept_at, net_at, opening_at, patched, reopened}
 use Rattle.shadow.specs.Patches.{is_new, numbers_in, reslotted}
 

@@ -1,5 +1,5 @@
-use Rattle.std.proofs.Common.{◌≡◌, ℕ, ◌+◌, ◌≤◌, List, Option, None, ap, sym, ◌∙◌, true, false, arith}
-use Rattle.model.specs.FiniteMap.{get, insert}
+use Rattle.std.proofs.Common.{◌+◌, ◌≤◌, None, ap, sym, ◌∙◌, true, false, arith}
+use Rattle.model.specs.FiniteMap.{insert}
 use Rattle.dirlist.specs.Patches.{Notes, noted_back}
 use Rattle.shadow.specs.declared.change.Contents.{Contents}
 use Rattle.shadow.specs.declared.change.Contents.TheVariants.{Names}

@@ -1,4 +1,4 @@
-use Rattle.std.proofs.Common.{ap, length, sym, subst, ◌↔◌, ◌++◌, ℕ, List}
+use Rattle.std.proofs.Common.{ap, length, sym, subst, ◌↔◌, ◌++◌, ℕ}
 use Rattle.std.specs.List.{Contains}
 use Rattle.model.specs.Plan.{blocks}
 use Rattle.shadow.specs.declared.change.Contents.{Contents}

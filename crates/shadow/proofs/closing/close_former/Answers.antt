@@ -1,13 +1,12 @@
-use Rattle.std.proofs.Common.{◌≡◌, ℕ, ◌+◌, ◌<◌, [], ◌∷◌, List, length, drop, get_or, refl, sym, ap, subst, ◌∙◌, add-one}
+use Rattle.std.proofs.Common.{◌≡◌, ℕ, ◌+◌, ◌<◌, [], ◌∷◌, List, length, drop, get_or, sym, ap, subst, ◌∙◌, add-one}
 use Rattle.std.proofs.Math.Seq.{drop-cons}
 use Rattle.std.proofs.lemmas.List.{drop_all}
 use Rattle.std.specs.List.{flat_map}
 use Rattle.model.specs.FiniteMap.{entries}
 use Rattle.fdtable.specs.Patches.{Given}
 use Rattle.freeing_laws.specs.Sweep.{all_closed}
-use Rattle.store.specs.Numbers.{Numbers}
-use Rattle.shadow.specs.Laid.{Frees, Holds, given_by, given_in}
-use Rattle.shadow.proofs.Turning.{Leaves, closed_append, leaves_all, leaves_less, leaves_none}
+use Rattle.shadow.specs.Laid.{Frees, given_by, given_in}
+use Rattle.shadow.proofs.Turning.{closed_append, leaves_all, leaves_less, leaves_none}
 use Rattle.shadow.proofs.closing.close_former.Goals as goal
 
 -- the slots of this turn are the first of those that are left

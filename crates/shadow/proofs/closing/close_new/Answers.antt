@@ -1,6 +1,5 @@
-use Rattle.std.proofs.Common.{◌≡◌, ◌∷◌, [], List, ℕ, refl, sym, ap, subst, rules}
+use Rattle.std.proofs.Common.{◌≡◌, ◌∷◌, [], List, ℕ, sym, ap, subst, rules}
 use Rattle.std.specs.Map.{keys_of}
-use Rattle.model.specs.State.{Kernel}
 use Rattle.freeing_laws.specs.Sweep.{all_closed, closed}
 use Rattle.store.specs.Numbers.{Numbers}
 use Rattle.shadow.proofs.Turning.{Leaves, leaves_all, leaves_less, leaves_none}

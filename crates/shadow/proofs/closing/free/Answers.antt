@@ -1,4 +1,4 @@
-use Rattle.std.proofs.Common.{◌≡◌, ◌≢◌, ℕ, ◌<◌, ◌≤◌, Bool, true, false, not, List, Option, Some, None, is_some, refl, sym, ap, ◌∙◌, arith}
+use Rattle.std.proofs.Common.{◌≡◌, ◌≢◌, ℕ, ◌<◌, ◌≤◌, true, false, not, List, Option, Some, None, is_some, refl, sym, ap, ◌∙◌, arith}
 use Rattle.model.specs.FiniteMap.{get}
 use Rattle.model.specs.State.{Inode, Process, Kind, kind, mapped}
 use Rattle.model.specs.Changes.{is_reached, openings}
@@ -6,7 +6,7 @@ use Rattle.store.specs.Links.{links_in}
 use Rattle.store.specs.Numbers.{Numbers}
 use Rattle.store.specs.Places.{openings_at}
 use Rattle.store.specs.Shown.{inodes}
-use Rattle.shadow.specs.Laid.{Frees, Holds}
+use Rattle.shadow.specs.Laid.{Holds}
 use Rattle.shadow.specs.Stored.{state_of}
 use Rattle.shadow.proofs.Going.{bare_if_unreached, equal_by, frees_inode, named_reached, not_reached, open_reached, openings_are, other_by, root_reached, some_by, stays_absent, stays_reached, zero_by}
 use Rattle.shadow.proofs.closing.free.Goals as goal

@@ -1,4 +1,4 @@
-use Rattle.std.proofs.Common.{◌≡◌, ◌∙◌, ◌≤◌, [], arith}
+use Rattle.std.proofs.Common.{◌≡◌, ◌∙◌, [], arith}
 use Rattle.shadow.proofs.Overwriting.{new_beside, nothing_left, of_ok, written_new}
 use Rattle.shadow.proofs.laying.install_file.Goals as goal
 

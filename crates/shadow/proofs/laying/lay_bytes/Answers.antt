@@ -1,4 +1,4 @@
-use Rattle.std.proofs.Common.{◌≡◌, ◌∙◌, ap}
+use Rattle.std.proofs.Common.{◌∙◌, ap}
 use Rattle.file_shadow.specs.View.{view_over}
 use Rattle.shadow.proofs.Overwriting.{over_beside, still_file, written_over}
 use Rattle.shadow.proofs.laying.lay_bytes.Goals as goal

@@ -1,7 +1,6 @@
-use Rattle.std.proofs.Common.{◌≡◌, ◌∷◌, ◌∙◌, ℕ, List, [], sym, subst, nat_cmp}
+use Rattle.std.proofs.Common.{◌≡◌, ◌∷◌, ◌∙◌, sym, subst, nat_cmp}
 use Rattle.std.specs.List.Sorted.{IsStrictlySortedBy}
 use Rattle.std.specs.Map.{keys_of}
-use Rattle.shadow.specs.declared.change.Change.{Change}
 use Rattle.shadow.proofs.Carrying.{AreCarried, Carries, all_carried, carries_nothing, carries_on, first_ready}
 use Rattle.shadow.proofs.laying.lay_inodes.Goals as goal
 

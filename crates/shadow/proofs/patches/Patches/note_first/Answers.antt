@@ -1,4 +1,4 @@
-use Rattle.std.proofs.Common.{◌≡◌, ◌+◌, ◌<◌, ◌≤◌, ℕ, List, length, sym, subst, ◌∙◌, arith}
+use Rattle.std.proofs.Common.{◌≡◌, ◌<◌, ◌≤◌, ℕ, List, length, sym, subst, arith}
 use Rattle.std.proofs.lemmas.List.{get_or_read}
 use Rattle.model.specs.Changes.{Edit, news}
 use Rattle.shadow.specs.Steps.{IsFirst, TakesIn, new_in}

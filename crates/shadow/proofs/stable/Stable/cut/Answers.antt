@@ -1,12 +1,8 @@
 use Rattle.std.proofs.Common.{◌≡◌, ℕ, List, [], Some, refl, sym, ap, subst, ◌∙◌}
-use Rattle.std.specs.Prelude.{IsSome}
-use Rattle.std.specs.Option.{option_and_then}
 use Rattle.model.specs.FiniteMap.{get}
-use Rattle.model.specs.State.{A_file, File, Inode, Kernel, Process, file_of, file_of_inode, kind_of}
+use Rattle.model.specs.State.{A_file, File, Inode, file_of, file_of_inode, kind_of}
 use Rattle.model.specs.Changes.{Cut, applied, sized}
-use Rattle.objects.specs.Contents.{Content}
-use Rattle.store.specs.Numbers.{Numbers, object_at}
-use Rattle.store.specs.Places.{file_of as stored_file, with_bytes}
+use Rattle.store.specs.Places.{with_bytes}
 use Rattle.store.specs.Shown.{inodes}
 use Rattle.shadow.specs.Claims.{KeepsSame}
 use Rattle.shadow.specs.Committed.{Committed}

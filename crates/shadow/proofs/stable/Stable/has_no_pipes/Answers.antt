@@ -1,4 +1,4 @@
-use Rattle.std.proofs.Common.{ap, sym, ◌∙◌}
+use Rattle.std.proofs.Common.{ap, ◌∙◌}
 use Rattle.model.specs.State.{kind_of}
 use Rattle.shadow.proofs.Seeing.{no_pipe_kind}
 use Rattle.shadow.proofs.stable.Stable.has_no_pipes.Goals as goal

@@ -2,10 +2,10 @@ use Rattle.std.proofs.Common.{◌≡◌, ◌<◌, ◌+◌, [], sym, ap, subst, �
 use Rattle.model.specs.Changes.{Name_file, applied, tidy}
 use Rattle.call_laws.specs.Fits.{Fits}
 use Rattle.store.specs.Numbers.{Numbers}
-use Rattle.shadow.specs.Claims.{Claim, KeepsMore, Room, claimed_by_one}
+use Rattle.shadow.specs.Claims.{Room, claimed_by_one}
 use Rattle.shadow.specs.Committed.{Committed}
 use Rattle.shadow.specs.Laid.{kept_in}
-use Rattle.shadow.specs.Stored.{Sound, committed_of, state_of}
+use Rattle.shadow.specs.Stored.{Sound, state_of}
 use Rattle.shadow.proofs.Edited.{less_of, sound_after, state_is, tidy_after}
 use Rattle.shadow.proofs.Freed.{IsMade}
 use Rattle.shadow.proofs.Making.{named_in}

@@ -1,6 +1,5 @@
-use Rattle.std.proofs.Common.{◌≡◌, ◌+◌, ◌<◌, sym, subst, is_some, arith}
+use Rattle.std.proofs.Common.{◌≡◌, ◌+◌, ◌<◌, is_some, arith}
 use Rattle.store.specs.Places.{listing_of}
-use Rattle.shadow.specs.Committed.{Committed}
 use Rattle.shadow.specs.Claims.{new_number, number_as, reserved}
 use Rattle.shadow.proofs.Meets.{number_counts}
 use Rattle.shadow.proofs.stable.Stable.reserve.Goals as goal

@@ -1,4 +1,4 @@
-use Rattle.std.proofs.Common.{sym, ap, ap₂, ◌∙◌, ◌≡◌, ◌-◌, ℕ, length, vec_len, ◌<◌, arith}
+use Rattle.std.proofs.Common.{sym, ap, ap₂, ◌∙◌, ◌≡◌, ℕ, length, vec_len, arith}
 use Rattle.model.specs.State.{Process}
 use Rattle.model.specs.Changes.{or_new, process_of}
 use Rattle.model.specs.Moments.{is_alive}

@@ -1,4 +1,4 @@
-use Rattle.std.proofs.Common.{◌≡◌, ◌<◌, ◌^◌, length, arith, rules, sym, ◌∙◌, ap, subst}
+use Rattle.std.proofs.Common.{◌≡◌, ◌<◌, ◌^◌, length, arith, rules, ◌∙◌}
 use Rattle.model.specs.State.{file_of}
 use Rattle.shadow.proofs.Seeing.{end_small}
 use Rattle.shadow.proofs.view.ViewLook.read_file.Goals as goal

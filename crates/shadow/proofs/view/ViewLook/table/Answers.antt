@@ -1,4 +1,4 @@
-use Rattle.std.proofs.Common.{◌≡◌, ap, length, take, ◌∙◌, map}
+use Rattle.std.proofs.Common.{◌≡◌, ap, take, ◌∙◌, map}
 use Rattle.std.proofs.lemmas.List.{take_all}
 use Rattle.model.specs.FiniteMap.{entries}
 use Rattle.shadow.proofs.Seeing.{slot_at, slots_more}
