@@ -209,15 +209,7 @@ impl Stable {
 
     // A name moves, in the room that is kept for it, and what had the new name goes where nothing
     // else leads to it.
-    fn rename(
-        &mut self,
-        from: Num,
-        old: &Name,
-        to: Num,
-        new: Name,
-        num: Num,
-        replaced: Replaced,
-    )
+    fn rename(&mut self, from: Num, old: &Name, to: Num, new: Name, num: Num, replaced: Replaced)
         requires fits { Fits [] self.old.state (Move from old.now to new num replaced) }
         requires covers { (c : Claim)
             → claimed_by_one c [] (Move from old.now to new num replaced) ≤ reserved self.old c }

@@ -15,7 +15,7 @@ returns-in_ok-note-in-Names-clause-contents c =
 pub returns-in_ok-note-in-Names-clause-added : goal.returns-in_ok-note-in-Names-clause-added
 returns-in_ok-note-in-Names-clause-added c =
     let more : added_by (Names c.in-Names._fresh c.note.new.self) ≤ added_by c.args.contents.now + 0 =
-        added_more c.in-Names._fresh c.in-Names.names c.note.new.self c.args.name None c.args.contents.now c.in-Names.is c.in_ok-note-in-Names.ensures.ok in omega (arith, more)
+    added_more c.in-Names._fresh c.in-Names.names c.note.new.self c.args.name None c.args.contents.now c.in-Names.is c.in_ok-note-in-Names.ensures.ok in omega (arith, more)
 
 pub returns-in_ok-note-in-Names-clause-back : goal.returns-in_ok-note-in-Names-clause-back
 returns-in_ok-note-in-Names-clause-back c =
@@ -33,7 +33,7 @@ returns-in_ok-noted-in-Same-clause-contents c = λ o.
 pub returns-in_ok-noted-in-Same-clause-added : goal.returns-in_ok-noted-in-Same-clause-added
 returns-in_ok-noted-in-Same-clause-added c =
     let more : added_by c.replace.new.dest ≤ added_by c.args.contents.now + 0 =
-        added_first false c.args.name None c.replace.new.dest (c.replace.ensures.after ∙ c.in_ok-noted-in-Same.ensures) (added_by c.args.contents.now) in omega (arith, more)
+    added_first false c.args.name None c.replace.new.dest (c.replace.ensures.after ∙ c.in_ok-noted-in-Same.ensures) (added_by c.args.contents.now) in omega (arith, more)
 
 pub returns-in_ok-noted-in-Bytes-clause-contents :
     goal.returns-in_ok-noted-in-Bytes-clause-contents
@@ -44,4 +44,4 @@ returns-in_ok-noted-in-Bytes-clause-contents c = λ o.
 pub returns-in_ok-noted-in-Bytes-clause-added : goal.returns-in_ok-noted-in-Bytes-clause-added
 returns-in_ok-noted-in-Bytes-clause-added c =
     let more : added_by c.replace-in-Bytes.new.dest ≤ added_by c.args.contents.now + 0 =
-        added_first true c.args.name None c.replace-in-Bytes.new.dest (c.replace-in-Bytes.ensures.after ∙ c.in_ok-noted-in-Bytes.ensures) (added_by c.args.contents.now) in omega (arith, more)
+    added_first true c.args.name None c.replace-in-Bytes.new.dest (c.replace-in-Bytes.ensures.after ∙ c.in_ok-noted-in-Bytes.ensures) (added_by c.args.contents.now) in omega (arith, more)
