@@ -157,7 +157,7 @@ static RUNS: [(&str, Expected); 11] = [
         },
     ),
     (
-        "priorities 0\n\n1 stat /a/b\n1 unlink /a\n",
+        "priorities 0\n\n1 stat /a/b\n1 pipe\n",
         Expected {
             list: "1",
             limit: 100,
@@ -192,16 +192,7 @@ static RUNS: [(&str, Expected); 11] = [
 ];
 
 // A line with each call that is not supported yet, and what is expected of each.
-static UNSUPPORTED: [&str; 8] = [
-    "link /a /b",
-    "unlink /a",
-    "rename /a /b",
-    "dup 0",
-    "dup2 0 1",
-    "pipe",
-    "fork",
-    "exit",
-];
+static UNSUPPORTED: [&str; 5] = ["dup 0", "dup2 0 1", "pipe", "fork", "exit"];
 
 static UNKNOWN: Expected = Expected {
     list: "1",

@@ -9,7 +9,7 @@ use Rattle.kernel.proofs.Words.{IsDoomedBy, Doomed, effect, made_by, AreNew, wit
 use Rattle.kernel.proofs.Words.{calling, moment, Fields, Dooms, CanEnter, IsIn, Moves, part_at, part_of, shown_by, changes_of, doomed_by, is_no_entry, is_some}
 use Rattle.kernel.proofs.Words.{Edit, FitsAll, is_alive, sum_by, news, not, IfOk, filter, get, Name, A_file, A_directory, A_pipe, names_of, Make_directory}
 use Rattle.kernel.proofs.Words.{Unname_directory, Touch, touches, edits_of, counted, all_done, CanEdit, Committed, IsPlan, Plans, Live}
-use Rattle.model.specs.Changes.{Make_file, Put_bytes, Cut, Open_inode, Set_offset, Clear_slot}
+use Rattle.model.specs.Changes.{Make_file, Name_file, Unname_file, Move, Put_bytes, Cut, Open_inode, Set_offset, Clear_slot}
 use Rattle.call_laws.specs.Fits.{Fits}
 use Rattle.shadow.specs.Looks.{DirectoriesAreKept, HasNoPipes}
 use Rattle.shadow.specs.Steps.{IsOne, IsLast}
@@ -41,7 +41,10 @@ Parents v es = HaveParents v.reserves es
 first_parents : (v : Committed) → DirectoriesAreKept v → (chosen : List ℕ) (e : Edit) → Fits chosen v.state e → IsOne e → HasParent v.reserves e
 first_parents v kept chosen (Make_directory d x i) fit is = (kept d fit.0.parent.directory, tt)
 first_parents v kept chosen (Make_file d x i) fit is = (kept d fit.0.parent.directory, tt)
+first_parents v kept chosen (Name_file d x n) fit is = (kept d fit.0.parent.directory, tt)
+first_parents v kept chosen (Unname_file d x n) fit is = tt
 first_parents v kept chosen (Unname_directory d x n) fit is = tt
+first_parents v kept chosen (Move d x e y n replaced) fit is = (kept e fit.onto.directory, tt)
 first_parents v kept chosen (Put_bytes n place bytes before) fit is = tt
 first_parents v kept chosen (Cut n before later) fit is = tt
 first_parents v kept chosen (Open_inode i inode mode pid f) fit is = tt

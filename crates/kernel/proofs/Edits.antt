@@ -7,12 +7,12 @@ use Rattle.std.specs.Cmp.{nat_cmp_total}
 use Rattle.std.proofs.lemmas.Bool.{false≢true}
 use Rattle.model.specs.FiniteMap.{entries, get}
 use Rattle.model.specs.State.{A_file, A_directory, A_pipe, Kernel, Description, kind_of}
-use Rattle.model.specs.Plan.{Errno, Plan, Give, answer as answer_to, given, ◌>>=◌, ◌>>◌, ENOENT, ENOTDIR, ENOTEMPTY, EEXIST, EBUSY, EISDIR, EINVAL, EBADF, EFBIG, ESPIPE, List_names, Measure, refuse_if, or_refuse}
-use Rattle.model.specs.Calls.{Call, Whence, Open, Close, Read, Write, Lseek, Ftruncate, Stat, Fstat, Mkdir, Rmdir, List_directory, OpenFlags, Own, Slot, slot_of, own}
+use Rattle.model.specs.Plan.{Errno, Plan, Give, answer as answer_to, given, ◌>>=◌, ◌>>◌, ENOENT, ENOTDIR, ENOTEMPTY, EEXIST, EBUSY, EISDIR, EINVAL, EBADF, EFBIG, EPERM, ESPIPE, List_names, Measure, refuse_if, or_refuse}
+use Rattle.model.specs.Calls.{Call, Whence, Open, Close, Read, Write, Lseek, Ftruncate, Stat, Fstat, Link, Unlink, Rename, Mkdir, Rmdir, List_directory, OpenFlags, Own, Slot, slot_of, own}
 use Rattle.model.specs.Changes.{process_of, There, Made}
-use Rattle.model.specs.Paths.{is_empty}
+use Rattle.model.specs.Paths.{is_empty, is_below}
 use Rattle.model.specs.Walks.{Place, Last, parsed, walk, last_of, is_directory}
-use Rattle.model.specs.Plans.{Change, plan, status as told_status, absent, slot, slot_at, free, free_from, first_of_free, is_pipe, opened, cut_to, read_some, write_some, place_to_write, base, sought, largest, descriptor_limit}
+use Rattle.model.specs.Plans.{Change, plan, status as told_status, absent, slot, slot_at, free, free_from, first_of_free, is_pipe, opened, cut_to, read_some, write_some, place_to_write, base, sought, moved, replaced_by_name, largest, descriptor_limit}
 use Rattle.model.specs.Steps.{edits, edits_of}
 use Rattle.ids.specs.Flags.{is_reading, is_writing, is_creating, is_exclusive, is_truncating}
 use Rattle.model.proofs.Laws.{all_entries}
@@ -135,6 +135,12 @@ seek_edits : (k : Kernel) (it : Slot) (place : ℤ) → IfOk (given k (sought it
 seek_edits k it (pos place) = unless k (nat_lt largest place) EINVAL _ (inr tt)
 seek_edits k it (negsuc place) = tt
 
+move_edits : (k : Kernel) (from : Last) (what : Place) (to : Last) (there : Option Place) → IfOk (given k (moved from what to there)) Edits
+move_edits k from what to None = inl tt
+move_edits k from what to (Some old) = either_given k Edits (what.0 == old.0) _ _ (λ _. tt) (λ _.
+    unless k (not (is_directory what) && is_directory old) EISDIR _ (unless k (is_directory what && not (is_directory old)) ENOTDIR _ (
+    after k (replaced_by_name old.0 (is_directory old)) _ (λ replaced. inl tt))))
+
 module _ (k : Kernel) (pid : ℕ) (well : WellFormed k) (none : HasNoPipes k) where
   planned : (call : Call) → can_call call ≡ true → IfOk (given k (plan (own k pid call) call)) Edits
   planned (Open path flags) h =
@@ -149,6 +155,15 @@ module _ (k : Kernel) (pid : ℕ) (well : WellFormed k) (none : HasNoPipes k) wh
   planned (Ftruncate f len) h = on k pid well none (Ftruncate f len) f _ (λ it opened. unless k (not it.writing) EBADF _ (unless k (is_pipe it.kind) EINVAL _ (allowed k Edits (nat_lt largest len) EFBIG _ (λ low. inl (not_below largest len low)))))
   planned (Fstat f) h = on k pid well none (Fstat f) f _ (λ it opened. tells k (it.inode, it.kind))
   planned (Stat path) h = after k (parsed path) _ (λ names. after k (walk (k.root, Some A_directory) names) _ (tells k))
+  planned (Link old path) h =
+      after k (parsed old) _ (λ from. after k (parsed path) _ (λ to. after k (walk (k.root, Some A_directory) from) _ (λ what. unless k (is_directory what) EPERM _ (
+      after k (last_of k.root EEXIST to) _ (λ at. after k (absent at.found) _ (λ _. inl tt))))))
+  planned (Unlink path) h =
+      after k (parsed path) _ (λ names. after k (last_of k.root EPERM names) _ (λ at. after k (or_refuse ENOENT at.found) _ (λ what. unless k (is_directory what) EPERM _ (inl tt))))
+  planned (Rename old path) h =
+      after k (parsed old) _ (λ from. after k (parsed path) _ (λ to. unless k (is_empty from || is_empty to) EBUSY _ (
+      after k (last_of k.root EBUSY from) _ (λ at. after k (or_refuse ENOENT at.found) _ (λ what. unless k (is_directory what && is_below from to) EINVAL _ (
+      after k (last_of k.root EBUSY to) _ (λ onto. move_edits k at what onto onto.found)))))))
   planned (Mkdir path) h = after k (parsed path) _ (λ names. after k (last_of k.root EEXIST names) _ (λ at. after k (absent at.found) _ (λ _. inl refl)))
   planned (Rmdir path) h =
       after k (parsed path) _ (λ names. after k (last_of k.root EBUSY names) _ (λ at. after k (or_refuse ENOENT at.found) _ (λ what. unless k (not (is_directory what)) ENOTDIR _ (unless k (not (is_empty (answer_to k (List_names what.0)))) ENOTEMPTY _ (inl tt)))))
