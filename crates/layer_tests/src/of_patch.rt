@@ -81,6 +81,50 @@ fn the_last_note_of_a_name_stands(rt: HostRuntime) {
     assert_eq!(rt; told.as_slice(), b"b+c+d+e+f-".as_slice());
 }
 
+// Notes a name anew, takes that back, and answers what is noted of it then.
+fn noted_and_put_back(
+    rt: &impl Abort,
+    heap: Heap,
+    patch: &mut Patch,
+    bytes: &[u8],
+    given: Option<Num>,
+) -> Option<Option<Num>> {
+    let name = name(rt, heap, bytes);
+    let former = patch.look(&name);
+    note(rt, heap, patch, bytes, given);
+    heap.refuse(0);
+    patch.put_back(&name, former);
+    assert_eq!(rt; heap.made(), 0);
+    patch.look(&name)
+}
+
+#[test]
+fn a_note_is_put_back(rt: HostRuntime) {
+    let heap = heap::open(rt.alloc()).expect(&rt, "memory");
+    let dir = three(&rt, heap);
+    let mut patch = changes(&rt, heap);
+    let gone = noted_and_put_back(&rt, heap, &mut patch, b"b", Some(Num(7)));
+    let given = noted_and_put_back(&rt, heap, &mut patch, b"c", None);
+    let other = noted_and_put_back(&rt, heap, &mut patch, b"d", Some(Num(7)));
+    let unknown = noted_and_put_back(&rt, heap, &mut patch, b"a", None);
+    assert_eq!(rt; gone, Some(None));
+    assert_eq!(rt; given, Some(Some(Num(3))));
+    assert_eq!(rt; other, Some(Some(Num(9))));
+    assert_eq!(rt; unknown, None);
+    assert_names_over(&rt, heap, &patch, &dir, b"a c d e ");
+}
+
+#[test]
+fn what_is_not_noted_is_not_put_back(rt: HostRuntime) {
+    let heap = heap::open(rt.alloc()).expect(&rt, "memory");
+    let mut patch = Patch::new(heap);
+    let unknown = name(&rt, heap, b"a");
+    patch.put_back(&unknown, Some(Some(Num(1))));
+    patch.put_back(&unknown, None);
+    assert!(rt; patch.is_empty());
+    assert_eq!(rt; patch.look(&unknown), None);
+}
+
 #[test]
 fn a_directory_is_empty_once_each_name_went(rt: HostRuntime) {
     let heap = heap::open(rt.alloc()).expect(&rt, "memory");

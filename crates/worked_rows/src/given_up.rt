@@ -1,7 +1,6 @@
 // What is given up gives its numbers and its room back.
-use crate::row::{do_script, do_steps, kernel_of, steps_in};
+use crate::row::{do_script, do_steps, kernel_of, number_at, steps_in};
 use heap::Heap;
-use ids::{Answer, Bytes, Call, Op, Pid, Reply};
 use kernel::Kernel;
 use std::test::Fail;
 
@@ -20,16 +19,6 @@ fn requests_of_giving_up(heap: Heap, kernel: &mut Kernel) -> Result<u64, Fail> {
     Ok(heap.made())
 }
 
-// The number of what is at `/a`.
-fn number_of_a(heap: Heap, kernel: &mut Kernel) -> Result<usize, Fail> {
-    let path = Bytes::copy(heap, b"/a")?;
-    let reply = kernel.step(Pid(1), Op::Call(Call::Stat(path)));
-    match &reply {
-        Reply::Answer(Answer::Stat(stat)) => Ok(stat.num.0),
-        _ => Err(Fail::from("nothing is there")),
-    }
-}
-
 // How many requests the second of such transactions makes, the most that one of the next does, and
 // the number that a directory gets then.
 fn requests_after_the_first(heap: Heap, kernel: &mut Kernel) -> Result<[u64; 3], Fail> {
@@ -40,7 +29,7 @@ fn requests_after_the_first(heap: Heap, kernel: &mut Kernel) -> Result<[u64; 3],
         most = most.max(requests_of_giving_up(heap, kernel)?);
     }
     do_script(kernel, heap, "priorities 0\n1 mkdir /a\n", "1")?;
-    Ok([first, most, number_of_a(heap, kernel)? as u64])
+    Ok([first, most, number_at(heap, kernel, "/a")? as u64])
 }
 
 fn requests_and_number(heap: Heap) -> Result<[u64; 3], Fail> {

@@ -4,11 +4,17 @@
 #[cfg(test)]
 mod files;
 #[cfg(test)]
+mod freed;
+#[cfg(test)]
 mod given_up;
+#[cfg(test)]
+mod links;
 #[cfg(test)]
 mod paths;
 #[cfg(test)]
 mod refused;
+#[cfg(test)]
+mod renames;
 #[cfg(test)]
 mod row;
 #[cfg(test)]

@@ -4,7 +4,7 @@ ghost use Rattle.kernel.specs.Operations.{can_run, CanRunAll};
 
 use device::Halting;
 use heap::Heap;
-use ids::{Op, Pid};
+use ids::{Answer, Bytes, Call, Op, Pid, Reply};
 use kernel::{Kernel, is_there};
 use runner::print;
 use script::{Script, read_schedule, read_script, steps_of};
@@ -95,5 +95,15 @@ pub(crate) fn transcript_of(heap: Heap, kernel: &Kernel) -> Result<Vec<u8, Heap>
     match print(kernel.history(), &mut sink) {
         Ok(()) => Ok(sink.bytes),
         Err(_) => Err(Fail::from("no transcript")),
+    }
+}
+
+// The number of what is at a path.
+pub(crate) fn number_at(heap: Heap, kernel: &mut Kernel, path: &str) -> Result<usize, Fail> {
+    let path = Bytes::copy(heap, path.as_bytes())?;
+    let reply = kernel.step(Pid(1), Op::Call(Call::Stat(path)));
+    match &reply {
+        Reply::Answer(Answer::Stat(stat)) => Ok(stat.num.0),
+        _ => Err(Fail::from("nothing is there")),
     }
 }

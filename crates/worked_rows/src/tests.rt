@@ -1,5 +1,7 @@
 // Each row is run step by step, and as one run of the kernel.
 use crate::files::FILES;
+use crate::links::{FREED, LINKS};
+use crate::renames::RENAMES;
 use crate::row::{Row, do_script, kernel_of, steps_in, transcript_of};
 use crate::transactions::TRANSACTIONS;
 use crate::trees::TREES;
@@ -32,7 +34,14 @@ fn transcript_at_once(heap: Heap, row: &Row) -> Result<Vec<u8, Heap>, Fail> {
 #[test]
 fn steps_leave_the_transcript_of_the_row(rt: HostRuntime) -> Result<(), Fail> {
     let heap = heap::open(rt.alloc())?;
-    for row in TRANSACTIONS.iter().chain(TREES.iter()).chain(FILES.iter()) {
+    for row in TRANSACTIONS
+        .iter()
+        .chain(TREES.iter())
+        .chain(FILES.iter())
+        .chain(LINKS.iter())
+        .chain(FREED.iter())
+        .chain(RENAMES.iter())
+    {
         assert_eq!(rt;
             transcript_by_steps(heap, row)?.as_slice(),
             row.transcript.as_bytes()
@@ -44,7 +53,14 @@ fn steps_leave_the_transcript_of_the_row(rt: HostRuntime) -> Result<(), Fail> {
 #[test]
 fn a_run_leaves_the_transcript_of_the_row(rt: HostRuntime) -> Result<(), Fail> {
     let heap = heap::open(rt.alloc())?;
-    for row in TRANSACTIONS.iter().chain(TREES.iter()).chain(FILES.iter()) {
+    for row in TRANSACTIONS
+        .iter()
+        .chain(TREES.iter())
+        .chain(FILES.iter())
+        .chain(LINKS.iter())
+        .chain(FREED.iter())
+        .chain(RENAMES.iter())
+    {
         assert_eq!(rt;
             transcript_at_once(heap, row)?.as_slice(),
             row.transcript.as_bytes()
