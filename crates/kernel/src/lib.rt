@@ -1,7 +1,7 @@
 //! The kernel: one step of one process at a time, with transactions.
 //!
 //! Today there are directories and files: open, close, read, write, lseek, ftruncate, fstat, stat,
-//! mkdir, rmdir and list run, and no other call.
+//! mkdir, rmdir, list, link, unlink and rename run, and no other call.
 #![tactic(auto)]
 
 mod execute;
