@@ -17,9 +17,8 @@ use objects::{PIPE_CAPACITY, PipeData, part};
 use std::alloc::AllocError;
 use std::marker::Model;
 
-/// How many bytes of a pipe are taken, and which are appended. Appended bytes that every pipe has
-/// lost again, however many it held, are dropped, so there are at most so many taken as a pipe can
-/// hold.
+/// How many bytes of a pipe are taken, and which are appended. Bytes that are appended and taken
+/// again stay in the list, as they stay in the history.
 #[derive(Drop)]
 pub struct PipeShadow {
     taken: usize,
@@ -27,8 +26,6 @@ pub struct PipeShadow {
 }
 
 impl Model for PipeShadow {
-    ghost use Rattle.std.specs.Prelude.{◌≤◌};
-    ghost use Rattle.ids.specs.declared.limits.TheConstants.{PIPE_CAPACITY};
     ghost use Rattle.pipe_shadow.specs.View.{PipeChanges};
 
     ghost Value = { PipeChanges };
@@ -37,18 +34,6 @@ impl Model for PipeShadow {
       taken = s.taken;
       appended = s.appended.items;
     } };
-
-    ghost invariant = { λ s. s.taken ≤ PIPE_CAPACITY };
-}
-
-// Drops bytes from the front of a vector. It takes no memory.
-fn drop_front(bytes: &mut Vec<u8, Heap>, count: usize)
-    requires { count ≤ length bytes.old.items }
-    ensures { bytes.new.items ≡ drop count bytes.old.items }
-{
-    let len = bytes.len();
-    bytes.copy_within(count..len, 0);
-    bytes.truncate(len - count);
 }
 
 impl PipeShadow {
@@ -87,20 +72,19 @@ impl PipeShadow {
     }
 
     /// Takes so many bytes from the front of the view of each pipe that has them. It takes no
-    /// memory.
-    pub fn take(&mut self, count: usize)
-        requires { count ≤ PIPE_CAPACITY }
-        ensures view { (xs : List ℕ) → length xs ≤ PIPE_CAPACITY
-            → count ≤ length (view_over self.old xs)
-            → view_over self.new xs ≡ drop count (view_over self.old xs) }
-        ensures reaches { (xs : List ℕ) → length xs ≤ PIPE_CAPACITY
-            → count ≤ length (view_over self.old xs)
-            → Reaches self.old xs → Reaches self.new xs }
+    /// memory; `AllocError` says that they are more than can be counted, and nothing is changed.
+    pub fn take(&mut self, count: usize) -> Result<(), AllocError>
+        ensures view { OnOk result ((xs : List ℕ)
+            → view_over self.new xs ≡ drop count (view_over self.old xs)) }
+        ensures reaches { OnOk result ((xs : List ℕ) → count ≤ length (view_over self.old xs)
+            → Reaches self.old xs → Reaches self.new xs) }
+        ensures err { OnErr result (self.new ≡ self.old) }
     {
-        let taken = self.taken + count;
-        let own = taken.saturating_sub(PIPE_CAPACITY).min(self.appended.len());
-        drop_front(&mut self.appended, own);
-        self.taken = (taken - own).min(PIPE_CAPACITY);
+        let Some(taken) = self.taken.checked_add(count) else {
+            return Err(AllocError);
+        };
+        self.taken = taken;
+        Ok(())
     }
 
     /// Appends bytes to the view of each pipe. That they fit is for the caller to see. Refused
