@@ -141,6 +141,7 @@ over_after chosen e one = by_one (OverAfter chosen)
     (λ i inode mode pid s apart mid f n o made c is over. over)
     (λ d place apart mid f n o made c is over. over)
     (λ pid s pipes apart mid f n o made c is over. over)
+    (λ pid s d pipes apart mid f n o made c is over. over)
     e one
 
 -- the length of a file after an edit
@@ -213,6 +214,7 @@ room_after chosen e one = by_one (RoomAfter chosen)
     (λ i inode mode pid s mid f n low r new is more grown. same_room mid n low r new is more)
     (λ d place mid f n low r new is more grown. same_room mid n low r new is more)
     (λ pid s pipes mid f n low r new is more grown. same_room mid n low r new is more)
+    (λ pid s d pipes mid f n low r new is more grown. same_room mid n low r new is more)
     e one
 
 -- what was written before an edit is kept
@@ -251,6 +253,7 @@ kept_same chosen e one = by_one (KeptSame chosen)
     (λ i inode mode pid s mid f n o c is. refl)
     (λ d place mid f n o c is. refl)
     (λ pid s pipes mid f n o c is. refl)
+    (λ pid s d pipes mid f n o c is. refl)
     e one
 
 -- a description whose offset was set is there
@@ -292,6 +295,7 @@ moved_there chosen e one = by_one (MovedThere chosen)
     (λ i inode mode pid s mid f q place o is away same. open_moved q (new_in chosen i) place (Some (at_start (number chosen inode) mode)) o away same)
     (λ d pl mid f q place o is away same. set_moved d pl mid f q place o is same)
     (λ pid s pipes mid f q place o is away same. absurd (not_still place same))
+    (λ pid s d pipes mid f q place o is away same. absurd (not_still place same))
     e one
 
 moved_over : (new old : Opening) (there : Bool) (opened : Bool) → is_new new ≡ (opened || is_new old) → IsOverDescription old there
@@ -328,6 +332,7 @@ lives_before chosen e one = by_one (LivesBefore chosen)
     (λ i inode mode q s mid f pid o is changed. slot_lives q mid f.slot.alive pid o is _ changed)
     (λ d pl mid f pid o is changed. absurd (changed refl))
     (λ q s pipes mid f pid o is changed. slot_lives q mid f.alive pid o is _ changed)
+    (λ q s d pipes mid f pid o is changed. slot_lives q mid f.alive pid o is _ changed)
     e one
 
 alive_over : (new old : List (ℕ × Option ℕ)) (o : Option Process) → new ≢ [] → (old ≢ [] → is_some o ≡ true) → (old ≡ [] → reslotted_by new None ≢ None → is_some o ≡ true) → is_some o ≡ true
