@@ -56,6 +56,7 @@ pub mod Committing
 pub mod Composed
 pub mod Ready
 mod Becoming
+mod Promised
 pub mod Laws
 pub mod Finished
 pub mod Carried

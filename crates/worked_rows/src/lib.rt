@@ -18,8 +18,6 @@ mod renames;
 #[cfg(test)]
 mod row;
 #[cfg(test)]
-mod shared;
-#[cfg(test)]
 mod tests;
 #[cfg(test)]
 mod transactions;

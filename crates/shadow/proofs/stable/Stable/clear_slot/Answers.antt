@@ -4,15 +4,14 @@ use Rattle.freeing_laws.specs.Sweep.{closed}
 use Rattle.shadow.specs.Committed.{Committed}
 use Rattle.shadow.specs.Laid.{Frees}
 use Rattle.shadow.proofs.Edited.{same_of}
-use Rattle.shadow.proofs.SlotInState.{alive_process, frees_nothing, slotted_holds, slotted_keeps}
-use Rattle.shadow.proofs.SlotInState.{slotted_sound, slotted_tidy, slotting_alive}
-use Rattle.shadow.proofs.stable.Stable.reslot.Goals as goal
+use Rattle.shadow.proofs.SlotInState.{alive_process, cleared_holds, cleared_sound, cleared_state}
+use Rattle.shadow.proofs.SlotInState.{frees_nothing, slotted_keeps}
+use Rattle.shadow.proofs.stable.Stable.clear_slot.Goals as goal
 
 pub lay_slot-former-requires-clause-pid : goal.lay_slot-former-requires-clause-pid
 lay_slot-former-requires-clause-pid c = alive_process c.self.inside.processes.items c.args.pid
     (subst (λ (v : Committed). IsAlive v.state c.args.pid) (sym c.self.view_is)
-    (slotting_alive c.args.given c.args.self.now.state c.args.pid c.args.fd c.requires.fits.0
-    c.requires.fits.1))
+    c.requires.fits.1.alive)
 
 pub lay_slot-former-requires-clause-fd : goal.lay_slot-former-requires-clause-fd
 lay_slot-former-requires-clause-fd c = c.requires.low
@@ -22,7 +21,7 @@ close-requires c =
     let ps = c.self.inside.processes.items in let qs = c.lay_slot-former.new.processes.items
     in let s = c.self.inside.store in let t = c.lay_slot-former.new.store in (
       qs,
-      slotted_holds ps qs s t c.args.pid c.args.fd c.args.given c.requires.fits.0 c.self.invariant
+      cleared_holds ps qs s t c.args.pid c.args.fd c.requires.fits.0 c.self.invariant
           c.lay_slot-former.ensures.laid c.args.self.now c.self.view_is c.requires.fits.1
           c.lay_slot-former.result c.lay_slot-former.ensures.former,
     )
@@ -34,7 +33,7 @@ closes : (c : goal.After-close)
 closes c =
     let ps = c.self.inside.processes.items in let qs = c.lay_slot-former.new.processes.items
     in let s = c.self.inside.store in let t = c.lay_slot-former.new.store in
-    c.close.ensures qs (slotted_holds ps qs s t c.args.pid c.args.fd c.args.given c.requires.fits.0
+    c.close.ensures qs (cleared_holds ps qs s t c.args.pid c.args.fd c.requires.fits.0
     c.self.invariant c.lay_slot-former.ensures.laid c.args.self.now c.self.view_is
     c.requires.fits.1
     c.lay_slot-former.result c.lay_slot-former.ensures.former)
@@ -43,7 +42,7 @@ pub invariant_of-self : goal.invariant_of-self
 invariant_of-self c =
     let ps = c.self.inside.processes.items in let qs = c.lay_slot-former.new.processes.items
     in let s = c.self.inside.store in let t = c.lay_slot-former.new.store in
-    slotted_sound ps qs s t c.args.pid c.args.fd c.args.given c.requires.fits.0 c.self.invariant
+    cleared_sound ps qs s t c.args.pid c.args.fd c.requires.fits.0 c.self.invariant
     c.lay_slot-former.ensures.laid c.args.self.now c.self.view_is c.requires.fits.1
     (Some c.in-Some.description) (sym c.in-Some.is ∙ c.lay_slot-former.ensures.former)
     c.close.new.store (closes c)
@@ -52,10 +51,10 @@ pub invariant_of-self-in_default : goal.invariant_of-self-in_default
 invariant_of-self-in_default c =
     let ps = c.self.inside.processes.items in let qs = c.lay_slot-former.new.processes.items
     in let s = c.self.inside.store in let t = c.lay_slot-former.new.store in
-    slotted_sound ps qs s t c.args.pid c.args.fd c.args.given c.requires.fits.0 c.self.invariant
+    cleared_sound ps qs s t c.args.pid c.args.fd c.requires.fits.0 c.self.invariant
     c.lay_slot-former.ensures.laid c.args.self.now c.self.view_is c.requires.fits.1
     None (sym c.in_default.is ∙ c.lay_slot-former.ensures.former) t
-    (frees_nothing qs t (slotted_holds ps qs s t c.args.pid c.args.fd c.args.given c.requires.fits.0
+    (frees_nothing qs t (cleared_holds ps qs s t c.args.pid c.args.fd c.requires.fits.0
     c.self.invariant c.lay_slot-former.ensures.laid c.args.self.now c.self.view_is
     c.requires.fits.1
     c.lay_slot-former.result c.lay_slot-former.ensures.former))
@@ -64,7 +63,7 @@ pub returns-in-Some-clause-state : goal.returns-in-Some-clause-state
 returns-in-Some-clause-state c = λ pipes fits.
     let ps = c.self.inside.processes.items in let qs = c.lay_slot-former.new.processes.items
     in let s = c.self.inside.store in let t = c.lay_slot-former.new.store in
-    slotted_tidy ps qs s t c.args.pid c.args.fd c.args.given pipes c.self.invariant
+    cleared_state ps qs s t c.args.pid c.args.fd pipes c.self.invariant
     c.lay_slot-former.ensures.laid c.args.self.now c.self.view_is fits
     (Some c.in-Some.description) (sym c.in-Some.is ∙ c.lay_slot-former.ensures.former)
     c.close.new.store (closes c)
@@ -75,17 +74,17 @@ returns-in-Some-clause-kept c =
     in let s = c.self.inside.store in
     same_of ps qs s c.args.self.now c.self.view_is c.close.new.store
     (λ claim. (closes c).kept claim
-    ∙ slotted_keeps ps qs s c.lay_slot-former.new.store c.args.pid c.args.fd c.args.given
+    ∙ slotted_keeps ps qs s c.lay_slot-former.new.store c.args.pid c.args.fd None
     c.lay_slot-former.ensures.laid claim)
 
 pub returns-in_default-clause-state : goal.returns-in_default-clause-state
 returns-in_default-clause-state c = λ pipes fits.
     let ps = c.self.inside.processes.items in let qs = c.lay_slot-former.new.processes.items
     in let s = c.self.inside.store in let t = c.lay_slot-former.new.store in
-    slotted_tidy ps qs s t c.args.pid c.args.fd c.args.given pipes c.self.invariant
+    cleared_state ps qs s t c.args.pid c.args.fd pipes c.self.invariant
     c.lay_slot-former.ensures.laid c.args.self.now c.self.view_is fits
     None (sym c.in_default.is ∙ c.lay_slot-former.ensures.former) t
-    (frees_nothing qs t (slotted_holds ps qs s t c.args.pid c.args.fd c.args.given pipes c.self.invariant
+    (frees_nothing qs t (cleared_holds ps qs s t c.args.pid c.args.fd pipes c.self.invariant
     c.lay_slot-former.ensures.laid c.args.self.now c.self.view_is fits
     c.lay_slot-former.result c.lay_slot-former.ensures.former))
 
@@ -94,4 +93,4 @@ returns-in_default-clause-kept c =
     let ps = c.self.inside.processes.items in let qs = c.lay_slot-former.new.processes.items
     in let s = c.self.inside.store in let t = c.lay_slot-former.new.store in
     same_of ps qs s c.args.self.now c.self.view_is t
-    (slotted_keeps ps qs s t c.args.pid c.args.fd c.args.given c.lay_slot-former.ensures.laid)
+    (slotted_keeps ps qs s t c.args.pid c.args.fd None c.lay_slot-former.ensures.laid)
