@@ -20,6 +20,8 @@ can_call (List_directory path) = true
 can_call (Link old path) = true
 can_call (Unlink path) = true
 can_call (Rename old path) = true
+can_call (Dup fd) = true
+can_call (Dup2 old new) = true
 can_call _ = false
 
 -- the calls whose plans read the process's own descriptors; a fork reads more of the process

@@ -50,6 +50,8 @@ pub fn is_there(call: &Call) -> bool
             | Call::Link(_, _)
             | Call::Unlink(_)
             | Call::Rename(_, _)
+            | Call::Dup(_)
+            | Call::Dup2(_, _)
     )
 }
 

@@ -112,6 +112,7 @@ impl Transactions {
 
     /// Today a process sees no pipes.
     pub fn has_no_pipes(&self, pid: Pid)
+        requires { AllFit (changes_in (view_at self.now.slots pid)) self.now.stable.state }
         ensures { HasNoPipes
             (all_done (changes_in (view_at self.now.slots pid)) self.now.stable.state) }
     {

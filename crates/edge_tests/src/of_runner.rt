@@ -192,7 +192,7 @@ static RUNS: [(&str, Expected); 11] = [
 ];
 
 // A line with each call that is not supported yet, and what is expected of each.
-static UNSUPPORTED: [&str; 5] = ["dup 0", "dup2 0 1", "pipe", "fork", "exit"];
+static UNSUPPORTED: [&str; 3] = ["pipe", "fork", "exit"];
 
 static UNKNOWN: Expected = Expected {
     list: "1",

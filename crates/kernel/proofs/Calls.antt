@@ -9,7 +9,7 @@ use Rattle.kernel.proofs.Words.{IsDoomedBy, Doomed, effect, made_by, AreNew, wit
 use Rattle.kernel.proofs.Words.{calling, moment, Fields, Dooms, CanEnter, IsIn, Moves, part_at, part_of, shown_by, changes_of, doomed_by, is_no_entry, is_some}
 use Rattle.kernel.proofs.Words.{Edit, FitsAll, is_alive, sum_by, news, not, IfOk, filter, get, Name, A_file, A_directory, A_pipe, names_of, Make_directory}
 use Rattle.kernel.proofs.Words.{Unname_directory, Touch, touches, edits_of, counted, all_done, CanEdit, Committed, IsPlan, Plans, Live}
-use Rattle.model.specs.Changes.{Make_file, Name_file, Unname_file, Move, Put_bytes, Cut, Open_inode, Set_offset, Clear_slot}
+use Rattle.model.specs.Changes.{Make_file, Name_file, Unname_file, Move, Put_bytes, Cut, Open_inode, Set_offset, Share_slot, Clear_slot}
 use Rattle.call_laws.specs.Fits.{Fits}
 use Rattle.shadow.specs.Looks.{DirectoriesAreKept, HasNoPipes}
 use Rattle.shadow.specs.Steps.{IsOne, IsLast}
@@ -49,12 +49,14 @@ first_parents v kept chosen (Put_bytes n place bytes before) fit is = tt
 first_parents v kept chosen (Cut n before later) fit is = tt
 first_parents v kept chosen (Open_inode i inode mode pid f) fit is = tt
 first_parents v kept chosen (Set_offset d place) fit is = tt
+first_parents v kept chosen (Share_slot pid f d pipes) fit is = tt
 first_parents v kept chosen (Clear_slot pid f pipes) fit is = tt
 first_parents v kept chosen e fit is = elim is [ inl first ↦ absurd first | inr last ↦ absurd last.1 ]
 
 last_parents : (v : Committed) (m : ℕ) (e : Edit) → IsLast m e → HasParent v.reserves e
 last_parents v m (Open_inode i inode mode pid f) is = tt
 last_parents v m (Set_offset d place) is = tt
+last_parents v m (Share_slot pid f d pipes) is = tt
 last_parents v m (Clear_slot pid f pipes) is = tt
 last_parents v m e is = absurd is
 

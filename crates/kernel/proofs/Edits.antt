@@ -8,11 +8,11 @@ use Rattle.std.proofs.lemmas.Bool.{false≢true}
 use Rattle.model.specs.FiniteMap.{entries, get}
 use Rattle.model.specs.State.{A_file, A_directory, A_pipe, Kernel, Description, kind_of}
 use Rattle.model.specs.Plan.{Errno, Plan, Give, answer as answer_to, given, ◌>>=◌, ◌>>◌, ENOENT, ENOTDIR, ENOTEMPTY, EEXIST, EBUSY, EISDIR, EINVAL, EBADF, EFBIG, EPERM, ESPIPE, List_names, Measure, refuse_if, or_refuse}
-use Rattle.model.specs.Calls.{Call, Whence, Open, Close, Read, Write, Lseek, Ftruncate, Stat, Fstat, Link, Unlink, Rename, Mkdir, Rmdir, List_directory, OpenFlags, Own, Slot, slot_of, own}
+use Rattle.model.specs.Calls.{Call, Dup, Dup2, Whence, Open, Close, Read, Write, Lseek, Ftruncate, Stat, Fstat, Link, Unlink, Rename, Mkdir, Rmdir, List_directory, OpenFlags, Own, Slot, slot_of, own}
 use Rattle.model.specs.Changes.{process_of, There, Made}
 use Rattle.model.specs.Paths.{is_empty, is_below}
 use Rattle.model.specs.Walks.{Place, Last, parsed, walk, last_of, is_directory}
-use Rattle.model.specs.Plans.{Change, plan, status as told_status, absent, slot, slot_at, free, free_from, first_of_free, is_pipe, opened, cut_to, read_some, write_some, place_to_write, base, sought, moved, replaced_by_name, largest, descriptor_limit}
+use Rattle.model.specs.Plans.{Change, duplicated, plan, status as told_status, absent, slot, slot_at, free, free_from, first_of_free, is_pipe, opened, cut_to, read_some, write_some, place_to_write, base, sought, moved, replaced_by_name, largest, descriptor_limit}
 use Rattle.model.specs.Steps.{edits, edits_of}
 use Rattle.ids.specs.Flags.{is_reading, is_writing, is_creating, is_exclusive, is_truncating}
 use Rattle.model.proofs.Laws.{all_entries}
@@ -117,6 +117,10 @@ not_above a b e = search (arith, e)
 not_below : (a b : ℕ) → nat_lt a b ≡ false → b ≤ a
 not_below a b e = search (arith, e)
 
+shared_edits : (k : Kernel) (o : Own) (it : Slot) (fs : List ℕ) → AllByRecursion (λ g. g < descriptor_limit) fs → IfOk (given k (duplicated o it fs)) Edits
+shared_edits k o it [] low = tt
+shared_edits k o it (f ∷ fs) low = inr low.0
+
 write_edits : (k : Kernel) (it : Slot) (bytes : List ℕ) → is_pipe it.kind ≡ false → IfOk (given k (write_some it bytes)) Edits
 write_edits k it bytes file = either_given k Edits (is_pipe it.kind) _ _ (λ pipe. absurd (false≢true (sym file ∙ pipe)))
     (λ _. after k (place_to_write it it.appending) _ (λ place. allowed k Edits (nat_le largest place) EFBIG _ (λ low. (
@@ -168,6 +172,8 @@ module _ (k : Kernel) (pid : ℕ) (well : WellFormed k) (none : HasNoPipes k) wh
   planned (Rmdir path) h =
       after k (parsed path) _ (λ names. after k (last_of k.root EBUSY names) _ (λ at. after k (or_refuse ENOENT at.found) _ (λ what. unless k (not (is_directory what)) ENOTDIR _ (unless k (not (is_empty (answer_to k (List_names what.0)))) ENOTEMPTY _ (inl tt)))))
   planned (List_directory path) h = after k (parsed path) _ (λ names. after k (walk (k.root, Some A_directory) names) _ (λ place. unless k (not (is_directory place)) ENOTDIR _ tt))
+  planned (Dup f) h = on k pid well none (Dup f) f _ (λ it opened. shared_edits k (own k pid (Dup f)) it (free (own k pid (Dup f))) (all_free (own k pid (Dup f)).table 0 descriptor_limit))
+  planned (Dup2 f g) h = on k pid well none (Dup2 f g) f _ (λ it opened. allowed k Edits (nat_lt 63 g) EBADF _ (λ low. either_given k Edits (f == g) _ _ (λ _. tt) (λ _. inr (let few : g ≤ 63 = not_below 63 g low in omega arith))))
   planned call h = absurd (false≢true h)
 
   pub calls_edit : (call : Call) → can_call call ≡ true → CanEdit (edits k pid call)

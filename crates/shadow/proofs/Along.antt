@@ -1,6 +1,7 @@
 -- What a transaction keeps agrees with its edits, and still does after one edit more.
-use Rattle.std.proofs.Common.{◌≡◌, ◌≢◌, ◌↔◌, ℕ, suc, ◌+◌, ◌<◌, ◌≤◌, max, ◌==◌, nat_lt, ◌||◌, Bool, true, false, cond, Contains, length, is_some, List, [], ◌∷◌, ◌++◌, append_assoc, append-nil, Option, Some, None, refl, sym, ap, subst, ◌∙◌, arith, eqb-true, ltb-false, inl, inr, ◌⊎◌}
+use Rattle.std.proofs.Common.{◌≡◌, ◌≢◌, ◌↔◌, ℕ, suc, ◌+◌, ◌<◌, ◌≤◌, max, ◌==◌, nat_lt, ◌||◌, Bool, true, false, cond, Contains, length, is_some, List, [], ◌∷◌, ◌++◌, append_assoc, append-nil, Option, Some, None, refl, sym, ap, subst, ◌∙◌, arith, eqb-true, ltb-false, inl, inr, ◌⊎◌, ne_eqb, eq-eqb}
 use Rattle.std.specs.List.{AllByRecursion, flat_map}
+use Rattle.std.proofs.lemmas.Bool.{false≢true}
 use Rattle.std.proofs.lemmas.List.Elements.{Contains-append_cases, Contains-append_left, Contains-append_right}
 use Rattle.std.proofs.lemmas.List.Sums.{sum_by-append}
 use Rattle.model.specs.FiniteMap.{get}
@@ -27,13 +28,14 @@ use Rattle.shadow.proofs.Applied.{applies, by_one}
 pub record Along (done : Kernel → Kernel) (Fit : Kernel → Type 0) (given : ℕ → ℕ) (gone : List ℕ) (Wrote : ℕ → ℕ → Type 0) (p : Patches) : Type 0 where
   pub root : (k : Kernel) → (done k).root ≡ k.root
   pub count : (k : Kernel) → (done k).made ≡ k.made
-  pub inodes : (k : Kernel) (n : ℕ) → get (done k).inodes n ≡ patched (net_at p.inodes n).contents (get k.inodes n)
+  pub inodes : (k : Kernel) (n : ℕ) → Fit k → get (done k).inodes n ≡ patched (net_at p.inodes n).contents (get k.inodes n)
   pub descriptions : (k : Kernel) (d : ℕ) → get (done k).descriptions d ≡ reopened (opening_at p.openings d) (get k.descriptions d)
   pub processes : (k : Kernel) (pid : ℕ) → get (done k).processes pid ≡ reslotted (kept_at p.slots pid) (get k.processes pid)
   pub named : (n : ℕ) → given n ≡ (net_at p.inodes n).named
   pub unnamed : (n : ℕ) → times n p.lost ≡ (net_at p.inodes n).unnamed
   pub lost : gone ≡ p.lost
   pub added : (n : ℕ) → added_by (net_at p.inodes n).contents ≤ (net_at p.inodes n).promised
+  pub still : (n : ℕ) → form_of (net_at p.inodes n).contents ≡ no_change → (net_at p.inodes n).promised ≡ 0
   pub kinds : (k : Kernel) (n : ℕ) → Fit k → IsOver (kind_of k n) (net_at p.inodes n).made (form_of (net_at p.inodes n).contents)
   pub rooms : (k : Kernel) (n : ℕ) → Fit k → length (file_of (done k) n) ≤ max (length (file_of k n)) (net_at p.inodes n).room
   pub written : (k : Kernel) (n b : ℕ) → Fit k → Contains (numbers_in (net_at p.inodes n).contents) b ↔ Wrote n b
@@ -141,6 +143,7 @@ over_after chosen e one = by_one (OverAfter chosen)
     (λ i inode mode pid s apart mid f n o made c is over. over)
     (λ d place apart mid f n o made c is over. over)
     (λ pid s pipes apart mid f n o made c is over. over)
+    (λ pid s d pipes apart mid f n o made c is over. over)
     e one
 
 -- the length of a file after an edit
@@ -213,6 +216,7 @@ room_after chosen e one = by_one (RoomAfter chosen)
     (λ i inode mode pid s mid f n low r new is more grown. same_room mid n low r new is more)
     (λ d place mid f n low r new is more grown. same_room mid n low r new is more)
     (λ pid s pipes mid f n low r new is more grown. same_room mid n low r new is more)
+    (λ pid s d pipes mid f n low r new is more grown. same_room mid n low r new is more)
     e one
 
 -- what was written before an edit is kept
@@ -251,6 +255,7 @@ kept_same chosen e one = by_one (KeptSame chosen)
     (λ i inode mode pid s mid f n o c is. refl)
     (λ d place mid f n o c is. refl)
     (λ pid s pipes mid f n o c is. refl)
+    (λ pid s d pipes mid f n o c is. refl)
     e one
 
 -- a description whose offset was set is there
@@ -292,6 +297,7 @@ moved_there chosen e one = by_one (MovedThere chosen)
     (λ i inode mode pid s mid f q place o is away same. open_moved q (new_in chosen i) place (Some (at_start (number chosen inode) mode)) o away same)
     (λ d pl mid f q place o is away same. set_moved d pl mid f q place o is same)
     (λ pid s pipes mid f q place o is away same. absurd (not_still place same))
+    (λ pid s d pipes mid f q place o is away same. absurd (not_still place same))
     e one
 
 moved_over : (new old : Opening) (there : Bool) (opened : Bool) → is_new new ≡ (opened || is_new old) → IsOverDescription old there
@@ -328,12 +334,73 @@ lives_before chosen e one = by_one (LivesBefore chosen)
     (λ i inode mode q s mid f pid o is changed. slot_lives q mid f.slot.alive pid o is _ changed)
     (λ d pl mid f pid o is changed. absurd (changed refl))
     (λ q s pipes mid f pid o is changed. slot_lives q mid f.alive pid o is _ changed)
+    (λ q s d pipes mid f pid o is changed. slot_lives q mid f.alive pid o is _ changed)
     e one
 
 alive_over : (new old : List (ℕ × Option ℕ)) (o : Option Process) → new ≢ [] → (old ≢ [] → is_some o ≡ true) → (old ≡ [] → reslotted_by new None ≢ None → is_some o ≡ true) → is_some o ≡ true
 alive_over new (g ∷ gs) o some was then = was (λ e. absurd cc)
 alive_over [] [] o some was then = absurd (some refl)
 alive_over (g ∷ gs) [] o some was then = then refl (λ e. some_not_none _ e)
+
+-- what has changes after an edit, or gets a name by it, had changes before
+listed_some : (form : Form) → listed form ≢ no_change
+listed_some no_change e = absurd cc
+listed_some (of_names fresh) e = absurd cc
+listed_some (of_bytes fresh) e = absurd cc
+
+filed_some : (form : Form) → filed form ≢ no_change
+filed_some no_change e = absurd cc
+filed_some (of_names fresh) e = absurd cc
+filed_some (of_bytes fresh) e = absurd cc
+
+made_some : (what : What) → new_form what ≢ no_change
+made_some Dir_made e = absurd cc
+made_some File_made e = absurd cc
+
+no_parent : (n d : ℕ) → (n == d) ≡ false → times n (d ∷ []) ≡ 0
+no_parent n d h = ap (λ b. 0 + cond b 1 0) (ne_eqb d n (λ e. false≢true (sym h ∙ eq-eqb n d (sym e))))
+
+listed_before : (d n : ℕ) (form : Form) → cond (n == d) (listed form) form ≡ no_change → (form ≡ no_change) × ((n == d) ≡ false)
+listed_before d n form none = by_test (n == d) refl none
+  where
+    by_test : (b : Bool) → (n == d) ≡ b → cond b (listed form) form ≡ no_change → (form ≡ no_change) × ((n == d) ≡ false)
+    by_test true h e = absurd (listed_some form e)
+    by_test false h e = (e, h)
+
+abbrev StillBefore : List ℕ → Edit → Type 0
+StillBefore chosen e = (n : ℕ) (form : Form) → form_after chosen e n form ≡ no_change → (form ≡ no_change) × (times n (parents_in e) ≡ 0)
+
+made_before : (what : What) (d m n : ℕ) (form : Form) → cond (n == d) (listed (cond (n == m) (new_form what) form)) (cond (n == m) (new_form what) form) ≡ no_change → (form ≡ no_change) × (times n (d ∷ []) ≡ 0)
+made_before what d m n form none =
+    let outer = listed_before d n (cond (n == m) (new_form what) form) none in
+    (by_test (n == m) outer.0, no_parent n d outer.1)
+  where
+    by_test : (b : Bool) → cond b (new_form what) form ≡ no_change → form ≡ no_change
+    by_test true e = absurd (made_some what e)
+    by_test false e = e
+
+filed_before : (m n : ℕ) (form : Form) → cond (n == m) (filed form) form ≡ no_change → (form ≡ no_change) × (times n [] ≡ 0)
+filed_before m n form none = by_test (n == m) none
+  where
+    by_test : (b : Bool) → cond b (filed form) form ≡ no_change → (form ≡ no_change) × (times n [] ≡ 0)
+    by_test true e = absurd (filed_some form e)
+    by_test false e = (e, refl)
+
+still_before : (chosen : List ℕ) (e : Edit) → IsOne e → StillBefore chosen e
+still_before chosen e one = by_one (StillBefore chosen)
+    (λ d x i. made_before Dir_made d (new_in chosen i))
+    (λ d x i. made_before File_made d (new_in chosen i))
+    (λ d x m n form none. ((listed_before d n form none).0, refl))
+    (λ d x m n form none. ((listed_before d n form none).0, no_parent n d (listed_before d n form none).1))
+    (λ d x m n form none. ((listed_before d n form none).0, refl))
+    (λ d x e y m replaced n form none. ((listed_before d n form (listed_before e n (cond (n == d) (listed form) form) none).0).0, no_parent n e (listed_before e n (cond (n == d) (listed form) form) none).1))
+    (λ m place bytes before. filed_before m)
+    (λ m before after. filed_before m)
+    (λ i inode mode pid s n form none. (none, refl))
+    (λ d place n form none. (none, refl))
+    (λ pid s pipes n form none. (none, refl))
+    (λ pid s d pipes n form none. (none, refl))
+    e one
 
 -- one edit more
 pub along_step : (done : Kernel → Kernel) (Fit : Kernel → Type 0) (given : ℕ → ℕ) (gone : List ℕ) (Wrote : ℕ → ℕ → Type 0) (p q : Patches) (chosen : List ℕ) (e : Edit)
@@ -342,17 +409,22 @@ pub along_step : (done : Kernel → Kernel) (Fit : Kernel → Type 0) (given : �
 along_step done Fit given gone Wrote p q chosen e one apart t a = record {
   root = λ k. (step k).root ∙ a.root k;
   count = λ k. (step k).made ∙ a.count k;
-  inodes = λ k n. (step k).inodes n ∙ ap (inode_after chosen e n) (a.inodes k n) ∙ sym (t.inodes n (get k.inodes n));
+  inodes = λ k n fit. (step k).inodes n ∙ ap (inode_after chosen e n) (a.inodes k n fit.0) ∙ sym (t.inodes n (get k.inodes n));
   descriptions = λ k d. (step k).descriptions d ∙ ap (description_after chosen e d) (a.descriptions k d) ∙ sym (t.descriptions d (get k.descriptions d));
   processes = λ k pid. (step k).processes pid ∙ ap (process_after chosen e pid) (a.processes k pid) ∙ sym (t.processes pid (get k.processes pid));
   named = λ n. ap (λ m. m + times n (named chosen e)) (a.named n) ∙ sym (t.named n);
   unnamed = λ n. ap (times n) t.lost ∙ sum_by-append (λ v. cond (v == n) 1 0) p.lost (unnamed e) ∙ ap (λ m. m + times n (unnamed e)) (a.unnamed n) ∙ sym (t.unnamed n);
   lost = ap (λ xs. xs ++ unnamed e) a.lost ∙ sym t.lost;
   added = added;
+  still = λ n none. (
+      let before = still_before chosen e one n (form_of (net_at p.inodes n).contents) (sym (t.forms n) ∙ none) in
+      let was : (net_at p.inodes n).promised ≡ 0 = a.still n before.0 in
+      let more : times n (parents_in e) ≡ 0 = before.1 in
+      let now : (net_at q.inodes n).promised ≡ (net_at p.inodes n).promised + times n (parents_in e) = t.promised n in omega arith);
   kinds = λ k n fit.
       subst (λ m. IsOver (kind_of k n) m (form_of (net_at q.inodes n).contents)) (sym (t.made n))
       (subst (λ f. IsOver (kind_of k n) (made_after chosen e n (net_at p.inodes n).made) f) (sym (t.forms n))
-      (over_after chosen e one apart (done k) fit.1 n (get k.inodes n) (net_at p.inodes n).made (net_at p.inodes n).contents (a.inodes k n) (a.kinds k n fit.0)));
+      (over_after chosen e one apart (done k) fit.1 n (get k.inodes n) (net_at p.inodes n).made (net_at p.inodes n).contents (a.inodes k n fit.0) (a.kinds k n fit.0)));
   rooms = λ k n fit.
       subst (λ o. length (file_of_inode o) ≤ max (length (file_of k n)) (net_at q.inodes n).room) (sym ((step k).inodes n))
       (room_after chosen e one (done k) fit.1 n (length (file_of k n)) (net_at p.inodes n).room (net_at q.inodes n).room (a.rooms k n fit.0) (t.room n) (t.grown n));
@@ -377,7 +449,7 @@ along_step done Fit given gone Wrote p q chosen e one apart t a = record {
         let before : added_by (net_at p.inodes n).contents ≤ (net_at p.inodes n).promised = a.added n in omega arith
 
     kept : (k : Kernel) (n : ℕ) → Fit k × Fits chosen (done k) e → numbers_kept chosen e n (numbers_in (net_at p.inodes n).contents) ≡ numbers_in (net_at p.inodes n).contents
-    kept k n fit = kept_same chosen e one (done k) fit.1 n (get k.inodes n) (net_at p.inodes n).contents (a.inodes k n)
+    kept k n fit = kept_same chosen e one (done k) fit.1 n (get k.inodes n) (net_at p.inodes n).contents (a.inodes k n fit.0)
 
     there : (k : Kernel) (n b : ℕ) → Fit k × Fits chosen (done k) e → Contains (numbers_in (net_at q.inodes n).contents) b → Wrote n b ⊎ Contains (blocks_by n e) b
     there k n b fit has = elim (Contains-append_cases (numbers_in (net_at p.inodes n).contents) (blocks_by n e) b (subst (λ ns. Contains (ns ++ blocks_by n e) b) (kept k n fit) ((t.written n b).0 has))) [
@@ -399,13 +471,14 @@ pub along_same : (done other : Kernel → Kernel) (Fit Fits' : Kernel → Type 0
 along_same done other Fit Fits' given given' gone gone' Wrote Wrote' p same fits is left wrote a = record {
   root = λ k. ap (λ (k : Kernel). k.root) (same k) ∙ a.root k;
   count = λ k. ap (λ (k : Kernel). k.made) (same k) ∙ a.count k;
-  inodes = λ k n. ap (λ (k : Kernel). get k.inodes n) (same k) ∙ a.inodes k n;
+  inodes = λ k n fit. ap (λ (k : Kernel). get k.inodes n) (same k) ∙ a.inodes k n (fits k fit);
   descriptions = λ k d. ap (λ (k : Kernel). get k.descriptions d) (same k) ∙ a.descriptions k d;
   processes = λ k pid. ap (λ (k : Kernel). get k.processes pid) (same k) ∙ a.processes k pid;
   named = λ n. is n ∙ a.named n;
   unnamed = a.unnamed;
   lost = left ∙ a.lost;
   added = a.added;
+  still = a.still;
   kinds = λ k n fit. a.kinds k n (fits k fit);
   rooms = λ k n fit. subst (λ later. length (file_of later n) ≤ max (length (file_of k n)) (net_at p.inodes n).room) (sym (same k)) (a.rooms k n (fits k fit));
   written = λ k n b fit. (λ has. (wrote n b).0 ((a.written k n b (fits k fit)).0 has), λ has. (a.written k n b (fits k fit)).1 ((wrote n b).1 has));

@@ -24,30 +24,30 @@ pub by_one : (P : Edit → Type 0)
     → ((i : ℕ) (inode : Which) (mode : Mode) (pid f : ℕ) → P (Open_inode i inode mode pid f))
     → ((d place : ℕ) → P (Set_offset d place))
     → ((pid f : ℕ) (pipes : List ℕ) → P (Clear_slot pid f pipes))
+    → ((pid f d : ℕ) (pipes : List ℕ) → P (Share_slot pid f d pipes))
     → (e : Edit) → IsOne e → P e
-by_one P a b c l u m d e f g h (Make_directory p x i) one = a p x i
-by_one P a b c l u m d e f g h (Make_file p x i) one = b p x i
-by_one P a b c l u m d e f g h (Unname_directory p x n) one = c p x n
-by_one P a b c l u m d e f g h (Put_bytes n place bytes before) one = d n place bytes before
-by_one P a b c l u m d e f g h (Cut n before after) one = e n before after
-by_one P a b c l u m d e f g h (Open_inode i inode mode pid s) one = f i inode mode pid s
-by_one P a b c l u m d e f g h (Set_offset o place) one = g o place
-by_one P a b c l u m d e f g h (Clear_slot pid s pipes) one = h pid s pipes
-by_one P a b c l u m d e f g h (Name_file p x n) one = l p x n
-by_one P a b c l u m d e f g h (Unname_file p x n) one = u p x n
-by_one P a b c l u m d e f g h (Move p x q y n replaced) one = m p x q y n replaced
-by_one P a b c l u m d e f g h (Take p count) (inl one) = absurd one
-by_one P a b c l u m d e f g h (Take p count) (inr one) = absurd one.1
-by_one P a b c l u m d e f g h (Append p bytes) (inl one) = absurd one
-by_one P a b c l u m d e f g h (Append p bytes) (inr one) = absurd one.1
-by_one P a b c l u m d e f g h (Make_pipe i pid s t) (inl one) = absurd one
-by_one P a b c l u m d e f g h (Make_pipe i pid s t) (inr one) = absurd one.1
-by_one P a b c l u m d e f g h (Share_slot pid s o pipes) (inl one) = absurd one
-by_one P a b c l u m d e f g h (Share_slot pid s o pipes) (inr one) = absurd one.1
-by_one P a b c l u m d e f g h (New_process child parent pipes) (inl one) = absurd one
-by_one P a b c l u m d e f g h (New_process child parent pipes) (inr one) = absurd one.1
-by_one P a b c l u m d e f g h (End_process pid pipes) (inl one) = absurd one
-by_one P a b c l u m d e f g h (End_process pid pipes) (inr one) = absurd one.1
+by_one P a b c l u m d e f g h t (Make_directory p x i) one = a p x i
+by_one P a b c l u m d e f g h t (Make_file p x i) one = b p x i
+by_one P a b c l u m d e f g h t (Unname_directory p x n) one = c p x n
+by_one P a b c l u m d e f g h t (Put_bytes n place bytes before) one = d n place bytes before
+by_one P a b c l u m d e f g h t (Cut n before after) one = e n before after
+by_one P a b c l u m d e f g h t (Open_inode i inode mode pid s) one = f i inode mode pid s
+by_one P a b c l u m d e f g h t (Set_offset o place) one = g o place
+by_one P a b c l u m d e f g h t (Clear_slot pid s pipes) one = h pid s pipes
+by_one P a b c l u m d e f g h t (Name_file p x n) one = l p x n
+by_one P a b c l u m d e f g h t (Unname_file p x n) one = u p x n
+by_one P a b c l u m d e f g h t (Move p x q y n replaced) one = m p x q y n replaced
+by_one P a b c l u m d e f g h t (Take p count) (inl one) = absurd one
+by_one P a b c l u m d e f g h t (Take p count) (inr one) = absurd one.1
+by_one P a b c l u m d e f g h t (Append p bytes) (inl one) = absurd one
+by_one P a b c l u m d e f g h t (Append p bytes) (inr one) = absurd one.1
+by_one P a b c l u m d e f g h t (Make_pipe i pid s r) (inl one) = absurd one
+by_one P a b c l u m d e f g h t (Make_pipe i pid s r) (inr one) = absurd one.1
+by_one P a b c l u m d e f g h t (Share_slot pid s o pipes) one = t pid s o pipes
+by_one P a b c l u m d e f g h t (New_process child parent pipes) (inl one) = absurd one
+by_one P a b c l u m d e f g h t (New_process child parent pipes) (inr one) = absurd one.1
+by_one P a b c l u m d e f g h t (End_process pid pipes) (inl one) = absurd one
+by_one P a b c l u m d e f g h t (End_process pid pipes) (inr one) = absurd one.1
 
 -- what holds of each edit that may come first, and of each that may come last
 pub first_cases : (P : Edit → Type 0)
@@ -82,24 +82,25 @@ pub last_cases : (m : ℕ) (P : Edit → Type 0)
     → ((i : ℕ) (inode : Which) (mode : Mode) (pid f : ℕ) → i ≡ m → P (Open_inode i inode mode pid f))
     → ((d place : ℕ) → P (Set_offset d place))
     → ((pid f : ℕ) (pipes : List ℕ) → P (Clear_slot pid f pipes))
+    → ((pid f d : ℕ) (pipes : List ℕ) → P (Share_slot pid f d pipes))
     → (e : Edit) → IsLast m e → P e
-last_cases k P f g h (Open_inode i inode mode pid s) last = f i inode mode pid s last.0
-last_cases k P f g h (Set_offset m place) last = g m place
-last_cases k P f g h (Clear_slot pid s pipes) last = h pid s pipes
-last_cases k P f g h (Make_directory p x i) last = absurd last
-last_cases k P f g h (Make_file p x i) last = absurd last
-last_cases k P f g h (Unname_directory p x n) last = absurd last
-last_cases k P f g h (Put_bytes n place bytes before) last = absurd last
-last_cases k P f g h (Cut n before after) last = absurd last
-last_cases k P f g h (Name_file p x n) last = absurd last
-last_cases k P f g h (Unname_file p x n) last = absurd last
-last_cases k P f g h (Move p x q y n replaced) last = absurd last
-last_cases k P f g h (Take p count) last = absurd last
-last_cases k P f g h (Append p bytes) last = absurd last
-last_cases k P f g h (Make_pipe i pid s t) last = absurd last
-last_cases k P f g h (Share_slot pid s m pipes) last = absurd last
-last_cases k P f g h (New_process child parent pipes) last = absurd last
-last_cases k P f g h (End_process pid pipes) last = absurd last
+last_cases k P f g h t (Open_inode i inode mode pid s) last = f i inode mode pid s last.0
+last_cases k P f g h t (Set_offset m place) last = g m place
+last_cases k P f g h t (Clear_slot pid s pipes) last = h pid s pipes
+last_cases k P f g h t (Make_directory p x i) last = absurd last
+last_cases k P f g h t (Make_file p x i) last = absurd last
+last_cases k P f g h t (Unname_directory p x n) last = absurd last
+last_cases k P f g h t (Put_bytes n place bytes before) last = absurd last
+last_cases k P f g h t (Cut n before after) last = absurd last
+last_cases k P f g h t (Name_file p x n) last = absurd last
+last_cases k P f g h t (Unname_file p x n) last = absurd last
+last_cases k P f g h t (Move p x q y n replaced) last = absurd last
+last_cases k P f g h t (Take p count) last = absurd last
+last_cases k P f g h t (Append p bytes) last = absurd last
+last_cases k P f g h t (Make_pipe i pid s r) last = absurd last
+last_cases k P f g h t (Share_slot pid s o pipes) last = t pid s o pipes
+last_cases k P f g h t (New_process child parent pipes) last = absurd last
+last_cases k P f g h t (End_process pid pipes) last = absurd last
 
 -- a value that changes as a function of what was there
 pub changed_at : {X : Type 0} (m : FinMap nat_cmp X) (n q : ℕ) (f : Option X → X) → get (insert m n (f (get m n))) q ≡ cond (q == n) (Some (f (get m q))) (get m q)
@@ -229,5 +230,12 @@ applies chosen e one k = by_one (λ e. Applies chosen e k (applied chosen e k))
       inodes = λ n. refl;
       descriptions = λ d. refl;
       processes = λ q. changed_at k.processes pid q (λ o. without_slot f (or_new o));
+    })
+    (λ pid f d pipes. record {
+      root = refl;
+      made = refl;
+      inodes = λ n. refl;
+      descriptions = λ e. refl;
+      processes = λ q. changed_at k.processes pid q (λ o. with_slot f d (or_new o));
     })
     e one

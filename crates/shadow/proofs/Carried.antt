@@ -21,7 +21,6 @@ use Rattle.shadow.specs.Laid.{AreReady, IsCarried, IsCarriedBy, IsReadyContents,
 use Rattle.shadow.specs.Patches.{Patches, form_of, is_new, kept_at, net_at, net_of, opening_at, patched}
 use Rattle.shadow.specs.Stored.{AreCounted, committed_of, state_of}
 use Rattle.shadow.proofs.Becoming.{Becomes, bytes_become, claim_of, inode_seen, names_become, stays_as_it_is}
-use Rattle.shadow.proofs.Promised.{none_promised}
 use Rattle.shadow.proofs.Committing.{AreCarried, CanCommit, HasInodes}
 use Rattle.shadow.proofs.Edited.{Counts, counted_by, counts_of, counts_of_state, reserved_is}
 use Rattle.shadow.proofs.Kept_on.{kept_by, kept_is}
@@ -65,7 +64,7 @@ module _ {ps : List Process} {s after : Numbers} {ds : List Effect} {p : Patches
       over = subst (λ o. IsOver (mapped kind (inode_seen (get s.places n))) (net_of o).made (form_of (net_of o).contents)) is (over_at n)
 
       none : c.contents ≡ Same → 0 ≡ c.promised
-      none same = sym (subst (λ o. (net_of o).contents ≡ Same → (net_of o).promised ≡ 0) is (none_promised ds p can.agrees n) same)
+      none same = sym (subst (λ o. (net_of o).contents ≡ Same → (net_of o).promised ≡ 0) is (λ is_same. can.agrees.still n (ap form_of is_same)) same)
 
       by_contents : (w : Contents) → c.contents ≡ w → IsReadyContents s n c w → IsCarriedBy c w (get s.places n) (get after.places n) → Becomes w c.made c.promised (get s.places n) (get after.places n)
       by_contents Same same made carried =
@@ -83,7 +82,7 @@ module _ {ps : List Process} {s after : Numbers} {ds : List Effect} {p : Patches
 
   inodes_after : inodes after ≡ (all_done ds k).inodes
   inodes_after = same_map nat_cmp_total nat_cmp-IsAntisymmetric (inodes after) (all_done ds k).inodes (λ n.
-      get-inodes after n ∙ (becomes_at n).inode ∙ ap (patched (net_at p.inodes n).contents) (sym (get-inodes s n)) ∙ sym (can.agrees.inodes k n))
+      get-inodes after n ∙ (becomes_at n).inode ∙ ap (patched (net_at p.inodes n).contents) (sym (get-inodes s n)) ∙ sym (can.agrees.inodes k n can.fits))
 
   descriptions_after : descriptions after ≡ descriptions s
   descriptions_after = same_map nat_cmp_total nat_cmp-IsAntisymmetric (descriptions after) (descriptions s) (λ n.

@@ -7,7 +7,7 @@ use Rattle.std.proofs.lemmas.List.Concat.{flat_map-cons}
 use Rattle.std.proofs.lemmas.Grind.{flat_map-append}
 use Rattle.std.specs.Ordering.{nat_cmp}
 use Rattle.model.specs.FiniteMap.{FinMap, get}
-use Rattle.model.specs.Changes.{Edit, Make_directory, Make_file, Name_file, Unname_file, Unname_directory, Move, Put_bytes, Cut, Open_inode, Set_offset, Clear_slot, news}
+use Rattle.model.specs.Changes.{Edit, Make_directory, Make_file, Name_file, Unname_file, Unname_directory, Move, Put_bytes, Cut, Open_inode, Set_offset, Share_slot, Clear_slot, news}
 use Rattle.model.specs.Moments.{is_in}
 use Rattle.model.specs.Steps.{AllDifferent, IsNowhere}
 use Rattle.model.proofs.Laws.{append-all}
@@ -251,6 +251,7 @@ few_first _ first = absurd first
 few_last : (m : ℕ) (e : Edit) → IsLast m e → news e ≤ 1
 few_last m (Open_inode i inode mode pid f) last = omega arith
 few_last m (Set_offset d place) last = omega arith
+few_last m (Share_slot pid f d pipes) last = omega arith
 few_last m (Clear_slot pid f pipes) last = omega arith
 few_last m _ last = absurd last
 

@@ -7,7 +7,7 @@ use Rattle.std.proofs.lemmas.List.Sums.{sum_by-cons}
 use Rattle.ids.specs.declared.edit.Mode.{Mode}
 use Rattle.model.specs.State.{Kernel, Name}
 use Rattle.model.specs.Changes.{Clear_slot, Cut, Edit, Make_directory, Make_file, Open_inode}
-use Rattle.model.specs.Changes.{Move, Name_file, Replaced, Unname_file}
+use Rattle.model.specs.Changes.{Move, Name_file, Replaced, Share_slot, Unname_file}
 use Rattle.model.specs.Changes.{Put_bytes, Set_offset, Unname_directory, Which, all_applied}
 use Rattle.model.specs.Changes.{applied, news, tidy}
 use Rattle.call_laws.specs.Fits.{Fits, FitsAll}
@@ -40,7 +40,7 @@ and_false false = refl
 claimed_alone : (chosen : List ℕ) (e : Edit) → IsOne e → ClaimsAlone chosen e
 claimed_alone chosen e one =
     by_one (ClaimsAlone chosen) directory file unnaming linking unlinking renaming put cut opening
-    moving clearing e one
+    moving clearing sharing e one
   where
     unnaming : (d : ℕ) (x : Name) (m : ℕ) → ClaimsAlone chosen (Unname_directory d x m)
     unnaming d x m (Room r) = refl
@@ -83,6 +83,11 @@ claimed_alone chosen e one =
     clearing pid f pipes (Room r) = refl
     clearing pid f pipes (New_directory n) = refl
     clearing pid f pipes (Number n) = refl
+
+    sharing : (pid f d : ℕ) (pipes : List ℕ) → ClaimsAlone chosen (Share_slot pid f d pipes)
+    sharing pid f d pipes (Room r) = refl
+    sharing pid f d pipes (New_directory n) = refl
+    sharing pid f d pipes (Number n) = refl
 
     directory : (d : ℕ) (x : Name) (i : ℕ) → ClaimsAlone chosen (Make_directory d x i)
     directory d x i (Room r) = refl

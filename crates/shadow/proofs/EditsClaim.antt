@@ -70,6 +70,7 @@ directory_claim chosen e one = by_one (DirectoryClaim chosen)
     (λ i inode mode pid s n made unused. no_directory (new_in chosen i) n made)
     (λ d place n made unused. omega arith)
     (λ pid s pipes n made unused. omega arith)
+    (λ pid s d pipes n made unused. omega arith)
     e one
 
 -- another new number's claims
@@ -111,6 +112,7 @@ other_claim chosen e one = by_one (OtherClaim chosen)
     (λ i inode mode pid s n made fresh unused. opened_other (new_in chosen i) n made fresh unused.0)
     (λ d place n made fresh unused. omega arith)
     (λ pid s pipes n made fresh unused. omega arith)
+    (λ pid s d pipes n made fresh unused. omega arith)
     e one
 
 each : {A : Type 0} {P Q : A → Type 0} (xs : List A) → ((x : A) → P x → Q x) → AllByRecursion P xs → AllByRecursion Q xs
@@ -174,7 +176,7 @@ first_each chosen P e first = first_cases (λ e. (news e ≡ 1 → P (get_or cho
 last_each : (chosen : List ℕ) (P : ℕ → Type 0) (m : ℕ) (e : Edit) → IsLast m e → (news e ≡ 1 → P (get_or chosen m 0)) → AllByRecursion (λ (z : ℕ × Bool). P z.0) (mine chosen e)
 last_each chosen P m e last = last_cases m (λ e. (news e ≡ 1 → P (get_or chosen m 0)) → AllByRecursion (λ (z : ℕ × Bool). P z.0) (mine chosen e))
     (λ i inode mode pid f is h. (subst (λ j. P (get_or chosen j 0)) (sym is) (h refl), tt))
-    (λ d place h. tt) (λ pid f pipes h. tt) e last
+    (λ d place h. tt) (λ pid f pipes h. tt) (λ pid f d pipes h. tt) e last
 
 free_mine : (p : Patches) (chosen : List ℕ) (e : Edit) → AreFree p chosen → IsMine chosen e → AllByRecursion (λ (z : ℕ × Bool). IsUnclaimed p z.0) (mine chosen e)
 free_mine p chosen e free listed = each (mine chosen e) (λ z in_it. free z.0 in_it) listed
@@ -215,6 +217,7 @@ kinds_last m cs chosen same e last = last_cases m (λ e. length cs ≡ news e �
     (λ i inode mode pid f is long. by_list cs same i is long)
     (λ d place long. ap (λ ns. with_kinds ns []) (no_more cs long))
     (λ pid f pipes long. ap (λ ns. with_kinds ns []) (no_more cs long))
+    (λ pid f d pipes long. ap (λ ns. with_kinds ns []) (no_more cs long))
     e last
   where
     by_list : (cs : List ℕ) → get_or chosen m 0 ≡ get_or cs 0 0 → (i : ℕ) → i ≡ m → length cs ≡ 1 → with_kinds cs (false ∷ []) ≡ (get_or chosen i 0, false) ∷ []

@@ -47,4 +47,4 @@ kept_over ds p s a fits covers kept d is =
     let most = covers (New_directory d) in
     let claims = a.claims (New_directory d) in
     omega (arith, most, claims, one))
-    (kept d) (sym (ap (mapped kind) (a.inodes s.state d)) ∙ is)
+    (kept d) (sym (ap (mapped kind) (a.inodes s.state d fits)) ∙ is)

@@ -56,7 +56,6 @@ pub mod Committing
 pub mod Composed
 pub mod Ready
 mod Becoming
-mod Promised
 pub mod Laws
 pub mod Finished
 pub mod Carried

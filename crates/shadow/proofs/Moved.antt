@@ -4,7 +4,7 @@ use Rattle.std.proofs.lemmas.Bool.{cases_eq}
 use Rattle.ids.specs.declared.edit.Mode.{Mode}
 use Rattle.fdtable.specs.Patches.{Given}
 use Rattle.model.specs.State.{Description, Process, mapped}
-use Rattle.model.specs.Changes.{Clear_slot, Open_inode, Set_offset, Which, at_offset, at_start, number}
+use Rattle.model.specs.Changes.{Clear_slot, Share_slot, Open_inode, Set_offset, Which, at_offset, at_start, number}
 use Rattle.model.specs.Moments.{is_in}
 use Rattle.shadow.specs.declared.opening.Opening.{Opening}
 use Rattle.shadow.specs.Patches.{Patches, is_new, net_at, kept_at, numbers_in, opening_at, reopened, reslotted}
@@ -105,5 +105,24 @@ clearing_takes chosen pid f pipes old slots slotted = record {
   grown = λ n. omega arith;
   added = λ n. omega arith;
   news = λ d. refl;
+  written = λ n b. as_written b (numbers_in (net_at old.inodes n).contents) (numbers_in (net_at old.inodes n).contents) refl;
+}
+
+pub sharing_takes : (chosen : List ℕ) (pid f d : ℕ) (pipes : List ℕ) (old : Patches) (slots : List (ℕ × Given)) → AtSlots pid f (Some d) old.slots slots
+    → TakesIn chosen (Share_slot pid f d pipes) old (record old { slots = slots })
+sharing_takes chosen pid f d pipes old slots slotted = record {
+  inodes = λ n o. refl;
+  descriptions = λ e o. refl;
+  processes = slot_at pid f (Some d) old.slots slots slotted;
+  made = λ n. refl;
+  promised = λ n. omega arith;
+  named = λ n. omega arith;
+  unnamed = λ n. omega arith;
+  lost = sym (append-nil old.lost);
+  forms = λ n. refl;
+  room = λ n. omega arith;
+  grown = λ n. omega arith;
+  added = λ n. omega arith;
+  news = λ e. refl;
   written = λ n b. as_written b (numbers_in (net_at old.inodes n).contents) (numbers_in (net_at old.inodes n).contents) refl;
 }

@@ -319,7 +319,7 @@ module _ {ps : List Process} {s : Numbers} {ds : List Effect} {p : Patches}
     room = subst (λ r. (net_at p.inodes n).promised ≤ or_zero (room_of r)) (reserve_at n)
         (claim_kept (Room n));
     added = can.agrees.added n;
-    after = can.agrees.inodes (state_of ps s) n
+    after = can.agrees.inodes (state_of ps s) n can.fits
         ∙ ap (patched (net_at p.inodes n).contents) (inode_at n);
     grown = subst
         (λ o. length (file_of done n) ≤ max (length (file_of_inode o)) (net_at p.inodes n).room)

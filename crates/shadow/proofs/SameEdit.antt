@@ -1,11 +1,11 @@
 -- What an edit makes of a state does not hang on numbers of the call that the edit does not use,
 -- nor on
 -- what it says of the state before.
-use Rattle.std.proofs.Common.{◌≡◌, ℕ, List, [], ◌∷◌, false, refl, sym, ap, ◌∙◌}
+use Rattle.std.proofs.Common.{◌≡◌, ℕ, List, [], ◌∷◌, Option, Some, None, false, refl, sym, ap, ◌∙◌}
 use Rattle.ids.specs.declared.edit.Mode.{Mode}
 use Rattle.model.specs.State.{Directory, File, Kernel, Name}
 use Rattle.model.specs.FiniteMap.{empty}
-use Rattle.model.specs.Changes.{Clear_slot, Cut, Edit, Make_directory, Make_file, Open_inode}
+use Rattle.model.specs.Changes.{Cut, Edit, Make_directory, Make_file, Open_inode}
 use Rattle.model.specs.Changes.{Move, Name_file, Put_bytes, Replaced, There, Which, applied, number}
 use Rattle.model.specs.Changes.{open_at}
 use Rattle.model.specs.Changes.{set_inode, set_name, tidy}
@@ -14,7 +14,7 @@ use Rattle.freeing_laws.specs.Sweep.{IsTidied, loses}
 use Rattle.freeing_laws.proofs.Laws.{sweep_is_tidy_lem}
 use Rattle.shadow.specs.declared.change.Made.{Made as What}
 use Rattle.shadow.specs.declared.change.Made.TheVariants.{Directory as A_directory, File as A_file}
-use Rattle.shadow.specs.Steps.{new_in, unnaming}
+use Rattle.shadow.specs.Steps.{new_in, slotting, unnaming}
 
 -- a new object by its own number alone
 module _ (chosen : List ℕ) (d : ℕ) (x : Name) (n i : ℕ) (first : i ≡ 0) (new : n ≡ new_in chosen 0)
@@ -67,10 +67,11 @@ module _ (chosen : List ℕ) (k : Kernel) where
   unfolding applied
   same_cut n before after = refl
 
-  pub same_clearing : (pid f : ℕ) (pipes : List ℕ)
-      → applied [] (Clear_slot pid f pipes) k ≡ applied chosen (Clear_slot pid f pipes) k
+  pub same_slotting : (given : Option ℕ) (pid f : ℕ) (pipes : List ℕ)
+      → applied [] (slotting given pid f pipes) k ≡ applied chosen (slotting given pid f pipes) k
   unfolding applied
-  same_clearing pid f pipes = refl
+  same_slotting (Some d) pid f pipes = refl
+  same_slotting None pid f pipes = refl
 
 -- after an edit that loses nothing, nothing is to go
 pub none_goes : (chosen : List ℕ) (k : Kernel) (e : Edit) → IsTidied k → Fits chosen k e

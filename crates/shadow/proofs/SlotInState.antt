@@ -5,12 +5,12 @@ use Rattle.std.specs.Cmp.{nat_cmp_total}
 use Rattle.std.proofs.lemmas.Bool.{cases_eq}
 use Rattle.model.specs.FiniteMap.{get, insert, nat_cmp-IsAntisymmetric, same_map}
 use Rattle.model.specs.State.{Kernel, Process}
-use Rattle.model.specs.Changes.{Clear_slot, applied, or_new, process_of, set_process, tidy}
+use Rattle.model.specs.Changes.{Clear_slot, Share_slot, applied, or_new, process_of, set_process, tidy}
 use Rattle.model.specs.Changes.{with_slot, without_slot}
 use Rattle.model.proofs.Laws.{get_other, get_same}
-use Rattle.call_laws.specs.Fits.{Fits}
+use Rattle.call_laws.specs.Fits.{Fits, IsAlive}
 use Rattle.freeing_laws.specs.Counts.{listed}
-use Rattle.freeing_laws.specs.Sweep.{all_closed}
+use Rattle.freeing_laws.specs.Sweep.{IsTidied, all_closed}
 use Rattle.freeing_laws.proofs.Laws.{sweep_is_tidy_lem}
 use Rattle.store.specs.Numbers.{Numbers}
 use Rattle.store.specs.Shown.{descriptions, inodes}
@@ -19,6 +19,7 @@ use Rattle.shadow.specs.Claims.{number_of, or_zero, room_of}
 use Rattle.shadow.specs.Committed.{Committed, Reserve}
 use Rattle.shadow.specs.Laid.{AreLow, Frees, Holds, IsSlotted, kept_in, reserves_of, table_in}
 use Rattle.shadow.specs.Openings.{slot_noted}
+use Rattle.shadow.specs.Steps.{slotting}
 use Rattle.shadow.specs.Stored.{Sound, committed_of, numbered, state_of, stored}
 use Rattle.shadow.proofs.Edited.{state_is, tidied_of}
 use Rattle.shadow.proofs.Freed.{IsMade, freed_sound, freed_state, made_holds}
@@ -107,50 +108,66 @@ module _ (ps qs : List Process) (s t : Numbers) (pid f : ℕ) (given : Option �
 pub frees_nothing : (ps : List Process) (s : Numbers) → Holds ps s → Frees (λ k. k) ps s s
 frees_nothing ps s holds = record { state = refl; holds = holds; kept = λ c. refl }
 
--- a slot is cleared
+-- a slot gives something else, or nothing
 module _ (ps qs : List Process) (s t : Numbers) (pid f : ℕ) (pipes : List ℕ) (sound : Sound ps s)
-    (laid : IsSlotted pid f None ps qs s t) where
-  clears : applied [] (Clear_slot pid f pipes) (state_of ps s)
-      ≡ set_process pid (without_slot f (process_of (state_of ps s) pid)) (state_of ps s)
+    where
+  gives : (given : Option ℕ) → applied [] (slotting given pid f pipes) (state_of ps s)
+      ≡ set_process pid (noted f given (process_of (state_of ps s) pid)) (state_of ps s)
   unfolding applied
-  clears = refl
+  gives (Some d) = refl
+  gives None = refl
 
-  pub clearing_made : IsMade ps qs s t [] (Clear_slot pid f pipes)
-  clearing_made = record {
+  pub slotting_made : (given : Option ℕ) → IsSlotted pid f given ps qs s t
+      → IsMade ps qs s t [] (slotting given pid f pipes)
+  slotting_made given laid = record {
     root = laid.stay.same.root;
-    state = slotted_state ps qs s t pid f None laid ∙ sym clears;
+    state = slotted_state ps qs s t pid f given laid ∙ sym (gives given);
     staged = laid.stay.same.staged sound.staged;
     counted = laid.stay.counted (sound_low ps s sound) sound.counted;
   }
 
+-- what closing makes of the state in which a slot gives this
+freed_slot : (given : Option ℕ) (k : Kernel) (pid f : ℕ) (pipes : List ℕ) → IsTidied k
+    → Fits [] k (slotting given pid f pipes)
+    → all_closed (listed (get (process_of k pid).table f)) (applied [] (slotting given pid f pipes) k)
+    ≡ tidy (applied [] (slotting given pid f pipes) k)
+freed_slot (Some d) k pid f pipes tidied fits =
+    sweep_is_tidy_lem.in_turn [] k (Share_slot pid f d pipes) tidied fits
+freed_slot None k pid f pipes tidied fits =
+    sweep_is_tidy_lem.in_turn [] k (Clear_slot pid f pipes) tidied fits
+
+pub slotting_alive : (given : Option ℕ) (k : Kernel) (pid f : ℕ) (pipes : List ℕ)
+    → Fits [] k (slotting given pid f pipes) → IsAlive k pid
+slotting_alive (Some d) k pid f pipes fits = fits.alive
+slotting_alive None k pid f pipes fits = fits.alive
+
 -- and what it gave goes where no other slot gives it
-module _ (ps qs : List Process) (s t : Numbers) (pid f : ℕ) (pipes : List ℕ) (sound : Sound ps s)
-    (laid : IsSlotted pid f None ps qs s t)
-    (v : Committed) (is : committed_of ps s ≡ v) (fits : Fits [] v.state (Clear_slot pid f pipes))
+module _ (ps qs : List Process) (s t : Numbers) (pid f : ℕ) (given : Option ℕ) (pipes : List ℕ)
+    (sound : Sound ps s) (laid : IsSlotted pid f given ps qs s t)
+    (v : Committed) (is : committed_of ps s ≡ v) (fits : Fits [] v.state (slotting given pid f pipes))
     (former : Option ℕ) (gave : former ≡ get (table_in (get (numbered ps) pid)) f) where
-  stored_fits : Fits [] (state_of ps s) (Clear_slot pid f pipes)
-  stored_fits = subst (λ (v : Committed). Fits [] v.state (Clear_slot pid f pipes)) (sym is) fits
+  stored_fits : Fits [] (state_of ps s) (slotting given pid f pipes)
+  stored_fits = subst (λ (v : Committed). Fits [] v.state (slotting given pid f pipes)) (sym is) fits
 
-  pub cleared_holds : Holds qs t
-  cleared_holds = made_holds ps qs s t [] (Clear_slot pid f pipes) sound stored_fits
-      (clearing_made ps qs s t pid f pipes sound laid)
+  pub slotted_holds : Holds qs t
+  slotted_holds = made_holds ps qs s t [] (slotting given pid f pipes) sound stored_fits
+      (slotting_made ps qs s t pid f pipes sound given laid)
 
-  tidies : all_closed (listed former) (applied [] (Clear_slot pid f pipes) (state_of ps s))
-      ≡ tidy (applied [] (Clear_slot pid f pipes) (state_of ps s))
-  tidies = ap (λ o. all_closed (listed o) (applied [] (Clear_slot pid f pipes) (state_of ps s)))
+  tidies : all_closed (listed former) (applied [] (slotting given pid f pipes) (state_of ps s))
+      ≡ tidy (applied [] (slotting given pid f pipes) (state_of ps s))
+  tidies = ap (λ o. all_closed (listed o) (applied [] (slotting given pid f pipes) (state_of ps s)))
       gave
-      ∙ sweep_is_tidy_lem.in_turn [] (state_of ps s) (Clear_slot pid f pipes) (tidied_of ps s sound)
-      stored_fits
+      ∙ freed_slot given (state_of ps s) pid f pipes (tidied_of ps s sound) stored_fits
 
   module _ (now : Numbers) (freed : Frees (all_closed (listed former)) qs t now) where
-    pub cleared_sound : Sound qs now
-    cleared_sound = freed_sound ps qs s t [] (Clear_slot pid f pipes) sound stored_fits
-        (clearing_made ps qs s t pid f pipes sound laid) (all_closed (listed former)) tidies now
-        freed
+    pub slotted_sound : Sound qs now
+    slotted_sound = freed_sound ps qs s t [] (slotting given pid f pipes) sound stored_fits
+        (slotting_made ps qs s t pid f pipes sound given laid) (all_closed (listed former)) tidies
+        now freed
 
-    pub cleared_state : state_of qs now ≡ tidy (applied [] (Clear_slot pid f pipes) v.state)
-    cleared_state = state_is ps qs s v is (state_of qs now)
-        (λ k. tidy (applied [] (Clear_slot pid f pipes) k))
-        (freed_state ps qs s t [] (Clear_slot pid f pipes) sound stored_fits
-        (clearing_made ps qs s t pid f pipes sound laid) (all_closed (listed former)) tidies now
-        freed)
+    pub slotted_tidy : state_of qs now ≡ tidy (applied [] (slotting given pid f pipes) v.state)
+    slotted_tidy = state_is ps qs s v is (state_of qs now)
+        (λ k. tidy (applied [] (slotting given pid f pipes) k))
+        (freed_state ps qs s t [] (slotting given pid f pipes) sound stored_fits
+        (slotting_made ps qs s t pid f pipes sound given laid) (all_closed (listed former)) tidies
+        now freed)

@@ -38,10 +38,11 @@ abbrev pub blocks_written : ℕ → List Effect → List ℕ
 blocks_written n ds = flat_map (λ d. flat_map (blocks_by n) d.edits) ds
 
 pub record Agrees (ds : List Effect) (p : Patches) : Type 0 where
-  -- what stands at each number after the changes, whatever the state is below them
+  -- what stands at each number after the changes, whatever the state is below them; for an inode it
+  -- is a state that they fit
   pub root : (k : Kernel) → (all_done ds k).root ≡ k.root
   pub count : (k : Kernel) → (all_done ds k).made ≡ k.made
-  pub inodes : (k : Kernel) (n : ℕ)
+  pub inodes : (k : Kernel) (n : ℕ) → AllFit ds k
       → get (all_done ds k).inodes n ≡ patched (net_at p.inodes n).contents (get k.inodes n)
   pub descriptions : (k : Kernel) (d : ℕ)
       → get (all_done ds k).descriptions d ≡ reopened (opening_at p.openings d) (get k.descriptions d)
@@ -54,6 +55,9 @@ pub record Agrees (ds : List Effect) (p : Patches) : Type 0 where
   -- what is claimed, and that it is enough for the names that come
   pub claims : (c : Claim) → claimed c ds ≡ claim_in p c
   pub added : (n : ℕ) → added_by (net_at p.inodes n).contents ≤ (net_at p.inodes n).promised
+  -- no room is promised in what has not changed
+  pub still : (n : ℕ) → form_of (net_at p.inodes n).contents ≡ no_change
+      → (net_at p.inodes n).promised ≡ 0
   -- where the changes fit: what stands below them is of their kind, and there is room for what has
   -- grown
   pub kinds : (k : Kernel) (n : ℕ) → AllFit ds k

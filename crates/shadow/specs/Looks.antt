@@ -29,7 +29,7 @@ HasNoPipes k = (n : ℕ) → kind_of k n ≢ Some A_pipe
 -- What changes make of an inode and of its names, in any state that they fit, where this is what
 -- counts of them.
 pub record IsNet (ds : List Effect) (n : ℕ) (net : Net) : Type 0 where
-  pub inode : (k : Kernel)
+  pub inode : (k : Kernel) → AllFit ds k
       → get (all_done ds k).inodes n ≡ patched net.contents (get k.inodes n)
   pub links : (k : Kernel) → AllFit ds k
       → links (all_done ds k) n + net.unnamed ≡ links k n + net.named
@@ -38,4 +38,5 @@ pub record IsNet (ds : List Effect) (n : ℕ) (net : Net) : Type 0 where
 pub record KeepsRest (ds : List Effect) : Type 0 where
   pub root : (k : Kernel) → (all_done ds k).root ≡ k.root
   pub birth : (k : Kernel) (pid : ℕ) → birth_of (all_done ds k) pid ≡ birth_of k pid
-  pub pipes : (k : Kernel) (p : ℕ) → pipe_of k p ≡ [] → pipe_of (all_done ds k) p ≡ []
+  pub pipes : (k : Kernel) (p : ℕ) → AllFit ds k → pipe_of k p ≡ []
+      → pipe_of (all_done ds k) p ≡ []

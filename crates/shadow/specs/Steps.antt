@@ -10,7 +10,7 @@ use Rattle.model.specs.State.{names_of_inode, file_of_inode}
 use Rattle.model.specs.Changes.{Edit, Which, There, Made, number, news, Make_directory, Make_file}
 use Rattle.model.specs.Changes.{Name_file, Unname_file, Unname_directory, Move, Put_bytes, Cut}
 use Rattle.model.specs.Changes.{Set_offset}
-use Rattle.model.specs.Changes.{Open_inode, Clear_slot, applied, sized, written, at_start, at_offset}
+use Rattle.model.specs.Changes.{Open_inode, Share_slot, Clear_slot, applied, sized, written, at_start, at_offset}
 use Rattle.model.specs.Changes.{with_slot, without_slot, or_new}
 use Rattle.model.specs.Effects.{Effect}
 use Rattle.model.specs.Limits.{largest, descriptor_limit}
@@ -71,6 +71,7 @@ IsBelow m (Made j) = j < m
 abbrev pub IsLast : ℕ → Edit → Type 0
 IsLast m (Open_inode i inode mode pid f) = (i ≡ m) × IsBelow m inode × (f < descriptor_limit)
 IsLast m (Set_offset d place) = ⊤
+IsLast m (Share_slot pid f d pipes) = f < descriptor_limit
 IsLast m (Clear_slot pid f pipes) = f < descriptor_limit
 IsLast m _ = ⊥
 
@@ -130,6 +131,8 @@ description_after chosen _ d o = o
 abbrev pub process_after : List ℕ → Edit → ℕ → Option Process → Option Process
 process_after chosen (Open_inode i inode mode q f) pid o =
     if pid == q then Some (with_slot f (new_in chosen i) (or_new o)) else o
+process_after chosen (Share_slot q f d pipes) pid o =
+    if pid == q then Some (with_slot f d (or_new o)) else o
 process_after chosen (Clear_slot q f pipes) pid o =
     if pid == q then Some (without_slot f (or_new o)) else o
 process_after chosen _ pid o = o
@@ -277,6 +280,11 @@ abbrev pub making : What → ℕ → Name → Edit
 making A_directory d x = Make_directory d x 0
 making A_file d x = Make_file d x 0
 
+-- an edit after which a slot gives this
+abbrev pub slotting : Option ℕ → ℕ → ℕ → List ℕ → Edit
+slotting (Some d) pid f pipes = Share_slot pid f d pipes
+slotting None pid f pipes = Clear_slot pid f pipes
+
 -- an edit that takes such an object's name
 abbrev pub unnaming : What → ℕ → Name → ℕ → Edit
 unnaming A_directory d x n = Unname_directory d x n
@@ -287,6 +295,7 @@ abbrev pub HasPlaces : List ℕ → Edit → Patches → Type 0
 HasPlaces chosen (Open_inode i inode mode pid f) p =
     (kept_at p.openings (new_in chosen i) ≢ None) × (kept_at p.slots pid ≢ None)
 HasPlaces chosen (Set_offset d place) p = kept_at p.openings d ≢ None
+HasPlaces chosen (Share_slot pid f d pipes) p = kept_at p.slots pid ≢ None
 HasPlaces chosen (Clear_slot pid f pipes) p = kept_at p.slots pid ≢ None
 HasPlaces chosen _ p = ⊥
 
@@ -294,6 +303,7 @@ HasPlaces chosen _ p = ⊥
 abbrev pub is_last : Edit → Bool
 is_last (Open_inode i inode mode pid f) = true
 is_last (Set_offset d place) = true
+is_last (Share_slot pid f d pipes) = true
 is_last (Clear_slot pid f pipes) = true
 is_last _ = false
 

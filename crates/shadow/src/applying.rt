@@ -4,14 +4,14 @@ ghost use Rattle.std.specs.Prelude.{length};
 ghost use Rattle.std.specs.List.{sum_by};
 ghost use Rattle.ids.specs.declared.limits.TheConstants.{DESCRIPTORS, LARGEST_FILE};
 ghost use Rattle.model.specs.State.{A_file, kind_of};
-ghost use Rattle.model.specs.Changes.{Cut, Clear_slot, Make_directory, Make_file, Open_inode};
+ghost use Rattle.model.specs.Changes.{Cut, Make_directory, Make_file, Open_inode};
 ghost use Rattle.model.specs.Changes.{Move, Name_file, Put_bytes, Set_offset, There, all_applied};
 ghost use Rattle.model.specs.Changes.{applied, news, tidy};
 ghost use Rattle.call_laws.specs.Fits.{Fits, FitsAll};
 ghost use Rattle.shadow.specs.Claims.{AreUnused, Claim, Covers, HaveParents, KeepsMore, KeepsSame};
 ghost use Rattle.shadow.specs.Claims.{claimed_by, claimed_by_one, reserved};
 ghost use Rattle.shadow.specs.Log.{effect};
-ghost use Rattle.shadow.specs.Steps.{CanEdit, IsFirst, IsLast, unnaming};
+ghost use Rattle.shadow.specs.Steps.{CanEdit, IsFirst, IsLast, slotting, unnaming};
 ghost use Rattle.shadow.specs.declared.change.Made.{Made as What};
 
 use crate::claiming::parent_of;
@@ -159,7 +159,10 @@ impl Stable {
                 self.open_inode(chosen[place as usize], inode, mode, pid, fd);
             }
             Edit::SetOffset(description, place) => self.store.set_offset(description, place),
-            Edit::ClearSlot(pid, fd, _pipes) => self.clear_slot(pid, fd),
+            Edit::ShareSlot(pid, fd, description, _pipes) => {
+                self.reslot(pid, fd, Some(description));
+            }
+            Edit::ClearSlot(pid, fd, _pipes) => self.reslot(pid, fd, None),
             _ => unreachable!(),
         }
     }
@@ -285,15 +288,16 @@ impl Stable {
         let _none = lay_slot(&mut self.store, &mut self.processes, pid, fd, Some(num));
     }
 
-    // A slot is closed, and its description goes where no other slot gives it.
-    fn clear_slot(&mut self, pid: Pid, fd: Fd)
-        requires fits { (pipes : List ℕ) × Fits [] self.old.state (Clear_slot pid fd pipes) }
+    // A slot gives this description from now on, or is closed. The description that it gave goes
+    // where no other slot gives it.
+    fn reslot(&mut self, pid: Pid, fd: Fd, given: Option<Num>)
+        requires fits { (pipes : List ℕ) × Fits [] self.old.state (slotting given pid fd pipes) }
         requires low { fd < DESCRIPTORS }
-        ensures state { (pipes : List ℕ) → Fits [] self.old.state (Clear_slot pid fd pipes)
-            → self.new.state ≡ tidy (applied [] (Clear_slot pid fd pipes) self.old.state) }
+        ensures state { (pipes : List ℕ) → Fits [] self.old.state (slotting given pid fd pipes)
+            → self.new.state ≡ tidy (applied [] (slotting given pid fd pipes) self.old.state) }
         ensures kept { KeepsSame self.old self.new }
     {
-        let former = lay_slot(&mut self.store, &mut self.processes, pid, fd, None);
+        let former = lay_slot(&mut self.store, &mut self.processes, pid, fd, given);
         if let Some(description) = former {
             close(&mut self.store, description);
         }

@@ -103,6 +103,7 @@ impl Patches {
                 self.slots.make_place(*pid)
             }
             Edit::SetOffset(description, _) => self.openings.make_place(*description),
+            Edit::ShareSlot(pid, _, _, _) => self.slots.make_place(*pid),
             Edit::ClearSlot(pid, _, _) => self.slots.make_place(*pid),
             _ => unreachable!(),
         }
@@ -122,6 +123,9 @@ impl Patches {
                 self.slots.note(*pid, *fd, Some(description));
             }
             Edit::SetOffset(description, place) => self.openings.move_to(*description, *place),
+            Edit::ShareSlot(pid, fd, description, _) => {
+                self.slots.note(*pid, *fd, Some(*description));
+            }
             Edit::ClearSlot(pid, fd, _) => self.slots.note(*pid, *fd, None),
             _ => unreachable!(),
         }
@@ -321,6 +325,9 @@ pub(crate) fn is_last(edit: &Edit) -> bool
 {
     matches!(
         edit,
-        Edit::OpenInode(_, _, _, _, _) | Edit::SetOffset(_, _) | Edit::ClearSlot(_, _, _)
+        Edit::OpenInode(_, _, _, _, _)
+            | Edit::SetOffset(_, _)
+            | Edit::ShareSlot(_, _, _, _)
+            | Edit::ClearSlot(_, _, _)
     )
 }

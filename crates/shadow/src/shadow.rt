@@ -114,6 +114,7 @@ impl Shadow {
 
     /// Today the committed state with these changes on top has no pipes.
     pub fn has_no_pipes(&self, stable: &Stable)
+        requires { AllFit self.now stable.now.state }
         ensures { HasNoPipes (all_done self.now stable.now.state) }
     {
         let _patches = &self.patches;

@@ -18,6 +18,8 @@ mod renames;
 #[cfg(test)]
 mod row;
 #[cfg(test)]
+mod shared;
+#[cfg(test)]
 mod tests;
 #[cfg(test)]
 mod transactions;

@@ -3,6 +3,7 @@ use crate::files::FILES;
 use crate::links::{FREED, LINKS};
 use crate::renames::RENAMES;
 use crate::row::{Row, do_script, kernel_of, steps_in, transcript_of};
+use crate::shared::SHARED;
 use crate::transactions::TRANSACTIONS;
 use crate::trees::TREES;
 use heap::Heap;
@@ -59,7 +60,8 @@ fn steps_leave_the_transcript_of_the_row(rt: HostRuntime) -> Result<(), Fail> {
     all_by_steps(heap, &FILES)?;
     all_by_steps(heap, &LINKS)?;
     all_by_steps(heap, &FREED)?;
-    all_by_steps(heap, &RENAMES)
+    all_by_steps(heap, &RENAMES)?;
+    all_by_steps(heap, &SHARED)
 }
 
 #[test]
@@ -70,7 +72,8 @@ fn a_run_leaves_the_transcript_of_the_row(rt: HostRuntime) -> Result<(), Fail> {
     all_at_once(heap, &FILES)?;
     all_at_once(heap, &LINKS)?;
     all_at_once(heap, &FREED)?;
-    all_at_once(heap, &RENAMES)
+    all_at_once(heap, &RENAMES)?;
+    all_at_once(heap, &SHARED)
 }
 
 // Opens a file so often in one process.

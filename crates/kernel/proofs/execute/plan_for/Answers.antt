@@ -12,6 +12,9 @@ view-view-requires c = slot_fits (fields c.args.s.now) c.requires.holds c.args.p
 pub directories_are_kept-requires : goal.directories_are_kept-requires
 directories_are_kept-requires c = slot_fits (fields c.args.s.now) c.requires.holds c.args.pid
 
+pub has_no_pipes-requires : goal.has_no_pipes-requires
+has_no_pipes-requires c = slot_fits (fields c.args.s.now) c.requires.holds c.args.pid
+
 pub returns : goal.returns
 returns c =
     let given = plans (fields c.args.s.now) c.args.pid c.args.within.now c.args.call.now c.requires c.in_ok-plan.plan c.if-is_none.plan
