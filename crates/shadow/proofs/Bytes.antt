@@ -3,7 +3,7 @@ use Rattle.std.proofs.Common.{◌≡◌, ℕ, List, [], length, Option, Some, No
 use Rattle.std.specs.Prelude.{IsSome}
 use Rattle.std.specs.Option.{option_and_then, option_map}
 use Rattle.model.specs.FiniteMap.{get, insert}
-use Rattle.model.specs.State.{A_file, Kernel, File, Process, kind, kind_of, mapped, file_of}
+use Rattle.model.specs.State.{A_file, Kernel, File, kind, kind_of, mapped, file_of}
 use Rattle.model.specs.Changes.{Put_bytes, Cut, applied, sized, written, set_inode, tidy}
 use Rattle.model.proofs.Laws.{get_same}
 use Rattle.call_laws.specs.Fits.{Fits}
@@ -19,7 +19,7 @@ use Rattle.store.specs.declared.Stage.TheVariants.{Coming, Held, Lost}
 use Rattle.store.specs.declared.Object.{Object}
 use Rattle.store.specs.declared.Object.TheVariants.{Directory as Kept_directory, File as Kept_file, Description as Kept_description, Nothing}
 use Rattle.store.proofs.Laws.{altered-alike, altered-twice, descriptions-filed, get-inodes, inodes-swapped, insert-held, left-altered}
-use Rattle.shadow.specs.Stored.{AreCounted, Sound, state_of, stored}
+use Rattle.shadow.specs.Stored.{AreCounted, Processes, Sound, state_of, stored}
 use Rattle.shadow.proofs.Kept_on.{file_staged}
 use Rattle.shadow.proofs.Edited.{Counts, counted_by, counts_of, counts_of_state, counts_stay, holders_seen, openings_seen, sound_after, tidy_after}
 
@@ -73,7 +73,7 @@ swapped_twice a b s t u n one two =
     by_object (Kept_description opened) = refl
     by_object Nothing = refl
 
-module _ (ps : List Process) (s : Numbers) (n : ℕ) (b : Content) (sound : Sound ps s) (file : kind_of (state_of ps s) n ≡ Some A_file) where
+module _ (ps : Processes) (s : Numbers) (n : ℕ) (b : Content) (sound : Sound ps s) (file : kind_of (state_of ps s) n ≡ Some A_file) where
   abbrev k : Kernel
   k = state_of ps s
 

@@ -2,7 +2,7 @@
 use Rattle.std.proofs.Common.{◌≡◌, ℕ, ◌+◌, ◌≤◌, true, List, Option, Some, None, refl, sym, ap, subst, ◌∙◌, arith}
 use Rattle.std.specs.Cmp.{nat_cmp_total}
 use Rattle.model.specs.FiniteMap.{get, nat_cmp-IsAntisymmetric, same_map}
-use Rattle.model.specs.State.{Kernel, Process, kind, mapped}
+use Rattle.model.specs.State.{Kernel, kind, mapped}
 use Rattle.model.specs.Changes.{openings}
 use Rattle.model.specs.Effects.{Effect, all_done}
 use Rattle.freeing_laws.proofs.Openings.{openings_change_lem}
@@ -19,7 +19,7 @@ use Rattle.shadow.specs.Agrees.{IsOver}
 use Rattle.shadow.specs.Claims.{Claim, New_directory, Number, Room, claim_in, claimed, inodes_claim, number_of, reserved}
 use Rattle.shadow.specs.Laid.{AreReady, IsCarried, IsCarriedBy, IsReadyContents, kept_in}
 use Rattle.shadow.specs.Patches.{Patches, form_of, is_new, kept_at, net_at, net_of, opening_at, patched}
-use Rattle.shadow.specs.Stored.{AreCounted, committed_of, state_of}
+use Rattle.shadow.specs.Stored.{AreCounted, Processes, committed_of, state_of}
 use Rattle.shadow.proofs.Becoming.{Becomes, bytes_become, claim_of, inode_seen, names_become, stays_as_it_is}
 use Rattle.shadow.proofs.Committing.{AreCarried, CanCommit, HasInodes}
 use Rattle.shadow.proofs.Edited.{Counts, counted_by, counts_of, counts_of_state, reserved_is}
@@ -30,7 +30,7 @@ use Rattle.shadow.proofs.Making.{unopened}
 carried_same : (c : Change) (w : Contents) → w ≡ Same → (before after : Option Place) → IsCarriedBy c w before after → after ≡ before
 carried_same c w same before after is = subst (λ w. IsCarriedBy c w before after) same is
 
-module _ {ps : List Process} {s after : Numbers} {ds : List Effect} {p : Patches} (can : CanCommit ps s ds p) (ready : AreReady p.inodes s) (are : AreCarried s after p) where
+module _ {ps : Processes} {s after : Numbers} {ds : List Effect} {p : Patches} (can : CanCommit ps s ds p) (ready : AreReady p.inodes s) (are : AreCarried s after p) where
   abbrev k : Kernel
   k = state_of ps s
 
@@ -131,7 +131,7 @@ module _ {ps : List Process} {s after : Numbers} {ds : List Effect} {p : Patches
     kept = kept_after;
   }
 
-pub carried : {ps : List Process} {s after : Numbers} {ds : List Effect} {p : Patches} → CanCommit ps s ds p → AreReady p.inodes s
+pub carried : {ps : Processes} {s after : Numbers} {ds : List Effect} {p : Patches} → CanCommit ps s ds p → AreReady p.inodes s
     → ((d : ℕ) → is_new (opening_at p.openings d) ≡ true → (get s.places d ≡ Some (coming Nothing)) × ((net_at p.inodes d).contents ≡ Same) × ((net_at p.inodes d).made ≡ None))
     → AreCarried s after p → HasInodes ps s after ds p
 carried can ready new are = has_inodes can ready are new

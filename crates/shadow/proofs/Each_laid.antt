@@ -6,11 +6,10 @@ use Rattle.std.proofs.lemmas.List.{get_or-set_other, length-set, take_all, take_
 use Rattle.std.proofs.lemmas.List.Concat.{flat_map-cons}
 use Rattle.std.proofs.lemmas.Grind.{flat_map-append}
 use Rattle.model.specs.FiniteMap.{empty, entries, get}
-use Rattle.model.specs.State.{Process}
 use Rattle.fdtable.specs.Patches.{Given}
 use Rattle.freeing_laws.specs.Counts.{times}
 use Rattle.store.specs.Numbers.{Numbers}
-use Rattle.shadow.specs.Stored.{numbered}
+use Rattle.shadow.specs.Stored.{Processes, numbered}
 use Rattle.shadow.specs.Patches.{kept_at, reslotted, slots_in}
 use Rattle.shadow.specs.Openings.{AreOnce}
 use Rattle.shadow.specs.Laid.{AreReslotted, IsReslotted, SlotsStay, given_by, given_in, table_in}
@@ -19,7 +18,7 @@ use Rattle.shadow.proofs.Slots_over.{Entries, pushed_other, pushed_same}
 use Rattle.shadow.proofs.Tabling.{stays_on, stays_still, times_both}
 
 -- the changes of the processes at places below i are made
-pub record Lays (i : ℕ) (es now : Entries) (ps qs : List Process) (old new : Numbers) : Type 0 where
+pub record Lays (i : ℕ) (es now : Entries) (ps qs : Processes) (old new : Numbers) : Type 0 where
   pub count : length now ≡ length es
   pub later : (j : ℕ) → i ≤ j → get_or now j (0, empty) ≡ get_or es j (0, empty)
   pub once : AreOnce now
@@ -27,7 +26,7 @@ pub record Lays (i : ℕ) (es now : Entries) (ps qs : List Process) (old new : N
   pub processes : (pid : ℕ) → get (numbered qs) pid ≡ reslotted (kept_at (take i es) pid) (get (numbered ps) pid)
   pub let_go : (pid f d : ℕ) → get (table_in (get (numbered ps) pid)) f ≡ Some d → get (table_in (get (numbered qs) pid)) f ≢ Some d → 0 < times d (given_in (take i now))
 
-pub lays_nothing : (es : Entries) (ps : List Process) (s : Numbers) → AreOnce es → Lays 0 es es ps ps s s
+pub lays_nothing : (es : Entries) (ps : Processes) (s : Numbers) → AreOnce es → Lays 0 es es ps ps s s
 lays_nothing es ps s once = record {
   count = refl;
   later = λ j low. refl;
@@ -46,7 +45,7 @@ given_pushed d es e =
     let none : times d (flat_map f []) ≡ 0 = refl in
     omega (arith, all, one, none)
 
-module _ (i : ℕ) (es now : Entries) (ps qs : List Process) (old new : Numbers) (once : AreOnce es) (low : i < length es) (so : Lays i es now ps qs old new) where
+module _ (i : ℕ) (es now : Entries) (ps qs : Processes) (old new : Numbers) (once : AreOnce es) (low : i < length es) (so : Lays i es now ps qs old new) where
   same_key : key_at now i ≡ key_at es i
   same_key = ap (λ (e : ℕ × Given). e.0) (so.later i (omega arith))
 
@@ -61,7 +60,7 @@ module _ (i : ℕ) (es now : Entries) (ps qs : List Process) (old new : Numbers)
       (omega (arith, first, key), omega (arith, last, key, all))
 
   -- and its slots change
-  module _ (former : Given) (rs : List Process) (later : Numbers) (laid : IsReslotted (key_at es i) (patch_at es i) former qs rs new later) where
+  module _ (former : Given) (rs : Processes) (later : Numbers) (laid : IsReslotted (key_at es i) (patch_at es i) former qs rs new later) where
     abbrev after : Entries
     after = set now i (key_at es i, former)
 
@@ -108,7 +107,7 @@ module _ (i : ℕ) (es now : Entries) (ps qs : List Process) (old new : Numbers)
     }
 
 -- those of all processes are made
-pub lays_all : (i : ℕ) (es now : Entries) (ps qs : List Process) (old new : Numbers) → length es ≤ i → Lays i es now ps qs old new → AreReslotted es now ps qs old new
+pub lays_all : (i : ℕ) (es now : Entries) (ps qs : Processes) (old new : Numbers) → length es ≤ i → Lays i es now ps qs old new → AreReslotted es now ps qs old new
 lays_all i es now ps qs old new high so = record {
   stay = so.stay;
   processes = λ pid. so.processes pid ∙ ap (λ xs. reslotted (kept_at xs pid) (get (numbered ps) pid)) (take_all i es high);

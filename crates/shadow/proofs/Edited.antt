@@ -1,7 +1,7 @@
 -- What one edit makes of the committed state: it is sound again.
 use Rattle.std.proofs.Common.{◌≡◌, ℕ, ◌+◌, false, List, Option, Some, None, refl, sym, ap, subst, ◌∙◌}
 use Rattle.model.specs.FiniteMap.{get}
-use Rattle.model.specs.State.{Kernel, Process}
+use Rattle.model.specs.State.{Kernel}
 use Rattle.model.specs.Changes.{Edit, applied, holders, openings, tidy}
 use Rattle.call_laws.specs.WellFormed.{WellFormed}
 use Rattle.call_laws.specs.Fits.{Fits}
@@ -14,7 +14,7 @@ use Rattle.store.specs.declared.Object.TheVariants.{Directory as Kept_directory,
 use Rattle.shadow.specs.Claims.{Claim, KeepsMore, KeepsSame, Room, New_directory, Number, reserved}
 use Rattle.shadow.specs.Committed.{Committed}
 use Rattle.shadow.specs.Laid.{kept_in}
-use Rattle.shadow.specs.Stored.{AreCounted, IsStaged, Sound, committed_of, state_of}
+use Rattle.shadow.specs.Stored.{AreCounted, IsStaged, Processes, Sound, committed_of, state_of}
 
 -- the counts that are kept of what is shown
 abbrev pub openings_seen : Option Object → Option ℕ
@@ -29,10 +29,10 @@ pub record Counts (k : Kernel) (s : Numbers) : Type 0 where
   pub openings : (n c : ℕ) → openings_seen (object_at s n) ≡ Some c → c ≡ openings k n
   pub holders : (d c : ℕ) → holders_seen (object_at s d) ≡ Some c → c ≡ holders k d
 
-pub counted_by : (ps : List Process) (s : Numbers) → Counts (state_of ps s) s → AreCounted ps s
+pub counted_by : (ps : Processes) (s : Numbers) → Counts (state_of ps s) s → AreCounted ps s
 counted_by ps s h = record { openings = λ n file is. h.openings n file.openings (ap openings_seen is); holders = λ d opened is. h.holders d opened.holders (ap holders_seen is) }
 
-pub counts_of : (ps : List Process) (s : Numbers) → AreCounted ps s → Counts (state_of ps s) s
+pub counts_of : (ps : Processes) (s : Numbers) → AreCounted ps s → Counts (state_of ps s) s
 counts_of ps s h = record { openings = λ n c is. files n c (object_at s n) refl is; holders = λ d c is. held_by d c (object_at s d) refl is }
   where
     files : (n c : ℕ) (o : Option Object) → object_at s n ≡ o → openings_seen o ≡ Some c → c ≡ openings (state_of ps s) n
@@ -56,11 +56,11 @@ counts_stay k s t files held_by h = record { openings = λ n c is. h.openings n 
 pub counts_of_state : (k l : Kernel) (s : Numbers) → ((n : ℕ) → openings l n ≡ openings k n) → ((d : ℕ) → holders l d ≡ holders k d) → Counts k s → Counts l s
 counts_of_state k l s files held_by h = record { openings = λ n c is. h.openings n c is ∙ sym (files n); holders = λ d c is. h.holders d c is ∙ sym (held_by d) }
 
-pub tidied_of : (ps : List Process) (s : Numbers) → Sound ps s → IsTidied (state_of ps s)
+pub tidied_of : (ps : Processes) (s : Numbers) → Sound ps s → IsTidied (state_of ps s)
 tidied_of ps s sound = record { well = sound.well; tidied = sound.tidied }
 
 -- after an edit that fits, and what it leaves to go
-pub sound_after : (ps qs : List Process) (s t : Numbers) (chosen : List ℕ) (e : Edit) → Sound ps s → Fits chosen (state_of ps s) e → state_of qs t ≡ tidy (applied chosen e (state_of ps s))
+pub sound_after : (ps qs : Processes) (s t : Numbers) (chosen : List ℕ) (e : Edit) → Sound ps s → Fits chosen (state_of ps s) e → state_of qs t ≡ tidy (applied chosen e (state_of ps s))
     → t.root ≡ s.root → ((n : ℕ) → IsStaged (get t.places n)) → AreCounted qs t → Sound qs t
 sound_after ps qs s t chosen e sound fits is root staged counted = record {
   root = root ∙ sound.root;
@@ -71,17 +71,17 @@ sound_after ps qs s t chosen e sound fits is root staged counted = record {
 }
 
 -- after an edit that loses nothing
-pub tidy_after : (ps : List Process) (s : Numbers) (chosen : List ℕ) (e : Edit) → Sound ps s → Fits chosen (state_of ps s) e → loses e ≡ false → tidy (applied chosen e (state_of ps s)) ≡ applied chosen e (state_of ps s)
+pub tidy_after : (ps : Processes) (s : Numbers) (chosen : List ℕ) (e : Edit) → Sound ps s → Fits chosen (state_of ps s) e → loses e ≡ false → tidy (applied chosen e (state_of ps s)) ≡ applied chosen e (state_of ps s)
 tidy_after ps s chosen e sound fits none = sweep_is_tidy_lem.none chosen (state_of ps s) e (tidied_of ps s sound) fits none
 
 -- what is kept does not depend on the processes
-pub reserved_is : (ps : List Process) (s : Numbers) (c : Claim) → reserved (committed_of ps s) c ≡ kept_in s c
+pub reserved_is : (ps : Processes) (s : Numbers) (c : Claim) → reserved (committed_of ps s) c ≡ kept_in s c
 reserved_is ps s (Room d) = refl
 reserved_is ps s (New_directory n) = refl
 reserved_is ps s (Number n) = refl
 
 -- what is said of a committed state, said of what is stored
-module _ (ps qs : List Process) (s : Numbers) (v : Committed) (is : committed_of ps s ≡ v) where
+module _ (ps qs : Processes) (s : Numbers) (v : Committed) (is : committed_of ps s ≡ v) where
   pub kept_of : (c : Claim) → kept_in s c ≡ reserved v c
   kept_of c = sym (reserved_is ps s c) ∙ ap (λ (x : Committed). reserved x c) is
 

@@ -6,7 +6,7 @@ use Rattle.std.specs.Option.{option_and_then}
 use Rattle.std.specs.Cmp.{nat_cmp_total}
 use Rattle.fdtable.specs.Patches.{Given}
 use Rattle.model.specs.FiniteMap.{get, nat_cmp-IsAntisymmetric, same_map}
-use Rattle.model.specs.State.{A_directory, Description, Kernel, Name, Process, kind, kind_of}
+use Rattle.model.specs.State.{A_directory, Description, Kernel, Name, kind, kind_of}
 use Rattle.model.specs.State.{mapped, names_of}
 use Rattle.model.specs.Changes.{holders, openings}
 use Rattle.model.specs.Effects.{Effect, all_done}
@@ -29,7 +29,7 @@ use Rattle.shadow.specs.Claims.{openings_claim, or_zero, reserved, room_of}
 use Rattle.shadow.specs.Committed.{Reserve}
 use Rattle.shadow.specs.Laid.{AreReopened, AreReslotted, Holds, kept_in, reserves_of, settled}
 use Rattle.shadow.specs.Patches.{Patches, is_new, net_at, opening_at, reopened}
-use Rattle.shadow.specs.Stored.{AreCounted, committed_of, numbered, reserve_in, state_of}
+use Rattle.shadow.specs.Stored.{AreCounted, Processes, committed_of, numbered, reserve_in, state_of}
 use Rattle.shadow.specs.declared.opening.Opening.{Opening}
 use Rattle.shadow.proofs.Committing.{CanCommit, HasAll, HasInodes}
 use Rattle.shadow.proofs.Meets.{at_place, met_is}
@@ -63,7 +63,7 @@ no_inode (Some place) there = by_stage place.stage place.object there
     by_stage Held Nothing there = refl
 
 -- a number that is to come as a description is none yet, so no slot gives it
-pub unheld_new : {ps : List Process} {s : Numbers} {ds : List Effect} {p : Patches}
+pub unheld_new : {ps : Processes} {s : Numbers} {ds : List Effect} {p : Patches}
     → CanCommit ps s ds p → (d : ℕ) → is_new (opening_at p.openings d) ≡ true
     → holders (state_of ps s) d ≡ 0
 unheld_new {ps} {s} {ds} {p} can d new =
@@ -108,7 +108,7 @@ not_opened k well n is =
     subst CanBeOpened (ap (kind_of k) same ∙ is) (well.descriptions d it there))
 
 -- what a name gives is an inode, and so no description
-not_named : (ps : List Process) (s : Numbers) → WellFormed (state_of ps s) → (d n : ℕ) (x : Name)
+not_named : (ps : Processes) (s : Numbers) → WellFormed (state_of ps s) → (d n : ℕ) (x : Name)
     → get (descriptions s) d ≢ None → get (names_of (state_of ps s) n) x ≢ Some d
 not_named ps s well d n x there gives =
     subst CanBeNamed (ap (mapped kind) none) (well.names n x d gives)
@@ -182,7 +182,7 @@ both_claims p (New_directory n) = omega arith
 both_claims p (Number n) = refl
 
 -- Inodes are changed first, from s to mid, then descriptions, to after, and then slots, to last.
-module _ {ps qs : List Process} {s mid after last : Numbers} {ds : List Effect} {p : Patches}
+module _ {ps qs : Processes} {s mid after last : Numbers} {ds : List Effect} {p : Patches}
     {former : List (ℕ × Given)} (can : CanCommit ps s ds p) (made : HasInodes ps s mid ds p)
     (opened : AreReopened p.openings mid after)
     (slotted : AreReslotted p.slots former ps qs after last) where
@@ -242,7 +242,7 @@ module _ {ps qs : List Process} {s mid after last : Numbers} {ds : List Effect} 
       omega arith
 
 -- so all changes are made
-pub finished : {ps qs : List Process} {s mid after last : Numbers} {ds : List Effect} {p : Patches}
+pub finished : {ps qs : Processes} {s mid after last : Numbers} {ds : List Effect} {p : Patches}
     {former : List (ℕ × Given)} → CanCommit ps s ds p → HasInodes ps s mid ds p
     → AreReopened p.openings mid after → AreReslotted p.slots former ps qs after last
     → HasAll ps qs s last ds

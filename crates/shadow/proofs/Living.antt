@@ -10,27 +10,27 @@ use Rattle.model.specs.State.{Process}
 use Rattle.model.specs.Moments.{with_processes}
 use Rattle.model.proofs.Laws.{get_same, get_other, tied, untied}
 use Rattle.call_laws.proofs.Laws.{true_is_false}
-use Rattle.shadow.specs.Stored.{numbered}
+use Rattle.shadow.specs.Stored.{Processes, numbered}
 use Rattle.shadow.proofs.Places.{find_placed, none_before}
 
-given : (ps : List Process) (i : ℕ) (d : Process) → i < length ps → get_or (map (λ p. Some p) ps) i None ≡ Some (get_or ps i d)
+given : (ps : Processes) (i : ℕ) (d : Process) → i < length ps → get_or (map (λ p. Some p) ps) i None ≡ Some (get_or ps i d)
 given [] i d low = absurd (omega arith)
 given (p ∷ ps) zero d low = refl
 given (p ∷ ps) (suc i) d low = given ps i d (omega arith)
 
 -- the i-th process has the number after i
-pub process_at : (ps : List Process) (i : ℕ) (d : Process) → i < length ps → get (numbered ps) (suc i) ≡ Some (get_or ps i d)
+pub process_at : (ps : Processes) (i : ℕ) (d : Process) → i < length ps → get (numbered ps) (suc i) ≡ Some (get_or ps i d)
 process_at ps i d low =
     let same : suc i - 1 ≡ i = omega arith in
     get-from_entries nat_cmp_total (placed 1 (map (λ p. Some p) ps)) (suc i) ∙ find_placed 1 (map (λ p. Some p) ps) (suc i) (omega arith) ∙ ap (λ j. get_or (map (λ p. Some p) ps) j None) same ∙ given ps i d low
 
-pub no_process : (ps : List Process) (q : ℕ) → (q ≡ 0) ⊎ (length ps < q) → get (numbered ps) q ≡ None
+pub no_process : (ps : Processes) (q : ℕ) → (q ≡ 0) ⊎ (length ps < q) → get (numbered ps) q ≡ None
 no_process ps q (inl none) = get-from_entries nat_cmp_total (placed 1 (map (λ p. Some p) ps)) q ∙ none_before 1 (map (λ p. Some p) ps) q (omega arith)
 no_process ps q (inr high) =
     let long : length (map (λ p. Some p) ps) ≡ length ps = length-map ps (λ p. Some p) in
     get-from_entries nat_cmp_total (placed 1 (map (λ p. Some p) ps)) q ∙ find_placed 1 (map (λ p. Some p) ps) q (omega arith) ∙ get_or_past (map (λ p. Some p) ps) (q - 1) None (omega arith)
 
-pub process_of_number : (ps : List Process) (q : ℕ) (d : Process) → 0 < q → q ≤ length ps → get (numbered ps) q ≡ Some (get_or ps (q - 1) d)
+pub process_of_number : (ps : Processes) (q : ℕ) (d : Process) → 0 < q → q ≤ length ps → get (numbered ps) q ≡ Some (get_or ps (q - 1) d)
 process_of_number ps zero d some low = absurd (omega arith)
 process_of_number ps (suc i) d some low =
     let same : suc i - 1 ≡ i = omega arith in
@@ -39,18 +39,18 @@ process_of_number ps (suc i) d some low =
 none : Process
 none = record { table = empty; priority = 0 }
 
-pub is_living : (ps : List Process) (q : ℕ) → 0 < q → nat_le q (length ps) ≡ is_some (get (numbered ps) q)
+pub is_living : (ps : Processes) (q : ℕ) → 0 < q → nat_le q (length ps) ≡ is_some (get (numbered ps) q)
 is_living ps q some = by_test (nat_le q (length ps)) refl
   where
     by_test : (b : Bool) → nat_le q (length ps) ≡ b → b ≡ is_some (get (numbered ps) q)
     by_test true is = sym (ap is_some (process_of_number ps q none some (leb-true q (length ps) is)))
     by_test false is = sym (ap is_some (no_process ps q (inr (leb-false q (length ps) is))))
 
-pub record IsProcess (ps : List Process) (q : ℕ) : Type 0 where
+pub record IsProcess (ps : Processes) (q : ℕ) : Type 0 where
   pub some : 0 < q
   pub low : q ≤ length ps
 
-pub is_process : (ps : List Process) (q : ℕ) → is_some (get (numbered ps) q) ≡ true → IsProcess ps q
+pub is_process : (ps : Processes) (q : ℕ) → is_some (get (numbered ps) q) ≡ true → IsProcess ps q
 is_process ps zero is = absurd (true_is_false (sym is ∙ ap is_some (no_process ps zero (inl refl))))
 is_process ps (suc i) is = by_test (nat_le (suc i) (length ps)) refl
   where
@@ -58,7 +58,7 @@ is_process ps (suc i) is = by_test (nat_le (suc i) (length ps)) refl
     by_test true le = record { some = omega arith; low = leb-true (suc i) (length ps) le }
     by_test false le = absurd (true_is_false (sym is ∙ ap is_some (no_process ps (suc i) (inr (leb-false (suc i) (length ps) le)))))
 
-pub not_process : (ps : List Process) (q : ℕ) → is_some (get (numbered ps) q) ≡ false → get (numbered ps) q ≡ None
+pub not_process : (ps : Processes) (q : ℕ) → is_some (get (numbered ps) q) ≡ false → get (numbered ps) q ≡ None
 not_process ps q is = by_option (get (numbered ps) q) is
   where
     by_option : (o : Option Process) → is_some o ≡ false → o ≡ None

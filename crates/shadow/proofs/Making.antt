@@ -4,7 +4,7 @@ use Rattle.std.specs.Option.{option_and_then}
 use Rattle.std.specs.Cmp.Lexicographic.{nat_list_cmp_total}
 use Rattle.std.proofs.lemmas.Bool.{cases_eq}
 use Rattle.model.specs.FiniteMap.{empty, get, get-empty, insert, same_map}
-use Rattle.model.specs.State.{A_directory, Kernel, Inode, File, Directory, Name, Process, kind, kind_of, mapped, names_of, names_of_inode}
+use Rattle.model.specs.State.{A_directory, Kernel, Inode, File, Directory, Name, kind, kind_of, mapped, names_of, names_of_inode}
 use Rattle.model.specs.Changes.{Edit, Make_directory, Make_file, applied, holders, openings, set_inode, set_name, tidy}
 use Rattle.model.proofs.Laws.{get_same, get_other, name_exact}
 use Rattle.call_laws.specs.WellFormed.{CanBeOpened}
@@ -27,7 +27,7 @@ use Rattle.store.proofs.Laws.{altered-some, descriptions-set, get-inodes, inodes
 use Rattle.shadow.specs.Claims.{Claim, New_directory, Number, Room, as_count, claimed_by_one, number_as, number_of, reserved, room_in}
 use Rattle.shadow.specs.Committed.{Committed}
 use Rattle.shadow.specs.Laid.{kept_in}
-use Rattle.shadow.specs.Stored.{AreCounted, IsStaged, Sound, committed_of, state_of, stored}
+use Rattle.shadow.specs.Stored.{AreCounted, IsStaged, Processes, Sound, committed_of, state_of, stored}
 use Rattle.shadow.proofs.Kept_on.{kept_by, kept_is}
 use Rattle.shadow.proofs.Edited.{Counts, counted_by, counts_of, counts_of_state, holders_seen, kept_of, openings_seen, sound_after, tidy_after}
 
@@ -144,7 +144,7 @@ held_directory s d is = by_place (get s.places d) (sym (ap (mapped kind) (get-in
     by_place (Some place) is = by_stage place.stage place.object is
 
 -- nothing is open on what is not there
-pub unopened : (ps : List Process) (s : Numbers) → Sound ps s → (n : ℕ) → get (inodes s) n ≡ None → openings (state_of ps s) n ≡ 0
+pub unopened : (ps : Processes) (s : Numbers) → Sound ps s → (n : ℕ) → get (inodes s) n ≡ None → openings (state_of ps s) n ≡ 0
 unopened ps s sound n none = openings_change_lem.unopened (state_of ps s) n (λ d it is same. subst CanBeOpened (ap (kind_of (state_of ps s)) same ∙ ap (mapped kind) none) (sound.well.descriptions d it is))
 
 -- the store with a name more
@@ -152,7 +152,7 @@ abbrev pub named_in : Numbers → ℕ → Name → ℕ → Numbers
 named_in s d x n = altered (with_listing (with_name x n)) s d
 
 -- what follows where a new inode has its name
-pub record Makes (ps : List Process) (s first : Numbers) (d : ℕ) (x : Name) (n : ℕ) (e : Edit) : Type 0 where
+pub record Makes (ps : Processes) (s first : Numbers) (d : ℕ) (x : Name) (n : ℕ) (e : Edit) : Type 0 where
   pub room : (l : Listing) → listing_at first d ≡ Some l → 0 < l.promised
   pub dir : is_coming (get first.places d) ≡ false
   pub num : may_be_named (get first.places n) ≡ true
@@ -160,7 +160,7 @@ pub record Makes (ps : List Process) (s first : Numbers) (d : ℕ) (x : Name) (n
   pub state : state_of ps (named_in first d x n) ≡ tidy (applied (n ∷ []) e (state_of ps s))
   pub kept : (c : Claim) → kept_in (named_in first d x n) c + claimed_by_one c (n ∷ []) e ≡ kept_in s c
 
-module _ (ps : List Process) (s : Numbers) (d : ℕ) (x : Name) (n : ℕ) (was object : Object) (new : Inode) (b : Bool) (e : Edit)
+module _ (ps : Processes) (s : Numbers) (d : ℕ) (x : Name) (n : ℕ) (was object : Object) (new : Inode) (b : Bool) (e : Edit)
     (sound : Sound ps s) (free : IsFree (state_of ps s) d x) (nowhere : IsNowhere (state_of ps s) n) (fits : Fits (n ∷ []) (state_of ps s) e) (none_lost : loses e ≡ false)
     (before : get s.places n ≡ Some (coming was)) (shows : inode_of object ≡ Some new) (hides : description_of object ≡ None) (settled : IsStaged (Some (present object)))
     (unopen : (c : ℕ) → openings_seen (Some object) ≡ Some c → c ≡ 0) (unheld : holders_seen (Some object) ≡ None)
@@ -260,10 +260,10 @@ module _ (ps : List Process) (s : Numbers) (d : ℕ) (x : Name) (n : ℕ) (was o
   }
 
 -- what is claimed is there
-pub covered : (ps : List Process) (s : Numbers) (v : Committed) → committed_of ps s ≡ v → (c : Claim) (some : ℕ) → some ≤ reserved v c → 0 < some → 0 < kept_in s c
+pub covered : (ps : Processes) (s : Numbers) (v : Committed) → committed_of ps s ≡ v → (c : Claim) (some : ℕ) → some ≤ reserved v c → 0 < some → 0 < kept_in s c
 covered ps s v is c some covers one = (let same : kept_in s c ≡ reserved v c = kept_of ps ps s v is c in omega (arith, covers, one))
 
-module _ (ps : List Process) (s : Numbers) (v : Committed) (is : committed_of ps s ≡ v) (d : ℕ) (x : Name) (n : ℕ) (sound : Sound ps s) where
+module _ (ps : Processes) (s : Numbers) (v : Committed) (is : committed_of ps s ≡ v) (d : ℕ) (x : Name) (n : ℕ) (sound : Sound ps s) where
   directory_makes : applied (n ∷ []) (Make_directory d x 0) (state_of ps s) ≡ set_name d x n (set_inode n (Directory empty) (state_of ps s))
   unfolding applied
   directory_makes = refl

@@ -4,7 +4,6 @@ use Rattle.std.specs.Option.{option_map, option_and_then}
 use Rattle.std.proofs.lemmas.Bool.{cases_eq}
 use Rattle.std.specs.Ordering.{nat_cmp}
 use Rattle.model.specs.FiniteMap.{empty, get, get-empty, insert, remove}
-use Rattle.model.specs.State.{Process}
 use Rattle.model.proofs.Laws.{get_same, get_other, removed_same, removed_other}
 use Rattle.dirlist.specs.Listing.{Listing}
 use Rattle.store.specs.Numbers.{IsFirstRoot, Numbers, coming, no_names, present}
@@ -15,7 +14,7 @@ use Rattle.store.specs.declared.Stage.TheVariants.{Coming, Held, Lost}
 use Rattle.store.specs.declared.Object.{Object}
 use Rattle.store.specs.declared.Object.TheVariants.{Directory as Kept_directory, File as Kept_file, Description as Kept_description, Nothing}
 use Rattle.shadow.specs.Claims.{Claim, Room, New_directory, Number, number_of, reserved, IsDirectory, room_in, number_as, new_number, or_zero, room_of, coming_directory, coming_other, as_count}
-use Rattle.shadow.specs.Stored.{IsBare, reserve_in, committed_of}
+use Rattle.shadow.specs.Stored.{IsBare, Processes, committed_of, reserve_in}
 use Rattle.shadow.proofs.Places.{get_chosen, place_altered, place_other, without_place}
 
 -- how often a claim on a number is met by what the number is used for
@@ -27,7 +26,7 @@ at_place (Number n) o = coming_other (option_and_then reserve_in o)
 abbrev pub met : Numbers → Claim → ℕ
 met s c = at_place c (get s.places (number_of c))
 
-pub met_is : (ps : List Process) (s : Numbers) (c : Claim) → reserved (committed_of ps s) c ≡ met s c
+pub met_is : (ps : Processes) (s : Numbers) (c : Claim) → reserved (committed_of ps s) c ≡ met s c
 met_is ps s (Room d) = ap (λ o. or_zero (room_of o)) (get_chosen reserve_in s.places d)
 met_is ps s (New_directory n) = ap coming_directory (get_chosen reserve_in s.places n)
 met_is ps s (Number n) = ap coming_other (get_chosen reserve_in s.places n)
@@ -236,10 +235,10 @@ first_met s first c = elim (cases_eq (number_of c) s.root) [
     by_claim (Number m) = refl
 
 -- a number of a directory, by its place
-pub listed_of : (ps : List Process) (s : Numbers) (n : ℕ) → IsDirectory (committed_of ps s).reserves n → IsListed (get s.places n)
+pub listed_of : (ps : Processes) (s : Numbers) (n : ℕ) → IsDirectory (committed_of ps s).reserves n → IsListed (get s.places n)
 listed_of ps s n there none = there (ap room_of (get_chosen reserve_in s.places n) ∙ none)
 
-pub of_listed : (ps : List Process) (s : Numbers) (n : ℕ) → IsListed (get s.places n) → IsDirectory (committed_of ps s).reserves n
+pub of_listed : (ps : Processes) (s : Numbers) (n : ℕ) → IsListed (get s.places n) → IsDirectory (committed_of ps s).reserves n
 of_listed ps s n there none = there (sym (ap room_of (get_chosen reserve_in s.places n)) ∙ none)
 
 pub stays_listed : (s : Numbers) (q n : ℕ) (object : Object) → get s.places n ≡ None → IsListed (get s.places q) → IsListed (get (with_place s n (coming object)).places q)

@@ -7,7 +7,7 @@ use Rattle.std.specs.Option.{option_and_then}
 use Rattle.std.proofs.lemmas.Bool.{cases_eq}
 use Rattle.ids.specs.declared.edit.Mode.{Mode}
 use Rattle.model.specs.FiniteMap.{get, insert, nat_cmp-IsAntisymmetric, same_map}
-use Rattle.model.specs.State.{Kernel, Process}
+use Rattle.model.specs.State.{Kernel}
 use Rattle.model.specs.Changes.{Edit, Open_inode, There, applied, at_start, holders, open_at}
 use Rattle.model.specs.Changes.{process_of, set_description, set_process, tidy, with_slot}
 use Rattle.model.proofs.Laws.{get_other, get_same}
@@ -21,7 +21,7 @@ use Rattle.shadow.specs.Claims.{Claim, New_directory, Number, Room, claimed_by_o
 use Rattle.shadow.specs.Claims.{reserved}
 use Rattle.shadow.specs.Committed.{Committed}
 use Rattle.shadow.specs.Laid.{Frees, IsReopened, IsSlotted, kept_in, reserves_of, settled}
-use Rattle.shadow.specs.Stored.{Sound, committed_of, reserve_in, state_of, stored}
+use Rattle.shadow.specs.Stored.{Processes, Sound, committed_of, reserve_in, state_of, stored}
 use Rattle.shadow.proofs.Edited.{kept_of, state_is, tidy_after}
 use Rattle.shadow.proofs.Freed.{IsMade, freed_sound, freed_state, made_holds}
 use Rattle.shadow.proofs.Kept_on.{kept_by, kept_is}
@@ -40,7 +40,7 @@ claims_number n m inode mode pid f =
     (let one : claimed_by_one (Number m) (n ∷ []) (opening_edit inode mode pid f)
     ≡ 0 + cond (n == m) 1 0 = refl in omega arith)
 
-module _ (ps : List Process) (s : Numbers) (v : Committed) (is : committed_of ps s ≡ v)
+module _ (ps : Processes) (s : Numbers) (v : Committed) (is : committed_of ps s ≡ v)
     (n inode : ℕ) (mode : Mode) (pid f : ℕ) (sound : Sound ps s)
     (fits : Fits (n ∷ []) v.state (Open_inode 0 (There inode) mode pid f))
     (covers : (c : Claim) → claimed_by_one c (n ∷ []) (Open_inode 0 (There inode) mode pid f)
@@ -71,7 +71,7 @@ module _ (ps : List Process) (s : Numbers) (v : Committed) (is : committed_of ps
   unheld : holders (state_of ps s) n ≡ 0
   unheld = openings_change_lem.unheld (state_of ps s) n stored_fits.unused.unheld
 
-  module _ (qs : List Process) (t u : Numbers)
+  module _ (qs : Processes) (t u : Numbers)
       (opened : IsReopened n (New (at_start inode mode)) s t)
       (laid : IsSlotted pid f (Some n) ps qs t u) where
     descriptions_are : descriptions t ≡ insert (descriptions s) n (at_start inode mode)

@@ -2,7 +2,7 @@
 use Rattle.std.proofs.Common.{◌≡◌, ◌≢◌, ℕ, List, Option, Some, None, refl, sym, ap, subst, ◌∙◌}
 use Rattle.std.specs.Option.{option_and_then}
 use Rattle.model.specs.FiniteMap.{FinMap, get}
-use Rattle.model.specs.State.{Kernel, Description, Process, mapped}
+use Rattle.model.specs.State.{Kernel, Description, mapped}
 use Rattle.model.specs.Changes.{at_offset, openings, set_offset}
 use Rattle.model.proofs.Laws.{get_other, get_same}
 use Rattle.freeing_laws.proofs.Openings.{openings_change_lem}
@@ -17,7 +17,7 @@ use Rattle.store.specs.declared.Object.{Object}
 use Rattle.store.specs.declared.Object.TheVariants.{Directory as A_directory, File as A_file}
 use Rattle.store.specs.declared.Object.TheVariants.{Description as A_description, Nothing}
 use Rattle.store.proofs.Laws.{descriptions-moved, inodes-opened, left-altered, place-other}
-use Rattle.shadow.specs.Stored.{AreCounted, reserve_in, state_of, stored}
+use Rattle.shadow.specs.Stored.{AreCounted, Processes, reserve_in, state_of, stored}
 use Rattle.shadow.specs.declared.opening.Opening.TheVariants.{Moved}
 use Rattle.shadow.specs.Laid.{IsReopened, reserves_of}
 use Rattle.shadow.proofs.Edited.{counted_by, counts_of, counts_of_state, counts_stay, holders_seen}
@@ -85,7 +85,7 @@ module _ (place : ℕ) (m : FinMap _ Description) (d : ℕ) where
       by_old None = refl
 
 -- the state with this offset
-pub offset_state : (ps : List Process) (s : Numbers) (d place : ℕ)
+pub offset_state : (ps : Processes) (s : Numbers) (d place : ℕ)
     → state_of ps (altered (with_opened (moved_to place)) s d)
     ≡ set_offset d place (get (descriptions s) d) (state_of ps s)
 offset_state ps s d place =
@@ -99,7 +99,7 @@ offset_state ps s d place =
     by_old (Some it) = refl
     by_old None = refl
 
-pub offset_counted : (ps : List Process) (s : Numbers) (d place : ℕ) → AreCounted ps s
+pub offset_counted : (ps : Processes) (s : Numbers) (d place : ℕ) → AreCounted ps s
     → AreCounted ps (altered (with_opened (moved_to place)) s d)
 offset_counted ps s d place counted =
     counted_by ps t (counts_of_state (state_of ps s) (state_of ps t) t

@@ -4,7 +4,7 @@ use Rattle.std.proofs.Common.{Some, refl, sym, ap, subst, ◌∙◌, arith, inl,
 use Rattle.std.specs.Option.{option_and_then, option_map}
 use Rattle.std.proofs.lemmas.Bool.{cases_eq}
 use Rattle.model.specs.FiniteMap.{get, insert, len}
-use Rattle.model.specs.State.{Kernel, Description, Process}
+use Rattle.model.specs.State.{Kernel, Description}
 use Rattle.model.specs.Changes.{holders, openings, set_description}
 use Rattle.model.proofs.Laws.{get_other, get_same}
 use Rattle.call_laws.proofs.Laws.{some_same}
@@ -21,7 +21,7 @@ use Rattle.store.specs.declared.Object.TheVariants.{Description as A_description
 use Rattle.store.proofs.Laws.{descriptions-filed, descriptions-set, get-descriptions_by}
 use Rattle.store.proofs.Laws.{get-inodes_by, inodes-filed, inodes-set, place-altered, place-other}
 use Rattle.store.proofs.Laws.{remove-absent, with_place}
-use Rattle.shadow.specs.Stored.{AreCounted, IsStaged, reserve_in, state_of, stored}
+use Rattle.shadow.specs.Stored.{AreCounted, IsStaged, Processes, reserve_in, state_of, stored}
 use Rattle.shadow.specs.declared.opening.Opening.TheVariants.{New}
 use Rattle.shadow.specs.Laid.{IsReopened, reserves_of, settled}
 use Rattle.shadow.proofs.Making.{place_staged}
@@ -128,7 +128,7 @@ module _ (s : Numbers) (d : ℕ) (it : Description) (b : Bool) (t : Numbers)
       (λ o h at. h (held_opened g o opened at)) e (λ at. at)
       (subst (λ (t : Numbers). object_at t e ≡ Some (A_description opened)) is at)
 
-  module _ (ps : List Process) (counted : AreCounted ps s) (unheld : holders (state_of ps s) d ≡ 0)
+  module _ (ps : Processes) (counted : AreCounted ps s) (unheld : holders (state_of ps s) d ≡ 0)
     where
       abbrev k : Kernel
       k = state_of ps s

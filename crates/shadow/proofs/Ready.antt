@@ -5,7 +5,7 @@ use Rattle.std.proofs.Common.{Option, Some, None, is_some, IfSome, refl, sym, ap
 use Rattle.std.specs.List.{AllByRecursion}
 use Rattle.std.specs.Option.{option_and_then, option_map}
 use Rattle.model.specs.FiniteMap.{entries, get}
-use Rattle.model.specs.State.{A_directory, A_file, File, Inode, Kernel, Kind, Name, Process}
+use Rattle.model.specs.State.{A_directory, A_file, File, Inode, Kernel, Kind, Name}
 use Rattle.model.specs.State.{file_of_inode, file_of, kind, mapped, names_of, names_of_inode}
 use Rattle.model.specs.Effects.{Effect, all_done}
 use Rattle.model.proofs.Laws.{all_entries}
@@ -40,7 +40,7 @@ use Rattle.shadow.specs.Laid.{IsReadyDirectory, IsReadyFile, reserves_of, shown_
 use Rattle.shadow.specs.Patches.{Net, Patches, added_by, bytes_before, form_of, is_new, kept_at}
 use Rattle.shadow.specs.Patches.{names_before, net_at, net_of, no_change, of_bytes, of_names}
 use Rattle.shadow.specs.Patches.{opening_at, patched, slots_in}
-use Rattle.shadow.specs.Stored.{IsStaged, Sound, committed_of, reserve_in, state_of}
+use Rattle.shadow.specs.Stored.{IsStaged, Processes, Sound, committed_of, reserve_in, state_of}
 use Rattle.shadow.specs.declared.change.Change.{Change}
 use Rattle.shadow.specs.declared.change.Contents.{Contents}
 use Rattle.shadow.specs.declared.change.Contents.TheVariants.{Same, Names, Bytes}
@@ -252,7 +252,7 @@ unmade o (Some Directory) under =
 unmade o (Some New_file) under = let file : no_change ≡ of_bytes true = under.over in absurd cc
 
 -- what is known of the changes of one inode
-record Fits (ps : List Process) (s : Numbers) (ds : List Effect) (n : ℕ) (net : Net) : Type 0 where
+record Fits (ps : Processes) (s : Numbers) (ds : List Effect) (n : ℕ) (net : Net) : Type 0 where
   under : IsUnder (get s.places n) net.made net.contents
   room : net.promised ≤ or_zero (room_of (reserve_seen (get s.places n)))
   added : added_by net.contents ≤ net.promised
@@ -262,7 +262,7 @@ record Fits (ps : List Process) (s : Numbers) (ds : List Effect) (n : ℕ) (net 
       ≤ max (length (bytes_seen (get s.places n))) net.room
 
 -- what a commit finds, by what it sees of the changes and of the committed state
-pub can_commit : (ps : List Process) (s : Numbers) (logged ds : List Effect) (p noted : Patches)
+pub can_commit : (ps : Processes) (s : Numbers) (logged ds : List Effect) (p noted : Patches)
     (stable : Committed) → Sound ps s → Agrees logged noted → logged ≡ ds → p ≡ noted
     → committed_of ps s ≡ stable → AllFit ds stable.state → Covers stable ds → CanCommit ps s ds p
 can_commit ps s logged ds p noted stable sound agrees same alike is fits covers = record {
@@ -272,7 +272,7 @@ can_commit ps s logged ds p noted stable sound agrees same alike is fits covers 
   covers = subst (λ c. Covers c ds) (sym is) covers;
 }
 
-module _ {ps : List Process} {s : Numbers} {ds : List Effect} {p : Patches}
+module _ {ps : Processes} {s : Numbers} {ds : List Effect} {p : Patches}
     (can : CanCommit ps s ds p) where
   abbrev done : Kernel
   done = all_done ds (state_of ps s)

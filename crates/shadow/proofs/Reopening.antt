@@ -7,7 +7,6 @@ use Rattle.std.specs.Cmp.{nat_cmp_total}
 use Rattle.std.proofs.lemmas.Bool.{cases_eq}
 use Rattle.model.specs.FiniteMap.{FinMap, contains_key, entries, from_entries, get, insert, len}
 use Rattle.model.specs.FiniteMap.{len-empty, len-entries, len-insert}
-use Rattle.model.specs.State.{Process}
 use Rattle.model.specs.Changes.{openings}
 use Rattle.call_laws.proofs.Laws.{true_is_false}
 use Rattle.freeing_laws.proofs.Openings.{openings_change_lem}
@@ -24,7 +23,7 @@ use Rattle.store.specs.declared.Object.{Object}
 use Rattle.store.specs.declared.Object.TheVariants.{Directory as A_directory, File as A_file}
 use Rattle.store.specs.declared.Object.TheVariants.{Description as A_description, Nothing}
 use Rattle.store.proofs.Laws.{get-chosen, place-altered, place-other}
-use Rattle.shadow.specs.Stored.{FitsStage, IsStaged, reserve_in, state_of}
+use Rattle.shadow.specs.Stored.{FitsStage, IsStaged, Processes, reserve_in, state_of}
 use Rattle.shadow.specs.Laid.{reserves_of}
 
 -- what a change of one place leaves to each of them
@@ -75,7 +74,7 @@ fewer_chosen f m =
     let all : len m ≡ length (entries m) = len-entries m in
     omega arith
 
-pub few_openings : (ps : List Process) (s : Numbers) (n : ℕ)
+pub few_openings : (ps : Processes) (s : Numbers) (n : ℕ)
     → openings (state_of ps s) n ≤ len s.places
 few_openings ps s n =
     let low : openings (state_of ps s) n ≤ len (descriptions s) =

@@ -3,7 +3,7 @@ use Rattle.std.proofs.Common.{◌≡◌, ℕ, suc, ◌+◌, ◌<◌, Bool, true,
 use Rattle.std.specs.Prelude.{min}
 use Rattle.std.proofs.lemmas.List.{map_more}
 use Rattle.model.specs.FiniteMap.{FinMap, entries, get, keys, len, empty, len-entries, entries-empty}
-use Rattle.model.specs.State.{A_pipe, Name, name_cmp, Kernel, Inode, Process, kind, kind_of, mapped, names_of_inode, pipe_of, pipe_of_inode}
+use Rattle.model.specs.State.{A_pipe, Name, name_cmp, Kernel, Inode, kind, kind_of, mapped, names_of_inode, pipe_of, pipe_of_inode}
 use Rattle.model.specs.Paths.{is_empty}
 use Rattle.model.specs.Calls.{Slot, slot_of}
 use Rattle.dirlist.specs.Patches.{IsLaid, Notes, or_before}
@@ -17,7 +17,7 @@ use Rattle.store.specs.declared.Object.TheVariants.{Directory as Kept_directory,
 use Rattle.store.specs.declared.Stage.TheVariants.{Coming, Held, Lost}
 use Rattle.store.proofs.Laws.{get-inodes_by, laid_is}
 use Rattle.shadow.specs.Patches.{names_before, patched}
-use Rattle.shadow.specs.Stored.{state_of}
+use Rattle.shadow.specs.Stored.{Processes, state_of}
 use Rattle.shadow.specs.declared.change.Contents.{Contents}
 use Rattle.shadow.specs.declared.change.Contents.TheVariants.{Names}
 
@@ -30,7 +30,7 @@ no_pipe_in Held (Kept_file file) = refl
 no_pipe_in Held (Kept_description opened) = refl
 no_pipe_in Held Nothing = refl
 
-pub stored_no_pipes : (processes : List Process) (s : Numbers) (p : ℕ) → pipe_of (state_of processes s) p ≡ []
+pub stored_no_pipes : (processes : Processes) (s : Numbers) (p : ℕ) → pipe_of (state_of processes s) p ≡ []
 stored_no_pipes processes s p = by_place (get s.places p) refl
   where
     by_place : (o : Option Place) → get s.places p ≡ o → pipe_of (state_of processes s) p ≡ []
@@ -86,7 +86,7 @@ end_small (Ok a) bytes place count low few is =
     omega arith
 
 -- nor has an inode of the committed state the kind of one
-pub no_pipe_kind : (processes : List Process) (s : Numbers) (n : ℕ) → kind_of (state_of processes s) n ≡ Some A_pipe → ⊥
+pub no_pipe_kind : (processes : Processes) (s : Numbers) (n : ℕ) → kind_of (state_of processes s) n ≡ Some A_pipe → ⊥
 no_pipe_kind processes s n is = by_place (get s.places n) refl
   where
     not_one : (t : Stage) (object : Object) → mapped kind (shown_at t (inode_of object)) ≡ Some A_pipe → ⊥

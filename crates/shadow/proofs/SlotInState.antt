@@ -20,7 +20,7 @@ use Rattle.shadow.specs.Committed.{Committed, Reserve}
 use Rattle.shadow.specs.Laid.{AreLow, Frees, Holds, IsSlotted, kept_in, reserves_of, table_in}
 use Rattle.shadow.specs.Openings.{slot_noted}
 use Rattle.shadow.specs.Steps.{slotting}
-use Rattle.shadow.specs.Stored.{Sound, committed_of, numbered, state_of, stored}
+use Rattle.shadow.specs.Stored.{Processes, Sound, committed_of, numbered, state_of, stored}
 use Rattle.shadow.proofs.Edited.{state_is, tidied_of}
 use Rattle.shadow.proofs.Freed.{IsMade, freed_sound, freed_state, made_holds}
 use Rattle.shadow.proofs.Living.{IsProcess, is_process}
@@ -36,7 +36,7 @@ noted_is f (Some d) o = refl
 noted_is f None o = refl
 
 -- a process that there is has a number that is in use
-pub alive_process : (ps : List Process) (pid : ℕ) → get (numbered ps) pid ≢ None
+pub alive_process : (ps : Processes) (pid : ℕ) → get (numbered ps) pid ≢ None
     → (0 < pid) × (pid ≤ length ps)
 alive_process ps pid alive = (is.some, is.low)
   where
@@ -48,7 +48,7 @@ alive_process ps pid alive = (is.some, is.low)
     is = is_process ps pid (there (get (numbered ps) pid) alive)
 
 -- in a well-formed state the descriptors are below the limit
-pub sound_low : (ps : List Process) (s : Numbers) → Sound ps s → AreLow ps
+pub sound_low : (ps : Processes) (s : Numbers) → Sound ps s → AreLow ps
 sound_low ps s sound = sound.well.low
 
 -- what is kept for a number, as claims can be met
@@ -63,7 +63,7 @@ kept_met s (Room d) = refl
 kept_met s (New_directory n) = refl
 kept_met s (Number n) = refl
 
-module _ (ps qs : List Process) (s t : Numbers) (pid f : ℕ) (given : Option ℕ)
+module _ (ps qs : Processes) (s t : Numbers) (pid f : ℕ) (given : Option ℕ)
     (laid : IsSlotted pid f given ps qs s t) where
   abbrev k : Kernel
   k = state_of ps s
@@ -105,11 +105,11 @@ module _ (ps qs : List Process) (s t : Numbers) (pid f : ℕ) (given : Option �
       ∙ sym (kept_met s c)
 
 -- nothing more goes
-pub frees_nothing : (ps : List Process) (s : Numbers) → Holds ps s → Frees (λ k. k) ps s s
+pub frees_nothing : (ps : Processes) (s : Numbers) → Holds ps s → Frees (λ k. k) ps s s
 frees_nothing ps s holds = record { state = refl; holds = holds; kept = λ c. refl }
 
 -- a slot gives something else, or nothing
-module _ (ps qs : List Process) (s t : Numbers) (pid f : ℕ) (pipes : List ℕ) (sound : Sound ps s)
+module _ (ps qs : Processes) (s t : Numbers) (pid f : ℕ) (pipes : List ℕ) (sound : Sound ps s)
     where
   gives : (given : Option ℕ) → applied [] (slotting given pid f pipes) (state_of ps s)
       ≡ set_process pid (noted f given (process_of (state_of ps s) pid)) (state_of ps s)
@@ -142,7 +142,7 @@ slotting_alive (Some d) k pid f pipes fits = fits.alive
 slotting_alive None k pid f pipes fits = fits.alive
 
 -- and what it gave goes where no other slot gives it
-module _ (ps qs : List Process) (s t : Numbers) (pid f : ℕ) (given : Option ℕ) (pipes : List ℕ)
+module _ (ps qs : Processes) (s t : Numbers) (pid f : ℕ) (given : Option ℕ) (pipes : List ℕ)
     (sound : Sound ps s) (laid : IsSlotted pid f given ps qs s t)
     (v : Committed) (is : committed_of ps s ≡ v) (fits : Fits [] v.state (slotting given pid f pipes))
     (former : Option ℕ) (gave : former ≡ get (table_in (get (numbered ps) pid)) f) where

@@ -15,7 +15,7 @@ use Rattle.freeing_laws.proofs.Left.{left_is_tidy_lem}
 use Rattle.freeing_laws.proofs.Openings.{openings_change_lem}
 use Rattle.store.specs.Numbers.{Numbers}
 use Rattle.store.specs.declared.Opened.{Opened}
-use Rattle.shadow.specs.Stored.{AreCounted, numbered, state_of}
+use Rattle.shadow.specs.Stored.{AreCounted, Processes, numbered, state_of}
 use Rattle.shadow.specs.Openings.{slot_noted}
 use Rattle.shadow.specs.Laid.{AreHeld, AreLow, IsOneLess, IsOneMore, IsSlotted, SameStore, WasHeld, table_in}
 use Rattle.shadow.proofs.Living.{no_process, process_of_number}
@@ -51,22 +51,22 @@ module _ {X : Type 0} where
       ]
 
 -- a number of a process that is there
-process_there : (ps : List Process) (q : ℕ) (p : Process) → get (numbered ps) q ≡ Some p → q < suc (length ps)
+process_there : (ps : Processes) (q : ℕ) (p : Process) → get (numbered ps) q ≡ Some p → q < suc (length ps)
 process_there ps q p is = elim (cases_lt q (suc (length ps))) [
   | inl low ↦ low
   | inr high ↦ absurd (not_none p (sym is ∙ no_process ps q (inr (omega (arith, high)))))
 ]
 
 -- there are few holders of a description
-pub few_holders : (ps : List Process) (s : Numbers) (d : ℕ) → AreLow ps → length ps < 2 ^ 64 → holders (state_of ps s) d + 1 < 2 ^ 128
+pub few_holders : (ps : Processes) (s : Numbers) (d : ℕ) → AreLow ps → length ps < 2 ^ 64 → holders (state_of ps s) d + 1 < 2 ^ 128
 few_holders ps s d low few =
     let most : holders (state_of ps s) d ≤ DESCRIPTORS * len (numbered ps) = openings_change_lem.most_holders (state_of ps s) d (λ pid it is. few_keys DESCRIPTORS it.table (λ f e gives. low pid f e (ap (λ o. get (table_in o) f) is ∙ gives))) in
     let all : len (numbered ps) ≤ suc (length ps) = few_keys (suc (length ps)) (numbered ps) (process_there ps) in
     omega arith
 
 -- one process changes
-module _ (ps : List Process) (pid : ℕ) (new : Process) (some : 0 < pid) (low : pid ≤ length ps) where
-  abbrev after : List Process
+module _ (ps : Processes) (pid : ℕ) (new : Process) (some : 0 < pid) (low : pid ≤ length ps) where
+  abbrev after : Processes
   after = set ps (pid - 1) new
 
   same_count : length after ≡ length ps
@@ -127,10 +127,10 @@ same_store_same s t u first later = record {
   staged = λ h. later.staged (first.staged h);
 }
 
-module _ (ps : List Process) (pid f : ℕ) (given former : Option ℕ) (new : Process) (s t u : Numbers) (some : 0 < pid) (low : pid ≤ length ps) (fits : f < DESCRIPTORS) (few : length ps < 2 ^ 64)
+module _ (ps : Processes) (pid f : ℕ) (given former : Option ℕ) (new : Process) (s t u : Numbers) (some : 0 < pid) (low : pid ≤ length ps) (fits : f < DESCRIPTORS) (few : length ps < 2 ^ 64)
     (was : former ≡ get (table_in (get (numbered ps) pid)) f) (gives : Some new ≡ slot_noted f given (get (numbered ps) pid))
     (more : AreHeld (IsOneMore given) s t) (less : AreHeld (IsOneLess former) t u) where
-  abbrev qs : List Process
+  abbrev qs : Processes
   qs = set ps (pid - 1) new
 
   holders_now : (e : ℕ) → holders (state_of qs u) e + times e (listed former) ≡ holders (state_of ps s) e + times e (listed given)

@@ -1,6 +1,6 @@
 -- A name goes in the store.
 use Rattle.std.proofs.Common.{◌≡◌, ℕ, List, [], Some, refl, sym, ◌∙◌}
-use Rattle.model.specs.State.{Kernel, Name, Process}
+use Rattle.model.specs.State.{Kernel, Name}
 use Rattle.model.specs.Changes.{Unname_directory, Unname_file, applied, clear_name, tidy}
 use Rattle.call_laws.specs.Fits.{Fits}
 use Rattle.freeing_laws.specs.Counts.{free_inode}
@@ -17,7 +17,7 @@ use Rattle.shadow.specs.declared.change.Made.TheVariants.{Directory as A_directo
 use Rattle.shadow.specs.Claims.{Claim, New_directory, Number, Room}
 use Rattle.shadow.specs.Laid.{kept_in}
 use Rattle.shadow.specs.Steps.{unnaming}
-use Rattle.shadow.specs.Stored.{Sound, state_of}
+use Rattle.shadow.specs.Stored.{Processes, Sound, state_of}
 use Rattle.shadow.proofs.Edited.{tidied_of}
 use Rattle.shadow.proofs.Freed.{IsMade}
 use Rattle.shadow.proofs.Kept_on.{kept_alike, kept_by}
@@ -40,7 +40,7 @@ unnamed_keeps x s d = kept_alike s (altered (with_listing (without_name x)) s d)
     (λ m c. left-altered (kept_by c) (with_listing (without_name x))
     (λ place. unnamed_claims x c place.stage place.object) s d m)
 
-module _ (ps : List Process) (s : Numbers) (d : ℕ) (x : Name) (n : ℕ) (sound : Sound ps s) where
+module _ (ps : Processes) (s : Numbers) (d : ℕ) (x : Name) (n : ℕ) (sound : Sound ps s) where
   abbrev k : Kernel
   k = state_of ps s
 

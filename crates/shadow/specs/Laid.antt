@@ -33,7 +33,7 @@ use Rattle.shadow.specs.Claims.{Claim, reserved}
 use Rattle.shadow.specs.Committed.{Reserve}
 use Rattle.shadow.specs.Openings.{slot_noted}
 use Rattle.shadow.specs.Patches.{is_new, kept_at, opening_at, reopened, reslotted}
-use Rattle.shadow.specs.Stored.{AreCounted, IsStaged, committed_of, numbered, reserve_in, state_of}
+use Rattle.shadow.specs.Stored.{AreCounted, IsStaged, Processes, committed_of, numbered, reserve_in, state_of}
 
 -- what is kept for transactions
 abbrev pub reserves_of : Numbers → FinMap nat_cmp Reserve
@@ -124,7 +124,7 @@ pub record AreReopened (openings : List (ℕ × Opening)) (old new : Numbers) : 
   pub reserves : (n : ℕ) → get (reserves_of new) n
       ≡ (if is_new (opening_at openings n) then settled (get (reserves_of old) n)
       else get (reserves_of old) n)
-  pub counted : (ps : List Process) → AreCounted ps old
+  pub counted : (ps : Processes) → AreCounted ps old
       → ((d : ℕ) → is_new (opening_at openings d) ≡ true → holders (state_of ps old) d ≡ 0)
       → AreCounted ps new
 
@@ -141,11 +141,11 @@ abbrev pub given_in : List (ℕ × Given) → List ℕ
 given_in slots = flat_map (λ p. flat_map (λ g. given_by g.1) (entries p.1)) slots
 
 -- the descriptors of each process are below the limit
-abbrev pub AreLow : List Process → Type 0
+abbrev pub AreLow : Processes → Type 0
 AreLow ps = (pid f d : ℕ) → get (table_in (get (numbered ps) pid)) f ≡ Some d → f < DESCRIPTORS
 
 -- What changes of slots leave of the store.
-pub record SlotsStay (ps qs : List Process) (old new : Numbers) : Type 0 where
+pub record SlotsStay (ps qs : Processes) (old new : Numbers) : Type 0 where
   pub same : SameStore old new
   pub descriptions : descriptions new ≡ descriptions old
   pub reserves : (n : ℕ) → get (reserves_of new) n ≡ get (reserves_of old) n
@@ -178,7 +178,7 @@ pub record AreHeld (R : ℕ → ℕ → ℕ → Type 0) (old new : Numbers) : Ty
       → WasHeld (R d) old d opened
 
 -- The changes of slots are made.
-pub record AreReslotted (slots former : List (ℕ × Given)) (ps qs : List Process)
+pub record AreReslotted (slots former : List (ℕ × Given)) (ps qs : Processes)
     (old new : Numbers) : Type 0 where
   pub stay : SlotsStay ps qs old new
   pub processes : (pid : ℕ)
@@ -189,7 +189,7 @@ pub record AreReslotted (slots former : List (ℕ × Given)) (ps qs : List Proce
 
 -- The store holds, on the way: its root is number 0, names stand in directories that have one and
 -- give no description, no directory is open, what is to come is empty, and the counts are right.
-pub record Holds (ps : List Process) (s : Numbers) : Type 0 where
+pub record Holds (ps : Processes) (s : Numbers) : Type 0 where
   pub root : s.root ≡ 0
   pub parented : AreParented (state_of ps s)
   pub unnamed : (d n : ℕ) (x : Name) → get (descriptions s) d ≢ None
@@ -209,18 +209,18 @@ pub record IsReopened (d : ℕ) (opening : Opening) (old new : Numbers) : Type 0
   pub reserve : get (reserves_of new) d
       ≡ (if is_new opening then settled (get (reserves_of old) d) else get (reserves_of old) d)
   pub reserves : (n : ℕ) → n ≢ d → get (reserves_of new) n ≡ get (reserves_of old) n
-  pub counted : (ps : List Process) → AreCounted ps old
+  pub counted : (ps : Processes) → AreCounted ps old
       → (is_new opening ≡ true → holders (state_of ps old) d ≡ 0) → AreCounted ps new
 
 -- One slot gives this from now on.
-pub record IsSlotted (pid f : ℕ) (given : Option ℕ) (ps qs : List Process) (old new : Numbers)
+pub record IsSlotted (pid f : ℕ) (given : Option ℕ) (ps qs : Processes) (old new : Numbers)
     : Type 0 where
   pub stay : SlotsStay ps qs old new
   pub here : get (numbered qs) pid ≡ slot_noted f given (get (numbered ps) pid)
   pub others : (q : ℕ) → q ≢ pid → get (numbered qs) q ≡ get (numbered ps) q
 
 -- The changes of one process's slots are made.
-pub record IsReslotted (pid : ℕ) (given former : Given) (ps qs : List Process) (old new : Numbers)
+pub record IsReslotted (pid : ℕ) (given former : Given) (ps qs : Processes) (old new : Numbers)
     : Type 0 where
   pub stay : SlotsStay ps qs old new
   pub here : get (numbered qs) pid ≡ reslotted (Some given) (get (numbered ps) pid)
@@ -234,7 +234,7 @@ abbrev pub kept_in : Numbers → Claim → ℕ
 kept_in s c = reserved (committed_of [] s) c
 
 -- Objects go as f says, and what is kept for transactions is kept as before.
-pub record Frees (f : Kernel → Kernel) (ps : List Process) (old new : Numbers) : Type 0 where
+pub record Frees (f : Kernel → Kernel) (ps : Processes) (old new : Numbers) : Type 0 where
   pub state : state_of ps new ≡ f (state_of ps old)
   pub holds : Holds ps new
   pub kept : (c : Claim) → kept_in new c ≡ kept_in old c

@@ -1,13 +1,13 @@
 use Rattle.std.proofs.Common.{◌≡◌, ◌≢◌, ℕ, ◌<◌, ◌≤◌, true, false, not, List, Option, Some, None, is_some, refl, sym, ap, ◌∙◌, arith}
 use Rattle.model.specs.FiniteMap.{get}
-use Rattle.model.specs.State.{Inode, Process, Kind, kind, mapped}
+use Rattle.model.specs.State.{Inode, Kind, kind, mapped}
 use Rattle.model.specs.Changes.{is_reached, openings}
 use Rattle.store.specs.Links.{links_in}
 use Rattle.store.specs.Numbers.{Numbers}
 use Rattle.store.specs.Places.{openings_at}
 use Rattle.store.specs.Shown.{inodes}
 use Rattle.shadow.specs.Laid.{Holds}
-use Rattle.shadow.specs.Stored.{state_of}
+use Rattle.shadow.specs.Stored.{Processes, state_of}
 use Rattle.shadow.proofs.Going.{bare_if_unreached, equal_by, frees_inode, named_reached, not_reached, open_reached, openings_are, other_by, root_reached, some_by, stays_absent, stays_reached, zero_by}
 use Rattle.shadow.proofs.closing.free.Goals as goal
 
@@ -28,7 +28,7 @@ absent_by (Some i) k is none = absurd (on (sym (ap is_some is) ∙ none))
 
 -- what the code has tested of an inode
 module _ (s : Numbers) (n : ℕ) (there : get (inodes s) n ≢ None) (away : n ≢ s.root) (unnamed : links_in (inodes s) n ≡ 0) (closed : openings_at s n ≤ 0) where
-  unreached : (ps : List Process) → Holds ps s → is_reached (state_of ps s) n ≡ false
+  unreached : (ps : Processes) → Holds ps s → is_reached (state_of ps s) n ≡ false
   unreached ps holds =
       let same : openings_at s n ≡ openings (state_of ps s) n = openings_are ps s n holds there in
       not_reached (state_of ps s) n (λ e. away (e ∙ sym holds.root)) unnamed (omega arith)
