@@ -98,15 +98,26 @@ impl PipeShadow {
         self.appended.extend_from_slice(bytes)
     }
 
+    /// Of a stable pipe with so many bytes, how many are taken from its front, and what is appended
+    /// then, so that it becomes the view. It takes no memory.
+    pub fn split(&self, len: usize) -> (usize, &[u8])
+        ensures taken { result.0 ≤ len }
+        ensures view { (xs : List ℕ) → length xs ≡ len
+            → drop result.0 xs ++ result.1.now ≡ view_over self.now xs }
+    {
+        let stable = self.taken.min(len);
+        let appended = self.appended.as_slice();
+        let left = part(appended, self.taken - stable, appended.len());
+        (stable, left)
+    }
+
     /// Makes the view the stable pipe, as others have left it. It takes no memory.
     pub fn commit_into(self, pipe: &mut PipeData)
-        requires reaches { Reaches self pipe.old }
-        requires fits { length (view_over self pipe.old) ≤ PIPE_CAPACITY }
+        requires { length (view_over self pipe.old) ≤ PIPE_CAPACITY }
         ensures { pipe.new ≡ view_over self pipe.old }
     {
-        let PipeShadow { taken, appended } = self;
-        let stable = taken.min(pipe.len());
-        pipe.skip(stable);
-        pipe.put(&appended[taken - stable..]);
+        let (taken, appended) = self.split(pipe.len());
+        pipe.skip(taken);
+        pipe.put(appended);
     }
 }
