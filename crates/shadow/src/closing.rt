@@ -1,12 +1,14 @@
 // What nothing leads to any more goes.
-ghost use Rattle.std.specs.Prelude.{◌≡◌, List};
+ghost use Rattle.std.specs.Prelude.{◌≡◌, List, nat_lt};
+ghost use Rattle.model.specs.Changes.{openings};
+ghost use Rattle.freeing_laws.specs.Pipes.{is_of};
 ghost use Rattle.std.specs.List.{flat_map};
 ghost use Rattle.std.specs.Map.{keys_of};
 ghost use Rattle.model.specs.FiniteMap.{entries};
 ghost use Rattle.freeing_laws.specs.Counts.{free_inode};
 ghost use Rattle.freeing_laws.specs.Sweep.{all_closed, closed, free_inodes};
 ghost use Rattle.shadow.specs.Laid.{Frees, Holds, given_by, given_in};
-ghost use Rattle.shadow.specs.Stored.{Processes};
+ghost use Rattle.shadow.specs.Stored.{Processes, state_of};
 
 use crate::opening::Openings;
 use crate::slots::Slots;
@@ -108,8 +110,33 @@ pub(crate) fn free(store: &mut Store, num: Num)
     if store.is_named(num) {
         return;
     }
-    if store.openings(num) > 0 {
+    if is_open(store, num) {
         return;
     }
     store.lose(num);
+}
+
+// Whether a description is of a file or a pipe.
+fn is_open(store: &Store, num: Num) -> bool
+    requires { (ps : Processes) × Holds ps store.now }
+    ensures { (ps : Processes) → Holds ps store.now
+        → result ≡ nat_lt 0 (openings (state_of ps store.now) num) }
+{
+    match store.pipe(num) {
+        Some(pipe) => {
+            is_of(num, store.description(pipe.reader))
+                || is_of(num, store.description(pipe.writer))
+        }
+        None => store.openings(num) > 0,
+    }
+}
+
+// Whether it is a description of this inode.
+fn is_of(inode: Num, description: Option<Description>) -> bool
+    ensures { result ≡ is_of inode description }
+{
+    match description {
+        Some(description) => description.inode == inode,
+        None => false,
+    }
 }

@@ -1,31 +1,34 @@
 // The committed state.
 ghost use Rattle.std.specs.Prelude.{ℕ, ◌≡◌, ◌≢◌, ◌≤◌, ◌<◌, ◌+◌, ◌∷◌, [], List, None, true, IfOk, OnErr};
-ghost use Rattle.std.specs.Prelude.{OnOk, option_copied, length, map, if◌then◌else◌};
+ghost use Rattle.std.specs.Prelude.{OnOk, IfSome, option_copied, length, map, if◌then◌else◌};
 ghost use Rattle.std.specs.List.{AllByRecursion};
 ghost use Rattle.model.specs.FiniteMap.{empty, get};
 ghost use Rattle.model.specs.State.{file_of, kind_of, links, mapped, names_of, File as A_file};
-ghost use Rattle.model.specs.Changes.{all_applied, process_of, tidy};
+ghost use Rattle.model.specs.State.{Pipe as A_pipe};
+ghost use Rattle.model.specs.Changes.{all_applied, holders, process_of, tidy};
 ghost use Rattle.model.specs.Steps.{IsNowhere};
 ghost use Rattle.model.specs.Moments.{start, is_alive};
 ghost use Rattle.call_laws.specs.Fits.{FitsAll};
 ghost use Rattle.freeing_laws.specs.Sweep.{IsTidied};
-ghost use Rattle.store.specs.Shown.{file_inode};
+ghost use Rattle.freeing_laws.specs.Pipes.{ArePair};
+ghost use Rattle.store.specs.Shown.{file_inode, pipe_inode};
 ghost use Rattle.shadow.specs.Claims.{AreUnused, Claim, Covers, HaveParents, IsDirectory, KeepsMore};
 ghost use Rattle.shadow.specs.Claims.{KeepsNothing, KeepsSame, claimed_by, number_as, number_of};
 ghost use Rattle.shadow.specs.Claims.{reserved, room_in};
 ghost use Rattle.shadow.specs.Log.{effect};
-ghost use Rattle.shadow.specs.Looks.{DirectoriesAreKept, HasNoPipes, birth_of};
+ghost use Rattle.shadow.specs.Looks.{DirectoriesAreKept, birth_of};
 ghost use Rattle.shadow.specs.Steps.{CanEdit};
 
 use crate::shadow::Shadow;
 use dirlist::Dir;
 use fdtable::FdTable;
+use freeing_laws::openings_change;
 use heap::Heap;
 use ids::{Edit, Fd, Kind, Name, Num, Nums, Pid, Priority};
 use objects::{Description, FileData};
 use std::alloc::AllocError;
 use std::marker::Model;
-use store::{Object, Store};
+use store::{Object, OpenPipe, Store};
 
 /// A process.
 #[derive(Drop)]
@@ -201,6 +204,24 @@ impl Stable {
         self.store.description(num)
     }
 
+    /// A pipe.
+    pub(crate) fn pipe(&self, num: Num) -> Option<&OpenPipe>
+        ensures bytes { pipe_inode (get self.now.state.inodes num)
+            ≡ mapped (λ pipe. A_pipe pipe.bytes) (option_copied result) }
+        ensures ends { IfSome (option_copied result) (λ pipe.
+            ArePair self.now.state.descriptions num pipe.reader pipe.writer) }
+    {
+        self.store.pipe(num)
+    }
+
+    /// How many descriptors of processes name a description.
+    pub(crate) fn holders(&self, num: Num) -> u128
+        ensures { result ≡ holders self.now.state num }
+    {
+        openings_change();
+        self.store.holders(num)
+    }
+
     /// How many names give an inode.
     pub(crate) fn links(&self, num: Num) -> u128
         ensures { result ≡ links self.now.state num }
@@ -211,13 +232,6 @@ impl Stable {
     /// Each directory can have room promised.
     pub fn directories_are_kept(&self)
         ensures { DirectoriesAreKept self.now }
-    {
-        let _store = &self.store;
-    }
-
-    /// Today there are no pipes.
-    pub fn has_no_pipes(&self)
-        ensures { HasNoPipes self.now.state }
     {
         let _store = &self.store;
     }
