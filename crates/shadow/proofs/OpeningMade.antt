@@ -21,7 +21,8 @@ use Rattle.shadow.specs.Claims.{Claim, New_directory, Number, Room, claimed_by_o
 use Rattle.shadow.specs.Claims.{reserved}
 use Rattle.shadow.specs.Committed.{Committed}
 use Rattle.shadow.specs.Laid.{Frees, IsReopened, IsSlotted, kept_in, reserves_of, settled}
-use Rattle.shadow.specs.Stored.{Processes, Sound, committed_of, reserve_in, state_of, stored}
+use Rattle.shadow.specs.Stored.{Processes, Sound, committed_of, numbered, reserve_in, state_of}
+use Rattle.shadow.specs.Stored.{stored}
 use Rattle.shadow.proofs.Edited.{kept_of, state_is, tidy_after}
 use Rattle.shadow.proofs.Freed.{IsMade, freed_sound, freed_state, made_holds}
 use Rattle.shadow.proofs.Kept_on.{kept_by, kept_is}
