@@ -8,6 +8,7 @@ mod Tabling
 mod Openings_at
 mod Seeing
 mod Noted
+mod NotedSlots
 mod Moved
 mod Pairs
 mod Applied

@@ -12,6 +12,7 @@ mod laying;
 mod log;
 mod opening;
 mod patches;
+mod processes;
 mod reslotting;
 mod shadow;
 mod slots;

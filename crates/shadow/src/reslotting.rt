@@ -42,8 +42,9 @@ fn lay_each(store: &mut Store, processes: &mut Vec<Option<Process>, Heap>, each:
     }
 }
 
-// Makes what is changed of one process's slots, and answers what they gave before.
-fn lay_table(
+/// Makes what is changed of one process's slots, and answers what they gave before. It takes no
+/// memory.
+pub(crate) fn lay_table(
     store: &mut Store,
     processes: &mut Vec<Option<Process>, Heap>,
     pid: Pid,
