@@ -9,6 +9,9 @@ mod Openings_at
 mod Seeing
 mod Noted
 mod NotedSlots
+mod Emptied
+mod Forking
+mod Ending
 mod Moved
 mod Pairs
 mod Applied
