@@ -1,5 +1,5 @@
 -- The slots of each process that change, one process after the other.
-use Rattle.std.proofs.Common.{◌≡◌, ◌≢◌, ℕ, ◌+◌, ◌<◌, ◌≤◌, List, [], ◌∷◌, ◌++◌, length, get_or, set, take, Some, refl, sym, ap, subst, ◌∙◌, arith, inl, inr}
+use Rattle.std.proofs.Common.{◌≡◌, ◌≢◌, ℕ, ◌+◌, ◌<◌, ◌≤◌, List, [], ◌∷◌, ◌++◌, length, get_or, set, take, None, Some, refl, sym, ap, subst, ◌∙◌, arith, inl, inr}
 use Rattle.std.specs.List.{flat_map}
 use Rattle.std.proofs.lemmas.Bool.{cases_eq}
 use Rattle.std.proofs.lemmas.List.{get_or-set_other, length-set, take_all, take_more, take_more_set}
@@ -15,7 +15,7 @@ use Rattle.shadow.specs.Openings.{AreOnce}
 use Rattle.shadow.specs.Laid.{AreReslotted, IsReslotted, SlotsStay, given_by, given_in, table_in}
 use Rattle.shadow.proofs.Once.{key_at, kept_its, none_ahead, once_set, patch_at}
 use Rattle.shadow.proofs.Slots_over.{Entries, pushed_other, pushed_same}
-use Rattle.shadow.proofs.Tabling.{stays_on, stays_still, times_both}
+use Rattle.shadow.proofs.Tabling.{stays_on, stays_still, still_there, times_both}
 
 -- the changes of the processes at places below i are made
 pub record Lays (i : ℕ) (es now : Entries) (ps qs : Processes) (old new : Numbers) : Type 0 where
@@ -50,14 +50,11 @@ module _ (i : ℕ) (es now : Entries) (ps qs : Processes) (old new : Numbers) (o
   same_key = ap (λ (e : ℕ × Given). e.0) (so.later i (omega arith))
 
   -- the next process is there
-  pub next_there : ((pid : ℕ) → slots_in (kept_at es pid) ≢ [] → (0 < pid) × (pid ≤ length ps)) → entries (patch_at now i) ≢ [] → (0 < key_at now i) × (key_at now i ≤ length qs)
-  next_there living some =
-      let there = living (key_at es i) (λ none. some (ap (λ (e : ℕ × Given). entries e.1) (so.later i (omega arith)) ∙ sym (ap slots_in (kept_its es i once low)) ∙ none)) in
-      let first : 0 < key_at es i = there.0 in
-      let last : key_at es i ≤ length ps = there.1 in
-      let key : key_at now i ≡ key_at es i = same_key in
-      let all : length qs ≡ length ps = so.stay.count in
-      (omega (arith, first, key), omega (arith, last, key, all))
+  pub next_there : ((pid : ℕ) → slots_in (kept_at es pid) ≢ [] → get (numbered ps) pid ≢ None) → entries (patch_at now i) ≢ [] → get (numbered qs) (key_at now i) ≢ None
+  next_there living some none =
+      still_there (kept_at (take i es) (key_at es i)) (get (numbered ps) (key_at es i))
+      (living (key_at es i) (λ none. some (ap (λ (e : ℕ × Given). entries e.1) (so.later i (omega arith)) ∙ sym (ap slots_in (kept_its es i once low)) ∙ none)))
+      (sym (so.processes (key_at es i)) ∙ ap (get (numbered qs)) (sym same_key) ∙ none)
 
   -- and its slots change
   module _ (former : Given) (rs : Processes) (later : Numbers) (laid : IsReslotted (key_at es i) (patch_at es i) former qs rs new later) where

@@ -8,6 +8,10 @@ mod Tabling
 mod Openings_at
 mod Seeing
 mod Noted
+mod NotedSlots
+mod Emptied
+mod Forking
+mod Ending
 mod Moved
 mod Pairs
 mod Applied

@@ -21,13 +21,14 @@ use Rattle.shadow.specs.Claims.{Claim, New_directory, Number, Room, claimed_by_o
 use Rattle.shadow.specs.Claims.{reserved}
 use Rattle.shadow.specs.Committed.{Committed}
 use Rattle.shadow.specs.Laid.{Frees, IsReopened, IsSlotted, kept_in, reserves_of, settled}
-use Rattle.shadow.specs.Stored.{Processes, Sound, committed_of, reserve_in, state_of, stored}
+use Rattle.shadow.specs.Stored.{Processes, Sound, committed_of, numbered, reserve_in, state_of}
+use Rattle.shadow.specs.Stored.{stored}
 use Rattle.shadow.proofs.Edited.{kept_of, state_is, tidy_after}
 use Rattle.shadow.proofs.Freed.{IsMade, freed_sound, freed_state, made_holds}
 use Rattle.shadow.proofs.Kept_on.{kept_by, kept_is}
 use Rattle.shadow.proofs.Making.{other_to_come}
 use Rattle.shadow.proofs.Reopening.{reserve_at}
-use Rattle.shadow.proofs.SlotInState.{alive_process, frees_nothing, kept_met, met_by, slotted_keeps}
+use Rattle.shadow.proofs.SlotInState.{frees_nothing, kept_met, met_by, slotted_keeps}
 use Rattle.shadow.proofs.SlotInState.{slotted_state, sound_low}
 
 -- what a new description claims: its number
@@ -65,8 +66,8 @@ module _ (ps : Processes) (s : Numbers) (v : Committed) (is : committed_of ps s 
       let by : kept_in s (Number n) ≡ kept_by (Number n) (get s.places n) = kept_is s (Number n)
       in omega arith)
 
-  pub opening_process : (0 < pid) × (pid ≤ length ps)
-  opening_process = alive_process ps pid stored_fits.slot.alive
+  pub opening_process : get (numbered ps) pid ≢ None
+  opening_process = stored_fits.slot.alive
 
   unheld : holders (state_of ps s) n ≡ 0
   unheld = openings_change_lem.unheld (state_of ps s) n stored_fits.unused.unheld

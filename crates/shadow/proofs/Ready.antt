@@ -5,7 +5,7 @@ use Rattle.std.proofs.Common.{Option, Some, None, is_some, IfSome, refl, sym, ap
 use Rattle.std.specs.List.{AllByRecursion}
 use Rattle.std.specs.Option.{option_and_then, option_map}
 use Rattle.model.specs.FiniteMap.{entries, get}
-use Rattle.model.specs.State.{A_directory, A_file, File, Inode, Kernel, Kind, Name}
+use Rattle.model.specs.State.{A_directory, A_file, File, Inode, Kernel, Kind, Name, Process}
 use Rattle.model.specs.State.{file_of_inode, file_of, kind, mapped, names_of, names_of_inode}
 use Rattle.model.specs.Effects.{Effect, all_done}
 use Rattle.model.proofs.Laws.{all_entries}
@@ -16,6 +16,7 @@ use Rattle.file_shadow.specs.View.{FileChanges, len_on, view_over}
 use Rattle.file_shadow.proofs.Views.{length-view_over}
 use Rattle.objects.specs.Contents.{Content}
 use Rattle.call_laws.specs.WellFormed.{CanBeNamed, WellFormed}
+use Rattle.call_laws.proofs.Laws.{not_none, true_is_false}
 use Rattle.freeing_laws.specs.Sweep.{AllFit}
 use Rattle.freeing_laws.proofs.Laws.{sweep_is_tidy_lem}
 use Rattle.store.specs.Numbers.{Numbers, coming, present}
@@ -40,14 +41,14 @@ use Rattle.shadow.specs.Laid.{IsReadyDirectory, IsReadyFile, reserves_of, shown_
 use Rattle.shadow.specs.Patches.{Net, Patches, added_by, bytes_before, form_of, is_new, kept_at}
 use Rattle.shadow.specs.Patches.{names_before, net_at, net_of, no_change, of_bytes, of_names}
 use Rattle.shadow.specs.Patches.{opening_at, patched, slots_in}
-use Rattle.shadow.specs.Stored.{IsStaged, Processes, Sound, committed_of, reserve_in, state_of}
+use Rattle.shadow.specs.Stored.{IsStaged, Processes, Sound, committed_of, numbered, reserve_in}
+use Rattle.shadow.specs.Stored.{state_of}
 use Rattle.shadow.specs.declared.change.Change.{Change}
 use Rattle.shadow.specs.declared.change.Contents.{Contents}
 use Rattle.shadow.specs.declared.change.Contents.TheVariants.{Same, Names, Bytes}
 use Rattle.shadow.specs.declared.change.Made.{Made}
 use Rattle.shadow.specs.declared.change.Made.TheVariants.{Directory, File as New_file}
 use Rattle.shadow.proofs.Committing.{CanCommit}
-use Rattle.shadow.proofs.Living.{IsProcess, is_process}
 
 -- the inode that a place shows, its kind, its bytes, and what is kept of it for transactions
 abbrev pub inode_seen : Option Place → Option Inode
@@ -407,13 +408,15 @@ module _ {ps : Processes} {s : Numbers} {ds : List Effect} {p : Patches}
       let fits : Fits ps s ds n (net_of (Some c)) = change_fits n c is in
       change_ready n c fits c.contents refl fits.under
 
-  -- a process whose slots change is one of those that there are
+  -- a process whose slots change is there
   pub slots_alive : (pid : ℕ) → slots_in (kept_at p.slots pid) ≢ []
-      → (0 < pid) × (pid ≤ length ps)
-  slots_alive pid some =
-      let is : IsProcess ps pid =
-      is_process ps pid (can.agrees.alive (state_of ps s) pid can.fits some) in
-      (is.some, is.low)
+      → get (numbered ps) pid ≢ None
+  slots_alive pid some = by_process (get (numbered ps) pid)
+      (can.agrees.alive (state_of ps s) pid can.fits some)
+    where
+      by_process : (o : Option Process) → is_some o ≡ true → o ≢ None
+      by_process None is = absurd (true_is_false (sym is))
+      by_process (Some it) is = not_none it
 
   -- a description that the transaction made is to come
   pub to_come : (d : ℕ) → is_new (opening_at p.openings d) ≡ true

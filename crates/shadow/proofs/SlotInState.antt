@@ -1,8 +1,9 @@
 -- One slot of the committed state changes.
-use Rattle.std.proofs.Common.{◌≡◌, ◌≢◌, ℕ, ◌<◌, ◌≤◌, true, List, [], length, Option, Some, None}
-use Rattle.std.proofs.Common.{is_some, refl, sym, ap, subst, ◌∙◌, inl, inr}
+use Rattle.std.proofs.Common.{◌≡◌, ℕ, ◌-◌, ◌<◌, ◌≤◌, ◌^◌, List, [], length, set, Option, Some, None}
+use Rattle.std.proofs.Common.{refl, sym, ap, subst, ◌∙◌, inl, inr}
 use Rattle.std.specs.Cmp.{nat_cmp_total}
 use Rattle.std.proofs.lemmas.Bool.{cases_eq}
+use Rattle.ids.specs.declared.limits.TheConstants.{DESCRIPTORS}
 use Rattle.model.specs.FiniteMap.{get, insert, nat_cmp-IsAntisymmetric, same_map}
 use Rattle.model.specs.State.{Kernel, Process}
 use Rattle.model.specs.Changes.{Clear_slot, Share_slot, applied, or_new, process_of, set_process, tidy}
@@ -17,35 +18,38 @@ use Rattle.store.specs.Shown.{descriptions, inodes}
 use Rattle.shadow.specs.Claims.{Claim, New_directory, Number, Room, coming_directory, coming_other}
 use Rattle.shadow.specs.Claims.{number_of, or_zero, room_of}
 use Rattle.shadow.specs.Committed.{Committed, Reserve}
-use Rattle.shadow.specs.Laid.{AreLow, Frees, Holds, IsSlotted, kept_in, reserves_of, table_in}
+use Rattle.shadow.specs.Laid.{AreHeld, AreLow, Frees, Holds, IsOneLess, IsOneMore, IsSlotted, kept_in}
+use Rattle.shadow.specs.Laid.{reserves_of, table_in}
 use Rattle.shadow.specs.Openings.{slot_noted}
 use Rattle.shadow.specs.Steps.{slotting}
 use Rattle.shadow.specs.Stored.{Processes, Sound, committed_of, numbered, state_of, stored}
 use Rattle.shadow.proofs.Edited.{state_is, tidied_of}
 use Rattle.shadow.proofs.Freed.{IsMade, freed_sound, freed_state, made_holds}
-use Rattle.shadow.proofs.Living.{IsProcess, is_process}
+use Rattle.shadow.proofs.Slotting.{slotted}
 
 -- a process whose slot gives this from now on
 abbrev pub noted : ℕ → Option ℕ → Process → Process
 noted f (Some d) process = with_slot f d process
 noted f None process = without_slot f process
 
-noted_is : (f : ℕ) (given : Option ℕ) (o : Option Process)
+pub noted_is : (f : ℕ) (given : Option ℕ) (o : Option Process)
     → slot_noted f given o ≡ Some (noted f given (or_new o))
 noted_is f (Some d) o = refl
 noted_is f None o = refl
 
--- a process that there is has a number that is in use
-pub alive_process : (ps : Processes) (pid : ℕ) → get (numbered ps) pid ≢ None
-    → (0 < pid) × (pid ≤ length ps)
-alive_process ps pid alive = (is.some, is.low)
-  where
-    there : (o : Option Process) → o ≢ None → is_some o ≡ true
-    there None some = absurd (some refl)
-    there (Some p) some = refl
-
-    is : IsProcess ps pid
-    is = is_process ps pid (there (get (numbered ps) pid) alive)
+-- a slot of the process at a place gives this from now on
+pub slotted_by : (ps : Processes) (pid f : ℕ) (given former : Option ℕ) (now : Option Process)
+    (s t u : Numbers) → 0 < pid → pid ≤ length ps → f < DESCRIPTORS → length ps < 2 ^ 64
+    → former ≡ get (table_in (get (numbered ps) pid)) f
+    → now ≡ slot_noted f given (get (numbered ps) pid)
+    → AreHeld (IsOneMore given) s t → AreHeld (IsOneLess former) t u
+    → IsSlotted pid f given ps (set ps (pid - 1) now) s u
+slotted_by ps pid f given former now s t u some low fits few was gives more less =
+    let o : Option Process = get (numbered ps) pid in
+    subst (λ (now : Option Process). IsSlotted pid f given ps (set ps (pid - 1) now) s u)
+    (sym (gives ∙ noted_is f given o))
+    (slotted ps pid f given former (noted f given (or_new o)) s t u some low fits few was
+    (sym (noted_is f given o)) more less)
 
 -- in a well-formed state the descriptors are below the limit
 pub sound_low : (ps : Processes) (s : Numbers) → Sound ps s → AreLow ps

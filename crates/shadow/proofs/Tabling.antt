@@ -15,7 +15,7 @@ use Rattle.freeing_laws.specs.Counts.{times}
 use Rattle.store.specs.Numbers.{Numbers}
 use Rattle.shadow.specs.Stored.{Processes, numbered}
 use Rattle.shadow.specs.Openings.{slot_noted}
-use Rattle.shadow.specs.Patches.{reslotted}
+use Rattle.shadow.specs.Patches.{reslotted, reslotted_by, slots_in}
 use Rattle.shadow.specs.Laid.{IsReslotted, IsSlotted, SlotsStay, given_by, table_in}
 use Rattle.shadow.proofs.Holding.{once_here}
 use Rattle.shadow.proofs.Slots_over.{map_over, new_of, none_over, noted_over}
@@ -41,6 +41,14 @@ stays_on ps qs rs s t u first later = record {
   low = λ h. later.low (first.low h);
   counted = λ low h. later.counted (first.low low) (first.counted low h);
 }
+
+-- a process that is there stays so where its slots change
+pub still_there : (given : Option Given) (o : Option Process) → o ≢ None → reslotted given o ≢ None
+still_there given o there = by_slots (slots_in given)
+  where
+    by_slots : (gs : List (ℕ × Option ℕ)) → reslotted_by gs o ≢ None
+    by_slots [] = there
+    by_slots (g ∷ gs) = not_none _
 
 -- the table of a process after changes of its slots
 pub table_over : (m : Given) (o : Option Process) (f : ℕ) → get (table_in (reslotted (Some m) o)) f ≡ or_before (get m f) (get (table_in o) f)

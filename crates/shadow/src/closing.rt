@@ -29,8 +29,8 @@ pub(crate) fn close_former(store: &mut Store, former: &Slots)
     }
 }
 
-// Closes what one process's slots gave before.
-fn close_given(store: &mut Store, former: &Patch)
+/// Closes what one process's slots gave before. It takes no memory.
+pub(crate) fn close_given(store: &mut Store, former: &Patch)
     requires { (ps : Processes) × Holds ps store.old }
     ensures { (ps : Processes) → Holds ps store.old
         → Frees (all_closed (flat_map (λ g. given_by g.1) (entries former.now))) ps store.old

@@ -13,6 +13,7 @@ mod log;
 mod opening;
 mod patches;
 mod pipes;
+mod processes;
 mod reslotting;
 mod shadow;
 mod slots;

@@ -1,5 +1,5 @@
 // The committed state.
-ghost use Rattle.std.specs.Prelude.{ℕ, ◌≡◌, ◌≢◌, ◌≤◌, ◌<◌, ◌+◌, ◌∷◌, [], List, None, true, IfOk, OnErr};
+ghost use Rattle.std.specs.Prelude.{ℕ, ◌≡◌, ◌≢◌, ◌≤◌, ◌<◌, ◌+◌, ◌∷◌, [], List, None, Some, true, IfOk, OnErr};
 ghost use Rattle.std.specs.Prelude.{OnOk, IfSome, option_copied, length, map, if◌then◌else◌};
 ghost use Rattle.std.specs.List.{AllByRecursion};
 ghost use Rattle.model.specs.FiniteMap.{empty, get};
@@ -18,6 +18,7 @@ ghost use Rattle.shadow.specs.Claims.{reserved, room_in};
 ghost use Rattle.shadow.specs.Log.{effect};
 ghost use Rattle.shadow.specs.Looks.{DirectoriesAreKept, birth_of};
 ghost use Rattle.shadow.specs.Steps.{CanEdit};
+ghost use Rattle.shadow.specs.Stored.{numbered};
 
 use crate::shadow::Shadow;
 use dirlist::Dir;
@@ -54,7 +55,8 @@ impl Model for Process {
 /// is kept for transactions that may commit.
 #[derive(Drop)]
 pub struct Stable {
-    pub(crate) processes: Vec<Process, Heap>,
+    /// Each place has the process of the next number; one that has ended leaves its place empty.
+    pub(crate) processes: Vec<Option<Process>, Heap>,
     pub(crate) store: Store,
 }
 
@@ -70,18 +72,33 @@ impl Model for Stable {
 }
 
 // A process without open descriptors for each of these priorities.
-fn first_processes(heap: Heap, priorities: &[Priority]) -> Result<Vec<Process, Heap>, AllocError>
-    ensures { IfOk result (λ ps. ps.items ≡ map (λ p. record { table = empty; priority = p })
-        priorities.now) }
+fn first_processes(
+    heap: Heap,
+    priorities: &[Priority],
+) -> Result<Vec<Option<Process>, Heap>, AllocError>
+    ensures { IfOk result (λ ps. ps.items
+        ≡ map (λ p. Some (record { table = empty; priority = p })) priorities.now) }
 {
     let mut processes = Vec::with_capacity(heap, priorities.len())?;
     for priority in priorities {
-        processes.push(Process {
+        processes.push(Some(Process {
             table: FdTable::new(),
             priority: *priority,
-        })?;
+        }))?;
     }
     Ok(processes)
+}
+
+// The process of a number, if it is there.
+fn process_in(processes: &[Option<Process>], pid: Pid) -> Option<&Process>
+    ensures { option_copied result ≡ get (numbered processes.now) pid }
+{
+    let number = pid.0 as usize;
+    if 0 < number && number <= processes.len() {
+        processes[number - 1].as_ref()
+    } else {
+        None
+    }
 }
 
 impl Stable {
@@ -107,8 +124,7 @@ impl Stable {
     pub fn is_living(&self, pid: Pid) -> bool
         ensures { result ≡ is_alive self.now.state pid }
     {
-        let number = pid.0 as usize;
-        0 < number && number <= self.processes.len()
+        process_in(self.processes.as_slice(), pid).is_some()
     }
 
     /// A process's priority.
@@ -116,8 +132,10 @@ impl Stable {
         requires { is_alive self.now.state pid ≡ true }
         ensures { result ≡ (process_of self.now.state pid).priority }
     {
-        let number = pid.0 as usize;
-        self.processes[number - 1].priority
+        match process_in(self.processes.as_slice(), pid) {
+            Some(process) => process.priority,
+            None => unreachable!(),
+        }
     }
 
     /// A process's priority as a number; 0 where there is no such process.
@@ -147,10 +165,9 @@ impl Stable {
     pub(crate) fn table(&self, pid: Pid) -> FdTable
         ensures { result ≡ (process_of self.now.state pid).table }
     {
-        if self.is_living(pid) {
-            self.processes[pid.0 as usize - 1].table.copy()
-        } else {
-            FdTable::new()
+        match process_in(self.processes.as_slice(), pid) {
+            Some(process) => process.table.copy(),
+            None => FdTable::new(),
         }
     }
 

@@ -4,15 +4,15 @@ use Rattle.freeing_laws.specs.Sweep.{closed}
 use Rattle.shadow.specs.Committed.{Committed}
 use Rattle.shadow.specs.Laid.{Frees}
 use Rattle.shadow.proofs.Edited.{same_of}
-use Rattle.shadow.proofs.SlotInState.{alive_process, frees_nothing, slotted_holds, slotted_keeps}
+use Rattle.shadow.proofs.SlotInState.{frees_nothing, slotted_holds, slotted_keeps}
 use Rattle.shadow.proofs.SlotInState.{slotted_sound, slotted_tidy, slotting_alive}
 use Rattle.shadow.proofs.stable.Stable.reslot.Goals as goal
 
 pub lay_slot-former-requires-clause-pid : goal.lay_slot-former-requires-clause-pid
-lay_slot-former-requires-clause-pid c = alive_process c.self.inside.processes.items c.args.pid
-    (subst (λ (v : Committed). IsAlive v.state c.args.pid) (sym c.self.view_is)
+lay_slot-former-requires-clause-pid c =
+    subst (λ (v : Committed). IsAlive v.state c.args.pid) (sym c.self.view_is)
     (slotting_alive c.args.given c.args.self.now.state c.args.pid c.args.fd c.requires.fits.0
-    c.requires.fits.1))
+    c.requires.fits.1)
 
 pub lay_slot-former-requires-clause-fd : goal.lay_slot-former-requires-clause-fd
 lay_slot-former-requires-clause-fd c = c.requires.low
