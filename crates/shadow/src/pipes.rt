@@ -1,6 +1,6 @@
 // What a process sees of pipes.
 ghost use Rattle.std.specs.Prelude.{◌≡◌, ◌+◌, false, true, IfOk, IfSome, IsSome, length, take};
-ghost use Rattle.std.specs.Prelude.{if◌then◌else◌, option_copied};
+ghost use Rattle.std.specs.Prelude.{Option, if◌then◌else◌, option_copied};
 ghost use Rattle.model.specs.State.{Inode, Pipe as A_pipe, mapped, pipe_of, pipe_of_inode};
 ghost use Rattle.freeing_laws.specs.Pipes.{ArePair, holders_if, reads, writes};
 ghost use Rattle.store.specs.Shown.{pipe_inode};
