@@ -364,8 +364,6 @@ fn write_in(
     ensures form { OnOk result (form_of contents.new ≡ filed (form_of contents.old)) }
     ensures numbers { OnOk result ((b : ℕ) → Contains (numbers_in contents.new) b
         ↔ Contains (numbers_in contents.old ++ blocks place (length bytes.now)) b) }
-    ensures ends { OnOk result (new_ends contents.new ≡ None) }
-    ensures reach { OnOk result ((o : Option Inode) → AllReach contents.new o) }
     ensures err { OnErr result (contents.new ≡ contents.old) }
 {
     match contents {
@@ -393,8 +391,6 @@ fn first_bytes(heap: Heap, fresh: bool, place: usize, bytes: &[u8]) -> Result<Co
     ensures form { IfOk result (λ c. form_of c ≡ of_bytes fresh) }
     ensures numbers { IfOk result (λ c. (b : ℕ)
         → Contains (numbers_in c) b ↔ Contains (blocks place (length bytes.now)) b) }
-    ensures ends { IfOk result (λ c. new_ends c ≡ None) }
-    ensures reach { IfOk result (λ c. (o : Option Inode) → AllReach c o) }
 {
     let mut changes = FileShadow::new(heap);
     changes.write(place, bytes)?;
@@ -408,8 +404,6 @@ fn cut_in(contents: &mut Contents, heap: Heap, len: usize)
         → patched contents.new o ≡ bytes_cut len (patched contents.old o) }
     ensures form { form_of contents.new ≡ filed (form_of contents.old) }
     ensures numbers { numbers_in contents.new ≡ numbers_in contents.old }
-    ensures ends { new_ends contents.new ≡ None }
-    ensures reach { (o : Option Inode) → AllReach contents.new o }
 {
     match contents {
         Contents::Bytes(_fresh, changes) => changes.cut(len),
