@@ -18,7 +18,8 @@ use Rattle.shadow.specs.Claims.{AreUnused, Claim, Covers, KeepsMore, KeepsSame, 
 use Rattle.shadow.specs.Committed.{Committed}
 use Rattle.shadow.specs.Log.{effect}
 use Rattle.shadow.specs.Notes.{SamePatches}
-use Rattle.shadow.specs.Patches.{Net, Patches, added_by, form_of, is_new, kept_at, net_at, numbers_in, patched, reopened, reslotted_by, slots_in}
+use Rattle.freeing_laws.proofs.Laws.{sweep_is_tidy_lem}
+use Rattle.shadow.specs.Patches.{AllReach, new_ends, Net, Patches, added_by, form_of, is_new, kept_at, net_at, numbers_in, patched, reopened, reslotted_by, slots_in}
 use Rattle.shadow.specs.Steps.{AreApart, CanEdit, IsOne, TakesAll, blocks_by, parents_in}
 use Rattle.shadow.proofs.Along.{Along, along_all, along_same}
 use Rattle.shadow.proofs.EditsClaim.{AreFree, all_one, claims_more, other_claims}
@@ -41,6 +42,8 @@ agrees_none = record {
   rooms = λ k n f. omega arith;
   written = λ k n b f. (λ has. has, λ has. has);
   moved = λ k d f. tt;
+  reach = λ k n f. tt;
+  pipes = λ k n ends is well f. absurd cc;
   alive = λ k pid f some. absurd (some refl);
 }
   where
@@ -95,6 +98,9 @@ along_of ds p a = record {
   rooms = a.rooms;
   written = a.written;
   moved = a.moved;
+  reach = a.reach;
+  well = λ k fit well. sweep_is_tidy_lem.well ds k well fit;
+  pipes = a.pipes;
   alive = a.alive;
 }
 
@@ -115,6 +121,8 @@ of_along ds p claims a = record {
   rooms = a.rooms;
   written = a.written;
   moved = a.moved;
+  reach = a.reach;
+  pipes = a.pipes;
   alive = a.alive;
 }
 
@@ -178,6 +186,8 @@ agrees_same ds p q s a = record {
       let more : (net_at p.inodes n).room ≤ (net_at q.inodes n).room = (s.inodes.nets n).room in omega arith);
   written = λ k n b fit. subst (λ c. Contains (numbers_in c) b ↔ Contains (blocks_written n ds) b) (sym (contents n)) (a.written k n b fit);
   moved = λ k d fit. subst (λ o. IsOverDescription o (is_some (get k.descriptions d))) (sym (s.openings d)) (a.moved k d fit);
+  reach = λ k n fit. subst (λ c. AllReach c (get k.inodes n)) (sym (contents n)) (a.reach k n fit);
+  pipes = λ k n ends is well fit. a.pipes k n ends (sym (ap new_ends (contents n)) ∙ is) well fit;
   alive = λ k pid fit some. a.alive k pid fit (λ none. some (no_slots (slots_in (kept_at q.slots pid)) (s.processes pid None ∙ ap (λ gs. reslotted_by gs None) none)));
 }
   where
