@@ -21,7 +21,8 @@ use Rattle.freeing_laws.proofs.Left.{left_is_tidy_lem}
 use Rattle.freeing_laws.proofs.Openings.{openings_change_lem}
 use Rattle.store.specs.Numbers.{Numbers}
 use Rattle.store.specs.Shown.{descriptions, inodes}
-use Rattle.shadow.specs.Laid.{Frees, Holds, IsReslotted, given_by, table_in}
+use Rattle.shadow.specs.Claims.{Claim, number_of}
+use Rattle.shadow.specs.Laid.{Frees, Holds, IsReslotted, SlotsStay, given_by, kept_in, table_in}
 use Rattle.shadow.specs.Patches.{reslotted}
 use Rattle.shadow.specs.Stored.{AreCounted, Processes, Sound, numbered, state_of, stored}
 use Rattle.shadow.proofs.Edited.{tidied_of}
@@ -29,9 +30,15 @@ use Rattle.shadow.proofs.Emptied.{counted_same, same_holders}
 use Rattle.shadow.proofs.Forking.{is_there}
 use Rattle.shadow.proofs.Freed.{IsMade, freed_sound, freed_state, made_holds}
 use Rattle.shadow.proofs.Living.{IsProcess, is_process}
-use Rattle.shadow.proofs.SlotInState.{sound_low}
+use Rattle.shadow.proofs.SlotInState.{kept_met, met_by, sound_low}
 use Rattle.shadow.proofs.Slotting.{numbered_here, numbered_others, same_count}
 use Rattle.shadow.proofs.Tabling.{still_there, table_over}
+
+-- changes of slots keep what is kept
+pub slots_keep : (ps qs : Processes) (s t : Numbers) → SlotsStay ps qs s t → (c : Claim)
+    → kept_in t c ≡ kept_in s c
+slots_keep ps qs s t stay c =
+    kept_met t c ∙ ap (met_by c) (stay.reserves (number_of c)) ∙ sym (kept_met s c)
 
 -- what all slots gave
 abbrev pub given_of : Given → List ℕ
