@@ -1,5 +1,5 @@
 -- A process without descriptors comes or goes: nothing is held more, or less.
-use Rattle.std.proofs.Common.{◌≡◌, ◌+◌, ◌==◌, ℕ, Option, Some, nat_cmp, refl, sym, ap, ◌∙◌, arith}
+use Rattle.std.proofs.Common.{◌≡◌, ◌+◌, ◌==◌, ℕ, Some, nat_cmp, refl, ap, ◌∙◌, arith}
 use Rattle.std.specs.Cmp.{nat_cmp_total}
 use Rattle.std.specs.List.{count_by, sum_by}
 use Rattle.model.specs.FiniteMap.{FinMap, empty, entries, get, nat_cmp-IsAntisymmetric, remove}

@@ -1,15 +1,14 @@
-use Rattle.std.proofs.Common.{◌≡◌, ◌<◌, ◌≤◌, ◌-◌, ◌∙◌, ℕ, [], List, None, length, set, sym, ap, subst, arith, vec_len}
-use Rattle.model.specs.FiniteMap.{get}
+use Rattle.std.proofs.Common.{◌≡◌, ◌<◌, ◌≤◌, ◌-◌, ◌∙◌, ℕ, [], None, length, set, sym, ap, subst, arith, vec_len}
 use Rattle.model.specs.Changes.{End_process, applied, tidy}
 use Rattle.call_laws.specs.Fits.{Fits}
 use Rattle.freeing_laws.specs.Sweep.{all_closed}
 use Rattle.store.specs.Numbers.{Numbers}
-use Rattle.shadow.specs.Claims.{Claim, KeepsSame}
+use Rattle.shadow.specs.Claims.{KeepsSame}
 use Rattle.shadow.specs.Committed.{Committed}
 use Rattle.shadow.specs.Laid.{Frees, Holds}
 use Rattle.shadow.specs.Stored.{Processes, Sound, committed_of, state_of}
 use Rattle.shadow.proofs.Edited.{same_of, state_is}
-use Rattle.shadow.proofs.Ending.{ending_holds, ending_sound, ending_tidy, given_of, left, place}
+use Rattle.shadow.proofs.Ending.{ending_holds, ending_sound, ending_tidy, given_of, place}
 use Rattle.shadow.proofs.Ending.{slots_keep}
 use Rattle.shadow.proofs.Living.{IsProcess}
 use Rattle.shadow.proofs.stable.Stable.exit.Goals as goal
