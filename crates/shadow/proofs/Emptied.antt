@@ -1,10 +1,10 @@
 -- A process without descriptors comes or goes: nothing is held more, or less.
-use Rattle.std.proofs.Common.{◌≡◌, ◌+◌, ◌==◌, ℕ, Option, Some, nat_cmp, refl, sym, ap, ◌∙◌, arith}
+use Rattle.std.proofs.Common.{◌≡◌, ◌+◌, ◌==◌, Bool, ℕ, [], Some, nat_cmp, refl, ap, ap₂, ◌∙◌, arith}
 use Rattle.std.specs.Cmp.{nat_cmp_total}
 use Rattle.std.specs.List.{count_by, sum_by}
 use Rattle.model.specs.FiniteMap.{FinMap, empty, entries, get, nat_cmp-IsAntisymmetric, remove}
 use Rattle.model.specs.FiniteMap.{values}
-use Rattle.model.specs.State.{Kernel, Process}
+use Rattle.model.specs.State.{Description, Kernel, Process, ends, is_end}
 use Rattle.model.specs.Changes.{holders}
 use Rattle.model.proofs.Laws.{sum-remove, weight}
 use Rattle.freeing_laws.proofs.Openings.{openings_change_lem}
@@ -22,11 +22,10 @@ weightless w m pid it is zero =
     let none : weight w (get m pid) ≡ 0 = ap (weight w) is ∙ zero in
     omega arith
 
--- no descriptors are counted of an empty table
-none_counted : (d : ℕ) (it : Process) → it.table ≡ empty
-    → count_by (λ e. e == d) (values it.table) ≡ 0
+-- an empty table gives nothing
+no_values : (it : Process) → it.table ≡ empty → values it.table ≡ []
 unfolding empty entries
-none_counted d it none = ap (λ m. count_by (λ e. e == d) (values m)) none
+no_values it none = ap (λ m. values m) none
 
 -- in a state, and in the one without the process
 module _ (k l : Kernel) (pid : ℕ) (it : Process) (is : get k.processes pid ≡ Some it)
@@ -36,7 +35,19 @@ module _ (k l : Kernel) (pid : ℕ) (it : Process) (is : get k.processes pid ≡
   same_holders d =
       let w : Process → ℕ = λ process. count_by (λ e. e == d) (values process.table) in
       ap (λ m. sum_by w (values m)) without
-      ∙ weightless w k.processes pid it is (none_counted d it none)
+      ∙ weightless w k.processes pid it is
+      (ap (λ es. count_by (λ e. e == d) es) (no_values it none))
+
+  pub same_ends : l.descriptions ≡ k.descriptions → (p : ℕ) (mode : Description → Bool)
+      → ends l p mode ≡ ends k p mode
+  unfolding ends
+  same_ends same p mode =
+      let w : Process → ℕ = λ process. count_by (λ d. is_end mode p (get k.descriptions d))
+      (values process.table) in
+      ap₂ (λ ds m. sum_by (λ process. count_by (λ d. is_end mode p (get ds d))
+      (values process.table)) (values m)) same without
+      ∙ weightless w k.processes pid it is
+      (ap (λ t. count_by (λ d. is_end mode p (get k.descriptions d)) t) (no_values it none))
 
 -- the counts that are kept are right still
 pub counted_same : (ps qs : Processes) (s : Numbers)

@@ -1,6 +1,6 @@
 -- A process ends: its slots give nothing, its place is empty, and what they gave is closed.
 use Rattle.std.proofs.Common.{◌≡◌, ◌≢◌, ℕ, ◌-◌, ◌<◌, ◌≤◌, ◌⊎◌, true, List, [], length, set, Option, Some}
-use Rattle.std.proofs.Common.{None, nat_cmp, refl, sym, ap, subst, ◌∙◌, arith, inl, inr}
+use Rattle.std.proofs.Common.{None, nat_cmp, refl, sym, ap, ◌∙◌, arith, inl, inr}
 use Rattle.std.specs.List.{flat_map}
 use Rattle.std.specs.Cmp.{nat_cmp_total}
 use Rattle.std.proofs.lemmas.Bool.{cases_eq, cases_lt}
@@ -15,23 +15,28 @@ use Rattle.call_laws.proofs.Laws.{not_none, well_stays}
 use Rattle.fdtable.specs.Patches.{Given, or_before}
 use Rattle.freeing_laws.specs.Counts.{times}
 use Rattle.freeing_laws.specs.Left.{AreLeft, HasSlot}
-use Rattle.freeing_laws.specs.Sweep.{IsTidied, all_closed}
+use Rattle.freeing_laws.specs.Sweep.{all_closed}
 use Rattle.freeing_laws.proofs.Laws.{sweep_is_tidy_lem}
 use Rattle.freeing_laws.proofs.Left.{left_is_tidy_lem}
-use Rattle.freeing_laws.proofs.Openings.{openings_change_lem}
 use Rattle.store.specs.Numbers.{Numbers}
 use Rattle.store.specs.Shown.{descriptions, inodes}
-use Rattle.shadow.specs.Laid.{Frees, Holds, IsReslotted, given_by, table_in}
-use Rattle.shadow.specs.Patches.{reslotted}
+use Rattle.shadow.specs.Claims.{Claim, number_of}
+use Rattle.shadow.specs.Laid.{Frees, Holds, IsReslotted, SlotsStay, given_by, kept_in, table_in}
 use Rattle.shadow.specs.Stored.{AreCounted, Processes, Sound, numbered, state_of, stored}
 use Rattle.shadow.proofs.Edited.{tidied_of}
 use Rattle.shadow.proofs.Emptied.{counted_same, same_holders}
 use Rattle.shadow.proofs.Forking.{is_there}
 use Rattle.shadow.proofs.Freed.{IsMade, freed_sound, freed_state, made_holds}
 use Rattle.shadow.proofs.Living.{IsProcess, is_process}
-use Rattle.shadow.proofs.SlotInState.{sound_low}
+use Rattle.shadow.proofs.SlotInState.{kept_met, met_by, sound_low}
 use Rattle.shadow.proofs.Slotting.{numbered_here, numbered_others, same_count}
 use Rattle.shadow.proofs.Tabling.{still_there, table_over}
+
+-- changes of slots keep what is kept
+pub slots_keep : (ps qs : Processes) (s t : Numbers) → SlotsStay ps qs s t → (c : Claim)
+    → kept_in t c ≡ kept_in s c
+slots_keep ps qs s t stay c =
+    kept_met t c ∙ ap (met_by c) (stay.reserves (number_of c)) ∙ sym (kept_met s c)
 
 -- what all slots gave
 abbrev pub given_of : Given → List ℕ

@@ -1,18 +1,18 @@
 -- A process more in the committed state, which then has its parent's descriptors.
-use Rattle.std.proofs.Common.{◌≡◌, ◌≢◌, ℕ, suc, ◌+◌, ◌-◌, ◌<◌, ◌≤◌, ◌++◌, false, List, [], ◌∷◌, length, get_or}
-use Rattle.std.proofs.Common.{Option, Some, None, nat_cmp, refl, sym, ap, subst, ◌∙◌, arith, inl, inr}
+use Rattle.std.proofs.Common.{◌≡◌, ◌≢◌, ℕ, suc, ◌+◌, ◌-◌, ◌<◌, ◌≤◌, ◌++◌, List, [], ◌∷◌, length, get_or}
+use Rattle.std.proofs.Common.{Option, Some, None, nat_cmp, refl, sym, ap, ◌∙◌, arith, inl, inr}
 use Rattle.std.specs.Cmp.{nat_cmp_total}
 use Rattle.std.proofs.lemmas.Bool.{cases_eq, cases_lt}
-use Rattle.std.proofs.lemmas.List.{get_or_append_left, get_or_past, length-append}
+use Rattle.std.proofs.lemmas.List.{get_or_append_left, length-append}
 use Rattle.std.proofs.Math.Seq.{get_or-append_seam}
 use Rattle.ids.specs.declared.limits.TheConstants.{DESCRIPTORS}
-use Rattle.model.specs.FiniteMap.{FinMap, empty, entries, get, get-empty, insert, nat_cmp-IsAntisymmetric}
+use Rattle.model.specs.FiniteMap.{empty, entries, get, get-empty, insert, nat_cmp-IsAntisymmetric}
 use Rattle.model.specs.FiniteMap.{remove, same_map}
 use Rattle.model.specs.State.{Kernel, Process, mapped}
-use Rattle.model.specs.Changes.{New_process, applied, or_new, process_of, tidy}
+use Rattle.model.specs.Changes.{New_process, applied, or_new, process_of}
 use Rattle.model.proofs.Laws.{get_other, get_same, removed_other, removed_same}
 use Rattle.call_laws.specs.Fits.{Fits}
-use Rattle.call_laws.proofs.Laws.{not_none, some_same}
+use Rattle.call_laws.proofs.Laws.{not_none}
 use Rattle.fdtable.specs.Patches.{Given, or_before}
 use Rattle.store.specs.Numbers.{Numbers}
 use Rattle.store.specs.Shown.{descriptions, inodes}

@@ -1,5 +1,5 @@
 -- A name more for a file, and a name that moves, in the store.
-use Rattle.std.proofs.Common.{◌≡◌, ℕ, ◌+◌, ◌<◌, ◌≤◌, ◌==◌, true, false, cond, List, [], ◌∷◌, Some, refl, sym, ap, subst, ◌∙◌, arith, eq-eqb}
+use Rattle.std.proofs.Common.{◌≡◌, ℕ, ◌+◌, ◌<◌, ◌≤◌, ◌==◌, true, false, cond, [], ◌∷◌, Some, refl, sym, ap, subst, ◌∙◌, arith, eq-eqb}
 use Rattle.model.specs.FiniteMap.{get, remove}
 use Rattle.model.specs.State.{A_directory, A_file, Kernel, Name, kind_of, names_of}
 use Rattle.model.specs.Changes.{Edit, Move, Name_file, Replaced, applied, clear_name, inode_replaced, set_name, tidy}

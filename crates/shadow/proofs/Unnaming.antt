@@ -1,5 +1,5 @@
 -- A name goes in the store.
-use Rattle.std.proofs.Common.{◌≡◌, ℕ, List, [], Some, refl, sym, ◌∙◌}
+use Rattle.std.proofs.Common.{◌≡◌, ℕ, [], Some, refl, sym, ◌∙◌}
 use Rattle.model.specs.State.{Kernel, Name}
 use Rattle.model.specs.Changes.{Unname_directory, Unname_file, applied, clear_name, tidy}
 use Rattle.call_laws.specs.Fits.{Fits}

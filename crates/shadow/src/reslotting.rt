@@ -17,7 +17,11 @@ use store::Store;
 
 /// Makes what is changed of slots; what these gave before stands in the place of the changes. It
 /// takes no memory.
-pub(crate) fn lay_slots(store: &mut Store, processes: &mut Vec<Option<Process>, Heap>, slots: &mut Slots)
+pub(crate) fn lay_slots(
+    store: &mut Store,
+    processes: &mut Vec<Option<Process>, Heap>,
+    slots: &mut Slots,
+)
     requires { (pid : ℕ) → slots_in (kept_at slots.old pid) ≢ []
         → get (numbered processes.old.items) pid ≢ None }
     ensures { AreReslotted slots.old slots.new processes.old.items processes.new.items
@@ -27,7 +31,11 @@ pub(crate) fn lay_slots(store: &mut Store, processes: &mut Vec<Option<Process>, 
 }
 
 // Makes what is changed of each process's slots, and puts what they gave before in its place.
-fn lay_each(store: &mut Store, processes: &mut Vec<Option<Process>, Heap>, each: &mut [(Pid, Patch)])
+fn lay_each(
+    store: &mut Store,
+    processes: &mut Vec<Option<Process>, Heap>,
+    each: &mut [(Pid, Patch)],
+)
     requires once { AreOnce each.old }
     requires living { (pid : ℕ) → slots_in (kept_at each.old pid) ≢ []
         → get (numbered processes.old.items) pid ≢ None }

@@ -1,4 +1,4 @@
-use Rattle.std.proofs.Common.{◌≡◌, ◌≢◌, ℕ, ◌<◌, ◌≤◌, true, false, not, List, Option, Some, None, is_some, refl, sym, ap, ◌∙◌, arith}
+use Rattle.std.proofs.Common.{◌≡◌, ◌≢◌, ℕ, ◌<◌, ◌≤◌, true, false, not, Option, Some, None, is_some, refl, sym, ap, ◌∙◌, arith}
 use Rattle.model.specs.FiniteMap.{get}
 use Rattle.model.specs.State.{Inode, Kind, kind, mapped}
 use Rattle.model.specs.Changes.{is_reached, openings}

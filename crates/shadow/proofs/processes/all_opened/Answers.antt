@@ -1,4 +1,4 @@
-use Rattle.std.proofs.Common.{◌≡◌, ◌+◌, ◌∙◌, ℕ, Option, None, Some, sym, ap, subst}
+use Rattle.std.proofs.Common.{◌+◌, ◌∙◌, ℕ, Option, Some, sym, ap, subst}
 use Rattle.model.specs.FiniteMap.{get}
 use Rattle.model.specs.State.{mapped}
 use Rattle.shadow.proofs.NotedSlots.{NotedBelow, none_more, none_noted, one_more}

@@ -1,5 +1,5 @@
 -- The descriptors below this number are noted.
-use Rattle.std.proofs.Common.{◌≡◌, ◌<◌, ◌≤◌, ℕ, None, Some}
+use Rattle.std.proofs.Common.{Some}
 use Rattle.model.specs.FiniteMap.{get}
 use Rattle.model.specs.State.{mapped}
 use Rattle.shadow.proofs.NotedSlots.{NotedBelow}

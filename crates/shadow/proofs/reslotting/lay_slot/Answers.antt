@@ -1,6 +1,5 @@
-use Rattle.std.proofs.Common.{◌≡◌, ◌≢◌, ◌≤◌, ◌∙◌, ◌<◌, ◌^◌, ℕ, None, Option, ◌-◌, length, set, sym, subst, arith, ap, vec_len}
+use Rattle.std.proofs.Common.{◌≡◌, ◌≢◌, ◌≤◌, ◌∙◌, ◌<◌, ◌^◌, ℕ, None, ◌-◌, length, set, sym, subst, arith, ap, vec_len}
 use Rattle.model.specs.FiniteMap.{get}
-use Rattle.model.specs.State.{Process}
 use Rattle.shadow.specs.Openings.{slot_noted}
 use Rattle.shadow.specs.Stored.{Processes, numbered}
 use Rattle.shadow.specs.Laid.{IsSlotted, table_in}
