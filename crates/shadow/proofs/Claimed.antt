@@ -1,5 +1,5 @@
 -- New numbers of edits, with what is kept for them.
-use Rattle.std.proofs.Common.{◌≡◌, ◌≢◌, ℕ, zero, suc, ◌+◌, ◌≤◌, ◌==◌, Bool, true, false, ◌&&◌, ◌||◌, not, cond, List, [], ◌∷◌, ◌++◌, length, replicate, drop, sum_by, flat_map, Some, None, refl, sym, ap, subst, ◌∙◌, arith, eqb-true, inl, inr}
+use Rattle.std.proofs.Common.{Result, Ok, Err, OnOk, OnErr, ◌≡◌, ◌≢◌, ℕ, zero, suc, ◌+◌, ◌≤◌, ◌==◌, Bool, true, false, ◌&&◌, ◌||◌, not, cond, List, [], ◌∷◌, ◌++◌, length, replicate, drop, sum_by, flat_map, Some, None, refl, sym, ap, subst, ◌∙◌, arith, eqb-true, inl, inr}
 use Rattle.std.specs.List.{AllByRecursion}
 use Rattle.std.proofs.lemmas.List.{length-append}
 use Rattle.std.proofs.lemmas.List.Sums.{sum_by-append, sum_by-cons}
@@ -359,3 +359,17 @@ three_claimed s t u v old one two new i pid f g a b c first second = record {
       let none : claimed_in claim [] [] ≡ 0 = none_claimed claim in omega arith);
   stays = record { used = λ n none. a.stays.used n (b.stays.used n (c.stays.used n none)); directories = λ n there. c.stays.directories n (b.stays.directories n (a.stays.directories n there)) };
 }
+
+-- where a number could not be had, none was added, and as much is kept as before
+pub err_added : {A E : Type 0} (r : Result A E) (s t : Committed) (old new : List ℕ) → OnErr r (new ≡ old) → OnErr r (KeepsSame s t) → OnErr r (AreAdded s t old new)
+err_added (Ok x) s t old new is same = tt
+err_added (Err e) s t old new is same = none_added s t old new is same
+
+pub err_more : {A E : Type 0} (b : Bool) (r : Result A E) (s t u : Committed) (old mid new : List ℕ) → IsReserved b s t old mid → OnErr r (AreAdded t u mid new) → OnErr r (AreAdded s u old new)
+err_more b (Ok x) s t u old mid new first later = tt
+err_more b (Err e) s t u old mid new first later = more_added b s t u old mid new first later
+
+-- one number for one edit, where it could be had
+pub ok_claimed : {A E : Type 0} (r : Result A E) (s t : Committed) (b : Bool) (e : Edit) (old new : List ℕ) → 1 ≡ news e → kinds_in e ≡ b ∷ [] → OnOk r (IsReserved b s t old new) → OnOk r (IsClaimed s t e old new)
+ok_claimed (Ok x) s t b e old new count kinds is = is_claimed s t b e old new count kinds is
+ok_claimed (Err x) s t b e old new count kinds is = tt

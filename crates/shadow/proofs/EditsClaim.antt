@@ -66,7 +66,9 @@ pipe_directory m r w n made unused = by_test (n == m) refl ∙ sym (none_counted
         let none : as_count ((x == n) && false) ≡ 0 = never (x == n) in omega arith
 
     none_counted : (a : ℕ) → a + count_by (λ (z : ℕ × Bool). (z.0 == n) && z.1) ((m, false) ∷ (r, false) ∷ (w, false) ∷ []) ≡ a
-    none_counted a = let none : count_by (λ (z : ℕ × Bool). (z.0 == n) && z.1) ((m, false) ∷ (r, false) ∷ (w, false) ∷ []) ≡ 0 = no_one m _ ∙ no_one r _ ∙ no_one w [] in omega arith
+    none_counted a =
+        let none : count_by (λ (z : ℕ × Bool). (z.0 == n) && z.1) ((m, false) ∷ (r, false) ∷ (w, false) ∷ []) ≡ 0 =
+        no_one m ((r, false) ∷ (w, false) ∷ []) ∙ no_one r ((w, false) ∷ []) ∙ no_one w [] in omega arith
 
     by_test : (b : Bool) → (n == m) ≡ b → as_count (is_directory_made (cond b (Some Pipe_made) made)) ≡ as_count (is_directory_made made)
     by_test true h = sym (unused (sym (eqb-true n m h)))

@@ -276,6 +276,7 @@ first_sound laws ps priorities s is root first = record {
   counted = record {
     openings = λ n file there. absurd (only n (Kept_file file) refl there);
     holders = λ d opened there. absurd (only d (Kept_description opened) refl there);
+    pipes = λ p pipe there. absurd (only p (Kept_pipe pipe) refl there);
   };
 }
   where
