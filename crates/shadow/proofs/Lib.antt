@@ -47,6 +47,7 @@ mod Freed
 mod Unnaming
 mod SlotInState
 mod OpeningMade
+mod PipeMade
 mod OffsetInState
 mod BlocksNoted
 mod FiledOn
