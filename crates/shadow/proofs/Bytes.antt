@@ -17,7 +17,7 @@ use Rattle.store.specs.declared.Place.{Place}
 use Rattle.store.specs.declared.Stage.{Stage}
 use Rattle.store.specs.declared.Stage.TheVariants.{Coming, Held, Lost}
 use Rattle.store.specs.declared.Object.{Object}
-use Rattle.store.specs.declared.Object.TheVariants.{Directory as Kept_directory, File as Kept_file, Description as Kept_description, Nothing}
+use Rattle.store.specs.declared.Object.TheVariants.{Directory as Kept_directory, File as Kept_file, Pipe as Kept_pipe, Description as Kept_description, Nothing}
 use Rattle.store.proofs.Laws.{altered-alike, altered-twice, descriptions-filed, get-inodes, inodes-swapped, insert-held, left-altered}
 use Rattle.shadow.specs.Stored.{AreCounted, Processes, Sound, state_of, stored}
 use Rattle.shadow.proofs.Kept_on.{file_staged}
@@ -31,6 +31,7 @@ file_there s n is = by_object (object_at s n) (sym (ap (mapped kind) (get-inodes
     by_object None is = absurd cc
     by_object (Some (Kept_directory l)) is = absurd cc
     by_object (Some (Kept_file file)) is = refl
+    by_object (Some (Kept_pipe pipe)) is = absurd cc
     by_object (Some (Kept_description opened)) is = absurd cc
     by_object (Some Nothing) is = absurd cc
 
@@ -49,6 +50,7 @@ former_is s n content there former = get-inodes s n ∙ by_place (get s.places n
     by_stage Lost object there former = absurd cc
     by_stage Held (Kept_directory l) there former = absurd cc
     by_stage Held (Kept_file file) there former = ap (mapped (λ (b : Content). File b.bytes)) former
+    by_stage Held (Kept_pipe pipe) there former = absurd cc
     by_stage Held (Kept_description opened) there former = absurd cc
     by_stage Held Nothing there former = absurd cc
 
@@ -70,6 +72,7 @@ swapped_twice a b s t u n one two =
     by_object : (o : Object) → changed_file (with_bytes b) (changed_file (with_bytes a) o) ≡ changed_file (with_bytes b) o
     by_object (Kept_directory l) = refl
     by_object (Kept_file file) = refl
+    by_object (Kept_pipe pipe) = refl
     by_object (Kept_description opened) = refl
     by_object Nothing = refl
 
@@ -95,6 +98,7 @@ module _ (ps : Processes) (s : Numbers) (n : ℕ) (b : Content) (sound : Sound p
       files Lost object = refl
       files Held (Kept_directory l) = refl
       files Held (Kept_file file) = refl
+      files Held (Kept_pipe pipe) = refl
       files Held (Kept_description opened) = refl
       files Held Nothing = refl
 
@@ -103,6 +107,7 @@ module _ (ps : Processes) (s : Numbers) (n : ℕ) (b : Content) (sound : Sound p
       held_by Lost object = refl
       held_by Held (Kept_directory l) = refl
       held_by Held (Kept_file file) = refl
+      held_by Held (Kept_pipe pipe) = refl
       held_by Held (Kept_description opened) = refl
       held_by Held Nothing = refl
 

@@ -22,7 +22,7 @@ use Rattle.store.specs.declared.Place.{Place}
 use Rattle.store.specs.declared.Stage.{Stage}
 use Rattle.store.specs.declared.Stage.TheVariants.{Coming, Held, Lost}
 use Rattle.store.specs.declared.Object.{Object}
-use Rattle.store.specs.declared.Object.TheVariants.{Directory as Kept_directory, File as Kept_file, Description as Kept_description, Nothing}
+use Rattle.store.specs.declared.Object.TheVariants.{Directory as Kept_directory, File as Kept_file, Pipe as Kept_pipe, Description as Kept_description, Nothing}
 use Rattle.store.proofs.Laws.{altered-some, descriptions-set, get-inodes, inodes-set, remove-absent, with_place}
 use Rattle.shadow.specs.Claims.{Claim, New_directory, Number, Room, as_count, claimed_by_one, number_as, number_of, reserved, room_in}
 use Rattle.shadow.specs.Committed.{Committed}
@@ -110,6 +110,7 @@ directory_to_come (Some place) n h = by_stage place.stage place.object h
     by_stage : (t : Stage) (object : Object) → 0 < kept_by (New_directory n) (Some (record { stage = t; object = object })) → (l : Listing) × (Some (record { stage = t; object = object }) ≡ Some (coming (Kept_directory l)))
     by_stage Coming (Kept_directory l) h = (l, refl)
     by_stage Coming (Kept_file file) h = absurd (omega arith)
+    by_stage Coming (Kept_pipe pipe) h = absurd (omega arith)
     by_stage Coming (Kept_description opened) h = absurd (omega arith)
     by_stage Coming Nothing h = absurd (omega arith)
     by_stage Held object h = absurd (omega arith)
@@ -122,6 +123,7 @@ other_to_come (Some place) n fits h = by_stage place.stage place.object fits h
     by_stage : (t : Stage) (object : Object) → IsStaged (Some (record { stage = t; object = object })) → 0 < kept_by (Number n) (Some (record { stage = t; object = object })) → Some (record { stage = t; object = object }) ≡ Some (coming Nothing)
     by_stage Coming (Kept_directory l) fits h = absurd (omega arith)
     by_stage Coming (Kept_file file) fits h = absurd fits
+    by_stage Coming (Kept_pipe pipe) fits h = absurd fits
     by_stage Coming (Kept_description opened) fits h = absurd fits
     by_stage Coming Nothing fits h = refl
     by_stage Held object fits h = absurd (omega arith)
@@ -134,6 +136,7 @@ held_directory s d is = by_place (get s.places d) (sym (ap (mapped kind) (get-in
     by_stage : (t : Stage) (object : Object) → mapped kind (option_and_then inode_of (if_held t object)) ≡ Some A_directory → (l : Listing) × (Some (record { stage = t; object = object }) ≡ Some (present (Kept_directory l)))
     by_stage Held (Kept_directory l) is = (l, refl)
     by_stage Held (Kept_file file) is = absurd cc
+    by_stage Held (Kept_pipe pipe) is = absurd cc
     by_stage Held (Kept_description opened) is = absurd cc
     by_stage Held Nothing is = absurd cc
     by_stage Coming object is = absurd cc

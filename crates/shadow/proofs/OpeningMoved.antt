@@ -14,7 +14,7 @@ use Rattle.store.specs.declared.Place.{Place}
 use Rattle.store.specs.declared.Stage.{Stage}
 use Rattle.store.specs.declared.Stage.TheVariants.{Coming, Held, Lost}
 use Rattle.store.specs.declared.Object.{Object}
-use Rattle.store.specs.declared.Object.TheVariants.{Directory as A_directory, File as A_file}
+use Rattle.store.specs.declared.Object.TheVariants.{Directory as A_directory, File as A_file, Pipe as A_pipe}
 use Rattle.store.specs.declared.Object.TheVariants.{Description as A_description, Nothing}
 use Rattle.store.proofs.Laws.{descriptions-moved, inodes-opened, left-altered, place-other}
 use Rattle.shadow.specs.Stored.{AreCounted, Processes, reserve_in, state_of, stored}
@@ -35,6 +35,7 @@ module _ (f : Opened → Opened) where
           ≡ reserve_in (record { stage = place.stage; object = object })
       by_object (A_directory listing) = refl
       by_object (A_file file) = refl
+      by_object (A_pipe pipe) = refl
       by_object (A_description opened) = refl
       by_object Nothing = refl
 
@@ -49,6 +50,7 @@ module _ (f : Opened → Opened) where
       by_stage Lost object = refl
       by_stage Held (A_directory listing) = refl
       by_stage Held (A_file file) = refl
+      by_stage Held (A_pipe pipe) = refl
       by_stage Held (A_description opened) = refl
       by_stage Held Nothing = refl
 
@@ -64,6 +66,7 @@ module _ (f : Opened → Opened) where
       by_stage Lost object = refl
       by_stage Held (A_directory listing) = refl
       by_stage Held (A_file file) = refl
+      by_stage Held (A_pipe pipe) = refl
       by_stage Held (A_description opened) = ap (λ (c : ℕ). Some c) (same opened)
       by_stage Held Nothing = refl
 

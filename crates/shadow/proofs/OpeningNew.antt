@@ -16,7 +16,7 @@ use Rattle.store.specs.declared.OpenFile.{OpenFile}
 use Rattle.store.specs.declared.Opened.{Opened}
 use Rattle.store.specs.declared.Place.{Place}
 use Rattle.store.specs.declared.Object.{Object}
-use Rattle.store.specs.declared.Object.TheVariants.{Directory as A_directory, File as A_file}
+use Rattle.store.specs.declared.Object.TheVariants.{Directory as A_directory, File as A_file, Pipe as A_pipe}
 use Rattle.store.specs.declared.Object.TheVariants.{Description as A_description, Nothing}
 use Rattle.store.proofs.Laws.{descriptions-filed, descriptions-set, get-descriptions_by}
 use Rattle.store.proofs.Laws.{get-inodes_by, inodes-filed, inodes-set, place-altered, place-other}
@@ -42,6 +42,7 @@ not_counted place = by_object place.object
         ≡ record { stage = place.stage; object = object }
     by_object (A_directory listing) = refl
     by_object (A_file file) = refl
+    by_object (A_pipe pipe) = refl
     by_object (A_description opened) = refl
     by_object Nothing = refl
 

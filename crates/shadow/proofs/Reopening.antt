@@ -20,7 +20,7 @@ use Rattle.store.specs.declared.Place.{Place}
 use Rattle.store.specs.declared.Stage.{Stage}
 use Rattle.store.specs.declared.Stage.TheVariants.{Coming, Held, Lost}
 use Rattle.store.specs.declared.Object.{Object}
-use Rattle.store.specs.declared.Object.TheVariants.{Directory as A_directory, File as A_file}
+use Rattle.store.specs.declared.Object.TheVariants.{Directory as A_directory, File as A_file, Pipe as A_pipe}
 use Rattle.store.specs.declared.Object.TheVariants.{Description as A_description, Nothing}
 use Rattle.store.proofs.Laws.{get-chosen, place-altered, place-other}
 use Rattle.shadow.specs.Stored.{FitsStage, IsStaged, Processes, reserve_in, state_of}
@@ -137,6 +137,7 @@ module _ (g : OpenFile → OpenFile) where
           ≡ reserve_in (record { stage = place.stage; object = object })
       by_object (A_directory listing) = refl
       by_object (A_file file) = refl
+      by_object (A_pipe pipe) = refl
       by_object (A_description opened) = refl
       by_object Nothing = refl
 
