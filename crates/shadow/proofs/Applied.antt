@@ -30,25 +30,25 @@ pub by_one : (P : Edit → Type 0)
     → ((p : ℕ) (bytes : List ℕ) → P (Append p bytes))
     → ((i pid f g : ℕ) → P (Make_pipe i pid f g))
     → (e : Edit) → IsOne e → P e
-by_one P a b c l u m d e f g h t v w y (Make_directory p x i) one = a p x i
-by_one P a b c l u m d e f g h t v w y (Make_file p x i) one = b p x i
-by_one P a b c l u m d e f g h t v w y (Unname_directory p x n) one = c p x n
-by_one P a b c l u m d e f g h t v w y (Put_bytes n place bytes before) one = d n place bytes before
-by_one P a b c l u m d e f g h t v w y (Cut n before after) one = e n before after
-by_one P a b c l u m d e f g h t v w y (Open_inode i inode mode pid s) one = f i inode mode pid s
-by_one P a b c l u m d e f g h t v w y (Set_offset o place) one = g o place
-by_one P a b c l u m d e f g h t v w y (Clear_slot pid s pipes) one = h pid s pipes
-by_one P a b c l u m d e f g h t v w y (Name_file p x n) one = l p x n
-by_one P a b c l u m d e f g h t v w y (Unname_file p x n) one = u p x n
-by_one P a b c l u m d e f g h t v w y (Move p x q y n replaced) one = m p x q y n replaced
-by_one P a b c l u m d e f g h t v w y (Take p count) one = v p count
-by_one P a b c l u m d e f g h t v w y (Append p bytes) one = w p bytes
-by_one P a b c l u m d e f g h t v w y (Make_pipe i pid s r) one = y i pid s r
-by_one P a b c l u m d e f g h t v w y (Share_slot pid s o pipes) one = t pid s o pipes
-by_one P a b c l u m d e f g h t v w y (New_process child parent pipes) (inl one) = absurd one
-by_one P a b c l u m d e f g h t v w y (New_process child parent pipes) (inr one) = absurd one.1
-by_one P a b c l u m d e f g h t v w y (End_process pid pipes) (inl one) = absurd one
-by_one P a b c l u m d e f g h t v w y (End_process pid pipes) (inr one) = absurd one.1
+by_one P a b c l u m d e f g h t v w z (Make_directory p x i) one = a p x i
+by_one P a b c l u m d e f g h t v w z (Make_file p x i) one = b p x i
+by_one P a b c l u m d e f g h t v w z (Unname_directory p x n) one = c p x n
+by_one P a b c l u m d e f g h t v w z (Put_bytes n place bytes before) one = d n place bytes before
+by_one P a b c l u m d e f g h t v w z (Cut n before after) one = e n before after
+by_one P a b c l u m d e f g h t v w z (Open_inode i inode mode pid s) one = f i inode mode pid s
+by_one P a b c l u m d e f g h t v w z (Set_offset o place) one = g o place
+by_one P a b c l u m d e f g h t v w z (Clear_slot pid s pipes) one = h pid s pipes
+by_one P a b c l u m d e f g h t v w z (Name_file p x n) one = l p x n
+by_one P a b c l u m d e f g h t v w z (Unname_file p x n) one = u p x n
+by_one P a b c l u m d e f g h t v w z (Move p x q y n replaced) one = m p x q y n replaced
+by_one P a b c l u m d e f g h t v w z (Take p count) one = v p count
+by_one P a b c l u m d e f g h t v w z (Append p bytes) one = w p bytes
+by_one P a b c l u m d e f g h t v w z (Make_pipe i pid s r) one = z i pid s r
+by_one P a b c l u m d e f g h t v w z (Share_slot pid s o pipes) one = t pid s o pipes
+by_one P a b c l u m d e f g h t v w z (New_process child parent pipes) (inl one) = absurd one
+by_one P a b c l u m d e f g h t v w z (New_process child parent pipes) (inr one) = absurd one.1
+by_one P a b c l u m d e f g h t v w z (End_process pid pipes) (inl one) = absurd one
+by_one P a b c l u m d e f g h t v w z (End_process pid pipes) (inr one) = absurd one.1
 
 -- what holds of each edit that may come first, and of each that may come last
 pub first_cases : (P : Edit → Type 0)
@@ -64,23 +64,23 @@ pub first_cases : (P : Edit → Type 0)
     → ((p : ℕ) (bytes : List ℕ) → P (Append p bytes))
     → ((i pid f g : ℕ) → i ≡ 0 → P (Make_pipe i pid f g))
     → (e : Edit) → IsFirst e → P e
-first_cases P a b c l u m d e v w y (Make_directory p x i) first = a p x i first
-first_cases P a b c l u m d e v w y (Make_file p x i) first = b p x i first
-first_cases P a b c l u m d e v w y (Unname_directory p x n) first = c p x n
-first_cases P a b c l u m d e v w y (Put_bytes n place bytes before) first = d n place bytes before
-first_cases P a b c l u m d e v w y (Cut n before after) first = e n before after
-first_cases P a b c l u m d e v w y (Open_inode i inode mode pid s) first = absurd first
-first_cases P a b c l u m d e v w y (Set_offset o place) first = absurd first
-first_cases P a b c l u m d e v w y (Clear_slot pid s pipes) first = absurd first
-first_cases P a b c l u m d e v w y (Name_file p x n) first = l p x n
-first_cases P a b c l u m d e v w y (Unname_file p x n) first = u p x n
-first_cases P a b c l u m d e v w y (Move p x q y n replaced) first = m p x q y n replaced
-first_cases P a b c l u m d e v w y (Take p count) first = v p count
-first_cases P a b c l u m d e v w y (Append p bytes) first = w p bytes
-first_cases P a b c l u m d e v w y (Make_pipe i pid s t) first = y i pid s t first.0
-first_cases P a b c l u m d e v w y (Share_slot pid s o pipes) first = absurd first
-first_cases P a b c l u m d e v w y (New_process child parent pipes) first = absurd first
-first_cases P a b c l u m d e v w y (End_process pid pipes) first = absurd first
+first_cases P a b c l u m d e v w z (Make_directory p x i) first = a p x i first
+first_cases P a b c l u m d e v w z (Make_file p x i) first = b p x i first
+first_cases P a b c l u m d e v w z (Unname_directory p x n) first = c p x n
+first_cases P a b c l u m d e v w z (Put_bytes n place bytes before) first = d n place bytes before
+first_cases P a b c l u m d e v w z (Cut n before after) first = e n before after
+first_cases P a b c l u m d e v w z (Open_inode i inode mode pid s) first = absurd first
+first_cases P a b c l u m d e v w z (Set_offset o place) first = absurd first
+first_cases P a b c l u m d e v w z (Clear_slot pid s pipes) first = absurd first
+first_cases P a b c l u m d e v w z (Name_file p x n) first = l p x n
+first_cases P a b c l u m d e v w z (Unname_file p x n) first = u p x n
+first_cases P a b c l u m d e v w z (Move p x q y n replaced) first = m p x q y n replaced
+first_cases P a b c l u m d e v w z (Take p count) first = v p count
+first_cases P a b c l u m d e v w z (Append p bytes) first = w p bytes
+first_cases P a b c l u m d e v w z (Make_pipe i pid s t) first = z i pid s t first.0
+first_cases P a b c l u m d e v w z (Share_slot pid s o pipes) first = absurd first
+first_cases P a b c l u m d e v w z (New_process child parent pipes) first = absurd first
+first_cases P a b c l u m d e v w z (End_process pid pipes) first = absurd first
 
 pub last_cases : (m : ℕ) (P : Edit → Type 0)
     → ((i : ℕ) (inode : Which) (mode : Mode) (pid f : ℕ) → i ≡ m → P (Open_inode i inode mode pid f))

@@ -23,7 +23,8 @@ use Rattle.store.specs.declared.Place.{Place}
 use Rattle.store.specs.declared.Stage.{Stage}
 use Rattle.store.specs.declared.Stage.TheVariants.{Coming, Held, Lost}
 use Rattle.store.specs.declared.Object.{Object}
-use Rattle.store.specs.declared.Object.TheVariants.{Directory as Kept_directory, File as Kept_file, Description as Kept_description, Nothing}
+use Rattle.store.specs.declared.Object.TheVariants.{Directory as Kept_directory, File as Kept_file, Pipe as Kept_pipe, Description as Kept_description, Nothing}
+use Rattle.freeing_laws.specs.Pipes.{ArePair}
 use Rattle.shadow.specs.Stored.{FitsStage, IsBare, IsStaged, IsUnsettled, Processes, Sound, state_of, stored}
 use Rattle.shadow.proofs.Places.{get_chosen, remove_absent, place_altered, place_other, place_over, place_swept_other, swept_stays, without_place}
 use Rattle.shadow.proofs.Meets.{IsAwaited, with_place}
@@ -47,6 +48,7 @@ same_sound ps s after sound root is opened_same staged shows =
       counted = record {
         openings = λ n file there. sound.counted.openings n file (shows n (Kept_file file) refl there) ∙ ap (λ (k : Kernel). openings k n) (sym same);
         holders = λ d opened there. sound.counted.holders d opened (shows d (Kept_description opened) refl there) ∙ ap (λ (k : Kernel). holders k d) (sym same);
+        pipes = λ p pipe there. subst (λ m. ArePair m p pipe.reader pipe.writer) (sym opened_same) (sound.counted.pipes p pipe (shows p (Kept_pipe pipe) refl there));
       };
     }
 
@@ -85,6 +87,7 @@ abbrev IsSomething : Object → Type 0
 IsSomething Nothing = ⊥
 IsSomething (Kept_directory l) = ⊤
 IsSomething (Kept_file file) = ⊤
+IsSomething (Kept_pipe pipe) = ⊤
 IsSomething (Kept_description opened) = ⊤
 
 something : (l : Listing) → Kept_directory l ≢ Nothing
@@ -100,6 +103,7 @@ more_staged (Some place) fits = by_stage place.stage place.object fits
     by_stage Held (Kept_directory l) fits = something (more_room l)
     by_stage Lost (Kept_directory l) fits = lt-ltb 0 (l.promised + 1) (omega arith)
     by_stage t (Kept_file file) fits = fits
+    by_stage t (Kept_pipe pipe) fits = fits
     by_stage t (Kept_description opened) fits = fits
     by_stage t Nothing fits = fits
 
@@ -113,6 +117,7 @@ less_staged (Some place) fits left = by_stage place.stage place.object fits left
     by_stage Held (Kept_directory l) fits left = something (less_room l)
     by_stage Lost (Kept_directory l) fits left = not_false (has_room (listing_of (changed_object less_room (Kept_directory l)))) left
     by_stage t (Kept_file file) fits left = fits
+    by_stage t (Kept_pipe pipe) fits left = fits
     by_stage t (Kept_description opened) fits left = fits
     by_stage t Nothing fits left = fits
 
@@ -139,6 +144,7 @@ shows_in f s d n object none is = elim (cases_eq n d) [
     by_stage : (t : Stage) (o : Object) → if_held t (changed_object f o) ≡ Some object → if_held t o ≡ Some object
     by_stage Held (Kept_directory l) is = absurd (no_listing (f l) object (some_object (Kept_directory (f l)) object is) none)
     by_stage Held (Kept_file file) is = is
+    by_stage Held (Kept_pipe pipe) is = is
     by_stage Held (Kept_description opened) is = is
     by_stage Held Nothing is = is
     by_stage Coming o is = is
@@ -230,12 +236,14 @@ pub bare_names : (object : Object) → IsBare object → names_of_inode (inode_o
 bare_names (Kept_directory l) bare = bare.0
 bare_names Nothing bare = refl
 bare_names (Kept_file file) bare = absurd bare
+bare_names (Kept_pipe pipe) bare = absurd bare
 bare_names (Kept_description opened) bare = absurd bare
 
 unsettled : (object : Object) → IsBare object → IsUnsettled object
 unsettled (Kept_directory l) bare = λ x. ap (λ (ns : FinMap name_cmp ℕ). get ns x) bare.0 ∙ get-empty name_cmp x
 unsettled Nothing bare = tt
 unsettled (Kept_file file) bare = absurd bare
+unsettled (Kept_pipe pipe) bare = absurd bare
 unsettled (Kept_description opened) bare = absurd bare
 
 shows_coming : (s : Numbers) (n : ℕ) (o : Object) → ShowsNoMore s (with_place s n (coming o))
@@ -268,6 +276,7 @@ first_sound laws ps priorities s is root first = record {
   counted = record {
     openings = λ n file there. absurd (only n (Kept_file file) refl there);
     holders = λ d opened there. absurd (only d (Kept_description opened) refl there);
+    pipes = λ p pipe there. absurd (only p (Kept_pipe pipe) refl there);
   };
 }
   where
