@@ -21,6 +21,7 @@ use Rattle.store.specs.declared.Object.TheVariants.{Directory as Kept_directory,
 use Rattle.store.proofs.Laws.{altered-alike, altered-twice, descriptions-filed, get-inodes, inodes-swapped, insert-held, left-altered}
 use Rattle.shadow.specs.Stored.{AreCounted, Processes, Sound, state_of, stored}
 use Rattle.shadow.proofs.Kept_on.{file_staged}
+use Rattle.shadow.proofs.PairsKept.{ends_left, pipe_by_file, same_pairs}
 use Rattle.shadow.proofs.Edited.{Counts, counted_by, counts_of, counts_of_state, counts_stay, holders_seen, openings_seen, sound_after, tidy_after}
 
 -- what is a file in the state is one in the store
@@ -89,9 +90,9 @@ module _ (ps : Processes) (s : Numbers) (n : ℕ) (b : Content) (sound : Sound p
 
   pub swapped_counted : AreCounted ps (swapped b s n)
   swapped_counted = counted_by ps (swapped b s n) (subst (λ (l : Kernel). Counts l (swapped b s n)) (sym swapped_state)
-      (counts_of_state k (set_inode n (File b.bytes) k) (swapped b s n) (openings_change_lem.by_descriptions k (set_inode n (File b.bytes) k) refl) (openings_change_lem.by_processes k (set_inode n (File b.bytes) k) refl)
+      (counts_of_state k (set_inode n (File b.bytes) k) (swapped b s n) (openings_change_lem.by_descriptions k (set_inode n (File b.bytes) k) refl) (openings_change_lem.by_processes k (set_inode n (File b.bytes) k) refl) (same_pairs k (set_inode n (File b.bytes) k) refl)
       (counts_stay k s (swapped b s n) (λ m. left-altered (λ o. openings_seen (held o)) (with_file (with_bytes b)) (λ place. files place.stage place.object) s n m)
-      (λ m. left-altered (λ o. holders_seen (held o)) (with_file (with_bytes b)) (λ place. held_by place.stage place.object) s n m) (counts_of ps s sound.counted))))
+      (λ m. left-altered (λ o. holders_seen (held o)) (with_file (with_bytes b)) (λ place. held_by place.stage place.object) s n m) (ends_left (with_file (with_bytes b)) (pipe_by_file (with_bytes b)) s n) (counts_of ps s sound.counted))))
     where
       files : (t : Stage) (object : Object) → openings_seen (if_held t (changed_file (with_bytes b) object)) ≡ openings_seen (if_held t object)
       files Coming object = refl

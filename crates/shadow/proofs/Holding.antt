@@ -18,6 +18,7 @@ use Rattle.store.specs.declared.Object.TheVariants.{Directory as A_directory, Fi
 use Rattle.store.proofs.Laws.{descriptions-opened, get-chosen, inodes-opened, left-altered, place-altered, place-other}
 use Rattle.shadow.specs.Stored.{FitsStage, IsStaged, reserve_in}
 use Rattle.shadow.specs.Laid.{AreHeld, IsOneLess, IsOneMore, WasHeld}
+use Rattle.shadow.proofs.PairsKept.{pipe_by_opened, pipe_stood}
 
 -- the description or the file that an object is
 abbrev opened_or : Opened → Option Object → Opened
@@ -58,6 +59,7 @@ module _ (R : ℕ → ℕ → ℕ → Type 0) where
     descriptions = refl;
     reserves = λ n. refl;
     files = λ n file is. is;
+    pipes = λ p pipe is. is;
     opened = λ d opened is. record { before = opened; held = is; count = each d opened is };
   }
 
@@ -146,6 +148,7 @@ module _ (g : Opened → Opened) where
       descriptions = descriptions-opened g same s d;
       reserves = λ n. get-chosen reserve_in after.places n ∙ left-altered (λ o. option_and_then reserve_in o) (with_opened g) reserve_opened s d n ∙ sym (get-chosen reserve_in s.places n);
       files = λ n file is. file_of_object (object_at s n) file (sym (left-altered (λ o. shown_file (held o)) (with_opened g) file_opened s d n) ∙ ap shown_file is);
+      pipes = pipe_stood (with_opened g) (pipe_by_opened g) s d;
       opened = was_held;
     }
 

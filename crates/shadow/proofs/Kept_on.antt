@@ -161,6 +161,7 @@ file_claims f c t (Kept_directory l) = refl
 file_claims f (Room r) t (Kept_file file) = refl
 file_claims f (New_directory m) t (Kept_file file) = refl
 file_claims f (Number m) t (Kept_file file) = refl
+file_claims f c t (Kept_pipe pipe) = refl
 file_claims f c t (Kept_description opened) = refl
 file_claims f c t Nothing = refl
 
@@ -172,6 +173,7 @@ file_fits f t (Kept_directory l) fits = fits
 file_fits f Coming (Kept_file file) fits = absurd fits
 file_fits f Held (Kept_file file) fits = λ e. cc
 file_fits f Lost (Kept_file file) fits = absurd cc
+file_fits f t (Kept_pipe pipe) fits = fits
 file_fits f t (Kept_description opened) fits = fits
 file_fits f t Nothing fits = fits
 

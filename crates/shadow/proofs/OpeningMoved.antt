@@ -5,6 +5,7 @@ use Rattle.model.specs.FiniteMap.{FinMap, get}
 use Rattle.model.specs.State.{Kernel, Description, mapped}
 use Rattle.model.specs.Changes.{at_offset, openings, set_offset}
 use Rattle.model.proofs.Laws.{get_other, get_same}
+use Rattle.freeing_laws.specs.Pipes.{ArePair}
 use Rattle.freeing_laws.proofs.Openings.{openings_change_lem}
 use Rattle.store.specs.Numbers.{Numbers, held}
 use Rattle.store.specs.Places.{altered, changed_opened, moved_to, with_opened}
@@ -23,6 +24,7 @@ use Rattle.shadow.specs.Laid.{IsReopened, reserves_of}
 use Rattle.shadow.proofs.Edited.{counted_by, counts_of, counts_of_state, counts_stay, holders_seen}
 use Rattle.shadow.proofs.Edited.{openings_seen}
 use Rattle.shadow.proofs.Kept_on.{opened_staged}
+use Rattle.shadow.proofs.PairsKept.{ends_left, pair_offset, pipe_by_opened, pipe_stood}
 use Rattle.shadow.proofs.Reopening.{reserve_as}
 
 -- what a change of a description leaves of a place
@@ -109,11 +111,14 @@ offset_counted ps s d place counted =
     (λ n. ap (λ (k : Kernel). openings k n) (offset_state ps s d place)
     ∙ openings_change_lem.offset (state_of ps s) d place n)
     (openings_change_lem.by_processes (state_of ps s) (state_of ps t) refl)
+    (λ p r w pair. subst (λ m. ArePair m p r w) (sym (descriptions-moved place s d))
+    (pair_offset place (descriptions s) d p r w pair))
     (counts_stay (state_of ps s) s t
     (left-altered (λ o. openings_seen (held o)) (with_opened (moved_to place))
     (openings_opened (moved_to place)) s d)
     (left-altered (λ o. holders_seen (held o)) (with_opened (moved_to place))
     (holders_opened (moved_to place) (λ opened. refl)) s d)
+    (ends_left (with_opened (moved_to place)) (pipe_by_opened (moved_to place)) s d)
     (counts_of ps s counted)))
   where
     t : Numbers
@@ -141,5 +146,6 @@ opening_moved s d place t is = subst (IsReopened d (Moved place) s) (sym is) (re
   places = λ n is away. place-other (with_opened (moved_to place)) s d n away ∙ is;
   reserve = offset_reserves s d place d;
   reserves = λ n away. offset_reserves s d place n;
-  counted = λ ps counted unheld. offset_counted ps s d place counted;
+  pipes = pipe_stood (with_opened (moved_to place)) (pipe_by_opened (moved_to place)) s d;
+  counted = λ ps counted unheld ends. offset_counted ps s d place counted;
 })

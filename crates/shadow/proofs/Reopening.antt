@@ -121,6 +121,7 @@ module _ (g : OpenFile → OpenFile) where
       by_stage : (t : Stage) (object : Object) → FitsStage t object
           → FitsStage t (changed_file g object)
       by_stage t (A_directory listing) h = h
+      by_stage t (A_pipe pipe) h = h
       by_stage t (A_description opened) h = h
       by_stage t Nothing h = h
       by_stage Coming (A_file file) h = h
@@ -152,6 +153,7 @@ module _ (g : OpenFile → OpenFile) where
           → if_held t (changed_file g object) ≡ Some (A_description opened)
           → if_held t object ≡ Some (A_description opened)
       by_stage t (A_directory listing) is = is
+      by_stage t (A_pipe pipe) is = is
       by_stage t (A_description opened) is = is
       by_stage t Nothing is = is
       by_stage Coming (A_file file) is = is
@@ -185,5 +187,6 @@ module _ (g : OpenFile → OpenFile) where
       by_stage Held (A_file it) is =
           record { before = it; held = refl; is = file_is (g it) is; count = refl }
       by_stage Held (A_directory listing) is = absurd (true_is_false (ap is_file (sym is)))
+      by_stage Held (A_pipe pipe) is = absurd (true_is_false (ap is_file (sym is)))
       by_stage Held (A_description opened) is = absurd (not_file opened file is)
       by_stage Held Nothing is = absurd (true_is_false (ap is_file (sym is)))
