@@ -58,6 +58,9 @@ mod Alike
 mod SameEdit
 mod ClaimsOfCall
 mod GivingOpened
+mod Turnover
+mod Holders
+mod PipeOpen
 mod KeptDirectories
 pub mod Cleared
 pub mod Committing

@@ -21,22 +21,6 @@ use Rattle.shadow.specs.Stored.{Processes, state_of}
 use Rattle.shadow.specs.declared.change.Contents.{Contents}
 use Rattle.shadow.specs.declared.change.Contents.TheVariants.{Names}
 
--- no object of the store is a pipe
-no_pipe_in : (stage : Stage) (object : Object) → pipe_of_inode (shown_at stage (inode_of object)) ≡ []
-no_pipe_in Coming object = refl
-no_pipe_in Lost object = refl
-no_pipe_in Held (Kept_directory listing) = refl
-no_pipe_in Held (Kept_file file) = refl
-no_pipe_in Held (Kept_description opened) = refl
-no_pipe_in Held Nothing = refl
-
-pub stored_no_pipes : (processes : Processes) (s : Numbers) (p : ℕ) → pipe_of (state_of processes s) p ≡ []
-stored_no_pipes processes s p = by_place (get s.places p) refl
-  where
-    by_place : (o : Option Place) → get s.places p ≡ o → pipe_of (state_of processes s) p ≡ []
-    by_place (Some place) is = ap pipe_of_inode (get-inodes_by s p (Some place) is) ∙ no_pipe_in place.stage place.object
-    by_place None is = ap pipe_of_inode (get-inodes_by s p None is)
-
 -- the names of a directory with notes on top
 is_laid : (fresh : Bool) (notes : Notes) (dir : FinMap name_cmp ℕ) (o : Option Inode) → names_before fresh o ≡ dir → IsLaid notes dir (laid (entries notes) (names_before fresh o))
 is_laid fresh notes dir o is x = laid_is notes (names_before fresh o) x ∙ ap (λ names. or_before (get notes x) (get names x)) is
@@ -84,19 +68,3 @@ end_small (Err e) bytes place count low few is = tt
 end_small (Ok a) bytes place count low few is =
     let part : length a ≡ min count (length bytes - place) = ap length is ∙ length-take count (drop place bytes) ∙ ap (min count) (length-drop place bytes) in
     omega arith
-
--- nor has an inode of the committed state the kind of one
-pub no_pipe_kind : (processes : Processes) (s : Numbers) (n : ℕ) → kind_of (state_of processes s) n ≡ Some A_pipe → ⊥
-no_pipe_kind processes s n is = by_place (get s.places n) refl
-  where
-    not_one : (t : Stage) (object : Object) → mapped kind (shown_at t (inode_of object)) ≡ Some A_pipe → ⊥
-    not_one Coming object is = absurd cc
-    not_one Lost object is = absurd cc
-    not_one Held (Kept_directory listing) is = absurd cc
-    not_one Held (Kept_file file) is = absurd cc
-    not_one Held (Kept_description opened) is = absurd cc
-    not_one Held Nothing is = absurd cc
-
-    by_place : (o : Option Place) → get s.places n ≡ o → ⊥
-    by_place (Some place) at = not_one place.stage place.object (sym (ap (mapped kind) (get-inodes_by s n (Some place) at)) ∙ is)
-    by_place None at = absurd (let none : None ≡ Some A_pipe = sym (ap (mapped kind) (get-inodes_by s n None at)) ∙ is in cc)

@@ -1,13 +1,14 @@
 // What nothing leads to any more goes.
-ghost use Rattle.std.specs.Prelude.{◌≡◌, List, nat_lt};
+ghost use Rattle.std.specs.Prelude.{◌≡◌, ◌≢◌, List, None, nat_lt};
 ghost use Rattle.model.specs.Changes.{openings};
 ghost use Rattle.freeing_laws.specs.Pipes.{is_of};
 ghost use Rattle.std.specs.List.{flat_map};
 ghost use Rattle.std.specs.Map.{keys_of};
-ghost use Rattle.model.specs.FiniteMap.{entries};
+ghost use Rattle.model.specs.FiniteMap.{entries, get};
 ghost use Rattle.freeing_laws.specs.Counts.{free_inode};
 ghost use Rattle.freeing_laws.specs.Sweep.{all_closed, closed, free_inodes};
 ghost use Rattle.shadow.specs.Laid.{Frees, Holds, given_by, given_in};
+ghost use Rattle.store.specs.Shown.{inodes};
 ghost use Rattle.shadow.specs.Stored.{Processes, state_of};
 
 use crate::opening::Openings;
@@ -116,9 +117,10 @@ pub(crate) fn free(store: &mut Store, num: Num)
     store.lose(num);
 }
 
-// Whether a description is of a file or a pipe.
+// Whether a description is of an inode.
 fn is_open(store: &Store, num: Num) -> bool
-    requires { (ps : Processes) × Holds ps store.now }
+    requires holds { (ps : Processes) × Holds ps store.now }
+    requires there { get (inodes store.now) num ≢ None }
     ensures { (ps : Processes) → Holds ps store.now
         → result ≡ nat_lt 0 (openings (state_of ps store.now) num) }
 {
