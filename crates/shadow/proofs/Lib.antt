@@ -37,6 +37,7 @@ mod Carrying
 mod Overwriting
 mod Piping
 mod PipesShort
+mod Passing
 mod Relisting
 mod Renaming
 mod Reopening

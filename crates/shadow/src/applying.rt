@@ -4,8 +4,8 @@ ghost use Rattle.std.specs.Prelude.{length};
 ghost use Rattle.std.specs.List.{sum_by};
 ghost use Rattle.ids.specs.declared.limits.TheConstants.{DESCRIPTORS, LARGEST_FILE};
 ghost use Rattle.model.specs.State.{A_file, kind_of};
-ghost use Rattle.model.specs.Changes.{Cut, Make_directory, Make_file, Make_pipe, Open_inode};
-ghost use Rattle.model.specs.Changes.{Move, Name_file, Put_bytes, Set_offset, There, all_applied};
+ghost use Rattle.model.specs.Changes.{Append, Cut, Make_directory, Make_file, Make_pipe, Open_inode};
+ghost use Rattle.model.specs.Changes.{Move, Name_file, Put_bytes, Set_offset, Take, There, all_applied};
 ghost use Rattle.model.specs.Changes.{applied, news, tidy};
 ghost use Rattle.call_laws.specs.Fits.{Fits, FitsAll};
 ghost use Rattle.shadow.specs.Claims.{AreUnused, Claim, Covers, HaveParents, KeepsMore, KeepsSame};
@@ -16,7 +16,7 @@ ghost use Rattle.shadow.specs.declared.change.Made.{Made as What};
 
 use crate::claiming::parent_of;
 use crate::closing::{close, free};
-use crate::laying::open;
+use crate::laying::{open, pipe_len};
 use crate::patches::{at_start, end_of, inode_replaced, is_last, number};
 use crate::reslotting::lay_slot;
 use crate::stable::Stable;
@@ -142,11 +142,11 @@ impl Stable {
             }
             Edit::Cut(file, _before, after) => self.cut(file, after as usize),
             Edit::Take(pipe, count) => {
-                self.store.change_pipe(pipe, count as usize, &[]);
+                self.take(pipe, count as usize);
                 Ok(())
             }
             Edit::Append(pipe, bytes) => {
-                self.store.change_pipe(pipe, 0, bytes.as_slice());
+                self.append(pipe, bytes.as_slice());
                 Ok(())
             }
             Edit::MakePipe(_place, pid, reading, writing) => {
@@ -324,6 +324,26 @@ impl Stable {
         let cut = data.cut(after);
         let _empty = self.store.swap_file(file, data);
         cut
+    }
+
+    // Bytes are taken from the front of a pipe.
+    fn take(&mut self, pipe: Num, count: usize)
+        requires fits { Fits [] self.old.state (Take pipe count) }
+        ensures state { self.new.state ≡ applied [] (Take pipe count) self.old.state }
+        ensures kept { KeepsSame self.old self.new }
+    {
+        // What is left fits, since a pipe is never longer than pipes get.
+        let _len = pipe_len(&self.store, pipe);
+        self.store.change_pipe(pipe, count, &[]);
+    }
+
+    // Bytes are appended to a pipe.
+    fn append(&mut self, pipe: Num, bytes: &[u8])
+        requires fits { Fits [] self.old.state (Append pipe bytes.now) }
+        ensures state { self.new.state ≡ applied [] (Append pipe bytes.now) self.old.state }
+        ensures kept { KeepsSame self.old self.new }
+    {
+        self.store.change_pipe(pipe, 0, bytes);
     }
 
     // The new description of a reserved number is there, with its slot.

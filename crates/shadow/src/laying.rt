@@ -98,8 +98,8 @@ fn lay_pipe(store: &mut Store, num: Num, changes: &PipeShadow)
     store.change_pipe(num, taken, appended);
 }
 
-// How many bytes a pipe has; none where there is no pipe.
-fn pipe_len(store: &Store, num: Num) -> usize
+/// How many bytes a pipe has; none where there is no pipe. It takes no memory.
+pub(crate) fn pipe_len(store: &Store, num: Num) -> usize
     ensures len { result ≡ length (pipe_of_inode (get (inodes store.now) num)) }
     ensures within { result ≤ PIPE_CAPACITY }
 {
