@@ -6,11 +6,12 @@ use Rattle.std.specs.Option.{option_and_then}
 use Rattle.std.specs.Cmp.{nat_cmp_total}
 use Rattle.fdtable.specs.Patches.{Given}
 use Rattle.model.specs.FiniteMap.{get, nat_cmp-IsAntisymmetric, same_map}
-use Rattle.model.specs.State.{A_directory, Description, Kernel, Name, kind, kind_of}
+use Rattle.model.specs.State.{A_directory, Description, Kernel, Name, is_end, kind, kind_of}
 use Rattle.model.specs.State.{mapped, names_of}
 use Rattle.model.specs.Changes.{holders, openings}
 use Rattle.model.specs.Effects.{Effect, all_done}
 use Rattle.call_laws.specs.WellFormed.{CanBeNamed, CanBeOpened, WellFormed}
+use Rattle.freeing_laws.specs.Pipes.{ArePair, reads, writes}
 use Rattle.freeing_laws.proofs.Laws.{sweep_is_tidy_lem}
 use Rattle.freeing_laws.proofs.Openings.{openings_change_lem}
 use Rattle.store.specs.Numbers.{Numbers, coming}
@@ -29,10 +30,12 @@ use Rattle.shadow.specs.Claims.{openings_claim, or_zero, reserved, room_of}
 use Rattle.shadow.specs.Committed.{Reserve}
 use Rattle.shadow.specs.Laid.{AreReopened, AreReslotted, Holds, kept_in, reserves_of, settled}
 use Rattle.shadow.specs.Patches.{Patches, is_new, net_at, opening_at, reopened}
-use Rattle.shadow.specs.Stored.{AreCounted, Processes, committed_of, numbered, reserve_in, state_of}
+use Rattle.shadow.specs.Stored.{AreCounted, IsEndHere, Processes, committed_of, numbered, reserve_in, state_of}
 use Rattle.shadow.specs.declared.opening.Opening.{Opening}
+use Rattle.shadow.specs.declared.opening.Opening.TheVariants.{New}
 use Rattle.shadow.proofs.Committing.{CanCommit, HasAll, HasInodes}
 use Rattle.shadow.proofs.Meets.{at_place, met_is}
+use Rattle.shadow.proofs.PairsKept.{end_of}
 
 -- what is to come is no description yet, and what is a description is no inode
 comes_unopened : (o : Option Place) (d : ℕ) → 0 < at_place (Number d) o
@@ -217,8 +220,25 @@ module _ {ps qs : Processes} {s mid after last : Numbers} {ds : List Effect} {p 
       openings_change_lem.by_processes (state_of ps s) (state_of ps mid) refl d
       ∙ unheld_new can d new
 
+  -- a new description is of a pipe only as the end that the pipe has it as
+  ends_here : (d : ℕ) (it : Description) → opening_at p.openings d ≡ New it → IsEndHere mid d it
+  ends_here d it new pipe is =
+      let pair : ArePair (all_done ds (state_of ps s)).descriptions it.inode pipe.reader pipe.writer
+      = made.ends it.inode pipe is in
+      (
+        (λ reading. pair.reads d (ap (is_end reads it.inode) gives ∙ end_of reads it reading)),
+        (λ writing. pair.writes d (ap (is_end writes it.inode) gives ∙ end_of writes it writing)),
+        pair.either d it gives refl,
+      )
+    where
+      gives : get (all_done ds (state_of ps s)).descriptions d ≡ Some it
+      gives =
+          can.agrees.descriptions (state_of ps s) d
+          ∙ ap (λ o. reopened o (get (descriptions s) d)) new
+
   counted : AreCounted qs last
-  counted = slotted.stay.counted can.sound.well.low (opened.counted ps made.counted unheld)
+  counted =
+      slotted.stay.counted can.sound.well.low (opened.counted ps made.counted unheld ends_here)
 
   holds : Holds qs last
   holds = record {

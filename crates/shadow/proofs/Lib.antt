@@ -36,6 +36,7 @@ mod Once
 mod Carrying
 mod Overwriting
 mod Piping
+mod PipesShort
 mod Relisting
 mod Renaming
 mod Reopening

@@ -1,9 +1,9 @@
 -- What is said of the two descriptions of a pipe, where descriptions stay, come, move and go.
-use Rattle.std.proofs.Common.{◌≡◌, ◌≢◌, ◌⊎◌, ℕ, ◌==◌, ◌&&◌, Bool, true, false, Option, Some, None, nat_cmp, refl, sym, ap, subst, ◌∙◌, eqb-true, inl, inr}
-use Rattle.std.specs.Option.{option_map}
+use Rattle.std.proofs.Common.{◌≡◌, ◌≢◌, ◌⊎◌, ℕ, ◌==◌, ◌&&◌, Bool, true, false, Option, Some, None, nat_cmp, refl, sym, ap, subst, ◌∙◌, eqb-true, eq-eqb, inl, inr}
+use Rattle.std.specs.Option.{option_and_then, option_map}
 use Rattle.std.proofs.lemmas.Bool.{cases_eq}
 use Rattle.model.specs.FiniteMap.{FinMap, get, insert, remove}
-use Rattle.model.specs.State.{Description, Kernel, is_end}
+use Rattle.model.specs.State.{A_pipe, Description, Kernel, is_end, kind, mapped}
 use Rattle.model.specs.Changes.{at_offset}
 use Rattle.model.proofs.Laws.{removed_other, removed_same}
 use Rattle.call_laws.proofs.Laws.{not_none, true_is_false}
@@ -12,7 +12,7 @@ use Rattle.freeing_laws.proofs.Pipes.{pair_inserted}
 use Rattle.dirlist.specs.Listing.{Listing}
 use Rattle.store.specs.Numbers.{Numbers, held, if_held, object_at}
 use Rattle.store.specs.Places.{altered, changed_file, changed_object, changed_opened, changed_pipe, with_file, with_listing, with_opened, with_pipe}
-use Rattle.store.specs.Shown.{with_offset, with_offset_by}
+use Rattle.store.specs.Shown.{inode_of, with_offset, with_offset_by}
 use Rattle.store.specs.declared.OpenFile.{OpenFile}
 use Rattle.store.specs.declared.Opened.{Opened}
 use Rattle.store.specs.declared.OpenPipe.{OpenPipe}
@@ -60,6 +60,9 @@ end_is mode p it is = by_test (it.inode == p) refl is
     by_test true same is = (eqb-true it.inode p same, is)
     by_test false same is = absurd (true_is_false (sym is))
 
+pub end_of : (mode : Description → Bool) (it : Description) → mode it ≡ true → is_end mode it.inode (Some it) ≡ true
+end_of mode it is = ap (λ b. b && mode it) (eq-eqb it.inode it.inode refl) ∙ is
+
 -- where one comes, which is an end of the pipe if it is of it
 pub pair_comes : (m : FinMap nat_cmp Description) (p r w d : ℕ) (it : Description)
     → (it.inode ≡ p → (it.reading ≡ true → d ≡ r) × (it.writing ≡ true → d ≡ w) × ((d ≡ r) ⊎ (d ≡ w)))
@@ -87,6 +90,15 @@ pipe_of_object (Some (Kept_file file)) pipe is = absurd cc
 pipe_of_object (Some (Kept_description opened)) pipe is = absurd cc
 pipe_of_object (Some Nothing) pipe is = absurd cc
 pipe_of_object None pipe is = absurd cc
+
+-- it is one in the state too
+pub ends_kind : (o : Option Object) (ends : ℕ × ℕ) → ends_seen o ≡ Some ends → mapped kind (option_and_then inode_of o) ≡ Some A_pipe
+ends_kind (Some (Kept_pipe pipe)) ends is = refl
+ends_kind (Some (Kept_directory listing)) ends is = absurd cc
+ends_kind (Some (Kept_file file)) ends is = absurd cc
+ends_kind (Some (Kept_description opened)) ends is = absurd cc
+ends_kind (Some Nothing) ends is = absurd cc
+ends_kind None ends is = absurd cc
 
 -- a change of something else leaves it
 pub pipe_by_file : (g : OpenFile → OpenFile) (place : Place) → shown_pipe (held (Some (with_file g place))) ≡ shown_pipe (held (Some place))

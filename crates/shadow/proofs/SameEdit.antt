@@ -13,7 +13,7 @@ use Rattle.call_laws.specs.Fits.{Fits}
 use Rattle.freeing_laws.specs.Sweep.{IsTidied, loses}
 use Rattle.freeing_laws.proofs.Laws.{sweep_is_tidy_lem}
 use Rattle.shadow.specs.declared.change.Made.{Made as What}
-use Rattle.shadow.specs.declared.change.Made.TheVariants.{Directory as A_directory, File as A_file}
+use Rattle.shadow.specs.declared.change.Made.TheVariants.{Directory as A_directory, File as A_file, Pipe as A_pipe}
 use Rattle.shadow.specs.Steps.{new_in, slotting, unnaming}
 
 -- a new object by its own number alone
@@ -45,6 +45,7 @@ module _ (chosen : List ℕ) (k : Kernel) where
   unfolding applied
   same_unnaming A_directory d x n = refl
   same_unnaming A_file d x n = refl
+  same_unnaming A_pipe d x n = refl
 
   pub same_linking : (d : ℕ) (x : Name) (n : ℕ)
       → applied [] (Name_file d x n) k ≡ applied chosen (Name_file d x n) k

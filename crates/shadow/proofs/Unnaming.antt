@@ -13,7 +13,7 @@ use Rattle.store.specs.declared.Object.TheVariants.{Directory as Kept_directory,
 use Rattle.store.specs.declared.Object.TheVariants.{Description as Kept_description, Nothing}
 use Rattle.store.proofs.Laws.{left-altered}
 use Rattle.shadow.specs.declared.change.Made.{Made as What}
-use Rattle.shadow.specs.declared.change.Made.TheVariants.{Directory as A_directory, File as A_file}
+use Rattle.shadow.specs.declared.change.Made.TheVariants.{Directory as A_directory, File as A_file, Pipe as A_pipe}
 use Rattle.shadow.specs.Claims.{Claim, New_directory, Number, Room}
 use Rattle.shadow.specs.Laid.{kept_in}
 use Rattle.shadow.specs.Steps.{unnaming}
@@ -56,6 +56,18 @@ module _ (ps : Processes) (s : Numbers) (d : ℕ) (x : Name) (n : ℕ) (sound : 
   unfolding applied
   clears_file = refl
 
+  unnaming_file : Fits [] k (Unname_file d x n) → IsMade ps ps s mid [] (Unname_file d x n)
+  unnaming_file fits =
+      let parent = fits.parent.directory in
+      let stands = without_stands ps k s d x (sound_stands ps s sound) parent in
+      let state = without_state ps k s d x (sound_stands ps s sound) parent in
+      record {
+        root = refl;
+        state = state ∙ sym clears_file;
+        staged = stands.staged;
+        counted = stands_counted ps k (clear_name d x k) mid state refl refl stands;
+      }
+
   pub unnaming_made : (what : What) → Fits [] k (unnaming what d x n)
       → IsMade ps ps s mid [] (unnaming what d x n)
   unnaming_made A_directory fits =
@@ -68,16 +80,8 @@ module _ (ps : Processes) (s : Numbers) (d : ℕ) (x : Name) (n : ℕ) (sound : 
         staged = stands.staged;
         counted = stands_counted ps k (clear_name d x k) mid state refl refl stands;
       }
-  unnaming_made A_file fits =
-      let parent = fits.parent.directory in
-      let stands = without_stands ps k s d x (sound_stands ps s sound) parent in
-      let state = without_state ps k s d x (sound_stands ps s sound) parent in
-      record {
-        root = refl;
-        state = state ∙ sym clears_file;
-        staged = stands.staged;
-        counted = stands_counted ps k (clear_name d x k) mid state refl refl stands;
-      }
+  unnaming_made A_file fits = unnaming_file fits
+  unnaming_made A_pipe fits = unnaming_file fits
 
   pub unnaming_tidies : (what : What) → Fits [] k (unnaming what d x n)
       → free_inode n (applied [] (unnaming what d x n) k)
@@ -85,4 +89,6 @@ module _ (ps : Processes) (s : Numbers) (d : ℕ) (x : Name) (n : ℕ) (sound : 
   unnaming_tidies A_directory fits =
       sweep_is_tidy_lem.one [] k (Unname_directory d x n) (tidied_of ps s sound) fits
   unnaming_tidies A_file fits =
+      sweep_is_tidy_lem.one [] k (Unname_file d x n) (tidied_of ps s sound) fits
+  unnaming_tidies A_pipe fits =
       sweep_is_tidy_lem.one [] k (Unname_file d x n) (tidied_of ps s sound) fits
