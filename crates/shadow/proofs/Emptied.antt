@@ -11,6 +11,7 @@ use Rattle.freeing_laws.proofs.Openings.{openings_change_lem}
 use Rattle.store.specs.Numbers.{Numbers}
 use Rattle.shadow.specs.Stored.{AreCounted, Processes, state_of}
 use Rattle.shadow.proofs.Edited.{counted_by, counts_of, counts_of_state}
+use Rattle.shadow.proofs.PairsKept.{same_pairs}
 
 -- what counts nothing of a process counts the same without it
 weightless : (w : Process → ℕ) (m : FinMap nat_cmp Process) (pid : ℕ) (it : Process)
@@ -56,4 +57,4 @@ pub counted_same : (ps qs : Processes) (s : Numbers)
 counted_same ps qs s same counted =
     counted_by qs s (counts_of_state (state_of ps s) (state_of qs s) s
     (λ n. openings_change_lem.by_descriptions (state_of ps s) (state_of qs s) refl n) same
-    (counts_of ps s counted))
+    (same_pairs (state_of ps s) (state_of qs s) refl) (counts_of ps s counted))

@@ -20,7 +20,7 @@ use Rattle.store.specs.declared.Stage.{Stage}
 use Rattle.store.specs.declared.Stage.TheVariants.{Coming, Held, Lost}
 use Rattle.store.specs.declared.Object.{Object}
 use Rattle.store.specs.declared.Object.TheVariants.{Directory as Kept_directory}
-use Rattle.store.specs.declared.Object.TheVariants.{File as Kept_file}
+use Rattle.store.specs.declared.Object.TheVariants.{File as Kept_file, Pipe as Kept_pipe}
 use Rattle.store.specs.declared.Object.TheVariants.{Description as Kept_description, Nothing}
 use Rattle.store.proofs.Laws.{get-chosen, get-descriptions_by, get-inodes_by}
 use Rattle.shadow.specs.Claims.{Claim, Room, New_directory, Number, as_count, claim_in, claimed}
@@ -59,6 +59,7 @@ no_inode (Some place) there = by_stage place.stage place.object there
     by_stage Lost object there = refl
     by_stage Held (Kept_directory listing) there = absurd (there refl)
     by_stage Held (Kept_file file) there = absurd (there refl)
+    by_stage Held (Kept_pipe pipe) there = absurd (there refl)
     by_stage Held (Kept_description opened) there = refl
     by_stage Held Nothing there = refl
 

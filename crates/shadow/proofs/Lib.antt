@@ -1,5 +1,6 @@
 mod Outcomes
 mod NamesNoted
+mod PairsKept
 mod Holding
 mod InodesKept
 mod Slots_over
@@ -34,6 +35,7 @@ mod InOrder
 mod Once
 mod Carrying
 mod Overwriting
+mod Piping
 mod Relisting
 mod Renaming
 mod Reopening
@@ -47,6 +49,7 @@ mod Freed
 mod Unnaming
 mod SlotInState
 mod OpeningMade
+mod PipeMade
 mod OffsetInState
 mod BlocksNoted
 mod FiledOn

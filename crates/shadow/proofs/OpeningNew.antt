@@ -7,24 +7,27 @@ use Rattle.model.specs.FiniteMap.{get, insert, len}
 use Rattle.model.specs.State.{Kernel, Description}
 use Rattle.model.specs.Changes.{holders, openings, set_description}
 use Rattle.model.proofs.Laws.{get_other, get_same}
-use Rattle.call_laws.proofs.Laws.{some_same}
+use Rattle.call_laws.proofs.Laws.{not_none, some_same}
 use Rattle.freeing_laws.proofs.Openings.{openings_change_lem}
 use Rattle.store.specs.Numbers.{Numbers, coming, held, object_at, present}
 use Rattle.store.specs.Places.{altered, openings_at, with_file}
 use Rattle.store.specs.Shown.{descriptions, inodes}
 use Rattle.store.specs.declared.OpenFile.{OpenFile}
 use Rattle.store.specs.declared.Opened.{Opened}
+use Rattle.store.specs.declared.OpenPipe.{OpenPipe}
 use Rattle.store.specs.declared.Place.{Place}
 use Rattle.store.specs.declared.Object.{Object}
-use Rattle.store.specs.declared.Object.TheVariants.{Directory as A_directory, File as A_file}
+use Rattle.store.specs.declared.Object.TheVariants.{Directory as A_directory, File as A_file, Pipe as A_pipe}
 use Rattle.store.specs.declared.Object.TheVariants.{Description as A_description, Nothing}
 use Rattle.store.proofs.Laws.{descriptions-filed, descriptions-set, get-descriptions_by}
 use Rattle.store.proofs.Laws.{get-inodes_by, inodes-filed, inodes-set, place-altered, place-other}
 use Rattle.store.proofs.Laws.{remove-absent, with_place}
-use Rattle.shadow.specs.Stored.{AreCounted, IsStaged, Processes, reserve_in, state_of, stored}
+use Rattle.shadow.specs.Stored.{AreCounted, IsEndHere, IsStaged, Processes, reserve_in, state_of}
+use Rattle.shadow.specs.Stored.{stored}
 use Rattle.shadow.specs.declared.opening.Opening.TheVariants.{New}
 use Rattle.shadow.specs.Laid.{IsReopened, reserves_of, settled}
 use Rattle.shadow.proofs.Making.{place_staged}
+use Rattle.shadow.proofs.PairsKept.{pair_comes, pipe_by_file, pipe_stood, same_pairs, shown_pipe}
 use Rattle.shadow.proofs.Reopening.{HeldBefore, counted_if, few_openings, held_file, held_opened}
 use Rattle.shadow.proofs.Reopening.{not_file, over, reserve_as, reserve_at, reserve_filed}
 use Rattle.shadow.proofs.Reopening.{same_bytes, staged_filed}
@@ -42,6 +45,7 @@ not_counted place = by_object place.object
         ≡ record { stage = place.stage; object = object }
     by_object (A_directory listing) = refl
     by_object (A_file file) = refl
+    by_object (A_pipe pipe) = refl
     by_object (A_description opened) = refl
     by_object Nothing = refl
 
@@ -128,8 +132,25 @@ module _ (s : Numbers) (d : ℕ) (it : Description) (b : Bool) (t : Numbers)
       (λ o h at. h (held_opened g o opened at)) e (λ at. at)
       (subst (λ (t : Numbers). object_at t e ≡ Some (A_description opened)) is at)
 
-  module _ (ps : Processes) (counted : AreCounted ps s) (unheld : holders (state_of ps s) d ≡ 0)
+  -- a pipe that is shown was shown before
+  pipe_was : (p : ℕ) (pipe : OpenPipe) → object_at t p ≡ Some (A_pipe pipe)
+      → object_at s p ≡ Some (A_pipe pipe)
+  pipe_was p pipe at = elim (cases_eq p d) [
+    | inl same ↦ absurd (not_pipe (sym (ap held (ap (λ (p : ℕ). get mid.places p) same ∙ at_d))
+        ∙ stood))
+    | inr away ↦ sym (ap held (off_d p away)) ∙ stood
+  ]
     where
+      stood : object_at mid p ≡ Some (A_pipe pipe)
+      stood = pipe_stood (with_file g) (pipe_by_file g) mid i p pipe
+          (sym (ap (λ (t : Numbers). object_at t p) is) ∙ at)
+
+      not_pipe : Some (A_description (record { description = it; holders = 0 }))
+          ≡ Some (A_pipe pipe) → ⊥
+      not_pipe e = not_none pipe (sym (ap shown_pipe e))
+
+  module _ (ps : Processes) (counted : AreCounted ps s) (unheld : holders (state_of ps s) d ≡ 0)
+    (ends : IsEndHere s d it) where
       abbrev k : Kernel
       k = state_of ps s
 
@@ -200,7 +221,15 @@ module _ (s : Numbers) (d : ℕ) (it : Description) (b : Bool) (t : Numbers)
           holders_in _ = 0
 
       counted_then : AreCounted ps t
-      counted_then = record { openings = files_counted; holders = shown_counted }
+      counted_then = record {
+        openings = files_counted;
+        holders = shown_counted;
+        pipes = λ p pipe at. same_pairs (set_description d it k) (state_of ps t) one_more p
+            pipe.reader pipe.writer
+            (pair_comes (descriptions s) p pipe.reader pipe.writer d it
+            (λ of_p. ends pipe (ap (object_at s) of_p ∙ pipe_was p pipe at))
+            (counted.pipes p pipe (pipe_was p pipe at)));
+      }
 
   pub opening_new : IsReopened d (New it) s t
   opening_new = record {
@@ -214,5 +243,6 @@ module _ (s : Numbers) (d : ℕ) (it : Description) (b : Bool) (t : Numbers)
     places = still_coming;
     reserve = new_reserve;
     reserves = same_reserve;
-    counted = λ ps counted unheld. counted_then ps counted (unheld refl);
+    pipes = pipe_was;
+    counted = λ ps counted unheld ends. counted_then ps counted (unheld refl) (ends it refl);
   }

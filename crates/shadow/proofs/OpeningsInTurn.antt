@@ -32,7 +32,7 @@ reopened_none s = record {
   same = record { root = refl; inodes = refl; staged = λ staged. staged };
   descriptions = λ d. refl;
   reserves = λ n. refl;
-  counted = λ ps counted unheld. counted;
+  counted = λ ps counted unheld ends. counted;
 }
 
 -- the first is changed
@@ -90,9 +90,13 @@ module _ (n : ℕ) (o : Opening) (rest : List (ℕ × Opening))
       | inr away ↦ later.reserves d ∙ ap (settled_if (opening_at rest d)) (first.reserves d away)
           ∙ sym (ap (λ o. settled_if o (get (reserves_of s) d)) (at_later d away))
     ];
-    counted = λ ps counted unheld.
-        later.counted ps (first.counted ps counted (λ new. unheld n (ap is_new at_first ∙ new)))
-        (λ d new. same_holders ps d ∙ unheld d (new_whole d new));
+    counted = λ ps counted unheld ends.
+        later.counted ps
+        (first.counted ps counted (λ new. unheld n (ap is_new at_first ∙ new))
+        (λ it new. ends n it (at_first ∙ new)))
+        (λ d new. same_holders ps d ∙ unheld d (new_whole d new))
+        (λ d it new pipe is. ends d it (at_later d (new_apart d (ap is_new new)) ∙ new) pipe
+        (first.pipes it.inode pipe is));
   }
 
 -- what is left of the changes can be made, and then all are made

@@ -28,7 +28,7 @@ use Rattle.store.specs.declared.Stage.{Stage}
 use Rattle.store.specs.declared.Stage.TheVariants.{Coming, Held, Lost}
 use Rattle.store.specs.declared.Object.{Object}
 use Rattle.store.specs.declared.Object.TheVariants.{Directory as Kept_directory}
-use Rattle.store.specs.declared.Object.TheVariants.{File as Kept_file}
+use Rattle.store.specs.declared.Object.TheVariants.{File as Kept_file, Pipe as Kept_pipe}
 use Rattle.store.specs.declared.Object.TheVariants.{Description as Kept_description, Nothing}
 use Rattle.store.proofs.Laws.{get-chosen, get-inodes_by, laid_is}
 use Rattle.shadow.specs.Agrees.{Agrees, IsOver}
@@ -81,6 +81,7 @@ directory_shown (Some place) is = by_place place.stage place.object is
         → IsShownDirectory (Some (of_stage t object))
     by_place Held (Kept_directory listing) is = (listing, refl)
     by_place Held (Kept_file file) is = absurd cc
+    by_place Held (Kept_pipe pipe) is = absurd cc
     by_place Held (Kept_description opened) is = absurd cc
     by_place Held Nothing is = absurd cc
     by_place Coming object is = absurd cc
@@ -97,6 +98,7 @@ file_shown (Some place) is = by_place place.stage place.object is
     by_place : (t : Stage) (object : Object) → kind_at t object ≡ Some A_file
         → IsShownFile (Some (of_stage t object))
     by_place Held (Kept_file file) is = (file, refl)
+    by_place Held (Kept_pipe pipe) is = absurd cc
     by_place Held (Kept_directory listing) is = absurd cc
     by_place Held (Kept_description opened) is = absurd cc
     by_place Held Nothing is = absurd cc
@@ -120,6 +122,7 @@ directory_comes (Some place) some = by_place place.stage place.object some
         → IsComingDirectory (Some (of_stage t object))
     by_place Coming (Kept_directory listing) some = (listing, refl)
     by_place Coming (Kept_file file) some = none_less some
+    by_place Coming (Kept_pipe pipe) some = none_less some
     by_place Coming (Kept_description opened) some = none_less some
     by_place Coming Nothing some = none_less some
     by_place Held object some = none_less some
@@ -137,6 +140,7 @@ other_comes (Some place) staged some = by_place place.stage place.object staged 
     by_place Coming Nothing staged some = refl
     by_place Coming (Kept_directory listing) staged some = none_less some
     by_place Coming (Kept_file file) staged some = absurd staged
+    by_place Coming (Kept_pipe pipe) staged some = absurd staged
     by_place Coming (Kept_description opened) staged some = absurd staged
     by_place Held object staged some = none_less some
     by_place Lost object staged some = none_less some

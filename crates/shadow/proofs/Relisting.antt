@@ -14,13 +14,14 @@ use Rattle.store.specs.declared.Stage.TheVariants.{Coming, Held, Lost}
 use Rattle.store.specs.declared.Object.{Object}
 use Rattle.store.specs.declared.Object.TheVariants.{Directory as Kept_directory}
 use Rattle.store.proofs.Laws.{altered-some, descriptions-changed, get-inodes, inodes-set, with_place}
-use Rattle.call_laws.proofs.Laws.{some_same}
+use Rattle.call_laws.proofs.Laws.{not_none, some_same}
 use Rattle.shadow.specs.Claims.{Claim, New_directory, Number, Room, as_count, number_of, room_in}
 use Rattle.shadow.specs.Laid.{kept_in}
 use Rattle.freeing_laws.proofs.Openings.{openings_change_lem}
 use Rattle.shadow.specs.Stored.{AreCounted, IsStaged, Processes, Sound, state_of, stored}
 use Rattle.shadow.proofs.Edited.{Counts, counted_by, counts_of, counts_of_state}
 use Rattle.shadow.proofs.Kept_on.{kept_by, kept_is}
+use Rattle.shadow.proofs.PairsKept.{same_pairs}
 use Rattle.shadow.proofs.Making.{held_directory, named_in, place_counts, place_kept, place_staged, room_elsewhere}
 
 -- What is stored on the way of an edit of names: what was counted in a state is still so.
@@ -36,7 +37,7 @@ sound_stands ps s sound = record { staged = sound.staged; counts = counts_of ps 
 pub stands_counted : (ps : Processes) (k l : Kernel) (s : Numbers) → state_of ps s ≡ l → l.descriptions ≡ k.descriptions → l.processes ≡ k.processes → Stands ps k s → AreCounted ps s
 stands_counted ps k l s is descriptions processes stands =
     counted_by ps s (subst (λ (t : Kernel). Counts t s) (sym is)
-    (counts_of_state k l s (openings_change_lem.by_descriptions k l descriptions) (openings_change_lem.by_processes k l processes) stands.counts))
+    (counts_of_state k l s (openings_change_lem.by_descriptions k l descriptions) (openings_change_lem.by_processes k l processes) (same_pairs k l descriptions) stands.counts))
 
 -- a directory's names become others, by a function of its listing
 module _ (ps : Processes) (counted : Kernel) (s : Numbers) (d : ℕ) (f : Listing → Listing)
@@ -67,7 +68,7 @@ module _ (ps : Processes) (counted : Kernel) (s : Numbers) (d : ℕ) (f : Listin
   pub relisted_stands : Stands ps counted relisted
   relisted_stands = record {
     staged = λ m. subst (λ (t : Numbers). IsStaged (get t.places m)) (sym relisted_is) (place_staged s d after stands.staged (λ e. cc) m);
-    counts = subst (Counts counted) (sym relisted_is) (place_counts s d after counted stands.counts (λ c e. absurd (nothing c e)) (λ c e. absurd (nothing c e)));
+    counts = subst (Counts counted) (sym relisted_is) (place_counts s d after counted stands.counts (λ c e. absurd (nothing c e)) (λ c e. absurd (nothing c e)) (λ ends e. absurd (not_none ends (sym e))));
   }
     where
       nothing : (c : ℕ) → None ≡ Some c → ⊥

@@ -20,7 +20,7 @@ use Rattle.store.specs.declared.Place.{Place}
 use Rattle.store.specs.declared.Stage.{Stage}
 use Rattle.store.specs.declared.Stage.TheVariants.{Coming, Held, Lost}
 use Rattle.store.specs.declared.Object.{Object}
-use Rattle.store.specs.declared.Object.TheVariants.{Directory as A_directory, File as A_file}
+use Rattle.store.specs.declared.Object.TheVariants.{Directory as A_directory, File as A_file, Pipe as A_pipe}
 use Rattle.store.specs.declared.Object.TheVariants.{Description as A_description, Nothing}
 use Rattle.store.proofs.Laws.{get-chosen, place-altered, place-other}
 use Rattle.shadow.specs.Stored.{FitsStage, IsStaged, Processes, reserve_in, state_of}
@@ -121,6 +121,7 @@ module _ (g : OpenFile → OpenFile) where
       by_stage : (t : Stage) (object : Object) → FitsStage t object
           → FitsStage t (changed_file g object)
       by_stage t (A_directory listing) h = h
+      by_stage t (A_pipe pipe) h = h
       by_stage t (A_description opened) h = h
       by_stage t Nothing h = h
       by_stage Coming (A_file file) h = h
@@ -137,6 +138,7 @@ module _ (g : OpenFile → OpenFile) where
           ≡ reserve_in (record { stage = place.stage; object = object })
       by_object (A_directory listing) = refl
       by_object (A_file file) = refl
+      by_object (A_pipe pipe) = refl
       by_object (A_description opened) = refl
       by_object Nothing = refl
 
@@ -151,6 +153,7 @@ module _ (g : OpenFile → OpenFile) where
           → if_held t (changed_file g object) ≡ Some (A_description opened)
           → if_held t object ≡ Some (A_description opened)
       by_stage t (A_directory listing) is = is
+      by_stage t (A_pipe pipe) is = is
       by_stage t (A_description opened) is = is
       by_stage t Nothing is = is
       by_stage Coming (A_file file) is = is
@@ -184,5 +187,6 @@ module _ (g : OpenFile → OpenFile) where
       by_stage Held (A_file it) is =
           record { before = it; held = refl; is = file_is (g it) is; count = refl }
       by_stage Held (A_directory listing) is = absurd (true_is_false (ap is_file (sym is)))
+      by_stage Held (A_pipe pipe) is = absurd (true_is_false (ap is_file (sym is)))
       by_stage Held (A_description opened) is = absurd (not_file opened file is)
       by_stage Held Nothing is = absurd (true_is_false (ap is_file (sym is)))

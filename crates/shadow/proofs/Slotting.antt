@@ -19,6 +19,7 @@ use Rattle.shadow.specs.Stored.{AreCounted, Processes, numbered, state_of}
 use Rattle.shadow.specs.Openings.{slot_noted}
 use Rattle.shadow.specs.Laid.{AreHeld, AreLow, IsOneLess, IsOneMore, IsSlotted, SameStore, WasHeld, table_in}
 use Rattle.shadow.proofs.Living.{no_process, process_of_number}
+use Rattle.shadow.proofs.PairsKept.{same_pairs}
 
 at_most_one : (b : Bool) → cond {A = ℕ} b 1 0 ≤ 1
 at_most_one true = omega arith
@@ -140,6 +141,7 @@ module _ (ps : Processes) (pid f : ℕ) (given former : Option ℕ) (new : Proce
   counted_now all counted = record {
     openings = λ n file is. counted.openings n file (more.files n file (less.files n file is)) ∙ sym (openings_change_lem.by_descriptions (state_of ps s) (state_of qs u) (less.descriptions ∙ more.descriptions) n);
     holders = λ d opened is. of_holders d opened (less.opened d opened is);
+    pipes = λ p pipe is. same_pairs (state_of ps s) (state_of qs u) (less.descriptions ∙ more.descriptions) p pipe.reader pipe.writer (counted.pipes p pipe (more.pipes p pipe (less.pipes p pipe is)));
   }
     where
       of_holders : (d : ℕ) (opened : Opened) → WasHeld (IsOneLess former d) t d opened → opened.holders ≡ holders (state_of qs u) d

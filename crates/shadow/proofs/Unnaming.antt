@@ -9,7 +9,7 @@ use Rattle.store.specs.Numbers.{Numbers}
 use Rattle.store.specs.Places.{altered, changed_object, with_listing, without_name}
 use Rattle.store.specs.declared.Stage.{Stage}
 use Rattle.store.specs.declared.Object.{Object}
-use Rattle.store.specs.declared.Object.TheVariants.{Directory as Kept_directory, File as Kept_file}
+use Rattle.store.specs.declared.Object.TheVariants.{Directory as Kept_directory, File as Kept_file, Pipe as Kept_pipe}
 use Rattle.store.specs.declared.Object.TheVariants.{Description as Kept_description, Nothing}
 use Rattle.store.proofs.Laws.{left-altered}
 use Rattle.shadow.specs.declared.change.Made.{Made as What}
@@ -31,6 +31,7 @@ unnamed_claims x (Room r) t (Kept_directory l) = refl
 unnamed_claims x (New_directory m) t (Kept_directory l) = refl
 unnamed_claims x (Number m) t (Kept_directory l) = refl
 unnamed_claims x c t (Kept_file file) = refl
+unnamed_claims x c t (Kept_pipe pipe) = refl
 unnamed_claims x c t (Kept_description opened) = refl
 unnamed_claims x c t Nothing = refl
 

@@ -104,14 +104,15 @@ IsReadyFile false before room end =
     (file : OpenFile) × (before ≡ Some (present (A_file file)))
     × (end ≤ max (length file.bytes.bytes) room.room)
 
--- Those of a pipe can be made: it is to come, or shown, it had all that they take, and what they
--- append fits.
+-- Those of a pipe can be made: it is to come, or shown, and what they append fits where the pipe was
+-- no longer than pipes get.
 abbrev pub IsReadyPipe : Option OpenPipe → PipeChanges → Option Place → Type 0
 IsReadyPipe (Some new) changes before =
     (before ≡ Some (coming Nothing)) × (length (pipe_over changes new.bytes) ≤ PIPE_CAPACITY)
 IsReadyPipe None changes before =
     (pipe : OpenPipe) × (before ≡ Some (present (A_pipe pipe)))
-    × (length (pipe_over changes pipe.bytes) ≤ PIPE_CAPACITY)
+    × (length pipe.bytes ≤ PIPE_CAPACITY
+    → length (pipe_over changes pipe.bytes) ≤ PIPE_CAPACITY)
 
 abbrev pub IsReadyContents : Numbers → ℕ → Change → Contents → Type 0
 IsReadyContents s n c Same = c.made ≡ None

@@ -1,6 +1,7 @@
 // The changes of inodes and of descriptions, made in the store.
 ghost use Rattle.std.specs.Prelude.{◌≡◌, ◌≢◌, ◌≤◌, ◌<◌, ◌^◌, ◌⊎◌, ℕ, false, true, Some};
 ghost use Rattle.std.specs.Prelude.{length};
+ghost use Rattle.ids.specs.declared.limits.TheConstants.{PIPE_CAPACITY};
 ghost use Rattle.model.specs.FiniteMap.{get};
 ghost use Rattle.store.specs.Numbers.{coming};
 ghost use Rattle.store.specs.declared.Object.TheVariants.{Nothing};
@@ -19,7 +20,7 @@ use crate::inodes::Inodes;
 use crate::opening::{Opening, Openings};
 use file_shadow::FileShadow;
 use heap::Heap;
-use ids::Num;
+use ids::{Num, PIPE_CAPACITY};
 use objects::{Description, FileData};
 use pipe_shadow::PipeShadow;
 use store::{Object, OpenFile, OpenPipe, Opened, Store};
@@ -99,7 +100,8 @@ fn lay_pipe(store: &mut Store, num: Num, changes: &PipeShadow)
 
 // How many bytes a pipe has; none where there is no pipe.
 fn pipe_len(store: &Store, num: Num) -> usize
-    ensures { result ≡ length (pipe_of_inode (get (inodes store.now) num)) }
+    ensures len { result ≡ length (pipe_of_inode (get (inodes store.now) num)) }
+    ensures within { result ≤ PIPE_CAPACITY }
 {
     match store.pipe(num) {
         Some(pipe) => pipe.bytes.len(),

@@ -2,6 +2,8 @@
 #![tactic(auto)]
 
 #[cfg(test)]
+mod capacity;
+#[cfg(test)]
 mod files;
 #[cfg(test)]
 mod freed;
@@ -11,6 +13,10 @@ mod given_up;
 mod links;
 #[cfg(test)]
 mod paths;
+#[cfg(test)]
+mod pipes;
+#[cfg(test)]
+mod processes;
 #[cfg(test)]
 mod refused;
 #[cfg(test)]
