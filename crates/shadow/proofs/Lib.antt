@@ -62,6 +62,7 @@ mod GivingOpened
 mod Turnover
 mod Holders
 mod PipeOpen
+mod Pairing
 mod KeptDirectories
 pub mod Cleared
 pub mod Committing

@@ -41,7 +41,7 @@ use Rattle.shadow.proofs.SlotInState.{frees_nothing, kept_met, met_by, noted_is,
 three : ℕ → ℕ → ℕ → ℕ → ℕ
 three m p r w = times m (p ∷ r ∷ w ∷ [])
 
-as_one : ℕ → ℕ → ℕ
+abbrev as_one : ℕ → ℕ → ℕ
 as_one n m = cond (n == m) 1 0
 
 three_is : (m p r w : ℕ) → times m (p ∷ r ∷ w ∷ []) ≡ as_one p m + (as_one r m + (as_one w m + 0))
@@ -128,6 +128,12 @@ module _ (ps : Processes) (s : Numbers) (v : Committed) (is : committed_of ps s 
   pub piping_process : get (numbered ps) pid ≢ None
   piping_process = can.slot.alive
 
+  pub process_still : (qs : Processes) (u a : Numbers) → IsSlotted pid f (Some r) ps qs u a → get (numbered qs) pid ≢ None
+  process_still qs u a laid none = some_not (with_slot f r (or_new (get (numbered ps) pid))) (sym (laid.here) ∙ none)
+    where
+      some_not : {X : Type 0} (x : X) → Some x ≡ None → ⊥
+      some_not x e = absurd cc
+
   unheld_reader : holders (state_of ps s) r ≡ 0
   unheld_reader = openings_change_lem.unheld (state_of ps s) r can.reader.unheld
 
@@ -135,7 +141,7 @@ module _ (ps : Processes) (s : Numbers) (v : Committed) (is : committed_of ps s 
   unheld_writer = openings_change_lem.unheld (state_of ps s) w can.writer.unheld
 
   module _ (pipe : OpenPipe) (empty : pipe.bytes ≡ []) (reads : pipe.reader ≡ r) (writes : pipe.writer ≡ w) (first : Numbers) (installed : first ≡ with_place s p (present (A_pipe pipe)))
-      (shown : inodes first ≡ insert (inodes s) p (Pipe pipe.bytes)) (open : descriptions first ≡ with_value (descriptions s) p None) where
+      (shown : inodes first ≡ insert (inodes s) p (Pipe pipe.bytes)) (described_so : descriptions first ≡ with_value (descriptions s) p None) where
     here : get first.places p ≡ Some (present (A_pipe pipe))
     here = ap (λ (t : Numbers). get t.places p) installed ∙ get_same s.places p (present (A_pipe pipe))
 
@@ -158,7 +164,7 @@ module _ (ps : Processes) (s : Numbers) (v : Committed) (is : committed_of ps s 
     inodes_first = shown ∙ ap (λ bytes. insert (inodes s) p (Pipe bytes)) empty
 
     descriptions_first : descriptions first ≡ descriptions s
-    descriptions_first = open ∙ remove-absent (descriptions s) p can.pipe.description
+    descriptions_first = described_so ∙ remove-absent (descriptions s) p can.pipe.description
 
     state_first : state_of ps first ≡ set_inode p (Pipe []) (state_of ps s)
     state_first = ap (λ m. stored ps m (descriptions first)) inodes_first ∙ ap (stored ps (insert (inodes s) p (Pipe []))) descriptions_first
@@ -208,19 +214,19 @@ module _ (ps : Processes) (s : Numbers) (v : Committed) (is : committed_of ps s 
     abbrev to_be_written : Description
     to_be_written = at_start p to_write
 
-    module _ (t u : Numbers) (opened : IsReopened r (New (at_start p to_read)) first t) (again : IsReopened w (New (at_start p to_write)) t u) where
-      pub writer_still : get t.places w ≡ Some (coming Nothing)
-      writer_still = opened.places w writer_comes ends_away
+    pub writer_still : (t : Numbers) → IsReopened r (New (at_start p to_read)) first t → get t.places w ≡ Some (coming Nothing)
+    writer_still t opened = opened.places w writer_comes ends_away
 
+    module _ (t u : Numbers) (opened : IsReopened r (New (at_start p to_read)) first t) (again : IsReopened w (New (at_start p to_write)) t u) where
       reader_end : IsEndHere first r (at_start p to_read)
       reader_end x shows =
           let so : pipe ≡ x = the_pipe x shows in
-          ((λ yes. sym reads ∙ ap (λ (y : OpenPipe). y.reader) so), ((λ yes. cc), inl (sym reads ∙ ap (λ (y : OpenPipe). y.reader) so)))
+          ((λ yes. sym reads ∙ ap (λ (y : OpenPipe). y.reader) so) , (λ yes. cc), inl (sym reads ∙ ap (λ (y : OpenPipe). y.reader) so))
 
       writer_end : IsEndHere t w (at_start p to_write)
       writer_end x shows =
           let so : pipe ≡ x = the_pipe x (opened.pipes p x shows) in
-          ((λ yes. cc), ((λ yes. sym writes ∙ ap (λ (y : OpenPipe). y.writer) so), inr (sym writes ∙ ap (λ (y : OpenPipe). y.writer) so)))
+          ((λ yes. cc), (λ yes. sym writes ∙ ap (λ (y : OpenPipe). y.writer) so), inr (sym writes ∙ ap (λ (y : OpenPipe). y.writer) so))
 
       described : (n : ℕ) (it : Description) (x y : Numbers) → IsReopened n (New it) x y → descriptions y ≡ insert (descriptions x) n it
       described n it x y made = same_map nat_cmp_total nat_cmp-IsAntisymmetric _ _ (λ q. elim (cases_eq q n) [
@@ -252,12 +258,6 @@ module _ (ps : Processes) (s : Numbers) (v : Committed) (is : committed_of ps s 
               or_new' x _ = x
 
       module _ (qs rs : Processes) (a b : Numbers) (laid : IsSlotted pid f (Some r) ps qs u a) (later : IsSlotted pid g (Some w) qs rs a b) where
-        pub process_still : get (numbered qs) pid ≢ None
-        process_still none = some_not (with_slot f r (or_new (get (numbered ps) pid))) (sym (laid.here) ∙ none)
-          where
-            some_not : {X : Type 0} (x : X) → Some x ≡ None → ⊥
-            some_not x e = absurd cc
-
         makes : applied (p ∷ r ∷ w ∷ []) (Make_pipe 0 pid f g) (state_of ps s) ≡ open_at w p to_write pid g (open_at r p to_read pid f (set_inode p (Pipe []) (state_of ps s)))
         unfolding applied
         makes = refl

@@ -73,6 +73,7 @@ impl<'a> View<'a> {
         ensures { IfSome result (λ ends.
             ArePair self.now.state.descriptions pipe ends.0 ends.1) }
     {
+        self.stable.state_is_tidied();
         let Some(shadow) = self.shadow else {
             return None;
         };
