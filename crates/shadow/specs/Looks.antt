@@ -1,7 +1,7 @@
 -- What is told of looks.
 use Rattle.std.specs.Prelude.{◌≡◌, ◌≢◌, ℕ, ◌+◌, List, [], Option, Some, None}
 use Rattle.model.specs.FiniteMap.{get}
-use Rattle.model.specs.State.{A_directory, A_pipe, Kernel, kind_of, links, pipe_of}
+use Rattle.model.specs.State.{A_directory, Kernel, kind_of, links, pipe_of}
 use Rattle.model.specs.Changes.{process_of}
 use Rattle.model.specs.Effects.{Effect, all_done}
 use Rattle.freeing_laws.specs.Sweep.{AllFit}
@@ -21,10 +21,6 @@ DirectoriesAreKept s = (d : ℕ) → kind_of s.state d ≡ Some A_directory → 
 -- how many processes were made, and a process's priority
 abbrev pub birth_of : Kernel → ℕ → ℕ × ℕ
 birth_of k pid = (k.made, (process_of k pid).priority)
-
--- there are no pipes
-abbrev pub HasNoPipes : Kernel → Type 0
-HasNoPipes k = (n : ℕ) → kind_of k n ≢ Some A_pipe
 
 -- What changes make of an inode and of its names, in any state that they fit, where this is what
 -- counts of them.

@@ -9,7 +9,7 @@ use Rattle.model.specs.State.{Name, Kernel, Inode, File, Directory, Description,
 use Rattle.model.specs.State.{names_of_inode, file_of_inode}
 use Rattle.model.specs.Changes.{Edit, Which, There, Made, number, news, Make_directory, Make_file}
 use Rattle.model.specs.Changes.{Name_file, Unname_file, Unname_directory, Move, Put_bytes, Cut}
-use Rattle.model.specs.Changes.{Set_offset}
+use Rattle.model.specs.Changes.{Set_offset, Make_pipe, Take, Append}
 use Rattle.model.specs.Changes.{Open_inode, Share_slot, Clear_slot, applied, sized, written, at_start, at_offset}
 use Rattle.model.specs.Changes.{with_slot, without_slot, or_new}
 use Rattle.model.specs.Effects.{Effect}
@@ -62,6 +62,9 @@ IsFirst (Unname_directory d x n) = ⊤
 IsFirst (Move d x e y n replaced) = ⊤
 IsFirst (Put_bytes n place bytes before) = place + length bytes ≤ largest
 IsFirst (Cut n before after) = after ≤ largest
+IsFirst (Make_pipe i pid f g) = (i ≡ 0) × (f < descriptor_limit) × (g < descriptor_limit)
+IsFirst (Take p count) = ⊤
+IsFirst (Append p bytes) = ⊤
 IsFirst _ = ⊥
 
 abbrev pub IsBelow : ℕ → Which → Type 0

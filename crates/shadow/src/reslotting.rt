@@ -17,7 +17,7 @@ use store::Store;
 
 /// Makes what is changed of slots; what these gave before stands in the place of the changes. It
 /// takes no memory.
-pub(crate) fn lay_slots(store: &mut Store, processes: &mut Vec<Process, Heap>, slots: &mut Slots)
+pub(crate) fn lay_slots(store: &mut Store, processes: &mut Vec<Option<Process>, Heap>, slots: &mut Slots)
     requires { (pid : ℕ) → slots_in (kept_at slots.old pid) ≢ []
         → (0 < pid) × (pid ≤ length processes.old.items) }
     ensures { AreReslotted slots.old slots.new processes.old.items processes.new.items
@@ -27,7 +27,7 @@ pub(crate) fn lay_slots(store: &mut Store, processes: &mut Vec<Process, Heap>, s
 }
 
 // Makes what is changed of each process's slots, and puts what they gave before in its place.
-fn lay_each(store: &mut Store, processes: &mut Vec<Process, Heap>, each: &mut [(Pid, Patch)])
+fn lay_each(store: &mut Store, processes: &mut Vec<Option<Process>, Heap>, each: &mut [(Pid, Patch)])
     requires once { AreOnce each.old }
     requires living { (pid : ℕ) → slots_in (kept_at each.old pid) ≢ []
         → (0 < pid) × (pid ≤ length processes.old.items) }
@@ -45,7 +45,7 @@ fn lay_each(store: &mut Store, processes: &mut Vec<Process, Heap>, each: &mut [(
 // Makes what is changed of one process's slots, and answers what they gave before.
 fn lay_table(
     store: &mut Store,
-    processes: &mut Vec<Process, Heap>,
+    processes: &mut Vec<Option<Process>, Heap>,
     pid: Pid,
     patch: &Patch,
 ) -> Patch
@@ -67,7 +67,7 @@ fn lay_table(
 /// One slot gives this from now on; what it gave is answered. It takes no memory.
 pub(crate) fn lay_slot(
     store: &mut Store,
-    processes: &mut Vec<Process, Heap>,
+    processes: &mut Vec<Option<Process>, Heap>,
     pid: Pid,
     fd: Fd,
     given: Option<Num>,
@@ -79,8 +79,13 @@ pub(crate) fn lay_slot(
         store.old store.new }
 {
     let index = pid.0 as usize - 1;
-    let former = processes[index].table.get(fd);
-    give(&mut processes[index], fd, given);
+    let former = match &processes[index] {
+        Some(process) => process.table.get(fd),
+        None => None,
+    };
+    if let Some(process) = &mut processes[index] {
+        give(process, fd, given);
+    }
     count_more(store, &given);
     count_less(store, &former);
     former

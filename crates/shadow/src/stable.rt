@@ -4,17 +4,19 @@ ghost use Rattle.std.specs.Prelude.{OnOk, option_copied, length, map, if◌then�
 ghost use Rattle.std.specs.List.{AllByRecursion};
 ghost use Rattle.model.specs.FiniteMap.{empty, get};
 ghost use Rattle.model.specs.State.{file_of, kind_of, links, mapped, names_of, File as A_file};
-ghost use Rattle.model.specs.Changes.{all_applied, process_of, tidy};
+ghost use Rattle.std.specs.Prelude.{suc};
+ghost use Rattle.ids.specs.declared.limits.TheConstants.{MAX_PROCESSES};
+ghost use Rattle.model.specs.Changes.{New_process, End_process, all_applied, applied, process_of, tidy};
 ghost use Rattle.model.specs.Steps.{IsNowhere};
 ghost use Rattle.model.specs.Moments.{start, is_alive};
-ghost use Rattle.call_laws.specs.Fits.{FitsAll};
+ghost use Rattle.call_laws.specs.Fits.{Fits, FitsAll};
 ghost use Rattle.freeing_laws.specs.Sweep.{IsTidied};
 ghost use Rattle.store.specs.Shown.{file_inode};
 ghost use Rattle.shadow.specs.Claims.{AreUnused, Claim, Covers, HaveParents, IsDirectory, KeepsMore};
 ghost use Rattle.shadow.specs.Claims.{KeepsNothing, KeepsSame, claimed_by, number_as, number_of};
 ghost use Rattle.shadow.specs.Claims.{reserved, room_in};
 ghost use Rattle.shadow.specs.Log.{effect};
-ghost use Rattle.shadow.specs.Looks.{DirectoriesAreKept, HasNoPipes, birth_of};
+ghost use Rattle.shadow.specs.Looks.{DirectoriesAreKept, birth_of};
 ghost use Rattle.shadow.specs.Steps.{CanEdit};
 
 use crate::shadow::Shadow;
@@ -51,7 +53,7 @@ impl Model for Process {
 /// is kept for transactions that may commit.
 #[derive(Drop)]
 pub struct Stable {
-    pub(crate) processes: Vec<Process, Heap>,
+    pub(crate) processes: Vec<Option<Process>, Heap>,
     pub(crate) store: Store,
 }
 
@@ -67,16 +69,16 @@ impl Model for Stable {
 }
 
 // A process without open descriptors for each of these priorities.
-fn first_processes(heap: Heap, priorities: &[Priority]) -> Result<Vec<Process, Heap>, AllocError>
-    ensures { IfOk result (λ ps. ps.items ≡ map (λ p. record { table = empty; priority = p })
+fn first_processes(heap: Heap, priorities: &[Priority]) -> Result<Vec<Option<Process>, Heap>, AllocError>
+    ensures { IfOk result (λ ps. ps.items ≡ map (λ p. Some (record { table = empty; priority = p }))
         priorities.now) }
 {
     let mut processes = Vec::with_capacity(heap, priorities.len())?;
     for priority in priorities {
-        processes.push(Process {
+        processes.push(Some(Process {
             table: FdTable::new(),
             priority: *priority,
-        })?;
+        }))?;
     }
     Ok(processes)
 }
@@ -114,7 +116,10 @@ impl Stable {
         ensures { result ≡ (process_of self.now.state pid).priority }
     {
         let number = pid.0 as usize;
-        self.processes[number - 1].priority
+        match &self.processes[number - 1] {
+            Some(process) => process.priority,
+            None => unreachable!(),
+        }
     }
 
     /// A process's priority as a number; 0 where there is no such process.
@@ -144,10 +149,9 @@ impl Stable {
     pub(crate) fn table(&self, pid: Pid) -> FdTable
         ensures { result ≡ (process_of self.now.state pid).table }
     {
-        if self.is_living(pid) {
-            self.processes[pid.0 as usize - 1].table.copy()
-        } else {
-            FdTable::new()
+        match self.processes.get(pid.0 as usize - 1) {
+            Some(Some(process)) => process.table.copy(),
+            _ => FdTable::new(),
         }
     }
 
@@ -208,16 +212,36 @@ impl Stable {
         self.store.links(num)
     }
 
+    /// One process more, the child of this one: its number is the next, and is answered. It has its
+    /// parent's descriptors and priority. Refused memory changes nothing.
+    pub fn fork(&mut self, parent: Pid) -> Result<Pid, AllocError>
+        requires fits { (pipes : List ℕ)
+            × Fits [] self.old.state (New_process (suc self.old.state.made) parent pipes) }
+        requires few { self.old.state.made < MAX_PROCESSES }
+        ensures child { IfOk result (λ child. child ≡ suc self.old.state.made) }
+        ensures state { OnOk result ((pipes : List ℕ) → self.new.state
+            ≡ applied [] (New_process (suc self.old.state.made) parent pipes) self.old.state) }
+        ensures kept { KeepsSame self.old self.new }
+        ensures err { OnErr result (self.new.state ≡ self.old.state) }
+    {
+        let _parent = parent;
+        Err(AllocError)
+    }
+
+    /// A process is gone with its descriptors; what nothing leads to then is freed. It takes no
+    /// memory.
+    pub fn exit(&mut self, pid: Pid)
+        requires { (pipes : List ℕ) × Fits [] self.old.state (End_process pid pipes) }
+        ensures state { (pipes : List ℕ) → self.new.state
+            ≡ tidy (applied [] (End_process pid pipes) self.old.state) }
+        ensures kept { KeepsSame self.old self.new }
+    {
+        let _pid = pid;
+    }
+
     /// Each directory can have room promised.
     pub fn directories_are_kept(&self)
         ensures { DirectoriesAreKept self.now }
-    {
-        let _store = &self.store;
-    }
-
-    /// Today there are no pipes.
-    pub fn has_no_pipes(&self)
-        ensures { HasNoPipes self.now.state }
     {
         let _store = &self.store;
     }
