@@ -7,7 +7,7 @@ use Rattle.commit.proofs.Keeping.{covered_still}
 use Rattle.commit.proofs.transactions.Transactions.exit.Goals as goal
 
 pub invariant_of-self : goal.invariant_of-self
-invariant_of-self c = covered_still (views c.set_slot.new.slots.items) c.self.inside.stable c.exit.new.stable c.exit.ensures.kept
+invariant_of-self c = covered_still (views c.set_slot.new.slots.items) c.self.inside.stable c.exit.new.self c.exit.ensures.kept
     (covered_without (views c.self.inside.slots.items) _ c.args.pid gone_slot c.self.inside.stable
     (shows c.self.inside.slots.items c.set_slot.new.slots.items c.args.pid gone_slot c.set_slot.ensures) refl
     (ap (λ v. changes_in (view_at v.slots c.args.pid)) c.self.view_is ∙ ap changes_in c.requires.idle) c.self.invariant)
