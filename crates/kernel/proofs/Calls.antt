@@ -23,10 +23,10 @@ use Rattle.model.specs.Paths.{is_empty}
 use Rattle.model.specs.Walks.{Place, parsed, walk, last_of, is_directory}
 use Rattle.model.specs.Plans.{Change, pipes_in, plan, status as told_status, absent}
 use Rattle.model.specs.Changes.{process_of}
-use Rattle.kernel.proofs.Words.{Calls, CanChange, born, child_in, ends_process, first_is, idle_slot, makes_process, no_part, part_after, suc, with_born, with_child, ◌⊎◌, ◌≢◌}
+use Rattle.kernel.proofs.Words.{Calls, CanChange, IsConsistent, born, child_in, ends_process, first_is, idle_slot, makes_process, no_part, part_after, suc, with_born, with_child, ◌⊎◌, ◌≢◌}
 use Rattle.shadow.specs.Claims.{HasParent, HaveParents}
 use Rattle.calls.specs.declared.plan.Plan.{Plan as Planned}
-use Rattle.kernel.proofs.Entries.{Grows, pids, not_doomed, comes_to, enters_grown, goes, moves, one_more, processes, stay_as_many, stays, slot_changes, slot_views, caller_lives, free_at}
+use Rattle.kernel.proofs.Entries.{Grows, pids, not_both, not_doomed, comes_to, enters_grown, goes, moves, one_more, processes, stay_as_many, stays, slot_changes, slot_views, caller_lives, free_at}
 
 -- the touches that count
 abbrev counted_by : Option (BeginFlags × ℕ) → List Touch → List Touch
@@ -79,7 +79,7 @@ inside_parents v pid call well alive kept inside =
 have_parents : (v : Committed) (pid : ℕ) (call : Call) → WellFormed v.state → is_alive v.state pid ≡ true → DirectoriesAreKept v → HaveParents v.reserves (edits v.state pid call)
 have_parents v pid Fork well alive kept = elim (fork_comes v.state pid) [
   | inl refused ↦ subst (HaveParents v.reserves) (sym refused.1) tt
-  | inr born ↦ subst (HaveParents v.reserves) (sym born.2.1.1) (tt, tt)
+  | inr made ↦ subst (HaveParents v.reserves) (sym made.3) (tt, tt)
 ]
 have_parents v pid Exit well alive kept = (tt, tt)
 have_parents v pid call well alive kept = inside_parents v pid call well alive kept refl
@@ -172,7 +172,7 @@ fate k pid well Fork = elim (fork_comes k pid) [
       inl (record { childless = ap child_in says; unborn = ap born says; stays = ap (is_ended (Do Fork)) says; edits = subst CanEdit (sym refused.1) tt })
   | inr made ↦
       let says = ap answered made.1 in
-      inr (inl (record { child = ap child_in says; one = ap born says; stays = ap (is_ended (Do Fork)) says; pipes = made.2.0; edits = made.2.1 }))
+      inr (inl (record { child = ap child_in says; one = ap born says; stays = ap (is_ended (Do Fork)) says; pipes = made.2; edits = made.3 }))
 ]
 fate k pid well Exit = inr (inr (record { childless = refl; unborn = refl; ends = refl; pipes = pipes_in (own k pid Exit); edits = refl }))
 fate k pid well call = inl (inside_fate k pid call well refl)
@@ -340,7 +340,7 @@ module _ (f : Fields) (pid : ℕ) (within : Option (BeginFlags × ℕ)) (call : 
   part_is : (w : Option (BeginFlags × ℕ)) → Stands (calling w) (status m pid) → (is_some w ≡ true → is_inside call ≡ true) → part_with w change (counted_touches m pid call) (part_of m pid) ≡ part_of (next m e) pid
   part_is None is supported = elim (idle_fate is) [
     | inl s ↦ ap (λ b. if b then no_part else part_of m pid) (ends_none es s.edits)
-        ∙ sym (stays f.log e asks.holds.legal right pid (λ some. absurd (cc s.childless), inl s.stays) (idle_phase is))
+        ∙ sym (stays f.log e asks.holds.legal right pid (not_both (child_in e.reply) pid s.childless, inl s.stays) (idle_phase is))
     | inr other ↦ elim other [
       | inl b ↦ ap (λ xs. part_after xs (part_of m pid)) b.edits
           ∙ sym (stays f.log e asks.holds.legal right pid (parent_stays _ b.child (caller_lives m pid None is), inl b.stays) (idle_phase is))
@@ -353,7 +353,7 @@ module _ (f : Fields) (pid : ℕ) (within : Option (BeginFlags × ℕ)) (call : 
       let steady = steadily (seen_by m pid) pid call (supported refl) in
       ap₂ (λ s t. record { slot = with_change change (shown_by s (changes_of m pid)); held = record { priority = priority_of m pid; age = live_age t; touches = held_by m pid ++ ts } })
       l.1 (phase_is m pid (live w.0 w.1 l.0) l.1 (λ h. absurd cc))
-      ∙ sym (comes_to f.log e asks.holds.legal right pid _ (changes_of m pid ++ change ∷ []) (held_by m pid ++ ts) (λ some. absurd (cc steady.childless), inl steady.stays) (caller_lives m pid (Some w) l) (goes_in w l).phase
+      ∙ sym (comes_to f.log e asks.holds.legal right pid _ (changes_of m pid ++ change ∷ []) (held_by m pid ++ ts) (not_both (child_in e.reply) pid steady.childless, inl steady.stays) (caller_lives m pid (Some w) l) (goes_in w l).phase
       ((goes_in w l).does ∙ ap (λ es. changes_of m pid ++ effect chosen es ∷ []) (sym goes.edits))
       ((goes_in w l).held ∙ ap (λ us. held_by m pid ++ us) (sym goes.touches ∙ counts m pid call (Some w) l)))
 

@@ -88,7 +88,7 @@ open_edits k o flags f low at (Some place) =
     either_given_bind false = inr (refl, tt, low)
 
 pipe_read_edits : (k : Kernel) (p : ℕ) (bytes : List ℕ) → IfOk (given k (read_pipe p bytes)) Edits
-pipe_read_edits k p [] = after k (Rattle.model.specs.Plan.ask (Rattle.model.specs.Plan.Count_ends p)) _ (λ ends. unless k (nat_lt 0 ends.1) EAGAIN _ tt)
+pipe_read_edits k p [] = unless k (nat_lt 0 (answer_to k (Rattle.model.specs.Plan.Count_ends p)).1) EAGAIN _ tt
 pipe_read_edits k p (b ∷ bytes) = inl tt
 
 read_edits : (k : Kernel) (it : Slot) (count : ℕ) → IfOk (given k (read_some it count)) Edits
@@ -109,8 +109,9 @@ shared_edits k o it [] low = tt
 shared_edits k o it (f ∷ fs) low = inr low.0
 
 write_edits : (k : Kernel) (it : Slot) (bytes : List ℕ) → IfOk (given k (write_some it bytes)) Edits
-write_edits k it bytes = either_given k Edits (is_pipe it.kind) _ _ (λ pipe. after k (Rattle.model.specs.Plan.ask (Rattle.model.specs.Plan.Count_ends it.inode)) _ (λ ends. unless k (ends.0 == 0) EPIPE _ (
-    after k (Rattle.model.specs.Plan.ask (Rattle.model.specs.Plan.Fit it.inode (length bytes))) _ (λ fitting. unless k (nat_lt fitting (length bytes) && nat_le (length bytes) whole_write) EAGAIN _ (unless k (fitting == 0) EAGAIN _ (inl tt))))))
+write_edits k it bytes = either_given k Edits (is_pipe it.kind) _ _ (λ pipe. unless k ((answer_to k (Rattle.model.specs.Plan.Count_ends it.inode)).0 == 0) EPIPE _ (
+    let fitting = answer_to k (Rattle.model.specs.Plan.Fit it.inode (length bytes)) in
+    unless k (nat_lt fitting (length bytes) && nat_le (length bytes) whole_write) EAGAIN _ (unless k (fitting == 0) EAGAIN _ (inl tt))))
     (λ _. after k (place_to_write it it.appending) _ (λ place. allowed k Edits (nat_le largest place) EFBIG _ (λ low. (
       (let room : place < largest = not_above largest place low in
           let few : length (take (largest - place) bytes) ≤ largest - place = take_few (largest - place) bytes in omega arith),
@@ -176,16 +177,17 @@ module _ (k : Kernel) (pid : ℕ) (well : WellFormed k) where
     by (Ok change) is = is
     by (Err e) is = tt
 
+-- what a fork comes to that is refused, or is not
+abbrev forked_if : Kernel → ℕ → Bool → Result Change Errno
+forked_if k pid refused = given k (refuse_if refused EAGAIN >> Rattle.model.specs.Plans.changed (Child (suc k.made)) (New_process (suc k.made) pid (pipes_in (own k pid Fork)) ∷ []))
+
 -- a fork is refused where as many processes were made as can be, and else makes a child
 pub fork_comes : (k : Kernel) (pid : ℕ) → ((reply k pid Fork ≡ Err EAGAIN) × (edits k pid Fork ≡ []))
     ⊎ ((k.made < most_processes) × (reply k pid Fork ≡ Ok (Child (suc k.made))) × (pipes : List ℕ) × (edits k pid Fork ≡ New_process (suc k.made) pid pipes ∷ []))
 fork_comes k pid = by (nat_le most_processes k.made) refl
   where
-    abbrev comes : Bool → Result Change Errno
-    comes refused = given k (refuse_if refused EAGAIN >> Rattle.model.specs.Plans.changed (Child (suc k.made)) (New_process (suc k.made) pid (pipes_in (own k pid Fork)) ∷ []))
-
-    by : (b : Bool) → nat_le most_processes k.made ≡ b → ((reply_of (comes b) ≡ Err EAGAIN) × (edits_of (comes b) ≡ []))
-        ⊎ ((k.made < most_processes) × (reply_of (comes b) ≡ Ok (Child (suc k.made))) × (pipes : List ℕ) × (edits_of (comes b) ≡ New_process (suc k.made) pid pipes ∷ []))
+    by : (b : Bool) → nat_le most_processes k.made ≡ b → ((reply_of (forked_if k pid b) ≡ Err EAGAIN) × (edits_of (forked_if k pid b) ≡ []))
+        ⊎ ((k.made < most_processes) × (reply_of (forked_if k pid b) ≡ Ok (Child (suc k.made))) × (pipes : List ℕ) × (edits_of (forked_if k pid b) ≡ New_process (suc k.made) pid pipes ∷ []))
     by true full = inl (refl, refl)
     by false few = inr (not_above most_processes k.made few, refl, pipes_in (own k pid Fork), refl)
 
@@ -193,7 +195,7 @@ fork_comes k pid = by (nat_le most_processes k.made) refl
 pub calls_change : (k : Kernel) (pid : ℕ) → WellFormed k → (call : Call) → CanChange k pid None (edits k pid call)
 calls_change k pid well Fork = elim (fork_comes k pid) [
   | inl refused ↦ inl (subst CanEdit (sym refused.1) tt)
-  | inr born ↦ inr (inl (born.0, born.2.1))
+  | inr made ↦ inr (inl (made.0, made.2, made.3))
 ]
 calls_change k pid well Exit = inr (inr (pipes_in (own k pid Exit), refl))
 calls_change k pid well call = inl (calls_edit k pid well call refl)

@@ -85,6 +85,11 @@ is_or_not (Some n) q = elim (cases_Bool (eqb n q)) [
   | inr differs ↦ inr (λ h. eqb-false n q differs (ap (λ o. unwrap_or o n) h))
 ]
 
+pub not_both : (o : Option ℕ) (n : ℕ) → o ≡ None → o ≡ Some n → ⊥
+not_both o n none some = no (sym none ∙ some) where
+  no : None ≡ Some n → ⊥
+  no h = absurd cc
+
 -- no fork and no exit
 pub record IsSteady (e : Entry) : Type 0 where
   pub childless : child_in e.reply ≡ None
@@ -227,7 +232,7 @@ stay_as_many f holds e right childless unborn =
       slot_count = holds.slot_count ∙ sym same;
       held_count = holds.held_count ∙ sym same;
       older = λ q _. refl;
-      born = λ child is. absurd (cc childless is);
+      born = λ child is. absurd (not_both (child_in e.reply) child childless is);
     }
 
 -- the last of a list, and the others
