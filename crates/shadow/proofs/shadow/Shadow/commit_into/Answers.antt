@@ -1,82 +1,20 @@
-use Rattle.shadow.proofs.Composed.{can_commit, has_all, has_inodes, has_kept, has_state}
-use Rattle.shadow.proofs.Composed.{holds_first, holds_second, is_sound}
-use Rattle.shadow.proofs.Ready.{ready, slots_alive}
+use Rattle.std.proofs.Common.{rules, ◌≡◌, ◌++◌, ◌∷◌, [], IfOk, OnErr, OnOk, ◌↔◌, ℕ, Contains, ◌+◌, ◌-◌, ◌*◌, ◌<◌, ◌≤◌, length, ◌/◌, ◌%◌, Bool, true, false, nat_eq, nat_lt, List, slice_index_or, slice_set, bit_and, bit_or, Fits, w8, w32, w64, Bor, MutBor}
+use Rattle.std.specs.List.Sorted.{IsStrictlyIncreasing}
+use Rattle.model.specs.State.{Kernel}
+use Rattle.shadow.specs.Agrees.{blocks_written}
+use Rattle.model.specs.Effects.{all_done}
+use Rattle.model.specs.Changes.{tidy}
+use Rattle.freeing_laws.specs.Sweep.{AllFit}
+use Rattle.shadow.specs.Claims.{AreUnused, Covers, HaveParents, KeepsMore, KeepsSame, claimed, claimed_by}
+use Rattle.shadow.specs.Log.{effect}
+use Rattle.shadow.specs.Looks.{DirectoriesAreKept}
+use Rattle.shadow.specs.Steps.{CanEdit}
 use Rattle.shadow.proofs.shadow.Shadow.commit_into.Goals as goal
 
-pub lay_inodes-requires : goal.lay_inodes-requires
-lay_inodes-requires c =
-    ready
-    (can_commit c.stable.invariant c.stable.view_is c.self.invariant c.self.view_is
-    c.patches.view_is c.requires.fits c.requires.covers)
-
-pub lay_openings-requires : goal.lay_openings-requires
-lay_openings-requires c =
-    (has_inodes
-    (can_commit c.stable.invariant c.stable.view_is c.self.invariant c.self.view_is
-    c.patches.view_is c.requires.fits c.requires.covers)
-    (record { root = c.lay_inodes.ensures.root; places = c.lay_inodes.ensures.places })).coming
-
-pub lay_slots-requires : goal.lay_slots-requires
-lay_slots-requires c =
-    slots_alive
-    (can_commit c.stable.invariant c.stable.view_is c.self.invariant c.self.view_is
-    c.patches.view_is c.requires.fits c.requires.covers)
-
-pub close_former-requires : goal.close_former-requires
-close_former-requires c = (
-  c.lay_slots.new.processes.items,
-  (has_all
-      (can_commit c.stable.invariant c.stable.view_is c.self.invariant c.self.view_is
-      c.patches.view_is c.requires.fits c.requires.covers)
-      (record { root = c.lay_inodes.ensures.root; places = c.lay_inodes.ensures.places })
-      c.lay_openings.ensures c.lay_slots.ensures).holds,
-)
-
-pub close_new-requires : goal.close_new-requires
-close_new-requires c = (
-  c.lay_slots.new.processes.items,
-  holds_first
-      (can_commit c.stable.invariant c.stable.view_is c.self.invariant c.self.view_is
-      c.patches.view_is c.requires.fits c.requires.covers)
-      (record { root = c.lay_inodes.ensures.root; places = c.lay_inodes.ensures.places })
-      c.lay_openings.ensures c.lay_slots.ensures c.close_former.ensures,
-)
-
-pub free_all-requires : goal.free_all-requires
-free_all-requires c = (
-  c.lay_slots.new.processes.items,
-  holds_second
-      (can_commit c.stable.invariant c.stable.view_is c.self.invariant c.self.view_is
-      c.patches.view_is c.requires.fits c.requires.covers)
-      (record { root = c.lay_inodes.ensures.root; places = c.lay_inodes.ensures.places })
-      c.lay_openings.ensures c.lay_slots.ensures c.close_former.ensures c.close_new.ensures,
-)
-
-pub invariant_of-stable : goal.invariant_of-stable
-invariant_of-stable c =
-    is_sound
-    (can_commit c.stable.invariant c.stable.view_is c.self.invariant c.self.view_is
-    c.patches.view_is c.requires.fits c.requires.covers)
-    (record { root = c.lay_inodes.ensures.root; places = c.lay_inodes.ensures.places })
-    c.lay_openings.ensures c.lay_slots.ensures
-    c.close_former.ensures c.close_new.ensures c.free_all.ensures
-
+-- src/shadow.rt:106:5
 pub returns-clause-state : goal.returns-clause-state
-returns-clause-state c =
-    has_state
-    (can_commit c.stable.invariant c.stable.view_is c.self.invariant c.self.view_is
-    c.patches.view_is c.requires.fits c.requires.covers)
-    (record { root = c.lay_inodes.ensures.root; places = c.lay_inodes.ensures.places })
-    c.lay_openings.ensures c.lay_slots.ensures
-    c.close_former.ensures c.close_new.ensures c.free_all.ensures
-    c.stable.view_is
+returns-clause-state c = ?
 
+-- src/shadow.rt:106:5
 pub returns-clause-kept : goal.returns-clause-kept
-returns-clause-kept c =
-    has_kept
-    (can_commit c.stable.invariant c.stable.view_is c.self.invariant c.self.view_is
-    c.patches.view_is c.requires.fits c.requires.covers)
-    (record { root = c.lay_inodes.ensures.root; places = c.lay_inodes.ensures.places })
-    c.lay_openings.ensures c.lay_slots.ensures
-    c.close_former.ensures c.close_new.ensures c.free_all.ensures
-    c.stable.view_is
+returns-clause-kept c = ?
