@@ -13,6 +13,9 @@ use Rattle.model.specs.Changes.{Make_file, Name_file, Unname_file, Move, Put_byt
 use Rattle.call_laws.specs.Fits.{Fits}
 use Rattle.shadow.specs.Looks.{DirectoriesAreKept}
 use Rattle.shadow.specs.Steps.{IsOne, IsLast}
+use Rattle.kernel.specs.States.{IsBirth, IsExit}
+use Rattle.freeing_laws.specs.Sweep.{IsTidied}
+use Rattle.freeing_laws.proofs.Laws.{sweep_is_tidy_lem}
 use Rattle.kernel.proofs.Edits.{calls_change, calls_edit, fork_comes}
 use Rattle.call_laws.specs.WellFormed.{WellFormed, IsRooted, Leads}
 use Rattle.std.proofs.lemmas.Bool.{cases_Bool, false≢true, or_left, or_right}
@@ -23,10 +26,10 @@ use Rattle.model.specs.Paths.{is_empty}
 use Rattle.model.specs.Walks.{Place, parsed, walk, last_of, is_directory}
 use Rattle.model.specs.Plans.{Change, pipes_in, plan, status as told_status, absent}
 use Rattle.model.specs.Changes.{process_of}
-use Rattle.kernel.proofs.Words.{Calls, CanChange, IsConsistent, born, child_in, ends_process, first_is, idle_slot, makes_process, no_part, part_after, suc, with_born, with_child, ◌⊎◌, ◌≢◌}
+use Rattle.kernel.proofs.Words.{Born, Calls, CanChange, IsConsistent, born, contender_at, subst₂, child_in, ends_process, first_is, idle_slot, makes_process, no_part, part_after, suc, with_born, with_child, ◌⊎◌, ◌≢◌}
 use Rattle.shadow.specs.Claims.{HasParent, HaveParents}
 use Rattle.calls.specs.declared.plan.Plan.{Plan as Planned}
-use Rattle.kernel.proofs.Entries.{Grows, pids, not_both, not_doomed, comes_to, enters_grown, goes, moves, one_more, processes, stay_as_many, stays, slot_changes, slot_views, caller_lives, free_at}
+use Rattle.kernel.proofs.Entries.{Grows, child_is_last, pids, not_both, not_doomed, comes_to, enters_grown, goes, moves, one_more, processes, stay_as_many, stays, slot_changes, slot_views, caller_lives, free_at}
 
 -- the touches that count
 abbrev counted_by : Option (BeginFlags × ℕ) → List Touch → List Touch
@@ -372,3 +375,78 @@ module _ (f : Fields) (pid : ℕ) (within : Option (BeginFlags × ℕ)) (call : 
     own = rest.parts pid ∙ not_doomed ds pid _ spared ∙ first.own ∙ ap (part_with within change (counted_touches m pid call)) (asks.holds.parts pid) ∙ part_is within asks.stands asks.supported;
     others = λ q differs. rest.parts q ∙ ap (doomed_by ds q) (first.others q differs);
   })
+
+-- edits that make a process, end one, or do neither
+pub birth_by : (k : Kernel) (pid : ℕ) (es : List Edit) → CanChange k pid None es → first_is makes_process es ≡ true → IsBirth k pid es
+birth_by k pid es kinds first = elim kinds [
+  | inl can ↦ absurd (false≢true (sym (makes_none es can) ∙ first))
+  | inr other ↦ elim other [
+    | inl is ↦ is
+    | inr is ↦ absurd (false≢true (sym (ap (first_is makes_process) is.1) ∙ first))
+  ]
+]
+
+pub exit_by : (k : Kernel) (pid : ℕ) (es : List Edit) → CanChange k pid None es → first_is ends_process es ≡ true → IsExit pid es
+exit_by k pid es kinds first = elim kinds [
+  | inl can ↦ absurd (false≢true (sym (ends_none es can) ∙ first))
+  | inr other ↦ elim other [
+    | inl is ↦ absurd (false≢true (sym (ap (first_is ends_process) is.2) ∙ first))
+    | inr is ↦ is
+  ]
+]
+
+pub objects_by : (k : Kernel) (pid : ℕ) (es : List Edit) → CanChange k pid None es → first_is makes_process es ≡ false → first_is ends_process es ≡ false → CanEdit es
+objects_by k pid es kinds unmade unended = elim kinds [
+  | inl can ↦ can
+  | inr other ↦ elim other [
+    | inl is ↦ absurd (false≢true (sym unmade ∙ ap (first_is makes_process) is.2))
+    | inr is ↦ absurd (false≢true (sym unended ∙ ap (first_is ends_process) is.1))
+  ]
+]
+
+-- they need no new numbers
+pub birth_is_new : (f : Fields) (pid : ℕ) (es : List Edit) → IsBirth f.stable.state pid es → AreNew f.transactions es []
+birth_is_new f pid es is = subst (λ xs. AreNew f.transactions xs []) (sym is.2) (record { count = refl; unmade = tt; different = tt; nowhere = tt })
+
+pub exit_is_new : (f : Fields) (pid : ℕ) (es : List Edit) → IsExit pid es → AreNew f.transactions es []
+exit_is_new f pid es is = subst (λ xs. AreNew f.transactions xs []) (sym is.1) (record { count = refl; unmade = tt; different = tt; nowhere = tt })
+
+pub birth_fits : (f : Fields) (pid : ℕ) (call : Call) → Calls f pid None call → (es : List Edit) → es ≡ edits (seen_by (moment f.log) pid) pid call → (is : IsBirth f.stable.state pid es)
+    → Fits [] f.stable.state (New_process (suc f.stable.state.made) pid is.1)
+birth_fits f pid call asks es same is = (subst (FitsAll [] f.stable.state) is.2 (plain_commits f pid call asks es same [] (birth_is_new f pid es is))).0
+
+pub exit_fits : (f : Fields) (pid : ℕ) (call : Call) → Calls f pid None call → (es : List Edit) → es ≡ edits (seen_by (moment f.log) pid) pid call → (is : IsExit pid es)
+    → Fits [] f.stable.state (End_process pid is.0)
+exit_fits f pid call asks es same is = (subst (FitsAll [] f.stable.state) is.1 (plain_commits f pid call asks es same [] (exit_is_new f pid es is))).0
+
+-- what a birth and an exit come to
+pub births_so : (f g : Fields) (pid : ℕ) (call : Call) → Calls f pid None call → (es : List Edit) → es ≡ edits (seen_by (moment f.log) pid) pid call → IsBirth f.stable.state pid es → Born f g pid
+    → Moves (with_born None pid es f) g pid (part_after es (part_at f pid)) (state_with None (effect [] es) f.stable.state) []
+births_so f g pid call asks es same is made =
+    let k = f.stable.state in
+    let e = New_process (suc k.made) pid is.1 in
+    let priority = (process_of k pid).priority in
+    let stand = (what_stands 0 f.log.priorities f.log.limit f.log.entries asks.holds.legal) in
+    let tidied : IsTidied k = subst IsTidied (sym asks.holds.state) (record { well = stand.committed.well; tidied = stand.committed.tidied }) in
+    let low = stand.committed.well.counted pid (caller_lives (moment f.log) pid None asks.stands) in
+    let each : (q : ℕ) → part_at g q ≡ part_at (with_child priority f) q = λ q. ap₂ (λ vs hs. record { slot = view_at vs q; held = contender_at hs q }) made.slots made.held in
+    subst (λ xs. Moves (with_born None pid xs f) g pid (part_after xs (part_at f pid)) (state_with None (effect [] xs) k) []) (sym is.2) (record {
+      log = made.log;
+      state = made.state is.1 ∙ sym (sweep_is_tidy_lem.none [] k e tidied (birth_fits f pid call asks es same is) refl);
+      slot_count = ap length made.slots;
+      held_count = ap length made.held;
+      own = each pid ∙ child_is_last f priority pid (omega (arith, low, asks.holds.slot_count)) (omega (arith, low, asks.holds.held_count));
+      others = λ q differs. each q;
+    })
+
+pub exits_so : (f g : Fields) (pid : ℕ) (es : List Edit) → IsExit pid es
+    → ((pipes : List ℕ) → Moves f g pid no_part (tidy (applied [] (End_process pid pipes) f.stable.state)) [])
+    → Moves (with_born None pid es f) g pid (part_after es (part_at f pid)) (state_with None (effect [] es) f.stable.state) []
+exits_so f g pid es is moves = subst (λ xs. Moves (with_born None pid xs f) g pid (part_after xs (part_at f pid)) (state_with None (effect [] xs) f.stable.state) []) (sym is.1) (moves is.0)
+
+-- and a change of what is committed
+pub objects_so : (f g : Fields) (pid : ℕ) (es : List Edit) (chosen : List ℕ) → first_is makes_process es ≡ false → first_is ends_process es ≡ false
+    → Moves f g pid (part_at f pid) (state_with None (effect chosen es) f.stable.state) []
+    → Moves (with_born None pid es f) g pid (part_after es (part_at f pid)) (state_with None (effect chosen es) f.stable.state) []
+objects_so f g pid es chosen unmade unended moves =
+    subst₂ (λ a b. Moves (if a then with_child (process_of f.stable.state pid).priority f else f) g pid (if b then no_part else part_at f pid) (state_with None (effect chosen es) f.stable.state) []) (sym unmade) (sym unended) moves

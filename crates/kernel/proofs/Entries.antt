@@ -248,6 +248,9 @@ at_other [] y none (suc q) differs = refl
 at_other (x ∷ xs) y none zero differs = refl
 at_other (x ∷ xs) y none (suc q) differs = at_other xs y none q (λ is. differs (ap suc is))
 
+pub child_is_last : (f : Fields) (priority q : ℕ) → q < length f.slots → q < length f.held → part_at (with_child priority f) q ≡ part_at f q
+child_is_last f priority q slot held = ap₂ (λ v h. record { slot = v; held = h }) (at_other f.slots idle_slot gone_slot q (λ is. absurd (omega (arith, is, slot)))) (at_other f.held _ nobody q (λ is. absurd (omega (arith, is, held))))
+
 -- an entry that makes a process
 pub one_more : (f : Fields) → IsConsistent f → (e : Entry) → Right f.log.limit (moment f.log) e → (child : ℕ) → child_in e.reply ≡ Some child → born e.reply ≡ 1
     → (priority : ℕ) → priority ≡ priority_of (moment f.log) e.pid → Grows (moment f.log) e f (with_child priority f)

@@ -13,8 +13,8 @@ ghost use Rattle.call_laws.specs.Fits.{Fits};
 ghost use Rattle.commit.specs.Edits.{AreNew};
 ghost use Rattle.commit.specs.Views.{idle_slot, view_at};
 ghost use Rattle.kernel.specs.States.{Born, Calls, Does, Dooms, IsConsistent, IsIn, Moves, Plans};
-ghost use Rattle.kernel.specs.States.{Unchanged, fields, no_part, part_after, part_at, part_with};
-ghost use Rattle.kernel.specs.States.{state_with, with_born};
+ghost use Rattle.kernel.specs.States.{Unchanged, ends_process, fields, first_is, makes_process};
+ghost use Rattle.kernel.specs.States.{no_part, part_after, part_at, part_with, state_with, with_born};
 ghost use Rattle.kernel.specs.Shown.{moment};
 
 use crate::state::{Live, State, add_entry, end_transaction, enter};
@@ -85,6 +85,20 @@ fn plan_for(s: &State, pid: Pid, within: &Within, call: &Call) -> Result<Plan, A
     Ok(plan)
 }
 
+/// Whether a call's edits make a process.
+fn makes_process(edits: &[Edit]) -> bool
+    ensures { result ≡ first_is makes_process edits.now }
+{
+    matches!(edits.first(), Some(Edit::NewProcess(_, _, _)))
+}
+
+/// Whether a call's edits end a process.
+fn ends_process(edits: &[Edit]) -> bool
+    ensures { result ≡ first_is ends_process edits.now }
+{
+    matches!(edits.first(), Some(Edit::EndProcess(_, _)))
+}
+
 /// A process in no transaction makes a child, which is in none. Refused memory makes no child.
 fn fork(s: &mut State, pid: Pid) -> Result<(), AllocError>
     requires holds { IsConsistent (fields s.old) }
@@ -137,17 +151,15 @@ fn change_at_once(
         (state_with None (effect chosen edits.entry.items) s.old.transactions.stable.state) []) }
     ensures err { OnErr result (Unchanged (fields s.old) (fields s.new)) }
 {
-    match edits.first() {
-        Some(Edit::NewProcess(_, _, _)) => {
-            fork(s, pid)?;
-            Ok(Nums::new(s.heap))
-        }
-        Some(Edit::EndProcess(_, _)) => {
-            exit(s, pid);
-            Ok(Nums::new(s.heap))
-        }
-        _ => s.transactions.apply(edits),
+    if makes_process(edits.as_slice()) {
+        fork(s, pid)?;
+        return Ok(Nums::new(s.heap));
     }
+    if ends_process(edits.as_slice()) {
+        exit(s, pid);
+        return Ok(Nums::new(s.heap));
+    }
+    s.transactions.apply(edits)
 }
 
 /// Makes a call's change, and answers its new numbers. Refused memory changes nothing.
