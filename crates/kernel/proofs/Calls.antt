@@ -289,25 +289,25 @@ module _ (f : Fields) (pid : ℕ) (within : Option (BeginFlags × ℕ)) (call : 
   right : Right f.log.limit m e
   right = right_for within asks.stands asks.supported
 
-  abbrev es : List Edit
-  es = edits (seen_by m pid) pid call
+  abbrev changed : List Edit
+  changed = edits (seen_by m pid) pid call
 
   -- a process in no transaction makes a child, ends, or does neither
   idle_fate : status m pid ≡ idle → Steadily (seen_by m pid) pid call ⊎ (Bears (seen_by m pid) pid call ⊎ Leaves (seen_by m pid) pid call)
   idle_fate is = fate (seen_by m pid) pid (subst WellFormed (sym (seen_idle m pid is)) (what_stands 0 f.log.priorities f.log.limit f.log.entries asks.holds.legal).committed.well) call
 
   -- the fields with the child that the call makes, if it makes one
-  grows_for : (w : Option (BeginFlags × ℕ)) → Stands (calling w) (status m pid) → (is_some w ≡ true → is_inside call ≡ true) → Grows m e f (with_born w pid es f)
+  grows_for : (w : Option (BeginFlags × ℕ)) → Stands (calling w) (status m pid) → (is_some w ≡ true → is_inside call ≡ true) → Grows m e f (with_born w pid changed f)
   grows_for (Some w) l supported = let steady = steadily (seen_by m pid) pid call (supported refl) in stay_as_many f asks.holds e right steady.childless steady.unborn
   grows_for None is supported = elim (idle_fate is) [
-    | inl s ↦ subst (Grows m e f) (ap (λ b. if b then with_child (process_of f.stable.state pid).priority f else f) (sym (makes_none es s.edits))) (stay_as_many f asks.holds e right s.childless s.unborn)
+    | inl s ↦ subst (Grows m e f) (ap (λ b. if b then with_child (process_of f.stable.state pid).priority f else f) (sym (makes_none changed s.edits))) (stay_as_many f asks.holds e right s.childless s.unborn)
     | inr other ↦ elim other [
       | inl b ↦ subst (λ xs. Grows m e f (with_born None pid xs f)) (sym b.edits) (one_more f asks.holds e right (suc (seen_by m pid).made) b.child b.one (process_of f.stable.state pid).priority (ap (λ k. (process_of k pid).priority) asks.holds.state))
       | inr l ↦ subst (λ xs. Grows m e f (with_born None pid xs f)) (sym l.edits) (stay_as_many f asks.holds e right l.childless l.unborn)
     ]
   ]
 
-  pub grows : Grows m e f (with_born within pid es f)
+  pub grows : Grows m e f (with_born within pid changed f)
   grows = grows_for within asks.stands asks.supported
 
   spared : is_in pid e.doomed ≡ false
@@ -317,14 +317,14 @@ module _ (f : Fields) (pid : ℕ) (within : Option (BeginFlags × ℕ)) (call : 
   ]
 
   -- those that are doomed have slots
-  pub are_in : (g : Fields) → length g.slots ≡ length (with_born within pid es f).slots → length g.held ≡ length (with_born within pid es f).held → AllByRecursion (λ d. IsIn g d.pid) ds
+  pub are_in : (g : Fields) → length g.slots ≡ length (with_born within pid changed f).slots → length g.held ≡ length (with_born within pid changed f).held → AllByRecursion (λ d. IsIn g d.pid) ds
   are_in g slots held = members (IsIn g) ds (λ q told.
       let low = (what_stands 0 f.log.priorities f.log.limit f.log.entries asks.holds.legal).phases.below q (ap holds_place ((moves f.log e asks.holds.legal right).dooms q told).before) in
       let made = (processes f.log e asks.holds.legal right).made in
       record { slot = omega (arith, low, made, slots, grows.slot_count); held = omega (arith, low, made, held, grows.held_count) })
 
   abbrev change : Effect
-  change = effect chosen es
+  change = effect chosen changed
 
   goes_in : (w : BeginFlags × ℕ) → Stands (Live w.0 w.1) (status m pid) → CallGoesIn m e call w.0 w.1 answer
   goes_in w l = calls_go_in 0 f.log.priorities f.log.limit f.log.entries e asks.holds.legal right call w.0 w.1 l.0 answer (phase_is m pid (live w.0 w.1 l.0) l.1 (λ h. absurd cc)) refl
@@ -342,7 +342,7 @@ module _ (f : Fields) (pid : ℕ) (within : Option (BeginFlags × ℕ)) (call : 
 
   part_is : (w : Option (BeginFlags × ℕ)) → Stands (calling w) (status m pid) → (is_some w ≡ true → is_inside call ≡ true) → part_with w change (counted_touches m pid call) (part_of m pid) ≡ part_of (next m e) pid
   part_is None is supported = elim (idle_fate is) [
-    | inl s ↦ ap (λ b. if b then no_part else part_of m pid) (ends_none es s.edits)
+    | inl s ↦ ap (λ b. if b then no_part else part_of m pid) (ends_none changed s.edits)
         ∙ sym (stays f.log e asks.holds.legal right pid (not_both (child_in e.reply) pid s.childless, inl s.stays) (idle_phase is))
     | inr other ↦ elim other [
       | inl b ↦ ap (λ xs. part_after xs (part_of m pid)) b.edits
@@ -366,8 +366,8 @@ module _ (f : Fields) (pid : ℕ) (within : Option (BeginFlags × ℕ)) (call : 
       ∙ sym (plain_calls_run m e call answer is refl (executed_again (seen_by m pid) pid call))
   state_is (Some w) l = asks.holds.state ∙ sym (goes_in w l).committed
 
-  pub takes : (h g : Fields) → Moves (with_born within pid es f) h pid (part_with within change (counted_touches m pid call) (part_at f pid)) (state_with within change f.stable.state) [] → Dooms h g ds → CanEnter g e
-  takes h g first rest = enters_grown f (with_born within pid es f) g asks.holds e right (said answer) grows ds refl wins.2 (record {
+  pub takes : (h g : Fields) → Moves (with_born within pid changed f) h pid (part_with within change (counted_touches m pid call) (part_at f pid)) (state_with within change f.stable.state) [] → Dooms h g ds → CanEnter g e
+  takes h g first rest = enters_grown f (with_born within pid changed f) g asks.holds e right (said answer) grows ds refl wins.2 (record {
     log = rest.log ∙ first.log;
     state = rest.state ∙ first.state ∙ state_is within asks.stands;
     slot_count = rest.slot_count ∙ first.slot_count;

@@ -16,6 +16,11 @@ use Rattle.history_laws.proofs.Laws.{views_may_be_loose}
 use Rattle.freeing_laws.specs.Sweep.{AllFit}
 use Rattle.shadow.proofs.Laws.{calls_can_be_committed_lem}
 use Rattle.history.specs.Log.{Log}
+use Rattle.model.specs.Plan.{ENOTSUP}
+use Rattle.model.specs.Calls.{Call}
+use Rattle.model.specs.Entries.{Refuses}
+use Rattle.model.specs.Legal.{unsupported}
+use Rattle.kernel.proofs.Words.{Executed, Inside, is_inside}
 use Rattle.commit.specs.Standings.{IsStandingOf}
 use Rattle.commit.specs.declared.slot.Standing.{Standing}
 use Rattle.commit.specs.declared.slot.Standing.TheVariants.{Gone, Idle, Live, Doomed as Is_doomed}
@@ -422,6 +427,21 @@ settles s flags age false anew ends = ends
 
 pub none_else : (pid : ℕ) (op : Op) (reply : Reply) → Alone (plain pid op reply)
 none_else pid op reply = record { chosen = refl; doomed = refl }
+
+-- a call that transactions do not support, of a live one
+pub denied : (f : Fields) (pid : ℕ) (call : Call) (reply : Reply) (s : Status) (flags : BeginFlags) → status (moment f.log) pid ≡ s → has_place f.log pid (Do call) ≡ true → is_inside call ≡ false
+    → reply ≡ unsupported flags → (age : ℕ) (calls : List Executed) → s ≡ live flags age calls → RightAt f.log.limit (moment f.log) (plain pid (Do call) reply) s (Do call)
+denied f pid call reply s flags is place outside says age calls lives =
+    let free = subst (λ x. Free f.log.limit (moment f.log) (needed x (Do call))) lives (free_at f pid (Do call) s is place) in
+    subst (λ x. RightAt f.log.limit (moment f.log) (plain pid (Do call) reply) x (Do call)) (sym lives)
+    (subst (λ b. Inside f.log.limit (moment f.log) (plain pid (Do call) reply) (live flags age calls) flags call b) (sym outside) (says, none_else pid (Do call) reply, free))
+
+-- it is not executed
+pub not_executed : (call : Call) (n : ℕ) (s : Status) → own_next n s (Do call) (Refuses ENOTSUP) [] ≡ s
+not_executed call n (live flags age calls) = refl
+not_executed call n gone = refl
+not_executed call n idle = refl
+not_executed call n (doomed cause flags age) = refl
 
 -- an entry that dooms nobody, of a process with this status
 module _ (f : Fields) (holds : IsConsistent f) (pid : ℕ) (op : Op) (reply : Reply) (s : Status) (is : status (moment f.log) pid ≡ s)
