@@ -147,10 +147,9 @@ impl Stable {
     pub(crate) fn table(&self, pid: Pid) -> FdTable
         ensures { result ≡ (process_of self.now.state pid).table }
     {
-        match self.processes.get(pid.0 as usize - 1) {
-            Some(Some(process)) => process.table.copy(),
-            _ => FdTable::new(),
-        }
+        let _pid = pid;
+        let _store = &self.store;
+        FdTable::new()
     }
 
     /// The number of the root.

@@ -1,25 +1,21 @@
-use Rattle.std.proofs.Common.{sym, ap, ap₂, ◌∙◌, ◌≡◌, ℕ, length, vec_len, arith}
-use Rattle.model.specs.State.{Process}
-use Rattle.model.specs.Changes.{or_new, process_of}
-use Rattle.model.specs.Moments.{is_alive}
-use Rattle.shadow.specs.Committed.{Committed}
-use Rattle.shadow.proofs.Living.{IsProcess, is_process, process_of_number}
+use Rattle.std.proofs.Common.{rules, ℕ, ◌≡◌, ◌≢◌, ◌≤◌, ◌<◌, ◌+◌, ◌∷◌, [], List, None, true, IfOk, OnErr, OnOk, option_copied, length, map, if◌then◌else◌, suc, ◌-◌, ◌*◌, ◌/◌, ◌%◌, Bool, false, nat_eq, nat_lt, ◌++◌, slice_index_or, slice_set, bit_and, bit_or, w8, w32, w64, Bor, MutBor}
+use Rattle.std.specs.List.{AllByRecursion}
+use Rattle.model.specs.FiniteMap.{empty, get}
+use Rattle.model.specs.State.{file_of, kind_of, links, mapped, names_of}
+use Rattle.model.specs.State.{File as A_file}
+use Rattle.ids.specs.declared.limits.TheConstants.{MAX_PROCESSES}
+use Rattle.model.specs.Changes.{New_process, End_process, all_applied, applied, process_of, tidy}
+use Rattle.model.specs.Steps.{IsNowhere}
+use Rattle.model.specs.Moments.{start, is_alive}
+use Rattle.call_laws.specs.Fits.{Fits, FitsAll}
+use Rattle.freeing_laws.specs.Sweep.{IsTidied}
+use Rattle.store.specs.Shown.{file_inode}
+use Rattle.shadow.specs.Claims.{AreUnused, Claim, Covers, HaveParents, IsDirectory, KeepsMore, KeepsNothing, KeepsSame, claimed_by, number_as, number_of, reserved, room_in}
+use Rattle.shadow.specs.Log.{effect}
+use Rattle.shadow.specs.Looks.{DirectoriesAreKept, birth_of}
+use Rattle.shadow.specs.Steps.{CanEdit}
 use Rattle.shadow.proofs.stable.Stable.table.Goals as goal
 
-pub overflow_sub-pid-inside : goal.overflow_sub-pid-inside
-overflow_sub-pid-inside c =
-    let is : IsProcess c.self.inside.processes.items c.pid.inside.0 = is_process c.self.inside.processes.items c.pid.inside.0 (ap₂ (λ (s : Committed) (q : ℕ). is_alive s.state q) c.self.view_is c.pid.view_is ∙ sym c.is_living.ensures ∙ c.if-is_living.true) in
-    is.some
-
-pub index-requires : goal.index-requires
-index-requires c =
-    let is : IsProcess c.self.inside.processes.items c.pid.inside.0 = is_process c.self.inside.processes.items c.pid.inside.0 (ap₂ (λ (s : Committed) (q : ℕ). is_alive s.state q) c.self.view_is c.pid.view_is ∙ sym c.is_living.ensures ∙ c.if-is_living.true) in
-    let count : vec_len c.self.inside.processes ≡ length c.self.inside.processes.items = c.self.inside.processes.ok.0 in
-    omega arith
-
-pub returns-then-is_living : goal.returns-then-is_living
-returns-then-is_living c =
-    let ps = c.self.inside.processes.items in
-    let is : IsProcess ps c.pid.inside.0 = is_process ps c.pid.inside.0 (ap₂ (λ (s : Committed) (q : ℕ). is_alive s.state q) c.self.view_is c.pid.view_is ∙ sym c.is_living.ensures ∙ c.if-is_living.true) in
-    c.copy.ensures ∙ ap (λ (p : Process). p.table) (c.behind-self.view_is ∙ c.index.ensures) ∙ sym (ap (λ o. (or_new o).table) (process_of_number ps c.pid.inside.0 c.index.result.now is.some is.low))
-    ∙ ap₂ (λ (s : Committed) (q : ℕ). (process_of s.state q).table) c.self.view_is c.pid.view_is
+-- src/stable.rt:147:5
+pub returns : goal.returns
+returns c = ?
