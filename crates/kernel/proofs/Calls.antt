@@ -376,7 +376,7 @@ module _ (f : Fields) (pid : ℕ) (within : Option (BeginFlags × ℕ)) (call : 
     others = λ q differs. rest.parts q ∙ ap (doomed_by ds q) (first.others q differs);
   })
 
--- edits that make a process, end one, or do neither
+-- edits that make a process, or end one
 pub birth_by : (k : Kernel) (pid : ℕ) (es : List Edit) → CanChange k pid None es → first_is makes_process es ≡ true → IsBirth k pid es
 birth_by k pid es kinds first = elim kinds [
   | inl can ↦ absurd (false≢true (sym (makes_none es can) ∙ first))
@@ -395,15 +395,6 @@ exit_by k pid es kinds first = elim kinds [
   ]
 ]
 
-pub objects_by : (k : Kernel) (pid : ℕ) (es : List Edit) → CanChange k pid None es → first_is makes_process es ≡ false → first_is ends_process es ≡ false → CanEdit es
-objects_by k pid es kinds unmade unended = elim kinds [
-  | inl can ↦ can
-  | inr other ↦ elim other [
-    | inl is ↦ absurd (false≢true (sym unmade ∙ ap (first_is makes_process) is.2))
-    | inr is ↦ absurd (false≢true (sym unended ∙ ap (first_is ends_process) is.1))
-  ]
-]
-
 -- they need no new numbers
 pub birth_is_new : (f : Fields) (pid : ℕ) (es : List Edit) → IsBirth f.stable.state pid es → AreNew f.transactions es []
 birth_is_new f pid es is = subst (λ xs. AreNew f.transactions xs []) (sym is.2) (record { count = refl; unmade = tt; different = tt; nowhere = tt })
@@ -419,7 +410,7 @@ pub exit_fits : (f : Fields) (pid : ℕ) (call : Call) → Calls f pid None call
     → Fits [] f.stable.state (End_process pid is.0)
 exit_fits f pid call asks es same is = (subst (FitsAll [] f.stable.state) is.1 (plain_commits f pid call asks es same [] (exit_is_new f pid es is))).0
 
--- what a birth and an exit come to
+-- what a birth comes to
 pub births_so : (f g : Fields) (pid : ℕ) (call : Call) → Calls f pid None call → (es : List Edit) → es ≡ edits (seen_by (moment f.log) pid) pid call → IsBirth f.stable.state pid es → Born f g pid
     → Moves (with_born None pid es f) g pid (part_after es (part_at f pid)) (state_with None (effect [] es) f.stable.state) []
 births_so f g pid call asks es same is made =
@@ -438,15 +429,3 @@ births_so f g pid call asks es same is made =
       own = each pid ∙ child_is_last f priority pid (omega (arith, low, asks.holds.slot_count)) (omega (arith, low, asks.holds.held_count));
       others = λ q differs. each q;
     })
-
-pub exits_so : (f g : Fields) (pid : ℕ) (es : List Edit) → IsExit pid es
-    → ((pipes : List ℕ) → Moves f g pid no_part (tidy (applied [] (End_process pid pipes) f.stable.state)) [])
-    → Moves (with_born None pid es f) g pid (part_after es (part_at f pid)) (state_with None (effect [] es) f.stable.state) []
-exits_so f g pid es is moves = subst (λ xs. Moves (with_born None pid xs f) g pid (part_after xs (part_at f pid)) (state_with None (effect [] xs) f.stable.state) []) (sym is.1) (moves is.0)
-
--- and a change of what is committed
-pub objects_so : (f g : Fields) (pid : ℕ) (es : List Edit) (chosen : List ℕ) → first_is makes_process es ≡ false → first_is ends_process es ≡ false
-    → Moves f g pid (part_at f pid) (state_with None (effect chosen es) f.stable.state) []
-    → Moves (with_born None pid es f) g pid (part_after es (part_at f pid)) (state_with None (effect chosen es) f.stable.state) []
-objects_so f g pid es chosen unmade unended moves =
-    subst₂ (λ a b. Moves (if a then with_child (process_of f.stable.state pid).priority f else f) g pid (if b then no_part else part_at f pid) (state_with None (effect chosen es) f.stable.state) []) (sym unmade) (sym unended) moves

@@ -79,7 +79,7 @@ dooms_more f g h d ds one rest = record {
 abbrev pub born_part : ℕ → Part
 born_part priority = record { slot = idle_slot; held = record nobody { priority = priority } }
 
-no_priority : (o : Option Process) → is_some o ≡ false → (or_new o).priority ≡ 0
+pub no_priority : (o : Option Process) → is_some o ≡ false → (or_new o).priority ≡ 0
 no_priority None h = refl
 no_priority (Some process) h = absurd (false≢true (sym h))
 

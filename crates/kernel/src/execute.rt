@@ -6,13 +6,16 @@ ghost use Rattle.model.specs.Entries as entries;
 ghost use Rattle.model.specs.Changes.{End_process, New_process, applied, tidy};
 ghost use Rattle.model.specs.Moments.{counted_touches, is_alive, seen_by};
 ghost use Rattle.model.specs.Replies.{answered};
+ghost use Rattle.model.specs.Steps as steps;
 ghost use Rattle.model.specs.Steps.{reply};
 ghost use Rattle.contention.specs.Verdicts.{IsVerdict};
+ghost use Rattle.shadow.specs.Claims.{HaveParents};
 ghost use Rattle.shadow.specs.Log.{effect};
 ghost use Rattle.call_laws.specs.Fits.{Fits};
 ghost use Rattle.commit.specs.Edits.{AreNew};
 ghost use Rattle.commit.specs.Views.{idle_slot, view_at};
-ghost use Rattle.kernel.specs.States.{Born, Calls, Does, Dooms, IsConsistent, IsIn, Moves, Plans};
+ghost use Rattle.kernel.specs.States.{Born, Calls, CanChange, Does, Dooms, IsConsistent, IsIn};
+ghost use Rattle.kernel.specs.States.{Moves, Plans};
 ghost use Rattle.kernel.specs.States.{Unchanged, ends_process, fields, first_is, makes_process};
 ghost use Rattle.kernel.specs.States.{no_part, part_after, part_at, part_with, state_with, with_born};
 ghost use Rattle.kernel.specs.Shown.{moment};
@@ -139,11 +142,12 @@ fn change_at_once(
     s: &mut State,
     pid: Pid,
     call: &Call,
-    touches: &[Touch],
     edits: Vec<Edit, Heap>,
 ) -> Result<Nums, AllocError>
     requires asks { Calls (fields s.old) pid None call.now }
-    requires plans { Plans (fields s.old) pid None call.now touches.now edits.items }
+    requires edits { edits.items ≡ steps.edits (seen_by (moment s.old.history) pid) pid call.now }
+    requires kinds { CanChange s.old.transactions.stable.state pid None edits.items }
+    requires parents { HaveParents s.old.transactions.stable.reserves edits.items }
     ensures new { IfOk result (AreNew s.old.transactions edits.entry.items) }
     ensures moves { IfOk result (λ chosen.
         Moves (with_born None pid edits.entry.items (fields s.old)) (fields s.new) pid
@@ -183,7 +187,7 @@ fn change(
     ensures err { OnErr result (Unchanged (fields s.old) (fields s.new)) }
 {
     if within.is_none() {
-        return change_at_once(s, pid, call, touches.as_slice(), edits);
+        return change_at_once(s, pid, call, edits);
     }
     let count = s.contenders.count(pid);
     s.contenders.add(pid, touches)?;

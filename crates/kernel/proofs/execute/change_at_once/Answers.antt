@@ -8,8 +8,8 @@ fork-requires-clause-fits c =
     let f = fields c.args.s.now in
     let es = c.args.edits.items in
     let first : first_is makes_process es ≡ true = sym (c.makes_process.ensures ∙ ap (first_is makes_process) c.as_slice.ensures.value) ∙ c.if-makes_process.true in
-    let is = birth_by f.stable.state c.args.pid es c.requires.plans.kinds first in
-    (is.1, birth_fits f c.args.pid c.args.call.now c.requires.asks es c.requires.plans.edits is)
+    let is = birth_by f.stable.state c.args.pid es c.requires.kinds first in
+    (is.1, birth_fits f c.args.pid c.args.call.now c.requires.asks es c.requires.edits is)
 
 pub returns-then-makes_process-clause-moves : goal.returns-then-makes_process-clause-moves
 returns-then-makes_process-clause-moves c =
@@ -18,17 +18,17 @@ returns-then-makes_process-clause-moves c =
     let pid = c.args.pid in
     let es = c.args.edits.items in
     let first : first_is makes_process es ≡ true = sym (c.makes_process.ensures ∙ ap (first_is makes_process) c.as_slice.ensures.value) ∙ c.if-makes_process.true in
-    let is = birth_by f.stable.state pid es c.requires.plans.kinds first in
+    let is = birth_by f.stable.state pid es c.requires.kinds first in
     subst (λ chosen. Moves (with_born None pid es f) g pid (part_after es (part_at f pid)) (state_with None (effect chosen es) f.stable.state) []) (sym c.new.ensures)
-    (births_so f g pid c.args.call.now c.requires.asks es c.requires.plans.edits is c.in_ok-fork.ensures.made)
+    (births_so f g pid c.args.call.now c.requires.asks es c.requires.edits is c.in_ok-fork.ensures.made)
 
 pub exit-requires-clause-fits : goal.exit-requires-clause-fits
 exit-requires-clause-fits c =
     let f = fields c.args.s.now in
     let es = c.args.edits.items in
     let first : first_is ends_process es ≡ true = sym (c.ends_process.ensures ∙ ap (first_is ends_process) c.as_slice-2.ensures.value) ∙ c.if-ends_process.true in
-    let is = exit_by f.stable.state c.args.pid es c.requires.plans.kinds first in
-    (is.0, exit_fits f c.args.pid c.args.call.now c.requires.asks es c.requires.plans.edits is)
+    let is = exit_by f.stable.state c.args.pid es c.requires.kinds first in
+    (is.0, exit_fits f c.args.pid c.args.call.now c.requires.asks es c.requires.edits is)
 
 pub apply-requires-clause-fits : goal.apply-requires-clause-fits
-apply-requires-clause-fits c = plain_commits (fields c.args.s.now) c.args.pid c.args.call.now c.requires.asks c.args.edits.items c.requires.plans.edits
+apply-requires-clause-fits c = plain_commits (fields c.args.s.now) c.args.pid c.args.call.now c.requires.asks c.args.edits.items c.requires.edits
