@@ -376,6 +376,10 @@ module _ (f : Fields) (pid : ℕ) (within : Option (BeginFlags × ℕ)) (call : 
     others = λ q differs. rest.parts q ∙ ap (doomed_by ds q) (first.others q differs);
   })
 
+pub at_once : (k : Kernel) (pid : ℕ) (w : Option (BeginFlags × ℕ)) (es : List Edit) → is_some w ≡ false → CanChange k pid w es → CanChange k pid None es
+at_once k pid None es none kinds = kinds
+at_once k pid (Some within) es none kinds = absurd (false≢true (sym none))
+
 -- edits that make a process, or end one
 pub birth_by : (k : Kernel) (pid : ℕ) (es : List Edit) → CanChange k pid None es → first_is makes_process es ≡ true → IsBirth k pid es
 birth_by k pid es kinds first = elim kinds [
