@@ -3,7 +3,6 @@ use Rattle.std.proofs.Common.{◌≡◌, ℕ, Option, Some, None, refl, sym, ap,
 use Rattle.std.specs.Option.{option_and_then}
 use Rattle.std.specs.Prelude.{false, true}
 use Rattle.model.specs.FiniteMap.{get}
-use Rattle.model.specs.State.{Description}
 use Rattle.model.specs.Changes.{holders}
 use Rattle.freeing_laws.proofs.Openings.{openings_change_lem}
 use Rattle.store.specs.Numbers.{Numbers, held, object_at}

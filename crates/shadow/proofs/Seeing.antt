@@ -1,23 +1,15 @@
 -- What a look at a state with changes on top tells.
-use Rattle.std.proofs.Common.{◌≡◌, ℕ, suc, ◌+◌, ◌<◌, Bool, true, List, [], ◌∷◌, length, map, take, drop, Option, Some, None, Result, Ok, Err, IfOk, refl, sym, ap, ◌∙◌, ◌==◌, ne_eqb, arith, ◌++◌, get_or, ap₂, ◌^◌, ◌-◌, length-drop, length-take}
+use Rattle.std.proofs.Common.{◌≡◌, ℕ, suc, ◌+◌, ◌<◌, Bool, true, List, [], ◌∷◌, length, map, take, drop, Option, Result, Ok, Err, IfOk, refl, sym, ap, ◌∙◌, ◌==◌, ne_eqb, arith, ◌++◌, get_or, ap₂, ◌^◌, ◌-◌, length-drop, length-take}
 use Rattle.std.specs.Prelude.{min}
 use Rattle.std.proofs.lemmas.List.{map_more}
 use Rattle.model.specs.FiniteMap.{FinMap, entries, get, keys, len, empty, len-entries, entries-empty}
-use Rattle.model.specs.State.{A_pipe, Name, name_cmp, Kernel, Inode, kind, kind_of, mapped, names_of_inode, pipe_of, pipe_of_inode}
+use Rattle.model.specs.State.{Name, name_cmp, Kernel, Inode, names_of_inode}
 use Rattle.model.specs.Paths.{is_empty}
 use Rattle.model.specs.Calls.{Slot, slot_of}
 use Rattle.dirlist.specs.Patches.{IsLaid, Notes, or_before}
 use Rattle.store.specs.Laid.{laid}
-use Rattle.store.specs.Numbers.{Numbers}
-use Rattle.store.specs.Shown.{inode_of, shown_at}
-use Rattle.store.specs.declared.Place.{Place}
-use Rattle.store.specs.declared.Object.{Object}
-use Rattle.store.specs.declared.Stage.{Stage}
-use Rattle.store.specs.declared.Object.TheVariants.{Directory as Kept_directory, File as Kept_file, Description as Kept_description, Nothing}
-use Rattle.store.specs.declared.Stage.TheVariants.{Coming, Held, Lost}
-use Rattle.store.proofs.Laws.{get-inodes_by, laid_is}
+use Rattle.store.proofs.Laws.{laid_is}
 use Rattle.shadow.specs.Patches.{names_before, patched}
-use Rattle.shadow.specs.Stored.{Processes, state_of}
 use Rattle.shadow.specs.declared.change.Contents.{Contents}
 use Rattle.shadow.specs.declared.change.Contents.TheVariants.{Names}
 

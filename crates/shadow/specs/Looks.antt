@@ -1,5 +1,5 @@
 -- What is told of looks.
-use Rattle.std.specs.Prelude.{◌≡◌, ◌≢◌, ℕ, ◌+◌, List, [], Option, Some, None}
+use Rattle.std.specs.Prelude.{◌≡◌, ℕ, ◌+◌, List, [], Option, Some, None}
 use Rattle.model.specs.FiniteMap.{get}
 use Rattle.model.specs.State.{A_directory, Kernel, kind_of, links}
 use Rattle.model.specs.Changes.{process_of}
