@@ -1,5 +1,5 @@
 -- What is said of the two descriptions of a pipe, where descriptions stay, come, move and go.
-use Rattle.std.proofs.Common.{◌≡◌, ◌≢◌, ◌⊎◌, ℕ, ◌==◌, ◌&&◌, Bool, true, false, Option, Some, None, nat_cmp, refl, sym, ap, subst, ◌∙◌, eqb-true, eq-eqb, inl, inr}
+use Rattle.std.proofs.Common.{◌≡◌, ◌⊎◌, ℕ, ◌==◌, ◌&&◌, Bool, true, false, Option, Some, None, nat_cmp, refl, sym, ap, subst, ◌∙◌, eqb-true, eq-eqb, inl, inr}
 use Rattle.std.specs.Option.{option_and_then, option_map}
 use Rattle.std.proofs.lemmas.Bool.{cases_eq}
 use Rattle.model.specs.FiniteMap.{FinMap, get, insert, remove}
@@ -9,9 +9,8 @@ use Rattle.model.proofs.Laws.{removed_other, removed_same}
 use Rattle.call_laws.proofs.Laws.{not_none, true_is_false}
 use Rattle.freeing_laws.specs.Pipes.{ArePair, reads, writes}
 use Rattle.freeing_laws.proofs.Pipes.{pair_inserted}
-use Rattle.dirlist.specs.Listing.{Listing}
 use Rattle.store.specs.Numbers.{Numbers, held, if_held, object_at}
-use Rattle.store.specs.Places.{altered, changed_file, changed_object, changed_opened, changed_pipe, with_file, with_listing, with_opened, with_pipe}
+use Rattle.store.specs.Places.{altered, changed_file, changed_opened, changed_pipe, with_file, with_opened, with_pipe}
 use Rattle.store.specs.Shown.{inode_of, with_offset, with_offset_by}
 use Rattle.store.specs.declared.OpenFile.{OpenFile}
 use Rattle.store.specs.declared.Opened.{Opened}

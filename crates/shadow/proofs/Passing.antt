@@ -4,8 +4,8 @@ use Rattle.std.specs.Option.{option_and_then}
 use Rattle.std.proofs.lemmas.List.{append-nil}
 use Rattle.ids.specs.declared.limits.TheConstants.{PIPE_CAPACITY}
 use Rattle.model.specs.FiniteMap.{get, insert}
-use Rattle.model.specs.State.{A_pipe, Kernel, Pipe, kind, kind_of, mapped, pipe_of, pipe_of_inode}
-use Rattle.model.specs.Changes.{Append, Edit, Take, applied, set_inode, tidy}
+use Rattle.model.specs.State.{A_pipe, Kernel, Pipe, kind, mapped, pipe_of, pipe_of_inode}
+use Rattle.model.specs.Changes.{Append, Edit, Take, applied, set_inode}
 use Rattle.call_laws.specs.Fits.{Fits}
 use Rattle.freeing_laws.specs.Sweep.{loses}
 use Rattle.freeing_laws.proofs.Openings.{openings_change_lem}
@@ -13,7 +13,6 @@ use Rattle.store.specs.Numbers.{Numbers, held, if_held, object_at}
 use Rattle.store.specs.Places.{IsRoomy, altered, changed_pipe, passed, pipe_of as stored_pipe, with_pipe}
 use Rattle.store.specs.Shown.{descriptions, inode_of, inodes}
 use Rattle.store.specs.declared.OpenPipe.{OpenPipe}
-use Rattle.store.specs.declared.Place.{Place}
 use Rattle.store.specs.declared.Stage.{Stage}
 use Rattle.store.specs.declared.Stage.TheVariants.{Coming, Held, Lost}
 use Rattle.store.specs.declared.Object.{Object}

@@ -5,7 +5,7 @@ use Rattle.std.proofs.Common.{Option, Some, None, is_some, IfSome, refl, sym, ap
 use Rattle.std.specs.List.{AllByRecursion}
 use Rattle.std.specs.Option.{option_and_then, option_map}
 use Rattle.model.specs.FiniteMap.{entries, get}
-use Rattle.model.specs.State.{A_directory, A_file, A_pipe, pipe_of, pipe_of_inode, File, Inode, Kernel, Kind, Name, Process}
+use Rattle.model.specs.State.{A_directory, A_file, A_pipe, pipe_of_inode, File, Inode, Kernel, Kind, Name, Process}
 use Rattle.model.specs.State.{file_of_inode, file_of, kind, mapped, names_of, names_of_inode}
 use Rattle.model.specs.Effects.{Effect, all_done}
 use Rattle.model.proofs.Laws.{all_entries}

@@ -1,5 +1,5 @@
 use Rattle.std.proofs.Common.{◌≡◌, ◌∙◌, ap, is_some, sym, subst}
-use Rattle.model.specs.FiniteMap.{entries, get}
+use Rattle.model.specs.FiniteMap.{get}
 use Rattle.store.specs.Laid.{laid_listing}
 use Rattle.store.specs.Places.{altered, with_listing}
 use Rattle.store.proofs.Laws.{MayBeNamed}

@@ -1,4 +1,4 @@
-use Rattle.std.proofs.Common.{◌≤◌, ◌-◌, ◌+◌, ℕ, [], arith, length, sym, subst, refl}
+use Rattle.std.proofs.Common.{◌≤◌, ◌+◌, [], arith, length, sym, subst, refl}
 use Rattle.ids.specs.declared.limits.TheConstants.{PIPE_CAPACITY}
 use Rattle.model.specs.FiniteMap.{get}
 use Rattle.model.specs.State.{pipe_of_inode}
