@@ -38,7 +38,7 @@ and_false true = refl
 and_false false = refl
 
 -- numbers that are of no directory
-others : List ℕ → List (ℕ × Bool)
+abbrev others : List ℕ → List (ℕ × Bool)
 others [] = []
 others (m ∷ ms) = (m, false) ∷ others ms
 
