@@ -24,7 +24,7 @@ use Rattle.shadow.specs.declared.opening.Opening.{Opening}
 use Rattle.shadow.specs.declared.opening.Opening.TheVariants.{Kept, New, Moved}
 use Rattle.shadow.specs.Agrees.{IsOver, IsOverDescription}
 use Rattle.shadow.specs.Patches.{AllReach, new_ends, of_pipe, Form, no_change, of_names, of_bytes, Patches, added_by, form_of, is_new, kept_at, net_at, numbers_in, opening_at, patched, reopened, reslotted, reslotted_by, slots_in}
-use Rattle.shadow.specs.Steps.{CanPass, IsPassable, MakesPipe, bytes_appended, bytes_taken, piped, Applies, AreApart, IsOne, TakesAll, TakesIn, blocks_by, bytes_cut, bytes_written, description_after, filed, form_after, grown_to, growth, inode_after, listed, made_after, made_at, name_noted, named_at, new_form, new_in, new_inode, numbers_kept, opened_in, parents_in, process_after}
+use Rattle.shadow.specs.Steps.{CanPass, MakesPipe, bytes_appended, bytes_taken, piped, Applies, AreApart, IsOne, TakesAll, TakesIn, blocks_by, bytes_cut, bytes_written, description_after, filed, form_after, grown_to, growth, inode_after, listed, made_after, made_at, name_noted, named_at, new_form, new_in, new_inode, numbers_kept, opened_in, parents_in, process_after}
 use Rattle.shadow.proofs.Applied.{applies, by_one}
 
 -- the same as `Agrees` but for the claims, of a change of states that fits some, gives inodes so many

@@ -1,14 +1,13 @@
 -- A new pipe of a number that was reserved, with its two descriptions and their slots.
-use Rattle.std.proofs.Common.{◌≡◌, ◌≢◌, ℕ, ◌+◌, ◌<◌, ◌≤◌, ◌==◌, Bool, true, false, cond, List, [], ◌∷◌, Option, Some, None, refl, sym, ap, ap₂, subst, ◌∙◌, arith, inl, inr, ◌⊎◌, eq-eqb, ne_eqb}
+use Rattle.std.proofs.Common.{◌≡◌, ◌≢◌, ℕ, ◌+◌, ◌≤◌, ◌==◌, true, false, cond, List, [], ◌∷◌, Option, Some, None, refl, sym, ap, subst, ◌∙◌, arith, inl, inr, eq-eqb, ne_eqb}
 use Rattle.std.specs.Prelude.{⊤}
 use Rattle.std.specs.Cmp.{nat_cmp_total}
 use Rattle.std.specs.Option.{option_and_then}
 use Rattle.std.proofs.lemmas.Bool.{cases_eq}
 use Rattle.std.proofs.lemmas.List.Sums.{sum_by-cons}
-use Rattle.ids.specs.declared.limits.TheConstants.{DESCRIPTORS}
-use Rattle.model.specs.FiniteMap.{FinMap, get, insert, nat_cmp-IsAntisymmetric, same_map}
+use Rattle.model.specs.FiniteMap.{get, insert, nat_cmp-IsAntisymmetric, same_map}
 use Rattle.model.specs.State.{Description, Kernel, Pipe, kind_of, mapped}
-use Rattle.model.specs.Changes.{Edit, Make_pipe, applied, at_start, holders, open_at, openings, or_new, process_of, set_description, set_inode, set_process, tidy, to_read, to_write, with_slot}
+use Rattle.model.specs.Changes.{Edit, Make_pipe, applied, at_start, holders, open_at, or_new, process_of, set_description, set_inode, set_process, tidy, to_read, to_write, with_slot}
 use Rattle.model.proofs.Laws.{get_other, get_same}
 use Rattle.call_laws.specs.Fits.{Fits}
 use Rattle.call_laws.proofs.Laws.{some_same}
@@ -28,14 +27,13 @@ use Rattle.shadow.specs.declared.opening.Opening.TheVariants.{New}
 use Rattle.shadow.specs.Claims.{Claim, New_directory, Number, Room, claimed_by_one, number_of, reserved}
 use Rattle.shadow.specs.Committed.{Committed}
 use Rattle.shadow.specs.Laid.{Frees, IsReopened, IsSlotted, kept_in, reserves_of, settled}
-use Rattle.shadow.specs.Openings.{slot_noted}
 use Rattle.shadow.specs.Stored.{AreCounted, IsEndHere, IsStaged, Processes, Sound, committed_of, numbered, reserve_in, state_of, stored}
 use Rattle.shadow.proofs.Edited.{kept_of, state_is, tidy_after}
 use Rattle.shadow.proofs.Freed.{IsMade, freed_sound, freed_state, made_holds}
 use Rattle.shadow.proofs.Kept_on.{kept_by, kept_is}
 use Rattle.shadow.proofs.Making.{other_to_come, place_staged}
 use Rattle.shadow.proofs.Reopening.{reserve_at}
-use Rattle.shadow.proofs.SlotInState.{frees_nothing, kept_met, met_by, noted_is, slotted_keeps, slotted_state, sound_low}
+use Rattle.shadow.proofs.SlotInState.{frees_nothing, kept_met, met_by, slotted_state, sound_low}
 
 -- what is claimed of a number by three numbers
 three : ℕ → ℕ → ℕ → ℕ → ℕ

@@ -1,12 +1,12 @@
-use Rattle.std.proofs.Common.{◌≡◌, ◌∙◌, ℕ, List, [], ◌∷◌, ap, sym, refl, subst}
+use Rattle.std.proofs.Common.{◌∙◌, ℕ, [], ◌∷◌, sym, subst}
 use Rattle.model.specs.State.{Description}
 use Rattle.model.specs.Changes.{Make_pipe, at_start, to_read, to_write}
 use Rattle.shadow.specs.Notes.{At, IsPiped, SamePatches}
 use Rattle.shadow.specs.Openings.{AtOpening, IsOpened}
-use Rattle.shadow.specs.Patches.{Patches, net_at}
+use Rattle.shadow.specs.Patches.{Patches}
 use Rattle.shadow.specs.Steps.{TakesIn}
 use Rattle.shadow.proofs.Moved.{piping_takes}
-use Rattle.shadow.proofs.Noted.{Piping, piping_at, same_then_takes, with_places}
+use Rattle.shadow.proofs.Noted.{piping_at, same_then_takes, with_places}
 use Rattle.shadow.proofs.patches.Patches.make_pipe.Goals as goal
 
 pub returns-clause-ok : goal.returns-clause-ok

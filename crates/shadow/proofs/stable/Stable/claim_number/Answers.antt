@@ -1,6 +1,6 @@
-use Rattle.std.proofs.Common.{false, true, refl, ap, sym, ◌∙◌}
+use Rattle.std.proofs.Common.{false, true, ap, sym}
 use Rattle.shadow.specs.Claims.{kinds_in}
-use Rattle.model.specs.Changes.{Edit, news}
+use Rattle.model.specs.Changes.{news}
 use Rattle.shadow.proofs.Claimed.{err_added, ok_claimed}
 use Rattle.shadow.proofs.stable.Stable.claim_number.Goals as goal
 
