@@ -92,13 +92,7 @@ fn bytes_in(heap: Heap, verb: Verb, i: u64, names: u64) -> Result<Bytes> {
 // The call of a row that comes behind so many.
 fn verb_at(verb: Verb, i: u64) -> Verb {
     match verb {
-        Verb::Fill => {
-            if i % 2 == 0 {
-                Verb::Fill
-            } else {
-                Verb::Drain
-            }
-        }
+        Verb::Fill => { if i % 2 == 0 { Verb::Fill } else { Verb::Drain } }
         _ => verb,
     }
 }

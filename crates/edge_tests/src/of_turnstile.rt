@@ -20,13 +20,11 @@ fn path(letter: u8, number: u64) -> [u8; 4] {
     [b'/', letter, b'0' + tens as u8, b'0' + ones as u8]
 }
 
-fn mkdir(heap: Heap, path: &[u8]) -> Result<Op, AllocError>
-{
+fn mkdir(heap: Heap, path: &[u8]) -> Result<Op, AllocError> {
     Ok(Op::Call(Call::Mkdir(Bytes::copy(heap, path)?)))
 }
 
-fn stat(heap: Heap, path: &[u8]) -> Result<Op, AllocError>
-{
+fn stat(heap: Heap, path: &[u8]) -> Result<Op, AllocError> {
     Ok(Op::Call(Call::Stat(Bytes::copy(heap, path)?)))
 }
 
@@ -216,8 +214,18 @@ fn forked<R: Wait + Abort>(rt: &R, heap: Heap, opened: Opened) -> Option<Kernel>
         mut one,
         mut two,
     } = opened;
-    assert!(rt; inspect(turnstile.try_call(&mut one, Op::Call(Call::Fork)), is_third_now));
-    assert!(rt; inspect(turnstile.call(rt, &mut two, Op::Call(Call::Fork)), is_fourth));
+    assert!(rt;
+        inspect(
+            turnstile.try_call(&mut one, Op::Call(Call::Fork)),
+            is_third_now
+        )
+    );
+    assert!(rt;
+        inspect(
+            turnstile.call(rt, &mut two, Op::Call(Call::Fork)),
+            is_fourth
+        )
+    );
     assert!(rt; makes(heap, &turnstile, &mut two));
     let passes = Vec::from_array(heap, [one, two]).ok()?;
     turnstile.close(passes)

@@ -5,11 +5,11 @@ use Rattle.kernel.proofs.Words.{Entry, Executed, is_inside, is_unsupported, Mome
 use Rattle.kernel.proofs.Words.{counted_touches, clashes_with, losing_cause, all_below, bound, is_in, next, status, held_by, after_list, calls_of, priority_of}
 use Rattle.kernel.proofs.Words.{holds_place, IsApart, Inside, Outcome, Taken, Right, answered, Effect, effects, CallGoesIn, is_ended, calls_go_in}
 use Rattle.kernel.proofs.Words.{executed_again, nowhere_seen, childless, phase_is, plain_calls_run, right_by, views_may_be_loose, what_stands, live_age}
-use Rattle.kernel.proofs.Words.{IsDoomedBy, Doomed, effect, made_by, AreNew, with_change, view_at, changes_in, part_with, state_with, Asks, Stands}
+use Rattle.kernel.proofs.Words.{IsDoomedBy, Doomed, effect, made_by, AreNew, with_change, view_at, changes_in, part_with, state_with, Stands}
 use Rattle.kernel.proofs.Words.{calling, moment, Fields, Dooms, CanEnter, IsIn, Moves, part_at, part_of, shown_by, changes_of, doomed_by, is_no_entry, is_some}
-use Rattle.kernel.proofs.Words.{Edit, FitsAll, is_alive, sum_by, news, not, IfOk, filter, get, Name, A_file, A_directory, A_pipe, names_of, Make_directory}
-use Rattle.kernel.proofs.Words.{Unname_directory, Touch, touches, edits_of, counted, all_done, CanEdit, Committed, IsPlan, Plans, Live}
-use Rattle.model.specs.Changes.{Make_file, Name_file, Unname_file, Move, Put_bytes, Cut, Open_inode, Set_offset, Share_slot, Clear_slot, Make_pipe, Take, Append, New_process, End_process, applied}
+use Rattle.kernel.proofs.Words.{Edit, FitsAll, is_alive, sum_by, news, filter, Make_directory}
+use Rattle.kernel.proofs.Words.{Unname_directory, Touch, touches, counted, all_done, CanEdit, Committed, IsPlan, Plans, Live}
+use Rattle.model.specs.Changes.{Make_file, Name_file, Unname_file, Move, Put_bytes, Cut, Open_inode, Set_offset, Share_slot, Clear_slot, Make_pipe, Take, Append, New_process, End_process}
 use Rattle.call_laws.specs.Fits.{Fits}
 use Rattle.shadow.specs.Looks.{DirectoriesAreKept}
 use Rattle.shadow.specs.Steps.{IsOne, IsLast}
@@ -17,16 +17,14 @@ use Rattle.kernel.specs.States.{IsBirth, IsExit}
 use Rattle.freeing_laws.specs.Sweep.{IsTidied}
 use Rattle.freeing_laws.proofs.Laws.{sweep_is_tidy_lem}
 use Rattle.kernel.proofs.Edits.{calls_change, calls_edit, fork_comes}
-use Rattle.call_laws.specs.WellFormed.{WellFormed, IsRooted, Leads}
+use Rattle.call_laws.specs.WellFormed.{WellFormed}
 use Rattle.std.proofs.lemmas.Bool.{cases_Bool, false≢true, or_left, or_right}
-use Rattle.model.specs.Plan.{Errno, Plan, answer as answer_to, given, ◌>>=◌, ◌>>◌, ENOENT, ENOTDIR, ENOTEMPTY, EEXIST, EBUSY, List_names, refuse_if, or_refuse}
-use Rattle.model.specs.Calls.{Call, Answer, Stat, Mkdir, Rmdir, List_directory, Fork, Exit, own}
-use Rattle.call_laws.proofs.Laws.{fits, can_be_made, after_bind, whatever}
-use Rattle.model.specs.Paths.{is_empty}
-use Rattle.model.specs.Walks.{Place, parsed, walk, last_of, is_directory}
-use Rattle.model.specs.Plans.{Change, pipes_in, plan, status as told_status, absent}
+use Rattle.model.specs.Plan.{Errno}
+use Rattle.model.specs.Calls.{Call, Answer, Fork, Exit, own}
+use Rattle.call_laws.proofs.Laws.{fits, can_be_made}
+use Rattle.model.specs.Plans.{pipes_in}
 use Rattle.model.specs.Changes.{process_of}
-use Rattle.kernel.proofs.Words.{Born, Calls, CanChange, IsConsistent, born, contender_at, subst₂, child_in, ends_process, first_is, idle_slot, makes_process, no_part, part_after, suc, with_born, with_child, ◌⊎◌, ◌≢◌}
+use Rattle.kernel.proofs.Words.{Born, Calls, CanChange, IsConsistent, born, contender_at, child_in, ends_process, first_is, idle_slot, makes_process, no_part, part_after, suc, with_born, with_child, ◌⊎◌, ◌≢◌}
 use Rattle.shadow.specs.Claims.{HasParent, HaveParents}
 use Rattle.calls.specs.declared.plan.Plan.{Plan as Planned}
 use Rattle.kernel.proofs.Entries.{Grows, child_is_last, pids, not_both, not_doomed, comes_to, enters_grown, goes, moves, one_more, processes, stay_as_many, stays, slot_changes, slot_views, caller_lives, free_at}

@@ -224,8 +224,7 @@ module _ {ps qs : Processes} {s mid after last : Numbers} {ds : List Effect} {p 
   ends_here : (d : ℕ) (it : Description) → opening_at p.openings d ≡ New it → IsEndHere mid d it
   ends_here d it new pipe is =
       let pair : ArePair (all_done ds (state_of ps s)).descriptions it.inode pipe.reader pipe.writer
-      = made.ends it.inode pipe is in
-      (
+      = made.ends it.inode pipe is in (
         (λ reading. pair.reads d (ap (is_end reads it.inode) gives ∙ end_of reads it reading)),
         (λ writing. pair.writes d (ap (is_end writes it.inode) gives ∙ end_of writes it writing)),
         pair.either d it gives refl,

@@ -150,86 +150,86 @@ module _ (s : Numbers) (d : ℕ) (it : Description) (b : Bool) (t : Numbers)
       not_pipe e = not_none pipe (sym (ap shown_pipe e))
 
   module _ (ps : Processes) (counted : AreCounted ps s) (unheld : holders (state_of ps s) d ≡ 0)
-    (ends : IsEndHere s d it) where
-      abbrev k : Kernel
-      k = state_of ps s
+      (ends : IsEndHere s d it) where
+    abbrev k : Kernel
+    k = state_of ps s
 
-      state_is : state_of ps t ≡ set_description d it k
-      state_is = ap (λ m. stored ps m (descriptions t)) same_inodes
-          ∙ ap (stored ps (inodes s)) one_more
+    state_is : state_of ps t ≡ set_description d it k
+    state_is = ap (λ m. stored ps m (descriptions t)) same_inodes
+        ∙ ap (stored ps (inodes s)) one_more
 
-      comes : (n : ℕ) → openings (state_of ps t) n ≡ openings k n + cond (i == n) 1 0
-      comes n = ap (λ (k : Kernel). openings k n) state_is
-          ∙ openings_change_lem.comes k d it
-          (get-descriptions_by s d (Some (coming Nothing)) before)
-          n
+    comes : (n : ℕ) → openings (state_of ps t) n ≡ openings k n + cond (i == n) 1 0
+    comes n = ap (λ (k : Kernel). openings k n) state_is
+        ∙ openings_change_lem.comes k d it
+        (get-descriptions_by s d (Some (coming Nothing)) before)
+        n
 
-      files_counted : (n : ℕ) (file : OpenFile) → object_at t n ≡ Some (A_file file)
-          → file.openings ≡ openings (state_of ps t) n
-      files_counted n file at = elim (cases_eq n i) [
-        | inl same ↦ here same (held_file g (get mid.places i) file
-            (sym (ap held at_i) ∙ ap (object_at t) (sym same) ∙ at))
-        | inr away ↦ (
-            let was : file.openings ≡ openings k n =
-            counted.openings n file (file_stood n file (sym (ap held (off_i n away)) ∙ at)).1 in
-            let now : openings (state_of ps t) n ≡ openings k n + cond (i == n) 1 0 = comes n in
-            let none : cond {A = ℕ} (i == n) 1 0 ≡ 0 =
-            ap (λ b. cond {A = ℕ} b 1 0) (ne_eqb i n (λ e. away (sym e))) in
-            omega arith)
-      ]
-        where
-          more : (b : Bool) (old : OpenFile) → (b ≡ false → 2 ^ 64 ≤ old.openings)
-              → old.openings < 2 ^ 64 → (counted_if b old).openings ≡ old.openings + 1
-          more true old full low = refl
-          more false old full low =
-              (let high : 2 ^ 64 ≤ old.openings = full refl in absurd (omega arith))
+    files_counted : (n : ℕ) (file : OpenFile) → object_at t n ≡ Some (A_file file)
+        → file.openings ≡ openings (state_of ps t) n
+    files_counted n file at = elim (cases_eq n i) [
+      | inl same ↦ here same (held_file g (get mid.places i) file
+          (sym (ap held at_i) ∙ ap (object_at t) (sym same) ∙ at))
+      | inr away ↦ (
+          let was : file.openings ≡ openings k n =
+          counted.openings n file (file_stood n file (sym (ap held (off_i n away)) ∙ at)).1 in
+          let now : openings (state_of ps t) n ≡ openings k n + cond (i == n) 1 0 = comes n in
+          let none : cond {A = ℕ} (i == n) 1 0 ≡ 0 =
+          ap (λ b. cond {A = ℕ} b 1 0) (ne_eqb i n (λ e. away (sym e))) in
+          omega arith)
+    ]
+      where
+        more : (b : Bool) (old : OpenFile) → (b ≡ false → 2 ^ 64 ≤ old.openings)
+            → old.openings < 2 ^ 64 → (counted_if b old).openings ≡ old.openings + 1
+        more true old full low = refl
+        more false old full low =
+            (let high : 2 ^ 64 ≤ old.openings = full refl in absurd (omega arith))
 
-          here : n ≡ i → HeldBefore g (get mid.places i) file
-              → file.openings ≡ openings (state_of ps t) n
-          here same old =
-              let was : old.before.openings ≡ openings k i =
-              counted.openings i old.before (file_stood i old.before old.held).1 in
-              let most : openings k i ≤ len s.places = few_openings ps s i in
-              let low : len s.places < 2 ^ 64 = few in
-              let below : old.before.openings < 2 ^ 64 = omega arith in
-              let step : (g old.before).openings ≡ old.before.openings + 1 =
-              more b old.before (λ e. subst (λ (c : ℕ). 2 ^ 64 ≤ c) old.count (full e)) below in
-              let is_now : file.openings ≡ (g old.before).openings =
-              ap (λ (file : OpenFile). file.openings) old.is in
-              let now : openings (state_of ps t) i ≡ openings k i + cond (i == i) 1 0 = comes i in
-              let one : cond {A = ℕ} (i == i) 1 0 ≡ 1 =
-              ap (λ b. cond {A = ℕ} b 1 0) (eq-eqb i i refl)
-              in
-              let all : file.openings ≡ openings (state_of ps t) i = omega arith in
-              all ∙ ap (openings (state_of ps t)) (sym same)
+        here : n ≡ i → HeldBefore g (get mid.places i) file
+            → file.openings ≡ openings (state_of ps t) n
+        here same old =
+            let was : old.before.openings ≡ openings k i =
+            counted.openings i old.before (file_stood i old.before old.held).1 in
+            let most : openings k i ≤ len s.places = few_openings ps s i in
+            let low : len s.places < 2 ^ 64 = few in
+            let below : old.before.openings < 2 ^ 64 = omega arith in
+            let step : (g old.before).openings ≡ old.before.openings + 1 =
+            more b old.before (λ e. subst (λ (c : ℕ). 2 ^ 64 ≤ c) old.count (full e)) below in
+            let is_now : file.openings ≡ (g old.before).openings =
+            ap (λ (file : OpenFile). file.openings) old.is in
+            let now : openings (state_of ps t) i ≡ openings k i + cond (i == i) 1 0 = comes i in
+            let one : cond {A = ℕ} (i == i) 1 0 ≡ 1 =
+            ap (λ b. cond {A = ℕ} b 1 0) (eq-eqb i i refl)
+            in
+            let all : file.openings ≡ openings (state_of ps t) i = omega arith in
+            all ∙ ap (openings (state_of ps t)) (sym same)
 
-      shown_counted : (e : ℕ) (opened : Opened) → object_at t e ≡ Some (A_description opened)
-          → opened.holders ≡ holders (state_of ps t) e
-      shown_counted e opened at = elim (cases_eq e d) [
-        | inl same ↦ ap holders_in
-            (some_same _ _ (sym (opened_stood e opened at) ∙ ap (object_at mid) same
-            ∙ ap held at_d))
-            ∙ sym (ap (holders k) same ∙ unheld)
-            ∙ sym (openings_change_lem.by_processes k (state_of ps t) refl e)
-        | inr away ↦ counted.holders e opened
-            (sym (ap held (off_d e away)) ∙ opened_stood e opened at)
-            ∙ sym (openings_change_lem.by_processes k (state_of ps t) refl e)
-      ]
-        where
-          holders_in : Object → ℕ
-          holders_in (A_description opened) = opened.holders
-          holders_in _ = 0
+    shown_counted : (e : ℕ) (opened : Opened) → object_at t e ≡ Some (A_description opened)
+        → opened.holders ≡ holders (state_of ps t) e
+    shown_counted e opened at = elim (cases_eq e d) [
+      | inl same ↦ ap holders_in
+          (some_same _ _ (sym (opened_stood e opened at) ∙ ap (object_at mid) same
+          ∙ ap held at_d))
+          ∙ sym (ap (holders k) same ∙ unheld)
+          ∙ sym (openings_change_lem.by_processes k (state_of ps t) refl e)
+      | inr away ↦ counted.holders e opened
+          (sym (ap held (off_d e away)) ∙ opened_stood e opened at)
+          ∙ sym (openings_change_lem.by_processes k (state_of ps t) refl e)
+    ]
+      where
+        holders_in : Object → ℕ
+        holders_in (A_description opened) = opened.holders
+        holders_in _ = 0
 
-      counted_then : AreCounted ps t
-      counted_then = record {
-        openings = files_counted;
-        holders = shown_counted;
-        pipes = λ p pipe at. same_pairs (set_description d it k) (state_of ps t) one_more p
-            pipe.reader pipe.writer
-            (pair_comes (descriptions s) p pipe.reader pipe.writer d it
-            (λ of_p. ends pipe (ap (object_at s) of_p ∙ pipe_was p pipe at))
-            (counted.pipes p pipe (pipe_was p pipe at)));
-      }
+    counted_then : AreCounted ps t
+    counted_then = record {
+      openings = files_counted;
+      holders = shown_counted;
+      pipes = λ p pipe at. same_pairs (set_description d it k) (state_of ps t) one_more p
+          pipe.reader pipe.writer
+          (pair_comes (descriptions s) p pipe.reader pipe.writer d it
+          (λ of_p. ends pipe (ap (object_at s) of_p ∙ pipe_was p pipe at))
+          (counted.pipes p pipe (pipe_was p pipe at)));
+    }
 
   pub opening_new : IsReopened d (New it) s t
   opening_new = record {

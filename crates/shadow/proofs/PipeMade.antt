@@ -219,7 +219,7 @@ module _ (ps : Processes) (s : Numbers) (v : Committed) (is : committed_of ps s 
       reader_end : IsEndHere first r (at_start p to_read)
       reader_end x shows =
           let so : pipe ≡ x = the_pipe x shows in
-          ((λ yes. sym reads ∙ ap (λ (y : OpenPipe). y.reader) so) , (λ yes. cc), inl (sym reads ∙ ap (λ (y : OpenPipe). y.reader) so))
+          ((λ yes. sym reads ∙ ap (λ (y : OpenPipe). y.reader) so), (λ yes. cc), inl (sym reads ∙ ap (λ (y : OpenPipe). y.reader) so))
 
       writer_end : IsEndHere t w (at_start p to_write)
       writer_end x shows =

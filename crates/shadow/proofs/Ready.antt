@@ -281,8 +281,7 @@ pipe_ready o (Some New_pipe) (Some new) changes under short =
     (is, short (omega (arith, none)))
 pipe_ready o None (Some new) changes under short = absurd (true_is_false under.over.0)
 pipe_ready o None None changes under short =
-    let is : IsShownPipe o = pipe_shown o under.over.1 in
-    (
+    let is : IsShownPipe o = pipe_shown o under.over.1 in (
       is.0,
       is.1,
       subst (λ o. length (pipe_of_inode (inode_seen o)) ≤ PIPE_CAPACITY

@@ -114,21 +114,21 @@ frees_nothing ps s holds = record { state = refl; holds = holds; kept = λ c. re
 
 -- a slot gives something else, or nothing
 module _ (ps qs : Processes) (s t : Numbers) (pid f : ℕ) (pipes : List ℕ) (sound : Sound ps s)
-    where
-  gives : (given : Option ℕ) → applied [] (slotting given pid f pipes) (state_of ps s)
-      ≡ set_process pid (noted f given (process_of (state_of ps s) pid)) (state_of ps s)
-  unfolding applied
-  gives (Some d) = refl
-  gives None = refl
+  where
+    gives : (given : Option ℕ) → applied [] (slotting given pid f pipes) (state_of ps s)
+        ≡ set_process pid (noted f given (process_of (state_of ps s) pid)) (state_of ps s)
+    unfolding applied
+    gives (Some d) = refl
+    gives None = refl
 
-  pub slotting_made : (given : Option ℕ) → IsSlotted pid f given ps qs s t
-      → IsMade ps qs s t [] (slotting given pid f pipes)
-  slotting_made given laid = record {
-    root = laid.stay.same.root;
-    state = slotted_state ps qs s t pid f given laid ∙ sym (gives given);
-    staged = laid.stay.same.staged sound.staged;
-    counted = laid.stay.counted (sound_low ps s sound) sound.counted;
-  }
+    pub slotting_made : (given : Option ℕ) → IsSlotted pid f given ps qs s t
+        → IsMade ps qs s t [] (slotting given pid f pipes)
+    slotting_made given laid = record {
+      root = laid.stay.same.root;
+      state = slotted_state ps qs s t pid f given laid ∙ sym (gives given);
+      staged = laid.stay.same.staged sound.staged;
+      counted = laid.stay.counted (sound_low ps s sound) sound.counted;
+    }
 
 -- what closing makes of the state in which a slot gives this
 freed_slot : (given : Option ℕ) (k : Kernel) (pid f : ℕ) (pipes : List ℕ) → IsTidied k

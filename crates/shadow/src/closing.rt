@@ -126,8 +126,7 @@ fn is_open(store: &Store, num: Num) -> bool
 {
     match store.pipe(num) {
         Some(pipe) => {
-            is_of(num, store.description(pipe.reader))
-                || is_of(num, store.description(pipe.writer))
+            is_of(num, store.description(pipe.reader)) || is_of(num, store.description(pipe.writer))
         }
         None => store.openings(num) > 0,
     }

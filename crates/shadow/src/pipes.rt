@@ -85,12 +85,7 @@ impl<'a> View<'a> {
 
     /// How many descriptors give this description, where it is an end of the pipe, to write or to
     /// read.
-    pub(crate) fn holders_if(
-        &self,
-        pipe: Num,
-        end: Num,
-        writing: bool,
-    ) -> Result<u32, AllocError>
+    pub(crate) fn holders_if(&self, pipe: Num, end: Num, writing: bool) -> Result<u32, AllocError>
         ensures { IfOk result (λ n. n
             ≡ holders_if self.now.state (if writing then writes else reads) pipe end) }
     {

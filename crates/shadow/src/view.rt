@@ -345,9 +345,7 @@ impl<'a> Look for View<'a> {
     fn links(&self, file: Num) -> Result<u32, AllocError> {
         let stored = self.stable.links(file);
         match change(self.shadow, file) {
-            Some(change) => {
-                count_over(stored, change.named as u128, change.unnamed as u128)
-            }
+            Some(change) => { count_over(stored, change.named as u128, change.unnamed as u128) }
             None => small(stored),
         }
     }

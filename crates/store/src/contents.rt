@@ -58,12 +58,7 @@ fn swap_file_in(object: &mut Object, bytes: FileData) -> FileData
 }
 
 /// Takes so many bytes from the front of a pipe, and appends these.
-pub fn change_pipe_at(
-    headers: &mut Slab<Header, Heap>,
-    key: usize,
-    taken: usize,
-    appended: &[u8],
-)
+pub fn change_pipe_at(headers: &mut Slab<Header, Heap>, key: usize, taken: usize, appended: &[u8])
     requires { IsRoomy taken appended.now (option_and_then pipe_of (held (place_at headers.old key))) }
     ensures { Updates headers.old headers.new key
         (option_map (at_place (with_pipe (passed taken appended.now))) (get headers.old key)) }

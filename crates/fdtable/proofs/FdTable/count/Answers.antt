@@ -6,11 +6,13 @@ use Rattle.fdtable.proofs.Opened.{among, among_more, one_low, open_all, open_fro
 use Rattle.fdtable.proofs.FdTable.count.Goals as goal
 
 pub loop-number-init : goal.loop-number-init
-loop-number-init c = (omega arith,
-    (let all : among c.args.description (open_from c.args.self.now 0 DESCRIPTORS) ≡ among c.args.description (map.entries c.args.self.now) =
-    ap (among c.args.description) (ap (λ m. open_from m 0 DESCRIPTORS) (sym c.self.view_is)
-    ∙ ap (open_from (map.from_entries _) 0) (sym c.self.invariant)
-    ∙ open_all c.self.inside.slots ∙ ap map.entries c.self.view_is) in omega arith))
+loop-number-init c = (
+  omega arith,
+  (let all : among c.args.description (open_from c.args.self.now 0 DESCRIPTORS) ≡ among c.args.description (map.entries c.args.self.now) =
+      ap (among c.args.description) (ap (λ m. open_from m 0 DESCRIPTORS) (sym c.self.view_is)
+      ∙ ap (open_from (map.from_entries _) 0) (sym c.self.invariant)
+      ∙ open_all c.self.inside.slots ∙ ap map.entries c.self.view_is) in omega arith),
+)
 
 pub loop-number-preserved : goal.loop-number-preserved
 loop-number-preserved c =

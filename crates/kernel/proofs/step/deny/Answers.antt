@@ -1,7 +1,7 @@
-use Rattle.kernel.proofs.Words.{◌≡◌, ◌∙◌, refl, sym, ap, subst, if◌then◌else◌, true, false, Bool, ℕ, [], Aborted, BeginFlags, CanEndTransaction, Do, Inside, Reply, RightAt, fields, is_inside, live, plain, moment}
+use Rattle.kernel.proofs.Words.{◌∙◌, refl, sym, ap, subst, if◌then◌else◌, false, Aborted, CanEndTransaction, Do, fields, live}
 use Rattle.model.specs.Plan.{ENOTSUP}
 use Rattle.model.specs.Entries.{Refuses, Unsupported}
-use Rattle.kernel.proofs.Entries.{denied, ends, free_at, leaves, none_else, not_executed}
+use Rattle.kernel.proofs.Entries.{denied, ends, leaves, not_executed}
 use Rattle.kernel.proofs.step.deny.Goals as goal
 
 pub end_transaction-requires-clause-can : goal.end_transaction-requires-clause-can

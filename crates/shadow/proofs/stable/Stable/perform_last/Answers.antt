@@ -82,4 +82,3 @@ returns-in-ClearSlot-clause-state c =
     c.in-ClearSlot._pipes)
     ∙ ap (λ (e : Edit). tidy (applied c.args.chosen.now e c.args.self.now.state))
     (sym c.in-ClearSlot.is)
-
