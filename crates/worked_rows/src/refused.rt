@@ -809,7 +809,7 @@ static REFUSED: [Refused; 29] = [
 4 P1 begin -> begun
 5 P1 read 0 1 -> 1 a
 6 P2 read 0 2 -> 2 ab dooms P1
-7 PX
+7 P1 end -> aborted front write by P2
 8 P1 read 0 9 -> 1 c
 ",
         requests: 5,
