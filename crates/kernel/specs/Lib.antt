@@ -1,3 +1,4 @@
+pub mod Operations
 pub mod Shown
 pub mod Steps
 pub mod States

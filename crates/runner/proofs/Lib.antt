@@ -1,1 +1,2 @@
+mod AllSupported
 mod Stepping

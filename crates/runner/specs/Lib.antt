@@ -3,3 +3,4 @@ pub mod Faults
 pub mod Jobs
 pub mod Runs
 pub mod Steps
+pub mod Supported

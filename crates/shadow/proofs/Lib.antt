@@ -1,6 +1,5 @@
 mod Outcomes
 mod NamesNoted
-mod PairsKept
 mod Holding
 mod InodesKept
 mod Slots_over
@@ -9,10 +8,6 @@ mod Tabling
 mod Openings_at
 mod Seeing
 mod Noted
-mod NotedSlots
-mod Emptied
-mod Forking
-mod Ending
 mod Moved
 mod Pairs
 mod Applied
@@ -35,9 +30,6 @@ mod InOrder
 mod Once
 mod Carrying
 mod Overwriting
-mod Piping
-mod PipesShort
-mod Passing
 mod Relisting
 mod Renaming
 mod Reopening
@@ -51,7 +43,6 @@ mod Freed
 mod Unnaming
 mod SlotInState
 mod OpeningMade
-mod PipeMade
 mod OffsetInState
 mod BlocksNoted
 mod FiledOn
@@ -59,16 +50,13 @@ mod Alike
 mod SameEdit
 mod ClaimsOfCall
 mod GivingOpened
-mod Turnover
-mod Holders
-mod PipeOpen
-mod Pairing
 mod KeptDirectories
 pub mod Cleared
 pub mod Committing
 pub mod Composed
 pub mod Ready
 mod Becoming
+mod Promised
 pub mod Laws
 pub mod Finished
 pub mod Carried

@@ -47,7 +47,6 @@ pub fn shows_names_at(headers: &Slab<Header, Heap>, key: usize) -> bool
     match object_in(headers, key) {
         Some(Object::Directory(_)) => true,
         Some(Object::File(_)) => false,
-        Some(Object::Pipe(_)) => false,
         Some(Object::Description(_)) => false,
         Some(Object::Nothing) => false,
         None => false,
@@ -70,7 +69,6 @@ fn is_promised_in(object: &Object) -> bool
     match object {
         Object::Directory(dir) => dir.is_promised(),
         Object::File(_) => false,
-        Object::Pipe(_) => false,
         Object::Description(_) => false,
         Object::Nothing => false,
     }
@@ -144,7 +142,6 @@ fn promise_in(object: &mut Object) -> Result<(), AllocError>
     match object {
         Object::Directory(dir) => dir.promise(),
         Object::File(_) => Ok(()),
-        Object::Pipe(_) => Ok(()),
         Object::Description(_) => Ok(()),
         Object::Nothing => Ok(()),
     }
@@ -166,7 +163,6 @@ fn release_in(object: &mut Object)
     match object {
         Object::Directory(dir) => release_one(dir),
         Object::File(_) => (),
-        Object::Pipe(_) => (),
         Object::Description(_) => (),
         Object::Nothing => (),
     }
@@ -212,7 +208,6 @@ fn add_name_in(object: &mut Object, name: Name, num: Num) -> Option<Num>
     match object {
         Object::Directory(dir) => put_name(dir, name, num),
         Object::File(_) => None,
-        Object::Pipe(_) => None,
         Object::Description(_) => None,
         Object::Nothing => None,
     }
@@ -257,7 +252,6 @@ fn remove_name_in(object: &mut Object, name: &Name) -> Option<Num>
     match object {
         Object::Directory(dir) => dir.remove(name),
         Object::File(_) => None,
-        Object::Pipe(_) => None,
         Object::Description(_) => None,
         Object::Nothing => None,
     }
