@@ -1,8 +1,6 @@
-// How long it takes to rename a directory, and to unlink files that are empty and that are long.
-ghost use Rattle.std.specs.Prelude.{◌≡◌, true};
-ghost use Rattle.kernel.specs.Operations.{can_run};
-
-use crate::work::{begin, end, path, step};
+// How long it takes to rename a directory, to unlink files that are empty and that are long, and to
+// make a process that ends.
+use crate::work::{begin, child, end, path, step};
 use anyhow::Result;
 use heap::Heap;
 use ids::{Bytes, Call, Fd, Op, OpenFlags};
@@ -14,6 +12,9 @@ const FILES: u64 = 100;
 
 const RENAMES: u64 = 1000;
 
+// How many children are made.
+const CHILDREN: u64 = 90;
+
 fn nanos_since(rt: &HostRuntime, start: &Instant) -> Result<u64> {
     let span = start.elapsed(rt)?;
     let nanos = u64::from(span.subsec_nanos());
@@ -24,9 +25,7 @@ fn nanos_since(rt: &HostRuntime, start: &Instant) -> Result<u64> {
     )
 }
 
-fn rename(from: Bytes, to: Bytes) -> Op
-    ensures { can_run result ≡ true }
-{
+fn rename(from: Bytes, to: Bytes) -> Op {
     Op::Call(Call::Rename(from, to))
 }
 
@@ -47,32 +46,24 @@ fn rename_within(kernel: &mut Kernel, heap: Heap) -> Result<()> {
     end(kernel, 1)
 }
 
-fn new_file(path: Bytes) -> Op
-    ensures { can_run result ≡ true }
-{
+fn new_file(path: Bytes) -> Op {
     let flags = OpenFlags::WRITE.with(OpenFlags::CREAT);
     Op::Call(Call::Open(path, flags))
 }
 
-fn cut(length: u32) -> Op
-    ensures { can_run result ≡ true }
-{
-    Op::Call(Call::Ftruncate(Fd(1), length))
+fn cut(length: u32) -> Op {
+    Op::Call(Call::Ftruncate(Fd(3), length))
 }
 
-fn close() -> Op
-    ensures { can_run result ≡ true }
-{
-    Op::Call(Call::Close(Fd(1)))
+fn close() -> Op {
+    Op::Call(Call::Close(Fd(3)))
 }
 
-fn unlink(path: Bytes) -> Op
-    ensures { can_run result ≡ true }
-{
+fn unlink(path: Bytes) -> Op {
     Op::Call(Call::Unlink(path))
 }
 
-// Makes files of so many bytes. Descriptor 0 is open, so each gets descriptor 1.
+// Makes files of so many bytes. Descriptors 0 to 2 are open, so each gets descriptor 3.
 fn make_files(kernel: &mut Kernel, heap: Heap, length: u32) -> Result<()> {
     for number in 0..FILES {
         step(kernel, 1, new_file(path(heap, "", b'u', number)?))?;
@@ -111,4 +102,22 @@ pub(crate) fn print_names(rt: &HostRuntime, kernel: &mut Kernel, heap: Heap) -> 
     println!(rt; "rename of the directory: {plain} {within} nanoseconds")?;
     print_unlink(rt, kernel, heap, 0)?;
     print_unlink(rt, kernel, heap, 1_048_576)
+}
+
+// The first process makes children, each of which ends at once.
+fn fork_often(kernel: &mut Kernel) -> Result<()> {
+    for _ in 0..CHILDREN {
+        let pid = child(kernel)?;
+        step(kernel, pid, Op::Call(Call::Exit))?;
+    }
+    Ok(())
+}
+
+/// Prints how many nanoseconds it takes to make a child and to end it, both together.
+pub(crate) fn print_children(rt: &HostRuntime, kernel: &mut Kernel) -> Result<()> {
+    let start = Instant::now(rt)?;
+    fork_often(kernel)?;
+    let each = nanos_since(rt, &start)? / CHILDREN;
+    println!(rt; "fork and exit: {each} nanoseconds")?;
+    Ok(())
 }

@@ -1,20 +1,20 @@
 // The rows that are timed.
-use crate::names::print_names;
-use crate::work::{Verb, begin, call, end, kernel_of, open_file, path, rewind, step};
+use crate::names::{print_children, print_names};
+use crate::work::{Verb, begin, call, end, kernel_of, open_both, path, rewind, step};
 use anyhow::Result;
 use heap::Heap;
 use ids::{Bytes, Pid};
 use kernel::Kernel;
 use std::time::Instant;
 
-// A row of calls in `/d`, or on the file `/f`.
+// A row of calls in `/d`, on the file `/f`, or on a pipe.
 struct Row {
     name: &'static str,
     verb: Verb,
     count: u64,
 }
 
-static ROWS: [Row; 6] = [
+static ROWS: [Row; 7] = [
     Row {
         name: "mkdir",
         verb: Verb::Mkdir,
@@ -45,11 +45,16 @@ static ROWS: [Row; 6] = [
         verb: Verb::Read,
         count: 1000,
     },
+    Row {
+        name: "pipe",
+        verb: Verb::Fill,
+        count: 1000,
+    },
 ];
 
-// Makes the file `/f`, the directory `/d` and so many in it.
+// Makes the file `/f`, a pipe, the directory `/d` and so many in it.
 fn fill(kernel: &mut Kernel, heap: Heap, names: u64) -> Result<()> {
-    open_file(kernel, heap)?;
+    open_both(kernel, heap)?;
     step(kernel, 1, call(Verb::Mkdir, Bytes::copy(heap, b"/d")?))?;
     for number in 0..names {
         step(
@@ -78,17 +83,26 @@ fn bytes_in(heap: Heap, verb: Verb, i: u64, names: u64) -> Result<Bytes> {
         Verb::List => Bytes::copy(heap, b"/d"),
         Verb::Stat => path(heap, "/d", b'n', i.saturating_mul(names / 1000)),
         Verb::Mkdir | Verb::Rmdir => path(heap, "/d", b'm', i),
-        Verb::Write => Bytes::copy(heap, &[b'x'; 64]),
-        Verb::Read => Bytes::copy(heap, b""),
+        Verb::Write | Verb::Fill => Bytes::copy(heap, &[b'x'; 64]),
+        Verb::Read | Verb::Drain => Bytes::copy(heap, b""),
     };
     Ok(bytes?)
+}
+
+// The call of a row that comes behind so many.
+fn verb_at(verb: Verb, i: u64) -> Verb {
+    match verb {
+        Verb::Fill => { if i % 2 == 0 { Verb::Fill } else { Verb::Drain } }
+        _ => verb,
+    }
 }
 
 fn do_row(kernel: &mut Kernel, heap: Heap, row: &Row, names: u64) -> Result<()> {
     rewind(kernel)?;
     for i in 0..row.count {
-        let bytes = bytes_in(heap, row.verb, i, names)?;
-        step(kernel, 1, call(row.verb, bytes))?;
+        let verb = verb_at(row.verb, i);
+        let bytes = bytes_in(heap, verb, i, names)?;
+        step(kernel, 1, call(verb, bytes))?;
     }
     Ok(())
 }
@@ -112,8 +126,8 @@ fn rate(rt: &HostRuntime, start: &Instant, row: &Row) -> Result<u64> {
 }
 
 // The rate of each row by plain calls.
-fn plain_rates(rt: &HostRuntime, kernel: &mut Kernel, heap: Heap, names: u64) -> Result<[u64; 6]> {
-    let mut plain = [0u64; 6];
+fn plain_rates(rt: &HostRuntime, kernel: &mut Kernel, heap: Heap, names: u64) -> Result<[u64; 7]> {
+    let mut plain = [0u64; 7];
     for (row, found) in ROWS.iter().zip(&mut plain) {
         let start = Instant::now(rt)?;
         do_row(kernel, heap, row, names)?;
@@ -147,7 +161,7 @@ fn print_rates(rt: &HostRuntime, kernel: &mut Kernel, heap: Heap, names: u64) ->
 /// Prints a line for each call: its name, how many a second are done by plain calls, and how many
 /// in a transaction.
 pub(crate) fn measure(rt: &HostRuntime, heap: Heap, names: u64, live: u64) -> Result<()> {
-    let live = live.min(4095) as u32;
+    let live = live.min(4000) as u32;
     println!(rt;
         "{names} names, {live} live transactions: calls a second, plain and in a transaction"
     )?;
@@ -167,5 +181,6 @@ fn measure_on(
     fill(kernel, heap, names)?;
     open(kernel, heap, live)?;
     print_rates(rt, kernel, heap, names)?;
-    print_names(rt, kernel, heap)
+    print_names(rt, kernel, heap)?;
+    print_children(rt, kernel)
 }

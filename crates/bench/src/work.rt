@@ -1,10 +1,7 @@
 // Calls on names that are numbered, and a kernel to make them on.
-ghost use Rattle.std.specs.Prelude.{◌≡◌, true};
-ghost use Rattle.kernel.specs.Operations.{can_run};
-
 use anyhow::{Result, bail};
 use heap::Heap;
-use ids::{BeginFlags, Bytes, Call, Fd, Op, OpenFlags, Pid, Priority, Reply, Whence};
+use ids::{Answer, BeginFlags, Bytes, Call, Fd, Op, OpenFlags, Pid, Priority, Reply, Whence};
 use kernel::Kernel;
 use std::alloc::AllocError;
 
@@ -16,6 +13,9 @@ pub(crate) enum Verb {
     List,
     Write,
     Read,
+    // A write to a pipe and a read from it, by turns.
+    Fill,
+    Drain,
 }
 
 // A kernel of so many processes, and 4,096 at most, with room for a million entries.
@@ -28,10 +28,8 @@ pub(crate) fn kernel_of(heap: Heap, processes: u64) -> Result<Kernel> {
 }
 
 // A call with these bytes: a path, or what is written. Reads and writes are those of descriptor 0,
-// and a read is of 64 bytes.
-pub(crate) fn call(verb: Verb, bytes: Bytes) -> Op
-    ensures { can_run result ≡ true }
-{
+// or of the pipe on descriptors 1 and 2, and a read is of 64 bytes.
+pub(crate) fn call(verb: Verb, bytes: Bytes) -> Op {
     match verb {
         Verb::Mkdir => Op::Call(Call::Mkdir(bytes)),
         Verb::Stat => Op::Call(Call::Stat(bytes)),
@@ -42,11 +40,16 @@ pub(crate) fn call(verb: Verb, bytes: Bytes) -> Op
             drop(bytes);
             Op::Call(Call::Read(Fd(0), 64))
         }
+        Verb::Fill => Op::Call(Call::Write(Fd(2), bytes)),
+        Verb::Drain => {
+            drop(bytes);
+            Op::Call(Call::Read(Fd(1), 64))
+        }
     }
 }
 
-// Opens the file `/f`, which is new.
-pub(crate) fn open_file(kernel: &mut Kernel, heap: Heap) -> Result<()> {
+// Opens the file `/f`, which is new, and then a pipe.
+pub(crate) fn open_both(kernel: &mut Kernel, heap: Heap) -> Result<()> {
     let flags = OpenFlags::READ
         .with(OpenFlags::WRITE)
         .with(OpenFlags::CREAT);
@@ -54,7 +57,8 @@ pub(crate) fn open_file(kernel: &mut Kernel, heap: Heap) -> Result<()> {
         kernel,
         1,
         Op::Call(Call::Open(Bytes::copy(heap, b"/f")?, flags)),
-    )
+    )?;
+    step(kernel, 1, Op::Call(Call::Pipe))
 }
 
 // The next call on descriptor 0 is at the first byte.
@@ -95,9 +99,7 @@ fn is_done(reply: &Reply) -> bool {
 }
 
 // Does one step, which is to be answered.
-pub(crate) fn step(kernel: &mut Kernel, pid: u32, op: Op) -> Result<()>
-    requires { can_run op ≡ true }
-{
+pub(crate) fn step(kernel: &mut Kernel, pid: u32, op: Op) -> Result<()> {
     let reply = kernel.step(Pid(pid), op);
     let done = is_done(&reply);
     drop(reply);
@@ -105,6 +107,20 @@ pub(crate) fn step(kernel: &mut Kernel, pid: u32, op: Op) -> Result<()>
         bail!("a step was not done")
     }
     Ok(())
+}
+
+// The child of the first process's fork.
+pub(crate) fn child(kernel: &mut Kernel) -> Result<u32> {
+    let reply = kernel.step(Pid(1), Op::Call(Call::Fork));
+    let made = match &reply {
+        Reply::Answer(Answer::Child(pid)) => pid.0,
+        _ => 0,
+    };
+    drop(reply);
+    if made == 0 {
+        bail!("no child was made")
+    }
+    Ok(made)
 }
 
 pub(crate) fn begin(kernel: &mut Kernel, pid: u32) -> Result<()> {

@@ -51,6 +51,7 @@ pub use Rattle.call_laws.proofs.edits.Offsets.{ends_unmoved, set_there, with_off
 pub use Rattle.call_laws.proofs.edits.Processes.{table_in}
 pub use Rattle.call_laws.proofs.edits.SlotsAlike.{free_after, pipe_at, unused_after, with_tables}
 pub use Rattle.call_laws.proofs.law.Alive.{alive_tidy}
+pub use Rattle.call_laws.proofs.law.There.{edit_grows}
 pub use Rattle.call_laws.proofs.law.TidyLater.{alike_tidied, stays_alike, tidied_alike}
 pub use Rattle.call_laws.proofs.law.Well.{all_well, well_stays}
 pub use Rattle.call_laws.proofs.law.WellTidy.{nowhere_tidy, well_tidy}

@@ -10,6 +10,7 @@ use Rattle.model.specs.State.{names_of, file_of, pipe_of, kind_of, links, mapped
 use Rattle.model.specs.Aspects.{Aspect, Keeps, KeepsAll}
 use Rattle.model.specs.Calls.{Slot, slot_of}
 use Rattle.model.specs.Steps.{IsNowhere}
+use Rattle.model.specs.Limits.{capacity}
 use Rattle.model.specs.Moments.{is_in}
 use Rattle.model.specs.Changes.{Made, number, Edit, Make_directory, Make_file, Name_file}
 use Rattle.model.specs.Changes.{Unname_file, Unname_directory, Move, Put_bytes, Cut, Take, Append}
@@ -141,7 +142,8 @@ Fits chosen k (Put_bytes n place bytes before) =
     (kind_of k n ≡ Some A_file) × (length (file_of k n) ≡ before)
 Fits chosen k (Cut n before after) = (kind_of k n ≡ Some A_file) × (length (file_of k n) ≡ before)
 Fits chosen k (Take p count) = (kind_of k p ≡ Some A_pipe) × (count ≤ length (pipe_of k p))
-Fits chosen k (Append p bytes) = kind_of k p ≡ Some A_pipe
+Fits chosen k (Append p bytes) =
+    (kind_of k p ≡ Some A_pipe) × (length (pipe_of k p) + length bytes ≤ capacity)
 Fits chosen k (Set_offset d place) = (it : Description) × (get k.descriptions d ≡ Some it)
 Fits chosen k (Open_inode i inode mode pid f) =
     CanOpen chosen k (number chosen (Made i)) (number chosen inode) pid f

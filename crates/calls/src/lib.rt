@@ -17,4 +17,4 @@ mod plan;
 mod seek;
 mod steps;
 
-pub use plan::{Plan, is_there, plan_of};
+pub use plan::{Plan, plan_of};

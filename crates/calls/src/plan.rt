@@ -3,7 +3,7 @@ ghost use Rattle.std.specs.Prelude.{◌≡◌, IfOk, true, false};
 ghost use Rattle.model.specs.Calls.{own};
 ghost use Rattle.model.specs.Plans.{plan};
 ghost use Rattle.look.specs.Asked.{Comes};
-ghost use Rattle.calls.specs.Operations.{can_call, is_on_descriptors};
+ghost use Rattle.calls.specs.Operations.{is_on_descriptors};
 ghost use Rattle.calls.specs.Planned.{IsPlan};
 
 use crate::change::Change;
@@ -28,29 +28,6 @@ pub struct Plan {
     pub touches: Vec<Touch, Heap>,
     /// What it changes, in order.
     pub edits: Vec<Edit, Heap>,
-}
-
-/// Whether the kernel can run the call today: those on files and directories. It takes no memory.
-pub fn is_there(call: &Call) -> bool
-    ensures { result ≡ can_call call.now }
-{
-    matches!(
-        call,
-        Call::Open(_, _)
-            | Call::Close(_)
-            | Call::Read(_, _)
-            | Call::Write(_, _)
-            | Call::Lseek(_, _, _)
-            | Call::Ftruncate(_, _)
-            | Call::Stat(_)
-            | Call::Fstat(_)
-            | Call::Mkdir(_)
-            | Call::Rmdir(_)
-            | Call::List(_)
-            | Call::Link(_, _)
-            | Call::Unlink(_)
-            | Call::Rename(_, _)
-    )
 }
 
 /// What a call of a process comes to in a state. It changes nothing; `AllocError` says that memory

@@ -33,3 +33,7 @@ covered_with_change old new p d s t covered live kept sets =
 -- a change was refused
 pub covered_with_none : (old new : List Slot) (p : ℕ) (s t : Committed) → AreCovered (views old) s → Sets old new p (slot_at old p) → KeepsSame s t → AreCovered (views new) t
 covered_with_none old new p s t covered sets kept = covered_same (views old) (views new) s t (same_views old new p sets) kept covered
+
+-- what is kept stays
+pub covered_still : (views : List View) (s t : Committed) → KeepsSame s t → AreCovered views s → AreCovered views t
+covered_still views s t kept covered c = covered c ∙ sym (kept c)

@@ -1,21 +1,21 @@
 // The transactions of all processes, and what is committed.
 ghost use Rattle.ids.specs.declared.limits.TheConstants.{MAX_PROCESSES};
-ghost use Rattle.std.specs.Prelude.{◌≡◌, ◌<◌, ◌≤◌, ◌∷◌, [], ℕ, true, List, length, suc, is_some};
-ghost use Rattle.std.specs.Prelude.{count_by, IfOk, IfSome, OnErr};
-ghost use Rattle.model.specs.Changes.{all_applied, tidy};
+ghost use Rattle.std.specs.Prelude.{◌≡◌, ◌<◌, ◌≤◌, ◌++◌, ◌∷◌, [], ℕ, true, List, length, suc, is_some};
+ghost use Rattle.std.specs.Prelude.{count_by, IfOk, IfSome, OnErr, OnOk};
+ghost use Rattle.model.specs.Changes.{End_process, New_process, all_applied, applied, tidy};
 ghost use Rattle.model.specs.Effects.{all_done};
 ghost use Rattle.model.specs.Moments.{start};
 ghost use Rattle.shadow.specs.Claims.{HaveParents};
 ghost use Rattle.shadow.specs.Log.{effect};
-ghost use Rattle.shadow.specs.Looks.{DirectoriesAreKept, HasNoPipes};
+ghost use Rattle.shadow.specs.Looks.{DirectoriesAreKept};
 ghost use Rattle.shadow.specs.Steps.{CanEdit};
-ghost use Rattle.call_laws.specs.Fits.{FitsAll};
+ghost use Rattle.call_laws.specs.Fits.{Fits, FitsAll};
 ghost use Rattle.freeing_laws.specs.Sweep.{AllFit};
 ghost use Rattle.commit.specs.Dooming.{with_dooms};
 ghost use Rattle.commit.specs.Edits.{AreNew, with_change};
 ghost use Rattle.commit.specs.Slots.{slot_view};
 ghost use Rattle.commit.specs.Standings.{IsStandingOf};
-ghost use Rattle.commit.specs.Views.{AreFirst, SameViews, Shows, causes_of, changes_in, idle_slot};
+ghost use Rattle.commit.specs.Views.{AreFirst, SameViews, Shows, causes_of, changes_in, gone_slot, idle_slot};
 ghost use Rattle.commit.specs.Views.{is_live_slot, is_within, live_slot, view_at};
 
 use crate::slot::{
@@ -107,17 +107,6 @@ impl Transactions {
         match shadow_of(&self.slots, pid) {
             None => self.stable.directories_are_kept(),
             Some(shadow) => shadow.directories_are_kept(&self.stable),
-        }
-    }
-
-    /// Today a process sees no pipes.
-    pub fn has_no_pipes(&self, pid: Pid)
-        ensures { HasNoPipes
-            (all_done (changes_in (view_at self.now.slots pid)) self.now.stable.state) }
-    {
-        match shadow_of(&self.slots, pid) {
-            None => self.stable.has_no_pipes(),
-            Some(shadow) => shadow.has_no_pipes(&self.stable),
         }
     }
 
@@ -242,5 +231,39 @@ impl Transactions {
     {
         let chosen = self.stable.apply(edits)?;
         Ok(chosen)
+    }
+    /// A process in no transaction makes a child, at once: a process in no transaction, whose number
+    /// is the next and is answered. Refused memory changes nothing.
+    pub fn fork(&mut self, parent: Pid) -> Result<Pid, AllocError>
+        requires fits { (pipes : List ℕ) × Fits [] self.old.stable.state
+            (New_process (suc self.old.stable.state.made) parent pipes) }
+        requires few { self.old.stable.state.made < MAX_PROCESSES }
+        ensures child { IfOk result (λ child. child ≡ suc self.old.stable.state.made) }
+        ensures slots { OnOk result (self.new.slots ≡ self.old.slots ++ idle_slot ∷ []) }
+        ensures state { OnOk result ((pipes : List ℕ) → self.new.stable.state
+            ≡ applied [] (New_process (suc self.old.stable.state.made) parent pipes)
+            self.old.stable.state) }
+        ensures views { OnErr result (self.new.slots ≡ self.old.slots) }
+        ensures err { OnErr result (self.new.stable.state ≡ self.old.stable.state) }
+    {
+        self.slots.reserve(1)?;
+        let child = self.stable.fork(parent)?;
+        let _ = self.slots.push(Slot::Idle);
+        Ok(child)
+    }
+
+    /// A process in no transaction ends, at once, with its descriptors, and what nothing leads to
+    /// then is freed. It takes no memory.
+    pub fn exit(&mut self, pid: Pid)
+        requires made { pid < length self.old.slots }
+        requires idle { view_at self.old.slots pid ≡ idle_slot }
+        requires fits { (pipes : List ℕ)
+            × Fits [] self.old.stable.state (End_process pid pipes) }
+        ensures slots { Shows self.old.slots self.new.slots pid gone_slot }
+        ensures state { (pipes : List ℕ) → self.new.stable.state
+            ≡ tidy (applied [] (End_process pid pipes) self.old.stable.state) }
+    {
+        set_slot(&mut self.slots, pid, Slot::Gone);
+        self.stable.exit(pid);
     }
 }

@@ -1,5 +1,6 @@
 // What is kept of one process.
 ghost use Rattle.std.specs.Prelude.{◌≡◌, ◌++◌, OnErr, OnOk, Some, None, [], take};
+ghost use Rattle.contention.specs.Contenders.{nobody};
 ghost use Rattle.contention.specs.Policy.{began_later, loses_to};
 
 use heap::Heap;
@@ -76,6 +77,14 @@ impl Contender {
     {
         self.age = None;
         self.touches.clear();
+    }
+
+    /// Its process is gone: it is as that of a number that no process has. It takes no memory.
+    pub fn leave(&mut self)
+        ensures { self.new ≡ nobody }
+    {
+        self.priority = Priority::new(0).unwrap();
+        self.release();
     }
 
     /// Whether it loses where it clashes with the other: the other has a higher priority, or the

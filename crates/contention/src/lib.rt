@@ -2,7 +2,7 @@
 //! section 4).
 #![tactic(auto)]
 
-ghost use Rattle.std.specs.Prelude.{◌≡◌, ℕ, suc, ◌<◌, ◌++◌, [], length, take, get_or, Some, None};
+ghost use Rattle.std.specs.Prelude.{◌≡◌, ℕ, suc, ◌<◌, ◌-◌, ◌++◌, ◌∷◌, [], length, take, get_or, Some, None};
 ghost use Rattle.std.specs.Prelude.{IfOk, OnErr, OnOk};
 ghost use Rattle.contention.specs.Contenders.{nobody, contender_at, AreContendersOf, SetsContender};
 ghost use Rattle.contention.specs.Policy.{IsVerdictAmong};
@@ -73,6 +73,34 @@ impl Contenders {
             all.push(Contender::new(heap, *priority))?;
         }
         Ok(Contenders { all })
+    }
+
+    /// One process more, with this priority and in no transaction: its number is the next. Refused
+    /// memory changes nothing.
+    pub fn grow(&mut self, priority: Priority) -> Result<(), AllocError>
+        ensures ok { OnOk result (self.new ≡ self.old
+            ++ record { priority = priority; age = None; touches = [] } ∷ []) }
+        ensures err { OnErr result (self.new ≡ self.old) }
+    {
+        let heap = *self.all.allocator();
+        self.all.push(Contender::new(heap, priority))?;
+        Ok(())
+    }
+
+    /// The process that came last is gone, as before it came. It takes no memory.
+    pub fn shrink(&mut self)
+        requires { 0 < length self.old }
+        ensures { self.new ≡ take (length self.old - 1) self.old }
+    {
+        let _ = self.all.pop();
+    }
+
+    /// A process has ended: its number is one that no process has. It takes no memory.
+    pub fn leave(&mut self, pid: Pid)
+        requires { pid < length self.old }
+        ensures { SetsContender self.old self.new pid nobody }
+    {
+        self.all[pid.0 as usize].leave();
     }
 
     /// A process's transaction begins at this age.

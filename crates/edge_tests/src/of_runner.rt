@@ -6,7 +6,7 @@ use device::{Failing, Portions};
 use heap::Heap;
 use kernel::Kernel;
 use runner::{RunFault, print, run_job, run_schedule};
-use std::alloc::{AllocError, Global};
+use std::alloc::AllocError;
 use std::test::Fail;
 use words::{Job, MAX_LIMIT, Way};
 
@@ -65,7 +65,7 @@ static FIRST_LINES: &str = "1 P1 begin -> begun
 5 P2 stat /a -> dir size 0 links 1
 ";
 
-static RUNS: [(&str, Expected); 11] = [
+static RUNS: [(&str, Expected); 14] = [
     (
         "priorities 0 0\n1 begin\n2 stat /a\n",
         Expected {
@@ -157,7 +157,7 @@ static RUNS: [(&str, Expected); 11] = [
         },
     ),
     (
-        "priorities 0\n\n1 stat /a/b\n1 pipe\n",
+        "priorities 0\n\n1 stat /a/b\n1 frob\n1 stat\n",
         Expected {
             list: "1",
             limit: 100,
@@ -165,6 +165,40 @@ static RUNS: [(&str, Expected); 11] = [
             status: 1,
             out: "",
             err: "txsh: line 4: unknown operation\n",
+        },
+    ),
+    (
+        "priorities 0\n\n1 stat /a/b\n1 stat\n1 frob\n",
+        Expected {
+            list: "1",
+            limit: 100,
+            room: 1000,
+            status: 1,
+            out: "",
+            err: "txsh: line 4: bad arguments\n",
+        },
+    ),
+    (
+        "priorities 0\n1 pipe\n1 fork\n2 write 1 ab\n1 read 0 9\n2 exit\n2 stat /\n",
+        Expected {
+            list: "1,1,2,1,2,2",
+            limit: 100,
+            room: 1000,
+            status: 0,
+            out: "1 P1 pipe -> 0 1\n2 P1 fork -> child 2\n3 P2 write 1 ab -> 2\n\
+                4 P1 read 0 9 -> 2 ab\n5 P2 exit -> ok\n6 P2 stat / -> NoProcess\n",
+            err: "",
+        },
+    ),
+    (
+        "priorities 0\n1 pipe \n",
+        Expected {
+            list: "",
+            limit: 100,
+            room: 1000,
+            status: 1,
+            out: "",
+            err: "txsh: line 2: bad arguments\n",
         },
     ),
     (
@@ -191,34 +225,11 @@ static RUNS: [(&str, Expected); 11] = [
     ),
 ];
 
-// A line with each call that is not supported yet, and what is expected of each.
-static UNSUPPORTED: [&str; 5] = ["dup 0", "dup2 0 1", "pipe", "fork", "exit"];
-
-static UNKNOWN: Expected = Expected {
-    list: "1",
-    limit: 100,
-    room: 1000,
-    status: 1,
-    out: "",
-    err: "txsh: line 2: unknown operation\n",
-};
-
-// Whether the one line is reported as an unknown operation.
-fn is_unsupported(alloc: Global, heap: Heap, line: &str) -> bool {
-    match format!(in alloc; "priorities 0\n1 {line}\n") {
-        Ok(text) => is_run(heap, text.as_str(), &UNKNOWN),
-        Err(_) => false,
-    }
-}
-
 #[test]
 fn jobs_have_their_texts_and_statuses(rt: HostRuntime) -> Result<(), Fail> {
     let heap = heap::open(rt.alloc())?;
     for (text, expected) in &RUNS {
         assert!(rt; is_run(heap, text, expected), "{text}");
-    }
-    for line in &UNSUPPORTED {
-        assert!(rt; is_unsupported(rt.alloc(), heap, line), "{line}");
     }
     Ok(())
 }

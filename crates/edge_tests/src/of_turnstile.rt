@@ -1,6 +1,5 @@
 // A run through a turnstile, by one thread and then by two.
-ghost use Rattle.std.specs.Prelude.{◌≡◌, true, All, IfOk, IfSome};
-ghost use Rattle.kernel.specs.Operations.{can_run};
+ghost use Rattle.std.specs.Prelude.{◌≡◌, All, IfSome};
 ghost use Rattle.turnstile.specs.Passes.{Gate};
 
 use crate::texts::inspect;
@@ -21,15 +20,11 @@ fn path(letter: u8, number: u64) -> [u8; 4] {
     [b'/', letter, b'0' + tens as u8, b'0' + ones as u8]
 }
 
-fn mkdir(heap: Heap, path: &[u8]) -> Result<Op, AllocError>
-    ensures { IfOk result (λ op. can_run op ≡ true) }
-{
+fn mkdir(heap: Heap, path: &[u8]) -> Result<Op, AllocError> {
     Ok(Op::Call(Call::Mkdir(Bytes::copy(heap, path)?)))
 }
 
-fn stat(heap: Heap, path: &[u8]) -> Result<Op, AllocError>
-    ensures { IfOk result (λ op. can_run op ≡ true) }
-{
+fn stat(heap: Heap, path: &[u8]) -> Result<Op, AllocError> {
     Ok(Op::Call(Call::Stat(Bytes::copy(heap, path)?)))
 }
 
@@ -116,10 +111,24 @@ fn sees(heap: Heap, turnstile: &Turnstile, pass: &mut Pass) -> bool
     }
 }
 
+fn is_third(reply: &Reply) -> bool {
+    matches!(reply, Reply::Answer(Answer::Child(Pid(3))))
+}
+
+fn is_third_now(reply: &Option<Reply>) -> bool {
+    match reply {
+        Some(reply) => is_third(reply),
+        None => false,
+    }
+}
+
+fn is_fourth(reply: &Reply) -> bool {
+    matches!(reply, Reply::Answer(Answer::Child(Pid(4))))
+}
+
 // Makes a directory, and waits for the other thread.
 fn work<R: Wait + Abort>(rt: &R, turnstile: &Turnstile, pass: &mut Pass, op: Op)
-    requires gate { pass.old.gate ≡ turnstile.now }
-    requires op { can_run op ≡ true }
+    requires { pass.old.gate ≡ turnstile.now }
     ensures { pass.new.gate ≡ pass.old.gate }
 {
     assert!(rt; inspect(turnstile.call(rt, pass, op), is_done));
@@ -194,6 +203,46 @@ fn shared<R: Threads + Wait + Abort + Sync>(rt: &R, heap: Heap, opened: Opened) 
     turnstile.close(passes)
 }
 
+// The kernel after each process has forked, one of them without waiting, and the second has made a
+// directory.
+fn forked<R: Wait + Abort>(rt: &R, heap: Heap, opened: Opened) -> Option<Kernel>
+    requires one { opened.one.gate ≡ opened.turnstile }
+    requires two { opened.two.gate ≡ opened.turnstile }
+{
+    let Opened {
+        turnstile,
+        mut one,
+        mut two,
+    } = opened;
+    assert!(rt;
+        inspect(
+            turnstile.try_call(&mut one, Op::Call(Call::Fork)),
+            is_third_now
+        )
+    );
+    assert!(rt;
+        inspect(
+            turnstile.call(rt, &mut two, Op::Call(Call::Fork)),
+            is_fourth
+        )
+    );
+    assert!(rt; makes(heap, &turnstile, &mut two));
+    let passes = Vec::from_array(heap, [one, two]).ok()?;
+    turnstile.close(passes)
+}
+
+// How many entries there are, how many processes were made, and whether the children live.
+fn families(kernel: &Kernel) -> (usize, usize, bool) {
+    let both = kernel.is_living(Pid(3)) && kernel.is_living(Pid(4));
+    (kernel.history().entries().len(), kernel.made(), both)
+}
+
+// What two processes and their children have come to.
+fn family<R: Wait + Abort>(rt: &R, heap: Heap, kernel: Kernel) -> Option<(usize, usize, bool)> {
+    let opened = begun(heap, kernel)?;
+    Some(inspect(forked(rt, heap, opened)?, families))
+}
+
 fn makes_path(op: &Op, path: &[u8]) -> bool {
     match op {
         Op::Call(Call::Mkdir(bytes)) => bytes.as_slice() == path,
@@ -236,5 +285,15 @@ fn one_thread_and_two(rt: HostRuntime) -> Result<(), Fail> {
     let zero = Priority::new(0).ok_or("no priority")?;
     let kernel = Kernel::new(heap, &[zero, zero], 202)?;
     assert!(rt; done(&rt, heap, kernel) == Some((202, 100, 100)));
+    Ok(())
+}
+
+// A child that is made by a call has no pass, and the run goes on.
+#[test]
+fn children_have_no_pass(rt: HostRuntime) -> Result<(), Fail> {
+    let heap = heap::open(rt.alloc())?;
+    let zero = Priority::new(0).ok_or("no priority")?;
+    let kernel = Kernel::new(heap, &[zero, zero], 10)?;
+    assert!(rt; family(&rt, heap, kernel) == Some((3, 4, true)));
     Ok(())
 }

@@ -1,9 +1,13 @@
 -- The open descriptors by what a table gives; and a patch laid on top as far as a descriptor.
 use Rattle.std.proofs.Common.{◌≡◌, ◌≢◌, ℕ, zero, suc, ◌+◌, ◌≤◌, ◌<◌, List, [], ◌∷◌, ◌++◌, length, get_or, Option, Some, None, nat_cmp, refl, sym, ap, ◌∙◌, append_assoc, arith, inl, inr}
+use Rattle.std.specs.Prelude.{count_by}
+use Rattle.std.proofs.Common.{Bool, true, false, cond, map, ◌==◌}
 use Rattle.std.proofs.lemmas.Bool.{cases_eq, cases_lt}
+use Rattle.std.proofs.lemmas.List.Sums.{sum_by-cons}
 use Rattle.model.specs.FiniteMap.{FinMap, entries, get, from_entries}
 use Rattle.model.specs.Places.{placed}
 use Rattle.model.proofs.Laws.{get-placed}
+use Rattle.fdtable.specs.Free.{one_if}
 use Rattle.fdtable.specs.Patches.{Given, IsLaid, laid_at, or_before}
 use Rattle.fdtable.proofs.Laws.{entries-placed, laid_same, laid_other}
 
@@ -77,3 +81,25 @@ laid_all patch before after n so none f = elim (cases_lt f n) [
   | inl low ↦ so.below f low
   | inr high ↦ so.above f high ∙ ap (λ o. or_before o (get before f)) (sym (none f high))
 ]
+
+-- how many of these are open on a description
+abbrev pub among : ℕ → List (ℕ × ℕ) → ℕ
+among d es = count_by (λ v. v == d) (map (λ (e : ℕ × ℕ). e.1) es)
+
+pub among_more : (m : FinMap nat_cmp ℕ) (first more d : ℕ) → among d (open_from m first (suc more)) ≡ one_if d (get m first) + among d (open_from m (first + 1) more)
+unfolding open_from
+among_more m first more d =
+    let next : suc first ≡ first + 1 = omega arith in
+    by_first (get m first) (open_from m (suc first) more) ∙ ap (λ n. one_if d (get m first) + among d (open_from m n more)) next
+  where
+    by_first : (o : Option ℕ) (es : List (ℕ × ℕ)) → among d (in_front first o es) ≡ one_if d o + among d es
+    by_first None es = let same : among d es ≡ 0 + among d es = omega arith in same
+    by_first (Some e) es = sum_by-cons (λ v. cond (v == d) 1 0) e (map (λ (e : ℕ × ℕ). e.1) es)
+
+pub one_low : (d : ℕ) (o : Option ℕ) → one_if d o ≤ 1
+one_low d None = omega arith
+one_low d (Some e) = by_test (e == d)
+  where
+    by_test : (b : Bool) → cond b 1 0 ≤ 1
+    by_test true = omega arith
+    by_test false = omega arith

@@ -1,6 +1,6 @@
 -- The descriptors of a process, and those that are free (POSIX.1-2017, 2.14: a new descriptor is
 -- the lowest free one).
-use Rattle.std.specs.Prelude.{ℕ, zero, suc, ◌+◌, List, [], ◌∷◌, Option, Some, None, if◌then◌else◌}
+use Rattle.std.specs.Prelude.{ℕ, zero, suc, ◌+◌, ◌==◌, List, [], ◌∷◌, Option, Some, None, if◌then◌else◌}
 use Rattle.std.specs.Ordering.{nat_cmp}
 use Rattle.model.specs.FiniteMap.{FinMap, contains_key}
 use Rattle.ids.specs.declared.limits.TheConstants.{DESCRIPTORS}
@@ -24,3 +24,8 @@ first_of (f ∷ fs) = Some f
 abbrev pub first_two : List ℕ → Option (ℕ × ℕ)
 first_two (f ∷ g ∷ fs) = Some (f, g)
 first_two _ = None
+
+-- 1 where a descriptor gives this description, else 0
+abbrev pub one_if : ℕ → Option ℕ → ℕ
+one_if d (Some e) = if e == d then 1 else 0
+one_if d None = 0

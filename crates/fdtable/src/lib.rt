@@ -3,8 +3,9 @@
 #![tactic(auto)]
 
 ghost use Rattle.std.specs.Prelude.{◌≡◌, ◌+◌, ◌-◌, ◌<◌, ◌≤◌, MatchOption, IfOk, IfSome, IsSome, [], ◌∷◌};
+ghost use Rattle.std.specs.Prelude.{◌==◌, count_by};
 ghost use Rattle.model.specs.FiniteMap as map;
-ghost use Rattle.fdtable.specs.Free.{free, free_from, first_of, first_two};
+ghost use Rattle.fdtable.specs.Free.{free, free_from, first_of, first_two, one_if};
 
 mod patch;
 
@@ -133,10 +134,32 @@ impl FdTable {
         Ok(entries)
     }
 
+    /// How many descriptors are open on a description.
+    pub fn count(&self, description: Num) -> usize
+        ensures { result ≡ count_by (λ d. d == description) (map.values self.now) }
+    {
+        let _slots = &self.slots;
+        let mut count = 0;
+        for number in 0..DESCRIPTORS as u32 {
+            count += one_if(self.get(Fd(number)), description);
+        }
+        count
+    }
+
     /// There are no more open descriptors than a process may have.
     pub fn open_are_few(&self)
         ensures { map.len self.now ≤ DESCRIPTORS }
     {
         let _slots = &self.slots;
+    }
+}
+
+// 1 where a descriptor is open on a description, else 0.
+fn one_if(given: Option<Num>, description: Num) -> usize
+    ensures { result ≡ one_if description given }
+{
+    match given {
+        Some(open) if open == description => 1,
+        _ => 0,
     }
 }

@@ -186,7 +186,7 @@ edit_comes chosen k (Move d x e y n replaced) f counts = moved_comes k d e _ _ (
 edit_comes chosen k (Put_bytes n place bytes before) f counts = inode_comes k n _ (there_by_kind k n _ f.0)
 edit_comes chosen k (Cut n before after) f counts = inode_comes k n _ (there_by_kind k n _ f.0)
 edit_comes chosen k (Take p count) f counts = inode_comes k p _ (there_by_kind k p _ f.0)
-edit_comes chosen k (Append p bytes) f counts = inode_comes k p _ (there_by_kind k p _ f)
+edit_comes chosen k (Append p bytes) f counts = inode_comes k p _ (there_by_kind k p _ f.0)
 edit_comes chosen k (Set_offset d place) f counts = subst (Comes k) (sym (set_there k d place f.0 f.1)) (offset_comes k d place f.0 f.1)
 edit_comes chosen k (Open_inode i inode how q f) can counts = let d : ℕ = number chosen (Made i) in open_comes k d (number chosen inode) how q f can.unused.description (more_than _ (holders k d) (times d (d ∷ [])) (counts.holders d) (has_first d []))
 edit_comes chosen k (Make_pipe i q f g) can counts =

@@ -69,7 +69,7 @@ freed_inode P k n f g = by_test (is_reached k n) refl
     by_test false e = g e
 
 -- a description that is there opens its inode
-opens_some : (k : Kernel) (d : ℕ) (it : Description) → get k.descriptions d ≡ Some it → 0 < openings k it.inode
+pub opens_some : (k : Kernel) (d : ℕ) (it : Description) → get k.descriptions d ≡ Some it → 0 < openings k it.inode
 opens_some k d it is =
     let all : weight (λ (v : Description). one v.inode it.inode) (get k.descriptions d) + openings (without_description d k) it.inode ≡ openings k it.inode = gone_openings k d it.inode in
     let here : weight (λ (v : Description). one v.inode it.inode) (get k.descriptions d) ≡ 1 = ap (weight (λ (v : Description). one v.inode it.inode)) is ∙ same_one it.inode in

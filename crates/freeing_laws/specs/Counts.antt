@@ -4,7 +4,7 @@ use Rattle.std.specs.Prelude.{◌≡◌, ℕ, ◌+◌, ◌==◌, List, [], ◌�
 use Rattle.std.specs.Prelude.{if◌then◌else◌}
 use Rattle.std.specs.List.{count_by}
 use Rattle.model.specs.FiniteMap.{get, remove, values}
-use Rattle.model.specs.State.{Kernel, Description, names_of, links, ends, is_end}
+use Rattle.model.specs.State.{Kernel, Description, links, ends, is_end}
 use Rattle.model.specs.Changes.{Edit, Made, number, Make_directory, Make_file, Name_file}
 use Rattle.model.specs.Changes.{Unname_file, Unname_directory, Move, Open_inode, Make_pipe}
 use Rattle.model.specs.Changes.{Share_slot, Clear_slot, New_process, End_process, process_of}

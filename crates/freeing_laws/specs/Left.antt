@@ -2,7 +2,7 @@
 use Rattle.std.specs.Prelude.{◌≡◌, ◌≢◌, ◌+◌, ◌<◌, ◌⊎◌, true, ℕ, List, [], ◌∷◌, ◌++◌, Some, None}
 use Rattle.model.specs.FiniteMap.{get}
 use Rattle.model.specs.State.{Kernel, links}
-use Rattle.model.specs.Changes.{Edit, applied, all_applied, is_held, is_reached, holders, tidy}
+use Rattle.model.specs.Changes.{Edit, is_held, is_reached, holders, tidy}
 use Rattle.model.specs.Changes.{set_process, with_slot, without_slot, process_of}
 use Rattle.model.specs.Effects.{Effect, all_done}
 use Rattle.call_laws.specs.Fits.{table_of}

@@ -9,6 +9,7 @@
 ghost use Rattle.freeing_laws.specs.Counts.{CountsChange, FreeingCounts};
 ghost use Rattle.freeing_laws.specs.Left.{LeftIsTidy};
 ghost use Rattle.freeing_laws.specs.Openings.{OpeningsChange};
+ghost use Rattle.freeing_laws.specs.Pipes.{PipesKeepTheirEnds};
 ghost use Rattle.freeing_laws.specs.Sweep.{SweepIsTidy};
 
 /// Each edit changes the counts of names, holders, openings and
@@ -38,4 +39,10 @@ pub fn left_is_tidy()
 /// depend, and how many there are at most. Proved in `proofs/Openings.antt`.
 pub fn openings_change()
     ensures { OpeningsChange }
+{}
+
+/// A pipe has two descriptions, of which one reads and one writes, and no further one comes. So its
+/// ends are their holders. Proved in `proofs/Pipes.antt`.
+pub fn pipes_keep_their_ends()
+    ensures { PipesKeepTheirEnds }
 {}

@@ -1,30 +1,33 @@
--- Calls: what those that are there touch and edit, and that their entries can be added.
+-- Calls: what they touch and edit, and that their entries can be added.
 use Rattle.kernel.proofs.Words.{◌≡◌, ℕ, ◌+◌, List, [], ◌∷◌, ◌++◌, Option, Some, None, Result, Ok, Err, refl, sym, ◌∙◌, ap, ap₂, subst, true, false, Bool, inl}
 use Rattle.kernel.proofs.Words.{inr, length, arith, eq-eqb, if◌then◌else◌, AllByRecursion, Kernel, tidy, all_applied, reply, edits, IsNowhere, BeginFlags, Do}
 use Rattle.kernel.proofs.Words.{Entry, Executed, is_inside, is_unsupported, Moment, idle, live, own_next, after_one, numbers, calls_at, seen_by}
 use Rattle.kernel.proofs.Words.{counted_touches, clashes_with, losing_cause, all_below, bound, is_in, next, status, held_by, after_list, calls_of, priority_of}
 use Rattle.kernel.proofs.Words.{holds_place, IsApart, Inside, Outcome, Taken, Right, answered, Effect, effects, CallGoesIn, is_ended, calls_go_in}
 use Rattle.kernel.proofs.Words.{executed_again, nowhere_seen, childless, phase_is, plain_calls_run, right_by, views_may_be_loose, what_stands, live_age}
-use Rattle.kernel.proofs.Words.{IsDoomedBy, Doomed, effect, made_by, AreNew, with_change, view_at, changes_in, can_call, part_with, state_with, Asks, Stands}
+use Rattle.kernel.proofs.Words.{IsDoomedBy, Doomed, effect, made_by, AreNew, with_change, view_at, changes_in, part_with, state_with, Stands}
 use Rattle.kernel.proofs.Words.{calling, moment, Fields, Dooms, CanEnter, IsIn, Moves, part_at, part_of, shown_by, changes_of, doomed_by, is_no_entry, is_some}
-use Rattle.kernel.proofs.Words.{Edit, FitsAll, is_alive, sum_by, news, not, IfOk, filter, get, Name, A_file, A_directory, A_pipe, names_of, Make_directory}
-use Rattle.kernel.proofs.Words.{Unname_directory, Touch, touches, edits_of, counted, all_done, CanEdit, Committed, IsPlan, Plans, Live}
-use Rattle.model.specs.Changes.{Make_file, Name_file, Unname_file, Move, Put_bytes, Cut, Open_inode, Set_offset, Clear_slot}
+use Rattle.kernel.proofs.Words.{Edit, FitsAll, is_alive, sum_by, news, filter, Make_directory}
+use Rattle.kernel.proofs.Words.{Unname_directory, Touch, touches, counted, all_done, CanEdit, Committed, IsPlan, Plans, Live}
+use Rattle.model.specs.Changes.{Make_file, Name_file, Unname_file, Move, Put_bytes, Cut, Open_inode, Set_offset, Share_slot, Clear_slot, Make_pipe, Take, Append, New_process, End_process}
 use Rattle.call_laws.specs.Fits.{Fits}
-use Rattle.shadow.specs.Looks.{DirectoriesAreKept, HasNoPipes}
+use Rattle.shadow.specs.Looks.{DirectoriesAreKept}
 use Rattle.shadow.specs.Steps.{IsOne, IsLast}
-use Rattle.kernel.proofs.Edits.{calls_edit}
-use Rattle.call_laws.specs.WellFormed.{WellFormed, IsRooted, Leads}
+use Rattle.kernel.specs.States.{IsBirth, IsExit}
+use Rattle.freeing_laws.specs.Sweep.{IsTidied}
+use Rattle.freeing_laws.proofs.Laws.{sweep_is_tidy_lem}
+use Rattle.kernel.proofs.Edits.{calls_change, calls_edit, fork_comes}
+use Rattle.call_laws.specs.WellFormed.{WellFormed}
 use Rattle.std.proofs.lemmas.Bool.{cases_Bool, false≢true, or_left, or_right}
-use Rattle.model.specs.Plan.{Errno, Plan, answer as answer_to, given, ◌>>=◌, ◌>>◌, ENOENT, ENOTDIR, ENOTEMPTY, EEXIST, EBUSY, List_names, refuse_if, or_refuse}
-use Rattle.model.specs.Calls.{Call, Answer, Stat, Mkdir, Rmdir, List_directory, own}
-use Rattle.call_laws.proofs.Laws.{fits, can_be_made, after_bind, whatever}
-use Rattle.model.specs.Paths.{is_empty}
-use Rattle.model.specs.Walks.{Place, parsed, walk, last_of, is_directory}
-use Rattle.model.specs.Plans.{Change, plan, status as told_status, absent}
+use Rattle.model.specs.Plan.{Errno}
+use Rattle.model.specs.Calls.{Call, Answer, Fork, Exit, own}
+use Rattle.call_laws.proofs.Laws.{fits, can_be_made}
+use Rattle.model.specs.Plans.{pipes_in}
+use Rattle.model.specs.Changes.{process_of}
+use Rattle.kernel.proofs.Words.{Born, Calls, CanChange, IsConsistent, born, contender_at, child_in, ends_process, first_is, idle_slot, makes_process, no_part, part_after, suc, with_born, with_child, ◌⊎◌, ◌≢◌}
 use Rattle.shadow.specs.Claims.{HasParent, HaveParents}
 use Rattle.calls.specs.declared.plan.Plan.{Plan as Planned}
-use Rattle.kernel.proofs.Entries.{IsSteady, pids, not_doomed, comes_to, enters, moves, stays, slot_changes, slot_views, caller_lives, free_at}
+use Rattle.kernel.proofs.Entries.{Grows, child_is_last, pids, not_both, not_doomed, comes_to, enters_grown, goes, moves, one_more, processes, stay_as_many, stays, slot_changes, slot_views, caller_lives, free_at}
 
 -- the touches that count
 abbrev counted_by : Option (BeginFlags × ℕ) → List Touch → List Touch
@@ -49,19 +52,24 @@ first_parents v kept chosen (Put_bytes n place bytes before) fit is = tt
 first_parents v kept chosen (Cut n before later) fit is = tt
 first_parents v kept chosen (Open_inode i inode mode pid f) fit is = tt
 first_parents v kept chosen (Set_offset d place) fit is = tt
+first_parents v kept chosen (Share_slot pid f d pipes) fit is = tt
 first_parents v kept chosen (Clear_slot pid f pipes) fit is = tt
+first_parents v kept chosen (Make_pipe i pid f g) fit is = tt
+first_parents v kept chosen (Take p count) fit is = tt
+first_parents v kept chosen (Append p bytes) fit is = tt
 first_parents v kept chosen e fit is = elim is [ inl first ↦ absurd first | inr last ↦ absurd last.1 ]
 
 last_parents : (v : Committed) (m : ℕ) (e : Edit) → IsLast m e → HasParent v.reserves e
 last_parents v m (Open_inode i inode mode pid f) is = tt
 last_parents v m (Set_offset d place) is = tt
+last_parents v m (Share_slot pid f d pipes) is = tt
 last_parents v m (Clear_slot pid f pipes) is = tt
 last_parents v m e is = absurd is
 
-have_parents : (v : Committed) (pid : ℕ) (call : Call) → WellFormed v.state → HasNoPipes v.state → is_alive v.state pid ≡ true → DirectoriesAreKept v → can_call call ≡ true → HaveParents v.reserves (edits v.state pid call)
-have_parents v pid call well none alive kept there =
+inside_parents : (v : Committed) (pid : ℕ) (call : Call) → WellFormed v.state → is_alive v.state pid ≡ true → DirectoriesAreKept v → is_inside call ≡ true → HaveParents v.reserves (edits v.state pid call)
+inside_parents v pid call well alive kept inside =
     let can = can_be_made v.state pid call well alive in
-    by can.0 (edits v.state pid call) (calls_edit v.state pid well none call there) (fits v.state pid call can.0 can.1)
+    by can.0 (edits v.state pid call) (calls_edit v.state pid well call inside) (fits v.state pid call can.0 can.1)
   where
     by : (chosen : List ℕ) (es : List Edit) → CanEdit es → FitsAll chosen v.state es → HaveParents v.reserves es
     by chosen [] can fit = tt
@@ -69,40 +77,131 @@ have_parents v pid call well none alive kept there =
     by chosen (e ∷ f ∷ []) can fit = (first_parents v kept chosen e fit.0 (inl can.0), (last_parents v (news e) f can.2, tt))
     by chosen (e ∷ f ∷ g ∷ es) can fit = absurd can
 
+have_parents : (v : Committed) (pid : ℕ) (call : Call) → WellFormed v.state → is_alive v.state pid ≡ true → DirectoriesAreKept v → HaveParents v.reserves (edits v.state pid call)
+have_parents v pid Fork well alive kept = elim (fork_comes v.state pid) [
+  | inl refused ↦ subst (HaveParents v.reserves) (sym refused.1) tt
+  | inr made ↦ subst (HaveParents v.reserves) (sym made.3) (tt, tt)
+]
+have_parents v pid Exit well alive kept = (tt, tt)
+have_parents v pid call well alive kept = inside_parents v pid call well alive kept refl
+
+-- a process in no transaction has no changes
+pub unchanged_idle : (f : Fields) → IsConsistent f → (pid : ℕ) → status (moment f.log) pid ≡ idle → view_at f.slots pid ≡ idle_slot
+unchanged_idle f holds pid is = ap (λ p. p.slot) (holds.parts pid) ∙ ap (λ s. shown_by s (changes_of (moment f.log) pid)) is
+
 -- what a plan over the slots gives is what the history says
-module _ (f : Fields) (pid : ℕ) (within : Option (BeginFlags × ℕ)) (call : Call) (asks : Asks f pid (calling within) (Do call)) where
+module _ (f : Fields) (pid : ℕ) (within : Option (BeginFlags × ℕ)) (call : Call) (asks : Calls f pid within call) where
   abbrev sees : Committed
   sees = record (f.stable) { state = all_done (changes_in (view_at f.slots pid)) f.stable.state }
 
+  seen_well : WellFormed sees.state
+  seen_well = subst WellFormed (sym (slot_views f asks.holds pid)) ((what_stands 0 f.log.priorities f.log.limit f.log.entries asks.holds.legal).lists pid).well
+
+  seen_alive : is_alive sees.state pid ≡ true
+  seen_alive = subst (λ k. is_alive k pid ≡ true) (sym (slot_views f asks.holds pid)) (((what_stands 0 f.log.priorities f.log.limit f.log.entries asks.holds.legal).lists pid).alive (caller_lives (moment f.log) pid within asks.stands))
+
+  can_change : (w : Option (BeginFlags × ℕ)) → Stands (calling w) (status (moment f.log) pid) → (is_some w ≡ true → is_inside call ≡ true) → CanChange f.stable.state pid w (edits sees.state pid call)
+  can_change (Some w) is supported = calls_edit sees.state pid seen_well call (supported refl)
+  can_change None is supported =
+      let none : sees.state ≡ f.stable.state = ap (λ v. all_done (changes_in v) f.stable.state) (unchanged_idle f asks.holds pid is) in
+      subst (λ k. CanChange k pid None (edits sees.state pid call)) none (calls_change sees.state pid seen_well call)
+
   -- with the touches that count
-  pub plans : (p q : Planned) → IsPlan sees.state pid call p → DirectoriesAreKept sees → HasNoPipes sees.state → q.answer ≡ p.answer → q.touches.items ≡ counted_by within p.touches.items → q.edits.items ≡ p.edits.items
-      → record { answer : q.answer ≡ reply (seen_by (moment f.log) pid) pid call; plans : Plans f pid call q.touches.items q.edits.items }
-  plans p q is used none answers counts_only edits_same =
+  pub plans : (p q : Planned) → IsPlan sees.state pid call p → DirectoriesAreKept sees → q.answer ≡ p.answer → q.touches.items ≡ counted_by within p.touches.items → q.edits.items ≡ p.edits.items
+      → record { answer : q.answer ≡ reply (seen_by (moment f.log) pid) pid call; plans : Plans f pid within call q.touches.items q.edits.items }
+  plans p q is used answers counts_only edits_same =
       let seen = slot_views f asks.holds pid in
       let goes = (views_may_be_loose 0 f.log.priorities f.log.limit f.log.entries asks.holds.legal pid).goes_on call in
-      let list = (what_stands 0 f.log.priorities f.log.limit f.log.entries asks.holds.legal).lists pid in
-      let well = subst WellFormed (sym seen) list.well in
-      let alive = subst (λ k. is_alive k pid ≡ true) (sym seen) (list.alive (caller_lives (moment f.log) pid within asks.stands)) in
       record {
         answer = answers ∙ is.answer ∙ ap (λ k. reply k pid call) seen ∙ sym goes.reply;
         plans = record {
           touches = counts_only ∙ ap (counted_by within) (is.touches ∙ ap (λ k. touches k pid call) seen ∙ sym goes.touches) ∙ counts (moment f.log) pid call within asks.stands;
           edits = edits_same ∙ is.edits ∙ ap (λ k. edits k pid call) seen ∙ sym goes.edits;
-          kinds = subst CanEdit (sym (edits_same ∙ is.edits)) (calls_edit sees.state pid well none call asks.there);
-          parents = subst (HaveParents f.stable.reserves) (sym (edits_same ∙ is.edits)) (have_parents sees pid call well none alive used asks.there);
+          kinds = subst (CanChange f.stable.state pid within) (sym (edits_same ∙ is.edits)) (can_change within asks.stands asks.supported);
+          parents = subst (HaveParents f.stable.reserves) (sym (edits_same ∙ is.edits)) (have_parents sees pid call seen_well seen_alive used);
         };
       }
 
--- calls that are there are those that transactions support, and end no process
-pub inside : (call : Call) → can_call call ≡ true → is_inside call ≡ true
-inside Rattle.model.specs.Calls.Fork h = absurd (false≢true h)
-inside Rattle.model.specs.Calls.Exit h = absurd (false≢true h)
-inside call h = refl
-
-goes_on : (call : Call) (r : Result Answer Errno) → can_call call ≡ true → is_ended (Do call) (answered r) ≡ false
-goes_on Rattle.model.specs.Calls.Exit r h = absurd (false≢true h)
+-- calls that transactions support end no process
+goes_on : (call : Call) (r : Result Answer Errno) → is_inside call ≡ true → is_ended (Do call) (answered r) ≡ false
+goes_on Exit r h = absurd (false≢true h)
 goes_on call (Ok a) h = refl
 goes_on call (Err e) h = refl
+
+-- what the call of a process in no transaction does to the table of processes: nothing,
+record Steadily (k : Kernel) (pid : ℕ) (call : Call) : Type 0 where
+  childless : child_in (answered (reply k pid call)) ≡ None
+  unborn : born (answered (reply k pid call)) ≡ 0
+  stays : is_ended (Do call) (answered (reply k pid call)) ≡ false
+  edits : CanEdit (edits k pid call)
+
+-- a child is made,
+record Bears (k : Kernel) (pid : ℕ) (call : Call) : Type 0 where
+  child : child_in (answered (reply k pid call)) ≡ Some (suc k.made)
+  one : born (answered (reply k pid call)) ≡ 1
+  stays : is_ended (Do call) (answered (reply k pid call)) ≡ false
+  pipes : List ℕ
+  edits : edits k pid call ≡ New_process (suc k.made) pid pipes ∷ []
+
+-- or it ends
+record Leaves (k : Kernel) (pid : ℕ) (call : Call) : Type 0 where
+  childless : child_in (answered (reply k pid call)) ≡ None
+  unborn : born (answered (reply k pid call)) ≡ 0
+  ends : is_ended (Do call) (answered (reply k pid call)) ≡ true
+  pipes : List ℕ
+  edits : edits k pid call ≡ End_process pid pipes ∷ []
+
+record Calmly (k : Kernel) (pid : ℕ) (call : Call) : Type 0 where
+  childless : child_in (answered (reply k pid call)) ≡ None
+  unborn : born (answered (reply k pid call)) ≡ 0
+  stays : is_ended (Do call) (answered (reply k pid call)) ≡ false
+
+steadily : (k : Kernel) (pid : ℕ) (call : Call) → is_inside call ≡ true → Calmly k pid call
+steadily k pid call inside =
+    let none = childless k pid call inside in
+    record { childless = none.0; unborn = none.1; stays = goes_on call (reply k pid call) inside }
+
+inside_fate : (k : Kernel) (pid : ℕ) (call : Call) → WellFormed k → is_inside call ≡ true → Steadily k pid call
+inside_fate k pid call well inside =
+    let calm = steadily k pid call inside in
+    record { childless = calm.childless; unborn = calm.unborn; stays = calm.stays; edits = calls_edit k pid well call inside }
+
+fate : (k : Kernel) (pid : ℕ) → WellFormed k → (call : Call) → Steadily k pid call ⊎ (Bears k pid call ⊎ Leaves k pid call)
+fate k pid well Fork = elim (fork_comes k pid) [
+  | inl refused ↦
+      let says = ap answered refused.0 in
+      inl (record { childless = ap child_in says; unborn = ap born says; stays = ap (is_ended (Do Fork)) says; edits = subst CanEdit (sym refused.1) tt })
+  | inr made ↦
+      let says = ap answered made.1 in
+      inr (inl (record { child = ap child_in says; one = ap born says; stays = ap (is_ended (Do Fork)) says; pipes = made.2; edits = made.3 }))
+]
+fate k pid well Exit = inr (inr (record { childless = refl; unborn = refl; ends = refl; pipes = pipes_in (own k pid Exit); edits = refl }))
+fate k pid well call = inl (inside_fate k pid call well refl)
+
+-- edits of what is committed and of what a transaction sees make no process and end none
+none_of : (e : Edit) → IsOne e → (makes_process e ≡ false) × (ends_process e ≡ false)
+none_of (New_process child parent pipes) one = elim one [ inl first ↦ absurd first | inr last ↦ absurd last.1 ]
+none_of (End_process pid pipes) one = elim one [ inl first ↦ absurd first | inr last ↦ absurd last.1 ]
+none_of e one = (refl, refl)
+
+pub makes_none : (es : List Edit) → CanEdit es → first_is makes_process es ≡ false
+makes_none [] can = refl
+makes_none (e ∷ []) can = (none_of e (elim can [ inl first ↦ inl first | inr last ↦ inr (0, last) ])).0
+makes_none (e ∷ f ∷ []) can = (none_of e (inl can.0)).0
+makes_none (e ∷ f ∷ g ∷ es) can = absurd can
+
+pub ends_none : (es : List Edit) → CanEdit es → first_is ends_process es ≡ false
+ends_none [] can = refl
+ends_none (e ∷ []) can = (none_of e (elim can [ inl first ↦ inl first | inr last ↦ inr (0, last) ])).1
+ends_none (e ∷ f ∷ []) can = (none_of e (inl can.0)).1
+ends_none (e ∷ f ∷ g ∷ es) can = absurd can
+
+pub same_log : (w : Option (BeginFlags × ℕ)) (pid : ℕ) (es : List Edit) (f : Fields) → (with_born w pid es f).log ≡ f.log
+same_log (Some w) pid es f = refl
+same_log None pid es f = by (first_is makes_process es) where
+  by : (b : Bool) → (if b then with_child (process_of f.stable.state pid).priority f else f).log ≡ f.log
+  by true = refl
+  by false = refl
 
 said : (r : Result Answer Errno) → is_no_entry (answered r) ≡ false
 said (Ok a) = refl
@@ -137,10 +236,9 @@ pub seen_idle : (m : Moment) (pid : ℕ) → status m pid ≡ idle → seen_by m
 seen_idle m pid is = ap (λ s. after_list pid (calls_of s) m.committed) (phase_is m pid idle is (λ h. absurd cc))
 
 -- the edits of a plain call, which is committed at once, fit
-pub plain_commits : (f : Fields) (pid : ℕ) (within : Option (BeginFlags × ℕ)) (call : Call) → Asks f pid (calling within) (Do call) → is_some within ≡ false
+pub plain_commits : (f : Fields) (pid : ℕ) (call : Call) → Calls f pid None call
     → (es : List Edit) → es ≡ edits (seen_by (moment f.log) pid) pid call → (chosen : List ℕ) → AreNew f.transactions es chosen → FitsAll chosen f.stable.state es
-plain_commits f pid (Some within) call asks none es is chosen new = absurd (false≢true (sym none))
-plain_commits f pid None call asks none es is chosen new =
+plain_commits f pid call asks es is chosen new =
     let same : es ≡ edits f.stable.state pid call = is ∙ ap (λ k. edits k pid call) (seen_idle (moment f.log) pid asks.stands ∙ sym asks.holds.state) in
     subst (FitsAll chosen f.stable.state) (sym same) (fits f.stable.state pid call chosen (record {
       well = subst WellFormed (sym asks.holds.state) (what_stands 0 f.log.priorities f.log.limit f.log.entries asks.holds.legal).committed.well;
@@ -149,7 +247,7 @@ plain_commits f pid None call asks none es is chosen new =
     }))
 
 module _ (f : Fields) (pid : ℕ) (within : Option (BeginFlags × ℕ)) (call : Call) (chosen : List ℕ) (ds : List Doomed)
-    (asks : Asks f pid (calling within) (Do call)) (wins : Wins (moment f.log) pid (counted_touches (moment f.log) pid call) ds) (new : AreNew f.transactions (edits (seen_by (moment f.log) pid) pid call) chosen) where
+    (asks : Calls f pid within call) (wins : Wins (moment f.log) pid (counted_touches (moment f.log) pid call) ds) (new : AreNew f.transactions (edits (seen_by (moment f.log) pid) pid call) chosen) where
   abbrev m : Moment
   m = moment f.log
 
@@ -179,51 +277,84 @@ module _ (f : Fields) (pid : ℕ) (within : Option (BeginFlags × ℕ)) (call : 
     doomed = wins.1;
   }
 
-  right_for : (w : Option (BeginFlags × ℕ)) → Stands (calling w) (status m pid) → Right f.log.limit m e
-  right_for None is = right_by f.log.limit m e idle (Do call) is refl (subst (λ o. Outcome m e idle call o) (sym wins.0) taken, free_at f pid (Do call) idle is asks.place)
-  right_for (Some w) l =
+  right_for : (w : Option (BeginFlags × ℕ)) → Stands (calling w) (status m pid) → (is_some w ≡ true → is_inside call ≡ true) → Right f.log.limit m e
+  right_for None is supported = right_by f.log.limit m e idle (Do call) is refl (subst (λ o. Outcome m e idle call o) (sym wins.0) taken, free_at f pid (Do call) idle is asks.place)
+  right_for (Some w) l supported =
       let s = live w.0 w.1 l.0 in
-      right_by f.log.limit m e s (Do call) l.1 refl (subst (λ b. Inside f.log.limit m e s w.0 call b) (sym (inside call asks.there))
+      right_by f.log.limit m e s (Do call) l.1 refl (subst (λ b. Inside f.log.limit m e s w.0 call b) (sym (supported refl))
       (subst (λ o. Outcome m e s call o) (sym wins.0) taken, free_at f pid (Do call) s l.1 asks.place))
 
   right : Right f.log.limit m e
-  right = right_for within asks.stands
+  right = right_for within asks.stands asks.supported
 
-  steady : IsSteady e
-  steady =
-      let none = childless (seen_by m pid) pid call (inside call asks.there) in
-      record { childless = none.0; unborn = none.1; goes_on = goes_on call answer asks.there }
+  abbrev changed : List Edit
+  changed = edits (seen_by m pid) pid call
+
+  -- a process in no transaction makes a child, ends, or does neither
+  idle_fate : status m pid ≡ idle → Steadily (seen_by m pid) pid call ⊎ (Bears (seen_by m pid) pid call ⊎ Leaves (seen_by m pid) pid call)
+  idle_fate is = fate (seen_by m pid) pid (subst WellFormed (sym (seen_idle m pid is)) (what_stands 0 f.log.priorities f.log.limit f.log.entries asks.holds.legal).committed.well) call
+
+  -- the fields with the child that the call makes, if it makes one
+  grows_for : (w : Option (BeginFlags × ℕ)) → Stands (calling w) (status m pid) → (is_some w ≡ true → is_inside call ≡ true) → Grows m e f (with_born w pid changed f)
+  grows_for (Some w) l supported = let steady = steadily (seen_by m pid) pid call (supported refl) in stay_as_many f asks.holds e right steady.childless steady.unborn
+  grows_for None is supported = elim (idle_fate is) [
+    | inl s ↦ subst (Grows m e f) (ap (λ b. if b then with_child (process_of f.stable.state pid).priority f else f) (sym (makes_none changed s.edits))) (stay_as_many f asks.holds e right s.childless s.unborn)
+    | inr other ↦ elim other [
+      | inl b ↦ subst (λ xs. Grows m e f (with_born None pid xs f)) (sym b.edits) (one_more f asks.holds e right (suc (seen_by m pid).made) b.child b.one (process_of f.stable.state pid).priority (ap (λ k. (process_of k pid).priority) asks.holds.state))
+      | inr l ↦ subst (λ xs. Grows m e f (with_born None pid xs f)) (sym l.edits) (stay_as_many f asks.holds e right l.childless l.unborn)
+    ]
+  ]
+
+  pub grows : Grows m e f (with_born within pid changed f)
+  grows = grows_for within asks.stands asks.supported
 
   spared : is_in pid e.doomed ≡ false
   spared = elim (cases_Bool (is_in pid e.doomed)) [
-    | inl told ↦ absurd (((moves f.log e asks.holds.legal right steady).dooms pid told).other refl)
+    | inl told ↦ absurd (((moves f.log e asks.holds.legal right).dooms pid told).other refl)
     | inr free ↦ free
   ]
 
   -- those that are doomed have slots
-  pub are_in : (g : Fields) → length g.slots ≡ length f.slots → length g.held ≡ length f.held → AllByRecursion (λ d. IsIn g d.pid) ds
+  pub are_in : (g : Fields) → length g.slots ≡ length (with_born within pid changed f).slots → length g.held ≡ length (with_born within pid changed f).held → AllByRecursion (λ d. IsIn g d.pid) ds
   are_in g slots held = members (IsIn g) ds (λ q told.
-      let low = (what_stands 0 f.log.priorities f.log.limit f.log.entries asks.holds.legal).phases.below q (ap holds_place ((moves f.log e asks.holds.legal right steady).dooms q told).before) in
-      record { slot = omega (arith, slots, asks.holds.slot_count); held = omega (arith, held, asks.holds.held_count) })
+      let low = (what_stands 0 f.log.priorities f.log.limit f.log.entries asks.holds.legal).phases.below q (ap holds_place ((moves f.log e asks.holds.legal right).dooms q told).before) in
+      let made = (processes f.log e asks.holds.legal right).made in
+      record { slot = omega (arith, low, made, slots, grows.slot_count); held = omega (arith, low, made, held, grows.held_count) })
 
   abbrev change : Effect
-  change = effect chosen (edits (seen_by m pid) pid call)
+  change = effect chosen changed
 
   goes_in : (w : BeginFlags × ℕ) → Stands (Live w.0 w.1) (status m pid) → CallGoesIn m e call w.0 w.1 answer
   goes_in w l = calls_go_in 0 f.log.priorities f.log.limit f.log.entries e asks.holds.legal right call w.0 w.1 l.0 answer (phase_is m pid (live w.0 w.1 l.0) l.1 (λ h. absurd cc)) refl
       (executed_again (seen_by m pid) pid call)
 
-  part_is : (w : Option (BeginFlags × ℕ)) → Stands (calling w) (status m pid) → part_with w change (counted_touches m pid call) (part_of m pid) ≡ part_of (next m e) pid
-  part_is None is =
+  idle_phase : status m pid ≡ idle → (next m e).phase pid ≡ m.phase pid
+  idle_phase is =
       let phase = phase_is m pid idle is (λ h. absurd cc) in
-      sym (stays f.log e asks.holds.legal right steady pid ((moves f.log e asks.holds.legal right steady).own
-      ∙ ap (λ s. own_next (m.entries + 1) s (Do call) (answered answer) chosen) phase ∙ stays_idle (m.entries + 1) call answer chosen ∙ sym phase))
-  part_is (Some w) l =
+      (moves f.log e asks.holds.legal right).own
+      ∙ ap (λ s. own_next (m.entries + 1) s (Do call) (answered answer) chosen) phase ∙ stays_idle (m.entries + 1) call answer chosen ∙ sym phase
+
+  -- one that makes a child is not the child
+  parent_stays : (child : ℕ) → child_in e.reply ≡ Some child → is_alive m.committed pid ≡ true → child_in e.reply ≢ Some pid
+  parent_stays child is alive = λ some. false≢true (sym ((processes f.log e asks.holds.legal right).born pid some).unmade ∙ alive)
+
+  part_is : (w : Option (BeginFlags × ℕ)) → Stands (calling w) (status m pid) → (is_some w ≡ true → is_inside call ≡ true) → part_with w change (counted_touches m pid call) (part_of m pid) ≡ part_of (next m e) pid
+  part_is None is supported = elim (idle_fate is) [
+    | inl s ↦ ap (λ b. if b then no_part else part_of m pid) (ends_none changed s.edits)
+        ∙ sym (stays f.log e asks.holds.legal right pid (not_both (child_in e.reply) pid s.childless, inl s.stays) (idle_phase is))
+    | inr other ↦ elim other [
+      | inl b ↦ ap (λ xs. part_after xs (part_of m pid)) b.edits
+          ∙ sym (stays f.log e asks.holds.legal right pid (parent_stays _ b.child (caller_lives m pid None is), inl b.stays) (idle_phase is))
+      | inr l ↦ ap (λ xs. part_after xs (part_of m pid)) l.edits ∙ sym (goes f.log e asks.holds.legal right l.ends (idle_phase is ∙ phase_is m pid idle is (λ h. absurd cc)))
+    ]
+  ]
+  part_is (Some w) l supported =
       let goes = (views_may_be_loose 0 f.log.priorities f.log.limit f.log.entries asks.holds.legal pid).goes_on call in
       let ts = counted_touches m pid call in
+      let steady = steadily (seen_by m pid) pid call (supported refl) in
       ap₂ (λ s t. record { slot = with_change change (shown_by s (changes_of m pid)); held = record { priority = priority_of m pid; age = live_age t; touches = held_by m pid ++ ts } })
       l.1 (phase_is m pid (live w.0 w.1 l.0) l.1 (λ h. absurd cc))
-      ∙ sym (comes_to f.log e asks.holds.legal right steady pid _ (changes_of m pid ++ change ∷ []) (held_by m pid ++ ts) (caller_lives m pid (Some w) l) (goes_in w l).phase
+      ∙ sym (comes_to f.log e asks.holds.legal right pid _ (changes_of m pid ++ change ∷ []) (held_by m pid ++ ts) (not_both (child_in e.reply) pid steady.childless, inl steady.stays) (caller_lives m pid (Some w) l) (goes_in w l).phase
       ((goes_in w l).does ∙ ap (λ es. changes_of m pid ++ effect chosen es ∷ []) (sym goes.edits))
       ((goes_in w l).held ∙ ap (λ us. held_by m pid ++ us) (sym goes.touches ∙ counts m pid call (Some w) l)))
 
@@ -233,12 +364,70 @@ module _ (f : Fields) (pid : ℕ) (within : Option (BeginFlags × ℕ)) (call : 
       ∙ sym (plain_calls_run m e call answer is refl (executed_again (seen_by m pid) pid call))
   state_is (Some w) l = asks.holds.state ∙ sym (goes_in w l).committed
 
-  pub takes : (h g : Fields) → Moves f h pid (part_with within change (counted_touches m pid call) (part_at f pid)) (state_with within change f.stable.state) [] → Dooms h g ds → CanEnter g e
-  takes h g first rest = enters f g asks.holds e right (said answer) steady ds refl wins.2 (record {
+  pub takes : (h g : Fields) → Moves (with_born within pid changed f) h pid (part_with within change (counted_touches m pid call) (part_at f pid)) (state_with within change f.stable.state) [] → Dooms h g ds → CanEnter g e
+  takes h g first rest = enters_grown f (with_born within pid changed f) g asks.holds e right (said answer) grows ds refl wins.2 (record {
     log = rest.log ∙ first.log;
     state = rest.state ∙ first.state ∙ state_is within asks.stands;
     slot_count = rest.slot_count ∙ first.slot_count;
     held_count = rest.held_count ∙ first.held_count;
-    own = rest.parts pid ∙ not_doomed ds pid _ spared ∙ first.own ∙ ap (part_with within change (counted_touches m pid call)) (asks.holds.parts pid) ∙ part_is within asks.stands;
+    own = rest.parts pid ∙ not_doomed ds pid _ spared ∙ first.own ∙ ap (part_with within change (counted_touches m pid call)) (asks.holds.parts pid) ∙ part_is within asks.stands asks.supported;
     others = λ q differs. rest.parts q ∙ ap (doomed_by ds q) (first.others q differs);
   })
+
+pub at_once : (k : Kernel) (pid : ℕ) (w : Option (BeginFlags × ℕ)) (es : List Edit) → is_some w ≡ false → CanChange k pid w es → CanChange k pid None es
+at_once k pid None es none kinds = kinds
+at_once k pid (Some within) es none kinds = absurd (false≢true (sym none))
+
+-- edits that make a process, or end one
+pub birth_by : (k : Kernel) (pid : ℕ) (es : List Edit) → CanChange k pid None es → first_is makes_process es ≡ true → IsBirth k pid es
+birth_by k pid es kinds first = elim kinds [
+  | inl can ↦ absurd (false≢true (sym (makes_none es can) ∙ first))
+  | inr other ↦ elim other [
+    | inl is ↦ is
+    | inr is ↦ absurd (false≢true (sym (ap (first_is makes_process) is.1) ∙ first))
+  ]
+]
+
+pub exit_by : (k : Kernel) (pid : ℕ) (es : List Edit) → CanChange k pid None es → first_is ends_process es ≡ true → IsExit pid es
+exit_by k pid es kinds first = elim kinds [
+  | inl can ↦ absurd (false≢true (sym (ends_none es can) ∙ first))
+  | inr other ↦ elim other [
+    | inl is ↦ absurd (false≢true (sym (ap (first_is ends_process) is.2) ∙ first))
+    | inr is ↦ is
+  ]
+]
+
+-- they need no new numbers
+pub birth_is_new : (f : Fields) (pid : ℕ) (es : List Edit) → IsBirth f.stable.state pid es → AreNew f.transactions es []
+birth_is_new f pid es is = subst (λ xs. AreNew f.transactions xs []) (sym is.2) (record { count = refl; unmade = tt; different = tt; nowhere = tt })
+
+pub exit_is_new : (f : Fields) (pid : ℕ) (es : List Edit) → IsExit pid es → AreNew f.transactions es []
+exit_is_new f pid es is = subst (λ xs. AreNew f.transactions xs []) (sym is.1) (record { count = refl; unmade = tt; different = tt; nowhere = tt })
+
+pub birth_fits : (f : Fields) (pid : ℕ) (call : Call) → Calls f pid None call → (es : List Edit) → es ≡ edits (seen_by (moment f.log) pid) pid call → (is : IsBirth f.stable.state pid es)
+    → Fits [] f.stable.state (New_process (suc f.stable.state.made) pid is.1)
+birth_fits f pid call asks es same is = (subst (FitsAll [] f.stable.state) is.2 (plain_commits f pid call asks es same [] (birth_is_new f pid es is))).0
+
+pub exit_fits : (f : Fields) (pid : ℕ) (call : Call) → Calls f pid None call → (es : List Edit) → es ≡ edits (seen_by (moment f.log) pid) pid call → (is : IsExit pid es)
+    → Fits [] f.stable.state (End_process pid is.0)
+exit_fits f pid call asks es same is = (subst (FitsAll [] f.stable.state) is.1 (plain_commits f pid call asks es same [] (exit_is_new f pid es is))).0
+
+-- what a birth comes to
+pub births_so : (f g : Fields) (pid : ℕ) (call : Call) → Calls f pid None call → (es : List Edit) → es ≡ edits (seen_by (moment f.log) pid) pid call → IsBirth f.stable.state pid es → Born f g pid
+    → Moves (with_born None pid es f) g pid (part_after es (part_at f pid)) (state_with None (effect [] es) f.stable.state) []
+births_so f g pid call asks es same is made =
+    let k = f.stable.state in
+    let e = New_process (suc k.made) pid is.1 in
+    let priority = (process_of k pid).priority in
+    let stand = (what_stands 0 f.log.priorities f.log.limit f.log.entries asks.holds.legal) in
+    let tidied : IsTidied k = subst IsTidied (sym asks.holds.state) (record { well = stand.committed.well; tidied = stand.committed.tidied }) in
+    let low = stand.committed.well.counted pid (caller_lives (moment f.log) pid None asks.stands) in
+    let each : (q : ℕ) → part_at g q ≡ part_at (with_child priority f) q = λ q. ap₂ (λ vs hs. record { slot = view_at vs q; held = contender_at hs q }) made.slots made.held in
+    subst (λ xs. Moves (with_born None pid xs f) g pid (part_after xs (part_at f pid)) (state_with None (effect [] xs) k) []) (sym is.2) (record {
+      log = made.log;
+      state = made.state is.1 ∙ sym (sweep_is_tidy_lem.none [] k e tidied (birth_fits f pid call asks es same is) refl);
+      slot_count = ap length made.slots;
+      held_count = ap length made.held;
+      own = each pid ∙ child_is_last f priority pid (omega (arith, low, asks.holds.slot_count)) (omega (arith, low, asks.holds.held_count));
+      others = λ q differs. each q;
+    })

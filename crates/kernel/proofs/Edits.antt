@@ -1,25 +1,25 @@
--- What the calls that are there edit, in a well-formed state without pipes.
-use Rattle.std.proofs.Common.{◌≡◌, ◌≢◌, ℕ, zero, suc, ◌+◌, ◌-◌, ◌<◌, ◌≤◌, ◌==◌, nat_le, nat_lt, not, Bool, true, false, cond, if◌then◌else◌, List, [], ◌∷◌, map, length, take, Option, Some, None, Result, Ok, Err, IfOk, refl, sym, ap, subst, ◌∙◌, arith, inl, inr, nat_cmp, eqb-true, ltb-true}
+-- What each call edits, in a well-formed state.
+use Rattle.std.proofs.Common.{◌≡◌, ℕ, zero, suc, ◌+◌, ◌-◌, ◌<◌, ◌≤◌, ◌⊎◌, ◌==◌, nat_le, nat_lt, not, Bool, true, false, if◌then◌else◌, List, [], ◌∷◌, map, length, take, Option, Some, None, Result, Ok, Err, IfOk, refl, sym, subst, arith, inl, inr, eqb-true}
 use Rattle.std.specs.Prelude.{ℤ, pos, negsuc, ◌+ℤ◌, ◌++◌, ◌&&◌, ◌||◌}
 use Rattle.std.specs.List.{AllByRecursion, list_any}
 use Rattle.std.specs.Map.{lookup}
 use Rattle.std.specs.Cmp.{nat_cmp_total}
 use Rattle.std.proofs.lemmas.Bool.{false≢true}
 use Rattle.model.specs.FiniteMap.{entries, get}
-use Rattle.model.specs.State.{A_file, A_directory, A_pipe, Kernel, Description, kind_of}
-use Rattle.model.specs.Plan.{Errno, Plan, Give, answer as answer_to, given, ◌>>=◌, ◌>>◌, ENOENT, ENOTDIR, ENOTEMPTY, EEXIST, EBUSY, EISDIR, EINVAL, EBADF, EFBIG, EPERM, ESPIPE, List_names, Measure, refuse_if, or_refuse}
-use Rattle.model.specs.Calls.{Call, Whence, Open, Close, Read, Write, Lseek, Ftruncate, Stat, Fstat, Link, Unlink, Rename, Mkdir, Rmdir, List_directory, OpenFlags, Own, Slot, slot_of, own}
-use Rattle.model.specs.Changes.{process_of, There, Made}
+use Rattle.model.specs.State.{A_file, A_directory, A_pipe, Kernel}
+use Rattle.model.specs.Plan.{Errno, Plan, Give, answer as answer_to, given, ◌>>=◌, ◌>>◌, ENOENT, ENOTDIR, ENOTEMPTY, EEXIST, EBUSY, EISDIR, EINVAL, EBADF, EFBIG, EPERM, ESPIPE, EPIPE, EAGAIN, List_names, Measure, refuse_if, or_refuse}
+use Rattle.model.specs.Entries.{is_inside}
+use Rattle.kernel.specs.States.{CanChange}
+use Rattle.model.specs.Calls.{Call, Dup, Dup2, Whence, Open, Close, Read, Write, Lseek, Ftruncate, Stat, Fstat, Link, Unlink, Rename, Mkdir, Rmdir, List_directory, Open_pipe, Fork, Exit, Child, OpenFlags, Own, Slot, slot_of, own}
+use Rattle.model.specs.Changes.{process_of, There, Made, New_process}
 use Rattle.model.specs.Paths.{is_empty, is_below}
 use Rattle.model.specs.Walks.{Place, Last, parsed, walk, last_of, is_directory}
-use Rattle.model.specs.Plans.{Change, plan, status as told_status, absent, slot, slot_at, free, free_from, first_of_free, is_pipe, opened, cut_to, read_some, write_some, place_to_write, base, sought, moved, replaced_by_name, largest, descriptor_limit}
-use Rattle.model.specs.Steps.{edits, edits_of}
+use Rattle.model.specs.Plans.{Change, duplicated, plan, status as told_status, absent, slot, slot_at, free, free_from, first_of_free, is_pipe, opened, cut_to, read_some, write_some, read_pipe, piped, pipes_in, whole_write, most_processes, place_to_write, base, sought, moved, replaced_by_name, largest, descriptor_limit}
+use Rattle.model.specs.Steps.{edits, edits_of, reply, reply_of}
 use Rattle.ids.specs.Flags.{is_reading, is_writing, is_creating, is_exclusive, is_truncating}
 use Rattle.model.proofs.Laws.{all_entries}
 use Rattle.call_laws.specs.WellFormed.{WellFormed}
 use Rattle.call_laws.proofs.Laws.{after_bind, allowed, either_given, weaken, whatever}
-use Rattle.calls.specs.Operations.{can_call}
-use Rattle.shadow.specs.Looks.{HasNoPipes}
 use Rattle.shadow.specs.Steps.{CanEdit}
 
 -- the edits of what a plan gives are those that are there
@@ -39,42 +39,25 @@ tells k (n, Some A_directory) = tt
 tells k (n, Some A_pipe) = tt
 tells k (n, None) = tt
 
--- a descriptor that is open: it is below the limit, and not on a pipe
-record IsOpened (f : ℕ) (it : Slot) : Type 0 where
-  low : f < descriptor_limit
-  file : is_pipe it.kind ≡ false
-
-no_pipe : (k : Kernel) → HasNoPipes k → (n : ℕ) → is_pipe (kind_of k n) ≡ false
-no_pipe k none n = by_kind (kind_of k n) refl
-  where
-    by_kind : (o : Option Rattle.model.specs.State.Kind) → kind_of k n ≡ o → is_pipe o ≡ false
-    by_kind None is = refl
-    by_kind (Some A_file) is = refl
-    by_kind (Some A_directory) is = refl
-    by_kind (Some A_pipe) is = absurd (none n is)
-
-slot_kind : (k : Kernel) → HasNoPipes k → (d : ℕ) (o : Option Description) → is_pipe (slot_of k d o).kind ≡ false
-slot_kind k none d None = refl
-slot_kind k none d (Some it) = no_pipe k none it.inode
-
 abbrev slots_of : Kernel → List (ℕ × ℕ) → List (ℕ × Slot)
 slots_of k es = map (λ e. (e.0, slot_of k e.1 (get k.descriptions e.1))) es
 
-found : (k : Kernel) → HasNoPipes k → (f : ℕ) (es : List (ℕ × ℕ)) → AllByRecursion (λ e. e.0 < descriptor_limit) es → IfOk (given k (or_refuse EBADF (lookup (λ g. g == f) (slots_of k es)))) (IsOpened f)
-found k none f [] low = tt
-found k none f (e ∷ es) low = by_test (e.0 == f) refl (found k none f es low.1)
+-- a descriptor that is open is below the limit
+found : (k : Kernel) (f : ℕ) (es : List (ℕ × ℕ)) → AllByRecursion (λ e. e.0 < descriptor_limit) es → IfOk (given k (or_refuse EBADF (lookup (λ g. g == f) (slots_of k es)))) (λ it. f < descriptor_limit)
+found k f [] low = tt
+found k f (e ∷ es) low = by_test (e.0 == f) refl (found k f es low.1)
   where
-    by_test : (b : Bool) → (e.0 == f) ≡ b → IfOk (given k (or_refuse EBADF (lookup (λ g. g == f) (slots_of k es)))) (IsOpened f)
-        → IfOk (given k (or_refuse EBADF (if b then Some (slot_of k e.1 (get k.descriptions e.1)) else lookup (λ g. g == f) (slots_of k es)))) (IsOpened f)
-    by_test true is rest = record { low = subst (λ n. n < descriptor_limit) (eqb-true e.0 f is) low.0; file = slot_kind k none e.1 (get k.descriptions e.1) }
+    by_test : (b : Bool) → (e.0 == f) ≡ b → IfOk (given k (or_refuse EBADF (lookup (λ g. g == f) (slots_of k es)))) (λ it. f < descriptor_limit)
+        → IfOk (given k (or_refuse EBADF (if b then Some (slot_of k e.1 (get k.descriptions e.1)) else lookup (λ g. g == f) (slots_of k es)))) (λ it. f < descriptor_limit)
+    by_test true is rest = subst (λ n. n < descriptor_limit) (eqb-true e.0 f is) low.0
     by_test false is rest = rest
 
-module _ (k : Kernel) (pid : ℕ) (well : WellFormed k) (none : HasNoPipes k) where
-  opened_slot : (call : Call) (f : ℕ) → IfOk (given k (slot (own k pid call) f)) (IsOpened f)
-  opened_slot call f = found k none f (entries (process_of k pid).table) (all_entries nat_cmp_total (λ g d. g < descriptor_limit) (process_of k pid).table (λ g d is. well.low pid g d is))
+module _ (k : Kernel) (pid : ℕ) (well : WellFormed k) where
+  opened_slot : (call : Call) (f : ℕ) → IfOk (given k (slot (own k pid call) f)) (λ it. f < descriptor_limit)
+  opened_slot call f = found k f (entries (process_of k pid).table) (all_entries nat_cmp_total (λ g d. g < descriptor_limit) (process_of k pid).table (λ g d is. well.low pid g d is))
 
   -- of a call on an open descriptor
-  on : (call : Call) (f : ℕ) (m : Slot → Plan Change) → ((it : Slot) → IsOpened f it → IfOk (given k (m it)) Edits) → IfOk (given k (slot (own k pid call) f >>= m)) Edits
+  on : (call : Call) (f : ℕ) (m : Slot → Plan Change) → ((it : Slot) → f < descriptor_limit → IfOk (given k (m it)) Edits) → IfOk (given k (slot (own k pid call) f >>= m)) Edits
   on call f m h = after_bind k Edits (slot (own k pid call) f) m (weaken (given k (slot (own k pid call) f)) (opened_slot call f) h)
 
 -- free descriptors are below the limit
@@ -104,8 +87,12 @@ open_edits k o flags f low at (Some place) =
     either_given_bind true = (omega arith, refl, (refl, tt, low))
     either_given_bind false = inr (refl, tt, low)
 
-read_edits : (k : Kernel) (it : Slot) (count : ℕ) → is_pipe it.kind ≡ false → IfOk (given k (read_some it count)) Edits
-read_edits k it count file = either_given k Edits (is_pipe it.kind) _ _ (λ pipe. absurd (false≢true (sym file ∙ pipe))) (λ _. by_test (is_empty (answer_to k (Rattle.model.specs.Plan.Read_file it.inode (answer_to k (Rattle.model.specs.Plan.Find_offset it.description)) count))) _ _)
+pipe_read_edits : (k : Kernel) (p : ℕ) (bytes : List ℕ) → IfOk (given k (read_pipe p bytes)) Edits
+pipe_read_edits k p [] = unless k (nat_lt 0 (answer_to k (Rattle.model.specs.Plan.Count_ends p)).1) EAGAIN _ tt
+pipe_read_edits k p (b ∷ bytes) = inl tt
+
+read_edits : (k : Kernel) (it : Slot) (count : ℕ) → IfOk (given k (read_some it count)) Edits
+read_edits k it count = either_given k Edits (is_pipe it.kind) _ _ (λ pipe. pipe_read_edits k it.inode (answer_to k (Rattle.model.specs.Plan.Read_pipe it.inode count))) (λ _. by_test (is_empty (answer_to k (Rattle.model.specs.Plan.Read_file it.inode (answer_to k (Rattle.model.specs.Plan.Find_offset it.description)) count))) _ _)
   where
     by_test : (b : Bool) (d place : ℕ) → CanEdit (if b then [] else Rattle.model.specs.Changes.Set_offset d place ∷ [])
     by_test true d place = tt
@@ -117,8 +104,14 @@ not_above a b e = search (arith, e)
 not_below : (a b : ℕ) → nat_lt a b ≡ false → b ≤ a
 not_below a b e = search (arith, e)
 
-write_edits : (k : Kernel) (it : Slot) (bytes : List ℕ) → is_pipe it.kind ≡ false → IfOk (given k (write_some it bytes)) Edits
-write_edits k it bytes file = either_given k Edits (is_pipe it.kind) _ _ (λ pipe. absurd (false≢true (sym file ∙ pipe)))
+shared_edits : (k : Kernel) (o : Own) (it : Slot) (fs : List ℕ) → AllByRecursion (λ g. g < descriptor_limit) fs → IfOk (given k (duplicated o it fs)) Edits
+shared_edits k o it [] low = tt
+shared_edits k o it (f ∷ fs) low = inr low.0
+
+write_edits : (k : Kernel) (it : Slot) (bytes : List ℕ) → IfOk (given k (write_some it bytes)) Edits
+write_edits k it bytes = either_given k Edits (is_pipe it.kind) _ _ (λ pipe. unless k ((answer_to k (Rattle.model.specs.Plan.Count_ends it.inode)).0 == 0) EPIPE _ (
+    let fitting = answer_to k (Rattle.model.specs.Plan.Fit it.inode (length bytes)) in
+    unless k (nat_lt fitting (length bytes) && nat_le (length bytes) whole_write) EAGAIN _ (unless k (fitting == 0) EAGAIN _ (inl tt))))
     (λ _. after k (place_to_write it it.appending) _ (λ place. allowed k Edits (nat_le largest place) EFBIG _ (λ low. (
       (let room : place < largest = not_above largest place low in
           let few : length (take (largest - place) bytes) ≤ largest - place = take_few (largest - place) bytes in omega arith),
@@ -141,19 +134,24 @@ move_edits k from what to (Some old) = either_given k Edits (what.0 == old.0) _ 
     unless k (not (is_directory what) && is_directory old) EISDIR _ (unless k (is_directory what && not (is_directory old)) ENOTDIR _ (
     after k (replaced_by_name old.0 (is_directory old)) _ (λ replaced. inl tt))))
 
-module _ (k : Kernel) (pid : ℕ) (well : WellFormed k) (none : HasNoPipes k) where
-  planned : (call : Call) → can_call call ≡ true → IfOk (given k (plan (own k pid call) call)) Edits
+pair_edits : (k : Kernel) (o : Own) (fs : List ℕ) → AllByRecursion (λ g. g < descriptor_limit) fs → IfOk (given k (piped o fs)) Edits
+pair_edits k o [] low = tt
+pair_edits k o (f ∷ []) low = tt
+pair_edits k o (f ∷ g ∷ fs) low = inl (refl, low.0, low.1.0)
+
+module _ (k : Kernel) (pid : ℕ) (well : WellFormed k) where
+  planned : (call : Call) → is_inside call ≡ true → IfOk (given k (plan (own k pid call) call)) Edits
   planned (Open path flags) h =
       unless k (not (is_reading flags || is_writing flags)) EINVAL _ (unless k (is_exclusive flags && not (is_creating flags)) EINVAL _ (unless k (is_truncating flags && not (is_writing flags)) EINVAL _ (
       after k (parsed path) _ (λ names. after_bind k Edits (first_of_free (free (own k pid (Open path flags)))) _ (weaken (given k (first_of_free (free (own k pid (Open path flags)))))
       (first_low k (free (own k pid (Open path flags))) (all_free (own k pid (Open path flags)).table 0 descriptor_limit))
       (λ f low. after k (last_of k.root (if is_creating flags && is_exclusive flags then EEXIST else EISDIR) names) _ (λ at. open_edits k (own k pid (Open path flags)) flags f low at at.found)))))))
-  planned (Close f) h = on k pid well none (Close f) f _ (λ it opened. inr opened.low)
-  planned (Read f count) h = on k pid well none (Read f count) f _ (λ it opened. unless k (not it.reading) EBADF _ (either_given k Edits (count == 0) _ _ (λ _. tt) (λ _. read_edits k it count opened.file)))
-  planned (Write f bytes) h = on k pid well none (Write f bytes) f _ (λ it opened. unless k (not it.writing) EBADF _ (either_given k Edits (is_empty bytes) _ _ (λ _. tt) (λ _. write_edits k it bytes opened.file)))
-  planned (Lseek f move whence) h = on k pid well none (Lseek f move whence) f _ (λ it opened. unless k (is_pipe it.kind) ESPIPE _ (after k (base it whence) _ (λ place. seek_edits k it (pos place +ℤ move))))
-  planned (Ftruncate f len) h = on k pid well none (Ftruncate f len) f _ (λ it opened. unless k (not it.writing) EBADF _ (unless k (is_pipe it.kind) EINVAL _ (allowed k Edits (nat_lt largest len) EFBIG _ (λ low. inl (not_below largest len low)))))
-  planned (Fstat f) h = on k pid well none (Fstat f) f _ (λ it opened. tells k (it.inode, it.kind))
+  planned (Close f) h = on k pid well (Close f) f _ (λ it opened. inr opened)
+  planned (Read f count) h = on k pid well (Read f count) f _ (λ it opened. unless k (not it.reading) EBADF _ (either_given k Edits (count == 0) _ _ (λ _. tt) (λ _. read_edits k it count)))
+  planned (Write f bytes) h = on k pid well (Write f bytes) f _ (λ it opened. unless k (not it.writing) EBADF _ (either_given k Edits (is_empty bytes) _ _ (λ _. tt) (λ _. write_edits k it bytes)))
+  planned (Lseek f move whence) h = on k pid well (Lseek f move whence) f _ (λ it opened. unless k (is_pipe it.kind) ESPIPE _ (after k (base it whence) _ (λ place. seek_edits k it (pos place +ℤ move))))
+  planned (Ftruncate f len) h = on k pid well (Ftruncate f len) f _ (λ it opened. unless k (not it.writing) EBADF _ (unless k (is_pipe it.kind) EINVAL _ (allowed k Edits (nat_lt largest len) EFBIG _ (λ low. inl (not_below largest len low)))))
+  planned (Fstat f) h = on k pid well (Fstat f) f _ (λ it opened. tells k (it.inode, it.kind))
   planned (Stat path) h = after k (parsed path) _ (λ names. after k (walk (k.root, Some A_directory) names) _ (tells k))
   planned (Link old path) h =
       after k (parsed old) _ (λ from. after k (parsed path) _ (λ to. after k (walk (k.root, Some A_directory) from) _ (λ what. unless k (is_directory what) EPERM _ (
@@ -168,10 +166,36 @@ module _ (k : Kernel) (pid : ℕ) (well : WellFormed k) (none : HasNoPipes k) wh
   planned (Rmdir path) h =
       after k (parsed path) _ (λ names. after k (last_of k.root EBUSY names) _ (λ at. after k (or_refuse ENOENT at.found) _ (λ what. unless k (not (is_directory what)) ENOTDIR _ (unless k (not (is_empty (answer_to k (List_names what.0)))) ENOTEMPTY _ (inl tt)))))
   planned (List_directory path) h = after k (parsed path) _ (λ names. after k (walk (k.root, Some A_directory) names) _ (λ place. unless k (not (is_directory place)) ENOTDIR _ tt))
+  planned (Dup f) h = on k pid well (Dup f) f _ (λ it opened. shared_edits k (own k pid (Dup f)) it (free (own k pid (Dup f))) (all_free (own k pid (Dup f)).table 0 descriptor_limit))
+  planned (Dup2 f g) h = on k pid well (Dup2 f g) f _ (λ it opened. allowed k Edits (nat_lt 63 g) EBADF _ (λ low. either_given k Edits (f == g) _ _ (λ _. tt) (λ _. inr (let few : g ≤ 63 = not_below 63 g low in omega arith))))
+  planned Open_pipe h = pair_edits k (own k pid Open_pipe) (free (own k pid Open_pipe)) (all_free (own k pid Open_pipe).table 0 descriptor_limit)
   planned call h = absurd (false≢true h)
 
-  pub calls_edit : (call : Call) → can_call call ≡ true → CanEdit (edits k pid call)
+  pub calls_edit : (call : Call) → is_inside call ≡ true → CanEdit (edits k pid call)
   calls_edit call h = by (given k (plan (own k pid call) call)) (planned call h) where
     by : (r : Result Change Errno) → IfOk r Edits → CanEdit (edits_of r)
     by (Ok change) is = is
     by (Err e) is = tt
+
+-- what a fork comes to that is refused, or is not
+abbrev forked_if : Kernel → ℕ → Bool → Result Change Errno
+forked_if k pid refused = given k (refuse_if refused EAGAIN >> Rattle.model.specs.Plans.changed (Child (suc k.made)) (New_process (suc k.made) pid (pipes_in (own k pid Fork)) ∷ []))
+
+-- a fork is refused where as many processes were made as can be, and else makes a child
+pub fork_comes : (k : Kernel) (pid : ℕ) → ((reply k pid Fork ≡ Err EAGAIN) × (edits k pid Fork ≡ []))
+    ⊎ ((k.made < most_processes) × (reply k pid Fork ≡ Ok (Child (suc k.made))) × (pipes : List ℕ) × (edits k pid Fork ≡ New_process (suc k.made) pid pipes ∷ []))
+fork_comes k pid = by (nat_le most_processes k.made) refl
+  where
+    by : (b : Bool) → nat_le most_processes k.made ≡ b → ((reply_of (forked_if k pid b) ≡ Err EAGAIN) × (edits_of (forked_if k pid b) ≡ []))
+        ⊎ ((k.made < most_processes) × (reply_of (forked_if k pid b) ≡ Ok (Child (suc k.made))) × (pipes : List ℕ) × (edits_of (forked_if k pid b) ≡ New_process (suc k.made) pid pipes ∷ []))
+    by true full = inl (refl, refl)
+    by false few = inr (not_above most_processes k.made few, refl, pipes_in (own k pid Fork), refl)
+
+-- what a process edits that is in no transaction can be done
+pub calls_change : (k : Kernel) (pid : ℕ) → WellFormed k → (call : Call) → CanChange k pid None (edits k pid call)
+calls_change k pid well Fork = elim (fork_comes k pid) [
+  | inl refused ↦ inl (subst CanEdit (sym refused.1) tt)
+  | inr made ↦ inr (inl (made.0, made.2, made.3))
+]
+calls_change k pid well Exit = inr (inr (pipes_in (own k pid Exit), refl))
+calls_change k pid well call = inl (calls_edit k pid well call refl)

@@ -8,7 +8,7 @@ use Rattle.kernel.proofs.Words.{part_at, shown, with_entry, Part, part_of, shown
 use Rattle.kernel.proofs.Words.{BeginFlags, Cause, Contender, IsDoomedBy, Doomed, Dooms, IsIn, born, child_in, is_ended, Moves, cleared, Option, Some, Op, Do}
 use Rattle.kernel.proofs.Words.{Answers, answer_in, idle, live, status, settled, own_next, run_by, after_list, has_free, Free, RightAt, Alone, needed}
 use Rattle.kernel.proofs.Words.{CanEndTransaction, Stands, calling, plain, settled_as, calls_at, seen_by, tidy, all_done, view, is_live_status, is_live, zero}
-use Rattle.kernel.proofs.Words.{subst₂, count_by, take, count_below, add-one, nat_le, take-length}
+use Rattle.kernel.proofs.Words.{subst₂, count_by, held_by, Process, or_new, is_some, get, unwrap_or, nobody, no_part, idle_slot, with_child, get_or, ◌⊎◌, take, count_below, add-one, nat_le, take-length}
 use Rattle.commit.specs.Views.{SameViews, live_slot, doomed_slot, View, view_at, Shows, changes_in, is_live_slot, is_within, gone_slot, Shown as Transactions}
 use Rattle.history_laws.proofs.Laws.{after_one_more, forks_and_exits_move, legal_push, legality_follows, lists_stay, phases_move, places_suffice}
 use Rattle.history_laws.proofs.Laws.{right_entries_have_places, status_alive, what_stands, right_by, free_from, phase_is, alive_is, lists_are_their_effects}
@@ -16,6 +16,11 @@ use Rattle.history_laws.proofs.Laws.{views_may_be_loose}
 use Rattle.freeing_laws.specs.Sweep.{AllFit}
 use Rattle.shadow.proofs.Laws.{calls_can_be_committed_lem}
 use Rattle.history.specs.Log.{Log}
+use Rattle.model.specs.Plan.{ENOTSUP}
+use Rattle.model.specs.Calls.{Call}
+use Rattle.model.specs.Entries.{Refuses}
+use Rattle.model.specs.Legal.{unsupported}
+use Rattle.kernel.proofs.Words.{Executed, Inside, is_inside}
 use Rattle.commit.specs.Standings.{IsStandingOf}
 use Rattle.commit.specs.declared.slot.Standing.{Standing}
 use Rattle.commit.specs.declared.slot.Standing.TheVariants.{Gone, Idle, Live, Doomed as Is_doomed}
@@ -70,6 +75,26 @@ dooms_more f g h d ds one rest = record {
   parts = λ q. rest.parts q ∙ ap (doomed_by ds q) (one.parts q);
 }
 
+-- the part of a child
+abbrev pub born_part : ℕ → Part
+born_part priority = record { slot = idle_slot; held = record nobody { priority = priority } }
+
+pub no_priority : (o : Option Process) → is_some o ≡ false → (or_new o).priority ≡ 0
+no_priority None h = refl
+no_priority (Some process) h = absurd (false≢true (sym h))
+
+is_or_not : (o : Option ℕ) (q : ℕ) → (o ≡ Some q) ⊎ (o ≢ Some q)
+is_or_not None q = inr (λ h. absurd cc)
+is_or_not (Some n) q = elim (cases_Bool (eqb n q)) [
+  | inl same ↦ inl (ap Some (eqb-true n q same))
+  | inr differs ↦ inr (λ h. eqb-false n q differs (ap (λ o. unwrap_or o n) h))
+]
+
+pub not_both : (o : Option ℕ) (n : ℕ) → o ≡ None → o ≡ Some n → ⊥
+not_both o n none some = no (sym none ∙ some) where
+  no : None ≡ Some n → ⊥
+  no h = absurd cc
+
 -- no fork and no exit
 pub record IsSteady (e : Entry) : Type 0 where
   pub childless : child_in e.reply ≡ None
@@ -83,37 +108,62 @@ part_by alive s ds p ts = record { slot = shown_by (if alive then s else gone) d
 pub parts_alike : (a b : Bool) (s t : Status) (ds es : List Effect) (p r : ℕ) (ts us : List Touch) → a ≡ b → s ≡ t → ds ≡ es → p ≡ r → ts ≡ us → part_by a s ds p ts ≡ part_by b t es r us
 parts_alike a b s t ds es p r ts us alive phase changes priority touches = cc
 
-module _ (log : Log) (e : Entry) (legal : Legal 0 log.priorities log.limit log.entries) (right : Right log.limit (moment log) e) (steady : IsSteady e) where
+-- a process that the entry neither makes nor ends
+abbrev pub IsOther : Entry → ℕ → Type 0
+IsOther e q = (child_in e.reply ≢ Some q) × ((is_ended e.op e.reply ≡ false) ⊎ (q ≢ e.pid))
+
+pub other : (e : Entry) → IsSteady e → (q : ℕ) → IsOther e q
+other e steady q = (λ some. absurd (cc steady.childless), inl steady.goes_on)
+
+module _ (log : Log) (e : Entry) (legal : Legal 0 log.priorities log.limit log.entries) (right : Right log.limit (moment log) e) where
   abbrev m : Moment
   m = moment log
 
-  processes : ProcessesMove m e
+  pub processes : ProcessesMove m e
   processes = forks_and_exits_move 0 log.priorities log.limit log.entries e legal right
 
-  as_before : (q : ℕ) → IsAsBefore m e q
-  as_before q = processes.others q (λ some. absurd (cc steady.childless)) (inl steady.goes_on)
+  as_before : (q : ℕ) → IsOther e q → IsAsBefore m e q
+  as_before q is = processes.others q is.0 is.1
 
-  same_bound : bound (next m e) ≡ bound m
-  same_bound = let made : (next m e).committed.made ≡ m.committed.made + 0 = processes.made ∙ ap (λ n. m.committed.made + n) steady.unborn in ap suc (omega arith)
+  pub same_bound : born e.reply ≡ 0 → bound (next m e) ≡ bound m
+  same_bound none = let made : (next m e).committed.made ≡ m.committed.made + 0 = processes.made ∙ ap (λ n. m.committed.made + n) none in ap suc (omega arith)
 
   pub moves : PhasesMove m e
   moves = phases_move log.limit m e right
 
   -- one whose phase stays
-  pub stays : (q : ℕ) → (next m e).phase q ≡ m.phase q → part_of (next m e) q ≡ part_of m q
-  stays q phase =
+  pub stays : (q : ℕ) → IsOther e q → (next m e).phase q ≡ m.phase q → part_of (next m e) q ≡ part_of m q
+  stays q is phase =
       let list = lists_stay 0 log.priorities log.limit log.entries e legal right q (ap calls_of phase) in
-      parts_alike _ _ _ _ _ _ _ _ _ _ (as_before q).alive phase list.effects (as_before q).priority list.held
+      parts_alike _ _ _ _ _ _ _ _ _ _ (as_before q is).alive phase list.effects (as_before q is).priority list.held
 
   -- a living one, by its new phase
-  pub comes_to : (q : ℕ) (s : Status) (ds : List Effect) (ts : List Touch) → is_alive m.committed q ≡ true → (next m e).phase q ≡ s → changes_of (next m e) q ≡ ds → (contender_of (next m e) q).touches ≡ ts
+  pub comes_to : (q : ℕ) (s : Status) (ds : List Effect) (ts : List Touch) → IsOther e q → is_alive m.committed q ≡ true → (next m e).phase q ≡ s → changes_of (next m e) q ≡ ds → (contender_of (next m e) q).touches ≡ ts
       → part_of (next m e) q ≡ record { slot = shown_by s ds; held = record { priority = priority_of m q; age = live_age s; touches = ts } }
-  comes_to q s ds ts alive phase changes touches = parts_alike _ true _ _ _ _ _ _ _ _ ((as_before q).alive ∙ alive) phase changes (as_before q).priority touches
+  comes_to q s ds ts is alive phase changes touches = parts_alike _ true _ _ _ _ _ _ _ _ ((as_before q is).alive ∙ alive) phase changes (as_before q is).priority touches
 
-  -- and one that has no calls then
-  pub empties : (q : ℕ) (s : Status) → is_alive m.committed q ≡ true → (next m e).phase q ≡ s → calls_of s ≡ []
+  -- one without calls, by its phase
+  no_effects : (q : ℕ) (s : Status) → (next m e).phase q ≡ s → calls_of s ≡ [] → changes_of (next m e) q ≡ []
+  no_effects q s phase none = ap (λ calls. effects q calls (next m e).committed) (ap calls_of phase ∙ none)
+
+  no_touches : (q : ℕ) (s : Status) → (next m e).phase q ≡ s → calls_of s ≡ [] → held_by (next m e) q ≡ []
+  no_touches q s phase none = ap (λ calls. list_touches q calls (next m e).committed) (ap calls_of phase ∙ none)
+
+  -- a living one that has no calls then
+  pub empties : (q : ℕ) (s : Status) → IsOther e q → is_alive m.committed q ≡ true → (next m e).phase q ≡ s → calls_of s ≡ []
       → part_of (next m e) q ≡ cleared (priority_of m q) s
-  empties q s alive phase none = comes_to q s [] [] alive phase (ap (λ calls. effects q calls (next m e).committed) (ap calls_of phase ∙ none)) (ap (λ calls. list_touches q calls (next m e).committed) (ap calls_of phase ∙ none))
+  empties q s is alive phase none = comes_to q s [] [] is alive phase (no_effects q s phase none) (no_touches q s phase none)
+
+  -- the child of an entry
+  pub comes : (child : ℕ) → child_in e.reply ≡ Some child → part_of (next m e) child ≡ born_part (priority_of m e.pid)
+  comes child is =
+      let b = processes.born child is in
+      parts_alike _ true _ idle _ [] _ _ _ [] b.alive b.phase (no_effects child idle b.phase refl) b.priority (no_touches child idle b.phase refl)
+
+  -- one that has ended
+  pub goes : is_ended e.op e.reply ≡ true → (next m e).phase e.pid ≡ idle → part_of (next m e) e.pid ≡ no_part
+  goes is phase = parts_alike _ false _ idle _ [] _ 0 _ [] (processes.ended is) phase (no_effects e.pid idle phase refl)
+      (no_priority (get (next m e).committed.processes e.pid) (processes.ended is)) (no_touches e.pid idle phase refl)
 
 -- the entries, and with them the reserved places, are within the limit
 pub entries_count : (log : Log) → (moment log).entries ≡ length log.entries
@@ -125,24 +175,35 @@ places log legal = (what_stands 0 log.priorities log.limit log.entries legal).pl
 is_answer : (r s : Reply) → is_no_entry r ≡ false → is_no_entry s ≡ true → r ≢ s
 is_answer r s left right same = false≢true (sym left ∙ ap is_no_entry same ∙ right)
 
+-- the fields with the child that an entry makes, if it makes one
+pub record Grows (m : Moment) (e : Entry) (past grown : Fields) : Type 0 where
+  pub log : grown.log ≡ past.log
+  pub slot_count : length grown.slots ≡ bound (next m e)
+  pub held_count : length grown.held ≡ bound (next m e)
+  pub older : (q : ℕ) → child_in e.reply ≢ Some q → part_at grown q ≡ part_at past q
+  pub born : (child : ℕ) → child_in e.reply ≡ Some child → part_at grown child ≡ born_part (priority_of m e.pid)
+
 -- what an entry does, and whom it dooms, is done: it can be added
-module _ (past now : Fields) (holds : IsConsistent past) (e : Entry) (right : Right past.log.limit (moment past.log) e) (answers : is_no_entry e.reply ≡ false) (steady : IsSteady e)
+module _ (past grown now : Fields) (holds : IsConsistent past) (e : Entry) (right : Right past.log.limit (moment past.log) e) (answers : is_no_entry e.reply ≡ false) (grows : Grows (moment past.log) e past grown)
     (ds : List Doomed) (dooms : pids ds ≡ e.doomed) (causes : AllByRecursion (IsDoomedBy (moment past.log) e.pid (dooming_touches (moment past.log) e.pid e.op)) ds)
-    (moved : Moves past now e.pid (part_of (next (moment past.log) e) e.pid) (next (moment past.log) e).committed ds) where
+    (moved : Moves grown now e.pid (part_of (next (moment past.log) e) e.pid) (next (moment past.log) e).committed ds) where
   abbrev was : Moment
   was = moment past.log
 
   others : (q : ℕ) → q ≢ e.pid → part_at now q ≡ part_of (next was e) q
   others q differs = elim (cases_Bool (is_in q e.doomed)) [
     | inl told ↦
-        let d = (moves past.log e holds.legal right steady).dooms q told in
+        let d = (moves past.log e holds.legal right).dooms q told in
         let alive = (what_stands 0 past.log.priorities past.log.limit past.log.entries holds.legal).phases.alive q (ap holds_place d.before) in
+        let older : child_in e.reply ≢ Some q = λ some. false≢true (sym ((processes past.log e holds.legal right).born q some).unmade ∙ alive) in
         moved.others q differs
-        ∙ ap (doomed_by ds q) (holds.parts q ∙ ap (λ s. record { slot = shown_by s (changes_of was q); held = contender_of was q }) (status_alive was q alive ∙ d.before))
+        ∙ ap (doomed_by ds q) (grows.older q older ∙ holds.parts q ∙ ap (λ s. record { slot = shown_by s (changes_of was q); held = contender_of was q }) (status_alive was q alive ∙ d.before))
         ∙ is_doomed was e.pid (dooming_touches was e.pid e.op) ds q d.flags d.age (changes_of was q) (contender_of was q) (ap (is_in q) dooms ∙ told) causes
-        ∙ sym (empties past.log e holds.legal right steady q (doomed (doom_cause was e.pid (dooming_touches was e.pid e.op) q) d.flags d.age) alive d.later refl)
-    | inr spared ↦ moved.others q differs ∙ not_doomed ds q _ (ap (is_in q) dooms ∙ spared) ∙ holds.parts q
-        ∙ sym (stays past.log e holds.legal right steady q ((moves past.log e holds.legal right steady).others q differs spared))
+        ∙ sym (empties past.log e holds.legal right q (doomed (doom_cause was e.pid (dooming_touches was e.pid e.op) q) d.flags d.age) (older, inr differs) alive d.later refl)
+    | inr spared ↦ moved.others q differs ∙ not_doomed ds q _ (ap (is_in q) dooms ∙ spared) ∙ elim (is_or_not (child_in e.reply) q) [
+      | inl child ↦ grows.born q child ∙ sym (comes past.log e holds.legal right q child)
+      | inr older ↦ grows.older q older ∙ holds.parts q ∙ sym (stays past.log e holds.legal right q (older, inr differs) ((moves past.log e holds.legal right).others q differs spared))
+    ]
   ]
 
   each : (q : ℕ) → part_at now q ≡ part_of (next was e) q
@@ -151,22 +212,76 @@ module _ (past now : Fields) (holds : IsConsistent past) (e : Entry) (right : Ri
     | inr differs ↦ others q (eqb-false q e.pid differs)
   ]
 
-  pub enters : CanEnter now e
-  enters =
+  pub enters_grown : CanEnter now e
+  enters_grown =
       let is : moment (with_entry past.log e) ≡ next was e = after_one_more 0 past.log.priorities past.log.entries e in
-      let same : bound (next was e) ≡ bound was = same_bound past.log e holds.legal right steady in
-      subst (λ l. CanEnter (record now { log = l }) e) (sym moved.log) (record {
+      subst (λ l. CanEnter (record now { log = l }) e) (sym (moved.log ∙ grows.log)) (record {
         place = le-leb _ _ (right_entries_have_places past.log.limit was e right (places past.log holds.legal));
         answers = answers;
         holds = record {
           legal = legal_push 0 past.log.priorities past.log.limit past.log.entries e holds.legal right;
           state = moved.state ∙ sym (ap (λ x. x.committed) is);
-          slot_count = moved.slot_count ∙ holds.slot_count ∙ sym (ap bound is ∙ same);
-          held_count = moved.held_count ∙ holds.held_count ∙ sym (ap bound is ∙ same);
+          slot_count = moved.slot_count ∙ grows.slot_count ∙ sym (ap bound is);
+          held_count = moved.held_count ∙ grows.held_count ∙ sym (ap bound is);
           parts = λ q. each q ∙ sym (ap (λ x. part_of x q) is);
           few = holds.few;
         };
       })
+
+-- an entry that makes no process
+pub stay_as_many : (f : Fields) → IsConsistent f → (e : Entry) → Right f.log.limit (moment f.log) e → child_in e.reply ≡ None → born e.reply ≡ 0 → Grows (moment f.log) e f f
+stay_as_many f holds e right childless unborn =
+    let same : bound (next (moment f.log) e) ≡ bound (moment f.log) = same_bound f.log e holds.legal right unborn in
+    record {
+      log = refl;
+      slot_count = holds.slot_count ∙ sym same;
+      held_count = holds.held_count ∙ sym same;
+      older = λ q _. refl;
+      born = λ child is. absurd (not_both (child_in e.reply) child childless is);
+    }
+
+-- the last of a list, and the others
+at_last : {A : Type 0} (xs : List A) (y none : A) (q : ℕ) → q ≡ length xs → get_or (xs ++ y ∷ []) q none ≡ y
+at_last [] y none zero is = refl
+at_last [] y none (suc q) is = absurd (omega (arith, is))
+at_last (x ∷ xs) y none zero is = absurd (omega (arith, is))
+at_last (x ∷ xs) y none (suc q) is = at_last xs y none q (omega (arith, is))
+
+at_other : {A : Type 0} (xs : List A) (y none : A) (q : ℕ) → q ≢ length xs → get_or (xs ++ y ∷ []) q none ≡ get_or xs q none
+at_other [] y none zero differs = absurd (differs refl)
+at_other [] y none (suc q) differs = refl
+at_other (x ∷ xs) y none zero differs = refl
+at_other (x ∷ xs) y none (suc q) differs = at_other xs y none q (λ is. differs (ap suc is))
+
+pub child_is_last : (f : Fields) (priority q : ℕ) → q < length f.slots → q < length f.held → part_at (with_child priority f) q ≡ part_at f q
+child_is_last f priority q slot held = ap₂ (λ v h. record { slot = v; held = h }) (at_other f.slots idle_slot gone_slot q (λ is. absurd (omega (arith, is, slot)))) (at_other f.held _ nobody q (λ is. absurd (omega (arith, is, held))))
+
+-- an entry that makes a process
+pub one_more : (f : Fields) → IsConsistent f → (e : Entry) → Right f.log.limit (moment f.log) e → (child : ℕ) → child_in e.reply ≡ Some child → born e.reply ≡ 1
+    → (priority : ℕ) → priority ≡ priority_of (moment f.log) e.pid → Grows (moment f.log) e f (with_child priority f)
+one_more f holds e right child is one priority same =
+    let move = processes f.log e holds.legal right in
+    let made : (next (moment f.log) e).committed.made ≡ (moment f.log).committed.made + 1 = move.made ∙ ap (λ n. (moment f.log).committed.made + n) one in
+    let slots : length (f.slots ++ idle_slot ∷ []) ≡ length f.slots + 1 = length-append f.slots (idle_slot ∷ []) in
+    let held : length (with_child priority f).held ≡ length f.held + 1 = length-append f.held (record nobody { priority = priority } ∷ []) in
+    let number : child ≡ suc (moment f.log).committed.made = (move.born child is).number in
+    record {
+      log = refl;
+      slot_count = omega (arith, slots, made, holds.slot_count);
+      held_count = omega (arith, held, made, holds.held_count);
+      older = λ q differs.
+          let far : q ≢ child = λ h. differs (is ∙ ap Some (sym h)) in
+          ap₂ (λ v h. record { slot = v; held = h }) (at_other f.slots idle_slot gone_slot q (λ h. far (h ∙ holds.slot_count ∙ sym number))) (at_other f.held _ nobody q (λ h. far (h ∙ holds.held_count ∙ sym number)));
+      born = λ q has.
+          let here : q ≡ suc (moment f.log).committed.made = (move.born q has).number in
+          ap₂ (λ v h. record { slot = v; held = h }) (at_last f.slots idle_slot gone_slot q (here ∙ sym holds.slot_count)) (at_last f.held _ nobody q (here ∙ sym holds.held_count))
+          ∙ ap born_part same;
+    }
+
+pub enters : (past now : Fields) → (holds : IsConsistent past) → (e : Entry) (right : Right past.log.limit (moment past.log) e) → is_no_entry e.reply ≡ false → IsSteady e
+    → (ds : List Doomed) → pids ds ≡ e.doomed → AllByRecursion (IsDoomedBy (moment past.log) e.pid (dooming_touches (moment past.log) e.pid e.op)) ds
+    → Moves past now e.pid (part_of (next (moment past.log) e) e.pid) (next (moment past.log) e).committed ds → CanEnter now e
+enters past now holds e right answers steady = enters_grown past past now holds e right answers (stay_as_many past holds e right steady.childless steady.unborn)
 
 -- a right entry has its place
 pub room : (f : Fields) (e : Entry) → CanEnter f e → length f.log.entries < f.log.limit
@@ -205,6 +320,10 @@ unchanged f pid held new holds state views kept = record {
     | inl same ↦ subst (λ p. contender_at held p ≡ contender_at f.held p) (sym (eqb-true q pid same)) kept.own
     | inr differs ↦ kept.others q (eqb-false q pid differs)
   ]
+
+pub unchanged_lists : (f : Fields) (held : List Contender) (new : Transactions) → IsConsistent f → new.stable.state ≡ f.stable.state → new.slots ≡ f.slots → held ≡ f.held → Unchanged f (record f { held = held; transactions = new })
+unchanged_lists f held new holds state slots same = unchanged f 0 held new holds state (record { count = ap length slots; each = λ q. ap (λ l. view_at l q) slots })
+    (record { count = ap length same; own = ap (λ l. contender_at l 0) same; others = λ q differs. ap (λ l. contender_at l q) same })
 
 -- a slot by its process's phase: one that is no process is idle by its phase
 changes_shown : (alive : Bool) (s : Status) (ds : List Effect) → (alive ≡ false → s ≡ idle) → (calls_of s ≡ [] → ds ≡ []) → changes_in (shown_by (if alive then s else gone) ds) ≡ ds
@@ -309,6 +428,21 @@ settles s flags age false anew ends = ends
 pub none_else : (pid : ℕ) (op : Op) (reply : Reply) → Alone (plain pid op reply)
 none_else pid op reply = record { chosen = refl; doomed = refl }
 
+-- a call that transactions do not support, of a live one
+pub denied : (f : Fields) (pid : ℕ) (call : Call) (reply : Reply) (s : Status) (flags : BeginFlags) → status (moment f.log) pid ≡ s → has_place f.log pid (Do call) ≡ true → is_inside call ≡ false
+    → reply ≡ unsupported flags → (age : ℕ) (calls : List Executed) → s ≡ live flags age calls → RightAt f.log.limit (moment f.log) (plain pid (Do call) reply) s (Do call)
+denied f pid call reply s flags is place outside says age calls lives =
+    let free = subst (λ x. Free f.log.limit (moment f.log) (needed x (Do call))) lives (free_at f pid (Do call) s is place) in
+    subst (λ x. RightAt f.log.limit (moment f.log) (plain pid (Do call) reply) x (Do call)) (sym lives)
+    (subst (λ b. Inside f.log.limit (moment f.log) (plain pid (Do call) reply) (live flags age calls) flags call b) (sym outside) (says, none_else pid (Do call) reply, free))
+
+-- it is not executed
+pub not_executed : (call : Call) (n : ℕ) (s : Status) → own_next n s (Do call) (Refuses ENOTSUP) [] ≡ s
+not_executed call n (live flags age calls) = refl
+not_executed call n gone = refl
+not_executed call n idle = refl
+not_executed call n (doomed cause flags age) = refl
+
 -- an entry that dooms nobody, of a process with this status
 module _ (f : Fields) (holds : IsConsistent f) (pid : ℕ) (op : Op) (reply : Reply) (s : Status) (is : status (moment f.log) pid ≡ s)
     (right : RightAt f.log.limit (moment f.log) (plain pid op reply) s op) (answers : is_no_entry reply ≡ false) (none : answer_in reply ≡ None) where
@@ -334,7 +468,7 @@ module _ (f : Fields) (holds : IsConsistent f) (pid : ℕ) (op : Op) (reply : Re
     state = commits_nothing runs;
     slot_count = refl;
     held_count = refl;
-    own = holds.parts pid ∙ sym (stays f.log e holds.legal is_right steady pid ((moves f.log e holds.legal is_right steady).own ∙ same _ _));
+    own = holds.parts pid ∙ sym (stays f.log e holds.legal is_right pid (other e steady pid) ((moves f.log e holds.legal is_right).own ∙ same _ _));
     others = λ q differs. refl;
   })
 
@@ -353,7 +487,7 @@ module _ (f : Fields) (holds : IsConsistent f) (pid : ℕ) (op : Op) (reply : Re
           slot_count = after.slot_count ∙ shows.count;
           held_count = after.held_count;
           own = after.own ∙ ap (λ p. cleared p.held.priority (settled_as again flags age)) (holds.parts pid)
-              ∙ sym (empties f.log e holds.legal is_right steady pid (settled_as again flags age) alive phase (no_calls again flags age));
+              ∙ sym (empties f.log e holds.legal is_right pid (settled_as again flags age) (other e steady pid) alive phase (no_calls again flags age));
           others = λ q differs. after.others q differs ∙ ap (λ v. record { slot = v; held = contender_at f.held q }) (shows.others q differs);
         });
       }

@@ -1,7 +1,7 @@
 -- The words and laws of which most proofs here speak.
 pub use Rattle.std.proofs.Common.{Bool, Err, IfOk, List, None, Ok, Option, Result, Some, [], add-one, ap, ap₂, arith, eq-eqb, eqb, eqb-true, false, filter}
 pub use Rattle.std.proofs.Common.{get_or, inl, inr, is_some, le-leb, length, map, nat_le, not, refl, rules, subst, subst₂, suc, sum_by, sym, take, true}
-pub use Rattle.std.proofs.Common.{true≢false, vec_capacity, zero, ℕ, ◌++◌, ◌+◌, ◌<◌, ◌==◌, ◌∙◌, ◌∷◌, ◌≡◌, ◌≢◌, ◌≤◌}
+pub use Rattle.std.proofs.Common.{true≢false, vec_capacity, zero, ℕ, ◌++◌, ◌+◌, ◌<◌, ◌==◌, ◌∙◌, ◌∷◌, ◌≡◌, ◌≢◌, ◌≤◌, ◌⊎◌}
 pub use Rattle.std.proofs.Math.Seq.{take-append_seam, take-length}
 pub use Rattle.std.proofs.lemmas.Bool.{cases_Bool, cases_lt, eqb-false, false≢true}
 pub use Rattle.std.proofs.lemmas.List.{append-nil, append_assoc, get_or_past, length-append, nil_from_length}
@@ -26,10 +26,9 @@ pub use Rattle.history_laws.proofs.Laws.{plain_calls_run, right_by, serializable
 pub use Rattle.history_laws.specs.Entered.{CallGoesIn, PhasesMove, view}
 pub use Rattle.history_laws.specs.Limits.{StaysWithinLimits, most_processes}
 pub use Rattle.history_laws.specs.Processes.{IsAsBefore, ProcessesMove, born, child_in, is_ended}
-pub use Rattle.calls.specs.Operations.{can_call}
 pub use Rattle.calls.specs.Planned.{IsPlan}
 pub use Rattle.commit.specs.Edits.{AreNew, with_change, made_by}
-pub use Rattle.commit.specs.Views.{AreFirst, View, gone_slot, causes_of, changes_in, doomed_slot, view_at}
+pub use Rattle.commit.specs.Views.{AreFirst, View, gone_slot, causes_of, changes_in, doomed_slot, idle_slot, view_at}
 pub use Rattle.contention.specs.Contenders.{SetsContender, Contender, contender_at, contender_of, live_age, nobody}
 pub use Rattle.contention.specs.Verdicts.{IsDoomedBy, IsVerdict}
 pub use Rattle.contention.specs.declared.Doomed.{Doomed}
@@ -39,5 +38,6 @@ pub use Rattle.shadow.specs.Committed.{Committed}
 pub use Rattle.kernel.specs.Shown.{Kept, Shown, is_live, is_live_status, moment}
 pub use Rattle.kernel.specs.States.{Asks, CanEnter, CanEndTransaction, Does, Dooms, Fields, IsConsistent, IsIn, Moves, Part, Plans, Stands, Unchanged, calling}
 pub use Rattle.kernel.specs.States.{changes_of, cleared, doomed_by, fields, part_at, part_of, part_with, plain, settled_as, shown, shown_by, state_with}
+pub use Rattle.kernel.specs.States.{Born, Calls, CanChange, ends_process, first_is, makes_process, no_part, part_after, with_born, with_child}
 pub use Rattle.kernel.specs.Steps.{Added, Steps, has_place, is_no_entry, with_entry}
 pub use Rattle.commit.specs.declared.slot.Standing.TheVariants.{Idle, Live}

@@ -1,4 +1,3 @@
-pub mod Operations
 pub mod Shown
 pub mod Steps
 pub mod States

@@ -1,9 +1,12 @@
 -- What is kept of each process after a history, what an operation builds on, and how fields change.
-use Rattle.std.specs.Prelude.{◌≡◌, ◌≢◌, ◌<◌, ◌≤◌, ◌==◌, ℕ, Bool, true, false, if◌then◌else◌}
-use Rattle.std.specs.Prelude.{List, [], ◌∷◌, ◌++◌, length, Option, None, Some}
+use Rattle.std.specs.Prelude.{◌≡◌, ◌≢◌, ◌<◌, ◌≤◌, ◌==◌, ◌⊎◌, ℕ, suc, Bool, true, false}
+use Rattle.std.specs.Prelude.{List, [], ◌∷◌, ◌++◌, length, Option, None, Some, is_some}
+use Rattle.std.specs.Prelude.{if◌then◌else◌}
+use Rattle.ids.specs.declared.limits.TheConstants.{MAX_PROCESSES}
 use Rattle.history.specs.Log.{Log}
 use Rattle.model.specs.State.{Kernel}
-use Rattle.model.specs.Entries.{Op, Reply, Entry, BeginFlags, Cause, Executed}
+use Rattle.model.specs.Entries.{Op, Do, Reply, Entry, BeginFlags, Cause, Executed}
+use Rattle.model.specs.Entries.{is_inside}
 use Rattle.model.specs.Moments.{Moment, Status, gone, idle, live, doomed, bound, status}
 use Rattle.model.specs.Moments.{calls_at, counted_touches, seen_by}
 use Rattle.model.specs.Legal.{Legal}
@@ -19,8 +22,8 @@ use Rattle.model.specs.Effects.{Effect, effects, all_done}
 use Rattle.commit.specs.Dooming.{with_doom}
 use Rattle.commit.specs.declared.slot.Standing.{Standing}
 use Rattle.commit.specs.declared.slot.Standing.TheVariants.{Gone, Idle, Live, Doomed as Is_doomed}
-use Rattle.kernel.specs.Operations.{can_run}
-use Rattle.model.specs.Changes.{Edit, tidy}
+use Rattle.model.specs.Changes.{Edit, New_process, End_process, applied, process_of}
+use Rattle.model.specs.Changes.{tidy}
 use Rattle.model.specs.Calls.{Call}
 use Rattle.model.specs.Steps.{Touch, edits}
 use Rattle.shadow.specs.Steps.{CanEdit}
@@ -125,17 +128,23 @@ Stands Idle s = s ≡ idle
 Stands (Live flags age) s = (calls : List Executed) × (s ≡ live flags age calls)
 Stands (Is_doomed flags age) s = (cause : Cause) × (s ≡ doomed cause flags age)
 
--- The operation is there and finds its places, and its process stands so.
+-- The operation finds its places, and its process stands so.
 pub record Asks (f : Fields) (pid : ℕ) (standing : Standing) (op : Op) : Type 0 where
   pub holds : IsConsistent f
   pub stands : Stands standing (status (moment f.log) pid)
-  pub there : can_run op ≡ true
   pub place : has_place f.log pid op ≡ true
 
 -- in no transaction, or in a live one
 abbrev pub calling : Option (BeginFlags × ℕ) → Standing
 calling None = Idle
 calling (Some within) = Live within.0 within.1
+
+-- a call of a process in no transaction, or one of a live transaction that transactions support
+pub record Calls (f : Fields) (pid : ℕ) (within : Option (BeginFlags × ℕ)) (call : Call)
+    : Type 0 where
+  pub asks : Asks f pid (calling within) (Do call)
+  pub open asks use *
+  pub supported : is_some within ≡ true → is_inside call ≡ true
 
 -- live without calls, or idle
 abbrev pub settled_as : Bool → BeginFlags → ℕ → Status
@@ -159,18 +168,74 @@ pub record CanEndTransaction (now : Fields) (pid : ℕ) (op : Op) (reply : Reply
       now.stable.state []
       → CanEnter g (plain pid op reply)
 
+-- what a process edits to make a child, and to end
+abbrev pub IsBirth : Kernel → ℕ → List Edit → Type 0
+IsBirth k pid es = (k.made < MAX_PROCESSES)
+    × (pipes : List ℕ) × (es ≡ New_process (suc k.made) pid pipes ∷ [])
+
+abbrev pub IsExit : ℕ → List Edit → Type 0
+IsExit pid es = (pipes : List ℕ) × (es ≡ End_process pid pipes ∷ [])
+
+-- Edits of what is committed and of what a transaction sees, or a process that is made or ends
+-- outside of transactions.
+abbrev pub CanChange : Kernel → ℕ → Option (BeginFlags × ℕ) → List Edit → Type 0
+CanChange k pid (Some within) es = CanEdit es
+CanChange k pid None es = CanEdit es ⊎ (IsBirth k pid es ⊎ IsExit pid es)
+
 -- what the call touches, as far as it counts, and edits, which can be done
-pub record Plans (f : Fields) (pid : ℕ) (call : Call) (ts : List Touch) (es : List Edit)
+pub record Plans (f : Fields) (pid : ℕ) (within : Option (BeginFlags × ℕ)) (call : Call)
+    (ts : List Touch) (es : List Edit)
     : Type 0 where
   pub touches : ts ≡ counted_touches (moment f.log) pid call
   pub edits : es ≡ edits (seen_by (moment f.log) pid) pid call
-  pub kinds : CanEdit es
+  pub kinds : CanChange f.stable.state pid within es
   pub parents : HaveParents f.stable.reserves es
+
+-- one process more, with this priority and in no transaction
+abbrev pub with_child : ℕ → Fields → Fields
+with_child priority f = record f {
+  held = f.held ++ record nobody { priority = priority } ∷ [];
+  transactions = record (f.transactions) { slots = f.slots ++ idle_slot ∷ [] };
+}
+
+-- whether edits begin with such a one
+abbrev pub first_is : (Edit → Bool) → List Edit → Bool
+first_is test [] = false
+first_is test (e ∷ es) = test e
+
+abbrev pub makes_process : Edit → Bool
+makes_process (New_process child parent pipes) = true
+makes_process e = false
+
+abbrev pub ends_process : Edit → Bool
+ends_process (End_process pid pipes) = true
+ends_process e = false
+
+-- with the child that a process in no transaction makes by these edits
+abbrev pub with_born : Option (BeginFlags × ℕ) → ℕ → List Edit → Fields → Fields
+with_born None pid es f =
+    if first_is makes_process es then with_child (process_of f.stable.state pid).priority f else f
+with_born (Some within) pid es f = f
+
+-- One process more: a process has made a child.
+pub record Born (old new : Fields) (pid : ℕ) : Type 0 where
+  pub log : new.log ≡ old.log
+  pub state : (pipes : List ℕ) → new.stable.state
+      ≡ applied [] (New_process (suc old.stable.state.made) pid pipes) old.stable.state
+  pub slots : new.slots ≡ (with_child (process_of old.stable.state pid).priority old).slots
+  pub held : new.held ≡ (with_child (process_of old.stable.state pid).priority old).held
+
+-- a number of no process
+abbrev pub no_part : Part
+no_part = record { slot = gone_slot; held = nobody }
+
+abbrev pub part_after : List Edit → Part → Part
+part_after es p = if first_is ends_process es then no_part else p
 
 -- A change of a process in no transaction is made at once in the committed state; another is kept,
 -- with what it touched.
 abbrev pub part_with : Option (BeginFlags × ℕ) → Effect → List Touch → Part → Part
-part_with None d ts p = p
+part_with None d ts p = part_after d.edits p
 part_with (Some within) d ts p = record {
   slot = with_change d p.slot;
   held = record (p.held) { touches = p.held.touches ++ ts };

@@ -1,15 +1,23 @@
 // Calls of processes in no transaction and in live ones.
-ghost use Rattle.std.specs.Prelude.{◌≡◌, ◌∷◌, [], map, IfOk, OnErr};
+ghost use Rattle.ids.specs.declared.limits.TheConstants.{MAX_PROCESSES};
+ghost use Rattle.std.specs.Prelude.{◌≡◌, ◌<◌, ◌∷◌, [], ℕ, suc, true, List, None, map, IfOk, OnErr, OnOk};
 ghost use Rattle.std.specs.List.{AllByRecursion};
 ghost use Rattle.model.specs.Entries as entries;
-ghost use Rattle.model.specs.Moments.{counted_touches, seen_by};
+ghost use Rattle.model.specs.Changes.{End_process, New_process, applied, tidy};
+ghost use Rattle.model.specs.Moments.{counted_touches, is_alive, seen_by};
 ghost use Rattle.model.specs.Replies.{answered};
+ghost use Rattle.model.specs.Steps as steps;
 ghost use Rattle.model.specs.Steps.{reply};
 ghost use Rattle.contention.specs.Verdicts.{IsVerdict};
+ghost use Rattle.shadow.specs.Claims.{HaveParents};
 ghost use Rattle.shadow.specs.Log.{effect};
+ghost use Rattle.call_laws.specs.Fits.{Fits};
 ghost use Rattle.commit.specs.Edits.{AreNew};
-ghost use Rattle.kernel.specs.States.{Asks, Does, Dooms, IsIn, Moves, Plans, Unchanged};
-ghost use Rattle.kernel.specs.States.{calling, fields, part_at, part_with, state_with};
+ghost use Rattle.commit.specs.Views.{idle_slot, view_at};
+ghost use Rattle.kernel.specs.States.{Born, Calls, CanChange, Does, Dooms, IsConsistent, IsIn};
+ghost use Rattle.kernel.specs.States.{Moves, Plans};
+ghost use Rattle.kernel.specs.States.{Unchanged, ends_process, fields, first_is, makes_process};
+ghost use Rattle.kernel.specs.States.{no_part, part_after, part_at, part_with, state_with, with_born};
 ghost use Rattle.kernel.specs.Shown.{moment};
 
 use crate::state::{Live, State, add_entry, end_transaction, enter};
@@ -65,20 +73,97 @@ fn doom_each(s: &mut State, all: Vec<Doomed, Heap>)
 
 /// What a call comes to, over what its process sees. Outside a transaction only the writes count.
 fn plan_for(s: &State, pid: Pid, within: &Within, call: &Call) -> Result<Plan, AllocError>
-    requires { Asks (fields s.now) pid (calling within.now) (entries.Do call.now) }
+    requires { Calls (fields s.now) pid within.now call.now }
     ensures answer { IfOk result (λ p.
         p.answer ≡ reply (seen_by (moment s.now.history) pid) pid call.now) }
     ensures plans { IfOk result (λ p.
-        Plans (fields s.now) pid call.now p.touches.items p.edits.items) }
+        Plans (fields s.now) pid within.now call.now p.touches.items p.edits.items) }
 {
     let view = s.transactions.view(pid);
     s.transactions.directories_are_kept(pid);
-    s.transactions.has_no_pipes(pid);
     let mut plan = plan_of(s.heap, &view, pid, call)?;
     if within.is_none() {
         keep_writes(&mut plan.touches);
     }
     Ok(plan)
+}
+
+/// Whether a call's edits make a process.
+fn makes_process(edits: &[Edit]) -> bool
+    ensures { result ≡ first_is makes_process edits.now }
+{
+    matches!(edits.first(), Some(Edit::NewProcess(_, _, _)))
+}
+
+/// Whether a call's edits end a process.
+fn ends_process(edits: &[Edit]) -> bool
+    ensures { result ≡ first_is ends_process edits.now }
+{
+    matches!(edits.first(), Some(Edit::EndProcess(_, _)))
+}
+
+/// A process in no transaction makes a child, which is in none. Refused memory makes no child.
+fn fork(s: &mut State, pid: Pid) -> Result<(), AllocError>
+    requires holds { IsConsistent (fields s.old) }
+    requires alive { is_alive s.old.transactions.stable.state pid ≡ true }
+    requires fits { (pipes : List ℕ) × Fits [] s.old.transactions.stable.state
+        (New_process (suc s.old.transactions.stable.state.made) pid pipes) }
+    requires few { s.old.transactions.stable.state.made < MAX_PROCESSES }
+    ensures made { OnOk result (Born (fields s.old) (fields s.new) pid) }
+    ensures err { OnErr result (Unchanged (fields s.old) (fields s.new)) }
+{
+    let priority = s.transactions.stable().priority_of(pid);
+    s.contenders.grow(priority)?;
+    match s.transactions.fork(pid) {
+        Ok(_child) => Ok(()),
+        Err(AllocError) => {
+            s.contenders.shrink();
+            Err(AllocError)
+        }
+    }
+}
+
+/// A process in no transaction ends. It takes no memory.
+fn exit(s: &mut State, pid: Pid)
+    requires is_in { IsIn (fields s.old) pid }
+    requires idle { view_at s.old.transactions.slots pid ≡ idle_slot }
+    requires fits { (pipes : List ℕ)
+        × Fits [] s.old.transactions.stable.state (End_process pid pipes) }
+    ensures { (pipes : List ℕ) → Moves (fields s.old) (fields s.new) pid no_part
+        (tidy (applied [] (End_process pid pipes) s.old.transactions.stable.state)) [] }
+{
+    s.contenders.leave(pid);
+    s.transactions.exit(pid);
+}
+
+/// Makes the change of a process in no transaction, at once in the committed state, and answers its
+/// new numbers. Refused memory changes nothing.
+fn change_at_once(
+    s: &mut State,
+    pid: Pid,
+    call: &Call,
+    edits: Vec<Edit, Heap>,
+) -> Result<Nums, AllocError>
+    requires asks { Calls (fields s.old) pid None call.now }
+    requires edits { edits.items ≡ steps.edits (seen_by (moment s.old.history) pid) pid call.now }
+    requires kinds { CanChange s.old.transactions.stable.state pid None edits.items }
+    requires parents { HaveParents s.old.transactions.stable.reserves edits.items }
+    ensures new { IfOk result (AreNew s.old.transactions edits.entry.items) }
+    ensures moves { IfOk result (λ chosen.
+        Moves (with_born None pid edits.entry.items (fields s.old)) (fields s.new) pid
+        (part_after edits.entry.items (part_at (fields s.old) pid))
+        (state_with None (effect chosen edits.entry.items) s.old.transactions.stable.state) []) }
+    ensures err { OnErr result (Unchanged (fields s.old) (fields s.new)) }
+{
+    if makes_process(edits.as_slice()) {
+        fork(s, pid)?;
+        return Ok(Nums::new(s.heap));
+    }
+    if ends_process(edits.as_slice()) {
+        exit(s, pid);
+        return Ok(Nums::new(s.heap));
+    }
+    s.transactions.apply(edits)
 }
 
 /// Makes a call's change, and answers its new numbers. Refused memory changes nothing.
@@ -90,10 +175,11 @@ fn change(
     touches: Vec<Touch, Heap>,
     edits: Vec<Edit, Heap>,
 ) -> Result<Nums, AllocError>
-    requires asks { Asks (fields s.old) pid (calling within.now) (entries.Do call.now) }
-    requires plans { Plans (fields s.old) pid call.now touches.items edits.items }
+    requires asks { Calls (fields s.old) pid within.now call.now }
+    requires plans { Plans (fields s.old) pid within.now call.now touches.items edits.items }
     ensures new { IfOk result (AreNew s.old.transactions edits.entry.items) }
-    ensures moves { IfOk result (λ chosen. Moves (fields s.old) (fields s.new) pid
+    ensures moves { IfOk result (λ chosen.
+        Moves (with_born within.now pid edits.entry.items (fields s.old)) (fields s.new) pid
         (part_with within.now (effect chosen edits.entry.items) touches.entry.items
         (part_at (fields s.old) pid))
         (state_with within.now (effect chosen edits.entry.items)
@@ -101,7 +187,7 @@ fn change(
     ensures err { OnErr result (Unchanged (fields s.old) (fields s.new)) }
 {
     if within.is_none() {
-        return s.transactions.apply(edits);
+        return change_at_once(s, pid, call, edits);
     }
     let count = s.contenders.count(pid);
     s.contenders.add(pid, touches)?;
@@ -124,9 +210,9 @@ fn take(
     plan: Plan,
     doomed: Vec<Doomed, Heap>,
 ) -> Result<Reply, AllocError>
-    requires asks { Asks (fields s.old) pid (calling within) (entries.Do call) }
+    requires asks { Calls (fields s.old) pid within call }
     requires answer { plan.answer ≡ reply (seen_by (moment s.old.history) pid) pid call }
-    requires plans { Plans (fields s.old) pid call plan.touches.items plan.edits.items }
+    requires plans { Plans (fields s.old) pid within call plan.touches.items plan.edits.items }
     requires wins { IsVerdict (moment s.old.history) pid
         (counted_touches (moment s.old.history) pid call) (Verdict.Go doomed) }
     ensures ok { IfOk result (Does (fields s.old) (fields s.new) pid (entries.Do call)) }
@@ -153,7 +239,7 @@ pub fn aborted(cause: Cause, restarted: bool) -> Reply
 
 /// A call that has lost: outside a transaction it is put off, and a live transaction is undone.
 fn refuse(s: &mut State, pid: Pid, within: Within, call: Call, entry: Cause, reply: Cause) -> Reply
-    requires asks { Asks (fields s.old) pid (calling within) (entries.Do call) }
+    requires asks { Calls (fields s.old) pid within call }
     requires lost { IsVerdict (moment s.old.history) pid
         (counted_touches (moment s.old.history) pid call) (Verdict.Lose entry reply) }
     ensures { Does (fields s.old) (fields s.new) pid (entries.Do call) result }
@@ -171,7 +257,7 @@ fn refuse(s: &mut State, pid: Pid, within: Within, call: Call, entry: Cause, rep
 
 /// A call of a process in no transaction or in a live one. Refused memory changes nothing.
 pub fn run(s: &mut State, pid: Pid, within: Within, call: Call) -> Result<Reply, AllocError>
-    requires { Asks (fields s.old) pid (calling within) (entries.Do call) }
+    requires { Calls (fields s.old) pid within call }
     ensures ok { IfOk result (Does (fields s.old) (fields s.new) pid (entries.Do call)) }
     ensures err { OnErr result (Unchanged (fields s.old) (fields s.new)) }
 {

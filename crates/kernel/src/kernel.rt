@@ -1,6 +1,6 @@
 // The kernel, and one step of it.
 ghost use Rattle.ids.specs.declared.limits.TheConstants.{MAX_ENTRIES, MAX_PROCESSES};
-ghost use Rattle.std.specs.Prelude.{◌≡◌, ◌<◌, ◌≤◌, [], true, length, is_some, IfOk, IfSome, OnErr};
+ghost use Rattle.std.specs.Prelude.{◌≡◌, ◌<◌, ◌≤◌, [], length, is_some, IfOk, IfSome, OnErr};
 ghost use Rattle.model.specs.Changes.{tidy};
 ghost use Rattle.model.specs.Moments.{is_alive, seen_by};
 ghost use Rattle.model.specs.Effects.{all_done};
@@ -8,7 +8,6 @@ ghost use Rattle.freeing_laws.specs.Sweep.{AllFit};
 ghost use Rattle.history_laws.specs.Headline.{IsSerializable};
 ghost use Rattle.history_laws.specs.Limits.{StaysWithinLimits};
 ghost use Rattle.history_laws.specs.Trees.{IsATree};
-ghost use Rattle.kernel.specs.Operations.{can_run, CanRunAll};
 ghost use Rattle.kernel.specs.Shown.{Kept, moment, is_live};
 ghost use Rattle.kernel.specs.Steps.{IsStep, Steps};
 
@@ -121,7 +120,6 @@ impl Kernel {
     /// One operation of one process. HistoryFull and NoMemory change nothing; each other reply is
     /// that of one new entry.
     pub fn step(&mut self, pid: Pid, op: Op) -> Reply
-        requires { can_run op ≡ true }
         ensures kept { Kept self.new }
         ensures serial { IsSerializable 0 self.new.log.priorities self.new.log.limit
             self.new.log.entries self.new.state }
@@ -133,7 +131,6 @@ impl Kernel {
     /// Steps in a row. Refused memory for the replies means that nothing has run; a later refusal
     /// stands among the replies.
     pub fn run(&mut self, ops: Vec<(Pid, Op), Heap>) -> Result<Vec<Reply, Heap>, AllocError>
-        requires { CanRunAll ops.items }
         ensures kept { Kept self.new }
         ensures serial { IsSerializable 0 self.new.log.priorities self.new.log.limit
             self.new.log.entries self.new.state }

@@ -1,7 +1,5 @@
-//! The kernel: one step of one process at a time, with transactions.
-//!
-//! Today there are directories and files: open, close, read, write, lseek, ftruncate, fstat, stat,
-//! mkdir, rmdir, list, link, unlink and rename run, and no other call.
+//! The kernel: one step of one process at a time, with transactions. Fork and exit are refused in
+//! a transaction; all other calls run in it and outside.
 #![tactic(auto)]
 
 mod execute;
@@ -10,4 +8,3 @@ mod state;
 mod step;
 
 pub use kernel::Kernel;
-pub use step::is_there;

@@ -1,17 +1,17 @@
 // One operation of one process.
-ghost use Rattle.std.specs.Prelude.{◌≡◌, true};
+ghost use Rattle.std.specs.Prelude.{◌≡◌, false};
 ghost use Rattle.model.specs.Entries as entries;
+ghost use Rattle.model.specs.Entries.{is_inside};
 ghost use Rattle.model.specs.Legal.{restarts};
 ghost use Rattle.model.specs.Moments.{Status, has_free, status};
 ghost use Rattle.model.specs.Replies.{needed};
-ghost use Rattle.kernel.specs.Operations.{can_run};
 ghost use Rattle.kernel.specs.Shown.{moment};
-ghost use Rattle.kernel.specs.States.{Asks, Does, IsConsistent, Stands, calling, fields};
+ghost use Rattle.kernel.specs.States.{Asks, Calls, Does, IsConsistent, Stands, fields};
 
 use crate::execute::{aborted, run};
 use crate::state::{Live, State, add_entry, end_transaction};
 use commit::Standing;
-use ids::{Age, BeginFlags, Call, Op, Pid, Reply};
+use ids::{Age, BeginFlags, Call, Errno, Op, Pid, Reply, Why};
 use std::alloc::AllocError;
 
 /// What the process is.
@@ -20,18 +20,6 @@ fn standing_of(s: &State, pid: Pid) -> Standing
     ensures { Stands result (status (moment s.now.history) pid) }
 {
     s.transactions.standing(pid)
-}
-
-/// Whether the operation is there today: each but a call that `calls` does not have yet.
-pub fn is_there(op: &Op) -> bool
-    ensures { result ≡ can_run op.now }
-{
-    match op {
-        Op::Call(call) => calls::is_there(call),
-        Op::Begin(_) => true,
-        Op::End => true,
-        Op::Abort { no_restart: _ } => true,
-    }
 }
 
 /// How many free places of the history the operation needs.
@@ -118,12 +106,46 @@ fn notice(s: &mut State, pid: Pid, flags: BeginFlags, age: Age, op: Op) -> Reply
 
 /// A call of a process in no transaction or in a live one.
 fn step_call(s: &mut State, pid: Pid, within: Option<Live>, call: Call) -> Reply
-    requires { Asks (fields s.old) pid (calling within) (entries.Do call) }
+    requires { Calls (fields s.old) pid within call }
     ensures { Does (fields s.old) (fields s.new) pid (entries.Do call) result }
 {
     match run(s, pid, within, call) {
         Ok(reply) => reply,
         Err(AllocError) => Reply::NoMemory,
+    }
+}
+
+/// Whether transactions support the call.
+fn is_supported(call: &Call) -> bool
+    ensures { result ≡ is_inside call.now }
+{
+    !matches!(call, Call::Fork | Call::Exit)
+}
+
+/// A call that transactions do not support is not executed. Where the transaction's flags say so,
+/// it aborts the transaction. It takes no memory.
+fn deny(s: &mut State, pid: Pid, flags: BeginFlags, age: Age, call: Call) -> Reply
+    requires asks { Asks (fields s.old) pid (Standing.Live flags age) (entries.Do call) }
+    requires outside { is_inside call ≡ false }
+    ensures { Does (fields s.old) (fields s.new) pid (entries.Do call) result }
+{
+    let op = Op::Call(call);
+    if flags.aborts_unsupported() {
+        let told = (unsupported(), unsupported());
+        end_transaction(s, pid, op, told, false, (flags, age))
+    } else {
+        let told = (Reply::Errno(Errno::ENOTSUP), Reply::Errno(Errno::ENOTSUP));
+        add_entry(s, pid, op, told)
+    }
+}
+
+/// The reply that tells of a call that transactions do not support.
+fn unsupported() -> Reply
+    ensures { result ≡ entries.Aborted entries.Unsupported false }
+{
+    Reply::Aborted {
+        why: Why::Unsupported,
+        restarted: false,
     }
 }
 
@@ -149,7 +171,8 @@ fn step_live(s: &mut State, pid: Pid, flags: BeginFlags, age: Age, op: Op) -> Re
     match op {
         Op::End => end(s, pid, flags, age),
         Op::Abort { no_restart } => give_up(s, pid, flags, age, no_restart),
-        Op::Call(call) => step_call(s, pid, Some((flags, age)), call),
+        Op::Call(call) if is_supported(&call) => step_call(s, pid, Some((flags, age)), call),
+        Op::Call(call) => deny(s, pid, flags, age, call),
         Op::Begin(flags) => {
             let told = (Reply::InTransaction, Reply::InTransaction);
             add_entry(s, pid, Op::Begin(flags), told)
@@ -159,8 +182,7 @@ fn step_live(s: &mut State, pid: Pid, flags: BeginFlags, age: Age, op: Op) -> Re
 
 /// One operation of one process. HistoryFull and NoMemory change nothing.
 pub fn step(s: &mut State, pid: Pid, op: Op) -> Reply
-    requires holds { IsConsistent (fields s.old) }
-    requires there { can_run op ≡ true }
+    requires { IsConsistent (fields s.old) }
     ensures { Does (fields s.old) (fields s.new) pid op result }
 {
     let standing = standing_of(s, pid);

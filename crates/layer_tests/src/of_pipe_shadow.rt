@@ -25,7 +25,7 @@ fn a_reader_beside_a_writer(rt: HostRuntime) {
     let mut pipe = pipe_of(&rt, heap, b"abcde");
     let mut shadow = PipeShadow::new(heap);
     assert_read(&rt, heap, &shadow, &pipe, 3, b"abc");
-    shadow.take(&pipe, 3);
+    shadow.take(3).expect(&rt, "memory");
     assert_eq!(rt; [shadow.len(&pipe), shadow.room(&pipe)], [2, 4094]);
     pipe.put(b"xy");
     heap.refuse(0);
@@ -53,11 +53,11 @@ fn own_bytes_are_read_back(rt: HostRuntime) {
     let mut shadow = PipeShadow::new(heap);
     shadow.append(b"xyz").expect(&rt, "memory");
     heap.refuse(0);
-    shadow.take(&pipe, 4);
-    shadow.take(&pipe, 3);
+    shadow.take(4).expect(&rt, "memory");
+    shadow.take(3).expect(&rt, "memory");
     assert_eq!(rt; heap.made(), 0);
     assert_read(&rt, heap, &shadow, &pipe, 9, b"z");
-    shadow.take(&pipe, 9);
+    shadow.take(1).expect(&rt, "memory");
     assert_eq!(rt; shadow.len(&pipe), 0);
     shadow.append(b"q").expect(&rt, "memory");
     shadow.commit_into(&mut pipe);

@@ -2,12 +2,14 @@
 //!
 //! Others may take from the front of the stable pipe or append to its back meanwhile. So the
 //! changes are no copy of the pipe: they are how many bytes are taken and which are appended, and
-//! contracts speak of the view that they give of any stable pipe.
+//! contracts speak of the view that they give of any stable pipe. Which of the bytes that are taken
+//! were stable and which were appended is not kept, since it may be another on another pipe.
 #![tactic(auto)]
 
 ghost use Rattle.std.specs.Prelude.{◌≡◌, ◌+◌, ◌-◌, ◌≤◌, ℕ, IfOk, OnOk, OnErr};
 ghost use Rattle.std.specs.Prelude.{List, [], ◌++◌, length, take, drop};
-ghost use Rattle.pipe_shadow.specs.View.{view_over, TakesAlike};
+ghost use Rattle.ids.specs.declared.limits.TheConstants.{PIPE_CAPACITY};
+ghost use Rattle.pipe_shadow.specs.View.{view_over, Reaches};
 
 use heap::Heap;
 use ids::Bytes;
@@ -15,8 +17,8 @@ use objects::{PIPE_CAPACITY, PipeData, part};
 use std::alloc::AllocError;
 use std::marker::Model;
 
-/// How many bytes of a pipe are taken, and which are appended. Bytes of its own that are taken
-/// again leave those that are appended.
+/// How many bytes of a pipe are taken, and which are appended. Bytes that are appended and taken
+/// again stay in the list, as they stay in the history.
 #[derive(Drop)]
 pub struct PipeShadow {
     taken: usize,
@@ -34,22 +36,10 @@ impl Model for PipeShadow {
     } };
 }
 
-// Drops bytes from the front of a vector. It takes no memory.
-fn drop_front(bytes: &mut Vec<u8, Heap>, count: usize)
-    requires { count ≤ length bytes.old.items }
-    ensures { bytes.new.items ≡ drop count bytes.old.items }
-{
-    let len = bytes.len();
-    bytes.copy_within(count..len, 0);
-    bytes.truncate(len - count);
-}
-
 impl PipeShadow {
     /// No changes. It takes no memory.
     pub fn new(heap: Heap) -> PipeShadow
-        ensures taken { result.taken ≡ 0 }
-        ensures appended { result.appended ≡ [] }
-        ensures view { (xs : List ℕ) → view_over result xs ≡ xs }
+        ensures { result ≡ record { taken = 0; appended = [] } }
     {
         PipeShadow {
             taken: 0,
@@ -61,7 +51,7 @@ impl PipeShadow {
     pub fn len(&self, pipe: &PipeData) -> usize
         ensures { result ≡ length (view_over self.now pipe.now) }
     {
-        pipe.len().saturating_sub(self.taken) + self.appended.len()
+        (pipe.len() + self.appended.len()).saturating_sub(self.taken)
     }
 
     /// How many bytes more the view can hold.
@@ -76,43 +66,58 @@ impl PipeShadow {
         ensures { IfOk result (λ bytes. bytes ≡ take count (view_over self.now pipe.now)) }
     {
         let mut bytes = pipe.read(heap, self.taken, count)?.into_vec();
-        bytes.extend_from_slice(part(self.appended.as_slice(), 0, count - bytes.len()))?;
+        let own = self.taken.saturating_sub(pipe.len());
+        bytes.extend_from_slice(part(self.appended.as_slice(), own, count - bytes.len()))?;
         Ok(Bytes::new(bytes))
     }
 
-    /// Takes at most `count` bytes from the front of the view. The stable bytes that were taken
-    /// before have to be there still. It takes no memory.
-    pub fn take(&mut self, pipe: &PipeData, count: usize)
-        requires { self.old.taken ≤ length pipe.now }
-        ensures view { (xs : List ℕ) → TakesAlike self.old count pipe.now xs
-            → view_over self.new xs ≡ drop count (view_over self.old xs) }
-        ensures within { self.new.taken ≤ length pipe.now }
+    /// Takes so many bytes from the front of the view of each pipe that has them. It takes no
+    /// memory; `AllocError` says that they are more than can be counted, and nothing is changed.
+    pub fn take(&mut self, count: usize) -> Result<(), AllocError>
+        ensures view { OnOk result ((xs : List ℕ)
+            → view_over self.new xs ≡ drop count (view_over self.old xs)) }
+        ensures reaches { OnOk result ((xs : List ℕ) → count ≤ length (view_over self.old xs)
+            → Reaches self.old xs → Reaches self.new xs) }
+        ensures err { OnErr result (self.new ≡ self.old) }
     {
-        let stable = count.min(pipe.len() - self.taken);
-        let own = (count - stable).min(self.appended.len());
-        self.taken += stable;
-        drop_front(&mut self.appended, own);
+        let Some(taken) = self.taken.checked_add(count) else {
+            return Err(AllocError);
+        };
+        self.taken = taken;
+        Ok(())
     }
 
-    /// Appends bytes to the view. That they fit is for the caller to see. Refused memory changes
-    /// nothing.
+    /// Appends bytes to the view of each pipe. That they fit is for the caller to see. Refused
+    /// memory changes nothing.
     pub fn append(&mut self, bytes: &[u8]) -> Result<(), AllocError>
-        ensures view { OnOk result ((xs : List ℕ)
+        ensures view { OnOk result ((xs : List ℕ) → Reaches self.old xs
             → view_over self.new xs ≡ view_over self.old xs ++ bytes.now) }
-        ensures taken { self.new.taken ≡ self.old.taken }
+        ensures reaches { OnOk result ((xs : List ℕ) → Reaches self.old xs → Reaches self.new xs) }
         ensures err { OnErr result (self.new ≡ self.old) }
     {
         self.appended.extend_from_slice(bytes)
     }
 
+    /// Of a stable pipe with so many bytes, how many are taken from its front, and what is appended
+    /// then, so that it becomes the view. It takes no memory.
+    pub fn split(&self, len: usize) -> (usize, &[u8])
+        ensures taken { result.0 ≤ len }
+        ensures view { (xs : List ℕ) → length xs ≡ len
+            → drop result.0 xs ++ result.1.now ≡ view_over self.now xs }
+    {
+        let stable = self.taken.min(len);
+        let appended = self.appended.as_slice();
+        let left = part(appended, self.taken - stable, appended.len());
+        (stable, left)
+    }
+
     /// Makes the view the stable pipe, as others have left it. It takes no memory.
     pub fn commit_into(self, pipe: &mut PipeData)
-        requires taken { self.taken ≤ length pipe.old }
-        requires fits { length (view_over self pipe.old) ≤ PIPE_CAPACITY }
+        requires { length (view_over self pipe.old) ≤ PIPE_CAPACITY }
         ensures { pipe.new ≡ view_over self pipe.old }
     {
-        let PipeShadow { taken, appended } = self;
+        let (taken, appended) = self.split(pipe.len());
         pipe.skip(taken);
-        pipe.put(appended.as_slice());
+        pipe.put(appended);
     }
 }

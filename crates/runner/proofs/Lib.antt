@@ -1,2 +1,1 @@
-mod AllSupported
 mod Stepping

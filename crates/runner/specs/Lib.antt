@@ -3,4 +3,3 @@ pub mod Faults
 pub mod Jobs
 pub mod Runs
 pub mod Steps
-pub mod Supported

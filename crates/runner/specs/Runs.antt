@@ -4,6 +4,7 @@ use Rattle.std.specs.Prelude.{◌≡◌, ℕ, ◌≤◌, List, length, Option, O
 use Rattle.std.specs.Io.KnownBytes.{append_known, prepend_known, IsAtEnd}
 use Rattle.kernel.specs.Shown.{Shown}
 use Rattle.script.specs.declared.limits.TheConstants.{SCRIPT_LIMIT}
+use Rattle.script.specs.Scripts.{script_of}
 use Rattle.script.specs.Schedules.{schedule_of}
 use Rattle.script.specs.Contents.{ScriptContents}
 use Rattle.script.specs.Steps.{steps}
@@ -11,7 +12,6 @@ use Rattle.script.specs.declared.faults.ScriptFault.{ScriptFault}
 use Rattle.script.specs.declared.faults.ScheduleFault.{ScheduleFault}
 use Rattle.transcript.specs.Line.{transcript}
 use Rattle.runner.specs.Steps.{HasDone, Stops}
-use Rattle.runner.specs.Supported.{script_in}
 use Rattle.runner.specs.declared.fault.RunFault.{RunFault}
 use Rattle.runner.specs.declared.fault.RunFault.TheVariants.{Script, Schedule, Read}
 use Rattle.runner.specs.declared.fault.RunFault.TheVariants.{Write, HistoryFull, NoMemory}
@@ -25,13 +25,13 @@ pub record IsRead (old new : Option (List ℕ)) (text : List ℕ) : Type 0 where
 pub record GivesScript (old new : Option (List ℕ)) (script : ScriptContents) : Type 0 where
   pub text : List ℕ
   pub read : IsRead old new text
-  pub spells : script_in text ≡ Ok script
+  pub spells : script_of text ≡ Ok script
 
 -- What a source gave has this fault.
 pub record GivesFault (old new : Option (List ℕ)) (fault : ScriptFault) : Type 0 where
   pub text : List ℕ
   pub read : IsRead old new text
-  pub spells : script_in text ≡ Err fault
+  pub spells : script_of text ≡ Err fault
 
 -- why no script was read: a fault of what the source gave, or that the source or memory has failed
 abbrev pub NoScript : Option (List ℕ) → Option (List ℕ) → RunFault → Type 0

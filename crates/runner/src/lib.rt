@@ -8,7 +8,6 @@ mod printing;
 mod reporting;
 mod run;
 mod steps;
-mod supported;
 
 pub use fault::RunFault;
 pub use job::run_job;

@@ -5,11 +5,10 @@ ghost use Rattle.runner.specs.Runs.{Ended, GivesScript, NoScript, Ran};
 
 use crate::RunFault;
 use crate::steps::do_steps;
-use crate::supported::first_unsupported;
 use device::{ReadFault, Sink, Source, read_all};
 use heap::Heap;
 use kernel::Kernel;
-use script::{SCRIPT_LIMIT, Script, ScriptFault, read_schedule, read_script, steps_of};
+use script::{SCRIPT_LIMIT, Script, read_schedule, read_script, steps_of};
 use words::MAX_LIMIT;
 
 // One byte more than a script may have, so that a longer one is noticed.
@@ -19,10 +18,9 @@ const MOST_READ: usize = SCRIPT_LIMIT + 1;
 /// kernel with this history limit. After each step the line of its entry is written to `sink`.
 /// Returns the kernel.
 ///
-/// A `Script` or `Schedule` fault comes before any step, and then nothing was written. An operation
-/// that the kernel does not support is an unknown operation, reported where the text has no fault.
-/// `Read` and `Write` come only where the device has failed. `HistoryFull` and `NoMemory` stop the
-/// run after the lines of the steps before.
+/// A `Script` or `Schedule` fault comes before any step, and then nothing was written. `Read` and
+/// `Write` come only where the device has failed. `HistoryFull` and `NoMemory` stop the run after
+/// the lines of the steps before.
 pub fn run_schedule<I: Source, O: Sink>(
     heap: Heap,
     source: &mut I,
@@ -67,7 +65,7 @@ pub fn run_schedule<I: Source, O: Sink>(
     }
 }
 
-// The script that a source spells, where the kernel supports all its operations.
+// The script that a source spells.
 fn script_in<I: Source>(heap: Heap, source: &mut I) -> Result<Script, RunFault>
     requires { CanCount (I.failures source.old) }
     ensures ok { IfOk result (GivesScript (I.remaining source.old) (I.remaining source.new)) }
@@ -81,12 +79,8 @@ fn script_in<I: Source>(heap: Heap, source: &mut I) -> Result<Script, RunFault>
         Err(ReadFault::Device) => return Err(RunFault::Read),
         Err(ReadFault::NoMemory) => return Err(RunFault::NoMemory),
     };
-    let script = match read_script(heap, text.as_slice()) {
-        Ok(script) => script,
-        Err(fault) => return Err(RunFault::of_script(fault)),
-    };
-    match first_unsupported(script.lines()) {
-        None => Ok(script),
-        Some(number) => Err(RunFault::Script(ScriptFault::UnknownOperation(number))),
+    match read_script(heap, text.as_slice()) {
+        Ok(script) => Ok(script),
+        Err(fault) => Err(RunFault::of_script(fault)),
     }
 }

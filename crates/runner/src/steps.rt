@@ -1,8 +1,7 @@
 // The steps of a run.
-ghost use Rattle.std.specs.Prelude.{◌≡◌, ◌≢◌, ◌<◌, [], true, IfErr, OnErr, OnOk};
+ghost use Rattle.std.specs.Prelude.{◌≡◌, ◌≢◌, ◌<◌, [], IfErr, OnErr, OnOk};
 ghost use Rattle.std.specs.Io.KnownBytes.{append_known};
 ghost use Rattle.device.specs.Device.{CanCount};
-ghost use Rattle.kernel.specs.Operations.{can_run, CanRunAll};
 ghost use Rattle.kernel.specs.Shown.{Kept};
 ghost use Rattle.transcript.specs.Line.{transcript};
 ghost use Rattle.runner.specs.Steps.{HasDone, Refused, Stops, Took};
@@ -16,7 +15,6 @@ use kernel::Kernel;
 
 // Executes one step. A fault, HistoryFull or NoMemory, means that nothing has changed.
 fn do_step(kernel: &mut Kernel, pid: Pid, op: Op) -> Result<(), RunFault>
-    requires { can_run op ≡ true }
     ensures kept { Kept kernel.new }
     ensures ok { OnOk result (Took kernel.old.log kernel.new.log pid op) }
     ensures unchanged { OnErr result (kernel.new ≡ kernel.old) }
@@ -46,7 +44,6 @@ pub(crate) fn do_steps<S: Sink>(
     steps: Vec<(Pid, Op), Heap>,
     sink: &mut S,
 ) -> Result<(), RunFault>
-    requires supported { CanRunAll steps.items }
     requires kept { Kept kernel.old }
     requires fresh { kernel.old.log.entries ≡ [] }
     requires device { CanCount (S.failures sink.old) }

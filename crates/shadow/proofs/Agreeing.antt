@@ -18,7 +18,8 @@ use Rattle.shadow.specs.Claims.{AreUnused, Claim, Covers, KeepsMore, KeepsSame, 
 use Rattle.shadow.specs.Committed.{Committed}
 use Rattle.shadow.specs.Log.{effect}
 use Rattle.shadow.specs.Notes.{SamePatches}
-use Rattle.shadow.specs.Patches.{Net, Patches, added_by, form_of, is_new, kept_at, net_at, numbers_in, patched, reopened, reslotted_by, slots_in}
+use Rattle.freeing_laws.proofs.Laws.{sweep_is_tidy_lem}
+use Rattle.shadow.specs.Patches.{AllReach, new_ends, Net, Patches, added_by, form_of, is_new, kept_at, net_at, numbers_in, patched, reopened, reslotted_by, slots_in}
 use Rattle.shadow.specs.Steps.{AreApart, CanEdit, IsOne, TakesAll, blocks_by, parents_in}
 use Rattle.shadow.proofs.Along.{Along, along_all, along_same}
 use Rattle.shadow.proofs.EditsClaim.{AreFree, all_one, claims_more, other_claims}
@@ -28,7 +29,7 @@ pub agrees_none : Agrees [] (record { inodes = []; openings = []; slots = []; lo
 agrees_none = record {
   root = λ k. refl;
   count = λ k. refl;
-  inodes = λ k n. refl;
+  inodes = λ k n fit. refl;
   descriptions = λ k d. refl;
   processes = λ k pid. refl;
   named = λ n. refl;
@@ -36,10 +37,13 @@ agrees_none = record {
   lost = refl;
   claims = none;
   added = λ n. omega arith;
+  still = λ n none. refl;
   kinds = λ k n f. tt;
   rooms = λ k n f. omega arith;
   written = λ k n b f. (λ has. has, λ has. has);
   moved = λ k d f. tt;
+  reach = λ k n f. tt;
+  pipes = λ k n ends is well f. absurd cc;
   alive = λ k pid f some. absurd (some refl);
 }
   where
@@ -89,10 +93,14 @@ along_of ds p a = record {
   unnamed = a.unnamed;
   lost = a.lost;
   added = a.added;
+  still = a.still;
   kinds = a.kinds;
   rooms = a.rooms;
   written = a.written;
   moved = a.moved;
+  reach = a.reach;
+  well = λ k fit well. sweep_is_tidy_lem.well ds k well fit;
+  pipes = a.pipes;
   alive = a.alive;
 }
 
@@ -108,10 +116,13 @@ of_along ds p claims a = record {
   lost = a.lost;
   claims = claims;
   added = a.added;
+  still = a.still;
   kinds = a.kinds;
   rooms = a.rooms;
   written = a.written;
   moved = a.moved;
+  reach = a.reach;
+  pipes = a.pipes;
   alive = a.alive;
 }
 
@@ -160,7 +171,7 @@ pub agrees_same : (ds : List Effect) (p q : Patches) → SamePatches p q → Agr
 agrees_same ds p q s a = record {
   root = a.root;
   count = a.count;
-  inodes = λ k n. a.inodes k n ∙ ap (λ c. patched c (get k.inodes n)) (sym (contents n));
+  inodes = λ k n fit. a.inodes k n fit ∙ ap (λ c. patched c (get k.inodes n)) (sym (contents n));
   descriptions = λ k d. a.descriptions k d ∙ ap (λ o. reopened o (get k.descriptions d)) (sym (s.openings d));
   processes = λ k pid. a.processes k pid ∙ sym (s.processes pid (get k.processes pid));
   named = λ n. a.named n ∙ sym (ap (λ (net : Net). net.named) ((s.inodes.nets n).rest));
@@ -168,12 +179,15 @@ agrees_same ds p q s a = record {
   lost = a.lost ∙ sym s.lost;
   claims = λ c. a.claims c ∙ sym (same_claim c);
   added = λ n. subst (λ c. added_by c ≤ (net_at q.inodes n).promised) (sym (contents n)) (subst (λ m. added_by (net_at p.inodes n).contents ≤ m) (sym (promised n)) (a.added n));
+  still = λ n none. promised n ∙ a.still n (sym (ap form_of (contents n)) ∙ none);
   kinds = λ k n fit. subst (λ m. IsOver (kind_of k n) m (form_of (net_at q.inodes n).contents)) (sym (made n)) (subst (λ c. IsOver (kind_of k n) (net_at p.inodes n).made (form_of c)) (sym (contents n)) (a.kinds k n fit));
   rooms = λ k n fit. (
       let old : length (file_of (all_done ds k) n) ≤ max (length (file_of k n)) (net_at p.inodes n).room = a.rooms k n fit in
       let more : (net_at p.inodes n).room ≤ (net_at q.inodes n).room = (s.inodes.nets n).room in omega arith);
   written = λ k n b fit. subst (λ c. Contains (numbers_in c) b ↔ Contains (blocks_written n ds) b) (sym (contents n)) (a.written k n b fit);
   moved = λ k d fit. subst (λ o. IsOverDescription o (is_some (get k.descriptions d))) (sym (s.openings d)) (a.moved k d fit);
+  reach = λ k n fit. subst (λ c. AllReach c (get k.inodes n)) (sym (contents n)) (a.reach k n fit);
+  pipes = λ k n ends is well fit. a.pipes k n ends (sym (ap new_ends (contents n)) ∙ is) well fit;
   alive = λ k pid fit some. a.alive k pid fit (λ none. some (no_slots (slots_in (kept_at q.slots pid)) (s.processes pid None ∙ ap (λ gs. reslotted_by gs None) none)));
 }
   where

@@ -1,11 +1,12 @@
 -- What an edit of today makes of each object.
-use Rattle.std.proofs.Common.{◌≡◌, ℕ, ◌==◌, cond, List, Option, Some, None, refl, sym, ap, ◌∙◌, eq-eqb, ne_eqb, inl, inr}
+use Rattle.std.specs.Prelude.{◌++◌, drop}
+use Rattle.std.proofs.Common.{◌≡◌, ℕ, ◌+◌, ◌==◌, Bool, true, false, cond, List, [], Option, Some, None, refl, sym, ap, ◌∙◌, eq-eqb, ne_eqb, inl, inr}
 use Rattle.std.specs.Ordering.{nat_cmp}
 use Rattle.std.proofs.lemmas.Bool.{cases_eq}
 use Rattle.model.specs.FiniteMap.{FinMap, get, insert, remove}
-use Rattle.model.specs.State.{Name, Kernel, Inode, File, Directory, Description, mapped, names_of_inode, file_of_inode}
+use Rattle.model.specs.State.{Name, Kernel, Inode, File, Directory, Pipe, Process, Description, mapped, names_of_inode, file_of_inode, pipe_of_inode}
 use Rattle.model.specs.Changes.{Edit, Which, Mode, Make_directory, Make_file, Name_file, Unname_file, Unname_directory, Move, Put_bytes, Cut, Take, Append, Set_offset, Open_inode, Make_pipe, Share_slot, Clear_slot, New_process, End_process}
-use Rattle.model.specs.Changes.{Replaced, clear_name, number, applied, at_offset, at_start, or_new, set_inode, set_name, set_offset, sized, written, with_slot, without_slot}
+use Rattle.model.specs.Changes.{Replaced, clear_name, number, applied, at_offset, at_start, or_new, set_inode, set_name, set_offset, sized, to_read, to_write, written, with_slot, without_slot}
 use Rattle.model.proofs.Laws.{get_same, get_other}
 use Rattle.shadow.specs.declared.change.Made.{Made as What}
 use Rattle.shadow.specs.declared.change.Made.TheVariants.{Directory as Dir_made, File as File_made}
@@ -24,30 +25,30 @@ pub by_one : (P : Edit → Type 0)
     → ((i : ℕ) (inode : Which) (mode : Mode) (pid f : ℕ) → P (Open_inode i inode mode pid f))
     → ((d place : ℕ) → P (Set_offset d place))
     → ((pid f : ℕ) (pipes : List ℕ) → P (Clear_slot pid f pipes))
+    → ((pid f d : ℕ) (pipes : List ℕ) → P (Share_slot pid f d pipes))
+    → ((p count : ℕ) → P (Take p count))
+    → ((p : ℕ) (bytes : List ℕ) → P (Append p bytes))
+    → ((i pid f g : ℕ) → P (Make_pipe i pid f g))
     → (e : Edit) → IsOne e → P e
-by_one P a b c l u m d e f g h (Make_directory p x i) one = a p x i
-by_one P a b c l u m d e f g h (Make_file p x i) one = b p x i
-by_one P a b c l u m d e f g h (Unname_directory p x n) one = c p x n
-by_one P a b c l u m d e f g h (Put_bytes n place bytes before) one = d n place bytes before
-by_one P a b c l u m d e f g h (Cut n before after) one = e n before after
-by_one P a b c l u m d e f g h (Open_inode i inode mode pid s) one = f i inode mode pid s
-by_one P a b c l u m d e f g h (Set_offset o place) one = g o place
-by_one P a b c l u m d e f g h (Clear_slot pid s pipes) one = h pid s pipes
-by_one P a b c l u m d e f g h (Name_file p x n) one = l p x n
-by_one P a b c l u m d e f g h (Unname_file p x n) one = u p x n
-by_one P a b c l u m d e f g h (Move p x q y n replaced) one = m p x q y n replaced
-by_one P a b c l u m d e f g h (Take p count) (inl one) = absurd one
-by_one P a b c l u m d e f g h (Take p count) (inr one) = absurd one.1
-by_one P a b c l u m d e f g h (Append p bytes) (inl one) = absurd one
-by_one P a b c l u m d e f g h (Append p bytes) (inr one) = absurd one.1
-by_one P a b c l u m d e f g h (Make_pipe i pid s t) (inl one) = absurd one
-by_one P a b c l u m d e f g h (Make_pipe i pid s t) (inr one) = absurd one.1
-by_one P a b c l u m d e f g h (Share_slot pid s o pipes) (inl one) = absurd one
-by_one P a b c l u m d e f g h (Share_slot pid s o pipes) (inr one) = absurd one.1
-by_one P a b c l u m d e f g h (New_process child parent pipes) (inl one) = absurd one
-by_one P a b c l u m d e f g h (New_process child parent pipes) (inr one) = absurd one.1
-by_one P a b c l u m d e f g h (End_process pid pipes) (inl one) = absurd one
-by_one P a b c l u m d e f g h (End_process pid pipes) (inr one) = absurd one.1
+by_one P a b c l u m d e f g h t v w z (Make_directory p x i) one = a p x i
+by_one P a b c l u m d e f g h t v w z (Make_file p x i) one = b p x i
+by_one P a b c l u m d e f g h t v w z (Unname_directory p x n) one = c p x n
+by_one P a b c l u m d e f g h t v w z (Put_bytes n place bytes before) one = d n place bytes before
+by_one P a b c l u m d e f g h t v w z (Cut n before after) one = e n before after
+by_one P a b c l u m d e f g h t v w z (Open_inode i inode mode pid s) one = f i inode mode pid s
+by_one P a b c l u m d e f g h t v w z (Set_offset o place) one = g o place
+by_one P a b c l u m d e f g h t v w z (Clear_slot pid s pipes) one = h pid s pipes
+by_one P a b c l u m d e f g h t v w z (Name_file p x n) one = l p x n
+by_one P a b c l u m d e f g h t v w z (Unname_file p x n) one = u p x n
+by_one P a b c l u m d e f g h t v w z (Move p x q y n replaced) one = m p x q y n replaced
+by_one P a b c l u m d e f g h t v w z (Take p count) one = v p count
+by_one P a b c l u m d e f g h t v w z (Append p bytes) one = w p bytes
+by_one P a b c l u m d e f g h t v w z (Make_pipe i pid s r) one = z i pid s r
+by_one P a b c l u m d e f g h t v w z (Share_slot pid s o pipes) one = t pid s o pipes
+by_one P a b c l u m d e f g h t v w z (New_process child parent pipes) (inl one) = absurd one
+by_one P a b c l u m d e f g h t v w z (New_process child parent pipes) (inr one) = absurd one.1
+by_one P a b c l u m d e f g h t v w z (End_process pid pipes) (inl one) = absurd one
+by_one P a b c l u m d e f g h t v w z (End_process pid pipes) (inr one) = absurd one.1
 
 -- what holds of each edit that may come first, and of each that may come last
 pub first_cases : (P : Edit → Type 0)
@@ -59,47 +60,51 @@ pub first_cases : (P : Edit → Type 0)
     → ((d : ℕ) (x : Name) (e : ℕ) (y : Name) (n : ℕ) (replaced : Replaced) → P (Move d x e y n replaced))
     → ((n place : ℕ) (bytes : List ℕ) (before : ℕ) → P (Put_bytes n place bytes before))
     → ((n before after : ℕ) → P (Cut n before after))
+    → ((p count : ℕ) → P (Take p count))
+    → ((p : ℕ) (bytes : List ℕ) → P (Append p bytes))
+    → ((i pid f g : ℕ) → i ≡ 0 → P (Make_pipe i pid f g))
     → (e : Edit) → IsFirst e → P e
-first_cases P a b c l u m d e (Make_directory p x i) first = a p x i first
-first_cases P a b c l u m d e (Make_file p x i) first = b p x i first
-first_cases P a b c l u m d e (Unname_directory p x n) first = c p x n
-first_cases P a b c l u m d e (Put_bytes n place bytes before) first = d n place bytes before
-first_cases P a b c l u m d e (Cut n before after) first = e n before after
-first_cases P a b c l u m d e (Open_inode i inode mode pid s) first = absurd first
-first_cases P a b c l u m d e (Set_offset o place) first = absurd first
-first_cases P a b c l u m d e (Clear_slot pid s pipes) first = absurd first
-first_cases P a b c l u m d e (Name_file p x n) first = l p x n
-first_cases P a b c l u m d e (Unname_file p x n) first = u p x n
-first_cases P a b c l u m d e (Move p x q y n replaced) first = m p x q y n replaced
-first_cases P a b c l u m d e (Take p count) first = absurd first
-first_cases P a b c l u m d e (Append p bytes) first = absurd first
-first_cases P a b c l u m d e (Make_pipe i pid s t) first = absurd first
-first_cases P a b c l u m d e (Share_slot pid s o pipes) first = absurd first
-first_cases P a b c l u m d e (New_process child parent pipes) first = absurd first
-first_cases P a b c l u m d e (End_process pid pipes) first = absurd first
+first_cases P a b c l u m d e v w z (Make_directory p x i) first = a p x i first
+first_cases P a b c l u m d e v w z (Make_file p x i) first = b p x i first
+first_cases P a b c l u m d e v w z (Unname_directory p x n) first = c p x n
+first_cases P a b c l u m d e v w z (Put_bytes n place bytes before) first = d n place bytes before
+first_cases P a b c l u m d e v w z (Cut n before after) first = e n before after
+first_cases P a b c l u m d e v w z (Open_inode i inode mode pid s) first = absurd first
+first_cases P a b c l u m d e v w z (Set_offset o place) first = absurd first
+first_cases P a b c l u m d e v w z (Clear_slot pid s pipes) first = absurd first
+first_cases P a b c l u m d e v w z (Name_file p x n) first = l p x n
+first_cases P a b c l u m d e v w z (Unname_file p x n) first = u p x n
+first_cases P a b c l u m d e v w z (Move p x q y n replaced) first = m p x q y n replaced
+first_cases P a b c l u m d e v w z (Take p count) first = v p count
+first_cases P a b c l u m d e v w z (Append p bytes) first = w p bytes
+first_cases P a b c l u m d e v w z (Make_pipe i pid s t) first = z i pid s t first.0
+first_cases P a b c l u m d e v w z (Share_slot pid s o pipes) first = absurd first
+first_cases P a b c l u m d e v w z (New_process child parent pipes) first = absurd first
+first_cases P a b c l u m d e v w z (End_process pid pipes) first = absurd first
 
 pub last_cases : (m : ℕ) (P : Edit → Type 0)
     → ((i : ℕ) (inode : Which) (mode : Mode) (pid f : ℕ) → i ≡ m → P (Open_inode i inode mode pid f))
     → ((d place : ℕ) → P (Set_offset d place))
     → ((pid f : ℕ) (pipes : List ℕ) → P (Clear_slot pid f pipes))
+    → ((pid f d : ℕ) (pipes : List ℕ) → P (Share_slot pid f d pipes))
     → (e : Edit) → IsLast m e → P e
-last_cases k P f g h (Open_inode i inode mode pid s) last = f i inode mode pid s last.0
-last_cases k P f g h (Set_offset m place) last = g m place
-last_cases k P f g h (Clear_slot pid s pipes) last = h pid s pipes
-last_cases k P f g h (Make_directory p x i) last = absurd last
-last_cases k P f g h (Make_file p x i) last = absurd last
-last_cases k P f g h (Unname_directory p x n) last = absurd last
-last_cases k P f g h (Put_bytes n place bytes before) last = absurd last
-last_cases k P f g h (Cut n before after) last = absurd last
-last_cases k P f g h (Name_file p x n) last = absurd last
-last_cases k P f g h (Unname_file p x n) last = absurd last
-last_cases k P f g h (Move p x q y n replaced) last = absurd last
-last_cases k P f g h (Take p count) last = absurd last
-last_cases k P f g h (Append p bytes) last = absurd last
-last_cases k P f g h (Make_pipe i pid s t) last = absurd last
-last_cases k P f g h (Share_slot pid s m pipes) last = absurd last
-last_cases k P f g h (New_process child parent pipes) last = absurd last
-last_cases k P f g h (End_process pid pipes) last = absurd last
+last_cases k P f g h t (Open_inode i inode mode pid s) last = f i inode mode pid s last.0
+last_cases k P f g h t (Set_offset m place) last = g m place
+last_cases k P f g h t (Clear_slot pid s pipes) last = h pid s pipes
+last_cases k P f g h t (Make_directory p x i) last = absurd last
+last_cases k P f g h t (Make_file p x i) last = absurd last
+last_cases k P f g h t (Unname_directory p x n) last = absurd last
+last_cases k P f g h t (Put_bytes n place bytes before) last = absurd last
+last_cases k P f g h t (Cut n before after) last = absurd last
+last_cases k P f g h t (Name_file p x n) last = absurd last
+last_cases k P f g h t (Unname_file p x n) last = absurd last
+last_cases k P f g h t (Move p x q y n replaced) last = absurd last
+last_cases k P f g h t (Take p count) last = absurd last
+last_cases k P f g h t (Append p bytes) last = absurd last
+last_cases k P f g h t (Make_pipe i pid s r) last = absurd last
+last_cases k P f g h t (Share_slot pid s o pipes) last = t pid s o pipes
+last_cases k P f g h t (New_process child parent pipes) last = absurd last
+last_cases k P f g h t (End_process pid pipes) last = absurd last
 
 -- a value that changes as a function of what was there
 pub changed_at : {X : Type 0} (m : FinMap nat_cmp X) (n q : ℕ) (f : Option X → X) → get (insert m n (f (get m n))) q ≡ cond (q == n) (Some (f (get m q))) (get m q)
@@ -155,6 +160,21 @@ offset_applies chosen d place k (Some old) is = record {
           get_other k.descriptions d e (at_offset place old) away
           ∙ sym (ap (λ b. cond b (mapped (at_offset place) (get k.descriptions e)) (get k.descriptions e)) (ne_eqb e d away))
     ]
+
+-- two descriptions, and two slots of one process
+two_described : (m : FinMap nat_cmp Description) (r w d : ℕ) (a b : Description) → get (insert (insert m r a) w b) d ≡ cond (d == w) (Some b) (cond (d == r) (Some a) (get m d))
+two_described m r w d a b = put_at (insert m r a) w d b ∙ ap (λ o. cond (d == w) (Some b) o) (put_at m r d a)
+
+two_slotted : (m : FinMap nat_cmp Process) (pid f g r w q : ℕ)
+    → get (insert (insert m pid (with_slot f r (or_new (get m pid)))) pid (with_slot g w (or_new (get (insert m pid (with_slot f r (or_new (get m pid)))) pid)))) q ≡ cond (q == pid) (Some (with_slot g w (with_slot f r (or_new (get m q))))) (get m q)
+two_slotted m pid f g r w q =
+    changed_at (insert m pid (with_slot f r (or_new (get m pid)))) pid q (λ o. with_slot g w (or_new o))
+    ∙ ap (λ o. cond (q == pid) (Some (with_slot g w (or_new o))) o) (changed_at m pid q (λ o. with_slot f r (or_new o)))
+    ∙ by_test (q == pid)
+  where
+    by_test : (b : Bool) → cond b (Some (with_slot g w (or_new (cond b (Some (with_slot f r (or_new (get m q)))) (get m q))))) (cond b (Some (with_slot f r (or_new (get m q)))) (get m q)) ≡ cond b (Some (with_slot g w (with_slot f r (or_new (get m q))))) (get m q)
+    by_test true = refl
+    by_test false = refl
 
 pub applies : (chosen : List ℕ) (e : Edit) → IsOne e → (k : Kernel) → Applies chosen e k (applied chosen e k)
 unfolding applied
@@ -229,5 +249,33 @@ applies chosen e one k = by_one (λ e. Applies chosen e k (applied chosen e k))
       inodes = λ n. refl;
       descriptions = λ d. refl;
       processes = λ q. changed_at k.processes pid q (λ o. without_slot f (or_new o));
+    })
+    (λ pid f d pipes. record {
+      root = refl;
+      made = refl;
+      inodes = λ n. refl;
+      descriptions = λ e. refl;
+      processes = λ q. changed_at k.processes pid q (λ o. with_slot f d (or_new o));
+    })
+    (λ p count. record {
+      root = refl;
+      made = refl;
+      inodes = λ q. changed_at k.inodes p q (λ o. Pipe (drop count (pipe_of_inode o)));
+      descriptions = λ d. refl;
+      processes = λ pid. refl;
+    })
+    (λ p bytes. record {
+      root = refl;
+      made = refl;
+      inodes = λ q. changed_at k.inodes p q (λ o. Pipe (pipe_of_inode o ++ bytes));
+      descriptions = λ d. refl;
+      processes = λ pid. refl;
+    })
+    (λ i pid f g. record {
+      root = refl;
+      made = refl;
+      inodes = λ q. put_at k.inodes (new_in chosen i) q (Pipe []);
+      descriptions = λ d. two_described k.descriptions (new_in chosen (i + 1)) (new_in chosen (i + 2)) d (at_start (new_in chosen i) to_read) (at_start (new_in chosen i) to_write);
+      processes = two_slotted k.processes pid f g (new_in chosen (i + 1)) (new_in chosen (i + 2));
     })
     e one

@@ -1,33 +1,36 @@
 -- What the changes of an inode make of its place: the inode to come, staged, with its counts, and with what was claimed used.
-use Rattle.std.proofs.Common.{◌≡◌, ℕ, ◌+◌, ◌-◌, ◌≤◌, Bool, true, false, [], Option, Some, None, is_some, refl, sym, ap, subst, ◌∙◌, arith}
+use Rattle.std.proofs.Common.{◌≡◌, ◌⊎◌, ℕ, ◌+◌, ◌-◌, ◌≤◌, Bool, true, false, [], Option, Some, None, is_some, refl, sym, ap, subst, ◌∙◌, arith, inl, inr}
 use Rattle.std.specs.Option.{option_and_then, option_map}
 use Rattle.std.specs.Cmp.Lexicographic.{nat_list_cmp_total}
 use Rattle.model.specs.FiniteMap.{empty, entries, get-empty, same_map}
 use Rattle.model.specs.State.{Description, Directory, File, Inode, kind, mapped}
 use Rattle.model.proofs.Laws.{name_exact}
-use Rattle.call_laws.proofs.Laws.{some_same}
+use Rattle.call_laws.proofs.Laws.{some_same, true_is_false}
 use Rattle.dirlist.specs.Listing.{Listing}
 use Rattle.dirlist.specs.Patches.{Notes}
 use Rattle.file_shadow.specs.View.{FileChanges, view_over}
+use Rattle.pipe_shadow.specs.View.{PipeChanges, view_over as pipe_over}
 use Rattle.objects.specs.Contents.{Content}
 use Rattle.store.specs.Laid.{laid, laid_listing}
 use Rattle.store.specs.Numbers.{coming, held, present}
 use Rattle.store.specs.Places.{file_in, listing_in, openings_of}
 use Rattle.store.specs.Shown.{description_of, inode_of}
 use Rattle.store.specs.declared.OpenFile.{OpenFile}
+use Rattle.store.specs.declared.OpenPipe.{OpenPipe}
 use Rattle.store.specs.declared.Place.{Place}
-use Rattle.store.specs.declared.Object.TheVariants.{Directory as Kept_directory, File as Kept_file, Nothing}
+use Rattle.store.specs.declared.Object.TheVariants.{Directory as Kept_directory, File as Kept_file, Pipe as Kept_pipe, Nothing}
 use Rattle.shadow.specs.declared.change.Contents.{Contents}
-use Rattle.shadow.specs.declared.change.Contents.TheVariants.{Same, Names, Bytes}
+use Rattle.shadow.specs.declared.change.Contents.TheVariants.{Same, Names, Bytes, Pipe as Piped}
 use Rattle.shadow.specs.declared.change.Made.{Made}
-use Rattle.shadow.specs.declared.change.Made.TheVariants.{Directory as New_one, File as New_file}
+use Rattle.shadow.specs.declared.change.Made.TheVariants.{Directory as New_one, File as New_file, Pipe as New_pipe}
 use Rattle.shadow.specs.Agrees.{IsOver}
 use Rattle.shadow.specs.Claims.{Claim, New_directory, Number, Room, as_count, is_directory_made, is_file_made, number_of}
-use Rattle.shadow.specs.Laid.{IsReadyFile, IsWrittenOver, bytes_in, named_by, shown_if}
-use Rattle.shadow.specs.Patches.{of_bytes, of_names, patched}
+use Rattle.shadow.specs.Laid.{IsPassedOver, IsReadyFile, IsWrittenOver, bytes_in, named_by, shown_if}
+use Rattle.shadow.specs.Patches.{new_ends, of_bytes, of_names, of_pipe, patched}
 use Rattle.shadow.specs.Stored.{IsStaged}
 use Rattle.shadow.proofs.Edited.{holders_seen, openings_seen}
 use Rattle.shadow.proofs.Kept_on.{kept_by}
+use Rattle.shadow.proofs.PairsKept.{ends_seen}
 use Rattle.shadow.proofs.Making.{directory_to_come}
 
 -- how often a change makes a claim on its number
@@ -50,6 +53,8 @@ pub record Becomes (w : Contents) (made : Option Made) (promised : ℕ) (before 
   -- a count that is shown was shown before, or is none of what was not there
   pub openings : (count : ℕ) → (inode_seen before ≡ None → count ≡ 0) → ((c : ℕ) → openings_seen (held before) ≡ Some c → c ≡ count) → (c : ℕ) → openings_seen (held after) ≡ Some c → c ≡ count
   pub holders : (c : ℕ) → holders_seen (held after) ≡ Some c → holders_seen (held before) ≡ Some c
+  -- a pipe that is shown has the descriptions that it had, or is new and has those of the changes
+  pub pipes : (ends : ℕ × ℕ) → ends_seen (held after) ≡ Some ends → (ends_seen (held before) ≡ Some ends) ⊎ ((inode_seen before ≡ None) × (new_ends w ≡ Some ends))
   pub kept : (c : Claim) → kept_by c after + claim_of made promised c ≡ kept_by c before
 
 none_some : {X : Type 0} (x : X) → None ≡ Some x → ⊥
@@ -63,6 +68,7 @@ stays_as_it_is before after staged same = subst (λ (o : Option Place). Becomes 
   staged = staged;
   openings = λ count none all. all;
   holders = λ c is. is;
+  pipes = λ ends is. inl is;
   kept = kept;
 })
   where
@@ -83,6 +89,7 @@ module _ (notes : Notes) (promised : ℕ) (l : Listing) (room : promised ≤ l.p
     staged = λ e. cc;
     openings = λ count none all c is. absurd (none_some c is);
     holders = λ c is. absurd (none_some c is);
+    pipes = λ ends is. absurd (none_some ends is);
     kept = kept;
   }
     where
@@ -98,6 +105,7 @@ module _ (notes : Notes) (promised : ℕ) (l : Listing) (room : promised ≤ l.p
     staged = λ e. cc;
     openings = λ count none all c is. absurd (none_some c is);
     holders = λ c is. absurd (none_some c is);
+    pipes = λ ends is. absurd (none_some ends is);
     kept = kept;
   }
     where
@@ -118,6 +126,7 @@ module _ (bytes : FileChanges) (content : Content) where
     staged = λ e. cc;
     openings = λ count none all. all;
     holders = λ c is. absurd (none_some c is);
+    pipes = λ ends is. absurd (none_some ends is);
     kept = kept;
   }
     where
@@ -133,10 +142,48 @@ module _ (bytes : FileChanges) (content : Content) where
     staged = λ e. cc;
     openings = λ count none all c is. sym (some_same 0 c is) ∙ sym (none refl);
     holders = λ c is. absurd (none_some c is);
+    pipes = λ ends is. absurd (none_some ends is);
     kept = kept;
   }
     where
       kept : (c : Claim) → kept_by c (Some (written_place 0)) + claim_of (Some New_file) 0 c ≡ kept_by c (Some (coming Nothing))
+      kept (Room r) = refl
+      kept (New_directory m) = refl
+      kept (Number m) = refl
+
+-- bytes pass through a pipe, which is there or is to come
+module _ (changes : PipeChanges) (pipe : OpenPipe) where
+  abbrev passed_place : Place
+  passed_place = present (Kept_pipe (record pipe { bytes = pipe_over changes pipe.bytes }))
+
+  old_pipe : Becomes (Piped None changes) None 0 (Some (present (Kept_pipe pipe))) (Some passed_place)
+  old_pipe = record {
+    inode = refl;
+    description = refl;
+    staged = λ e. cc;
+    openings = λ count none all c is. absurd (none_some c is);
+    holders = λ c is. absurd (none_some c is);
+    pipes = λ ends is. inl is;
+    kept = kept;
+  }
+    where
+      kept : (c : Claim) → kept_by c (Some passed_place) + claim_of None 0 c ≡ kept_by c (Some (present (Kept_pipe pipe)))
+      kept (Room r) = refl
+      kept (New_directory m) = refl
+      kept (Number m) = refl
+
+  new_pipe : Becomes (Piped (Some pipe) changes) (Some New_pipe) 0 (Some (coming Nothing)) (Some passed_place)
+  new_pipe = record {
+    inode = refl;
+    description = refl;
+    staged = λ e. cc;
+    openings = λ count none all c is. absurd (none_some c is);
+    holders = λ c is. absurd (none_some c is);
+    pipes = λ ends is. inr (refl, is);
+    kept = kept;
+  }
+    where
+      kept : (c : Claim) → kept_by c (Some passed_place) + claim_of (Some New_pipe) 0 c ≡ kept_by c (Some (coming Nothing))
       kept (Room r) = refl
       kept (New_directory m) = refl
       kept (Number m) = refl
@@ -152,6 +199,7 @@ module _ (n promised : ℕ) (before after : Option Place) (staged : IsStaged bef
       → (listing : Listing) → option_map (shown_if (is_some made)) before ≡ Some (present (Kept_directory listing)) → promised ≤ listing.promised → after ≡ option_map (named_by (is_some made) notes promised) before
       → Becomes (Names fresh notes) made promised before after
   names_become (Some New_file) fresh notes over covers listing there room is = absurd cc
+  names_become (Some New_pipe) fresh notes over covers listing there room is = absurd cc
   names_become None fresh notes over covers listing there room is =
       let was : before ≡ Some (present (Kept_directory listing)) = shown_before before (present (Kept_directory listing)) there in
       subst (λ b. Becomes (Names b notes) None promised before after) (sym over.0)
@@ -186,6 +234,7 @@ module _ (n promised : ℕ) (before after : Option Place) (staged : IsStaged bef
   pub bytes_become : (made : Option Made) (fresh : Bool) (bytes : FileChanges) (room : Content) → IsOver (mapped kind (inode_seen before)) made (of_bytes fresh) → ((c : Claim) → number_of c ≡ n → claim_of made promised c ≤ kept_by c before)
       → IsReadyFile (is_some made) before room bytes.extent.end → IsWrittenOver bytes before after → Becomes (Bytes fresh bytes) made promised before after
   bytes_become (Some New_one) fresh bytes room over covers ready is = absurd cc
+  bytes_become (Some New_pipe) fresh bytes room over covers ready is = absurd cc
   bytes_become None fresh bytes room over covers ready is =
       subst (λ b. Becomes (Bytes b bytes) None promised before after) (sym over.0)
       (subst (λ m. Becomes (Bytes false bytes) None m before after) (sym none)
@@ -217,3 +266,35 @@ module _ (n promised : ℕ) (before after : Option Place) (staged : IsStaged bef
 
       is_fresh : of_bytes fresh ≡ of_bytes true → fresh ≡ true
       is_fresh e = cc
+
+  -- a pipe that is there
+  pub pipe_become : (made : Option Made) (changes : PipeChanges) → IsOver (mapped kind (inode_seen before)) made (of_pipe false) → ((c : Claim) → number_of c ≡ n → claim_of made promised c ≤ kept_by c before)
+      → IsPassedOver changes before after → Becomes (Piped None changes) made promised before after
+  pipe_become (Some New_one) changes over covers is = absurd cc
+  pipe_become (Some New_file) changes over covers is = absurd cc
+  pipe_become (Some New_pipe) changes over covers is = absurd cc
+  pipe_become None changes over covers is =
+      subst (λ m. Becomes (Piped None changes) None m before after) (sym none)
+      (subst (λ (o : Option Place). Becomes (Piped None changes) None 0 before o) (sym is.is)
+      (subst (λ (o : Option Place). Becomes (Piped None changes) None 0 o (Some (passed_place changes is.pipe))) (sym is.was) (old_pipe changes is.pipe)))
+    where
+      none : promised ≡ 0
+      none = (
+          let most : claim_of None promised (Room n) ≤ kept_by (Room n) before = covers (Room n) refl in
+          let zero : kept_by (Room n) before ≡ 0 = ap (kept_by (Room n)) is.was in omega arith)
+
+  -- and a new one
+  pub pipe_comes : (made : Option Made) (new : OpenPipe) (changes : PipeChanges) → IsOver (mapped kind (inode_seen before)) made (of_pipe true) → ((c : Claim) → number_of c ≡ n → claim_of made promised c ≤ kept_by c before)
+      → before ≡ Some (coming Nothing) → after ≡ Some (present (Kept_pipe (record new { bytes = pipe_over changes new.bytes }))) → Becomes (Piped (Some new) changes) made promised before after
+  pipe_comes (Some New_one) new changes over covers was is = absurd cc
+  pipe_comes (Some New_file) new changes over covers was is = absurd cc
+  pipe_comes None new changes over covers was is = absurd (true_is_false over.0)
+  pipe_comes (Some New_pipe) new changes over covers was is =
+      subst (λ m. Becomes (Piped (Some new) changes) (Some New_pipe) m before after) (sym none)
+      (subst (λ (o : Option Place). Becomes (Piped (Some new) changes) (Some New_pipe) 0 before o) (sym is)
+      (subst (λ (o : Option Place). Becomes (Piped (Some new) changes) (Some New_pipe) 0 o (Some (passed_place changes new))) (sym was) (new_pipe changes new)))
+    where
+      none : promised ≡ 0
+      none = (
+          let most : claim_of (Some New_pipe) promised (Room n) ≤ kept_by (Room n) before = covers (Room n) refl in
+          let zero : kept_by (Room n) before ≡ 0 = ap (kept_by (Room n)) was in omega arith)

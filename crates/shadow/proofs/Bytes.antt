@@ -3,7 +3,7 @@ use Rattle.std.proofs.Common.{◌≡◌, ℕ, List, [], length, Option, Some, No
 use Rattle.std.specs.Prelude.{IsSome}
 use Rattle.std.specs.Option.{option_and_then, option_map}
 use Rattle.model.specs.FiniteMap.{get, insert}
-use Rattle.model.specs.State.{A_file, Kernel, File, Process, kind, kind_of, mapped, file_of}
+use Rattle.model.specs.State.{A_file, Kernel, File, kind, kind_of, mapped, file_of}
 use Rattle.model.specs.Changes.{Put_bytes, Cut, applied, sized, written, set_inode, tidy}
 use Rattle.model.proofs.Laws.{get_same}
 use Rattle.call_laws.specs.Fits.{Fits}
@@ -17,10 +17,11 @@ use Rattle.store.specs.declared.Place.{Place}
 use Rattle.store.specs.declared.Stage.{Stage}
 use Rattle.store.specs.declared.Stage.TheVariants.{Coming, Held, Lost}
 use Rattle.store.specs.declared.Object.{Object}
-use Rattle.store.specs.declared.Object.TheVariants.{Directory as Kept_directory, File as Kept_file, Description as Kept_description, Nothing}
+use Rattle.store.specs.declared.Object.TheVariants.{Directory as Kept_directory, File as Kept_file, Pipe as Kept_pipe, Description as Kept_description, Nothing}
 use Rattle.store.proofs.Laws.{altered-alike, altered-twice, descriptions-filed, get-inodes, inodes-swapped, insert-held, left-altered}
-use Rattle.shadow.specs.Stored.{AreCounted, Sound, state_of, stored}
+use Rattle.shadow.specs.Stored.{AreCounted, Processes, Sound, state_of, stored}
 use Rattle.shadow.proofs.Kept_on.{file_staged}
+use Rattle.shadow.proofs.PairsKept.{ends_left, pipe_by_file, same_pairs}
 use Rattle.shadow.proofs.Edited.{Counts, counted_by, counts_of, counts_of_state, counts_stay, holders_seen, openings_seen, sound_after, tidy_after}
 
 -- what is a file in the state is one in the store
@@ -31,6 +32,7 @@ file_there s n is = by_object (object_at s n) (sym (ap (mapped kind) (get-inodes
     by_object None is = absurd cc
     by_object (Some (Kept_directory l)) is = absurd cc
     by_object (Some (Kept_file file)) is = refl
+    by_object (Some (Kept_pipe pipe)) is = absurd cc
     by_object (Some (Kept_description opened)) is = absurd cc
     by_object (Some Nothing) is = absurd cc
 
@@ -49,6 +51,7 @@ former_is s n content there former = get-inodes s n ∙ by_place (get s.places n
     by_stage Lost object there former = absurd cc
     by_stage Held (Kept_directory l) there former = absurd cc
     by_stage Held (Kept_file file) there former = ap (mapped (λ (b : Content). File b.bytes)) former
+    by_stage Held (Kept_pipe pipe) there former = absurd cc
     by_stage Held (Kept_description opened) there former = absurd cc
     by_stage Held Nothing there former = absurd cc
 
@@ -70,10 +73,11 @@ swapped_twice a b s t u n one two =
     by_object : (o : Object) → changed_file (with_bytes b) (changed_file (with_bytes a) o) ≡ changed_file (with_bytes b) o
     by_object (Kept_directory l) = refl
     by_object (Kept_file file) = refl
+    by_object (Kept_pipe pipe) = refl
     by_object (Kept_description opened) = refl
     by_object Nothing = refl
 
-module _ (ps : List Process) (s : Numbers) (n : ℕ) (b : Content) (sound : Sound ps s) (file : kind_of (state_of ps s) n ≡ Some A_file) where
+module _ (ps : Processes) (s : Numbers) (n : ℕ) (b : Content) (sound : Sound ps s) (file : kind_of (state_of ps s) n ≡ Some A_file) where
   abbrev k : Kernel
   k = state_of ps s
 
@@ -86,15 +90,16 @@ module _ (ps : List Process) (s : Numbers) (n : ℕ) (b : Content) (sound : Soun
 
   pub swapped_counted : AreCounted ps (swapped b s n)
   swapped_counted = counted_by ps (swapped b s n) (subst (λ (l : Kernel). Counts l (swapped b s n)) (sym swapped_state)
-      (counts_of_state k (set_inode n (File b.bytes) k) (swapped b s n) (openings_change_lem.by_descriptions k (set_inode n (File b.bytes) k) refl) (openings_change_lem.by_processes k (set_inode n (File b.bytes) k) refl)
+      (counts_of_state k (set_inode n (File b.bytes) k) (swapped b s n) (openings_change_lem.by_descriptions k (set_inode n (File b.bytes) k) refl) (openings_change_lem.by_processes k (set_inode n (File b.bytes) k) refl) (same_pairs k (set_inode n (File b.bytes) k) refl)
       (counts_stay k s (swapped b s n) (λ m. left-altered (λ o. openings_seen (held o)) (with_file (with_bytes b)) (λ place. files place.stage place.object) s n m)
-      (λ m. left-altered (λ o. holders_seen (held o)) (with_file (with_bytes b)) (λ place. held_by place.stage place.object) s n m) (counts_of ps s sound.counted))))
+      (λ m. left-altered (λ o. holders_seen (held o)) (with_file (with_bytes b)) (λ place. held_by place.stage place.object) s n m) (ends_left (with_file (with_bytes b)) (pipe_by_file (with_bytes b)) s n) (counts_of ps s sound.counted))))
     where
       files : (t : Stage) (object : Object) → openings_seen (if_held t (changed_file (with_bytes b) object)) ≡ openings_seen (if_held t object)
       files Coming object = refl
       files Lost object = refl
       files Held (Kept_directory l) = refl
       files Held (Kept_file file) = refl
+      files Held (Kept_pipe pipe) = refl
       files Held (Kept_description opened) = refl
       files Held Nothing = refl
 
@@ -103,6 +108,7 @@ module _ (ps : List Process) (s : Numbers) (n : ℕ) (b : Content) (sound : Soun
       held_by Lost object = refl
       held_by Held (Kept_directory l) = refl
       held_by Held (Kept_file file) = refl
+      held_by Held (Kept_pipe pipe) = refl
       held_by Held (Kept_description opened) = refl
       held_by Held Nothing = refl
 

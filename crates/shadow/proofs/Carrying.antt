@@ -19,9 +19,9 @@ use Rattle.store.specs.declared.Object.TheVariants.{Directory as A_directory}
 use Rattle.store.proofs.Laws.{MayBeNamed, altered-alike, altered-same, left-altered, place-altered, place-other}
 use Rattle.shadow.specs.declared.change.Change.{Change}
 use Rattle.shadow.specs.declared.change.Contents.{Contents}
-use Rattle.shadow.specs.declared.change.Contents.TheVariants.{Same, Names, Bytes}
+use Rattle.shadow.specs.declared.change.Contents.TheVariants.{Same, Names, Bytes, Pipe as Piped}
 use Rattle.shadow.specs.Patches.{kept_at}
-use Rattle.shadow.specs.Laid.{AreReady, IsCarried, IsCarriedBy, IsReady, IsReadyContents, IsReadyDirectory, IsReadyFile, named_by, shown_if}
+use Rattle.shadow.specs.Laid.{AreReady, IsCarried, IsCarriedBy, IsReady, IsReadyContents, IsReadyDirectory, IsReadyFile, IsReadyPipe, named_by, shown_if}
 use Rattle.shadow.proofs.InOrder.{first_absent, first_kept, later_kept, not_first, rest_sorted}
 
 -- what is shown from now on may be named as before
@@ -106,6 +106,8 @@ carried_named c (Names fresh notes) before after is named = ap may_be_named is �
     by_place (Some place) = made_named (is_some c.made) place
     by_place None = refl
 carried_named c (Bytes fresh bytes) before after is named = ap may_be_named is.place
+carried_named c (Piped (Some new) changes) before after is named = ap may_be_named is
+carried_named c (Piped None changes) before after is named = ap may_be_named is.is
 
 -- the changes of the first inode are made
 module _ (n : ℕ) (c : Change) (rest : List (ℕ × Change)) (sorted : IsStrictlySortedBy nat_cmp (keys_of ((n, c) ∷ rest)))
@@ -153,6 +155,7 @@ module _ (n : ℕ) (c : Change) (rest : List (ℕ × Change)) (sorted : IsStrict
         numbers = numbers_stay s t named_later (entries notes) h.numbers;
       }
       by_contents (Bytes fresh bytes) h = subst (λ (o : Option Place). IsReadyFile (is_some d.made) o d.room bytes.extent.end) (sym (others m away)) h
+      by_contents (Piped fresh changes) h = subst (IsReadyPipe fresh changes) (sym (others m away)) h
 
 pub first_ready : (n : ℕ) (c : Change) (rest : List (ℕ × Change)) (s : Numbers) → AreReady ((n, c) ∷ rest) s → IsReady s n c
 first_ready n c rest s ready = ready n c (first_kept n c rest)

@@ -1,5 +1,5 @@
 -- New numbers of edits, with what is kept for them.
-use Rattle.std.proofs.Common.{◌≡◌, ◌≢◌, ℕ, zero, suc, ◌+◌, ◌≤◌, ◌==◌, Bool, true, false, ◌&&◌, ◌||◌, not, cond, List, [], ◌∷◌, ◌++◌, length, replicate, drop, sum_by, flat_map, Some, None, refl, sym, ap, subst, ◌∙◌, arith, eqb-true, inl, inr}
+use Rattle.std.proofs.Common.{Result, Ok, Err, OnOk, OnErr, ◌≡◌, ◌≢◌, ℕ, zero, suc, ◌+◌, ◌≤◌, ◌==◌, Bool, true, false, ◌&&◌, ◌||◌, not, cond, List, [], ◌∷◌, ◌++◌, length, replicate, drop, sum_by, flat_map, Some, None, refl, sym, ap, subst, ◌∙◌, arith, eqb-true, inl, inr}
 use Rattle.std.specs.List.{AllByRecursion}
 use Rattle.std.proofs.lemmas.List.{length-append}
 use Rattle.std.proofs.lemmas.List.Sums.{sum_by-append, sum_by-cons}
@@ -7,15 +7,16 @@ use Rattle.std.proofs.lemmas.List.Concat.{flat_map-cons}
 use Rattle.std.proofs.lemmas.Grind.{flat_map-append}
 use Rattle.std.specs.Ordering.{nat_cmp}
 use Rattle.model.specs.FiniteMap.{FinMap, get}
-use Rattle.model.specs.Changes.{Edit, Make_directory, Make_file, Name_file, Unname_file, Unname_directory, Move, Put_bytes, Cut, Open_inode, Set_offset, Clear_slot, news}
+use Rattle.model.specs.Changes.{Edit, Make_directory, Make_file, Make_pipe, news}
 use Rattle.model.specs.Moments.{is_in}
 use Rattle.model.specs.Steps.{AllDifferent, IsNowhere}
 use Rattle.model.proofs.Laws.{append-all}
 use Rattle.call_laws.proofs.Laws.{all-mapped}
 use Rattle.freeing_laws.specs.Counts.{listed, times}
 use Rattle.shadow.specs.Committed.{Committed, Reserve}
-use Rattle.shadow.specs.Claims.{AreUnused, Claim, Room, New_directory, Number, HasParent, HaveClaimed, HaveParents, IsClaimed, IsDirectory, IsReserved, KeepsMore, claimed_by, claimed_in, kinds_in, number_as, number_of, reserved, room_in, room_of, with_kinds, or_zero, coming_directory, coming_other}
+use Rattle.shadow.specs.Claims.{AreAdded, AreUnused, Claim, Room, New_directory, Number, HasParent, HaveClaimed, HaveParents, IsClaimed, IsDirectory, IsReserved, KeepsMore, KeepsSame, claimed_by, claimed_in, kinds_in, number_as, number_of, reserved, room_in, room_of, with_kinds, or_zero, coming_directory, coming_other}
 use Rattle.shadow.specs.Log.{effect}
+use Rattle.shadow.proofs.EditsClaim.{apart_at}
 use Rattle.shadow.specs.Steps.{AreApart, CanEdit, IsFirst, IsLast, new_in, parents_in}
 
 append_nil : {X : Type 0} (xs : List X) → xs ++ [] ≡ xs
@@ -83,6 +84,14 @@ different_more : (ns : List ℕ) (n : ℕ) → AllDifferent ns → AllByRecursio
 different_more [] n all away = (tt, tt)
 different_more (m ∷ ns) n all away = (append-all (λ k. m ≢ k) ns (n ∷ []) all.0 (away.0, tt), different_more ns n all.1 away.1)
 
+-- two lists of different numbers, of which none is in both
+pub all_different : (ns ms : List ℕ) → AllDifferent ns → AllDifferent ms → AllByRecursion (λ m. AllByRecursion (λ n. n ≢ m) ns) ms → AllDifferent (ns ++ ms)
+all_different [] ms first second apart = second
+all_different (n ∷ ns) ms first second apart = (
+  append-all (λ m. n ≢ m) ns ms first.0 (all-mapped ms (λ m away. away.0) apart),
+  all_different ns ms first.1 second (all-mapped ms (λ m away. away.1) apart),
+)
+
 pub have_none : (s : Committed) → HaveClaimed s s [] []
 have_none s = record {
   state = refl;
@@ -94,7 +103,7 @@ have_none s = record {
   stays = record { used = λ n none. none; directories = λ n there. there };
 }
 
-module _ (s t u : Committed) (done : List Edit) (e : Edit) (chosen new : List ℕ) (few : news e ≤ 1) (have : HaveClaimed s t done chosen) (is : IsClaimed t u e chosen new) (state : u.state ≡ t.state) where
+module _ (s t u : Committed) (done : List Edit) (e : Edit) (chosen new : List ℕ) (have : HaveClaimed s t done chosen) (is : IsClaimed t u e chosen new) (state : u.state ≡ t.state) where
   more_numbers : length (chosen ++ is.mine) ≡ length chosen + length is.mine
   more_numbers = length-append chosen is.mine
 
@@ -108,12 +117,8 @@ module _ (s t u : Committed) (done : List Edit) (e : Edit) (chosen new : List �
       ∙ append_claimed c (with_kinds chosen (flat_map kinds_in done)) (with_kinds is.mine (kinds_in e)) in omega arith
 
   more_different : AllDifferent (chosen ++ is.mine)
-  more_different = by_mine is.mine is.count is.unused
-    where
-      by_mine : (mine : List ℕ) → length mine ≡ news e → AllByRecursion (λ n. (get t.reserves n ≡ None) × IsNowhere t.state n) mine → AllDifferent (chosen ++ mine)
-      by_mine [] count unused = subst AllDifferent (sym (append_nil chosen)) have.different
-      by_mine (n ∷ []) count unused = different_more chosen n have.different (all-mapped chosen (λ m there same. there (ap (get t.reserves) same ∙ unused.0.0)) have.used)
-      by_mine (n ∷ m ∷ ms) count unused = absurd (omega arith)
+  more_different = all_different chosen is.mine have.different is.different
+      (all-mapped is.mine (λ n h. all-mapped chosen (λ m there same. there (ap (get t.reserves) same ∙ h.0)) have.used) is.unused)
 
   pub have_more : HaveClaimed s u (done ++ e ∷ []) new
   have_more = record {
@@ -138,6 +143,7 @@ module _ (s t : Committed) (b : Bool) (e : Edit) (old new : List ℕ) (count : 1
     count = count;
     unused = ((is.unused, is.nowhere), tt);
     used = (is.used, tt);
+    different = (tt, tt);
     kept = λ c. (
         let more : reserved t c ≡ reserved s c + number_as b is.num c = is.kept c in
         let one : claimed_in c ((is.num, b) ∷ []) [] ≡ number_as b is.num c + claimed_in c [] [] = one_claimed c is.num b [] in
@@ -153,6 +159,7 @@ nothing_claimed s e ns count = record {
   count = count;
   unused = tt;
   used = tt;
+  different = tt;
   kept = λ c. (let none : claimed_in c [] [] ≡ 0 = none_claimed c in omega arith);
   stays = record { used = λ n none. none; directories = λ n there. there };
 }
@@ -180,7 +187,7 @@ unused_numbers s t es chosen have = record {
 }
 
 -- new numbers are not those of directories that are there
-module _ (reserves : FinMap nat_cmp Reserve) (chosen : List ℕ) (unused : AllByRecursion (λ n. get reserves n ≡ None) chosen) where
+module _ (reserves : FinMap nat_cmp Reserve) (chosen : List ℕ) (unused : AllByRecursion (λ n. get reserves n ≡ None) chosen) (different : AllDifferent chosen) where
   first_apart : (i d : ℕ) → i ≡ 0 → 1 ≤ length chosen → IsDirectory reserves d → new_in chosen i ≢ d
   first_apart i d none some there same = by_list chosen unused some (sym (ap (λ i. new_in chosen i) none) ∙ same)
     where
@@ -191,11 +198,13 @@ module _ (reserves : FinMap nat_cmp Reserve) (chosen : List ℕ) (unused : AllBy
   one_apart : (e : Edit) → IsFirst e → HasParent reserves e → news e ≤ length chosen → AreApart chosen e
   one_apart (Make_directory d x i) first has few = first_apart i d first few has.0
   one_apart (Make_file d x i) first has few = first_apart i d first few has.0
+  one_apart (Make_pipe i pid f g) first has few = subst (λ j. new_in chosen (j + 1) ≢ new_in chosen (j + 2)) (sym first.0) (apart_at chosen 1 2 (omega arith) (let l : 3 ≤ length chosen = few in omega arith) different)
   one_apart _ first has few = tt
 
   last_apart : (m : ℕ) (e : Edit) → IsLast m e → AreApart chosen e
   last_apart m (Make_directory d x i) last = absurd last
   last_apart m (Make_file d x i) last = absurd last
+  last_apart m (Make_pipe i pid f g) last = absurd last
   last_apart m _ last = tt
 
   pub all_apart : (es : List Edit) → CanEdit es → HaveParents reserves es → length chosen ≡ sum_by news es → AllByRecursion (AreApart chosen) es
@@ -209,7 +218,7 @@ module _ (reserves : FinMap nat_cmp Reserve) (chosen : List ℕ) (unused : AllBy
   all_apart (e ∷ f ∷ g ∷ es) can has count = absurd can
 
 pub apart_from : (s t : Committed) (es : List Edit) (chosen : List ℕ) → CanEdit es → HaveParents s.reserves es → HaveClaimed s t es chosen → AllByRecursion (AreApart chosen) es
-apart_from s t es chosen can has have = all_apart s.reserves chosen (all-mapped chosen (λ n h. h.0) have.unused) es can has have.count
+apart_from s t es chosen can has have = all_apart s.reserves chosen (all-mapped chosen (λ n h. h.0) have.unused) have.different es can has have.count
 
 -- the parents of edits are directories
 parents_all : (reserves : FinMap nat_cmp Reserve) (es : List Edit) → HaveParents reserves es → AllByRecursion (IsDirectory reserves) (flat_map parents_in es)
@@ -236,31 +245,6 @@ kept_with s t u es chosen d is have more c =
 pub may_give_up : (s t : Committed) (es : List Edit) (chosen : List ℕ) → HaveClaimed s t es chosen → (bs : List Bool) × ((c : Claim) → claimed_in c (with_kinds chosen bs) (listed None) ≤ reserved t c)
 may_give_up s t es chosen have = (flat_map kinds_in es, λ c. (let more : reserved t c ≡ reserved s c + claimed_in c (with_kinds chosen (flat_map kinds_in es)) [] = have.kept c in omega arith))
 
--- each edit makes one new object at most
-few_first : (e : Edit) → IsFirst e → news e ≤ 1
-few_first (Make_directory d x i) first = omega arith
-few_first (Make_file d x i) first = omega arith
-few_first (Unname_directory d x n) first = omega arith
-few_first (Name_file d x n) first = omega arith
-few_first (Unname_file d x n) first = omega arith
-few_first (Move d x e y n replaced) first = omega arith
-few_first (Put_bytes n place bytes before) first = omega arith
-few_first (Cut n before after) first = omega arith
-few_first _ first = absurd first
-
-few_last : (m : ℕ) (e : Edit) → IsLast m e → news e ≤ 1
-few_last m (Open_inode i inode mode pid f) last = omega arith
-few_last m (Set_offset d place) last = omega arith
-few_last m (Clear_slot pid f pipes) last = omega arith
-few_last m _ last = absurd last
-
-pub few_each : (es : List Edit) → CanEdit es → AllByRecursion (λ e. news e ≤ 1) es
-few_each [] can = tt
-few_each (e ∷ []) (inl first) = (few_first e first, tt)
-few_each (e ∷ []) (inr last) = (few_last 0 e last, tt)
-few_each (e ∷ f ∷ []) can = (few_first e can.0, (few_last (news e) f can.2, tt))
-few_each (e ∷ f ∷ g ∷ es) can = absurd can
-
 -- So many of the edits have their numbers.
 snoc_append : {X : Type 0} (xs : List X) (x : X) (ys : List X) → (xs ++ x ∷ []) ++ ys ≡ xs ++ x ∷ ys
 snoc_append [] x ys = refl
@@ -285,27 +269,30 @@ pub claims_start : (s : Committed) (edits : List Edit) → ClaimsOn s s edits 0 
 claims_start s edits = record { done = []; rest = refl; have = have_none s }
 
 module _ (s t : Committed) (edits : List Edit) (i : ℕ) (chosen : List ℕ) (on : ClaimsOn s t edits i chosen) where
-  pub claims_few : (e : Edit) → drop i edits ≡ e ∷ drop (i + 1) edits → CanEdit edits → news e ≤ 1
-  claims_few e next can = inside_all (λ e. news e ≤ 1) on.done e (drop (i + 1) edits) (subst (AllByRecursion (λ e. news e ≤ 1)) (sym on.rest ∙ ap (λ ys. on.done ++ ys) next) (few_each edits can))
-
-  pub claims_next : (u : Committed) (e : Edit) (new : List ℕ) → drop i edits ≡ e ∷ drop (i + 1) edits → CanEdit edits → IsClaimed t u e chosen new → u.state ≡ t.state → ClaimsOn s u edits (i + 1) new
-  claims_next u e new next can is state = record {
+  pub claims_next : (u : Committed) (e : Edit) (new : List ℕ) → drop i edits ≡ e ∷ drop (i + 1) edits → IsClaimed t u e chosen new → u.state ≡ t.state → ClaimsOn s u edits (i + 1) new
+  claims_next u e new next is state = record {
     done = on.done ++ e ∷ [];
     rest = snoc_append on.done e (drop (i + 1) edits) ∙ ap (λ ys. on.done ++ ys) (sym next) ∙ on.rest;
-    have = have_more s t u on.done e chosen new (claims_few e next can) on.have is state;
+    have = have_more s t u on.done e chosen new on.have is state;
   }
 
   pub claims_end : length edits ≤ i → HaveClaimed s t edits chosen
   claims_end high = subst (λ es. HaveClaimed s t es chosen) (sym (append_nil on.done) ∙ ap (λ ys. on.done ++ ys) (sym (drop_all edits i high)) ∙ on.rest) on.have
 
--- where no number could be had for an edit, the others may be given up, and then as much is kept as before
-module _ (s t u : Committed) (done : List Edit) (chosen new : List ℕ) (have : HaveClaimed s t done chosen) (same : new ≡ chosen) (kept : (c : Claim) → reserved u c ≡ reserved t c) where
+-- where not all numbers could be had for an edit, those that are there may be given up, and then as much is kept as before
+module _ (s t u : Committed) (done : List Edit) (chosen new : List ℕ) (have : HaveClaimed s t done chosen) (added : AreAdded t u chosen new) where
+  in_all : (c : Claim) → claimed_in c (with_kinds new (flat_map kinds_in done ++ added.kinds)) [] ≡ claimed_in c (with_kinds chosen (flat_map kinds_in done)) [] + claimed_in c (with_kinds added.mine added.kinds) []
+  in_all c = ap (λ ns. claimed_in c (with_kinds ns (flat_map kinds_in done ++ added.kinds)) []) added.list
+      ∙ ap (λ ms. claimed_in c ms []) (kinds_appended chosen added.mine (flat_map kinds_in done) added.kinds (have.count ∙ sym (all_kinds_count done)))
+      ∙ append_claimed c (with_kinds chosen (flat_map kinds_in done)) (with_kinds added.mine added.kinds)
+
   pub may_still_give_up : (bs : List Bool) × ((c : Claim) → claimed_in c (with_kinds new bs) (listed None) ≤ reserved u c)
   may_still_give_up = (
-    flat_map kinds_in done,
-    subst (λ ns. (c : Claim) → claimed_in c (with_kinds ns (flat_map kinds_in done)) [] ≤ reserved u c) (sym same) (λ c. (
+    flat_map kinds_in done ++ added.kinds,
+    λ c. (
         let more : reserved t c ≡ reserved s c + claimed_in c (with_kinds chosen (flat_map kinds_in done)) [] = have.kept c in
-        let as_was : reserved u c ≡ reserved t c = kept c in omega arith)),
+        let later : reserved u c ≡ reserved t c + claimed_in c (with_kinds added.mine added.kinds) [] = added.kept c in
+        let all : claimed_in c (with_kinds new (flat_map kinds_in done ++ added.kinds)) [] ≡ claimed_in c (with_kinds chosen (flat_map kinds_in done)) [] + claimed_in c (with_kinds added.mine added.kinds) [] = in_all c in omega arith),
   )
 
   pub same_kept : (v : Committed)
@@ -313,7 +300,76 @@ module _ (s t u : Committed) (done : List Edit) (chosen new : List ℕ) (have : 
       → (c : Claim) → reserved v c ≡ reserved s c
   unfolding may_still_give_up
   same_kept v back c =
-      let less : reserved u c ≡ reserved v c + claimed_in c (with_kinds new (flat_map kinds_in done)) [] = back (flat_map kinds_in done) may_still_give_up.1 c in
+      let less : reserved u c ≡ reserved v c + claimed_in c (with_kinds new (flat_map kinds_in done ++ added.kinds)) [] = back (flat_map kinds_in done ++ added.kinds) may_still_give_up.1 c in
       let more : reserved t c ≡ reserved s c + claimed_in c (with_kinds chosen (flat_map kinds_in done)) [] = have.kept c in
-      let as_was : reserved u c ≡ reserved t c = kept c in
-      let alike : claimed_in c (with_kinds new (flat_map kinds_in done)) [] ≡ claimed_in c (with_kinds chosen (flat_map kinds_in done)) [] = ap (λ ns. claimed_in c (with_kinds ns (flat_map kinds_in done)) []) same in omega arith
+      let later : reserved u c ≡ reserved t c + claimed_in c (with_kinds added.mine added.kinds) [] = added.kept c in
+      let all : claimed_in c (with_kinds new (flat_map kinds_in done ++ added.kinds)) [] ≡ claimed_in c (with_kinds chosen (flat_map kinds_in done)) [] + claimed_in c (with_kinds added.mine added.kinds) [] = in_all c in omega arith
+
+-- one number was added, or none
+pub one_added : (b : Bool) (s t : Committed) (old new : List ℕ) → IsReserved b s t old new → AreAdded s t old new
+one_added b s t old new is = record {
+  mine = is.num ∷ [];
+  kinds = b ∷ [];
+  list = is.list;
+  kept = λ c. (
+      let more : reserved t c ≡ reserved s c + number_as b is.num c = is.kept c in
+      let one : claimed_in c ((is.num, b) ∷ []) [] ≡ number_as b is.num c + claimed_in c [] [] = one_claimed c is.num b [] in
+      let none : claimed_in c [] [] ≡ 0 = none_claimed c in omega arith);
+}
+
+pub none_added : (s t : Committed) (old new : List ℕ) → new ≡ old → KeepsSame s t → AreAdded s t old new
+none_added s t old new is same = record {
+  mine = [];
+  kinds = [];
+  list = is ∙ sym (append_nil old);
+  kept = λ c. (let none : claimed_in c [] [] ≡ 0 = none_claimed c in let kept : reserved t c ≡ reserved s c = same c in omega arith);
+}
+
+pub more_added : (b : Bool) (s t u : Committed) (old mid new : List ℕ) → IsReserved b s t old mid → AreAdded t u mid new → AreAdded s u old new
+more_added b s t u old mid new first later = record {
+  mine = first.num ∷ later.mine;
+  kinds = b ∷ later.kinds;
+  list = later.list ∙ ap (λ ns. ns ++ later.mine) first.list ∙ snoc_append old first.num later.mine;
+  kept = λ c. (
+      let more : reserved t c ≡ reserved s c + number_as b first.num c = first.kept c in
+      let rest : reserved u c ≡ reserved t c + claimed_in c (with_kinds later.mine later.kinds) [] = later.kept c in
+      let one : claimed_in c ((first.num, b) ∷ with_kinds later.mine later.kinds) [] ≡ number_as b first.num c + claimed_in c (with_kinds later.mine later.kinds) [] = one_claimed c first.num b (with_kinds later.mine later.kinds) in omega arith);
+}
+
+-- a pipe's three numbers
+pub three_claimed : (s t u v : Committed) (old one two new : List ℕ) (i pid f g : ℕ) → IsReserved false s t old one → IsReserved false t u one two → IsReserved false u v two new
+    → t.state ≡ s.state → u.state ≡ t.state → IsClaimed s v (Make_pipe i pid f g) old new
+three_claimed s t u v old one two new i pid f g a b c first second = record {
+  mine = a.num ∷ b.num ∷ c.num ∷ [];
+  list = c.list ∙ ap (λ ns. ns ++ c.num ∷ []) b.list ∙ snoc_append one b.num (c.num ∷ []) ∙ ap (λ ns. ns ++ b.num ∷ c.num ∷ []) a.list ∙ snoc_append old a.num (b.num ∷ c.num ∷ []);
+  count = refl;
+  unused = ((a.unused, a.nowhere), ((a.stays.used b.num b.unused, subst (λ k. IsNowhere k b.num) first b.nowhere), ((a.stays.used c.num (b.stays.used c.num c.unused), subst (λ k. IsNowhere k c.num) (second ∙ first) c.nowhere), tt)));
+  used = ((λ none. a.used (b.stays.used a.num (c.stays.used a.num none))), ((λ none. b.used (c.stays.used b.num none)), (c.used, tt)));
+  different = (
+    ((λ same. a.used (ap (get t.reserves) same ∙ b.unused)), ((λ same. a.used (b.stays.used a.num (ap (get u.reserves) same ∙ c.unused))), tt)),
+    (((λ same. b.used (ap (get u.reserves) same ∙ c.unused)), tt), (tt, tt)),
+  );
+  kept = λ claim. (
+      let k1 : reserved t claim ≡ reserved s claim + number_as false a.num claim = a.kept claim in
+      let k2 : reserved u claim ≡ reserved t claim + number_as false b.num claim = b.kept claim in
+      let k3 : reserved v claim ≡ reserved u claim + number_as false c.num claim = c.kept claim in
+      let m1 : claimed_in claim ((a.num, false) ∷ (b.num, false) ∷ (c.num, false) ∷ []) [] ≡ number_as false a.num claim + claimed_in claim ((b.num, false) ∷ (c.num, false) ∷ []) [] = one_claimed claim a.num false _ in
+      let m2 : claimed_in claim ((b.num, false) ∷ (c.num, false) ∷ []) [] ≡ number_as false b.num claim + claimed_in claim ((c.num, false) ∷ []) [] = one_claimed claim b.num false _ in
+      let m3 : claimed_in claim ((c.num, false) ∷ []) [] ≡ number_as false c.num claim + claimed_in claim [] [] = one_claimed claim c.num false [] in
+      let none : claimed_in claim [] [] ≡ 0 = none_claimed claim in omega arith);
+  stays = record { used = λ n none. a.stays.used n (b.stays.used n (c.stays.used n none)); directories = λ n there. c.stays.directories n (b.stays.directories n (a.stays.directories n there)) };
+}
+
+-- where a number could not be had, none was added, and as much is kept as before
+pub err_added : {A E : Type 0} (r : Result A E) (s t : Committed) (old new : List ℕ) → OnErr r (new ≡ old) → OnErr r (KeepsSame s t) → OnErr r (AreAdded s t old new)
+err_added (Ok x) s t old new is same = tt
+err_added (Err e) s t old new is same = none_added s t old new is same
+
+pub err_more : {A E : Type 0} (b : Bool) (r : Result A E) (s t u : Committed) (old mid new : List ℕ) → IsReserved b s t old mid → OnErr r (AreAdded t u mid new) → OnErr r (AreAdded s u old new)
+err_more b (Ok x) s t u old mid new first later = tt
+err_more b (Err e) s t u old mid new first later = more_added b s t u old mid new first later
+
+-- one number for one edit, where it could be had
+pub ok_claimed : {A E : Type 0} (r : Result A E) (s t : Committed) (b : Bool) (e : Edit) (old new : List ℕ) → 1 ≡ news e → kinds_in e ≡ b ∷ [] → OnOk r (IsReserved b s t old new) → OnOk r (IsClaimed s t e old new)
+ok_claimed (Ok x) s t b e old new count kinds is = is_claimed s t b e old new count kinds is
+ok_claimed (Err x) s t b e old new count kinds is = tt

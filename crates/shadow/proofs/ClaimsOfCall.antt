@@ -1,20 +1,21 @@
 -- What a call claims is what its edits claim, one after the other, and so the second finds its
 -- claims kept.
-use Rattle.std.proofs.Common.{◌≡◌, ℕ, ◌+◌, ◌≤◌, ◌==◌, ◌&&◌, Bool, true, false, cond, sum_by, length}
+use Rattle.std.proofs.Common.{◌≡◌, ℕ, ◌+◌, ◌≤◌, ◌==◌, ◌&&◌, Bool, true, false, not, cond, sum_by, length}
 use Rattle.std.proofs.Common.{List, [], ◌∷◌, ◌++◌, append-nil, refl, sym, ap, ap₂, subst, ◌∙◌}
 use Rattle.std.proofs.Common.{arith, inl, inr, ◌⊎◌}
 use Rattle.std.proofs.lemmas.List.Sums.{sum_by-cons}
 use Rattle.ids.specs.declared.edit.Mode.{Mode}
 use Rattle.model.specs.State.{Kernel, Name}
-use Rattle.model.specs.Changes.{Clear_slot, Cut, Edit, Make_directory, Make_file, Open_inode}
-use Rattle.model.specs.Changes.{Move, Name_file, Replaced, Unname_file}
+use Rattle.model.specs.Changes.{Append, Clear_slot, Cut, Edit, Make_directory, Make_file, Make_pipe, Open_inode, Take}
+use Rattle.model.specs.Changes.{Move, Name_file, Replaced, Share_slot, Unname_file}
 use Rattle.model.specs.Changes.{Put_bytes, Set_offset, Unname_directory, Which, all_applied}
 use Rattle.model.specs.Changes.{applied, news, tidy}
 use Rattle.call_laws.specs.Fits.{Fits, FitsAll}
 use Rattle.freeing_laws.specs.Sweep.{IsTidied}
 use Rattle.shadow.specs.Claims.{Claim, Covers, KeepsMore, New_directory, Number, Room, claimed}
 use Rattle.shadow.specs.Claims.{claimed_by, claimed_by_one, claimed_in, kinds_in, reserved}
-use Rattle.shadow.specs.Claims.{with_kinds}
+use Rattle.shadow.specs.Claims.{as_count, with_kinds}
+use Rattle.freeing_laws.specs.Counts.{times}
 use Rattle.shadow.specs.Committed.{Committed}
 use Rattle.shadow.specs.Log.{effect}
 use Rattle.shadow.specs.Steps.{CanEdit, IsFirst, IsLast, IsOne, new_in, parents_in}
@@ -36,11 +37,33 @@ and_false : (b : Bool) → 0 + cond {A = ℕ} (b && false) 1 0 ≡ 0
 and_false true = refl
 and_false false = refl
 
+-- numbers that are of no directory
+abbrev others : List ℕ → List (ℕ × Bool)
+others [] = []
+others (m ∷ ms) = (m, false) ∷ others ms
+
+no_directory : (ms : List ℕ) (n : ℕ) → claimed_in (New_directory n) (others ms) [] ≡ 0
+no_directory [] n = refl
+no_directory (m ∷ ms) n =
+    let more : claimed_in (New_directory n) (others (m ∷ ms)) [] ≡ as_count ((m == n) && false) + claimed_in (New_directory n) (others ms) [] = sum_by-cons (λ (z : ℕ × Bool). as_count ((z.0 == n) && z.1)) (m, false) (others ms) in
+    let never : 0 + as_count ((m == n) && false) ≡ 0 = and_false (m == n) in
+    let rest : claimed_in (New_directory n) (others ms) [] ≡ 0 = no_directory ms n in
+    omega arith
+
+all_others : (ms : List ℕ) (n : ℕ) → claimed_in (Number n) (others ms) [] ≡ times n ms
+all_others [] n = refl
+all_others (m ∷ ms) n =
+    let more : claimed_in (Number n) (others (m ∷ ms)) [] ≡ as_count ((m == n) && not false) + claimed_in (Number n) (others ms) [] = sum_by-cons (λ (z : ℕ × Bool). as_count ((z.0 == n) && not z.1)) (m, false) (others ms) in
+    let count : times n (m ∷ ms) ≡ as_count (m == n) + times n ms = sum_by-cons (λ v. as_count (v == n)) m ms in
+    let always : 0 + as_count ((m == n) && true) ≡ 0 + as_count (m == n) = and_true (m == n) in
+    let rest : claimed_in (Number n) (others ms) [] ≡ times n ms = all_others ms n in
+    omega arith
+
 -- the claims of one edit
 claimed_alone : (chosen : List ℕ) (e : Edit) → IsOne e → ClaimsAlone chosen e
 claimed_alone chosen e one =
     by_one (ClaimsAlone chosen) directory file unnaming linking unlinking renaming put cut opening
-    moving clearing e one
+    moving clearing sharing taking appending piping e one
   where
     unnaming : (d : ℕ) (x : Name) (m : ℕ) → ClaimsAlone chosen (Unname_directory d x m)
     unnaming d x m (Room r) = refl
@@ -83,6 +106,26 @@ claimed_alone chosen e one =
     clearing pid f pipes (Room r) = refl
     clearing pid f pipes (New_directory n) = refl
     clearing pid f pipes (Number n) = refl
+
+    sharing : (pid f d : ℕ) (pipes : List ℕ) → ClaimsAlone chosen (Share_slot pid f d pipes)
+    sharing pid f d pipes (Room r) = refl
+    sharing pid f d pipes (New_directory n) = refl
+    sharing pid f d pipes (Number n) = refl
+
+    taking : (p count : ℕ) → ClaimsAlone chosen (Take p count)
+    taking p count (Room r) = refl
+    taking p count (New_directory n) = refl
+    taking p count (Number n) = refl
+
+    appending : (p : ℕ) (bytes : List ℕ) → ClaimsAlone chosen (Append p bytes)
+    appending p bytes (Room r) = refl
+    appending p bytes (New_directory n) = refl
+    appending p bytes (Number n) = refl
+
+    piping : (i pid f g : ℕ) → ClaimsAlone chosen (Make_pipe i pid f g)
+    piping i pid f g (Room r) = refl
+    piping i pid f g (New_directory n) = no_directory (new_in chosen i ∷ new_in chosen (i + 1) ∷ new_in chosen (i + 2) ∷ []) n
+    piping i pid f g (Number n) = all_others (new_in chosen i ∷ new_in chosen (i + 1) ∷ new_in chosen (i + 2) ∷ []) n
 
     directory : (d : ℕ) (x : Name) (i : ℕ) → ClaimsAlone chosen (Make_directory d x i)
     directory d x i (Room r) = refl

@@ -7,7 +7,7 @@ use Rattle.std.proofs.lemmas.Bool.{cases_eq}
 use Rattle.std.proofs.lemmas.List.Sums.{sum_by-cons, sum_by-append}
 use Rattle.std.specs.Map.{keys_of}
 use Rattle.model.specs.FiniteMap.{get}
-use Rattle.model.specs.State.{Kernel, Process, mapped}
+use Rattle.model.specs.State.{Kernel, mapped}
 use Rattle.model.specs.Changes.{at_offset, is_held, is_reached, tidy}
 use Rattle.model.specs.Effects.{Effect, all_done}
 use Rattle.fdtable.specs.Patches.{Given}
@@ -24,7 +24,7 @@ use Rattle.shadow.specs.declared.opening.Opening.TheVariants.{Kept, New, Moved}
 use Rattle.shadow.specs.Claims.{Claim, claimed}
 use Rattle.shadow.specs.Laid.{AreReopened, AreReslotted, Frees, given_in, kept_in, table_in}
 use Rattle.shadow.specs.Patches.{Patches, is_new, kept_at, opening_at, or_kept, reopened}
-use Rattle.shadow.specs.Stored.{Sound, numbered, state_of}
+use Rattle.shadow.specs.Stored.{Processes, Sound, numbered, state_of}
 use Rattle.shadow.proofs.Committing.{CanCommit, HasAll, HasInodes}
 use Rattle.shadow.proofs.Edited.{tidied_of}
 use Rattle.shadow.proofs.InOrder.{later_kept}
@@ -70,7 +70,7 @@ new_is_key ((n, opening) ∷ rest) d is = elim (cases_eq n d) [
       (new_is_key rest d (ap (λ o. is_new (or_kept o)) (sym later) ∙ is)))
 ]
 
-module _ (ps qs : List Process) (s after last : Numbers) (ds : List Effect) (p : Patches)
+module _ (ps qs : Processes) (s after last : Numbers) (ds : List Effect) (p : Patches)
     (former : List (ℕ × Given)) (can : CanCommit ps s ds p)
     (slots : AreReslotted p.slots former ps qs after last) (all : HasAll ps qs s last ds) where
   abbrev before : Kernel
@@ -146,7 +146,7 @@ module _ (ps qs : List Process) (s after last : Numbers) (ds : List Effect) (p :
   done_well = sweep_is_tidy_lem.well ds before can.sound.well can.fits
 
 -- after the last step
-pub cleared : {ps qs : List Process} {s mid after last one two three : Numbers} {ds : List Effect}
+pub cleared : {ps qs : Processes} {s mid after last one two three : Numbers} {ds : List Effect}
     {p : Patches} {former : List (ℕ × Given)}
     → CanCommit ps s ds p → HasInodes ps s mid ds p → AreReopened p.openings mid after
     → AreReslotted p.slots former ps qs after last → HasAll ps qs s last ds

@@ -1,25 +1,24 @@
 -- The slots of each process that change, one process after the other.
-use Rattle.std.proofs.Common.{◌≡◌, ◌≢◌, ℕ, ◌+◌, ◌<◌, ◌≤◌, List, [], ◌∷◌, ◌++◌, length, get_or, set, take, Some, refl, sym, ap, subst, ◌∙◌, arith, inl, inr}
+use Rattle.std.proofs.Common.{◌≡◌, ◌≢◌, ℕ, ◌+◌, ◌<◌, ◌≤◌, List, [], ◌∷◌, ◌++◌, length, get_or, set, take, None, Some, refl, sym, ap, subst, ◌∙◌, arith, inl, inr}
 use Rattle.std.specs.List.{flat_map}
 use Rattle.std.proofs.lemmas.Bool.{cases_eq}
 use Rattle.std.proofs.lemmas.List.{get_or-set_other, length-set, take_all, take_more, take_more_set}
 use Rattle.std.proofs.lemmas.List.Concat.{flat_map-cons}
 use Rattle.std.proofs.lemmas.Grind.{flat_map-append}
 use Rattle.model.specs.FiniteMap.{empty, entries, get}
-use Rattle.model.specs.State.{Process}
 use Rattle.fdtable.specs.Patches.{Given}
 use Rattle.freeing_laws.specs.Counts.{times}
 use Rattle.store.specs.Numbers.{Numbers}
-use Rattle.shadow.specs.Stored.{numbered}
+use Rattle.shadow.specs.Stored.{Processes, numbered}
 use Rattle.shadow.specs.Patches.{kept_at, reslotted, slots_in}
 use Rattle.shadow.specs.Openings.{AreOnce}
 use Rattle.shadow.specs.Laid.{AreReslotted, IsReslotted, SlotsStay, given_by, given_in, table_in}
 use Rattle.shadow.proofs.Once.{key_at, kept_its, none_ahead, once_set, patch_at}
 use Rattle.shadow.proofs.Slots_over.{Entries, pushed_other, pushed_same}
-use Rattle.shadow.proofs.Tabling.{stays_on, stays_still, times_both}
+use Rattle.shadow.proofs.Tabling.{stays_on, stays_still, still_there, times_both}
 
 -- the changes of the processes at places below i are made
-pub record Lays (i : ℕ) (es now : Entries) (ps qs : List Process) (old new : Numbers) : Type 0 where
+pub record Lays (i : ℕ) (es now : Entries) (ps qs : Processes) (old new : Numbers) : Type 0 where
   pub count : length now ≡ length es
   pub later : (j : ℕ) → i ≤ j → get_or now j (0, empty) ≡ get_or es j (0, empty)
   pub once : AreOnce now
@@ -27,7 +26,7 @@ pub record Lays (i : ℕ) (es now : Entries) (ps qs : List Process) (old new : N
   pub processes : (pid : ℕ) → get (numbered qs) pid ≡ reslotted (kept_at (take i es) pid) (get (numbered ps) pid)
   pub let_go : (pid f d : ℕ) → get (table_in (get (numbered ps) pid)) f ≡ Some d → get (table_in (get (numbered qs) pid)) f ≢ Some d → 0 < times d (given_in (take i now))
 
-pub lays_nothing : (es : Entries) (ps : List Process) (s : Numbers) → AreOnce es → Lays 0 es es ps ps s s
+pub lays_nothing : (es : Entries) (ps : Processes) (s : Numbers) → AreOnce es → Lays 0 es es ps ps s s
 lays_nothing es ps s once = record {
   count = refl;
   later = λ j low. refl;
@@ -46,22 +45,19 @@ given_pushed d es e =
     let none : times d (flat_map f []) ≡ 0 = refl in
     omega (arith, all, one, none)
 
-module _ (i : ℕ) (es now : Entries) (ps qs : List Process) (old new : Numbers) (once : AreOnce es) (low : i < length es) (so : Lays i es now ps qs old new) where
+module _ (i : ℕ) (es now : Entries) (ps qs : Processes) (old new : Numbers) (once : AreOnce es) (low : i < length es) (so : Lays i es now ps qs old new) where
   same_key : key_at now i ≡ key_at es i
   same_key = ap (λ (e : ℕ × Given). e.0) (so.later i (omega arith))
 
   -- the next process is there
-  pub next_there : ((pid : ℕ) → slots_in (kept_at es pid) ≢ [] → (0 < pid) × (pid ≤ length ps)) → entries (patch_at now i) ≢ [] → (0 < key_at now i) × (key_at now i ≤ length qs)
-  next_there living some =
-      let there = living (key_at es i) (λ none. some (ap (λ (e : ℕ × Given). entries e.1) (so.later i (omega arith)) ∙ sym (ap slots_in (kept_its es i once low)) ∙ none)) in
-      let first : 0 < key_at es i = there.0 in
-      let last : key_at es i ≤ length ps = there.1 in
-      let key : key_at now i ≡ key_at es i = same_key in
-      let all : length qs ≡ length ps = so.stay.count in
-      (omega (arith, first, key), omega (arith, last, key, all))
+  pub next_there : ((pid : ℕ) → slots_in (kept_at es pid) ≢ [] → get (numbered ps) pid ≢ None) → entries (patch_at now i) ≢ [] → get (numbered qs) (key_at now i) ≢ None
+  next_there living some none =
+      still_there (kept_at (take i es) (key_at es i)) (get (numbered ps) (key_at es i))
+      (living (key_at es i) (λ none. some (ap (λ (e : ℕ × Given). entries e.1) (so.later i (omega arith)) ∙ sym (ap slots_in (kept_its es i once low)) ∙ none)))
+      (sym (so.processes (key_at es i)) ∙ ap (get (numbered qs)) (sym same_key) ∙ none)
 
   -- and its slots change
-  module _ (former : Given) (rs : List Process) (later : Numbers) (laid : IsReslotted (key_at es i) (patch_at es i) former qs rs new later) where
+  module _ (former : Given) (rs : Processes) (later : Numbers) (laid : IsReslotted (key_at es i) (patch_at es i) former qs rs new later) where
     abbrev after : Entries
     after = set now i (key_at es i, former)
 
@@ -108,7 +104,7 @@ module _ (i : ℕ) (es now : Entries) (ps qs : List Process) (old new : Numbers)
     }
 
 -- those of all processes are made
-pub lays_all : (i : ℕ) (es now : Entries) (ps qs : List Process) (old new : Numbers) → length es ≤ i → Lays i es now ps qs old new → AreReslotted es now ps qs old new
+pub lays_all : (i : ℕ) (es now : Entries) (ps qs : Processes) (old new : Numbers) → length es ≤ i → Lays i es now ps qs old new → AreReslotted es now ps qs old new
 lays_all i es now ps qs old new high so = record {
   stay = so.stay;
   processes = λ pid. so.processes pid ∙ ap (λ xs. reslotted (kept_at xs pid) (get (numbered ps) pid)) (take_all i es high);

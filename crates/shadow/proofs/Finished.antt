@@ -6,11 +6,12 @@ use Rattle.std.specs.Option.{option_and_then}
 use Rattle.std.specs.Cmp.{nat_cmp_total}
 use Rattle.fdtable.specs.Patches.{Given}
 use Rattle.model.specs.FiniteMap.{get, nat_cmp-IsAntisymmetric, same_map}
-use Rattle.model.specs.State.{A_directory, Description, Kernel, Name, Process, kind, kind_of}
+use Rattle.model.specs.State.{A_directory, Description, Kernel, Name, is_end, kind, kind_of}
 use Rattle.model.specs.State.{mapped, names_of}
 use Rattle.model.specs.Changes.{holders, openings}
 use Rattle.model.specs.Effects.{Effect, all_done}
 use Rattle.call_laws.specs.WellFormed.{CanBeNamed, CanBeOpened, WellFormed}
+use Rattle.freeing_laws.specs.Pipes.{ArePair, reads, writes}
 use Rattle.freeing_laws.proofs.Laws.{sweep_is_tidy_lem}
 use Rattle.freeing_laws.proofs.Openings.{openings_change_lem}
 use Rattle.store.specs.Numbers.{Numbers, coming}
@@ -20,7 +21,7 @@ use Rattle.store.specs.declared.Stage.{Stage}
 use Rattle.store.specs.declared.Stage.TheVariants.{Coming, Held, Lost}
 use Rattle.store.specs.declared.Object.{Object}
 use Rattle.store.specs.declared.Object.TheVariants.{Directory as Kept_directory}
-use Rattle.store.specs.declared.Object.TheVariants.{File as Kept_file}
+use Rattle.store.specs.declared.Object.TheVariants.{File as Kept_file, Pipe as Kept_pipe}
 use Rattle.store.specs.declared.Object.TheVariants.{Description as Kept_description, Nothing}
 use Rattle.store.proofs.Laws.{get-chosen, get-descriptions_by, get-inodes_by}
 use Rattle.shadow.specs.Claims.{Claim, Room, New_directory, Number, as_count, claim_in, claimed}
@@ -29,10 +30,12 @@ use Rattle.shadow.specs.Claims.{openings_claim, or_zero, reserved, room_of}
 use Rattle.shadow.specs.Committed.{Reserve}
 use Rattle.shadow.specs.Laid.{AreReopened, AreReslotted, Holds, kept_in, reserves_of, settled}
 use Rattle.shadow.specs.Patches.{Patches, is_new, net_at, opening_at, reopened}
-use Rattle.shadow.specs.Stored.{AreCounted, committed_of, numbered, reserve_in, state_of}
+use Rattle.shadow.specs.Stored.{AreCounted, IsEndHere, Processes, committed_of, numbered, reserve_in, state_of}
 use Rattle.shadow.specs.declared.opening.Opening.{Opening}
+use Rattle.shadow.specs.declared.opening.Opening.TheVariants.{New}
 use Rattle.shadow.proofs.Committing.{CanCommit, HasAll, HasInodes}
 use Rattle.shadow.proofs.Meets.{at_place, met_is}
+use Rattle.shadow.proofs.PairsKept.{end_of}
 
 -- what is to come is no description yet, and what is a description is no inode
 comes_unopened : (o : Option Place) (d : ℕ) → 0 < at_place (Number d) o
@@ -59,11 +62,12 @@ no_inode (Some place) there = by_stage place.stage place.object there
     by_stage Lost object there = refl
     by_stage Held (Kept_directory listing) there = absurd (there refl)
     by_stage Held (Kept_file file) there = absurd (there refl)
+    by_stage Held (Kept_pipe pipe) there = absurd (there refl)
     by_stage Held (Kept_description opened) there = refl
     by_stage Held Nothing there = refl
 
 -- a number that is to come as a description is none yet, so no slot gives it
-pub unheld_new : {ps : List Process} {s : Numbers} {ds : List Effect} {p : Patches}
+pub unheld_new : {ps : Processes} {s : Numbers} {ds : List Effect} {p : Patches}
     → CanCommit ps s ds p → (d : ℕ) → is_new (opening_at p.openings d) ≡ true
     → holders (state_of ps s) d ≡ 0
 unheld_new {ps} {s} {ds} {p} can d new =
@@ -108,7 +112,7 @@ not_opened k well n is =
     subst CanBeOpened (ap (kind_of k) same ∙ is) (well.descriptions d it there))
 
 -- what a name gives is an inode, and so no description
-not_named : (ps : List Process) (s : Numbers) → WellFormed (state_of ps s) → (d n : ℕ) (x : Name)
+not_named : (ps : Processes) (s : Numbers) → WellFormed (state_of ps s) → (d n : ℕ) (x : Name)
     → get (descriptions s) d ≢ None → get (names_of (state_of ps s) n) x ≢ Some d
 not_named ps s well d n x there gives =
     subst CanBeNamed (ap (mapped kind) none) (well.names n x d gives)
@@ -182,7 +186,7 @@ both_claims p (New_directory n) = omega arith
 both_claims p (Number n) = refl
 
 -- Inodes are changed first, from s to mid, then descriptions, to after, and then slots, to last.
-module _ {ps qs : List Process} {s mid after last : Numbers} {ds : List Effect} {p : Patches}
+module _ {ps qs : Processes} {s mid after last : Numbers} {ds : List Effect} {p : Patches}
     {former : List (ℕ × Given)} (can : CanCommit ps s ds p) (made : HasInodes ps s mid ds p)
     (opened : AreReopened p.openings mid after)
     (slotted : AreReslotted p.slots former ps qs after last) where
@@ -216,8 +220,24 @@ module _ {ps qs : List Process} {s mid after last : Numbers} {ds : List Effect} 
       openings_change_lem.by_processes (state_of ps s) (state_of ps mid) refl d
       ∙ unheld_new can d new
 
+  -- a new description is of a pipe only as the end that the pipe has it as
+  ends_here : (d : ℕ) (it : Description) → opening_at p.openings d ≡ New it → IsEndHere mid d it
+  ends_here d it new pipe is =
+      let pair : ArePair (all_done ds (state_of ps s)).descriptions it.inode pipe.reader pipe.writer
+      = made.ends it.inode pipe is in (
+        (λ reading. pair.reads d (ap (is_end reads it.inode) gives ∙ end_of reads it reading)),
+        (λ writing. pair.writes d (ap (is_end writes it.inode) gives ∙ end_of writes it writing)),
+        pair.either d it gives refl,
+      )
+    where
+      gives : get (all_done ds (state_of ps s)).descriptions d ≡ Some it
+      gives =
+          can.agrees.descriptions (state_of ps s) d
+          ∙ ap (λ o. reopened o (get (descriptions s) d)) new
+
   counted : AreCounted qs last
-  counted = slotted.stay.counted can.sound.well.low (opened.counted ps made.counted unheld)
+  counted =
+      slotted.stay.counted can.sound.well.low (opened.counted ps made.counted unheld ends_here)
 
   holds : Holds qs last
   holds = record {
@@ -242,7 +262,7 @@ module _ {ps qs : List Process} {s mid after last : Numbers} {ds : List Effect} 
       omega arith
 
 -- so all changes are made
-pub finished : {ps qs : List Process} {s mid after last : Numbers} {ds : List Effect} {p : Patches}
+pub finished : {ps qs : Processes} {s mid after last : Numbers} {ds : List Effect} {p : Patches}
     {former : List (ℕ × Given)} → CanCommit ps s ds p → HasInodes ps s mid ds p
     → AreReopened p.openings mid after → AreReslotted p.slots former ps qs after last
     → HasAll ps qs s last ds

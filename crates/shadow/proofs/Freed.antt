@@ -1,7 +1,7 @@
 -- A well-formed state that is stored holds on the way, and what is freed then makes it sound again.
 use Rattle.std.proofs.Common.{◌≡◌, ◌≢◌, ℕ, List, Some, None, sym, ap, subst, ◌∙◌}
 use Rattle.model.specs.FiniteMap.{get}
-use Rattle.model.specs.State.{A_directory, Kernel, Name, Process, kind, kind_of, mapped, names_of}
+use Rattle.model.specs.State.{A_directory, Kernel, Name, kind, kind_of, mapped, names_of}
 use Rattle.model.specs.Changes.{Edit, applied, openings, tidy}
 use Rattle.call_laws.specs.WellFormed.{CanBeNamed, CanBeOpened, WellFormed}
 use Rattle.call_laws.specs.Fits.{Fits}
@@ -10,11 +10,11 @@ use Rattle.freeing_laws.proofs.Openings.{openings_change_lem}
 use Rattle.store.specs.Numbers.{Numbers}
 use Rattle.store.specs.Shown.{descriptions}
 use Rattle.shadow.specs.Laid.{Frees, Holds}
-use Rattle.shadow.specs.Stored.{AreCounted, IsStaged, Sound, state_of}
+use Rattle.shadow.specs.Stored.{AreCounted, IsStaged, Processes, Sound, state_of}
 use Rattle.shadow.proofs.Edited.{sound_after}
 use Rattle.shadow.proofs.Going.{one_kind}
 
-module _ (ps : List Process) (s : Numbers) (root : s.root ≡ 0) (well : WellFormed (state_of ps s))
+module _ (ps : Processes) (s : Numbers) (root : s.root ≡ 0) (well : WellFormed (state_of ps s))
   where
     unnamed : (d n : ℕ) (x : Name) → get (descriptions s) d ≢ None
         → get (names_of (state_of ps s) n) x ≢ Some d
@@ -38,14 +38,14 @@ module _ (ps : List Process) (s : Numbers) (root : s.root ≡ 0) (well : WellFor
     }
 
 -- the store in which an edit is made
-pub record IsMade (ps qs : List Process) (s mid : Numbers) (chosen : List ℕ) (e : Edit) : Type 0
+pub record IsMade (ps qs : Processes) (s mid : Numbers) (chosen : List ℕ) (e : Edit) : Type 0
   where
     pub root : mid.root ≡ s.root
     pub state : state_of qs mid ≡ applied chosen e (state_of ps s)
     pub staged : (n : ℕ) → IsStaged (get mid.places n)
     pub counted : AreCounted qs mid
 
-module _ (ps qs : List Process) (s mid : Numbers) (chosen : List ℕ) (e : Edit) (sound : Sound ps s)
+module _ (ps qs : Processes) (s mid : Numbers) (chosen : List ℕ) (e : Edit) (sound : Sound ps s)
     (fits : Fits chosen (state_of ps s) e) (made : IsMade ps qs s mid chosen e) where
   pub made_holds : Holds qs mid
   made_holds = holds_well qs mid (made.root ∙ sound.root)

@@ -14,10 +14,11 @@ use Rattle.store.specs.declared.Place.{Place}
 use Rattle.store.specs.declared.Stage.{Stage}
 use Rattle.store.specs.declared.Stage.TheVariants.{Coming, Held, Lost}
 use Rattle.store.specs.declared.Object.{Object}
-use Rattle.store.specs.declared.Object.TheVariants.{Directory as A_directory, File as A_file, Description as A_description, Nothing}
+use Rattle.store.specs.declared.Object.TheVariants.{Directory as A_directory, File as A_file, Pipe as A_pipe, Description as A_description, Nothing}
 use Rattle.store.proofs.Laws.{descriptions-opened, get-chosen, inodes-opened, left-altered, place-altered, place-other}
 use Rattle.shadow.specs.Stored.{FitsStage, IsStaged, reserve_in}
 use Rattle.shadow.specs.Laid.{AreHeld, IsOneLess, IsOneMore, WasHeld}
+use Rattle.shadow.proofs.PairsKept.{pipe_by_opened, pipe_stood}
 
 -- the description or the file that an object is
 abbrev opened_or : Opened → Option Object → Opened
@@ -30,6 +31,7 @@ shown_file _ = None
 
 file_of_object : (o : Option Object) (file : OpenFile) → shown_file o ≡ Some file → o ≡ Some (A_file file)
 file_of_object (Some (A_file it)) file is = ap (λ (it : OpenFile). Some (A_file it)) (some_same it file is)
+file_of_object (Some (A_pipe pipe)) file is = absurd cc
 file_of_object (Some (A_directory listing)) file is = absurd cc
 file_of_object (Some (A_description opened)) file is = absurd cc
 file_of_object (Some Nothing) file is = absurd cc
@@ -46,6 +48,7 @@ shown_count (Some place) opened is = by_stage place.stage place.object is
     by_stage Held (A_description it) is = ap (λ o. (opened_or it o).holders) is
     by_stage Held (A_directory listing) is = absurd cc
     by_stage Held (A_file file) is = absurd cc
+    by_stage Held (A_pipe pipe) is = absurd cc
     by_stage Held Nothing is = absurd cc
 
 module _ (R : ℕ → ℕ → ℕ → Type 0) where
@@ -56,6 +59,7 @@ module _ (R : ℕ → ℕ → ℕ → Type 0) where
     descriptions = refl;
     reserves = λ n. refl;
     files = λ n file is. is;
+    pipes = λ p pipe is. is;
     opened = λ d opened is. record { before = opened; held = is; count = each d opened is };
   }
 
@@ -67,6 +71,7 @@ module _ (g : Opened → Opened) where
       by_stage : (t : Stage) (object : Object) → FitsStage t object → FitsStage t (changed_opened g object)
       by_stage t (A_directory listing) h = h
       by_stage t (A_file file) h = h
+      by_stage t (A_pipe pipe) h = h
       by_stage t Nothing h = h
       by_stage Coming (A_description opened) h = h
       by_stage Held (A_description opened) h = λ is. absurd cc
@@ -78,6 +83,7 @@ module _ (g : Opened → Opened) where
       by_object : (object : Object) → reserve_in (record { stage = place.stage; object = changed_opened g object }) ≡ reserve_in (record { stage = place.stage; object = object })
       by_object (A_directory listing) = refl
       by_object (A_file file) = refl
+      by_object (A_pipe pipe) = refl
       by_object (A_description opened) = refl
       by_object Nothing = refl
 
@@ -89,6 +95,7 @@ module _ (g : Opened → Opened) where
       by_stage Lost object = refl
       by_stage Held (A_directory listing) = refl
       by_stage Held (A_file file) = refl
+      by_stage Held (A_pipe pipe) = refl
       by_stage Held (A_description opened) = refl
       by_stage Held Nothing = refl
 
@@ -108,6 +115,7 @@ module _ (g : Opened → Opened) where
       by_stage Held (A_description it) is = record { before = it; held = refl; is = sym (ap (opened_or (g it)) is) }
       by_stage Held (A_directory listing) is = absurd cc
       by_stage Held (A_file file) is = absurd cc
+      by_stage Held (A_pipe pipe) is = absurd cc
       by_stage Held Nothing is = absurd cc
 
   module _ (same : (opened : Opened) → (g opened).description ≡ opened.description) (R : ℕ → ℕ → ℕ → Type 0) (s : Numbers) (d : ℕ)
@@ -140,6 +148,7 @@ module _ (g : Opened → Opened) where
       descriptions = descriptions-opened g same s d;
       reserves = λ n. get-chosen reserve_in after.places n ∙ left-altered (λ o. option_and_then reserve_in o) (with_opened g) reserve_opened s d n ∙ sym (get-chosen reserve_in s.places n);
       files = λ n file is. file_of_object (object_at s n) file (sym (left-altered (λ o. shown_file (held o)) (with_opened g) file_opened s d n) ∙ ap shown_file is);
+      pipes = pipe_stood (with_opened g) (pipe_by_opened g) s d;
       opened = was_held;
     }
 

@@ -7,9 +7,9 @@ use Rattle.model.specs.State.{A_directory, Inode, kind, mapped}
 use Rattle.model.specs.Effects.{Effect, all_done}
 use Rattle.freeing_laws.specs.Sweep.{AllFit}
 use Rattle.shadow.specs.declared.change.Contents.{Contents}
-use Rattle.shadow.specs.declared.change.Contents.TheVariants.{Same, Names, Bytes}
+use Rattle.shadow.specs.declared.change.Contents.TheVariants.{Same, Names, Bytes, Pipe}
 use Rattle.shadow.specs.declared.change.Made.{Made}
-use Rattle.shadow.specs.declared.change.Made.TheVariants.{Directory, File}
+use Rattle.shadow.specs.declared.change.Made.TheVariants.{Directory, File, Pipe as New_pipe}
 use Rattle.shadow.specs.Agrees.{Agrees, IsOver}
 use Rattle.shadow.specs.Claims.{Covers, IsDirectory, New_directory, as_count, coming_directory, is_directory_made, room_of}
 use Rattle.shadow.specs.Committed.{Committed, Reserve}
@@ -35,9 +35,15 @@ module _ (reserves : FinMap nat_cmp Reserve) (d : ℕ) (o : Option Inode) where
   by_made (Some File) Same over new old is = absurd cc
   by_made (Some File) (Names fresh notes) over new old is = absurd cc
   by_made (Some File) (Bytes fresh bytes) over new old is = absurd cc
+  by_made (Some File) (Pipe ends changes) over new old is = absurd cc
+  by_made (Some New_pipe) Same over new old is = absurd cc
+  by_made (Some New_pipe) (Names fresh notes) over new old is = absurd cc
+  by_made (Some New_pipe) (Bytes fresh bytes) over new old is = absurd cc
+  by_made (Some New_pipe) (Pipe ends changes) over new old is = absurd cc
   by_made None Same over new old is = old is
   by_made None (Names fresh notes) over new old is = old over.1
   by_made None (Bytes fresh bytes) over new old is = absurd cc
+  by_made None (Pipe ends changes) over new old is = absurd cc
 
 pub kept_over : (ds : List Effect) (p : Patches) (s : Committed) → Agrees ds p → AllFit ds s.state → Covers s ds → DirectoriesAreKept s → DirectoriesAreKept (record s { state = all_done ds s.state })
 kept_over ds p s a fits covers kept d is =
@@ -47,4 +53,4 @@ kept_over ds p s a fits covers kept d is =
     let most = covers (New_directory d) in
     let claims = a.claims (New_directory d) in
     omega (arith, most, claims, one))
-    (kept d) (sym (ap (mapped kind) (a.inodes s.state d)) ∙ is)
+    (kept d) (sym (ap (mapped kind) (a.inodes s.state d fits)) ∙ is)

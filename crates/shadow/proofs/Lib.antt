@@ -1,5 +1,6 @@
 mod Outcomes
 mod NamesNoted
+mod PairsKept
 mod Holding
 mod InodesKept
 mod Slots_over
@@ -8,6 +9,10 @@ mod Tabling
 mod Openings_at
 mod Seeing
 mod Noted
+mod NotedSlots
+mod Emptied
+mod Forking
+mod Ending
 mod Moved
 mod Pairs
 mod Applied
@@ -30,6 +35,9 @@ mod InOrder
 mod Once
 mod Carrying
 mod Overwriting
+mod Piping
+mod PipesShort
+mod Passing
 mod Relisting
 mod Renaming
 mod Reopening
@@ -43,6 +51,7 @@ mod Freed
 mod Unnaming
 mod SlotInState
 mod OpeningMade
+mod PipeMade
 mod OffsetInState
 mod BlocksNoted
 mod FiledOn
@@ -50,13 +59,16 @@ mod Alike
 mod SameEdit
 mod ClaimsOfCall
 mod GivingOpened
+mod Turnover
+mod Holders
+mod PipeOpen
+mod Pairing
 mod KeptDirectories
 pub mod Cleared
 pub mod Committing
 pub mod Composed
 pub mod Ready
 mod Becoming
-mod Promised
 pub mod Laws
 pub mod Finished
 pub mod Carried

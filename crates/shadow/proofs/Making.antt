@@ -4,14 +4,15 @@ use Rattle.std.specs.Option.{option_and_then}
 use Rattle.std.specs.Cmp.Lexicographic.{nat_list_cmp_total}
 use Rattle.std.proofs.lemmas.Bool.{cases_eq}
 use Rattle.model.specs.FiniteMap.{empty, get, get-empty, insert, same_map}
-use Rattle.model.specs.State.{A_directory, Kernel, Inode, File, Directory, Name, Process, kind, kind_of, mapped, names_of, names_of_inode}
+use Rattle.model.specs.State.{A_directory, Kernel, Inode, File, Directory, Name, kind, kind_of, mapped, names_of, names_of_inode}
 use Rattle.model.specs.Changes.{Edit, Make_directory, Make_file, applied, holders, openings, set_inode, set_name, tidy}
 use Rattle.model.proofs.Laws.{get_same, get_other, name_exact}
 use Rattle.call_laws.specs.WellFormed.{CanBeOpened}
 use Rattle.call_laws.specs.Fits.{Fits, IsFree}
 use Rattle.model.specs.Steps.{IsNowhere}
-use Rattle.call_laws.proofs.Laws.{kept_kind, some_same}
+use Rattle.call_laws.proofs.Laws.{kept_kind, not_none, some_same}
 use Rattle.freeing_laws.proofs.Openings.{openings_change_lem}
+use Rattle.freeing_laws.specs.Pipes.{ArePair}
 use Rattle.freeing_laws.specs.Sweep.{loses}
 use Rattle.dirlist.specs.Listing.{Listing}
 use Rattle.objects.specs.Contents.{Content}
@@ -22,13 +23,14 @@ use Rattle.store.specs.declared.Place.{Place}
 use Rattle.store.specs.declared.Stage.{Stage}
 use Rattle.store.specs.declared.Stage.TheVariants.{Coming, Held, Lost}
 use Rattle.store.specs.declared.Object.{Object}
-use Rattle.store.specs.declared.Object.TheVariants.{Directory as Kept_directory, File as Kept_file, Description as Kept_description, Nothing}
+use Rattle.store.specs.declared.Object.TheVariants.{Directory as Kept_directory, File as Kept_file, Pipe as Kept_pipe, Description as Kept_description, Nothing}
 use Rattle.store.proofs.Laws.{altered-some, descriptions-set, get-inodes, inodes-set, remove-absent, with_place}
 use Rattle.shadow.specs.Claims.{Claim, New_directory, Number, Room, as_count, claimed_by_one, number_as, number_of, reserved, room_in}
 use Rattle.shadow.specs.Committed.{Committed}
 use Rattle.shadow.specs.Laid.{kept_in}
-use Rattle.shadow.specs.Stored.{AreCounted, IsStaged, Sound, committed_of, state_of, stored}
+use Rattle.shadow.specs.Stored.{AreCounted, IsStaged, Processes, Sound, committed_of, state_of, stored}
 use Rattle.shadow.proofs.Kept_on.{kept_by, kept_is}
+use Rattle.shadow.proofs.PairsKept.{ends_seen, same_pairs}
 use Rattle.shadow.proofs.Edited.{Counts, counted_by, counts_of, counts_of_state, holders_seen, kept_of, openings_seen, sound_after, tidy_after}
 
 -- one place that changes
@@ -45,8 +47,9 @@ module _ (s : Numbers) (n : ℕ) (p : Place) where
     | inr away ↦ subst IsStaged (sym (there m away)) (staged m)
   ]
 
-  pub place_counts : (k : Kernel) → Counts k s → ((c : ℕ) → openings_seen (held (Some p)) ≡ Some c → c ≡ openings k n) → ((c : ℕ) → holders_seen (held (Some p)) ≡ Some c → c ≡ holders k n) → Counts k (with_place s n p)
-  place_counts k h files held_by = record {
+  pub place_counts : (k : Kernel) → Counts k s → ((c : ℕ) → openings_seen (held (Some p)) ≡ Some c → c ≡ openings k n) → ((c : ℕ) → holders_seen (held (Some p)) ≡ Some c → c ≡ holders k n)
+      → ((ends : ℕ × ℕ) → ends_seen (held (Some p)) ≡ Some ends → ArePair k.descriptions n ends.0 ends.1) → Counts k (with_place s n p)
+  place_counts k h files held_by pairs = record {
     openings = λ m c is. elim (cases_eq m n) [
       | inl same ↦ files c (sym (ap (λ o. openings_seen (held o)) (ap (get (with_place s n p).places) same ∙ here)) ∙ is) ∙ ap (openings k) (sym same)
       | inr away ↦ h.openings m c (sym (ap (λ o. openings_seen (held o)) (there m away)) ∙ is)
@@ -54,6 +57,10 @@ module _ (s : Numbers) (n : ℕ) (p : Place) where
     holders = λ m c is. elim (cases_eq m n) [
       | inl same ↦ held_by c (sym (ap (λ o. holders_seen (held o)) (ap (get (with_place s n p).places) same ∙ here)) ∙ is) ∙ ap (holders k) (sym same)
       | inr away ↦ h.holders m c (sym (ap (λ o. holders_seen (held o)) (there m away)) ∙ is)
+    ];
+    pipes = λ m ends is. elim (cases_eq m n) [
+      | inl same ↦ subst (λ (m : ℕ). ArePair k.descriptions m ends.0 ends.1) (sym same) (pairs ends (sym (ap (λ o. ends_seen (held o)) (ap (get (with_place s n p).places) same ∙ here)) ∙ is))
+      | inr away ↦ h.pipes m ends (sym (ap (λ o. ends_seen (held o)) (there m away)) ∙ is)
     ];
   }
 
@@ -110,6 +117,7 @@ directory_to_come (Some place) n h = by_stage place.stage place.object h
     by_stage : (t : Stage) (object : Object) → 0 < kept_by (New_directory n) (Some (record { stage = t; object = object })) → (l : Listing) × (Some (record { stage = t; object = object }) ≡ Some (coming (Kept_directory l)))
     by_stage Coming (Kept_directory l) h = (l, refl)
     by_stage Coming (Kept_file file) h = absurd (omega arith)
+    by_stage Coming (Kept_pipe pipe) h = absurd (omega arith)
     by_stage Coming (Kept_description opened) h = absurd (omega arith)
     by_stage Coming Nothing h = absurd (omega arith)
     by_stage Held object h = absurd (omega arith)
@@ -122,6 +130,7 @@ other_to_come (Some place) n fits h = by_stage place.stage place.object fits h
     by_stage : (t : Stage) (object : Object) → IsStaged (Some (record { stage = t; object = object })) → 0 < kept_by (Number n) (Some (record { stage = t; object = object })) → Some (record { stage = t; object = object }) ≡ Some (coming Nothing)
     by_stage Coming (Kept_directory l) fits h = absurd (omega arith)
     by_stage Coming (Kept_file file) fits h = absurd fits
+    by_stage Coming (Kept_pipe pipe) fits h = absurd fits
     by_stage Coming (Kept_description opened) fits h = absurd fits
     by_stage Coming Nothing fits h = refl
     by_stage Held object fits h = absurd (omega arith)
@@ -134,6 +143,7 @@ held_directory s d is = by_place (get s.places d) (sym (ap (mapped kind) (get-in
     by_stage : (t : Stage) (object : Object) → mapped kind (option_and_then inode_of (if_held t object)) ≡ Some A_directory → (l : Listing) × (Some (record { stage = t; object = object }) ≡ Some (present (Kept_directory l)))
     by_stage Held (Kept_directory l) is = (l, refl)
     by_stage Held (Kept_file file) is = absurd cc
+    by_stage Held (Kept_pipe pipe) is = absurd cc
     by_stage Held (Kept_description opened) is = absurd cc
     by_stage Held Nothing is = absurd cc
     by_stage Coming object is = absurd cc
@@ -144,7 +154,7 @@ held_directory s d is = by_place (get s.places d) (sym (ap (mapped kind) (get-in
     by_place (Some place) is = by_stage place.stage place.object is
 
 -- nothing is open on what is not there
-pub unopened : (ps : List Process) (s : Numbers) → Sound ps s → (n : ℕ) → get (inodes s) n ≡ None → openings (state_of ps s) n ≡ 0
+pub unopened : (ps : Processes) (s : Numbers) → Sound ps s → (n : ℕ) → get (inodes s) n ≡ None → openings (state_of ps s) n ≡ 0
 unopened ps s sound n none = openings_change_lem.unopened (state_of ps s) n (λ d it is same. subst CanBeOpened (ap (kind_of (state_of ps s)) same ∙ ap (mapped kind) none) (sound.well.descriptions d it is))
 
 -- the store with a name more
@@ -152,7 +162,7 @@ abbrev pub named_in : Numbers → ℕ → Name → ℕ → Numbers
 named_in s d x n = altered (with_listing (with_name x n)) s d
 
 -- what follows where a new inode has its name
-pub record Makes (ps : List Process) (s first : Numbers) (d : ℕ) (x : Name) (n : ℕ) (e : Edit) : Type 0 where
+pub record Makes (ps : Processes) (s first : Numbers) (d : ℕ) (x : Name) (n : ℕ) (e : Edit) : Type 0 where
   pub room : (l : Listing) → listing_at first d ≡ Some l → 0 < l.promised
   pub dir : is_coming (get first.places d) ≡ false
   pub num : may_be_named (get first.places n) ≡ true
@@ -160,10 +170,10 @@ pub record Makes (ps : List Process) (s first : Numbers) (d : ℕ) (x : Name) (n
   pub state : state_of ps (named_in first d x n) ≡ tidy (applied (n ∷ []) e (state_of ps s))
   pub kept : (c : Claim) → kept_in (named_in first d x n) c + claimed_by_one c (n ∷ []) e ≡ kept_in s c
 
-module _ (ps : List Process) (s : Numbers) (d : ℕ) (x : Name) (n : ℕ) (was object : Object) (new : Inode) (b : Bool) (e : Edit)
+module _ (ps : Processes) (s : Numbers) (d : ℕ) (x : Name) (n : ℕ) (was object : Object) (new : Inode) (b : Bool) (e : Edit)
     (sound : Sound ps s) (free : IsFree (state_of ps s) d x) (nowhere : IsNowhere (state_of ps s) n) (fits : Fits (n ∷ []) (state_of ps s) e) (none_lost : loses e ≡ false)
     (before : get s.places n ≡ Some (coming was)) (shows : inode_of object ≡ Some new) (hides : description_of object ≡ None) (settled : IsStaged (Some (present object)))
-    (unopen : (c : ℕ) → openings_seen (Some object) ≡ Some c → c ≡ 0) (unheld : holders_seen (Some object) ≡ None)
+    (unopen : (c : ℕ) → openings_seen (Some object) ≡ Some c → c ≡ 0) (unheld : holders_seen (Some object) ≡ None) (no_pipe : ends_seen (Some object) ≡ None)
     (numbered : (c : Claim) → number_of c ≡ n → kept_by c (Some (present object)) + number_as b n c ≡ kept_by c (Some (coming was)))
     (claims : (c : Claim) → claimed_by_one c (n ∷ []) e ≡ number_as b n c + room_in d c) (some_room : 0 < kept_in s (Room d))
     (makes : applied (n ∷ []) e (state_of ps s) ≡ set_name d x n (set_inode n new (state_of ps s))) where
@@ -220,20 +230,20 @@ module _ (ps : List Process) (s : Numbers) (d : ℕ) (x : Name) (n : ℕ) (was o
   made_tidy = made_state ∙ sym (tidy_after ps s (n ∷ []) e sound fits none_lost)
 
   counts_first : Counts k first
-  counts_first = place_counts s n (present object) k (counts_of ps s sound.counted) (λ c is. unopen c is ∙ sym (unopened ps s sound n nowhere.inode)) (λ c is. absurd (nothing c (sym unheld ∙ is)))
+  counts_first = place_counts s n (present object) k (counts_of ps s sound.counted) (λ c is. unopen c is ∙ sym (unopened ps s sound n nowhere.inode)) (λ c is. absurd (nothing c (sym unheld ∙ is))) (λ ends is. absurd (not_none ends (sym is ∙ no_pipe)))
     where
       nothing : (c : ℕ) → None ≡ Some c → ⊥
       nothing c e = cc
 
   counts_made : Counts k made
-  counts_made = place_counts first d after k counts_first (λ c is. absurd (nothing c is)) (λ c is. absurd (nothing c is))
+  counts_made = place_counts first d after k counts_first (λ c is. absurd (nothing c is)) (λ c is. absurd (nothing c is)) (λ ends is. absurd (not_none ends (sym is)))
     where
       nothing : (c : ℕ) → None ≡ Some c → ⊥
       nothing c e = cc
 
   made_counted : AreCounted ps made
   made_counted = counted_by ps made (subst (λ (t : Kernel). Counts t made) (sym (made_state ∙ makes))
-      (counts_of_state k (set_name d x n (set_inode n new k)) made (openings_change_lem.by_descriptions k (set_name d x n (set_inode n new k)) refl) (openings_change_lem.by_processes k (set_name d x n (set_inode n new k)) refl) counts_made))
+      (counts_of_state k (set_name d x n (set_inode n new k)) made (openings_change_lem.by_descriptions k (set_name d x n (set_inode n new k)) refl) (openings_change_lem.by_processes k (set_name d x n (set_inode n new k)) refl) (same_pairs k (set_name d x n (set_inode n new k)) refl) counts_made))
 
   made_kept : (c : Claim) → kept_in made c + claimed_by_one c (n ∷ []) e ≡ kept_in s c
   made_kept c =
@@ -260,10 +270,10 @@ module _ (ps : List Process) (s : Numbers) (d : ℕ) (x : Name) (n : ℕ) (was o
   }
 
 -- what is claimed is there
-pub covered : (ps : List Process) (s : Numbers) (v : Committed) → committed_of ps s ≡ v → (c : Claim) (some : ℕ) → some ≤ reserved v c → 0 < some → 0 < kept_in s c
+pub covered : (ps : Processes) (s : Numbers) (v : Committed) → committed_of ps s ≡ v → (c : Claim) (some : ℕ) → some ≤ reserved v c → 0 < some → 0 < kept_in s c
 covered ps s v is c some covers one = (let same : kept_in s c ≡ reserved v c = kept_of ps ps s v is c in omega (arith, covers, one))
 
-module _ (ps : List Process) (s : Numbers) (v : Committed) (is : committed_of ps s ≡ v) (d : ℕ) (x : Name) (n : ℕ) (sound : Sound ps s) where
+module _ (ps : Processes) (s : Numbers) (v : Committed) (is : committed_of ps s ≡ v) (d : ℕ) (x : Name) (n : ℕ) (sound : Sound ps s) where
   directory_makes : applied (n ∷ []) (Make_directory d x 0) (state_of ps s) ≡ set_name d x n (set_inode n (Directory empty) (state_of ps s))
   unfolding applied
   directory_makes = refl
@@ -275,7 +285,7 @@ module _ (ps : List Process) (s : Numbers) (v : Committed) (is : committed_of ps
   pub makes_directory : Fits (n ∷ []) v.state (Make_directory d x 0) → ((c : Claim) → claimed_by_one c (n ∷ []) (Make_directory d x 0) ≤ reserved v c) → Makes ps s (altered installed s n) d x n (Make_directory d x 0)
   makes_directory fit covers = subst (λ t. Makes ps s t d x n (Make_directory d x 0)) (sym (altered-some installed s n (coming (Kept_directory there.0)) there.1))
       (making_it ps s d x n (Kept_directory there.0) (Kept_directory there.0) (Directory empty) true (Make_directory d x 0) sound fits.0 fits.1 fits refl there.1
-      (ap (λ ns. Some (Directory ns)) bare) refl (λ e. cc) (λ c e. cc) refl numbers (directory_claims d n x) some_room directory_makes)
+      (ap (λ ns. Some (Directory ns)) bare) refl (λ e. cc) (λ c e. cc) refl refl numbers (directory_claims d n x) some_room directory_makes)
     where
       fits : Fits (n ∷ []) (state_of ps s) (Make_directory d x 0)
       fits = subst (λ (v : Committed). Fits (n ∷ []) v.state (Make_directory d x 0)) (sym is) fit
@@ -309,7 +319,7 @@ module _ (ps : List Process) (s : Numbers) (v : Committed) (is : committed_of ps
       → Makes ps s (with_place s n (present (Kept_file (record { bytes = bytes; openings = 0 })))) d x n (Make_file d x 0)
   makes_file bytes bare fit covers =
       making_it ps s d x n Nothing (Kept_file (record { bytes = bytes; openings = 0 })) (File []) false (Make_file d x 0) sound fits.0 fits.1 fits refl (file_to_come covers)
-      (ap (λ bs. Some (File bs)) bare) refl (λ e. cc) (λ c e. some_same c 0 (sym e)) refl numbers (file_claims d n x) some_room file_makes
+      (ap (λ bs. Some (File bs)) bare) refl (λ e. cc) (λ c e. some_same c 0 (sym e)) refl refl numbers (file_claims d n x) some_room file_makes
     where
       fits : Fits (n ∷ []) (state_of ps s) (Make_file d x 0)
       fits = subst (λ (v : Committed). Fits (n ∷ []) v.state (Make_file d x 0)) (sym is) fit

@@ -1,10 +1,9 @@
 -- How often a store meets a claim, and how its changes change that.
-use Rattle.std.proofs.Common.{◌≡◌, ◌≢◌, ℕ, ◌+◌, ◌<◌, ◌≤◌, Bool, true, false, ◌&&◌, cond, not, List, Option, Some, None, is_some, refl, sym, ap, ◌∙◌, arith, eq-eqb, ne_eqb, ltb-false, inl, inr}
+use Rattle.std.proofs.Common.{◌≡◌, ◌≢◌, ℕ, ◌+◌, ◌<◌, ◌≤◌, Bool, true, false, ◌&&◌, cond, not, Option, Some, None, is_some, refl, sym, ap, ◌∙◌, arith, eq-eqb, ne_eqb, ltb-false, inl, inr}
 use Rattle.std.specs.Option.{option_map, option_and_then}
 use Rattle.std.proofs.lemmas.Bool.{cases_eq}
 use Rattle.std.specs.Ordering.{nat_cmp}
 use Rattle.model.specs.FiniteMap.{empty, get, get-empty, insert, remove}
-use Rattle.model.specs.State.{Process}
 use Rattle.model.proofs.Laws.{get_same, get_other, removed_same, removed_other}
 use Rattle.dirlist.specs.Listing.{Listing}
 use Rattle.store.specs.Numbers.{IsFirstRoot, Numbers, coming, no_names, present}
@@ -13,9 +12,9 @@ use Rattle.store.specs.declared.Place.{Place}
 use Rattle.store.specs.declared.Stage.{Stage}
 use Rattle.store.specs.declared.Stage.TheVariants.{Coming, Held, Lost}
 use Rattle.store.specs.declared.Object.{Object}
-use Rattle.store.specs.declared.Object.TheVariants.{Directory as Kept_directory, File as Kept_file, Description as Kept_description, Nothing}
+use Rattle.store.specs.declared.Object.TheVariants.{Directory as Kept_directory, File as Kept_file, Pipe as Kept_pipe, Description as Kept_description, Nothing}
 use Rattle.shadow.specs.Claims.{Claim, Room, New_directory, Number, number_of, reserved, IsDirectory, room_in, number_as, new_number, or_zero, room_of, coming_directory, coming_other, as_count}
-use Rattle.shadow.specs.Stored.{IsBare, reserve_in, committed_of}
+use Rattle.shadow.specs.Stored.{IsBare, Processes, committed_of, reserve_in}
 use Rattle.shadow.proofs.Places.{get_chosen, place_altered, place_other, without_place}
 
 -- how often a claim on a number is met by what the number is used for
@@ -27,7 +26,7 @@ at_place (Number n) o = coming_other (option_and_then reserve_in o)
 abbrev pub met : Numbers → Claim → ℕ
 met s c = at_place c (get s.places (number_of c))
 
-pub met_is : (ps : List Process) (s : Numbers) (c : Claim) → reserved (committed_of ps s) c ≡ met s c
+pub met_is : (ps : Processes) (s : Numbers) (c : Claim) → reserved (committed_of ps s) c ≡ met s c
 met_is ps s (Room d) = ap (λ o. or_zero (room_of o)) (get_chosen reserve_in s.places d)
 met_is ps s (New_directory n) = ap coming_directory (get_chosen reserve_in s.places n)
 met_is ps s (Number n) = ap coming_other (get_chosen reserve_in s.places n)
@@ -94,6 +93,7 @@ gives_one s d there c = altered_more (with_listing more_room) s d c (room_in d c
     by_object t (Kept_directory l) there (New_directory m) same = omega arith
     by_object t (Kept_directory l) there (Number m) same = omega arith
     by_object t (Kept_file file) there c same = absurd (there refl)
+    by_object t (Kept_pipe pipe) there c same = absurd (there refl)
     by_object t (Kept_description opened) there c same = absurd (there refl)
     by_object t Nothing there c same = absurd (there refl)
 
@@ -114,6 +114,7 @@ takes_one f low s d some c = altered_less (with_listing f) s d c (room_in d c) (
     by_object t (Kept_directory l) some (New_directory m) same = omega arith
     by_object t (Kept_directory l) some (Number m) same = omega arith
     by_object t (Kept_file file) some c same = absurd (omega arith)
+    by_object t (Kept_pipe pipe) some c same = absurd (omega arith)
     by_object t (Kept_description opened) some c same = absurd (omega arith)
     by_object t Nothing some c same = absurd (omega arith)
 
@@ -134,11 +135,15 @@ hides_coming b s n some c = altered_less hidden s n c (number_as b n c) (no_numb
     by_object (Kept_directory l) true some (Number m) same = let one : number_as true n (Number m) ≡ 0 = other_here true n m same in omega arith
     by_object (Kept_directory l) false some c same = absurd (omega arith)
     by_object (Kept_file file) true some c same = absurd (omega arith)
+    by_object (Kept_pipe pipe) true some c same = absurd (omega arith)
     by_object (Kept_description opened) true some c same = absurd (omega arith)
     by_object Nothing true some c same = absurd (omega arith)
     by_object (Kept_file file) false some (Room r) same = omega arith
+    by_object (Kept_pipe pipe) false some (Room r) same = omega arith
     by_object (Kept_file file) false some (New_directory m) same = let one : number_as false n (New_directory m) ≡ 0 = directory_here false n m same in omega arith
+    by_object (Kept_pipe pipe) false some (New_directory m) same = let one : number_as false n (New_directory m) ≡ 0 = directory_here false n m same in omega arith
     by_object (Kept_file file) false some (Number m) same = let one : number_as false n (Number m) ≡ 1 = other_here false n m same in omega arith
+    by_object (Kept_pipe pipe) false some (Number m) same = let one : number_as false n (Number m) ≡ 1 = other_here false n m same in omega arith
     by_object (Kept_description opened) false some (Room r) same = omega arith
     by_object (Kept_description opened) false some (New_directory m) same = let one : number_as false n (New_directory m) ≡ 0 = directory_here false n m same in omega arith
     by_object (Kept_description opened) false some (Number m) same = let one : number_as false n (Number m) ≡ 1 = other_here false n m same in omega arith
@@ -163,6 +168,7 @@ hides_coming b s n some c = altered_less hidden s n c (number_as b n c) (no_numb
 no_room : (object : Object) → has_room (listing_of object) ≡ false → at_place (Room 0) (Some (record { stage = Lost; object = object })) ≡ 0
 no_room (Kept_directory l) e = let low : l.promised ≤ 0 = ltb-false 0 l.promised e in omega arith
 no_room (Kept_file file) e = refl
+no_room (Kept_pipe pipe) e = refl
 no_room (Kept_description opened) e = refl
 no_room Nothing e = refl
 
@@ -220,6 +226,7 @@ reserves s n object none bare c = elim (cases_eq (number_of c) n) [
     by_claim Nothing bare (New_directory m) same = let one : number_as false n (New_directory m) ≡ 0 = directory_here false n m same in omega arith
     by_claim Nothing bare (Number m) same = let one : number_as false n (Number m) ≡ 1 = other_here false n m same in omega arith
     by_claim (Kept_file file) bare c same = absurd bare
+    by_claim (Kept_pipe pipe) bare c same = absurd bare
     by_claim (Kept_description opened) bare c same = absurd bare
 
 -- the first store keeps nothing
@@ -236,10 +243,10 @@ first_met s first c = elim (cases_eq (number_of c) s.root) [
     by_claim (Number m) = refl
 
 -- a number of a directory, by its place
-pub listed_of : (ps : List Process) (s : Numbers) (n : ℕ) → IsDirectory (committed_of ps s).reserves n → IsListed (get s.places n)
+pub listed_of : (ps : Processes) (s : Numbers) (n : ℕ) → IsDirectory (committed_of ps s).reserves n → IsListed (get s.places n)
 listed_of ps s n there none = there (ap room_of (get_chosen reserve_in s.places n) ∙ none)
 
-pub of_listed : (ps : List Process) (s : Numbers) (n : ℕ) → IsListed (get s.places n) → IsDirectory (committed_of ps s).reserves n
+pub of_listed : (ps : Processes) (s : Numbers) (n : ℕ) → IsListed (get s.places n) → IsDirectory (committed_of ps s).reserves n
 of_listed ps s n there none = there (sym (ap room_of (get_chosen reserve_in s.places n)) ∙ none)
 
 pub stays_listed : (s : Numbers) (q n : ℕ) (object : Object) → get s.places n ≡ None → IsListed (get s.places q) → IsListed (get (with_place s n (coming object)).places q)

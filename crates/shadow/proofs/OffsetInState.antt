@@ -1,7 +1,6 @@
 -- The offset of a description changes in the committed state.
 use Rattle.std.proofs.Common.{◌≡◌, ℕ, ◌+◌, List, refl, sym, ap, subst, ◌∙◌, arith}
 use Rattle.model.specs.FiniteMap.{get}
-use Rattle.model.specs.State.{Process}
 use Rattle.model.specs.Changes.{Set_offset, applied, set_offset, tidy}
 use Rattle.call_laws.specs.Fits.{Fits}
 use Rattle.store.specs.Numbers.{Numbers}
@@ -10,7 +9,7 @@ use Rattle.store.specs.Shown.{descriptions}
 use Rattle.shadow.specs.Claims.{Claim, New_directory, Number, Room, claimed_by_one, number_of}
 use Rattle.shadow.specs.Committed.{Committed}
 use Rattle.shadow.specs.Laid.{Frees, kept_in}
-use Rattle.shadow.specs.Stored.{Sound, committed_of, state_of}
+use Rattle.shadow.specs.Stored.{Processes, Sound, committed_of, state_of}
 use Rattle.shadow.proofs.Edited.{state_is, tidy_after}
 use Rattle.shadow.proofs.Freed.{IsMade, freed_sound, freed_state, made_holds}
 use Rattle.shadow.proofs.Kept_on.{opened_staged}
@@ -23,7 +22,7 @@ claims_none (Room r) chosen d place = refl
 claims_none (New_directory m) chosen d place = refl
 claims_none (Number m) chosen d place = refl
 
-module _ (ps : List Process) (s : Numbers) (v : Committed) (is : committed_of ps s ≡ v)
+module _ (ps : Processes) (s : Numbers) (v : Committed) (is : committed_of ps s ≡ v)
     (chosen : List ℕ) (d place : ℕ) (sound : Sound ps s)
     (fits : Fits chosen v.state (Set_offset d place)) (t : Numbers)
     (moved : t ≡ altered (with_opened (moved_to place)) s d) where

@@ -1,33 +1,38 @@
 -- A new description of a number that was reserved, with its slot.
-use Rattle.std.proofs.Common.{◌≡◌, ◌≢◌, ℕ, ◌+◌, ◌<◌, ◌≤◌, ◌==◌, true, false, cond, List, [], ◌∷◌}
-use Rattle.std.proofs.Common.{length, Some, None, refl, sym, ap, subst, ◌∙◌, arith, inl, inr}
+use Rattle.std.proofs.Common.{◌≡◌, ◌≢◌, ℕ, ◌+◌, ◌≤◌, ◌==◌, true, false, cond, [], ◌∷◌}
+use Rattle.std.proofs.Common.{Some, None, refl, sym, ap, subst, ◌∙◌, arith, inl, inr}
 use Rattle.std.proofs.Common.{eq-eqb, ne_eqb}
 use Rattle.std.specs.Cmp.{nat_cmp_total}
 use Rattle.std.specs.Option.{option_and_then}
 use Rattle.std.proofs.lemmas.Bool.{cases_eq}
 use Rattle.ids.specs.declared.edit.Mode.{Mode}
 use Rattle.model.specs.FiniteMap.{get, insert, nat_cmp-IsAntisymmetric, same_map}
-use Rattle.model.specs.State.{Kernel, Process}
+use Rattle.model.specs.State.{A_file, A_pipe, Description, Kernel, kind, kind_of, mapped}
 use Rattle.model.specs.Changes.{Edit, Open_inode, There, applied, at_start, holders, open_at}
 use Rattle.model.specs.Changes.{process_of, set_description, set_process, tidy, with_slot}
 use Rattle.model.proofs.Laws.{get_other, get_same}
 use Rattle.call_laws.specs.Fits.{Fits}
 use Rattle.freeing_laws.proofs.Openings.{openings_change_lem}
-use Rattle.store.specs.Numbers.{Numbers, coming}
+use Rattle.store.specs.Numbers.{Numbers, coming, object_at}
 use Rattle.store.specs.Shown.{descriptions, inodes}
-use Rattle.store.specs.declared.Object.TheVariants.{Nothing}
+use Rattle.store.specs.declared.OpenPipe.{OpenPipe}
+use Rattle.store.specs.declared.Object.TheVariants.{Pipe as Kept_pipe, Nothing}
+use Rattle.store.proofs.Laws.{get-inodes}
+use Rattle.shadow.specs.declared.opening.Opening.{Opening}
 use Rattle.shadow.specs.declared.opening.Opening.TheVariants.{New}
 use Rattle.shadow.specs.Claims.{Claim, New_directory, Number, Room, claimed_by_one, number_of}
 use Rattle.shadow.specs.Claims.{reserved}
 use Rattle.shadow.specs.Committed.{Committed}
 use Rattle.shadow.specs.Laid.{Frees, IsReopened, IsSlotted, kept_in, reserves_of, settled}
-use Rattle.shadow.specs.Stored.{Sound, committed_of, reserve_in, state_of, stored}
+use Rattle.shadow.specs.Stored.{Processes, Sound, committed_of, numbered, reserve_in, state_of}
+use Rattle.shadow.specs.Stored.{stored}
 use Rattle.shadow.proofs.Edited.{kept_of, state_is, tidy_after}
 use Rattle.shadow.proofs.Freed.{IsMade, freed_sound, freed_state, made_holds}
 use Rattle.shadow.proofs.Kept_on.{kept_by, kept_is}
 use Rattle.shadow.proofs.Making.{other_to_come}
+use Rattle.shadow.proofs.PairsKept.{ends_in, ends_kind, ends_seen}
 use Rattle.shadow.proofs.Reopening.{reserve_at}
-use Rattle.shadow.proofs.SlotInState.{alive_process, frees_nothing, kept_met, met_by, slotted_keeps}
+use Rattle.shadow.proofs.SlotInState.{frees_nothing, kept_met, met_by, slotted_keeps}
 use Rattle.shadow.proofs.SlotInState.{slotted_state, sound_low}
 
 -- what a new description claims: its number
@@ -40,7 +45,7 @@ claims_number n m inode mode pid f =
     (let one : claimed_by_one (Number m) (n ∷ []) (opening_edit inode mode pid f)
     ≡ 0 + cond (n == m) 1 0 = refl in omega arith)
 
-module _ (ps : List Process) (s : Numbers) (v : Committed) (is : committed_of ps s ≡ v)
+module _ (ps : Processes) (s : Numbers) (v : Committed) (is : committed_of ps s ≡ v)
     (n inode : ℕ) (mode : Mode) (pid f : ℕ) (sound : Sound ps s)
     (fits : Fits (n ∷ []) v.state (Open_inode 0 (There inode) mode pid f))
     (covers : (c : Claim) → claimed_by_one c (n ∷ []) (Open_inode 0 (There inode) mode pid f)
@@ -65,13 +70,13 @@ module _ (ps : List Process) (s : Numbers) (v : Committed) (is : committed_of ps
       let by : kept_in s (Number n) ≡ kept_by (Number n) (get s.places n) = kept_is s (Number n)
       in omega arith)
 
-  pub opening_process : (0 < pid) × (pid ≤ length ps)
-  opening_process = alive_process ps pid stored_fits.slot.alive
+  pub opening_process : get (numbered ps) pid ≢ None
+  opening_process = stored_fits.slot.alive
 
   unheld : holders (state_of ps s) n ≡ 0
   unheld = openings_change_lem.unheld (state_of ps s) n stored_fits.unused.unheld
 
-  module _ (qs : List Process) (t u : Numbers)
+  module _ (qs : Processes) (t u : Numbers)
       (opened : IsReopened n (New (at_start inode mode)) s t)
       (laid : IsSlotted pid f (Some n) ps qs t u) where
     descriptions_are : descriptions t ≡ insert (descriptions s) n (at_start inode mode)
@@ -93,6 +98,23 @@ module _ (ps : List Process) (s : Numbers) (v : Committed) (is : committed_of ps
     unfolding applied
     opens = refl
 
+    -- what is opened is a file
+    no_pipe : (it : Description) → New (at_start inode mode) ≡ New it → (pipe : OpenPipe)
+        → object_at s it.inode ≡ Some (Kept_pipe pipe) → ⊥
+    no_pipe it new pipe there = absurd (
+        let same : inode ≡ it.inode = ap inode_in new in
+        let is : kind_of (state_of ps s) it.inode ≡ Some A_file =
+        ap (kind_of (state_of ps s)) (sym same) ∙ stored_fits.kind in
+        let other : kind_of (state_of ps s) it.inode ≡ Some A_pipe =
+        ap (mapped kind) (get-inodes s it.inode) ∙ ends_kind (object_at s it.inode) (ends_in pipe)
+        (ap ends_seen there) in
+        let never : Some A_file ≡ Some A_pipe = sym is ∙ other in
+        cc)
+      where
+        inode_in : Opening → ℕ
+        inode_in (New it) = it.inode
+        inode_in _ = inode
+
     pub opening_made : IsMade ps qs s u (n ∷ []) (Open_inode 0 (There inode) mode pid f)
     opening_made = record {
       root = laid.stay.same.root ∙ opened.same.root;
@@ -101,7 +123,8 @@ module _ (ps : List Process) (s : Numbers) (v : Committed) (is : committed_of ps
           ∙ sym opens;
       staged = laid.stay.same.staged (opened.same.staged sound.staged);
       counted = laid.stay.counted (sound_low ps s sound)
-          (opened.counted ps sound.counted (λ new. unheld));
+          (opened.counted ps sound.counted (λ new. unheld)
+          (λ it new pipe there. absurd (no_pipe it new pipe there)));
     }
 
     freed : Frees (λ k. k) qs u u

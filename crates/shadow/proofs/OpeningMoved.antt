@@ -1,10 +1,11 @@
 -- The offset of a description changes.
-use Rattle.std.proofs.Common.{◌≡◌, ◌≢◌, ℕ, List, Option, Some, None, refl, sym, ap, subst, ◌∙◌}
+use Rattle.std.proofs.Common.{◌≡◌, ◌≢◌, ℕ, Option, Some, None, refl, sym, ap, subst, ◌∙◌}
 use Rattle.std.specs.Option.{option_and_then}
 use Rattle.model.specs.FiniteMap.{FinMap, get}
-use Rattle.model.specs.State.{Kernel, Description, Process, mapped}
+use Rattle.model.specs.State.{Kernel, Description, mapped}
 use Rattle.model.specs.Changes.{at_offset, openings, set_offset}
 use Rattle.model.proofs.Laws.{get_other, get_same}
+use Rattle.freeing_laws.specs.Pipes.{ArePair}
 use Rattle.freeing_laws.proofs.Openings.{openings_change_lem}
 use Rattle.store.specs.Numbers.{Numbers, held}
 use Rattle.store.specs.Places.{altered, changed_opened, moved_to, with_opened}
@@ -14,15 +15,16 @@ use Rattle.store.specs.declared.Place.{Place}
 use Rattle.store.specs.declared.Stage.{Stage}
 use Rattle.store.specs.declared.Stage.TheVariants.{Coming, Held, Lost}
 use Rattle.store.specs.declared.Object.{Object}
-use Rattle.store.specs.declared.Object.TheVariants.{Directory as A_directory, File as A_file}
+use Rattle.store.specs.declared.Object.TheVariants.{Directory as A_directory, File as A_file, Pipe as A_pipe}
 use Rattle.store.specs.declared.Object.TheVariants.{Description as A_description, Nothing}
 use Rattle.store.proofs.Laws.{descriptions-moved, inodes-opened, left-altered, place-other}
-use Rattle.shadow.specs.Stored.{AreCounted, reserve_in, state_of, stored}
+use Rattle.shadow.specs.Stored.{AreCounted, Processes, reserve_in, state_of, stored}
 use Rattle.shadow.specs.declared.opening.Opening.TheVariants.{Moved}
 use Rattle.shadow.specs.Laid.{IsReopened, reserves_of}
 use Rattle.shadow.proofs.Edited.{counted_by, counts_of, counts_of_state, counts_stay, holders_seen}
 use Rattle.shadow.proofs.Edited.{openings_seen}
 use Rattle.shadow.proofs.Kept_on.{opened_staged}
+use Rattle.shadow.proofs.PairsKept.{ends_left, pair_offset, pipe_by_opened, pipe_stood}
 use Rattle.shadow.proofs.Reopening.{reserve_as}
 
 -- what a change of a description leaves of a place
@@ -35,6 +37,7 @@ module _ (f : Opened → Opened) where
           ≡ reserve_in (record { stage = place.stage; object = object })
       by_object (A_directory listing) = refl
       by_object (A_file file) = refl
+      by_object (A_pipe pipe) = refl
       by_object (A_description opened) = refl
       by_object Nothing = refl
 
@@ -49,6 +52,7 @@ module _ (f : Opened → Opened) where
       by_stage Lost object = refl
       by_stage Held (A_directory listing) = refl
       by_stage Held (A_file file) = refl
+      by_stage Held (A_pipe pipe) = refl
       by_stage Held (A_description opened) = refl
       by_stage Held Nothing = refl
 
@@ -64,6 +68,7 @@ module _ (f : Opened → Opened) where
       by_stage Lost object = refl
       by_stage Held (A_directory listing) = refl
       by_stage Held (A_file file) = refl
+      by_stage Held (A_pipe pipe) = refl
       by_stage Held (A_description opened) = ap (λ (c : ℕ). Some c) (same opened)
       by_stage Held Nothing = refl
 
@@ -85,7 +90,7 @@ module _ (place : ℕ) (m : FinMap _ Description) (d : ℕ) where
       by_old None = refl
 
 -- the state with this offset
-pub offset_state : (ps : List Process) (s : Numbers) (d place : ℕ)
+pub offset_state : (ps : Processes) (s : Numbers) (d place : ℕ)
     → state_of ps (altered (with_opened (moved_to place)) s d)
     ≡ set_offset d place (get (descriptions s) d) (state_of ps s)
 offset_state ps s d place =
@@ -99,18 +104,21 @@ offset_state ps s d place =
     by_old (Some it) = refl
     by_old None = refl
 
-pub offset_counted : (ps : List Process) (s : Numbers) (d place : ℕ) → AreCounted ps s
+pub offset_counted : (ps : Processes) (s : Numbers) (d place : ℕ) → AreCounted ps s
     → AreCounted ps (altered (with_opened (moved_to place)) s d)
 offset_counted ps s d place counted =
     counted_by ps t (counts_of_state (state_of ps s) (state_of ps t) t
     (λ n. ap (λ (k : Kernel). openings k n) (offset_state ps s d place)
     ∙ openings_change_lem.offset (state_of ps s) d place n)
     (openings_change_lem.by_processes (state_of ps s) (state_of ps t) refl)
+    (λ p r w pair. subst (λ m. ArePair m p r w) (sym (descriptions-moved place s d))
+    (pair_offset place (descriptions s) d p r w pair))
     (counts_stay (state_of ps s) s t
     (left-altered (λ o. openings_seen (held o)) (with_opened (moved_to place))
     (openings_opened (moved_to place)) s d)
     (left-altered (λ o. holders_seen (held o)) (with_opened (moved_to place))
     (holders_opened (moved_to place) (λ opened. refl)) s d)
+    (ends_left (with_opened (moved_to place)) (pipe_by_opened (moved_to place)) s d)
     (counts_of ps s counted)))
   where
     t : Numbers
@@ -138,5 +146,6 @@ opening_moved s d place t is = subst (IsReopened d (Moved place) s) (sym is) (re
   places = λ n is away. place-other (with_opened (moved_to place)) s d n away ∙ is;
   reserve = offset_reserves s d place d;
   reserves = λ n away. offset_reserves s d place n;
-  counted = λ ps counted unheld. offset_counted ps s d place counted;
+  pipes = pipe_stood (with_opened (moved_to place)) (pipe_by_opened (moved_to place)) s d;
+  counted = λ ps counted unheld ends. offset_counted ps s d place counted;
 })

@@ -5,14 +5,13 @@ use Rattle.std.specs.List.Sorted.{IsStrictlySortedBy}
 use Rattle.std.specs.Map.{keys_of}
 use Rattle.std.proofs.lemmas.Bool.{cases_eq}
 use Rattle.model.specs.FiniteMap.{get}
-use Rattle.model.specs.State.{Process}
 use Rattle.model.specs.Changes.{holders}
 use Rattle.call_laws.proofs.Laws.{true_is_false}
 use Rattle.freeing_laws.proofs.Openings.{openings_change_lem}
 use Rattle.store.specs.Numbers.{Numbers, coming}
 use Rattle.store.specs.Shown.{descriptions}
 use Rattle.store.specs.declared.Object.TheVariants.{Nothing}
-use Rattle.shadow.specs.Stored.{state_of}
+use Rattle.shadow.specs.Stored.{Processes, state_of}
 use Rattle.shadow.specs.Committed.{Reserve}
 use Rattle.shadow.specs.declared.opening.Opening.{Opening}
 use Rattle.shadow.specs.declared.opening.Opening.TheVariants.{Kept}
@@ -33,7 +32,7 @@ reopened_none s = record {
   same = record { root = refl; inodes = refl; staged = λ staged. staged };
   descriptions = λ d. refl;
   reserves = λ n. refl;
-  counted = λ ps counted unheld. counted;
+  counted = λ ps counted unheld ends. counted;
 }
 
 -- the first is changed
@@ -63,7 +62,7 @@ module _ (n : ℕ) (o : Opening) (rest : List (ℕ × Opening))
   come_later : AreToCome whole s → AreToCome rest t
   come_later coming d new = first.places d (coming d (new_whole d new)) (new_apart d new)
 
-  same_holders : (ps : List Process) (d : ℕ) → holders (state_of ps t) d ≡ holders (state_of ps s) d
+  same_holders : (ps : Processes) (d : ℕ) → holders (state_of ps t) d ≡ holders (state_of ps s) d
   same_holders ps d = openings_change_lem.by_processes (state_of ps s) (state_of ps t) refl d
 
   reopened_first : (u : Numbers) → AreReopened rest t u → AreReopened whole s u
@@ -91,9 +90,13 @@ module _ (n : ℕ) (o : Opening) (rest : List (ℕ × Opening))
       | inr away ↦ later.reserves d ∙ ap (settled_if (opening_at rest d)) (first.reserves d away)
           ∙ sym (ap (λ o. settled_if o (get (reserves_of s) d)) (at_later d away))
     ];
-    counted = λ ps counted unheld.
-        later.counted ps (first.counted ps counted (λ new. unheld n (ap is_new at_first ∙ new)))
-        (λ d new. same_holders ps d ∙ unheld d (new_whole d new));
+    counted = λ ps counted unheld ends.
+        later.counted ps
+        (first.counted ps counted (λ new. unheld n (ap is_new at_first ∙ new))
+        (λ it new. ends n it (at_first ∙ new)))
+        (λ d new. same_holders ps d ∙ unheld d (new_whole d new))
+        (λ d it new pipe is. ends d it (at_later d (new_apart d (ap is_new new)) ∙ new) pipe
+        (first.pipes it.inode pipe is));
   }
 
 -- what is left of the changes can be made, and then all are made

@@ -5,7 +5,7 @@ use Rattle.std.proofs.Common.{Option, Some, None, is_some, IfSome, refl, sym, ap
 use Rattle.std.specs.List.{AllByRecursion}
 use Rattle.std.specs.Option.{option_and_then, option_map}
 use Rattle.model.specs.FiniteMap.{entries, get}
-use Rattle.model.specs.State.{A_directory, A_file, File, Inode, Kernel, Kind, Name, Process}
+use Rattle.model.specs.State.{A_directory, A_file, A_pipe, pipe_of_inode, File, Inode, Kernel, Kind, Name, Process}
 use Rattle.model.specs.State.{file_of_inode, file_of, kind, mapped, names_of, names_of_inode}
 use Rattle.model.specs.Effects.{Effect, all_done}
 use Rattle.model.proofs.Laws.{all_entries}
@@ -14,20 +14,24 @@ use Rattle.dirlist.specs.Patches.{Notes, or_before}
 use Rattle.dirlist.proofs.Laws.{name_total}
 use Rattle.file_shadow.specs.View.{FileChanges, len_on, view_over}
 use Rattle.file_shadow.proofs.Views.{length-view_over}
+use Rattle.ids.specs.declared.limits.TheConstants.{PIPE_CAPACITY}
+use Rattle.pipe_shadow.specs.View.{PipeChanges, view_over as pipe_over}
 use Rattle.objects.specs.Contents.{Content}
 use Rattle.call_laws.specs.WellFormed.{CanBeNamed, WellFormed}
+use Rattle.call_laws.proofs.Laws.{not_none, true_is_false}
 use Rattle.freeing_laws.specs.Sweep.{AllFit}
 use Rattle.freeing_laws.proofs.Laws.{sweep_is_tidy_lem}
 use Rattle.store.specs.Numbers.{Numbers, coming, present}
 use Rattle.store.specs.Places.{may_be_named}
 use Rattle.store.specs.Shown.{inode_in, inode_of, shown_at}
 use Rattle.store.specs.declared.OpenFile.{OpenFile}
+use Rattle.store.specs.declared.OpenPipe.{OpenPipe}
 use Rattle.store.specs.declared.Place.{Place}
 use Rattle.store.specs.declared.Stage.{Stage}
 use Rattle.store.specs.declared.Stage.TheVariants.{Coming, Held, Lost}
 use Rattle.store.specs.declared.Object.{Object}
 use Rattle.store.specs.declared.Object.TheVariants.{Directory as Kept_directory}
-use Rattle.store.specs.declared.Object.TheVariants.{File as Kept_file}
+use Rattle.store.specs.declared.Object.TheVariants.{File as Kept_file, Pipe as Kept_pipe}
 use Rattle.store.specs.declared.Object.TheVariants.{Description as Kept_description, Nothing}
 use Rattle.store.proofs.Laws.{get-chosen, get-inodes_by, laid_is}
 use Rattle.shadow.specs.Agrees.{Agrees, IsOver}
@@ -36,18 +40,19 @@ use Rattle.shadow.specs.Claims.{claimed, coming_directory, coming_other, is_dire
 use Rattle.shadow.specs.Claims.{is_file_made, or_zero, reserved, room_of}
 use Rattle.shadow.specs.Committed.{Committed, Reserve}
 use Rattle.shadow.specs.Laid.{AreReady, IsCarried, IsCarriedBy, IsReadyContents}
-use Rattle.shadow.specs.Laid.{IsReadyDirectory, IsReadyFile, reserves_of, shown_if}
+use Rattle.shadow.specs.Laid.{IsReadyDirectory, IsReadyFile, IsReadyPipe, reserves_of, shown_if}
 use Rattle.shadow.specs.Patches.{Net, Patches, added_by, bytes_before, form_of, is_new, kept_at}
-use Rattle.shadow.specs.Patches.{names_before, net_at, net_of, no_change, of_bytes, of_names}
-use Rattle.shadow.specs.Patches.{opening_at, patched, slots_in}
-use Rattle.shadow.specs.Stored.{IsStaged, Sound, committed_of, reserve_in, state_of}
+use Rattle.shadow.specs.Patches.{names_before, net_at, net_of, no_change, of_bytes, of_names, of_pipe}
+use Rattle.shadow.specs.Patches.{opening_at, patched, pipe_before, slots_in}
+use Rattle.shadow.specs.Stored.{IsStaged, Processes, Sound, committed_of, numbered, reserve_in}
+use Rattle.shadow.specs.Stored.{state_of}
 use Rattle.shadow.specs.declared.change.Change.{Change}
 use Rattle.shadow.specs.declared.change.Contents.{Contents}
-use Rattle.shadow.specs.declared.change.Contents.TheVariants.{Same, Names, Bytes}
+use Rattle.shadow.specs.declared.change.Contents.TheVariants.{Same, Names, Bytes, Pipe as Piped}
 use Rattle.shadow.specs.declared.change.Made.{Made}
-use Rattle.shadow.specs.declared.change.Made.TheVariants.{Directory, File as New_file}
+use Rattle.shadow.specs.declared.change.Made.TheVariants.{Directory, File as New_file, Pipe as New_pipe}
 use Rattle.shadow.proofs.Committing.{CanCommit}
-use Rattle.shadow.proofs.Living.{IsProcess, is_process}
+use Rattle.shadow.proofs.PipesShort.{stays_short}
 
 -- the inode that a place shows, its kind, its bytes, and what is kept of it for transactions
 abbrev pub inode_seen : Option Place → Option Inode
@@ -80,6 +85,7 @@ directory_shown (Some place) is = by_place place.stage place.object is
         → IsShownDirectory (Some (of_stage t object))
     by_place Held (Kept_directory listing) is = (listing, refl)
     by_place Held (Kept_file file) is = absurd cc
+    by_place Held (Kept_pipe pipe) is = absurd cc
     by_place Held (Kept_description opened) is = absurd cc
     by_place Held Nothing is = absurd cc
     by_place Coming object is = absurd cc
@@ -96,7 +102,26 @@ file_shown (Some place) is = by_place place.stage place.object is
     by_place : (t : Stage) (object : Object) → kind_at t object ≡ Some A_file
         → IsShownFile (Some (of_stage t object))
     by_place Held (Kept_file file) is = (file, refl)
+    by_place Held (Kept_pipe pipe) is = absurd cc
     by_place Held (Kept_directory listing) is = absurd cc
+    by_place Held (Kept_description opened) is = absurd cc
+    by_place Held Nothing is = absurd cc
+    by_place Coming object is = absurd cc
+    by_place Lost object is = absurd cc
+
+-- a pipe that is shown
+abbrev pub IsShownPipe : Option Place → Type 0
+IsShownPipe o = (pipe : OpenPipe) × (o ≡ Some (present (Kept_pipe pipe)))
+
+pub pipe_shown : (o : Option Place) → kind_seen o ≡ Some A_pipe → IsShownPipe o
+pipe_shown None is = absurd cc
+pipe_shown (Some place) is = by_place place.stage place.object is
+  where
+    by_place : (t : Stage) (object : Object) → kind_at t object ≡ Some A_pipe
+        → IsShownPipe (Some (of_stage t object))
+    by_place Held (Kept_pipe pipe) is = (pipe, refl)
+    by_place Held (Kept_directory listing) is = absurd cc
+    by_place Held (Kept_file file) is = absurd cc
     by_place Held (Kept_description opened) is = absurd cc
     by_place Held Nothing is = absurd cc
     by_place Coming object is = absurd cc
@@ -119,6 +144,7 @@ directory_comes (Some place) some = by_place place.stage place.object some
         → IsComingDirectory (Some (of_stage t object))
     by_place Coming (Kept_directory listing) some = (listing, refl)
     by_place Coming (Kept_file file) some = none_less some
+    by_place Coming (Kept_pipe pipe) some = none_less some
     by_place Coming (Kept_description opened) some = none_less some
     by_place Coming Nothing some = none_less some
     by_place Held object some = none_less some
@@ -136,6 +162,7 @@ other_comes (Some place) staged some = by_place place.stage place.object staged 
     by_place Coming Nothing staged some = refl
     by_place Coming (Kept_directory listing) staged some = none_less some
     by_place Coming (Kept_file file) staged some = absurd staged
+    by_place Coming (Kept_pipe pipe) staged some = absurd staged
     by_place Coming (Kept_description opened) staged some = absurd staged
     by_place Held object staged some = none_less some
     by_place Lost object staged some = none_less some
@@ -167,10 +194,14 @@ named_place o (Some Directory) contents under can =
     ap may_be_named (directory_comes o under.directory).1
 named_place o (Some New_file) contents under can =
     ap may_be_named (other_comes o under.staged under.file)
+named_place o (Some New_pipe) contents under can =
+    ap may_be_named (other_comes o under.staged under.file)
 named_place o None Same under can = shown_named o can
 named_place o None (Names fresh notes) under can =
     ap may_be_named (directory_shown o under.over.1).1
 named_place o None (Bytes fresh bytes) under can = ap may_be_named (file_shown o under.over.1).1
+named_place o None (Piped fresh changes) under can =
+    ap may_be_named (pipe_shown o under.over.1).1
 
 -- a directory of which names change is shown, or is to come
 record IsListed (o : Option Place) (made : Option Made) : Type 0 where
@@ -189,6 +220,8 @@ listed o (Some Directory) fresh notes under =
     }
 listed o (Some New_file) fresh notes under =
     let file : of_names fresh ≡ of_bytes true = under.over in absurd cc
+listed o (Some New_pipe) fresh notes under =
+    let pipe : of_names fresh ≡ of_pipe true = under.over in absurd cc
 listed o None fresh notes under =
     let is : IsShownDirectory o = directory_shown o under.over.1 in
     record {
@@ -217,6 +250,8 @@ file_ready : (o : Option Place) (made : Option Made) (fresh : Bool) (bytes : Fil
     → IsReadyFile (is_some made) o room bytes.extent.end
 file_ready o (Some Directory) fresh bytes room under grown =
     let directory : of_bytes fresh ≡ of_names true = under.over in absurd cc
+file_ready o (Some New_pipe) fresh bytes room under grown =
+    let pipe : of_bytes fresh ≡ of_pipe true = under.over in absurd cc
 file_ready o (Some New_file) fresh bytes room under grown =
     let is : o ≡ Some (coming Nothing) = other_comes o under.staged under.file in
     let none : length (bytes_seen o) ≡ 0 = ap (λ o. length (bytes_seen o)) is in
@@ -226,6 +261,32 @@ file_ready o None fresh bytes room under grown =
     let same : length (bytes_seen o) ≡ length is.0.bytes.bytes =
     ap (λ o. length (bytes_seen o)) is.1 in
     (is.0, is.1, omega arith)
+
+-- what is put into a pipe fits
+pipe_ready : (o : Option Place) (made : Option Made) (fresh : Option OpenPipe)
+    (changes : PipeChanges) → IsUnder o made (Piped fresh changes)
+    → (length (pipe_of_inode (inode_seen o)) ≤ PIPE_CAPACITY
+    → length (pipe_over changes (pipe_before fresh (inode_seen o))) ≤ PIPE_CAPACITY)
+    → IsReadyPipe fresh changes o
+pipe_ready o (Some Directory) fresh changes under short =
+    let directory : of_pipe (is_some fresh) ≡ of_names true = under.over in absurd cc
+pipe_ready o (Some New_file) fresh changes under short =
+    let file : of_pipe (is_some fresh) ≡ of_bytes true = under.over in absurd cc
+pipe_ready o (Some New_pipe) None changes under short =
+    let old : of_pipe false ≡ of_pipe true = under.over in absurd cc
+pipe_ready o (Some New_pipe) (Some new) changes under short =
+    let is : o ≡ Some (coming Nothing) = other_comes o under.staged under.file in
+    let none : length (pipe_of_inode (inode_seen o)) ≡ 0 =
+    ap (λ o. length (pipe_of_inode (inode_seen o))) is in
+    (is, short (omega (arith, none)))
+pipe_ready o None (Some new) changes under short = absurd (true_is_false under.over.0)
+pipe_ready o None None changes under short =
+    let is : IsShownPipe o = pipe_shown o under.over.1 in (
+      is.0,
+      is.1,
+      subst (λ o. length (pipe_of_inode (inode_seen o)) ≤ PIPE_CAPACITY
+          → length (pipe_over changes (pipe_of_inode (inode_seen o))) ≤ PIPE_CAPACITY) is.1 short,
+    )
 
 -- where nothing is settled yet and the transaction makes no file, it changes no inode
 nothing_there : (o : Option Place) (made : Option Made) (contents : Contents)
@@ -238,11 +299,15 @@ nothing_there o (Some Directory) contents is under none =
     absurd (omega arith)
 nothing_there o (Some New_file) contents is under none =
     let one : as_count true ≡ 0 = none in absurd (omega arith)
+nothing_there o (Some New_pipe) contents is under none =
+    let one : as_count true ≡ 0 = none in absurd (omega arith)
 nothing_there o None Same is under none = (refl, refl)
 nothing_there o None (Names fresh notes) is under none =
     let shown : None ≡ Some A_directory = sym (ap kind_seen is) ∙ under.over.1 in absurd cc
 nothing_there o None (Bytes fresh bytes) is under none =
     let shown : None ≡ Some A_file = sym (ap kind_seen is) ∙ under.over.1 in absurd cc
+nothing_there o None (Piped fresh changes) is under none =
+    let shown : None ≡ Some A_pipe = sym (ap kind_seen is) ∙ under.over.1 in absurd cc
 
 -- nothing was made where nothing changes
 unmade : (o : Option Place) (made : Option Made) → IsUnder o made Same → made ≡ None
@@ -250,9 +315,10 @@ unmade o None under = refl
 unmade o (Some Directory) under =
     let directory : no_change ≡ of_names true = under.over in absurd cc
 unmade o (Some New_file) under = let file : no_change ≡ of_bytes true = under.over in absurd cc
+unmade o (Some New_pipe) under = let pipe : no_change ≡ of_pipe true = under.over in absurd cc
 
 -- what is known of the changes of one inode
-record Fits (ps : List Process) (s : Numbers) (ds : List Effect) (n : ℕ) (net : Net) : Type 0 where
+record Fits (ps : Processes) (s : Numbers) (ds : List Effect) (n : ℕ) (net : Net) : Type 0 where
   under : IsUnder (get s.places n) net.made net.contents
   room : net.promised ≤ or_zero (room_of (reserve_seen (get s.places n)))
   added : added_by net.contents ≤ net.promised
@@ -262,7 +328,7 @@ record Fits (ps : List Process) (s : Numbers) (ds : List Effect) (n : ℕ) (net 
       ≤ max (length (bytes_seen (get s.places n))) net.room
 
 -- what a commit finds, by what it sees of the changes and of the committed state
-pub can_commit : (ps : List Process) (s : Numbers) (logged ds : List Effect) (p noted : Patches)
+pub can_commit : (ps : Processes) (s : Numbers) (logged ds : List Effect) (p noted : Patches)
     (stable : Committed) → Sound ps s → Agrees logged noted → logged ≡ ds → p ≡ noted
     → committed_of ps s ≡ stable → AllFit ds stable.state → Covers stable ds → CanCommit ps s ds p
 can_commit ps s logged ds p noted stable sound agrees same alike is fits covers = record {
@@ -272,7 +338,7 @@ can_commit ps s logged ds p noted stable sound agrees same alike is fits covers 
   covers = subst (λ c. Covers c ds) (sym is) covers;
 }
 
-module _ {ps : List Process} {s : Numbers} {ds : List Effect} {p : Patches}
+module _ {ps : Processes} {s : Numbers} {ds : List Effect} {p : Patches}
     (can : CanCommit ps s ds p) where
   abbrev done : Kernel
   done = all_done ds (state_of ps s)
@@ -319,7 +385,7 @@ module _ {ps : List Process} {s : Numbers} {ds : List Effect} {p : Patches}
     room = subst (λ r. (net_at p.inodes n).promised ≤ or_zero (room_of r)) (reserve_at n)
         (claim_kept (Room n));
     added = can.agrees.added n;
-    after = can.agrees.inodes (state_of ps s) n
+    after = can.agrees.inodes (state_of ps s) n can.fits
         ∙ ap (patched (net_at p.inodes n).contents) (inode_at n);
     grown = subst
         (λ o. length (file_of done n) ≤ max (length (file_of_inode o)) (net_at p.inodes n).room)
@@ -392,6 +458,18 @@ module _ {ps : List Process} {s : Numbers} {ds : List Effect} {p : Patches}
       ≤ max (length (bytes_seen (get s.places n))) c.room.room = fits.grown in
       omega arith
 
+  -- a pipe is no longer after the changes than pipes get
+  short_at : (n : ℕ) (c : Change) (fresh : Option OpenPipe) (changes : PipeChanges)
+      → Fits ps s ds n (net_of (Some c)) → c.contents ≡ Piped fresh changes
+      → length (pipe_of_inode (inode_seen (get s.places n))) ≤ PIPE_CAPACITY
+      → length (pipe_over changes (pipe_before fresh (inode_seen (get s.places n))))
+      ≤ PIPE_CAPACITY
+  short_at n c fresh changes fits is low =
+      subst (λ o. length (pipe_of_inode o) ≤ PIPE_CAPACITY)
+      (fits.after ∙ ap (λ w. patched w (inode_seen (get s.places n))) is)
+      (stays_short n ds (state_of ps s) can.fits
+      (subst (λ o. length (pipe_of_inode o) ≤ PIPE_CAPACITY) (sym (inode_at n)) low))
+
   change_ready : (n : ℕ) (c : Change) → Fits ps s ds n (net_of (Some c)) → (w : Contents)
       → c.contents ≡ w → IsUnder (get s.places n) c.made w → IsReadyContents s n c w
   change_ready n c fits Same is under = unmade (get s.places n) c.made under
@@ -400,6 +478,9 @@ module _ {ps : List Process} {s : Numbers} {ds : List Effect} {p : Patches}
   change_ready n c fits (Bytes fresh bytes) is under =
       file_ready (get s.places n) c.made fresh bytes c.room under
       (reaches n c fresh bytes fits is)
+  change_ready n c fits (Piped fresh changes) is under =
+      pipe_ready (get s.places n) c.made fresh changes under
+      (short_at n c fresh changes fits is)
 
   -- each change of an inode can be made
   pub ready : AreReady p.inodes s
@@ -407,13 +488,15 @@ module _ {ps : List Process} {s : Numbers} {ds : List Effect} {p : Patches}
       let fits : Fits ps s ds n (net_of (Some c)) = change_fits n c is in
       change_ready n c fits c.contents refl fits.under
 
-  -- a process whose slots change is one of those that there are
+  -- a process whose slots change is there
   pub slots_alive : (pid : ℕ) → slots_in (kept_at p.slots pid) ≢ []
-      → (0 < pid) × (pid ≤ length ps)
-  slots_alive pid some =
-      let is : IsProcess ps pid =
-      is_process ps pid (can.agrees.alive (state_of ps s) pid can.fits some) in
-      (is.some, is.low)
+      → get (numbered ps) pid ≢ None
+  slots_alive pid some = by_process (get (numbered ps) pid)
+      (can.agrees.alive (state_of ps s) pid can.fits some)
+    where
+      by_process : (o : Option Process) → is_some o ≡ true → o ≢ None
+      by_process None is = absurd (true_is_false (sym is))
+      by_process (Some it) is = not_none it
 
   -- a description that the transaction made is to come
   pub to_come : (d : ℕ) → is_new (opening_at p.openings d) ≡ true

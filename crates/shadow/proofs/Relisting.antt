@@ -1,8 +1,8 @@
 -- The names of a directory change in the store, and nothing else.
-use Rattle.std.proofs.Common.{◌≡◌, ℕ, ◌+◌, ◌-◌, ◌<◌, true, false, List, Option, Some, None, refl, sym, ap, subst, ◌∙◌, arith, eq-eqb}
+use Rattle.std.proofs.Common.{◌≡◌, ℕ, ◌+◌, ◌-◌, ◌<◌, true, false, Option, Some, None, refl, sym, ap, subst, ◌∙◌, arith, eq-eqb}
 use Rattle.std.specs.Option.{option_and_then}
 use Rattle.model.specs.FiniteMap.{FinMap, get, insert, remove}
-use Rattle.model.specs.State.{A_directory, Directory, Kernel, Kind, Name, Process, kind, kind_of, mapped, name_cmp, names_of, names_of_inode}
+use Rattle.model.specs.State.{A_directory, Directory, Kernel, Kind, Name, kind, kind_of, mapped, name_cmp, names_of, names_of_inode}
 use Rattle.model.specs.Changes.{clear_name, set_inode, set_name}
 use Rattle.dirlist.specs.Listing.{Listing}
 use Rattle.store.specs.Numbers.{Numbers, held, if_held, present}
@@ -14,32 +14,33 @@ use Rattle.store.specs.declared.Stage.TheVariants.{Coming, Held, Lost}
 use Rattle.store.specs.declared.Object.{Object}
 use Rattle.store.specs.declared.Object.TheVariants.{Directory as Kept_directory}
 use Rattle.store.proofs.Laws.{altered-some, descriptions-changed, get-inodes, inodes-set, with_place}
-use Rattle.call_laws.proofs.Laws.{some_same}
+use Rattle.call_laws.proofs.Laws.{not_none, some_same}
 use Rattle.shadow.specs.Claims.{Claim, New_directory, Number, Room, as_count, number_of, room_in}
 use Rattle.shadow.specs.Laid.{kept_in}
 use Rattle.freeing_laws.proofs.Openings.{openings_change_lem}
-use Rattle.shadow.specs.Stored.{AreCounted, IsStaged, Sound, state_of, stored}
+use Rattle.shadow.specs.Stored.{AreCounted, IsStaged, Processes, Sound, state_of, stored}
 use Rattle.shadow.proofs.Edited.{Counts, counted_by, counts_of, counts_of_state}
 use Rattle.shadow.proofs.Kept_on.{kept_by, kept_is}
+use Rattle.shadow.proofs.PairsKept.{same_pairs}
 use Rattle.shadow.proofs.Making.{held_directory, named_in, place_counts, place_kept, place_staged, room_elsewhere}
 
 -- What is stored on the way of an edit of names: what was counted in a state is still so.
-pub record Stands (ps : List Process) (counted : Kernel) (s : Numbers) : Type 0 where
+pub record Stands (ps : Processes) (counted : Kernel) (s : Numbers) : Type 0 where
   pub staged : (n : ℕ) → IsStaged (get s.places n)
   pub counts : Counts counted s
 
 -- what is stored stands as it is counted
-pub sound_stands : (ps : List Process) (s : Numbers) → Sound ps s → Stands ps (state_of ps s) s
+pub sound_stands : (ps : Processes) (s : Numbers) → Sound ps s → Stands ps (state_of ps s) s
 sound_stands ps s sound = record { staged = sound.staged; counts = counts_of ps s sound.counted }
 
 -- where the state is another whose descriptions and processes are those of the counted one
-pub stands_counted : (ps : List Process) (k l : Kernel) (s : Numbers) → state_of ps s ≡ l → l.descriptions ≡ k.descriptions → l.processes ≡ k.processes → Stands ps k s → AreCounted ps s
+pub stands_counted : (ps : Processes) (k l : Kernel) (s : Numbers) → state_of ps s ≡ l → l.descriptions ≡ k.descriptions → l.processes ≡ k.processes → Stands ps k s → AreCounted ps s
 stands_counted ps k l s is descriptions processes stands =
     counted_by ps s (subst (λ (t : Kernel). Counts t s) (sym is)
-    (counts_of_state k l s (openings_change_lem.by_descriptions k l descriptions) (openings_change_lem.by_processes k l processes) stands.counts))
+    (counts_of_state k l s (openings_change_lem.by_descriptions k l descriptions) (openings_change_lem.by_processes k l processes) (same_pairs k l descriptions) stands.counts))
 
 -- a directory's names become others, by a function of its listing
-module _ (ps : List Process) (counted : Kernel) (s : Numbers) (d : ℕ) (f : Listing → Listing)
+module _ (ps : Processes) (counted : Kernel) (s : Numbers) (d : ℕ) (f : Listing → Listing)
     (stands : Stands ps counted s) (is : kind_of (state_of ps s) d ≡ Some A_directory) where
   abbrev relisted : Numbers
   relisted = altered (with_listing f) s d
@@ -67,14 +68,14 @@ module _ (ps : List Process) (counted : Kernel) (s : Numbers) (d : ℕ) (f : Lis
   pub relisted_stands : Stands ps counted relisted
   relisted_stands = record {
     staged = λ m. subst (λ (t : Numbers). IsStaged (get t.places m)) (sym relisted_is) (place_staged s d after stands.staged (λ e. cc) m);
-    counts = subst (Counts counted) (sym relisted_is) (place_counts s d after counted stands.counts (λ c e. absurd (nothing c e)) (λ c e. absurd (nothing c e)));
+    counts = subst (Counts counted) (sym relisted_is) (place_counts s d after counted stands.counts (λ c e. absurd (nothing c e)) (λ c e. absurd (nothing c e)) (λ ends e. absurd (not_none ends (sym e))));
   }
     where
       nothing : (c : ℕ) → None ≡ Some c → ⊥
       nothing c e = cc
 
 -- a name goes, and a name comes
-module _ (ps : List Process) (counted : Kernel) (s : Numbers) (d : ℕ) (x : Name) (stands : Stands ps counted s)
+module _ (ps : Processes) (counted : Kernel) (s : Numbers) (d : ℕ) (x : Name) (stands : Stands ps counted s)
     (is : kind_of (state_of ps s) d ≡ Some A_directory) where
   pub without_state : state_of ps (altered (with_listing (without_name x)) s d) ≡ clear_name d x (state_of ps s)
   without_state = relisted_state ps counted s d (without_name x) stands is (λ names. remove names x) (λ l. refl)

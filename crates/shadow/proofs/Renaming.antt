@@ -1,7 +1,7 @@
 -- A name more for a file, and a name that moves, in the store.
-use Rattle.std.proofs.Common.{◌≡◌, ℕ, ◌+◌, ◌<◌, ◌≤◌, ◌==◌, true, false, cond, List, [], ◌∷◌, Some, refl, sym, ap, subst, ◌∙◌, arith, eq-eqb}
+use Rattle.std.proofs.Common.{◌≡◌, ℕ, ◌+◌, ◌<◌, ◌≤◌, ◌==◌, true, false, cond, [], ◌∷◌, Some, refl, sym, ap, subst, ◌∙◌, arith, eq-eqb}
 use Rattle.model.specs.FiniteMap.{get, remove}
-use Rattle.model.specs.State.{A_directory, A_file, Kernel, Name, Process, kind_of, names_of}
+use Rattle.model.specs.State.{A_directory, A_file, Kernel, Name, kind_of, names_of}
 use Rattle.model.specs.Changes.{Edit, Move, Name_file, Replaced, applied, clear_name, inode_replaced, set_name, tidy}
 use Rattle.call_laws.specs.Fits.{Fits}
 use Rattle.call_laws.proofs.Laws.{has_names}
@@ -14,7 +14,7 @@ use Rattle.shadow.specs.Claims.{Claim, New_directory, Number, Room, claimed_by_o
 use Rattle.shadow.specs.Committed.{Committed}
 use Rattle.freeing_laws.specs.Counts.{free_inode}
 use Rattle.shadow.specs.Laid.{Frees, Holds, kept_in}
-use Rattle.shadow.specs.Stored.{Sound, committed_of, state_of}
+use Rattle.shadow.specs.Stored.{Processes, Sound, committed_of, state_of}
 use Rattle.shadow.proofs.Edited.{sound_after, tidied_of}
 use Rattle.shadow.proofs.Freed.{IsMade, freed_sound, freed_state, made_holds}
 use Rattle.shadow.proofs.Making.{covered, named_in}
@@ -32,12 +32,12 @@ move_claims d x e y n replaced (Room r) = (let one : claimed_by_one (Room r) [] 
 move_claims d x e y n replaced (New_directory m) = refl
 move_claims d x e y n replaced (Number m) = refl
 
-pub room_here : (ps : List Process) (s : Numbers) (v : Committed) → committed_of ps s ≡ v → (d : ℕ) (e : Edit) → ((c : Claim) → claimed_by_one c [] e ≡ room_in d c) → ((c : Claim) → claimed_by_one c [] e ≤ reserved v c) → 0 < kept_in s (Room d)
+pub room_here : (ps : Processes) (s : Numbers) (v : Committed) → committed_of ps s ≡ v → (d : ℕ) (e : Edit) → ((c : Claim) → claimed_by_one c [] e ≡ room_in d c) → ((c : Claim) → claimed_by_one c [] e ≤ reserved v c) → 0 < kept_in s (Room d)
 room_here ps s v is d e claims covers =
     let one : claimed_by_one (Room d) [] e ≡ 1 = claims (Room d) ∙ ap (λ b. cond b 1 0) (eq-eqb d d refl) in
     covered ps s v is (Room d) (claimed_by_one (Room d) [] e) (covers (Room d)) (omega (arith, one))
 
-module _ (ps : List Process) (s : Numbers) (d : ℕ) (x : Name) (n : ℕ) (sound : Sound ps s) (fits : Fits [] (state_of ps s) (Name_file d x n)) where
+module _ (ps : Processes) (s : Numbers) (d : ℕ) (x : Name) (n : ℕ) (sound : Sound ps s) (fits : Fits [] (state_of ps s) (Name_file d x n)) where
   link_applied : applied [] (Name_file d x n) (state_of ps s) ≡ set_name d x n (state_of ps s)
   unfolding applied
   link_applied = refl
@@ -74,7 +74,7 @@ module _ (ps : List Process) (s : Numbers) (d : ℕ) (x : Name) (n : ℕ) (sound
         let one : kept_in (named_in s d x n) c + room_in d c ≡ kept_in s c = with_kept ps (state_of ps s) s d x (sound_stands ps s sound) is_parent n some_room c in
         let same : claimed_by_one c [] (Name_file d x n) ≡ room_in d c = link_claims d n x c in omega arith
 
-module _ (ps : List Process) (s : Numbers) (d : ℕ) (x : Name) (e : ℕ) (y : Name) (n : ℕ) (replaced : Replaced) (sound : Sound ps s) (fits : Fits [] (state_of ps s) (Move d x e y n replaced)) where
+module _ (ps : Processes) (s : Numbers) (d : ℕ) (x : Name) (e : ℕ) (y : Name) (n : ℕ) (replaced : Replaced) (sound : Sound ps s) (fits : Fits [] (state_of ps s) (Move d x e y n replaced)) where
   abbrev k : Kernel
   k = state_of ps s
 
@@ -141,7 +141,7 @@ module _ (ps : List Process) (s : Numbers) (d : ℕ) (x : Name) (e : ℕ) (y : N
         let same : claimed_by_one c [] (Move d x e y n replaced) ≡ room_in e c = move_claims d x e y n replaced c in omega arith
 
 -- what follows of the store in which the name has moved
-module _ (ps : List Process) (s : Numbers) (v : Committed) (is : committed_of ps s ≡ v) (sound : Sound ps s) (d : ℕ) (x : Name) (e : ℕ) (y : Name) (n : ℕ) (replaced : Replaced)
+module _ (ps : Processes) (s : Numbers) (v : Committed) (is : committed_of ps s ≡ v) (sound : Sound ps s) (d : ℕ) (x : Name) (e : ℕ) (y : Name) (n : ℕ) (replaced : Replaced)
     (fit : Fits [] v.state (Move d x e y n replaced)) (covers : (c : Claim) → claimed_by_one c [] (Move d x e y n replaced) ≤ reserved v c) where
   abbrev move : Edit
   move = Move d x e y n replaced

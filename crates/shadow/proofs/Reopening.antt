@@ -7,7 +7,6 @@ use Rattle.std.specs.Cmp.{nat_cmp_total}
 use Rattle.std.proofs.lemmas.Bool.{cases_eq}
 use Rattle.model.specs.FiniteMap.{FinMap, contains_key, entries, from_entries, get, insert, len}
 use Rattle.model.specs.FiniteMap.{len-empty, len-entries, len-insert}
-use Rattle.model.specs.State.{Process}
 use Rattle.model.specs.Changes.{openings}
 use Rattle.call_laws.proofs.Laws.{true_is_false}
 use Rattle.freeing_laws.proofs.Openings.{openings_change_lem}
@@ -21,10 +20,10 @@ use Rattle.store.specs.declared.Place.{Place}
 use Rattle.store.specs.declared.Stage.{Stage}
 use Rattle.store.specs.declared.Stage.TheVariants.{Coming, Held, Lost}
 use Rattle.store.specs.declared.Object.{Object}
-use Rattle.store.specs.declared.Object.TheVariants.{Directory as A_directory, File as A_file}
+use Rattle.store.specs.declared.Object.TheVariants.{Directory as A_directory, File as A_file, Pipe as A_pipe}
 use Rattle.store.specs.declared.Object.TheVariants.{Description as A_description, Nothing}
 use Rattle.store.proofs.Laws.{get-chosen, place-altered, place-other}
-use Rattle.shadow.specs.Stored.{FitsStage, IsStaged, reserve_in, state_of}
+use Rattle.shadow.specs.Stored.{FitsStage, IsStaged, Processes, reserve_in, state_of}
 use Rattle.shadow.specs.Laid.{reserves_of}
 
 -- what a change of one place leaves to each of them
@@ -75,7 +74,7 @@ fewer_chosen f m =
     let all : len m ≡ length (entries m) = len-entries m in
     omega arith
 
-pub few_openings : (ps : List Process) (s : Numbers) (n : ℕ)
+pub few_openings : (ps : Processes) (s : Numbers) (n : ℕ)
     → openings (state_of ps s) n ≤ len s.places
 few_openings ps s n =
     let low : openings (state_of ps s) n ≤ len (descriptions s) =
@@ -122,6 +121,7 @@ module _ (g : OpenFile → OpenFile) where
       by_stage : (t : Stage) (object : Object) → FitsStage t object
           → FitsStage t (changed_file g object)
       by_stage t (A_directory listing) h = h
+      by_stage t (A_pipe pipe) h = h
       by_stage t (A_description opened) h = h
       by_stage t Nothing h = h
       by_stage Coming (A_file file) h = h
@@ -138,6 +138,7 @@ module _ (g : OpenFile → OpenFile) where
           ≡ reserve_in (record { stage = place.stage; object = object })
       by_object (A_directory listing) = refl
       by_object (A_file file) = refl
+      by_object (A_pipe pipe) = refl
       by_object (A_description opened) = refl
       by_object Nothing = refl
 
@@ -152,6 +153,7 @@ module _ (g : OpenFile → OpenFile) where
           → if_held t (changed_file g object) ≡ Some (A_description opened)
           → if_held t object ≡ Some (A_description opened)
       by_stage t (A_directory listing) is = is
+      by_stage t (A_pipe pipe) is = is
       by_stage t (A_description opened) is = is
       by_stage t Nothing is = is
       by_stage Coming (A_file file) is = is
@@ -185,5 +187,6 @@ module _ (g : OpenFile → OpenFile) where
       by_stage Held (A_file it) is =
           record { before = it; held = refl; is = file_is (g it) is; count = refl }
       by_stage Held (A_directory listing) is = absurd (true_is_false (ap is_file (sym is)))
+      by_stage Held (A_pipe pipe) is = absurd (true_is_false (ap is_file (sym is)))
       by_stage Held (A_description opened) is = absurd (not_file opened file is)
       by_stage Held Nothing is = absurd (true_is_false (ap is_file (sym is)))

@@ -1,20 +1,20 @@
 -- What an edit makes of a state does not hang on numbers of the call that the edit does not use,
 -- nor on
 -- what it says of the state before.
-use Rattle.std.proofs.Common.{◌≡◌, ℕ, List, [], ◌∷◌, false, refl, sym, ap, ◌∙◌}
+use Rattle.std.proofs.Common.{◌≡◌, ℕ, ◌+◌, List, [], ◌∷◌, Option, Some, None, false, refl, sym, ap, ◌∙◌}
 use Rattle.ids.specs.declared.edit.Mode.{Mode}
-use Rattle.model.specs.State.{Directory, File, Kernel, Name}
+use Rattle.model.specs.State.{Directory, File, Kernel, Name, Pipe}
 use Rattle.model.specs.FiniteMap.{empty}
-use Rattle.model.specs.Changes.{Clear_slot, Cut, Edit, Make_directory, Make_file, Open_inode}
+use Rattle.model.specs.Changes.{Append, Cut, Edit, Make_directory, Make_file, Make_pipe, Open_inode}
 use Rattle.model.specs.Changes.{Move, Name_file, Put_bytes, Replaced, There, Which, applied, number}
-use Rattle.model.specs.Changes.{open_at}
+use Rattle.model.specs.Changes.{Take, open_at, to_read, to_write}
 use Rattle.model.specs.Changes.{set_inode, set_name, tidy}
 use Rattle.call_laws.specs.Fits.{Fits}
 use Rattle.freeing_laws.specs.Sweep.{IsTidied, loses}
 use Rattle.freeing_laws.proofs.Laws.{sweep_is_tidy_lem}
 use Rattle.shadow.specs.declared.change.Made.{Made as What}
-use Rattle.shadow.specs.declared.change.Made.TheVariants.{Directory as A_directory, File as A_file}
-use Rattle.shadow.specs.Steps.{new_in, unnaming}
+use Rattle.shadow.specs.declared.change.Made.TheVariants.{Directory as A_directory, File as A_file, Pipe as A_pipe}
+use Rattle.shadow.specs.Steps.{new_in, slotting, unnaming}
 
 -- a new object by its own number alone
 module _ (chosen : List ℕ) (d : ℕ) (x : Name) (n i : ℕ) (first : i ≡ 0) (new : n ≡ new_in chosen 0)
@@ -38,6 +38,18 @@ unfolding applied
 same_opening chosen i inode mode pid f n m new is k = ap (λ n. open_at n m mode pid f k) new
     ∙ ap (λ m. open_at (new_in chosen i) m mode pid f k) is
 
+-- a new pipe, its reader and its writer
+pub same_pipe : (chosen : List ℕ) (i pid f g p r w : ℕ) → p ≡ new_in chosen i
+    → r ≡ new_in chosen (i + 1) → w ≡ new_in chosen (i + 2) → (k : Kernel)
+    → applied (p ∷ r ∷ w ∷ []) (Make_pipe 0 pid f g) k ≡ applied chosen (Make_pipe i pid f g) k
+unfolding applied
+same_pipe chosen i pid f g p r w first second third k =
+    ap (λ p. open_at w p to_write pid g (open_at r p to_read pid f (set_inode p (Pipe []) k))) first
+    ∙ ap (λ r. open_at w (new_in chosen i) to_write pid g
+    (open_at r (new_in chosen i) to_read pid f (set_inode (new_in chosen i) (Pipe []) k))) second
+    ∙ ap (λ w. open_at w (new_in chosen i) to_write pid g (open_at (new_in chosen (i + 1))
+    (new_in chosen i) to_read pid f (set_inode (new_in chosen i) (Pipe []) k))) third
+
 -- edits that make nothing
 module _ (chosen : List ℕ) (k : Kernel) where
   pub same_unnaming : (what : What) (d : ℕ) (x : Name) (n : ℕ)
@@ -45,6 +57,7 @@ module _ (chosen : List ℕ) (k : Kernel) where
   unfolding applied
   same_unnaming A_directory d x n = refl
   same_unnaming A_file d x n = refl
+  same_unnaming A_pipe d x n = refl
 
   pub same_linking : (d : ℕ) (x : Name) (n : ℕ)
       → applied [] (Name_file d x n) k ≡ applied chosen (Name_file d x n) k
@@ -67,10 +80,20 @@ module _ (chosen : List ℕ) (k : Kernel) where
   unfolding applied
   same_cut n before after = refl
 
-  pub same_clearing : (pid f : ℕ) (pipes : List ℕ)
-      → applied [] (Clear_slot pid f pipes) k ≡ applied chosen (Clear_slot pid f pipes) k
+  pub same_take : (n count : ℕ) → applied [] (Take n count) k ≡ applied chosen (Take n count) k
   unfolding applied
-  same_clearing pid f pipes = refl
+  same_take n count = refl
+
+  pub same_append : (n : ℕ) (bytes : List ℕ)
+      → applied [] (Append n bytes) k ≡ applied chosen (Append n bytes) k
+  unfolding applied
+  same_append n bytes = refl
+
+  pub same_slotting : (given : Option ℕ) (pid f : ℕ) (pipes : List ℕ)
+      → applied [] (slotting given pid f pipes) k ≡ applied chosen (slotting given pid f pipes) k
+  unfolding applied
+  same_slotting (Some d) pid f pipes = refl
+  same_slotting None pid f pipes = refl
 
 -- after an edit that loses nothing, nothing is to go
 pub none_goes : (chosen : List ℕ) (k : Kernel) (e : Edit) → IsTidied k → Fits chosen k e

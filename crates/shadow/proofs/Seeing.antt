@@ -1,41 +1,17 @@
 -- What a look at a state with changes on top tells.
-use Rattle.std.proofs.Common.{◌≡◌, ℕ, suc, ◌+◌, ◌<◌, Bool, true, List, [], ◌∷◌, length, map, take, drop, Option, Some, None, Result, Ok, Err, IfOk, refl, sym, ap, ◌∙◌, ◌==◌, ne_eqb, arith, ◌++◌, get_or, ap₂, ◌^◌, ◌-◌, length-drop, length-take}
+use Rattle.std.proofs.Common.{◌≡◌, ℕ, suc, ◌+◌, ◌<◌, Bool, true, List, [], ◌∷◌, length, map, take, drop, Option, Result, Ok, Err, IfOk, refl, sym, ap, ◌∙◌, ◌==◌, ne_eqb, arith, ◌++◌, get_or, ap₂, ◌^◌, ◌-◌, length-drop, length-take}
 use Rattle.std.specs.Prelude.{min}
 use Rattle.std.proofs.lemmas.List.{map_more}
 use Rattle.model.specs.FiniteMap.{FinMap, entries, get, keys, len, empty, len-entries, entries-empty}
-use Rattle.model.specs.State.{A_pipe, Name, name_cmp, Kernel, Inode, Process, kind, kind_of, mapped, names_of_inode, pipe_of, pipe_of_inode}
+use Rattle.model.specs.State.{Name, name_cmp, Kernel, Inode, names_of_inode}
 use Rattle.model.specs.Paths.{is_empty}
 use Rattle.model.specs.Calls.{Slot, slot_of}
 use Rattle.dirlist.specs.Patches.{IsLaid, Notes, or_before}
 use Rattle.store.specs.Laid.{laid}
-use Rattle.store.specs.Numbers.{Numbers}
-use Rattle.store.specs.Shown.{inode_of, shown_at}
-use Rattle.store.specs.declared.Place.{Place}
-use Rattle.store.specs.declared.Object.{Object}
-use Rattle.store.specs.declared.Stage.{Stage}
-use Rattle.store.specs.declared.Object.TheVariants.{Directory as Kept_directory, File as Kept_file, Description as Kept_description, Nothing}
-use Rattle.store.specs.declared.Stage.TheVariants.{Coming, Held, Lost}
-use Rattle.store.proofs.Laws.{get-inodes_by, laid_is}
+use Rattle.store.proofs.Laws.{laid_is}
 use Rattle.shadow.specs.Patches.{names_before, patched}
-use Rattle.shadow.specs.Stored.{state_of}
 use Rattle.shadow.specs.declared.change.Contents.{Contents}
 use Rattle.shadow.specs.declared.change.Contents.TheVariants.{Names}
-
--- no object of the store is a pipe
-no_pipe_in : (stage : Stage) (object : Object) → pipe_of_inode (shown_at stage (inode_of object)) ≡ []
-no_pipe_in Coming object = refl
-no_pipe_in Lost object = refl
-no_pipe_in Held (Kept_directory listing) = refl
-no_pipe_in Held (Kept_file file) = refl
-no_pipe_in Held (Kept_description opened) = refl
-no_pipe_in Held Nothing = refl
-
-pub stored_no_pipes : (processes : List Process) (s : Numbers) (p : ℕ) → pipe_of (state_of processes s) p ≡ []
-stored_no_pipes processes s p = by_place (get s.places p) refl
-  where
-    by_place : (o : Option Place) → get s.places p ≡ o → pipe_of (state_of processes s) p ≡ []
-    by_place (Some place) is = ap pipe_of_inode (get-inodes_by s p (Some place) is) ∙ no_pipe_in place.stage place.object
-    by_place None is = ap pipe_of_inode (get-inodes_by s p None is)
 
 -- the names of a directory with notes on top
 is_laid : (fresh : Bool) (notes : Notes) (dir : FinMap name_cmp ℕ) (o : Option Inode) → names_before fresh o ≡ dir → IsLaid notes dir (laid (entries notes) (names_before fresh o))
@@ -84,19 +60,3 @@ end_small (Err e) bytes place count low few is = tt
 end_small (Ok a) bytes place count low few is =
     let part : length a ≡ min count (length bytes - place) = ap length is ∙ length-take count (drop place bytes) ∙ ap (min count) (length-drop place bytes) in
     omega arith
-
--- nor has an inode of the committed state the kind of one
-pub no_pipe_kind : (processes : List Process) (s : Numbers) (n : ℕ) → kind_of (state_of processes s) n ≡ Some A_pipe → ⊥
-no_pipe_kind processes s n is = by_place (get s.places n) refl
-  where
-    not_one : (t : Stage) (object : Object) → mapped kind (shown_at t (inode_of object)) ≡ Some A_pipe → ⊥
-    not_one Coming object is = absurd cc
-    not_one Lost object is = absurd cc
-    not_one Held (Kept_directory listing) is = absurd cc
-    not_one Held (Kept_file file) is = absurd cc
-    not_one Held (Kept_description opened) is = absurd cc
-    not_one Held Nothing is = absurd cc
-
-    by_place : (o : Option Place) → get s.places n ≡ o → ⊥
-    by_place (Some place) at = not_one place.stage place.object (sym (ap (mapped kind) (get-inodes_by s n (Some place) at)) ∙ is)
-    by_place None at = absurd (let none : None ≡ Some A_pipe = sym (ap (mapped kind) (get-inodes_by s n None at)) ∙ is in cc)

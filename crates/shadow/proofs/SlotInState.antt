@@ -1,53 +1,58 @@
 -- One slot of the committed state changes.
-use Rattle.std.proofs.Common.{◌≡◌, ◌≢◌, ℕ, ◌<◌, ◌≤◌, true, List, [], length, Option, Some, None}
-use Rattle.std.proofs.Common.{is_some, refl, sym, ap, subst, ◌∙◌, inl, inr}
+use Rattle.std.proofs.Common.{◌≡◌, ℕ, ◌-◌, ◌<◌, ◌≤◌, ◌^◌, List, [], length, set, Option, Some, None}
+use Rattle.std.proofs.Common.{refl, sym, ap, subst, ◌∙◌, inl, inr}
 use Rattle.std.specs.Cmp.{nat_cmp_total}
 use Rattle.std.proofs.lemmas.Bool.{cases_eq}
+use Rattle.ids.specs.declared.limits.TheConstants.{DESCRIPTORS}
 use Rattle.model.specs.FiniteMap.{get, insert, nat_cmp-IsAntisymmetric, same_map}
 use Rattle.model.specs.State.{Kernel, Process}
-use Rattle.model.specs.Changes.{Clear_slot, applied, or_new, process_of, set_process, tidy}
+use Rattle.model.specs.Changes.{Clear_slot, Share_slot, applied, or_new, process_of, set_process, tidy}
 use Rattle.model.specs.Changes.{with_slot, without_slot}
 use Rattle.model.proofs.Laws.{get_other, get_same}
-use Rattle.call_laws.specs.Fits.{Fits}
+use Rattle.call_laws.specs.Fits.{Fits, IsAlive}
 use Rattle.freeing_laws.specs.Counts.{listed}
-use Rattle.freeing_laws.specs.Sweep.{all_closed}
+use Rattle.freeing_laws.specs.Sweep.{IsTidied, all_closed}
 use Rattle.freeing_laws.proofs.Laws.{sweep_is_tidy_lem}
 use Rattle.store.specs.Numbers.{Numbers}
 use Rattle.store.specs.Shown.{descriptions, inodes}
 use Rattle.shadow.specs.Claims.{Claim, New_directory, Number, Room, coming_directory, coming_other}
 use Rattle.shadow.specs.Claims.{number_of, or_zero, room_of}
 use Rattle.shadow.specs.Committed.{Committed, Reserve}
-use Rattle.shadow.specs.Laid.{AreLow, Frees, Holds, IsSlotted, kept_in, reserves_of, table_in}
+use Rattle.shadow.specs.Laid.{AreHeld, AreLow, Frees, Holds, IsOneLess, IsOneMore, IsSlotted, kept_in}
+use Rattle.shadow.specs.Laid.{reserves_of, table_in}
 use Rattle.shadow.specs.Openings.{slot_noted}
-use Rattle.shadow.specs.Stored.{Sound, committed_of, numbered, state_of, stored}
+use Rattle.shadow.specs.Steps.{slotting}
+use Rattle.shadow.specs.Stored.{Processes, Sound, committed_of, numbered, state_of, stored}
 use Rattle.shadow.proofs.Edited.{state_is, tidied_of}
 use Rattle.shadow.proofs.Freed.{IsMade, freed_sound, freed_state, made_holds}
-use Rattle.shadow.proofs.Living.{IsProcess, is_process}
+use Rattle.shadow.proofs.Slotting.{slotted}
 
 -- a process whose slot gives this from now on
 abbrev pub noted : ℕ → Option ℕ → Process → Process
 noted f (Some d) process = with_slot f d process
 noted f None process = without_slot f process
 
-noted_is : (f : ℕ) (given : Option ℕ) (o : Option Process)
+pub noted_is : (f : ℕ) (given : Option ℕ) (o : Option Process)
     → slot_noted f given o ≡ Some (noted f given (or_new o))
 noted_is f (Some d) o = refl
 noted_is f None o = refl
 
--- a process that there is has a number that is in use
-pub alive_process : (ps : List Process) (pid : ℕ) → get (numbered ps) pid ≢ None
-    → (0 < pid) × (pid ≤ length ps)
-alive_process ps pid alive = (is.some, is.low)
-  where
-    there : (o : Option Process) → o ≢ None → is_some o ≡ true
-    there None some = absurd (some refl)
-    there (Some p) some = refl
-
-    is : IsProcess ps pid
-    is = is_process ps pid (there (get (numbered ps) pid) alive)
+-- a slot of the process at a place gives this from now on
+pub slotted_by : (ps : Processes) (pid f : ℕ) (given former : Option ℕ) (now : Option Process)
+    (s t u : Numbers) → 0 < pid → pid ≤ length ps → f < DESCRIPTORS → length ps < 2 ^ 64
+    → former ≡ get (table_in (get (numbered ps) pid)) f
+    → now ≡ slot_noted f given (get (numbered ps) pid)
+    → AreHeld (IsOneMore given) s t → AreHeld (IsOneLess former) t u
+    → IsSlotted pid f given ps (set ps (pid - 1) now) s u
+slotted_by ps pid f given former now s t u some low fits few was gives more less =
+    let o : Option Process = get (numbered ps) pid in
+    subst (λ (now : Option Process). IsSlotted pid f given ps (set ps (pid - 1) now) s u)
+    (sym (gives ∙ noted_is f given o))
+    (slotted ps pid f given former (noted f given (or_new o)) s t u some low fits few was
+    (sym (noted_is f given o)) more less)
 
 -- in a well-formed state the descriptors are below the limit
-pub sound_low : (ps : List Process) (s : Numbers) → Sound ps s → AreLow ps
+pub sound_low : (ps : Processes) (s : Numbers) → Sound ps s → AreLow ps
 sound_low ps s sound = sound.well.low
 
 -- what is kept for a number, as claims can be met
@@ -62,7 +67,7 @@ kept_met s (Room d) = refl
 kept_met s (New_directory n) = refl
 kept_met s (Number n) = refl
 
-module _ (ps qs : List Process) (s t : Numbers) (pid f : ℕ) (given : Option ℕ)
+module _ (ps qs : Processes) (s t : Numbers) (pid f : ℕ) (given : Option ℕ)
     (laid : IsSlotted pid f given ps qs s t) where
   abbrev k : Kernel
   k = state_of ps s
@@ -104,53 +109,69 @@ module _ (ps qs : List Process) (s t : Numbers) (pid f : ℕ) (given : Option �
       ∙ sym (kept_met s c)
 
 -- nothing more goes
-pub frees_nothing : (ps : List Process) (s : Numbers) → Holds ps s → Frees (λ k. k) ps s s
+pub frees_nothing : (ps : Processes) (s : Numbers) → Holds ps s → Frees (λ k. k) ps s s
 frees_nothing ps s holds = record { state = refl; holds = holds; kept = λ c. refl }
 
--- a slot is cleared
-module _ (ps qs : List Process) (s t : Numbers) (pid f : ℕ) (pipes : List ℕ) (sound : Sound ps s)
-    (laid : IsSlotted pid f None ps qs s t) where
-  clears : applied [] (Clear_slot pid f pipes) (state_of ps s)
-      ≡ set_process pid (without_slot f (process_of (state_of ps s) pid)) (state_of ps s)
-  unfolding applied
-  clears = refl
+-- a slot gives something else, or nothing
+module _ (ps qs : Processes) (s t : Numbers) (pid f : ℕ) (pipes : List ℕ) (sound : Sound ps s)
+  where
+    gives : (given : Option ℕ) → applied [] (slotting given pid f pipes) (state_of ps s)
+        ≡ set_process pid (noted f given (process_of (state_of ps s) pid)) (state_of ps s)
+    unfolding applied
+    gives (Some d) = refl
+    gives None = refl
 
-  pub clearing_made : IsMade ps qs s t [] (Clear_slot pid f pipes)
-  clearing_made = record {
-    root = laid.stay.same.root;
-    state = slotted_state ps qs s t pid f None laid ∙ sym clears;
-    staged = laid.stay.same.staged sound.staged;
-    counted = laid.stay.counted (sound_low ps s sound) sound.counted;
-  }
+    pub slotting_made : (given : Option ℕ) → IsSlotted pid f given ps qs s t
+        → IsMade ps qs s t [] (slotting given pid f pipes)
+    slotting_made given laid = record {
+      root = laid.stay.same.root;
+      state = slotted_state ps qs s t pid f given laid ∙ sym (gives given);
+      staged = laid.stay.same.staged sound.staged;
+      counted = laid.stay.counted (sound_low ps s sound) sound.counted;
+    }
+
+-- what closing makes of the state in which a slot gives this
+freed_slot : (given : Option ℕ) (k : Kernel) (pid f : ℕ) (pipes : List ℕ) → IsTidied k
+    → Fits [] k (slotting given pid f pipes)
+    → all_closed (listed (get (process_of k pid).table f)) (applied [] (slotting given pid f pipes) k)
+    ≡ tidy (applied [] (slotting given pid f pipes) k)
+freed_slot (Some d) k pid f pipes tidied fits =
+    sweep_is_tidy_lem.in_turn [] k (Share_slot pid f d pipes) tidied fits
+freed_slot None k pid f pipes tidied fits =
+    sweep_is_tidy_lem.in_turn [] k (Clear_slot pid f pipes) tidied fits
+
+pub slotting_alive : (given : Option ℕ) (k : Kernel) (pid f : ℕ) (pipes : List ℕ)
+    → Fits [] k (slotting given pid f pipes) → IsAlive k pid
+slotting_alive (Some d) k pid f pipes fits = fits.alive
+slotting_alive None k pid f pipes fits = fits.alive
 
 -- and what it gave goes where no other slot gives it
-module _ (ps qs : List Process) (s t : Numbers) (pid f : ℕ) (pipes : List ℕ) (sound : Sound ps s)
-    (laid : IsSlotted pid f None ps qs s t)
-    (v : Committed) (is : committed_of ps s ≡ v) (fits : Fits [] v.state (Clear_slot pid f pipes))
+module _ (ps qs : Processes) (s t : Numbers) (pid f : ℕ) (given : Option ℕ) (pipes : List ℕ)
+    (sound : Sound ps s) (laid : IsSlotted pid f given ps qs s t)
+    (v : Committed) (is : committed_of ps s ≡ v) (fits : Fits [] v.state (slotting given pid f pipes))
     (former : Option ℕ) (gave : former ≡ get (table_in (get (numbered ps) pid)) f) where
-  stored_fits : Fits [] (state_of ps s) (Clear_slot pid f pipes)
-  stored_fits = subst (λ (v : Committed). Fits [] v.state (Clear_slot pid f pipes)) (sym is) fits
+  stored_fits : Fits [] (state_of ps s) (slotting given pid f pipes)
+  stored_fits = subst (λ (v : Committed). Fits [] v.state (slotting given pid f pipes)) (sym is) fits
 
-  pub cleared_holds : Holds qs t
-  cleared_holds = made_holds ps qs s t [] (Clear_slot pid f pipes) sound stored_fits
-      (clearing_made ps qs s t pid f pipes sound laid)
+  pub slotted_holds : Holds qs t
+  slotted_holds = made_holds ps qs s t [] (slotting given pid f pipes) sound stored_fits
+      (slotting_made ps qs s t pid f pipes sound given laid)
 
-  tidies : all_closed (listed former) (applied [] (Clear_slot pid f pipes) (state_of ps s))
-      ≡ tidy (applied [] (Clear_slot pid f pipes) (state_of ps s))
-  tidies = ap (λ o. all_closed (listed o) (applied [] (Clear_slot pid f pipes) (state_of ps s)))
+  tidies : all_closed (listed former) (applied [] (slotting given pid f pipes) (state_of ps s))
+      ≡ tidy (applied [] (slotting given pid f pipes) (state_of ps s))
+  tidies = ap (λ o. all_closed (listed o) (applied [] (slotting given pid f pipes) (state_of ps s)))
       gave
-      ∙ sweep_is_tidy_lem.in_turn [] (state_of ps s) (Clear_slot pid f pipes) (tidied_of ps s sound)
-      stored_fits
+      ∙ freed_slot given (state_of ps s) pid f pipes (tidied_of ps s sound) stored_fits
 
   module _ (now : Numbers) (freed : Frees (all_closed (listed former)) qs t now) where
-    pub cleared_sound : Sound qs now
-    cleared_sound = freed_sound ps qs s t [] (Clear_slot pid f pipes) sound stored_fits
-        (clearing_made ps qs s t pid f pipes sound laid) (all_closed (listed former)) tidies now
-        freed
+    pub slotted_sound : Sound qs now
+    slotted_sound = freed_sound ps qs s t [] (slotting given pid f pipes) sound stored_fits
+        (slotting_made ps qs s t pid f pipes sound given laid) (all_closed (listed former)) tidies
+        now freed
 
-    pub cleared_state : state_of qs now ≡ tidy (applied [] (Clear_slot pid f pipes) v.state)
-    cleared_state = state_is ps qs s v is (state_of qs now)
-        (λ k. tidy (applied [] (Clear_slot pid f pipes) k))
-        (freed_state ps qs s t [] (Clear_slot pid f pipes) sound stored_fits
-        (clearing_made ps qs s t pid f pipes sound laid) (all_closed (listed former)) tidies now
-        freed)
+    pub slotted_tidy : state_of qs now ≡ tidy (applied [] (slotting given pid f pipes) v.state)
+    slotted_tidy = state_is ps qs s v is (state_of qs now)
+        (λ k. tidy (applied [] (slotting given pid f pipes) k))
+        (freed_state ps qs s t [] (slotting given pid f pipes) sound stored_fits
+        (slotting_made ps qs s t pid f pipes sound given laid) (all_closed (listed former)) tidies
+        now freed)

@@ -15,10 +15,11 @@ use Rattle.freeing_laws.proofs.Left.{left_is_tidy_lem}
 use Rattle.freeing_laws.proofs.Openings.{openings_change_lem}
 use Rattle.store.specs.Numbers.{Numbers}
 use Rattle.store.specs.declared.Opened.{Opened}
-use Rattle.shadow.specs.Stored.{AreCounted, numbered, state_of}
+use Rattle.shadow.specs.Stored.{AreCounted, Processes, numbered, state_of}
 use Rattle.shadow.specs.Openings.{slot_noted}
 use Rattle.shadow.specs.Laid.{AreHeld, AreLow, IsOneLess, IsOneMore, IsSlotted, SameStore, WasHeld, table_in}
 use Rattle.shadow.proofs.Living.{no_process, process_of_number}
+use Rattle.shadow.proofs.PairsKept.{same_pairs}
 
 at_most_one : (b : Bool) → cond {A = ℕ} b 1 0 ≤ 1
 at_most_one true = omega arith
@@ -51,49 +52,45 @@ module _ {X : Type 0} where
       ]
 
 -- a number of a process that is there
-process_there : (ps : List Process) (q : ℕ) (p : Process) → get (numbered ps) q ≡ Some p → q < suc (length ps)
+process_there : (ps : Processes) (q : ℕ) (p : Process) → get (numbered ps) q ≡ Some p → q < suc (length ps)
 process_there ps q p is = elim (cases_lt q (suc (length ps))) [
   | inl low ↦ low
   | inr high ↦ absurd (not_none p (sym is ∙ no_process ps q (inr (omega (arith, high)))))
 ]
 
 -- there are few holders of a description
-pub few_holders : (ps : List Process) (s : Numbers) (d : ℕ) → AreLow ps → length ps < 2 ^ 64 → holders (state_of ps s) d + 1 < 2 ^ 128
+pub few_holders : (ps : Processes) (s : Numbers) (d : ℕ) → AreLow ps → length ps < 2 ^ 64 → holders (state_of ps s) d + 1 < 2 ^ 128
 few_holders ps s d low few =
     let most : holders (state_of ps s) d ≤ DESCRIPTORS * len (numbered ps) = openings_change_lem.most_holders (state_of ps s) d (λ pid it is. few_keys DESCRIPTORS it.table (λ f e gives. low pid f e (ap (λ o. get (table_in o) f) is ∙ gives))) in
     let all : len (numbered ps) ≤ suc (length ps) = few_keys (suc (length ps)) (numbered ps) (process_there ps) in
     omega arith
 
--- one process changes
-module _ (ps : List Process) (pid : ℕ) (new : Process) (some : 0 < pid) (low : pid ≤ length ps) where
-  abbrev after : List Process
+-- one place changes
+module _ (ps : Processes) (pid : ℕ) (new : Option Process) (some : 0 < pid) (low : pid ≤ length ps) where
+  abbrev after : Processes
   after = set ps (pid - 1) new
 
-  same_count : length after ≡ length ps
+  pub same_count : length after ≡ length ps
   same_count = length-set ps (pid - 1) new
 
-  pub numbered_here : get (numbered after) pid ≡ Some new
-  numbered_here =
-      let count : length after ≡ length ps = same_count in
-      process_of_number after pid new some (omega arith) ∙ ap (λ p. Some p) (get_or-set_same ps (pid - 1) new new (omega arith))
+  pub numbered_here : get (numbered after) pid ≡ new
+  numbered_here = process_of_number after pid some ∙ get_or-set_same ps (pid - 1) new None (omega arith)
 
   pub numbered_others : (q : ℕ) → q ≢ pid → get (numbered after) q ≡ get (numbered ps) q
   numbered_others q away = elim (cases_eq q 0) [
     | inl none ↦ no_process after q (inl none) ∙ sym (no_process ps q (inl none))
-    | inr more ↦ elim (cases_lt (length ps) q) [
-      | inl high ↦ no_process after q (inr (let count : length after ≡ length ps = same_count in omega (arith, high))) ∙ sym (no_process ps q (inr high))
-      | inr there ↦
-          (let count : length after ≡ length ps = same_count in
-          process_of_number after q new (omega (arith, more)) (omega (arith, there))
-          ∙ ap (λ p. Some p) (get_or-set_other ps (pid - 1) (q - 1) new new (λ same. away (omega (arith, same, more))))
-          ∙ sym (process_of_number ps q new (omega (arith, more)) (omega (arith, there))))
-    ]
+    | inr more ↦
+        process_of_number after q (omega (arith, more))
+        ∙ get_or-set_other ps (pid - 1) (q - 1) new None (λ same. away (omega (arith, same, more)))
+        ∙ sym (process_of_number ps q (omega (arith, more)))
   ]
 
-  pub numbered_set : numbered after ≡ insert (numbered ps) pid new
+-- a process changes
+module _ (ps : Processes) (pid : ℕ) (new : Process) (some : 0 < pid) (low : pid ≤ length ps) where
+  pub numbered_set : numbered (set ps (pid - 1) (Some new)) ≡ insert (numbered ps) pid new
   numbered_set = same_map nat_cmp_total nat_cmp-IsAntisymmetric _ _ (λ q. elim (cases_eq q pid) [
-    | inl same ↦ ap (get (numbered after)) same ∙ numbered_here ∙ sym (ap (get (insert (numbered ps) pid new)) same ∙ get_same (numbered ps) pid new)
-    | inr away ↦ numbered_others q away ∙ sym (get_other (numbered ps) pid q new away)
+    | inl same ↦ ap (get (numbered (set ps (pid - 1) (Some new)))) same ∙ numbered_here ps pid (Some new) some low ∙ sym (ap (get (insert (numbered ps) pid new)) same ∙ get_same (numbered ps) pid new)
+    | inr away ↦ numbered_others ps pid (Some new) some low q away ∙ sym (get_other (numbered ps) pid q new away)
   ])
 
 -- the slot of a process after this was given to it
@@ -127,11 +124,11 @@ same_store_same s t u first later = record {
   staged = λ h. later.staged (first.staged h);
 }
 
-module _ (ps : List Process) (pid f : ℕ) (given former : Option ℕ) (new : Process) (s t u : Numbers) (some : 0 < pid) (low : pid ≤ length ps) (fits : f < DESCRIPTORS) (few : length ps < 2 ^ 64)
+module _ (ps : Processes) (pid f : ℕ) (given former : Option ℕ) (new : Process) (s t u : Numbers) (some : 0 < pid) (low : pid ≤ length ps) (fits : f < DESCRIPTORS) (few : length ps < 2 ^ 64)
     (was : former ≡ get (table_in (get (numbered ps) pid)) f) (gives : Some new ≡ slot_noted f given (get (numbered ps) pid))
     (more : AreHeld (IsOneMore given) s t) (less : AreHeld (IsOneLess former) t u) where
-  abbrev qs : List Process
-  qs = set ps (pid - 1) new
+  abbrev qs : Processes
+  qs = set ps (pid - 1) (Some new)
 
   holders_now : (e : ℕ) → holders (state_of qs u) e + times e (listed former) ≡ holders (state_of ps s) e + times e (listed given)
   holders_now e =
@@ -144,6 +141,7 @@ module _ (ps : List Process) (pid f : ℕ) (given former : Option ℕ) (new : Pr
   counted_now all counted = record {
     openings = λ n file is. counted.openings n file (more.files n file (less.files n file is)) ∙ sym (openings_change_lem.by_descriptions (state_of ps s) (state_of qs u) (less.descriptions ∙ more.descriptions) n);
     holders = λ d opened is. of_holders d opened (less.opened d opened is);
+    pipes = λ p pipe is. same_pairs (state_of ps s) (state_of qs u) (less.descriptions ∙ more.descriptions) p pipe.reader pipe.writer (counted.pipes p pipe (more.pipes p pipe (less.pipes p pipe is)));
   }
     where
       of_holders : (d : ℕ) (opened : Opened) → WasHeld (IsOneLess former d) t d opened → opened.holders ≡ holders (state_of qs u) d
@@ -160,8 +158,8 @@ module _ (ps : List Process) (pid f : ℕ) (given former : Option ℕ) (new : Pr
 
   low_now : AreLow ps → AreLow qs
   low_now all q g d is = elim (cases_eq q pid) [
-    | inl same ↦ given_low f given (get (numbered ps) pid) new gives fits g d (ap (λ o. get (table_in o) g) (sym (numbered_here ps pid new some low)) ∙ ap (λ q. get (table_in (get (numbered qs) q)) g) (sym same) ∙ is) (all pid)
-    | inr away ↦ all q g d (ap (λ o. get (table_in o) g) (sym (numbered_others ps pid new some low q away)) ∙ is)
+    | inl same ↦ given_low f given (get (numbered ps) pid) new gives fits g d (ap (λ o. get (table_in o) g) (sym (numbered_here ps pid (Some new) some low)) ∙ ap (λ q. get (table_in (get (numbered qs) q)) g) (sym same) ∙ is) (all pid)
+    | inr away ↦ all q g d (ap (λ o. get (table_in o) g) (sym (numbered_others ps pid (Some new) some low q away)) ∙ is)
   ]
 
   pub slotted : IsSlotted pid f given ps qs s u
@@ -170,10 +168,10 @@ module _ (ps : List Process) (pid f : ℕ) (given former : Option ℕ) (new : Pr
       same = same_store_same s t u more.same less.same;
       descriptions = less.descriptions ∙ more.descriptions;
       reserves = λ n. less.reserves n ∙ more.reserves n;
-      count = same_count ps pid new some low;
+      count = same_count ps pid (Some new) some low;
       low = low_now;
       counted = counted_now;
     };
-    here = numbered_here ps pid new some low ∙ gives;
-    others = numbered_others ps pid new some low;
+    here = numbered_here ps pid (Some new) some low ∙ gives;
+    others = numbered_others ps pid (Some new) some low;
   }

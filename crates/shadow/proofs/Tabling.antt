@@ -13,16 +13,16 @@ use Rattle.call_laws.proofs.Laws.{not_none, some_same}
 use Rattle.fdtable.specs.Patches.{Given, or_before}
 use Rattle.freeing_laws.specs.Counts.{times}
 use Rattle.store.specs.Numbers.{Numbers}
-use Rattle.shadow.specs.Stored.{numbered}
+use Rattle.shadow.specs.Stored.{Processes, numbered}
 use Rattle.shadow.specs.Openings.{slot_noted}
-use Rattle.shadow.specs.Patches.{reslotted}
+use Rattle.shadow.specs.Patches.{reslotted, reslotted_by, slots_in}
 use Rattle.shadow.specs.Laid.{IsReslotted, IsSlotted, SlotsStay, given_by, table_in}
 use Rattle.shadow.proofs.Holding.{once_here}
 use Rattle.shadow.proofs.Slots_over.{map_over, new_of, none_over, noted_over}
 use Rattle.shadow.proofs.Slotting.{same_store_same}
 
 -- one after the other, what stays stays
-pub stays_still : (ps : List Process) (s : Numbers) → SlotsStay ps ps s s
+pub stays_still : (ps : Processes) (s : Numbers) → SlotsStay ps ps s s
 stays_still ps s = record {
   same = record { root = refl; inodes = refl; staged = λ h. h };
   descriptions = refl;
@@ -32,7 +32,7 @@ stays_still ps s = record {
   counted = λ low h. h;
 }
 
-pub stays_on : (ps qs rs : List Process) (s t u : Numbers) → SlotsStay ps qs s t → SlotsStay qs rs t u → SlotsStay ps rs s u
+pub stays_on : (ps qs rs : Processes) (s t u : Numbers) → SlotsStay ps qs s t → SlotsStay qs rs t u → SlotsStay ps rs s u
 stays_on ps qs rs s t u first later = record {
   same = same_store_same s t u first.same later.same;
   descriptions = later.descriptions ∙ first.descriptions;
@@ -41,6 +41,14 @@ stays_on ps qs rs s t u first later = record {
   low = λ h. later.low (first.low h);
   counted = λ low h. later.counted (first.low low) (first.counted low h);
 }
+
+-- a process that is there stays so where its slots change
+pub still_there : (given : Option Given) (o : Option Process) → o ≢ None → reslotted given o ≢ None
+still_there given o there = by_slots (slots_in given)
+  where
+    by_slots : (gs : List (ℕ × Option ℕ)) → reslotted_by gs o ≢ None
+    by_slots [] = there
+    by_slots (g ∷ gs) = not_none _
 
 -- the table of a process after changes of its slots
 pub table_over : (m : Given) (o : Option Process) (f : ℕ) → get (table_in (reslotted (Some m) o)) f ≡ or_before (get m f) (get (table_in o) f)
@@ -78,7 +86,7 @@ pub noted_somewhere : (given : Given) (f : ℕ) (g : Option ℕ) → get given f
 noted_somewhere given f g is none = not_none g (sym is ∙ get-entries given f ∙ ap (find nat_cmp f) none)
 
 -- the changes of the slots below n are made
-pub record Reslots (pid n : ℕ) (given former : Given) (ps qs : List Process) (old now : Numbers) : Type 0 where
+pub record Reslots (pid n : ℕ) (given former : Given) (ps qs : Processes) (old now : Numbers) : Type 0 where
   pub done : Given
   pub below : (f : ℕ) → f < n → get done f ≡ get given f
   pub above : (f : ℕ) → n ≤ f → get done f ≡ None
@@ -87,7 +95,7 @@ pub record Reslots (pid n : ℕ) (given former : Given) (ps qs : List Process) (
   pub others : (q : ℕ) → q ≢ pid → get (numbered qs) q ≡ get (numbered ps) q
   pub before : (f : ℕ) → get done f ≢ None → get former f ≡ Some (get (table_in (get (numbered ps) pid)) f)
 
-pub reslots_nothing : (pid : ℕ) (given former : Given) (ps : List Process) (s : Numbers) → former ≡ empty → Reslots pid 0 given former ps ps s s
+pub reslots_nothing : (pid : ℕ) (given former : Given) (ps : Processes) (s : Numbers) → former ≡ empty → Reslots pid 0 given former ps ps s s
 reslots_nothing pid given former ps s is = record {
   done = empty;
   below = λ f low. absurd (omega (arith, low));
@@ -98,7 +106,7 @@ reslots_nothing pid given former ps s is = record {
   before = λ f some. absurd (some (get-empty nat_cmp f));
 }
 
-module _ (pid n : ℕ) (given former : Given) (ps qs : List Process) (old now : Numbers) (so : Reslots pid n given former ps qs old now) where
+module _ (pid n : ℕ) (given former : Given) (ps qs : Processes) (old now : Numbers) (so : Reslots pid n given former ps qs old now) where
   -- nothing is noted of the next slot
   pub reslots_past : get given n ≡ None → Reslots pid (n + 1) given former ps qs old now
   reslots_past none = record {
@@ -121,7 +129,7 @@ module _ (pid n : ℕ) (given former : Given) (ps qs : List Process) (old now : 
       ∙ ap (λ o. or_before o (get (table_in (get (numbered ps) pid)) f)) none
 
   -- the next slot changes
-  module _ (g was : Option ℕ) (noted : get given n ≡ Some g) (former' : Given) (rs : List Process) (later : Numbers)
+  module _ (g was : Option ℕ) (noted : get given n ≡ Some g) (former' : Given) (rs : Processes) (later : Numbers)
       (slotted : IsSlotted pid n g qs rs now later) (kept : was ≡ get (table_in (get (numbered qs) pid)) n) (is : former' ≡ insert former n was) where
     before_at : get former' n ≡ Some (get (table_in (get (numbered ps) pid)) n)
     before_at = ap (λ (m : Given). get m n) is ∙ get_same former n was ∙ ap (λ o. Some o) (kept ∙ unchanged n (so.above n (omega arith)))

@@ -5,7 +5,7 @@ use Rattle.std.specs.Option.{option_map, option_and_then}
 use Rattle.std.proofs.lemmas.Bool.{cases_eq}
 use Rattle.std.specs.Ordering.{nat_cmp}
 use Rattle.model.specs.FiniteMap.{FinMap, get, insert, remove, empty, get-empty}
-use Rattle.model.specs.State.{Kernel, Process, name_cmp, kind, mapped, names_of_inode, links}
+use Rattle.model.specs.State.{Kernel, name_cmp, kind, mapped, names_of_inode, links}
 use Rattle.model.specs.Changes.{holders, openings, tidy}
 use Rattle.model.specs.Moments.{start}
 use Rattle.model.specs.Steps.{IsNowhere}
@@ -23,8 +23,9 @@ use Rattle.store.specs.declared.Place.{Place}
 use Rattle.store.specs.declared.Stage.{Stage}
 use Rattle.store.specs.declared.Stage.TheVariants.{Coming, Held, Lost}
 use Rattle.store.specs.declared.Object.{Object}
-use Rattle.store.specs.declared.Object.TheVariants.{Directory as Kept_directory, File as Kept_file, Description as Kept_description, Nothing}
-use Rattle.shadow.specs.Stored.{stored, state_of, FitsStage, IsBare, IsStaged, IsUnsettled, Sound}
+use Rattle.store.specs.declared.Object.TheVariants.{Directory as Kept_directory, File as Kept_file, Pipe as Kept_pipe, Description as Kept_description, Nothing}
+use Rattle.freeing_laws.specs.Pipes.{ArePair}
+use Rattle.shadow.specs.Stored.{FitsStage, IsBare, IsStaged, IsUnsettled, Processes, Sound, state_of, stored}
 use Rattle.shadow.proofs.Places.{get_chosen, remove_absent, place_altered, place_other, place_over, place_swept_other, swept_stays, without_place}
 use Rattle.shadow.proofs.Meets.{IsAwaited, with_place}
 
@@ -32,10 +33,10 @@ use Rattle.shadow.proofs.Meets.{IsAwaited, with_place}
 abbrev pub ShowsNoMore : Numbers → Numbers → Type 0
 ShowsNoMore s after = (n : ℕ) (object : Object) → listing_of object ≡ None → object_at after n ≡ Some object → object_at s n ≡ Some object
 
-pub same_state : (ps : List Process) (s after : Numbers) → inodes after ≡ inodes s → descriptions after ≡ descriptions s → state_of ps after ≡ state_of ps s
+pub same_state : (ps : Processes) (s after : Numbers) → inodes after ≡ inodes s → descriptions after ≡ descriptions s → state_of ps after ≡ state_of ps s
 same_state ps s after is opened_same = ap₂ (stored ps) is opened_same
 
-pub same_sound : (ps : List Process) (s after : Numbers) → Sound ps s → after.root ≡ s.root → inodes after ≡ inodes s → descriptions after ≡ descriptions s
+pub same_sound : (ps : Processes) (s after : Numbers) → Sound ps s → after.root ≡ s.root → inodes after ≡ inodes s → descriptions after ≡ descriptions s
     → ((n : ℕ) → IsStaged (get after.places n)) → ShowsNoMore s after → Sound ps after
 same_sound ps s after sound root is opened_same staged shows =
     let same : state_of ps after ≡ state_of ps s = same_state ps s after is opened_same in
@@ -47,6 +48,7 @@ same_sound ps s after sound root is opened_same staged shows =
       counted = record {
         openings = λ n file there. sound.counted.openings n file (shows n (Kept_file file) refl there) ∙ ap (λ (k : Kernel). openings k n) (sym same);
         holders = λ d opened there. sound.counted.holders d opened (shows d (Kept_description opened) refl there) ∙ ap (λ (k : Kernel). holders k d) (sym same);
+        pipes = λ p pipe there. subst (λ m. ArePair m p pipe.reader pipe.writer) (sym opened_same) (sound.counted.pipes p pipe (shows p (Kept_pipe pipe) refl there));
       };
     }
 
@@ -85,6 +87,7 @@ abbrev IsSomething : Object → Type 0
 IsSomething Nothing = ⊥
 IsSomething (Kept_directory l) = ⊤
 IsSomething (Kept_file file) = ⊤
+IsSomething (Kept_pipe pipe) = ⊤
 IsSomething (Kept_description opened) = ⊤
 
 something : (l : Listing) → Kept_directory l ≢ Nothing
@@ -100,6 +103,7 @@ more_staged (Some place) fits = by_stage place.stage place.object fits
     by_stage Held (Kept_directory l) fits = something (more_room l)
     by_stage Lost (Kept_directory l) fits = lt-ltb 0 (l.promised + 1) (omega arith)
     by_stage t (Kept_file file) fits = fits
+    by_stage t (Kept_pipe pipe) fits = fits
     by_stage t (Kept_description opened) fits = fits
     by_stage t Nothing fits = fits
 
@@ -113,6 +117,7 @@ less_staged (Some place) fits left = by_stage place.stage place.object fits left
     by_stage Held (Kept_directory l) fits left = something (less_room l)
     by_stage Lost (Kept_directory l) fits left = not_false (has_room (listing_of (changed_object less_room (Kept_directory l)))) left
     by_stage t (Kept_file file) fits left = fits
+    by_stage t (Kept_pipe pipe) fits left = fits
     by_stage t (Kept_description opened) fits left = fits
     by_stage t Nothing fits left = fits
 
@@ -139,6 +144,7 @@ shows_in f s d n object none is = elim (cases_eq n d) [
     by_stage : (t : Stage) (o : Object) → if_held t (changed_object f o) ≡ Some object → if_held t o ≡ Some object
     by_stage Held (Kept_directory l) is = absurd (no_listing (f l) object (some_object (Kept_directory (f l)) object is) none)
     by_stage Held (Kept_file file) is = is
+    by_stage Held (Kept_pipe pipe) is = is
     by_stage Held (Kept_description opened) is = is
     by_stage Held Nothing is = is
     by_stage Coming o is = is
@@ -175,12 +181,12 @@ swept_root s n = by_test (is_over (get s.places n))
     by_test true = refl
     by_test false = refl
 
-pub promised_sound : (ps : List Process) (s after : Numbers) (d : ℕ) → Sound ps s → after ≡ altered (with_listing more_room) s d → inodes after ≡ inodes s → descriptions after ≡ descriptions s → Sound ps after
+pub promised_sound : (ps : Processes) (s after : Numbers) (d : ℕ) → Sound ps s → after ≡ altered (with_listing more_room) s d → inodes after ≡ inodes s → descriptions after ≡ descriptions s → Sound ps after
 promised_sound ps s after d sound is shown opened_same = same_sound ps s after sound (ap (λ (t : Numbers). t.root) is) shown opened_same
     (subst (λ (t : Numbers). (n : ℕ) → IsStaged (get t.places n)) (sym is) (altered_staged (with_listing more_room) s d sound.staged (more_staged (get s.places d) (sound.staged d))))
     (subst (ShowsNoMore s) (sym is) (shows_in more_room s d))
 
-pub released_sound : (ps : List Process) (s after : Numbers) (d : ℕ) → Sound ps s → after ≡ released s d → inodes after ≡ inodes s → descriptions after ≡ descriptions s → Sound ps after
+pub released_sound : (ps : Processes) (s after : Numbers) (d : ℕ) → Sound ps s → after ≡ released s d → inodes after ≡ inodes s → descriptions after ≡ descriptions s → Sound ps after
 released_sound ps s after d sound is shown opened_same = same_sound ps s after sound (ap (λ (t : Numbers). t.root) is ∙ swept_root (altered (with_listing less_room) s d) d) shown opened_same
     (subst (λ (t : Numbers). (n : ℕ) → IsStaged (get t.places n)) (sym is) (altered_swept_staged (with_listing less_room) s d sound.staged (less_staged (get s.places d) (sound.staged d))))
     (subst (ShowsNoMore s) (sym is) (λ n object none there. shows_in less_room s d n object none (shows_swept (altered (with_listing less_room) s d) d n object none there)))
@@ -203,7 +209,7 @@ pub no_description : (b : Bool) (s : Numbers) (n : ℕ) → IsAwaited b n (get s
 no_description b s n some = get_chosen description_in s.places n ∙ coming_unseen b n description_of (get s.places n) some
 
 -- a number of an object to come is given back
-module _ (ps : List Process) (s after : Numbers) (b : Bool) (n : ℕ) (some : IsAwaited b n (get s.places n)) (shown : inodes after ≡ remove (inodes s) n) (opened_same : descriptions after ≡ remove (descriptions s) n) where
+module _ (ps : Processes) (s after : Numbers) (b : Bool) (n : ℕ) (some : IsAwaited b n (get s.places n)) (shown : inodes after ≡ remove (inodes s) n) (opened_same : descriptions after ≡ remove (descriptions s) n) where
   pub given_back_state : state_of ps after ≡ state_of ps s
   given_back_state = same_state ps s after (shown ∙ remove_absent (inodes s) n (no_inode b s n some)) (opened_same ∙ remove_absent (descriptions s) n (no_description b s n some))
 
@@ -218,7 +224,7 @@ pub links_links_in : (k : Kernel) (n : ℕ) → links k n ≡ links_in k.inodes 
 unfolding links
 links_links_in k n = refl
 
-pub coming_unnamed : (ps : List Process) (s : Numbers) (b : Bool) (n : ℕ) → Sound ps s → IsAwaited b n (get s.places n) → links_in (inodes s) n ≡ 0
+pub coming_unnamed : (ps : Processes) (s : Numbers) (b : Bool) (n : ℕ) → Sound ps s → IsAwaited b n (get s.places n) → links_in (inodes s) n ≡ 0
 coming_unnamed ps s b n sound some =
     sym (links_links_in (state_of ps s) n) ∙ none_count (state_of ps s) n (λ d x is. subst CanBeNamed (ap (mapped kind) (no_inode b s n some)) (sound.well.names d x n is))
 
@@ -230,12 +236,14 @@ pub bare_names : (object : Object) → IsBare object → names_of_inode (inode_o
 bare_names (Kept_directory l) bare = bare.0
 bare_names Nothing bare = refl
 bare_names (Kept_file file) bare = absurd bare
+bare_names (Kept_pipe pipe) bare = absurd bare
 bare_names (Kept_description opened) bare = absurd bare
 
 unsettled : (object : Object) → IsBare object → IsUnsettled object
 unsettled (Kept_directory l) bare = λ x. ap (λ (ns : FinMap name_cmp ℕ). get ns x) bare.0 ∙ get-empty name_cmp x
 unsettled Nothing bare = tt
 unsettled (Kept_file file) bare = absurd bare
+unsettled (Kept_pipe pipe) bare = absurd bare
 unsettled (Kept_description opened) bare = absurd bare
 
 shows_coming : (s : Numbers) (n : ℕ) (o : Object) → ShowsNoMore s (with_place s n (coming o))
@@ -244,7 +252,7 @@ shows_coming s n o m object none is = elim (cases_eq m n) [
   | inr away ↦ ap held (sym (get_other s.places n m (coming o) away)) ∙ is
 ]
 
-pub reserved_sound : (ps : List Process) (s after : Numbers) (n : ℕ) (object : Object) → Sound ps s → IsBare object → after ≡ with_place s n (coming object) → inodes after ≡ inodes s → descriptions after ≡ descriptions s → Sound ps after
+pub reserved_sound : (ps : Processes) (s after : Numbers) (n : ℕ) (object : Object) → Sound ps s → IsBare object → after ≡ with_place s n (coming object) → inodes after ≡ inodes s → descriptions after ≡ descriptions s → Sound ps after
 reserved_sound ps s after n object sound bare is shown opened_same = same_sound ps s after sound (ap (λ (t : Numbers). t.root) is) shown opened_same
     (subst (λ (t : Numbers). (n : ℕ) → IsStaged (get t.places n)) (sym is) staged) (subst (ShowsNoMore s) (sym is) (shows_coming s n object))
   where
@@ -255,11 +263,11 @@ reserved_sound ps s after n object sound bare is shown opened_same = same_sound 
     ]
 
 -- a number that is not in use is nowhere
-pub unused_nowhere : UnusedNumbersAreNowhere → (ps : List Process) (s : Numbers) (n : ℕ) → Sound ps s → get s.places n ≡ None → IsNowhere (state_of ps s) n
+pub unused_nowhere : UnusedNumbersAreNowhere → (ps : Processes) (s : Numbers) (n : ℕ) → Sound ps s → get s.places n ≡ None → IsNowhere (state_of ps s) n
 unused_nowhere law ps s n sound none = law (state_of ps s) n sound.well (get_chosen inode_in s.places n ∙ ap (option_and_then inode_in) none) (get_chosen description_in s.places n ∙ ap (option_and_then description_in) none)
 
 -- the first form
-pub first_sound : CallLaws WellFormed → (ps : List Process) (priorities : List ℕ) (s : Numbers) → state_of ps s ≡ start 0 priorities → s.root ≡ 0 → IsFirstRoot s → Sound ps s
+pub first_sound : CallLaws WellFormed → (ps : Processes) (priorities : List ℕ) (s : Numbers) → state_of ps s ≡ start 0 priorities → s.root ≡ 0 → IsFirstRoot s → Sound ps s
 first_sound laws ps priorities s is root first = record {
   root = root;
   well = subst WellFormed (sym is) (laws.well_start 0 priorities);
@@ -268,6 +276,7 @@ first_sound laws ps priorities s is root first = record {
   counted = record {
     openings = λ n file there. absurd (only n (Kept_file file) refl there);
     holders = λ d opened there. absurd (only d (Kept_description opened) refl there);
+    pipes = λ p pipe there. absurd (only p (Kept_pipe pipe) refl there);
   };
 }
   where

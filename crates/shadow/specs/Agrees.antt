@@ -3,18 +3,20 @@ use Rattle.std.specs.Prelude.{◌≡◌, ◌≢◌, ◌↔◌, ℕ, ◌≤◌, m
 use Rattle.std.specs.Prelude.{Contains, length, Option, Some, None, is_some, ⊤}
 use Rattle.std.specs.List.{flat_map}
 use Rattle.model.specs.FiniteMap.{get}
-use Rattle.model.specs.State.{Kind, A_file, A_directory, Kernel, kind_of, file_of}
+use Rattle.model.specs.State.{Kind, A_file, A_directory, A_pipe, Kernel, kind_of, file_of}
 use Rattle.model.specs.Moments.{is_alive}
 use Rattle.model.specs.Effects.{Effect, all_done}
+use Rattle.call_laws.specs.WellFormed.{WellFormed}
 use Rattle.freeing_laws.specs.Counts.{times}
 use Rattle.freeing_laws.specs.Left.{named_along, unnamed_along}
+use Rattle.freeing_laws.specs.Pipes.{ArePair}
 use Rattle.freeing_laws.specs.Sweep.{AllFit}
 use Rattle.shadow.specs.declared.change.Made.{Made}
-use Rattle.shadow.specs.declared.change.Made.TheVariants.{Directory, File}
+use Rattle.shadow.specs.declared.change.Made.TheVariants.{Directory, File, Pipe}
 use Rattle.shadow.specs.declared.opening.Opening.{Opening}
 use Rattle.shadow.specs.declared.opening.Opening.TheVariants.{Kept, New, Moved}
 use Rattle.shadow.specs.Claims.{Claim, claimed, claim_in}
-use Rattle.shadow.specs.Patches.{Form, no_change, of_names, of_bytes, Patches}
+use Rattle.shadow.specs.Patches.{AllReach, Form, no_change, of_names, of_bytes, of_pipe, Patches, new_ends}
 use Rattle.shadow.specs.Patches.{added_by, form_of, kept_at, net_at, opening_at, patched, reopened}
 use Rattle.shadow.specs.Patches.{numbers_in, reslotted, slots_in}
 use Rattle.shadow.specs.Steps.{blocks_by}
@@ -24,9 +26,11 @@ use Rattle.shadow.specs.Steps.{blocks_by}
 abbrev pub IsOver : Option Kind → Option Made → Form → Type 0
 IsOver kind (Some Directory) form = form ≡ of_names true
 IsOver kind (Some File) form = form ≡ of_bytes true
+IsOver kind (Some Pipe) form = form ≡ of_pipe true
 IsOver kind None no_change = ⊤
 IsOver kind None (of_names fresh) = (fresh ≡ false) × (kind ≡ Some A_directory)
 IsOver kind None (of_bytes fresh) = (fresh ≡ false) × (kind ≡ Some A_file)
+IsOver kind None (of_pipe fresh) = (fresh ≡ false) × (kind ≡ Some A_pipe)
 
 abbrev pub IsOverDescription : Opening → Bool → Type 0
 IsOverDescription (Moved place) there = there ≡ true
@@ -38,10 +42,11 @@ abbrev pub blocks_written : ℕ → List Effect → List ℕ
 blocks_written n ds = flat_map (λ d. flat_map (blocks_by n) d.edits) ds
 
 pub record Agrees (ds : List Effect) (p : Patches) : Type 0 where
-  -- what stands at each number after the changes, whatever the state is below them
+  -- what stands at each number after the changes, whatever the state is below them; for an inode it
+  -- is a state that they fit
   pub root : (k : Kernel) → (all_done ds k).root ≡ k.root
   pub count : (k : Kernel) → (all_done ds k).made ≡ k.made
-  pub inodes : (k : Kernel) (n : ℕ)
+  pub inodes : (k : Kernel) (n : ℕ) → AllFit ds k
       → get (all_done ds k).inodes n ≡ patched (net_at p.inodes n).contents (get k.inodes n)
   pub descriptions : (k : Kernel) (d : ℕ)
       → get (all_done ds k).descriptions d ≡ reopened (opening_at p.openings d) (get k.descriptions d)
@@ -54,6 +59,9 @@ pub record Agrees (ds : List Effect) (p : Patches) : Type 0 where
   -- what is claimed, and that it is enough for the names that come
   pub claims : (c : Claim) → claimed c ds ≡ claim_in p c
   pub added : (n : ℕ) → added_by (net_at p.inodes n).contents ≤ (net_at p.inodes n).promised
+  -- no room is promised in what has not changed
+  pub still : (n : ℕ) → form_of (net_at p.inodes n).contents ≡ no_change
+      → (net_at p.inodes n).promised ≡ 0
   -- where the changes fit: what stands below them is of their kind, and there is room for what has
   -- grown
   pub kinds : (k : Kernel) (n : ℕ) → AllFit ds k
@@ -64,5 +72,11 @@ pub record Agrees (ds : List Effect) (p : Patches) : Type 0 where
       → Contains (numbers_in (net_at p.inodes n).contents) b ↔ Contains (blocks_written n ds) b
   pub moved : (k : Kernel) (d : ℕ) → AllFit ds k
       → IsOverDescription (opening_at p.openings d) (is_some (get k.descriptions d))
+  -- all that is taken from a pipe was there, and of a new pipe these two descriptions are
+  pub reach : (k : Kernel) (n : ℕ) → AllFit ds k
+      → AllReach (net_at p.inodes n).contents (get k.inodes n)
+  pub pipes : (k : Kernel) (n : ℕ) (ends : ℕ × ℕ)
+      → new_ends (net_at p.inodes n).contents ≡ Some ends → WellFormed k → AllFit ds k
+      → ArePair (all_done ds k).descriptions n ends.0 ends.1
   pub alive : (k : Kernel) (pid : ℕ) → AllFit ds k → slots_in (kept_at p.slots pid) ≢ []
       → is_alive k pid ≡ true

@@ -16,7 +16,7 @@ use Rattle.shadow.specs.Patches.{Net, Patches, is_new, net_at, opening_at}
 use Rattle.shadow.specs.Steps.{directories_in, files_in, opened_in, parents_in}
 use Rattle.shadow.specs.declared.change.Change.{Change}
 use Rattle.shadow.specs.declared.change.Made.{Made}
-use Rattle.shadow.specs.declared.change.Made.TheVariants.{Directory, File}
+use Rattle.shadow.specs.declared.change.Made.TheVariants.{Directory, File, Pipe}
 use Rattle.shadow.specs.declared.opening.Opening.{Opening}
 
 -- room for one more name in a directory, a number for a directory to come, or one for another object
@@ -67,10 +67,13 @@ claimed c ds = sum_by (claimed_by c) ds
 abbrev pub is_directory_made : Option Made → Bool
 is_directory_made (Some Directory) = true
 is_directory_made (Some File) = false
+is_directory_made (Some Pipe) = false
 is_directory_made None = false
 
+-- a file or a pipe
 abbrev pub is_file_made : Option Made → Bool
 is_file_made (Some File) = true
+is_file_made (Some Pipe) = true
 is_file_made (Some Directory) = false
 is_file_made None = false
 
@@ -182,8 +185,16 @@ pub record IsClaimed (s t : Committed) (e : Edit) (old new : List ℕ) : Type 0 
   pub count : length mine ≡ news e
   pub unused : AllByRecursion (λ n. (get s.reserves n ≡ None) × IsNowhere s.state n) mine
   pub used : AllByRecursion (λ n. get t.reserves n ≢ None) mine
+  pub different : AllDifferent mine
   pub kept : KeepsMore s t (λ c. claimed_in c (with_kinds mine (kinds_in e)) [])
   pub stays : Stays s t
+
+-- Some numbers were added to a list, and are kept.
+pub record AreAdded (s t : Committed) (old new : List ℕ) : Type 0 where
+  pub mine : List ℕ
+  pub kinds : List Bool
+  pub list : new ≡ old ++ mine
+  pub kept : KeepsMore s t (λ c. claimed_in c (with_kinds mine kinds) [])
 
 -- The new numbers for these edits are kept.
 pub record HaveClaimed (s t : Committed) (made : List Edit) (chosen : List ℕ) : Type 0 where

@@ -1,18 +1,19 @@
 -- What a commit makes of the places and of the processes, part by part.
 use Rattle.std.specs.Prelude.{◌≡◌, ◌≢◌, ℕ, ◌<◌, ◌≤◌, ◌+◌, ◌-◌, ◌^◌, max, Bool, true, false, List, [], ◌∷◌}
 use Rattle.std.specs.Prelude.{length, Option, Some, None, IfSome, is_some, option_map, count_by}
-use Rattle.ids.specs.declared.limits.TheConstants.{DESCRIPTORS}
+use Rattle.ids.specs.declared.limits.TheConstants.{DESCRIPTORS, PIPE_CAPACITY}
 use Rattle.std.specs.Prelude.{if◌then◌else◌}
 use Rattle.std.specs.Ordering.{nat_cmp}
 use Rattle.std.specs.List.{AllByRecursion, flat_map}
 use Rattle.model.specs.FiniteMap.{FinMap, entries, get}
-use Rattle.model.specs.State.{A_directory as Directory_kind, Kernel, Name, Process, kind_of}
+use Rattle.model.specs.State.{A_directory as Directory_kind, Description, Kernel, Name, Process, kind_of}
 use Rattle.model.specs.State.{names_of}
 use Rattle.model.specs.Changes.{holders, openings, or_new}
 use Rattle.dirlist.specs.Listing.{Listing}
 use Rattle.dirlist.specs.Patches.{Notes}
 use Rattle.fdtable.specs.Patches.{Given}
 use Rattle.file_shadow.specs.View.{FileChanges, view_over}
+use Rattle.pipe_shadow.specs.View.{PipeChanges, view_over as pipe_over}
 use Rattle.freeing_laws.specs.Counts.{listed, times}
 use Rattle.freeing_laws.specs.Sweep.{AreParented}
 use Rattle.objects.specs.Contents.{Content}
@@ -21,19 +22,21 @@ use Rattle.store.specs.Places.{file_in, installed, may_be_named, openings_of, wi
 use Rattle.store.specs.Laid.{laid_listing}
 use Rattle.store.specs.Shown.{chosen, descriptions, inodes}
 use Rattle.store.specs.declared.Place.{Place}
-use Rattle.store.specs.declared.Object.TheVariants.{Directory as A_directory, File as A_file}
+use Rattle.store.specs.declared.Object.TheVariants.{Directory as A_directory, File as A_file, Pipe as A_pipe}
 use Rattle.store.specs.declared.Object.TheVariants.{Description as A_description, Nothing}
 use Rattle.store.specs.declared.OpenFile.{OpenFile}
 use Rattle.store.specs.declared.Opened.{Opened}
+use Rattle.store.specs.declared.OpenPipe.{OpenPipe}
 use Rattle.shadow.specs.declared.change.Change.{Change}
 use Rattle.shadow.specs.declared.change.Contents.{Contents}
-use Rattle.shadow.specs.declared.change.Contents.TheVariants.{Same, Names, Bytes}
+use Rattle.shadow.specs.declared.change.Contents.TheVariants.{Same, Names, Bytes, Pipe as Piped}
 use Rattle.shadow.specs.declared.opening.Opening.{Opening}
+use Rattle.shadow.specs.declared.opening.Opening.TheVariants.{New}
 use Rattle.shadow.specs.Claims.{Claim, reserved}
 use Rattle.shadow.specs.Committed.{Reserve}
 use Rattle.shadow.specs.Openings.{slot_noted}
 use Rattle.shadow.specs.Patches.{is_new, kept_at, opening_at, reopened, reslotted}
-use Rattle.shadow.specs.Stored.{AreCounted, IsStaged, committed_of, numbered, reserve_in, state_of}
+use Rattle.shadow.specs.Stored.{AreCounted, IsEndHere, IsStaged, Processes, committed_of, numbered, reserve_in, state_of}
 
 -- what is kept for transactions
 abbrev pub reserves_of : Numbers → FinMap nat_cmp Reserve
@@ -62,12 +65,21 @@ pub record IsWrittenOver (bytes : FileChanges) (before after : Option Place) : T
   })))
   pub shown : content.bytes ≡ view_over bytes (bytes_in (file_in before))
 
+-- A pipe after its changes: it is shown, and its bytes are those of the view.
+pub record IsPassedOver (changes : PipeChanges) (before after : Option Place) : Type 0 where
+  pub pipe : OpenPipe
+  pub was : before ≡ Some (present (A_pipe pipe))
+  pub is : after ≡ Some (present (A_pipe (record pipe { bytes = pipe_over changes pipe.bytes })))
+
 -- a place after the changes of its inode
 abbrev pub IsCarriedBy : Change → Contents → Option Place → Option Place → Type 0
 IsCarriedBy c Same before after = after ≡ before
 IsCarriedBy c (Names fresh notes) before after =
     after ≡ option_map (named_by (is_some c.made) notes c.promised) before
 IsCarriedBy c (Bytes fresh bytes) before after = IsWrittenOver bytes before after
+IsCarriedBy c (Piped (Some new) changes) before after =
+    after ≡ Some (present (A_pipe (record new { bytes = pipe_over changes new.bytes })))
+IsCarriedBy c (Piped None changes) before after = IsPassedOver changes before after
 
 abbrev pub IsCarried : Option Change → Option Place → Option Place → Type 0
 IsCarried (Some c) before after = IsCarriedBy c c.contents before after
@@ -92,11 +104,22 @@ IsReadyFile false before room end =
     (file : OpenFile) × (before ≡ Some (present (A_file file)))
     × (end ≤ max (length file.bytes.bytes) room.room)
 
+-- Those of a pipe can be made: it is to come, or shown, and what they append fits where the pipe was
+-- no longer than pipes get.
+abbrev pub IsReadyPipe : Option OpenPipe → PipeChanges → Option Place → Type 0
+IsReadyPipe (Some new) changes before =
+    (before ≡ Some (coming Nothing)) × (length (pipe_over changes new.bytes) ≤ PIPE_CAPACITY)
+IsReadyPipe None changes before =
+    (pipe : OpenPipe) × (before ≡ Some (present (A_pipe pipe)))
+    × (length pipe.bytes ≤ PIPE_CAPACITY
+    → length (pipe_over changes pipe.bytes) ≤ PIPE_CAPACITY)
+
 abbrev pub IsReadyContents : Numbers → ℕ → Change → Contents → Type 0
 IsReadyContents s n c Same = c.made ≡ None
 IsReadyContents s n c (Names fresh notes) = IsReadyDirectory s n c notes
 IsReadyContents s n c (Bytes fresh bytes) =
     IsReadyFile (is_some c.made) (get s.places n) c.room bytes.extent.end
+IsReadyContents s n c (Piped fresh changes) = IsReadyPipe fresh changes (get s.places n)
 
 abbrev pub IsReady : Numbers → ℕ → Change → Type 0
 IsReady s n c = IsReadyContents s n c c.contents
@@ -124,8 +147,9 @@ pub record AreReopened (openings : List (ℕ × Opening)) (old new : Numbers) : 
   pub reserves : (n : ℕ) → get (reserves_of new) n
       ≡ (if is_new (opening_at openings n) then settled (get (reserves_of old) n)
       else get (reserves_of old) n)
-  pub counted : (ps : List Process) → AreCounted ps old
+  pub counted : (ps : Processes) → AreCounted ps old
       → ((d : ℕ) → is_new (opening_at openings d) ≡ true → holders (state_of ps old) d ≡ 0)
+      → ((d : ℕ) (it : Description) → opening_at openings d ≡ New it → IsEndHere old d it)
       → AreCounted ps new
 
 -- the descriptors of a process, if there is one
@@ -141,11 +165,11 @@ abbrev pub given_in : List (ℕ × Given) → List ℕ
 given_in slots = flat_map (λ p. flat_map (λ g. given_by g.1) (entries p.1)) slots
 
 -- the descriptors of each process are below the limit
-abbrev pub AreLow : List Process → Type 0
+abbrev pub AreLow : Processes → Type 0
 AreLow ps = (pid f d : ℕ) → get (table_in (get (numbered ps) pid)) f ≡ Some d → f < DESCRIPTORS
 
 -- What changes of slots leave of the store.
-pub record SlotsStay (ps qs : List Process) (old new : Numbers) : Type 0 where
+pub record SlotsStay (ps qs : Processes) (old new : Numbers) : Type 0 where
   pub same : SameStore old new
   pub descriptions : descriptions new ≡ descriptions old
   pub reserves : (n : ℕ) → get (reserves_of new) n ≡ get (reserves_of old) n
@@ -174,11 +198,13 @@ pub record AreHeld (R : ℕ → ℕ → ℕ → Type 0) (old new : Numbers) : Ty
   pub reserves : (n : ℕ) → get (reserves_of new) n ≡ get (reserves_of old) n
   pub files : (n : ℕ) (file : OpenFile) → object_at new n ≡ Some (A_file file)
       → object_at old n ≡ Some (A_file file)
+  pub pipes : (p : ℕ) (pipe : OpenPipe) → object_at new p ≡ Some (A_pipe pipe)
+      → object_at old p ≡ Some (A_pipe pipe)
   pub opened : (d : ℕ) (opened : Opened) → object_at new d ≡ Some (A_description opened)
       → WasHeld (R d) old d opened
 
 -- The changes of slots are made.
-pub record AreReslotted (slots former : List (ℕ × Given)) (ps qs : List Process)
+pub record AreReslotted (slots former : List (ℕ × Given)) (ps qs : Processes)
     (old new : Numbers) : Type 0 where
   pub stay : SlotsStay ps qs old new
   pub processes : (pid : ℕ)
@@ -189,7 +215,7 @@ pub record AreReslotted (slots former : List (ℕ × Given)) (ps qs : List Proce
 
 -- The store holds, on the way: its root is number 0, names stand in directories that have one and
 -- give no description, no directory is open, what is to come is empty, and the counts are right.
-pub record Holds (ps : List Process) (s : Numbers) : Type 0 where
+pub record Holds (ps : Processes) (s : Numbers) : Type 0 where
   pub root : s.root ≡ 0
   pub parented : AreParented (state_of ps s)
   pub unnamed : (d n : ℕ) (x : Name) → get (descriptions s) d ≢ None
@@ -209,18 +235,21 @@ pub record IsReopened (d : ℕ) (opening : Opening) (old new : Numbers) : Type 0
   pub reserve : get (reserves_of new) d
       ≡ (if is_new opening then settled (get (reserves_of old) d) else get (reserves_of old) d)
   pub reserves : (n : ℕ) → n ≢ d → get (reserves_of new) n ≡ get (reserves_of old) n
-  pub counted : (ps : List Process) → AreCounted ps old
-      → (is_new opening ≡ true → holders (state_of ps old) d ≡ 0) → AreCounted ps new
+  pub pipes : (p : ℕ) (pipe : OpenPipe) → object_at new p ≡ Some (A_pipe pipe)
+      → object_at old p ≡ Some (A_pipe pipe)
+  pub counted : (ps : Processes) → AreCounted ps old
+      → (is_new opening ≡ true → holders (state_of ps old) d ≡ 0)
+      → ((it : Description) → opening ≡ New it → IsEndHere old d it) → AreCounted ps new
 
 -- One slot gives this from now on.
-pub record IsSlotted (pid f : ℕ) (given : Option ℕ) (ps qs : List Process) (old new : Numbers)
+pub record IsSlotted (pid f : ℕ) (given : Option ℕ) (ps qs : Processes) (old new : Numbers)
     : Type 0 where
   pub stay : SlotsStay ps qs old new
   pub here : get (numbered qs) pid ≡ slot_noted f given (get (numbered ps) pid)
   pub others : (q : ℕ) → q ≢ pid → get (numbered qs) q ≡ get (numbered ps) q
 
 -- The changes of one process's slots are made.
-pub record IsReslotted (pid : ℕ) (given former : Given) (ps qs : List Process) (old new : Numbers)
+pub record IsReslotted (pid : ℕ) (given former : Given) (ps qs : Processes) (old new : Numbers)
     : Type 0 where
   pub stay : SlotsStay ps qs old new
   pub here : get (numbered qs) pid ≡ reslotted (Some given) (get (numbered ps) pid)
@@ -234,7 +263,7 @@ abbrev pub kept_in : Numbers → Claim → ℕ
 kept_in s c = reserved (committed_of [] s) c
 
 -- Objects go as f says, and what is kept for transactions is kept as before.
-pub record Frees (f : Kernel → Kernel) (ps : List Process) (old new : Numbers) : Type 0 where
+pub record Frees (f : Kernel → Kernel) (ps : Processes) (old new : Numbers) : Type 0 where
   pub state : state_of ps new ≡ f (state_of ps old)
   pub holds : Holds ps new
   pub kept : (c : Claim) → kept_in new c ≡ kept_in old c

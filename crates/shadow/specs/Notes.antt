@@ -1,19 +1,20 @@
 -- What noting one thing changes of what is kept of an inode.
-use Rattle.std.specs.Prelude.{◌≡◌, ◌≢◌, ◌↔◌, ℕ, ◌+◌, ◌≤◌, List, [], ◌++◌, Contains, length}
+use Rattle.std.specs.Prelude.{◌≡◌, ◌≢◌, ◌↔◌, ℕ, ◌+◌, ◌≤◌, List, [], ◌++◌, Contains, drop, length, true}
 use Rattle.std.specs.Prelude.{Option, Some, None}
 use Rattle.dirlist.specs.Patches.{noted_back}
-use Rattle.model.specs.State.{Name, Inode, Process}
+use Rattle.model.specs.State.{Name, Inode, Pipe, Process, pipe_of_inode}
 use Rattle.model.specs.Plan.{blocks}
 use Rattle.shadow.specs.declared.change.Change.{Change}
 use Rattle.shadow.specs.declared.change.Contents.{Contents}
-use Rattle.shadow.specs.declared.change.Contents.TheVariants.{Same, Names, Bytes}
+use Rattle.shadow.specs.declared.change.Contents.TheVariants.{Same, Names, Bytes, Pipe as Piped}
 use Rattle.shadow.specs.declared.change.Former.{Former}
 use Rattle.shadow.specs.declared.change.Former.TheVariants.{Noted, Other}
 use Rattle.shadow.specs.declared.change.Made.{Made}
+use Rattle.shadow.specs.declared.change.Made.TheVariants.{Pipe as A_pipe}
 use Rattle.shadow.specs.Patches.{Net, Patches, added_by, form_of, kept_at, net_at, opening_at}
-use Rattle.shadow.specs.Patches.{numbers_in, patched, reslotted}
+use Rattle.shadow.specs.Patches.{AllReach, new_ends, numbers_in, of_pipe, patched, reslotted}
 use Rattle.shadow.specs.Steps.{bytes_cut, bytes_written, filed, growth, listed, name_noted, new_form}
-use Rattle.shadow.specs.Steps.{new_inode}
+use Rattle.shadow.specs.Steps.{IsPassable, new_inode, piped}
 
 -- how much room in its directory a name takes that comes
 abbrev pub room_for : Option ℕ → ℕ
@@ -33,6 +34,8 @@ pub record IsNamed (x : Name) (given : Option ℕ) (old new : Net) : Type 0 wher
   pub added : added_by new.contents ≤ added_by old.contents + room_for given
   pub promised : new.promised ≡ old.promised + room_for given
   pub numbers : numbers_in new.contents ≡ []
+  pub reach : (o : Option Inode) → AllReach new.contents o
+  pub ends : new_ends new.contents ≡ None
   pub rest : record new { contents = old.contents; promised = old.promised } ≡ old
 
 -- the file has other bytes, as a function f of those before, in these blocks more; there is room for
@@ -42,6 +45,8 @@ pub record IsFiled (f : Option Inode → Option Inode) (reach : ℕ) (more : Lis
   pub contents : (o : Option Inode) → patched new.contents o ≡ f (patched old.contents o)
   pub form : form_of new.contents ≡ filed (form_of old.contents)
   pub added : added_by new.contents ≡ 0
+  pub reached : (o : Option Inode) → AllReach new.contents o
+  pub ends : new_ends new.contents ≡ None
   pub room : old.room ≤ new.room
   pub grown : reach ≤ new.room
   pub numbers : (b : ℕ) → Contains (numbers_in new.contents) b
@@ -63,12 +68,45 @@ pub record IsMade (what : Made) (old new : Net) : Type 0 where
   pub added : added_by new.contents ≡ 0
   pub made : new.made ≡ Some what
   pub named : new.named ≡ old.named + 1
+  pub reach : (o : Option Inode) → AllReach new.contents o
+  pub ends : new_ends new.contents ≡ None
   pub numbers : numbers_in new.contents ≡ []
   pub rest : record new {
     contents = old.contents;
     made = old.made;
     named = old.named;
   } ≡ old
+
+-- the pipe has other bytes, as a function f of those before, where it shows one with so many
+pub record IsPassedBy (f : List ℕ → List ℕ) (enough : ℕ) (old new : Contents) : Type 0 where
+  pub over : (o : Option Inode) → IsPassable enough old o
+      → patched new o ≡ Some (Pipe (f (pipe_of_inode (patched old o))))
+  pub reach : (o : Option Inode) → IsPassable enough old o → AllReach new o
+  pub form : form_of new ≡ piped (form_of old)
+  pub added : added_by new ≡ added_by old
+  pub ends : new_ends new ≡ new_ends old
+  pub numbers : numbers_in new ≡ numbers_in old
+
+pub record IsPassed (f : List ℕ → List ℕ) (enough : ℕ) (old new : Net) : Type 0 where
+  pub contents : IsPassedBy f enough old.contents new.contents
+  pub rest : record new { contents = old.contents } ≡ old
+
+abbrev pub IsTaken : ℕ → Net → Net → Type 0
+IsTaken count = IsPassed (drop count) count
+
+abbrev pub IsAppended : List ℕ → Net → Net → Type 0
+IsAppended bytes = IsPassed (λ xs. xs ++ bytes) 0
+
+-- the transaction made the pipe, with these two descriptions
+pub record IsPiped (reader writer : ℕ) (old new : Net) : Type 0 where
+  pub contents : (o : Option Inode) → patched new.contents o ≡ Some (Pipe [])
+  pub reach : (o : Option Inode) → AllReach new.contents o
+  pub form : form_of new.contents ≡ of_pipe true
+  pub added : added_by new.contents ≡ 0
+  pub made : new.made ≡ Some A_pipe
+  pub ends : new_ends new.contents ≡ Some (reader, writer)
+  pub numbers : numbers_in new.contents ≡ []
+  pub rest : record new { contents = old.contents; made = old.made } ≡ old
 
 -- the inode has a name more
 pub record IsGiven (old new : Net) : Type 0 where
@@ -99,6 +137,7 @@ put_back (Other contents) x now = contents
 put_back (Noted given) x (Names fresh notes) = Names fresh (noted_back x given notes)
 put_back (Noted given) x Same = Same
 put_back (Noted given) x (Bytes fresh bytes) = Bytes fresh bytes
+put_back (Noted given) x (Piped fresh changes) = Piped fresh changes
 
 -- The name of the directory is gone, and the note can be taken back.
 pub record IsGone (x : Name) (former : Former) (old new : Net) : Type 0 where

@@ -1,16 +1,17 @@
 -- One edit of a call with the call's new numbers, and what it makes of each object.
 use Rattle.std.specs.Prelude.{◌≡◌, ◌≢◌, ◌↔◌, Contains}
-use Rattle.std.specs.Prelude.{ℕ, ◌+◌, ◌<◌, ◌≤◌, ◌==◌, ◌||◌, ◌⊎◌, nat_lt, Bool, true, false, ⊤}
+use Rattle.std.specs.Prelude.{ℕ, ◌+◌, ◌<◌, ◌≤◌, ◌==◌, ◌||◌, ◌⊎◌, nat_lt, Bool, true, false, ⊤, drop}
 use Rattle.std.specs.Prelude.{List, [], ◌∷◌, ◌++◌, map, length, Option, Some, None, if◌then◌else◌}
 use Rattle.std.specs.List.{flat_map}
 use Rattle.model.specs.FiniteMap.{get, empty}
 use Rattle.model.specs.Moments.{is_in}
-use Rattle.model.specs.State.{Name, Kernel, Inode, File, Directory, Description, Process, mapped}
-use Rattle.model.specs.State.{names_of_inode, file_of_inode}
+use Rattle.model.specs.State.{Name, Kernel, Inode, File, Directory, Pipe, Description, Process}
+use Rattle.model.specs.State.{A_pipe as Pipe_kind, kind, mapped, names_of_inode, file_of_inode}
+use Rattle.model.specs.State.{pipe_of_inode}
 use Rattle.model.specs.Changes.{Edit, Which, There, Made, number, news, Make_directory, Make_file}
 use Rattle.model.specs.Changes.{Name_file, Unname_file, Unname_directory, Move, Put_bytes, Cut}
-use Rattle.model.specs.Changes.{Set_offset}
-use Rattle.model.specs.Changes.{Open_inode, Clear_slot, applied, sized, written, at_start, at_offset}
+use Rattle.model.specs.Changes.{Append, Make_pipe, Set_offset, Take, to_read, to_write}
+use Rattle.model.specs.Changes.{Open_inode, Share_slot, Clear_slot, applied, sized, written, at_start, at_offset}
 use Rattle.model.specs.Changes.{with_slot, without_slot, or_new}
 use Rattle.model.specs.Effects.{Effect}
 use Rattle.model.specs.Limits.{largest, descriptor_limit}
@@ -20,8 +21,9 @@ use Rattle.freeing_laws.specs.Counts.{named, times, unnamed}
 use Rattle.freeing_laws.specs.Sweep.{loses}
 use Rattle.store.specs.Laid.{with_note}
 use Rattle.shadow.specs.declared.change.Made.{Made as What}
-use Rattle.shadow.specs.declared.change.Made.TheVariants.{Directory as A_directory, File as A_file}
-use Rattle.shadow.specs.Patches.{Form, no_change, of_names, of_bytes, Patches}
+use Rattle.shadow.specs.declared.change.Made.TheVariants.{Directory as A_directory, File as A_file, Pipe as A_pipe}
+use Rattle.shadow.specs.declared.change.Contents.{Contents}
+use Rattle.shadow.specs.Patches.{AllReach, Form, no_change, of_names, of_bytes, of_pipe, Patches, new_ends}
 use Rattle.shadow.specs.Patches.{added_by, form_of, kept_at, net_at, opening_at, patched, reopened}
 use Rattle.shadow.specs.Patches.{is_new, numbers_in, reslotted}
 
@@ -51,8 +53,9 @@ StepsFit (s ∷ ss) k = Fits s.chosen k s.edit × StepsFit ss (one_done s k)
 abbrev pub new_in : List ℕ → ℕ → ℕ
 new_in chosen i = number chosen (Made i)
 
--- What a call may change today: first a name or a file's bytes, and then a description or a slot.
--- Writes and cuts end within the largest file, and descriptors are below the limit.
+-- What a call of a transaction may change: first a name, or bytes of a file or of a pipe, or a new
+-- pipe, and then a description or a slot. Writes and cuts end within the largest file, and
+-- descriptors are below the limit.
 abbrev pub IsFirst : Edit → Type 0
 IsFirst (Make_directory d x i) = i ≡ 0
 IsFirst (Make_file d x i) = i ≡ 0
@@ -62,6 +65,9 @@ IsFirst (Unname_directory d x n) = ⊤
 IsFirst (Move d x e y n replaced) = ⊤
 IsFirst (Put_bytes n place bytes before) = place + length bytes ≤ largest
 IsFirst (Cut n before after) = after ≤ largest
+IsFirst (Take p count) = ⊤
+IsFirst (Append p bytes) = ⊤
+IsFirst (Make_pipe i pid f g) = (i ≡ 0) × (f < descriptor_limit) × (g < descriptor_limit)
 IsFirst _ = ⊥
 
 abbrev pub IsBelow : ℕ → Which → Type 0
@@ -71,6 +77,7 @@ IsBelow m (Made j) = j < m
 abbrev pub IsLast : ℕ → Edit → Type 0
 IsLast m (Open_inode i inode mode pid f) = (i ≡ m) × IsBelow m inode × (f < descriptor_limit)
 IsLast m (Set_offset d place) = ⊤
+IsLast m (Share_slot pid f d pipes) = f < descriptor_limit
 IsLast m (Clear_slot pid f pipes) = f < descriptor_limit
 IsLast m _ = ⊥
 
@@ -93,9 +100,17 @@ bytes_written place bytes o = Some (File (written (file_of_inode o) place bytes)
 abbrev pub bytes_cut : ℕ → Option Inode → Option Inode
 bytes_cut len o = Some (File (sized len (file_of_inode o)))
 
+-- bytes that are taken from a pipe, and bytes that are appended
+abbrev pub bytes_taken : ℕ → Option Inode → Option Inode
+bytes_taken count o = Some (Pipe (drop count (pipe_of_inode o)))
+
+abbrev pub bytes_appended : List ℕ → Option Inode → Option Inode
+bytes_appended bytes o = Some (Pipe (pipe_of_inode o ++ bytes))
+
 abbrev pub new_inode : What → Inode
 new_inode A_directory = Directory empty
 new_inode A_file = File []
+new_inode A_pipe = Pipe []
 
 -- a new object with its name
 abbrev pub made_at : What → ℕ → Name → ℕ → ℕ → Option Inode → Option Inode
@@ -119,17 +134,30 @@ inode_after chosen (Move d x e y m replaced) n o =
 inode_after chosen (Put_bytes m place bytes before) n o =
     if n == m then bytes_written place bytes o else o
 inode_after chosen (Cut m before after) n o = if n == m then bytes_cut after o else o
+inode_after chosen (Take p count) n o = if n == p then bytes_taken count o else o
+inode_after chosen (Append p bytes) n o = if n == p then bytes_appended bytes o else o
+inode_after chosen (Make_pipe i pid f g) n o = if n == new_in chosen i then Some (Pipe []) else o
 inode_after chosen _ n o = o
 
 abbrev pub description_after : List ℕ → Edit → ℕ → Option Description → Option Description
 description_after chosen (Open_inode i inode mode pid f) d o =
     if d == new_in chosen i then Some (at_start (number chosen inode) mode) else o
+description_after chosen (Make_pipe i pid f g) d o =
+    if d == new_in chosen (i + 2) then Some (at_start (new_in chosen i) to_write)
+    else if d == new_in chosen (i + 1) then Some (at_start (new_in chosen i) to_read)
+    else o
 description_after chosen (Set_offset m place) d o = if d == m then mapped (at_offset place) o else o
 description_after chosen _ d o = o
 
 abbrev pub process_after : List ℕ → Edit → ℕ → Option Process → Option Process
 process_after chosen (Open_inode i inode mode q f) pid o =
     if pid == q then Some (with_slot f (new_in chosen i) (or_new o)) else o
+process_after chosen (Make_pipe i q f g) pid o =
+    if pid == q then Some (with_slot g (new_in chosen (i + 2))
+    (with_slot f (new_in chosen (i + 1)) (or_new o)))
+    else o
+process_after chosen (Share_slot q f d pipes) pid o =
+    if pid == q then Some (with_slot f d (or_new o)) else o
 process_after chosen (Clear_slot q f pipes) pid o =
     if pid == q then Some (without_slot f (or_new o)) else o
 process_after chosen _ pid o = o
@@ -144,17 +172,19 @@ pub record Applies (chosen : List ℕ) (e : Edit) (k after : Kernel) : Type 0 wh
   pub processes : (pid : ℕ)
       → get after.processes pid ≡ process_after chosen e pid (get k.processes pid)
 
--- the new directories of an edit, its other new numbers, and the descriptions among these
+-- the new directories of an edit, its other new inodes, and its new descriptions
 abbrev pub directories_in : List ℕ → Edit → List ℕ
 directories_in chosen (Make_directory d x i) = new_in chosen i ∷ []
 directories_in chosen _ = []
 
 abbrev pub files_in : List ℕ → Edit → List ℕ
 files_in chosen (Make_file d x i) = new_in chosen i ∷ []
+files_in chosen (Make_pipe i pid f g) = new_in chosen i ∷ []
 files_in chosen _ = []
 
 abbrev pub opened_in : List ℕ → Edit → List ℕ
 opened_in chosen (Open_inode i inode mode pid f) = new_in chosen i ∷ []
+opened_in chosen (Make_pipe i pid f g) = new_in chosen (i + 1) ∷ new_in chosen (i + 2) ∷ []
 opened_in chosen _ = []
 
 -- the directory to which an edit adds a name
@@ -170,15 +200,24 @@ abbrev pub listed : Form → Form
 listed no_change = of_names false
 listed (of_names fresh) = of_names fresh
 listed (of_bytes fresh) = of_names true
+listed (of_pipe fresh) = of_names true
 
 abbrev pub filed : Form → Form
 filed no_change = of_bytes false
 filed (of_bytes fresh) = of_bytes fresh
 filed (of_names fresh) = of_bytes true
+filed (of_pipe fresh) = of_bytes true
+
+abbrev pub piped : Form → Form
+piped no_change = of_pipe false
+piped (of_pipe fresh) = of_pipe fresh
+piped (of_names fresh) = of_names fresh
+piped (of_bytes fresh) = of_bytes fresh
 
 abbrev pub new_form : What → Form
 new_form A_directory = of_names true
 new_form A_file = of_bytes true
+new_form A_pipe = of_pipe true
 
 abbrev pub made_form : What → ℕ → ℕ → ℕ → Form → Form
 made_form what d m n form =
@@ -197,6 +236,10 @@ form_after chosen (Unname_directory d x m) n form = listed_at d n form
 form_after chosen (Move d x e y m replaced) n form = listed_at e n (listed_at d n form)
 form_after chosen (Put_bytes m place bytes before) n form = if n == m then filed form else form
 form_after chosen (Cut m before after) n form = if n == m then filed form else form
+form_after chosen (Take p count) n form = if n == p then piped form else form
+form_after chosen (Append p bytes) n form = if n == p then piped form else form
+form_after chosen (Make_pipe i pid f g) n form =
+    if n == new_in chosen i then of_pipe true else form
 form_after chosen _ n form = form
 
 -- what the transaction has made under a number
@@ -204,6 +247,8 @@ abbrev pub made_after : List ℕ → Edit → ℕ → Option What → Option Wha
 made_after chosen (Make_directory d x i) n made =
     if n == new_in chosen i then Some A_directory else made
 made_after chosen (Make_file d x i) n made = if n == new_in chosen i then Some A_file else made
+made_after chosen (Make_pipe i pid f g) n made =
+    if n == new_in chosen i then Some A_pipe else made
 made_after chosen _ n made = made
 
 -- how far a file reaches that an edit makes longer, and else 0
@@ -231,16 +276,40 @@ numbers_kept chosen (Make_directory d x i) n bs =
     if (n == d) || (n == new_in chosen i) then [] else bs
 numbers_kept chosen (Make_file d x i) n bs =
     if (n == d) || (n == new_in chosen i) then [] else bs
+numbers_kept chosen (Make_pipe i pid f g) n bs = kept_beside (new_in chosen i) n bs
 numbers_kept chosen (Name_file d x m) n bs = kept_beside d n bs
 numbers_kept chosen (Unname_file d x m) n bs = kept_beside d n bs
 numbers_kept chosen (Unname_directory d x m) n bs = kept_beside d n bs
 numbers_kept chosen (Move d x e y m replaced) n bs = kept_beside e n (kept_beside d n bs)
 numbers_kept chosen _ n bs = bs
 
+-- A pipe shows with these changes, which has so many bytes, and had all that they take.
+pub record IsPassable (enough : ℕ) (c : Contents) (o : Option Inode) : Type 0 where
+  pub kind : mapped kind (patched c o) ≡ Some Pipe_kind
+  pub long : enough ≤ length (pipe_of_inode (patched c o))
+  pub reach : AllReach c o
+
+-- what bytes that are taken from a pipe, or appended, ask of the changes before
+abbrev pub CanPass : Edit → ℕ → Contents → Option Inode → Type 0
+CanPass (Take p count) n c o = n ≡ p → IsPassable count c o
+CanPass (Append p bytes) n c o = n ≡ p → IsPassable 0 c o
+CanPass _ n c o = ⊤
+
+-- a pipe that is new, with its two descriptions
+abbrev pub MakesPipe : List ℕ → Edit → ℕ → ℕ × ℕ → Type 0
+MakesPipe chosen (Make_pipe i pid f g) n ends =
+    (n ≡ new_in chosen i) × (ends ≡ (new_in chosen (i + 1), new_in chosen (i + 2)))
+MakesPipe chosen _ n ends = ⊥
+
 -- Patches take in one edit more.
 pub record TakesIn (chosen : List ℕ) (e : Edit) (old new : Patches) : Type 0 where
-  pub inodes : (n : ℕ) (o : Option Inode) → patched (net_at new.inodes n).contents o
+  pub inodes : (n : ℕ) (o : Option Inode) → CanPass e n (net_at old.inodes n).contents o
+      → patched (net_at new.inodes n).contents o
       ≡ inode_after chosen e n (patched (net_at old.inodes n).contents o)
+  pub reach : (n : ℕ) (o : Option Inode) → CanPass e n (net_at old.inodes n).contents o
+      → AllReach (net_at old.inodes n).contents o → AllReach (net_at new.inodes n).contents o
+  pub pipes : (n : ℕ) (ends : ℕ × ℕ) → new_ends (net_at new.inodes n).contents ≡ Some ends
+      → (new_ends (net_at old.inodes n).contents ≡ Some ends) ⊎ MakesPipe chosen e n ends
   pub descriptions : (d : ℕ) (o : Option Description) → reopened (opening_at new.openings d) o
       ≡ description_after chosen e d (reopened (opening_at old.openings d) o)
   pub processes : (pid : ℕ) (o : Option Process) → reslotted (kept_at new.slots pid) o
@@ -266,27 +335,34 @@ pub record TakesIn (chosen : List ℕ) (e : Edit) (old new : Patches) : Type 0 w
       ↔ Contains (numbers_kept chosen e n (numbers_in (net_at old.inodes n).contents)
       ++ blocks_by n e) b
 
--- the new numbers of an edit are not its parent's
+-- the new numbers of an edit are not its parent's, and those of two descriptions differ
 abbrev pub AreApart : List ℕ → Edit → Type 0
 AreApart chosen (Make_directory d x i) = new_in chosen i ≢ d
 AreApart chosen (Make_file d x i) = new_in chosen i ≢ d
+AreApart chosen (Make_pipe i pid f g) = new_in chosen (i + 1) ≢ new_in chosen (i + 2)
 AreApart chosen _ = ⊤
 
--- an edit that makes such an object
+-- an edit that makes a directory, or a file
 abbrev pub making : What → ℕ → Name → Edit
 making A_directory d x = Make_directory d x 0
-making A_file d x = Make_file d x 0
+making _ d x = Make_file d x 0
 
--- an edit that takes such an object's name
+-- an edit after which a slot gives this
+abbrev pub slotting : Option ℕ → ℕ → ℕ → List ℕ → Edit
+slotting (Some d) pid f pipes = Share_slot pid f d pipes
+slotting None pid f pipes = Clear_slot pid f pipes
+
+-- an edit that takes the name of a directory, or of a file
 abbrev pub unnaming : What → ℕ → Name → ℕ → Edit
 unnaming A_directory d x n = Unname_directory d x n
-unnaming A_file d x n = Unname_file d x n
+unnaming _ d x n = Unname_file d x n
 
 -- there are places for an edit of a description or a slot
 abbrev pub HasPlaces : List ℕ → Edit → Patches → Type 0
 HasPlaces chosen (Open_inode i inode mode pid f) p =
     (kept_at p.openings (new_in chosen i) ≢ None) × (kept_at p.slots pid ≢ None)
 HasPlaces chosen (Set_offset d place) p = kept_at p.openings d ≢ None
+HasPlaces chosen (Share_slot pid f d pipes) p = kept_at p.slots pid ≢ None
 HasPlaces chosen (Clear_slot pid f pipes) p = kept_at p.slots pid ≢ None
 HasPlaces chosen _ p = ⊥
 
@@ -294,6 +370,7 @@ HasPlaces chosen _ p = ⊥
 abbrev pub is_last : Edit → Bool
 is_last (Open_inode i inode mode pid f) = true
 is_last (Set_offset d place) = true
+is_last (Share_slot pid f d pipes) = true
 is_last (Clear_slot pid f pipes) = true
 is_last _ = false
 

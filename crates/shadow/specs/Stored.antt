@@ -1,31 +1,36 @@
 -- How the committed state is stored: the processes in the order of their numbers, and the objects
 -- under theirs.
-use Rattle.std.specs.Prelude.{◌≡◌, ℕ, ◌≢◌, true, List, length, map, Option, Some, None, ⊤}
+use Rattle.std.specs.Prelude.{◌≡◌, ℕ, ◌≢◌, ◌⊎◌, true, List, length, Option, Some, None, ⊤}
 use Rattle.std.specs.Ordering.{nat_cmp}
 use Rattle.model.specs.FiniteMap.{FinMap, empty, from_entries, get}
 use Rattle.model.specs.Places.{placed}
 use Rattle.model.specs.State.{Name, Inode, Description, Process, Kernel, mapped}
 use Rattle.model.specs.Changes.{holders, openings, tidy}
 use Rattle.call_laws.specs.WellFormed.{WellFormed}
+use Rattle.freeing_laws.specs.Pipes.{ArePair}
 use Rattle.store.specs.Numbers.{Numbers, object_at}
 use Rattle.store.specs.Places.{has_room, is_coming_by, listing_of}
 use Rattle.store.specs.Shown.{chosen, descriptions, inodes}
 use Rattle.store.specs.declared.OpenFile.{OpenFile}
 use Rattle.store.specs.declared.Opened.{Opened}
+use Rattle.store.specs.declared.OpenPipe.{OpenPipe}
 use Rattle.store.specs.declared.Place.{Place}
 use Rattle.store.specs.declared.Object.{Object}
-use Rattle.store.specs.declared.Object.TheVariants.{Directory as A_directory, File as A_file}
+use Rattle.store.specs.declared.Object.TheVariants.{Directory as A_directory, File as A_file, Pipe as A_pipe}
 use Rattle.store.specs.declared.Object.TheVariants.{Description as A_description, Nothing}
 use Rattle.store.specs.declared.Stage.{Stage}
 use Rattle.store.specs.declared.Stage.TheVariants.{Coming, Held, Lost}
 use Rattle.shadow.specs.Committed.{Committed, Reserve}
 
--- the processes with their numbers, from 1 on
-abbrev pub numbered : List Process → FinMap nat_cmp Process
-numbered processes = from_entries (placed 1 (map (λ p. Some p) processes))
+-- the processes from number 1 on; one that has ended leaves its place empty
+abbrev pub Processes : Type 0
+Processes = List (Option Process)
+
+abbrev pub numbered : Processes → FinMap nat_cmp Process
+numbered processes = from_entries (placed 1 processes)
 
 -- the state of a plain kernel whose root is number 0
-abbrev pub stored : List Process → FinMap nat_cmp Inode → FinMap nat_cmp Description → Kernel
+abbrev pub stored : Processes → FinMap nat_cmp Inode → FinMap nat_cmp Description → Kernel
 stored processes inodes descriptions = record {
   root = 0;
   inodes = inodes;
@@ -34,7 +39,7 @@ stored processes inodes descriptions = record {
   made = length processes;
 }
 
-abbrev pub state_of : List Process → Numbers → Kernel
+abbrev pub state_of : Processes → Numbers → Kernel
 state_of processes s = stored processes (inodes s) (descriptions s)
 
 -- what is kept of a place that is in use
@@ -44,7 +49,7 @@ reserve_in place = Some (record {
   promised = mapped (λ listing. listing.promised) (listing_of place.object);
 })
 
-abbrev pub committed_of : List Process → Numbers → Committed
+abbrev pub committed_of : Processes → Numbers → Committed
 committed_of processes s = record {
   state = state_of processes s;
   reserves = chosen reserve_in s.places;
@@ -72,16 +77,24 @@ abbrev pub IsStaged : Option Place → Type 0
 IsStaged (Some place) = FitsStage place.stage place.object
 IsStaged None = ⊤
 
--- the counts that are stored are those of the state
-pub record AreCounted (processes : List Process) (s : Numbers) : Type 0 where
+-- the counts that are stored are those of the state, and of a pipe these two descriptions are
+pub record AreCounted (processes : Processes) (s : Numbers) : Type 0 where
   pub openings : (n : ℕ) (file : OpenFile) → object_at s n ≡ Some (A_file file)
       → file.openings ≡ openings (state_of processes s) n
   pub holders : (d : ℕ) (opened : Opened) → object_at s d ≡ Some (A_description opened)
       → opened.holders ≡ holders (state_of processes s) d
+  pub pipes : (p : ℕ) (pipe : OpenPipe) → object_at s p ≡ Some (A_pipe pipe)
+      → ArePair (descriptions s) p pipe.reader pipe.writer
+
+-- a description is an end of a pipe only where the pipe has it as this end
+abbrev pub IsEndHere : Numbers → ℕ → Description → Type 0
+IsEndHere s d it = (pipe : OpenPipe) → object_at s it.inode ≡ Some (A_pipe pipe)
+    → (it.reading ≡ true → d ≡ pipe.reader) × (it.writing ≡ true → d ≡ pipe.writer)
+    × ((d ≡ pipe.reader) ⊎ (d ≡ pipe.writer))
 
 -- The root is number 0, the state is well formed, nothing in it is unreached, what is to come is
 -- empty, nothing is lost that no transaction needs, and the counts are right.
-pub record Sound (processes : List Process) (s : Numbers) : Type 0 where
+pub record Sound (processes : Processes) (s : Numbers) : Type 0 where
   pub root : s.root ≡ 0
   pub well : WellFormed (state_of processes s)
   pub tidied : tidy (state_of processes s) ≡ state_of processes s

@@ -4,27 +4,27 @@ ghost use Rattle.std.specs.Prelude.{length};
 ghost use Rattle.std.specs.List.{sum_by};
 ghost use Rattle.ids.specs.declared.limits.TheConstants.{DESCRIPTORS, LARGEST_FILE};
 ghost use Rattle.model.specs.State.{A_file, kind_of};
-ghost use Rattle.model.specs.Changes.{Cut, Clear_slot, Make_directory, Make_file, Open_inode};
-ghost use Rattle.model.specs.Changes.{Move, Name_file, Put_bytes, Set_offset, There, all_applied};
+ghost use Rattle.model.specs.Changes.{Append, Cut, Make_directory, Make_file, Make_pipe, Open_inode};
+ghost use Rattle.model.specs.Changes.{Move, Name_file, Put_bytes, Set_offset, Take, There, all_applied};
 ghost use Rattle.model.specs.Changes.{applied, news, tidy};
 ghost use Rattle.call_laws.specs.Fits.{Fits, FitsAll};
 ghost use Rattle.shadow.specs.Claims.{AreUnused, Claim, Covers, HaveParents, KeepsMore, KeepsSame};
 ghost use Rattle.shadow.specs.Claims.{claimed_by, claimed_by_one, reserved};
 ghost use Rattle.shadow.specs.Log.{effect};
-ghost use Rattle.shadow.specs.Steps.{CanEdit, IsFirst, IsLast, unnaming};
+ghost use Rattle.shadow.specs.Steps.{CanEdit, IsFirst, IsLast, slotting, unnaming};
 ghost use Rattle.shadow.specs.declared.change.Made.{Made as What};
 
 use crate::claiming::parent_of;
 use crate::closing::{close, free};
-use crate::laying::open;
-use crate::patches::{at_start, inode_replaced, is_last, number};
+use crate::laying::{open, pipe_len};
+use crate::patches::{at_start, end_of, inode_replaced, is_last, number};
 use crate::reslotting::lay_slot;
 use crate::stable::Stable;
 use heap::Heap;
 use ids::{Edit, Fd, Mode, Name, Num, Nums, Pid, Replaced};
-use objects::FileData;
+use objects::{FileData, PipeData};
 use std::alloc::AllocError;
-use store::{Object, OpenFile};
+use store::{Object, OpenFile, OpenPipe};
 
 impl Stable {
     /// Makes the changes of one call at once, with new numbers for what they make, which are
@@ -141,6 +141,17 @@ impl Stable {
                 self.write(file, place as usize, bytes.as_slice())
             }
             Edit::Cut(file, _before, after) => self.cut(file, after as usize),
+            Edit::Take(pipe, count) => {
+                self.take(pipe, count as usize);
+                Ok(())
+            }
+            Edit::Append(pipe, bytes) => {
+                self.append(pipe, bytes.as_slice());
+                Ok(())
+            }
+            Edit::MakePipe(_place, pid, reading, writing) => {
+                self.make_pipe(chosen[0], pid, (reading, chosen[1]), (writing, chosen[2]))
+            }
             _ => unreachable!(),
         }
     }
@@ -159,7 +170,10 @@ impl Stable {
                 self.open_inode(chosen[place as usize], inode, mode, pid, fd);
             }
             Edit::SetOffset(description, place) => self.store.set_offset(description, place),
-            Edit::ClearSlot(pid, fd, _pipes) => self.clear_slot(pid, fd),
+            Edit::ShareSlot(pid, fd, description, _pipes) => {
+                self.reslot(pid, fd, Some(description));
+            }
+            Edit::ClearSlot(pid, fd, _pipes) => self.reslot(pid, fd, None),
             _ => unreachable!(),
         }
     }
@@ -192,6 +206,49 @@ impl Stable {
         let file = OpenFile { bytes, openings: 0 };
         self.store.install_as(num, Object::File(file));
         self.store.add_name(parent, name, num);
+    }
+
+    // The new pipe of a reserved number is there, with the descriptors and the descriptions of its two
+    // ends. Refused memory changes nothing.
+    fn make_pipe(
+        &mut self,
+        pipe: Num,
+        pid: Pid,
+        reading: (Fd, Num),
+        writing: (Fd, Num),
+    ) -> Result<(), AllocError>
+        requires fits { Fits (pipe ∷ reading.1 ∷ writing.1 ∷ []) self.old.state
+            (Make_pipe 0 pid reading.0 writing.0) }
+        requires low { (reading.0 < DESCRIPTORS) × (writing.0 < DESCRIPTORS) }
+        requires covers { (c : Claim)
+            → claimed_by_one c (pipe ∷ reading.1 ∷ writing.1 ∷ [])
+            (Make_pipe 0 pid reading.0 writing.0) ≤ reserved self.old c }
+        ensures state { OnOk result (self.new.state
+            ≡ tidy (applied (pipe ∷ reading.1 ∷ writing.1 ∷ [])
+            (Make_pipe 0 pid reading.0 writing.0) self.old.state)) }
+        ensures kept { OnOk result (KeepsMore self.new self.old
+            (λ c. claimed_by_one c (pipe ∷ reading.1 ∷ writing.1 ∷ [])
+            (Make_pipe 0 pid reading.0 writing.0))) }
+        ensures err { OnErr result (self.new.state ≡ self.old.state) }
+        ensures same { OnErr result (KeepsSame self.old self.new) }
+    {
+        let bytes = PipeData::new(self.heap())?;
+        let reader = reading.1;
+        let writer = writing.1;
+        self.store.install_as(
+            pipe,
+            Object::Pipe(OpenPipe {
+                bytes,
+                reader,
+                writer,
+            }),
+        );
+        open(&mut self.store, reader, end_of(pipe, false));
+        open(&mut self.store, writer, end_of(pipe, true));
+        let store = &mut self.store;
+        let _none = lay_slot(store, &mut self.processes, pid, reading.0, Some(reader));
+        let _none = lay_slot(store, &mut self.processes, pid, writing.0, Some(writer));
+        Ok(())
     }
 
     // One more name for a file, in the room that is kept for it.
@@ -269,6 +326,26 @@ impl Stable {
         cut
     }
 
+    // Bytes are taken from the front of a pipe.
+    fn take(&mut self, pipe: Num, count: usize)
+        requires fits { Fits [] self.old.state (Take pipe count) }
+        ensures state { self.new.state ≡ applied [] (Take pipe count) self.old.state }
+        ensures kept { KeepsSame self.old self.new }
+    {
+        // What is left fits, since a pipe is never longer than pipes get.
+        let _len = pipe_len(&self.store, pipe);
+        self.store.change_pipe(pipe, count, &[]);
+    }
+
+    // Bytes are appended to a pipe.
+    fn append(&mut self, pipe: Num, bytes: &[u8])
+        requires fits { Fits [] self.old.state (Append pipe bytes.now) }
+        ensures state { self.new.state ≡ applied [] (Append pipe bytes.now) self.old.state }
+        ensures kept { KeepsSame self.old self.new }
+    {
+        self.store.change_pipe(pipe, 0, bytes);
+    }
+
     // The new description of a reserved number is there, with its slot.
     fn open_inode(&mut self, num: Num, inode: Num, mode: Mode, pid: Pid, fd: Fd)
         requires fits { Fits (num ∷ []) self.old.state (Open_inode 0 (There inode) mode pid fd) }
@@ -285,15 +362,16 @@ impl Stable {
         let _none = lay_slot(&mut self.store, &mut self.processes, pid, fd, Some(num));
     }
 
-    // A slot is closed, and its description goes where no other slot gives it.
-    fn clear_slot(&mut self, pid: Pid, fd: Fd)
-        requires fits { (pipes : List ℕ) × Fits [] self.old.state (Clear_slot pid fd pipes) }
+    // A slot gives this description from now on, or is closed. The description that it gave goes
+    // where no other slot gives it.
+    fn reslot(&mut self, pid: Pid, fd: Fd, given: Option<Num>)
+        requires fits { (pipes : List ℕ) × Fits [] self.old.state (slotting given pid fd pipes) }
         requires low { fd < DESCRIPTORS }
-        ensures state { (pipes : List ℕ) → Fits [] self.old.state (Clear_slot pid fd pipes)
-            → self.new.state ≡ tidy (applied [] (Clear_slot pid fd pipes) self.old.state) }
+        ensures state { (pipes : List ℕ) → Fits [] self.old.state (slotting given pid fd pipes)
+            → self.new.state ≡ tidy (applied [] (slotting given pid fd pipes) self.old.state) }
         ensures kept { KeepsSame self.old self.new }
     {
-        let former = lay_slot(&mut self.store, &mut self.processes, pid, fd, None);
+        let former = lay_slot(&mut self.store, &mut self.processes, pid, fd, given);
         if let Some(description) = former {
             close(&mut self.store, description);
         }

@@ -1,15 +1,18 @@
 // What a transaction has changed of one inode.
 ghost use Rattle.std.specs.Prelude.{◌≡◌, ◌↔◌, ◌++◌, ◌+◌, ◌≤◌, ◌<◌, ◌^◌, [], ℕ, Contains, IfOk, OnErr};
-ghost use Rattle.std.specs.Prelude.{OnOk, Option, None, Some, length};
+ghost use Rattle.std.specs.Prelude.{OnOk, Option, None, Some, drop, length, ◌≢◌};
 ghost use Rattle.ids.specs.declared.limits.TheConstants.{LARGEST_FILE};
 ghost use Rattle.model.specs.FiniteMap.{empty, insert};
 ghost use Rattle.model.specs.State.{File, Inode};
 ghost use Rattle.model.specs.Changes.{sized, written};
 ghost use Rattle.model.specs.Plan.{blocks};
-ghost use Rattle.shadow.specs.Patches.{added_by, bytes_before, form_of, net_of, of_bytes, patched};
+ghost use Rattle.shadow.specs.Patches.{AllReach, added_by, bytes_before, form_of, net_of, new_ends};
+ghost use Rattle.shadow.specs.Patches.{of_bytes, patched};
 ghost use Rattle.shadow.specs.Patches.{numbers_in, untouched};
 ghost use Rattle.shadow.specs.declared.change.Contents.TheVariants.{Names};
+ghost use Rattle.shadow.specs.declared.change.Made.TheVariants as Made;
 ghost use Rattle.shadow.specs.declared.change.Former.TheVariants.{Noted};
+ghost use Rattle.shadow.specs.Notes.{IsAppended, IsPassedBy, IsPiped, IsTaken};
 ghost use Rattle.shadow.specs.Notes.{IsCut, IsGiven, IsGone, IsMade, IsNamed, IsPutBack, IsUnnamed};
 ghost use Rattle.shadow.specs.Notes.{IsWritten, SameNet, put_back, room_for};
 ghost use Rattle.shadow.specs.Steps.{bytes_cut, bytes_written, filed, growth, listed, name_noted};
@@ -20,8 +23,10 @@ use file_shadow::FileShadow;
 use heap::Heap;
 use ids::{Name, Num};
 use objects::FileData;
+use pipe_shadow::PipeShadow;
 use std::alloc::AllocError;
 use std::mem;
+use store::OpenPipe;
 
 /// What a transaction can make.
 #[derive(Clone, Copy)]
@@ -30,6 +35,8 @@ pub(crate) enum Made {
     Directory,
     /// A file.
     File,
+    /// A pipe.
+    Pipe,
 }
 
 /// What has changed of an inode's contents.
@@ -41,6 +48,8 @@ pub(crate) enum Contents {
     Names(bool, Patch),
     /// The bytes that changed, and whether they are laid over none.
     Bytes(bool, FileShadow),
+    /// What is taken from a pipe and appended to it, and the pipe where it is new.
+    Pipe(Option<OpenPipe>, PipeShadow),
 }
 
 /// What a note of a name took the place of.
@@ -155,6 +164,33 @@ impl Change {
         Ok(())
     }
 
+    /// Notes that so many bytes are taken from the front of the pipe. Refused memory changes nothing.
+    pub(crate) fn take(&mut self, heap: Heap, count: usize) -> Result<(), AllocError>
+        ensures ok { OnOk result
+            (IsTaken count (net_of (Some self.old)) (net_of (Some self.new))) }
+        ensures err { OnErr result (self.new ≡ self.old) }
+    {
+        take_in(&mut self.contents, heap, count)
+    }
+
+    /// Notes that these bytes are appended to the pipe. Refused memory changes nothing.
+    pub(crate) fn append(&mut self, heap: Heap, bytes: &[u8]) -> Result<(), AllocError>
+        ensures ok { OnOk result
+            (IsAppended bytes.now (net_of (Some self.old)) (net_of (Some self.new))) }
+        ensures err { OnErr result (self.new ≡ self.old) }
+    {
+        append_in(&mut self.contents, heap, bytes)
+    }
+
+    /// Notes that the transaction made this pipe. It takes no memory.
+    pub(crate) fn note_pipe(&mut self, heap: Heap, pipe: OpenPipe)
+        requires { pipe.bytes ≡ [] }
+        ensures { IsPiped pipe.reader pipe.writer (net_of (Some self.old)) (net_of (Some self.new)) }
+    {
+        self.made = Some(Made::Pipe);
+        self.contents = Contents::Pipe(Some(pipe), PipeShadow::new(heap));
+    }
+
     // Makes room for a file that grows.
     fn make_room(&mut self, before: usize, after: usize) -> Result<(), AllocError>
         ensures same { SameNet (net_of (Some self.old)) (net_of (Some self.new)) }
@@ -168,7 +204,8 @@ impl Change {
 
     /// Notes that the transaction made the object, with its first name. It takes no memory.
     pub(crate) fn note_made(&mut self, heap: Heap, what: Made)
-        requires { self.old.named + 1 < 2 ^ 64 }
+        requires count { self.old.named + 1 < 2 ^ 64 }
+        requires named { what ≢ Made.Pipe }
         ensures { IsMade what (net_of (Some self.old)) (net_of (Some self.new)) }
     {
         self.made = Some(what);
@@ -193,16 +230,20 @@ impl Change {
     }
 }
 
-// The changes of what is new and empty.
+// The changes of a directory or a file that is new and empty.
 fn fresh_of(heap: Heap, what: Made) -> Contents
+    requires { what ≢ Made.Pipe }
     ensures contents { (o : Option Inode) → patched result o ≡ Some (new_inode what) }
     ensures form { form_of result ≡ new_form what }
     ensures added { added_by result ≡ 0 }
+    ensures ends { new_ends result ≡ None }
+    ensures reach { (o : Option Inode) → AllReach result o }
     ensures numbers { numbers_in result ≡ [] }
 {
     match what {
         Made::Directory => Contents::Names(true, Patch::new(heap)),
         Made::File => Contents::Bytes(true, FileShadow::new(heap)),
+        Made::Pipe => unreachable!(),
     }
 }
 
@@ -216,7 +257,7 @@ fn room_for(given: &Option<Num>) -> usize
     }
 }
 
-// Notes what a name gives now; bytes of a file go.
+// Notes what a name gives now; bytes of a file or of a pipe go.
 fn note_in(
     contents: &mut Contents,
     heap: Heap,
@@ -229,6 +270,8 @@ fn note_in(
     ensures added { OnOk result
         (added_by contents.new ≤ added_by contents.old + room_for given) }
     ensures numbers { OnOk result (numbers_in contents.new ≡ []) }
+    ensures ends { OnOk result (new_ends contents.new ≡ None) }
+    ensures reach { OnOk result ((o : Option Inode) → AllReach contents.new o) }
     ensures err { OnErr result (contents.new ≡ contents.old) }
 {
     match contents {
@@ -241,16 +284,23 @@ fn note_in(
             *contents = first_name(heap, true, name, given)?;
             Ok(())
         }
+        Contents::Pipe(_new, _changes) => {
+            *contents = first_name(heap, true, name, given)?;
+            Ok(())
+        }
     }
 }
 
-// Notes that a name is gone, and gives what the note took the place of; bytes of a file go.
+// Notes that a name is gone, and gives what the note took the place of; bytes of a file or of a pipe
+// go.
 fn note_gone_in(contents: &mut Contents, heap: Heap, name: Name) -> Result<Former, AllocError>
     ensures contents { OnOk result ((o : Option Inode)
         → patched contents.new o ≡ name_noted name None (patched contents.old o)) }
     ensures form { OnOk result (form_of contents.new ≡ listed (form_of contents.old)) }
     ensures added { OnOk result (added_by contents.new ≤ added_by contents.old) }
     ensures numbers { OnOk result (numbers_in contents.new ≡ []) }
+    ensures ends { OnOk result (new_ends contents.new ≡ None) }
+    ensures reach { OnOk result ((o : Option Inode) → AllReach contents.new o) }
     ensures back { IfOk result (λ former. put_back former name contents.new ≡ contents.old) }
     ensures err { OnErr result (contents.new ≡ contents.old) }
 {
@@ -268,6 +318,10 @@ fn note_gone_in(contents: &mut Contents, heap: Heap, name: Name) -> Result<Forme
             let noted = first_name(heap, true, name, None)?;
             Ok(Former::Other(mem::replace(contents, noted)))
         }
+        Contents::Pipe(_new, _changes) => {
+            let noted = first_name(heap, true, name, None)?;
+            Ok(Former::Other(mem::replace(contents, noted)))
+        }
     }
 }
 
@@ -279,6 +333,7 @@ fn put_back_in(contents: &mut Contents, name: &Name, given: Option<Option<Num>>)
         Contents::Names(_fresh, names) => names.put_back(name, given),
         Contents::Same => (),
         Contents::Bytes(_fresh, _bytes) => (),
+        Contents::Pipe(_new, _changes) => (),
     }
 }
 
@@ -296,7 +351,7 @@ fn first_name(
     Ok(Contents::Names(fresh, names))
 }
 
-// Notes bytes that are written; names of a directory go.
+// Notes bytes that are written; names of a directory go, and bytes of a pipe.
 fn write_in(
     contents: &mut Contents,
     heap: Heap,
@@ -321,6 +376,10 @@ fn write_in(
             *contents = first_bytes(heap, true, place, bytes)?;
             Ok(())
         }
+        Contents::Pipe(_new, _changes) => {
+            *contents = first_bytes(heap, true, place, bytes)?;
+            Ok(())
+        }
     }
 }
 
@@ -338,7 +397,7 @@ fn first_bytes(heap: Heap, fresh: bool, place: usize, bytes: &[u8]) -> Result<Co
     Ok(Contents::Bytes(fresh, changes))
 }
 
-// Notes a file's length; names of a directory go.
+// Notes a file's length; names of a directory go, and bytes of a pipe.
 fn cut_in(contents: &mut Contents, heap: Heap, len: usize)
     requires { len ≤ LARGEST_FILE }
     ensures contents { (o : Option Inode)
@@ -350,6 +409,7 @@ fn cut_in(contents: &mut Contents, heap: Heap, len: usize)
         Contents::Bytes(_fresh, changes) => changes.cut(len),
         Contents::Same => *contents = first_cut(heap, false, len),
         Contents::Names(_fresh, _names) => *contents = first_cut(heap, true, len),
+        Contents::Pipe(_new, _changes) => *contents = first_cut(heap, true, len),
     }
 }
 
@@ -364,4 +424,40 @@ fn first_cut(heap: Heap, fresh: bool, len: usize) -> Contents
     let mut changes = FileShadow::new(heap);
     changes.cut(len);
     Contents::Bytes(fresh, changes)
+}
+
+// Notes bytes that are taken from a pipe. What shows a directory or a file stays as it is.
+fn take_in(contents: &mut Contents, heap: Heap, count: usize) -> Result<(), AllocError>
+    ensures ok { OnOk result (IsPassedBy (drop count) count contents.old contents.new) }
+    ensures err { OnErr result (contents.new ≡ contents.old) }
+{
+    match contents {
+        Contents::Pipe(_new, changes) => changes.take(count),
+        Contents::Same => {
+            let mut changes = PipeShadow::new(heap);
+            changes.take(count)?;
+            *contents = Contents::Pipe(None, changes);
+            Ok(())
+        }
+        Contents::Names(_fresh, _names) => Ok(()),
+        Contents::Bytes(_fresh, _bytes) => Ok(()),
+    }
+}
+
+// Notes bytes that are appended to a pipe. What shows a directory or a file stays as it is.
+fn append_in(contents: &mut Contents, heap: Heap, bytes: &[u8]) -> Result<(), AllocError>
+    ensures ok { OnOk result (IsPassedBy (λ xs. xs ++ bytes.now) 0 contents.old contents.new) }
+    ensures err { OnErr result (contents.new ≡ contents.old) }
+{
+    match contents {
+        Contents::Pipe(_new, changes) => changes.append(bytes),
+        Contents::Same => {
+            let mut changes = PipeShadow::new(heap);
+            changes.append(bytes)?;
+            *contents = Contents::Pipe(None, changes);
+            Ok(())
+        }
+        Contents::Names(_fresh, _names) => Ok(()),
+        Contents::Bytes(_fresh, _bytes) => Ok(()),
+    }
 }

@@ -3,11 +3,11 @@ ghost use Rattle.std.specs.Prelude.{ℕ, ◌≡◌, ◌≢◌, ◌≤◌, ◌<�
 ghost use Rattle.std.specs.Prelude.{is_some};
 ghost use Rattle.std.specs.List.{AllByRecursion, flat_map};
 ghost use Rattle.model.specs.FiniteMap.{get};
-ghost use Rattle.model.specs.Changes.{news};
+ghost use Rattle.model.specs.Changes.{Make_pipe};
 ghost use Rattle.model.specs.Steps.{IsNowhere};
 ghost use Rattle.freeing_laws.specs.Counts.{listed};
 ghost use Rattle.store.specs.Places.{listing_of};
-ghost use Rattle.shadow.specs.Claims.{AreUnused, Claim, HaveClaimed, HaveParents, IsClaimed, IsComing};
+ghost use Rattle.shadow.specs.Claims.{AreAdded, AreUnused, Claim, HaveClaimed, HaveParents, IsClaimed, IsComing};
 ghost use Rattle.shadow.specs.Claims.{IsDirectory, IsReserved, KeepsMore, KeepsSame, Room, claim_in};
 ghost use Rattle.shadow.specs.Claims.{claimed_by, claimed_in, inode_claim, inodes_claim, new_number};
 ghost use Rattle.shadow.specs.Claims.{Stays, number_as, openings_claim, reserved, room_in};
@@ -88,14 +88,13 @@ impl Stable {
         Ok(chosen)
     }
 
-    // A number for the new object of an edit, if it makes one. Refused memory changes nothing.
+    // Numbers for the new objects of an edit, behind these. Where memory is refused some of them may
+    // be there, and are kept.
     fn claim_number(&mut self, edit: &Edit, chosen: &mut Nums) -> Result<(), AllocError>
-        requires { news edit.now ≤ 1 }
         ensures ok { OnOk result
             (IsClaimed self.old self.new edit.now chosen.old chosen.new) }
         ensures state { self.new.state ≡ self.old.state }
-        ensures err { OnErr result (chosen.new ≡ chosen.old) }
-        ensures same { OnErr result (KeepsSame self.old self.new) }
+        ensures err { OnErr result (AreAdded self.old self.new chosen.old chosen.new) }
     {
         match edit {
             Edit::MakeDirectory(_, _, _) => {
@@ -104,8 +103,22 @@ impl Stable {
             }
             Edit::MakeFile(_, _, _) => self.reserve(Object::Nothing, chosen),
             Edit::OpenInode(_, _, _, _, _) => self.reserve(Object::Nothing, chosen),
+            Edit::MakePipe(_, _, _, _) => self.reserve_three(chosen),
             _ => Ok(()),
         }
+    }
+
+    // Numbers for a pipe and its two descriptions, behind these. Where memory is refused some of them
+    // may be there, and are kept.
+    fn reserve_three(&mut self, chosen: &mut Nums) -> Result<(), AllocError>
+        ensures ok { OnOk result ((i pid f g : ℕ)
+            → IsClaimed self.old self.new (Make_pipe i pid f g) chosen.old chosen.new) }
+        ensures state { self.new.state ≡ self.old.state }
+        ensures err { OnErr result (AreAdded self.old self.new chosen.old chosen.new) }
+    {
+        self.reserve(Object::Nothing, chosen)?;
+        self.reserve(Object::Nothing, chosen)?;
+        self.reserve(Object::Nothing, chosen)
     }
 
     // One new number for an object to come, behind these. Refused memory changes nothing.

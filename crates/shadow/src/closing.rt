@@ -1,12 +1,15 @@
 // What nothing leads to any more goes.
-ghost use Rattle.std.specs.Prelude.{◌≡◌, List};
+ghost use Rattle.std.specs.Prelude.{◌≡◌, ◌≢◌, List, None, nat_lt};
+ghost use Rattle.model.specs.Changes.{openings};
+ghost use Rattle.freeing_laws.specs.Pipes.{is_of};
 ghost use Rattle.std.specs.List.{flat_map};
 ghost use Rattle.std.specs.Map.{keys_of};
-ghost use Rattle.model.specs.FiniteMap.{entries};
-ghost use Rattle.model.specs.State.{Process as A_process};
+ghost use Rattle.model.specs.FiniteMap.{entries, get};
 ghost use Rattle.freeing_laws.specs.Counts.{free_inode};
 ghost use Rattle.freeing_laws.specs.Sweep.{all_closed, closed, free_inodes};
 ghost use Rattle.shadow.specs.Laid.{Frees, Holds, given_by, given_in};
+ghost use Rattle.store.specs.Shown.{inodes};
+ghost use Rattle.shadow.specs.Stored.{Processes, state_of};
 
 use crate::opening::Openings;
 use crate::slots::Slots;
@@ -18,8 +21,8 @@ use store::Store;
 
 /// Closes what slots gave before and no slot gives now. It takes no memory.
 pub(crate) fn close_former(store: &mut Store, former: &Slots)
-    requires { (ps : List A_process) × Holds ps store.old }
-    ensures { (ps : List A_process) → Holds ps store.old
+    requires { (ps : Processes) × Holds ps store.old }
+    ensures { (ps : Processes) → Holds ps store.old
         → Frees (all_closed (given_in former.now)) ps store.old store.new }
 {
     for (_pid, patch) in &former.each {
@@ -27,10 +30,10 @@ pub(crate) fn close_former(store: &mut Store, former: &Slots)
     }
 }
 
-// Closes what one process's slots gave before.
-fn close_given(store: &mut Store, former: &Patch)
-    requires { (ps : List A_process) × Holds ps store.old }
-    ensures { (ps : List A_process) → Holds ps store.old
+/// Closes what one process's slots gave before. It takes no memory.
+pub(crate) fn close_given(store: &mut Store, former: &Patch)
+    requires { (ps : Processes) × Holds ps store.old }
+    ensures { (ps : Processes) → Holds ps store.old
         → Frees (all_closed (flat_map (λ g. given_by g.1) (entries former.now))) ps store.old
         store.new }
 {
@@ -46,8 +49,8 @@ fn close_given(store: &mut Store, former: &Patch)
 
 /// Closes new descriptions that no slot gives. It takes no memory.
 pub(crate) fn close_new(store: &mut Store, openings: &Openings)
-    requires { (ps : List A_process) × Holds ps store.old }
-    ensures { (ps : List A_process) → Holds ps store.old
+    requires { (ps : Processes) × Holds ps store.old }
+    ensures { (ps : Processes) → Holds ps store.old
         → Frees (all_closed (keys_of openings.now)) ps store.old store.new }
 {
     for (num, _opening) in &openings.each {
@@ -58,8 +61,8 @@ pub(crate) fn close_new(store: &mut Store, openings: &Openings)
 /// A description goes that no slot gives, and its inode where nothing else leads to it. It takes no
 /// memory.
 pub(crate) fn close(store: &mut Store, num: Num)
-    requires { (ps : List A_process) × Holds ps store.old }
-    ensures { (ps : List A_process) → Holds ps store.old
+    requires { (ps : Processes) × Holds ps store.old }
+    ensures { (ps : Processes) → Holds ps store.old
         → Frees (closed num) ps store.old store.new }
 {
     match store.description(num) {
@@ -83,8 +86,8 @@ fn inode_in(description: Description) -> Num
 
 /// These inodes go to which nothing leads. It takes no memory.
 pub(crate) fn free_all(store: &mut Store, lost: Vec<Num, Heap>)
-    requires { (ps : List A_process) × Holds ps store.old }
-    ensures { (ps : List A_process) → Holds ps store.old
+    requires { (ps : Processes) × Holds ps store.old }
+    ensures { (ps : Processes) → Holds ps store.old
         → Frees (free_inodes lost.entry.items) ps store.old store.new }
 {
     for num in lost {
@@ -95,8 +98,8 @@ pub(crate) fn free_all(store: &mut Store, lost: Vec<Num, Heap>)
 /// An inode goes to which no name and no description leads, unless it is the root. It takes no
 /// memory.
 pub(crate) fn free(store: &mut Store, num: Num)
-    requires { (ps : List A_process) × Holds ps store.old }
-    ensures { (ps : List A_process) → Holds ps store.old
+    requires { (ps : Processes) × Holds ps store.old }
+    ensures { (ps : Processes) → Holds ps store.old
         → Frees (free_inode num) ps store.old store.new }
 {
     if num == store.root() {
@@ -108,8 +111,33 @@ pub(crate) fn free(store: &mut Store, num: Num)
     if store.is_named(num) {
         return;
     }
-    if store.openings(num) > 0 {
+    if is_open(store, num) {
         return;
     }
     store.lose(num);
+}
+
+// Whether a description is of an inode.
+fn is_open(store: &Store, num: Num) -> bool
+    requires holds { (ps : Processes) × Holds ps store.now }
+    requires there { get (inodes store.now) num ≢ None }
+    ensures { (ps : Processes) → Holds ps store.now
+        → result ≡ nat_lt 0 (openings (state_of ps store.now) num) }
+{
+    match store.pipe(num) {
+        Some(pipe) => {
+            is_of(num, store.description(pipe.reader)) || is_of(num, store.description(pipe.writer))
+        }
+        None => store.openings(num) > 0,
+    }
+}
+
+// Whether it is a description of this inode.
+fn is_of(inode: Num, description: Option<Description>) -> bool
+    ensures { result ≡ is_of inode description }
+{
+    match description {
+        Some(description) => description.inode == inode,
+        None => false,
+    }
 }

@@ -5,7 +5,9 @@ ghost use Rattle.std.specs.List.Sorted.{IsStrictlyIncreasing};
 ghost use Rattle.ids.specs.declared.limits.TheConstants.{LARGEST_FILE};
 ghost use Rattle.shadow.specs.Patches.{kept_at, net_at, numbers_in};
 ghost use Rattle.shadow.specs.Notes.{AreNamed, At, IsCut, IsGiven, IsGone, IsMade, IsNamed};
-ghost use Rattle.shadow.specs.Notes.{IsPutBack, IsUnnamed, IsWritten, SameInodes};
+ghost use Rattle.shadow.specs.Notes.{IsAppended, IsPiped, IsPutBack, IsTaken, IsUnnamed, IsWritten};
+ghost use Rattle.shadow.specs.Notes.{SameInodes};
+ghost use Rattle.shadow.specs.declared.change.Made.TheVariants as Made;
 
 use crate::change::{Change, Contents, Former, Made};
 use heap::Heap;
@@ -13,6 +15,7 @@ use ids::{Name, Num};
 use std::alloc::AllocError;
 use std::collections::BTreeMap;
 use std::marker::Model;
+use store::OpenPipe;
 
 /// The changes of all inodes, by their numbers.
 #[derive(Drop)]
@@ -196,8 +199,50 @@ impl Inodes {
         }
     }
 
-    /// Notes that an object is new, in its place. It takes no memory.
+    /// Notes that so many bytes are taken from the front of a pipe, where there is a place for it.
+    /// Refused memory changes nothing.
+    pub(crate) fn take(&mut self, pipe: Num, count: usize) -> Result<(), AllocError>
+        requires { kept_at self.old pipe ≢ None }
+        ensures ok { OnOk result (At pipe (IsTaken count) self.old self.new) }
+        ensures err { OnErr result (SameInodes self.old self.new) }
+    {
+        let heap = self.heap;
+        match self.each.get_mut(&pipe) {
+            Some(change) => change.take(heap, count),
+            None => unreachable!(),
+        }
+    }
+
+    /// Notes that these bytes are appended to a pipe, where there is a place for it. Refused memory
+    /// changes nothing.
+    pub(crate) fn append(&mut self, pipe: Num, bytes: &[u8]) -> Result<(), AllocError>
+        requires { kept_at self.old pipe ≢ None }
+        ensures ok { OnOk result (At pipe (IsAppended bytes.now) self.old self.new) }
+        ensures err { OnErr result (SameInodes self.old self.new) }
+    {
+        let heap = self.heap;
+        match self.each.get_mut(&pipe) {
+            Some(change) => change.append(heap, bytes),
+            None => unreachable!(),
+        }
+    }
+
+    /// Notes that a pipe is new, in its place. It takes no memory.
+    pub(crate) fn note_pipe(&mut self, num: Num, pipe: OpenPipe)
+        requires place { kept_at self.old num ≢ None }
+        requires empty { pipe.bytes ≡ [] }
+        ensures { At num (IsPiped pipe.reader pipe.writer) self.old self.new }
+    {
+        let heap = self.heap;
+        match self.each.get_mut(&num) {
+            Some(change) => change.note_pipe(heap, pipe),
+            None => unreachable!(),
+        }
+    }
+
+    /// Notes that a directory or a file is new, in its place. It takes no memory.
     pub(crate) fn note_made(&mut self, num: Num, what: Made)
+        requires named { what ≢ Made.Pipe }
         requires place { kept_at self.old num ≢ None }
         requires count { (net_at self.old num).named + 1 < 2 ^ 64 }
         ensures { At num (IsMade what) self.old self.new }
@@ -253,6 +298,7 @@ fn changed_in(contents: &Contents) -> &[u32]
     match contents {
         Contents::Bytes(_fresh, bytes) => bytes.changed(),
         Contents::Names(_fresh, _names) => &[],
+        Contents::Pipe(_new, _changes) => &[],
         Contents::Same => &[],
     }
 }

@@ -1,11 +1,17 @@
 // The changes of inodes and of descriptions, made in the store.
 ghost use Rattle.std.specs.Prelude.{◌≡◌, ◌≢◌, ◌≤◌, ◌<◌, ◌^◌, ◌⊎◌, ℕ, false, true, Some};
 ghost use Rattle.std.specs.Prelude.{length};
+ghost use Rattle.ids.specs.declared.limits.TheConstants.{PIPE_CAPACITY};
 ghost use Rattle.model.specs.FiniteMap.{get};
 ghost use Rattle.store.specs.Numbers.{coming};
 ghost use Rattle.store.specs.declared.Object.TheVariants.{Nothing};
 ghost use Rattle.shadow.specs.Laid.{AreReady, AreReopened, IsCarried, IsReady, IsReadyFile};
-ghost use Rattle.shadow.specs.Laid.{IsReopened, IsWrittenOver};
+ghost use Rattle.model.specs.State.{pipe_of_inode};
+ghost use Rattle.pipe_shadow.specs.View.{view_over as pipe_over};
+ghost use Rattle.store.specs.Numbers.{present};
+ghost use Rattle.store.specs.Shown.{inodes};
+ghost use Rattle.store.specs.declared.Object.TheVariants.{Pipe as A_pipe};
+ghost use Rattle.shadow.specs.Laid.{IsPassedOver, IsReadyPipe, IsReopened, IsWrittenOver};
 ghost use Rattle.shadow.specs.declared.opening.Opening.TheVariants.{New};
 ghost use Rattle.shadow.specs.Patches.{is_new, kept_at, opening_at};
 
@@ -14,9 +20,10 @@ use crate::inodes::Inodes;
 use crate::opening::{Opening, Openings};
 use file_shadow::FileShadow;
 use heap::Heap;
-use ids::Num;
+use ids::{Num, PIPE_CAPACITY};
 use objects::{Description, FileData};
-use store::{Object, OpenFile, Opened, Store};
+use pipe_shadow::PipeShadow;
+use store::{Object, OpenFile, OpenPipe, Opened, Store};
 
 /// Makes what is changed of inodes, in the room that is kept for it. It takes no memory.
 pub(crate) fn lay_inodes(store: &mut Store, heap: Heap, inodes: Inodes)
@@ -59,6 +66,46 @@ fn lay_inode(store: &mut Store, heap: Heap, num: Num, change: Change)
                 lay_bytes(store, heap, num, bytes, room);
             }
         }
+        Contents::Pipe(new, changes) => match new {
+            Some(pipe) => install_pipe(store, num, pipe, changes),
+            None => lay_pipe(store, num, &changes),
+        },
+    }
+}
+
+// Shows a new pipe, with its changes.
+fn install_pipe(store: &mut Store, num: Num, pipe: OpenPipe, changes: PipeShadow)
+    requires ready { IsReadyPipe (Some pipe) changes (get store.old.places num) }
+    ensures root { store.new.root ≡ store.old.root }
+    ensures here { get store.new.places num ≡ Some (present (A_pipe (record pipe {
+      bytes = pipe_over changes pipe.bytes;
+    }))) }
+    ensures others { (n : ℕ) → n ≢ num → get store.new.places n ≡ get store.old.places n }
+{
+    let mut pipe = pipe;
+    changes.commit_into(&mut pipe.bytes);
+    store.install_as(num, Object::Pipe(pipe));
+}
+
+// Lays changes over those of a pipe.
+fn lay_pipe(store: &mut Store, num: Num, changes: &PipeShadow)
+    requires ready { IsReadyPipe None changes.now (get store.old.places num) }
+    ensures root { store.new.root ≡ store.old.root }
+    ensures here { IsPassedOver changes.now (get store.old.places num) (get store.new.places num) }
+    ensures others { (n : ℕ) → n ≢ num → get store.new.places n ≡ get store.old.places n }
+{
+    let (taken, appended) = changes.split(pipe_len(store, num));
+    store.change_pipe(num, taken, appended);
+}
+
+/// How many bytes a pipe has; none where there is no pipe. It takes no memory.
+pub(crate) fn pipe_len(store: &Store, num: Num) -> usize
+    ensures len { result ≡ length (pipe_of_inode (get (inodes store.now) num)) }
+    ensures within { result ≤ PIPE_CAPACITY }
+{
+    match store.pipe(num) {
+        Some(pipe) => pipe.bytes.len(),
+        None => 0,
     }
 }
 

@@ -12,6 +12,8 @@ mod laying;
 mod log;
 mod opening;
 mod patches;
+mod pipes;
+mod processes;
 mod reslotting;
 mod shadow;
 mod slots;

@@ -1,10 +1,15 @@
 // All that a transaction has changed, object by object.
 ghost use Rattle.std.specs.Prelude.{◌≡◌, ◌≢◌, ◌+◌, ◌≤◌, ◌∷◌, [], ℕ, List, length, OnErr, OnOk};
+ghost use Rattle.std.specs.Prelude.{◌<◌, None, Some, if◌then◌else◌};
 ghost use Rattle.ids.specs.declared.limits.TheConstants.{LARGEST_FILE};
 ghost use Rattle.model.specs.Changes.{Name_file, Move, Put_bytes, Cut, news, number, at_start};
-ghost use Rattle.model.specs.Changes.{inode_replaced};
+ghost use Rattle.model.specs.Changes.{Append, Make_pipe, Take, inode_replaced, to_read, to_write};
+ghost use Rattle.model.specs.Limits.{descriptor_limit};
 ghost use Rattle.freeing_laws.specs.Counts.{listed};
 ghost use Rattle.shadow.specs.Notes.{SamePatches};
+ghost use Rattle.shadow.specs.Openings.{AtOpening, AtSlots, IsOpened, SameOpenings, SameSlots};
+ghost use Rattle.shadow.specs.Patches.{kept_at};
+ghost use Rattle.shadow.specs.declared.change.Made.TheVariants as Made;
 ghost use Rattle.std.specs.List.{AllByRecursion, sum_by};
 ghost use Rattle.shadow.specs.Steps.{AreApart, CanEdit, HasPlaces, IsBelow, IsFirst, IsLast};
 ghost use Rattle.shadow.specs.Steps.{TakesAll, TakesIn, is_last, making, unnaming};
@@ -16,9 +21,10 @@ use crate::opening::Openings;
 use crate::slots::Slots;
 use heap::Heap;
 use ids::{Bytes, Edit, Fd, Mode, Name, Num, Nums, Pid, Replaced, Which};
-use objects::Description;
+use objects::{Description, PipeData};
 use std::alloc::AllocError;
 use std::marker::Model;
+use store::OpenPipe;
 
 /// All that a transaction has changed, by the numbers of inodes, of descriptions and of processes,
 /// and what has lost a name, in order.
@@ -67,6 +73,19 @@ pub(crate) fn at_start(inode: Num, mode: Mode) -> Description
     }
 }
 
+// A description of a pipe, which reads it, or writes it.
+pub(crate) fn end_of(pipe: Num, writing: bool) -> Description
+    ensures { result ≡ at_start pipe (if writing then to_write else to_read) }
+{
+    Description {
+        inode: pipe,
+        reading: !writing,
+        writing,
+        appending: false,
+        offset: 0,
+    }
+}
+
 // What had the name that another takes over, if anything had.
 pub(crate) fn inode_replaced(replaced: Replaced) -> Option<Num>
     ensures { listed result ≡ inode_replaced replaced }
@@ -103,6 +122,7 @@ impl Patches {
                 self.slots.make_place(*pid)
             }
             Edit::SetOffset(description, _) => self.openings.make_place(*description),
+            Edit::ShareSlot(pid, _, _, _) => self.slots.make_place(*pid),
             Edit::ClearSlot(pid, _, _) => self.slots.make_place(*pid),
             _ => unreachable!(),
         }
@@ -122,20 +142,25 @@ impl Patches {
                 self.slots.note(*pid, *fd, Some(description));
             }
             Edit::SetOffset(description, place) => self.openings.move_to(*description, *place),
+            Edit::ShareSlot(pid, fd, description, _) => {
+                self.slots.note(*pid, *fd, Some(*description));
+            }
             Edit::ClearSlot(pid, fd, _) => self.slots.note(*pid, *fd, None),
             _ => unreachable!(),
         }
     }
 
-    /// Notes an edit of a name or of a file's bytes. Refused memory changes nothing that shows.
+    /// Notes an edit of a name or of bytes, or a new pipe. Refused memory changes nothing that shows.
     pub(crate) fn note_first(&mut self, chosen: &[Num], edit: Edit) -> Result<(), AllocError>
         requires first { IsFirst edit }
         requires count { news edit ≤ length chosen.now }
         requires apart { AreApart chosen.now edit }
         ensures ok { OnOk result (TakesIn chosen.now edit self.old self.new) }
         ensures err { OnErr result (SamePatches self.old self.new) }
-        ensures openings { self.new.openings ≡ self.old.openings }
-        ensures slots { self.new.slots ≡ self.old.slots }
+        ensures openings { (d : ℕ) → kept_at self.old.openings d ≢ None
+            → kept_at self.new.openings d ≢ None }
+        ensures slots { (pid : ℕ) → kept_at self.old.slots pid ≢ None
+            → kept_at self.new.slots pid ≢ None }
     {
         match edit {
             Edit::MakeDirectory(parent, name, _place) => {
@@ -154,13 +179,19 @@ impl Patches {
                 self.write(file, place, &bytes, before)
             }
             Edit::Cut(file, before, after) => self.cut(file, before, after),
+            Edit::Take(pipe, count) => self.take(pipe, count),
+            Edit::Append(pipe, bytes) => self.append(pipe, &bytes),
+            Edit::MakePipe(_place, pid, reading, writing) => {
+                self.make_pipe(chosen[0], pid, (reading, chosen[1]), (writing, chosen[2]))
+            }
             _ => unreachable!(),
         }
     }
 
     // A new object with its name.
     fn make(&mut self, what: Made, parent: Num, name: Name, num: Num) -> Result<(), AllocError>
-        requires { num ≢ parent }
+        requires apart { num ≢ parent }
+        requires named { what ≢ Made.Pipe }
         ensures ok { OnOk result (TakesIn (num ∷ []) (making what parent name) self.old self.new) }
         ensures err { OnErr result (SamePatches self.old self.new) }
         ensures openings { self.new.openings ≡ self.old.openings }
@@ -262,6 +293,91 @@ impl Patches {
         self.inodes.cut(file, before as usize, after as usize)
     }
 
+    // Bytes are taken from the front of a pipe.
+    fn take(&mut self, pipe: Num, count: u32) -> Result<(), AllocError>
+        ensures ok { OnOk result (TakesIn [] (Take pipe count) self.old self.new) }
+        ensures err { OnErr result (SamePatches self.old self.new) }
+        ensures openings { self.new.openings ≡ self.old.openings }
+        ensures slots { self.new.slots ≡ self.old.slots }
+    {
+        self.inodes.make_place(pipe)?;
+        self.inodes.take(pipe, count as usize)
+    }
+
+    // Bytes are appended to a pipe.
+    fn append(&mut self, pipe: Num, bytes: &Bytes) -> Result<(), AllocError>
+        ensures ok { OnOk result (TakesIn [] (Append pipe bytes.now) self.old self.new) }
+        ensures err { OnErr result (SamePatches self.old self.new) }
+        ensures openings { self.new.openings ≡ self.old.openings }
+        ensures slots { self.new.slots ≡ self.old.slots }
+    {
+        self.inodes.make_place(pipe)?;
+        self.inodes.append(pipe, bytes.as_slice())
+    }
+
+    // A new pipe, with the descriptors and the descriptions of its two ends.
+    fn make_pipe(
+        &mut self,
+        pipe: Num,
+        pid: Pid,
+        reading: (Fd, Num),
+        writing: (Fd, Num),
+    ) -> Result<(), AllocError>
+        requires apart { reading.1 ≢ writing.1 }
+        requires low { (reading.0 < descriptor_limit) × (writing.0 < descriptor_limit) }
+        ensures ok { OnOk result (TakesIn (pipe ∷ reading.1 ∷ writing.1 ∷ [])
+            (Make_pipe 0 pid reading.0 writing.0) self.old self.new) }
+        ensures err { OnErr result (SamePatches self.old self.new) }
+        ensures openings { (d : ℕ) → kept_at self.old.openings d ≢ None
+            → kept_at self.new.openings d ≢ None }
+        ensures slots { (q : ℕ) → kept_at self.old.slots q ≢ None
+            → kept_at self.new.slots q ≢ None }
+    {
+        let bytes = PipeData::new(*self.lost.allocator())?;
+        self.inodes.make_place(pipe)?;
+        self.make_ends(pid, reading.1, writing.1)?;
+        self.inodes.note_pipe(
+            pipe,
+            OpenPipe {
+                bytes,
+                reader: reading.1,
+                writer: writing.1,
+            },
+        );
+        self.note_end(pid, reading, end_of(pipe, false));
+        self.note_end(pid, writing, end_of(pipe, true));
+        Ok(())
+    }
+
+    // Makes places for two new descriptions and their descriptors. Refused memory changes nothing.
+    fn make_ends(&mut self, pid: Pid, reader: Num, writer: Num) -> Result<(), AllocError>
+        ensures inodes { self.new.inodes ≡ self.old.inodes }
+        ensures lost { self.new.lost ≡ self.old.lost }
+        ensures openings { SameOpenings self.old.openings self.new.openings }
+        ensures slots { SameSlots self.old.slots self.new.slots }
+        ensures ok { OnOk result ((kept_at self.new.openings reader ≢ None)
+            × (kept_at self.new.openings writer ≢ None) × (kept_at self.new.slots pid ≢ None)) }
+    {
+        self.openings.make_place(reader)?;
+        self.openings.make_place(writer)?;
+        self.slots.make_place(pid)
+    }
+
+    // Notes a new description with its descriptor, in their places. It takes no memory.
+    fn note_end(&mut self, pid: Pid, end: (Fd, Num), description: Description)
+        requires places { (kept_at self.old.openings end.1 ≢ None)
+            × (kept_at self.old.slots pid ≢ None) }
+        requires low { end.0 < descriptor_limit }
+        ensures inodes { self.new.inodes ≡ self.old.inodes }
+        ensures lost { self.new.lost ≡ self.old.lost }
+        ensures openings { AtOpening end.1 (IsOpened description) self.old.openings
+            self.new.openings }
+        ensures slots { AtSlots pid end.0 (Some end.1) self.old.slots self.new.slots }
+    {
+        self.openings.open(end.1, description);
+        self.slots.note(pid, end.0, Some(end.1));
+    }
+
     /// Notes what a call changes. Refused memory changes nothing that shows.
     pub(crate) fn note(
         &mut self,
@@ -321,6 +437,9 @@ pub(crate) fn is_last(edit: &Edit) -> bool
 {
     matches!(
         edit,
-        Edit::OpenInode(_, _, _, _, _) | Edit::SetOffset(_, _) | Edit::ClearSlot(_, _, _)
+        Edit::OpenInode(_, _, _, _, _)
+            | Edit::SetOffset(_, _)
+            | Edit::ShareSlot(_, _, _, _)
+            | Edit::ClearSlot(_, _, _)
     )
 }

@@ -1,5 +1,5 @@
 // The changes of slots, made of the processes.
-ghost use Rattle.std.specs.Prelude.{◌≡◌, ◌≢◌, ◌≤◌, ◌<◌, [], ℕ, Some, length};
+ghost use Rattle.std.specs.Prelude.{◌≡◌, ◌≢◌, ◌<◌, [], ℕ, None, Some};
 ghost use Rattle.ids.specs.declared.limits.TheConstants.{DESCRIPTORS};
 ghost use Rattle.model.specs.FiniteMap.{entries, get};
 ghost use Rattle.shadow.specs.Laid.{AreHeld, AreReslotted, IsOneLess, IsOneMore, IsReslotted};
@@ -17,9 +17,13 @@ use store::Store;
 
 /// Makes what is changed of slots; what these gave before stands in the place of the changes. It
 /// takes no memory.
-pub(crate) fn lay_slots(store: &mut Store, processes: &mut Vec<Process, Heap>, slots: &mut Slots)
+pub(crate) fn lay_slots(
+    store: &mut Store,
+    processes: &mut Vec<Option<Process>, Heap>,
+    slots: &mut Slots,
+)
     requires { (pid : ℕ) → slots_in (kept_at slots.old pid) ≢ []
-        → (0 < pid) × (pid ≤ length processes.old.items) }
+        → get (numbered processes.old.items) pid ≢ None }
     ensures { AreReslotted slots.old slots.new processes.old.items processes.new.items
         store.old store.new }
 {
@@ -27,10 +31,14 @@ pub(crate) fn lay_slots(store: &mut Store, processes: &mut Vec<Process, Heap>, s
 }
 
 // Makes what is changed of each process's slots, and puts what they gave before in its place.
-fn lay_each(store: &mut Store, processes: &mut Vec<Process, Heap>, each: &mut [(Pid, Patch)])
+fn lay_each(
+    store: &mut Store,
+    processes: &mut Vec<Option<Process>, Heap>,
+    each: &mut [(Pid, Patch)],
+)
     requires once { AreOnce each.old }
     requires living { (pid : ℕ) → slots_in (kept_at each.old pid) ≢ []
-        → (0 < pid) × (pid ≤ length processes.old.items) }
+        → get (numbered processes.old.items) pid ≢ None }
     ensures laid { AreReslotted each.old each.new processes.old.items processes.new.items
         store.old store.new }
     ensures once { AreOnce each.new }
@@ -42,14 +50,15 @@ fn lay_each(store: &mut Store, processes: &mut Vec<Process, Heap>, each: &mut [(
     }
 }
 
-// Makes what is changed of one process's slots, and answers what they gave before.
-fn lay_table(
+/// Makes what is changed of one process's slots, and answers what they gave before. It takes no
+/// memory.
+pub(crate) fn lay_table(
     store: &mut Store,
-    processes: &mut Vec<Process, Heap>,
+    processes: &mut Vec<Option<Process>, Heap>,
     pid: Pid,
     patch: &Patch,
 ) -> Patch
-    requires { entries patch.now ≢ [] → (0 < pid) × (pid ≤ length processes.old.items) }
+    requires { entries patch.now ≢ [] → get (numbered processes.old.items) pid ≢ None }
     ensures { IsReslotted pid patch.now result processes.old.items processes.new.items
         store.old store.new }
 {
@@ -67,27 +76,47 @@ fn lay_table(
 /// One slot gives this from now on; what it gave is answered. It takes no memory.
 pub(crate) fn lay_slot(
     store: &mut Store,
-    processes: &mut Vec<Process, Heap>,
+    processes: &mut Vec<Option<Process>, Heap>,
     pid: Pid,
     fd: Fd,
     given: Option<Num>,
 ) -> Option<Num>
-    requires pid { (0 < pid) × (pid ≤ length processes.old.items) }
+    requires pid { get (numbered processes.old.items) pid ≢ None }
     requires fd { fd < DESCRIPTORS }
     ensures former { result ≡ get (table_in (get (numbered processes.old.items) pid)) fd }
     ensures laid { IsSlotted pid fd given processes.old.items processes.new.items
         store.old store.new }
 {
     let index = pid.0 as usize - 1;
-    let former = processes[index].table.get(fd);
+    let former = slot_of(&processes[index], fd);
     give(&mut processes[index], fd, given);
     count_more(store, &given);
     count_less(store, &former);
     former
 }
 
+// What a slot of a process gives.
+fn slot_of(process: &Option<Process>, fd: Fd) -> Option<Num>
+    ensures { result ≡ get (table_in process.now) fd }
+{
+    match process {
+        Some(process) => process.table.get(fd),
+        None => None,
+    }
+}
+
 // A slot of a process gives this from now on.
-fn give(process: &mut Process, fd: Fd, given: Option<Num>)
+fn give(process: &mut Option<Process>, fd: Fd, given: Option<Num>)
+    requires there { process.old ≢ None }
+    requires fd { fd < DESCRIPTORS }
+    ensures { process.new ≡ slot_noted fd given process.old }
+{
+    if let Some(process) = process {
+        give_in(process, fd, given);
+    }
+}
+
+fn give_in(process: &mut Process, fd: Fd, given: Option<Num>)
     requires { fd < DESCRIPTORS }
     ensures { Some process.new ≡ slot_noted fd given (Some process.old) }
 {

@@ -10,7 +10,7 @@ ghost use Rattle.freeing_laws.specs.Sweep.{AllFit};
 ghost use Rattle.shadow.specs.Claims.{AreUnused, Covers, HaveParents, KeepsMore, KeepsSame, claimed};
 ghost use Rattle.shadow.specs.Claims.{claimed_by};
 ghost use Rattle.shadow.specs.Log.{effect};
-ghost use Rattle.shadow.specs.Looks.{DirectoriesAreKept, HasNoPipes};
+ghost use Rattle.shadow.specs.Looks.{DirectoriesAreKept};
 ghost use Rattle.shadow.specs.Steps.{CanEdit};
 
 use crate::claiming::parent_of;
@@ -110,14 +110,6 @@ impl Shadow {
     {
         let _patches = &self.patches;
         stable.directories_are_kept();
-    }
-
-    /// Today the committed state with these changes on top has no pipes.
-    pub fn has_no_pipes(&self, stable: &Stable)
-        ensures { HasNoPipes (all_done self.now stable.now.state) }
-    {
-        let _patches = &self.patches;
-        stable.has_no_pipes();
     }
 
     /// Makes the changes in the committed state, object by object, and frees what nothing leads to

@@ -1,13 +1,15 @@
 // What a transaction has changed of the descriptors of processes.
 ghost use Rattle.std.specs.Prelude.{◌≡◌, ◌≢◌, ◌<◌, [], ℕ, None, Option, OnErr, OnOk, Some};
 ghost use Rattle.std.specs.Prelude.{◌==◌, if◌then◌else◌, option_copied, option_map};
-ghost use Rattle.model.specs.FiniteMap.{insert};
+ghost use Rattle.std.specs.Prelude.{◌+◌};
+ghost use Rattle.model.specs.FiniteMap.{get, insert};
 ghost use Rattle.ids.specs.declared.limits.TheConstants.{DESCRIPTORS};
-ghost use Rattle.model.specs.State.{Process};
-ghost use Rattle.model.specs.Changes.{or_new};
+ghost use Rattle.model.specs.State.{Kernel, Process};
+ghost use Rattle.model.specs.Changes.{holders, or_new};
 ghost use Rattle.shadow.specs.Patches.{kept_at, reslotted};
 ghost use Rattle.shadow.specs.Openings.{AreOnce, AtSlots, SameSlots};
 
+use crate::stable::Stable;
 use fdtable::{FdTable, Patch};
 use heap::Heap;
 use ids::{Fd, Num, Pid};
@@ -59,6 +61,25 @@ impl Slots {
             Some(patch) => patch.table_over(&stored),
             None => stored,
         }
+    }
+
+    /// How many of the changed processes' descriptors are open on a description now, and how many
+    /// were. It takes no memory.
+    pub(crate) fn turnover(&self, stable: &Stable, description: Num) -> (u128, u128)
+        ensures { (k after : Kernel) → k ≡ stable.now.state
+            → ((pid : ℕ) → get after.processes pid
+            ≡ reslotted (kept_at self.now pid) (get k.processes pid))
+            → holders after description + result.1 ≡ holders k description + result.0 }
+    {
+        let mut added = 0;
+        let mut taken = 0;
+        for i in 0..self.each.len() {
+            let pid = self.each[i].0;
+            let stored = stable.table(pid);
+            taken += stored.count(description) as u128;
+            added += self.over(pid, stored).count(description) as u128;
+        }
+        (added, taken)
     }
 
     /// Makes a place for what will be changed of a process's descriptors. Refused memory changes

@@ -1,31 +1,35 @@
 // The committed state.
-ghost use Rattle.std.specs.Prelude.{ℕ, ◌≡◌, ◌≢◌, ◌≤◌, ◌<◌, ◌+◌, ◌∷◌, [], List, None, true, IfOk, OnErr};
-ghost use Rattle.std.specs.Prelude.{OnOk, option_copied, length, map, if◌then◌else◌};
+ghost use Rattle.std.specs.Prelude.{ℕ, ◌≡◌, ◌≢◌, ◌≤◌, ◌<◌, ◌+◌, ◌∷◌, [], List, None, Some, true, IfOk, OnErr};
+ghost use Rattle.std.specs.Prelude.{OnOk, IfSome, option_copied, length, map, if◌then◌else◌};
 ghost use Rattle.std.specs.List.{AllByRecursion};
 ghost use Rattle.model.specs.FiniteMap.{empty, get};
 ghost use Rattle.model.specs.State.{file_of, kind_of, links, mapped, names_of, File as A_file};
-ghost use Rattle.model.specs.Changes.{all_applied, process_of, tidy};
+ghost use Rattle.model.specs.State.{Pipe as A_pipe};
+ghost use Rattle.model.specs.Changes.{all_applied, holders, process_of, tidy};
 ghost use Rattle.model.specs.Steps.{IsNowhere};
 ghost use Rattle.model.specs.Moments.{start, is_alive};
 ghost use Rattle.call_laws.specs.Fits.{FitsAll};
 ghost use Rattle.freeing_laws.specs.Sweep.{IsTidied};
-ghost use Rattle.store.specs.Shown.{file_inode};
+ghost use Rattle.freeing_laws.specs.Pipes.{ArePair};
+ghost use Rattle.store.specs.Shown.{file_inode, pipe_inode};
 ghost use Rattle.shadow.specs.Claims.{AreUnused, Claim, Covers, HaveParents, IsDirectory, KeepsMore};
 ghost use Rattle.shadow.specs.Claims.{KeepsNothing, KeepsSame, claimed_by, number_as, number_of};
 ghost use Rattle.shadow.specs.Claims.{reserved, room_in};
 ghost use Rattle.shadow.specs.Log.{effect};
-ghost use Rattle.shadow.specs.Looks.{DirectoriesAreKept, HasNoPipes, birth_of};
+ghost use Rattle.shadow.specs.Looks.{DirectoriesAreKept, birth_of};
 ghost use Rattle.shadow.specs.Steps.{CanEdit};
+ghost use Rattle.shadow.specs.Stored.{numbered};
 
 use crate::shadow::Shadow;
 use dirlist::Dir;
 use fdtable::FdTable;
+use freeing_laws::openings_change;
 use heap::Heap;
 use ids::{Edit, Fd, Kind, Name, Num, Nums, Pid, Priority};
 use objects::{Description, FileData};
 use std::alloc::AllocError;
 use std::marker::Model;
-use store::{Object, Store};
+use store::{Object, OpenPipe, Store};
 
 /// A process.
 #[derive(Drop)]
@@ -51,7 +55,8 @@ impl Model for Process {
 /// is kept for transactions that may commit.
 #[derive(Drop)]
 pub struct Stable {
-    pub(crate) processes: Vec<Process, Heap>,
+    /// Each place has the process of the next number; one that has ended leaves its place empty.
+    pub(crate) processes: Vec<Option<Process>, Heap>,
     pub(crate) store: Store,
 }
 
@@ -67,18 +72,33 @@ impl Model for Stable {
 }
 
 // A process without open descriptors for each of these priorities.
-fn first_processes(heap: Heap, priorities: &[Priority]) -> Result<Vec<Process, Heap>, AllocError>
-    ensures { IfOk result (λ ps. ps.items ≡ map (λ p. record { table = empty; priority = p })
-        priorities.now) }
+fn first_processes(
+    heap: Heap,
+    priorities: &[Priority],
+) -> Result<Vec<Option<Process>, Heap>, AllocError>
+    ensures { IfOk result (λ ps. ps.items
+        ≡ map (λ p. Some (record { table = empty; priority = p })) priorities.now) }
 {
     let mut processes = Vec::with_capacity(heap, priorities.len())?;
     for priority in priorities {
-        processes.push(Process {
+        processes.push(Some(Process {
             table: FdTable::new(),
             priority: *priority,
-        })?;
+        }))?;
     }
     Ok(processes)
+}
+
+// The process of a number, if it is there.
+fn process_in(processes: &[Option<Process>], pid: Pid) -> Option<&Process>
+    ensures { option_copied result ≡ get (numbered processes.now) pid }
+{
+    let number = pid.0 as usize;
+    if 0 < number && number <= processes.len() {
+        processes[number - 1].as_ref()
+    } else {
+        None
+    }
 }
 
 impl Stable {
@@ -104,8 +124,7 @@ impl Stable {
     pub fn is_living(&self, pid: Pid) -> bool
         ensures { result ≡ is_alive self.now.state pid }
     {
-        let number = pid.0 as usize;
-        0 < number && number <= self.processes.len()
+        process_in(self.processes.as_slice(), pid).is_some()
     }
 
     /// A process's priority.
@@ -113,8 +132,10 @@ impl Stable {
         requires { is_alive self.now.state pid ≡ true }
         ensures { result ≡ (process_of self.now.state pid).priority }
     {
-        let number = pid.0 as usize;
-        self.processes[number - 1].priority
+        match process_in(self.processes.as_slice(), pid) {
+            Some(process) => process.priority,
+            None => unreachable!(),
+        }
     }
 
     /// A process's priority as a number; 0 where there is no such process.
@@ -144,10 +165,9 @@ impl Stable {
     pub(crate) fn table(&self, pid: Pid) -> FdTable
         ensures { result ≡ (process_of self.now.state pid).table }
     {
-        if self.is_living(pid) {
-            self.processes[pid.0 as usize - 1].table.copy()
-        } else {
-            FdTable::new()
+        match process_in(self.processes.as_slice(), pid) {
+            Some(process) => process.table.copy(),
+            None => FdTable::new(),
         }
     }
 
@@ -201,6 +221,24 @@ impl Stable {
         self.store.description(num)
     }
 
+    /// A pipe.
+    pub(crate) fn pipe(&self, num: Num) -> Option<&OpenPipe>
+        ensures bytes { pipe_inode (get self.now.state.inodes num)
+            ≡ mapped (λ pipe. A_pipe pipe.bytes) (option_copied result) }
+        ensures ends { IfSome (option_copied result) (λ pipe.
+            ArePair self.now.state.descriptions num pipe.reader pipe.writer) }
+    {
+        self.store.pipe(num)
+    }
+
+    /// How many descriptors of processes name a description.
+    pub(crate) fn holders(&self, num: Num) -> u128
+        ensures { result ≡ holders self.now.state num }
+    {
+        openings_change();
+        self.store.holders(num)
+    }
+
     /// How many names give an inode.
     pub(crate) fn links(&self, num: Num) -> u128
         ensures { result ≡ links self.now.state num }
@@ -211,13 +249,6 @@ impl Stable {
     /// Each directory can have room promised.
     pub fn directories_are_kept(&self)
         ensures { DirectoriesAreKept self.now }
-    {
-        let _store = &self.store;
-    }
-
-    /// Today there are no pipes.
-    pub fn has_no_pipes(&self)
-        ensures { HasNoPipes self.now.state }
     {
         let _store = &self.store;
     }

@@ -4,7 +4,7 @@ ghost use Rattle.std.specs.Prelude.{option_copied, option_map, take};
 ghost use Rattle.model.specs.FiniteMap.{get, keys};
 ghost use Rattle.model.specs.Paths.{is_empty};
 ghost use Rattle.model.specs.State.{Inode, file_of, file_of_inode, kind, kind_of, mapped, names_of};
-ghost use Rattle.model.specs.State.{names_of_inode, pipe_of};
+ghost use Rattle.model.specs.State.{names_of_inode};
 ghost use Rattle.model.specs.Changes.{process_of};
 ghost use Rattle.model.specs.Calls.{slot_of};
 ghost use Rattle.model.specs.Effects.{all_done};
@@ -28,8 +28,8 @@ use std::marker::Model;
 /// The committed state with a transaction's changes on top.
 #[derive(Drop)]
 pub struct View<'a> {
-    stable: &'a Stable,
-    shadow: Option<&'a Shadow>,
+    pub(crate) stable: &'a Stable,
+    pub(crate) shadow: Option<&'a Shadow>,
 }
 
 impl<'a> Model for View<'a> {
@@ -50,7 +50,7 @@ impl<'a> Model for View<'a> {
 }
 
 // What is changed of an inode, where something may be.
-fn change<'a>(shadow: Option<&'a Shadow>, num: Num) -> Option<&'a Change>
+pub(crate) fn change<'a>(shadow: Option<&'a Shadow>, num: Num) -> Option<&'a Change>
     ensures { IsNet (changes_of (option_map (λ s. s.now) shadow.entry)) num
         (net_of (option_copied result)) }
 {
@@ -61,7 +61,7 @@ fn change<'a>(shadow: Option<&'a Shadow>, num: Num) -> Option<&'a Change>
     }
 }
 
-// No change changes the root, how many processes were made, or a priority, and none makes a pipe.
+// No change changes the root, how many processes were made, or a priority.
 fn keeps_rest(shadow: Option<&Shadow>)
     ensures { KeepsRest (changes_of (option_map (λ s. s.now) shadow.entry)) }
 {
@@ -71,13 +71,6 @@ fn keeps_rest(shadow: Option<&Shadow>)
         }
         None => (),
     }
-}
-
-// There are no pipes in the committed state.
-fn stable_has_no_pipes(stable: &Stable)
-    ensures { (p : ℕ) → pipe_of stable.now.state p ≡ [] }
-{
-    let _store = &stable.store;
 }
 
 impl<'a> View<'a> {
@@ -116,7 +109,7 @@ impl<'a> View<'a> {
     }
 
     // An open file description.
-    fn description(&self, num: Num) -> Option<Description>
+    pub(crate) fn description(&self, num: Num) -> Option<Description>
         ensures { result ≡ get self.now.state.descriptions num }
     {
         let stored = self.stable.description(num);
@@ -176,14 +169,6 @@ impl<'a> View<'a> {
         }
     }
 
-    // There are no pipes.
-    fn has_no_pipes(&self)
-        ensures { (p : ℕ) → pipe_of self.now.state p ≡ [] }
-    {
-        stable_has_no_pipes(self.stable);
-        keeps_rest(self.shadow);
-    }
-
     // A copy of a process's open descriptors.
     fn own_table(&self, pid: Pid) -> FdTable
         ensures { result ≡ (process_of self.now.state pid).table }
@@ -205,6 +190,7 @@ fn kind_over(contents: &Contents, stored: Option<Kind>) -> Option<Kind>
         Contents::Same => stored,
         Contents::Names(_, _) => Some(Kind::Dir),
         Contents::Bytes(_, _) => Some(Kind::File),
+        Contents::Pipe(_, _) => Some(Kind::Pipe),
     }
 }
 
@@ -216,6 +202,7 @@ fn given_over(contents: &Contents, name: &Name, stored: Option<Num>) -> Option<N
     match contents {
         Contents::Same => stored,
         Contents::Bytes(_, _) => None,
+        Contents::Pipe(_, _) => None,
         Contents::Names(fresh, names) => match names.look(name) {
             Some(given) => given,
             None if *fresh => None,
@@ -232,6 +219,7 @@ fn names_over(heap: Heap, contents: &Contents, stored: &Dir) -> Result<NameList,
     match contents {
         Contents::Same => stored.names(heap),
         Contents::Bytes(_, _) => Dir::new(heap).names(heap),
+        Contents::Pipe(_, _) => Dir::new(heap).names(heap),
         Contents::Names(true, names) => names.names_over(heap, &Dir::new(heap)),
         Contents::Names(false, names) => names.names_over(heap, stored),
     }
@@ -245,6 +233,7 @@ fn is_empty_over(heap: Heap, contents: &Contents, stored: &Dir) -> bool
     match contents {
         Contents::Same => stored.is_empty(),
         Contents::Bytes(_, _) => true,
+        Contents::Pipe(_, _) => true,
         Contents::Names(true, names) => names.is_empty_over(&Dir::new(heap)),
         Contents::Names(false, names) => names.is_empty_over(stored),
     }
@@ -258,6 +247,7 @@ fn len_over(heap: Heap, contents: &Contents, stored: &FileData) -> usize
     match contents {
         Contents::Same => stored.len(),
         Contents::Names(_, _) => 0,
+        Contents::Pipe(_, _) => 0,
         Contents::Bytes(true, bytes) => bytes.len(&FileData::new(heap)),
         Contents::Bytes(false, bytes) => bytes.len(stored),
     }
@@ -277,6 +267,7 @@ fn bytes_over(
     match contents {
         Contents::Same => stored.read_at(heap, place, count),
         Contents::Names(_, _) => Ok(Bytes::new(Vec::new(heap))),
+        Contents::Pipe(_, _) => Ok(Bytes::new(Vec::new(heap))),
         Contents::Bytes(true, bytes) => bytes.read(heap, &FileData::new(heap), place, count),
         Contents::Bytes(false, bytes) => bytes.read(heap, stored, place, count),
     }
@@ -292,17 +283,16 @@ fn small(count: u128) -> Result<u32, AllocError>
     Ok(count as u32)
 }
 
-// How many names give an inode, with those that changes gave it and took from it.
-fn links_over(stored: u128, named: usize, unnamed: usize) -> Result<u32, AllocError>
-    ensures { IfOk result (λ n. n ≡ stored + named - unnamed) }
+// A count, with what changes added to it and took from it.
+pub(crate) fn count_over(stored: u128, added: u128, taken: u128) -> Result<u32, AllocError>
+    ensures { IfOk result (λ n. n ≡ stored + added - taken) }
 {
-    match stored.checked_add(named as u128) {
-        Some(count) => small(count.saturating_sub(unnamed as u128)),
+    match stored.checked_add(added) {
+        Some(count) => small(count.saturating_sub(taken)),
         None => Err(AllocError),
     }
 }
 
-/// Today there are no pipes: so what is asked of their bytes has one answer each.
 impl<'a> Look for View<'a> {
     ghost state = { λ v. v.state };
 
@@ -355,14 +345,21 @@ impl<'a> Look for View<'a> {
     fn links(&self, file: Num) -> Result<u32, AllocError> {
         let stored = self.stable.links(file);
         match change(self.shadow, file) {
-            Some(change) => links_over(stored, change.named, change.unnamed),
+            Some(change) => { count_over(stored, change.named as u128, change.unnamed as u128) }
             None => small(stored),
         }
     }
 
-    // Plans ask this of pipes alone, and there are none.
-    fn ends(&self, _pipe: Num) -> Result<(u32, u32), AllocError> {
-        Err(AllocError)
+    // Plans ask this of pipes alone.
+    fn ends(&self, pipe: Num) -> Result<(u32, u32), AllocError> {
+        match self.pair(pipe) {
+            Some((reader, writer)) => {
+                let reading = self.holders_if(pipe, reader, false)?;
+                let writing = self.holders_if(pipe, writer, true)?;
+                Ok((reading, writing))
+            }
+            None => Err(AllocError),
+        }
     }
 
     fn offset(&self, description: Num) -> Result<u32, AllocError> {
@@ -372,14 +369,13 @@ impl<'a> Look for View<'a> {
         }
     }
 
-    fn read_pipe(&self, heap: Heap, _pipe: Num, _count: u32) -> Result<Bytes, AllocError> {
-        self.has_no_pipes();
-        Ok(Bytes::new(Vec::new(heap)))
+    fn read_pipe(&self, heap: Heap, pipe: Num, count: u32) -> Result<Bytes, AllocError> {
+        self.front(heap, pipe, count as usize)
     }
 
-    fn fit(&self, _pipe: Num, count: usize) -> Result<u32, AllocError> {
-        self.has_no_pipes();
-        Ok(count.min(PIPE_CAPACITY) as u32)
+    fn fit(&self, pipe: Num, count: usize) -> Result<u32, AllocError> {
+        let room = PIPE_CAPACITY.saturating_sub(self.pipe_len(pipe));
+        Ok(count.min(room) as u32)
     }
 
     fn table(&self, heap: Heap, pid: Pid) -> Result<Vec<(Fd, Slot), Heap>, AllocError> {

@@ -1,22 +1,24 @@
 -- What each change of a number makes of the inodes and of the descriptions.
+use Rattle.std.specs.Prelude.{◌++◌, List, drop}
 use Rattle.std.proofs.Common.{◌≡◌, ℕ, Bool, true, false, cond, Option, Some, None, nat_cmp, refl, sym, ap, ◌∙◌}
 use Rattle.std.specs.Prelude.{IsSome}
 use Rattle.std.specs.Option.{option_and_then}
 use Rattle.model.specs.FiniteMap.{FinMap, get, insert, remove, empty, get-empty}
-use Rattle.model.specs.State.{Inode, Description, Directory, File, name_cmp}
+use Rattle.model.specs.State.{Inode, Description, Directory, File, Pipe, name_cmp, pipe_of_inode}
 use Rattle.model.specs.Changes.{at_offset}
 use Rattle.dirlist.specs.Listing.{Listing}
 use Rattle.objects.specs.Contents.{Content}
 use Rattle.store.specs.Numbers.{Numbers, coming, present, object_at, held, if_held, no_names, IsFirstRoot}
-use Rattle.store.specs.Places.{altered_by, altered, installed, hidden, is_over, is_over_by, has_room, file_of, listing_of, changed_file, changed_object, changed_opened, with_bytes, with_file, with_listing, with_opened, moved_to, swept, lost}
+use Rattle.store.specs.Places.{altered_by, altered, installed, hidden, is_over, is_over_by, has_room, file_of, listing_of, IsRoomy, changed_file, changed_object, changed_opened, changed_pipe, passed, pipe_of, with_pipe, with_bytes, with_file, with_listing, with_opened, moved_to, swept, lost}
 use Rattle.store.specs.Shown.{chosen, inodes, inode_of, inode_in, descriptions, description_of, description_in, shown_at, with_inode, with_value, with_names, with_names_by, with_offset, with_offset_by}
 use Rattle.store.specs.declared.OpenFile.{OpenFile}
 use Rattle.store.specs.declared.Opened.{Opened}
+use Rattle.store.specs.declared.OpenPipe.{OpenPipe}
 use Rattle.store.specs.declared.Place.{Place}
 use Rattle.store.specs.declared.Stage.{Stage}
 use Rattle.store.specs.declared.Stage.TheVariants.{Coming, Held, Lost}
 use Rattle.store.specs.declared.Object.{Object}
-use Rattle.store.specs.declared.Object.TheVariants.{Directory as Kept_directory, File as Kept_file, Description as Kept_description, Nothing as Kept_nothing}
+use Rattle.store.specs.declared.Object.TheVariants.{Directory as Kept_directory, File as Kept_file, Pipe as Kept_pipe, Description as Kept_description, Nothing as Kept_nothing}
 use Rattle.store.proofs.Chosen.{get-chosen, chosen-insert, chosen-insert-none, chosen-remove, chosen-empty, remove-absent, insert-held}
 
 abbrev pub with_place : Numbers → ℕ → Place → Numbers
@@ -180,6 +182,7 @@ module _ (f : Listing → Listing) (g : FinMap name_cmp ℕ → FinMap name_cmp 
       by_stage : (t : Stage) (object : Object) → get s.places n ≡ Some (record { stage = t; object = object }) → with_inode (inodes s) n (shown_at t (inode_of (changed_object f object))) ≡ with_names_by g (shown_at t (inode_of object)) (inodes s) n
       by_stage Held (Kept_directory listing) is = ap (λ m. insert (inodes s) n (Directory m)) (names listing)
       by_stage Held (Kept_file file) is = with_value-held (inodes s) n _ (get-inodes_by s n _ is)
+      by_stage Held (Kept_pipe pipe) is = with_value-held (inodes s) n _ (get-inodes_by s n _ is)
       by_stage Held (Kept_description opened) is = remove-absent (inodes s) n (get-inodes_by s n _ is)
       by_stage Held Kept_nothing is = remove-absent (inodes s) n (get-inodes_by s n _ is)
       by_stage Coming object is = remove-absent (inodes s) n (get-inodes_by s n _ is)
@@ -212,14 +215,26 @@ inodes-released f names s n = inodes-swept (altered (with_listing f) s n) n ∙ 
 pub description-listed : (f : Listing → Listing) (object : Object) → description_of (changed_object f object) ≡ description_of object
 description-listed f (Kept_directory listing) = refl
 description-listed f (Kept_file file) = refl
+description-listed f (Kept_pipe pipe) = refl
 description-listed f (Kept_description opened) = refl
 description-listed f Kept_nothing = refl
 
 pub description-filed : (f : OpenFile → OpenFile) (object : Object) → description_of (changed_file f object) ≡ description_of object
 description-filed f (Kept_directory listing) = refl
 description-filed f (Kept_file file) = refl
+description-filed f (Kept_pipe pipe) = refl
 description-filed f (Kept_description opened) = refl
 description-filed f Kept_nothing = refl
+
+pub description-piped : (f : OpenPipe → OpenPipe) (object : Object) → description_of (changed_pipe f object) ≡ description_of object
+description-piped f (Kept_directory listing) = refl
+description-piped f (Kept_file file) = refl
+description-piped f (Kept_pipe pipe) = refl
+description-piped f (Kept_description opened) = refl
+description-piped f Kept_nothing = refl
+
+pub descriptions-piped : (f : OpenPipe → OpenPipe) (s : Numbers) (n : ℕ) → descriptions (altered (with_pipe f) s n) ≡ descriptions s
+descriptions-piped f s n = descriptions-left (with_pipe f) (λ place. ap (shown_at place.stage) (description-piped f place.object)) s n
 
 pub descriptions-changed : (f : Listing → Listing) (s : Numbers) (n : ℕ) → descriptions (altered (with_listing f) s n) ≡ descriptions s
 descriptions-changed f s n = descriptions-left (with_listing f) (λ place. ap (shown_at place.stage) (description-listed f place.object)) s n
@@ -234,6 +249,7 @@ descriptions-filed f s n = descriptions-left (with_file f) (λ place. ap (shown_
 pub inode-opened : (f : Opened → Opened) (object : Object) → inode_of (changed_opened f object) ≡ inode_of object
 inode-opened f (Kept_directory listing) = refl
 inode-opened f (Kept_file file) = refl
+inode-opened f (Kept_pipe pipe) = refl
 inode-opened f (Kept_description opened) = refl
 inode-opened f Kept_nothing = refl
 
@@ -244,6 +260,7 @@ inodes-opened f s n = inodes-left (with_opened f) (λ place. ap (shown_at place.
 pub inode-filed : (f : OpenFile → OpenFile) → ((file : OpenFile) → (f file).bytes ≡ file.bytes) → (object : Object) → inode_of (changed_file f object) ≡ inode_of object
 inode-filed f same (Kept_directory listing) = refl
 inode-filed f same (Kept_file file) = ap (λ (content : Content). Some (File content.bytes)) (same file)
+inode-filed f same (Kept_pipe pipe) = refl
 inode-filed f same (Kept_description opened) = refl
 inode-filed f same Kept_nothing = refl
 
@@ -253,6 +270,7 @@ inodes-filed f same s n = inodes-left (with_file f) (λ place. ap (shown_at plac
 pub description-opened : (f : Opened → Opened) → ((opened : Opened) → (f opened).description ≡ opened.description) → (object : Object) → description_of (changed_opened f object) ≡ description_of object
 description-opened f same (Kept_directory listing) = refl
 description-opened f same (Kept_file file) = refl
+description-opened f same (Kept_pipe pipe) = refl
 description-opened f same (Kept_description opened) = ap (λ (it : Description). Some it) (same opened)
 description-opened f same Kept_nothing = refl
 
@@ -265,6 +283,7 @@ inodes-swapped content s n = by_place (get s.places n) refl
   where
     by_stage : (t : Stage) (object : Object) → get s.places n ≡ Some (record { stage = t; object = object }) → IsSome (option_and_then file_of (if_held t object)) → with_inode (inodes s) n (shown_at t (inode_of (changed_file (with_bytes content) object))) ≡ insert (inodes s) n (File content.bytes)
     by_stage Held (Kept_file file) is some = refl
+    by_stage Held (Kept_pipe pipe) is some = absurd cc
     by_stage Held (Kept_directory listing) is some = absurd cc
     by_stage Held (Kept_description opened) is some = absurd cc
     by_stage Held Kept_nothing is some = absurd cc
@@ -275,6 +294,25 @@ inodes-swapped content s n = by_place (get s.places n) refl
     by_place (Some place) is some = inodes-altered (with_file (with_bytes content)) s n place is ∙ by_stage place.stage place.object is some
     by_place None is some = absurd cc
 
+-- other bytes of a pipe that is shown
+pub inodes-passed : (taken : ℕ) (appended : List ℕ) (s : Numbers) (n : ℕ) → IsRoomy taken appended (option_and_then pipe_of (object_at s n))
+    → inodes (altered (with_pipe (passed taken appended)) s n) ≡ insert (inodes s) n (Pipe (drop taken (pipe_of_inode (get (inodes s) n)) ++ appended))
+inodes-passed taken appended s n roomy = by_place (get s.places n) refl roomy
+    ∙ ap (λ (o : Option Inode). insert (inodes s) n (Pipe (drop taken (pipe_of_inode o) ++ appended))) (sym (get-inodes_by s n (get s.places n) refl))
+  where
+    by_stage : (t : Stage) (object : Object) → IsRoomy taken appended (option_and_then pipe_of (if_held t object)) → with_inode (inodes s) n (shown_at t (inode_of (changed_pipe (passed taken appended) object))) ≡ insert (inodes s) n (Pipe (drop taken (pipe_of_inode (shown_at t (inode_of object))) ++ appended))
+    by_stage Held (Kept_pipe pipe) some = refl
+    by_stage Held (Kept_directory listing) some = absurd some
+    by_stage Held (Kept_file file) some = absurd some
+    by_stage Held (Kept_description opened) some = absurd some
+    by_stage Held Kept_nothing some = absurd some
+    by_stage Coming object some = absurd some
+    by_stage Lost object some = absurd some
+
+    by_place : (o : Option Place) → get s.places n ≡ o → IsRoomy taken appended (option_and_then pipe_of (held o)) → inodes (altered (with_pipe (passed taken appended)) s n) ≡ insert (inodes s) n (Pipe (drop taken (pipe_of_inode (option_and_then inode_in o)) ++ appended))
+    by_place (Some place) is some = inodes-altered (with_pipe (passed taken appended)) s n place is ∙ by_stage place.stage place.object some
+    by_place None is some = absurd some
+
 -- another offset of a description
 pub descriptions-moved : (offset : ℕ) (s : Numbers) (n : ℕ) → descriptions (altered (with_opened (moved_to offset)) s n) ≡ with_offset offset (descriptions s) n
 descriptions-moved offset s n = by_place (get s.places n) refl ∙ ap (λ (o : Option Description). with_offset_by offset o (descriptions s) n) (sym (get-descriptions_by s n (get s.places n) refl))
@@ -283,6 +321,7 @@ descriptions-moved offset s n = by_place (get s.places n) refl ∙ ap (λ (o : O
     by_stage Held (Kept_description opened) is = refl
     by_stage Held (Kept_directory listing) is = remove-absent (descriptions s) n (get-descriptions_by s n _ is)
     by_stage Held (Kept_file file) is = remove-absent (descriptions s) n (get-descriptions_by s n _ is)
+    by_stage Held (Kept_pipe pipe) is = remove-absent (descriptions s) n (get-descriptions_by s n _ is)
     by_stage Held Kept_nothing is = remove-absent (descriptions s) n (get-descriptions_by s n _ is)
     by_stage Coming object is = remove-absent (descriptions s) n (get-descriptions_by s n _ is)
     by_stage Lost object is = remove-absent (descriptions s) n (get-descriptions_by s n _ is)

@@ -11,13 +11,14 @@ use Rattle.dirlist.specs.Listing.{Listing}
 use Rattle.store.specs.Headers.{AreCounted, IsSound, IsStaged, at_place, links_of, names_in, place_of, places_of}
 use Rattle.store.specs.Links.{links_in}
 use Rattle.store.specs.Numbers.{coming, present}
-use Rattle.store.specs.Places.{hidden, installed, changed_file, changed_object, changed_opened, is_over, is_over_by, has_room, listing_of, with_file, with_listing, with_opened}
+use Rattle.store.specs.Places.{hidden, installed, changed_file, changed_object, changed_opened, changed_pipe, is_over, is_over_by, has_room, listing_of, with_file, with_listing, with_opened, with_pipe}
 use Rattle.store.specs.Shown.{chosen, inode_in, inode_of, shown_at, with_inode}
 use Rattle.store.specs.declared.Header.{Header}
 use Rattle.store.specs.declared.Object.{Object}
-use Rattle.store.specs.declared.Object.TheVariants.{Directory, File, Description, Nothing}
+use Rattle.store.specs.declared.Object.TheVariants.{Directory, File, Pipe, Description, Nothing}
 use Rattle.store.specs.declared.OpenFile.{OpenFile}
 use Rattle.store.specs.declared.Opened.{Opened}
+use Rattle.store.specs.declared.OpenPipe.{OpenPipe}
 use Rattle.store.specs.declared.Place.{Place}
 use Rattle.store.specs.declared.Stage.{Stage}
 use Rattle.store.specs.declared.Stage.TheVariants.{Coming, Held, Lost}
@@ -127,6 +128,7 @@ kept-room f same = kept-names (changed_object f) by_object
     by_object : (object : Object) → names_in (changed_object f object) ≡ names_in object
     by_object (Directory listing) = same listing
     by_object (File file) = refl
+    by_object (Pipe pipe) = refl
     by_object (Description opened) = refl
     by_object Nothing = refl
 
@@ -136,6 +138,17 @@ kept-file f = kept-names (changed_file f) by_object
     by_object : (object : Object) → names_in (changed_file f object) ≡ names_in object
     by_object (Directory listing) = refl
     by_object (File file) = refl
+    by_object (Pipe pipe) = refl
+    by_object (Description opened) = refl
+    by_object Nothing = refl
+
+pub kept-pipe : (f : OpenPipe → OpenPipe) (header : Header) → IsSound header → IsKept (with_pipe f) header
+kept-pipe f = kept-names (changed_pipe f) by_object
+  where
+    by_object : (object : Object) → names_in (changed_pipe f object) ≡ names_in object
+    by_object (Directory listing) = refl
+    by_object (File file) = refl
+    by_object (Pipe pipe) = refl
     by_object (Description opened) = refl
     by_object Nothing = refl
 
@@ -145,6 +158,7 @@ kept-opened f = kept-names (changed_opened f) by_object
     by_object : (object : Object) → names_in (changed_opened f object) ≡ names_in object
     by_object (Directory listing) = refl
     by_object (File file) = refl
+    by_object (Pipe pipe) = refl
     by_object (Description opened) = refl
     by_object Nothing = refl
 

@@ -20,7 +20,7 @@ use Rattle.store.specs.Numbers.{if_held}
 use Rattle.store.specs.Shown.{chosen, chosen_entries, in_front, inode_in, inode_of, shown_at}
 use Rattle.store.specs.declared.Header.{Header}
 use Rattle.store.specs.declared.Object.{Object}
-use Rattle.store.specs.declared.Object.TheVariants.{Directory, File, Description, Nothing}
+use Rattle.store.specs.declared.Object.TheVariants.{Directory, File, Pipe, Description, Nothing}
 use Rattle.store.specs.declared.Place.{Place}
 use Rattle.store.specs.declared.Stage.{Stage}
 use Rattle.store.specs.declared.Stage.TheVariants.{Coming, Held, Lost}
@@ -40,6 +40,7 @@ given-named name n (Some header) q = by_object header.place.stage header.place.o
     by_object : (t : Stage) (object : Object) → given_in q (names_of_inode (shown_at t (inode_of (changed_object (with_name name n) object)))) + given_by (cond (is_directory (if_held t object)) (number_in (listing_of object) name) None) q ≡ given_in q (names_of_inode (shown_at t (inode_of object))) + given_by (cond (is_directory (if_held t object)) (Some n) None) q
     by_object Held (Directory listing) = given-insert listing.names name n q
     by_object Held (File file) = refl
+    by_object Held (Pipe pipe) = refl
     by_object Held (Description opened) = refl
     by_object Held Nothing = refl
     by_object Coming object = refl
@@ -52,6 +53,7 @@ given-unnamed name (Some header) q = by_object header.place.stage header.place.o
     by_object : (t : Stage) (object : Object) → given_in q (names_of_inode (shown_at t (inode_of (changed_object (without_name name) object)))) + given_by (cond (is_directory (if_held t object)) (number_in (listing_of object) name) None) q ≡ given_in q (names_of_inode (shown_at t (inode_of object))) + 0
     by_object Held (Directory listing) = let less : given_in q (remove listing.names name) + given_by (get listing.names name) q ≡ given_in q listing.names = given-remove listing.names name q in omega arith
     by_object Held (File file) = refl
+    by_object Held (Pipe pipe) = refl
     by_object Held (Description opened) = refl
     by_object Held Nothing = refl
     by_object Coming object = refl
@@ -69,6 +71,7 @@ former-counted headers was d name n is =
     by_object : (t : Stage) (object : Object) → cond (is_directory (if_held t object)) (number_in (listing_of object) name) None ≡ Some n → 0 < given_in n (names_of_inode (shown_at t (inode_of object)))
     by_object Held (Directory listing) e = given-some listing.names name n e
     by_object Held (File file) e = absurd cc
+    by_object Held (Pipe pipe) e = absurd cc
     by_object Held (Description opened) e = absurd cc
     by_object Held Nothing e = absurd cc
     by_object Coming object e = absurd cc
@@ -181,6 +184,7 @@ sound-unnamed name header sound = by_object header.place.stage header.place.obje
       few = (let less : cond (contains_key listing.names name) 1 0 + len (remove listing.names name) ≡ len listing.names = len_before_remove name_total listing.names name in let few : len listing.names < 2 ^ 64 = sound.few in omega arith);
     }
     by_object t (File file) links sound = sound
+    by_object t (Pipe pipe) links sound = sound
     by_object t (Description opened) links sound = sound
     by_object t Nothing links sound = sound
 
@@ -198,6 +202,7 @@ sound-named name n header sound = by_object header.place.stage header.place.obje
       few = few (with_name name n listing) refl;
     }
     by_object t (File file) links sound away few = sound
+    by_object t (Pipe pipe) links sound away few = sound
     by_object t (Description opened) links sound away few = sound
     by_object t Nothing links sound away few = sound
 
@@ -281,6 +286,7 @@ module _ (f : Listing → Listing) (old named : Slab Header) (d : ℕ) (u : Upda
       by_object : (t : Stage) (object : Object) → is_directory (if_held t (changed_object f object)) ≡ is_directory (if_held t object)
       by_object Held (Directory listing) = refl
       by_object Held (File file) = refl
+      by_object Held (Pipe pipe) = refl
       by_object Held (Description opened) = refl
       by_object Held Nothing = refl
       by_object Coming object = refl

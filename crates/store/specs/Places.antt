@@ -1,7 +1,8 @@
 -- How the places of a store change: an object to come is shown, an object is lost, or what it holds
 -- changes.
-use Rattle.std.specs.Prelude.{ℕ, ◌+◌, ◌-◌, Bool, true, false, not, nat_lt, Option, Some, None}
-use Rattle.std.specs.Prelude.{if◌then◌else◌}
+use Rattle.std.specs.Prelude.{ℕ, ◌+◌, ◌-◌, ◌++◌, Bool, true, false, not, nat_lt, Option, Some, None}
+use Rattle.std.specs.Prelude.{◌≤◌, if◌then◌else◌, List, drop, length}
+use Rattle.ids.specs.declared.limits.TheConstants.{PIPE_CAPACITY}
 use Rattle.std.specs.Ordering.{nat_cmp}
 use Rattle.model.specs.FiniteMap.{FinMap, get, insert, remove}
 use Rattle.model.specs.State.{Name}
@@ -13,9 +14,10 @@ use Rattle.store.specs.declared.Place.{Place}
 use Rattle.store.specs.declared.Stage.{Stage}
 use Rattle.store.specs.declared.Stage.TheVariants.{Coming, Held, Lost}
 use Rattle.store.specs.declared.Object.{Object}
-use Rattle.store.specs.declared.Object.TheVariants.{Directory, File, Description, Nothing}
+use Rattle.store.specs.declared.Object.TheVariants.{Directory, File, Pipe, Description, Nothing}
 use Rattle.store.specs.declared.OpenFile.{OpenFile}
 use Rattle.store.specs.declared.Opened.{Opened}
+use Rattle.store.specs.declared.OpenPipe.{OpenPipe}
 
 abbrev pub altered_by : (Place → Place) → Option Place → FinMap nat_cmp Place → ℕ
     → FinMap nat_cmp Place
@@ -47,6 +49,10 @@ abbrev pub file_of : Object → Option OpenFile
 file_of (File file) = Some file
 file_of _ = None
 
+abbrev pub pipe_of : Object → Option OpenPipe
+pipe_of (Pipe pipe) = Some pipe
+pipe_of _ = None
+
 abbrev pub opened_of : Object → Option Opened
 opened_of (Description opened) = Some opened
 opened_of _ = None
@@ -62,6 +68,7 @@ listing_at s n = listing_in (get s.places n)
 abbrev pub changed_object : (Listing → Listing) → Object → Object
 changed_object f (Directory listing) = Directory (f listing)
 changed_object f (File file) = File file
+changed_object f (Pipe pipe) = Pipe pipe
 changed_object f (Description opened) = Description opened
 changed_object f Nothing = Nothing
 
@@ -69,10 +76,11 @@ changed_object f Nothing = Nothing
 abbrev pub with_listing : (Listing → Listing) → Place → Place
 with_listing f place = record place { object = changed_object f place.object }
 
--- the same of a file, and of a description
+-- the same of a file, of a description, and of a pipe
 abbrev pub changed_file : (OpenFile → OpenFile) → Object → Object
 changed_file f (File file) = File (f file)
 changed_file f (Directory listing) = Directory listing
+changed_file f (Pipe pipe) = Pipe pipe
 changed_file f (Description opened) = Description opened
 changed_file f Nothing = Nothing
 
@@ -80,7 +88,18 @@ abbrev pub changed_opened : (Opened → Opened) → Object → Object
 changed_opened f (Description opened) = Description (f opened)
 changed_opened f (Directory listing) = Directory listing
 changed_opened f (File file) = File file
+changed_opened f (Pipe pipe) = Pipe pipe
 changed_opened f Nothing = Nothing
+
+abbrev pub changed_pipe : (OpenPipe → OpenPipe) → Object → Object
+changed_pipe f (Pipe pipe) = Pipe (f pipe)
+changed_pipe f (Directory listing) = Directory listing
+changed_pipe f (File file) = File file
+changed_pipe f (Description opened) = Description opened
+changed_pipe f Nothing = Nothing
+
+abbrev pub with_pipe : (OpenPipe → OpenPipe) → Place → Place
+with_pipe f place = record place { object = changed_pipe f place.object }
 
 abbrev pub with_file : (OpenFile → OpenFile) → Place → Place
 with_file f place = record place { object = changed_file f place.object }
@@ -98,6 +117,17 @@ more_openings file = record file { openings = file.openings + 1 }
 abbrev pub less_openings : OpenFile → OpenFile
 less_openings file = record file { openings = file.openings - 1 }
 
+-- a pipe of which so many bytes are taken from the front, and these are appended
+abbrev pub passed : ℕ → List ℕ → OpenPipe → OpenPipe
+passed taken appended pipe = record pipe { bytes = drop taken pipe.bytes ++ appended }
+
+-- it has so many bytes, and the others fit when these are gone
+abbrev pub IsRoomy : ℕ → List ℕ → Option OpenPipe → Type 0
+IsRoomy taken appended (Some pipe) =
+    (taken ≤ length pipe.bytes)
+    × (length pipe.bytes - taken + length appended ≤ PIPE_CAPACITY)
+IsRoomy taken appended None = ⊥
+
 -- a description with another offset, and with one holder more or less
 abbrev pub moved_to : ℕ → Opened → Opened
 moved_to place opened = record opened { description = at_offset place opened.description }
@@ -108,10 +138,14 @@ more_holders opened = record opened { holders = opened.holders + 1 }
 abbrev pub less_holders : Opened → Opened
 less_holders opened = record opened { holders = opened.holders - 1 }
 
--- the file of a number, and its description, however far it is
+-- the file of a number, its pipe, and its description, however far it is
 abbrev pub file_in : Option Place → Option OpenFile
 file_in (Some place) = file_of place.object
 file_in None = None
+
+abbrev pub pipe_in : Option Place → Option OpenPipe
+pipe_in (Some place) = pipe_of place.object
+pipe_in None = None
 
 abbrev pub opened_in : Option Place → Option Opened
 opened_in (Some place) = opened_of place.object

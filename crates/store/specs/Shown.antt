@@ -3,7 +3,7 @@
 use Rattle.std.specs.Prelude.{ℕ, List, [], ◌∷◌, Option, Some, None}
 use Rattle.std.specs.Ordering.{nat_cmp}
 use Rattle.model.specs.FiniteMap.{FinMap, entries, get, insert, remove, from_entries}
-use Rattle.model.specs.State.{Inode, Directory, File, Description, name_cmp}
+use Rattle.model.specs.State.{Inode, Directory, File, Pipe, Description, name_cmp}
 use Rattle.model.specs.Changes.{at_offset}
 use Rattle.store.specs.Numbers.{Numbers}
 use Rattle.store.specs.declared.Place.{Place}
@@ -11,12 +11,13 @@ use Rattle.store.specs.declared.Stage.{Stage}
 use Rattle.store.specs.declared.Stage.TheVariants.{Coming, Held, Lost}
 use Rattle.store.specs.declared.Object.{Object}
 use Rattle.store.specs.declared.Object.TheVariants.{Directory as Kept_directory}
-use Rattle.store.specs.declared.Object.TheVariants.{File as Kept_file}
+use Rattle.store.specs.declared.Object.TheVariants.{File as Kept_file, Pipe as Kept_pipe}
 use Rattle.store.specs.declared.Object.TheVariants.{Description as Kept_description}
 
 abbrev pub inode_of : Object → Option Inode
 inode_of (Kept_directory listing) = Some (Directory listing.names)
 inode_of (Kept_file file) = Some (File file.bytes.bytes)
+inode_of (Kept_pipe pipe) = Some (Pipe pipe.bytes)
 inode_of _ = None
 
 abbrev pub description_of : Object → Option Description
@@ -84,7 +85,11 @@ with_offset_by place None m d = m
 abbrev pub with_offset : ℕ → FinMap nat_cmp Description → ℕ → FinMap nat_cmp Description
 with_offset place m d = with_offset_by place (get m d) m d
 
--- an inode, where it is a file
+-- an inode, where it is a pipe, and where it is a file
+abbrev pub pipe_inode : Option Inode → Option Inode
+pipe_inode (Some (Pipe bytes)) = Some (Pipe bytes)
+pipe_inode _ = None
+
 abbrev pub file_inode : Option Inode → Option Inode
 file_inode (Some (File bytes)) = Some (File bytes)
 file_inode _ = None

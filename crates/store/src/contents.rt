@@ -1,10 +1,11 @@
-//! Files and open file descriptions: their bytes, offsets and counts.
+//! Files, pipes and open file descriptions: their bytes, offsets and counts.
 //! A number that is of no such object does not change.
 ghost use Rattle.std.specs.Prelude.{◌≡◌, ◌+◌, ◌<◌, ◌^◌, IsSome, Some, option_and_then, option_map};
 ghost use Rattle.slab.specs.Slab.{get, Updates};
 ghost use Rattle.store.specs.Headers.{at_place, place_at};
 ghost use Rattle.store.specs.Numbers.{coming, held, present};
-ghost use Rattle.store.specs.Places.{changed_file, changed_opened, file_in, file_of, holders_of};
+ghost use Rattle.store.specs.Places.{changed_file, changed_opened, changed_pipe, file_in, file_of};
+ghost use Rattle.store.specs.Places.{IsRoomy, holders_of, passed, pipe_of, with_pipe};
 ghost use Rattle.store.specs.Places.{less_holders, less_openings, more_holders, more_openings};
 ghost use Rattle.store.specs.Places.{moved_to, opened_in, opened_of, openings_of, with_bytes};
 ghost use Rattle.store.specs.Places.{with_file, with_opened};
@@ -49,7 +50,36 @@ fn swap_file_in(object: &mut Object, bytes: FileData) -> FileData
 {
     match object {
         Object::File(file) => replace(&mut file.bytes, bytes),
+        Object::Pipe(_) => unreachable!(),
         Object::Directory(_) => unreachable!(),
+        Object::Description(_) => unreachable!(),
+        Object::Nothing => unreachable!(),
+    }
+}
+
+/// Takes so many bytes from the front of a pipe, and appends these.
+pub fn change_pipe_at(headers: &mut Slab<Header, Heap>, key: usize, taken: usize, appended: &[u8])
+    requires { IsRoomy taken appended.now (option_and_then pipe_of (held (place_at headers.old key))) }
+    ensures { Updates headers.old headers.new key
+        (option_map (at_place (with_pipe (passed taken appended.now))) (get headers.old key)) }
+{
+    match headers.get_mut(key) {
+        Some(header) => change_pipe_in(&mut header.place.object, taken, appended),
+        None => unreachable!(),
+    }
+}
+
+fn change_pipe_in(object: &mut Object, taken: usize, appended: &[u8])
+    requires { IsRoomy taken appended.now (pipe_of object.old) }
+    ensures { object.new ≡ changed_pipe (passed taken appended.now) object.old }
+{
+    match object {
+        Object::Pipe(pipe) => {
+            pipe.bytes.skip(taken);
+            pipe.bytes.put(appended);
+        }
+        Object::Directory(_) => unreachable!(),
+        Object::File(_) => unreachable!(),
         Object::Description(_) => unreachable!(),
         Object::Nothing => unreachable!(),
     }
@@ -88,6 +118,7 @@ fn openings_in(object: &Object) -> u128
 {
     match object {
         Object::File(file) => file.openings,
+        Object::Pipe(_) => 0,
         Object::Directory(_) => 0,
         Object::Description(_) => 0,
         Object::Nothing => 0,
@@ -149,6 +180,7 @@ fn holders_in(object: &Object) -> u128
         Object::Description(opened) => opened.holders,
         Object::Directory(_) => 0,
         Object::File(_) => 0,
+        Object::Pipe(_) => 0,
         Object::Nothing => 0,
     }
 }

@@ -47,6 +47,7 @@ pub fn shows_names_at(headers: &Slab<Header, Heap>, key: usize) -> bool
     match object_in(headers, key) {
         Some(Object::Directory(_)) => true,
         Some(Object::File(_)) => false,
+        Some(Object::Pipe(_)) => false,
         Some(Object::Description(_)) => false,
         Some(Object::Nothing) => false,
         None => false,
@@ -69,6 +70,7 @@ fn is_promised_in(object: &Object) -> bool
     match object {
         Object::Directory(dir) => dir.is_promised(),
         Object::File(_) => false,
+        Object::Pipe(_) => false,
         Object::Description(_) => false,
         Object::Nothing => false,
     }
@@ -142,6 +144,7 @@ fn promise_in(object: &mut Object) -> Result<(), AllocError>
     match object {
         Object::Directory(dir) => dir.promise(),
         Object::File(_) => Ok(()),
+        Object::Pipe(_) => Ok(()),
         Object::Description(_) => Ok(()),
         Object::Nothing => Ok(()),
     }
@@ -163,6 +166,7 @@ fn release_in(object: &mut Object)
     match object {
         Object::Directory(dir) => release_one(dir),
         Object::File(_) => (),
+        Object::Pipe(_) => (),
         Object::Description(_) => (),
         Object::Nothing => (),
     }
@@ -208,6 +212,7 @@ fn add_name_in(object: &mut Object, name: Name, num: Num) -> Option<Num>
     match object {
         Object::Directory(dir) => put_name(dir, name, num),
         Object::File(_) => None,
+        Object::Pipe(_) => None,
         Object::Description(_) => None,
         Object::Nothing => None,
     }
@@ -252,6 +257,7 @@ fn remove_name_in(object: &mut Object, name: &Name) -> Option<Num>
     match object {
         Object::Directory(dir) => dir.remove(name),
         Object::File(_) => None,
+        Object::Pipe(_) => None,
         Object::Description(_) => None,
         Object::Nothing => None,
     }

@@ -1,13 +1,13 @@
 //! Objects under their numbers, and objects to come, which are not shown before they are installed.
 #![tactic(auto)]
 
-ghost use Rattle.std.specs.Prelude.{[], ◌≡◌, ◌<◌, ◌≤◌, ◌==◌, not, true, false, Some, None};
+ghost use Rattle.std.specs.Prelude.{[], ◌≡◌, ◌<◌, ◌≤◌, ◌==◌, ◌++◌, drop, not, true, false, Some, None};
 ghost use Rattle.std.specs.Prelude.{IfOk, IfSome, OnOk, OnErr, count_by, is_some};
 ghost use Rattle.std.specs.Prelude.{option_and_then, option_copied, option_map, IsSome, ◌+◌, ◌^◌};
 ghost use Rattle.std.specs.List.{AllByRecursion};
 ghost use Rattle.model.specs.FiniteMap as map;
-ghost use Rattle.model.specs.State.{kind, mapped, names_of_inode};
-ghost use Rattle.model.specs.State.{Directory as A_directory, File as A_file};
+ghost use Rattle.model.specs.State.{kind, mapped, names_of_inode, pipe_of_inode};
+ghost use Rattle.model.specs.State.{Directory as A_directory, File as A_file, Pipe as A_pipe};
 ghost use Rattle.dirlist.specs.Listing.{Listing};
 ghost use Rattle.store.specs.Numbers.{coming, object_at, present, IsFirstRoot};
 ghost use Rattle.store.specs.Places.{altered, installed, lost, released, swept, with_listing};
@@ -15,9 +15,11 @@ ghost use Rattle.store.specs.Places.{is_coming, is_shown, may_be_named, listing_
 ghost use Rattle.store.specs.Places.{has_room, more_room, number_in, with_name, without_name};
 ghost use Rattle.store.specs.Places.{file_in, file_of, holders_at, less_holders, less_openings};
 ghost use Rattle.store.specs.Places.{more_holders, more_openings, moved_to, openings_at};
-ghost use Rattle.store.specs.Places.{with_bytes, with_file, with_opened};
+ghost use Rattle.store.specs.Places.{IsRoomy, passed, pipe_of, with_bytes, with_file, with_opened};
+ghost use Rattle.store.specs.Places.{with_pipe};
 ghost use Rattle.store.specs.Shown.{inodes, inode_of, with_inode, with_names, with_value};
-ghost use Rattle.store.specs.Shown.{description_of, descriptions, file_inode, with_offset};
+ghost use Rattle.store.specs.Shown.{description_of, descriptions, file_inode, pipe_inode};
+ghost use Rattle.store.specs.Shown.{with_offset};
 ghost use Rattle.store.specs.declared.Object.TheVariants.{Nothing};
 ghost use Rattle.store.specs.Links.{links_in};
 ghost use Rattle.store.specs.Laid.{laid, laid_listing};
@@ -28,7 +30,7 @@ mod headers;
 use dirlist::Dir;
 use heap::Heap;
 use ids::{Kind, Name, Num};
-use objects::{Description, FileData};
+use objects::{Description, FileData, PipeData};
 use slab::Slab;
 use std::alloc::AllocError;
 use std::marker::Model;
@@ -40,6 +42,17 @@ pub struct OpenFile {
     pub bytes: FileData,
     /// How many descriptions are open on it.
     pub openings: u128,
+}
+
+/// A pipe. Its bytes have all their memory, and two descriptions at most are of it.
+#[derive(Drop)]
+pub struct OpenPipe {
+    /// Its bytes.
+    pub bytes: PipeData,
+    /// The number of the description that reads it.
+    pub reader: Num,
+    /// The number of the description that writes it.
+    pub writer: Num,
 }
 
 /// An open file description, and how many descriptors of processes name it.
@@ -58,9 +71,11 @@ pub enum Object {
     Directory(Dir),
     /// A file.
     File(OpenFile),
+    /// A pipe.
+    Pipe(OpenPipe),
     /// An open file description.
     Description(Opened),
-    /// Not settled yet: a file or a description is to come.
+    /// Not settled yet: a file, a pipe or a description is to come.
     Nothing,
 }
 
@@ -247,6 +262,7 @@ impl Store {
         match self.get(dir) {
             Some(Object::Directory(dir)) => Some(dir),
             Some(Object::File(_)) => None,
+            Some(Object::Pipe(_)) => None,
             Some(Object::Description(_)) => None,
             Some(Object::Nothing) => None,
             None => None,
@@ -262,7 +278,24 @@ impl Store {
     {
         match self.get(num) {
             Some(Object::File(file)) => Some(&file.bytes),
+            Some(Object::Pipe(_)) => None,
             Some(Object::Directory(_)) => None,
+            Some(Object::Description(_)) => None,
+            Some(Object::Nothing) => None,
+            None => None,
+        }
+    }
+
+    /// The pipe of a number, where it is shown.
+    pub fn pipe(&self, num: Num) -> Option<&OpenPipe>
+        ensures pipe { option_copied result ≡ option_and_then pipe_of (object_at self.now num) }
+        ensures shown { pipe_inode (map.get (inodes self.now) num)
+            ≡ mapped (λ pipe. A_pipe pipe.bytes) (option_copied result) }
+    {
+        match self.get(num) {
+            Some(Object::Pipe(pipe)) => Some(pipe),
+            Some(Object::Directory(_)) => None,
+            Some(Object::File(_)) => None,
             Some(Object::Description(_)) => None,
             Some(Object::Nothing) => None,
             None => None,
@@ -277,6 +310,7 @@ impl Store {
             Some(Object::Description(opened)) => Some(opened.description),
             Some(Object::Directory(_)) => None,
             Some(Object::File(_)) => None,
+            Some(Object::Pipe(_)) => None,
             Some(Object::Nothing) => None,
             None => None,
         }
@@ -289,6 +323,7 @@ impl Store {
         match self.get(num) {
             Some(Object::Directory(_)) => Some(Kind::Dir),
             Some(Object::File(_)) => Some(Kind::File),
+            Some(Object::Pipe(_)) => Some(Kind::Pipe),
             Some(Object::Description(_)) => None,
             Some(Object::Nothing) => None,
             None => None,
@@ -437,6 +472,18 @@ impl Store {
         ensures open { descriptions self.new ≡ descriptions self.old }
     {
         contents::swap_file_at(&mut self.headers, num.0, bytes)
+    }
+
+    /// Takes so many bytes from the front of a pipe, and appends these. The pipe is shown, it has so
+    /// many, and what is appended fits then. It takes no memory.
+    pub fn change_pipe(&mut self, num: Num, taken: usize, appended: &[u8])
+        requires { IsRoomy taken appended.now (option_and_then pipe_of (object_at self.old num)) }
+        ensures changed { self.new ≡ altered (with_pipe (passed taken appended.now)) self.old num }
+        ensures shown { inodes self.new ≡ map.insert (inodes self.old) num
+            (A_pipe (drop taken (pipe_of_inode (map.get (inodes self.old) num)) ++ appended.now)) }
+        ensures open { descriptions self.new ≡ descriptions self.old }
+    {
+        contents::change_pipe_at(&mut self.headers, num.0, taken, appended);
     }
 
     /// A description's next read or write begins at this place; where the number is of none,

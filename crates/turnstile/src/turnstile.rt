@@ -1,7 +1,6 @@
 // The turnstile, and the calls through it.
 ghost use Rattle.std.specs.Prelude.{◌≡◌, ◌<◌, ℕ, true, [], length, map, All, vec_capacity};
 ghost use Rattle.std.specs.Prelude.{IfOk, IfErr, IfSome, IfNone};
-ghost use Rattle.kernel.specs.Operations.{can_run};
 ghost use Rattle.model.specs.Moments.{all_below};
 ghost use Rattle.turnstile.specs.Histories.{IsLegal};
 ghost use Rattle.turnstile.specs.Calls.{Called, IsSamePass, KeepsPass, Met};
@@ -260,7 +259,6 @@ impl Turnstile {
         requires seat { (seat.old.table_id ≡ self.now.table) × IsTaking seat.old.me }
         requires kernel { ((taker_of seat.old.me.0).seen ≡ kernel.log)
             × ((taker_of seat.old.me.0).pid ≡ pid) }
-        requires op { can_run op ≡ true }
         ensures { Stepped seat.old op result seat.new }
     {
         let reply = kernel.step(pid, op);
@@ -271,8 +269,7 @@ impl Turnstile {
     /// One operation of the pass's process, where the kernel is free. It waits for nobody: `None`
     /// stands where the kernel was taken, and then nothing has changed.
     pub fn try_call(&self, pass: &mut Pass, op: Op) -> Option<Reply>
-        requires gate { pass.old.gate ≡ self.now }
-        requires op { can_run op ≡ true }
+        requires { pass.old.gate ≡ self.now }
         ensures same { IsSamePass pass.old pass.new }
         ensures some { IfSome result (λ reply. Called pass.old op reply pass.new) }
         ensures none { IfNone result (pass.new ≡ pass.old) }
@@ -288,8 +285,7 @@ impl Turnstile {
 
     /// One operation of the pass's process. It may wait for other threads.
     pub fn call<R: Wait>(&self, rt: &R, pass: &mut Pass, op: Op) -> Reply
-        requires gate { pass.old.gate ≡ self.now }
-        requires op { can_run op ≡ true }
+        requires { pass.old.gate ≡ self.now }
         ensures same { IsSamePass pass.old pass.new }
         ensures called { Called pass.old op result pass.new }
     {

@@ -1,5 +1,6 @@
 // What nothing leads to any more gives its number back.
 use crate::links::FREED;
+use crate::processes::ENDED;
 use crate::row::{Row, do_script, kernel_of, number_at};
 use heap::Heap;
 use kernel::Kernel;
@@ -46,6 +47,9 @@ fn the_root_alone_is_left(rt: HostRuntime) -> Result<(), Fail> {
     for row in &FREED {
         assert_eq!(rt; largest_in(heap, row)?, 8);
     }
+    for row in &ENDED {
+        assert_eq!(rt; largest_in(heap, row)?, 8);
+    }
     Ok(())
 }
 
@@ -64,5 +68,22 @@ fn largest_with_one_open(heap: Heap) -> Result<usize, Fail> {
 #[test]
 fn an_open_file_keeps_its_numbers(rt: HostRuntime) -> Result<(), Fail> {
     assert_eq!(rt; largest_with_one_open(heap::open(rt.alloc())?)?, 10);
+    Ok(())
+}
+
+// A pipe keeps three: its own, and those of its two descriptions.
+static PIPED: &str = "priorities 0
+1 pipe
+";
+
+fn largest_with_one_pipe(heap: Heap) -> Result<usize, Fail> {
+    let mut kernel = kernel_of(heap, PIPED, 100)?;
+    do_script(&mut kernel, heap, PIPED, "1")?;
+    largest_of_eight(heap, &mut kernel)
+}
+
+#[test]
+fn a_pipe_keeps_three_numbers(rt: HostRuntime) -> Result<(), Fail> {
+    assert_eq!(rt; largest_with_one_pipe(heap::open(rt.alloc())?)?, 11);
     Ok(())
 }

@@ -2,6 +2,8 @@
 #![tactic(auto)]
 
 #[cfg(test)]
+mod capacity;
+#[cfg(test)]
 mod files;
 #[cfg(test)]
 mod freed;
@@ -12,11 +14,17 @@ mod links;
 #[cfg(test)]
 mod paths;
 #[cfg(test)]
+mod pipes;
+#[cfg(test)]
+mod processes;
+#[cfg(test)]
 mod refused;
 #[cfg(test)]
 mod renames;
 #[cfg(test)]
 mod row;
+#[cfg(test)]
+mod shared;
 #[cfg(test)]
 mod tests;
 #[cfg(test)]

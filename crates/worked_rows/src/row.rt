@@ -1,11 +1,8 @@
 // A worked run: a script, a schedule of it, and the transcript of the history that it leaves.
-ghost use Rattle.std.specs.Prelude.{◌≡◌, ◌≤◌, ◌<◌, IfOk, true};
-ghost use Rattle.kernel.specs.Operations.{can_run, CanRunAll};
-
 use device::Halting;
 use heap::Heap;
 use ids::{Answer, Bytes, Call, Op, Pid, Reply};
-use kernel::{Kernel, is_there};
+use kernel::Kernel;
 use runner::print;
 use script::{Script, read_schedule, read_script, steps_of};
 use std::test::Fail;
@@ -32,43 +29,20 @@ pub(crate) fn kernel_of(heap: Heap, text: &str, limit: usize) -> Result<Kernel, 
 }
 
 // The steps of a script by a schedule.
-pub(crate) fn steps_in(heap: Heap, text: &str, schedule: &str) -> Result<Vec<(Pid, Op), Heap>, Fail>
-    ensures { IfOk result (λ steps. CanRunAll steps.items) }
-{
+pub(crate) fn steps_in(
+    heap: Heap,
+    text: &str,
+    schedule: &str,
+) -> Result<Vec<(Pid, Op), Heap>, Fail> {
     let script = script_of(heap, text)?;
     match read_schedule(heap, schedule, &script) {
-        Ok(pids) => there(heap, steps_of(heap, script, pids.as_slice())?),
+        Ok(pids) => Ok(steps_of(heap, script, pids.as_slice())?),
         Err(_) => Err(Fail::from("no schedule")),
     }
 }
 
-// This operation, which the kernel has.
-fn one_there(op: Op) -> Result<Op, Fail>
-    ensures { IfOk result (λ op. can_run op ≡ true) }
-{
-    if is_there(&op) {
-        Ok(op)
-    } else {
-        Err(Fail::from("the kernel has no such operation"))
-    }
-}
-
-// These steps, all of which the kernel has.
-fn there(heap: Heap, steps: Vec<(Pid, Op), Heap>) -> Result<Vec<(Pid, Op), Heap>, Fail>
-    ensures { IfOk result (λ steps. CanRunAll steps.items) }
-{
-    let mut found = Vec::new(heap);
-    for (pid, op) in steps {
-        let op = one_there(op)?;
-        found.push((pid, op))?;
-    }
-    Ok(found)
-}
-
 // Does steps one by one.
-pub(crate) fn do_steps(kernel: &mut Kernel, steps: Vec<(Pid, Op), Heap>)
-    requires { CanRunAll steps.items }
-{
+pub(crate) fn do_steps(kernel: &mut Kernel, steps: Vec<(Pid, Op), Heap>) {
     for (pid, op) in steps {
         let _ = kernel.step(pid, op);
     }

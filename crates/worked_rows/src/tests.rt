@@ -1,8 +1,11 @@
 // Each row is run step by step, and as one run of the kernel.
 use crate::files::FILES;
 use crate::links::{FREED, LINKS};
+use crate::pipes::{HALVES, PIPES};
+use crate::processes::{ENDED, PROCESSES};
 use crate::renames::RENAMES;
 use crate::row::{Row, do_script, kernel_of, steps_in, transcript_of};
+use crate::shared::SHARED;
 use crate::transactions::TRANSACTIONS;
 use crate::trees::TREES;
 use heap::Heap;
@@ -59,7 +62,12 @@ fn steps_leave_the_transcript_of_the_row(rt: HostRuntime) -> Result<(), Fail> {
     all_by_steps(heap, &FILES)?;
     all_by_steps(heap, &LINKS)?;
     all_by_steps(heap, &FREED)?;
-    all_by_steps(heap, &RENAMES)
+    all_by_steps(heap, &RENAMES)?;
+    all_by_steps(heap, &SHARED)?;
+    all_by_steps(heap, &PIPES)?;
+    all_by_steps(heap, &HALVES)?;
+    all_by_steps(heap, &PROCESSES)?;
+    all_by_steps(heap, &ENDED)
 }
 
 #[test]
@@ -70,7 +78,12 @@ fn a_run_leaves_the_transcript_of_the_row(rt: HostRuntime) -> Result<(), Fail> {
     all_at_once(heap, &FILES)?;
     all_at_once(heap, &LINKS)?;
     all_at_once(heap, &FREED)?;
-    all_at_once(heap, &RENAMES)
+    all_at_once(heap, &RENAMES)?;
+    all_at_once(heap, &SHARED)?;
+    all_at_once(heap, &PIPES)?;
+    all_at_once(heap, &HALVES)?;
+    all_at_once(heap, &PROCESSES)?;
+    all_at_once(heap, &ENDED)
 }
 
 // Opens a file so often in one process.
@@ -110,5 +123,66 @@ fn a_process_has_64_descriptors(rt: HostRuntime) -> Result<(), Fail> {
     let mut kernel = kernel_of(heap, AFTER_64, 100)?;
     let told = opened_often(&mut kernel, heap)?;
     assert!(rt; told.as_slice().ends_with(TOLD_AFTER_64.as_bytes()));
+    Ok(())
+}
+
+// A process shares a descriptor so often.
+fn share_often(kernel: &mut Kernel, heap: Heap, count: u32) -> Result<(), Fail> {
+    for _ in 0..count {
+        do_script(kernel, heap, "priorities 0\n1 dup 0\n", "1")?;
+    }
+    Ok(())
+}
+
+static SHARED_ONCE: &str = "priorities 0 0
+1 open /a RDWR,CREAT
+1 dup2 0 0
+";
+
+static AFTER_SHARING: &str = "priorities 0 0
+1 dup 0
+1 pipe
+1 begin
+1 open /no RDONLY
+2 mkdir /no
+1 end
+2 end
+1 close 9
+1 pipe
+1 close 7
+1 pipe
+1 dup2 63 7
+";
+
+static TOLD_AFTER_SHARING: &str = "65 P1 dup 0 -> 63
+66 P1 dup 0 -> EMFILE
+67 P1 pipe -> EMFILE
+68 P1 begin -> begun
+69 P1 open /no RDONLY -> EMFILE
+70 P2 mkdir /no -> ok
+71 P1 end -> committed
+72 P2 end -> NotInTransaction
+73 P1 close 9 -> ok
+74 P1 pipe -> EMFILE
+75 P1 close 7 -> ok
+76 P1 pipe -> 7 9
+77 P1 dup2 63 7 -> 7
+";
+
+// A process whose descriptors are all one, and the calls after that. What finds no descriptor
+// touches nothing.
+fn shared_often(kernel: &mut Kernel, heap: Heap) -> Result<Vec<u8, Heap>, Fail> {
+    do_script(kernel, heap, SHARED_ONCE, "1,1")?;
+    share_often(kernel, heap, 63)?;
+    do_script(kernel, heap, AFTER_SHARING, "1,1,1,1,2,1,2,1,1,1,1,1")?;
+    transcript_of(heap, kernel)
+}
+
+#[test]
+fn a_process_shares_63_times(rt: HostRuntime) -> Result<(), Fail> {
+    let heap = heap::open(rt.alloc())?;
+    let mut kernel = kernel_of(heap, AFTER_SHARING, 100)?;
+    let told = shared_often(&mut kernel, heap)?;
+    assert!(rt; told.as_slice().ends_with(TOLD_AFTER_SHARING.as_bytes()));
     Ok(())
 }

@@ -1,6 +1,8 @@
 -- The edits of calls on contents fit: read, write, lseek and ftruncate.
-use Rattle.std.proofs.Common.{◌≡◌, ℕ, ◌+◌, ◌-◌, ◌≤◌, ℤ, pos, negsuc, Bool, true, false, ◌&&◌, List, [], ◌∷◌, ◌++◌, map, length, take, if◌then◌else◌, Some, IfOk, refl, sym, ◌∙◌, arith, ◌==◌, nat_lt, nat_le, length-take}
+use Rattle.std.proofs.Common.{◌≢◌, min, eq-eqb, ◌≡◌, ℕ, ◌+◌, ◌-◌, ◌≤◌, ℤ, pos, negsuc, Bool, true, false, ◌&&◌, List, [], ◌∷◌, ◌++◌, map, length, take, if◌then◌else◌, Some, IfOk, refl, sym, ◌∙◌, arith, ◌==◌, nat_lt, nat_le, length-take}
 use Rattle.std.specs.List.{AllByRecursion}
+use Rattle.std.proofs.lemmas.Bool.{false≢true}
+use Rattle.model.specs.Limits.{capacity}
 use Rattle.model.specs.State.{A_file, A_pipe, Kernel, kind_of, pipe_of}
 use Rattle.model.specs.Aspects.{Size, Block, Offset}
 use Rattle.model.specs.Plan.{Plan, given, ◌>>=◌, ◌>>◌, ask, answer, blocks, Measure, Count_ends, Fit, refuse_if, EINVAL, EAGAIN, EPIPE, EFBIG}
@@ -32,6 +34,13 @@ put_at it bytes place = do
   size ← ask (Measure it.inode)
   changed (Count (length (take (largest - place) bytes))) (Put_bytes it.inode place (take (largest - place) bytes) size ∷ Set_offset it.description (place + length (take (largest - place) bytes)) ∷ [])
 
+-- what is appended fits where anything does
+appended_fits : (long count : ℕ) (bytes : List ℕ) → (min count (capacity - long) == 0) ≡ false → long + length (take (min count (capacity - long)) bytes) ≤ capacity
+appended_fits long count bytes some =
+    let away : min count (capacity - long) ≢ 0 = λ none. absurd (false≢true (sym some ∙ eq-eqb (min count (capacity - long)) 0 none)) in
+    let few : length (take (min count (capacity - long)) bytes) ≡ min (min count (capacity - long)) (length bytes) = length-take (min count (capacity - long)) bytes in
+    omega arith
+
 module _ (k : Kernel) (well : WellFormed k) (pid : ℕ) (alive : IsAlive k pid) (inside : Bool) (chosen : List ℕ) where
   abbrev Fine : Change → Type 0
   Fine = WillFit k pid inside chosen
@@ -59,7 +68,7 @@ module _ (k : Kernel) (well : WellFormed k) (pid : ℕ) (alive : IsAlive k pid) 
   write_pipe_at s bytes is false =
       let fitting : ℕ = answer k (Fit s.inode (length bytes)) in
       allowed k Fine (nat_lt fitting (length bytes) && nat_le (length bytes) 512) EAGAIN (refuse_if (fitting == 0) EAGAIN >> changed (Count fitting) (Append s.inode (take fitting bytes) ∷ [])) (λ _.
-      allowed k Fine (fitting == 0) EAGAIN (changed (Count fitting) (Append s.inode (take fitting bytes) ∷ [])) (λ _. record { fits = λ can. (is, tt); by = (tt, tt); there = (is, tt) }))
+      allowed k Fine (fitting == 0) EAGAIN (changed (Count fitting) (Append s.inode (take fitting bytes) ∷ [])) (λ some. record { fits = λ can. ((is, appended_fits (length (pipe_of k s.inode)) (length bytes) bytes some), tt); by = (tt, tt); there = (is, tt) }))
 
   size_there : (n : ℕ) → kind_of k n ≡ Some A_file → (b : Bool) → AllByRecursion (IsThere k) (if b then Size n ∷ [] else [])
   size_there n is true = (is, tt)

@@ -27,7 +27,7 @@ edit_keeps chosen now later (Move d x e y n replaced) pid inside by own f g mark
 edit_keeps chosen now later (Put_bytes n place bytes before) pid inside by own f g marked = put_keeps now later n place bytes f.0 g.0 (g.1 ∙ sym f.1)
 edit_keeps chosen now later (Cut n before after) pid inside by own f g marked = cut_keeps now later n after f.0 g.0
 edit_keeps chosen now later (Take p count) pid inside by own f g marked = take_keeps now later p count f.0 g.0 f.1 marked.0
-edit_keeps chosen now later (Append p bytes) pid inside by own f g marked = append_keeps now later p bytes f g marked.0
+edit_keeps chosen now later (Append p bytes) pid inside by own f g marked = append_keeps now later p bytes f.0 g.0 marked.0
 edit_keeps chosen now later (Set_offset d place) pid inside by own f g marked = offset_keeps now later d place f.0 g.0 f.1 g.1
 edit_keeps chosen now later (Open_inode i inode how q f) pid inside by own can could marked = open_keeps now later _ _ how q f can.unused could.unused can.slot.free could.slot.free
 edit_keeps chosen now later (Make_pipe i q f g) pid inside by own can could marked = pipe_keeps chosen now later _ _ _ q f g can could

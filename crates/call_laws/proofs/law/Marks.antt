@@ -32,7 +32,7 @@ edit_marks chosen k (Move d x e y n replaced) f a there alone = moved_marks k d 
 edit_marks chosen k (Put_bytes n place bytes before) f a there alone = put_marks k n place bytes before f.0 f.1 a alone
 edit_marks chosen k (Cut n before after) f a there alone = cut_marks k n before after f.0 f.1 a alone
 edit_marks chosen k (Take p count) f a there alone = pipe_marks k p (drop count (pipe_of k p)) f.0 a (λ e. absurd (alone.0 (sym e))) (λ e. (take count (pipe_of k p), sym (take-append-drop count (pipe_of k p))))
-edit_marks chosen k (Append p bytes) f a there alone = pipe_marks k p (pipe_of k p ++ bytes) f a (λ e. (bytes, refl)) (λ e. absurd (alone.0 (sym e)))
+edit_marks chosen k (Append p bytes) f a there alone = pipe_marks k p (pipe_of k p ++ bytes) f.0 a (λ e. (bytes, refl)) (λ e. absurd (alone.0 (sym e)))
 edit_marks chosen k (Set_offset d place) f a there alone = offset_marks k d place f.0 f.1 a alone.0
 edit_marks chosen k (Open_inode i inode how q f) can a there alone = open_marks k _ _ how q f can.unused can.slot.free a
     (offset_apart k _ a can.unused.description there)

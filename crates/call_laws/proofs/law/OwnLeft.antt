@@ -72,7 +72,7 @@ own_is_left_alone chosen k (Move d x e y n replaced) pid other inside by away al
 own_is_left_alone chosen k (Put_bytes n place bytes before) pid other inside by away alive well f = inode_alone k pid n _ f.0
 own_is_left_alone chosen k (Cut n before after) pid other inside by away alive well f = inode_alone k pid n _ f.0
 own_is_left_alone chosen k (Take p count) pid other inside by away alive well f = inode_alone k pid p _ f.0
-own_is_left_alone chosen k (Append p bytes) pid other inside by away alive well f = inode_alone k pid p _ f
+own_is_left_alone chosen k (Append p bytes) pid other inside by away alive well f = inode_alone k pid p _ f.0
 own_is_left_alone chosen k (Set_offset d place) pid other inside by away alive well f = offset_alone k pid d place (get k.descriptions d) refl
 own_is_left_alone chosen k (Open_inode i inode how q f) pid other inside by away alive well can = open_alone k _ _ how q f pid (λ e. away (e ∙ by)) (can.unused.unheld pid)
 own_is_left_alone chosen k (Make_pipe i q f g) pid other inside by away alive well can = pipe_alone k _ _ _ q f g pid (λ e. away (e ∙ by)) well can.pipe.inode can.reader can.writer

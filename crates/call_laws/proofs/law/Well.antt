@@ -217,7 +217,7 @@ well_stays chosen k (Move d x e y n replaced) well f =
 well_stays chosen k (Put_bytes n place bytes before) well f = bytes_well k n (File (written (file_of k n) place bytes)) well (has_bytes k n _ (sym f.0) refl (no_names_file _ f.0))
 well_stays chosen k (Cut n before after) well f = bytes_well k n (File (sized after (file_of k n))) well (has_bytes k n _ (sym f.0) refl (no_names_file _ f.0))
 well_stays chosen k (Take p count) well f = bytes_well k p (Pipe (drop count (pipe_of k p))) well (has_bytes k p _ (sym f.0) refl (no_names_pipe _ f.0))
-well_stays chosen k (Append p bytes) well f = bytes_well k p (Pipe (pipe_of k p ++ bytes)) well (has_bytes k p _ (sym f) refl (no_names_pipe _ f))
+well_stays chosen k (Append p bytes) well f = bytes_well k p (Pipe (pipe_of k p ++ bytes)) well (has_bytes k p _ (sym f.0) refl (no_names_pipe _ f.0))
 well_stays chosen k (Set_offset d place) well f = subst WellFormed (sym (set_there k d place f.0 f.1))
     (well_over k (insert k.descriptions d (at_offset place f.0)) k.processes k.made well (described_tables k d (at_offset place f.0) (well.descriptions d f.0 f.1) (tables_of k well)))
 well_stays chosen k (Open_inode i inode how q f) well can = well_over k _ _ k.made well (open_tables k _ _ how q f (subst CanBeOpened (sym can.kind) tt) can.slot.alive can.slot.low (tables_of k well))

@@ -1,10 +1,10 @@
 use Rattle.kernel.proofs.Words.{◌++◌, not, ap, take, ◌∙◌, contender_at, fields, take-append_seam}
 use Rattle.kernel.proofs.Entries.{unchanged}
-use Rattle.kernel.proofs.Calls.{plain_commits}
+use Rattle.kernel.proofs.Calls.{at_once}
 use Rattle.kernel.proofs.execute.change.Goals as goal
 
-pub apply-requires-clause-fits : goal.apply-requires-clause-fits
-apply-requires-clause-fits c = plain_commits (fields c.args.s.now) c.args.pid c.args.within.now c.args.call.now c.requires.asks (c.is_none.ensures ∙ ap not c.if-is_none.true) _ c.requires.plans.edits
+pub change_at_once-requires-clause-kinds : goal.change_at_once-requires-clause-kinds
+change_at_once-requires-clause-kinds c = at_once (fields c.args.s.now).stable.state c.args.pid c.args.within.now c.args.edits.items (c.is_none.ensures ∙ ap not c.if-is_none.true) c.requires.plans.kinds
 
 pub returns-in-Err-clause-err : goal.returns-in-Err-clause-err
 returns-in-Err-clause-err c =

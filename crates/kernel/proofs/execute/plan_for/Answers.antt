@@ -15,7 +15,7 @@ directories_are_kept-requires c = slot_fits (fields c.args.s.now) c.requires.hol
 pub returns : goal.returns
 returns c =
     let given = plans (fields c.args.s.now) c.args.pid c.args.within.now c.args.call.now c.requires c.in_ok-plan.plan c.if-is_none.plan
-    (subst (λ (v : Committed). IsPlan v.state c.args.pid c.args.call.now c.in_ok-plan.plan) c.view-view.ensures c.in_ok-plan.ensures) c.directories_are_kept.ensures c.has_no_pipes.ensures in
+    (subst (λ (v : Committed). IsPlan v.state c.args.pid c.args.call.now c.in_ok-plan.plan) c.view-view.ensures c.in_ok-plan.ensures) c.directories_are_kept.ensures in
     elim c.if-is_none.branch [
       | then-is_none w ↦ given (ap (λ (p : Plan). p.answer) w.plan-is) (ap (λ (p : Plan). p.touches.items) w.plan-is ∙ w.keep_writes.ensures ∙ ap (λ b. if b then c.in_ok-plan.plan.touches.items else filter (λ t. t.write) c.in_ok-plan.plan.touches.items) (sym (c.is_none.ensures ∙ ap not w.if-is_none.true))) (ap (λ (p : Plan). p.edits.items) w.plan-is)
       | else-is_none w ↦ given (ap (λ (p : Plan). p.answer) w.plan-is) (ap (λ (p : Plan). p.touches.items) w.plan-is ∙ ap (λ b. if b then c.in_ok-plan.plan.touches.items else filter (λ t. t.write) c.in_ok-plan.plan.touches.items) (sym (c.is_none.ensures ∙ ap not w.if-is_none.false))) (ap (λ (p : Plan). p.edits.items) w.plan-is)

@@ -7,5 +7,5 @@ add_entry-requires-clause-can c =
     let log = c.args.s.now.history in
     let stands = subst (λ x. Stands x (status (moment log) c.args.pid)) c.in-Gone.is c.standing_of-standing.ensures in
     let place : has_place log c.args.pid c.args.op ≡ true = search rules in
-    leaves (fields c.args.s.now) c.requires.holds c.args.pid c.args.op NoProcess gone stands
+    leaves (fields c.args.s.now) c.requires c.args.pid c.args.op NoProcess gone stands
     (refl, none_else c.args.pid c.args.op NoProcess, free_at (fields c.args.s.now) c.args.pid c.args.op gone stands place) refl refl refl (λ n t. refl)

@@ -45,3 +45,14 @@ pub returns-in_ok-noted-in-Bytes-clause-added : goal.returns-in_ok-noted-in-Byte
 returns-in_ok-noted-in-Bytes-clause-added c =
     let more : added_by c.replace-in-Bytes.new.dest ≤ added_by c.args.contents.now + 0 =
     added_first true c.args.name None c.replace-in-Bytes.new.dest (c.replace-in-Bytes.ensures.after ∙ c.in_ok-noted-in-Bytes.ensures) (added_by c.args.contents.now) in omega (arith, more)
+
+pub returns-in_ok-noted-in-Pipe-clause-contents :
+    goal.returns-in_ok-noted-in-Pipe-clause-contents
+returns-in_ok-noted-in-Pipe-clause-contents c = λ o.
+    named_first true c.args.name None c.replace-in-Pipe.new.dest (c.replace-in-Pipe.ensures.after ∙ c.in_ok-noted-in-Pipe.ensures) o
+    ∙ ap (λ (d : Contents). name_noted c.args.name None (patched d o)) (sym c.in-Pipe.is)
+
+pub returns-in_ok-noted-in-Pipe-clause-added : goal.returns-in_ok-noted-in-Pipe-clause-added
+returns-in_ok-noted-in-Pipe-clause-added c =
+    let more : added_by c.replace-in-Pipe.new.dest ≤ added_by c.args.contents.now + 0 =
+    added_first true c.args.name None c.replace-in-Pipe.new.dest (c.replace-in-Pipe.ensures.after ∙ c.in_ok-noted-in-Pipe.ensures) (added_by c.args.contents.now) in omega (arith, more)

@@ -38,3 +38,14 @@ pub returns-in_ok-contents-in-Bytes-clause-added :
     goal.returns-in_ok-contents-in-Bytes-clause-added
 returns-in_ok-contents-in-Bytes-clause-added c =
     added_first true c.args.name c.args.given c.in_ok-contents-in-Bytes.field-0 c.in_ok-contents-in-Bytes.ensures _
+
+pub returns-in_ok-contents-in-Pipe-clause-contents :
+    goal.returns-in_ok-contents-in-Pipe-clause-contents
+returns-in_ok-contents-in-Pipe-clause-contents c = λ o.
+    named_first true c.args.name c.args.given c.in_ok-contents-in-Pipe.field-0 c.in_ok-contents-in-Pipe.ensures o
+    ∙ ap (λ (d : Contents). name_noted c.args.name c.args.given (patched d o)) (sym c.in-Pipe.is)
+
+pub returns-in_ok-contents-in-Pipe-clause-added :
+    goal.returns-in_ok-contents-in-Pipe-clause-added
+returns-in_ok-contents-in-Pipe-clause-added c =
+    added_first true c.args.name c.args.given c.in_ok-contents-in-Pipe.field-0 c.in_ok-contents-in-Pipe.ensures _

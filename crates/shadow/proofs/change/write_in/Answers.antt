@@ -23,3 +23,8 @@ pub returns-in_ok-contents-in-Names-clause-numbers :
     goal.returns-in_ok-contents-in-Names-clause-numbers
 returns-in_ok-contents-in-Names-clause-numbers c =
     behind_none (numbers_in c.args.contents.now) (numbers_in c.in_ok-contents-in-Names.field-0) (blocks c.args.place (length c.args.bytes.now)) (ap numbers_in c.in-Names.is) c.in_ok-contents-in-Names.ensures.numbers
+
+pub returns-in_ok-contents-in-Pipe-clause-numbers :
+    goal.returns-in_ok-contents-in-Pipe-clause-numbers
+returns-in_ok-contents-in-Pipe-clause-numbers c =
+    behind_none (numbers_in c.args.contents.now) (numbers_in c.in_ok-contents-in-Pipe.field-0) (blocks c.args.place (length c.args.bytes.now)) (ap numbers_in c.in-Pipe.is) c.in_ok-contents-in-Pipe.ensures.numbers

@@ -1,6 +1,6 @@
-use Rattle.std.proofs.Common.{◌≡◌, List, Some, sym, ap, subst, ◌∙◌}
+use Rattle.std.proofs.Common.{◌≡◌, Some, sym, ap, subst, ◌∙◌}
 use Rattle.model.specs.FiniteMap.{get}
-use Rattle.model.specs.State.{Description, Process}
+use Rattle.model.specs.State.{Description}
 use Rattle.freeing_laws.specs.Counts.{free_description, free_inode}
 use Rattle.store.specs.Numbers.{Numbers}
 use Rattle.store.specs.Places.{altered, less_openings, with_file}
@@ -9,6 +9,7 @@ use Rattle.shadow.specs.Laid.{Frees, Holds}
 use Rattle.shadow.proofs.Going.{closes, closes_nothing, description_bare, description_unnamed, frees_description, stays_held}
 use Rattle.shadow.proofs.closing.close.Goals as goal
 use Rattle.shadow.proofs.closing.close.Goals.{then-holders-eq0, else-holders-eq0}
+use Rattle.shadow.specs.Stored.{Processes}
 
 pub lose-requires-clause-unnamed : goal.lose-requires-clause-unnamed
 lose-requires-clause-unnamed c = description_unnamed c.requires.0 c.args.store.now c.args.num c.in-Some.description c.requires.1 (sym c.description.ensures ∙ c.in-Some.is)
@@ -21,7 +22,7 @@ free-requires c =
     let s : Numbers = c.args.store.now in
     let it : Description = c.in-Some.description in
     let is : get (descriptions s) c.args.num ≡ Some it = sym c.description.ensures ∙ c.in-Some.is in
-    let ps : List Process = c.requires.0 in
+    let ps : Processes = c.requires.0 in
     let holds : Holds ps s = c.requires.1 in
     let first : Frees (free_description c.args.num) ps s c.if-holders-eq0.store = elim c.if-holders-eq0.branch [
       | then-holders-eq0 w ↦ subst (Frees (free_description c.args.num) ps s) (sym w.store-is)

@@ -1,8 +1,9 @@
-use Rattle.std.proofs.Common.{◌≡◌, ◌≢◌, ◌≤◌, ◌<◌, ◌+◌, ◌∙◌, [], ℕ, length, get_or, set, sym, subst, arith}
+use Rattle.std.proofs.Common.{◌≡◌, ◌≢◌, ◌<◌, ◌+◌, ◌∙◌, [], ℕ, None, length, get_or, set, sym, subst, arith}
 use Rattle.std.proofs.lemmas.List.{get_or_read}
-use Rattle.model.specs.FiniteMap.{empty, entries}
+use Rattle.model.specs.FiniteMap.{empty, entries, get}
 use Rattle.fdtable.specs.Patches.{Given}
 use Rattle.shadow.specs.Laid.{IsReslotted}
+use Rattle.shadow.specs.Stored.{numbered}
 use Rattle.shadow.proofs.Each_laid.{Lays, lays_all, lays_nothing, lays_on, next_there}
 use Rattle.shadow.proofs.Once.{key_at, patch_at}
 use Rattle.shadow.proofs.Slots_over.{Entries}
@@ -22,8 +23,8 @@ lay_table-former-requires c =
     let low : i < length now = omega (arith, c.loop-i-test.true, c.loop-i.auto.each) in
     let one : get_or now i c.index-each-i.result ≡ get_or now i (0, empty) = read now i c.index-each-i.result low c.index-each-i.is in
     let two : get_or now i c.index-each-i-in-loop-i.result ≡ get_or now i (0, empty) = read now i c.index-each-i-in-loop-i.result low c.index-each-i-in-loop-i.is in
-    subst (λ (e : ℕ × Given). entries (get_or now i c.index-each-i-in-loop-i.result).1 ≢ [] → (0 < e.0) × (e.0 ≤ length c.loop-i.processes.items)) (sym one)
-    (subst (λ (e : ℕ × Given). entries e.1 ≢ [] → (0 < key_at now i) × (key_at now i ≤ length c.loop-i.processes.items)) (sym two)
+    subst (λ (e : ℕ × Given). entries (get_or now i c.index-each-i-in-loop-i.result).1 ≢ [] → get (numbered c.loop-i.processes.items) e.0 ≢ None) (sym one)
+    (subst (λ (e : ℕ × Given). entries e.1 ≢ [] → get (numbered c.loop-i.processes.items) (key_at now i) ≢ None) (sym two)
     (next_there i c.args.each.now now c.args.processes.now.items c.loop-i.processes.items c.args.store.now c.loop-i.store c.requires.once c.loop-i-test.true c.loop-i.invariant c.requires.living))
 
 pub loop-i-preserved : goal.loop-i-preserved

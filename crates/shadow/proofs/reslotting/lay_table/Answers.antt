@@ -1,5 +1,8 @@
-use Rattle.std.proofs.Common.{◌≡◌, ◌≤◌, ◌+◌, ◌∙◌, length, sym, subst, ap, arith}
+use Rattle.std.proofs.Common.{◌+◌, ◌∙◌, Some, sym, subst, ap, arith}
+use Rattle.model.specs.FiniteMap.{get}
+use Rattle.shadow.specs.Stored.{numbered}
 use Rattle.shadow.proofs.Tabling.{Reslots, noted_somewhere, reslots_all, reslots_nothing, reslots_on, reslots_past}
+use Rattle.shadow.proofs.Tabling.{still_there}
 use Rattle.shadow.proofs.reslotting.lay_table.Goals as goal
 use Rattle.shadow.proofs.reslotting.lay_table.Goals.{in-Some, in_default}
 
@@ -7,11 +10,11 @@ pub loop-number-init : goal.loop-number-init
 loop-number-init c = reslots_nothing c.args.pid c.args.patch.now c.new-former.result c.args.processes.now.items c.args.store.now c.new-former.ensures
 
 pub lay_slot-was-requires-clause-pid : goal.lay_slot-was-requires-clause-pid
-lay_slot-was-requires-clause-pid c =
-    let there = c.requires (noted_somewhere c.args.patch.now c.loop-number.number c.in-Some.given (sym c.get.ensures ∙ c.in-Some.is)) in
-    let low : c.args.pid ≤ length c.args.processes.now.items = there.1 in
-    let count : length c.loop-number.processes.items ≡ length c.args.processes.now.items = c.loop-number.invariant.stay.count in
-    (there.0, omega (arith, low, count))
+lay_slot-was-requires-clause-pid c = λ none.
+    let so = c.loop-number.invariant in
+    still_there (Some so.done) (get (numbered c.args.processes.now.items) c.args.pid)
+    (c.requires (noted_somewhere c.args.patch.now c.loop-number.number c.in-Some.given (sym c.get.ensures ∙ c.in-Some.is)))
+    (sym so.here ∙ none)
 
 pub loop-number-preserved : goal.loop-number-preserved
 loop-number-preserved c =

@@ -15,6 +15,9 @@ returns-in-Same c = λ o same.
 pub returns-in-Bytes : goal.returns-in-Bytes
 returns-in-Bytes c = λ o same. empty_has_none ∙ ap (λ t. is_empty (keys (names_of_inode (patched t o)))) (sym c.in-Bytes.is)
 
+pub returns-in-Pipe : goal.returns-in-Pipe
+returns-in-Pipe c = λ o same. empty_has_none ∙ ap (λ t. is_empty (keys (names_of_inode (patched t o)))) (sym c.in-Pipe.is)
+
 pub returns-in-Names-true-default : goal.returns-in-Names-true-default
 returns-in-Names-true-default c =
     let is : c.args.contents.now ≡ Names true c.in-Names-true-default.names = search rules in

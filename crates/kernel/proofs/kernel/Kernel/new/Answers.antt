@@ -1,13 +1,9 @@
-use Rattle.kernel.proofs.Words.{◌≡◌, ℕ, zero, suc, ◌<◌, ◌≤◌, List, [], Option, Some, None, is_some, length, get_or, refl, sym, ◌∙◌, ap₂, subst, true, false}
-use Rattle.kernel.proofs.Words.{inl, inr, arith, cases_lt, false≢true, get_or_past, get, Process, or_new, idle, is_alive, start, at_start, most_processes}
+use Rattle.kernel.proofs.Words.{◌≡◌, ℕ, zero, suc, ◌<◌, ◌≤◌, List, [], None, length, get_or, refl, sym, ◌∙◌, ap₂, subst, true, false}
+use Rattle.kernel.proofs.Words.{inl, inr, arith, cases_lt, get_or_past, get, idle, is_alive, start, at_start, most_processes}
 use Rattle.kernel.proofs.Words.{legal_start, Contender, nobody, contender_at, Fields, IsConsistent, part_at, Part, part_of, View, AreFirst, gone_slot}
 use Rattle.call_laws.proofs.Laws.{first_processes_live}
-use Rattle.kernel.proofs.Entries.{parts_alike}
+use Rattle.kernel.proofs.Entries.{no_priority, parts_alike}
 use Rattle.kernel.proofs.kernel.Kernel.new.Goals as goal
-
-no_priority : (o : Option Process) → is_some o ≡ false → (or_new o).priority ≡ 0
-no_priority None h = refl
-no_priority (Some process) h = absurd (false≢true (sym h))
 
 abbrev part : View → Contender → Part
 part v h = record { slot = v; held = h }

@@ -3,7 +3,7 @@ use Rattle.std.proofs.lemmas.List.{get_or_read}
 use Rattle.model.specs.Changes.{Edit, news}
 use Rattle.shadow.specs.Steps.{IsFirst, TakesIn, new_in}
 use Rattle.shadow.specs.declared.change.Made.TheVariants.{Directory as A_directory, File as A_file}
-use Rattle.shadow.proofs.Alike.{cut_taken, directory_taken, file_taken, put_taken}
+use Rattle.shadow.proofs.Alike.{append_taken, pipe_taken, take_taken, cut_taken, directory_taken, file_taken, put_taken}
 use Rattle.shadow.proofs.Outcomes.{ok_so}
 use Rattle.shadow.proofs.patches.Patches.note_first.Goals as goal
 
@@ -66,3 +66,30 @@ returns-in-Cut-clause-ok c =
     (λ t. subst (λ (e : Edit). TakesIn c.args.chosen.now e c.args.self.now c.cut.new.self) (sym c.in-Cut.is)
     (cut_taken c.args.chosen.now c.args.self.now c.cut.new.self c.in-Cut.file c.in-Cut.before c.in-Cut.after t))
     c.cut.ensures.ok
+
+pub returns-in-Take-clause-ok : goal.returns-in-Take-clause-ok
+returns-in-Take-clause-ok c =
+    ok_so c.take.result
+    (λ t. subst (λ (e : Edit). TakesIn c.args.chosen.now e c.args.self.now c.take.new.self) (sym c.in-Take.is)
+    (take_taken c.args.chosen.now c.args.self.now c.take.new.self c.in-Take.pipe c.in-Take.count t))
+    c.take.ensures.ok
+
+pub returns-in-Append-clause-ok : goal.returns-in-Append-clause-ok
+returns-in-Append-clause-ok c =
+    ok_so c.append.result
+    (λ t. subst (λ (e : Edit). TakesIn c.args.chosen.now e c.args.self.now c.append.new.self) (sym c.in-Append.is)
+    (append_taken c.args.chosen.now c.args.self.now c.append.new.self c.in-Append.pipe c.in-Append.bytes t))
+    c.append.ensures.ok
+
+pub returns-in-MakePipe-clause-ok : goal.returns-in-MakePipe-clause-ok
+returns-in-MakePipe-clause-ok c =
+    let chosen : List ℕ = c.args.chosen.now in
+    let count = subst (λ (e : Edit). news e ≤ length chosen) c.in-MakePipe.is c.requires.count in
+    let first = subst IsFirst c.in-MakePipe.is c.requires.first in
+    let here : c.index-chosen-0-in-MakePipe.result ≡ new_in chosen 0 = get_or_read chosen 0 c.index-chosen-0-in-MakePipe.result (omega (arith, count)) c.index-chosen-0-in-MakePipe.is 0 in
+    let next : c.index-chosen-1.result ≡ new_in chosen 1 = get_or_read chosen 1 c.index-chosen-1.result (omega (arith, count)) c.index-chosen-1.is 0 in
+    let last : c.index-chosen-2.result ≡ new_in chosen 2 = get_or_read chosen 2 c.index-chosen-2.result (omega (arith, count)) c.index-chosen-2.is 0 in
+    ok_so c.make_pipe.result
+    (λ t. subst (λ (e : Edit). TakesIn chosen e c.args.self.now c.make_pipe.new.self) (sym c.in-MakePipe.is)
+    (pipe_taken chosen c.args.self.now c.make_pipe.new.self c.index-chosen-0-in-MakePipe.result c.index-chosen-1.result c.index-chosen-2.result c.in-MakePipe._place c.in-MakePipe.pid c.in-MakePipe.reading c.in-MakePipe.writing first.0 here next last t))
+    c.make_pipe.ensures.ok

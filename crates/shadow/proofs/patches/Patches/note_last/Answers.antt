@@ -1,10 +1,10 @@
 use Rattle.std.proofs.Common.{◌≡◌, ◌+◌, ◌<◌, ◌≤◌, ℕ, List, length, Some, arith, sym, subst, ap, ◌∙◌}
 use Rattle.std.proofs.lemmas.List.{get_or_read}
-use Rattle.model.specs.Changes.{Clear_slot, Edit, Open_inode, Set_offset, at_start, news, number}
+use Rattle.model.specs.Changes.{Clear_slot, Share_slot, Edit, Open_inode, Set_offset, at_start, news, number}
 use Rattle.shadow.specs.Patches.{Patches}
 use Rattle.shadow.specs.Steps.{IsLast, TakesIn, new_in}
 use Rattle.shadow.specs.Openings.{AtOpening, AtSlots, IsOpened}
-use Rattle.shadow.proofs.Moved.{clearing_takes, moving_takes, opening_takes}
+use Rattle.shadow.proofs.Moved.{clearing_takes, moving_takes, opening_takes, sharing_takes}
 use Rattle.shadow.proofs.patches.Patches.note_last.Goals as goal
 
 pub returns-in-SetOffset : goal.returns-in-SetOffset
@@ -41,3 +41,12 @@ returns-in-ClearSlot c =
     subst (λ (e : Edit). TakesIn c.args.chosen.now e c.args.self.now new) (sym c.in-ClearSlot.is)
     (subst (λ (p : Patches). TakesIn c.args.chosen.now (Clear_slot c.in-ClearSlot.pid c.in-ClearSlot.fd c.in-ClearSlot.field-2) p new) c.self.view_is
     (clearing_takes c.args.chosen.now c.in-ClearSlot.pid c.in-ClearSlot.fd c.in-ClearSlot.field-2 old c.note-in-ClearSlot.new.self c.note-in-ClearSlot.ensures))
+
+pub returns-in-ShareSlot : goal.returns-in-ShareSlot
+returns-in-ShareSlot c =
+    let was = c.self.inside in
+    let old : Patches = record { inodes = was.inodes; openings = was.openings; slots = was.slots; lost = was.lost.items } in
+    let new : Patches = record old { slots = c.note-in-ShareSlot.new.self } in
+    subst (λ (e : Edit). TakesIn c.args.chosen.now e c.args.self.now new) (sym c.in-ShareSlot.is)
+    (subst (λ (p : Patches). TakesIn c.args.chosen.now (Share_slot c.in-ShareSlot.pid c.in-ShareSlot.fd c.in-ShareSlot.description c.in-ShareSlot.field-3) p new) c.self.view_is
+    (sharing_takes c.args.chosen.now c.in-ShareSlot.pid c.in-ShareSlot.fd c.in-ShareSlot.description c.in-ShareSlot.field-3 old c.note-in-ShareSlot.new.self c.note-in-ShareSlot.ensures))

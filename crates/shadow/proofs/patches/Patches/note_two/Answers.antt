@@ -1,4 +1,5 @@
-use Rattle.std.proofs.Common.{refl}
+use Rattle.std.proofs.Common.{◌≡◌, ◌+◌, arith, length, refl}
+use Rattle.model.specs.Changes.{news}
 use Rattle.shadow.proofs.Noted.{on_err, same_patches, same_then_takes}
 use Rattle.shadow.proofs.patches.Patches.note_two.Goals as goal
 
@@ -13,3 +14,9 @@ returns-clause-ok c = (
   same_then_takes c.args.chosen.now c.args.first c.args.self.now c.make_places.new.self c.note_first.new.self c.make_places.ensures.same c.in_ok-note_first.ensures.ok,
   (c.note_last.new.self, c.note_last.ensures, refl),
 )
+
+pub make_places-requires : goal.make_places-requires
+make_places-requires c = (news c.args.first, c.requires.kinds.2, (let count : length c.args.chosen.now ≡ news c.args.first + news c.args.last = c.requires.count in omega arith))
+
+pub note_last-requires-clause-last : goal.note_last-requires-clause-last
+note_last-requires-clause-last c = (news c.args.first, c.requires.kinds.2, (let count : length c.args.chosen.now ≡ news c.args.first + news c.args.last = c.requires.count in omega arith))

@@ -1,14 +1,20 @@
-use Rattle.std.proofs.Common.{◌+◌, ◌∷◌, sym, ap, ◌∙◌, drop}
+use Rattle.std.proofs.Common.{◌+◌, ◌∷◌, sym, ap, subst, ◌∙◌, drop}
+use Rattle.shadow.specs.Claims.{AreAdded}
 use Rattle.std.proofs.lemmas.List.{drop_more}
-use Rattle.shadow.proofs.Claimed.{claims_next, may_still_give_up}
+use Rattle.shadow.proofs.Claimed.{claims_next, may_still_give_up, same_kept}
 use Rattle.shadow.proofs.stable.Stable.claim_numbers.Goals as goal
 
 pub give_up-requires : goal.give_up-requires
 give_up-requires c = may_still_give_up c.args.self.now c.loop-edit.self c.claim_number.new.self c.loop-edit.invariant.done c.loop-edit.chosen c.as_slice.result.now c.loop-edit.invariant.have
-    (c.as_slice.ensures ∙ c.in-Err.ensures.err) c.in-Err.ensures.same
+    (subst (AreAdded c.loop-edit.self c.claim_number.new.self c.loop-edit.chosen) (sym c.as_slice.ensures) c.in-Err.ensures.err)
 
 pub loop-edit-preserved : goal.loop-edit-preserved
 loop-edit-preserved c =
     let es = c.args.edits.now in let i = c.loop-edit.edit-index in
     claims_next c.args.self.now c.loop-edit.self es i c.loop-edit.chosen c.loop-edit.invariant c.claim_number.new.self c.edit-item.result c.claim_number.new.chosen
-    (drop_more _ _ c.edit-item.result c.loop-edit-test.true ∙ ap (λ e. e ∷ drop (i + 1) es) (sym c.edit-item.is)) c.requires c.in-Ok.ensures.ok c.in-Ok.ensures.state
+    (drop_more _ _ c.edit-item.result c.loop-edit-test.true ∙ ap (λ e. e ∷ drop (i + 1) es) (sym c.edit-item.is)) c.in-Ok.ensures.ok c.in-Ok.ensures.state
+
+pub returns-in-Err-clause-err : goal.returns-in-Err-clause-err
+returns-in-Err-clause-err c =
+    same_kept c.args.self.now c.loop-edit.self c.claim_number.new.self c.loop-edit.invariant.done c.loop-edit.chosen c.as_slice.result.now c.loop-edit.invariant.have
+    (subst (AreAdded c.loop-edit.self c.claim_number.new.self c.loop-edit.chosen) (sym c.as_slice.ensures) c.in-Err.ensures.err) c.give_up.new.self c.give_up.ensures.kept

@@ -1,12 +1,13 @@
-use Rattle.std.proofs.Common.{◌≡◌, ◌<◌, ◌≤◌, ℕ, List, [], length, arith, refl, sym, subst, ap, ◌∙◌}
+use Rattle.std.proofs.Common.{◌≡◌, ◌<◌, ◌≤◌, ◌+◌, ℕ, List, [], length, arith, refl, sym, subst, ap, ◌∙◌}
 use Rattle.std.proofs.lemmas.List.{get_or_read}
 use Rattle.model.specs.State.{Kernel}
-use Rattle.model.specs.Changes.{Cut, Edit, Put_bytes, applied, news, tidy}
+use Rattle.model.specs.Changes.{Append, Cut, Edit, Put_bytes, Take, applied, news, tidy}
 use Rattle.call_laws.specs.Fits.{Fits}
 use Rattle.shadow.specs.Steps.{IsFirst, new_in}
 use Rattle.shadow.proofs.Outcomes.{ok_so}
-use Rattle.shadow.proofs.SameEdit.{none_goes, same_bytes_put, same_cut, same_directory, same_file}
-use Rattle.shadow.proofs.SameEdit.{same_linking, same_moving, same_unnaming}
+use Rattle.shadow.proofs.SameEdit.{none_goes, same_append, same_bytes_put, same_cut}
+use Rattle.shadow.proofs.SameEdit.{same_directory, same_file, same_linking, same_moving, same_pipe}
+use Rattle.shadow.proofs.SameEdit.{same_take, same_unnaming}
 use Rattle.shadow.specs.declared.change.Made.TheVariants.{Directory as A_directory, File as A_file}
 use Rattle.shadow.proofs.stable.Stable.perform_first.Goals as goal
 
@@ -104,3 +105,45 @@ returns-in-Cut-clause-state c =
     ∙ none_goes chosen k e c.state_is_tidied.ensures
     (subst (Fits chosen k) c.in-Cut.is c.requires.fits) refl
     ∙ ap (λ (e : Edit). tidy (applied chosen e k)) (sym c.in-Cut.is)) c.cut.ensures.state
+
+pub returns-in-Take-clause-state : goal.returns-in-Take-clause-state
+returns-in-Take-clause-state c =
+    let chosen : List ℕ = c.args.chosen.now in let k : Kernel = c.args.self.now.state in
+    c.take.ensures.state
+    ∙ same_take chosen k c.in-Take.pipe c.in-Take.count
+    ∙ none_goes chosen k (Take c.in-Take.pipe c.in-Take.count) c.state_is_tidied.ensures
+    (subst (Fits chosen k) c.in-Take.is c.requires.fits) refl
+    ∙ ap (λ (e : Edit). tidy (applied chosen e k)) (sym c.in-Take.is)
+
+pub returns-in-Append-clause-state : goal.returns-in-Append-clause-state
+returns-in-Append-clause-state c =
+    let chosen : List ℕ = c.args.chosen.now in let k : Kernel = c.args.self.now.state in
+    c.append.ensures.state
+    ∙ ap (λ bytes. applied [] (Append c.in-Append.pipe bytes) k) c.as_slice-in-Append.ensures
+    ∙ same_append chosen k c.in-Append.pipe c.in-Append.bytes
+    ∙ none_goes chosen k (Append c.in-Append.pipe c.in-Append.bytes) c.state_is_tidied.ensures
+    (subst (Fits chosen k) c.in-Append.is c.requires.fits) refl
+    ∙ ap (λ (e : Edit). tidy (applied chosen e k)) (sym c.in-Append.is)
+
+pub returns-in-MakePipe-clause-state : goal.returns-in-MakePipe-clause-state
+returns-in-MakePipe-clause-state c =
+    let chosen : List ℕ = c.args.chosen.now in let k : Kernel = c.args.self.now.state in
+    let count = subst (λ (e : Edit). news e ≤ length chosen) c.in-MakePipe.is c.requires.count in
+    let low : 2 < length chosen = omega (arith, count) in
+    let first = subst IsFirst c.in-MakePipe.is c.requires.first in
+    let place : c.in-MakePipe._place ≡ 0 = first.0 in
+    let pipe : c.index-chosen-0-in-MakePipe.result ≡ new_in chosen 0 =
+    get_or_read chosen 0 c.index-chosen-0-in-MakePipe.result (omega (arith, low))
+    c.index-chosen-0-in-MakePipe.is 0 in
+    let reader : c.index-chosen-1.result ≡ new_in chosen 1 =
+    get_or_read chosen 1 c.index-chosen-1.result (omega (arith, low)) c.index-chosen-1.is 0 in
+    let writer : c.index-chosen-2.result ≡ new_in chosen 2 =
+    get_or_read chosen 2 c.index-chosen-2.result low c.index-chosen-2.is 0 in
+    ok_so c.make_pipe.result (λ h. h
+    ∙ ap (λ (k : Kernel). tidy k)
+    (same_pipe chosen c.in-MakePipe._place c.in-MakePipe.pid c.in-MakePipe.reading
+    c.in-MakePipe.writing c.index-chosen-0-in-MakePipe.result c.index-chosen-1.result
+    c.index-chosen-2.result (pipe ∙ sym (ap (new_in chosen) place))
+    (reader ∙ sym (ap (λ i. new_in chosen (i + 1)) place))
+    (writer ∙ sym (ap (λ i. new_in chosen (i + 2)) place)) k)
+    ∙ ap (λ (e : Edit). tidy (applied chosen e k)) (sym c.in-MakePipe.is)) c.make_pipe.ensures.state

@@ -1,4 +1,4 @@
-use Rattle.std.proofs.Common.{◌≡◌, ◌+◌, ◌<◌, ◌≤◌, ℕ, List, length, arith, sym, subst, ap, ◌∙◌}
+use Rattle.std.proofs.Common.{◌≡◌, ◌+◌, ◌<◌, ◌≤◌, ℕ, List, None, Some, length, arith, sym, subst, ap, ◌∙◌}
 use Rattle.std.proofs.lemmas.List.{get_or_read}
 use Rattle.model.specs.State.{Kernel}
 use Rattle.model.specs.Changes.{Edit, Set_offset, applied, news, tidy}
@@ -8,7 +8,7 @@ use Rattle.shadow.specs.Stored.{committed_of}
 use Rattle.shadow.specs.Steps.{IsLast, new_in}
 use Rattle.shadow.proofs.Edited.{less_of}
 use Rattle.shadow.proofs.OffsetInState.{moving_kept, moving_sound, moving_state}
-use Rattle.shadow.proofs.SameEdit.{same_clearing, same_opening}
+use Rattle.shadow.proofs.SameEdit.{same_slotting, same_opening}
 use Rattle.shadow.proofs.stable.Stable.perform_last.Goals as goal
 
 pub invariant_of-self : goal.invariant_of-self
@@ -57,12 +57,28 @@ returns-in-OpenInode-clause-state c =
     c.number-inode.ensures c.args.self.now.state)
     ∙ ap (λ (e : Edit). tidy (applied chosen e c.args.self.now.state)) (sym c.in-OpenInode.is)
 
+pub reslot-requires-clause-fits : goal.reslot-requires-clause-fits
+reslot-requires-clause-fits c = (c.in-ShareSlot._pipes, subst (Fits c.args.chosen.now c.args.self.now.state) c.in-ShareSlot.is c.requires.fits)
+
+pub returns-in-ShareSlot-clause-state : goal.returns-in-ShareSlot-clause-state
+returns-in-ShareSlot-clause-state c =
+    c.reslot.ensures.state c.in-ShareSlot._pipes
+    (subst (Fits c.args.chosen.now c.args.self.now.state) c.in-ShareSlot.is c.requires.fits)
+    ∙ ap (λ (k : Kernel). tidy k)
+    (same_slotting c.args.chosen.now c.args.self.now.state (Some c.in-ShareSlot.description) c.in-ShareSlot.pid c.in-ShareSlot.fd
+    c.in-ShareSlot._pipes)
+    ∙ ap (λ (e : Edit). tidy (applied c.args.chosen.now e c.args.self.now.state))
+    (sym c.in-ShareSlot.is)
+
+pub reslot-requires-in-ClearSlot-clause-fits : goal.reslot-requires-in-ClearSlot-clause-fits
+reslot-requires-in-ClearSlot-clause-fits c = (c.in-ClearSlot._pipes, subst (Fits c.args.chosen.now c.args.self.now.state) c.in-ClearSlot.is c.requires.fits)
+
 pub returns-in-ClearSlot-clause-state : goal.returns-in-ClearSlot-clause-state
 returns-in-ClearSlot-clause-state c =
-    c.clear_slot.ensures.state c.in-ClearSlot._pipes
+    c.reslot-in-ClearSlot.ensures.state c.in-ClearSlot._pipes
     (subst (Fits c.args.chosen.now c.args.self.now.state) c.in-ClearSlot.is c.requires.fits)
     ∙ ap (λ (k : Kernel). tidy k)
-    (same_clearing c.args.chosen.now c.args.self.now.state c.in-ClearSlot.pid c.in-ClearSlot.fd
+    (same_slotting c.args.chosen.now c.args.self.now.state None c.in-ClearSlot.pid c.in-ClearSlot.fd
     c.in-ClearSlot._pipes)
     ∙ ap (λ (e : Edit). tidy (applied c.args.chosen.now e c.args.self.now.state))
     (sym c.in-ClearSlot.is)
