@@ -28,6 +28,9 @@ use Rattle.atomic_table.proofs.Sent.{seat_keyless, shares_keyless}
 use Rattle.dirlist.specs.contracts.patch.Patch as Patch
 use Rattle.file_shadow.specs.contracts.shadow.FileShadow as FileShadow
 use Rattle.objects.specs.contracts.file.FileData as FileData
+use Rattle.objects.specs.contracts.pipe.PipeData as PipeData
+use Rattle.pipe_shadow.specs.contracts.PipeShadow as PipeShadow
+use Rattle.circular_buffer.proofs.Crosses.{Cells-send, Deed-send}
 use Rattle.fdtable.specs.contracts.FdTable as FdTable
 use Rattle.fdtable.specs.contracts.Patch as FdPatch
 use Rattle.shadow.specs.contracts.change.Contents as Contents
@@ -38,6 +41,11 @@ use Rattle.shadow.specs.contracts.slots.Slots as Slots
 use Rattle.shadow.specs.contracts.patches.Patches as Patches
 use Rattle.shadow.specs.contracts.shadow.Shadow as Shadow
 use Rattle.store.specs.contracts.Header as Header
+use Rattle.store.specs.contracts.Object as Object
+use Rattle.store.specs.contracts.OpenFile as OpenFile
+use Rattle.store.specs.contracts.OpenPipe as OpenPipe
+use Rattle.store.specs.contracts.Opened as Opened
+use Rattle.dirlist.specs.contracts.Dir as Dir
 use Rattle.store.specs.contracts.Store as Store
 use Rattle.shadow.specs.contracts.stable.Process as Process
 use Rattle.shadow.specs.contracts.stable.Stable as Stable
@@ -74,6 +82,15 @@ bytes_sent = search (sendable, crosses, over.crosses, frees_by, frees.frees) dep
 room_sent : IsSend FileData.the_row
 room_sent = search (sendable, crosses, over.crosses, frees_by, frees.frees) depth 40 fits 30000
 
+waiting_sent : IsSend PipeData.the_row
+waiting_sent = search (Cells-send, Deed-send, sendable, crosses, over.crosses, frees_by, frees.frees) depth 40 fits 30000
+
+appended_sent : IsSend PipeShadow.the_row
+appended_sent = search (sendable, crosses, over.crosses, frees_by, frees.frees) depth 40 fits 30000
+
+open_pipe_sent : IsSend (OpenPipe.the_field).row
+open_pipe_sent = search (waiting_sent, sendable, crosses, over.crosses) depth 40 fits 30000
+
 table_sent : IsSend FdTable.the_row
 table_sent = search (sendable, crosses, over.crosses) depth 40 fits 30000
 
@@ -81,7 +98,7 @@ given_sent : IsSend FdPatch.the_row
 given_sent = search (sendable, crosses, over.crosses) depth 40 fits 30000
 
 contents_sent : IsSend (Contents.the_field).row
-contents_sent = search (patch_sent, bytes_sent, sendable, crosses, over.crosses) depth 40 fits 30000
+contents_sent = search (patch_sent, bytes_sent, open_pipe_sent, appended_sent, sendable, crosses, over.crosses) depth 40 fits 30000
 
 change_sent : IsSend (Change.the_field).row
 change_sent = search (contents_sent, room_sent, sendable, crosses, over.crosses) depth 40 fits 30000
@@ -101,8 +118,20 @@ patches_sent = search (inodes_sent, openings_sent, slots_sent, sendable, crosses
 shadow_sent : IsSend Shadow.the_row
 shadow_sent = search (patches_sent, sendable, crosses, over.crosses) depth 40 fits 30000
 
+dir_sent : IsSend Dir.the_row
+dir_sent = search (sendable, crosses, over.crosses, frees_by, frees.frees) depth 40 fits 30000
+
+open_file_sent : IsSend (OpenFile.the_field).row
+open_file_sent = search (room_sent, sendable, crosses, over.crosses) depth 40 fits 30000
+
+opened_sent : IsSend (Opened.the_field).row
+opened_sent = search (sendable, crosses, over.crosses) depth 40 fits 30000
+
+object_sent : IsSend (Object.the_field).row
+object_sent = search (dir_sent, open_file_sent, open_pipe_sent, opened_sent, sendable) depth 40 fits 30000
+
 header_sent : IsSend Header.the_row
-header_sent = search (room_sent, sendable, crosses, over.crosses, frees_by, frees.frees) depth 40 fits 30000
+header_sent = search (object_sent, sendable, crosses, over.crosses, frees_by, frees.frees) depth 40 fits 30000
 
 store_sent : IsSend Store.the_row
 store_sent = search (header_sent, sendable, crosses, over.crosses, frees_by, frees.frees) depth 40 fits 30000

@@ -135,10 +135,7 @@ fn pipes_have_4096_bytes(rt: HostRuntime) -> Result<(), Fail> {
 // A kernel of 4,000 processes.
 fn kernel_of_many(heap: Heap) -> Result<Kernel, Fail> {
     let zero = Priority::new(0).ok_or("no priority")?;
-    let mut priorities = Vec::new(heap);
-    for _ in 0..4000 {
-        priorities.push(zero)?;
-    }
+    let priorities = Vec::from_elem(heap, zero, 4000)?;
     Ok(Kernel::new(heap, priorities.as_slice(), 200)?)
 }
 

@@ -20,6 +20,12 @@ mod processes;
 #[cfg(test)]
 mod refused;
 #[cfg(test)]
+mod refused_files;
+#[cfg(test)]
+mod refused_names;
+#[cfg(test)]
+mod refused_pipes;
+#[cfg(test)]
 mod renames;
 #[cfg(test)]
 mod row;
