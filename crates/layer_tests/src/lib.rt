@@ -29,8 +29,6 @@ mod of_path;
 #[cfg(test)]
 mod of_pipe_shadow;
 #[cfg(test)]
-mod of_records;
-#[cfg(test)]
 mod of_shadow;
 #[cfg(test)]
 mod of_store;

@@ -1,9 +1,0 @@
-mod Kept
-mod Halved
-mod Orders
-mod Passing
-mod Running
-mod Following
-mod Counted
-mod Maps
-mod Empties
