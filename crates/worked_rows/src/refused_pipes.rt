@@ -309,7 +309,7 @@ static PIPES: [Refused; 9] = [
 6 P1 end -> committed
 7 P1 read 5 9 -> 0 \\e
 ",
-        requests: 5,
+        requests: 3,
     },
 ];
 
