@@ -9,6 +9,9 @@ mod Tabling
 mod Openings_at
 mod Seeing
 mod Noted
+mod TakenNames
+mod TakenFiles
+mod TakenPipes
 mod NotedSlots
 mod Emptied
 mod Forking
@@ -16,6 +19,9 @@ mod Ending
 mod Moved
 mod Pairs
 mod Applied
+mod FormsAfter
+mod RoomsAfter
+mod OpeningsAfter
 mod Along
 mod Each_laid
 mod EditsClaim

@@ -10,7 +10,8 @@ use Rattle.shadow.specs.declared.opening.Opening.{Opening}
 use Rattle.shadow.specs.Patches.{Patches, added_by, is_new, net_at, kept_at, numbers_in, opening_at, reopened, reslotted}
 use Rattle.shadow.specs.Openings.{AtOpening, AtSlots, IsMoved, IsOpened, slot_noted}
 use Rattle.shadow.specs.Steps.{TakesIn, kept_beside, new_in}
-use Rattle.shadow.proofs.Noted.{Piping, as_written}
+use Rattle.shadow.proofs.Noted.{as_written}
+use Rattle.shadow.proofs.TakenPipes.{Piping}
 
 moved_at : (m place : ℕ) (s t : List (ℕ × Opening)) → AtOpening m (IsMoved place) s t → (d : ℕ) (o : Option Description) → reopened (opening_at t d) o ≡ cond (d == m) (mapped (at_offset place) (reopened (opening_at s d) o)) (reopened (opening_at s d) o)
 moved_at m place s t at d o = elim (cases_eq d m) [

@@ -1,6 +1,7 @@
 // Each row is run step by step, and as one run of the kernel.
 use crate::files::FILES;
-use crate::links::{FREED, LINKS};
+use crate::freed::FREED;
+use crate::links::LINKS;
 use crate::pipes::{HALVES, PIPES};
 use crate::processes::{ENDED, PROCESSES};
 use crate::renames::RENAMES;

@@ -2,7 +2,8 @@ use Rattle.std.proofs.Common.{[], refl, subst}
 use Rattle.model.specs.Changes.{Cut}
 use Rattle.shadow.specs.Patches.{Patches}
 use Rattle.shadow.specs.Steps.{TakesIn}
-use Rattle.shadow.proofs.Noted.{cut_takes, ok_so, only_inodes, same_then_takes}
+use Rattle.shadow.proofs.Noted.{ok_so, only_inodes, same_then_takes}
+use Rattle.shadow.proofs.TakenFiles.{cut_takes}
 use Rattle.shadow.proofs.patches.Patches.cut.Goals as goal
 
 pub returns-clause-ok : goal.returns-clause-ok

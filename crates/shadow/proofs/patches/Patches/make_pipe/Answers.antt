@@ -6,7 +6,8 @@ use Rattle.shadow.specs.Openings.{AtOpening, IsOpened}
 use Rattle.shadow.specs.Patches.{Patches}
 use Rattle.shadow.specs.Steps.{TakesIn}
 use Rattle.shadow.proofs.Moved.{piping_takes}
-use Rattle.shadow.proofs.Noted.{piping_at, same_then_takes, with_places}
+use Rattle.shadow.proofs.Noted.{same_then_takes, with_places}
+use Rattle.shadow.proofs.TakenPipes.{piping_at}
 use Rattle.shadow.proofs.patches.Patches.make_pipe.Goals as goal
 
 pub returns-clause-ok : goal.returns-clause-ok

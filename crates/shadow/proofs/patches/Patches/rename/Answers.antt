@@ -2,7 +2,8 @@ use Rattle.std.proofs.Common.{◌≡◌, ℕ, List, [], ◌∷◌, ◌++◌, app
 use Rattle.model.specs.Changes.{Move, inode_replaced}
 use Rattle.shadow.specs.Patches.{Patches, net_at}
 use Rattle.shadow.specs.Steps.{TakesIn}
-use Rattle.shadow.proofs.Noted.{Losing, losing_at, losing_none, moving_takes, only_inodes, same_inodes, same_then_takes}
+use Rattle.shadow.proofs.Noted.{only_inodes, same_inodes, same_then_takes}
+use Rattle.shadow.proofs.TakenNames.{Losing, losing_at, losing_none, moving_takes}
 use Rattle.shadow.proofs.Outcomes.{ok_so}
 use Rattle.shadow.proofs.patches.Patches.rename.Goals as goal
 
