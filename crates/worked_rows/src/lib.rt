@@ -12,6 +12,8 @@ mod given_up;
 #[cfg(test)]
 mod links;
 #[cfg(test)]
+mod modes;
+#[cfg(test)]
 mod paths;
 #[cfg(test)]
 mod pipes;

@@ -1,0 +1,17 @@
+mod Kept
+mod Halved
+mod Orders
+mod Passing
+mod Running
+mod Following
+mod Counted
+mod Maps
+mod Setting
+mod Keeping
+mod Starting
+mod Freed
+mod Edited
+mod Empties
+mod Looking
+mod Pieces
+mod Choosing

@@ -1,0 +1,2 @@
+mod Bare
+mod Root
