@@ -3,18 +3,16 @@
 //! usage: bench NAMES LIVE
 //!
 //! NAMES directories lie in one directory, and LIVE other processes are in a transaction in which
-//! they have looked for 100 names each, which nobody else touches. In this directory one process
-//! makes 1,000 further directories, looks for 1,000 of those that were there, removes the 1,000
-//! again and lists all names 10 times; then it writes 64 bytes into an open file 1,000 times and
-//! reads them again, and writes 64 bytes into a pipe and reads them from it, 500 times by turns. All
-//! this by plain calls, and then each of the seven in a transaction of its own, timed from its begin
-//! to its end. Last it renames the directory there and back 500 times, unlinks 100 files that are
-//! empty and 100 of the greatest length, makes 90 processes, each of which ends at once, and does
-//! 1,000 transactions of 10 calls and one of 10,000, which are committed, and as many that are given
-//! up. This is a measure and no test: with no words it only prints how it is used.
+//! they have looked for one name each. In this directory one process makes 1,000 further
+//! directories, looks for 1,000 of those that were there, removes the 1,000 again and lists all
+//! names 10 times; then it writes 64 bytes into an open file 1,000 times and reads them again, and
+//! writes 64 bytes into a pipe and reads them from it, 500 times by turns. All this by plain calls,
+//! and then each of the seven in a transaction of its own, timed from its begin to its end. Last it
+//! renames the directory there and back 500 times, unlinks 100 files that are empty and 100 of the
+//! greatest length, and makes 90 processes, each of which ends at once. This is a measure and no
+//! test: with no words it only prints how it is used.
 #![tactic(auto)]
 
-mod lengths;
 mod names;
 mod rows;
 mod work;

@@ -1,5 +1,4 @@
 // The rows that are timed.
-use crate::lengths::print_transactions;
 use crate::names::{print_children, print_names};
 use crate::work::{Verb, begin, call, end, kernel_of, open_both, path, rewind, step};
 use anyhow::Result;
@@ -67,21 +66,13 @@ fn fill(kernel: &mut Kernel, heap: Heap, names: u64) -> Result<()> {
     Ok(())
 }
 
-// How many names a live transaction has looked for.
-const TOUCHES: u64 = 100;
-
-// The processes from 2 on begin a transaction and look for names that are not there.
+// The processes from 2 on begin a transaction and look for a name that is not there.
 fn open(kernel: &mut Kernel, heap: Heap, live: u32) -> Result<()> {
     for number in 0..live {
         let pid = number.saturating_add(2);
         begin(kernel, pid)?;
-        for touch in 0..TOUCHES {
-            let name = u64::from(number)
-                .saturating_mul(TOUCHES)
-                .saturating_add(touch);
-            let path = path(heap, "", b'l', name)?;
-            drop(kernel.step(Pid(pid), call(Verb::Stat, path)));
-        }
+        let path = path(heap, "", b'l', u64::from(number))?;
+        drop(kernel.step(Pid(pid), call(Verb::Stat, path)));
     }
     Ok(())
 }
@@ -191,6 +182,5 @@ fn measure_on(
     open(kernel, heap, live)?;
     print_rates(rt, kernel, heap, names)?;
     print_names(rt, kernel, heap)?;
-    print_children(rt, kernel)?;
-    print_transactions(rt, kernel, heap)
+    print_children(rt, kernel)
 }

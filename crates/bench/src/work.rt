@@ -95,10 +95,7 @@ pub(crate) fn path(
 }
 
 fn is_done(reply: &Reply) -> bool {
-    matches!(
-        reply,
-        Reply::Answer(_) | Reply::Begun | Reply::Committed | Reply::GivenUp { .. }
-    )
+    matches!(reply, Reply::Answer(_) | Reply::Begun | Reply::Committed)
 }
 
 // Does one step, which is to be answered.

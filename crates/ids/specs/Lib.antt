@@ -1,3 +1,2 @@
 pub mod Errnos
 pub mod Flags
-pub mod Order

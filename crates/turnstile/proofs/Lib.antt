@@ -4,4 +4,3 @@ pub mod Calls
 pub mod Closing
 pub mod Meeting
 pub mod Living
-mod Forking

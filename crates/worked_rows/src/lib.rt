@@ -12,8 +12,6 @@ mod given_up;
 #[cfg(test)]
 mod links;
 #[cfg(test)]
-mod modes;
-#[cfg(test)]
 mod paths;
 #[cfg(test)]
 mod pipes;

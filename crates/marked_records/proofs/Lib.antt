@@ -1,5 +1,0 @@
-mod Marked
-mod Held
-mod Dropping
-mod Plain
-pub mod Laws

@@ -1,7 +1,0 @@
-pub mod Touches
-pub mod Codes
-pub mod Marks
-pub mod Groups
-pub mod Index
-pub mod Ranges
-pub mod Holders

@@ -1,4 +1,0 @@
-pub mod Renaming
-pub mod Renamed
-pub mod Laws
-pub mod Histories

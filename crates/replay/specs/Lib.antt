@@ -1,9 +1,0 @@
-pub mod Suits
-pub mod Checks
-pub mod Places
-pub mod Content
-pub mod Counts
-pub mod Edits
-pub mod Transactions
-pub mod Ran
-pub mod Chosen

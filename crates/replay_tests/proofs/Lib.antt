@@ -1,2 +1,0 @@
-mod Bare
-mod Root
