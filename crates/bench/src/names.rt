@@ -13,9 +13,9 @@ const FILES: u64 = 100;
 const RENAMES: u64 = 1000;
 
 // How many children are made.
-const CHILDREN: u64 = 90;
+const CHILDREN: u64 = 1_000;
 
-fn nanos_since(rt: &HostRuntime, start: &Instant) -> Result<u64> {
+pub(crate) fn nanos_since(rt: &HostRuntime, start: &Instant) -> Result<u64> {
     let span = start.elapsed(rt)?;
     let nanos = u64::from(span.subsec_nanos());
     Ok(

@@ -1,4 +1,5 @@
 // The rows that are timed.
+use crate::lengths::print_transactions;
 use crate::names::{print_children, print_names};
 use crate::work::{Verb, begin, call, end, kernel_of, open_both, path, rewind, step};
 use anyhow::Result;
@@ -66,13 +67,21 @@ fn fill(kernel: &mut Kernel, heap: Heap, names: u64) -> Result<()> {
     Ok(())
 }
 
-// The processes from 2 on begin a transaction and look for a name that is not there.
+// How many names a live transaction has looked for.
+const TOUCHES: u64 = 100;
+
+// The processes from 2 on begin a transaction and look for names that are not there.
 fn open(kernel: &mut Kernel, heap: Heap, live: u32) -> Result<()> {
     for number in 0..live {
         let pid = number.saturating_add(2);
         begin(kernel, pid)?;
-        let path = path(heap, "", b'l', u64::from(number))?;
-        drop(kernel.step(Pid(pid), call(Verb::Stat, path)));
+        for touch in 0..TOUCHES {
+            let name = u64::from(number)
+                .saturating_mul(TOUCHES)
+                .saturating_add(touch);
+            let path = path(heap, "", b'l', name)?;
+            drop(kernel.step(Pid(pid), call(Verb::Stat, path)));
+        }
     }
     Ok(())
 }
@@ -182,5 +191,6 @@ fn measure_on(
     open(kernel, heap, live)?;
     print_rates(rt, kernel, heap, names)?;
     print_names(rt, kernel, heap)?;
-    print_children(rt, kernel)
+    print_children(rt, kernel)?;
+    print_transactions(rt, kernel, heap)
 }

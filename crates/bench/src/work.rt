@@ -95,7 +95,10 @@ pub(crate) fn path(
 }
 
 fn is_done(reply: &Reply) -> bool {
-    matches!(reply, Reply::Answer(_) | Reply::Begun | Reply::Committed)
+    matches!(
+        reply,
+        Reply::Answer(_) | Reply::Begun | Reply::Committed | Reply::GivenUp { .. }
+    )
 }
 
 // Does one step, which is to be answered.

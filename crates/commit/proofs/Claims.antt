@@ -21,7 +21,7 @@ sum_same f (x ∷ xs) [] count same = absurd (omega (arith, count))
 sum_same f (x ∷ xs) (y ∷ ys) count same =
     sum_by-cons f y ys ∙ ap (λ n. n + sum_by f ys) (same 0) ∙ ap (λ n. f x + n) (sum_same f xs ys (omega (arith, count)) (λ q. same (suc q))) ∙ sym (sum_by-cons f x xs)
 
-sum_changed : (f : View → ℕ) (old new : List View) (p : ℕ) → length new ≡ length old → ((q : ℕ) → q ≢ p → f (get_or new q gone_slot) ≡ f (get_or old q gone_slot))
+pub sum_changed : (f : View → ℕ) (old new : List View) (p : ℕ) → length new ≡ length old → ((q : ℕ) → q ≢ p → f (get_or new q gone_slot) ≡ f (get_or old q gone_slot))
     → sum_by f new + f (get_or old p gone_slot) ≡ sum_by f old + f (get_or new p gone_slot)
 sum_changed f [] [] p count same = refl
 sum_changed f [] (y ∷ ys) p count same = absurd (omega (arith, count))
@@ -38,7 +38,7 @@ sum_changed f (x ∷ xs) (y ∷ ys) (suc p) count same =
     let second : sum_by f (x ∷ xs) ≡ f x + sum_by f xs = sum_by-cons f x xs in
     omega (arith, first, second, rest, here)
 
-one_of_sum : (f : View → ℕ) (xs : List View) (q : ℕ) → f gone_slot ≡ 0 → f (get_or xs q gone_slot) ≤ sum_by f xs
+pub one_of_sum : (f : View → ℕ) (xs : List View) (q : ℕ) → f gone_slot ≡ 0 → f (get_or xs q gone_slot) ≤ sum_by f xs
 one_of_sum f [] q none = omega (arith, none)
 one_of_sum f (x ∷ xs) zero none = let first : sum_by f (x ∷ xs) ≡ f x + sum_by f xs = sum_by-cons f x xs in omega (arith, first)
 one_of_sum f (x ∷ xs) (suc q) none =
@@ -46,7 +46,7 @@ one_of_sum f (x ∷ xs) (suc q) none =
     let rest : f (get_or xs q gone_slot) ≤ sum_by f xs = one_of_sum f xs q none in
     omega (arith, first, rest)
 
-sum_none : (f : View → ℕ) (xs : List View) → ((q : ℕ) → f (get_or xs q gone_slot) ≡ 0) → sum_by f xs ≡ 0
+pub sum_none : (f : View → ℕ) (xs : List View) → ((q : ℕ) → f (get_or xs q gone_slot) ≡ 0) → sum_by f xs ≡ 0
 sum_none f [] none = refl
 sum_none f (x ∷ xs) none = sum_by-cons f x xs ∙ ap (λ n. n + sum_by f xs) (none 0) ∙ ap (λ n. 0 + n) (sum_none f xs (λ q. none (suc q)))
 

@@ -9,7 +9,7 @@ use Rattle.commit.specs.Slots.{views, slot_at, Sets}
 use Rattle.commit.specs.Views.{View, Shows, changes_in, is_live_slot, view_at}
 use Rattle.commit.specs.declared.slot.Slot.{Slot}
 use Rattle.commit.proofs.Claims.{covered_same, covered_with, covers_one, gives_back}
-use Rattle.commit.proofs.Slots.{at_is, shows, same_views, live_push}
+use Rattle.commit.proofs.Showing.{at_is, shows, same_views, live_push}
 
 -- what a slot's transaction claims is there
 pub slot_covered : (slots : List Slot) (s : Committed) (q : ℕ) (v : View) → AreCovered (views slots) s → v ≡ slot_at slots q → Covers s (changes_in v)

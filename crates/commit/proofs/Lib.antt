@@ -1,3 +1,4 @@
 mod Claims
-mod Slots
+mod Showing
 mod Keeping
+mod Counting

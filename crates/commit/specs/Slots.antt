@@ -1,6 +1,6 @@
 -- What the slots of the processes show.
-use Rattle.std.specs.Prelude.{◌≡◌, ◌≢◌, ℕ, suc, ◌<◌, List, get_or, length, map}
-use Rattle.commit.specs.Views.{View, gone_slot, idle_slot, live_slot, doomed_slot}
+use Rattle.std.specs.Prelude.{◌≡◌, ◌≢◌, ℕ, suc, ◌<◌, List, get_or, length, map, if◌then◌else◌}
+use Rattle.commit.specs.Views.{View, gone_slot, idle_slot, live_slot, doomed_slot, is_within}
 use Rattle.commit.specs.declared.slot.Slot.{Slot}
 use Rattle.commit.specs.declared.slot.Slot.TheVariants.{Gone, Idle, Live, Doomed}
 
@@ -27,3 +27,7 @@ pub record Sets (old new : List Slot) (pid : ℕ) (v : View) : Type 0 where
 pub record AreFirstSlots (slots : List Slot) (count : ℕ) : Type 0 where
   pub none : slot_at slots 0 ≡ gone_slot
   pub made : (q : ℕ) → q < count → slot_at slots (suc q) ≡ idle_slot
+
+-- how many transactions a view is of: one or none
+abbrev pub weight : View → ℕ
+weight v = if is_within v then 1 else 0

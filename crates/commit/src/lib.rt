@@ -7,6 +7,7 @@
 #![tactic(auto)]
 
 mod slot;
+mod slots;
 mod transactions;
 
 pub use slot::Standing;

@@ -18,7 +18,6 @@ use heap::Heap;
 use ids::{Age, BeginFlags, Cause, Edit, Nums, Pid};
 use shadow::{Shadow, Stable};
 use std::alloc::AllocError;
-use std::mem::replace;
 
 /// What a process is, in short.
 #[derive(Clone, Copy)]
@@ -110,23 +109,6 @@ pub fn first_slots(heap: Heap, count: usize) -> Result<Vec<Slot, Heap>, AllocErr
     Ok(slots)
 }
 
-/// Takes a slot, which is idle then.
-pub fn take_slot(slots: &mut Vec<Slot, Heap>, pid: Pid) -> Slot
-    requires { pid < length slots.old.items }
-    ensures taken { slot_view result ≡ slot_at slots.old.items pid }
-    ensures left { Sets slots.old.items slots.new.items pid idle_slot }
-{
-    replace(&mut slots[pid.0 as usize], Slot::Idle)
-}
-
-/// Puts a process's slot in the place of the one before, which is forgotten.
-pub fn set_slot(slots: &mut Vec<Slot, Heap>, pid: Pid, slot: Slot)
-    requires { pid < length slots.old.items }
-    ensures { Sets slots.old.items slots.new.items pid (slot_view slot) }
-{
-    slots[pid.0 as usize] = slot;
-}
-
 /// Forgets what a slot's transaction has changed, and gives back what was kept for it. It takes no
 /// memory.
 pub fn drop_slot(slot: Slot, stable: &mut Stable)
@@ -206,36 +188,5 @@ pub fn shadow_of(slots: &[Slot], pid: Pid) -> Option<&Shadow>
         Some(Slot::Idle) => None,
         Some(Slot::Doomed(_)) => None,
         None => None,
-    }
-}
-
-/// Adds a change to what a live process has changed, with new numbers, which are answered. Refused
-/// memory changes nothing.
-pub fn edit_slot(
-    slots: &mut Vec<Slot, Heap>,
-    stable: &mut Stable,
-    pid: Pid,
-    edits: Vec<Edit, Heap>,
-) -> Result<Nums, AllocError>
-    requires made { pid < length slots.old.items }
-    requires live { is_live_slot (slot_at slots.old.items pid) ≡ true }
-    requires kinds { CanEdit edits.items }
-    requires parents { HaveParents stable.old.reserves edits.items }
-    requires covers { Covers stable.old (changes_in (slot_at slots.old.items pid)) }
-    ensures ok { IfOk result (λ chosen. Sets slots.old.items slots.new.items pid
-        (with_change (effect chosen edits.entry.items) (slot_at slots.old.items pid))) }
-    ensures new { IfOk result (AreUnused stable.old edits.entry.items) }
-    ensures kept { IfOk result (λ chosen. KeepsMore stable.old stable.new
-        (λ c. claimed_by c (effect chosen edits.entry.items))) }
-    ensures state { stable.new.state ≡ stable.old.state }
-    ensures err { OnErr result (Sets slots.old.items slots.new.items pid
-        (slot_at slots.old.items pid)) }
-    ensures same { OnErr result (KeepsSame stable.old stable.new) }
-{
-    match &mut slots[pid.0 as usize] {
-        Slot::Live(transaction) => transaction.shadow.edit(stable, edits),
-        Slot::Gone => unreachable!(),
-        Slot::Idle => unreachable!(),
-        Slot::Doomed(_) => unreachable!(),
     }
 }

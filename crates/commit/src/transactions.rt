@@ -19,9 +19,9 @@ ghost use Rattle.commit.specs.Views.{AreFirst, SameViews, Shows, causes_of, chan
 ghost use Rattle.commit.specs.Views.{is_live_slot, is_within, live_slot, view_at};
 
 use crate::slot::{
-    Slot, Standing, Transaction, causes_in, doom_slot, drop_slot, edit_slot, first_slots, set_slot,
-    shadow_in, shadow_of, take_slot,
+    Slot, Standing, Transaction, causes_in, doom_slot, drop_slot, shadow_in, shadow_of,
 };
+use crate::slots::{Slots, edit_slot, set_slot, take_slot};
 use contention::Doomed;
 use heap::Heap;
 use ids::{Age, BeginFlags, Cause, Edit, Nums, Pid, Priority};
@@ -34,7 +34,7 @@ use std::marker::Model;
 #[derive(Drop)]
 pub struct Transactions {
     heap: Heap,
-    slots: Vec<Slot, Heap>,
+    slots: Slots,
     stable: Stable,
 }
 
@@ -46,11 +46,11 @@ impl Model for Transactions {
     ghost Value = { Shown };
 
     ghost view = { λ t. record {
-      slots = views t.slots.items;
+      slots = views t.slots;
       stable = t.stable;
     } };
 
-    ghost invariant = { λ t. AreCovered (views t.slots.items) t.stable };
+    ghost invariant = { λ t. AreCovered (views t.slots) t.stable };
 }
 
 impl Transactions {
@@ -62,7 +62,7 @@ impl Transactions {
         ensures first { IfOk result (λ t. AreFirst t.slots (length priorities.now)) }
         ensures state { IfOk result (λ t. t.stable.state ≡ start 0 priorities.now) }
     {
-        let slots = first_slots(heap, priorities.len())?;
+        let slots = Slots::first(heap, priorities.len())?;
         let stable = Stable::new(heap, priorities)?;
         Ok(Transactions {
             heap,
@@ -83,7 +83,7 @@ impl Transactions {
         ensures value { IfSome result (λ s. s.now ≡ changes_in (view_at self.now.slots pid)) }
         ensures live { is_some result ≡ is_live_slot (view_at self.now.slots pid) }
     {
-        shadow_of(&self.slots, pid)
+        shadow_of(self.slots.as_slice(), pid)
     }
 
     /// What a process sees: what is committed, with what its live transaction has changed on top.
@@ -94,7 +94,7 @@ impl Transactions {
           state = all_done (changes_in (view_at self.now.slots pid)) self.now.stable.state;
         } }
     {
-        View::new(&self.stable, shadow_of(&self.slots, pid))
+        View::new(&self.stable, shadow_of(self.slots.as_slice(), pid))
     }
 
     /// Each directory that a process sees can have room promised.
@@ -104,7 +104,7 @@ impl Transactions {
           state = all_done (changes_in (view_at self.now.slots pid)) self.now.stable.state;
         }) }
     {
-        match shadow_of(&self.slots, pid) {
+        match shadow_of(self.slots.as_slice(), pid) {
             None => self.stable.directories_are_kept(),
             Some(shadow) => shadow.directories_are_kept(&self.stable),
         }
@@ -114,7 +114,7 @@ impl Transactions {
     pub fn standing(&self, pid: Pid) -> Standing
         ensures { IsStandingOf result (view_at self.now.slots pid) }
     {
-        match self.slots.get(pid.0 as usize) {
+        match self.slots.as_slice().get(pid.0 as usize) {
             None => Standing::Gone,
             Some(slot) => slot.standing(),
         }
@@ -124,7 +124,7 @@ impl Transactions {
     pub fn count(&self) -> usize
         ensures { result ≡ count_by is_within self.now.slots }
     {
-        self.slots.iter().filter(|slot| slot.is_within()).count()
+        self.slots.count()
     }
 
     /// A process's transaction begins, or begins anew: it has no changes. What was kept for those
@@ -246,10 +246,14 @@ impl Transactions {
         ensures views { OnErr result (self.new.slots ≡ self.old.slots) }
         ensures err { OnErr result (self.new.stable.state ≡ self.old.stable.state) }
     {
-        self.slots.reserve(1)?;
-        let child = self.stable.fork(parent)?;
-        let _ = self.slots.push(Slot::Idle);
-        Ok(child)
+        self.slots.push_idle()?;
+        match self.stable.fork(parent) {
+            Ok(child) => Ok(child),
+            Err(AllocError) => {
+                self.slots.pop_idle();
+                Err(AllocError)
+            }
+        }
     }
 
     /// A process in no transaction ends, at once, with its descriptors, and what nothing leads to

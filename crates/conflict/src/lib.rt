@@ -1,14 +1,13 @@
-//! When the touches of two processes clash, and which touch is reported to a doomed process.
+//! The clashes of a call's touches with what other processes have touched.
 //!
 //! Two touches of different processes clash where both are on one aspect and one of them is a
-//! write, or where one reads the names of a directory and the other writes an entry of it. Only
-//! [`reported_touch`] takes memory, for its copy of a name.
+//! write, or where one reads the names of a directory and the other writes an entry of it.
 #![tactic(auto)]
 
-mod clash;
-mod reported;
+mod find;
+mod found;
+mod touches;
 
-pub use clash::{
-    any_clash_between, clashes_with_any, do_clash, first_clash, is_same_aspect, keep_writes,
-};
-pub use reported::reported_touch;
+pub use find::clashes;
+pub use found::Clash;
+pub use touches::keep_writes;

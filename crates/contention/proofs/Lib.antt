@@ -1,2 +1,11 @@
-pub mod Found
+pub mod Alike
+pub mod Distinct
+pub mod Modes
+pub mod Firsts
+pub mod Laws
+pub mod Least
+pub mod Told
+pub mod Lost
+pub mod Reached
+pub mod Standing
 pub mod Turned

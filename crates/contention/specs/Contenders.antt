@@ -3,8 +3,12 @@ use Rattle.std.specs.Prelude.{◌≡◌, ◌≢◌, ℕ, List, [], Option, Some,
 use Rattle.model.specs.Steps.{Touch}
 use Rattle.model.specs.Moments.{Status, gone, idle, live, doomed}
 use Rattle.model.specs.Moments.{Moment, bound, priority_of, held_by}
+use Rattle.model.specs.Modes.{ListMode}
+use Rattle.records.specs.Touches.{distinct}
+use Rattle.list_modes.specs.Holding.{mode_among}
+use Rattle.marked_records.specs.Marks.{marks_at}
 
--- a process: its priority; of a live transaction its age and all that it touched
+-- a process: its priority; of a live transaction its age and all that it touched, each touch once
 pub record Contender : Type 0 where
   pub priority : ℕ
   pub age : Option ℕ
@@ -25,8 +29,11 @@ live_age (doomed cause flags age) = None
 
 -- a process after a history
 abbrev pub contender_of : Moment → ℕ → Contender
-contender_of m q =
-    record { priority = priority_of m q; age = live_age (m.phase q); touches = held_by m q }
+contender_of m q = record {
+  priority = priority_of m q;
+  age = live_age (m.phase q);
+  touches = distinct (held_by m q);
+}
 
 -- all are kept as they stand after a history
 pub record AreContendersOf (m : Moment) (all : List Contender) : Type 0 where
@@ -38,3 +45,8 @@ pub record SetsContender (old new : List Contender) (pid : ℕ) (contender : Con
   pub count : length new ≡ length old
   pub own : contender_at new pid ≡ contender
   pub others : (q : ℕ) → q ≢ pid → contender_at new q ≡ contender_at old q
+
+-- the list mode of a directory, by what each has touched
+abbrev pub mode_by_contenders : List Contender → ℕ → ListMode
+mode_by_contenders all d = mode_among (λ q. (marks_at d (contender_at all q).touches).names_read)
+    (λ q. (marks_at d (contender_at all q).touches).entry_written) (length all)

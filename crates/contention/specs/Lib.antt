@@ -1,3 +1,5 @@
 pub mod Contenders
+pub mod Losses
 pub mod Policy
+pub mod Ranks
 pub mod Verdicts

@@ -1,5 +1,5 @@
 -- Who loses and who is doomed, in the words of what the contention manager keeps of each process.
-use Rattle.std.specs.Prelude.{◌≡◌, ℕ, ◌≤◌, ◌^◌, Bool, false, not, ◌&&◌, ◌||◌, ◌==◌, nat_lt}
+use Rattle.std.specs.Prelude.{◌≡◌, ℕ, Bool, false, not, ◌&&◌, ◌||◌, ◌==◌, nat_lt}
 use Rattle.std.specs.Prelude.{List, [], ◌∷◌, Option, Some, None, map, length}
 use Rattle.model.specs.Entries.{Cause}
 use Rattle.model.specs.Steps.{Touch}
@@ -9,11 +9,6 @@ use Rattle.contention.specs.Contenders.{Contender, contender_at}
 use Rattle.contention.specs.declared.Verdict.{Verdict}
 use Rattle.contention.specs.declared.Verdict.TheVariants.{Lose, Go}
 use Rattle.contention.specs.declared.Doomed.{Doomed}
-
--- a process whose number is above all that a `Pid` can have never began a transaction, and so
--- touches nothing
-pub record IsNumbered (all : List Contender) : Type 0 where
-  pub beyond : (q : ℕ) → 2 ^ 32 ≤ q → (contender_at all q).touches ≡ []
 
 -- whether both are live and the second began first
 abbrev pub began_later : Option ℕ → Option ℕ → Bool

@@ -2,20 +2,25 @@
 //! section 4).
 #![tactic(auto)]
 
-ghost use Rattle.std.specs.Prelude.{◌≡◌, ℕ, suc, ◌<◌, ◌-◌, ◌++◌, ◌∷◌, [], length, take, get_or, Some, None};
-ghost use Rattle.std.specs.Prelude.{IfOk, OnErr, OnOk};
+ghost use Rattle.std.specs.Prelude.{◌≡◌, ℕ, suc, ◌<◌, ◌-◌, ◌++◌, ◌∷◌, [], length, take, set};
+ghost use Rattle.std.specs.Prelude.{get_or, Some, None, IfOk, OnErr, OnOk};
 ghost use Rattle.contention.specs.Contenders.{nobody, contender_at, AreContendersOf, SetsContender};
 ghost use Rattle.contention.specs.Policy.{IsVerdictAmong};
+ghost use Rattle.contention.specs.Ranks.{idle_rank, rank_at};
 ghost use Rattle.contention.specs.Verdicts.{IsVerdict};
+ghost use Rattle.contention.specs.Contenders.{mode_by_contenders};
+ghost use Rattle.model.specs.Modes.{mode_of};
 ghost use Rattle.model.specs.Moments.{Moment};
+ghost use Rattle.records.specs.Touches.{touched_by, with_touches};
 
-mod contender;
-mod policy;
+pub mod judge;
+mod rank;
 
-use contender::Contender;
 use heap::Heap;
-use ids::{Age, Cause, Pid, Priority, Touch};
-use policy::verdict_for;
+use ids::{Age, Cause, ListMode, Num, Pid, Priority, Rank, Touch};
+use marked_records::MarkedRecords;
+pub use rank::{Ranks, yields_to};
+use records::Records;
 use std::alloc::AllocError;
 use std::marker::Model;
 
@@ -42,19 +47,60 @@ pub enum Verdict {
 /// The priority of each process, and the age and the touches of each live transaction.
 #[derive(Drop)]
 pub struct Contenders {
-    all: Vec<Contender, Heap>,
+    ranks: Ranks,
+    records: MarkedRecords,
 }
 
 impl Model for Contenders {
-    ghost use Rattle.std.specs.Prelude.{List};
+    ghost use Rattle.std.specs.Prelude.{◌≡◌, List, length};
     ghost use Rattle.contention.specs.Contenders.{Contender};
-    ghost use Rattle.contention.specs.Policy.{IsNumbered};
+    ghost use Rattle.contention.specs.Ranks.{ranked_list};
 
     ghost Value = { List Contender };
 
-    ghost view = { λ c. c.all.items };
+    ghost view = { λ c. ranked_list c.ranks c.records };
 
-    ghost invariant = { λ c. IsNumbered c.all.items };
+    ghost invariant = { λ c. length c.records ≡ length c.ranks };
+}
+
+/// The rank of a process that is in no transaction.
+fn idle(priority: Priority) -> Rank
+    ensures { result ≡ idle_rank priority }
+{
+    Rank {
+        priority,
+        age: None,
+    }
+}
+
+/// One process more, in no transaction. Refused memory changes nothing.
+fn grow_both(
+    ranks: &mut Ranks,
+    records: &mut MarkedRecords,
+    priority: Priority,
+) -> Result<(), AllocError>
+    ensures ranks { OnOk result (ranks.new ≡ ranks.old ++ idle_rank priority ∷ []) }
+    ensures records { OnOk result (records.new ≡ records.old ++ [] ∷ []) }
+    ensures same_ranks { OnErr result (ranks.new ≡ ranks.old) }
+    ensures same_records { OnErr result (records.new ≡ records.old) }
+{
+    records.enrol()?;
+    match ranks.push(idle(priority)) {
+        Ok(()) => Ok(()),
+        Err(refused) => {
+            records.shrink();
+            Err(refused)
+        }
+    }
+}
+
+/// A process has this age from now on.
+fn set_age(ranks: &mut Ranks, pid: Pid, age: Option<Age>)
+    requires { pid < length ranks.old }
+    ensures { ranks.new ≡ set ranks.old pid (record (rank_at ranks.old pid) { age = age }) }
+{
+    let rank = ranks.get(pid);
+    ranks.set(pid, Rank { age, ..rank });
 }
 
 impl Contenders {
@@ -67,12 +113,21 @@ impl Contenders {
             → contender_at c (suc i)
             ≡ record { priority = get_or priorities.now i 0; age = None; touches = [] }) }
     {
-        let mut all = Vec::new(heap);
-        all.push(Contender::new(heap, Priority::new(0).unwrap()))?;
+        let mut ranks = Ranks::new(heap);
+        let mut records = MarkedRecords::new(heap);
+        grow_both(&mut ranks, &mut records, Priority::new(0).unwrap())?;
         for priority in priorities {
-            all.push(Contender::new(heap, *priority))?;
+            grow_both(&mut ranks, &mut records, *priority)?;
         }
-        Ok(Contenders { all })
+        Ok(Contenders { ranks, records })
+    }
+
+    /// What each process's live transaction has touched.
+    pub fn records(&self) -> &Records
+        ensures count { length result.now ≡ length self.now }
+        ensures each { (q : ℕ) → touched_by result.now q ≡ (contender_at self.now q).touches }
+    {
+        self.records.records()
     }
 
     /// One process more, with this priority and in no transaction: its number is the next. Refused
@@ -82,17 +137,19 @@ impl Contenders {
             ++ record { priority = priority; age = None; touches = [] } ∷ []) }
         ensures err { OnErr result (self.new ≡ self.old) }
     {
-        let heap = *self.all.allocator();
-        self.all.push(Contender::new(heap, priority))?;
+        grow_both(&mut self.ranks, &mut self.records, priority)?;
         Ok(())
     }
 
-    /// The process that came last is gone, as before it came. It takes no memory.
+    /// The process that came last and has touched nothing is gone, as before it came. It takes no
+    /// memory.
     pub fn shrink(&mut self)
-        requires { 0 < length self.old }
+        requires some { 0 < length self.old }
+        requires untouched { (contender_at self.old (length self.old - 1)).touches ≡ [] }
         ensures { self.new ≡ take (length self.old - 1) self.old }
     {
-        let _ = self.all.pop();
+        self.ranks.pop();
+        self.records.shrink();
     }
 
     /// A process has ended: its number is one that no process has. It takes no memory.
@@ -100,7 +157,8 @@ impl Contenders {
         requires { pid < length self.old }
         ensures { SetsContender self.old self.new pid nobody }
     {
-        self.all[pid.0 as usize].leave();
+        self.ranks.set(pid, idle(Priority::new(0).unwrap()));
+        self.records.release(pid);
     }
 
     /// A process's transaction begins at this age.
@@ -109,7 +167,7 @@ impl Contenders {
         ensures { SetsContender self.old self.new pid
             (record (contender_at self.old pid) { age = Some age }) }
     {
-        self.all[pid.0 as usize].begin(age);
+        set_age(&mut self.ranks, pid, Some(age));
     }
 
     /// A process's transaction touches these too. Refused memory changes nothing.
@@ -117,18 +175,19 @@ impl Contenders {
         requires { pid < length self.old }
         ensures ok { let own = contender_at self.old pid in
             OnOk result (SetsContender self.old self.new pid
-            (record own { touches = own.touches ++ touches.entry.items })) }
+            (record own { touches = with_touches own.touches touches.entry.items })) }
         ensures err { OnErr result (self.new ≡ self.old) }
     {
-        self.all[pid.0 as usize].add(touches)
+        self.records.add(pid, touches)?;
+        Ok(())
     }
 
-    /// How many touches a process's transaction has.
+    /// How many touches a process's transaction has, each counted once.
     pub fn count(&self, pid: Pid) -> usize
         requires { pid < length self.now }
         ensures { result ≡ length (contender_at self.now pid).touches }
     {
-        self.all[pid.0 as usize].touches().len()
+        self.records.count(pid)
     }
 
     /// The touches of a process's transaction behind the first so many are forgotten, as before
@@ -139,7 +198,7 @@ impl Contenders {
             SetsContender self.old self.new pid
             (record own { touches = take count own.touches }) }
     {
-        self.all[pid.0 as usize].keep_first(count);
+        self.records.keep_first(pid, count);
     }
 
     /// A process's transaction ends: its age and touches are forgotten. It takes no memory.
@@ -148,7 +207,8 @@ impl Contenders {
         ensures { SetsContender self.old self.new pid
             (record (contender_at self.old pid) { age = None; touches = [] }) }
     {
-        self.all[pid.0 as usize].release();
+        set_age(&mut self.ranks, pid, None);
+        self.records.release(pid);
     }
 
     /// What a call of a process comes to that touches these: of a live process all that it touches,
@@ -162,6 +222,17 @@ impl Contenders {
         ensures verdict { (m : Moment) → AreContendersOf m self.now
             → IfOk result (IsVerdict m pid touches.now) }
     {
-        verdict_for(heap, self.all.as_slice(), pid, touches)
+        let found = self.records.clashes(heap, pid, touches)?;
+        let rank = self.ranks.get(pid);
+        judge::verdict(heap, pid, rank, found.as_slice(), &self.ranks)
+    }
+
+    /// The list mode of a directory, by what each process has touched; where the table is as a
+    /// history has it, this is the mode of the definitions. It takes no memory.
+    pub fn mode(&self, dir: Num) -> ListMode
+        ensures exact { result ≡ mode_by_contenders self.now dir }
+        ensures mode { (m : Moment) → AreContendersOf m self.now → result ≡ mode_of m dir }
+    {
+        self.records.mode(dir)
     }
 }

@@ -58,7 +58,13 @@ use Rattle.ids.specs.contracts.reply.Reply as Reply
 use Rattle.ids.specs.contracts.entry.Entry as Entry
 use Rattle.commit.specs.contracts.slot.Doom as Doom
 use Rattle.commit.specs.contracts.slot.Slot as Slot
-use Rattle.contention.specs.contracts.contender.Contender as Contender
+use Rattle.records.specs.contracts.journal.Journal as Journal
+use Rattle.records.specs.contracts.users.Users as Users
+use Rattle.ids.specs.contracts.aspect.Aspect as Aspect
+use Rattle.records.specs.contracts.records.Records as Records
+use Rattle.list_modes.specs.contracts.Holders as Holders
+use Rattle.marked_records.specs.contracts.MarkedRecords as MarkedRecords
+use Rattle.contention.specs.contracts.rank.Ranks as Ranks
 use Rattle.contention.specs.contracts.Contenders as Contenders
 use Rattle.history.specs.contracts.History as History
 use Rattle.heap.specs.contracts.Metered as Metered
@@ -157,11 +163,29 @@ slot_sent = search (shadow_sent, doom_sent, sendable, crosses, over.crosses, fre
 transactions_sent : IsSend Transactions.the_row
 transactions_sent = search (stable_sent, slot_sent, sendable, crosses, over.crosses, frees_by, frees.frees) depth 40 fits 30000
 
-contender_sent : IsSend Contender.the_row
-contender_sent = search (touch_sent, sendable, crosses, over.crosses, frees_by, frees.frees) depth 40 fits 30000
+journal_sent : IsSend Journal.the_row
+journal_sent = search (touch_sent, sendable, crosses, over.crosses, frees_by, frees.frees) depth 40 fits 30000
+
+aspect_sent : IsSend (Aspect.the_field).row
+aspect_sent = search (sendable, crosses, over.crosses, frees_by, frees.frees) depth 40 fits 30000
+
+users_sent : IsSend Users.the_row
+users_sent = search (sendable, crosses, over.crosses, frees_by, frees.frees) depth 40 fits 30000
+
+records_sent : IsSend Records.the_row
+records_sent = search (journal_sent, aspect_sent, users_sent, sendable, crosses, over.crosses, maps.crosses, frees_by, frees.frees) depth 40 fits 30000
+
+holders_sent : IsSend Holders.the_row
+holders_sent = search (sendable, crosses, over.crosses, maps.crosses, frees_by, frees.frees) depth 40 fits 30000
+
+marked_records_sent : IsSend MarkedRecords.the_row
+marked_records_sent = search (records_sent, holders_sent, sendable, crosses, over.crosses, frees_by, frees.frees) depth 40 fits 30000
+
+ranks_sent : IsSend Ranks.the_row
+ranks_sent = search (sendable, crosses, over.crosses, frees_by, frees.frees) depth 40 fits 30000
 
 contenders_sent : IsSend Contenders.the_row
-contenders_sent = search (contender_sent, sendable, crosses, over.crosses, frees_by, frees.frees) depth 40 fits 30000
+contenders_sent = search (ranks_sent, marked_records_sent, sendable, crosses, over.crosses, frees_by, frees.frees) depth 40 fits 30000
 
 call_sent : IsSend (Call.the_field).row
 call_sent = search (sendable, crosses, over.crosses, frees_by, frees.frees) depth 40 fits 30000

@@ -5,7 +5,7 @@ use crate::halting::halting;
 use device::{Failing, Portions};
 use heap::Heap;
 use kernel::Kernel;
-use runner::{RunFault, print, run_job, run_schedule};
+use runner::{RunFault, print, report_fault, run_job, run_schedule};
 use std::alloc::AllocError;
 use std::test::Fail;
 use words::{Job, MAX_LIMIT, Way};
@@ -21,35 +21,36 @@ struct Expected {
     err: &'static str,
 }
 
-fn job_of(heap: Heap, expected: &Expected) -> Result<Job, AllocError>
+fn job_of(heap: Heap, expected: &Expected, check: bool) -> Result<Job, AllocError>
     ensures { IfOk result (λ job. job.limit ≤ MAX_LIMIT) }
 {
     Ok(Job {
         way: Way::Schedule(String::from_str(heap, expected.list)?),
         limit: expected.limit.min(100),
+        check,
         file: String::new(heap),
     })
 }
 
-// Whether a job on a script ends as expected.
-fn is_as_expected(heap: Heap, job: &Job, text: &str, expected: &Expected) -> bool
+// Whether a job on a script ends as expected. The sinks have their memory from `sinks`.
+fn is_as_expected(heap: Heap, sinks: Heap, job: &Job, text: &str, expected: &Expected) -> bool
     requires { job.now.limit ≤ MAX_LIMIT }
 {
     let mut source = Portions {
         bytes: text.as_bytes(),
         most: 7,
     };
-    let mut out = halting(heap, expected.room);
-    let mut err = halting(heap, 1000);
+    let mut out = halting(sinks, expected.room);
+    let mut err = halting(sinks, 1000);
     let status = run_job(heap, job, &mut source, &mut out, &mut err);
     status == expected.status
         && out.bytes.as_slice() == expected.out.as_bytes()
         && err.bytes.as_slice() == expected.err.as_bytes()
 }
 
-fn is_run(heap: Heap, text: &str, expected: &Expected) -> bool {
-    match job_of(heap, expected) {
-        Ok(job) => is_as_expected(heap, &job, text, expected),
+fn is_run(heap: Heap, text: &str, expected: &Expected, check: bool) -> bool {
+    match job_of(heap, expected, check) {
+        Ok(job) => is_as_expected(heap, heap, &job, text, expected),
         Err(_) => false,
     }
 }
@@ -229,8 +230,150 @@ static RUNS: [(&str, Expected); 14] = [
 fn jobs_have_their_texts_and_statuses(rt: HostRuntime) -> Result<(), Fail> {
     let heap = heap::open(rt.alloc())?;
     for (text, expected) in &RUNS {
-        assert!(rt; is_run(heap, text, expected), "{text}");
+        assert!(rt; is_run(heap, text, expected, false), "{text}");
     }
+    Ok(())
+}
+
+// The first run, checked.
+static CHECKED: Expected = Expected {
+    list: "1,1,2,1,2",
+    limit: 100,
+    room: 1000,
+    status: 0,
+    out: "1 P1 begin -> begun\n2 P1 mkdir /a -> ok\n3 P2 stat /a -> ENOENT\n4 P1 end -> committed\n\
+        5 P2 stat /a -> dir size 0 links 1\ncheck: ok\n",
+    err: "",
+};
+
+// The same where the check is refused memory.
+static REFUSED: Expected = Expected {
+    list: "1,1,2,1,2",
+    limit: 100,
+    room: 1000,
+    status: 3,
+    out: "1 P1 begin -> begun\n2 P1 mkdir /a -> ok\n3 P2 stat /a -> ENOENT\n4 P1 end -> committed\n\
+        5 P2 stat /a -> dir size 0 links 1\n",
+    err: "txsh: no memory\n",
+};
+
+// Jobs that are checked.
+static CHECKS: [(&str, Expected); 5] = [
+    (
+        "priorities 0\n",
+        Expected {
+            list: "",
+            limit: 100,
+            room: 1000,
+            status: 0,
+            out: "check: ok\n",
+            err: "",
+        },
+    ),
+    (
+        "priorities 0 0\n1 begin RESTART\n1 stat /a\n2 mkdir /a\n1 end\n1 stat /a\n1 end\n2 pipe\n\
+            2 fork\n3 write 1 x\n2 read 0 5\n",
+        Expected {
+            list: "1,1,2,1,1,1,2,2,3,2",
+            limit: 100,
+            room: 1000,
+            status: 0,
+            out: "1 P1 begin RESTART -> begun\n2 P1 stat /a -> ENOENT\n\
+                3 P2 mkdir /a -> ok dooms P1\n4 P1 end -> aborted entry a read by P2 restarted\n\
+                5 P1 stat /a -> dir size 0 links 1\n6 P1 end -> committed\n7 P2 pipe -> 0 1\n\
+                8 P2 fork -> child 3\n9 P3 write 1 x -> 1\n10 P2 read 0 5 -> 1 x\ncheck: ok\n",
+            err: "",
+        },
+    ),
+    // A fault of the run stands alone.
+    (
+        "priorities 0\n1 begin\n1 stat /\n",
+        Expected {
+            list: "1,1",
+            limit: 2,
+            room: 1000,
+            status: 3,
+            out: "1 P1 begin -> begun\n",
+            err: "txsh: history full\n",
+        },
+    ),
+    // The sink takes the whole transcript, and nothing behind it.
+    (
+        "priorities 0\n1 end\n",
+        Expected {
+            list: "1",
+            limit: 100,
+            room: 29,
+            status: 5,
+            out: "1 P1 end -> NotInTransaction\n",
+            err: "txsh: write failed\n",
+        },
+    ),
+    (
+        "priorities 0\n1 end\n",
+        Expected {
+            list: "1",
+            limit: 100,
+            room: 35,
+            status: 5,
+            out: "1 P1 end -> NotInTransaction\ncheck:",
+            err: "txsh: write failed\n",
+        },
+    ),
+];
+
+#[test]
+fn checked_jobs_say_so(rt: HostRuntime) -> Result<(), Fail> {
+    let heap = heap::open(rt.alloc())?;
+    assert!(rt; is_run(heap, FIRST_RUN, &CHECKED, true));
+    for (text, expected) in &CHECKS {
+        assert!(rt; is_run(heap, text, expected, true), "{text}");
+    }
+    Ok(())
+}
+
+// How many requests for memory the first run makes, by this job.
+fn requests_of(heap: Heap, sinks: Heap, check: bool) -> Result<u64, Fail> {
+    let job = job_of(sinks, &CHECKED, check)?;
+    heap.refuse(0);
+    let _ = is_as_expected(heap, sinks, &job, FIRST_RUN, &CHECKED);
+    Ok(heap.made())
+}
+
+// Whether the first run, checked, ends as expected where this request for memory is refused.
+fn is_so_refused(heap: Heap, sinks: Heap, number: u64, expected: &Expected) -> Result<bool, Fail> {
+    let job = job_of(sinks, expected, true)?;
+    heap.refuse(number);
+    Ok(is_as_expected(heap, sinks, &job, FIRST_RUN, expected))
+}
+
+// Each request of the check alone comes behind those of the run.
+#[test]
+fn refused_memory_ends_a_check(rt: HostRuntime) -> Result<(), Fail> {
+    let heap = heap::open(rt.alloc())?;
+    let sinks = heap::open(rt.alloc())?;
+    let run = requests_of(heap, sinks, false)?;
+    let all = requests_of(heap, sinks, true)?;
+    assert!(rt; run < all);
+    for number in run..all {
+        let next = number.saturating_add(1);
+        assert!(rt; is_so_refused(heap, sinks, next, &REFUSED)?, "{next}");
+    }
+    let behind = all.saturating_add(1);
+    assert!(rt; is_so_refused(heap, sinks, behind, &CHECKED)?);
+    Ok(())
+}
+
+// No job leaves a history that does not pass.
+#[test]
+fn wrong_entries_have_their_text(rt: HostRuntime) -> Result<(), Fail> {
+    let heap = heap::open(rt.alloc())?;
+    let mut err = halting(heap, 1000);
+    report_fault(heap, &RunFault::Check(4), &mut err);
+    assert_eq!(rt;
+        err.bytes.as_slice(),
+        b"txsh: check: entry 4 is wrong\n".as_slice()
+    );
     Ok(())
 }
 

@@ -21,12 +21,12 @@ fn is_as_expected(alloc: Global, heap: Heap, line: &str, status: u8, expected: &
 
 // Command lines, each with its status and job, or how the text of its fault begins. Before each the
 // request of memory that is refused: one is made for the schedule, and one for the file.
-static LINES: [(u64, &str, u8, &str); 12] = [
+static LINES: [(u64, &str, u8, &str); 13] = [
     (
         0,
         "txsh --schedule 1,1,2,1,2 run.tx",
         0,
-        "Job { way: Schedule(\"1,1,2,1,2\"), limit: 65536, file: \"run.tx\" }",
+        "Job { way: Schedule(\"1,1,2,1,2\"), limit: 65536, check: false, file: \"run.tx\" }",
     ),
     (1, "txsh --schedule 1,1,2,1,2 run.tx", 3, "no memory"),
     (2, "txsh --schedule 1,1,2,1,2 run.tx", 3, "no memory"),
@@ -34,19 +34,19 @@ static LINES: [(u64, &str, u8, &str); 12] = [
         3,
         "txsh --schedule 1,1,2,1,2 run.tx",
         0,
-        "Job { way: Schedule(\"1,1,2,1,2\"), limit: 65536, file: \"run.tx\" }",
+        "Job { way: Schedule(\"1,1,2,1,2\"), limit: 65536, check: false, file: \"run.tx\" }",
     ),
     (
         0,
         "txsh --limit 1048576 --schedule  run.tx",
         0,
-        "Job { way: Schedule(\"\"), limit: 1048576, file: \"run.tx\" }",
+        "Job { way: Schedule(\"\"), limit: 1048576, check: false, file: \"run.tx\" }",
     ),
     (
         0,
         "txsh --schedule=1 --limit=0 run.tx",
         0,
-        "Job { way: Schedule(\"1\"), limit: 0, file: \"run.tx\" }",
+        "Job { way: Schedule(\"1\"), limit: 0, check: false, file: \"run.tx\" }",
     ),
     (
         0,
@@ -63,7 +63,13 @@ static LINES: [(u64, &str, u8, &str); 12] = [
     (0, "txsh --schedule=1 --limit x run.tx", 2, "error: "),
     (0, "txsh --schedule=1", 2, "error: "),
     (0, "txsh --threads run.tx", 2, "error: "),
-    (0, "txsh --schedule=1 --check run.tx", 2, "error: "),
+    (
+        0,
+        "txsh --schedule=1 --check run.tx",
+        0,
+        "Job { way: Schedule(\"1\"), limit: 65536, check: true, file: \"run.tx\" }",
+    ),
+    (0, "txsh --schedule=1 --check=yes run.tx", 2, "error: "),
 ];
 
 #[test]

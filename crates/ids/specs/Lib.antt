@@ -1,2 +1,3 @@
 pub mod Errnos
 pub mod Flags
+pub mod Order

@@ -1,9 +1,18 @@
 // What a call touches, and why an operation is aborted or put off.
-ghost use Rattle.std.specs.Prelude.{◌≡◌, IfOk};
+ghost use Rattle.std.specs.Prelude.{◌≡◌, IfOk, refl};
+ghost use Rattle.std.specs.Cmp;
+ghost use Rattle.std.specs.Cmp.{partial_order_from_agreeing_total};
+ghost use Rattle.std.specs.Cmp.Rules.{comparing};
+ghost use Rattle.std.specs.Cmp.Lexicographic.{slice_cmp};
+ghost use Rattle.std.specs.Ordering.{as_partial_cmp, eq_by_cmp, nat_cmp};
+ghost use Rattle.std.proofs.Common.{rules};
+ghost use Rattle.std.proofs.lemmas.Cmp.{eq_by_cmp_equiv};
+ghost use Rattle.ids.specs.Order.{object_of, kind_of, block_of, name_of};
 
 use crate::bytes::Name;
 use crate::number::{Num, Pid};
 use std::alloc::AllocError;
+use std::cmp::Ordering;
 
 /// What a touch speaks of: a part of the kernel's state that calls see and change.
 #[derive(Debug, Drop)]
@@ -44,6 +53,122 @@ impl Aspect {
             Aspect::Front(pipe) => Ok(Aspect::Front(*pipe)),
             Aspect::Back(pipe) => Ok(Aspect::Back(*pipe)),
         }
+    }
+
+    /// The object's number.
+    pub fn object(&self) -> usize
+        ensures { result ≡ object_of self.now }
+    {
+        match self {
+            Aspect::Entry(directory, _) => directory.0,
+            Aspect::Names(directory) => directory.0,
+            Aspect::Size(file) => file.0,
+            Aspect::Block(file, _) => file.0,
+            Aspect::Links(file) => file.0,
+            Aspect::Ends(pipe) => pipe.0,
+            Aspect::Offset(description) => description.0,
+            Aspect::Front(pipe) => pipe.0,
+            Aspect::Back(pipe) => pipe.0,
+        }
+    }
+
+    /// Which part of the object it is: a number of its own for each.
+    pub fn part(&self) -> u8
+        ensures { result ≡ kind_of self.now }
+    {
+        match self {
+            Aspect::Entry(_, _) => 0,
+            Aspect::Names(_) => 1,
+            Aspect::Size(_) => 2,
+            Aspect::Block(_, _) => 3,
+            Aspect::Links(_) => 4,
+            Aspect::Ends(_) => 5,
+            Aspect::Offset(_) => 6,
+            Aspect::Front(_) => 7,
+            Aspect::Back(_) => 8,
+        }
+    }
+
+    /// The block of a file, 0 for what has none.
+    pub fn block(&self) -> u32
+        ensures { result ≡ block_of self.now }
+    {
+        match self {
+            Aspect::Block(_, block) => *block,
+            _ => 0,
+        }
+    }
+
+    /// The name of an entry, empty for what has none.
+    pub fn name(&self) -> &[u8]
+        ensures { result.now ≡ name_of self.now }
+    {
+        match self {
+            Aspect::Entry(_, name) => name.as_slice(),
+            _ => &[],
+        }
+    }
+}
+
+fn compare_names<'x>(first: &'x [u8], second: &'x [u8]) -> Ordering
+    ensures { result ≡ slice_cmp nat_cmp first.now second.now }
+{
+    first.cmp(&second)
+}
+
+impl PartialEq for Aspect {
+    ghost use Rattle.ids.specs.Order.{aspect_cmp, aspect_cmp_total};
+
+    ghost eq = { eq_by_cmp aspect_cmp };
+
+    ghost laws = { Cmp.partial_equiv_from_equiv (eq_by_cmp_equiv aspect_cmp_total) };
+
+    fn eq(&self, other: &Aspect) -> bool {
+        self.cmp(other).is_eq()
+    }
+}
+
+impl Eq for Aspect {
+    ghost use Rattle.ids.specs.Order.{aspect_cmp, aspect_cmp_total};
+
+    ghost laws = { eq_by_cmp_equiv aspect_cmp_total };
+}
+
+impl PartialOrd for Aspect {
+    ghost use Rattle.ids.specs.Order.{aspect_cmp, aspect_cmp_total};
+
+    ghost partial_cmp = { as_partial_cmp aspect_cmp };
+
+    ghost laws = { partial_order_from_agreeing_total aspect_cmp aspect_cmp_total
+        (λ x y. refl) (λ x y. refl) };
+
+    fn partial_cmp(&self, other: &Aspect) -> Option<Ordering> {
+        Some(self.cmp(other))
+    }
+}
+
+/// By the object, its part, the block, and the name in byte order. Only an aspect and itself are
+/// equal.
+impl Ord for Aspect {
+    ghost use Rattle.ids.specs.Order.{aspect_cmp, aspect_cmp_total};
+
+    ghost cmp = { aspect_cmp };
+
+    ghost total = { aspect_cmp_total };
+
+    ghost matches_partial_cmp = { Prim.search (comparing, rules) };
+
+    ghost matches_eq = { λ x y. refl };
+
+    #[tactic(auto, unfolding(crate::specs::Order::aspect_cmp))]
+    fn cmp(&self, other: &Aspect) -> Ordering {
+        self.object().cmp(&other.object()).then(
+            self.part().cmp(&other.part()).then(
+                self.block()
+                    .cmp(&other.block())
+                    .then(compare_names(self.name(), other.name())),
+            ),
+        )
     }
 }
 

@@ -7,7 +7,7 @@ use Rattle.kernel.proofs.Words.{holds_place, IsApart, Inside, Outcome, Taken, Ri
 use Rattle.kernel.proofs.Words.{executed_again, nowhere_seen, childless, phase_is, plain_calls_run, right_by, views_may_be_loose, what_stands, live_age}
 use Rattle.kernel.proofs.Words.{IsDoomedBy, Doomed, effect, made_by, AreNew, with_change, view_at, changes_in, part_with, state_with, Stands}
 use Rattle.kernel.proofs.Words.{calling, moment, Fields, Dooms, CanEnter, IsIn, Moves, part_at, part_of, shown_by, changes_of, doomed_by, is_no_entry, is_some}
-use Rattle.kernel.proofs.Words.{Edit, FitsAll, is_alive, sum_by, news, filter, Make_directory}
+use Rattle.kernel.proofs.Words.{Edit, FitsAll, is_alive, sum_by, news, filter, distinct, with_touches, with_touches-append, Make_directory}
 use Rattle.kernel.proofs.Words.{Unname_directory, Touch, touches, counted, all_done, CanEdit, Committed, IsPlan, Plans, Live}
 use Rattle.model.specs.Changes.{Make_file, Name_file, Unname_file, Move, Put_bytes, Cut, Open_inode, Set_offset, Share_slot, Clear_slot, Make_pipe, Take, Append, New_process, End_process}
 use Rattle.call_laws.specs.Fits.{Fits}
@@ -352,11 +352,11 @@ module _ (f : Fields) (pid : ℕ) (within : Option (BeginFlags × ℕ)) (call : 
       let goes = (views_may_be_loose 0 f.log.priorities f.log.limit f.log.entries asks.holds.legal pid).goes_on call in
       let ts = counted_touches m pid call in
       let steady = steadily (seen_by m pid) pid call (supported refl) in
-      ap₂ (λ s t. record { slot = with_change change (shown_by s (changes_of m pid)); held = record { priority = priority_of m pid; age = live_age t; touches = held_by m pid ++ ts } })
+      ap₂ (λ s t. record { slot = with_change change (shown_by s (changes_of m pid)); held = record { priority = priority_of m pid; age = live_age t; touches = with_touches (distinct (held_by m pid)) ts } })
       l.1 (phase_is m pid (live w.0 w.1 l.0) l.1 (λ h. absurd cc))
-      ∙ sym (comes_to f.log e asks.holds.legal right pid _ (changes_of m pid ++ change ∷ []) (held_by m pid ++ ts) (not_both (child_in e.reply) pid steady.childless, inl steady.stays) (caller_lives m pid (Some w) l) (goes_in w l).phase
+      ∙ sym (comes_to f.log e asks.holds.legal right pid _ (changes_of m pid ++ change ∷ []) (with_touches (distinct (held_by m pid)) ts) (not_both (child_in e.reply) pid steady.childless, inl steady.stays) (caller_lives m pid (Some w) l) (goes_in w l).phase
       ((goes_in w l).does ∙ ap (λ es. changes_of m pid ++ effect chosen es ∷ []) (sym goes.edits))
-      ((goes_in w l).held ∙ ap (λ us. held_by m pid ++ us) (sym goes.touches ∙ counts m pid call (Some w) l)))
+      (ap distinct ((goes_in w l).held ∙ ap (λ us. held_by m pid ++ us) (sym goes.touches ∙ counts m pid call (Some w) l)) ∙ with_touches-append [] (held_by m pid) ts))
 
   state_is : (w : Option (BeginFlags × ℕ)) → Stands (calling w) (status m pid) → state_with w change f.stable.state ≡ (next m e).committed
   state_is None is = ap (λ k. tidy (all_applied chosen (edits (seen_by m pid) pid call) k)) asks.holds.state

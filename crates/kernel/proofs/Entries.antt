@@ -8,7 +8,7 @@ use Rattle.kernel.proofs.Words.{part_at, shown, with_entry, Part, part_of, shown
 use Rattle.kernel.proofs.Words.{BeginFlags, Cause, Contender, IsDoomedBy, Doomed, Dooms, IsIn, born, child_in, is_ended, Moves, cleared, Option, Some, Op, Do}
 use Rattle.kernel.proofs.Words.{Answers, answer_in, idle, live, status, settled, own_next, run_by, after_list, has_free, Free, RightAt, Alone, needed}
 use Rattle.kernel.proofs.Words.{CanEndTransaction, Stands, calling, plain, settled_as, calls_at, seen_by, tidy, all_done, view, is_live_status, is_live, zero}
-use Rattle.kernel.proofs.Words.{subst₂, count_by, held_by, Process, or_new, is_some, get, unwrap_or, nobody, no_part, idle_slot, with_child, get_or, ◌⊎◌, take, count_below, add-one, nat_le, take-length}
+use Rattle.kernel.proofs.Words.{subst₂, count_by, distinct, held_by, Process, or_new, is_some, get, unwrap_or, nobody, no_part, idle_slot, with_child, get_or, ◌⊎◌, take, count_below, add-one, nat_le, take-length}
 use Rattle.commit.specs.Views.{SameViews, live_slot, doomed_slot, View, view_at, Shows, changes_in, is_live_slot, is_within, gone_slot, Shown as Transactions}
 use Rattle.history_laws.proofs.Laws.{after_one_more, forks_and_exits_move, legal_push, legality_follows, lists_stay, phases_move, places_suffice}
 use Rattle.history_laws.proofs.Laws.{right_entries_have_places, status_alive, what_stands, right_by, free_from, phase_is, alive_is, lists_are_their_effects}
@@ -135,7 +135,7 @@ module _ (log : Log) (e : Entry) (legal : Legal 0 log.priorities log.limit log.e
   pub stays : (q : ℕ) → IsOther e q → (next m e).phase q ≡ m.phase q → part_of (next m e) q ≡ part_of m q
   stays q is phase =
       let list = lists_stay 0 log.priorities log.limit log.entries e legal right q (ap calls_of phase) in
-      parts_alike _ _ _ _ _ _ _ _ _ _ (as_before q is).alive phase list.effects (as_before q is).priority list.held
+      parts_alike _ _ _ _ _ _ _ _ _ _ (as_before q is).alive phase list.effects (as_before q is).priority (ap distinct list.held)
 
   -- a living one, by its new phase
   pub comes_to : (q : ℕ) (s : Status) (ds : List Effect) (ts : List Touch) → IsOther e q → is_alive m.committed q ≡ true → (next m e).phase q ≡ s → changes_of (next m e) q ≡ ds → (contender_of (next m e) q).touches ≡ ts
@@ -146,8 +146,8 @@ module _ (log : Log) (e : Entry) (legal : Legal 0 log.priorities log.limit log.e
   no_effects : (q : ℕ) (s : Status) → (next m e).phase q ≡ s → calls_of s ≡ [] → changes_of (next m e) q ≡ []
   no_effects q s phase none = ap (λ calls. effects q calls (next m e).committed) (ap calls_of phase ∙ none)
 
-  no_touches : (q : ℕ) (s : Status) → (next m e).phase q ≡ s → calls_of s ≡ [] → held_by (next m e) q ≡ []
-  no_touches q s phase none = ap (λ calls. list_touches q calls (next m e).committed) (ap calls_of phase ∙ none)
+  no_touches : (q : ℕ) (s : Status) → (next m e).phase q ≡ s → calls_of s ≡ [] → distinct (held_by (next m e) q) ≡ []
+  no_touches q s phase none = ap (λ calls. distinct (list_touches q calls (next m e).committed)) (ap calls_of phase ∙ none)
 
   -- a living one that has no calls then
   pub empties : (q : ℕ) (s : Status) → IsOther e q → is_alive m.committed q ≡ true → (next m e).phase q ≡ s → calls_of s ≡ []

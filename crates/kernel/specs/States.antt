@@ -12,6 +12,7 @@ use Rattle.model.specs.Moments.{calls_at, counted_touches, seen_by}
 use Rattle.model.specs.Legal.{Legal}
 use Rattle.contention.specs.Contenders.{Contender, contender_at, contender_of, live_age, nobody}
 use Rattle.contention.specs.declared.Doomed.{Doomed}
+use Rattle.records.specs.Touches.{with_touches}
 use Rattle.history_laws.specs.Limits.{most_processes}
 use Rattle.commit.specs.Views.{Shown as Transactions}
 use Rattle.commit.specs.Views.{View, view_at, gone_slot, idle_slot, live_slot, doomed_slot}
@@ -233,12 +234,12 @@ abbrev pub part_after : List Edit → Part → Part
 part_after es p = if first_is ends_process es then no_part else p
 
 -- A change of a process in no transaction is made at once in the committed state; another is kept,
--- with what it touched.
+-- with what it touched, each touch once.
 abbrev pub part_with : Option (BeginFlags × ℕ) → Effect → List Touch → Part → Part
 part_with None d ts p = part_after d.edits p
 part_with (Some within) d ts p = record {
   slot = with_change d p.slot;
-  held = record (p.held) { touches = p.held.touches ++ ts };
+  held = record (p.held) { touches = with_touches p.held.touches ts };
 }
 
 abbrev pub state_with : Option (BeginFlags × ℕ) → Effect → Kernel → Kernel

@@ -1,13 +1,15 @@
 // The kernel, and one step of it.
 ghost use Rattle.ids.specs.declared.limits.TheConstants.{MAX_ENTRIES, MAX_PROCESSES};
-ghost use Rattle.std.specs.Prelude.{◌≡◌, ◌<◌, ◌≤◌, [], length, is_some, IfOk, IfSome, OnErr};
+ghost use Rattle.std.specs.Prelude.{◌≡◌, ℕ, ◌<◌, ◌≤◌, [], length, is_some, IfOk, IfSome, OnErr};
 ghost use Rattle.model.specs.Changes.{tidy};
-ghost use Rattle.model.specs.Moments.{is_alive, seen_by};
+ghost use Rattle.model.specs.Modes.{mode_of};
+ghost use Rattle.model.specs.Moments.{bound, held_by, is_alive, seen_by};
 ghost use Rattle.model.specs.Effects.{all_done};
 ghost use Rattle.freeing_laws.specs.Sweep.{AllFit};
 ghost use Rattle.history_laws.specs.Headline.{IsSerializable};
 ghost use Rattle.history_laws.specs.Limits.{StaysWithinLimits};
 ghost use Rattle.history_laws.specs.Trees.{IsATree};
+ghost use Rattle.records.specs.Touches.{distinct, touched_by};
 ghost use Rattle.kernel.specs.Shown.{Kept, moment, is_live};
 ghost use Rattle.kernel.specs.Steps.{IsStep, Steps};
 
@@ -17,7 +19,8 @@ use commit::Transactions;
 use contention::Contenders;
 use heap::Heap;
 use history::History;
-use ids::{Op, Pid, Priority, Reply};
+use ids::{ListMode, Num, Op, Pid, Priority, Reply};
+use records::Records;
 use shadow::{Shadow, Stable, View};
 use std::alloc::AllocError;
 use std::marker::Model;
@@ -107,6 +110,23 @@ impl Kernel {
             tidy (all_done s.now self.now.state) ≡ seen_by (moment self.now.log) pid) }
     {
         self.state.transactions.shadow(pid)
+    }
+
+    /// What the live transactions have touched: of each process exactly the touches that the history
+    /// says, each once.
+    pub fn records(&self) -> &Records
+        ensures count { length result.now ≡ bound (moment self.now.log) }
+        ensures each { (q : ℕ) → touched_by result.now q
+            ≡ distinct (held_by (moment self.now.log) q) }
+    {
+        self.state.contenders.records()
+    }
+
+    /// The list mode of a directory: how live transactions use it. It takes no memory.
+    pub fn mode(&self, dir: Num) -> ListMode
+        ensures { result ≡ mode_of (moment self.now.log) dir }
+    {
+        self.state.contenders.mode(dir)
     }
 
     /// What a process sees: what is committed, with the changes of its live transaction on top, if

@@ -1,5 +1,6 @@
-//! Tests of the layers below the kernel: each public call once where all goes well, and each
-//! refusal of memory. They stand here so that no layer is proved a second time for its tests.
+//! Tests of the layers below the kernel: what refused memory leaves, what takes none, and little
+//! else. What a call does where it succeeds its contract tells, and the worked rows of the kernel go
+//! through all layers. They stand here so that no layer is proved a second time for its tests.
 #![tactic(auto)]
 
 #[cfg(test)]
@@ -28,6 +29,8 @@ mod of_patch;
 mod of_path;
 #[cfg(test)]
 mod of_pipe_shadow;
+#[cfg(test)]
+mod of_records;
 #[cfg(test)]
 mod of_shadow;
 #[cfg(test)]

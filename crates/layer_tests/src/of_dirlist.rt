@@ -1,4 +1,4 @@
-// Names in byte order, room that stays promised, and refused memory.
+// Room that stays promised, and refused memory.
 ghost use Rattle.std.specs.Prelude.{◌≡◌, ◌+◌, ◌<◌, ◌≤◌};
 
 use crate::names::joined;
@@ -28,41 +28,6 @@ fn assert_names(rt: &impl Abort, heap: Heap, dir: &Dir, want: &[u8]) {
     let names = dir.names(heap).expect(rt, "memory");
     let told = joined(rt, heap, names.as_slice());
     assert_eq!(rt; told.as_slice(), want);
-}
-
-// Five names, added in no order.
-fn five(rt: &impl Abort, heap: Heap) -> Dir {
-    let mut dir = Dir::new(heap);
-    for (bytes, number) in [
-        (b"b".as_slice(), 1),
-        (b"\xff".as_slice(), 2),
-        (b"a".as_slice(), 3),
-        (b"B".as_slice(), 4),
-        (b"ab".as_slice(), 5),
-    ] {
-        put(&mut dir, name(rt, heap, bytes), Num(number)).expect(rt, "memory");
-    }
-    dir
-}
-
-#[test]
-fn names_stand_in_byte_order(rt: HostRuntime) {
-    let heap = heap::open(rt.alloc()).expect(&rt, "memory");
-    let dir = five(&rt, heap);
-    assert_names(&rt, heap, &dir, b"B a ab b \xff ");
-    let ab = name(&rt, heap, b"ab");
-    let c = name(&rt, heap, b"c");
-    assert_eq!(rt; [dir.lookup(&ab), dir.lookup(&c)], [Some(Num(5)), None]);
-}
-
-#[test]
-fn a_name_is_taken_away_once(rt: HostRuntime) {
-    let heap = heap::open(rt.alloc()).expect(&rt, "memory");
-    let mut dir = five(&rt, heap);
-    let gone = name(&rt, heap, b"a");
-    let removed = [dir.remove(&gone), dir.remove(&gone)];
-    assert_eq!(rt; (removed, dir.len()), ([Some(Num(3)), None], 4));
-    assert_names(&rt, heap, &dir, b"B ab b \xff ");
 }
 
 #[test]

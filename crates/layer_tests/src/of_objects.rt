@@ -1,42 +1,12 @@
 // Each call once with ample memory and once refused, against bytes written out by hand.
 ghost use Rattle.std.specs.Prelude.{◌≡◌, []};
 
-use crate::pipes::assert_taken;
 use crate::refused::is_refused;
-use heap::Heap;
-use ids::Num;
-use objects::{Description, FileData, LARGEST_FILE, PipeData};
+use objects::{FileData, PipeData};
 use std::process::Abort;
 
 fn assert_holds(rt: &impl Abort, file: &FileData, want: &[u8]) {
     assert_eq!(rt; file.as_slice(), want);
-}
-
-#[test]
-fn a_file_is_a_list_of_bytes(rt: HostRuntime) {
-    let heap = heap::open(rt.alloc()).expect(&rt, "memory");
-    let mut file = FileData::new(heap);
-    assert!(rt; file.is_empty());
-    file.write_at(0, b"abc").expect(&rt, "memory");
-    file.write_at(5, b"xy").expect(&rt, "memory");
-    assert_holds(&rt, &file, b"abc\0\0xy");
-    file.write_at(1, b"B").expect(&rt, "memory");
-    file.cut(3).expect(&rt, "memory");
-    file.cut(5).expect(&rt, "memory");
-    assert_holds(&rt, &file, b"aBc\0\0");
-}
-
-#[test]
-fn a_file_is_read_in_parts(rt: HostRuntime) {
-    let heap = heap::open(rt.alloc()).expect(&rt, "memory");
-    let mut file = FileData::new(heap);
-    file.write_at(0, b"aBc\0\0").expect(&rt, "memory");
-    for (place, count, want) in [(1, 3, "Bc\0"), (3, 9, "\0\0"), (9, 1, "")] {
-        let read = file.read_at(heap, place, count).expect(&rt, "memory");
-        assert_eq!(rt; read.as_slice(), want.as_bytes());
-    }
-    file.write_at(LARGEST_FILE - 1, b"z").expect(&rt, "memory");
-    assert_eq!(rt; file.len(), 1_048_576);
 }
 
 #[test]
@@ -90,23 +60,6 @@ fn a_pipe_takes_its_memory_at_the_start(rt: HostRuntime) {
     assert_eq!(rt; (heap.made(), pipe.room()), (0, 4084));
 }
 
-// Reads as many bytes as are wanted, behind so many.
-fn assert_read(rt: &impl Abort, heap: Heap, pipe: &PipeData, skipped: usize, want: &[u8]) {
-    let read = pipe.read(heap, skipped, want.len()).expect(rt, "memory");
-    assert_eq!(rt; read.as_slice(), want);
-}
-
-#[test]
-fn a_pipe_is_a_list_of_bytes(rt: HostRuntime) {
-    let heap = heap::open(rt.alloc()).expect(&rt, "memory");
-    let mut pipe = PipeData::new(heap).expect(&rt, "memory");
-    put_around(&mut pipe);
-    assert_read(&rt, heap, &pipe, 3, b"bcdefgh");
-    assert_taken(&rt, heap, &mut pipe, 3, b"\x01\x01a");
-    assert_taken(&rt, heap, &mut pipe, 20, b"bcdefghij");
-    assert!(rt; pipe.is_empty());
-}
-
 #[test]
 fn a_refused_pipe_stays(rt: HostRuntime) {
     let heap = heap::open(rt.alloc()).expect(&rt, "memory");
@@ -117,17 +70,4 @@ fn a_refused_pipe_stays(rt: HostRuntime) {
     heap.refuse(1);
     let taken = is_refused(pipe.take(heap, 3));
     assert_eq!(rt; (read, taken, pipe.len()), (true, true, 12));
-}
-
-#[test]
-fn a_description_is_copied(rt: HostRuntime) {
-    let one = Description {
-        inode: Num(3),
-        reading: true,
-        writing: false,
-        appending: false,
-        offset: 7,
-    };
-    let other = one;
-    assert_eq!(rt; one, other);
 }

@@ -12,7 +12,7 @@ use Rattle.kernel.specs.Shown.{Shown, Kept}
 use Rattle.transcript.specs.Line.{line_of, lines_from, transcript}
 use Rattle.runner.specs.Steps.{operations, HasDone, Took, Refused, StopsBefore, StopsWriting, Stops}
 use Rattle.runner.specs.declared.fault.RunFault.{RunFault}
-use Rattle.runner.specs.declared.fault.RunFault.TheVariants.{Script, Schedule, Read, Write, HistoryFull, NoMemory}
+use Rattle.runner.specs.declared.fault.RunFault.TheVariants.{Script, Schedule, Read, Write, HistoryFull, NoMemory, Check}
 
 lines_from-append : (first place : ℕ) (xs ys : List Entry) → place ≡ first + length xs → lines_from first (xs ++ ys) ≡ lines_from first xs ++ lines_from place ys
 lines_from-append first place [] ys e = ap (λ (k : ℕ). lines_from k ys) (let same : first ≡ place = omega arith in same)
@@ -58,6 +58,7 @@ stops NoMemory log pid op priorities limit steps old new r h = h NoMemory r
 stops Read log pid op priorities limit steps old new r h = h Read r
 stops (Script f) log pid op priorities limit steps old new r h = h (Script f) r
 stops (Schedule f) log pid op priorities limit steps old new r h = h (Schedule f) r
+stops (Check place) log pid op priorities limit steps old new r h = h (Check place) r
 
 -- where the next step is refused
 stops_before : (r : Result (Unit {0}) RunFault) (priorities : List ℕ) (limit : ℕ) (steps done : List (ℕ × Op)) (old new : Option (List ℕ)) (kernel : Shown) (pid : ℕ) (op : Op)

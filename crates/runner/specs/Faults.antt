@@ -3,6 +3,10 @@ use Rattle.std.specs.Prelude.{ℕ}
 use Rattle.runner.specs.declared.fault.RunFault.{RunFault}
 use Rattle.runner.specs.declared.fault.RunFault.TheVariants.{Script, Schedule, Read}
 use Rattle.runner.specs.declared.fault.RunFault.TheVariants.{Write, HistoryFull, NoMemory}
+use Rattle.runner.specs.declared.fault.RunFault.TheVariants.{Check}
+use Rattle.replay.specs.declared.checking.CheckFault.{CheckFault}
+use Rattle.replay.specs.declared.checking.CheckFault.TheVariants.{Wrong}
+use Rattle.replay.specs.declared.checking.CheckFault.TheVariants.{NoMemory as NoCheckMemory}
 use Rattle.script.specs.declared.faults.ScriptFault.{ScriptFault}
 use Rattle.script.specs.declared.faults.ScriptFault.TheVariants.{NoMemory as NoScriptMemory}
 use Rattle.script.specs.declared.faults.ScheduleFault.{ScheduleFault}
@@ -16,6 +20,10 @@ abbrev pub fault_of_schedule : ScheduleFault → RunFault
 fault_of_schedule NoScheduleMemory = NoMemory
 fault_of_schedule fault = Schedule fault
 
+abbrev pub fault_of_check : CheckFault → RunFault
+fault_of_check NoCheckMemory = NoMemory
+fault_of_check (Wrong place) = Check place
+
 abbrev pub status_of : RunFault → ℕ
 status_of (Script fault) = 1
 status_of (Schedule fault) = 1
@@ -23,3 +31,4 @@ status_of Read = 1
 status_of Write = 5
 status_of HistoryFull = 3
 status_of NoMemory = 3
+status_of (Check place) = 4

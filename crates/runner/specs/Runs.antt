@@ -15,6 +15,7 @@ use Rattle.runner.specs.Steps.{HasDone, Stops}
 use Rattle.runner.specs.declared.fault.RunFault.{RunFault}
 use Rattle.runner.specs.declared.fault.RunFault.TheVariants.{Script, Schedule, Read}
 use Rattle.runner.specs.declared.fault.RunFault.TheVariants.{Write, HistoryFull, NoMemory}
+use Rattle.runner.specs.declared.fault.RunFault.TheVariants.{Check}
 
 -- The text is what a source gave, up to its end, or longer than a script may be.
 pub record IsRead (old new : Option (List ℕ)) (text : List ℕ) : Type 0 where
@@ -75,7 +76,7 @@ pub record RanTo
   pub stops : Stops fault script.priorities limit (steps script.lines pids) old new
 
 -- What was read and written where a fault has come. Memory may be refused before any step too, and
--- then nothing was written.
+-- then nothing was written. A run does not check its history.
 abbrev pub Ended : List ℕ → ℕ → (given left old new : Option (List ℕ)) → RunFault → Type 0
 Ended list limit given left old new (Script fault) = GivesFault given left fault × (new ≡ old)
 Ended list limit given left old new (Schedule fault) =
@@ -85,3 +86,4 @@ Ended list limit given left old new Write = RanTo Write list limit given left ol
 Ended list limit given left old new HistoryFull = RanTo HistoryFull list limit given left old new
 Ended list limit given left old new NoMemory =
     (new ≡ old) ⊎ RanTo NoMemory list limit given left old new
+Ended list limit given left old new (Check place) = ⊥

@@ -1,7 +1,8 @@
 // Why a run has ended early.
 ghost use Rattle.std.specs.Prelude.{◌≡◌};
-ghost use Rattle.runner.specs.Faults.{fault_of_script, fault_of_schedule, status_of};
+ghost use Rattle.runner.specs.Faults.{fault_of_check, fault_of_schedule, fault_of_script, status_of};
 
+use replay::CheckFault;
 use script::{ScheduleFault, ScriptFault};
 use thiserror::Error;
 
@@ -26,6 +27,9 @@ pub enum RunFault {
     /// Memory was refused.
     #[error("no memory")]
     NoMemory,
+    /// The check of the history says that the entry of this place, counted from 1, is wrong.
+    #[error("check: entry {0} is wrong")]
+    Check(usize),
 }
 
 impl RunFault {
@@ -49,14 +53,25 @@ impl RunFault {
         }
     }
 
+    /// The run's fault where the check of its history has one. Refused memory stays refused memory.
+    pub fn of_check(fault: CheckFault) -> RunFault
+        ensures { result ≡ fault_of_check fault }
+    {
+        match fault {
+            CheckFault::Wrong(place) => RunFault::Check(place),
+            CheckFault::NoMemory => RunFault::NoMemory,
+        }
+    }
+
     /// The program's exit status: 1 for a fault of what is read, 3 where the history or memory is
-    /// exhausted, 5 where writing fails.
+    /// exhausted, 4 where the history does not pass its check, 5 where writing fails.
     pub fn status(self) -> u8
         ensures { result ≡ status_of self }
     {
         match self {
             RunFault::Script(_) | RunFault::Schedule(_) | RunFault::Read => 1,
             RunFault::HistoryFull | RunFault::NoMemory => 3,
+            RunFault::Check(_) => 4,
             RunFault::Write => 5,
         }
     }

@@ -1,7 +1,9 @@
 //! Runs: a script and a schedule are read, their steps are executed on a fresh kernel, and the
-//! transcript is written. Faults are reported as lines and exit statuses.
+//! transcript is written. The history may be checked at the end. Faults are reported as lines and
+//! exit statuses.
 #![tactic(auto)]
 
+mod checking;
 mod fault;
 mod job;
 mod printing;

@@ -1,13 +1,18 @@
 -- One call: the kernel is taken, makes a step and is given back.
-use Rattle.std.proofs.Common.{◌≡◌, ℕ, Bool, true, false, MatchBool, IfSome, IfNone, Option, Some, None, List, [], ◌∷◌, ◌++◌, refl, sym, ap, ◌∙◌, subst}
+use Rattle.std.proofs.Common.{◌≡◌, ℕ, suc, ◌+◌, ◌≤◌, arith, Bool, true, false, MatchBool, IfSome, IfNone, Option, Some, None, List, [], ◌∷◌, ◌++◌, refl, sym, ap, ◌∙◌, subst}
 use Rattle.atomic_table.specs.Table.{Me, rest}
 use Rattle.atomic_table.specs.Seated.{TableId}
 use Rattle.history.specs.Log.{Log}
 use Rattle.kernel.specs.declared.kernel.Kernel.{Kernel}
-use Rattle.kernel.specs.Shown.{Shown}
+use Rattle.kernel.specs.Shown.{Shown, moment}
 use Rattle.kernel.specs.Steps.{is_no_entry, has_place, Added, IsStep}
-use Rattle.model.specs.Entries.{Op, Reply}
-use Rattle.turnstile.specs.Histories.{IsLegal, Begins, own, shown}
+use Rattle.model.specs.Calls.{Child}
+use Rattle.model.specs.Entries.{Op, Reply, Answers, Entry}
+use Rattle.model.specs.Legal.{Legal}
+use Rattle.model.specs.Moments.{Moment}
+use Rattle.history_laws.specs.Processes.{ProcessesMove, born, child_in}
+use Rattle.history_laws.proofs.Laws.{after_one_more, forks_and_exits_move, legality_follows}
+use Rattle.turnstile.specs.Histories.{IsLegal, Begins, made_of, own, shown}
 use Rattle.turnstile.specs.Rule.{having_seen, Follows, Learns}
 use Rattle.turnstile.specs.Passes.{pass_view, pass_of}
 use Rattle.turnstile.specs.Calls.{IsSamePass, Called, Ends}
@@ -34,13 +39,28 @@ step_shown k k' pid op reply s = record { entry = go (is_no_entry reply) s.entry
 abbrev log_is : (old new : Log) → shown new ≡ shown old → new ≡ old
 log_is old new e = ap (λ (k : Shown). k.log) e
 
+-- what one entry more does to the processes
+module _ (old new : Log) (pid : ℕ) (op : Op) (reply : Reply) (was : IsLegal old) (is : IsLegal new) (added : Added old new pid op reply) where
+  moves : ProcessesMove (moment old) (last old new pid op reply added)
+  moves = let e : Entry = last old new pid op reply added in
+      let legal : Legal 0 old.priorities old.limit (old.entries ++ e ∷ []) = subst (λ (l : Log). Legal 0 l.priorities l.limit l.entries) added.is is.legal in
+      forks_and_exits_move 0 old.priorities old.limit old.entries e was.legal (legality_follows.rest 0 old.priorities old.limit old.entries (e ∷ []) legal).1
+
+  pub made_moves : made_of new ≡ made_of old + born reply
+  unfolding made_of
+  made_moves = ap (λ (l : Log). (moment l).committed.made) added.is ∙ (ap (λ (m : Moment). m.committed.made) (after_one_more 0 old.priorities old.entries (last old new pid op reply added)) ∙ moves.made)
+
+  pub child_is_next : (n : ℕ) → reply ≡ Answers (Child n) → n ≡ suc (made_of old)
+  unfolding made_of
+  child_is_next n e = (moves.born n (ap child_in e)).number
+
 -- a step of a process changes the history by an entry of its own, or not at all
-pub step_follows : (old new : Log) (pid : ℕ) (op : Op) (reply : Reply) → IsStep (shown old) (shown new) pid op reply → Follows pid old new
-step_follows old new pid op reply s = go (is_no_entry reply) s.entry
+pub step_follows : (old new : Log) (pid : ℕ) (op : Op) (reply : Reply) → IsLegal old → IsLegal new → IsStep (shown old) (shown new) pid op reply → Follows pid old new
+step_follows old new pid op reply was is s = go (is_no_entry reply) s.entry
   where
     go : (b : Bool) → MatchBool b (shown new ≡ shown old) (Added old new pid op reply) → Follows pid old new
-    go true e = subst (λ x. Follows pid old x) (sym (log_is old new e)) record { longer = before_self old; others = λ q ne. refl }
-    go false a = record { longer = before_added old new pid op reply a; others = λ q ne. own_other old new pid op reply a q ne }
+    go true e = subst (λ x. Follows pid old x) (sym (log_is old new e)) record { longer = before_self old; more_made = omega arith; others = λ q ne. refl }
+    go false a = let made = made_moves old new pid op reply was is a in record { longer = before_added old new pid op reply a; more_made = omega arith; others = λ q ne. own_other old new pid op reply a q ne }
 
 step_called : (z : TableId) (o : PassState) (old new : Log) (op : Op) (reply : Reply) → Begins o.seen old → own o.pid old ≡ own o.pid o.seen → IsStep (shown old) (shown new) o.pid op reply
     → Called (pass_view z o) op reply (pass_view z (having_seen o new))
@@ -79,7 +99,7 @@ called_pass p q r log op reply taken stepped = let o : PassState = pass_of p.me.
         gate = refl;
         pid = refl;
         legal = stepped.legal;
-        longer = before_trans o.seen log new taken.learns.before (step_follows log new o.pid op reply step).longer;
+        longer = before_trans o.seen log new taken.learns.before (step_follows log new o.pid op reply taken.learns.lawful stepped.legal step).longer;
       },
       step_called p.table_id o log new op reply taken.learns.before taken.learns.entries step,
     )

@@ -4,3 +4,4 @@ pub mod Calls
 pub mod Closing
 pub mod Meeting
 pub mod Living
+mod Forking

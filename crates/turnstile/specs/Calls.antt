@@ -2,7 +2,8 @@
 use Rattle.std.specs.Prelude.{◌≡◌, ℕ, suc, Bool, ◌&&◌, nat_lt, false, ◌⊎◌, MatchBool}
 use Rattle.std.specs.Prelude.{List, [], ◌∷◌, ◌++◌, map}
 use Rattle.history.specs.Log.{Log}
-use Rattle.model.specs.Entries.{Op, Reply, HistoryFull, Entry}
+use Rattle.model.specs.Calls.{Fork, Child}
+use Rattle.model.specs.Entries.{Op, Do, Reply, Answers, HistoryFull, Entry}
 use Rattle.model.specs.State.{Kernel as State}
 use Rattle.model.specs.Moments.{is_alive, all_below}
 use Rattle.kernel.specs.Steps.{is_no_entry, has_place, IsStep}
@@ -53,6 +54,13 @@ pub record Called (p : PassView) (op : Op) (reply : Reply) (q : PassView) : Type
   pub own_after : MatchBool (is_no_entry reply) (own p.pid q.seen ≡ own p.pid p.seen)
       (Ends p op reply q)
   pub full : reply ≡ HistoryFull → has_place q.seen p.pid op ≡ false
+
+-- A child was made by a call of the pass. Its pass has seen as much as that of its parent then, and
+-- of its own entries just those that were there when the turnstile was made.
+pub record Forked (p : PassView) (child : ℕ) (q made : PassView) : Type 0 where
+  pub called : Called p (Do Fork) (Answers (Child child)) q
+  pub pass : made ≡ record { gate = q.gate; pid = child; seen = q.seen }
+  pub own_before : own child q.seen ≡ own child p.gate.start
 
 -- the history begins with what the pass had seen, and has just its own entries of its process
 pub record KeepsPass (log : Log) (p : PassView) : Type 0 where

@@ -19,6 +19,10 @@ pub record Begins (first whole : Log) : Type 0 where
 abbrev pub own : ℕ → Log → List Entry
 own pid log = mine pid log.entries
 
+-- how many processes were ever made
+unfoldable pub made_of : Log → ℕ
+made_of log = (moment log).committed.made
+
 -- what contracts see of a kernel with a legal history
 abbrev pub shown : Log → Shown
 shown log = record { log = log; state = (moment log).committed }

@@ -8,9 +8,9 @@ use Rattle.kernel.specs.declared.kernel.Kernel.{Kernel}
 use Rattle.kernel.specs.Steps.{IsStep}
 use Rattle.model.specs.Entries.{Op, Reply}
 use Rattle.model.specs.State.{Kernel as State}
-use Rattle.turnstile.specs.Histories.{IsLegal, shown}
+use Rattle.turnstile.specs.Histories.{IsLegal, made_of, shown}
 use Rattle.turnstile.specs.Calls.{has_pass}
-use Rattle.turnstile.specs.Rule.{having_seen, Learns}
+use Rattle.turnstile.specs.Rule.{having_seen, pass_state, Learns}
 use Rattle.turnstile.specs.Passes.{pass_of, no_pass, no_log}
 use Rattle.turnstile.specs.declared.rule.PassState.{PassState}
 use Rattle.turnstile.specs.declared.rule.Role.{Role}
@@ -29,6 +29,10 @@ IsAtRest m = m ≡ (Process (pass_of m.0), [])
 -- it has the kernel in hand, and the slot is empty
 abbrev pub IsTaking : Me (Option Kernel) Role → Type 0
 IsTaking m = m ≡ (Takes (taker_of m.0), (0, None) ∷ [])
+
+-- the pass of the process that was made last
+abbrev pub child_of : PassState → Log → PassState
+child_of o log = pass_state (made_of log) log o.start
 
 abbrev pub IsSameSeat : Place → Place → Type 0
 IsSameSeat p q = (q.table_id ≡ p.table_id) × (q.id ≡ p.id)

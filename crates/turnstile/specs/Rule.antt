@@ -9,24 +9,26 @@
 --   Deals p            --Deal-->     Deals (p + 1)  and  Process of p
 --   Process            --Take-->     Takes, where the word is 0; else Process
 --   Takes              --Give-->     Process, which has seen the history of the kernel given back
+--   Takes              --GiveBorn--> Bears, the same after a step that made a process
+--   Bears              --Born-->     Process  and  Process of the one that was made
 --   Process            --Copied-->   Process  and  Knows
 --   Process + Knows    --Inform-->   Meets
 --   Meets              --Compare-->  Process
 --   a new seat         --Close-->    Closes, where the word is 0; else nothing is said of it
 --   Closes + Process   --Collect-->  Checks
 --   Checks             --Check-->    Closes
-use Rattle.std.specs.Prelude.{◌≡◌, ◌≢◌, ℕ, ◌+◌, ◌≤◌, ◌==◌, ◌⊎◌, MatchBool, Option, Some}
+use Rattle.std.specs.Prelude.{◌≡◌, ◌≢◌, ℕ, ◌+◌, ◌<◌, ◌≤◌, ◌==◌, ◌⊎◌, MatchBool, Option, Some}
 use Rattle.std.specs.Prelude.{List, [], ◌∷◌, length, slice_index}
 use mathlib.Core.Option.{some}
 use mathlib.Core.Option as maybe
 use lib.ListN.{get_elem?}
 use Rattle.atomic_table.specs.Table.{State, Me, Step}
 use Rattle.history.specs.Log.{Log}
-use Rattle.turnstile.specs.Histories.{Begins, own}
+use Rattle.turnstile.specs.Histories.{Begins, own, made_of}
 use Rattle.turnstile.specs.declared.rule.PassState.{PassState}
 use Rattle.turnstile.specs.declared.rule.Role.{Role}
 use Rattle.turnstile.specs.declared.rule.Role.TheVariants.{Nobody, Deals, Process, Takes, Knows}
-use Rattle.turnstile.specs.declared.rule.Role.TheVariants.{Meets, Closes, Checks}
+use Rattle.turnstile.specs.declared.rule.Role.TheVariants.{Bears, Meets, Closes, Checks}
 
 abbrev pub pass_state : ℕ → Log → Log → PassState
 pass_state pid seen start = record { pid = pid; seen = seen; start = start }
@@ -39,6 +41,7 @@ having_seen o log = pass_state o.pid log o.start
 -- process's entries
 pub record IsPass (key log : Log) (owner : ℕ → ℕ) (j : ℕ) (o : PassState) : Type 0 where
   pub mine : owner o.pid ≡ j
+  pub was_made : o.pid ≤ made_of log
   pub begun : o.start ≡ key
   pub has_seen : Begins o.seen log
   pub entries : own o.pid log ≡ own o.pid o.seen
@@ -49,11 +52,17 @@ pub record HasKernel (log : Log) (word holder j : ℕ) (h : Log) : Type 0 where
   pub holds : holder ≡ j
   pub whole : h ≡ log
 
--- the processes from `next` on have no pass yet
+-- the number of the process that was made last in h is kept for the seat j
+pub record IsBearing (log : Log) (owner : ℕ → ℕ) (j : ℕ) (h : Log) : Type 0 where
+  pub mine : owner (made_of h) ≡ j
+  pub was_made : made_of h ≤ made_of log
+  pub entries : own (made_of h) log ≡ own (made_of h) h
+
+-- of the processes that were made at the start those from `next` on have no pass yet
 pub record IsDealer (key log : Log) (owner : ℕ → ℕ) (j next : ℕ) (h : Log) : Type 0 where
   pub begun : h ≡ key
-  pub mine : (p : ℕ) → next ≤ p → owner p ≡ j
-  pub entries : (p : ℕ) → next ≤ p → own p log ≡ own p key
+  pub mine : (p : ℕ) → next ≤ p → p ≤ made_of key → owner p ≡ j
+  pub entries : (p : ℕ) → next ≤ p → p ≤ made_of key → own p log ≡ own p key
 
 abbrev pub Fits : Log → Log → ℕ → ℕ → (ℕ → ℕ) → ℕ → Role → Type 0
 Fits key log word holder owner j Nobody = Unit {0}
@@ -61,6 +70,8 @@ Fits key log word holder owner j (Deals next h) = IsDealer key log owner j next 
 Fits key log word holder owner j (Process o) = IsPass key log owner j o
 Fits key log word holder owner j (Takes o) =
     IsPass key log owner j o × HasKernel log word holder j o.seen
+Fits key log word holder owner j (Bears o) =
+    IsPass key log owner j o × IsBearing log owner j o.seen × (o.pid ≢ made_of o.seen)
 Fits key log word holder owner j (Knows h) = Begins h log
 Fits key log word holder owner j (Meets o h) = IsPass key log owner j o × Begins h log
 Fits key log word holder owner j (Closes h) = HasKernel log word holder j h
@@ -79,15 +90,20 @@ module _ {K : Type 0} (history : K → Log) (IsLawful : Log → Type 0) where
     pub one_word : length s.words ≡ 1
     pub lawful : IsLawful log
     pub started : Begins key log
+    pub more_made : made_of key ≤ made_of log
     pub at_home : slice_index s.words 0 ≡ 0 → IsHome log s.homes
     pub each_seat : (j : ℕ) (v : Role) → get_elem? s.views j ≡ some v
         → Fits key log (slice_index s.words 0) holder owner j v
+    -- what the history has of a process that was not made it had at the start
+    pub not_made : (p : ℕ) → made_of log < p → own p log ≡ own p key
 
   -- what a seat learns of the history that it finds
   pub record Learns (o : PassState) (log : Log) : Type 0 where
     pub lawful : IsLawful log
     pub before : Begins o.seen log
     pub entries : own o.pid log ≡ own o.pid o.seen
+    pub was_made : o.pid ≤ made_of log
+    pub not_made : (p : ℕ) → made_of log < p → own p log ≡ own p o.start
 
   abbrev pub Got : Me (Option K) Role → Me (Option K) Role → Type 0
   Got (Process o, c) m' = (k : K)
@@ -109,6 +125,14 @@ module _ {K : Type 0} (history : K → Log) where
 
   abbrev pub gave : Step (Option K) → Me (Option K) Role → ℕ → Me (Option K) Role → Type 0
   gave st m n m' = m' ≡ (given m.0 m.1, [])
+
+  -- the same after a step that made a process
+  abbrev pub given_born : Role → List (ℕ × Option K) → Role
+  given_born (Takes o) ((i, Some k) ∷ c) = Bears (having_seen o (history k))
+  given_born v c = v
+
+  abbrev pub gave_born : Step (Option K) → Me (Option K) Role → ℕ → Me (Option K) Role → Type 0
+  gave_born st m n m' = m' ≡ (given_born m.0 m.1, [])
 
 abbrev pub Checked : Role → Type 0
 Checked (Checks h o) = Begins o.seen h × (own o.pid h ≡ own o.pid o.seen)
@@ -136,7 +160,16 @@ collected v w = v
 -- what one step of the process p makes of a history
 pub record Follows (p : ℕ) (x y : Log) : Type 0 where
   pub longer : Begins x y
+  pub more_made : made_of x ≤ made_of y
   pub others : (q : ℕ) → q ≢ p → own q y ≡ own q x
+
+abbrev pub bore : Role → Role
+bore (Bears o) = Process o
+bore v = v
+
+abbrev pub born : Role → Role
+born (Bears o) = Process (pass_state (made_of o.seen) o.seen o.start)
+born v = Nobody
 
 abbrev pub copied : Role → Role
 copied (Process o) = Knows o.seen

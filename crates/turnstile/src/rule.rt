@@ -24,6 +24,9 @@ pub enum Role {
     Process(PassState),
     /// It has the kernel, whose history is what it has seen.
     Takes(PassState),
+    /// It is a pass that keeps the number of the process that was made last in what it has seen,
+    /// until that has a pass of its own.
+    Bears(PassState),
     /// It is no process, and knows a beginning of the history.
     Knows(History),
     /// A pass that was told of another beginning of the history.
@@ -64,6 +67,26 @@ impl Play<Option<Kernel>, Role> for Give {
     ghost use Rattle.turnstile.specs.Rule.{gave};
 
     ghost then = { gave (λ k. k.log) };
+}
+
+/// Gives the kernel back, and keeps the number of the process that was made.
+pub struct GiveBorn;
+
+impl Play<Option<Kernel>, Role> for GiveBorn {
+    ghost use Rattle.turnstile.specs.Rule.{gave_born};
+
+    ghost then = { gave_born (λ k. k.log) };
+}
+
+/// Cuts off the seat of the process that was made.
+pub struct Born;
+
+impl Split<Role> for Born {
+    ghost use Rattle.turnstile.specs.Rule.{bore, born};
+
+    ghost left = { bore };
+
+    ghost right = { born };
 }
 
 /// Takes the kernel for ever.

@@ -1,24 +1,28 @@
 // The turnstile, and the calls through it.
-ghost use Rattle.std.specs.Prelude.{◌≡◌, ◌<◌, ℕ, true, [], length, map, All, vec_capacity};
+ghost use Rattle.std.specs.Prelude.{◌≡◌, ◌≢◌, ◌<◌, ℕ, suc, true, [], length, map, All, vec_capacity};
 ghost use Rattle.std.specs.Prelude.{IfOk, IfErr, IfSome, IfNone};
+ghost use Rattle.history_laws.specs.Processes.{child_in};
+ghost use Rattle.model.specs.Calls.{Child, Fork};
+ghost use Rattle.model.specs.Entries.{Answers, Do};
 ghost use Rattle.model.specs.Moments.{all_below};
-ghost use Rattle.turnstile.specs.Histories.{IsLegal};
-ghost use Rattle.turnstile.specs.Calls.{Called, IsSamePass, KeepsPass, Met};
+ghost use Rattle.turnstile.specs.Histories.{IsLegal, made_of};
+ghost use Rattle.turnstile.specs.Calls.{Called, Forked, IsSamePass, KeepsPass, Met};
 ghost use Rattle.turnstile.specs.Calls.{has_pass, first_pass, first_passes};
 ghost use Rattle.turnstile.specs.Rule.{having_seen, Follows, Compares};
 ghost use Rattle.turnstile.specs.Holding.{IsAtRest, IsTaking, IsClosing, IsSameSeat};
-ghost use Rattle.turnstile.specs.Holding.{HasTaken, Stepped, Lives, is_set, taker_of, closer_of};
+ghost use Rattle.turnstile.specs.Holding.{HasTaken, Stepped, Lives, child_of, is_set, taker_of};
+ghost use Rattle.turnstile.specs.Holding.{closer_of};
 ghost use Rattle.turnstile.specs.declared.rule.Role.TheVariants.{Deals, Process};
 ghost use Rattle.turnstile.specs.Passes.{gate_of, pass_of};
 
 use crate::pass::Pass;
 use crate::rule::{
-    Check, Close, Collect, Compare, Copied, Deal, Give, Inform, OneLock, Role, Take,
+    Born, Check, Close, Collect, Compare, Copied, Deal, Give, GiveBorn, Inform, OneLock, Role, Take,
 };
 use atomic_table::{Refused, Seat, Table};
 use heap::Heap;
 use history::History;
-use ids::{Op, Pid, Reply};
+use ids::{Answer, Call, Op, Pid, Reply};
 use kernel::Kernel;
 use std::alloc::AllocError;
 use std::marker::Model;
@@ -84,6 +88,7 @@ fn deal(
     requires dealer { (dealer.table_id ≡ lock.now.shared.table_id)
         × (dealer.me ≡ (Deals 0 lock.now.shared.key.value, [])) }
     requires room { (passes.items ≡ []) × (vec_capacity passes ≡ length living.now) }
+    requires made { length living.now ≡ suc (made_of lock.now.shared.key.value) }
     requires small { (i : ℕ) → is_set living.now i ≡ true → i < 4294967296 }
     ensures { result.items
         ≡ map (first_pass (gate_of lock.now.shared.table_id lock.now.shared.key.value))
@@ -155,6 +160,7 @@ fn table_of(
     requires { (slots.items ≡ []) × (vec_capacity slots ≡ 1) }
     ensures start { IfOk result (λ t. (t.0.shared.key.value ≡ kernel.log)
         × IsLegal t.0.shared.key.value) }
+    ensures made { IfOk result (λ t. made_of t.0.shared.key.value ≡ kernel.state.made) }
     ensures table { IfOk result (λ t. (t.0.shared.table_id.words ≡ 1)
         × (t.0.shared.table_id.slots ≡ 1)) }
     ensures dealer { IfOk result (λ t. (t.1.table_id ≡ t.0.shared.table_id)
@@ -169,6 +175,16 @@ fn table_of(
             Some(Some(kernel)) => Err(kernel),
             _ => unreachable!(),
         },
+    }
+}
+
+// The process that the reply to a fork tells of.
+fn child_in(reply: &Reply) -> Option<Pid>
+    ensures { result ≡ child_in reply.now }
+{
+    match reply {
+        Reply::Answer(Answer::Child(pid)) => Some(*pid),
+        _ => None,
     }
 }
 
@@ -259,6 +275,7 @@ impl Turnstile {
         requires seat { (seat.old.table_id ≡ self.now.table) × IsTaking seat.old.me }
         requires kernel { ((taker_of seat.old.me.0).seen ≡ kernel.log)
             × ((taker_of seat.old.me.0).pid ≡ pid) }
+        requires legal { IsLegal kernel.log }
         ensures { Stepped seat.old op result seat.new }
     {
         let reply = kernel.step(pid, op);
@@ -291,6 +308,50 @@ impl Turnstile {
     {
         let kernel = self.wait_and_take(rt, &mut pass.seat);
         self.step(&mut pass.seat, pass.pid, kernel, op)
+    }
+
+    // Gives the kernel back after a step that made a process, and cuts off the seat of that process.
+    fn bear(&self, seat: &mut Place, kernel: Kernel) -> Place
+        requires seat { (seat.old.table_id ≡ self.now.table) × IsTaking seat.old.me }
+        requires kernel { IsLegal kernel.log
+            × Follows (taker_of seat.old.me.0).pid (taker_of seat.old.me.0).seen kernel.log
+            × (made_of (taker_of seat.old.me.0).seen < made_of kernel.log) }
+        ensures seat { IsSameSeat seat.old seat.new
+            × (seat.new.me ≡ (Process (having_seen (taker_of seat.old.me.0) kernel.log), [])) }
+        ensures child { (result.table_id ≡ seat.old.table_id)
+            × (result.me ≡ (Process (child_of (taker_of seat.old.me.0) kernel.log), [])) }
+    {
+        let shared = &self.table.shared;
+        // The slot had none.
+        drop(shared.exchange(seat, 0, Some(kernel)));
+        shared.store::<GiveBorn>(seat, 0, FREE);
+        shared.wake_one(0);
+        shared.split_seat::<Born>(seat)
+    }
+
+    /// A fork by the pass's process. It gives the child's number and a pass for it, which has seen
+    /// as much as the caller's then; all that the child needs is made before the step. `Err` has
+    /// the reply where no child was made. It may wait for other threads.
+    pub fn fork<R: Wait>(&self, rt: &R, pass: &mut Pass) -> Result<(Pid, Pass), Reply>
+        requires { pass.old.gate ≡ self.now }
+        ensures same { IsSamePass pass.old pass.new }
+        ensures ok { IfOk result (λ c. Forked pass.old c.0 pass.new c.1) }
+        ensures err { IfErr result (λ reply. Called pass.old (Do Fork) reply pass.new) }
+        ensures childless { IfErr result (λ reply. (n : ℕ) → reply ≢ Answers (Child n)) }
+    {
+        let mut kernel = self.wait_and_take(rt, &mut pass.seat);
+        let reply = kernel.step(pass.pid, Op::Call(Call::Fork));
+        match child_in(&reply) {
+            Some(pid) => {
+                drop(reply);
+                let seat = self.bear(&mut pass.seat, kernel);
+                Ok((pid, Pass { pid, seat }))
+            }
+            None => {
+                self.give(&mut pass.seat, kernel);
+                Err(reply)
+            }
+        }
     }
 
     // Tells the first seat what the second has seen, and compares.

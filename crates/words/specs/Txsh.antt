@@ -1,13 +1,13 @@
 -- The command line, as clap reads it.
 use Rattle.std.specs.Prelude.{◌≡◌, ◌≢◌, ℕ, pos, min, List, Option, Some, None}
-use Rattle.std.specs.Prelude.{Result, true, codes, map, string_bytes, unwrap_or, []}
+use Rattle.std.specs.Prelude.{Bool, Result, false, true, codes, map, string_bytes, unwrap_or, []}
 use Rattle.std.specs.Borrow.{Bor}
 use Rattle.std.specs.Result.{result_unwrap_or}
 use Rattle.std.specs.Str.Parse.{ParsesUnsigned}
 use Rattle.std.specs.declared.num.ParseIntError.{ParseIntError}
 use Rattle.clap.specs.Words.{App, Rule, Text, IsAmong, fault_of, first_of}
 use Rattle.clap.specs.Words.{kind_of, matches_of, new_app, new_rule, one_of, with_rule}
-use Rattle.clap.specs.declared.builder.ArgAction.TheVariants.{Set}
+use Rattle.clap.specs.declared.builder.ArgAction.TheVariants.{Set, SetTrue}
 use Rattle.clap.specs.declared.builder.value_parser.ValueParser.TheVariants.{Signed}
 use Rattle.clap.specs.declared.error.Error.{Error}
 use Rattle.clap.specs.declared.error.kind.ErrorKind.TheVariants.{DisplayHelp, OutOfMemory}
@@ -34,12 +34,20 @@ limit_rule = record (new_rule (codes "limit")) {
   value_names = 1;
 }
 
+abbrev pub check_rule : Rule
+check_rule = record (new_rule (codes "check")) {
+  long = Some (codes "check");
+  action = Some SetTrue;
+}
+
 abbrev pub file_rule : Rule
 file_rule = record (new_rule (codes "file")) { action = Some Set; required = true; value_names = 1 }
 
--- `txsh [--schedule LIST] [--limit N] FILE`
+-- `txsh [--schedule LIST] [--limit N] [--check] FILE`
 abbrev pub txsh : App
-txsh = with_rule (with_rule (with_rule (new_app (codes "txsh")) schedule_rule) limit_rule) file_rule
+txsh =
+    let options = with_rule (with_rule (new_app (codes "txsh")) schedule_rule) limit_rule in
+    with_rule (with_rule options check_rule) file_rule
 
 -- a schedule is given
 abbrev pub IsWay : (Text → Option Text) → Way → Type 0
@@ -57,10 +65,17 @@ IsLimit (Some text) limit =
     × ParsesUnsigned 32 10 text read
     × (limit ≡ min (result_unwrap_or read DEFAULT_LIMIT) MAX_LIMIT)
 
+-- whether a flag is set, by clap's text for it: `true` where the words have it, else `false`
+abbrev pub IsFlag : Option Text → Bool → Type 0
+IsFlag None flag = flag ≡ false
+IsFlag (Some text) flag =
+    (text ≡ codes "true" → flag ≡ true) × (text ≡ codes "false" → flag ≡ false)
+
 -- the job that the options' values give
 pub record IsJob (value number : Text → Option Text) (job : Job) : Type 0 where
   pub way : IsWay value job.way
   pub limit : IsLimit (number (codes "limit")) job.limit
+  pub check : IsFlag (number (codes "check")) job.check
   pub file : string_bytes job.file ≡ unwrap_or (value (codes "file")) []
 
 -- the texts of borrowed words

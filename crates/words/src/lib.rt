@@ -1,10 +1,10 @@
-//! The command line of `txsh`: `txsh [--schedule LIST] [--limit N] FILE`.
+//! The command line of `txsh`: `txsh [--schedule LIST] [--limit N] [--check] FILE`.
 #![tactic(auto)]
 
 ghost use Rattle.std.specs.Prelude.{◌≡◌, ◌≤◌, [], false, IfOk, IfErr, codes, string_bytes};
 ghost use Rattle.clap.specs.Words.{app_of, fault_of, first_value, found_of, one_text, rule_of};
-ghost use Rattle.words.specs.Txsh.{IsFaultOf, IsJob, IsJobFault, IsLimit, IsParseFault};
-ghost use Rattle.words.specs.Txsh.{IsReportedAs, SameMatches, file_rule, limit_rule};
+ghost use Rattle.words.specs.Txsh.{IsFaultOf, IsFlag, IsJob, IsJobFault, IsLimit, IsParseFault};
+ghost use Rattle.words.specs.Txsh.{IsReportedAs, SameMatches, check_rule, file_rule, limit_rule};
 ghost use Rattle.words.specs.Txsh.{number_in, schedule_rule, status_of, texts, txsh, value_in};
 
 use clap::error::ErrorKind;
@@ -33,6 +33,8 @@ pub struct Job {
     pub way: Way,
     /// How many entries the history may have, at most [`MAX_LIMIT`].
     pub limit: u32,
+    /// Whether the history is checked at the end.
+    pub check: bool,
     /// The script's file.
     pub file: String<Heap>,
 }
@@ -72,7 +74,7 @@ impl CommandLineFault {
 
 // The program itself reports that a way to run is missing, so clap's own usage line would call
 // `--schedule` an option.
-const USAGE: &str = "txsh --schedule <LIST> [--limit <N>] <FILE>";
+const USAGE: &str = "txsh --schedule <LIST> [--limit <N>] [--check] <FILE>";
 
 const ABOUT: &str =
     "Runs the operations of a script on a kernel with transactions, and prints the reply to each.";
@@ -104,6 +106,17 @@ fn limit_arg<'a>(alloc: Global) -> Arg<'a>
         .value_parser(clap::value_parser!(u32).range(0..=MAX_LIMIT as i64))
 }
 
+// `--check`
+fn check_arg<'a>(alloc: Global) -> Arg<'a>
+    ensures rule { rule_of result ≡ check_rule }
+    ensures local { result.global ≡ false }
+{
+    Arg::new(alloc, "check")
+        .long("check")
+        .help("Checks the history at the end by a plain kernel, and says so")
+        .action(ArgAction::SetTrue)
+}
+
 // `FILE`
 fn file_arg<'a>(alloc: Global) -> Arg<'a>
     ensures rule { rule_of result ≡ file_rule }
@@ -122,7 +135,8 @@ fn command<'a>(alloc: Global) -> Result<Command<'a>, AllocError>
 {
     let with_schedule = Command::new(alloc, "txsh").arg(schedule_arg(alloc))?;
     let with_limit = with_schedule.arg(limit_arg(alloc))?;
-    let with_file = with_limit.arg(file_arg(alloc))?;
+    let with_check = with_limit.arg(check_arg(alloc))?;
+    let with_file = with_check.arg(file_arg(alloc))?;
     Ok(
         with_file
             .override_usage(USAGE)
@@ -172,6 +186,13 @@ fn limit_of(matches: &ArgMatches) -> u32
     }
 }
 
+// Whether the history is to be checked.
+fn check_of(matches: &ArgMatches) -> bool
+    ensures { IsFlag (one_text (found_of matches.now) (codes "check")) result }
+{
+    matches.get_flag("check")
+}
+
 // The job that the matches give. The command requires a file, so one is named.
 fn job_of(heap: Heap, matches: &ArgMatches) -> Result<Job, CommandLineFault>
     ensures ok { IfOk result
@@ -185,6 +206,7 @@ fn job_of(heap: Heap, matches: &ArgMatches) -> Result<Job, CommandLineFault>
     Ok(Job {
         way: Way::Schedule(owned_text(heap, list)?),
         limit: limit_of(matches),
+        check: check_of(matches),
         file: owned_text(heap, matches.get_str("file").unwrap_or(""))?,
     })
 }

@@ -4,6 +4,8 @@
 #[cfg(test)]
 mod capacity;
 #[cfg(test)]
+mod changed;
+#[cfg(test)]
 mod files;
 #[cfg(test)]
 mod freed;
@@ -11,6 +13,8 @@ mod freed;
 mod given_up;
 #[cfg(test)]
 mod links;
+#[cfg(test)]
+mod modes;
 #[cfg(test)]
 mod paths;
 #[cfg(test)]

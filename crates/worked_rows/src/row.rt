@@ -1,8 +1,10 @@
 // A worked run: a script, a schedule of it, and the transcript of the history that it leaves.
 use device::Halting;
 use heap::Heap;
+use history::History;
 use ids::{Answer, Bytes, Call, Op, Pid, Reply};
 use kernel::Kernel;
+use replay::check;
 use runner::print;
 use script::{Script, read_schedule, read_script, steps_of};
 use std::test::Fail;
@@ -59,13 +61,22 @@ pub(crate) fn do_script(
     Ok(())
 }
 
-// The transcript of what a kernel has done.
+// A kernel's history passes the check.
+pub(crate) fn pass(heap: Heap, history: &History) -> Result<(), Fail> {
+    match check(heap, history) {
+        Ok(()) => Ok(()),
+        Err(_) => Err(Fail::from("the history does not pass the check")),
+    }
+}
+
+// The transcript of what a kernel has done, whose history has to pass the check.
 pub(crate) fn transcript_of(heap: Heap, kernel: &Kernel) -> Result<Vec<u8, Heap>, Fail> {
     let mut sink = Halting {
         bytes: Vec::new(heap),
         left: 100_000,
         failures: 0,
     };
+    pass(heap, kernel.history())?;
     match print(kernel.history(), &mut sink) {
         Ok(()) => Ok(sink.bytes),
         Err(_) => Err(Fail::from("no transcript")),

@@ -1,4 +1,4 @@
-use Rattle.kernel.proofs.Words.{◌++◌, not, ap, take, ◌∙◌, contender_at, fields, take-append_seam}
+use Rattle.kernel.proofs.Words.{not, ap, take, ◌∙◌, contender_at, fields, take-held, with_touches}
 use Rattle.kernel.proofs.Entries.{unchanged}
 use Rattle.kernel.proofs.Calls.{at_once}
 use Rattle.kernel.proofs.execute.change.Goals as goal
@@ -14,6 +14,6 @@ returns-in-Err-clause-err c =
     unchanged f c.args.pid _ _ c.requires.asks.holds c.edit.ensures.state c.in-Err.ensures.err (record {
       count = kept.count ∙ added.count;
       own = kept.own ∙ ap (λ h. record { priority = h.priority; age = h.age; touches = take c.count-count.result h.touches }) added.own
-          ∙ ap (λ ts. record (contender_at f.held c.args.pid) { touches = ts }) (ap (λ n. take n ((contender_at f.held c.args.pid).touches ++ c.args.touches.items)) c.count-count.ensures ∙ take-append_seam _ _);
+          ∙ ap (λ ts. record (contender_at f.held c.args.pid) { touches = ts }) (ap (λ n. take n (with_touches (contender_at f.held c.args.pid).touches c.args.touches.items)) c.count-count.ensures ∙ take-held (contender_at f.held c.args.pid).touches c.args.touches.items);
       others = λ q differs. kept.others q differs ∙ added.others q differs;
     })

@@ -8,7 +8,7 @@ use Rattle.commit.proofs.transactions.Transactions.apply.Goals as goal
 pub apply-requires-clause-fits : goal.apply-requires-clause-fits
 apply-requires-clause-fits c = λ chosen new.
     subst (λ v. FitsAll chosen v.stable.state c.args.edits.items) (sym c.self.view_is)
-    (c.requires.fits chosen (subst (λ v. AreNew v c.args.edits.items chosen) c.self.view_is (are_new (views c.self.inside.slots.items) c.self.inside.stable c.args.edits.items chosen c.self.invariant new)))
+    (c.requires.fits chosen (subst (λ v. AreNew v c.args.edits.items chosen) c.self.view_is (are_new (views c.self.inside.slots) c.self.inside.stable c.args.edits.items chosen c.self.invariant new)))
 
 pub invariant_of-self : goal.invariant_of-self
 invariant_of-self c = λ claim. c.self.invariant claim ∙ sym (c.apply.ensures.kept claim)
@@ -18,4 +18,4 @@ invariant_of-self-2 c = λ claim. c.self.invariant claim ∙ sym (c.apply.ensure
 
 pub returns-clause-new : goal.returns-clause-new
 returns-clause-new c = subst (λ v. AreNew v c.args.edits.items c.in_ok-chosen.chosen) c.self.view_is
-    (are_new (views c.self.inside.slots.items) c.self.inside.stable c.args.edits.items c.in_ok-chosen.chosen c.self.invariant c.in_ok-chosen.ensures.new)
+    (are_new (views c.self.inside.slots) c.self.inside.stable c.args.edits.items c.in_ok-chosen.chosen c.self.invariant c.in_ok-chosen.ensures.new)

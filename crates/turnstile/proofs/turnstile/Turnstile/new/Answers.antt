@@ -1,4 +1,4 @@
-use Rattle.std.proofs.Common.{◌≡◌, sym, subst}
+use Rattle.std.proofs.Common.{◌≡◌, ◌∙◌, ap, length, suc, sym, subst}
 use Rattle.std.proofs.lemmas.List.Elements.{All-same}
 use Rattle.turnstile.specs.Calls.{first_passes}
 use Rattle.turnstile.specs.Holding.{Lives}
@@ -6,6 +6,9 @@ use Rattle.turnstile.specs.Passes.{PassView, gate_of}
 use Rattle.turnstile.proofs.Closing.{first_gates}
 use Rattle.turnstile.proofs.Living.{marks_small, marked_passes}
 use Rattle.turnstile.proofs.turnstile.Turnstile.new.Goals as goal
+
+pub deal-passes-requires-clause-made : goal.deal-passes-requires-clause-made
+deal-passes-requires-clause-made c = ap length c.as_slice.ensures.value ∙ (c.in-Ok.ensures.living.whole ∙ ap suc (sym c.in_ok-table.ensures.made))
 
 pub deal-passes-requires-clause-small : goal.deal-passes-requires-clause-small
 deal-passes-requires-clause-small c = let lives : Lives c.args.kernel.state c.as_slice.result.now = subst (Lives c.args.kernel.state) (sym c.as_slice.ensures.value) c.in-Ok.ensures.living in

@@ -1,0 +1,96 @@
+// Who holds what, by small records, and what a refused growth leaves.
+ghost use Rattle.std.specs.Prelude.{◌≡◌, ◌<◌, length};
+
+use heap::Heap;
+use ids::{Aspect, Name, Num, Pid, Touch};
+use records::Records;
+use std::process::Abort;
+
+/// A touch of the entry of a name in directory 1.
+fn entry(rt: &impl Abort, heap: Heap, name: &str, write: bool) -> Touch {
+    let name = Name::copy(heap, name.as_bytes()).expect(rt, "memory");
+    Touch {
+        aspect: Aspect::Entry(Num(1), name),
+        write,
+    }
+}
+
+fn listing() -> Touch {
+    Touch {
+        aspect: Aspect::Names(Num(1)),
+        write: false,
+    }
+}
+
+fn add(rt: &impl Abort, heap: Heap, records: &mut Records, pid: Pid, touch: Touch)
+    requires { pid < length records.old }
+    ensures { length records.new ≡ length records.old }
+{
+    let touches = Vec::from_array(heap, [touch]).expect(rt, "memory");
+    records.add(pid, touches).expect(rt, "memory");
+}
+
+/// Processes 1 to 3: the first wrote `b`, the second read `c`, and the third wrote `a`.
+fn three_processes(rt: &impl Abort, heap: Heap) -> Records
+    ensures { length result ≡ 4 }
+{
+    let mut records = Records::new(heap);
+    records.enrol().expect(rt, "memory");
+    records.enrol().expect(rt, "memory");
+    records.enrol().expect(rt, "memory");
+    records.enrol().expect(rt, "memory");
+    add(rt, heap, &mut records, Pid(1), entry(rt, heap, "b", true));
+    add(rt, heap, &mut records, Pid(2), entry(rt, heap, "c", false));
+    add(rt, heap, &mut records, Pid(3), entry(rt, heap, "a", true));
+    records
+}
+
+/// How many of the touches of others clash with a look at all names by process 0.
+fn met_by_a_listing(rt: &impl Abort, records: &Records) -> usize {
+    records
+        .holders(Pid(0), &listing())
+        .expect(rt, "memory")
+        .len()
+}
+
+#[test]
+fn a_repeated_touch_is_kept_once_and_takes_no_memory(rt: HostRuntime) {
+    let heap = heap::open(rt.alloc()).expect(&rt, "memory");
+    let mut records = three_processes(&rt, heap);
+    let again = Vec::from_array(heap, [entry(&rt, heap, "b", true)]).expect(&rt, "memory");
+    heap.refuse(1);
+    assert!(rt; records.add(Pid(1), again).is_ok());
+    assert_eq!(rt; (heap.made(), records.count(Pid(1))), (0, 1));
+    records.release(Pid(1));
+    assert_eq!(rt; heap.made(), 0);
+    heap.refuse(0);
+    assert_eq!(rt; met_by_a_listing(&rt, &records), 1);
+}
+
+/// Whether two added entries of process 2 are refused, where this request for memory is.
+fn is_addition_refused(rt: &impl Abort, heap: Heap, records: &mut Records, number: u64) -> bool
+    requires { 2 < length records.old }
+{
+    let more = [entry(rt, heap, "d", true), entry(rt, heap, "e", true)];
+    let more = Vec::from_array(heap, more).expect(rt, "memory");
+    heap.refuse(number);
+    let added = records.add(Pid(2), more);
+    heap.refuse(0);
+    added.is_err()
+}
+
+#[test]
+fn a_refused_growth_leaves_all_as_it_was(rt: HostRuntime) {
+    let heap = heap::open(rt.alloc()).expect(&rt, "memory");
+    let mut refused = 0u32;
+    for number in 1..8 {
+        let mut records = three_processes(&rt, heap);
+        if is_addition_refused(&rt, heap, &mut records, number) {
+            refused = refused.wrapping_add(1);
+            assert_eq!(rt; met_by_a_listing(&rt, &records), 2);
+        } else {
+            assert_eq!(rt; met_by_a_listing(&rt, &records), 4);
+        }
+    }
+    assert!(rt; refused > 1);
+}

@@ -1,0 +1,6 @@
+mod Tallies
+mod Counting
+mod Places
+mod Modes
+mod Leaving
+pub mod Laws

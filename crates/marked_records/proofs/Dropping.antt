@@ -1,0 +1,156 @@
+-- A look at the names of a directory of which no other process writes an entry clashes with nothing.
+use Rattle.std.proofs.Common.{◌≡◌, ℕ, ◌<◌, ◌≤◌, refl, sym, ◌∙◌, ap, subst, true, false, Bool, List, [], ◌∷◌, ◌++◌, ◌+◌, ◌-◌, take, drop, drop-cons, get_or, length, filter, arith, inl, inr, append_assoc}
+use Rattle.std.specs.Prelude.{◌||◌, ◌&&◌, ◌==◌, not, slice_range, if◌then◌else◌}
+use Rattle.std.specs.List.{list_any}
+use Rattle.std.proofs.lemmas.Bool.{cases_lt, eqb-true, or_cases, or_left, or_right, and_parts, and_from, both_ways, false≢true, false_from_ne_true, not-true, not-false}
+use Rattle.std.proofs.lemmas.List.{get_or_default, get_or_past, take_more}
+use Rattle.model.specs.Aspects.{Aspect, Entry, Names, Size, Block, Links, Ends, Offset, Front, Back}
+use Rattle.model.specs.Steps.{Touch}
+use Rattle.model.specs.Clashes.{clash, has_touch, same_aspect}
+use Rattle.model.specs.Modes.{ListMode, NoTx, Read, Write, Exclusive, any_below}
+use Rattle.records.specs.Touches.{touched_by}
+use Rattle.conflict.specs.declared.found.Clash.{Clash}
+use Rattle.conflict.specs.Clashing.{AreClashesOf, AreClashes}
+use Rattle.list_modes.specs.Holding.{mode_among}
+use Rattle.list_modes.proofs.Laws.{none_below}
+use Rattle.marked_records.specs.Marks.{changes_names, marks_at, mode_by_touches, is_unwritten, looks_at, dropped, AreUnwritten}
+
+or_none : (b : Bool) → (b || false) ≡ b
+or_none true = refl
+or_none false = refl
+
+and_all : (b : Bool) → (b && true) ≡ b
+and_all true = refl
+and_all false = refl
+
+and_nothing : (b : Bool) → (b && false) ≡ false
+and_nothing true = refl
+and_nothing false = refl
+
+-- what clashes with a look at the names of a directory writes an entry of it
+look_clash : (d : ℕ) (a : Aspect) (w : Bool) → clash (record { aspect = Names d; write = false }) (record { aspect = a; write = w }) ≡ changes_names d a w
+look_clash d (Entry e x) true = or_none (d == e)
+look_clash d (Entry e x) false = refl
+look_clash d (Names e) true = or_none ((d == e) && true) ∙ and_all (d == e)
+look_clash d (Names e) false = or_none ((d == e) && false) ∙ and_nothing (d == e)
+look_clash d (Size n) true = refl
+look_clash d (Size n) false = refl
+look_clash d (Block n i) true = refl
+look_clash d (Block n i) false = refl
+look_clash d (Links n) true = refl
+look_clash d (Links n) false = refl
+look_clash d (Ends n) true = refl
+look_clash d (Ends n) false = refl
+look_clash d (Offset n) true = refl
+look_clash d (Offset n) false = refl
+look_clash d (Front n) true = refl
+look_clash d (Front n) false = refl
+look_clash d (Back n) true = refl
+look_clash d (Back n) false = refl
+
+-- a touch on the same aspect writes the same entries
+change_same : (d : ℕ) (a b : Aspect) (w : Bool) → same_aspect a b ≡ true → changes_names d b w ≡ true → changes_names d a w ≡ true
+change_same d (Entry e x) (Entry f y) true same h = ap (λ g. d == g) (eqb-true e f (and_parts (e == f) _ same).0) ∙ h
+change_same d (Names e) (Names f) true same h = ap (λ g. d == g) (eqb-true e f same) ∙ h
+change_same d (Entry e x) (Entry f y) false same h = absurd (false≢true h)
+change_same d (Names e) (Names f) false same h = absurd (false≢true h)
+change_same d (Size n) (Size m) w same h = h
+change_same d (Block n i) (Block m j) w same h = h
+change_same d (Links n) (Links m) w same h = h
+change_same d (Ends n) (Ends m) w same h = h
+change_same d (Offset n) (Offset m) w same h = h
+change_same d (Front n) (Front m) w same h = h
+change_same d (Back n) (Back m) w same h = h
+change_same d a b w same h = absurd (false≢true same)
+
+write_same : (v w : Bool) → (if w then v else not v) ≡ true → v ≡ w
+write_same true true h = refl
+write_same false false h = refl
+write_same true false h = absurd (false≢true h)
+write_same false true h = absurd (false≢true h)
+
+-- so a recorded one is among the marks
+is_marked : (d : ℕ) (a : Aspect) (w : Bool) (us : List Touch) → has_touch a w us ≡ true → changes_names d a w ≡ true → (marks_at d us).entry_written ≡ true
+is_marked d a w [] h c = absurd (false≢true h)
+is_marked d a w (u ∷ us) h c = elim (or_cases (same_aspect u.aspect a && (if w then u.write else not u.write)) (has_touch a w us) h) [
+  | inl here ↦
+      let parts = and_parts (same_aspect u.aspect a) (if w then u.write else not u.write) here in
+      or_left (changes_names d u.aspect u.write) _ (ap (changes_names d u.aspect) (write_same u.write w parts.1) ∙ change_same d u.aspect a w parts.0 c)
+  | inr later ↦ or_right (changes_names d u.aspect u.write) _ (is_marked d a w us later c)
+]
+
+module _ (lists : List (List Touch)) (pid : ℕ) (test : ℕ → Bool) (unwritten : AreUnwritten lists pid test) where
+  none_of : (d q : ℕ) (u : Touch) → test d ≡ true → (q == pid) ≡ false → clash (record { aspect = Names d; write = false }) u ≡ true → has_touch u.aspect u.write (touched_by lists q) ≡ true → false ≡ true
+  none_of d q u passes other clashes has = sym (unwritten d q passes other) ∙ is_marked d u.aspect u.write (touched_by lists q) has (sym (look_clash d u.aspect u.write) ∙ clashes)
+
+  none_found : (d q : ℕ) (u : Touch) → test d ≡ true → false ≡ (not (q == pid) && (clash (record { aspect = Names d; write = false }) u && has_touch u.aspect u.write (touched_by lists q)))
+  none_found d q u passes = sym (false_from_ne_true _ (λ h.
+      let outer = and_parts (not (q == pid)) _ h in
+      let inner = and_parts (clash (record { aspect = Names d; write = false }) u) (has_touch u.aspect u.write (touched_by lists q)) outer.1 in
+      false≢true (none_of d q u passes (not-true (q == pid) outer.0) inner.0 inner.1)))
+
+  by_aspect : (a : Aspect) (w : Bool) → looks_at test a w ≡ true → AreClashesOf lists pid (record { aspect = a; write = w }) []
+  by_aspect (Names d) false passes = record { mine = tt; exact = λ q u. none_found d q u passes; order = tt }
+  by_aspect (Names d) true passes = absurd (false≢true passes)
+  by_aspect a w passes = absurd (false≢true passes)
+
+  -- a look that is dropped clashes with nothing
+  pub dropped_alone : (t : Touch) → looks_at test t.aspect t.write ≡ true → AreClashesOf lists pid t []
+  dropped_alone t passes = by_aspect t.aspect t.write passes
+
+  -- so all clashes are those of the others
+  pub dropped_clashes : (ts : List Touch) (found : List Clash) → AreClashes lists pid (dropped test ts) found → AreClashes lists pid ts found
+  dropped_clashes [] found are = are
+  dropped_clashes (t ∷ ts) found are = by (looks_at test t.aspect t.write) refl are (dropped_clashes ts) where
+    by : (b : Bool) → looks_at test t.aspect t.write ≡ b → AreClashes lists pid (if not b then t ∷ dropped test ts else dropped test ts) found → ((rest : List Clash) → AreClashes lists pid (dropped test ts) rest → AreClashes lists pid ts rest) → AreClashes lists pid (t ∷ ts) found
+    by true passes of later = ([], found, refl, dropped_alone t passes, later found of)
+    by false kept of later = (of.0, of.1, of.2, of.3, later of.1 of.4)
+
+-- by the list mode of the directory
+unwritten_by : (reads writes : ℕ → Bool) (n : ℕ) → is_unwritten (mode_among reads writes n) ≡ true → any_below writes n ≡ false
+unwritten_by reads writes n h = by (any_below (λ q. reads q && writes q) n) (any_below writes n) (any_below reads n) refl h where
+  by : (a b c : Bool) → any_below writes n ≡ b → is_unwritten (if a then Exclusive else if b then Write else if c then Read else NoTx) ≡ true → any_below writes n ≡ false
+  by true b c is e = absurd (false≢true e)
+  by false true c is e = absurd (false≢true e)
+  by false false c is e = is
+
+pub unwritten_by_mode : (lists : List (List Touch)) (pid : ℕ) → AreUnwritten lists pid (λ d. is_unwritten (mode_by_touches lists d))
+unwritten_by_mode lists pid d q passes other = elim (cases_lt q (length lists)) [
+  | inl below ↦ none_below (writes d) (length lists) (unwritten_by (λ x. (marks_at d (touched_by lists x)).names_read) (writes d) (length lists) passes) q below
+  | inr beyond ↦ ap (λ ts. (marks_at d ts).entry_written) (get_or_past lists q [] beyond)
+] where
+  writes : ℕ → ℕ → Bool
+  writes e x = (marks_at e (touched_by lists x)).entry_written
+
+-- clashes of some touches, and of those that come after them
+pub clashes_join : (lists : List (List Touch)) (pid : ℕ) (ts us : List Touch) (f g : List Clash) → AreClashes lists pid ts f → AreClashes lists pid us g → AreClashes lists pid (ts ++ us) (f ++ g)
+clashes_join lists pid [] us f g are next = subst (λ (x : List Clash). AreClashes lists pid us x) (sym (ap (λ x. x ++ g) are)) next
+clashes_join lists pid (t ∷ ts) us f g are next = (are.0, are.1 ++ g, ap (λ x. x ++ g) are.2 ∙ append_assoc are.0 are.1 g, are.3, clashes_join lists pid ts us are.1 g are.4 next)
+
+one_slice : (ts : List Touch) (i : ℕ) (t : Touch) → i < length ts → t ≡ get_or ts i t → slice_range ts i (i + 1) ≡ t ∷ []
+one_slice ts i t within is =
+    let e : (i + 1) - i ≡ 1 = omega arith in
+    ap (λ n. take n (drop i ts)) e ∙ ap (take 1) (drop-cons ts i t within) ∙ ap (λ u. u ∷ []) (sym is)
+
+-- the clashes of one touch, asked for by themselves
+pub asked_alone : (lists : List (List Touch)) (pid : ℕ) (ts : List Touch) (i : ℕ) (found : List Clash) → i < length ts → AreClashes lists pid (slice_range ts i (i + 1)) found → (t : Touch) → t ≡ get_or ts i t → AreClashes lists pid (t ∷ []) found
+asked_alone lists pid ts i found within are t is = subst (λ (us : List Touch). AreClashes lists pid us found) (one_slice ts i t within is) are
+
+-- and of one that is not asked about
+pub not_asked : (lists : List (List Touch)) (pid : ℕ) (u : Touch) → not (looks_at (λ d. is_unwritten (mode_by_touches lists d)) u.aspect u.write) ≡ false → AreClashes lists pid (u ∷ []) []
+not_asked lists pid u dropped = ([], [], refl, dropped_alone lists pid (λ d. is_unwritten (mode_by_touches lists d)) (unwritten_by_mode lists pid) u (not-false _ dropped), refl)
+
+pub clashes_more : (lists : List (List Touch)) (pid : ℕ) (ts : List Touch) (i : ℕ) (found own all : List Clash) → i < length ts → AreClashes lists pid (take i ts) found → ((t : Touch) → t ≡ get_or ts i t → AreClashes lists pid (t ∷ []) own) → all ≡ found ++ own → AreClashes lists pid (take (i + 1) ts) all
+clashes_more lists pid ts i found own all within are of is = by ts within are of where
+  by : (us : List Touch) → i < length us → AreClashes lists pid (take i us) found → ((t : Touch) → t ≡ get_or us i t → AreClashes lists pid (t ∷ []) own) → AreClashes lists pid (take (i + 1) us) all
+  by [] none was ones = absurd (omega arith)
+  by (u ∷ us) some was ones =
+      let t : Touch = get_or (u ∷ us) i u in
+      let there : t ≡ get_or (u ∷ us) i t = get_or_default (u ∷ us) i u t some in
+      subst (λ (x : List Clash). AreClashes lists pid (take (i + 1) (u ∷ us)) x) (sym is)
+      (subst (λ (x : List Touch). AreClashes lists pid x (found ++ own)) (sym (take_more (u ∷ us) i u some))
+      (clashes_join lists pid (take i (u ∷ us)) (t ∷ []) found own was (ones t there)))
+
+-- two that are read at one place are one
+pub one_touch : (ts : List Touch) (i : ℕ) (t u : Touch) → i < length ts → t ≡ get_or ts i t → u ≡ get_or ts i u → t ≡ u
+one_touch ts i t u within is other = is ∙ get_or_default ts i t u within ∙ sym other

@@ -1,0 +1,5 @@
+mod Marked
+mod Held
+mod Dropping
+mod Plain
+pub mod Laws

@@ -1,0 +1,213 @@
+//! What each process's live transaction touched, with the list modes of directories beside it
+//! (TxOS, sections 4 and 5).
+//!
+//! A look at all names of a directory clashes with nothing where no process writes an entry of it.
+//! Its list mode says so, so such a look is dropped before clashes are asked for.
+#![tactic(auto)]
+
+ghost use Rattle.std.specs.Prelude.{◌≡◌, ℕ, ◌<◌, ◌-◌, ◌++◌, ◌∷◌, [], length, take, set, get_or};
+ghost use Rattle.std.specs.Prelude.{not, IfOk, OnErr, OnOk};
+ghost use Rattle.list_modes.specs.Holding.{held_of};
+ghost use Rattle.model.specs.Steps.{Touch as OfModel};
+ghost use Rattle.records.specs.Touches.{touched_by, with_touches};
+ghost use Rattle.marked_records.specs.Marks.{SetsMarks, marks_at, mode_by_touches};
+ghost use Rattle.marked_records.specs.Marks.{is_unwritten, looks_at};
+ghost use Rattle.conflict.specs.Clashing.{AreClashes};
+
+mod marking;
+
+use conflict::{Clash, clashes};
+use heap::Heap;
+use ids::{Aspect, ListMode, Num, Pid, Touch};
+use list_modes::Holders;
+use marking::{mark, unmark_behind};
+use records::Records;
+use std::alloc::AllocError;
+use std::marker::Model;
+
+/// What each process's live transaction touched, and what that marks at directories. Contracts see
+/// the touches of each process, each once.
+#[derive(Drop)]
+pub struct MarkedRecords {
+    records: Records,
+    holders: Holders,
+}
+
+impl Model for MarkedRecords {
+    ghost use Rattle.std.specs.Prelude.{List};
+    ghost use Rattle.model.specs.Steps.{Touch};
+    ghost use Rattle.marked_records.specs.Marks.{IsMarked};
+
+    ghost Value = { List (List Touch) };
+
+    ghost view = { λ m. m.records };
+
+    ghost invariant = { λ m. IsMarked m.records m.holders };
+}
+
+/// A process holds what its touches behind the first so many mark, besides what it holds. Refused
+/// memory leaves what the first so many mark.
+fn mark_behind(
+    holders: &mut Holders,
+    pid: Pid,
+    touches: &[Touch],
+    count: usize,
+) -> Result<(), AllocError>
+    requires { (d : ℕ) → held_of holders.old pid d ≡ marks_at d (take count touches.now) }
+    ensures ok { OnOk result (SetsMarks holders.old holders.new pid
+        (λ d. marks_at d touches.now)) }
+    ensures err { OnErr result (SetsMarks holders.old holders.new pid
+        (λ d. marks_at d (take count touches.now))) }
+{
+    for i in count..touches.len() {
+        match mark(holders, pid, &touches[i]) {
+            Ok(()) => {}
+            Err(refused) => {
+                unmark_behind(holders, pid, touches, count);
+                return Err(refused);
+            }
+        }
+    }
+    Ok(())
+}
+
+impl MarkedRecords {
+    /// No processes. It takes no memory.
+    pub fn new(heap: Heap) -> MarkedRecords
+        ensures { result ≡ [] }
+    {
+        MarkedRecords {
+            records: Records::new(heap),
+            holders: Holders::new(heap),
+        }
+    }
+
+    /// One process more, with the next number, that touched nothing. Refused memory changes
+    /// nothing.
+    pub fn enrol(&mut self) -> Result<(), AllocError>
+        ensures ok { OnOk result (self.new ≡ self.old ++ [] ∷ []) }
+        ensures err { OnErr result (self.new ≡ self.old) }
+    {
+        self.records.enrol()
+    }
+
+    /// The last process is taken away again, which touched nothing. It takes no memory.
+    pub fn shrink(&mut self)
+        requires some { 0 < length self.old }
+        requires untouched { touched_by self.old (length self.old - 1) ≡ [] }
+        ensures { self.new ≡ take (length self.old - 1) self.old }
+    {
+        self.records.shrink();
+    }
+
+    /// The touches, without the marks.
+    pub fn records(&self) -> &Records
+        ensures { result.now ≡ self.now }
+    {
+        &self.records
+    }
+
+    /// How many touches a process has, each counted once.
+    pub fn count(&self, pid: Pid) -> usize
+        requires { pid < length self.now }
+        ensures { result ≡ length (touched_by self.now pid) }
+    {
+        self.records.count(pid)
+    }
+
+    /// A process touches these too. Refused memory changes nothing.
+    pub fn add(&mut self, pid: Pid, touches: Vec<Touch, Heap>) -> Result<(), AllocError>
+        requires { pid < length self.old }
+        ensures ok { OnOk result (self.new
+            ≡ set self.old pid (with_touches (touched_by self.old pid) touches.entry.items)) }
+        ensures err { OnErr result (self.new ≡ self.old) }
+    {
+        let before = self.records.count(pid);
+        self.records.add(pid, touches)?;
+        match mark_behind(&mut self.holders, pid, self.records.touches(pid), before) {
+            Ok(()) => Ok(()),
+            Err(refused) => {
+                self.records.keep_first(pid, before);
+                Err(refused)
+            }
+        }
+    }
+
+    /// A process's touches behind the first so many are forgotten. It takes no memory.
+    pub fn keep_first(&mut self, pid: Pid, count: usize)
+        requires { pid < length self.old }
+        ensures { self.new ≡ set self.old pid (take count (touched_by self.old pid)) }
+    {
+        unmark_behind(&mut self.holders, pid, self.records.touches(pid), count);
+        self.records.keep_first(pid, count);
+    }
+
+    /// A process's touches are forgotten. It takes no memory.
+    pub fn release(&mut self, pid: Pid)
+        requires { pid < length self.old }
+        ensures { self.new ≡ set self.old pid [] }
+    {
+        self.holders.let_go(pid);
+        self.records.release(pid);
+    }
+
+    // Whether a touch may clash with one of another process: where no process writes an entry of a
+    // directory, a look at its names does not.
+    fn may_clash(&self, touch: &Touch) -> bool
+        ensures { result ≡ not (looks_at (λ d. is_unwritten (mode_by_touches self.now d))
+            touch.now.aspect touch.now.write) }
+    {
+        match (&touch.aspect, touch.write) {
+            (Aspect::Names(dir), false) => match self.mode(*dir) {
+                ListMode::NoTx | ListMode::Read => false,
+                ListMode::Write | ListMode::Exclusive => true,
+            },
+            _ => true,
+        }
+    }
+
+    // All clashes of one of these touches.
+    fn clashes_of(
+        &self,
+        heap: Heap,
+        caller: Pid,
+        touches: &[Touch],
+        i: usize,
+    ) -> Result<Vec<Clash, Heap>, AllocError>
+        requires { i < length touches.now }
+        ensures { IfOk result (λ own. (t : OfModel) → t ≡ get_or touches.now i t
+            → AreClashes self.now caller (t ∷ []) own.items) }
+    {
+        if self.may_clash(&touches[i]) {
+            clashes(heap, &self.records, caller, &touches[i..i + 1])
+        } else {
+            Ok(Vec::new(heap))
+        }
+    }
+
+    /// All clashes of these touches of a process with what others touched, in order. It is not
+    /// asked about looks at the names of directories of which no process writes an entry. Refused
+    /// memory is an error.
+    pub fn clashes(
+        &self,
+        heap: Heap,
+        caller: Pid,
+        touches: &[Touch],
+    ) -> Result<Vec<Clash, Heap>, AllocError>
+        ensures { IfOk result (λ found. AreClashes self.now caller touches.now found.items) }
+    {
+        let mut found = Vec::new(heap);
+        for i in 0..touches.len() {
+            let mut own = self.clashes_of(heap, caller, touches, i)?;
+            found.append(&mut own)?;
+        }
+        Ok(found)
+    }
+
+    /// The list mode of a directory, by what each process has touched. It takes no memory.
+    pub fn mode(&self, dir: Num) -> ListMode
+        ensures { result ≡ mode_by_touches self.now dir }
+    {
+        self.holders.mode(dir)
+    }
+}

@@ -1,0 +1,7 @@
+pub mod Touches
+pub mod Codes
+pub mod Marks
+pub mod Groups
+pub mod Index
+pub mod Ranges
+pub mod Holders

@@ -1,0 +1,19 @@
+//! What each process's live transaction touched, kept by object: for each part of an object who
+//! reads it and who writes it, and for a directory the entries that are written, in order.
+//!
+//! For each aspect that is touched stand the processes that write it and those that read it, each
+//! once. So who clashes with a touch is one look-up of its aspect; entries of a directory clash
+//! with a look at all its names, and those that are written stand next to each other. Beside it
+//! each process has its touches in the order in which they came, each once, so that they can be
+//! taken back.
+#![tactic(auto)]
+
+mod holders;
+mod index;
+mod journal;
+mod mark;
+mod records;
+mod users;
+
+pub use mark::{Mark, compare_touches};
+pub use records::Records;

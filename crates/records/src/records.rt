@@ -1,0 +1,218 @@
+// All touches of all live transactions.
+ghost use Rattle.std.specs.Prelude.{◌≡◌, ◌-◌, ◌<◌, ◌++◌, ◌∷◌, [], false, length};
+ghost use Rattle.std.specs.Prelude.{take, set, IfOk, IfErr, OnOk, OnErr};
+ghost use Rattle.records.specs.Holders.{AreHolders};
+ghost use Rattle.records.specs.Index.{has, IsIndexed};
+ghost use Rattle.records.specs.Touches.{touched_by, with_touch, with_touches};
+
+use crate::holders::collect;
+use crate::index::{Index, enter, leave};
+use crate::journal::Journal;
+use crate::mark::Mark;
+use heap::Heap;
+use ids::{Pid, Touch};
+use std::alloc::AllocError;
+use std::collections::BTreeMap;
+use std::marker::Model;
+
+/// What each process's live transaction touched. Contracts see the touches of each process, each
+/// once, in the order in which they first came.
+#[derive(Drop)]
+pub struct Records {
+    heap: Heap,
+    journals: Vec<Journal, Heap>,
+    users: Index,
+}
+
+impl Model for Records {
+    ghost use Rattle.std.specs.Prelude.{List};
+    ghost use Rattle.model.specs.Steps.{Touch};
+    ghost use Rattle.records.specs.Index.{IsIndexed};
+
+    ghost Value = { List (List Touch) };
+
+    ghost view = { λ r. r.journals.items };
+
+    ghost invariant = { λ r. IsIndexed r.journals.items r.users };
+}
+
+/// A touch more at the end of a journal that has not got it. Refused memory gives it back and
+/// changes nothing.
+fn push_to(journals: &mut Vec<Journal, Heap>, pid: Pid, touch: Touch) -> Result<(), Touch>
+    requires within { pid < length journals.old.items }
+    requires absent { has touch (touched_by journals.old.items pid) ≡ false }
+    ensures ok { OnOk result (journals.new.items
+        ≡ set journals.old.items pid (touched_by journals.old.items pid ++ touch ∷ [])) }
+    ensures back { IfErr result (λ t. t ≡ touch) }
+    ensures err { OnErr result (journals.new.items ≡ journals.old.items) }
+{
+    journals[pid.0 as usize].push(touch)
+}
+
+/// The last touch is taken from a journal.
+fn pop_from(journals: &mut Vec<Journal, Heap>, pid: Pid) -> Touch
+    requires within { pid < length journals.old.items }
+    requires some { 0 < length (touched_by journals.old.items pid) }
+    ensures journals { journals.new.items ≡ set journals.old.items pid
+        (take (length (touched_by journals.old.items pid) - 1)
+        (touched_by journals.old.items pid)) }
+    ensures last { touched_by journals.old.items pid
+        ≡ take (length (touched_by journals.old.items pid) - 1) (touched_by journals.old.items pid)
+        ++ result ∷ [] }
+    ensures once { has result (take (length (touched_by journals.old.items pid) - 1)
+        (touched_by journals.old.items pid)) ≡ false }
+{
+    journals[pid.0 as usize].pop().unwrap()
+}
+
+/// A touch more of a process, with its use; one that it has already takes no memory. Refused memory
+/// changes nothing.
+fn note(
+    heap: Heap,
+    journals: &mut Vec<Journal, Heap>,
+    index: &mut Index,
+    pid: Pid,
+    touch: Touch,
+) -> Result<(), AllocError>
+    requires within { pid < length journals.old.items }
+    requires indexed { IsIndexed journals.old.items index.old }
+    ensures ok { OnOk result (journals.new.items
+        ≡ set journals.old.items pid (with_touch (touched_by journals.old.items pid) touch)) }
+    ensures err { OnErr result (journals.new.items ≡ journals.old.items) }
+    ensures indexed { IsIndexed journals.new.items index.new }
+{
+    if !enter(heap, index, pid, &touch)? {
+        return Ok(());
+    }
+    match push_to(journals, pid, touch) {
+        Ok(()) => Ok(()),
+        Err(touch) => {
+            leave(index, pid, &touch);
+            Err(AllocError)
+        }
+    }
+}
+
+impl Records {
+    /// No processes. It takes no memory.
+    pub fn new(heap: Heap) -> Records
+        ensures { result ≡ [] }
+    {
+        Records {
+            heap,
+            journals: Vec::new(heap),
+            users: BTreeMap::new(heap),
+        }
+    }
+
+    /// One process more, with the next number, that touched nothing. Refused memory changes
+    /// nothing.
+    pub fn enrol(&mut self) -> Result<(), AllocError>
+        ensures ok { OnOk result (self.new ≡ self.old ++ [] ∷ []) }
+        ensures err { OnErr result (self.new ≡ self.old) }
+    {
+        self.journals.push(Journal::new(self.heap))?;
+        Ok(())
+    }
+
+    /// The last process is taken away again, which touched nothing. It takes no memory.
+    pub fn shrink(&mut self)
+        requires some { 0 < length self.old }
+        requires untouched { touched_by self.old (length self.old - 1) ≡ [] }
+        ensures { self.new ≡ take (length self.old - 1) self.old }
+    {
+        self.journals.pop();
+    }
+
+    /// What a process touched, each once, in the order in which they first came; nothing for one
+    /// that is not there.
+    pub fn touches(&self, pid: Pid) -> &[Touch]
+        ensures { result.now ≡ touched_by self.now pid }
+    {
+        match self.journals.get(pid.0 as usize) {
+            Some(journal) => journal.as_slice(),
+            None => &[],
+        }
+    }
+
+    /// How many touches a process has, each counted once.
+    pub fn count(&self, pid: Pid) -> usize
+        requires { pid < length self.now }
+        ensures { result ≡ length (touched_by self.now pid) }
+    {
+        self.journals[pid.0 as usize].len()
+    }
+
+    /// All touches of other processes that clash with a touch, each once, with its process. Where
+    /// there are none, it takes no memory. Refused memory is an error.
+    ///
+    /// On the touch's own aspect the writes stand before the reads; entries that clash with a look
+    /// at all names stand in the byte order of their names.
+    pub fn holders(&self, caller: Pid, touch: &Touch) -> Result<Vec<Mark, Heap>, AllocError>
+        ensures { IfOk result (λ found. AreHolders self.now caller touch.now found.items) }
+    {
+        collect(self.heap, &self.users, caller, touch)
+    }
+
+    /// A touch more of a process, unless it has it already. Refused memory changes nothing.
+    fn add_one(&mut self, pid: Pid, touch: Touch) -> Result<(), AllocError>
+        requires { pid < length self.old }
+        ensures ok { OnOk result (self.new
+            ≡ set self.old pid (with_touch (touched_by self.old pid) touch)) }
+        ensures err { OnErr result (self.new ≡ self.old) }
+    {
+        note(self.heap, &mut self.journals, &mut self.users, pid, touch)
+    }
+
+    /// The last touch of a process is forgotten. It takes no memory.
+    fn forget_last(&mut self, pid: Pid)
+        requires within { pid < length self.old }
+        requires some { 0 < length (touched_by self.old pid) }
+        ensures { self.new ≡ set self.old pid
+            (take (length (touched_by self.old pid) - 1) (touched_by self.old pid)) }
+    {
+        let touch = pop_from(&mut self.journals, pid);
+        leave(&mut self.users, pid, &touch);
+    }
+
+    /// A process's touches behind the first so many are forgotten. It takes no memory, and as many
+    /// steps as touches are forgotten.
+    pub fn keep_first(&mut self, pid: Pid, count: usize)
+        requires { pid < length self.old }
+        ensures { self.new ≡ set self.old pid (take count (touched_by self.old pid)) }
+    {
+        while self.count(pid) > count {
+            self.forget_last(pid);
+        }
+    }
+
+    /// A process's touches are forgotten. It takes no memory, and as many steps as the process has
+    /// touches.
+    pub fn release(&mut self, pid: Pid)
+        requires { pid < length self.old }
+        ensures { self.new ≡ set self.old pid [] }
+    {
+        self.keep_first(pid, 0);
+    }
+
+    /// A process touches these too. One that it has already takes no memory. Refused memory changes
+    /// nothing.
+    pub fn add(&mut self, pid: Pid, touches: Vec<Touch, Heap>) -> Result<(), AllocError>
+        requires { pid < length self.old }
+        ensures ok { OnOk result (self.new
+            ≡ set self.old pid (with_touches (touched_by self.old pid) touches.entry.items)) }
+        ensures err { OnErr result (self.new ≡ self.old) }
+    {
+        let before = self.count(pid);
+        for touch in touches {
+            match self.add_one(pid, touch) {
+                Ok(()) => {}
+                Err(refused) => {
+                    self.keep_first(pid, before);
+                    return Err(refused);
+                }
+            }
+        }
+        Ok(())
+    }
+}

@@ -1,0 +1,20 @@
+mod Maps
+mod States
+mod Edits
+mod Own
+mod Rules
+mod Plans
+mod Calls
+mod Needed
+mod Sound
+mod Slots
+mod Runs
+mod Swaps
+mod Roots
+mod Chosen
+mod Told
+mod Apart
+mod Guarded
+mod Stats
+mod Histories
+pub mod Laws

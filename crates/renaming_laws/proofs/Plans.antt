@@ -1,0 +1,201 @@
+-- The plan of each call, in a renamed state.
+use Rattle.std.proofs.Common.{◌≡◌, ℕ, ◌+◌, ◌-◌, ℤ, pos, negsuc, ◌+ℤ◌, Bool, true, false, not, ◌&&◌, ◌||◌, nat_lt, nat_le, ◌==◌, if◌then◌else◌, List, [], ◌∷◌, ◌++◌, map, length, take, Option, Some, None, refl, sym, ap, ap₂, subst, ◌∙◌}
+use Rattle.std.proofs.lemmas.List.{map-append}
+use Rattle.ids.specs.Flags.{is_reading, is_writing, is_creating, is_exclusive, is_truncating}
+use Rattle.model.specs.State.{Kind, A_file, A_directory, A_pipe, Kernel, mapped}
+use Rattle.model.specs.Plan.{Errno, EAGAIN, EBADF, EBUSY, EEXIST, EFBIG, EINVAL, EISDIR, EMFILE, ENOENT, ENOTDIR, ENOTEMPTY, EPERM, EPIPE, ESPIPE, List_names, Measure, Read_file, Count_links, Count_ends, Find_offset, Read_pipe, Fit, Plan, Give, ◌>>=◌, ◌>>◌, ask, refuse_if, or_refuse}
+use Rattle.model.specs.Paths.{is_empty, is_below}
+use Rattle.model.specs.Walks.{parsed, walk, Last, last_of, Place, is_directory}
+use Rattle.model.specs.Changes.{Made, There, Edit, Make_directory, Make_file, Name_file, Unname_file, Unname_directory, Move, Put_bytes, Take, Append, Over_nothing, Over_file, Over_directory, Set_offset, Open_inode, Make_pipe, Share_slot, Clear_slot, New_process, End_process}
+use Rattle.model.specs.Calls.{OpenFlags, Whence, From_start, From_offset, From_end, Call, Open, Close, Read, Write, Lseek, Ftruncate, Stat, Fstat, Link, Unlink, Rename, Mkdir, Rmdir, List_directory, Dup, Dup2, Open_pipe, Fork, Exit, Answer, Done, Descriptor, Count, New_place, Bytes, Pair, Stated, Listing, Child, Slot, Own}
+use Rattle.model.specs.Plans.{Change, changed, free, first_of_free, slot_at, slot, is_pipe, pipe_in, pipes_in, status, mode, cut_to, opened, read_pipe, read_some, place_to_write, write_some, sought, base, replaced_by_name, move_onto, moved, absent, duplicated, piped, forked, plan, largest, most_processes, whole_write}
+use Rattle.renaming_laws.specs.Renaming.{IsRenaming}
+use Rattle.renaming_laws.specs.Renamed.{renamed_place, renamed_slot, renamed_own, renamed_replaced, renamed_edit, renamed_answer, renamed_change}
+use Rattle.renaming_laws.proofs.States.{same_test}
+use Rattle.renaming_laws.proofs.Own.{free_still, slot_found, pipe_renamed, pipes_renamed}
+use Rattle.renaming_laws.proofs.Rules.{Goes, goes_on, goes_give, goes_refuse, goes_ask, goes_unless, goes_either, goes_or, goes_parsed, directory_still, renamed_last, walk_goes, last_of_goes}
+
+module _ (f : ℕ → ℕ) (r : IsRenaming f) (k : Kernel) where
+  -- how a call ends
+  goes_changed : (answer : Answer) (es es' : List Edit) → es' ≡ map (renamed_edit f) es → Goes f k (renamed_change f) (changed answer es) (changed (renamed_answer f answer) es')
+  goes_changed answer es es' same = goes_give f r k (renamed_change f) (record { reply = answer; edits = es }) (record { reply = renamed_answer f answer; edits = es' }) (λ i. record { reply = renamed_answer f answer; edits = same i })
+
+  slot_goes : (own : Own) (fd : ℕ) → Goes f k (renamed_slot f) (slot own fd) (slot (renamed_own f own) fd)
+  slot_goes own fd = subst (λ o. Goes f k (renamed_slot f) (slot own fd) (or_refuse EBADF o)) (sym (slot_found f r own fd)) (goes_or f r k (renamed_slot f) EBADF (slot_at own fd))
+
+  with_slot : (own : Own) (fd : ℕ) (p q : Slot → Plan Change) → ((it : Slot) → Goes f k (renamed_change f) (p it) (q (renamed_slot f it))) → Goes f k (renamed_change f) (slot own fd >>= p) (slot (renamed_own f own) fd >>= q)
+  with_slot own fd p q rest = goes_on f r k (renamed_slot f) (renamed_change f) (slot own fd) (slot (renamed_own f own) fd) p q (slot_goes own fd) rest
+
+  unless : (b : Bool) (e : Errno) (m n : Plan Change) → Goes f k (renamed_change f) m n → Goes f k (renamed_change f) (refuse_if b e >> m) (refuse_if b e >> n)
+  unless b e m n way = goes_unless f r k (renamed_change f) b b refl e m n way
+
+  -- a question whose answer tells no number
+  asked : {A B C : Type 0} (h : B → C) (m n : Plan A) (p : A → Plan B) (q : A → Plan C) → Goes f k (λ x. x) m n → ((x : A) → Goes f k h (p x) (q x)) → Goes f k h (m >>= p) (n >>= q)
+  asked h m n p q way rest = goes_on f r k (λ x. x) h m n p q way rest
+
+  status_goes : (n : ℕ) (what : Option Kind) → Goes f k (renamed_change f) (status (n, what)) (status (f n, what))
+  status_goes n None = goes_refuse f r k (renamed_change f) ENOENT
+  status_goes n (Some A_file) =
+      asked (renamed_change f) (ask (Measure n)) (ask (Measure (f n))) _ _ (goes_ask f r k (Measure n)) (λ size.
+      asked (renamed_change f) (ask (Count_links n)) (ask (Count_links (f n))) _ _ (goes_ask f r k (Count_links n)) (λ links.
+      goes_changed (Stated (record { kind = A_file; num = n; size = size; links = links })) [] [] refl))
+  status_goes n (Some A_directory) = goes_changed (Stated (record { kind = A_directory; num = n; size = 0; links = 1 })) [] [] refl
+  status_goes n (Some A_pipe) = goes_changed (Stated (record { kind = A_pipe; num = n; size = 0; links = 0 })) [] [] refl
+
+  cut_goes : (n len : ℕ) → Goes f k (map (renamed_edit f)) (cut_to n len) (cut_to (f n) len)
+  cut_goes n len = asked (map (renamed_edit f)) (ask (Measure n)) (ask (Measure (f n))) _ _ (goes_ask f r k (Measure n)) (λ size. goes_give f r k (map (renamed_edit f)) _ _ refl)
+
+  opened_goes : (own : Own) (flags : OpenFlags) (fd : ℕ) (at : Last) (found : Option Place) → Goes f k (renamed_change f) (opened own flags fd at found) (opened (renamed_own f own) flags fd (renamed_last f at) (mapped (renamed_place f) found))
+  opened_goes own flags fd at None =
+      unless (not (is_creating flags)) ENOENT _ _ (goes_changed (Descriptor fd) (Make_file at.parent at.name 0 ∷ Open_inode 1 (Made 0) (mode flags) own.pid fd ∷ []) _ refl)
+  opened_goes own flags fd at (Some place) =
+      unless (is_creating flags && is_exclusive flags) EEXIST _ _
+      (goes_unless f r k (renamed_change f) (is_directory place) (is_directory (renamed_place f place)) (directory_still f place) EISDIR _ _
+      (goes_on f r k (map (renamed_edit f)) (renamed_change f) (if is_truncating flags then cut_to place.0 0 else Give []) (if is_truncating flags then cut_to (f place.0) 0 else Give []) _ _
+      (goes_either f r k (map (renamed_edit f)) (is_truncating flags) (is_truncating flags) refl _ _ _ _ (cut_goes place.0 0) (goes_give f r k (map (renamed_edit f)) [] [] refl)) (λ cut.
+      goes_changed (Descriptor fd) (cut ++ Open_inode 0 (There place.0) (mode flags) own.pid fd ∷ []) (map (renamed_edit f) cut ++ Open_inode 0 (There (f place.0)) (mode flags) own.pid fd ∷ []) (sym (map-append (renamed_edit f) cut (Open_inode 0 (There place.0) (mode flags) own.pid fd ∷ []))))))
+
+  read_pipe_goes : (p : ℕ) (bytes : List ℕ) → Goes f k (renamed_change f) (read_pipe p bytes) (read_pipe (f p) bytes)
+  read_pipe_goes p [] = asked (renamed_change f) (ask (Count_ends p)) (ask (Count_ends (f p))) _ _ (goes_ask f r k (Count_ends p)) (λ ends. unless (nat_lt 0 ends.1) EAGAIN _ _ (goes_changed (Bytes []) [] [] refl))
+  read_pipe_goes p (b ∷ bytes) = goes_changed (Bytes (b ∷ bytes)) (Take p (length (b ∷ bytes)) ∷ []) (Take (f p) (length (b ∷ bytes)) ∷ []) refl
+
+  offset_moved : (d place : ℕ) (b : Bool) → (if b then [] else Set_offset (f d) place ∷ []) ≡ map (renamed_edit f) (if b then [] else Set_offset d place ∷ [])
+  offset_moved d place true = refl
+  offset_moved d place false = refl
+
+  read_goes : (it : Slot) (count : ℕ) → Goes f k (renamed_change f) (read_some it count) (read_some (renamed_slot f it) count)
+  read_goes it count = goes_either f r k (renamed_change f) (is_pipe it.kind) (is_pipe it.kind) refl _ _ _ _
+      (asked (renamed_change f) (ask (Read_pipe it.inode count)) (ask (Read_pipe (f it.inode) count)) _ _ (goes_ask f r k (Read_pipe it.inode count)) (λ bytes. read_pipe_goes it.inode bytes))
+      (asked (renamed_change f) (ask (Find_offset it.description)) (ask (Find_offset (f it.description))) _ _ (goes_ask f r k (Find_offset it.description)) (λ offset.
+      asked (renamed_change f) (ask (Read_file it.inode offset count)) (ask (Read_file (f it.inode) offset count)) _ _ (goes_ask f r k (Read_file it.inode offset count)) (λ bytes.
+      goes_changed (Bytes bytes) _ _ (offset_moved it.description (offset + length bytes) (is_empty bytes)))))
+
+  place_goes : (it : Slot) (b : Bool) → Goes f k (λ place. place) (place_to_write it b) (place_to_write (renamed_slot f it) b)
+  place_goes it true = goes_ask f r k (Measure it.inode)
+  place_goes it false = goes_ask f r k (Find_offset it.description)
+
+  write_goes : (it : Slot) (bytes : List ℕ) → Goes f k (renamed_change f) (write_some it bytes) (write_some (renamed_slot f it) bytes)
+  write_goes it bytes = goes_either f r k (renamed_change f) (is_pipe it.kind) (is_pipe it.kind) refl _ _ _ _
+      (asked (renamed_change f) (ask (Count_ends it.inode)) (ask (Count_ends (f it.inode))) _ _ (goes_ask f r k (Count_ends it.inode)) (λ ends.
+      unless (ends.0 == 0) EPIPE _ _
+      (asked (renamed_change f) (ask (Fit it.inode (length bytes))) (ask (Fit (f it.inode) (length bytes))) _ _ (goes_ask f r k (Fit it.inode (length bytes))) (λ fitting.
+      unless (nat_lt fitting (length bytes) && nat_le (length bytes) whole_write) EAGAIN _ _
+      (unless (fitting == 0) EAGAIN _ _ (goes_changed (Count fitting) (Append it.inode (take fitting bytes) ∷ []) _ refl))))))
+      (asked (renamed_change f) (place_to_write it it.appending) (place_to_write (renamed_slot f it) it.appending) _ _ (place_goes it it.appending) (λ place.
+      unless (nat_le largest place) EFBIG _ _
+      (asked (renamed_change f) (ask (Measure it.inode)) (ask (Measure (f it.inode))) _ _ (goes_ask f r k (Measure it.inode)) (λ size.
+      goes_changed (Count (length (take (largest - place) bytes))) (Put_bytes it.inode place (take (largest - place) bytes) size ∷ Set_offset it.description (place + length (take (largest - place) bytes)) ∷ []) _ refl))))
+
+  sought_goes : (it : Slot) (z : ℤ) → Goes f k (renamed_change f) (sought it z) (sought (renamed_slot f it) z)
+  sought_goes it (pos place) = unless (nat_lt largest place) EINVAL _ _ (goes_changed (New_place place) (Set_offset it.description place ∷ []) _ refl)
+  sought_goes it (negsuc place) = goes_refuse f r k (renamed_change f) EINVAL
+
+  base_goes : (it : Slot) (whence : Whence) → Goes f k (λ place. place) (base it whence) (base (renamed_slot f it) whence)
+  base_goes it From_start = goes_give f r k (λ place. place) 0 0 refl
+  base_goes it From_offset = goes_ask f r k (Find_offset it.description)
+  base_goes it From_end = goes_ask f r k (Measure it.inode)
+
+  replaced_goes : (n : ℕ) (b : Bool) → Goes f k (renamed_replaced f) (replaced_by_name n b) (replaced_by_name (f n) b)
+  replaced_goes n true = asked (renamed_replaced f) (ask (List_names n)) (ask (List_names (f n))) _ _ (goes_ask f r k (List_names n)) (λ names.
+      goes_unless f r k (renamed_replaced f) (not (is_empty names)) (not (is_empty names)) refl ENOTEMPTY _ _ (goes_give f r k (renamed_replaced f) (Over_directory n) (Over_directory (f n)) refl))
+  replaced_goes n false = goes_give f r k (renamed_replaced f) (Over_file n) (Over_file (f n)) refl
+
+  onto_goes : (from : Last) (what : Place) (to : Last) (old : Place) → Goes f k (renamed_change f) (move_onto from what to old) (move_onto (renamed_last f from) (renamed_place f what) (renamed_last f to) (renamed_place f old))
+  onto_goes from what to old = goes_either f r k (renamed_change f) (what.0 == old.0) (f what.0 == f old.0) (same_test f r what.0 old.0) _ _ _ _ (goes_changed Done [] [] refl)
+      (goes_unless f r k (renamed_change f) (not (is_directory what) && is_directory old) _ (ap₂ (λ a b. not a && b) (directory_still f what) (directory_still f old)) EISDIR _ _
+      (goes_unless f r k (renamed_change f) (is_directory what && not (is_directory old)) _ (ap₂ (λ a b. a && not b) (directory_still f what) (directory_still f old)) ENOTDIR _ _
+      (goes_on f r k (renamed_replaced f) (renamed_change f) (replaced_by_name old.0 (is_directory old)) (replaced_by_name (f old.0) (is_directory (renamed_place f old))) _ _
+      (subst (λ b. Goes f k (renamed_replaced f) (replaced_by_name old.0 (is_directory old)) (replaced_by_name (f old.0) b)) (sym (directory_still f old)) (replaced_goes old.0 (is_directory old))) (λ replaced.
+      goes_changed Done (Move from.parent from.name to.parent to.name what.0 replaced ∷ []) _ refl))))
+
+  moved_goes : (from : Last) (what : Place) (to : Last) (o : Option Place) → Goes f k (renamed_change f) (moved from what to o) (moved (renamed_last f from) (renamed_place f what) (renamed_last f to) (mapped (renamed_place f) o))
+  moved_goes from what to None = goes_changed Done (Move from.parent from.name to.parent to.name what.0 Over_nothing ∷ []) _ refl
+  moved_goes from what to (Some old) = onto_goes from what to old
+
+  if_absent : (o : Option Place) (m n : Plan Change) → Goes f k (renamed_change f) m n → Goes f k (renamed_change f) (absent o >> m) (absent (mapped (renamed_place f) o) >> n)
+  if_absent None m n way = way
+  if_absent (Some place) m n way = goes_refuse f r k (renamed_change f) EEXIST
+
+  duplicated_goes : (own : Own) (it : Slot) (fds : List ℕ) → Goes f k (renamed_change f) (duplicated own it fds) (duplicated (renamed_own f own) (renamed_slot f it) fds)
+  duplicated_goes own it [] = goes_refuse f r k (renamed_change f) EMFILE
+  duplicated_goes own it (fd ∷ fds) = goes_changed (Descriptor fd) (Share_slot own.pid fd it.description (pipe_in (Some it)) ∷ []) _ (ap (λ pipes. Share_slot own.pid fd (f it.description) pipes ∷ []) (pipe_renamed f r (Some it)))
+
+  piped_goes : (own : Own) (fds : List ℕ) → Goes f k (renamed_change f) (piped own fds) (piped (renamed_own f own) fds)
+  piped_goes own [] = goes_refuse f r k (renamed_change f) EMFILE
+  piped_goes own (fd ∷ []) = goes_refuse f r k (renamed_change f) EMFILE
+  piped_goes own (fd ∷ other ∷ fds) = goes_changed (Pair fd other) (Make_pipe 0 own.pid fd other ∷ []) _ refl
+
+  forked_goes : (own : Own) (birth : Option (ℕ × ℕ)) → Goes f k (renamed_change f) (forked own birth) (forked (renamed_own f own) birth)
+  forked_goes own (Some (made, priority)) = unless (nat_le most_processes made) EAGAIN _ _ (goes_changed (Child (ℕ.suc made)) (New_process (ℕ.suc made) own.pid (pipes_in own) ∷ []) _ (ap (λ pipes. New_process (ℕ.suc made) own.pid pipes ∷ []) (pipes_renamed f r own)))
+  forked_goes own None = goes_refuse f r k (renamed_change f) EAGAIN
+
+  -- the first free descriptor is the same
+  first_goes : (own : Own) → Goes f k (λ fd. fd) (first_of_free (free own)) (first_of_free (free (renamed_own f own)))
+  first_goes own = subst (λ fds. Goes f k (λ fd. fd) (first_of_free (free own)) (first_of_free fds)) (sym (free_still f r own)) (by_list (free own))
+    where
+      by_list : (fds : List ℕ) → Goes f k (λ fd. fd) (first_of_free fds) (first_of_free fds)
+      by_list [] = goes_refuse f r k (λ fd. fd) EMFILE
+      by_list (fd ∷ fds) = goes_give f r k (λ fd. fd) fd fd refl
+
+  pub walked : (root : ℕ) (names : List (List ℕ)) (p q : Place → Plan Change) → ((place : Place) → Goes f k (renamed_change f) (p place) (q (renamed_place f place)))
+      → Goes f k (renamed_change f) (walk (root, Some A_directory) names >>= p) (walk (f root, Some A_directory) names >>= q)
+  walked root names p q rest = goes_on f r k (renamed_place f) (renamed_change f) (walk (root, Some A_directory) names) (walk (f root, Some A_directory) names) p q (walk_goes f r k (root, Some A_directory) names) rest
+
+  at_last : (root : ℕ) (e : Errno) (names : List (List ℕ)) (p q : Last → Plan Change) → ((at : Last) → Goes f k (renamed_change f) (p at) (q (renamed_last f at)))
+      → Goes f k (renamed_change f) (last_of root e names >>= p) (last_of (f root) e names >>= q)
+  at_last root e names p q rest = goes_on f r k (renamed_last f) (renamed_change f) (last_of root e names) (last_of (f root) e names) p q (last_of_goes f r k root e names) rest
+
+  by_path : (path : List ℕ) (p q : List (List ℕ) → Plan Change) → ((names : List (List ℕ)) → Goes f k (renamed_change f) (p names) (q names)) → Goes f k (renamed_change f) (parsed path >>= p) (parsed path >>= q)
+  by_path path p q rest = asked (renamed_change f) (parsed path) (parsed path) p q (goes_parsed f r k path) rest
+
+  where_found : (e : Errno) (o : Option Place) (p q : Place → Plan Change) → ((place : Place) → Goes f k (renamed_change f) (p place) (q (renamed_place f place)))
+      → Goes f k (renamed_change f) (or_refuse e o >>= p) (or_refuse e (mapped (renamed_place f) o) >>= q)
+  where_found e o p q rest = goes_on f r k (renamed_place f) (renamed_change f) (or_refuse e o) (or_refuse e (mapped (renamed_place f) o)) p q (goes_or f r k (renamed_place f) e o) rest
+
+  -- a test of a place's kind
+  of_kind : (test : Bool → Bool) (place : Place) (e : Errno) (m n : Plan Change) → Goes f k (renamed_change f) m n
+      → Goes f k (renamed_change f) (refuse_if (test (is_directory place)) e >> m) (refuse_if (test (is_directory (renamed_place f place))) e >> n)
+  of_kind test place e m n way = goes_unless f r k (renamed_change f) (test (is_directory place)) (test (is_directory (renamed_place f place))) (ap test (directory_still f place)) e m n way
+
+  pub plan_goes : (own : Own) (call : Call) → Goes f k (renamed_change f) (plan own call) (plan (renamed_own f own) call)
+  plan_goes own (Open path flags) =
+      unless (not (is_reading flags || is_writing flags)) EINVAL _ _
+      (unless (is_exclusive flags && not (is_creating flags)) EINVAL _ _
+      (unless (is_truncating flags && not (is_writing flags)) EINVAL _ _
+      (by_path path _ _ (λ names.
+      asked (renamed_change f) (first_of_free (free own)) (first_of_free (free (renamed_own f own))) _ _ (first_goes own) (λ fd.
+      at_last own.root (if is_creating flags && is_exclusive flags then EEXIST else EISDIR) names _ _ (λ at. opened_goes own flags fd at at.found))))))
+  plan_goes own (Close fd) = with_slot own fd _ _ (λ it. goes_changed Done (Clear_slot own.pid fd (pipe_in (Some it)) ∷ []) _ (ap (λ pipes. Clear_slot own.pid fd pipes ∷ []) (pipe_renamed f r (Some it))))
+  plan_goes own (Read fd count) = with_slot own fd _ _ (λ it.
+      unless (not it.reading) EBADF _ _ (goes_either f r k (renamed_change f) (count == 0) (count == 0) refl _ _ _ _ (goes_changed (Bytes []) [] [] refl) (read_goes it count)))
+  plan_goes own (Write fd bytes) = with_slot own fd _ _ (λ it.
+      unless (not it.writing) EBADF _ _ (goes_either f r k (renamed_change f) (is_empty bytes) (is_empty bytes) refl _ _ _ _ (goes_changed (Count 0) [] [] refl) (write_goes it bytes)))
+  plan_goes own (Lseek fd move whence) = with_slot own fd _ _ (λ it.
+      unless (is_pipe it.kind) ESPIPE _ _ (asked (renamed_change f) (base it whence) (base (renamed_slot f it) whence) _ _ (base_goes it whence) (λ place. sought_goes it (pos place +ℤ move))))
+  plan_goes own (Ftruncate fd len) = with_slot own fd _ _ (λ it.
+      unless (not it.writing) EBADF _ _ (unless (is_pipe it.kind) EINVAL _ _ (unless (nat_lt largest len) EFBIG _ _
+      (goes_on f r k (map (renamed_edit f)) (renamed_change f) (cut_to it.inode len) (cut_to (f it.inode) len) (λ cut. changed Done cut) (λ cut. changed Done cut) (cut_goes it.inode len) (λ cut. goes_changed Done cut (map (renamed_edit f) cut) refl)))))
+  plan_goes own (Stat path) = by_path path _ _ (λ names. walked own.root names _ _ (λ place. status_goes place.0 place.1))
+  plan_goes own (Fstat fd) = with_slot own fd _ _ (λ it. status_goes it.inode it.kind)
+  plan_goes own (Link old path) = by_path old _ _ (λ from. by_path path _ _ (λ to. walked own.root from _ _ (λ what.
+      of_kind (λ b. b) what EPERM _ _ (at_last own.root EEXIST to _ _ (λ at. if_absent at.found _ _ (goes_changed Done (Name_file at.parent at.name what.0 ∷ []) _ refl))))))
+  plan_goes own (Unlink path) = by_path path _ _ (λ names. at_last own.root EPERM names _ _ (λ at. where_found ENOENT at.found _ _ (λ what.
+      of_kind (λ b. b) what EPERM _ _ (goes_changed Done (Unname_file at.parent at.name what.0 ∷ []) _ refl))))
+  plan_goes own (Rename old path) = by_path old _ _ (λ from. by_path path _ _ (λ to.
+      unless (is_empty from || is_empty to) EBUSY _ _ (at_last own.root EBUSY from _ _ (λ at. where_found ENOENT at.found _ _ (λ what.
+      of_kind (λ b. b && is_below from to) what EINVAL _ _ (at_last own.root EBUSY to _ _ (λ onto. moved_goes at what onto onto.found)))))))
+  plan_goes own (Mkdir path) = by_path path _ _ (λ names. at_last own.root EEXIST names _ _ (λ at. if_absent at.found _ _ (goes_changed Done (Make_directory at.parent at.name 0 ∷ []) _ refl)))
+  plan_goes own (Rmdir path) = by_path path _ _ (λ names. at_last own.root EBUSY names _ _ (λ at. where_found ENOENT at.found _ _ (λ what.
+      of_kind not what ENOTDIR _ _ (asked (renamed_change f) (ask (List_names what.0)) (ask (List_names (f what.0))) _ _ (goes_ask f r k (List_names what.0)) (λ entries.
+      unless (not (is_empty entries)) ENOTEMPTY _ _ (goes_changed Done (Unname_directory at.parent at.name what.0 ∷ []) _ refl))))))
+  plan_goes own (List_directory path) = by_path path _ _ (λ names. walked own.root names _ _ (λ place.
+      of_kind not place ENOTDIR _ _ (asked (renamed_change f) (ask (List_names place.0)) (ask (List_names (f place.0))) _ _ (goes_ask f r k (List_names place.0)) (λ entries. goes_changed (Listing entries) [] [] refl))))
+  plan_goes own (Dup fd) = with_slot own fd _ _ (λ it. subst (λ fds. Goes f k (renamed_change f) (duplicated own it (free own)) (duplicated (renamed_own f own) (renamed_slot f it) fds)) (sym (free_still f r own)) (duplicated_goes own it (free own)))
+  plan_goes own (Dup2 fd other) = with_slot own fd _ _ (λ it.
+      unless (nat_lt 63 other) EBADF _ _ (goes_either f r k (renamed_change f) (fd == other) (fd == other) refl _ _ _ _ (goes_changed (Descriptor fd) [] [] refl)
+      (goes_changed (Descriptor other) (Share_slot own.pid other it.description (pipe_in (Some it) ++ pipe_in (slot_at own other)) ∷ []) _
+      (ap (λ pipes. Share_slot own.pid other (f it.description) pipes ∷ [])
+      (ap₂ (λ (xs : List ℕ) (ys : List ℕ). xs ++ ys) (pipe_renamed f r (Some it)) (ap pipe_in (slot_found f r own other) ∙ pipe_renamed f r (slot_at own other)) ∙ sym (map-append f (pipe_in (Some it)) (pipe_in (slot_at own other))))))))
+  plan_goes own Open_pipe = subst (λ fds. Goes f k (renamed_change f) (piped own (free own)) (piped (renamed_own f own) fds)) (sym (free_still f r own)) (piped_goes own (free own))
+  plan_goes own Fork = forked_goes own own.birth
+  plan_goes own Exit = goes_changed Done (End_process own.pid (pipes_in own) ∷ []) _ (ap (λ pipes. End_process own.pid pipes ∷ []) (pipes_renamed f r own))

@@ -1,0 +1,76 @@
+-- Of a run's calls only the status of the path `/` tells the root.
+use Rattle.std.proofs.Common.{◌≡◌, ◌≢◌, ◌⊎◌, ℕ, List, [], ◌∷◌, length, Result, Ok, Err, IfOk, inl, refl, sym, ap, subst, ◌∙◌}
+use Rattle.std.specs.List.{AllByRecursion}
+use Rattle.model.specs.State.{Kernel, A_directory}
+use Rattle.model.specs.Plan.{Errno}
+use Rattle.model.specs.Changes.{Edit, all_applied, tidy}
+use Rattle.model.specs.Calls.{Call, Stat, Stated}
+use Rattle.model.specs.Plans.{Change}
+use Rattle.model.specs.Steps.{outcome, reply_of, edits_of, edits, reply, Item, Run}
+use Rattle.model.specs.Moments.{start}
+use Rattle.call_laws.proofs.Laws.{all-mapped}
+use Rattle.renaming_laws.specs.Laws.{SlotsAreThere, HasNumbers, TellsNot, TellsRoot, StatTellsTheRoot}
+use Rattle.renaming_laws.proofs.Sound.{call_sound, edits_sound}
+use Rattle.renaming_laws.proofs.Slots as slots
+use Rattle.renaming_laws.proofs.Slots.{slots_at_start}
+use Rattle.renaming_laws.proofs.Chosen as chosen
+use Rattle.renaming_laws.proofs.Chosen.{HasRoot, root_at_start}
+use Rattle.renaming_laws.proofs.Apart as apart
+use Rattle.renaming_laws.proofs.Apart.{IsApart, GivesNot, apart_at_start}
+use Rattle.renaming_laws.proofs.Guarded.{IsGuarded, call_guarded}
+
+tells_of : (root : ℕ) (call : Call) (o : Result Change Errno) → IfOk o (IsGuarded root call) → TellsNot root (reply_of o) ⊎ TellsRoot root call (reply_of o)
+tells_of root call (Ok c) h = h.tells
+tells_of root call (Err e) h = inl tt
+
+gives_of : (root : ℕ) (call : Call) (o : Result Change Errno) → IfOk o (IsGuarded root call) → AllByRecursion (GivesNot root) (edits_of o)
+gives_of root call (Ok c) h = h.gives
+gives_of root call (Err e) h = tt
+
+-- what holds of each state of a run
+record Holds (root : ℕ) (k : Kernel) : Type 0 where
+  slots : SlotsAreThere k
+  root_there : HasRoot root k
+  apart : IsApart root k
+
+tells : (root : ℕ) (k : Kernel) → Holds root k → (items : List Item) (after : Kernel) → Run k items after → AllByRecursion (λ it. TellsNot root it.answer ⊎ TellsRoot root it.call it.answer) items
+tells root k h [] after run = tt
+tells root k h (it ∷ items) after run =
+    let step = run.1 in
+    let es : List Edit = edits k it.pid it.call in
+    let guarded = call_guarded root k h.apart h.root_there.is h.slots it.pid it.call in
+    let sound = edits_sound k (outcome k it.pid it.call) (call_sound k h.slots it.pid it.call) in
+    let numbers : AllByRecursion (HasNumbers (length it.chosen)) es = subst (λ count. AllByRecursion (HasNumbers count) es) (sym step.numbers.count) sound.numbers in
+    let away : AllByRecursion (λ n. n ≢ root) it.chosen = all-mapped it.chosen (λ n nowhere. chosen.away root k h.root_there n nowhere) step.numbers.unused in
+    let next : Holds root (tidy (all_applied it.chosen es k)) = record {
+      slots = slots.tidying_keeps (all_applied it.chosen es k) (slots.edits_keep it.chosen k es sound.shares h.slots);
+      root_there = chosen.tidying_keeps root (all_applied it.chosen es k) (chosen.edits_keep root it.chosen k es h.root_there);
+      apart = apart.tidying_keeps root (all_applied it.chosen es k) (apart.edits_keep root it.chosen k es away numbers (gives_of root it.call (outcome k it.pid it.call) guarded) h.apart);
+    } in (
+      subst (λ answer. TellsNot root answer ⊎ TellsRoot root it.call answer) (sym step.replied) (tells_of root it.call (outcome k it.pid it.call) guarded),
+      tells root run.0 (subst (Holds root) (sym step.changed) next) items after run.2,
+    )
+
+-- and it tells it in every state
+pub root_is_told : (k : Kernel) (pid : ℕ) → reply k pid (Stat (47 ∷ [])) ≡ Ok (Stated (record { kind = A_directory; num = k.root; size = 0; links = 1 }))
+root_is_told k pid = refl
+
+-- so each status of that path that is answered in a run tells the run's own root
+told_by_stats : (root : ℕ) (k : Kernel) → HasRoot root k → (items : List Item) (after : Kernel) → Run k items after → AllByRecursion (λ it. it.call ≡ Stat (47 ∷ []) → TellsRoot root it.call it.answer) items
+told_by_stats root k h [] after run = tt
+told_by_stats root k h (it ∷ items) after run =
+    let step = run.1 in
+    let mid : HasRoot root run.0 = subst (HasRoot root) (sym step.changed) (chosen.tidying_keeps root (all_applied it.chosen (edits k it.pid it.call) k) (chosen.edits_keep root it.chosen k (edits k it.pid it.call) h)) in (
+      λ is. record {
+        is_stat = is;
+        tells = step.replied ∙ ap (reply k it.pid) is ∙ root_is_told k it.pid ∙ ap (λ n. Ok (Stated (record { kind = A_directory; num = n; size = 0; links = 1 }))) h.is;
+      },
+      told_by_stats root run.0 mid items after run.2,
+    )
+
+pub stats_tell_the_root : (root : ℕ) (priorities : List ℕ) (items : List Item) (after : Kernel) → Run (start root priorities) items after → AllByRecursion (λ it. it.call ≡ Stat (47 ∷ []) → TellsRoot root it.call it.answer) items
+stats_tell_the_root root priorities items after run = told_by_stats root (start root priorities) (root_at_start root priorities) items after run
+
+pub stat_tells_the_root : StatTellsTheRoot
+stat_tells_the_root root priorities items after run =
+    tells root (start root priorities) (record { slots = slots_at_start root priorities; root_there = root_at_start root priorities; apart = apart_at_start root priorities }) items after run

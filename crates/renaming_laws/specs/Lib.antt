@@ -1,0 +1,4 @@
+pub mod Renaming
+pub mod Renamed
+pub mod Laws
+pub mod Histories

@@ -1,0 +1,12 @@
+use Rattle.std.proofs.Common.{Some, sym, ap, ◌∙◌}
+use Rattle.model.specs.FiniteMap.{keys}
+use Rattle.model.specs.State.{names_of_inode}
+use Rattle.replay.specs.Content.{inode_of}
+use Rattle.replay.proofs.Empties.{no_keys}
+use Rattle.replay.proofs.inode.Inode.names.Goals as goal
+
+pub returns-in-File : goal.returns-in-File
+returns-in-File c = c.new-in-File.ensures ∙ c.new.ensures.items ∙ no_keys ∙ ap (λ t. keys (names_of_inode (Some (inode_of t)))) (sym c.in-File.is) ∙ ap (λ i. keys (names_of_inode (Some i))) c.self.view_is
+
+pub returns-in-Pipe : goal.returns-in-Pipe
+returns-in-Pipe c = c.new-in-Pipe-2.ensures ∙ c.new-in-Pipe.ensures.items ∙ no_keys ∙ ap (λ t. keys (names_of_inode (Some (inode_of t)))) (sym c.in-Pipe.is) ∙ ap (λ i. keys (names_of_inode (Some i))) c.self.view_is

@@ -1,0 +1,16 @@
+use Rattle.std.proofs.Common.{suc, ◌+◌, length, arith, sym, subst}
+use Rattle.std.proofs.lemmas.List.{take_all}
+use Rattle.replay.specs.Checks.{Passes}
+use Rattle.replay.proofs.Passing.{legal_histories_pass}
+use Rattle.replay.proofs.Prefixes.{passes_take}
+use Rattle.replay.proofs.legal_histories_have_no_fault.Goals as goal
+
+pub returns : goal.returns
+returns c = λ root priorities limit es legal place fault.
+    let wrong = fault.2 in
+    let most = suc wrong.at + length es in
+    wrong.fails (
+      root,
+      passes_take root priorities es (suc wrong.at) most (omega arith)
+          (subst (Passes root priorities) (sym (take_all most es (omega arith))) (legal_histories_pass root priorities limit es legal)),
+    )

@@ -1,0 +1,33 @@
+use Rattle.replay.proofs.Edited.{appends, cuts, edited, makes_directory, makes_file, moves, names_file, puts, takes, unnames_directory, unnames_file}
+use Rattle.replay.proofs.Setting.{if_ok}
+use Rattle.replay.proofs.plain.PlainKernel.apply.Goals as goal
+
+pub returns-in-MakeDirectory : goal.returns-in-MakeDirectory
+returns-in-MakeDirectory c = if_ok c.make.result c.make.ensures (λ h. edited _ _ _ _ _ c.in-MakeDirectory.is (makes_directory _ _ _ _ _ _ _ _ _ c.made.ensures c.directory-inode.ensures c.new.ensures h))
+
+pub returns-in-MakeFile : goal.returns-in-MakeFile
+returns-in-MakeFile c = if_ok c.make-in-MakeFile.result c.make-in-MakeFile.ensures (λ h. edited _ _ _ _ _ c.in-MakeFile.is (makes_file _ _ _ _ _ _ _ _ _ c.made-in-MakeFile.ensures c.file-inode.ensures c.no_bytes.ensures h))
+
+pub returns-in-NameFile : goal.returns-in-NameFile
+returns-in-NameFile c = if_ok c.set_name.result c.set_name.ensures (λ h. edited _ _ _ _ _ c.in-NameFile.is (names_file _ _ _ _ _ _ h))
+
+pub returns-in-UnnameFile : goal.returns-in-UnnameFile
+returns-in-UnnameFile c = if_ok c.clear_name.result c.clear_name.ensures (λ h. edited _ _ _ _ _ c.in-UnnameFile.is (unnames_file _ _ _ _ _ _ h))
+
+pub returns-in-UnnameDirectory : goal.returns-in-UnnameDirectory
+returns-in-UnnameDirectory c = if_ok c.clear_name-in-UnnameDirectory.result c.clear_name-in-UnnameDirectory.ensures (λ h. edited _ _ _ _ _ c.in-UnnameDirectory.is (unnames_directory _ _ _ _ _ _ h))
+
+pub returns-in-Move : goal.returns-in-Move
+returns-in-Move c = if_ok c.move_name.result c.move_name.ensures (λ h. edited _ _ _ _ _ c.in-Move.is (moves _ _ _ _ _ _ _ _ _ h))
+
+pub returns-in-PutBytes : goal.returns-in-PutBytes
+returns-in-PutBytes c = if_ok c.put.result c.put.ensures (λ h. edited _ _ _ _ _ c.in-PutBytes.is (puts _ _ _ _ _ _ _ _ c.as_slice.ensures h))
+
+pub returns-in-Cut : goal.returns-in-Cut
+returns-in-Cut c = if_ok c.cut.result c.cut.ensures (λ h. edited _ _ _ _ _ c.in-Cut.is (cuts _ _ _ _ _ _ h))
+
+pub returns-in-Take : goal.returns-in-Take
+returns-in-Take c = if_ok c.take.result c.take.ensures (λ h. edited _ _ _ _ _ c.in-Take.is (takes _ _ _ _ _ h))
+
+pub returns-in-Append : goal.returns-in-Append
+returns-in-Append c = if_ok c.append.result c.append.ensures (λ h. edited _ _ _ _ _ c.in-Append.is (appends _ _ _ _ _ _ c.as_slice-in-Append.ensures h))

@@ -1,0 +1,18 @@
+use Rattle.std.proofs.Common.{◌≡◌, true, List, ℕ, [], Some, sym, ap, subst}
+use Rattle.std.specs.Prelude.{if◌then◌else◌, MatchOption}
+use Rattle.replay.specs.Ran.{Ran, StopsIn, StopsInside}
+use Rattle.replay.specs.Transactions.{calls_at_places, is_end, run_kept}
+use Rattle.replay.specs.declared.transaction.Transaction.{Transaction}
+use Rattle.replay.proofs.Running.{ran_nothing}
+use Rattle.replay.proofs.Setting.{ok_then}
+use Rattle.replay.proofs.plain.PlainKernel.run_inside.Goals as goal
+
+pub returns-in-Live : goal.returns-in-Live
+returns-in-Live c = ok_then c.run_live.result c.run_live.ensures (λ wrong h.
+    subst (λ (t : Transaction). MatchOption wrong (Ran c.args.self.now c.args.entry.now.pid (run_kept true (Some t) c.args.entries.now c.args.entry.now.op c.args.entry.now.reply c.args.entry.now.chosen) c.run_live.new.self) (StopsInside c.args.self.now t c.args.entries.now c.args.entry.now)) (sym c.in-Live.is)
+    (subst (λ (ps : List ℕ). MatchOption wrong (Ran c.args.self.now c.args.entry.now.pid (if is_end c.args.entry.now.op then calls_at_places c.args.entries.now ps else []) c.run_live.new.self)
+    (λ place. (is_end c.args.entry.now.op ≡ true) × StopsIn c.args.self.now c.args.entry.now.pid c.args.entries.now ps place)) c.as_slice.ensures h))
+
+pub returns-in-Doomed : goal.returns-in-Doomed
+returns-in-Doomed c = ran_nothing c.args.self.now c.args.entry.now.pid _
+    (ap (λ (t : Transaction). run_kept true (Some t) c.args.entries.now c.args.entry.now.op c.args.entry.now.reply c.args.entry.now.chosen) c.in-Doomed.is) c.requires

@@ -1,0 +1,15 @@
+-- Edits by what they change.
+use Rattle.std.specs.Prelude.{Bool, true, false}
+use Rattle.model.specs.Changes.{Edit, Set_offset, Open_inode, Make_pipe, Share_slot, Clear_slot}
+use Rattle.model.specs.Changes.{New_process, End_process}
+
+-- whether an edit is of descriptions or of processes
+abbrev pub is_of_processes : Edit → Bool
+is_of_processes (Set_offset d place) = true
+is_of_processes (Open_inode i inode mode pid f) = true
+is_of_processes (Make_pipe i pid f g) = true
+is_of_processes (Share_slot pid f d pipes) = true
+is_of_processes (Clear_slot pid f pipes) = true
+is_of_processes (New_process child parent pipes) = true
+is_of_processes (End_process pid pipes) = true
+is_of_processes _ = false

@@ -1,0 +1,86 @@
+-- Where a history is wrong. Places are counted from 0.
+use Rattle.std.specs.Prelude.{◌≡◌, ◌⊎◌, ℕ, suc, ◌<◌, ◌≤◌, Bool, true, false, List, ◌∷◌}
+use Rattle.std.specs.Prelude.{drop, take, length, ⊤}
+use Rattle.model.specs.State.{Kernel}
+use Rattle.model.specs.Steps.{Run}
+use Rattle.model.specs.Entries.{Op, End, Reply, Committed, Entry, Executed}
+use Rattle.model.specs.Moments.{Status, live, Moment, status, after, calls_at}
+use Rattle.model.specs.Legal.{Legal, items}
+use Rattle.replay.specs.Checks.{Passes, PassesForSome}
+use Rattle.replay.specs.declared.checking.CheckFault.{CheckFault}
+use Rattle.replay.specs.declared.checking.CheckFault.TheVariants.{Wrong, NoMemory}
+
+-- this entry stands at a place
+pub record HoldsEntry (es : List Entry) (at : ℕ) (e : Entry) : Type 0 where
+  pub rest : List Entry
+  pub here : drop at es ≡ e ∷ rest
+
+-- the calls that a process has made in its transaction before the entry at a place
+abbrev pub calls_before : ℕ → List ℕ → List Entry → ℕ → ℕ → List Executed
+calls_before root priorities es pid at = calls_at (after root priorities (take at es)) pid
+
+-- At this place stands the call numbered j, from 0, of the transaction that a process is in at the
+-- entry `at`: before it the transaction had j calls, and from then on it has more.
+pub record IsCall (root : ℕ) (priorities : List ℕ) (es : List Entry) (pid at j place : ℕ)
+    : Type 0 where
+  pub before : length (calls_before root priorities es pid place) ≡ j
+  pub since : (q : ℕ) → place < q → q ≤ at → j < length (calls_before root priorities es pid q)
+  pub earlier : place < at
+
+-- The entries before a place pass for a root, and so many calls of the transaction that a process
+-- is in there can be run then.
+pub record RunsOn (root : ℕ) (priorities : List ℕ) (es : List Entry) (pid at count : ℕ)
+    : Type 0 where
+  pub passes : Passes root priorities (take at es)
+  pub after : Kernel
+  pub run : Run passes.exists.committed
+      (items pid (take count (calls_before root priorities es pid at))) after
+
+-- whether an entry commits a transaction
+abbrev pub commits_from : Status → Op → Reply → Bool
+commits_from (live flags age calls) End Committed = true
+commits_from _ _ _ = false
+
+abbrev pub commits : Moment → Entry → Bool
+commits m e = commits_from (status m e.pid) e.op e.reply
+
+-- The call at a place is the first of the transaction that an entry commits up to which it cannot be
+-- run, whatever the root.
+pub record IsFirstWrongCall (priorities : List ℕ) (es : List Entry) (e : Entry) (at place : ℕ)
+    : Type 0 where
+  pub root : ℕ
+  pub passes : Passes root priorities (take at es)
+  pub commits : commits (after root priorities (take at es)) e ≡ true
+  pub number : ℕ
+  pub call : IsCall root priorities es e.pid at number place
+  pub runs : (some : ℕ) × RunsOn some priorities es e.pid at number
+  pub fails : (each : ℕ) → RunsOn each priorities es e.pid at (suc number) → ⊥
+
+-- The place is the entry's own, and it commits nothing, for no root for which those before it pass.
+pub record IsItself (priorities : List ℕ) (es : List Entry) (e : Entry) (at place : ℕ)
+    : Type 0 where
+  pub same : place ≡ at
+  pub commits_not : (root : ℕ) → Passes root priorities (take at es)
+      → commits (after root priorities (take at es)) e ≡ false
+
+-- A place at which a history is wrong: up to some first entry it passes for no root. The place is that
+-- entry's, or, where the entry commits a transaction, that of the first call that cannot be run.
+pub record IsFirstWrong (priorities : List ℕ) (es : List Entry) (place : ℕ) : Type 0 where
+  pub at : ℕ
+  pub entry : Entry
+  pub here : HoldsEntry es at entry
+  pub before : PassesForSome priorities (take at es)
+  pub fails : PassesForSome priorities (take (suc at) es) → ⊥
+  pub is : IsItself priorities es entry at place ⊎ IsFirstWrongCall priorities es entry at place
+
+-- What an answer of the checker says, which counts the place from 1. Without memory it says nothing.
+abbrev pub IsFault : List ℕ → List Entry → CheckFault → Type 0
+IsFault priorities es (Wrong place) =
+    (before : ℕ) × (place ≡ suc before) × IsFirstWrong priorities es before
+IsFault priorities es NoMemory = ⊤
+
+-- A legal history has no fault: of a kernel's own history the checker never says that it is wrong.
+abbrev pub LegalHistoriesHaveNoFault : Type 0
+LegalHistoriesHaveNoFault =
+    (root : ℕ) (priorities : List ℕ) (limit : ℕ) (es : List Entry) → Legal root priorities limit es
+    → (place : ℕ) → IsFault priorities es (Wrong place) → ⊥

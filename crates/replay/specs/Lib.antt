@@ -1,0 +1,11 @@
+pub mod Suits
+pub mod Checks
+pub mod Places
+pub mod Content
+pub mod Counts
+pub mod Edits
+pub mod Transactions
+pub mod Ran
+pub mod Chosen
+pub mod Faults
+pub mod Failing

@@ -1,0 +1,424 @@
+// What each edit makes of a plain kernel.
+ghost use Rattle.std.specs.Prelude.{◌≡◌, ◌++◌, IfOk, OnOk, [], get_or, true, drop, option_copied};
+ghost use Rattle.model.specs.FiniteMap.{get, insert, remove};
+ghost use Rattle.model.specs.State.{File as A_file, Pipe as A_pipe};
+ghost use Rattle.model.specs.State.{file_of, mapped, pipe_of};
+ghost use Rattle.model.specs.Changes.{applied, at_offset, at_start, clear_name, number, open_at};
+ghost use Rattle.model.specs.Changes.{or_new, process_of, set_description, set_inode, set_name};
+ghost use Rattle.model.specs.Changes.{set_offset, set_process, sized, with_slot, without_slot};
+ghost use Rattle.model.specs.Changes.{written, to_read, to_write};
+ghost use Rattle.replay.specs.Edits.{is_of_processes};
+
+use crate::bytes::{appended, no_bytes, rest, sized, written};
+use crate::inode::{Inode, file_out, names_out, pipe_out};
+use crate::names::Names;
+use crate::plain::{Description, PlainKernel, Process, place_of};
+use crate::table::Table;
+use heap::Heap;
+use ids::{Bytes, Edit, Fd, Mode, Name, Num, Pid, Which};
+use std::alloc::AllocError;
+
+// The new number of a place, 0 where there is none.
+fn made(chosen: &[Num], place: usize) -> Num
+    ensures { result ≡ get_or chosen.now place 0 }
+{
+    match chosen.get(place) {
+        Some(num) => *num,
+        None => Num(0),
+    }
+}
+
+// The number of an object that was there or is made.
+fn number(chosen: &[Num], which: &Which) -> Num
+    ensures { result ≡ number chosen.now which.now }
+{
+    match which {
+        Which::There(num) => *num,
+        Which::Made(place) => made(chosen, *place as usize),
+    }
+}
+
+// Where memory is refused, a kernel is left in between, and is of no use any more.
+impl PlainKernel {
+    // An inode gets new contents, or comes.
+    fn set_inode(&mut self, num: Num, inode: Inode) -> Result<(), AllocError>
+        ensures { OnOk result (self.new ≡ set_inode num inode self.old) }
+    {
+        let _before = self.inodes.insert(num, inode)?;
+        Ok(())
+    }
+
+    // Takes an inode out; an empty file stands in its place.
+    fn take_inode(&mut self, heap: Heap, num: Num) -> Result<Option<Inode>, AllocError>
+        ensures left { OnOk result (self.new ≡ set_inode num (A_file []) self.old) }
+        ensures taken { IfOk result (λ inode. inode ≡ get self.old.inodes num) }
+    {
+        self.inodes.insert(num, Inode::file(no_bytes(heap)))
+    }
+
+    // A name gives a number.
+    fn set_name(&mut self, heap: Heap, dir: Num, name: &Name, num: Num) -> Result<(), AllocError>
+        ensures { OnOk result (self.new ≡ set_name dir name.now num self.old) }
+    {
+        let name = name.try_clone()?;
+        let inode = self.take_inode(heap, dir)?;
+        let mut names = names_out(heap, inode);
+        names.insert(name, num)?;
+        self.set_inode(dir, Inode::directory(names))
+    }
+
+    // A name gives nothing any more.
+    fn clear_name(&mut self, heap: Heap, dir: Num, name: &Name) -> Result<(), AllocError>
+        ensures { OnOk result (self.new ≡ clear_name dir name.now self.old) }
+    {
+        let inode = self.take_inode(heap, dir)?;
+        let mut names = names_out(heap, inode);
+        names.remove(name);
+        self.set_inode(dir, Inode::directory(names))
+    }
+
+    // A new inode with its name.
+    fn make(
+        &mut self,
+        heap: Heap,
+        dir: Num,
+        name: &Name,
+        num: Num,
+        inode: Inode,
+    ) -> Result<(), AllocError>
+        ensures { OnOk result
+            (self.new ≡ set_name dir name.now num (set_inode num inode self.old)) }
+    {
+        self.set_inode(num, inode)?;
+        self.set_name(heap, dir, name, num)
+    }
+
+    // A name moves.
+    fn move_name(
+        &mut self,
+        heap: Heap,
+        dir: Num,
+        name: &Name,
+        onto: Num,
+        new: &Name,
+        num: Num,
+    ) -> Result<(), AllocError>
+        ensures { OnOk result
+            (self.new ≡ set_name onto new.now num (clear_name dir name.now self.old)) }
+    {
+        self.clear_name(heap, dir, name)?;
+        self.set_name(heap, onto, new, num)
+    }
+
+    // Bytes of a file from a place on.
+    fn put(&mut self, heap: Heap, file: Num, place: usize, bytes: &[u8]) -> Result<(), AllocError>
+        ensures { OnOk result (self.new
+            ≡ set_inode file (A_file (written (file_of self.old file) place bytes.now)) self.old) }
+    {
+        let inode = self.take_inode(heap, file)?;
+        let all = written(heap, file_out(heap, inode), place, bytes)?;
+        self.set_inode(file, Inode::file(all))
+    }
+
+    // A file's length.
+    fn cut(&mut self, heap: Heap, file: Num, len: usize) -> Result<(), AllocError>
+        ensures { OnOk result (self.new
+            ≡ set_inode file (A_file (sized len (file_of self.old file))) self.old) }
+    {
+        let inode = self.take_inode(heap, file)?;
+        let all = sized(file_out(heap, inode), len)?;
+        self.set_inode(file, Inode::file(all))
+    }
+
+    // Bytes leave the front of a pipe.
+    fn take(&mut self, heap: Heap, pipe: Num, count: usize) -> Result<(), AllocError>
+        ensures { OnOk result (self.new
+            ≡ set_inode pipe (A_pipe (drop count (pipe_of self.old pipe))) self.old) }
+    {
+        let inode = self.take_inode(heap, pipe)?;
+        let all = pipe_out(heap, inode);
+        let left = Bytes::copy(heap, rest(all.as_slice(), count))?;
+        self.set_inode(pipe, Inode::pipe(left))
+    }
+
+    // Bytes come behind a pipe's.
+    fn append(&mut self, heap: Heap, pipe: Num, bytes: &[u8]) -> Result<(), AllocError>
+        ensures { OnOk result (self.new
+            ≡ set_inode pipe (A_pipe (pipe_of self.old pipe ++ bytes.now)) self.old) }
+    {
+        let inode = self.take_inode(heap, pipe)?;
+        let all = appended(pipe_out(heap, inode), bytes)?;
+        self.set_inode(pipe, Inode::pipe(all))
+    }
+
+    // A description's offset.
+    fn set_offset(&mut self, num: Num, place: u32) -> Result<(), AllocError>
+        ensures { OnOk result
+            (self.new ≡ set_offset num place (get self.old.descriptions num) self.old) }
+    {
+        match moved(self.descriptions.get(num), place) {
+            Some(description) => self.set_description(num, description),
+            None => Ok(()),
+        }
+    }
+
+    // A description.
+    fn set_description(&mut self, num: Num, description: Description) -> Result<(), AllocError>
+        ensures { OnOk result (self.new ≡ set_description num description self.old) }
+    {
+        let _before = self.descriptions.insert(num, description)?;
+        Ok(())
+    }
+
+    // Takes a process out, or makes one without descriptors.
+    fn take_process(&mut self, heap: Heap, pid: Pid) -> Process
+        ensures left { self.new ≡ record self.old { processes = remove self.old.processes pid } }
+        ensures taken { result ≡ process_of self.old pid }
+    {
+        match self.processes.remove(place_of(pid)) {
+            Some(process) => process,
+            None => Process {
+                table: Table::new(heap),
+                priority: 0,
+            },
+        }
+    }
+
+    // A process.
+    fn set_process(&mut self, pid: Pid, process: Process) -> Result<(), AllocError>
+        ensures { OnOk result (self.new ≡ set_process pid process self.old) }
+    {
+        let _before = self.processes.insert(place_of(pid), process)?;
+        Ok(())
+    }
+
+    // A descriptor gives a description.
+    fn set_slot(&mut self, heap: Heap, pid: Pid, fd: Fd, num: Num) -> Result<(), AllocError>
+        ensures { OnOk result
+            (self.new ≡ set_process pid (with_slot fd num (process_of self.old pid)) self.old) }
+    {
+        let process = self.take_process(heap, pid);
+        self.set_process(pid, with_slot(process, fd, num)?)
+    }
+
+    // A descriptor gives nothing any more.
+    fn clear_slot(&mut self, heap: Heap, pid: Pid, fd: Fd) -> Result<(), AllocError>
+        ensures { OnOk result
+            (self.new ≡ set_process pid (without_slot fd (process_of self.old pid)) self.old) }
+    {
+        let process = self.take_process(heap, pid);
+        self.set_process(pid, without_slot(process, fd))
+    }
+
+    // A new description with its slot.
+    fn open_at(
+        &mut self,
+        heap: Heap,
+        num: Num,
+        opened: Description,
+        pid: Pid,
+        fd: Fd,
+    ) -> Result<(), AllocError>
+        ensures { OnOk result (self.new ≡ set_process pid
+            (with_slot fd num (process_of self.old pid)) (set_description num opened self.old)) }
+    {
+        self.set_description(num, opened)?;
+        self.set_slot(heap, pid, fd, num)
+    }
+
+    // A new pipe with its two descriptions.
+    fn make_pipe(
+        &mut self,
+        heap: Heap,
+        nums: (Num, Num, Num),
+        pid: Pid,
+        fds: (Fd, Fd),
+    ) -> Result<(), AllocError>
+        ensures { OnOk result (self.new ≡
+            open_at nums.2 nums.0 to_write pid fds.1 (open_at nums.1 nums.0 to_read pid fds.0
+            (set_inode nums.0 (A_pipe []) self.old))) }
+    {
+        let (pipe, reader, writer) = nums;
+        self.set_inode(pipe, Inode::pipe(no_bytes(heap)))?;
+        self.open_at(heap, reader, at_start(pipe, &to_read()), pid, fds.0)?;
+        self.open_at(heap, writer, at_start(pipe, &to_write()), pid, fds.1)
+    }
+
+    // A child with the descriptors and the priority of its parent.
+    fn new_process(&mut self, heap: Heap, child: Pid, parent: Pid) -> Result<(), AllocError>
+        ensures { OnOk result (self.new ≡ record self.old {
+          processes = insert self.old.processes child (process_of self.old parent);
+          made = child;
+        }) }
+    {
+        let process = copy_of(heap, self.processes.get(place_of(parent)))?;
+        self.set_process(child, process)?;
+        self.made = child.0;
+        Ok(())
+    }
+
+    // A process is gone.
+    fn end_process(&mut self, pid: Pid)
+        ensures { self.new ≡ record self.old { processes = remove self.old.processes pid } }
+    {
+        let _process = self.processes.remove(place_of(pid));
+    }
+}
+
+// A description with another offset.
+fn moved(description: Option<&Description>, place: u32) -> Option<Description>
+    ensures { result ≡ mapped (at_offset place) (option_copied description.entry) }
+{
+    match description {
+        Some(description) => Some(Description {
+            inode: description.inode,
+            reading: description.reading,
+            writing: description.writing,
+            appending: description.appending,
+            offset: place,
+        }),
+        None => None,
+    }
+}
+
+// A process with one more descriptor, or one that gives another description.
+fn with_slot(process: Process, fd: Fd, num: Num) -> Result<Process, AllocError>
+    ensures { IfOk result (λ p. p ≡ with_slot fd num process) }
+{
+    let Process {
+        mut table,
+        priority,
+    } = process;
+    let _before = table.insert(Num(fd.0 as usize), num)?;
+    Ok(Process { table, priority })
+}
+
+// A process without a descriptor.
+fn without_slot(process: Process, fd: Fd) -> Process
+    ensures { result ≡ without_slot fd process }
+{
+    let Process {
+        mut table,
+        priority,
+    } = process;
+    let _before = table.remove(Num(fd.0 as usize));
+    Process { table, priority }
+}
+
+// A copy of a process, or one without descriptors.
+fn copy_of(heap: Heap, process: Option<&Process>) -> Result<Process, AllocError>
+    ensures { IfOk result (λ p. p ≡ or_new (option_copied process.entry)) }
+{
+    match process {
+        Some(process) => Ok(Process {
+            table: process.table.try_clone(heap)?,
+            priority: process.priority,
+        }),
+        None => Ok(Process {
+            table: Table::new(heap),
+            priority: 0,
+        }),
+    }
+}
+
+// A description at its beginning.
+fn at_start(inode: Num, mode: &Mode) -> Description
+    ensures { result ≡ at_start inode mode.now }
+{
+    Description {
+        inode,
+        reading: mode.reading,
+        writing: mode.writing,
+        appending: mode.appending,
+        offset: 0,
+    }
+}
+
+fn to_read() -> Mode
+    ensures { result ≡ to_read }
+{
+    Mode {
+        reading: true,
+        writing: false,
+        appending: false,
+    }
+}
+
+fn to_write() -> Mode
+    ensures { result ≡ to_write }
+{
+    Mode {
+        reading: false,
+        writing: true,
+        appending: false,
+    }
+}
+
+impl PlainKernel {
+    // One edit, and nothing freed.
+    pub(crate) fn apply(
+        &mut self,
+        heap: Heap,
+        edit: &Edit,
+        chosen: &[Num],
+    ) -> Result<(), AllocError>
+        ensures { OnOk result (self.new ≡ applied chosen.now edit.now self.old) }
+    {
+        match edit {
+            Edit::MakeDirectory(dir, name, place) => {
+                let inode = Inode::directory(Names::new(heap));
+                self.make(heap, *dir, name, made(chosen, *place as usize), inode)
+            }
+            Edit::MakeFile(dir, name, place) => {
+                let inode = Inode::file(no_bytes(heap));
+                self.make(heap, *dir, name, made(chosen, *place as usize), inode)
+            }
+            Edit::NameFile(dir, name, num) => self.set_name(heap, *dir, name, *num),
+            Edit::UnnameFile(dir, name, _) => self.clear_name(heap, *dir, name),
+            Edit::UnnameDirectory(dir, name, _) => self.clear_name(heap, *dir, name),
+            Edit::Move(dir, name, onto, new, num, _) => {
+                self.move_name(heap, *dir, name, *onto, new, *num)
+            }
+            Edit::PutBytes(file, place, bytes, _) => {
+                self.put(heap, *file, *place as usize, bytes.as_slice())
+            }
+            Edit::Cut(file, _, len) => self.cut(heap, *file, *len as usize),
+            Edit::Take(pipe, count) => self.take(heap, *pipe, *count as usize),
+            Edit::Append(pipe, bytes) => self.append(heap, *pipe, bytes.as_slice()),
+            _ => self.apply_to_processes(heap, edit, chosen),
+        }
+    }
+
+    // One edit of descriptions or processes.
+    fn apply_to_processes(
+        &mut self,
+        heap: Heap,
+        edit: &Edit,
+        chosen: &[Num],
+    ) -> Result<(), AllocError>
+        requires { is_of_processes edit.now ≡ true }
+        ensures { OnOk result (self.new ≡ applied chosen.now edit.now self.old) }
+    {
+        match edit {
+            Edit::SetOffset(num, place) => self.set_offset(*num, *place),
+            Edit::OpenInode(place, inode, mode, pid, fd) => {
+                let opened = at_start(number(chosen, inode), mode);
+                self.open_at(heap, made(chosen, *place as usize), opened, *pid, *fd)
+            }
+            Edit::MakePipe(place, pid, reader, writer) => {
+                let pipe = made(chosen, *place as usize);
+                let reading = made(chosen, *place as usize + 1);
+                let writing = made(chosen, *place as usize + 2);
+                self.make_pipe(heap, (pipe, reading, writing), *pid, (*reader, *writer))
+            }
+            Edit::ShareSlot(pid, fd, num, _) => self.set_slot(heap, *pid, *fd, *num),
+            Edit::ClearSlot(pid, fd, _) => self.clear_slot(heap, *pid, *fd),
+            Edit::NewProcess(child, parent, _) => self.new_process(heap, *child, *parent),
+            Edit::EndProcess(pid, _) => {
+                self.end_process(*pid);
+                Ok(())
+            }
+            _ => unreachable!(),
+        }
+    }
+}

@@ -1,0 +1,403 @@
+// A run of a history's committed calls on a plain kernel.
+ghost use Rattle.std.specs.Prelude.{◌≡◌, ◌<◌, ◌+◌, ◌^◌, ◌==◌, ℕ, List, [], length, drop};
+ghost use Rattle.std.specs.Prelude.{IfOk, MatchBool, MatchOption, MatchResult, OnOk, true};
+ghost use Rattle.std.specs.Prelude.{if◌then◌else◌, option_copied};
+ghost use Rattle.model.specs.FiniteMap.{empty, get};
+ghost use Rattle.model.specs.Entries.{Do};
+ghost use Rattle.model.specs.Moments.{is_in, start, with_processes};
+ghost use Rattle.freeing_laws.specs.Sweep.{IsTidied};
+ghost use Rattle.replay.specs.Checks.{Passes};
+ghost use Rattle.replay.specs.Failing.{IsStop};
+ghost use Rattle.replay.specs.Ran.{CannotRun, Follows, Ran, RanAt, StopsHere, StopsIn, StopsInside};
+ghost use Rattle.replay.specs.Ran.{StopsNow};
+ghost use Rattle.replay.specs.Suits.{is_executed};
+ghost use Rattle.replay.specs.Transactions.{call_first, call_in, call_of, calls_at_places};
+ghost use Rattle.replay.specs.Transactions.{doomed_kept, is_end, next_kept, run_kept};
+ghost use Rattle.replay.specs.declared.audit.Stop.TheVariants.{NoMemory};
+
+use crate::answers::is_reply;
+use crate::inode::Inode;
+use crate::names::Names;
+use crate::plain::{PlainKernel, Process, place_of, small};
+use crate::table::Table;
+use crate::transaction::{Transaction, doomed_kept, is_executed, own_kept, suits};
+use calls::plan_of;
+use heap::Heap;
+use ids::{Call, Entry, Num, Op, Pid, Priority, Reply};
+use std::alloc::AllocError;
+
+/// Why a replay stops.
+#[derive(Clone, Copy, Debug, PartialEq, Eq)]
+pub(crate) enum Stop {
+    /// The entry at this place, and the call at that one, counted from 0.
+    Wrong(usize, usize),
+    /// Memory was refused.
+    NoMemory,
+}
+
+impl From<AllocError> for Stop {
+    ghost from_gives = { λ _ e. e ≡ NoMemory };
+
+    fn from(_e: AllocError) -> Stop {
+        Stop::NoMemory
+    }
+}
+
+impl PlainKernel {
+    // A call of a process. It is right where it is answered so, with these new numbers.
+    fn step(
+        &mut self,
+        heap: Heap,
+        pid: Pid,
+        call: &Call,
+        reply: &Reply,
+        chosen: &[Num],
+    ) -> Result<bool, AllocError>
+        requires tidied { IsTidied self.old }
+        requires executed { is_executed reply.now ≡ true }
+        ensures { IfOk result (λ right. MatchBool right
+            (Ran self.old pid (call_in (Do call.now) reply.now chosen.now) self.new)
+            (CannotRun self.old pid (call_in (Do call.now) reply.now chosen.now))) }
+    {
+        let plan = plan_of(heap, self, pid, call)?;
+        if !is_reply(&plan.answer, reply)
+            || !self.is_living(pid)
+            || !self.can_be_chosen(plan.edits.as_slice(), chosen)
+        {
+            return Ok(false);
+        }
+        self.edit_all(heap, plan.edits.as_slice(), chosen)?;
+        Ok(true)
+    }
+
+    // The call of an entry, if it was executed, as one of this process.
+    fn run_entry(&mut self, heap: Heap, pid: Pid, entry: &Entry) -> Result<bool, AllocError>
+        requires { IsTidied self.old }
+        ensures { IfOk result (λ right. MatchBool right
+            (Ran self.old pid (call_of entry.now) self.new)
+            (CannotRun self.old pid (call_of entry.now))) }
+    {
+        match &entry.op {
+            Op::Call(call) => {
+                self.run_call(heap, pid, call, &entry.reply, entry.chosen.as_slice())
+            }
+            Op::Begin(_) => Ok(true),
+            Op::End => Ok(true),
+            Op::Abort { no_restart: _ } => Ok(true),
+        }
+    }
+
+    // A call, if it was executed.
+    fn run_call(
+        &mut self,
+        heap: Heap,
+        pid: Pid,
+        call: &Call,
+        reply: &Reply,
+        chosen: &[Num],
+    ) -> Result<bool, AllocError>
+        requires { IsTidied self.old }
+        ensures { IfOk result (λ right. MatchBool right
+            (Ran self.old pid (call_in (Do call.now) reply.now chosen.now) self.new)
+            (CannotRun self.old pid (call_in (Do call.now) reply.now chosen.now))) }
+    {
+        if is_executed(reply) {
+            self.step(heap, pid, call, reply, chosen)
+        } else {
+            Ok(true)
+        }
+    }
+
+    // The executed call at this place, if there is one.
+    fn run_place(
+        &mut self,
+        heap: Heap,
+        pid: Pid,
+        entries: &[Entry],
+        place: usize,
+    ) -> Result<bool, AllocError>
+        requires { IsTidied self.old }
+        ensures { IfOk result (λ right. MatchBool right
+            (Ran self.old pid (call_first (drop place entries.now)) self.new)
+            (CannotRun self.old pid (call_first (drop place entries.now)))) }
+    {
+        match entries.get(place) {
+            Some(entry) => self.run_entry(heap, pid, entry),
+            None => Ok(true),
+        }
+    }
+
+    // The executed calls at these places; where one is wrong, its place.
+    fn run_all(
+        &mut self,
+        heap: Heap,
+        pid: Pid,
+        entries: &[Entry],
+        places: &[usize],
+    ) -> Result<Option<usize>, AllocError>
+        requires { IsTidied self.old }
+        ensures { IfOk result (λ wrong. MatchOption wrong
+            (Ran self.old pid (calls_at_places entries.now places.now) self.new)
+            (StopsIn self.old pid entries.now places.now)) }
+    {
+        for place in places {
+            let right = self.run_place(heap, pid, entries, *place)?;
+            if !right {
+                return Ok(Some(*place));
+            }
+        }
+        Ok(None)
+    }
+
+    // Outside a transaction an entry's own call is run, which stands at this place.
+    fn run_idle(
+        &mut self,
+        heap: Heap,
+        entry: &Entry,
+        at: usize,
+    ) -> Result<Option<usize>, AllocError>
+        requires { IsTidied self.old }
+        ensures { IfOk result (λ wrong. MatchOption wrong
+            (Ran self.old entry.now.pid (call_of entry.now) self.new)
+            (λ place. (place ≡ at) × CannotRun self.old entry.now.pid (call_of entry.now))) }
+    {
+        let right = self.run_entry(heap, entry.pid, entry)?;
+        if right { Ok(None) } else { Ok(Some(at)) }
+    }
+
+    // At a transaction's end its calls are, which stand at these places.
+    fn run_live(
+        &mut self,
+        heap: Heap,
+        entry: &Entry,
+        entries: &[Entry],
+        places: &[usize],
+    ) -> Result<Option<usize>, AllocError>
+        requires { IsTidied self.old }
+        ensures { IfOk result (λ wrong. MatchOption wrong (Ran self.old entry.now.pid
+            (if is_end entry.now.op then calls_at_places entries.now places.now else []) self.new)
+            (λ place. (is_end entry.now.op ≡ true)
+            × StopsIn self.old entry.now.pid entries.now places.now place)) }
+    {
+        if is_end(&entry.op) {
+            self.run_all(heap, entry.pid, entries, places)
+        } else {
+            Ok(None)
+        }
+    }
+
+    // Inside a transaction; a doomed one has no calls.
+    fn run_inside(
+        &mut self,
+        heap: Heap,
+        transaction: &Transaction,
+        entries: &[Entry],
+        entry: &Entry,
+    ) -> Result<Option<usize>, AllocError>
+        requires { IsTidied self.old }
+        ensures { IfOk result (λ wrong. MatchOption wrong (Ran self.old entry.now.pid
+            (run_kept true (Some transaction.now) entries.now entry.now.op entry.now.reply
+            entry.now.chosen) self.new)
+            (StopsInside self.old transaction.now entries.now entry.now)) }
+    {
+        match transaction {
+            Transaction::Live(_, places) => {
+                self.run_live(heap, entry, entries, places.as_slice())
+            }
+            Transaction::Doomed(_) => Ok(None),
+        }
+    }
+
+    // The calls of an entry that take effect now, by what is kept of a living process.
+    fn run_kept(
+        &mut self,
+        heap: Heap,
+        kept: Option<&Transaction>,
+        entries: &[Entry],
+        entry: &Entry,
+        at: usize,
+    ) -> Result<Option<usize>, AllocError>
+        requires { IsTidied self.old }
+        ensures { IfOk result (λ wrong. MatchOption wrong (Ran self.old entry.now.pid
+            (run_kept true (option_copied kept.entry) entries.now entry.now.op entry.now.reply
+            entry.now.chosen) self.new)
+            (StopsHere self.old (option_copied kept.entry) entries.now at entry.now)) }
+    {
+        match kept {
+            None => self.run_idle(heap, entry, at),
+            Some(transaction) => self.run_inside(heap, transaction, entries, entry),
+        }
+    }
+}
+
+// Whether an operation ends a transaction.
+fn is_end(op: &Op) -> bool
+    ensures { result ≡ is_end op.now }
+{
+    matches!(op, Op::End)
+}
+
+/// A plain kernel, and what is kept of each process.
+#[derive(Drop)]
+pub(crate) struct Audit {
+    pub(crate) kernel: PlainKernel,
+    pub(crate) transactions: Table<Transaction>,
+}
+
+// The calls of an entry that take effect now; where one is wrong, its place.
+fn run(
+    kernel: &mut PlainKernel,
+    heap: Heap,
+    kept: Option<&Transaction>,
+    entries: &[Entry],
+    at: usize,
+) -> Result<Option<usize>, AllocError>
+    requires tidied { IsTidied kernel.old }
+    requires within { at < length entries.now }
+    ensures { IfOk result (λ wrong. MatchOption wrong
+        (RanAt entries.now at (option_copied kept.entry) kernel.old kernel.new)
+        (StopsNow entries.now at (option_copied kept.entry) kernel.old)) }
+{
+    let entry = &entries[at];
+    if kernel.is_living(entry.pid) {
+        kernel.run_kept(heap, kept, entries, entry, at)
+    } else {
+        Ok(None)
+    }
+}
+
+// What is kept of a process is this from now on.
+fn keep(
+    transactions: &mut Table<Transaction>,
+    pid: Pid,
+    kept: Option<Transaction>,
+) -> Result<(), AllocError>
+    requires { get transactions.old pid ≡ None }
+    ensures { OnOk result ((q : ℕ) → get transactions.new q
+        ≡ (if q == pid then kept else get transactions.old q)) }
+{
+    match kept {
+        Some(transaction) => {
+            let _before = transactions.insert(place_of(pid), transaction)?;
+            Ok(())
+        }
+        None => Ok(()),
+    }
+}
+
+// The process is doomed.
+fn doom(transactions: &mut Table<Transaction>, pid: Pid) -> Result<(), AllocError>
+    ensures { OnOk result ((q : ℕ) → get transactions.new q
+        ≡ (if q == pid then doomed_kept (get transactions.old q) else get transactions.old q)) }
+{
+    let kept = transactions.remove(place_of(pid));
+    keep(transactions, pid, doomed_kept(kept))
+}
+
+// These processes are.
+fn doom_all(transactions: &mut Table<Transaction>, doomed: &[Pid]) -> Result<(), AllocError>
+    ensures { OnOk result ((q : ℕ) → get transactions.new q
+        ≡ (if is_in q doomed.now then doomed_kept (get transactions.old q)
+        else get transactions.old q)) }
+{
+    for pid in doomed {
+        doom(transactions, *pid)?;
+    }
+    Ok(())
+}
+
+// What is kept after an entry, which stands at this place.
+fn keep_all(
+    transactions: &mut Table<Transaction>,
+    heap: Heap,
+    entry: &Entry,
+    at: usize,
+) -> Result<(), AllocError>
+    ensures { OnOk result ((q : ℕ) → get transactions.new q
+        ≡ next_kept at entry.now q (get transactions.old q)) }
+{
+    let kept = transactions.remove(place_of(entry.pid));
+    let next = own_kept(heap, kept, at, &entry.op, &entry.reply)?;
+    keep(transactions, entry.pid, next)?;
+    doom_all(transactions, entry.doomed.as_slice())
+}
+
+// A process without descriptors for each of these priorities.
+fn first_processes(heap: Heap, priorities: &[Priority]) -> Result<Table<Process>, AllocError>
+    requires { length priorities.now < 2 ^ 32 }
+    ensures { IfOk result (λ all. all ≡ with_processes 0 priorities.now empty) }
+{
+    let mut processes = Table::new(heap);
+    for (index, priority) in priorities.iter().enumerate() {
+        let process = Process {
+            table: Table::new(heap),
+            priority: priority.level(),
+        };
+        let _before = processes.insert(Num(index + 1), process)?;
+    }
+    Ok(processes)
+}
+
+impl Audit {
+    // The empty root, and the first processes, none in a transaction.
+    pub(crate) fn new(heap: Heap, root: Num, priorities: &[Priority]) -> Result<Audit, AllocError>
+        ensures kernel { IfOk result (λ r. r.kernel ≡ start root priorities.now) }
+        ensures transactions { IfOk result (λ r. r.transactions ≡ empty) }
+    {
+        let made = small(priorities.len())?;
+        let mut inodes = Table::new(heap);
+        let _before = inodes.insert(root, Inode::directory(Names::new(heap)))?;
+        Ok(Audit {
+            kernel: PlainKernel {
+                root,
+                inodes,
+                descriptions: Table::new(heap),
+                processes: first_processes(heap, priorities)?,
+                made,
+            },
+            transactions: Table::new(heap),
+        })
+    }
+
+    // The entry at a place, behind those before it.
+    fn follow(&mut self, heap: Heap, entries: &[Entry], at: usize) -> Result<(), Stop>
+        requires within { at < length entries.now }
+        requires tidied { IsTidied self.old.kernel }
+        ensures { (root : ℕ) (priorities : List ℕ)
+            → Follows root priorities entries.now at self.old.kernel self.old.transactions
+            → MatchResult result (λ _. Follows root priorities entries.now (at + 1)
+            self.new.kernel self.new.transactions) (IsStop root priorities entries.now) }
+    {
+        let entry = &entries[at];
+        let kept = self.transactions.get(place_of(entry.pid));
+        let living = self.kernel.is_living(entry.pid);
+        if !suits(living, kept, &entry.op, &entry.reply) {
+            return Err(Stop::Wrong(at, at));
+        }
+        let wrong = run(&mut self.kernel, heap, kept, entries, at)?;
+        match wrong {
+            Some(place) => Err(Stop::Wrong(at, place)),
+            None => {
+                keep_all(&mut self.transactions, heap, entry, at)?;
+                Ok(())
+            }
+        }
+    }
+}
+
+// Whether entries pass for a root, and where not, the entry and the call up to which they do not.
+pub(crate) fn passes(
+    heap: Heap,
+    root: Num,
+    priorities: &[Priority],
+    entries: &[Entry],
+) -> Result<(), Stop>
+    ensures { MatchResult result (λ _. Passes root priorities.now entries.now)
+        (IsStop root priorities.now entries.now) }
+{
+    let mut audit = Audit::new(heap, root, priorities)?;
+    for at in 0..entries.len() {
+        audit.follow(heap, entries, at)?;
+    }
+    Ok(())
+}

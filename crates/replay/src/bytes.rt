@@ -1,0 +1,65 @@
+// Changes of bytes.
+ghost use Rattle.std.specs.Prelude.{◌≡◌, ◌++◌, [], IfOk, drop, take};
+ghost use Rattle.model.specs.Changes.{sized, written};
+
+use heap::Heap;
+use ids::Bytes;
+use std::alloc::AllocError;
+
+// None. It takes no memory.
+pub(crate) fn no_bytes(heap: Heap) -> Bytes
+    ensures { result ≡ [] }
+{
+    Bytes::new(Vec::new(heap))
+}
+
+// At most `count` bytes, behind the first `skipped` ones. Past the end there are none.
+pub(crate) fn part(bytes: &[u8], skipped: usize, count: usize) -> &[u8]
+    ensures { result.now ≡ take count (drop skipped bytes.now) }
+{
+    let start = skipped.min(bytes.len());
+    let end = start + count.min(bytes.len() - start);
+    &bytes[start..end]
+}
+
+// Those behind the first `skipped` ones.
+pub(crate) fn rest(bytes: &[u8], skipped: usize) -> &[u8]
+    ensures { result.now ≡ drop skipped bytes.now }
+{
+    &bytes[skipped.min(bytes.len())..]
+}
+
+// So many bytes, with zeros past the end.
+pub(crate) fn sized(bytes: Bytes, len: usize) -> Result<Bytes, AllocError>
+    ensures { IfOk result (λ all. all ≡ sized len bytes) }
+{
+    let mut all = bytes.into_vec();
+    all.resize(len, 0)?;
+    Ok(Bytes::new(all))
+}
+
+// With more bytes behind them.
+pub(crate) fn appended(bytes: Bytes, more: &[u8]) -> Result<Bytes, AllocError>
+    ensures { IfOk result (λ all. all ≡ bytes ++ more.now) }
+{
+    let mut all = bytes.into_vec();
+    all.extend_from_slice(more)?;
+    Ok(Bytes::new(all))
+}
+
+// With these bytes from a place on; a gap before them is zeros.
+pub(crate) fn written(
+    heap: Heap,
+    bytes: Bytes,
+    place: usize,
+    over: &[u8],
+) -> Result<Bytes, AllocError>
+    ensures { IfOk result (λ all. all ≡ written bytes place over.now) }
+{
+    let Some(end) = place.checked_add(over.len()) else {
+        return Err(AllocError);
+    };
+    let behind = Bytes::copy(heap, rest(bytes.as_slice(), end))?;
+    let before = sized(bytes, place)?;
+    appended(appended(before, over)?, behind.as_slice())
+}

@@ -1,0 +1,82 @@
+// The check of a stored history.
+ghost use Rattle.std.specs.Prelude.{IfErr, OnOk};
+ghost use Rattle.replay.specs.Checks.{PassesForSome};
+ghost use Rattle.replay.specs.Failing.{IsTold, IsUnchosen};
+ghost use Rattle.replay.specs.Faults.{IsFault};
+
+use crate::audit::{Stop, passes};
+use crate::root::{first_unchosen, told_root};
+use heap::Heap;
+use history::History;
+use ids::{Entry, Num, Priority};
+
+/// Why a history does not pass, or is not decided.
+#[derive(Clone, Copy, Debug, PartialEq, Eq)]
+pub enum CheckFault {
+    /// The entry of this place, counted from 1, is wrong.
+    Wrong(usize),
+    /// Memory was refused. It decides nothing.
+    NoMemory,
+}
+
+/// Checks a stored history: whether each entry suits its process's status, and a plain kernel
+/// answers the committed calls as they were answered, with the numbers that they chose.
+///
+/// It judges plain calls and committed transactions alone: calls of aborted transactions, causes,
+/// dooms, restart marks and places may be anything. The root may have any number. `Wrong` has the
+/// place of the first entry that cannot be, or, where a committed transaction cannot have run, of
+/// its first call that cannot be.
+pub fn check(heap: Heap, history: &History) -> Result<(), CheckFault>
+    ensures ok { OnOk result (PassesForSome history.now.priorities history.now.entries) }
+    ensures wrong { IfErr result (IsFault history.now.priorities history.now.entries) }
+{
+    let entries = history.entries();
+    let priorities = history.priorities();
+    match first_unchosen(heap, entries) {
+        Ok(guess) => check_from(heap, guess, priorities, entries),
+        Err(_) => Err(CheckFault::NoMemory),
+    }
+}
+
+// Checks for a root that no entry chose, and, where a call tells of another, for that one.
+fn check_from(
+    heap: Heap,
+    guess: Num,
+    priorities: &[Priority],
+    entries: &[Entry],
+) -> Result<(), CheckFault>
+    requires { IsUnchosen guess entries.now }
+    ensures ok { OnOk result (PassesForSome priorities.now entries.now) }
+    ensures wrong { IfErr result (IsFault priorities.now entries.now) }
+{
+    match passes(heap, guess, priorities, entries) {
+        Ok(()) => Ok(()),
+        Err(Stop::Wrong(entry, place)) => match told_root(entries, place) {
+            Some(root) => check_told(heap, root, priorities, entries, (entry, place)),
+            None => Err(CheckFault::Wrong(place + 1)),
+        },
+        Err(Stop::NoMemory) => Err(CheckFault::NoMemory),
+    }
+}
+
+// Checks for the root that a call tells of. No other root comes further than that call.
+fn check_told(
+    heap: Heap,
+    root: Num,
+    priorities: &[Priority],
+    entries: &[Entry],
+    first: (usize, usize),
+) -> Result<(), CheckFault>
+    requires { IsTold priorities.now entries.now root first.0 first.1 }
+    ensures ok { OnOk result (PassesForSome priorities.now entries.now) }
+    ensures wrong { IfErr result (IsFault priorities.now entries.now) }
+{
+    match passes(heap, root, priorities, entries) {
+        Ok(()) => Ok(()),
+        Err(Stop::Wrong(entry, place)) => {
+            let later = (entry, place).max(first);
+            Err(CheckFault::Wrong(later.1 + 1))
+        }
+        Err(Stop::NoMemory) => Err(CheckFault::NoMemory),
+    }
+}

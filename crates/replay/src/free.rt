@@ -1,0 +1,214 @@
+// What a call's edits let go is freed at once.
+ghost use Rattle.std.specs.Prelude.{◌≡◌, ◌++◌, IfOk, OnOk, map, option_copied};
+ghost use Rattle.model.specs.FiniteMap.{get, remove, values};
+ghost use Rattle.model.specs.Changes.{inode_replaced, or_new, process_of};
+ghost use Rattle.freeing_laws.specs.Counts.{free_description, free_inode, let_go, listed, unnamed};
+ghost use Rattle.freeing_laws.specs.Sweep.{all_freed, freed, free_descriptions, free_inodes};
+ghost use Rattle.freeing_laws.specs.Sweep.{inodes_of, inode_in};
+
+use crate::plain::{Description, PlainKernel, Process, place_of};
+use heap::Heap;
+use ids::{Edit, Fd, Num, Pid, Replaced};
+use std::alloc::AllocError;
+
+impl PlainKernel {
+    // The description that a descriptor gives.
+    fn given(&self, pid: Pid, fd: Fd) -> Option<Num>
+        ensures { result ≡ get (process_of self.now pid).table fd }
+    {
+        given_in(self.processes.get(place_of(pid)), fd)
+    }
+
+    // The descriptions that descriptors give no more after an edit.
+    fn let_go(&self, heap: Heap, edit: &Edit) -> Result<Vec<Num, Heap>, AllocError>
+        ensures { IfOk result (λ gone. gone.items ≡ let_go self.now edit.now) }
+    {
+        match edit {
+            Edit::ShareSlot(pid, fd, _, _) => listed(heap, self.given(*pid, *fd)),
+            Edit::ClearSlot(pid, fd, _) => listed(heap, self.given(*pid, *fd)),
+            Edit::EndProcess(pid, _) => values_in(heap, self.processes.get(place_of(*pid))),
+            _ => Ok(Vec::new(heap)),
+        }
+    }
+
+    // The inodes that these descriptions open, behind others.
+    fn with_inodes_of(
+        &self,
+        mut inodes: Vec<Num, Heap>,
+        gone: &[Num],
+    ) -> Result<Vec<Num, Heap>, AllocError>
+        ensures { IfOk result (λ all. all.items
+            ≡ inodes.entry.items ++ inodes_of self.now gone.now) }
+    {
+        for num in gone {
+            inodes = with_inode_in(inodes, self.descriptions.get(*num))?;
+        }
+        Ok(inodes)
+    }
+
+    // A description goes if no descriptor gives it.
+    fn free_description(&mut self, num: Num)
+        ensures { self.new ≡ free_description num self.old }
+    {
+        if !self.is_held(num) {
+            let _before = self.descriptions.remove(num);
+        }
+    }
+
+    // Each of these goes so.
+    fn free_descriptions(&mut self, nums: &[Num])
+        ensures { self.new ≡ free_descriptions nums.now self.old }
+    {
+        for num in nums {
+            self.free_description(*num);
+        }
+    }
+
+    // An inode goes if nothing gives it, and it is not the root.
+    fn free_inode(&mut self, num: Num)
+        ensures { self.new ≡ free_inode num self.old }
+    {
+        if !self.is_reached(num) {
+            self.remove_inode(num);
+        }
+    }
+
+    // An inode goes.
+    fn remove_inode(&mut self, num: Num)
+        ensures { self.new ≡ record self.old { inodes = remove self.old.inodes num } }
+    {
+        let _inode = self.inodes.remove(num);
+    }
+
+    // Each of these goes so.
+    fn free_inodes(&mut self, nums: &[Num])
+        ensures { self.new ≡ free_inodes nums.now self.old }
+    {
+        for num in nums {
+            self.free_inode(*num);
+        }
+    }
+
+    // One edit, and what it lets go is freed.
+    fn edit(&mut self, heap: Heap, edit: &Edit, chosen: &[Num]) -> Result<(), AllocError>
+        ensures { OnOk result (self.new ≡ freed chosen.now edit.now self.old) }
+    {
+        let gone = self.let_go(heap, edit)?;
+        let inodes = self.with_inodes_of(unnamed(heap, edit)?, gone.as_slice())?;
+        self.apply(heap, edit, chosen)?;
+        self.free_descriptions(gone.as_slice());
+        self.free_inodes(inodes.as_slice());
+        Ok(())
+    }
+
+    // The edits of a call, each with what it lets go freed.
+    pub(crate) fn edit_all(
+        &mut self,
+        heap: Heap,
+        edits: &[Edit],
+        chosen: &[Num],
+    ) -> Result<(), AllocError>
+        ensures { OnOk result (self.new ≡ all_freed chosen.now edits.now self.old) }
+    {
+        for edit in edits {
+            self.edit(heap, edit, chosen)?;
+        }
+        Ok(())
+    }
+}
+
+// The description that a descriptor gives; none where there is no process.
+fn given_in(process: Option<&Process>, fd: Fd) -> Option<Num>
+    ensures { result ≡ get (or_new (option_copied process.entry)).table fd }
+{
+    match process {
+        Some(process) => process.given(fd),
+        None => None,
+    }
+}
+
+impl Process {
+    // The description that a descriptor gives.
+    fn given(&self, fd: Fd) -> Option<Num>
+        ensures { result ≡ get self.now.table fd }
+    {
+        self.table.get(Num(fd.0 as usize)).copied()
+    }
+
+    // All descriptions that descriptors give.
+    fn values(&self, heap: Heap) -> Result<Vec<Num, Heap>, AllocError>
+        ensures { IfOk result (λ all. all.items ≡ values self.now.table) }
+    {
+        values_of(heap, self.table.as_slice())
+    }
+}
+
+// The numbers of a table, in order.
+fn values_of(heap: Heap, slots: &[(Num, Num)]) -> Result<Vec<Num, Heap>, AllocError>
+    ensures { IfOk result (λ all. all.items ≡ map (λ e. e.1) slots.now) }
+{
+    let mut all = Vec::with_capacity(heap, slots.len())?;
+    for slot in slots {
+        all.push(slot.1)?;
+    }
+    Ok(all)
+}
+
+// All descriptions that a process's descriptors give; none where there is no process.
+fn values_in(heap: Heap, process: Option<&Process>) -> Result<Vec<Num, Heap>, AllocError>
+    ensures { IfOk result
+        (λ all. all.items ≡ values (or_new (option_copied process.entry)).table) }
+{
+    match process {
+        Some(process) => process.values(heap),
+        None => Ok(Vec::new(heap)),
+    }
+}
+
+// The number, if there is one.
+fn listed(heap: Heap, num: Option<Num>) -> Result<Vec<Num, Heap>, AllocError>
+    ensures { IfOk result (λ all. all.items ≡ listed num) }
+{
+    let mut all = Vec::new(heap);
+    if let Some(num) = num {
+        all.push(num)?;
+    }
+    Ok(all)
+}
+
+// The inode that a description opens, if it is there, behind others.
+fn with_inode_in(
+    mut inodes: Vec<Num, Heap>,
+    description: Option<&Description>,
+) -> Result<Vec<Num, Heap>, AllocError>
+    ensures { IfOk result (λ all. all.items
+        ≡ inodes.entry.items ++ inode_in (option_copied description.entry)) }
+{
+    if let Some(description) = description {
+        inodes.push(description.inode)?;
+    }
+    Ok(inodes)
+}
+
+// The inode of any kind whose name goes to what moves.
+fn replaced_by(replaced: &Replaced) -> Option<Num>
+    ensures { listed result ≡ inode_replaced replaced.now }
+{
+    match replaced {
+        Replaced::Nothing => None,
+        Replaced::File(num) => Some(*num),
+        Replaced::Directory(num) => Some(*num),
+    }
+}
+
+// The inodes that lose a name by an edit.
+fn unnamed(heap: Heap, edit: &Edit) -> Result<Vec<Num, Heap>, AllocError>
+    ensures { IfOk result (λ all. all.items ≡ unnamed edit.now) }
+{
+    match edit {
+        Edit::UnnameFile(_, _, num) => listed(heap, Some(*num)),
+        Edit::UnnameDirectory(_, _, num) => listed(heap, Some(*num)),
+        Edit::Move(_, _, _, _, _, replaced) => listed(heap, replaced_by(replaced)),
+        _ => Ok(Vec::new(heap)),
+    }
+}

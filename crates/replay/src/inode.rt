@@ -1,0 +1,275 @@
+// An inode of the plain kernel.
+ghost use Rattle.std.specs.Prelude.{◌≡◌, Some, option_copied, IfOk};
+ghost use Rattle.model.specs.FiniteMap.{get, keys};
+ghost use Rattle.model.specs.Paths.{is_empty};
+ghost use Rattle.model.specs.State.{Inode, File as A_file, Directory as A_directory, mapped};
+ghost use Rattle.model.specs.State.{Pipe as A_pipe, kind, file_of_inode, names_of_inode};
+ghost use Rattle.model.specs.State.{pipe_of_inode};
+ghost use Rattle.replay.specs.Counts.{given_by};
+
+use crate::bytes::no_bytes;
+use crate::names::Names;
+use heap::Heap;
+use ids::{Bytes, Kind, Name, NameList, Num};
+use std::alloc::AllocError;
+use std::marker::Model;
+
+/// What stands in an inode.
+#[derive(Drop)]
+pub(crate) enum Content {
+    /// A file's bytes.
+    File(Bytes),
+    /// A directory's names.
+    Directory(Names),
+    /// A pipe's bytes, oldest first.
+    Pipe(Bytes),
+}
+
+/// A file, a directory or a pipe.
+#[derive(Drop)]
+pub(crate) struct Inode {
+    content: Content,
+}
+
+impl Model for Inode {
+    ghost use Rattle.model.specs.State.{Inode};
+
+    ghost Value = { Inode };
+
+    ghost use Rattle.replay.specs.Content.{inode_of};
+
+    ghost view = { λ i. inode_of i.content };
+}
+
+impl Inode {
+    // A file of these bytes.
+    pub(crate) fn file(bytes: Bytes) -> Inode
+        ensures { result ≡ A_file bytes }
+    {
+        Inode {
+            content: Content::File(bytes),
+        }
+    }
+
+    // A directory of these names.
+    pub(crate) fn directory(names: Names) -> Inode
+        ensures { result ≡ A_directory names }
+    {
+        Inode {
+            content: Content::Directory(names),
+        }
+    }
+
+    // A pipe of these bytes.
+    pub(crate) fn pipe(bytes: Bytes) -> Inode
+        ensures { result ≡ A_pipe bytes }
+    {
+        Inode {
+            content: Content::Pipe(bytes),
+        }
+    }
+
+    // What kind of object it is.
+    fn kind(&self) -> Kind
+        ensures { result ≡ kind self.now }
+    {
+        match &self.content {
+            Content::File(_) => Kind::File,
+            Content::Directory(_) => Kind::Dir,
+            Content::Pipe(_) => Kind::Pipe,
+        }
+    }
+
+    // What a name gives; nothing where it is no directory.
+    fn given(&self, name: &Name) -> Option<Num>
+        ensures { result ≡ get (names_of_inode (Some self.now)) name.now }
+    {
+        match &self.content {
+            Content::Directory(names) => names.get(name),
+            Content::File(_) => None,
+            Content::Pipe(_) => None,
+        }
+    }
+
+    // All names.
+    fn names(&self, heap: Heap) -> Result<NameList, AllocError>
+        ensures { IfOk result (λ names. names ≡ keys (names_of_inode (Some self.now))) }
+    {
+        match &self.content {
+            Content::Directory(names) => names.names(heap),
+            Content::File(_) => Ok(NameList::new(Vec::new(heap))),
+            Content::Pipe(_) => Ok(NameList::new(Vec::new(heap))),
+        }
+    }
+
+    // Whether it has no names.
+    fn is_empty(&self) -> bool
+        ensures { result ≡ is_empty (keys (names_of_inode (Some self.now))) }
+    {
+        match &self.content {
+            Content::Directory(names) => names.is_empty(),
+            Content::File(_) => true,
+            Content::Pipe(_) => true,
+        }
+    }
+
+    // How many of its names give a number.
+    pub(crate) fn count(&self, num: Num) -> usize
+        ensures { result ≡ given_by num self.now }
+    {
+        match &self.content {
+            Content::Directory(names) => names.count(num),
+            Content::File(_) => 0,
+            Content::Pipe(_) => 0,
+        }
+    }
+
+    // The bytes of a file.
+    fn file_bytes(&self) -> &[u8]
+        ensures { result.now ≡ file_of_inode (Some self.now) }
+    {
+        match &self.content {
+            Content::File(bytes) => bytes.as_slice(),
+            Content::Directory(_) => &[],
+            Content::Pipe(_) => &[],
+        }
+    }
+
+    // The bytes of a pipe.
+    fn pipe_bytes(&self) -> &[u8]
+        ensures { result.now ≡ pipe_of_inode (Some self.now) }
+    {
+        match &self.content {
+            Content::Pipe(bytes) => bytes.as_slice(),
+            Content::File(_) => &[],
+            Content::Directory(_) => &[],
+        }
+    }
+
+    // The names of a directory, as its own; none where it is none.
+    fn into_names(self, heap: Heap) -> Names
+        ensures { result ≡ names_of_inode (Some self) }
+    {
+        let Inode { content } = self;
+        match content {
+            Content::Directory(names) => names,
+            Content::File(_) => Names::new(heap),
+            Content::Pipe(_) => Names::new(heap),
+        }
+    }
+
+    // The bytes of a file, as its own.
+    fn into_file(self, heap: Heap) -> Bytes
+        ensures { result ≡ file_of_inode (Some self) }
+    {
+        let Inode { content } = self;
+        match content {
+            Content::File(bytes) => bytes,
+            Content::Directory(_) => no_bytes(heap),
+            Content::Pipe(_) => no_bytes(heap),
+        }
+    }
+
+    // The bytes of a pipe, as its own.
+    fn into_pipe(self, heap: Heap) -> Bytes
+        ensures { result ≡ pipe_of_inode (Some self) }
+    {
+        let Inode { content } = self;
+        match content {
+            Content::Pipe(bytes) => bytes,
+            Content::File(_) => no_bytes(heap),
+            Content::Directory(_) => no_bytes(heap),
+        }
+    }
+}
+
+// The kind of an inode that may be there.
+pub(crate) fn kind_in(inode: Option<&Inode>) -> Option<Kind>
+    ensures { result ≡ mapped kind (option_copied inode.entry) }
+{
+    match inode {
+        Some(inode) => Some(inode.kind()),
+        None => None,
+    }
+}
+
+// What a name of it gives.
+pub(crate) fn given_in(inode: Option<&Inode>, name: &Name) -> Option<Num>
+    ensures { result ≡ get (names_of_inode (option_copied inode.entry)) name.now }
+{
+    match inode {
+        Some(inode) => inode.given(name),
+        None => None,
+    }
+}
+
+// All its names.
+pub(crate) fn names_in(heap: Heap, inode: Option<&Inode>) -> Result<NameList, AllocError>
+    ensures { IfOk result
+        (λ names. names ≡ keys (names_of_inode (option_copied inode.entry))) }
+{
+    match inode {
+        Some(inode) => inode.names(heap),
+        None => Ok(NameList::new(Vec::new(heap))),
+    }
+}
+
+// Whether it has no names.
+pub(crate) fn is_empty_in(inode: Option<&Inode>) -> bool
+    ensures { result ≡ is_empty (keys (names_of_inode (option_copied inode.entry))) }
+{
+    match inode {
+        Some(inode) => inode.is_empty(),
+        None => true,
+    }
+}
+
+// The bytes of a file.
+pub(crate) fn file_in(inode: Option<&Inode>) -> &[u8]
+    ensures { result.now ≡ file_of_inode (option_copied inode.entry) }
+{
+    match inode {
+        Some(inode) => inode.file_bytes(),
+        None => &[],
+    }
+}
+
+// The bytes of a pipe.
+pub(crate) fn pipe_in(inode: Option<&Inode>) -> &[u8]
+    ensures { result.now ≡ pipe_of_inode (option_copied inode.entry) }
+{
+    match inode {
+        Some(inode) => inode.pipe_bytes(),
+        None => &[],
+    }
+}
+
+// The names of a directory, as its own.
+pub(crate) fn names_out(heap: Heap, inode: Option<Inode>) -> Names
+    ensures { result ≡ names_of_inode inode }
+{
+    match inode {
+        Some(inode) => inode.into_names(heap),
+        None => Names::new(heap),
+    }
+}
+
+// The bytes of a file, as its own.
+pub(crate) fn file_out(heap: Heap, inode: Option<Inode>) -> Bytes
+    ensures { result ≡ file_of_inode inode }
+{
+    match inode {
+        Some(inode) => inode.into_file(heap),
+        None => no_bytes(heap),
+    }
+}
+
+// The bytes of a pipe, as its own.
+pub(crate) fn pipe_out(heap: Heap, inode: Option<Inode>) -> Bytes
+    ensures { result ≡ pipe_of_inode inode }
+{
+    match inode {
+        Some(inode) => inode.into_pipe(heap),
+        None => no_bytes(heap),
+    }
+}

@@ -1,0 +1,33 @@
+//! The replay checker: it audits a stored history by a plain kernel of whole maps, which has no
+//! transactions, and shares nothing with the kernel that wrote the history but the calls' plans.
+#![tactic(auto)]
+
+ghost use Rattle.replay.specs.Checks.{LegalHistoriesPass};
+ghost use Rattle.replay.specs.Faults.{LegalHistoriesHaveNoFault};
+
+mod answers;
+mod apply;
+mod audit;
+mod bytes;
+mod checking;
+mod free;
+mod inode;
+mod names;
+mod numbers;
+mod plain;
+mod root;
+mod table;
+mod transaction;
+
+pub use checking::{CheckFault, check};
+
+/// A legal history passes: each entry suits, and the committed state exists.
+/// Proved in `proofs/Passing.antt`.
+pub fn legal_histories_pass()
+    ensures { LegalHistoriesPass }
+{}
+
+/// A legal history has no fault, so the checker never says of a kernel's own that it is wrong.
+pub fn legal_histories_have_no_fault()
+    ensures { LegalHistoriesHaveNoFault }
+{}

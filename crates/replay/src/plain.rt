@@ -1,0 +1,390 @@
+// The plain kernel: whole maps, and nothing counted beforehand.
+ghost use Rattle.std.specs.Prelude.{◌≡◌, ◌+◌, ◌==◌, nat_lt, IfOk, Some, None, map, option_copied};
+ghost use Rattle.std.specs.List.{count_by, list_any, sum_by};
+ghost use Rattle.model.specs.FiniteMap.{get};
+ghost use Rattle.model.specs.State.{Kernel, Description as Opened, ends, is_end, links, kind_of};
+ghost use Rattle.model.specs.Calls.{slot_of};
+ghost use Rattle.model.specs.Changes.{process_of, or_new, holders, openings, is_held, is_reached};
+ghost use Rattle.model.specs.Moments.{is_alive};
+ghost use Rattle.replay.specs.Counts.{given_by, held_by, is_open, ended_by};
+
+use crate::bytes::part;
+use crate::inode::{Inode, file_in, given_in, is_empty_in, kind_in, names_in, pipe_in};
+use crate::table::Table;
+use heap::Heap;
+use ids::{Bytes, Fd, Kind, Name, NameList, Num, PIPE_CAPACITY, Pid, Slot};
+use look::Look;
+use std::alloc::AllocError;
+use std::marker::Model;
+
+/// What open descriptors share.
+#[derive(Clone, Copy, Debug, PartialEq, Eq)]
+pub(crate) struct Description {
+    pub(crate) inode: Num,
+    pub(crate) reading: bool,
+    pub(crate) writing: bool,
+    pub(crate) appending: bool,
+    pub(crate) offset: u32,
+}
+
+impl Model for Description {
+    ghost use Rattle.model.specs.State.{Description as Opened};
+
+    ghost Value = { Opened };
+
+    ghost view = { λ d. record {
+      inode = d.inode;
+      reading = d.reading;
+      writing = d.writing;
+      appending = d.appending;
+      offset = d.offset;
+    } };
+
+    ghost inverse = { λ d. record {
+      inode = d.inode;
+      reading = d.reading;
+      writing = d.writing;
+      appending = d.appending;
+      offset = d.offset;
+    } };
+}
+
+/// A process: what each descriptor is open on, and its priority.
+#[derive(Drop)]
+pub(crate) struct Process {
+    pub(crate) table: Table<Num>,
+    pub(crate) priority: u8,
+}
+
+impl Model for Process {
+    ghost use Rattle.model.specs.State.{Process};
+
+    ghost Value = { Process };
+
+    ghost view = { λ p. record {
+      table = p.table;
+      priority = p.priority;
+    } };
+}
+
+/// A kernel without transactions.
+#[derive(Drop)]
+pub(crate) struct PlainKernel {
+    pub(crate) root: Num,
+    pub(crate) inodes: Table<Inode>,
+    pub(crate) descriptions: Table<Description>,
+    pub(crate) processes: Table<Process>,
+    pub(crate) made: u32,
+}
+
+impl Model for PlainKernel {
+    ghost use Rattle.model.specs.State.{Kernel};
+
+    ghost Value = { Kernel };
+
+    ghost view = { λ k. record {
+      root = k.root;
+      inodes = k.inodes;
+      descriptions = k.descriptions;
+      processes = k.processes;
+      made = k.made;
+    } };
+}
+
+// A process has the place of its number.
+pub(crate) fn place_of(pid: Pid) -> Num
+    ensures { result ≡ pid }
+{
+    Num(pid.0 as usize)
+}
+
+impl PlainKernel {
+    // Whether there is such a process.
+    pub(crate) fn is_living(&self, pid: Pid) -> bool
+        ensures { result ≡ is_alive self.now pid }
+    {
+        self.processes.get(place_of(pid)).is_some()
+    }
+
+    // What never changes of a description, with its inode's kind.
+    fn slot(&self, num: Num) -> Slot
+        ensures { result ≡ slot_of self.now num (get self.now.descriptions num) }
+    {
+        match self.descriptions.get(num) {
+            Some(description) => Slot {
+                description: num,
+                inode: description.inode,
+                kind: kind_in(self.inodes.get(description.inode)),
+                reading: description.reading,
+                writing: description.writing,
+                appending: description.appending,
+            },
+            None => Slot {
+                description: num,
+                inode: Num(0),
+                kind: None,
+                reading: false,
+                writing: false,
+                appending: false,
+            },
+        }
+    }
+
+    // How many descriptors are open on a pipe, to write or to read.
+    fn open_ends(&self, pipe: Num, writing: bool) -> Result<u32, AllocError>
+        ensures { IfOk result (λ n. n ≡ ends self.now pipe (is_open writing)) }
+    {
+        ends_in(self.processes.as_slice(), &self.descriptions, pipe, writing)
+    }
+
+    // Whether a descriptor gives a description.
+    pub(crate) fn is_held(&self, description: Num) -> bool
+        ensures { result ≡ is_held self.now description }
+    {
+        is_held_in(self.processes.as_slice(), description)
+    }
+
+    // Whether an inode is the root, or a name or a description gives it.
+    pub(crate) fn is_reached(&self, inode: Num) -> bool
+        ensures { result ≡ is_reached self.now inode }
+    {
+        inode == self.root
+            || is_named_in(self.inodes.as_slice(), inode)
+            || is_opened_in(self.descriptions.as_slice(), inode)
+    }
+}
+
+// A count that plans know with 32 bits.
+pub(crate) fn small(count: usize) -> Result<u32, AllocError>
+    ensures { IfOk result (λ n. n ≡ count) }
+{
+    if count > u32::MAX as usize {
+        return Err(AllocError);
+    }
+    Ok(count as u32)
+}
+
+// One count more.
+fn counted(so_far: usize, more: usize) -> Result<usize, AllocError>
+    ensures { IfOk result (λ n. n ≡ so_far + more) }
+{
+    match so_far.checked_add(more) {
+        Some(count) => Ok(count),
+        None => Err(AllocError),
+    }
+}
+
+// How many names of these inodes give a number.
+fn links_in(inodes: &[(Num, Inode)], num: Num) -> Result<u32, AllocError>
+    ensures { IfOk result (λ n. n ≡ sum_by (given_by num) (map (λ e. e.1) inodes.now)) }
+{
+    let mut count = 0;
+    for slot in inodes {
+        count = counted(count, slot.1.count(num))?;
+    }
+    small(count)
+}
+
+// Whether there is such a name.
+fn is_named_in(inodes: &[(Num, Inode)], num: Num) -> bool
+    ensures { result ≡ list_any (λ e. nat_lt 0 (given_by num e.1)) inodes.now }
+{
+    inodes.iter().any(|slot| slot.1.count(num) > 0)
+}
+
+// Whether one of these descriptions is of an inode.
+fn is_opened_in(descriptions: &[(Num, Description)], inode: Num) -> bool
+    ensures { result ≡ list_any (λ e. e.1.inode == inode) descriptions.now }
+{
+    descriptions.iter().any(|slot| slot.1.inode == inode)
+}
+
+// Whether a descriptor of these processes gives a description.
+fn is_held_in(processes: &[(Num, Process)], description: Num) -> bool
+    ensures { result ≡ list_any (λ e. nat_lt 0 (held_by description e.1)) processes.now }
+{
+    processes.iter().any(|slot| slot.1.holds(description))
+}
+
+impl Process {
+    // Whether a descriptor of it gives a description.
+    fn holds(&self, description: Num) -> bool
+        ensures { result ≡ nat_lt 0 (held_by description self.now) }
+    {
+        is_given_in(self.table.as_slice(), description)
+    }
+
+    // How many of its descriptors are open so on a pipe.
+    fn open_ends(&self, descriptions: &Table<Description>, pipe: Num, writing: bool) -> usize
+        ensures { (k : Kernel) → k.descriptions ≡ descriptions.now
+            → result ≡ ended_by k pipe writing self.now }
+    {
+        ends_of(self.table.as_slice(), descriptions, pipe, writing)
+    }
+}
+
+// Whether one of these descriptors gives a description.
+fn is_given_in(slots: &[(Num, Num)], description: Num) -> bool
+    ensures { result ≡ list_any (λ e. e.1 == description) slots.now }
+{
+    slots.iter().any(|slot| slot.1 == description)
+}
+
+// How many of these descriptors are open so on a pipe.
+fn ends_of(
+    slots: &[(Num, Num)],
+    descriptions: &Table<Description>,
+    pipe: Num,
+    writing: bool,
+) -> usize
+    ensures { result
+        ≡ count_by (λ e. is_end (is_open writing) pipe (get descriptions.now e.1)) slots.now }
+{
+    slots
+        .iter()
+        .filter(|slot| is_end(descriptions.get(slot.1), pipe, writing))
+        .count()
+}
+
+// Whether a description is of a pipe, and open to write, or to read.
+fn is_end(description: Option<&Description>, pipe: Num, writing: bool) -> bool
+    ensures { result ≡ is_end (is_open writing) pipe (option_copied description.entry) }
+{
+    match description {
+        Some(description) => { description.inode == pipe && description.is_open(writing) }
+        None => false,
+    }
+}
+
+impl Description {
+    // Whether it is open to write, or to read.
+    fn is_open(&self, writing: bool) -> bool
+        ensures { result ≡ is_open writing self.now }
+    {
+        if writing { self.writing } else { self.reading }
+    }
+}
+
+// How many descriptors of these processes are open so on a pipe.
+fn ends_in(
+    processes: &[(Num, Process)],
+    descriptions: &Table<Description>,
+    pipe: Num,
+    writing: bool,
+) -> Result<u32, AllocError>
+    ensures { (k : Kernel) → k.descriptions ≡ descriptions.now
+        → IfOk result (λ n. n ≡ sum_by (ended_by k pipe writing) (map (λ e. e.1) processes.now)) }
+{
+    let mut count = 0;
+    for slot in processes {
+        count = counted(count, slot.1.open_ends(descriptions, pipe, writing))?;
+    }
+    small(count)
+}
+
+impl Look for PlainKernel {
+    ghost state = { λ k. k };
+
+    fn root(&self) -> Num {
+        self.root
+    }
+
+    fn find(&self, dir: Num, name: &Name) -> Option<(Num, Option<Kind>)> {
+        match given_in(self.inodes.get(dir), name) {
+            Some(num) => Some((num, kind_in(self.inodes.get(num)))),
+            None => None,
+        }
+    }
+
+    fn is_empty(&self, dir: Num) -> bool {
+        is_empty_in(self.inodes.get(dir))
+    }
+
+    fn names(&self, heap: Heap, dir: Num) -> Result<NameList, AllocError> {
+        names_in(heap, self.inodes.get(dir))
+    }
+
+    fn size(&self, file: Num) -> Result<u32, AllocError> {
+        small(file_in(self.inodes.get(file)).len())
+    }
+
+    fn read_file(
+        &self,
+        heap: Heap,
+        file: Num,
+        place: u32,
+        count: u32,
+    ) -> Result<Bytes, AllocError> {
+        let bytes = file_in(self.inodes.get(file));
+        small(bytes.len())?;
+        Bytes::copy(heap, part(bytes, place as usize, count as usize))
+    }
+
+    fn links(&self, file: Num) -> Result<u32, AllocError> {
+        links_in(self.inodes.as_slice(), file)
+    }
+
+    fn ends(&self, pipe: Num) -> Result<(u32, u32), AllocError> {
+        let reading = self.open_ends(pipe, false)?;
+        let writing = self.open_ends(pipe, true)?;
+        Ok((reading, writing))
+    }
+
+    fn offset(&self, description: Num) -> Result<u32, AllocError> {
+        match self.descriptions.get(description) {
+            Some(description) => Ok(description.offset),
+            None => Ok(0),
+        }
+    }
+
+    fn read_pipe(&self, heap: Heap, pipe: Num, count: u32) -> Result<Bytes, AllocError> {
+        Bytes::copy(
+            heap,
+            part(pipe_in(self.inodes.get(pipe)), 0, count as usize),
+        )
+    }
+
+    fn fit(&self, pipe: Num, count: usize) -> Result<u32, AllocError> {
+        let room = PIPE_CAPACITY.saturating_sub(pipe_in(self.inodes.get(pipe)).len());
+        Ok(count.min(room) as u32)
+    }
+
+    fn table(&self, heap: Heap, pid: Pid) -> Result<Vec<(Fd, Slot), Heap>, AllocError> {
+        match self.processes.get(place_of(pid)) {
+            Some(process) => self.slots_of(heap, process.table.as_slice()),
+            None => Ok(Vec::new(heap)),
+        }
+    }
+
+    fn birth(&self, pid: Pid) -> Result<(u32, u8), AllocError> {
+        match self.processes.get(place_of(pid)) {
+            Some(process) => Ok((self.made, process.priority)),
+            None => Ok((self.made, 0)),
+        }
+    }
+}
+
+impl PlainKernel {
+    // These descriptors with what never changes of their descriptions.
+    fn slots_of(
+        &self,
+        heap: Heap,
+        slots: &[(Num, Num)],
+    ) -> Result<Vec<(Fd, Slot), Heap>, AllocError>
+        ensures { IfOk result (λ a. a.items
+            ≡ map (λ e. (e.0, slot_of self.now e.1 (get self.now.descriptions e.1))) slots.now) }
+    {
+        let mut all = Vec::with_capacity(heap, slots.len())?;
+        for (fd, description) in slots {
+            all.push((fd_of(*fd)?, self.slot(*description)))?;
+        }
+        Ok(all)
+    }
+}
+
+// A descriptor of this number.
+fn fd_of(num: Num) -> Result<Fd, AllocError>
+    ensures { IfOk result (λ fd. fd ≡ num) }
+{
+    Ok(Fd(small(num.0)?))
+}

@@ -1,0 +1,76 @@
+// The number of the root, which a history tells by a `stat` of it alone.
+ghost use Rattle.std.specs.Prelude.{◌≡◌, ◌≢◌, ◌++◌, ◌∷◌, ℕ, List, [], All, IfOk, OnOk, Some};
+ghost use Rattle.std.specs.List.{AllByRecursion};
+ghost use Rattle.std.specs.List.Sorted.{IsNonDecreasing};
+ghost use Rattle.model.specs.Entries.{Executed};
+ghost use Rattle.renaming_laws.specs.Laws.{TellsRoot};
+ghost use Rattle.replay.specs.Failing.{IsUnchosen, TellsAt};
+ghost use Rattle.replay.specs.Transactions.{call_in};
+
+use heap::Heap;
+use ids::{Answer, Call, Entry, Num, Op, Reply};
+use std::alloc::AllocError;
+
+// The first number that no entry chose for a new object.
+pub(crate) fn first_unchosen(heap: Heap, entries: &[Entry]) -> Result<Num, AllocError>
+    ensures { IfOk result (λ n. IsUnchosen n entries.now) }
+{
+    let mut chosen = all_chosen(heap, entries)?;
+    chosen.sort_unstable();
+    Ok(Num(first_missing(chosen.as_slice())))
+}
+
+// The numbers that entries chose.
+fn all_chosen(heap: Heap, entries: &[Entry]) -> Result<Vec<usize, Heap>, AllocError>
+    ensures { IfOk result (λ all. (n : ℕ) → AllByRecursion (λ m. m ≢ n) all.items
+        → IsUnchosen n entries.now) }
+{
+    let mut all = Vec::new(heap);
+    for entry in entries {
+        add_all(&mut all, entry.chosen.as_slice())?;
+    }
+    Ok(all)
+}
+
+fn add_all(all: &mut Vec<usize, Heap>, nums: &[Num]) -> Result<(), AllocError>
+    ensures { OnOk result (all.new.items ≡ all.old.items ++ nums.now) }
+{
+    for num in nums {
+        all.push(num.0)?;
+    }
+    Ok(())
+}
+
+// The first number that stands nowhere in a list that rises.
+fn first_missing(rising: &[usize]) -> usize
+    requires { IsNonDecreasing rising.now }
+    ensures { All (λ m. m ≢ result) rising.now }
+{
+    let mut missing = 0;
+    for num in rising {
+        if *num == missing {
+            missing += 1;
+        }
+    }
+    missing
+}
+
+// What an entry tells of the root's number, if it is an executed `stat` of it.
+pub(crate) fn told_root(entries: &[Entry], place: usize) -> Option<Num>
+    ensures { (root : ℕ) → TellsAt root entries.now place → result ≡ Some root }
+{
+    let entry = entries.get(place)?;
+    told_by(&entry.op, &entry.reply)
+}
+
+fn told_by(op: &Op, reply: &Reply) -> Option<Num>
+    ensures { (root : ℕ) (chosen : List ℕ) (call : Executed)
+        → call_in op.now reply.now chosen ≡ call ∷ [] → TellsRoot root call.call call.answer
+        → result ≡ Some root }
+{
+    match (op, reply) {
+        (Op::Call(Call::Stat(path)), Reply::Answer(Answer::Stat(stat)))
+            if path.as_slice() == b"/".as_slice() => { Some(stat.num) }
+        _ => None,
+    }
+}

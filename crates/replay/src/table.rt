@@ -1,0 +1,115 @@
+// A map from numbers to values: a vector in the order of the numbers.
+ghost use Rattle.std.specs.Prelude.{◌≡◌, IsTrue, MatchResult, IfOk, OnOk, option_copied};
+ghost use Rattle.std.specs.Ordering.{nat_cmp};
+ghost use Rattle.model.specs.FiniteMap as map;
+ghost use Rattle.replay.specs.Places.{IsPlaceOf, IsPlaceFor};
+
+use heap::Heap;
+use ids::Num;
+use std::alloc::AllocError;
+use std::cmp::Ordering;
+use std::marker::Model;
+use std::mem::replace;
+
+/// What each number stands for.
+#[derive(Drop)]
+pub(crate) struct Table<T> {
+    slots: Vec<(Num, T), Heap>,
+}
+
+impl<T> Model for Table<T> {
+    ghost use Rattle.std.specs.Prelude.{IsTrue};
+    ghost use Rattle.std.specs.Ordering.{nat_cmp};
+    ghost use Rattle.std.specs.Coded.{coded_ℕ};
+    ghost use Rattle.model.specs.FiniteMap as map;
+
+    ghost Value = { map.FinMap nat_cmp T };
+
+    ghost coded = { map.code coded_ℕ T.code };
+
+    ghost view = { λ t. map.from_sorted {R = nat_cmp} t.slots.items };
+
+    ghost invariant = { λ t. IsTrue (map.is_sorted nat_cmp t.slots.items) };
+}
+
+impl<T: Drop> Table<T> {
+    // Nothing. It takes no memory.
+    pub(crate) fn new(heap: Heap) -> Table<T>
+        ensures { result ≡ map.empty }
+    {
+        Table {
+            slots: Vec::new(heap),
+        }
+    }
+
+    // What a number stands for.
+    pub(crate) fn get(&self, num: Num) -> Option<&T>
+        ensures { option_copied result ≡ map.get self.now num }
+    {
+        match place(self.slots.as_slice(), num) {
+            Ok(at) => Some(&self.slots[at].1),
+            Err(_at) => None,
+        }
+    }
+
+    // A number gets a value. It gives the one before.
+    pub(crate) fn insert(&mut self, num: Num, value: T) -> Result<Option<T>, AllocError>
+        ensures changed { OnOk result (self.new ≡ map.insert self.old num value) }
+        ensures before { IfOk result (λ before. before ≡ map.get self.old num) }
+    {
+        match place(self.slots.as_slice(), num) {
+            Ok(at) => Ok(Some(replace(&mut self.slots[at].1, value))),
+            Err(at) => {
+                self.slots.insert(at, (num, value))?;
+                Ok(None)
+            }
+        }
+    }
+
+    // A number stands for nothing any more. It gives the value before.
+    pub(crate) fn remove(&mut self, num: Num) -> Option<T>
+        ensures changed { self.new ≡ map.remove self.old num }
+        ensures before { result ≡ map.get self.old num }
+    {
+        match place(self.slots.as_slice(), num) {
+            Ok(at) => {
+                let (_num, value) = self.slots.remove(at);
+                Some(value)
+            }
+            Err(_at) => None,
+        }
+    }
+
+    // All numbers with their values, rising.
+    pub(crate) fn as_slice(&self) -> &[(Num, T)]
+        ensures { result.now ≡ map.entries self.now }
+    {
+        self.slots.as_slice()
+    }
+}
+
+impl Table<Num> {
+    // A copy.
+    pub(crate) fn try_clone(&self, heap: Heap) -> Result<Table<Num>, AllocError>
+        ensures { IfOk result (λ copy. copy ≡ self.now) }
+    {
+        Ok(Table {
+            slots: Vec::from_slice(heap, self.slots.as_slice())?,
+        })
+    }
+}
+
+// Where a number stands, or where it would, by halving.
+fn place<T>(slots: &[(Num, T)], num: Num) -> Result<usize, usize>
+    requires { IsTrue (map.is_sorted nat_cmp slots.now) }
+    ensures { MatchResult result
+        (IsPlaceOf nat_cmp num slots.now) (IsPlaceFor nat_cmp num slots.now) }
+{
+    slots.binary_search_by(|slot| compare(slot.0, num))
+}
+
+fn compare(num: Num, other: Num) -> Ordering
+    ensures { result ≡ nat_cmp num other }
+{
+    num.0.cmp(&other.0)
+}
