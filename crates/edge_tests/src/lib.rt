@@ -17,6 +17,4 @@ mod of_turnstile;
 #[cfg(test)]
 mod of_words;
 #[cfg(test)]
-mod of_workers;
-#[cfg(test)]
 mod texts;

@@ -19,5 +19,3 @@ pub mod Script
 pub mod Laws
 pub mod Places
 pub mod Effects
-pub mod Suits
-pub mod Passing

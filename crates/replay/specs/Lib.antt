@@ -1,3 +1,5 @@
+pub mod Suits
+pub mod Checks
 pub mod Places
 pub mod Content
 pub mod Counts
