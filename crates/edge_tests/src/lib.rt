@@ -17,4 +17,6 @@ mod of_turnstile;
 #[cfg(test)]
 mod of_words;
 #[cfg(test)]
+mod of_workers;
+#[cfg(test)]
 mod texts;

@@ -1,5 +1,5 @@
 // What a call touches, and why an operation is aborted or put off.
-ghost use Rattle.std.specs.Prelude.{◌≡◌, IfOk, refl};
+ghost use Rattle.std.specs.Prelude.{◌≡◌, ◌∷◌, IfOk, refl};
 ghost use Rattle.std.specs.Cmp;
 ghost use Rattle.std.specs.Cmp.{partial_order_from_agreeing_total};
 ghost use Rattle.std.specs.Cmp.Rules.{comparing};
@@ -116,6 +116,29 @@ fn compare_names<'x>(first: &'x [u8], second: &'x [u8]) -> Ordering
     first.cmp(&second)
 }
 
+// The order of two aspects of the same part of an object.
+fn compare_in_part(first: &Aspect, second: &Aspect) -> Ordering
+    ensures { result ≡ slice_cmp nat_cmp
+        (block_of first.now ∷ name_of first.now) (block_of second.now ∷ name_of second.now) }
+{
+    match first.block().cmp(&second.block()) {
+        Ordering::Equal => compare_names(first.name(), second.name()),
+        order => order,
+    }
+}
+
+// The order of two aspects of the same object.
+fn compare_in_object(first: &Aspect, second: &Aspect) -> Ordering
+    ensures { result ≡ slice_cmp nat_cmp
+        (kind_of first.now ∷ block_of first.now ∷ name_of first.now)
+        (kind_of second.now ∷ block_of second.now ∷ name_of second.now) }
+{
+    match first.part().cmp(&second.part()) {
+        Ordering::Equal => compare_in_part(first, second),
+        order => order,
+    }
+}
+
 impl PartialEq for Aspect {
     ghost use Rattle.ids.specs.Order.{aspect_cmp, aspect_cmp_total};
 
@@ -162,13 +185,11 @@ impl Ord for Aspect {
 
     #[tactic(auto, unfolding(crate::specs::Order::aspect_cmp))]
     fn cmp(&self, other: &Aspect) -> Ordering {
-        self.object().cmp(&other.object()).then(
-            self.part().cmp(&other.part()).then(
-                self.block()
-                    .cmp(&other.block())
-                    .then(compare_names(self.name(), other.name())),
-            ),
-        )
+        // Most are told apart by their objects, so nothing else is looked at before.
+        match self.object().cmp(&other.object()) {
+            Ordering::Equal => compare_in_object(self, other),
+            order => order,
+        }
     }
 }
 

@@ -19,3 +19,5 @@ pub mod Script
 pub mod Laws
 pub mod Places
 pub mod Effects
+pub mod Suits
+pub mod Passing

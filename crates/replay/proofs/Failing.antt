@@ -1,5 +1,5 @@
 -- Where one root fails: others go on from there only where the call there tells them.
-use Rattle.std.proofs.Common.{◌≡◌, ◌≢◌, ◌⊎◌, ℕ, zero, suc, ◌+◌, ◌<◌, ◌≤◌, Bool, true, false, cond, nat_lt, ◌==◌, le_of_lt, List, [], ◌∷◌, ◌++◌, take, drop, length, Option, Some, None, Result, inl, inr, refl, sym, ap, ap₂, subst, ◌∙◌, append-nil, take-append-drop, arith}
+use Rattle.std.proofs.Common.{◌≡◌, ◌≢◌, ◌⊎◌, ℕ, zero, suc, ◌<◌, ◌≤◌, Bool, true, false, cond, nat_lt, ◌==◌, le_of_lt, List, [], ◌∷◌, ◌++◌, take, drop, length, Option, Some, None, Result, inl, inr, refl, sym, ap, subst, ◌∙◌, take-append-drop, arith}
 use Rattle.std.specs.Prelude.{if◌then◌else◌}
 use Rattle.std.specs.List.{AllByRecursion}
 use Rattle.std.specs.Ordering.{is_lt, nat_cmp, ord_max, ordering_then}
@@ -7,16 +7,15 @@ use Rattle.std.specs.declared.cmp.Ordering.TheVariants.{Less, Equal, Greater}
 use Rattle.std.proofs.lemmas.Bool.{cases_eq, eqb-false, eqb-true, ltb-false, ltb-true}
 use Rattle.model.specs.State.{Kernel}
 use Rattle.model.specs.Plan.{Errno}
-use Rattle.model.specs.Calls.{Call, Answer}
+use Rattle.model.specs.Calls.{Answer}
 use Rattle.model.specs.Steps.{Run}
 use Rattle.model.specs.Entries.{Op, Do, Begin, End, Abort, Reply, Answers, Refuses, Begun, Committed, GivenUp, Aborted, Busy, InTransaction, NotInTransaction, HistoryFull, NoMemory, NoProcess, Entry, Executed, answer_in}
 use Rattle.model.specs.Moments.{Status, gone, idle, live, doomed, Moment, is_alive, status, after, run_by, calls_of, calls_at, plain_calls}
 use Rattle.model.specs.Legal.{items}
-use Rattle.renaming_laws.specs.Laws.{TellsRoot}
-use Rattle.replay.specs.Suits.{suits}
-use Rattle.replay.specs.Transactions.{call_in, call_of, call_first}
-use Rattle.replay.specs.Checks.{Passes, PassesForSome}
-use Rattle.replay.specs.Faults.{HoldsEntry, calls_before, commits, commits_from, IsCall, RunsOn, IsFirstWrongCall, IsItself, IsFirstWrong}
+use Rattle.model.specs.Suits.{suits}
+use Rattle.replay.specs.Transactions.{call_in, call_first}
+use Rattle.model.specs.Passing.{Passes}
+use Rattle.replay.specs.Faults.{HoldsEntry, calls_before, commits, commits_from, RunsOn, IsFirstWrongCall, IsItself, IsFirstWrong}
 use Rattle.replay.specs.Failing.{StopsAt, IsUnsuited, IsWrongCall, IsWrongCommit, FailsAt, TellsAt, IsUnchosen}
 use Rattle.replay.proofs.Prefixes.{Begins, OneMore, one_more, passes_take, run_calls_split, same_committed, take_begins, take_next}
 use Rattle.replay.proofs.Roots.{calls_alike, commits_alike, last_runs, runs_alike, suits_alike}

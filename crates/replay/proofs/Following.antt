@@ -1,5 +1,5 @@
 -- One entry more that passes.
-use Rattle.std.proofs.Common.{◌≡◌, ℕ, zero, suc, ◌+◌, ◌<◌, ◌≤◌, add-one, length, get_or, Bool, true, false, List, [], ◌∷◌, ◌++◌, take, drop, Option, Some, None, Result, refl, sym, ap, subst, ◌∙◌, ◌==◌, append_assoc, append-nil, nat_cmp}
+use Rattle.std.proofs.Common.{◌≡◌, ℕ, ◌+◌, ◌<◌, ◌≤◌, add-one, length, get_or, Bool, true, false, List, [], ◌∷◌, ◌++◌, take, drop, Option, Some, None, Result, refl, sym, ap, subst, ◌∙◌, ◌==◌, append_assoc, append-nil, nat_cmp}
 use Rattle.std.specs.Prelude.{if◌then◌else◌}
 use Rattle.std.proofs.lemmas.List.{drop_all, drop_more, take_all, take_more as list_more}
 use Rattle.model.specs.FiniteMap.{FinMap, get, get-empty, empty}
@@ -12,9 +12,9 @@ use Rattle.model.specs.Moments.{Status, gone, idle, live, doomed, Moment, status
 use Rattle.model.specs.Legal.{items, serial, serial_from}
 use Rattle.call_laws.proofs.Laws.{calls_are_lawful_lem}
 use Rattle.freeing_laws.specs.Sweep.{IsTidied}
-use Rattle.replay.specs.Suits.{AllSuit, suits, suits_live, is_committed}
+use Rattle.model.specs.Suits.{AllSuit, suits, suits_live, is_committed}
 use Rattle.replay.specs.Transactions.{IsKept, call_in, call_first, call_of, calls_at_places, suits_kept, with_place, begun_kept, settled_kept, own_kept, doomed_kept, next_kept, run_kept, is_end}
-use Rattle.replay.specs.Checks.{Passes}
+use Rattle.model.specs.Passing.{Passes}
 use Rattle.replay.specs.Ran.{AreNext, Ran, RanAt, Follows}
 use Rattle.replay.specs.Faults.{HoldsEntry}
 use Rattle.replay.specs.declared.transaction.Transaction.{Transaction}

@@ -1,9 +1,8 @@
 -- The calls of a live list may be made inside a transaction, so that its process lives through them.
-use Rattle.std.proofs.Common.{◌≡◌, ℕ, ◌+◌, Bool, true, false, not, ◌&&◌, ◌==◌, List, [], ◌∷◌, ◌++◌, Option, Some, None, is_some, Result, Ok, Err, inr, refl, sym, ap, subst, ◌∙◌, eqb-true}
+use Rattle.std.proofs.Common.{◌≡◌, ℕ, ◌+◌, Bool, true, false, not, ◌&&◌, ◌==◌, List, [], ◌∷◌, Some, None, Result, Ok, Err, inr, refl, sym, ap, subst, ◌∙◌, eqb-true}
 use Rattle.std.specs.Prelude.{if◌then◌else◌}
 use Rattle.std.specs.List.{AllByRecursion}
 use Rattle.ids.specs.Flags.{is_aborting_unsupported}
-use Rattle.model.specs.FiniteMap.{get}
 use Rattle.model.specs.State.{Kernel}
 use Rattle.model.specs.Plan.{Errno}
 use Rattle.model.specs.Changes.{tidy}
@@ -16,7 +15,7 @@ use Rattle.model.proofs.Laws.{append-all}
 use Rattle.call_laws.specs.WellFormed.{WellFormed}
 use Rattle.call_laws.specs.CallLaws.{IsReady, changed}
 use Rattle.call_laws.proofs.Laws.{calls_are_lawful_lem}
-use Rattle.replay.specs.Suits.{AllSuit, suits, is_refused_inside}
+use Rattle.model.specs.Suits.{AllSuit, suits, is_refused_inside}
 
 pub record IsInside (c : Executed) : Type 0 where
   pub is : is_inside c.call ≡ true

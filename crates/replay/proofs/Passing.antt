@@ -1,5 +1,5 @@
 -- A legal history passes: each right entry suits.
-use Rattle.std.proofs.Common.{◌≡◌, ℕ, Bool, true, false, not, ◌&&◌, ◌||◌, List, [], ◌∷◌, Option, Some, None, refl, sym, ap, subst, ◌∙◌}
+use Rattle.std.proofs.Common.{◌≡◌, ℕ, Bool, true, false, not, ◌&&◌, ◌||◌, List, [], ◌∷◌, Option, Some, None, refl, ap, ◌∙◌}
 use Rattle.std.specs.Prelude.{if◌then◌else◌}
 use Rattle.std.specs.Option.{is_some}
 use Rattle.ids.specs.Flags.{is_aborting_unsupported}
@@ -7,10 +7,10 @@ use Rattle.model.specs.Entries.{BeginFlags, Op, Do, Begin, End, Abort, Aborted, 
 use Rattle.model.specs.Plan.{ENOTSUP}
 use Rattle.model.specs.Calls.{Call}
 use Rattle.model.specs.Moments.{Status, gone, idle, live, doomed, Moment, status, next, after, at_start, counted_touches, losing_cause}
-use Rattle.model.specs.Legal.{Outcome, Inside, RightAt, Right, LegalFrom, Legal, unsupported, Replied}
+use Rattle.model.specs.Legal.{Outcome, Inside, RightAt, LegalFrom, Legal, unsupported}
 use Rattle.history_laws.proofs.Laws.{the_committed_state_is_serial}
-use Rattle.replay.specs.Suits.{AllSuit, suits, is_clash, is_busy, is_begun, is_committed, is_given_up, is_in_transaction, is_not_in_transaction, is_no_process, is_executed, is_refused_inside}
-use Rattle.replay.specs.Checks.{LegalHistoriesPass, Passes}
+use Rattle.model.specs.Suits.{AllSuit, suits, is_clash, is_busy, is_begun, is_committed, is_given_up, is_in_transaction, is_not_in_transaction, is_no_process, is_executed, is_refused_inside}
+use Rattle.model.specs.Passing.{LegalHistoriesPass}
 
 first_of : (a b : Bool) → a ≡ true → (a || b) ≡ true
 first_of true b h = refl

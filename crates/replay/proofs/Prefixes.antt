@@ -1,12 +1,12 @@
 -- Runs, moments and what passes, of a list and of its beginnings.
-use Rattle.std.proofs.Common.{◌≡◌, ℕ, zero, suc, ◌+◌, ◌<◌, ◌≤◌, true, List, [], ◌∷◌, ◌++◌, take, drop, refl, sym, ap, subst, ◌∙◌, append_assoc, append-nil, take-append-drop, arith}
+use Rattle.std.proofs.Common.{◌≡◌, ℕ, zero, suc, ◌≤◌, true, List, [], ◌∷◌, ◌++◌, take, drop, refl, sym, ap, subst, ◌∙◌, append_assoc, append-nil, arith}
 use Rattle.model.specs.State.{Kernel}
 use Rattle.model.specs.Steps.{Item, Run}
 use Rattle.model.specs.Entries.{Entry, Executed}
 use Rattle.model.specs.Moments.{Moment, status, next, after, after_from, at_start, start, run_by}
 use Rattle.model.specs.Legal.{items, serial, serial_from}
-use Rattle.replay.specs.Suits.{AllSuit, suits}
-use Rattle.replay.specs.Checks.{Passes}
+use Rattle.model.specs.Suits.{AllSuit, suits}
+use Rattle.model.specs.Passing.{Passes}
 use Rattle.replay.proofs.Running.{items_append, run_append}
 
 -- a run of two lists

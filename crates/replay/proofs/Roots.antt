@@ -1,12 +1,12 @@
 -- Entries that pass for two roots: nothing that they run tells either, and what they come to is alike.
-use Rattle.std.proofs.Common.{◌≡◌, ◌≢◌, ◌⊎◌, ℕ, suc, Bool, true, false, List, [], ◌∷◌, ◌++◌, take, Result, Ok, Err, inl, inr, refl, sym, ap, subst, ◌∙◌, append_assoc, append-nil}
+use Rattle.std.proofs.Common.{◌≡◌, ◌≢◌, ◌⊎◌, ℕ, List, [], ◌∷◌, ◌++◌, Result, Ok, Err, inl, inr, refl, sym, ap, subst, ◌∙◌, append_assoc, append-nil}
 use Rattle.std.specs.List.{AllByRecursion}
 use Rattle.std.proofs.lemmas.Bool.{cases_eq}
 use Rattle.model.specs.State.{Kernel}
 use Rattle.model.specs.Plan.{Errno}
 use Rattle.model.specs.Calls.{Stat, Answer, Stated}
 use Rattle.model.specs.Steps.{Item, Run}
-use Rattle.model.specs.Entries.{Op, Do, Begin, End, Abort, Reply, Committed, Entry, Executed}
+use Rattle.model.specs.Entries.{Op, Reply, Entry, Executed}
 use Rattle.model.specs.Moments.{Status, gone, idle, live, doomed, Moment, status, next, after, after_from, at_start, start, run_by, calls_of}
 use Rattle.model.specs.Legal.{items, serial, serial_from}
 use Rattle.model.proofs.Laws.{all-append, append-all}
@@ -14,8 +14,8 @@ use Rattle.renaming_laws.specs.Renaming.{swap, renamed}
 use Rattle.renaming_laws.specs.Laws.{TellsNot, TellsRoot, ChoosesNot}
 use Rattle.renaming_laws.specs.Histories.{AlikeStatus, both_gone, both_idle, both_live, both_doomed, AllAlike}
 use Rattle.renaming_laws.proofs.Laws.{root_is_free, root_is_free_in_histories, root_is_never_chosen, stat_tells_the_root, stats_tell_the_root}
-use Rattle.replay.specs.Suits.{suits}
-use Rattle.replay.specs.Checks.{Passes}
+use Rattle.model.specs.Suits.{suits}
+use Rattle.model.specs.Passing.{Passes}
 use Rattle.replay.specs.Faults.{commits_from}
 use Rattle.replay.proofs.Prefixes.{passes_before, run_same, run_split, serial_append}
 use Rattle.replay.proofs.Running.{items_append, run_append}
@@ -153,4 +153,4 @@ module _ (priorities : List ℕ) where
         let whole : Run (start b priorities) (serial b priorities es ++ items pid (first ++ c ∷ [])) (renamed (swap a b) l) =
         subst (λ is. Run (start b priorities) is (renamed (swap a b) l)) (sym all ∙ ap (λ is. is ++ items pid (first ++ c ∷ [])) (sym (all_alike a b es r q).serial)) free in
         let there = run_split (start b priorities) (serial b priorities es) (items pid (first ++ c ∷ [])) (renamed (swap a b) l) whole in
-        (renamed (swap a b) l, subst (λ k. Run k (items pid (first ++ c ∷ [])) (renamed (swap a b) l)) (run_same (start b priorities) there.mid q.exists.committed (serial b priorities es) there.before q.exists.run) there.behind)
+        (renamed (swap a b) l, subst (λ k. Run k (items pid (first ++ c ∷ [])) (renamed (swap a b) l)) {x = there.mid} {y = q.exists.committed} (run_same (start b priorities) there.mid q.exists.committed (serial b priorities es) there.before q.exists.run) there.behind)

@@ -1,5 +1,5 @@
 -- Where the checker stops, its root fails.
-use Rattle.std.proofs.Common.{◌≡◌, ◌⊎◌, ℕ, zero, suc, ◌+◌, ◌<◌, ◌≤◌, Bool, true, false, List, [], ◌∷◌, ◌++◌, length, get_or, take, drop, Option, Some, None, Result, Ok, Err, IsErrAnd, MatchResult, is_some, nat_cmp, inl, inr, refl, sym, ap, subst, ◌∙◌, append_assoc, take-append-drop, length-append, arith}
+use Rattle.std.proofs.Common.{◌≡◌, ◌⊎◌, ℕ, suc, ◌+◌, ◌<◌, Bool, true, false, List, [], ◌∷◌, ◌++◌, length, get_or, take, drop, Option, Some, None, Result, Ok, Err, IsErrAnd, MatchResult, is_some, nat_cmp, inl, inr, refl, sym, ap, subst, ◌∙◌, take-append-drop, length-append, arith}
 use Rattle.std.specs.Prelude.{if◌then◌else◌, MatchBool, MatchOption}
 use Rattle.std.proofs.lemmas.List.{drop_more}
 use Rattle.model.specs.FiniteMap.{FinMap, get}
@@ -11,19 +11,17 @@ use Rattle.model.specs.Entries.{BeginFlags, Op, Do, Begin, End, Abort, Reply, An
 use Rattle.model.specs.Moments.{Status, gone, idle, live, doomed, Moment, status, after, at_start, is_alive, plain_calls, calls_of, run_by}
 use Rattle.model.specs.Legal.{items}
 use Rattle.model.proofs.Laws.{all-append}
-use Rattle.call_laws.specs.WellFormed.{WellFormed}
-use Rattle.freeing_laws.specs.Sweep.{IsTidied}
-use Rattle.replay.specs.Suits.{suits, suits_live}
+use Rattle.model.specs.Suits.{suits, suits_live}
 use Rattle.replay.specs.Transactions.{IsKept, call_in, call_first, call_of, calls_at_places, suits_kept, is_end}
-use Rattle.replay.specs.Checks.{Passes}
+use Rattle.model.specs.Passing.{Passes}
 use Rattle.replay.specs.Faults.{HoldsEntry, calls_before, commits_from}
-use Rattle.replay.specs.Failing.{FailsAt, IsUnsuited, IsWrongCall, IsWrongCommit, StopsAt}
+use Rattle.replay.specs.Failing.{FailsAt}
 use Rattle.replay.specs.Ran.{AreNext, CannotRun, Follows, Ran, StopsHere, StopsIn, StopsNow}
 use Rattle.replay.specs.declared.transaction.Transaction.{Transaction}
 use Rattle.replay.specs.declared.transaction.Transaction.TheVariants.{Live, Doomed}
-use Rattle.replay.proofs.Following.{call_here, holds_entry, idle_runs, suits_is}
+use Rattle.replay.proofs.Following.{holds_entry, idle_runs, suits_is}
 use Rattle.replay.proofs.Inside.{AreInside, IsInside, after_inside, alive_through}
-use Rattle.replay.proofs.Placing.{calls-append, calls-more, live_calls}
+use Rattle.replay.proofs.Placing.{calls-append, calls-more}
 use Rattle.replay.proofs.Prefixes.{run_calls_split, run_same}
 
 -- what one entry runs alone is one call, or none
@@ -159,8 +157,8 @@ module _ (root : ℕ) (priorities : List ℕ) (es : List Entry) (at : ℕ) (k : 
                 mid = s.mid;
                 runs = subst (λ cs. Run k (items e.pid cs) s.mid) (sym front) s.ran.run;
                 fails = λ l run.
-                    let both = run_calls_split k e.pid first (one.call ∷ []) l (subst (λ cs. Run k (items e.pid (cs ++ one.call ∷ [])) l) front run) in
-                    s.fails lives l (subst (λ cs. Run s.mid (items e.pid cs) l) (sym one.is) (subst (λ x. Run x (items e.pid (one.call ∷ [])) l) (run_same k both.mid s.mid (items e.pid first) both.before s.ran.run) both.behind));
+                    let both = run_calls_split k e.pid first (one.call ∷ []) l (subst (λ cs. Run k (items e.pid (cs ++ one.call ∷ [])) l) {x = take (length first) (calls_before root priorities es e.pid at)} {y = first} front run) in
+                    s.fails lives l (subst (λ cs. Run s.mid (items e.pid cs) l) (sym one.is) (subst (λ x. Run x (items e.pid (one.call ∷ [])) l) {x = both.mid} {y = s.mid} (run_same k both.mid s.mid (items e.pid first) both.before s.ran.run) both.behind));
               };
             }));
           }

@@ -7,8 +7,8 @@ use Rattle.model.specs.Entries.{Entry, Executed}
 use Rattle.model.specs.Moments.{run_by, status, after}
 use Rattle.model.specs.Legal.{items}
 use Rattle.renaming_laws.specs.Laws.{TellsRoot}
-use Rattle.replay.specs.Suits.{suits}
-use Rattle.replay.specs.Checks.{Passes}
+use Rattle.model.specs.Suits.{suits}
+use Rattle.model.specs.Passing.{Passes}
 use Rattle.replay.specs.Transactions.{call_first}
 use Rattle.replay.specs.Faults.{HoldsEntry, calls_before, commits, IsCall}
 use Rattle.replay.specs.declared.audit.Stop.{Stop}

@@ -6,7 +6,7 @@ use Rattle.model.specs.Steps.{Run}
 use Rattle.model.specs.Entries.{Op, End, Reply, Committed, Entry, Executed}
 use Rattle.model.specs.Moments.{Status, live, Moment, status, after, calls_at}
 use Rattle.model.specs.Legal.{Legal, items}
-use Rattle.replay.specs.Checks.{Passes, PassesForSome}
+use Rattle.model.specs.Passing.{Passes, PassesForSome}
 use Rattle.replay.specs.declared.checking.CheckFault.{CheckFault}
 use Rattle.replay.specs.declared.checking.CheckFault.TheVariants.{Wrong, NoMemory}
 
@@ -19,16 +19,17 @@ pub record HoldsEntry (es : List Entry) (at : ℕ) (e : Entry) : Type 0 where
 abbrev pub calls_before : ℕ → List ℕ → List Entry → ℕ → ℕ → List Executed
 calls_before root priorities es pid at = calls_at (after root priorities (take at es)) pid
 
--- At this place stands the call numbered j, from 0, of the transaction that a process is in at the
--- entry `at`: before it the transaction had j calls, and from then on it has more.
-pub record IsCall (root : ℕ) (priorities : List ℕ) (es : List Entry) (pid at j place : ℕ)
+-- At a place stands the call of this number, from 0, of the transaction that a process is in at the
+-- entry `at`: before that place the transaction had so many calls, and from then on it has more.
+pub record IsCall (root : ℕ) (priorities : List ℕ) (es : List Entry) (pid at number place : ℕ)
     : Type 0 where
-  pub before : length (calls_before root priorities es pid place) ≡ j
-  pub since : (q : ℕ) → place < q → q ≤ at → j < length (calls_before root priorities es pid q)
   pub earlier : place < at
+  pub before : length (calls_before root priorities es pid place) ≡ number
+  pub since : (later : ℕ) → place < later → later ≤ at
+      → number < length (calls_before root priorities es pid later)
 
--- The entries before a place pass for a root, and so many calls of the transaction that a process
--- is in there can be run then.
+-- The entries before a place pass for a root, and in the state that they commit the first calls of
+-- the transaction that a process is in there can be run, so many of them.
 pub record RunsOn (root : ℕ) (priorities : List ℕ) (es : List Entry) (pid at count : ℕ)
     : Type 0 where
   pub passes : Passes root priorities (take at es)
@@ -36,7 +37,7 @@ pub record RunsOn (root : ℕ) (priorities : List ℕ) (es : List Entry) (pid at
   pub run : Run passes.exists.committed
       (items pid (take count (calls_before root priorities es pid at))) after
 
--- whether an entry commits a transaction
+-- whether an entry commits a transaction: the End of a live one, answered so
 abbrev pub commits_from : Status → Op → Reply → Bool
 commits_from (live flags age calls) End Committed = true
 commits_from _ _ _ = false
@@ -45,7 +46,7 @@ abbrev pub commits : Moment → Entry → Bool
 commits m e = commits_from (status m e.pid) e.op e.reply
 
 -- The call at a place is the first of the transaction that an entry commits up to which it cannot be
--- run, whatever the root.
+-- run, whatever the root: the calls before it can be for some root, with it they can be for none.
 pub record IsFirstWrongCall (priorities : List ℕ) (es : List Entry) (e : Entry) (at place : ℕ)
     : Type 0 where
   pub root : ℕ
@@ -63,8 +64,9 @@ pub record IsItself (priorities : List ℕ) (es : List Entry) (e : Entry) (at pl
   pub commits_not : (root : ℕ) → Passes root priorities (take at es)
       → commits (after root priorities (take at es)) e ≡ false
 
--- A place at which a history is wrong: up to some first entry it passes for no root. The place is that
--- entry's, or, where the entry commits a transaction, that of the first call that cannot be run.
+-- The place at which a history is wrong: up to some entry, and no earlier one, it passes for no root.
+-- The place is that entry's, or, where the entry commits a transaction, that of the first call that
+-- cannot be run.
 pub record IsFirstWrong (priorities : List ℕ) (es : List Entry) (place : ℕ) : Type 0 where
   pub at : ℕ
   pub entry : Entry
@@ -73,7 +75,7 @@ pub record IsFirstWrong (priorities : List ℕ) (es : List Entry) (place : ℕ) 
   pub fails : PassesForSome priorities (take (suc at) es) → ⊥
   pub is : IsItself priorities es entry at place ⊎ IsFirstWrongCall priorities es entry at place
 
--- What an answer of the checker says, which counts the place from 1. Without memory it says nothing.
+-- What a fault says of a history. It counts the place from 1. Where memory was refused it says nothing.
 abbrev pub IsFault : List ℕ → List Entry → CheckFault → Type 0
 IsFault priorities es (Wrong place) =
     (before : ℕ) × (place ≡ suc before) × IsFirstWrong priorities es before

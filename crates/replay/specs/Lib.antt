@@ -1,5 +1,3 @@
-pub mod Suits
-pub mod Checks
 pub mod Places
 pub mod Content
 pub mod Counts

@@ -9,7 +9,7 @@ use Rattle.model.specs.Entries.{Entry, Executed}
 use Rattle.model.specs.Moments.{after, at_start, is_alive, start}
 use Rattle.model.specs.Legal.{items, serial}
 use Rattle.freeing_laws.specs.Sweep.{IsTidied}
-use Rattle.replay.specs.Suits.{AllSuit}
+use Rattle.model.specs.Suits.{AllSuit}
 use Rattle.replay.specs.Faults.{HoldsEntry, calls_before}
 use Rattle.replay.specs.Transactions.{IsKept, call_first, call_of, calls_at_places, is_end, run_kept}
 use Rattle.replay.specs.declared.transaction.Transaction.{Transaction}

@@ -2,11 +2,11 @@
 -- while it lives, the places of its calls.
 use Rattle.std.specs.Prelude.{◌≡◌, ℕ, List, [], ◌∷◌, ◌++◌, Bool, true, false, Option, Some, None, ⊤}
 use Rattle.std.specs.Prelude.{drop, if◌then◌else◌, ◌==◌}
-use Rattle.model.specs.Entries.{BeginFlags, Op, Do, Begin, End, Abort, Reply, Answers, Refuses, Begun, Committed}
-use Rattle.model.specs.Entries.{GivenUp, Aborted, Busy, InTransaction, NotInTransaction}
+use Rattle.model.specs.Entries.{BeginFlags, Op, Do, Begin, End, Abort, Reply, Answers, Refuses}
+use Rattle.model.specs.Entries.{Begun, Committed, GivenUp, Aborted, Busy, InTransaction, NotInTransaction}
 use Rattle.model.specs.Entries.{HistoryFull, NoMemory, NoProcess, Entry, Executed, answer_in}
-use Rattle.model.specs.Moments.{Status, gone, idle, live, doomed, plain_calls, is_in}
-use Rattle.replay.specs.Suits.{is_clash, is_no_process, suits_idle, suits_live}
+use Rattle.model.specs.Moments.{Status, idle, live, doomed, plain_calls, is_in}
+use Rattle.model.specs.Suits.{is_clash, is_no_process, suits_idle, suits_live}
 use Rattle.replay.specs.declared.transaction.Transaction.{Transaction}
 use Rattle.replay.specs.declared.transaction.Transaction.TheVariants.{Live, Doomed}
 

@@ -6,11 +6,11 @@ ghost use Rattle.model.specs.FiniteMap.{empty, get};
 ghost use Rattle.model.specs.Entries.{Do};
 ghost use Rattle.model.specs.Moments.{is_in, start, with_processes};
 ghost use Rattle.freeing_laws.specs.Sweep.{IsTidied};
-ghost use Rattle.replay.specs.Checks.{Passes};
+ghost use Rattle.model.specs.Passing.{Passes};
 ghost use Rattle.replay.specs.Failing.{IsStop};
 ghost use Rattle.replay.specs.Ran.{CannotRun, Follows, Ran, RanAt, StopsHere, StopsIn, StopsInside};
 ghost use Rattle.replay.specs.Ran.{StopsNow};
-ghost use Rattle.replay.specs.Suits.{is_executed};
+ghost use Rattle.model.specs.Suits.{is_executed};
 ghost use Rattle.replay.specs.Transactions.{call_first, call_in, call_of, calls_at_places};
 ghost use Rattle.replay.specs.Transactions.{doomed_kept, is_end, next_kept, run_kept};
 ghost use Rattle.replay.specs.declared.audit.Stop.TheVariants.{NoMemory};
@@ -179,11 +179,10 @@ impl PlainKernel {
             (λ place. (is_end entry.now.op ≡ true)
             × StopsIn self.old entry.now.pid entries.now places.now place)) }
     {
-        if is_end(&entry.op) {
-            self.run_all(heap, entry.pid, entries, places)
-        } else {
-            Ok(None)
+        if !is_end(&entry.op) {
+            return Ok(None);
         }
+        self.run_all(heap, entry.pid, entries, places)
     }
 
     // Inside a transaction; a doomed one has no calls.

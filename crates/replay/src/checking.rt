@@ -1,6 +1,6 @@
 // The check of a stored history.
 ghost use Rattle.std.specs.Prelude.{IfErr, OnOk};
-ghost use Rattle.replay.specs.Checks.{PassesForSome};
+ghost use Rattle.model.specs.Passing.{PassesForSome};
 ghost use Rattle.replay.specs.Failing.{IsTold, IsUnchosen};
 ghost use Rattle.replay.specs.Faults.{IsFault};
 
@@ -13,7 +13,7 @@ use ids::{Entry, Num, Priority};
 /// Why a history does not pass, or is not decided.
 #[derive(Clone, Copy, Debug, PartialEq, Eq)]
 pub enum CheckFault {
-    /// The entry of this place, counted from 1, is wrong.
+    /// The history is wrong at this place, counted from 1.
     Wrong(usize),
     /// Memory was refused. It decides nothing.
     NoMemory,
@@ -24,8 +24,8 @@ pub enum CheckFault {
 ///
 /// It judges plain calls and committed transactions alone: calls of aborted transactions, causes,
 /// dooms, restart marks and places may be anything. The root may have any number. `Wrong` has the
-/// place of the first entry that cannot be, or, where a committed transaction cannot have run, of
-/// its first call that cannot be.
+/// place of the first entry up to which the history passes for no root, or, where that entry commits
+/// a transaction, of its first call up to which it cannot be run.
 pub fn check(heap: Heap, history: &History) -> Result<(), CheckFault>
     ensures ok { OnOk result (PassesForSome history.now.priorities history.now.entries) }
     ensures wrong { IfErr result (IsFault history.now.priorities history.now.entries) }

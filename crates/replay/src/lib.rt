@@ -2,7 +2,7 @@
 //! transactions, and shares nothing with the kernel that wrote the history but the calls' plans.
 #![tactic(auto)]
 
-ghost use Rattle.replay.specs.Checks.{LegalHistoriesPass};
+ghost use Rattle.model.specs.Passing.{LegalHistoriesPass};
 ghost use Rattle.replay.specs.Faults.{LegalHistoriesHaveNoFault};
 
 mod answers;

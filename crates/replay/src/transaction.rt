@@ -1,11 +1,11 @@
 // What is kept of a process's transaction.
 ghost use Rattle.std.specs.Prelude.{◌≡◌, ◌++◌, ◌∷◌, ◌||◌, [], true, if◌then◌else◌, IfOk};
 ghost use Rattle.std.specs.Prelude.{option_copied};
-ghost use Rattle.replay.specs.Suits.{is_begun, is_busy, is_clash, is_committed, is_executed};
-ghost use Rattle.replay.specs.Suits.{is_given_up, is_in_transaction, is_no_process};
-ghost use Rattle.replay.specs.Suits.{is_not_in_transaction, is_refused_inside, suits_idle};
-ghost use Rattle.replay.specs.Suits.{is_for_unsupported};
-ghost use Rattle.replay.specs.Suits.{suits_live};
+ghost use Rattle.model.specs.Suits.{is_begun, is_busy, is_clash, is_committed, is_executed};
+ghost use Rattle.model.specs.Suits.{is_given_up, is_in_transaction, is_no_process};
+ghost use Rattle.model.specs.Suits.{is_not_in_transaction, is_refused_inside, suits_idle};
+ghost use Rattle.model.specs.Suits.{is_for_unsupported};
+ghost use Rattle.model.specs.Suits.{suits_live};
 ghost use Rattle.replay.specs.Transactions.{begun_anew, begun_kept, doomed_kept, own_kept};
 ghost use Rattle.replay.specs.Transactions.{settled_kept, suits_kept, with_place};
 ghost use Rattle.model.specs.Entries.{is_inside, is_unsupported};

@@ -4,7 +4,7 @@ use Rattle.std.specs.Prelude.{◌≡◌, ℕ, Bool, true, false, List, Option, c
 use Rattle.std.specs.Io.KnownBytes.{append_known}
 use Rattle.device.specs.Device.{IsPart}
 use Rattle.history.specs.Log.{Log}
-use Rattle.replay.specs.Checks.{PassesForSome}
+use Rattle.model.specs.Passing.{PassesForSome}
 use Rattle.replay.specs.Faults.{IsFault}
 use Rattle.replay.specs.declared.checking.CheckFault.TheVariants.{Wrong}
 use Rattle.runner.specs.declared.fault.RunFault.{RunFault}

@@ -1,6 +1,6 @@
 use Rattle.std.proofs.Common.{suc, ◌+◌, length, arith, sym, subst}
 use Rattle.std.proofs.lemmas.List.{take_all}
-use Rattle.replay.specs.Checks.{Passes}
+use Rattle.model.specs.Passing.{Passes}
 use Rattle.replay.proofs.Passing.{legal_histories_pass}
 use Rattle.replay.proofs.Prefixes.{passes_take}
 use Rattle.replay.proofs.legal_histories_have_no_fault.Goals as goal

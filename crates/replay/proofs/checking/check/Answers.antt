@@ -1,6 +1,6 @@
 use Rattle.std.proofs.Common.{List, ℕ, subst}
 use Rattle.model.specs.Entries.{Entry}
-use Rattle.replay.specs.Checks.{PassesForSome}
+use Rattle.model.specs.Passing.{PassesForSome}
 use Rattle.replay.proofs.Setting.{if_ok}
 use Rattle.replay.proofs.checking.check.Goals as goal
 

@@ -1,5 +1,5 @@
 use Rattle.std.proofs.Common.{◌≡◌, Some, None, sym, subst, ◌∙◌, add-one}
-use Rattle.replay.specs.Failing.{FailsAt, IsStop, TellsAt}
+use Rattle.replay.specs.Failing.{IsStop}
 use Rattle.replay.proofs.Failing.{wrong_for_guess}
 use Rattle.replay.proofs.checking.check_from.Goals as goal
 

@@ -1,4 +1,4 @@
-use Rattle.std.proofs.Common.{refl, arith}
+use Rattle.std.proofs.Common.{arith}
 use Rattle.std.proofs.lemmas.Bool.Decides.{not_from_Decides}
 use Rattle.replay.proofs.Choosing.{different_first, different_none, different_rest, rest_shorter}
 use Rattle.replay.proofs.numbers.+are_different.Goals as goal

@@ -1,4 +1,4 @@
-use Rattle.std.proofs.Common.{◌≢◌, refl, arith}
+use Rattle.std.proofs.Common.{◌≢◌, arith}
 use Rattle.replay.proofs.Choosing.{apart_by, decides_first, decides_none, decides_rest, rest_shorter, same_by}
 use Rattle.replay.proofs.numbers.+is_apart.Goals as goal
 

@@ -1,4 +1,4 @@
-use Rattle.std.proofs.Common.{refl, arith}
+use Rattle.std.proofs.Common.{arith}
 use Rattle.std.proofs.lemmas.Bool.Decides.{not_from_Decides}
 use Rattle.replay.specs.Chosen.{IsUnused}
 use Rattle.replay.proofs.Choosing.{decides_first, decides_none, decides_rest, rest_shorter}

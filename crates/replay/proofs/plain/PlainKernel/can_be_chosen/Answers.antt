@@ -1,4 +1,4 @@
-use Rattle.std.proofs.Common.{◌≡◌, ◌∙◌, Bool, true, false, length, refl, sym}
+use Rattle.std.proofs.Common.{◌≡◌, ◌∙◌, true, false, length, sym}
 use Rattle.std.specs.List.{AllByRecursion, sum_by}
 use Rattle.model.specs.Changes.{news}
 use Rattle.replay.specs.Chosen.{IsUnused}

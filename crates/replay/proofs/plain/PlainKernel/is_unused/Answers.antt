@@ -1,4 +1,4 @@
-use Rattle.std.proofs.Common.{◌≡◌, true, false, not, is_some, sym, ap, ◌∙◌}
+use Rattle.std.proofs.Common.{◌≡◌, true, false, not, sym, ap, ◌∙◌}
 use Rattle.model.specs.FiniteMap.{get}
 use Rattle.replay.proofs.Choosing.{nothing_by, something_by, yes_by}
 use Rattle.replay.proofs.plain.PlainKernel.is_unused.Goals as goal

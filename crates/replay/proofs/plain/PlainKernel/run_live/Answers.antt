@@ -1,5 +1,5 @@
 use Rattle.std.proofs.Common.{List, [], sym, ap, subst, ◌∙◌}
-use Rattle.std.specs.Prelude.{if◌then◌else◌, MatchOption}
+use Rattle.std.specs.Prelude.{if◌then◌else◌}
 use Rattle.model.specs.Entries.{Executed}
 use Rattle.replay.specs.Ran.{Ran}
 use Rattle.replay.specs.Transactions.{calls_at_places}
@@ -8,13 +8,13 @@ use Rattle.replay.proofs.Setting.{ok_then}
 use Rattle.replay.proofs.Stopping.{match_some}
 use Rattle.replay.proofs.plain.PlainKernel.run_live.Goals as goal
 
-pub returns-then-is_end : goal.returns-then-is_end
-returns-then-is_end c = ok_then c.run_all.result c.run_all.ensures (λ wrong h.
+pub returns-then-not-is_end : goal.returns-then-not-is_end
+returns-then-not-is_end c = ran_nothing c.args.self.now c.args.entry.now.pid _
+    (ap (λ b. if b then calls_at_places c.args.entries.now c.args.places.now else []) (sym c.is_end.ensures ∙ c.if-not-is_end.true)) c.requires
+
+pub returns : goal.returns
+returns c = ok_then c.run_all.result c.run_all.ensures (λ wrong h.
     match_some wrong h
     (λ ran. subst (λ (cs : List Executed). Ran c.args.self.now c.args.entry.now.pid cs c.run_all.new.self)
-    (sym (ap (λ b. if b then calls_at_places c.args.entries.now c.args.places.now else []) (sym c.is_end.ensures ∙ c.if-is_end.true))) ran)
-    (λ place stops. (sym c.is_end.ensures ∙ c.if-is_end.true, stops)))
-
-pub returns-else-is_end : goal.returns-else-is_end
-returns-else-is_end c = ran_nothing c.args.self.now c.args.entry.now.pid _
-    (ap (λ b. if b then calls_at_places c.args.entries.now c.args.places.now else []) (sym c.is_end.ensures ∙ c.if-is_end.false)) c.requires
+    (sym (ap (λ b. if b then calls_at_places c.args.entries.now c.args.places.now else []) (sym c.is_end.ensures ∙ c.if-not-is_end.false))) ran)
+    (λ place stops. (sym c.is_end.ensures ∙ c.if-not-is_end.false, stops)))

@@ -5,7 +5,7 @@ use Rattle.model.specs.Steps.{Run}
 use Rattle.model.specs.Entries.{Entry}
 use Rattle.model.specs.Moments.{at_start, start}
 use Rattle.model.specs.Legal.{Legal, serial}
-use Rattle.replay.specs.Suits.{AllSuit}
+use Rattle.model.specs.Suits.{AllSuit}
 
 -- The committed state exists: a plain kernel with this root runs the serial list, with the replies
 -- and the new numbers that stand there.

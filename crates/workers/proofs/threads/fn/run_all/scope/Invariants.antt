@@ -1,0 +1,15 @@
+use Rattle.std.proofs.Common.{◌≡◌, [], ◌++◌, None, length, map}
+use Rattle.std.specs.List.{AllByRecursion}
+use Rattle.workers.specs.Threads.{AreOver, promised}
+use Rattle.workers.proofs.threads.fn.run_all.scope.Given as goal
+
+-- unless a process got no thread, those with threads come first, and then those that wait
+abbrev pub invariant-loop-port : goal.invariant-loop-port
+invariant-loop-port g l = record {
+  fresh : AllByRecursion (λ p. g.P.Port.done p ≡ []) l.ports.items;
+  over : AreOver g.L.Lines.listed (g.L.Lines.listed l.lines.now) l.threads.items;
+  numbers : l.stop ≡ None → promised l.threads.items ++ map g.P.Port.number l.ports.items ≡ map g.P.Port.number l.initial.ports.items;
+}
+
+abbrev pub decreases-loop-port : goal.decreases-loop-port
+decreases-loop-port g l = length l.ports.items

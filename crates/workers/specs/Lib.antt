@@ -1,0 +1,7 @@
+pub mod Events
+pub mod Families
+pub mod Places
+pub mod Port
+pub mod Rules
+pub mod Threads
+pub mod Work

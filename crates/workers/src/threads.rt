@@ -1,0 +1,244 @@
+// The threads of workers, and the ports that come back.
+ghost use Rattle.std.specs.Prelude.{◌≡◌, ◌<◌, ◌≤◌, ◌⊎◌, [], ◌∷◌, map, All, IfOk, IfSome, None};
+ghost use Rattle.std.specs.Thread.{IsSync};
+ghost use Rattle.script.specs.Steps.{ops_for};
+ghost use Rattle.workers.specs.Families.{AreFamilies, children};
+ghost use Rattle.workers.specs.Threads.{Added, AreOver, promised};
+ghost use Rattle.workers.specs.Work.{IsWork};
+
+use crate::lines::Lines;
+use crate::worker::{Event, run_on};
+use crate::{Place, Port, WorkFault};
+use heap::Heap;
+use ids::{MAX_PROCESSES, Pid};
+use script::Script;
+use std::alloc::Allocator;
+use std::collections::VecDeque;
+use std::snapshot::Snapshot;
+use std::sync::Wait;
+use std::thread;
+use std::thread::{Promise, PromisedHandle, Threads};
+
+// Why a worker stopped, and of which process.
+type Stop = (Pid, WorkFault);
+
+// The port of a process and those of its children, family by family. Where one of their workers was
+// stopped, some may be missing.
+#[derive(Drop)]
+struct Family<P, A: Allocator> {
+    process: Pid,
+    ports: Vec<P, A>,
+    stop: Option<Stop>,
+}
+
+// A thread gives back the family of this process.
+#[derive(Drop)]
+struct FamilyOf<L> {
+    process: Pid,
+    lines: Snapshot<L>,
+}
+
+impl<P: Port, L: Lines, A: Allocator> Promise<Family<P, A>> for FamilyOf<L> {
+    ghost kept_by = { λ p family. family.stop ≡ None → AreFamilies
+        P.number P.done (L.listed p.lines.value) (p.process ∷ []) family.ports.items };
+}
+
+// The stop of the lower process.
+fn lower(first: Option<Stop>, second: Option<Stop>) -> Option<Stop>
+    ensures none { result ≡ None → (first ≡ None) × (second ≡ None) }
+    ensures one { (result ≡ first) ⊎ (result ≡ second) }
+    ensures lowest { IfSome result (λ stop. IfSome first (λ s. stop.0 ≤ s.0)
+        × IfSome second (λ s. stop.0 ≤ s.0)) }
+{
+    match (first, second) {
+        (Some(one), Some(other)) => Some(if other.0 < one.0 { other } else { one }),
+        (Some(one), None) => Some(one),
+        (None, second) => second,
+    }
+}
+
+// Joins threads, and adds the families that they give back behind the ports that are there.
+fn collected<R: Threads, P: Port, L: Lines, A: Allocator>(
+    rt: &R,
+    process: Pid,
+    mut ports: Vec<P, A>,
+    lines: &L,
+    mut stop: Option<Stop>,
+    mut threads: VecDeque<PromisedHandle<Family<P, A>, FamilyOf<L>>, A>,
+) -> Family<P, A>
+    requires over { AreOver L.listed (L.listed lines.now) threads.items }
+    ensures none { result.stop ≡ None → stop ≡ None }
+    ensures added { result.stop ≡ None → Added P.number P.done (L.listed lines.now)
+        (promised threads.items) ports.items result.ports.items }
+{
+    while let Some(thread) = threads.pop_front() {
+        let mut family = thread.join(rt);
+        stop = lower(stop, family.stop);
+        if ports.append(&mut family.ports).is_err() {
+            stop = lower(stop, Some((family.process, WorkFault::NoMemory)));
+        }
+    }
+    Family {
+        process,
+        ports,
+        stop,
+    }
+}
+
+// The port of a process that has done its work, with the families that its threads give back.
+fn gathered<R: Threads, P: Port, L: Lines, A: Allocator>(
+    rt: &R,
+    alloc: A,
+    port: P,
+    lines: &L,
+    stop: Option<Stop>,
+    threads: VecDeque<PromisedHandle<Family<P, A>, FamilyOf<L>>, A>,
+) -> Family<P, A>
+    requires work { stop ≡ None → IsWork (ops_for (P.number port) (L.listed lines.now)) (P.done port) }
+    requires threads { stop ≡ None → promised threads.items ≡ children (P.done port) }
+    requires over { AreOver L.listed (L.listed lines.now) threads.items }
+    ensures { result.stop ≡ None → AreFamilies
+        P.number P.done (L.listed lines.now) (P.number port ∷ []) result.ports.items }
+{
+    let process = port.pid();
+    let mut ports = Vec::new(alloc);
+    let stop = match ports.push(port) {
+        Ok(()) => stop,
+        Err(_) => lower(stop, Some((process, WorkFault::NoMemory))),
+    };
+    collected(rt, process, ports, lines, stop, threads)
+}
+
+// Its allocator is a type of its own: a thread that starts threads like itself cannot be given a
+// `'static` reference.
+// Does the work of a process, and starts a thread for each of its children. Their families may be
+// so many levels deep.
+fn work<
+    R: Threads + Wait + Sync,
+    P: Port + Send,
+    L: Lines + Sync,
+    A: Allocator + Copy + Send + Sync,
+>(rt: &R, alloc: A, port: P, lines: &L, levels: u32) -> Family<P, A>
+    requires { P.done port ≡ [] }
+    ensures { result.stop ≡ None → AreFamilies
+        P.number P.done (L.listed lines.now) (P.number port ∷ []) result.ports.items }
+{
+    thread::scope(
+        thread::scope_env(),
+        rt,
+        |scope| -> Family<P, A>
+            requires { IsSync R.row × (P.done port ≡ []) }
+            ensures { result.stop ≡ None → AreFamilies
+                P.number P.done (L.listed lines.entry.now) (P.number port ∷ []) result.ports.items }
+        {
+            let mut port = port;
+            let process = port.pid();
+            let mut place = Place::start(process, lines.all());
+            let mut threads = VecDeque::new(alloc);
+            let mut stop = None;
+            for _ in rt.forever() {
+                match run_on(rt, &mut port, &mut place) {
+                    Event::Ended => break,
+                    Event::Stopped(fault) => {
+                        stop = lower(stop, Some((process, fault)));
+                        break;
+                    }
+                    Event::Forked(pid, child) => {
+                        if levels == 0 || threads.reserve(1).is_err() {
+                            stop = lower(stop, Some((pid, WorkFault::NoMemory)));
+                        } else {
+                            let promise = FamilyOf {
+                                process: pid,
+                                lines: Snapshot::of(lines),
+                            };
+                            let started = scope.spawn_with(
+                                promise,
+                                move || -> Family<P, A>
+                                    requires { IsSync R.row × (P.done child ≡ []) × (0 < levels) }
+                                    ensures { result.stop ≡ None → AreFamilies
+                                        P.number P.done (L.listed lines.entry.now) (P.number child ∷ []) result.ports.items }
+                                { work(rt, alloc, child, lines, levels - 1) },
+                            );
+                            match started {
+                                Ok(thread) => threads.push_back_reserved(thread),
+                                Err(_) => stop = lower(stop, Some((pid, WorkFault::NoMemory))),
+                            }
+                        }
+                    }
+                }
+            }
+            gathered(rt, alloc, port, lines, stop, threads)
+        },
+    )
+}
+
+// Starts a thread for each process, and joins them all.
+fn run_all<R: Threads + Wait + Sync, P: Port + Send, L: Lines + Sync>(
+    rt: &R,
+    heap: Heap,
+    ports: Vec<P, Heap>,
+    lines: &L,
+) -> Result<Vec<P, Heap>, WorkFault>
+    requires { All (λ p. P.done p ≡ []) ports.items }
+    ensures { IfOk result (λ v. AreFamilies
+        P.number P.done (L.listed lines.now) (map P.number ports.entry.items) v.items) }
+{
+    let family = thread::scope(
+        thread::scope_env(),
+        rt,
+        |scope| -> Family<P, Heap>
+            requires { IsSync R.row × All (λ p. P.done p ≡ []) ports.items }
+            ensures { result.stop ≡ None → AreFamilies
+                P.number P.done (L.listed lines.entry.now) (map P.number ports.entry.items) result.ports.items }
+        {
+            let mut ports = VecDeque::from(ports);
+            let mut threads = VecDeque::new(heap);
+            let mut stop = None;
+            while let Some(port) = ports.pop_front() {
+                let process = port.pid();
+                if threads.reserve(1).is_err() {
+                    stop = lower(stop, Some((process, WorkFault::NoMemory)));
+                } else {
+                    let promise = FamilyOf {
+                        process,
+                        lines: Snapshot::of(lines),
+                    };
+                    let started = scope.spawn_with(
+                        promise,
+                        move || -> Family<P, Heap>
+                            requires { IsSync R.row × (P.done port ≡ []) }
+                            ensures { result.stop ≡ None → AreFamilies
+                                P.number P.done (L.listed lines.entry.now) (P.number port ∷ []) result.ports.items }
+                        { work(rt, heap, port, lines, MAX_PROCESSES) },
+                    );
+                    match started {
+                        Ok(thread) => threads.push_back_reserved(thread),
+                        Err(_) => stop = lower(stop, Some((process, WorkFault::NoMemory))),
+                    }
+                }
+            }
+            collected(rt, Pid(0), Vec::new(heap), lines, stop, threads)
+        },
+    );
+    match family.stop {
+        None => Ok(family.ports),
+        Some((_, fault)) => Err(fault),
+    }
+}
+
+/// Does the lines of the process of each port in a thread of its own, and those of the children
+/// that its forks make. The ports come back family by family: the given ones in their order, each
+/// followed by those of its children. The fault is that of the lowest process whose worker was
+/// stopped by a refusal, or for which no thread could be started.
+pub fn run_workers<R: Threads + Wait + Sync, P: Port + Send>(
+    rt: &R,
+    heap: Heap,
+    ports: Vec<P, Heap>,
+    script: &Script,
+) -> Result<Vec<P, Heap>, WorkFault>
+    requires { All (λ p. P.done p ≡ []) ports.items }
+    ensures { IfOk result (λ v. AreFamilies
+        P.number P.done script.now.lines (map P.number ports.entry.items) v.items) }
+{
+    run_all(rt, heap, ports, script)
+}
