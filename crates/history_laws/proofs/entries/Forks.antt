@@ -35,7 +35,7 @@ only_fork k pid q call h = elim (cases_Bool (is_inside call)) [
 
 -- the reply that names a child
 names : (r : Reply) (q : ℕ) → child_in r ≡ Some q → r ≡ Answers (Child q)
-names (Answers (Child p)) q h = (let or_none : Option ℕ → ℕ = λ o. elim o [ | Some n ↦ n | None ↦ 0 ] in ap (λ n. Answers (Child n)) (ap or_none h))
+names (Answers (Child p)) q h = (let or_none : Option ℕ → ℕ = λ o. elim o [ Some n ↦ n | None ↦ 0 ] in ap (λ n. Answers (Child n)) (ap or_none h))
 names r q h = no_child q h
 
 -- an entry that makes none, or the child that it makes
@@ -96,19 +96,19 @@ module _ (laws : CallLaws WellFormed) (limit : ℕ) where
   forked_from m (e ∷ es) legal s q high low =
       let on = forked_from (next m e) es legal.2 (steady_next WellFormed laws limit m e legal.1 s) q in
       by (makes e.reply) (λ above. forked_later e es q (on above low)) where
-    moved : (next m e).committed.made ≡ m.committed.made + born e.reply
-    moved = (processes_move limit m e legal.1 s laws).made
+        moved : (next m e).committed.made ≡ m.committed.made + born e.reply
+        moved = (processes_move limit m e legal.1 s laws).made
 
-    by : Makes e.reply → ((next m e).committed.made < q → IsForked (e ∷ es) q) → IsForked (e ∷ es) q
-    by (Nothing none) later = later (let made : (next m e).committed.made ≡ m.committed.made + born e.reply = moved in omega arith)
-    by (One p child one) later = elim (cases_lt (next m e).committed.made q) [
-      | inl above ↦ later above
-      | inr reached ↦
-          let number : p ≡ suc m.committed.made = ((processes_move limit m e legal.1 s laws).born p child).number in
-          let made : (next m e).committed.made ≡ m.committed.made + born e.reply = moved in
-          let is : q ≡ suc m.committed.made = omega arith in
-          forked_here m e es q legal.1 s (child ∙ ap Some (number ∙ sym is)) is
-    ]
+        by : Makes e.reply → ((next m e).committed.made < q → IsForked (e ∷ es) q) → IsForked (e ∷ es) q
+        by (Nothing none) later = later (let made : (next m e).committed.made ≡ m.committed.made + born e.reply = moved in omega arith)
+        by (One p child one) later = elim (cases_lt (next m e).committed.made q) [
+          | inl above ↦ later above
+          | inr reached ↦
+              let number : p ≡ suc m.committed.made = ((processes_move limit m e legal.1 s laws).born p child).number in
+              let made : (next m e).committed.made ≡ m.committed.made + born e.reply = moved in
+              let is : q ≡ suc m.committed.made = omega arith in
+              forked_here m e es q legal.1 s (child ∙ ap Some (number ∙ sym is)) is
+        ]
 
 pub children_are_forked : FromCallLaws ChildrenAreForked
 unfolding Legal
