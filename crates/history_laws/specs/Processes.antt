@@ -55,7 +55,8 @@ UnmadeAreRefused = (root : ℕ) (priorities : List ℕ) (limit : ℕ) (es : List
     → Legal root priorities limit es → (q : ℕ) → (after root priorities es).committed.made < q
     → AllByRecursion (λ e. e.reply ≡ NoProcess) (mine q es)
 
--- Among the entries is that of a fork that made the process q. The one who forked was made before.
+-- Among the entries is that of a fork that made the process q. The one who forked was made before;
+-- the first process is number 1.
 pub record IsForked (es : List Entry) (q : ℕ) : Type 0 where
   pub before : List Entry
   pub fork : Entry
@@ -63,9 +64,10 @@ pub record IsForked (es : List Entry) (q : ℕ) : Type 0 where
   pub among : es ≡ before ++ fork ∷ later
   pub asked : fork.op ≡ Do Fork
   pub answered : fork.reply ≡ Answers (Child q)
+  pub number : 0 < fork.pid
   pub earlier : fork.pid < q
 
--- Each process that was not there at the start was made by a fork.
+-- Each process that was not there at the start was made by a fork of an earlier one.
 abbrev pub ChildrenAreForked : Type 0
 ChildrenAreForked = (root : ℕ) (priorities : List ℕ) (limit : ℕ) (es : List Entry)
     → Legal root priorities limit es → (q : ℕ) → length priorities < q

@@ -1,6 +1,6 @@
 -- Each process that was not there at the start was made by a fork, which has an entry.
-use Rattle.std.proofs.Common.{◌≡◌, ◌≢◌, ℕ, suc, ◌+◌, ◌<◌, ◌≤◌, List, [], ◌∷◌, ◌++◌, length, Option, Some, None, Result, Ok, Err, refl, sym, ◌∙◌, ap, subst, true, false, Bool, inl, inr, eqb, arith}
-use Rattle.std.proofs.lemmas.Bool.{cases_Bool, cases_lt, false≢true}
+use Rattle.std.proofs.Common.{◌≡◌, ◌≢◌, ℕ, zero, suc, ◌+◌, ◌<◌, ◌≤◌, List, [], ◌∷◌, ◌++◌, length, Option, Some, None, Result, Ok, Err, refl, sym, ◌∙◌, ap, subst, true, false, Bool, inl, inr, eqb, arith}
+use Rattle.std.proofs.lemmas.Bool.{cases_Bool, cases_eq, cases_lt, false≢true}
 use Rattle.model.specs.State.{Kernel}
 use Rattle.model.specs.Plan.{Errno}
 use Rattle.model.specs.Calls.{Call, Exit, Fork, Answer, Child}
@@ -10,8 +10,9 @@ use Rattle.model.specs.Moments.{gone, idle, Moment, status, is_alive, at_start, 
 use Rattle.model.specs.Legal.{Right, LegalFrom, Legal}
 use Rattle.call_laws.specs.WellFormed.{WellFormed}
 use Rattle.call_laws.specs.CallLaws.{CallLaws}
+use Rattle.call_laws.proofs.Laws.{first_processes_live}
 use Rattle.history_laws.proofs.FromCallLaws.{FromCallLaws}
-use Rattle.history_laws.specs.Processes.{child_in, born, IsForked, ChildrenAreForked}
+use Rattle.history_laws.specs.Processes.{child_in, born, is_ended, ProcessesMove, IsForked, ChildrenAreForked}
 use Rattle.history_laws.proofs.entries.Moments.{alive_is}
 use Rattle.history_laws.proofs.entries.Places.{Steady}
 use Rattle.history_laws.proofs.entries.Kinds.{Kind, Changes, Pushes, Commits, Begins, Settles, Rests, kind}
@@ -66,8 +67,27 @@ module _ (laws : CallLaws WellFormed) (limit : ℕ) where
     by (Settles st again is_phase holds some left) = none (unsaid_child e.reply left.unanswered).0
     by (Rests some left) = none (unsaid_child e.reply left.unanswered).0
 
-  forked_here : (m : Moment) (e : Entry) (es : List Entry) (q : ℕ) → Right limit m e → Steady WellFormed limit m → child_in e.reply ≡ Some q → q ≡ suc m.committed.made → IsForked (e ∷ es) q
-  forked_here m e es q right s child is =
+  -- no process has number 0
+  stays_unmade : (m : Moment) (e : Entry) → Right limit m e → Steady WellFormed limit m → is_alive m.committed 0 ≡ false → is_alive (next m e).committed 0 ≡ false
+  stays_unmade m e right s dead = elim (cases_Bool (is_ended e.op e.reply)) [
+    | inr stays ↦ (moves.others 0 other (inl stays)).alive ∙ dead
+    | inl ends ↦ elim (cases_eq 0 e.pid) [
+      | inl own ↦ ap (is_alive (next m e).committed) own ∙ moves.ended ends
+      | inr ne ↦ (moves.others 0 other (inr ne)).alive ∙ dead
+    ]
+  ] where
+    moves : ProcessesMove m e
+    moves = processes_move limit m e right s laws
+
+    other : child_in e.reply ≢ Some 0
+    other h = (let number : 0 ≡ suc m.committed.made = (moves.born 0 h).number in absurd (omega arith))
+
+  positive : (m : Moment) (p : ℕ) → is_alive m.committed 0 ≡ false → is_alive m.committed p ≡ true → 0 < p
+  positive m zero dead alive = absurd (false≢true (sym dead ∙ alive))
+  positive m (suc p) dead alive = omega arith
+
+  forked_here : (m : Moment) (e : Entry) (es : List Entry) (q : ℕ) → Right limit m e → Steady WellFormed limit m → is_alive m.committed 0 ≡ false → child_in e.reply ≡ Some q → q ≡ suc m.committed.made → IsForked (e ∷ es) q
+  forked_here m e es q right s dead child is =
       let by = by_fork m e q right child in
       let low : e.pid ≤ m.committed.made = laws.alive_counted m.committed s.sound.lists.well e.pid by.1 in
       record {
@@ -77,6 +97,7 @@ module _ (laws : CallLaws WellFormed) (limit : ℕ) where
         among = refl;
         asked = by.0;
         answered = names e.reply q child;
+        number = positive m e.pid dead by.1;
         earlier = omega arith;
       }
 
@@ -88,13 +109,14 @@ module _ (laws : CallLaws WellFormed) (limit : ℕ) where
     among = ap (λ xs. e ∷ xs) f.among;
     asked = f.asked;
     answered = f.answered;
+    number = f.number;
     earlier = f.earlier;
   }
 
-  forked_from : (m : Moment) (es : List Entry) → LegalFrom limit m es → Steady WellFormed limit m → (q : ℕ) → m.committed.made < q → q ≤ (after_from m es).committed.made → IsForked es q
-  forked_from m [] legal s q high low = absurd (omega arith)
-  forked_from m (e ∷ es) legal s q high low =
-      let on = forked_from (next m e) es legal.2 (steady_next WellFormed laws limit m e legal.1 s) q in
+  forked_from : (m : Moment) (es : List Entry) → LegalFrom limit m es → Steady WellFormed limit m → is_alive m.committed 0 ≡ false → (q : ℕ) → m.committed.made < q → q ≤ (after_from m es).committed.made → IsForked es q
+  forked_from m [] legal s dead q high low = absurd (omega arith)
+  forked_from m (e ∷ es) legal s dead q high low =
+      let on = forked_from (next m e) es legal.2 (steady_next WellFormed laws limit m e legal.1 s) (stays_unmade m e legal.1 s dead) q in
       by (makes e.reply) (λ above. forked_later e es q (on above low)) where
         moved : (next m e).committed.made ≡ m.committed.made + born e.reply
         moved = (processes_move limit m e legal.1 s laws).made
@@ -107,10 +129,10 @@ module _ (laws : CallLaws WellFormed) (limit : ℕ) where
               let number : p ≡ suc m.committed.made = ((processes_move limit m e legal.1 s laws).born p child).number in
               let made : (next m e).committed.made ≡ m.committed.made + born e.reply = moved in
               let is : q ≡ suc m.committed.made = omega arith in
-              forked_here m e es q legal.1 s (child ∙ ap Some (number ∙ sym is)) is
+              forked_here m e es q legal.1 s dead (child ∙ ap Some (number ∙ sym is)) is
         ]
 
 pub children_are_forked : FromCallLaws ChildrenAreForked
 unfolding Legal
 children_are_forked laws root priorities limit es legal q high low =
-    forked_from laws limit (at_start root priorities) es legal (steady_start WellFormed laws limit root priorities) q high low
+    forked_from laws limit (at_start root priorities) es legal (steady_start WellFormed laws limit root priorities) ((first_processes_live root priorities).none 0 (inl refl)) q high low
