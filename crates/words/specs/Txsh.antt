@@ -1,6 +1,6 @@
 -- The command line, as clap reads it.
 use Rattle.std.specs.Prelude.{◌≡◌, ◌≢◌, ◌⊎◌, ◌↔◌, ℕ, pos, min, List, Option, Some, None}
-use Rattle.std.specs.Prelude.{Bool, Result, false, true, codes, map, string_bytes, unwrap_or, []}
+use Rattle.std.specs.Prelude.{Bool, Result, true, codes, map, string_bytes, unwrap_or, []}
 use Rattle.std.specs.Borrow.{Bor}
 use Rattle.std.specs.Result.{result_unwrap_or}
 use Rattle.std.specs.Str.Parse.{ParsesUnsigned}

@@ -82,8 +82,9 @@ const USAGE: &str = "txsh (--schedule <LIST> | --threads) [--limit <N>] [--check
 const ABOUT: &str =
     "Runs the operations of a script on a kernel with transactions, and prints the reply to each.";
 
-const EXAMPLES: &str =
-    "Examples:\n  txsh --schedule 1,1,2,1,2 examples/first-run.tx\n  txsh --threads examples/first-run.tx";
+const EXAMPLES: &str = "Examples:
+  txsh --schedule 1,1,2,1,2 examples/first-run.tx
+  txsh --threads examples/first-run.tx";
 
 // `--schedule LIST`
 fn schedule_arg<'a>(alloc: Global) -> Arg<'a>
@@ -253,11 +254,10 @@ fn owned_text(heap: Heap, text: &str) -> Result<String<Heap>, CommandLineFault>
 /// The job that a command line gives. The first word is the program's name. clap takes its memory
 /// from `alloc`, and the job's is from `heap`.
 ///
-/// Words that fit the command's usage give a job where exactly one way to run is among them, or else
-/// `OneWay`.
-/// Other words give `Help`, where help is asked for first, or else `Usage`, in clap's own words.
-/// `NoMemory` may come in place of each, where memory was refused. `NotUtf8` never comes, since the
-/// words are UTF-8 here.
+/// Words that fit the command's usage give a job where exactly one way to run is among them, else
+/// `OneWay`. Other words give `Help`, where help is asked for first, or else `Usage`, in clap's own
+/// words. `NoMemory` may come in place of each, where memory was refused. `NotUtf8` never comes,
+/// since the words are UTF-8 here.
 pub fn read_words<'a>(
     alloc: Global,
     heap: Heap,
