@@ -1,3 +1,3 @@
+mod Called
 mod Found
-mod Ran
-mod Sent
+pub mod Sent
