@@ -1,0 +1,3 @@
+mod Called
+mod Found
+pub mod Sent
