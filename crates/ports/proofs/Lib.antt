@@ -1,3 +1,0 @@
-mod Called
-mod Found
-pub mod Sent
