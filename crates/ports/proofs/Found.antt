@@ -18,7 +18,7 @@ use Rattle.script.specs.Steps.{ops_for}
 use Rattle.turnstile.specs.Calls.{KeepsPass}
 use Rattle.turnstile.specs.Histories.{own}
 use Rattle.turnstile.specs.Passes.{Gate, PassView}
-use Rattle.workers.specs.Families.{AreFamilies, child_of, children}
+use Rattle.workers.specs.Families.{AreFamilies, HaveOneHome, child_of, children}
 use Rattle.workers.specs.Port.{child_reply, fork}
 use Rattle.workers.specs.Work.{IsWork}
 
@@ -121,3 +121,12 @@ module _ (lines : List Line) (h : Gate) (waiting : List ℕ) (passes : List Pass
   works q positive made =
       let f = found q q (omega arith) positive made in
       subst (λ (xs : List (Op × Reply)). IsWork (ops_for q lines) xs) (sym (did q f)) f.work
+
+all_at : (h g : Gate) (ports : List PassView) → g ≡ h → AllByRecursion (λ (p : PassView). p.gate ≡ h) ports → AllByRecursion (λ (p : PassView). p.gate ≡ g) ports
+all_at h g [] is all = tt
+all_at h g (p ∷ ports) is all = (all.0 ∙ sym is, all_at h g ports is all.1)
+
+-- ports to one turnstile have one home
+pub one_home : (h : Gate) (ports : List PassView) → AllByRecursion (λ (p : PassView). p.gate ≡ h) ports → HaveOneHome (λ (p : PassView). p.gate) ports
+one_home h [] all = tt
+one_home h (p ∷ ports) all = all_at h p.gate ports all.0 all.1
