@@ -3,7 +3,7 @@ use Rattle.std.proofs.Common.{◌≡◌, ℕ, zero, suc, ◌<◌, ◌≤◌, Lis
 use Rattle.std.specs.Prelude.{if◌then◌else◌, nat_lt, ◌&&◌}
 use Rattle.std.specs.List.{AllByRecursion}
 use Rattle.std.proofs.lemmas.Bool.{cases_lt}
-use Rattle.std.proofs.Common.{nat_tests}
+use Rattle.std.proofs.lemmas.Bool.Decides.{nat_tests}
 use Rattle.call_laws.proofs.Laws.{first_processes_live}
 use Rattle.history.specs.Log.{Log}
 use Rattle.ids.specs.declared.limits.TheConstants.{MAX_PROCESSES}
@@ -20,15 +20,15 @@ use Rattle.turnstile.specs.Histories.{Begins, IsLegal}
 use Rattle.turnstile.specs.Passes.{Gate, PassView}
 
 below_among : (test : ℕ → Bool) (n q : ℕ) → test q ≡ true → q < n → Among (all_below test n) q
-below_among test zero q yes low = absurd (omega arith)
-below_among test (suc n) q yes low = elim (cases_lt q n) [
-  | inl below ↦ (let here = below_among test n q yes below in
+below_among test zero q holds low = absurd (omega arith)
+below_among test (suc n) q holds low = elim (cases_lt q n) [
+  | inl below ↦ (let here = below_among test n q holds below in
       elim (test n) as (λ b. Among (if b then all_below test n ++ n ∷ [] else all_below test n) q) [
         | true ↦ among_left (all_below test n) (n ∷ []) q here
         | false ↦ here
       ])
   | inr above ↦ (let is : n ≡ q = omega arith in
-      let last : test n ≡ true = ap test is ∙ yes in
+      let last : test n ≡ true = ap test is ∙ holds in
       subst (λ (b : Bool). Among (if b then all_below test n ++ n ∷ [] else all_below test n) q) (sym last) (among_right (all_below test n) (n ∷ []) q (inl is)))
 ]
 

@@ -1,5 +1,5 @@
 -- Each process that was made has a port among those that come back.
-use Rattle.std.proofs.Common.{◌≡◌, ℕ, suc, ◌+◌, ◌<◌, ◌≤◌, List, [], ◌∷◌, ◌++◌, ◌⊎◌, inl, inr, length, map, refl, sym, ◌∙◌, ap, subst, true, Bool, eqb, arith}
+use Rattle.std.proofs.Common.{◌≡◌, ℕ, zero, suc, ◌+◌, ◌<◌, ◌≤◌, List, [], ◌∷◌, ◌++◌, ◌⊎◌, inl, inr, length, map, refl, sym, ◌∙◌, ap, subst, true, Bool, eqb, arith}
 use Rattle.std.specs.Prelude.{if◌then◌else◌}
 use Rattle.std.specs.List.{AllByRecursion}
 use Rattle.std.proofs.lemmas.Bool.{cases_lt, eq-eqb}
@@ -106,7 +106,7 @@ module _ (lines : List Line) (h : Gate) (waiting : List ℕ) (passes : List Pass
   did q f = ap (work_in log) (sym f.number) ∙ ap (map replied) (all_among (KeepsPass log) passes f.pass kept f.among).own_kept
 
   found : (n q : ℕ) → q ≤ n → 0 < q → q ≤ (moment log).committed.made → Found lines passes q
-  found 0 q low positive made = absurd (omega arith)
+  found zero q low positive made = absurd (omega arith)
   found (suc n) q low positive made = elim (cases_lt (length log.priorities) q) [
     | inr initial ↦ waiting_found lines h waiting passes worked q (first q positive initial)
     | inl later ↦ (

@@ -44,8 +44,8 @@ impl<'a> TurnstilePort<'a> {
 
     /// The pass.
     pub fn into_pass(self) -> Pass
-        ensures same { result ≡ self }
-        ensures begun { Begins self.gate.start self.seen }
+        ensures same { result ≡ self.entry }
+        ensures begun { Begins self.entry.gate.start self.entry.seen }
     {
         self.pass
     }
