@@ -156,7 +156,10 @@ fn refused_memory_ends_a_run_by_threads(rt: HostRuntime) -> Result<(), Fail> {
     assert!(rt; 0 < made);
     for number in 0..made {
         let next = number.saturating_add(1);
-        assert!(rt; is_so_refused(&rt, heap, sinks, next, &REFUSED)?.0, "{next}");
+        assert!(rt;
+            is_so_refused(&rt, heap, sinks, next, &REFUSED)?.0,
+            "{next}"
+        );
     }
     Ok(())
 }
@@ -185,14 +188,18 @@ fn sources_that_fail_end_the_run_by_threads(rt: HostRuntime) -> Result<(), Fail>
     let heap = heap::open(rt.alloc())?;
     // 41 bytes by threes, and the read that finds the end.
     for left in 0..15usize {
-        assert!(rt; is_faulted(&rt, heap, left, Some(RunFault::Read), ""), "{left}");
+        assert!(rt;
+            is_faulted(&rt, heap, left, Some(RunFault::Read), ""),
+            "{left}"
+        );
     }
     assert!(rt; is_faulted(&rt, heap, 15, None, FAMILY_LINES));
     Ok(())
 }
 
 // The readers, the deliverers and the build of the folder examples/.
-static READERS: &str = "priorities 0\n1 mkdir /editor\n1 open /editor/edit WRONLY,CREAT\n1 write 0 one\n\
+static READERS: &str =
+    "priorities 0\n1 mkdir /editor\n1 open /editor/edit WRONLY,CREAT\n1 write 0 one\n\
     1 close 0\n1 open /editor/help WRONLY,CREAT\n1 write 0 one\n1 close 0\n1 fork\n1 fork\n\
     1 begin RESTART\n1 open /editor/edit WRONLY,TRUNC\n1 write 0 two\n1 close 0\n\
     1 open /editor/help WRONLY,TRUNC\n1 write 0 two\n1 close 0\n1 end\n1 exit\n\
@@ -201,7 +208,8 @@ static READERS: &str = "priorities 0\n1 mkdir /editor\n1 open /editor/edit WRONL
     3 open /editor/edit RDONLY\n3 read 0 10\n3 close 0\n3 open /editor/help RDONLY\n\
     3 read 0 10\n3 end\n3 exit\n";
 
-static DELIVERERS: &str = "priorities 0\n1 mkdir /spool\n1 open /index WRONLY,CREAT\n1 close 0\n1 fork\n1 fork\n\
+static DELIVERERS: &str =
+    "priorities 0\n1 mkdir /spool\n1 open /index WRONLY,CREAT\n1 close 0\n1 fork\n1 fork\n\
     1 begin RESTART\n1 list /spool\n1 open /index RDONLY\n1 read 0 100\n1 end\n\
     2 begin RESTART\n2 open /spool/a1 WRONLY,CREAT,EXCL\n\
     2 write 0 Come\\x20at\\x20noon.\\x0a\n2 close 0\n2 open /index WRONLY,APPEND\n\
@@ -212,7 +220,8 @@ static DELIVERERS: &str = "priorities 0\n1 mkdir /spool\n1 open /index WRONLY,CR
     3 write 0 No\\x20bread\\x20left.\\x0a\n3 close 0\n3 open /index WRONLY,APPEND\n\
     3 write 0 b1\\x20from\\x20Bob\\x0a\n3 close 0\n3 end\n";
 
-static BUILD: &str = "priorities 0\n1 pipe\n1 fork\n1 close 0\n1 begin RESTART\n1 open /main.o WRONLY,CREAT\n\
+static BUILD: &str =
+    "priorities 0\n1 pipe\n1 fork\n1 close 0\n1 begin RESTART\n1 open /main.o WRONLY,CREAT\n\
     1 write 0 main\n1 close 0\n1 write 1 main.o\\x0a\n1 end\n1 begin RESTART\n\
     1 open /text.o WRONLY,CREAT\n1 write 0 text\n1 close 0\n1 write 1 text.o\\x0a\n1 end\n\
     1 exit\n2 close 1\n2 begin RESTART\n2 read 0 100\n2 list /\n2 end\n2 begin RESTART\n\
@@ -241,7 +250,14 @@ fn passes<R: Threads + Wait + Sync>(rt: &R, heap: Heap, text: &str) -> bool {
     };
     let mut out = halting(heap, 1_000_000);
     let mut err = halting(heap, 1000);
-    let status = run_job(rt, heap, &checked_job(heap), &mut source, &mut out, &mut err);
+    let status = run_job(
+        rt,
+        heap,
+        &checked_job(heap),
+        &mut source,
+        &mut out,
+        &mut err,
+    );
     status == 0 && out.bytes.as_slice().ends_with(b"check: ok\n") && err.bytes.is_empty()
 }
 

@@ -7,7 +7,6 @@ use Rattle.history.specs.Log.{Log}
 use Rattle.kernel.specs.Shown.{Shown}
 use Rattle.ports.specs.Runs.{IsRunByThreads}
 use Rattle.script.specs.Contents.{ScriptContents}
-use Rattle.script.specs.declared.faults.ScheduleFault.{ScheduleFault}
 use Rattle.transcript.specs.Line.{transcript}
 use Rattle.runner.specs.Reading.{GivesScript, GivesFault}
 use Rattle.runner.specs.declared.fault.RunFault.{RunFault}
