@@ -13,9 +13,9 @@ returns-clause-done g c =
     let same : c.fork.new.pass.pid ≡ c.args.self.now.pid = search rules in
     elim c.match-fork.branch [
       | in-Ok w ↦ (
-        let forked : Forked c.args.self.now w.in-Ok.pid c.fork.new.pass w.in-Ok.pass = search rules in
-        let done = called_done c.args.self.now c.fork.new.pass fork (child_reply w.in-Ok.pid) same forked.called in
-        search rules)
+          let forked : Forked c.args.self.now w.in-Ok.pid c.fork.new.pass w.in-Ok.pass = search rules in
+          let done = called_done c.args.self.now c.fork.new.pass fork (child_reply w.in-Ok.pid) same forked.called in
+          search rules)
       | in-Err w ↦ search rules
     ]
 
@@ -25,7 +25,7 @@ returns-clause-refused g c =
     elim c.match-fork.branch [
       | in-Ok w ↦ search rules
       | in-Err w ↦ (
-        let called : Called c.args.self.now fork w.in-Err.reply c.fork.new.pass = search rules in
-        let done = called_done c.args.self.now c.fork.new.pass fork w.in-Err.reply same called in
-        search rules)
+          let called : Called c.args.self.now fork w.in-Err.reply c.fork.new.pass = search rules in
+          let done = called_done c.args.self.now c.fork.new.pass fork w.in-Err.reply same called in
+          search rules)
     ]
