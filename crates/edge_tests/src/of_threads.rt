@@ -250,14 +250,8 @@ fn passes<R: Threads + Wait + Sync>(rt: &R, heap: Heap, text: &str) -> bool {
     };
     let mut out = halting(heap, 1_000_000);
     let mut err = halting(heap, 1000);
-    let status = run_job(
-        rt,
-        heap,
-        &checked_job(heap),
-        &mut source,
-        &mut out,
-        &mut err,
-    );
+    let job = checked_job(heap);
+    let status = run_job(rt, heap, &job, &mut source, &mut out, &mut err);
     status == 0 && out.bytes.as_slice().ends_with(b"check: ok\n") && err.bytes.is_empty()
 }
 

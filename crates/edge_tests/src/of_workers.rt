@@ -247,7 +247,7 @@ static FAULTS: [(Manner, Manner, &str, WorkFault); 4] = [
 
 fn two(heap: Heap, manners: (Manner, Manner)) -> Result<Vec<Mannered, Heap>, AllocError>
     ensures fresh { IfOk result (λ ports. All (λ p. p.entries.items ≡ []) ports.items) }
-    ensures home { IfOk result (λ ports. HaveOneHome (λ p. 0) ports.items) }
+    ensures home { IfOk result (λ ports. HaveOneHome {H = ℕ} (λ p. 0) ports.items) }
 {
     let mut ports = Vec::new(heap);
     ports.push(fresh(heap, Pid(1), manners.0))?;
@@ -397,7 +397,7 @@ impl Port for Meeting {
 // Two ports of which each answers only after the other was called.
 fn two_meeting(alloc: Global, heap: Heap) -> Result<Vec<Meeting, Heap>, AllocError>
     ensures fresh { IfOk result (λ ports. All (λ p. p.entries.items ≡ []) ports.items) }
-    ensures home { IfOk result (λ ports. HaveOneHome (λ p. 0) ports.items) }
+    ensures home { IfOk result (λ ports. HaveOneHome {H = ℕ} (λ p. 0) ports.items) }
 {
     let first = Arc::new(alloc, AtomicU64::new(0))?;
     let second = Arc::new(alloc, AtomicU64::new(0))?;
