@@ -96,9 +96,18 @@ fn try_case(rt: &HostRuntime, trials: &mut Trials, case: &Case, number: u64) -> 
     Ok(right)
 }
 
+// A limit that is often enough for all steps.
+fn limit_of(random: &mut Random) -> usize {
+    if random.once_in(3) {
+        random.place(60)
+    } else {
+        200
+    }
+}
+
 fn try_right(trials: &mut Trials, case: &Case) -> Result<(), Difference> {
     try_whole(trials.heap, case)?;
-    let limit = trials.random.place(80);
+    let limit = limit_of(&mut trials.random);
     try_limit(trials, case, limit)?;
     try_refused(trials, case)
 }

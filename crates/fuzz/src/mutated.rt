@@ -10,7 +10,7 @@ use script::{ScriptFault, read_script};
 use std::alloc::AllocError;
 
 // The bytes that a script is changed to.
-static SCRIPT_BYTES: &[u8; 40] = b"\n\n\n    ##,,\\\\-0012345789aefxzCRDWPTAS_/.\0";
+static SCRIPT_BYTES: &[u8; 41] = b"\n\n\n    ##,,\\\\-0012345789aefxzCRDWPTAS_/.\0";
 
 // The bytes that a schedule is changed to.
 static LIST_BYTES: &[u8; 16] = b",,, 001234599-a\n";
