@@ -30,7 +30,7 @@ use crate::mutated::{list_cut, mutated, script_cut, try_mutated};
 use crate::random::Random;
 use crate::refused::try_refused;
 use crate::report::{print_case, print_tally};
-use crate::runs::{try_limit, try_whole};
+use crate::runs::{plan_of, try_limit, try_whole};
 use crate::tally::Tally;
 use crate::trials::Trials;
 use std::alloc::AllocError;
@@ -106,10 +106,11 @@ fn limit_of(random: &mut Random) -> usize {
 }
 
 fn try_right(trials: &mut Trials, case: &Case) -> Result<(), Difference> {
-    try_whole(trials.heap, case)?;
+    let plan = plan_of(trials.heap, case)?;
+    try_whole(trials.heap, case, &plan)?;
     let limit = limit_of(&mut trials.random);
-    try_limit(trials, case, limit)?;
-    try_refused(trials, case)
+    try_limit(trials, &plan, limit)?;
+    try_refused(trials, &plan)
 }
 
 fn try_changed(rt: &HostRuntime, trials: &mut Trials, case: &Case) -> io::Result<bool> {

@@ -1,13 +1,11 @@
 // Steps whose requests for memory are refused, one after the other.
-use crate::cases::Case;
 use crate::difference::{Difference, require};
 use crate::places::Places;
-use crate::runs::{Steps, is_same, kernel_of, processes_of, run_at_once, steps_in, transcript_of};
+use crate::runs::{Plan, Steps, is_same, kernel_of, push_copy, run_at_once, transcript_of};
 use crate::trials::Trials;
 use heap::Heap;
 use ids::{Op, Pid, Reply};
 use kernel::Kernel;
-use std::alloc::AllocError;
 
 // More entries than a random script has steps.
 const LIMIT: usize = 200;
@@ -80,55 +78,48 @@ fn step(
     Ok(made)
 }
 
-// Adds a step. Where memory is refused it is dropped.
-fn push(steps: &mut Steps, pid: Pid, op: Op) -> Result<(), AllocError> {
-    steps.push((pid, op))?;
-    Ok(())
-}
-
-// Makes steps, and puts those that got through behind the others.
+// Makes steps, and puts copies of those that got through behind the others.
 fn step_all(
     trials: &mut Trials,
     kernel: &mut Kernel,
     places: &mut Places,
-    steps: Steps,
+    steps: &[(Pid, Op)],
     made: &mut Steps,
 ) -> Result<(), Difference> {
     for (pid, op) in steps {
-        if step(trials, kernel, places, pid, &op)? {
-            push(made, pid, op)?;
+        if step(trials, kernel, places, *pid, op)? {
+            push_copy(made, *pid, op)?;
         }
     }
     Ok(())
 }
 
-// Makes the steps of a script, and tells the transcript and puts what got through.
+// Makes the steps of a plan, puts those that got through, and tells the transcript.
 fn stepped(
     trials: &mut Trials,
     kernel: &mut Kernel,
-    case: &Case,
+    plan: &Plan,
     made: &mut Steps,
 ) -> Result<Vec<u8, Heap>, Difference> {
-    let mut places = Places::new(processes_of(trials.heap, case)?, LIMIT);
-    let steps = steps_in(trials.heap, case)?;
-    step_all(trials, kernel, &mut places, steps, made)?;
+    let mut places = Places::new(plan.priorities.len(), LIMIT);
+    step_all(trials, kernel, &mut places, plan.steps.as_slice(), made)?;
     transcript_of(trials.heap, kernel.history())
 }
 
 fn run_refused(
     trials: &mut Trials,
-    case: &Case,
+    plan: &Plan,
     made: &mut Steps,
 ) -> Result<Vec<u8, Heap>, Difference> {
-    let mut kernel = kernel_of(trials.heap, case, LIMIT)?;
-    stepped(trials, &mut kernel, case, made)
+    let mut kernel = kernel_of(trials.heap, plan.priorities.as_slice(), LIMIT)?;
+    stepped(trials, &mut kernel, plan, made)
 }
 
 // Each request of each step is refused once. What gets through comes to what it comes to where
 // nothing is refused.
-pub(crate) fn try_refused(trials: &mut Trials, case: &Case) -> Result<(), Difference> {
+pub(crate) fn try_refused(trials: &mut Trials, plan: &Plan) -> Result<(), Difference> {
     let mut made = Vec::new(trials.heap);
-    let told = run_refused(trials, case, &mut made)?;
-    let other = run_at_once(trials.heap, case, LIMIT, made)?;
+    let told = run_refused(trials, plan, &mut made)?;
+    let other = run_at_once(trials.heap, plan.priorities.as_slice(), LIMIT, made)?;
     is_same(told.as_slice(), other.as_slice())
 }

@@ -9,11 +9,12 @@ use crate::trials::Trials;
 use device::{Halting, Portions};
 use heap::Heap;
 use history::History;
-use ids::{Entry, Op, Pid, Reply};
+use ids::{Entry, MAX_PROCESSES, Op, Pid, Priority, Reply};
 use kernel::Kernel;
 use replay::check;
 use runner::{RunFault, print, run_schedule};
 use script::{Script, read_schedule, read_script, steps_of};
+use std::alloc::AllocError;
 
 // More entries than a random script ever has.
 const AMPLE: usize = 4096;
@@ -81,6 +82,13 @@ pub(crate) fn transcript_of(heap: Heap, history: &History) -> Result<Vec<u8, Hea
     Ok(sink.bytes)
 }
 
+// What a script and its schedule come to: the priorities of the processes, and the steps.
+#[derive(Drop)]
+pub(crate) struct Plan {
+    pub(crate) priorities: Vec<Priority, Heap>,
+    pub(crate) steps: Steps,
+}
+
 fn script_of(heap: Heap, case: &Case) -> Result<Script, Difference> {
     match read_script(heap, case.script.as_slice()) {
         Ok(script) => Ok(script),
@@ -88,26 +96,43 @@ fn script_of(heap: Heap, case: &Case) -> Result<Script, Difference> {
     }
 }
 
-// A kernel with the processes of a script.
-pub(crate) fn kernel_of(heap: Heap, case: &Case, limit: usize) -> Result<Kernel, Difference> {
-    let script = script_of(heap, case)?;
-    let kernel = Kernel::new(heap, script.priorities(), limit.min(AMPLE))?;
-    Ok(kernel)
-}
-
-// How many processes a script has at the start.
-pub(crate) fn processes_of(heap: Heap, case: &Case) -> Result<usize, Difference> {
-    let script = script_of(heap, case)?;
-    Ok(script.priorities().len())
-}
-
-// The steps of a script and its schedule.
-pub(crate) fn steps_in(heap: Heap, case: &Case) -> Result<Steps, Difference> {
-    let script = script_of(heap, case)?;
-    match read_schedule(heap, text_of(case.list.as_slice()), &script) {
+fn steps_in(heap: Heap, list: &str, script: Script) -> Result<Steps, Difference> {
+    match read_schedule(heap, list, &script) {
         Ok(pids) => Ok(steps_of(heap, script, pids.as_slice())?),
         Err(_) => Err(Difference::Fault),
     }
+}
+
+pub(crate) fn plan_of(heap: Heap, case: &Case) -> Result<Plan, Difference> {
+    let script = script_of(heap, case)?;
+    let priorities = Vec::from_slice(heap, script.priorities())?;
+    let steps = steps_in(heap, text_of(case.list.as_slice()), script)?;
+    Ok(Plan { priorities, steps })
+}
+
+// Adds a copy of a step.
+pub(crate) fn push_copy(steps: &mut Steps, pid: Pid, op: &Op) -> Result<(), AllocError> {
+    steps.push((pid, op.try_clone()?))?;
+    Ok(())
+}
+
+fn copy_of(heap: Heap, steps: &[(Pid, Op)]) -> Result<Steps, AllocError> {
+    let mut copy = Vec::new(heap);
+    for (pid, op) in steps {
+        push_copy(&mut copy, *pid, op)?;
+    }
+    Ok(copy)
+}
+
+// A kernel with these processes, of which there are some.
+pub(crate) fn kernel_of(
+    heap: Heap,
+    priorities: &[Priority],
+    limit: usize,
+) -> Result<Kernel, Difference> {
+    let some = !priorities.is_empty() && priorities.len() <= MAX_PROCESSES as usize;
+    require(some, Difference::Fault)?;
+    Ok(Kernel::new(heap, priorities, limit.min(AMPLE))?)
 }
 
 // Counts the last entry, which has to be the one behind so many.
@@ -171,55 +196,55 @@ fn step_all(
     kernel: &mut Kernel,
     places: &mut Places,
     tally: &mut Tally,
-    steps: Steps,
+    steps: &[(Pid, Op)],
 ) -> Result<(), Difference> {
     for (pid, op) in steps {
-        step(kernel, places, tally, pid, op)?;
+        step(kernel, places, tally, *pid, op.try_clone()?)?;
     }
     Ok(())
 }
 
-// Makes the steps of a script one by one, and tells the transcript.
+// Makes steps one by one, and tells the transcript.
 fn stepped(
     heap: Heap,
-    case: &Case,
     kernel: &mut Kernel,
     places: &mut Places,
     tally: &mut Tally,
+    steps: &[(Pid, Op)],
 ) -> Result<Vec<u8, Heap>, Difference> {
-    step_all(kernel, places, tally, steps_in(heap, case)?)?;
+    step_all(kernel, places, tally, steps)?;
     transcript_of(heap, kernel.history())
 }
 
-// Makes steps without looking at their replies, and tells the transcript.
-fn repeated(heap: Heap, kernel: &mut Kernel, steps: Steps) -> Result<Vec<u8, Heap>, Difference> {
+// Makes steps at once, and tells the transcript.
+fn made_at_once(heap: Heap, kernel: &mut Kernel, steps: Steps) -> Result<Vec<u8, Heap>, Difference> {
     let wanted = steps.len();
     let replies = kernel.run(steps)?;
     require(replies.len() == wanted, Difference::Entry)?;
     transcript_of(heap, kernel.history())
 }
 
-// The transcript of a run of the kernel under a limit.
+// The transcript of steps at once, by these processes and under a limit.
 pub(crate) fn run_at_once(
     heap: Heap,
-    case: &Case,
+    priorities: &[Priority],
     limit: usize,
     steps: Steps,
 ) -> Result<Vec<u8, Heap>, Difference> {
-    let mut kernel = kernel_of(heap, case, limit)?;
-    repeated(heap, &mut kernel, steps)
+    let mut kernel = kernel_of(heap, priorities, limit)?;
+    made_at_once(heap, &mut kernel, steps)
 }
 
-// The transcript of the steps under a limit, each of which is judged.
+// The transcript of steps one by one, under a limit. Each reply is judged.
 fn run_stepped(
     heap: Heap,
-    case: &Case,
+    plan: &Plan,
     limit: usize,
     tally: &mut Tally,
 ) -> Result<Vec<u8, Heap>, Difference> {
-    let mut places = Places::new(processes_of(heap, case)?, limit);
-    let mut kernel = kernel_of(heap, case, limit)?;
-    stepped(heap, case, &mut kernel, &mut places, tally)
+    let mut places = Places::new(plan.priorities.len(), limit);
+    let mut kernel = kernel_of(heap, plan.priorities.as_slice(), limit)?;
+    stepped(heap, &mut kernel, &mut places, tally, plan.steps.as_slice())
 }
 
 pub(crate) fn is_same(one: &[u8], other: &[u8]) -> Result<(), Difference> {
@@ -227,23 +252,23 @@ pub(crate) fn is_same(one: &[u8], other: &[u8]) -> Result<(), Difference> {
 }
 
 // A script ends well as the program runs it, and its transcript is that of its steps.
-pub(crate) fn try_whole(heap: Heap, case: &Case) -> Result<(), Difference> {
+pub(crate) fn try_whole(heap: Heap, case: &Case, plan: &Plan) -> Result<(), Difference> {
     let Ok(whole) = run_whole(heap, case) else {
         return Err(Difference::Fault);
     };
-    let steps = steps_in(heap, case)?;
-    let other = run_at_once(heap, case, AMPLE, steps)?;
+    let steps = copy_of(heap, plan.steps.as_slice())?;
+    let other = run_at_once(heap, plan.priorities.as_slice(), AMPLE, steps)?;
     is_same(whole.as_slice(), other.as_slice())
 }
 
 // Under a limit each step finds its place just where one is left, one by one and at once.
 pub(crate) fn try_limit(
     trials: &mut Trials,
-    case: &Case,
+    plan: &Plan,
     limit: usize,
 ) -> Result<(), Difference> {
-    let one_by_one = run_stepped(trials.heap, case, limit, &mut trials.tally)?;
-    let steps = steps_in(trials.heap, case)?;
-    let at_once = run_at_once(trials.heap, case, limit, steps)?;
+    let one_by_one = run_stepped(trials.heap, plan, limit, &mut trials.tally)?;
+    let steps = copy_of(trials.heap, plan.steps.as_slice())?;
+    let at_once = run_at_once(trials.heap, plan.priorities.as_slice(), limit, steps)?;
     is_same(one_by_one.as_slice(), at_once.as_slice())
 }
