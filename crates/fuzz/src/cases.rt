@@ -11,23 +11,33 @@ pub(crate) struct Case {
     pub(crate) list: Vec<u8, Heap>,
 }
 
-static PRIORITIES: [&str; 8] = [" 0", " 0", " 0", " 0", " 0", " 1", " 2", " 7"];
+static PRIORITIES: [&str; 8] = [" 0", " 0", " 0", " 0", " 0", " 0", " 1", " 7"];
 
 // Lines of process 1 that come before the others, how many they are, and how many children they
 // make.
 type Start = (&'static str, u64, u64);
 
-static STARTS: [Start; 10] = [
+static STARTS: [Start; 12] = [
     ("", 0, 0),
     ("1 mkdir /a\n1 mkdir /b\n", 2, 0),
-    ("1 mkdir /a\n1 mkdir /a/b\n1 open /f RDWR,CREAT\n", 3, 0),
+    (
+        "1 mkdir /a\n1 open /a/b RDWR,CREAT\n1 open /f RDWR,CREAT\n",
+        3,
+        0,
+    ),
+    (
+        "1 mkdir /a\n1 mkdir /a/b\n1 open /f RDWR,CREAT\n1 fork\n",
+        4,
+        1,
+    ),
     ("1 open /f RDWR,CREAT\n1 fill 0 3000 78\n", 2, 0),
     ("1 open /f RDWR,CREAT\n1 ftruncate 0 2048\n1 fork\n", 3, 1),
     ("1 open /a RDWR,CREAT\n1 link /a /b\n1 fork\n", 3, 1),
+    ("1 open /f RDWR,CREAT\n1 unlink /f\n1 fork\n1 fork\n", 4, 2),
     ("1 pipe\n1 fork\n1 fill 1 600 7a\n", 3, 1),
     ("1 pipe\n1 write 1 abcde\n1 fork\n1 fork\n", 4, 2),
     ("1 pipe\n1 fill 1 3585 7a\n1 fork\n", 3, 1),
-    ("1 open /f RDWR,CREAT\n1 unlink /f\n1 fork\n1 fork\n", 4, 2),
+    ("1 pipe\n1 close 0\n1 open /f RDWR,CREAT\n", 3, 0),
 ];
 
 fn put_priorities(
@@ -54,7 +64,7 @@ fn put_lines(
     let lines = 8 + random.below(48);
     for _ in 0..lines {
         let stranger = u64::from(random.once_in(40));
-        let number = 1 + (random.below(processes.max(1)) + stranger) % 9;
+        let number = 1 + (random.below(processes.clamp(1, 8)) + stranger);
         let digit = b'0' + number as u8;
         put_line(text, random, digit)?;
         digits.push(digit)?;
@@ -81,21 +91,24 @@ fn put_digits(list: &mut Vec<u8, Heap>, digits: &[u8]) -> Result<(), AllocError>
     Ok(())
 }
 
-// Puts the lines that come before the others, and their schedule.
-fn put_start(case: &mut Case, start: &Start) -> Result<(), AllocError> {
-    case.script.extend_from_slice(start.0.as_bytes())?;
-    for _ in 0..start.1 {
+// Puts a line of process 1, so often.
+fn put_often(case: &mut Case, line: &str, count: u64) -> Result<(), AllocError> {
+    for _ in 0..count {
+        case.script.extend_from_slice(line.as_bytes())?;
         put_digits(&mut case.list, b"1")?;
     }
     Ok(())
 }
 
-fn start_of(random: &mut Random) -> &'static Start {
-    let place = random.place(STARTS.len());
-    match STARTS.get(place) {
-        Some(start) => start,
-        None => &STARTS[0],
+// Puts the lines that come before the others, and their schedule. Now and then process 1 has no
+// descriptor left behind them.
+fn put_start(case: &mut Case, random: &mut Random, start: &Start) -> Result<(), AllocError> {
+    case.script.extend_from_slice(start.0.as_bytes())?;
+    put_often(case, "", start.1)?;
+    if random.once_in(25) {
+        put_often(case, "1 dup 0\n", 63)?;
     }
+    Ok(())
 }
 
 fn fill(
@@ -104,9 +117,9 @@ fn fill(
     digits: &mut Vec<u8, Heap>,
 ) -> Result<(), AllocError> {
     let processes = 1 + random.below(6);
-    let start = start_of(random);
+    let start = &STARTS[random.below(12) as usize];
     put_priorities(&mut case.script, random, processes)?;
-    put_start(case, start)?;
+    put_start(case, random, start)?;
     put_lines(&mut case.script, random, processes + start.2, digits)?;
     shuffle(digits.as_mut_slice(), random);
     put_digits(&mut case.list, digits.as_slice())

@@ -24,7 +24,12 @@ fn is_refused(heap: Heap, kernel: &mut Kernel, pid: Pid, op: Op, number: u64) ->
 }
 
 // Makes a step that has to take no memory.
-fn step_silent(trials: &mut Trials, kernel: &mut Kernel, pid: Pid, op: Op) -> Result<bool, Difference> {
+fn step_silent(
+    trials: &mut Trials,
+    kernel: &mut Kernel,
+    pid: Pid,
+    op: Op,
+) -> Result<bool, Difference> {
     trials.heap.refuse(1);
     let reply = kernel.step(pid, op);
     let silent = trials.heap.made() == 0 && !matches!(reply, Reply::NoMemory);

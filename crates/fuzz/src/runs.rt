@@ -217,7 +217,11 @@ fn stepped(
 }
 
 // Makes steps at once, and tells the transcript.
-fn made_at_once(heap: Heap, kernel: &mut Kernel, steps: Steps) -> Result<Vec<u8, Heap>, Difference> {
+fn made_at_once(
+    heap: Heap,
+    kernel: &mut Kernel,
+    steps: Steps,
+) -> Result<Vec<u8, Heap>, Difference> {
     let wanted = steps.len();
     let replies = kernel.run(steps)?;
     require(replies.len() == wanted, Difference::Entry)?;
@@ -262,11 +266,7 @@ pub(crate) fn try_whole(heap: Heap, case: &Case, plan: &Plan) -> Result<(), Diff
 }
 
 // Under a limit each step finds its place just where one is left, one by one and at once.
-pub(crate) fn try_limit(
-    trials: &mut Trials,
-    plan: &Plan,
-    limit: usize,
-) -> Result<(), Difference> {
+pub(crate) fn try_limit(trials: &mut Trials, plan: &Plan, limit: usize) -> Result<(), Difference> {
     let one_by_one = run_stepped(trials.heap, plan, limit, &mut trials.tally)?;
     let steps = copy_of(trials.heap, plan.steps.as_slice())?;
     let at_once = run_at_once(trials.heap, plan.priorities.as_slice(), limit, steps)?;

@@ -57,9 +57,9 @@ static FORMS: [Form; 27] = [
 const SHARES: u64 = 73;
 
 static PATHS: [&str; 32] = [
-    "/", "/a", "/a", "/a", "/a", "/b", "/b", "/b", "/b", "/f", "/f", "/f", "/a/b", "/a/b", "/a/b",
-    "/a/c", "/a/c", "/b/a", "/b/a", "/b/c", "/a/b/c", "/a/b/c", "/b/a/b", "/f/a", "/c", "/c",
-    "\\e", "a", "//", "/a/", "/a/..", "/\\x00",
+    "/", "/a", "/a", "/a", "/a", "/a", "/a", "/b", "/b", "/b", "/b", "/b", "/f", "/f", "/f", "/f",
+    "/a/b", "/a/b", "/a/b", "/a/b", "/b/a", "/b/a", "/a/c", "/a/b/c", "/b/a/b", "/f/a", "/c",
+    "\\e", "a", "//", "/a/..", "/\\x00",
 ];
 
 static DESCRIPTORS: [&str; 20] = [
@@ -68,9 +68,24 @@ static DESCRIPTORS: [&str; 20] = [
 ];
 
 static FLAGS: [&str; 18] = [
-    "RDWR,CREAT", "RDWR,CREAT", "RDWR,CREAT", "RDWR,CREAT", "RDONLY", "RDONLY", "WRONLY", "RDWR",
-    "RDWR", "RDWR,TRUNC", "WRONLY,CREAT,TRUNC", "RDWR,CREAT,EXCL", "WRONLY,CREAT,APPEND",
-    "RDWR,APPEND", "-", "CREAT", "RDONLY,TRUNC", "RDWR,EXCL",
+    "RDWR,CREAT",
+    "RDWR,CREAT",
+    "RDWR,CREAT",
+    "RDWR,CREAT",
+    "RDONLY",
+    "RDONLY",
+    "WRONLY",
+    "RDWR",
+    "RDWR",
+    "RDWR,TRUNC",
+    "WRONLY,CREAT,TRUNC",
+    "RDWR,CREAT,EXCL",
+    "WRONLY,CREAT,APPEND",
+    "RDWR,APPEND",
+    "-",
+    "CREAT",
+    "RDONLY,TRUNC",
+    "RDWR,EXCL",
 ];
 
 static COUNTS: [&str; 14] = [
@@ -87,14 +102,40 @@ static TEXTS: [&str; 7] = ["x", "hi", "abcde", "\\e", "pq\\x00r", "\\xff", "z"];
 static BYTES: [&str; 3] = ["78", "00", "ff"];
 
 static OFFSETS: [&str; 16] = [
-    "0", "0", "0", "0", "1", "2", "3", "-1", "-2", "511", "1023", "1024", "2047", "1048575",
-    "1048577", "-9223372036854775808",
+    "0",
+    "0",
+    "0",
+    "0",
+    "1",
+    "2",
+    "3",
+    "-1",
+    "-2",
+    "511",
+    "1023",
+    "1024",
+    "2047",
+    "1048575",
+    "1048577",
+    "-9223372036854775808",
 ];
 
 static WHENCES: [&str; 4] = ["SET", "SET", "CUR", "END"];
 
 static LENGTHS: [&str; 14] = [
-    "0", "0", "1", "2", "100", "1023", "1024", "1025", "2048", "3000", "4000", "1048576", "1048577",
+    "0",
+    "0",
+    "1",
+    "2",
+    "100",
+    "1023",
+    "1024",
+    "1025",
+    "2048",
+    "3000",
+    "4000",
+    "1048576",
+    "1048577",
     "4294967295",
 ];
 
@@ -130,11 +171,20 @@ fn form_of(random: &mut Random) -> &'static Form {
     &FORMS[0]
 }
 
+// A path whose name is too long, or one of the words of a kind.
+fn put_kind(text: &mut Vec<u8, Heap>, random: &mut Random, kind: Kind) -> Result<(), AllocError> {
+    if matches!(kind, Kind::Path) && random.once_in(100) {
+        put_word(text, "/")?;
+        return text.extend_from_slice(&[b'n'; 256]);
+    }
+    put_word(text, random.pick(words_of(kind)))
+}
+
 fn put_words(text: &mut Vec<u8, Heap>, random: &mut Random) -> Result<(), AllocError> {
     let form = form_of(random);
     put_word(text, form.1)?;
     for kind in form.2 {
-        put_word(text, random.pick(words_of(*kind)))?;
+        put_kind(text, random, *kind)?;
     }
     Ok(())
 }
