@@ -1,8 +1,4 @@
 mod Names
-mod Halved
-mod Kept
-mod Around
-mod Merged
-mod Stepped
-mod Laid
+mod Entries
+mod Counted
 pub mod Laws
