@@ -1,4 +1,8 @@
 mod Names
-mod Entries
-mod Counted
+mod Halved
+mod Kept
+mod Around
+mod Merged
+mod Stepped
+mod Laid
 pub mod Laws
