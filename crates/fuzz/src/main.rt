@@ -16,7 +16,6 @@ mod cases;
 mod difference;
 mod mutated;
 mod operations;
-mod operations;
 mod places;
 mod random;
 mod refused;
