@@ -1,5 +1,5 @@
 -- Each process that was made has a port among those that come back.
-use Rattle.std.proofs.Common.{◌≡◌, ℕ, suc, ◌+◌, ◌<◌, ◌≤◌, List, [], ◌∷◌, ◌++◌, ◌⊎◌, inl, inr, length, map, refl, sym, ◌∙◌, ap, subst, true, Bool, eqb, arith}
+use Rattle.std.proofs.Common.{◌≡◌, ℕ, zero, suc, ◌+◌, ◌<◌, ◌≤◌, List, [], ◌∷◌, ◌++◌, ◌⊎◌, inl, inr, length, map, refl, sym, ◌∙◌, ap, subst, true, Bool, eqb, arith}
 use Rattle.std.specs.Prelude.{if◌then◌else◌}
 use Rattle.std.specs.List.{AllByRecursion}
 use Rattle.std.proofs.lemmas.Bool.{cases_lt, eq-eqb}
@@ -18,20 +18,20 @@ use Rattle.script.specs.Steps.{ops_for}
 use Rattle.turnstile.specs.Calls.{KeepsPass}
 use Rattle.turnstile.specs.Histories.{own}
 use Rattle.turnstile.specs.Passes.{Gate, PassView}
-use Rattle.workers.specs.Families.{AreFamilies, child_of, children}
+use Rattle.workers.specs.Families.{AreFamilies, HaveOneHome, child_of, children}
 use Rattle.workers.specs.Port.{child_reply, fork}
 use Rattle.workers.specs.Work.{IsWork}
 
-pub abbrev Among : {A : Type 0} → List A → A → Type 0
+abbrev pub Among : {A : Type 0} → List A → A → Type 0
 Among [] x = ⊥
 Among (y ∷ ys) x = (y ≡ x) ⊎ Among ys x
 
-among_left : {A : Type 0} (xs ys : List A) (x : A) → Among xs x → Among (xs ++ ys) x
+pub among_left : {A : Type 0} (xs ys : List A) (x : A) → Among xs x → Among (xs ++ ys) x
 among_left [] ys x a = absurd a
 among_left (y ∷ xs) ys x (inl is) = inl is
 among_left (y ∷ xs) ys x (inr a) = inr (among_left xs ys x a)
 
-among_right : {A : Type 0} (xs ys : List A) (x : A) → Among ys x → Among (xs ++ ys) x
+pub among_right : {A : Type 0} (xs ys : List A) (x : A) → Among ys x → Among (xs ++ ys) x
 among_right [] ys x a = a
 among_right (y ∷ xs) ys x a = inr (among_right xs ys x a)
 
@@ -41,7 +41,7 @@ all_among P (y ∷ xs) x all (inl is) = subst P is all.0
 all_among P (y ∷ xs) x all (inr a) = all_among P xs x all.1 a
 
 -- the passes are those of the waiting processes, family by family
-pub abbrev AreWorked : List Line → Gate → List ℕ → List PassView → Type 0
+abbrev pub AreWorked : List Line → Gate → List ℕ → List PassView → Type 0
 AreWorked lines h waiting passes = AreFamilies (λ (p : PassView). p.pid) (λ (p : PassView). p.gate) done_by lines h waiting passes
 
 -- one of the passes is the process's, which has done its work
@@ -60,7 +60,7 @@ gates lines h waiting [] f = tt
 gates lines h [] (p ∷ passes) f = absurd f
 gates lines h (n ∷ waiting) (p ∷ passes) f = (f.1, gates lines h (children (done_by p) ++ waiting) passes f.3)
 
-waiting_found : (lines : List Line) (h : Gate) (waiting : List ℕ) (passes : List PassView) → AreWorked lines h waiting passes → (q : ℕ) → Among waiting q → Found lines passes q
+pub waiting_found : (lines : List Line) (h : Gate) (waiting : List ℕ) (passes : List PassView) → AreWorked lines h waiting passes → (q : ℕ) → Among waiting q → Found lines passes q
 waiting_found lines h waiting [] f q a = absurd (subst (λ (w : List ℕ). Among w q) f a)
 waiting_found lines h [] (p ∷ passes) f q a = absurd f
 waiting_found lines h (n ∷ waiting) (p ∷ passes) f q (inl is) = record {
@@ -106,18 +106,27 @@ module _ (lines : List Line) (h : Gate) (waiting : List ℕ) (passes : List Pass
   did q f = ap (work_in log) (sym f.number) ∙ ap (map replied) (all_among (KeepsPass log) passes f.pass kept f.among).own_kept
 
   found : (n q : ℕ) → q ≤ n → 0 < q → q ≤ (moment log).committed.made → Found lines passes q
-  found 0 q low positive made = absurd (omega arith)
+  found zero q low positive made = absurd (omega arith)
   found (suc n) q low positive made = elim (cases_lt (length log.priorities) q) [
     | inr initial ↦ waiting_found lines h waiting passes worked q (first q positive initial)
     | inl later ↦ (
-      let f = children_are_forked 0 log.priorities log.limit log.entries legal q later made in
-      let earlier : f.fork.pid < q = f.earlier in
-      let parent = found n f.fork.pid (omega arith) f.number (omega arith) in
-      child_found lines h waiting passes worked parent.pass parent.among q
-      (subst (λ (xs : List (Op × Reply)). Among (children xs) q) (did f.fork.pid parent) (forked_among log q f)))
+        let f = children_are_forked 0 log.priorities log.limit log.entries legal q later made in
+        let earlier : f.fork.pid < q = f.earlier in
+        let parent = found n f.fork.pid (omega arith) f.number (omega arith) in
+        child_found lines h waiting passes worked parent.pass parent.among q
+        (subst (λ (xs : List (Op × Reply)). Among (children xs) q) (did f.fork.pid parent) (forked_among log q f)))
   ]
 
   pub works : (q : ℕ) → 0 < q → q ≤ (moment log).committed.made → IsWork (ops_for q lines) (work_in log q)
   works q positive made =
       let f = found q q (omega arith) positive made in
       subst (λ (xs : List (Op × Reply)). IsWork (ops_for q lines) xs) (sym (did q f)) f.work
+
+all_at : (h g : Gate) (ports : List PassView) → g ≡ h → AllByRecursion (λ (p : PassView). p.gate ≡ h) ports → AllByRecursion (λ (p : PassView). p.gate ≡ g) ports
+all_at h g [] is all = tt
+all_at h g (p ∷ ports) is all = (all.0 ∙ sym is, all_at h g ports is all.1)
+
+-- ports to one turnstile have one home
+pub one_home : (h : Gate) (ports : List PassView) → AllByRecursion (λ (p : PassView). p.gate ≡ h) ports → HaveOneHome (λ (p : PassView). p.gate) ports
+one_home h [] all = tt
+one_home h (p ∷ ports) all = all_at h p.gate ports all.0 all.1

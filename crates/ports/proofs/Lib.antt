@@ -1,3 +1,4 @@
+mod Called
+mod Firsts
 mod Found
-mod Ran
-mod Sent
+pub mod Sent

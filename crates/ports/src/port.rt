@@ -44,8 +44,8 @@ impl<'a> TurnstilePort<'a> {
 
     /// The pass.
     pub fn into_pass(self) -> Pass
-        ensures same { result ≡ self }
-        ensures begun { Begins self.gate.start self.seen }
+        ensures same { result ≡ self.entry }
+        ensures begun { Begins self.entry.gate.start self.entry.seen }
     {
         self.pass
     }
@@ -72,8 +72,15 @@ impl<'a> Port for TurnstilePort<'a> {
     }
 
     fn fork<R: Wait>(&mut self, rt: &R) -> Result<(Pid, Self), Reply> {
-        let (pid, pass) = self.turnstile.fork(rt, &mut self.pass)?;
-        let turnstile = self.turnstile;
-        Ok((pid, TurnstilePort { turnstile, pass }))
+        match self.turnstile.fork(rt, &mut self.pass) {
+            Ok((pid, pass)) => Ok((
+                pid,
+                TurnstilePort {
+                    turnstile: self.turnstile,
+                    pass,
+                },
+            )),
+            Err(reply) => Err(reply),
+        }
     }
 }

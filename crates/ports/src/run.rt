@@ -7,7 +7,8 @@ ghost use Rattle.workers.specs.Families.{AreFamilies};
 
 use crate::TurnstilePort;
 use heap::Heap;
-use kernel::{Kernel, MAX_ENTRIES};
+use ids::MAX_ENTRIES;
+use kernel::Kernel;
 use script::Script;
 use std::alloc::AllocError;
 use std::collections::VecDeque;

@@ -78,3 +78,14 @@ all_joined {P} {H} {L} {A} number home done lines h all threads old ports none b
       grown = before.grown;
       each = subst Q (append-nil before.some) (before.rest [] (ap promised none));
     }
+
+-- the process of one thread more
+pub promised_more : {P L A : Type 0} (threads : List (PromisedHandle (Family P A) (FamilyOf L))) (thread : PromisedHandle (Family P A) (FamilyOf L))
+    → promised (threads ++ thread ∷ []) ≡ promised threads ++ thread.promise.process ∷ []
+promised_more [] thread = refl
+promised_more (first ∷ threads) thread = ap (λ (xs : List ℕ). first.promise.process ∷ xs) (promised_more threads thread)
+
+pub over_more : {P L A : Type 0} (lines : L) (threads : List (PromisedHandle (Family P A) (FamilyOf L))) (thread : PromisedHandle (Family P A) (FamilyOf L))
+    → AreOver lines threads → IsOver lines thread → AreOver lines (threads ++ thread ∷ [])
+over_more lines [] thread over is = (is, tt)
+over_more lines (first ∷ threads) thread over is = (over.0, over_more lines threads thread over.1 is)

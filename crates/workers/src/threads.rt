@@ -133,7 +133,7 @@ fn work<
         rt,
         |scope| -> Family<P, A>
             requires { IsSync R.row × (P.done port ≡ [])
-                × (P.home port ≡ P.home (L.port lines.entry.now)) }
+                × (P.home port ≡ P.home (L.port lines.now)) }
             ensures { result.stop ≡ None → AreFamilies P.number P.home P.done
                 (L.listed lines.entry.now) (P.home (L.port lines.entry.now))
                 (P.number port ∷ []) result.ports.items }
@@ -162,7 +162,7 @@ fn work<
                                 promise,
                                 move || -> Family<P, A>
                                     requires { IsSync R.row × (P.done child ≡ []) × (0 < levels)
-                                        × (P.home child ≡ P.home (L.port lines.entry.now)) }
+                                        × (P.home child ≡ P.home (L.port lines.now)) }
                                     ensures { result.stop ≡ None → AreFamilies P.number P.home P.done
                                         (L.listed lines.entry.now) (P.home (L.port lines.entry.now))
                                         (P.number child ∷ []) result.ports.items }
@@ -182,30 +182,30 @@ fn work<
 }
 
 // Starts a thread for each process, and joins them all.
-fn run_all<R: Threads + Wait + Sync, P: Port + Send, L: Lines<P> + Sync>(
-    rt: &R,
-    heap: Heap,
-    ports: Vec<P, Heap>,
-    lines: &L,
-) -> Result<Vec<P, Heap>, WorkFault>
+fn run_all<
+    R: Threads + Wait + Sync,
+    P: Port + Send,
+    L: Lines<P> + Sync,
+    A: Allocator + Copy + Send + Sync,
+>(rt: &R, alloc: A, ports: Vec<P, A>, lines: &L) -> Result<Vec<P, A>, WorkFault>
     requires fresh { All (λ p. P.done p ≡ []) ports.items }
     requires home { All (λ p. P.home p ≡ P.home (L.port lines.now)) ports.items }
     ensures { IfOk result (λ v. AreFamilies P.number P.home P.done
         (L.listed lines.now) (P.home (L.port lines.now))
-        (map P.number ports.entry.items) v.items) }
+        (map P.number ports.items) v.items) }
 {
     let family = thread::scope(
         thread::scope_env(),
         rt,
-        |scope| -> Family<P, Heap>
+        |scope| -> Family<P, A>
             requires { IsSync R.row × All (λ p. P.done p ≡ []) ports.items
-                × All (λ p. P.home p ≡ P.home (L.port lines.entry.now)) ports.items }
+                × All (λ p. P.home p ≡ P.home (L.port lines.now)) ports.items }
             ensures { result.stop ≡ None → AreFamilies P.number P.home P.done
                 (L.listed lines.entry.now) (P.home (L.port lines.entry.now))
-                (map P.number ports.entry.items) result.ports.items }
+                (map P.number ports.items) result.ports.items }
         {
             let mut ports = VecDeque::from(ports);
-            let mut threads = VecDeque::new(heap);
+            let mut threads = VecDeque::new(alloc);
             let mut stop = None;
             while let Some(port) = ports.pop_front() {
                 let process = port.pid();
@@ -218,13 +218,13 @@ fn run_all<R: Threads + Wait + Sync, P: Port + Send, L: Lines<P> + Sync>(
                     };
                     let started = scope.spawn_with(
                         promise,
-                        move || -> Family<P, Heap>
+                        move || -> Family<P, A>
                             requires { IsSync R.row × (P.done port ≡ [])
-                                × (P.home port ≡ P.home (L.port lines.entry.now)) }
+                                × (P.home port ≡ P.home (L.port lines.now)) }
                             ensures { result.stop ≡ None → AreFamilies P.number P.home P.done
                                 (L.listed lines.entry.now) (P.home (L.port lines.entry.now))
                                 (P.number port ∷ []) result.ports.items }
-                        { work(rt, heap, port, lines, MAX_PROCESSES) },
+                        { work(rt, alloc, port, lines, MAX_PROCESSES) },
                     );
                     match started {
                         Ok(thread) => threads.push_back_reserved(thread),
@@ -232,7 +232,7 @@ fn run_all<R: Threads + Wait + Sync, P: Port + Send, L: Lines<P> + Sync>(
                     }
                 }
             }
-            collected(rt, Pid(0), Vec::new(heap), lines, stop, threads)
+            collected(rt, Pid(0), Vec::new(alloc), lines, stop, threads)
         },
     );
     match family.stop {
