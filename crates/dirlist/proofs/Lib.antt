@@ -1,4 +1,5 @@
 mod Names
 mod Entries
-mod Counted
+mod Ordered
+mod Laid
 pub mod Laws
