@@ -1,8 +1,5 @@
 mod Names
-mod Halved
-mod Kept
-mod Around
-mod Merged
-mod Stepped
+mod Entries
+mod Ordered
 mod Laid
 pub mod Laws
