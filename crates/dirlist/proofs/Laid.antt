@@ -1,14 +1,16 @@
 -- The names of a directory with notes on top.
-use Rattle.std.proofs.Common.{◌≡◌, ℕ, zero, suc, ◌+◌, ◌<◌, ◌≤◌, ◌==◌, Bool, true, false, not, ◌&&◌, ◌||◌, cond, List, [], ◌∷◌, ◌++◌, length, length-append, Option, Some, None, is_some, IsPermutation, IsSorted, refl, sym, ap, subst, ◌∙◌, arith}
+use Rattle.std.proofs.Common.{◌≡◌, ℕ, zero, suc, ◌+◌, ◌<◌, ◌≤◌, ◌==◌, Bool, true, false, not, ◌&&◌, ◌||◌, cond, List, [], ◌∷◌, ◌++◌, length, length-append, Option, Some, None, is_some, nat_eq, IsPermutation, IsSorted, refl, sym, ap, subst, ◌∙◌, arith}
 use Rattle.std.proofs.lemmas.Bool.Decides.{nat_tests}
-use Rattle.std.proofs.lemmas.List.Folds.{list_any-append}
+use Rattle.std.proofs.lemmas.List.Folds.{list_all-map, list_any-append}
 use Rattle.std.proofs.lemmas.Map.Entries.{length-keys_of, lookup-filter-values, option_filter}
 use Rattle.std.proofs.lemmas.Map.Keys.{IsDistinct-cons, IsDistinct-from_sorted, IsDistinct-head, IsDistinct-tail}
 use Rattle.std.proofs.lemmas.Map.Made.{is_some-lookup, IsDistinct-keys_filter, length-from_same_keys, length-le_from_is_member}
 use Rattle.std.proofs.lemmas.Map.Views.{any-filter_same}
 use Rattle.std.specs.Cmp.{IsEquivalence, eq_by_cmp_equiv}
+use Rattle.std.specs.Cmp.Lexicographic.{pointwise, texts_ties}
 use Rattle.std.specs.List.{AllByRecursion, IsDistinct, filter, list_all, list_any}
-use Rattle.std.specs.Map.{keys_of, lookup}
+use Rattle.std.specs.List.Sorted.{IsStrictlySortedBy}
+use Rattle.std.specs.Map.{keys_of, lookup, values_of}
 use Rattle.std.specs.Option.{is_none}
 use Rattle.std.specs.Ordering.{eq_by_cmp, is_eq}
 use Rattle.std.specs.declared.cmp.Ordering.{Ordering}
@@ -22,6 +24,10 @@ use Rattle.dirlist.proofs.Ordered.{distinct-append, keys_rise, sorted_keys}
 
 abbrev pub same : Name → Name → Bool
 same = eq_by_cmp name_cmp
+
+-- names that differ by their bytes differ by their order
+pub by_order : (ks : List Name) → IsDistinct (pointwise nat_eq) ks → IsDistinct same ks
+by_order ks = subst (λ (e : Name → Name → Bool). IsDistinct e ks) (λ i x y. texts_ties x y i)
 
 laws : IsEquivalence same
 laws = eq_by_cmp_equiv name_total
@@ -79,6 +85,12 @@ all_any r q alike (x ∷ xs) h k =
     later : (a b : Bool) → (a && b) ≡ true → b ≡ true
     later true b e = e
     later false b e = absurd cc
+
+-- the names of a directory, sorted
+pub table_sorted : (es : List (Name × ℕ)) → IsDistinct (pointwise nat_eq) (keys_of es) → (ks : List Name) → IsPermutation (keys_of es) ks → IsSorted name_cmp ks → ks ≡ keys (from_entries {R = name_cmp} es)
+table_sorted es differ ks moved sorted =
+    sorted_keys name_total name_exact (from_entries {R = name_cmp} es) (keys_of es) ks moved sorted (by_order (keys_of es) differ) (λ q.
+    sym (is_some-lookup (same q) es) ∙ ap is_some (sym (get_at name_total name_exact same (λ x y. refl) es q)))
 
 -- the names of which nothing is noted
 abbrev pub unnoted : Notes → List (Name × ℕ) → List Name
@@ -163,3 +175,24 @@ module _ (gs : List (Name × Option ℕ)) (es : List (Name × ℕ)) (gs_differ :
         by : (b : Bool) → list_all (λ x. is_some (get notes x)) (keys_of es) ≡ b → (b && list_all (λ e. is_none e.1) gs) ≡ false
         by true e = let short = fits e in let a = length-keys_of es in let b = length-keys_of gs in absurd (omega arith)
         by false e = refl
+
+-- the same under other names for the notes and for the names before
+module _ (gs : List (Name × Option ℕ)) (es : List (Name × ℕ)) (gs_rise : IsStrictlySortedBy name_cmp (keys_of gs)) (es_differ : IsDistinct (pointwise nat_eq) (keys_of es)) (notes : Notes) (before : FinMap name_cmp ℕ) (notes_are : from_entries gs ≡ notes) (before_is : from_entries es ≡ before) (names : FinMap name_cmp ℕ) (laid : IsLaid notes before names) where
+  differ : IsDistinct same (keys_of gs)
+  differ = IsDistinct-from_sorted name_cmp (keys_of gs) gs_rise
+
+  laid_so : IsLaid (from_entries gs) (from_entries es) names
+  laid_so q = laid q ∙ (λ i. or_before (get (sym notes_are i) q) (get (sym before_is i) q))
+
+  pub sorted_over : (us ks : List Name) → us ≡ filter (λ x. is_none (get notes x)) (keys_of es) ++ given gs → IsPermutation us ks → IsSorted name_cmp ks → ks ≡ keys names
+  sorted_over us ks are moved sorted =
+      laid_sorted gs es differ (by_order (keys_of es) es_differ) names laid_so ks
+      (subst (λ us. IsPermutation us ks) (are ∙ ap (λ (n : Notes). unnoted n es ++ given gs) (sym notes_are)) moved) sorted
+
+  pub empty_over : (list_all (λ x. is_some (get notes x)) (keys_of es) && list_all (λ v. is_none v) (values_of gs)) ≡ (len names == 0)
+  empty_over =
+      (λ i. list_all (λ x. is_some (get (sym notes_are i) x)) (keys_of es) && list_all-map (λ (v : Option ℕ). is_none v) (λ (e : Name × Option ℕ). e.1) gs i)
+      ∙ sym (laid_empty gs es differ (by_order (keys_of es) es_differ) names laid_so)
+
+  pub full_over : length gs < length es → false ≡ (len names == 0)
+  full_over more = sym (laid_full gs es differ (by_order (keys_of es) es_differ) names laid_so more)

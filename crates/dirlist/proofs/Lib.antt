@@ -2,4 +2,6 @@ mod Names
 mod Entries
 mod Ordered
 mod Laid
+mod Noted
+mod Emptied
 pub mod Laws

@@ -130,7 +130,8 @@ impl Dir {
         ensures names { self.new.names ≡ map.insert self.old.names name num }
         ensures promised { self.new.promised + 1 ≡ self.old.promised }
     {
-        let _former = self.numbers.insert(name, num).unwrap();
+        let added: Result<_, _> = self.numbers.insert(name, num);
+        let _former = added.unwrap();
         self.promised -= 1;
     }
 

@@ -25,6 +25,7 @@ pub struct Patch {
 }
 
 impl Model for Patch {
+    ghost use Rattle.std.specs.BTreeMap.{IsOrdered};
     ghost use Rattle.model.specs.FiniteMap as map;
     ghost use Rattle.model.specs.State.{name_cmp};
     ghost use Rattle.dirlist.specs.Patches.{Notes, notes_code};
@@ -34,6 +35,8 @@ impl Model for Patch {
     ghost coded = { notes_code };
 
     ghost view = { λ p. map.from_entries {R = name_cmp} p.given.entries };
+
+    ghost invariant = { λ p. IsOrdered name_cmp p.given };
 }
 
 impl Patch {
@@ -93,7 +96,7 @@ impl Patch {
         ensures { IfOk result (λ list. (names : map.FinMap name_cmp ℕ)
             → IsLaid self.now dir.now.names names → list ≡ map.keys names) }
     {
-        let mut names = Vec::new(heap);
+        let mut names = Vec::with_capacity(heap, dir.numbers.len())?;
         self.push_unnoted(&mut names, &dir.numbers)?;
         push_given(&mut names, &self.given)?;
         names.sort_unstable();
@@ -122,9 +125,12 @@ impl Patch {
         ensures { (names : map.FinMap name_cmp ℕ)
             → IsLaid self.now dir.now.names names → result ≡ (map.len names == 0) }
     {
-        dir.len() <= self.given.len()
+        // With fewer notes than names one name stays.
+        if self.given.len() < dir.numbers.len() {
+            return false;
+        }
+        dir.numbers.keys().all(|name| self.look(name).is_some())
             && self.given.values().all(|given| given.is_none())
-            && dir.numbers.keys().all(|name| self.look(name).is_some())
     }
 
     /// The changes in the byte order of their names, with no memory.
