@@ -82,6 +82,7 @@ all_any r q alike (x ∷ xs) h k =
     both : (a b : Bool) → (a && b) ≡ true → a ≡ true
     both true b e = refl
     both false b e = absurd cc
+
     later : (a b : Bool) → (a && b) ≡ true → b ≡ true
     later true b e = e
     later false b e = absurd cc
@@ -172,6 +173,7 @@ module _ (gs : List (Name × Option ℕ)) (es : List (Name × ℕ)) (gs_differ :
             length-le_from_is_member laws (keys_of es) (keys_of gs) es_differ (λ q has.
             sym (is_some-lookup (same q) gs) ∙ ap is_some (sym (noted q))
             ∙ all_any (λ x. is_some (get notes x)) q (λ x e. ap is_some (alike q x e)) (keys_of es) all has)
+
         by : (b : Bool) → list_all (λ x. is_some (get notes x)) (keys_of es) ≡ b → (b && list_all (λ e. is_none e.1) gs) ≡ false
         by true e = let short = fits e in let a = length-keys_of es in let b = length-keys_of gs in absurd (omega arith)
         by false e = refl
