@@ -22,6 +22,7 @@ use Rattle.dirlist.proofs.Entries.{get_at}
 use Rattle.dirlist.proofs.Names.{name_exact, name_total}
 use Rattle.dirlist.proofs.Ordered.{distinct-append, keys_rise, sorted_keys}
 
+-- whether two names tie
 abbrev pub same : Name → Name → Bool
 same = eq_by_cmp name_cmp
 
@@ -41,14 +42,17 @@ none_by : {A : Type 0} (o : Option A) → is_none o ≡ true → o ≡ None
 none_by None e = refl
 none_by (Some x) e = absurd cc
 
+-- what holds of all holds of those that pass
 all_filter : {A : Type 0} (P : A → Type 0) (p : A → Bool) (xs : List A) → AllByRecursion P xs → AllByRecursion P (filter p xs)
 all_filter P p [] h = tt
 all_filter P p (x ∷ xs) h = elim (p x) as (λ b. AllByRecursion P (cond b (x ∷ filter p xs) (filter p xs))) [ true ↦ (h.0, all_filter P p xs h.1) | false ↦ all_filter P p xs h.1 ]
 
+-- what follows from passing holds of those that pass
 all_filtered : {A : Type 0} (P : A → Type 0) (p : A → Bool) → ((x : A) → p x ≡ true → P x) → (xs : List A) → AllByRecursion P (filter p xs)
 all_filtered P p h [] = tt
 all_filtered P p h (x ∷ xs) = elim (p x) as (λ b. p x ≡ b → AllByRecursion P (cond b (x ∷ filter p xs) (filter p xs))) [ true ↦ λ e. (h x e, all_filtered P p h xs) | false ↦ λ e. all_filtered P p h xs ] refl
 
+-- those that pass differ where all do
 distinct_filter : {K : Type 0} (eq : K → K → Bool) (p : K → Bool) (xs : List K) → IsDistinct eq xs → IsDistinct eq (filter p xs)
 distinct_filter eq p [] d = d
 distinct_filter eq p (x ∷ xs) d =
@@ -61,16 +65,19 @@ distinct_filter eq p (x ∷ xs) d =
 positive : (n : ℕ) → (suc n == 0) ≡ false
 positive n = grind (arith, nat_tests)
 
+-- none passes where each has what does not pass
 none_left : {A : Type 0} (p r : A → Bool) → ((x : A) → r x ≡ not (p x)) → (xs : List A) → (length (filter p xs) == 0) ≡ list_all r xs
 none_left p r other [] = refl
 none_left p r other (x ∷ xs) =
     elim (p x) as (λ b. (length (cond b (x ∷ filter p xs) (filter p xs)) == 0) ≡ (not b && list_all r xs)) [ true ↦ positive (length (filter p xs)) | false ↦ none_left p r other xs ]
     ∙ ap (λ b. b && list_all r xs) (sym (other x))
 
+-- a sum is 0 where both numbers are
 zero_sum : (m n : ℕ) → (m + n == 0) ≡ ((m == 0) && (n == 0))
 zero_sum zero n = ap (λ k. k == 0) (let sum : 0 + n ≡ n = omega arith in sum)
 zero_sum (suc m) n = (let sum : suc m + n ≡ suc (m + n) = omega arith in ap (λ k. k == 0) sum) ∙ positive (m + n) ∙ ap (λ b. b && (n == 0)) (sym (positive m))
 
+-- what holds of all names of a list holds of a name that it has
 all_any : (r : Name → Bool) (q : Name) → ((x : Name) → same q x ≡ true → r x ≡ r q) → (xs : List Name) → list_all r xs ≡ true → list_any (same q) xs ≡ true → r q ≡ true
 all_any r q alike [] h k = absurd cc
 all_any r q alike (x ∷ xs) h k =
@@ -82,6 +89,7 @@ all_any r q alike (x ∷ xs) h k =
     both : (a b : Bool) → (a && b) ≡ true → a ≡ true
     both true b e = refl
     both false b e = absurd cc
+
     later : (a b : Bool) → (a && b) ≡ true → b ≡ true
     later true b e = e
     later false b e = absurd cc
@@ -100,6 +108,7 @@ unnoted notes es = filter (λ x. is_none (get notes x)) (keys_of es)
 abbrev pub given : List (Name × Option ℕ) → List Name
 given gs = keys_of (filter (λ e. is_some e.1) gs)
 
+-- a name is there where nothing is noted of it and it was there, or where a number is noted
 by_cases : (now : Option (Option ℕ)) (before : Option ℕ) → ((is_none now && is_some before) || is_some (option_filter is_some now)) ≡ is_some (or_before now before)
 by_cases None None = refl
 by_cases None (Some n) = refl
@@ -129,6 +138,7 @@ module _ (gs : List (Name × Option ℕ)) (es : List (Name × ℕ)) (gs_differ :
       any-filter_same (same q) (λ x. is_none (get notes x)) (is_none (get notes q)) (λ x e. ap is_none (alike q x e)) (keys_of es)
       ∙ ap (λ b. is_none (get notes q) && b) (sym (is_some-lookup (same q) es) ∙ ap is_some (sym (get_at name_total name_exact same (λ x y. refl) es q)))
 
+  -- no name is among both, or twice among one
   distinct_laid : IsDistinct same (unnoted notes es ++ given gs)
   distinct_laid =
       distinct-append same (unnoted notes es) (given gs)
@@ -139,6 +149,7 @@ module _ (gs : List (Name × Option ℕ)) (es : List (Name × ℕ)) (gs_differ :
 
   -- the notes leave these names
   module _ (names : FinMap name_cmp ℕ) (laid : IsLaid notes before names) where
+    -- these are the names that are there
     laid_at : (q : Name) → list_any (same q) (unnoted notes es ++ given gs) ≡ is_some (get names q)
     laid_at q =
         list_any-append (same q) (unnoted notes es) (given gs)
@@ -146,9 +157,11 @@ module _ (gs : List (Name × Option ℕ)) (es : List (Name × ℕ)) (gs_differ :
         ∙ by_cases (get notes q) (get before q)
         ∙ ap is_some (sym (laid q))
 
+    -- so they are the names, once they are sorted
     pub laid_sorted : (ks : List Name) → IsPermutation (unnoted notes es ++ given gs) ks → IsSorted name_cmp ks → ks ≡ keys names
     laid_sorted ks moved sorted = sorted_keys name_total name_exact names _ ks moved sorted distinct_laid laid_at
 
+    -- there is none where each name before is noted and no number is
     pub laid_empty : (len names == 0) ≡ (list_all (λ x. is_some (get notes x)) (keys_of es) && list_all (λ e. is_none e.1) gs)
     laid_empty =
         let kept : List Name = unnoted notes es in
@@ -172,6 +185,7 @@ module _ (gs : List (Name × Option ℕ)) (es : List (Name × ℕ)) (gs_differ :
             length-le_from_is_member laws (keys_of es) (keys_of gs) es_differ (λ q has.
             sym (is_some-lookup (same q) gs) ∙ ap is_some (sym (noted q))
             ∙ all_any (λ x. is_some (get notes x)) q (λ x e. ap is_some (alike q x e)) (keys_of es) all has)
+
         by : (b : Bool) → list_all (λ x. is_some (get notes x)) (keys_of es) ≡ b → (b && list_all (λ e. is_none e.1) gs) ≡ false
         by true e = let short = fits e in let a = length-keys_of es in let b = length-keys_of gs in absurd (omega arith)
         by false e = refl

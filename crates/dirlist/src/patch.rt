@@ -104,11 +104,7 @@ impl Patch {
     }
 
     // Adds copies of the names of which nothing is noted behind the others.
-    fn push_unnoted(
-        &self,
-        names: &mut Vec<Name, Heap>,
-        numbers: &Numbers,
-    ) -> Result<(), AllocError>
+    fn push_unnoted(&self, names: &mut Vec<Name, Heap>, numbers: &Numbers) -> Result<(), AllocError>
         ensures { OnOk result (names.new.items ≡ names.old.items
             ++ filter (λ x. is_none (map.get self.now x)) (keys numbers.now)) }
     {
