@@ -4,10 +4,10 @@ ghost use Rattle.std.specs.Io.KnownBytes.{append_known};
 ghost use Rattle.device.specs.Device.{CanCount};
 ghost use Rattle.kernel.specs.Shown.{Kept};
 ghost use Rattle.transcript.specs.Line.{transcript};
-ghost use Rattle.runner.specs.Steps.{HasDone, Refused, Stops, Took};
+ghost use Rattle.runner.specs.Steps.{Halted, HasDone, Refused, Stops, Took};
 
 use crate::RunFault;
-use crate::printing::print_from;
+use crate::printing::print;
 use device::Sink;
 use heap::Heap;
 use ids::{Op, Pid, Reply};
@@ -37,8 +37,23 @@ fn do_step(kernel: &mut Kernel, pid: Pid, op: Op) -> Result<(), RunFault>
     }
 }
 
-// Executes steps in a row on a kernel whose history is empty. After each the line of its entry is
-// written.
+// Executes steps in a row on a kernel whose history is empty, up to the first that is refused.
+fn make_steps(kernel: &mut Kernel, steps: Vec<(Pid, Op), Heap>) -> Result<(), RunFault>
+    requires kept { Kept kernel.old }
+    requires fresh { kernel.old.log.entries ≡ [] }
+    ensures done { OnOk result (HasDone
+        kernel.old.log.priorities kernel.old.log.limit steps.entry.items kernel.new) }
+    ensures fault { IfErr result (λ fault. Halted fault
+        kernel.old.log.priorities kernel.old.log.limit steps.entry.items kernel.new) }
+{
+    for (pid, op) in steps {
+        do_step(kernel, pid, op)?;
+    }
+    Ok(())
+}
+
+// Executes steps in a row on a kernel whose history is empty, and then writes the transcript of
+// those that were done. Where a step is refused and the sink fails too, the fault is Write.
 pub(crate) fn do_steps<S: Sink>(
     kernel: &mut Kernel,
     steps: Vec<(Pid, Op), Heap>,
@@ -57,10 +72,7 @@ pub(crate) fn do_steps<S: Sink>(
     ensures write { result ≡ Err RunFault.Write → S.failures sink.old < S.failures sink.new }
     ensures no_failure { result ≢ Err RunFault.Write → S.failures sink.new ≡ S.failures sink.old }
 {
-    for (pid, op) in steps {
-        let before = kernel.history().entries().len();
-        do_step(kernel, pid, op)?;
-        print_from(kernel.history(), before, sink)?;
-    }
-    Ok(())
+    let made = make_steps(kernel, steps);
+    print(kernel.history(), sink)?;
+    made
 }

@@ -1,0 +1,1 @@
+use Rattle.script.proofs.number.digits_in.Goals as goal
