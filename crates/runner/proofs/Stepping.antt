@@ -1,6 +1,6 @@
 -- One more step, and where the steps end.
-use Rattle.std.proofs.Common.{◌≡◌, ℕ, ◌<◌, List, [], ◌∷◌, ◌++◌, Option, Result, Ok, Err, refl, sym, ap, subst, ◌∙◌, take, length, get_or, IfErr}
-use Rattle.std.specs.Prelude.{OnOk, OnErr, ◌≢◌}
+use Rattle.std.proofs.Common.{◌≡◌, ℕ, ◌<◌, List, [], ◌∷◌, ◌++◌, Option, Result, Ok, Err, refl, sym, ap, subst, ◌∙◌, take, length, get_or, IfErr, le_refl}
+use Rattle.std.specs.Prelude.{OnOk, ◌≢◌}
 use Rattle.std.specs.Io.KnownBytes.{append_known}
 use Rattle.std.proofs.lemmas.List.{map-append, take_all}
 use Rattle.std.proofs.lemmas.Option.{slice_get_read}
@@ -60,7 +60,7 @@ halts-as q r priorities limit steps done kernel after pid op e same refused h so
 reached : (r : Result (Unit {0}) RunFault) (priorities : List ℕ) (limit : ℕ) (steps : List (ℕ × Op)) (kernel : Shown)
     → OnOk r (HasDone priorities limit steps kernel) → IfErr r (λ fault. Halted fault priorities limit steps kernel)
     → (count : ℕ) × HasDone priorities limit (take count steps) kernel
-reached (Ok u) priorities limit steps kernel done halted = (length steps, HasDone-as done (sym (take_all (length steps) steps (le-refl (length steps)))))
+reached (Ok u) priorities limit steps kernel done halted = (length steps, HasDone-as done (sym (take_all (length steps) steps (le_refl (length steps)))))
 reached (Err fault) priorities limit steps kernel done halted = (halted.count, halted.done)
 
 -- where of their transcript a beginning is written

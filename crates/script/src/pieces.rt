@@ -1,7 +1,7 @@
 // A text, piece by piece: lines, words, or what stands between commas.
 ghost use Rattle.std.specs.Prelude.{◌≡◌, ◌==◌, ◌<◌, ◌++◌, ◌+◌, [], length, eqb};
 ghost use Rattle.std.specs.Prelude.{IfSome, IfNone, option_map, option_to_list, is_none};
-ghost use Rattle.std.specs.List.{slice_split};
+ghost use Rattle.std.specs.List.{count_by, slice_split};
 ghost use Rattle.script.specs.Pieces.{behind, one_of, three_of, two_of, up_to};
 
 use std::marker::Model;
@@ -18,6 +18,19 @@ fn cut_at(text: &[u8], byte: u8) -> (&[u8], Option<&[u8]>)
         }
     }
     (text, None)
+}
+
+// How many bytes of this kind a text has.
+fn count_of(text: &[u8], byte: u8) -> usize
+    ensures { result ≡ count_by (λ b. eqb b byte) text.now }
+{
+    let mut count = 0;
+    for b in text {
+        if *b == byte {
+            count += 1;
+        }
+    }
+    count
 }
 
 // The pieces of a text that are still to come: what stands before, between and behind the bytes of
@@ -62,6 +75,16 @@ impl<'a> Pieces<'a> {
         ensures { result ≡ (length self.now == 0) }
     {
         self.rest.is_none()
+    }
+
+    // How many pieces are still to come.
+    pub(crate) fn len(&self) -> usize
+        ensures { result ≡ length self.now }
+    {
+        match self.rest {
+            Some(text) => count_of(text, self.byte) + 1,
+            None => 0,
+        }
     }
 
     // The piece, where there is exactly one.

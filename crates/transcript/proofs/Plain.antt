@@ -1,9 +1,11 @@
 -- Bytes in a row that stand for themselves.
-use Rattle.std.proofs.Common.{◌≡◌, ℕ, ◌+◌, ◌-◌, ◌<◌, ◌≤◌, List, [], ◌∷◌, ◌++◌, Bool, true, false, cond, refl, sym, ap, ◌∙◌, append_assoc, append-nil, take, drop, length, get_or, arith, length-take}
-use Rattle.std.specs.Prelude.{flat_map, ◌/◌, ◌%◌}
+use Rattle.std.proofs.Common.{◌≡◌, ℕ, ◌+◌, ◌-◌, ◌<◌, ◌≤◌, List, [], ◌∷◌, ◌++◌, Bool, true, false, cond, refl, sym, ap, ◌∙◌, append_assoc, append-nil, take, drop, length, get_or, arith, length-take, subst}
+use Rattle.std.specs.Prelude.{Option, flat_map, ◌/◌, ◌%◌}
 use Rattle.std.proofs.lemmas.List.{drop-append-le, drop-take, take_all, take_more}
 use Rattle.std.proofs.lemmas.List.Concat.{flat_map-append}
+use Rattle.transcript.specs.Printer.{CanPrint, Prints}
 use Rattle.transcript.specs.Text.{byte_text, hex_digit, is_plain}
+use Rattle.transcript.specs.declared.printer.Printer.{Printer}
 
 plain_text : (byte : ℕ) → is_plain byte ≡ true → byte_text byte ≡ byte ∷ []
 plain_text byte is = ap (λ (t : Bool). cond t (byte ∷ []) (92 ∷ 120 ∷ hex_digit (byte / 16) ∷ hex_digit (byte % 16) ∷ [])) is
@@ -49,3 +51,13 @@ run_end xs start i end run =
 -- a part of a list, in either order
 pub part_is : (xs : List ℕ) (start i : ℕ) → start ≤ i → take (i - start) (drop start xs) ≡ drop start (take i xs)
 part_is xs start i from = sym (drop-take start (i - start) xs) ∙ ap (λ (k : ℕ). drop start (take k xs)) (let same : start + (i - start) ≡ i = omega arith in same)
+
+-- what stands before `start` is printed, and what stands behind it stands for itself so far
+abbrev pub IsPut : {S : Type 0} → (S → Option (List ℕ)) → (S → ℕ) → (old new : Printer S) → List ℕ → (start i : ℕ) → Type 0
+IsPut written failures old new xs start i = CanPrint failures new × Prints written failures old new (flat_map byte_text (take start xs)) × (start ≤ i) × IsRun xs start i
+
+pub IsPut-as : {S : Type 0} {written : S → Option (List ℕ)} {failures : S → ℕ} {old new out : Printer S} (xs : List ℕ) (start from i : ℕ) → out ≡ new → from ≡ start
+    → IsPut written failures old new xs start i → IsPut written failures old out xs from i
+IsPut-as {S} {written} {failures} {old} {new} {out} xs start from i same at put =
+    let there : IsPut written failures old out xs start i = subst (λ (p : Printer S). IsPut written failures old p xs start i) (sym same) put in
+    subst (λ (k : ℕ). IsPut written failures old out xs k i) (sym at) there

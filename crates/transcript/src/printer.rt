@@ -71,21 +71,29 @@ impl<'a, S: Sink> Printer<'a, S> {
         }
     }
 
-    // Prints bytes as they are. Where they do not fit what is pending is written, and they are too
-    // if there are more of them than are ever gathered.
+    // Prints bytes for which there is no room: what is pending is written first, and they are written
+    // too if there are more of them than are ever gathered.
+    fn put_over(&mut self, text: &[u8])
+        requires { CanPrint S.failures self.old }
+        ensures { Prints S.written S.failures self.old self.new text.now }
+    {
+        self.flush();
+        if self.pending.fits(text) {
+            self.pending.append(text);
+        } else {
+            self.write(text);
+        }
+    }
+
+    // Prints bytes as they are.
     pub(crate) fn put(&mut self, text: &[u8])
         requires { CanPrint S.failures self.old }
         ensures { Prints S.written S.failures self.old self.new text.now }
     {
         if self.pending.fits(text) {
             self.pending.append(text);
-            return;
-        }
-        self.flush();
-        if self.pending.fits(text) {
-            self.pending.append(text);
         } else {
-            self.write(text);
+            self.put_over(text);
         }
     }
 

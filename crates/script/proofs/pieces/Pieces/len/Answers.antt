@@ -1,0 +1,1 @@
+use Rattle.script.proofs.pieces.Pieces.len.Goals as goal

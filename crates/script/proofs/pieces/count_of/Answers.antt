@@ -1,0 +1,1 @@
+use Rattle.script.proofs.pieces.count_of.Goals as goal
