@@ -1,7 +1,7 @@
 -- Bytes in a row that stand for themselves.
 use Rattle.std.proofs.Common.{◌≡◌, ℕ, ◌+◌, ◌-◌, ◌<◌, ◌≤◌, List, [], ◌∷◌, ◌++◌, Bool, true, false, cond, refl, sym, ap, ◌∙◌, append_assoc, append-nil, take, drop, length, get_or, arith, length-take, subst}
 use Rattle.std.specs.Prelude.{Option, flat_map, ◌/◌, ◌%◌}
-use Rattle.std.proofs.lemmas.List.{drop-append-le, drop-take, take_all, take_more}
+use Rattle.std.proofs.lemmas.List.{drop-append-le, drop-take, length-drop, take_all, take_more}
 use Rattle.std.proofs.lemmas.List.Concat.{flat_map-append}
 use Rattle.transcript.specs.Printer.{CanPrint, Prints}
 use Rattle.transcript.specs.Text.{byte_text, hex_digit, is_plain}
@@ -51,6 +51,9 @@ run_end xs start i end run =
 -- a part of a list, in either order
 pub part_is : (xs : List ℕ) (start i : ℕ) → start ≤ i → take (i - start) (drop start xs) ≡ drop start (take i xs)
 part_is xs start i from = sym (drop-take start (i - start) xs) ∙ ap (λ (k : ℕ). drop start (take k xs)) (let same : start + (i - start) ≡ i = omega arith in same)
+
+pub rest_is : (xs : List ℕ) (start : ℕ) → take (length xs - start) (drop start xs) ≡ drop start xs
+rest_is xs start = take_all (length xs - start) (drop start xs) (omega (arith, length-drop start xs))
 
 -- what stands before `start` is printed, and what stands behind it stands for itself so far
 abbrev pub IsPut : {S : Type 0} → (S → Option (List ℕ)) → (S → ℕ) → (old new : Printer S) → List ℕ → (start i : ℕ) → Type 0

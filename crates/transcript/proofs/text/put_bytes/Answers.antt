@@ -1,6 +1,6 @@
 use Rattle.std.proofs.Common.{◌≡◌, ◌+◌, ◌≤◌, get_or, true, rules, arith, le_refl}
 use Rattle.transcript.specs.Text.{is_plain}
-use Rattle.transcript.proofs.Plain.{IsPut-as, part_is, run_begin, run_cut, run_end, run_more}
+use Rattle.transcript.proofs.Plain.{IsPut-as, part_is, rest_is, run_begin, run_cut, run_end, run_more}
 use Rattle.transcript.proofs.Printing.{CanPrint-after, Prints-as, Prints-then}
 use Rattle.transcript.proofs.text.put_bytes.Goals as goal
 use Rattle.transcript.proofs.text.put_bytes.Goals.{then-not-is_plain, else-not-is_plain}
@@ -26,4 +26,4 @@ pub returns : goal.returns
 returns g c =
     let xs = c.args.bytes.now in
     let start = c.loop-index.start in
-    Prints-as (Prints-then _ _ c.loop-index.invariant.1 c.put-2.ensures) (run_end xs start c.loop-index.index c.loop-index-test.false c.loop-index.invariant.3)
+    Prints-as (Prints-then _ _ c.loop-index.invariant.1 (Prints-as c.put-2.ensures (rest_is xs start))) (run_end xs start c.loop-index.index c.loop-index-test.false c.loop-index.invariant.3)
