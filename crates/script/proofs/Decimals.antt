@@ -1,5 +1,6 @@
 -- Which number a word is the decimal of.
-use Rattle.std.proofs.Common.{◌≡◌, ℕ, ◌+◌, ◌-◌, ◌*◌, ◌<◌, ◌≤◌, ◌^◌, ◌&&◌, List, Some, None, Bool, true, false, cond, zero, suc, length, get_or, take, refl, ap, ◌∙◌, sym, arith, Decides, decimal, nat_le, subst}
+use Rattle.std.proofs.Common.{◌≡◌, ℕ, ◌+◌, ◌-◌, ◌*◌, ◌<◌, ◌≤◌, ◌^◌, ◌&&◌, List, Option, Some, None, Bool, true, false, cond, zero, suc, length, get_or, take, refl, ap, ◌∙◌, sym, arith, Decides, decimal, nat_le, subst}
+use Rattle.std.specs.Prelude.{IfSome, IfNone}
 use Rattle.std.specs.Str.{bytes_eq}
 use Rattle.std.specs.Char.{digit_value}
 use Rattle.std.specs.Str.Parse.{AllDigits, digits_value}
@@ -7,7 +8,6 @@ use Rattle.std.proofs.lemmas.Bool.Decides.{Decides-and}
 use Rattle.std.proofs.lemmas.Bool.{leb-true, le-leb}
 use Rattle.std.proofs.lemmas.Fmt.{decimal_is_IsNumeral, decimal_digit, decimal_nonempty, first_decimal, decimal-digits_value}
 use Rattle.std.proofs.lemmas.Int.Digits.{digits_more, digits_value_more}
-use Rattle.std.proofs.lemmas.List.{get_or_default}
 use Rattle.std.proofs.lemmas.Slice.Eq.{bytes_eq-Decides}
 use Rattle.std.proofs.lemmas.Str.{digit_value_digit}
 use Rattle.std.proofs.lemmas.Str.Parse.{digit_at, digits_value-take-le, numerals_by_value, tells_digits}
@@ -64,25 +64,29 @@ begins_with_zero (suc n) word small spelled long lead =
 pub decimal_zero_first : (most : ℕ) (word : List ℕ) → most < 2 ^ 64 → 1 < length word → get_or word 0 0 ≡ 48 → decimal_in most word ≡ None
 decimal_zero_first most word fits long lead = decimal_none most word (λ n below spelled. begins_with_zero n word (omega arith) spelled long lead)
 
+-- what is read of digits is what the word is the decimal of
+pub decimal_by : (r : Option ℕ) (most : ℕ) (word : List ℕ) → most < 2 ^ 64 → 0 < length word → (get_or word 0 0 ≡ 48 → length word ≡ 1)
+    → IfSome r (λ n. AllDigits 10 word × (n ≡ digits_value 10 word)) → IfSome r (λ n. n ≤ most) → IfNone r (AllDigits 10 word → most < digits_value 10 word)
+    → r ≡ decimal_in most word
+decimal_by (Some n) most word fits some lead read small none = sym (decimal_read n most word fits small read.0 read.1 some lead)
+decimal_by None most word fits some lead read small none = sym (decimal_unread most word fits none)
+
 -- one more digit
-pub one_digit_more : (word : List ℕ) (i n byte : ℕ) → i < length word → byte ≡ get_or word i byte → 48 ≤ byte → byte ≤ 57 → AllDigits 10 (take i word) → n ≡ digits_value 10 (take i word)
-    → AllDigits 10 (take (i + 1) word) × (n * 10 + (byte - 48) ≡ digits_value 10 (take (i + 1) word))
-one_digit_more word i n byte below is low high digits value =
-    let at : byte ≡ get_or word i 0 = is ∙ get_or_default word i byte 0 below in
+pub one_digit_more : (word : List ℕ) (i n : ℕ) → i < length word → 48 ≤ get_or word i 0 → get_or word i 0 ≤ 57 → AllDigits 10 (take i word) → n ≡ digits_value 10 (take i word)
+    → AllDigits 10 (take (i + 1) word) × (n * 10 + (get_or word i 0 - 48) ≡ digits_value 10 (take (i + 1) word))
+one_digit_more word i n below low high digits value =
+    let byte : ℕ = get_or word i 0 in
     let digit : digit_value byte + 48 ≡ byte = digit_value_digit byte (low, high) in
     let small : digit_value byte < 10 = omega arith in
-    let more : digits_value 10 (take (i + 1) word) ≡ digits_value 10 (take i word) * 10 + digit_value (get_or word i 0) = digits_value_more 10 word i below in
-    let same : digit_value byte ≡ digit_value (get_or word i 0) = ap digit_value at in (
-      digits_more 10 word i below digits (subst (λ (b : ℕ). digit_value b < 10) at small),
-      omega arith,
-    )
+    let more : digits_value 10 (take (i + 1) word) ≡ digits_value 10 (take i word) * 10 + digit_value byte = digits_value_more 10 word i below in
+    let grown : n * 10 + (byte - 48) ≡ digits_value 10 (take (i + 1) word) = omega arith in
+    (digits_more 10 word i below digits small, grown)
 
 -- a byte that is no digit
-pub no_digit : (word : List ℕ) (i byte : ℕ) → i < length word → byte ≡ get_or word i byte → (48 ≤ byte → byte ≤ 57 → ⊥) → AllDigits 10 word → ⊥
-no_digit word i byte below is other digits =
-    let at : byte ≡ get_or word i 0 = is ∙ get_or_default word i byte 0 below in
+pub no_digit : (word : List ℕ) (i : ℕ) → i < length word → (48 ≤ get_or word i 0 → get_or word i 0 ≤ 57 → ⊥) → AllDigits 10 word → ⊥
+no_digit word i below other digits =
     let range = digit_at word i digits below in
-    other (omega (arith, range.0)) (omega (arith, range.1))
+    other range.0 range.1
 
 -- a value that is too large stays so
 pub grows : (most n i : ℕ) (word : List ℕ) → most < n → n ≡ digits_value 10 (take (i + 1) word) → most < digits_value 10 word

@@ -1,7 +1,7 @@
 // A text, piece by piece: lines, words, or what stands between commas.
 ghost use Rattle.std.specs.Prelude.{◌≡◌, ◌==◌, ◌<◌, ◌++◌, ◌+◌, [], length, eqb};
 ghost use Rattle.std.specs.Prelude.{IfSome, IfNone, option_map, option_to_list, is_none};
-ghost use Rattle.std.specs.List.{count_by, slice_split};
+ghost use Rattle.std.specs.List.{slice_split};
 ghost use Rattle.script.specs.Pieces.{behind, one_of, three_of, two_of, up_to};
 
 use std::marker::Model;
@@ -20,11 +20,11 @@ fn cut_at(text: &[u8], byte: u8) -> (&[u8], Option<&[u8]>)
     (text, None)
 }
 
-// How many bytes of this kind a text has.
+// How many pieces a text has.
 fn count_of(text: &[u8], byte: u8) -> usize
-    ensures { result ≡ count_by (λ b. eqb b byte) text.now }
+    ensures { result ≡ length (slice_split (λ b. eqb b byte) text.now) }
 {
-    let mut count = 0;
+    let mut count = 1;
     for b in text {
         if *b == byte {
             count += 1;
@@ -82,7 +82,7 @@ impl<'a> Pieces<'a> {
         ensures { result ≡ length self.now }
     {
         match self.rest {
-            Some(text) => count_of(text, self.byte) + 1,
+            Some(text) => count_of(text, self.byte),
             None => 0,
         }
     }

@@ -1,5 +1,5 @@
 -- Bytes in a row that stand for themselves.
-use Rattle.std.proofs.Common.{◌≡◌, ℕ, ◌+◌, ◌-◌, ◌<◌, ◌≤◌, List, [], ◌∷◌, ◌++◌, Bool, true, false, cond, refl, sym, ap, ◌∙◌, append_assoc, append-nil, take, drop, length, get_or, arith, length-take, subst}
+use Rattle.std.proofs.Common.{◌≡◌, ℕ, ◌+◌, ◌-◌, ◌<◌, ◌≤◌, List, [], ◌∷◌, ◌++◌, Bool, true, cond, sym, ap, ◌∙◌, append_assoc, append-nil, take, drop, length, get_or, arith, length-take, subst}
 use Rattle.std.specs.Prelude.{Option, flat_map, ◌/◌, ◌%◌}
 use Rattle.std.proofs.lemmas.List.{drop-append-le, drop-take, length-drop, take_all, take_more}
 use Rattle.std.proofs.lemmas.List.Concat.{flat_map-append}

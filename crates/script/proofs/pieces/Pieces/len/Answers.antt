@@ -1,1 +1,0 @@
-use Rattle.script.proofs.pieces.Pieces.len.Goals as goal
