@@ -1,4 +1,4 @@
-use Rattle.std.proofs.Common.{◌≡◌, ◌<◌, ◌^◌, length, get_or, rules, arith, sym}
+use Rattle.std.proofs.Common.{◌≡◌, ◌<◌, length, get_or, rules, arith, sym}
 use Rattle.script.proofs.Decimals.{decimal_by, decimal_empty, decimal_zero_first}
 use Rattle.script.proofs.number.decimal_in.Goals as goal
 use Rattle.script.proofs.number.decimal_in.Goals.{else-word-gt1-via-then-word-gt1+else-word-eq48, else-word-gt1-via-else-word-gt1}

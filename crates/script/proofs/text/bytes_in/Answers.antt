@@ -1,4 +1,4 @@
-use Rattle.std.proofs.Common.{◌≡◌, ◌∙◌, [], Some, ℕ, List, ap, sym, true, rules}
+use Rattle.std.proofs.Common.{◌≡◌, ◌∙◌, [], Some, ap, sym, true, rules}
 use Rattle.std.specs.List.{list_all}
 use Rattle.script.specs.Texts.{is_plain}
 use Rattle.script.proofs.Escapes.{all_plain}
