@@ -10,9 +10,12 @@ use Rattle.ids.specs.declared.call.Op.{Op}
 use Rattle.ids.specs.declared.entry.Entry.{Entry}
 use Rattle.kernel.specs.Shown.{Shown, Kept}
 use Rattle.transcript.specs.Line.{transcript}
-use Rattle.runner.specs.Steps.{operations, Halted, HasDone, Took, Refused, StopsBefore, StopsWriting, Stops}
+use Rattle.runner.specs.Steps.{operations, Halted, HasDone, Took, Refused, StopsWriting, Stops}
+use Rattle.runner.specs.Faults.{fault_of_refusal}
+use Rattle.runner.specs.declared.refusal.Refusal.{Refusal}
+use Rattle.runner.specs.declared.refusal.Refusal.TheVariants as refusal
 use Rattle.runner.specs.declared.fault.RunFault.{RunFault}
-use Rattle.runner.specs.declared.fault.RunFault.TheVariants.{Script, Schedule, Read, Write, HistoryFull, NoMemory, Check}
+use Rattle.runner.specs.declared.fault.RunFault.TheVariants.{Write}
 
 -- a kernel that has taken one more step
 pub HasDone-took : {priorities : List ℕ} {limit : ℕ} {steps : List (ℕ × Op)} {old new : Shown} {pid : ℕ} {op : Op}
@@ -33,12 +36,12 @@ HasDone-as : {priorities : List ℕ} {limit : ℕ} {steps others : List (ℕ × 
 HasDone-as h e = record { kept = h.kept; same_priorities = h.same_priorities; same_limit = h.same_limit; done = h.done ∙ e }
 
 -- where the next step is refused
-halts : (r : Result (Unit {0}) RunFault) (priorities : List ℕ) (limit : ℕ) (steps done : List (ℕ × Op)) (kernel : Shown) (pid : ℕ) (op : Op)
+halts : (r : Result (Unit {0}) Refusal) (priorities : List ℕ) (limit : ℕ) (steps done : List (ℕ × Op)) (kernel : Shown) (pid : ℕ) (op : Op)
     → IfErr r (Refused kernel.log pid op) → HasDone priorities limit done kernel
     → done ≡ take (length done) steps → (length done < length steps) × ((pid, op) ≡ get_or steps (length done) (pid, op))
-    → IfErr r (λ fault. Halted fault priorities limit steps kernel)
+    → IfErr r (λ refusal. Halted refusal priorities limit steps kernel)
 halts (Ok u) priorities limit steps done kernel pid op refused h so_far next = tt
-halts (Err fault) priorities limit steps done kernel pid op refused h so_far next = record {
+halts (Err why) priorities limit steps done kernel pid op refused h so_far next = record {
   count = length done;
   done = HasDone-as h so_far;
   pid = pid;
@@ -47,25 +50,25 @@ halts (Err fault) priorities limit steps done kernel pid op refused h so_far nex
   refused = refused;
 }
 
-pub halts-as : (q r : Result (Unit {0}) RunFault) (priorities : List ℕ) (limit : ℕ) (steps done : List (ℕ × Op)) (kernel after : Shown) (pid : ℕ) (op : Op)
+pub halts-as : (q r : Result (Unit {0}) Refusal) (priorities : List ℕ) (limit : ℕ) (steps done : List (ℕ × Op)) (kernel after : Shown) (pid : ℕ) (op : Op)
     → q ≡ r → after ≡ kernel → IfErr r (Refused kernel.log pid op) → HasDone priorities limit done kernel
     → done ≡ take (length done) steps → (length done < length steps) × ((pid, op) ≡ get_or steps (length done) (pid, op))
-    → IfErr q (λ fault. Halted fault priorities limit steps after)
+    → IfErr q (λ refusal. Halted refusal priorities limit steps after)
 halts-as q r priorities limit steps done kernel after pid op e same refused h so_far next =
-    let there : IfErr r (λ fault. Halted fault priorities limit steps kernel) = halts r priorities limit steps done kernel pid op refused h so_far next in
-    let here : IfErr q (λ fault. Halted fault priorities limit steps kernel) = subst (λ (z : Result (Unit {0}) RunFault). IfErr z (λ fault. Halted fault priorities limit steps kernel)) (sym e) there in
-    subst (λ (k : Shown). IfErr q (λ fault. Halted fault priorities limit steps k)) (sym same) here
+    let there : IfErr r (λ refusal. Halted refusal priorities limit steps kernel) = halts r priorities limit steps done kernel pid op refused h so_far next in
+    let here : IfErr q (λ refusal. Halted refusal priorities limit steps kernel) = subst (λ (z : Result (Unit {0}) Refusal). IfErr z (λ refusal. Halted refusal priorities limit steps kernel)) (sym e) there in
+    subst (λ (k : Shown). IfErr q (λ refusal. Halted refusal priorities limit steps k)) (sym same) here
 
 -- steps that were all done, or done up to one that was refused
-reached : (r : Result (Unit {0}) RunFault) (priorities : List ℕ) (limit : ℕ) (steps : List (ℕ × Op)) (kernel : Shown)
-    → OnOk r (HasDone priorities limit steps kernel) → IfErr r (λ fault. Halted fault priorities limit steps kernel)
+reached : (r : Result (Unit {0}) Refusal) (priorities : List ℕ) (limit : ℕ) (steps : List (ℕ × Op)) (kernel : Shown)
+    → OnOk r (HasDone priorities limit steps kernel) → IfErr r (λ refusal. Halted refusal priorities limit steps kernel)
     → (count : ℕ) × HasDone priorities limit (take count steps) kernel
 reached (Ok u) priorities limit steps kernel done halted = (length steps, HasDone-as done (sym (take_all (length steps) steps (le_refl (length steps)))))
-reached (Err fault) priorities limit steps kernel done halted = (halted.count, halted.done)
+reached (Err why) priorities limit steps kernel done halted = (halted.count, halted.done)
 
 -- where of their transcript a beginning is written
-pub stops-writing : (q r : Result (Unit {0}) RunFault) (priorities : List ℕ) (limit : ℕ) (steps : List (ℕ × Op)) (old new : Option (List ℕ)) (kernel : Shown)
-    → q ≡ Err Write → OnOk r (HasDone priorities limit steps kernel) → IfErr r (λ fault. Halted fault priorities limit steps kernel)
+pub stops-writing : (q : Result (Unit {0}) RunFault) (r : Result (Unit {0}) Refusal) (priorities : List ℕ) (limit : ℕ) (steps : List (ℕ × Op)) (old new : Option (List ℕ)) (kernel : Shown)
+    → q ≡ Err Write → OnOk r (HasDone priorities limit steps kernel) → IfErr r (λ refusal. Halted refusal priorities limit steps kernel)
     → IsPart old new (transcript kernel.log.entries) → IfErr q (λ fault. Stops fault priorities limit steps old new)
 stops-writing q r priorities limit steps old new kernel e done halted part =
     let far = reached r priorities limit steps kernel done halted in
@@ -73,30 +76,22 @@ stops-writing q r priorities limit steps old new kernel e done halted part =
     subst (λ (z : Result (Unit {0}) RunFault). IfErr z (λ fault. Stops fault priorities limit steps old new)) (sym e) there
 
 -- where all of it is written
-stops : (fault : RunFault) (priorities : List ℕ) (limit : ℕ) (steps : List (ℕ × Op)) (old new : Option (List ℕ)) (kernel : Shown)
-    → Halted fault priorities limit steps kernel → new ≡ append_known old (transcript kernel.log.entries) → Stops fault priorities limit steps old new
-stops Write priorities limit steps old new kernel h written = absurd h.refused
-stops HistoryFull priorities limit steps old new kernel h written = record { kernel = kernel; halted = h; written = written }
-stops NoMemory priorities limit steps old new kernel h written = record { kernel = kernel; halted = h; written = written }
-stops Read priorities limit steps old new kernel h written = absurd h.refused
-stops (Script f) priorities limit steps old new kernel h written = absurd h.refused
-stops (Schedule f) priorities limit steps old new kernel h written = absurd h.refused
-stops (Check place) priorities limit steps old new kernel h written = absurd h.refused
+stops : (why : Refusal) (priorities : List ℕ) (limit : ℕ) (steps : List (ℕ × Op)) (old new : Option (List ℕ)) (kernel : Shown)
+    → Halted why priorities limit steps kernel → new ≡ append_known old (transcript kernel.log.entries) → Stops (fault_of_refusal why) priorities limit steps old new
+stops refusal.HistoryFull priorities limit steps old new kernel h written = record { kernel = kernel; halted = h; written = written }
+stops refusal.NoMemory priorities limit steps old new kernel h written = record { kernel = kernel; halted = h; written = written }
 
-pub stops-before : (r : Result (Unit {0}) RunFault) (priorities : List ℕ) (limit : ℕ) (steps : List (ℕ × Op)) (old new : Option (List ℕ)) (kernel : Shown)
-    → IfErr r (λ fault. Halted fault priorities limit steps kernel) → new ≡ append_known old (transcript kernel.log.entries)
-    → IfErr r (λ fault. Stops fault priorities limit steps old new)
-stops-before (Ok u) priorities limit steps old new kernel halted written = tt
-stops-before (Err fault) priorities limit steps old new kernel halted written = stops fault priorities limit steps old new kernel halted written
+pub stops-before : (fault : RunFault) (r : Result (Unit {0}) Refusal) (why : Refusal) (priorities : List ℕ) (limit : ℕ) (steps : List (ℕ × Op)) (old new : Option (List ℕ)) (kernel : Shown)
+    → fault ≡ fault_of_refusal why → r ≡ Err why → IfErr r (λ refusal. Halted refusal priorities limit steps kernel) → new ≡ append_known old (transcript kernel.log.entries)
+    → Stops fault priorities limit steps old new
+stops-before fault r why priorities limit steps old new kernel is e halted written =
+    let h : Halted why priorities limit steps kernel = subst (λ (z : Result (Unit {0}) Refusal). IfErr z (λ refusal. Halted refusal priorities limit steps kernel)) e halted in
+    subst (λ (f : RunFault). Stops f priorities limit steps old new) (sym is) (stops why priorities limit steps old new kernel h written)
 
 -- what refuses a step is no write
-pub halts-no_write : (r : Result (Unit {0}) RunFault) (priorities : List ℕ) (limit : ℕ) (steps : List (ℕ × Op)) (kernel : Shown)
-    → IfErr r (λ fault. Halted fault priorities limit steps kernel) → r ≢ Err Write
-halts-no_write (Ok u) priorities limit steps kernel halted e = cc e
-halts-no_write (Err Write) priorities limit steps kernel halted e = halted.refused
-halts-no_write (Err HistoryFull) priorities limit steps kernel halted e = cc e
-halts-no_write (Err NoMemory) priorities limit steps kernel halted e = cc e
-halts-no_write (Err Read) priorities limit steps kernel halted e = cc e
-halts-no_write (Err (Script f)) priorities limit steps kernel halted e = cc e
-halts-no_write (Err (Schedule f)) priorities limit steps kernel halted e = cc e
-halts-no_write (Err (Check place)) priorities limit steps kernel halted e = cc e
+no_write : (why : Refusal) → fault_of_refusal why ≢ Write
+no_write refusal.HistoryFull e = cc e
+no_write refusal.NoMemory e = cc e
+
+pub refused-no_write : (fault : RunFault) (why : Refusal) → fault ≡ fault_of_refusal why → fault ≢ Write
+refused-no_write fault why is e = no_write why (sym is ∙ e)

@@ -8,27 +8,28 @@ ghost use Rattle.runner.specs.Steps.{Halted, HasDone, Refused, Stops, Took};
 
 use crate::RunFault;
 use crate::printing::print;
+use crate::refusal::Refusal;
 use device::Sink;
 use heap::Heap;
 use ids::{Op, Pid, Reply};
 use kernel::Kernel;
 
-// Executes one step. A fault, HistoryFull or NoMemory, means that nothing has changed.
-fn do_step(kernel: &mut Kernel, pid: Pid, op: Op) -> Result<(), RunFault>
+// Executes one step. Where it is refused nothing has changed.
+fn do_step(kernel: &mut Kernel, pid: Pid, op: Op) -> Result<(), Refusal>
     ensures kept { Kept kernel.new }
     ensures ok { OnOk result (Took kernel.old.log kernel.new.log pid op) }
     ensures unchanged { OnErr result (kernel.new ≡ kernel.old) }
-    ensures fault { IfErr result (Refused kernel.old.log pid op) }
+    ensures refused { IfErr result (Refused kernel.old.log pid op) }
 {
     let reply = kernel.step(pid, op);
     match &reply {
         Reply::HistoryFull => {
             drop(reply);
-            Err(RunFault::HistoryFull)
+            Err(Refusal::HistoryFull)
         }
         Reply::NoMemory => {
             drop(reply);
-            Err(RunFault::NoMemory)
+            Err(Refusal::NoMemory)
         }
         _ => {
             drop(reply);
@@ -38,12 +39,12 @@ fn do_step(kernel: &mut Kernel, pid: Pid, op: Op) -> Result<(), RunFault>
 }
 
 // Executes steps in a row on a kernel whose history is empty, up to the first that is refused.
-fn make_steps(kernel: &mut Kernel, steps: Vec<(Pid, Op), Heap>) -> Result<(), RunFault>
+fn make_steps(kernel: &mut Kernel, steps: Vec<(Pid, Op), Heap>) -> Result<(), Refusal>
     requires kept { Kept kernel.old }
     requires fresh { kernel.old.log.entries ≡ [] }
     ensures done { OnOk result (HasDone
         kernel.old.log.priorities kernel.old.log.limit steps.entry.items kernel.new) }
-    ensures fault { IfErr result (λ fault. Halted fault
+    ensures refused { IfErr result (λ refusal. Halted refusal
         kernel.old.log.priorities kernel.old.log.limit steps.entry.items kernel.new) }
 {
     for (pid, op) in steps {
@@ -74,5 +75,8 @@ pub(crate) fn do_steps<S: Sink>(
 {
     let made = make_steps(kernel, steps);
     print(kernel.history(), sink)?;
-    made
+    match made {
+        Ok(()) => Ok(()),
+        Err(refusal) => Err(RunFault::of_refusal(refusal)),
+    }
 }
