@@ -62,11 +62,7 @@ impl Queue {
 
 // Puts empty queues into an empty vector: for each process one with room for its lines, and the one
 // for all other numbers.
-fn put_queues(
-    heap: Heap,
-    counts: &[usize],
-    queues: &mut Vec<Queue, Heap>,
-) -> Result<(), AllocError>
+fn put_queues(heap: Heap, counts: &[usize], queues: &mut Vec<Queue, Heap>) -> Result<(), AllocError>
     requires none { queues.old.items ≡ [] }
     requires each { length counts.now ≡ PROCESS_NUMBERS_END }
     ensures { OnOk result (queues.new.items ≡ replicate QUEUES []) }
