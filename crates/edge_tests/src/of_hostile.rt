@@ -259,33 +259,36 @@ static FIRST_LINES: &str = "1 P1 begin -> begun
 5 P2 stat /a -> dir size 0 links 1
 ";
 
-// Lists that are no schedules of the first run.
-static LISTS: [(&str, ScheduleFault); 24] = [
-    (",", ScheduleFault::BadList),
-    ("1,", ScheduleFault::BadList),
-    (",1", ScheduleFault::BadList),
-    ("1,,1", ScheduleFault::BadList),
-    ("01", ScheduleFault::BadList),
-    (" 1", ScheduleFault::BadList),
-    ("1 ", ScheduleFault::BadList),
-    ("1, 2", ScheduleFault::BadList),
-    ("1 2", ScheduleFault::BadList),
-    ("1;2", ScheduleFault::BadList),
-    ("1\n", ScheduleFault::BadList),
-    ("0", ScheduleFault::BadList),
-    ("-1", ScheduleFault::BadList),
-    ("+1", ScheduleFault::BadList),
-    ("0x1", ScheduleFault::BadList),
-    ("P1", ScheduleFault::BadList),
-    ("4097", ScheduleFault::BadList),
-    ("18446744073709551617", ScheduleFault::BadList),
-    ("\u{ff11}", ScheduleFault::BadList),
-    // The whole list is read before lines are counted.
-    ("3,3,x", ScheduleFault::BadList),
-    ("3", ScheduleFault::NoLine(Pid(3))),
-    ("4096", ScheduleFault::NoLine(Pid(4096))),
-    ("1,1,1,1", ScheduleFault::NoLine(Pid(1))),
-    ("1,2,2,1,2,1,1", ScheduleFault::NoLine(Pid(2))),
+// Lists that are no schedules. The whole list is read before lines are counted.
+static LISTS: [&str; 20] = [
+    ",",
+    "1,",
+    ",1",
+    "1,,1",
+    "01",
+    " 1",
+    "1 ",
+    "1, 2",
+    "1 2",
+    "1;2",
+    "1\n",
+    "0",
+    "-1",
+    "+1",
+    "0x1",
+    "P1",
+    "4097",
+    "18446744073709551617",
+    "\u{ff11}",
+    "3,3,x",
+];
+
+// Schedules that ask for more lines of this process than the first run has.
+static LONG_LISTS: [(&str, u32); 4] = [
+    ("3", 3),
+    ("4096", 4096),
+    ("1,1,1,1", 1),
+    ("1,2,2,1,2,1,1", 2),
 ];
 
 // How many steps a list has, or its fault.
@@ -311,8 +314,12 @@ fn expected_steps(list: &str) -> Result<usize, Option<ScheduleFault>> {
 #[test]
 fn lists_that_are_no_schedules_have_their_faults(rt: HostRuntime) -> Result<(), Fail> {
     let heap = heap::open(rt.alloc())?;
-    for (list, fault) in &LISTS {
-        let fault = RunFault::Schedule(*fault);
+    let bad = RunFault::Schedule(ScheduleFault::BadList);
+    for list in &LISTS {
+        assert!(rt; has_fault(heap, FIRST_RUN.as_bytes(), list, bad), "{list}");
+    }
+    for (list, number) in &LONG_LISTS {
+        let fault = RunFault::Schedule(ScheduleFault::NoLine(Pid(*number)));
         assert!(rt;
             has_fault(heap, FIRST_RUN.as_bytes(), list, fault),
             "{list}"

@@ -1,6 +1,6 @@
 // Random scripts, each with a schedule of it.
+use crate::operations::put_line;
 use crate::random::Random;
-use crate::words::put_line;
 use heap::Heap;
 use std::alloc::AllocError;
 

@@ -15,6 +15,7 @@
 mod cases;
 mod difference;
 mod mutated;
+mod operations;
 mod places;
 mod random;
 mod refused;
@@ -22,7 +23,6 @@ mod report;
 mod runs;
 mod tally;
 mod trials;
-mod words;
 
 use crate::cases::{Case, case_of};
 use crate::difference::Difference;
