@@ -314,9 +314,12 @@ fn expected_steps(list: &str) -> Result<usize, Option<ScheduleFault>> {
 #[test]
 fn lists_that_are_no_schedules_have_their_faults(rt: HostRuntime) -> Result<(), Fail> {
     let heap = heap::open(rt.alloc())?;
-    let bad = RunFault::Schedule(ScheduleFault::BadList);
     for list in &LISTS {
-        assert!(rt; has_fault(heap, FIRST_RUN.as_bytes(), list, bad), "{list}");
+        let fault = RunFault::Schedule(ScheduleFault::BadList);
+        assert!(rt;
+            has_fault(heap, FIRST_RUN.as_bytes(), list, fault),
+            "{list}"
+        );
     }
     for (list, number) in &LONG_LISTS {
         let fault = RunFault::Schedule(ScheduleFault::NoLine(Pid(*number)));
@@ -325,6 +328,12 @@ fn lists_that_are_no_schedules_have_their_faults(rt: HostRuntime) -> Result<(), 
             "{list}"
         );
     }
+    Ok(())
+}
+
+#[test]
+fn each_beginning_of_a_schedule_is_one_or_none(rt: HostRuntime) -> Result<(), Fail> {
+    let heap = heap::open(rt.alloc())?;
     for list in [
         "", "1", "1,", "1,1", "1,1,", "1,1,2", "1,1,2,", "1,1,2,1", "1,1,2,1,",
     ] {

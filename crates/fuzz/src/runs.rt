@@ -130,8 +130,9 @@ pub(crate) fn kernel_of(
     priorities: &[Priority],
     limit: usize,
 ) -> Result<Kernel, Difference> {
-    let some = !priorities.is_empty() && priorities.len() <= MAX_PROCESSES as usize;
-    require(some, Difference::Fault)?;
+    if priorities.is_empty() || priorities.len() > MAX_PROCESSES as usize {
+        return Err(Difference::Fault);
+    }
     Ok(Kernel::new(heap, priorities, limit.min(AMPLE))?)
 }
 
