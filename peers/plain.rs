@@ -632,7 +632,8 @@ fn print_largest() {
     print_row("peer", "mkdir of 1000000 names", 1_000_000, start);
 }
 
-const LOOKS: u64 = 200_000;
+/// How many looks each thread takes.
+const LOOKS: u64 = 100_000;
 
 fn look(i: u64) -> Op {
     Op::Stat(path(b'n', scattered(shuffled(i, 1000))))
@@ -646,14 +647,14 @@ fn kernel_with_names() -> Kernel {
     kernel
 }
 
-/// So many threads take all looks together.
+/// The looks of so many threads at once.
 fn look_by(threads: u64) {
     let kernel = Mutex::new(kernel_with_names());
     let start = Instant::now();
     std::thread::scope(|scope| {
         for _ in 0..threads {
             scope.spawn(|| {
-                for i in 0..LOOKS / threads {
+                for i in 0..LOOKS {
                     let op = look(i);
                     step(&mut kernel.lock().unwrap(), 1, op);
                 }
@@ -661,7 +662,7 @@ fn look_by(threads: u64) {
         }
     });
     let row = if threads == 1 { "1 thread" } else { &format!("{threads} threads") };
-    print_row("mutex", row, LOOKS, start);
+    print_row("mutex", row, LOOKS * threads, start);
 }
 
 fn print_lock() {

@@ -44,15 +44,9 @@ fn fill(kernel: &mut Kernel, heap: Heap) -> Result<()> {
 // A directory comes between these names and goes again, and two of them are looked for.
 fn do_names(kernel: &mut Kernel, heap: Heap, directory: &str, number: u64) -> Result<()> {
     let other = NAMES.saturating_sub(number).min(999);
-    call(
-        kernel,
-        Call::Mkdir(path_in(heap, directory, b'm', number)?),
-    )?;
+    call(kernel, Call::Mkdir(path_in(heap, directory, b'm', number)?))?;
     call(kernel, Call::Stat(path_in(heap, directory, b'n', number)?))?;
-    call(
-        kernel,
-        Call::Rmdir(path_in(heap, directory, b'm', number)?),
-    )?;
+    call(kernel, Call::Rmdir(path_in(heap, directory, b'm', number)?))?;
     call(kernel, Call::Stat(path_in(heap, directory, b'n', other)?))
 }
 

@@ -8,10 +8,10 @@ use device::{Counted, DeviceFailed, Sink, write_all};
 use heap::Heap;
 use ids::{Bytes, Call, Op, Pid};
 use kernel::Kernel;
-use runner::{print, read_schedule, read_script};
-use script::{Script, steps_of};
+use script::{Script, read_schedule, read_script, steps_of};
 use std::alloc::AllocError;
 use std::fs::File;
+use transcript::print;
 
 // How many lines the script has, three for each name.
 const LINES: u64 = 60_000;
@@ -41,7 +41,9 @@ fn script_text(heap: Heap) -> std::result::Result<String<Heap>, AllocError> {
     let mut text = String::new(heap);
     text.push_str("priorities 0\n")?;
     for number in 0..LINES / 3 {
-        let lines = format!(in heap; "1 mkdir /d{number}\n1 stat /d{number}\n1 rmdir /d{number}\n")?;
+        let lines = format!(in heap;
+            "1 mkdir /d{number}\n1 stat /d{number}\n1 rmdir /d{number}\n"
+        )?;
         text.push_str(lines.as_str())?;
     }
     Ok(text)
@@ -106,7 +108,7 @@ fn make_steps(kernel: &mut Kernel, steps: Vec<(Pid, Op), Heap>) {
 // Prints the transcript to the file of this path.
 fn print_to_file(rt: &HostRuntime, kernel: &Kernel, path: &str) -> Result<()> {
     let mut sink = Counted::new(File::create(rt, path)?);
-    if print(kernel.history(), &mut sink).is_err() {
+    if print(1, kernel.history().entries(), &mut sink).is_err() {
         bail!("the transcript is not printed")
     }
     Ok(())
@@ -162,7 +164,7 @@ fn write_bytes(rt: &HostRuntime, heap: Heap, count: u64, path: &str) -> Result<(
 fn format(rt: &HostRuntime, kernel: &Kernel, heap: Heap) -> Result<u64> {
     let mut sink = Forgetting { bytes: 0 };
     let lap = Lap::start(rt, heap)?;
-    if print(kernel.history(), &mut sink).is_err() {
+    if print(1, kernel.history().entries(), &mut sink).is_err() {
         bail!("the transcript is not printed")
     }
     let cost = lap.cost(rt, heap)?;
@@ -182,12 +184,7 @@ fn print_long_on(rt: &HostRuntime, kernel: &Kernel, heap: Heap, path: &str) -> R
     print_cost(rt, "transcript", "write as many bytes", LONG, cost)
 }
 
-fn print_long_often(
-    rt: &HostRuntime,
-    kernel: &mut Kernel,
-    heap: Heap,
-    path: &str,
-) -> Result<()> {
+fn print_long_often(rt: &HostRuntime, kernel: &mut Kernel, heap: Heap, path: &str) -> Result<()> {
     fill(kernel, heap)?;
     for _ in 0..3u64 {
         print_long_on(rt, kernel, heap, path)?;

@@ -130,12 +130,7 @@ static LOADS: [Load; 9] = [
     },
 ];
 
-fn print_beside_on(
-    rt: &HostRuntime,
-    kernel: &mut Kernel,
-    heap: Heap,
-    load: &Load,
-) -> Result<()> {
+fn print_beside_on(rt: &HostRuntime, kernel: &mut Kernel, heap: Heap, load: &Load) -> Result<()> {
     prepare(kernel, heap)?;
     open(kernel, heap, load.live)?;
     lengthen(kernel, heap, load.entries)?;

@@ -15,10 +15,10 @@ use std::sync::Wait;
 use std::thread::{Threads, join};
 use turnstile::{Pass, Turnstile};
 
-// How many names are looked at, and how many looks all threads take together.
+// How many names are looked at, and how many looks each thread takes.
 const NAMES: u64 = 1000;
 
-const LOOKS: u64 = 200_000;
+const LOOKS: u64 = 100_000;
 
 // A look at one of the names.
 fn look(heap: Heap, i: u64) -> std::result::Result<Op, AllocError> {
@@ -65,18 +65,12 @@ fn print_steps(rt: &HostRuntime, heap: Heap) -> Result<()> {
     print_cost(rt, "step", "1 thread", LOOKS, cost)
 }
 
-// Looks by one thread. Answers how many looks were answered.
-fn look_through<R: Wait>(
-    rt: &R,
-    heap: Heap,
-    turnstile: &Turnstile,
-    mut pass: Pass,
-    count: u64,
-) -> u64
+// All looks of one thread. Answers how many were answered.
+fn look_through<R: Wait>(rt: &R, heap: Heap, turnstile: &Turnstile, mut pass: Pass) -> u64
     requires { pass.gate ≡ turnstile.now }
 {
     let mut answered = 0u64;
-    for i in 0..count {
+    for i in 0..LOOKS {
         let Ok(op) = look(heap, i) else {
             return answered;
         };
@@ -89,165 +83,142 @@ fn look_through<R: Wait>(
     answered
 }
 
-// Looks by two threads at once, so many by each.
+// The passes of two threads.
+#[derive(Drop)]
+struct Two {
+    one: Pass,
+    two: Pass,
+}
+
+// The looks of two threads at once.
 fn look_by_two<R: Threads + Wait + Sync>(
     rt: &R,
     heap: Heap,
     turnstile: &Turnstile,
-    one: Pass,
-    two: Pass,
-    count: u64,
+    passes: Two,
 ) -> u64
-    requires one { one.gate ≡ turnstile.now }
-    requires two { two.gate ≡ turnstile.now }
+    requires one { passes.one.gate ≡ turnstile.now }
+    requires two { passes.two.gate ≡ turnstile.now }
 {
+    let Two { one, two } = passes;
     let (first, second) = join(
         rt,
         || -> u64
             requires { one.gate ≡ turnstile.now }
-        { look_through(rt, heap, turnstile, one, count) },
+        { look_through(rt, heap, turnstile, one) },
         || -> u64
             requires { two.gate ≡ turnstile.now }
-        { look_through(rt, heap, turnstile, two, count) },
+        { look_through(rt, heap, turnstile, two) },
     );
     first.wrapping_add(second)
 }
 
-// Four passes of one turnstile.
-#[derive(Drop)]
-struct Four {
-    one: Pass,
-    two: Pass,
-    three: Pass,
-    four: Pass,
-}
-
-// Looks by four threads at once, so many by each.
+// The looks of four threads at once.
 fn look_by_four<R: Threads + Wait + Sync>(
     rt: &R,
     heap: Heap,
     turnstile: &Turnstile,
-    passes: Four,
-    count: u64,
+    low: Two,
+    high: Two,
 ) -> u64
-    requires one { passes.one.gate ≡ turnstile.now }
-    requires two { passes.two.gate ≡ turnstile.now }
-    requires three { passes.three.gate ≡ turnstile.now }
-    requires four { passes.four.gate ≡ turnstile.now }
+    requires low { (low.one.gate ≡ turnstile.now) × (low.two.gate ≡ turnstile.now) }
+    requires high { (high.one.gate ≡ turnstile.now) × (high.two.gate ≡ turnstile.now) }
 {
-    let Four {
-        one,
-        two,
-        three,
-        four,
-    } = passes;
     let (first, second) = join(
         rt,
         || -> u64
-            requires { (one.gate ≡ turnstile.now) × (two.gate ≡ turnstile.now) }
-        { look_by_two(rt, heap, turnstile, one, two, count) },
+            requires { (low.one.gate ≡ turnstile.now) × (low.two.gate ≡ turnstile.now) }
+        { look_by_two(rt, heap, turnstile, low) },
         || -> u64
-            requires { (three.gate ≡ turnstile.now) × (four.gate ≡ turnstile.now) }
-        { look_by_two(rt, heap, turnstile, three, four, count) },
+            requires { (high.one.gate ≡ turnstile.now) × (high.two.gate ≡ turnstile.now) }
+        { look_by_two(rt, heap, turnstile, high) },
     );
     first.wrapping_add(second)
 }
 
-// The last four of these passes.
-fn four_of(passes: &mut Vec<Pass, Heap>) -> Option<Four>
-    ensures { (gate : Gate) → All (λ p. p.gate ≡ gate) passes.old.items
-        → IfSome result (λ f. (f.one.gate ≡ gate) × (f.two.gate ≡ gate)
-            × (f.three.gate ≡ gate) × (f.four.gate ≡ gate)) }
+// The last two of these passes.
+fn two_of(passes: &mut Vec<Pass, Heap>) -> Option<Two>
+    ensures two { (gate : Gate) → All (λ p. p.gate ≡ gate) passes.old.items
+        → IfSome result (λ two. (two.one.gate ≡ gate) × (two.two.gate ≡ gate)) }
+    ensures rest { (gate : Gate) → All (λ p. p.gate ≡ gate) passes.old.items
+        → All (λ p. p.gate ≡ gate) passes.new.items }
 {
-    let four = passes.pop()?;
-    let three = passes.pop()?;
     let two = passes.pop()?;
     let one = passes.pop()?;
-    Some(Four {
-        one,
-        two,
-        three,
-        four,
-    })
+    Some(Two { one, two })
 }
 
-// All looks by so many threads, 1, 2 or 4. Answers how many looks were answered.
+// The looks of 1, 2 or 4 threads.
 fn look_by<R: Threads + Wait + Sync>(
     rt: &R,
     heap: Heap,
     turnstile: &Turnstile,
-    passes: Four,
+    low: Two,
+    high: Two,
     threads: u64,
 ) -> u64
-    requires one { passes.one.gate ≡ turnstile.now }
-    requires two { passes.two.gate ≡ turnstile.now }
-    requires three { passes.three.gate ≡ turnstile.now }
-    requires four { passes.four.gate ≡ turnstile.now }
+    requires low { (low.one.gate ≡ turnstile.now) × (low.two.gate ≡ turnstile.now) }
+    requires high { (high.one.gate ≡ turnstile.now) × (high.two.gate ≡ turnstile.now) }
 {
     match threads {
-        1 => look_through(rt, heap, turnstile, passes.one, LOOKS),
-        2 => look_by_two(
-            rt,
-            heap,
-            turnstile,
-            passes.one,
-            passes.two,
-            LOOKS / 2,
-        ),
-        _ => look_by_four(rt, heap, turnstile, passes, LOOKS / 4),
-    }
-}
-
-// How many looks were answered that so many threads took through a fresh turnstile.
-fn looks_by<R: Threads + Wait + Sync>(
-    rt: &R,
-    heap: Heap,
-    kernel: Kernel,
-    threads: u64,
-) -> Option<u64> {
-    match Turnstile::new(heap, kernel) {
-        Ok((turnstile, passes)) => looks_at(rt, heap, &turnstile, passes, threads),
-        Err(kernel) => {
-            drop(kernel);
-            None
+        1 => {
+            let Two { one, two: _ } = low;
+            look_through(rt, heap, turnstile, one)
         }
+        2 => look_by_two(rt, heap, turnstile, low),
+        _ => look_by_four(rt, heap, turnstile, low, high),
     }
 }
 
-fn looks_at<R: Threads + Wait + Sync>(
-    rt: &R,
+// What the looks of so many threads cost.
+fn print_looks<R: Threads + Wait + Sync>(
+    rt: &HostRuntime,
+    shared: &R,
     heap: Heap,
     turnstile: &Turnstile,
     mut passes: Vec<Pass, Heap>,
     threads: u64,
-) -> Option<u64>
+) -> Result<()>
     requires { All (λ p. p.gate ≡ turnstile.now) passes.items }
 {
-    let four = four_of(&mut passes)?;
-    Some(look_by(rt, heap, turnstile, four, threads))
+    let (Some(high), Some(low)) = (two_of(&mut passes), two_of(&mut passes)) else {
+        bail!("there are too few passes")
+    };
+    let lap = Lap::start(rt, heap)?;
+    let answered = look_by(shared, heap, turnstile, low, high, threads);
+    let cost = lap.cost(rt, heap)?;
+    if answered != LOOKS.saturating_mul(threads) {
+        bail!("not all looks were answered")
+    }
+    print_cost(rt, "turnstile", row_of(threads), answered, cost)
 }
 
-// What the looks cost through a turnstile by so many threads. The making of the turnstile and its
-// end are in it.
+fn row_of(threads: u64) -> &'static str {
+    match threads {
+        1 => "1 thread",
+        2 => "2 threads",
+        _ => "4 threads",
+    }
+}
+
+// What the looks of so many threads cost through a fresh turnstile.
 fn print_threads<R: Threads + Wait + Sync>(
     rt: &HostRuntime,
     shared: &R,
     heap: Heap,
-    row: &str,
     threads: u64,
 ) -> Result<()> {
-    let kernel = kernel_with_names(heap)?;
-    let lap = Lap::start(rt, heap)?;
-    let answered = looks_by(shared, heap, kernel, threads);
-    let cost = lap.cost(rt, heap)?;
-    if answered != Some(LOOKS) {
-        bail!("not all looks were answered")
+    match Turnstile::new(heap, kernel_with_names(heap)?) {
+        Ok((turnstile, passes)) => print_looks(rt, shared, heap, &turnstile, passes, threads),
+        Err(kernel) => {
+            drop(kernel);
+            bail!("there is no memory for a turnstile")
+        }
     }
-    print_cost(rt, "turnstile", row, LOOKS, cost)
 }
 
 /// Prints what a stat costs by steps, and through a turnstile by 1, 2 and 4 threads: the time until
-/// all have done theirs.
+/// all have done theirs, as often as any of them did one.
 pub(crate) fn print_lock<R: Threads + Wait + Sync>(
     rt: &HostRuntime,
     shared: &R,
@@ -255,9 +226,9 @@ pub(crate) fn print_lock<R: Threads + Wait + Sync>(
 ) -> Result<()> {
     for _ in 0..3u64 {
         print_steps(rt, heap)?;
-        print_threads(rt, shared, heap, "1 thread", 1)?;
-        print_threads(rt, shared, heap, "2 threads", 2)?;
-        print_threads(rt, shared, heap, "4 threads", 4)?;
+        print_threads(rt, shared, heap, 1)?;
+        print_threads(rt, shared, heap, 2)?;
+        print_threads(rt, shared, heap, 4)?;
     }
     Ok(())
 }

@@ -54,10 +54,7 @@ fn refuse(kernel: &mut Kernel, heap: Heap) -> Result<()> {
 fn create(kernel: &mut Kernel, heap: Heap, number: u64) -> Result<()> {
     let flags = OpenFlags::WRITE.with(OpenFlags::CREAT);
     call(kernel, Call::Open(path(heap, b'f', number)?, flags))?;
-    call(
-        kernel,
-        Call::Write(FILE, Bytes::copy(heap, &[b'x'; 64])?),
-    )?;
+    call(kernel, Call::Write(FILE, Bytes::copy(heap, &[b'x'; 64])?))?;
     call(kernel, Call::Close(FILE))
 }
 
@@ -77,10 +74,7 @@ fn rename(kernel: &mut Kernel, heap: Heap, number: u64) -> Result<()> {
 }
 
 fn pass(kernel: &mut Kernel, heap: Heap) -> Result<()> {
-    call(
-        kernel,
-        Call::Write(WRITER, Bytes::copy(heap, &[b'x'; 64])?),
-    )?;
+    call(kernel, Call::Write(WRITER, Bytes::copy(heap, &[b'x'; 64])?))?;
     call(kernel, Call::Read(READER, 64))
 }
 
