@@ -8,4 +8,3 @@ pub mod Phases
 pub mod Lists
 pub mod OwnStatus
 pub mod Processes
-pub mod Forks

@@ -4,8 +4,6 @@ use Rattle.runner.specs.declared.fault.RunFault.{RunFault}
 use Rattle.runner.specs.declared.fault.RunFault.TheVariants.{Script, Schedule, Read}
 use Rattle.runner.specs.declared.fault.RunFault.TheVariants.{Write, HistoryFull, NoMemory}
 use Rattle.runner.specs.declared.fault.RunFault.TheVariants.{Check}
-use Rattle.runner.specs.declared.refusal.Refusal.{Refusal}
-use Rattle.runner.specs.declared.refusal.Refusal.TheVariants as refusal
 use Rattle.replay.specs.declared.checking.CheckFault.{CheckFault}
 use Rattle.replay.specs.declared.checking.CheckFault.TheVariants.{Wrong}
 use Rattle.replay.specs.declared.checking.CheckFault.TheVariants.{NoMemory as NoCheckMemory}
@@ -13,9 +11,6 @@ use Rattle.script.specs.declared.faults.ScriptFault.{ScriptFault}
 use Rattle.script.specs.declared.faults.ScriptFault.TheVariants.{NoMemory as NoScriptMemory}
 use Rattle.script.specs.declared.faults.ScheduleFault.{ScheduleFault}
 use Rattle.script.specs.declared.faults.ScheduleFault.TheVariants.{NoMemory as NoScheduleMemory}
-use Rattle.workers.specs.declared.fault.WorkFault.{WorkFault}
-use Rattle.workers.specs.declared.fault.WorkFault.TheVariants.{HistoryFull as NoRoomForWork}
-use Rattle.workers.specs.declared.fault.WorkFault.TheVariants.{NoMemory as NoWorkMemory}
 
 abbrev pub fault_of_script : ScriptFault → RunFault
 fault_of_script NoScriptMemory = NoMemory
@@ -28,14 +23,6 @@ fault_of_schedule fault = Schedule fault
 abbrev pub fault_of_check : CheckFault → RunFault
 fault_of_check NoCheckMemory = NoMemory
 fault_of_check (Wrong place) = Check place
-
-abbrev pub fault_of_refusal : Refusal → RunFault
-fault_of_refusal refusal.HistoryFull = HistoryFull
-fault_of_refusal refusal.NoMemory = NoMemory
-
-abbrev pub fault_of_work : WorkFault → RunFault
-fault_of_work NoRoomForWork = HistoryFull
-fault_of_work NoWorkMemory = NoMemory
 
 abbrev pub status_of : RunFault → ℕ
 status_of (Script fault) = 1

@@ -1,4 +1,0 @@
-mod Called
-mod Firsts
-mod Found
-pub mod Sent
