@@ -1,15 +1,20 @@
-//! Tests of the edges: scripts, transcripts, command lines, devices, whole runs, and the one lock.
+//! Tests of the edges: scripts, transcripts, command lines, devices, whole runs by schedules and by
+//! threads, workers, and the one lock.
 //! They stand here so that no edge is proved a second time for its tests.
 #![tactic(auto)]
 
 #[cfg(test)]
 mod halting;
 #[cfg(test)]
+mod jobs;
+#[cfg(test)]
 mod of_device;
 #[cfg(test)]
 mod of_runner;
 #[cfg(test)]
 mod of_script;
+#[cfg(test)]
+mod of_threads;
 #[cfg(test)]
 mod of_transcript;
 #[cfg(test)]

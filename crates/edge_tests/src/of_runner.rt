@@ -1,59 +1,13 @@
-// Whole runs, their faults, and devices that fail in their midst.
-ghost use Rattle.std.specs.Prelude.{◌≤◌, IfOk};
-
+// Whole runs by schedules, their faults, and devices that fail in their midst.
 use crate::halting::halting;
+use crate::jobs::{Expected, is_as_expected, is_run, job_of};
 use device::{Failing, Portions};
 use heap::Heap;
 use kernel::Kernel;
-use runner::{RunFault, print, report_fault, run_job, run_schedule};
-use std::alloc::AllocError;
+use runner::{RunFault, print, report_fault, run_schedule};
+use std::sync::Wait;
 use std::test::Fail;
-use words::{Job, MAX_LIMIT, Way};
-
-// A schedule, its limit, how many bytes the standard output takes, and what is expected of the
-// program: its status, and what it writes on standard output and on standard error.
-struct Expected {
-    list: &'static str,
-    limit: u32,
-    room: usize,
-    status: u8,
-    out: &'static str,
-    err: &'static str,
-}
-
-fn job_of(heap: Heap, expected: &Expected, check: bool) -> Result<Job, AllocError>
-    ensures { IfOk result (λ job. job.limit ≤ MAX_LIMIT) }
-{
-    Ok(Job {
-        way: Way::Schedule(String::from_str(heap, expected.list)?),
-        limit: expected.limit.min(100),
-        check,
-        file: String::new(heap),
-    })
-}
-
-// Whether a job on a script ends as expected. The sinks have their memory from `sinks`.
-fn is_as_expected(heap: Heap, sinks: Heap, job: &Job, text: &str, expected: &Expected) -> bool
-    requires { job.now.limit ≤ MAX_LIMIT }
-{
-    let mut source = Portions {
-        bytes: text.as_bytes(),
-        most: 7,
-    };
-    let mut out = halting(sinks, expected.room);
-    let mut err = halting(sinks, 1000);
-    let status = run_job(heap, job, &mut source, &mut out, &mut err);
-    status == expected.status
-        && out.bytes.as_slice() == expected.out.as_bytes()
-        && err.bytes.as_slice() == expected.err.as_bytes()
-}
-
-fn is_run(heap: Heap, text: &str, expected: &Expected, check: bool) -> bool {
-    match job_of(heap, expected, check) {
-        Ok(job) => is_as_expected(heap, heap, &job, text, expected),
-        Err(_) => false,
-    }
-}
+use std::thread::Threads;
 
 static FIRST_RUN: &str = "priorities 0 0\n1 begin\n1 mkdir /a\n1 end\n2 stat /a\n2 stat /a\n";
 
@@ -70,7 +24,7 @@ static RUNS: [(&str, Expected); 14] = [
     (
         "priorities 0 0\n1 begin\n2 stat /a\n",
         Expected {
-            list: "1,2",
+            list: Some("1,2"),
             limit: 100,
             room: 1000,
             status: 0,
@@ -81,7 +35,7 @@ static RUNS: [(&str, Expected); 14] = [
     (
         "priorities 0\n1 mkdir /a\n1 mkdir /a/b\n1 list /a\n1 rmdir /a/b\n1 list /a\n",
         Expected {
-            list: "1,1,1,1,1",
+            list: Some("1,1,1,1,1"),
             limit: 100,
             room: 1000,
             status: 0,
@@ -93,7 +47,7 @@ static RUNS: [(&str, Expected); 14] = [
     (
         "priorities 0\n1 open /a RDWR,CREAT\n1 fill 0 3 78\n1 fstat 0\n1 close 0\n",
         Expected {
-            list: "1,1,1,1",
+            list: Some("1,1,1,1"),
             limit: 100,
             room: 1000,
             status: 0,
@@ -105,7 +59,7 @@ static RUNS: [(&str, Expected); 14] = [
     (
         "priorities 0 0\n1 begin\n1 open /a WRONLY,CREAT\n1 end\n2 stat /a\n2 stat /a\n",
         Expected {
-            list: "1,1,2,1,2",
+            list: Some("1,1,2,1,2"),
             limit: 100,
             room: 10,
             status: 5,
@@ -116,7 +70,7 @@ static RUNS: [(&str, Expected); 14] = [
     (
         "priorities 0\n1 begin\n1 stat /\n",
         Expected {
-            list: "1,1",
+            list: Some("1,1"),
             limit: 2,
             room: 1000,
             status: 3,
@@ -127,7 +81,7 @@ static RUNS: [(&str, Expected); 14] = [
     (
         "priorities 0",
         Expected {
-            list: "",
+            list: Some(""),
             limit: 100,
             room: 1000,
             status: 1,
@@ -138,7 +92,7 @@ static RUNS: [(&str, Expected); 14] = [
     (
         "",
         Expected {
-            list: "",
+            list: Some(""),
             limit: 100,
             room: 1000,
             status: 1,
@@ -149,7 +103,7 @@ static RUNS: [(&str, Expected); 14] = [
     (
         "priorities 8\n",
         Expected {
-            list: "",
+            list: Some(""),
             limit: 100,
             room: 1000,
             status: 1,
@@ -160,7 +114,7 @@ static RUNS: [(&str, Expected); 14] = [
     (
         "priorities 0\n\n1 stat /a/b\n1 frob\n1 stat\n",
         Expected {
-            list: "1",
+            list: Some("1"),
             limit: 100,
             room: 1000,
             status: 1,
@@ -171,7 +125,7 @@ static RUNS: [(&str, Expected); 14] = [
     (
         "priorities 0\n\n1 stat /a/b\n1 stat\n1 frob\n",
         Expected {
-            list: "1",
+            list: Some("1"),
             limit: 100,
             room: 1000,
             status: 1,
@@ -182,7 +136,7 @@ static RUNS: [(&str, Expected); 14] = [
     (
         "priorities 0\n1 pipe\n1 fork\n2 write 1 ab\n1 read 0 9\n2 exit\n2 stat /\n",
         Expected {
-            list: "1,1,2,1,2,2",
+            list: Some("1,1,2,1,2,2"),
             limit: 100,
             room: 1000,
             status: 0,
@@ -194,7 +148,7 @@ static RUNS: [(&str, Expected); 14] = [
     (
         "priorities 0\n1 pipe \n",
         Expected {
-            list: "",
+            list: Some(""),
             limit: 100,
             room: 1000,
             status: 1,
@@ -205,7 +159,7 @@ static RUNS: [(&str, Expected); 14] = [
     (
         "priorities 0\n1 end\n",
         Expected {
-            list: "2",
+            list: Some("2"),
             limit: 100,
             room: 1000,
             status: 1,
@@ -216,7 +170,7 @@ static RUNS: [(&str, Expected); 14] = [
     (
         "priorities 0\n1 end\n",
         Expected {
-            list: "1,1",
+            list: Some("1,1"),
             limit: 100,
             room: 1000,
             status: 1,
@@ -230,14 +184,14 @@ static RUNS: [(&str, Expected); 14] = [
 fn jobs_have_their_texts_and_statuses(rt: HostRuntime) -> Result<(), Fail> {
     let heap = heap::open(rt.alloc())?;
     for (text, expected) in &RUNS {
-        assert!(rt; is_run(heap, text, expected, false), "{text}");
+        assert!(rt; is_run(&rt, heap, text, expected, false), "{text}");
     }
     Ok(())
 }
 
 // The first run, checked.
 static CHECKED: Expected = Expected {
-    list: "1,1,2,1,2",
+    list: Some("1,1,2,1,2"),
     limit: 100,
     room: 1000,
     status: 0,
@@ -248,7 +202,7 @@ static CHECKED: Expected = Expected {
 
 // The same where the check is refused memory.
 static REFUSED: Expected = Expected {
-    list: "1,1,2,1,2",
+    list: Some("1,1,2,1,2"),
     limit: 100,
     room: 1000,
     status: 3,
@@ -262,7 +216,7 @@ static CHECKS: [(&str, Expected); 5] = [
     (
         "priorities 0\n",
         Expected {
-            list: "",
+            list: Some(""),
             limit: 100,
             room: 1000,
             status: 0,
@@ -274,7 +228,7 @@ static CHECKS: [(&str, Expected); 5] = [
         "priorities 0 0\n1 begin RESTART\n1 stat /a\n2 mkdir /a\n1 end\n1 stat /a\n1 end\n2 pipe\n\
             2 fork\n3 write 1 x\n2 read 0 5\n",
         Expected {
-            list: "1,1,2,1,1,1,2,2,3,2",
+            list: Some("1,1,2,1,1,1,2,2,3,2"),
             limit: 100,
             room: 1000,
             status: 0,
@@ -289,7 +243,7 @@ static CHECKS: [(&str, Expected); 5] = [
     (
         "priorities 0\n1 begin\n1 stat /\n",
         Expected {
-            list: "1,1",
+            list: Some("1,1"),
             limit: 2,
             room: 1000,
             status: 3,
@@ -301,7 +255,7 @@ static CHECKS: [(&str, Expected); 5] = [
     (
         "priorities 0\n1 end\n",
         Expected {
-            list: "1",
+            list: Some("1"),
             limit: 100,
             room: 29,
             status: 5,
@@ -312,7 +266,7 @@ static CHECKS: [(&str, Expected); 5] = [
     (
         "priorities 0\n1 end\n",
         Expected {
-            list: "1",
+            list: Some("1"),
             limit: 100,
             room: 35,
             status: 5,
@@ -325,26 +279,37 @@ static CHECKS: [(&str, Expected); 5] = [
 #[test]
 fn checked_jobs_say_so(rt: HostRuntime) -> Result<(), Fail> {
     let heap = heap::open(rt.alloc())?;
-    assert!(rt; is_run(heap, FIRST_RUN, &CHECKED, true));
+    assert!(rt; is_run(&rt, heap, FIRST_RUN, &CHECKED, true));
     for (text, expected) in &CHECKS {
-        assert!(rt; is_run(heap, text, expected, true), "{text}");
+        assert!(rt; is_run(&rt, heap, text, expected, true), "{text}");
     }
     Ok(())
 }
 
 // How many requests for memory the first run makes, by this job.
-fn requests_of(heap: Heap, sinks: Heap, check: bool) -> Result<u64, Fail> {
+fn requests_of<R: Threads + Wait + Sync>(
+    rt: &R,
+    heap: Heap,
+    sinks: Heap,
+    check: bool,
+) -> Result<u64, Fail> {
     let job = job_of(sinks, &CHECKED, check)?;
     heap.refuse(0);
-    let _ = is_as_expected(heap, sinks, &job, FIRST_RUN, &CHECKED);
+    let _ = is_as_expected(rt, heap, sinks, &job, FIRST_RUN, &CHECKED);
     Ok(heap.made())
 }
 
 // Whether the first run, checked, ends as expected where this request for memory is refused.
-fn is_so_refused(heap: Heap, sinks: Heap, number: u64, expected: &Expected) -> Result<bool, Fail> {
+fn is_so_refused<R: Threads + Wait + Sync>(
+    rt: &R,
+    heap: Heap,
+    sinks: Heap,
+    number: u64,
+    expected: &Expected,
+) -> Result<bool, Fail> {
     let job = job_of(sinks, expected, true)?;
     heap.refuse(number);
-    Ok(is_as_expected(heap, sinks, &job, FIRST_RUN, expected))
+    Ok(is_as_expected(rt, heap, sinks, &job, FIRST_RUN, expected))
 }
 
 // Each request of the check alone comes behind those of the run.
@@ -352,15 +317,15 @@ fn is_so_refused(heap: Heap, sinks: Heap, number: u64, expected: &Expected) -> R
 fn refused_memory_ends_a_check(rt: HostRuntime) -> Result<(), Fail> {
     let heap = heap::open(rt.alloc())?;
     let sinks = heap::open(rt.alloc())?;
-    let run = requests_of(heap, sinks, false)?;
-    let all = requests_of(heap, sinks, true)?;
+    let run = requests_of(&rt, heap, sinks, false)?;
+    let all = requests_of(&rt, heap, sinks, true)?;
     assert!(rt; run < all);
     for number in run..all {
         let next = number.saturating_add(1);
-        assert!(rt; is_so_refused(heap, sinks, next, &REFUSED)?, "{next}");
+        assert!(rt; is_so_refused(&rt, heap, sinks, next, &REFUSED)?, "{next}");
     }
     let behind = all.saturating_add(1);
-    assert!(rt; is_so_refused(heap, sinks, behind, &CHECKED)?);
+    assert!(rt; is_so_refused(&rt, heap, sinks, behind, &CHECKED)?);
     Ok(())
 }
 

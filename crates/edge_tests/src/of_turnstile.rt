@@ -176,15 +176,30 @@ fn both_worked<R: Threads + Wait + Abort + Sync>(
     )
 }
 
-// The first process makes a directory, and the second sees it after they have met.
+// The first process makes a directory, the second sees it, and they meet. Nobody waits.
 fn assert_met(rt: &impl Abort, heap: Heap, turnstile: &Turnstile, one: &mut Pass, two: &mut Pass)
     requires { (one.old.gate ≡ turnstile.now) × (two.old.gate ≡ turnstile.now) }
     ensures { (one.new.gate ≡ turnstile.now) × (two.new.gate ≡ turnstile.now) }
 {
     assert!(rt; one.pid() == Pid(1) && two.pid() == Pid(2));
     assert!(rt; makes(heap, turnstile, one));
-    turnstile.meet(one, two);
     assert!(rt; sees(heap, turnstile, two));
+    turnstile.meet(one, two);
+}
+
+// The kernel after its two processes have met in one thread.
+fn met(rt: &impl Abort, heap: Heap, opened: Opened) -> Option<Kernel>
+    requires one { opened.one.gate ≡ opened.turnstile }
+    requires two { opened.two.gate ≡ opened.turnstile }
+{
+    let Opened {
+        turnstile,
+        mut one,
+        mut two,
+    } = opened;
+    assert_met(rt, heap, &turnstile, &mut one, &mut two);
+    let passes = Vec::from_array(heap, [one, two]).ok()?;
+    turnstile.close(passes)
 }
 
 // The kernel after its two processes have met in one thread, and have worked in one each.
@@ -277,6 +292,23 @@ fn done<R: Threads + Wait + Abort + Sync>(
 ) -> Option<(usize, u64, u64)> {
     let opened = begun(heap, kernel)?;
     Some(inspect(shared(rt, heap, opened)?, counts))
+}
+
+// How many entries two processes have made that have met in one thread.
+fn entries_after_meeting(rt: &impl Abort, heap: Heap, kernel: Kernel) -> Option<usize> {
+    let opened = begun(heap, kernel)?;
+    Some(inspect(met(rt, heap, opened)?, |kernel| {
+        kernel.history().entries().len()
+    }))
+}
+
+#[test]
+fn two_passes_meet_in_one_thread(rt: HostRuntime) -> Result<(), Fail> {
+    let heap = heap::open(rt.alloc())?;
+    let zero = Priority::new(0).ok_or("no priority")?;
+    let kernel = Kernel::new(heap, &[zero, zero], 2)?;
+    assert!(rt; entries_after_meeting(&rt, heap, kernel) == Some(2));
+    Ok(())
 }
 
 #[test]

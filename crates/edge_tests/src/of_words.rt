@@ -20,8 +20,8 @@ fn is_as_expected(alloc: Global, heap: Heap, line: &str, status: u8, expected: &
 }
 
 // Command lines, each with its status and job, or how the text of its fault begins. Before each the
-// request of memory that is refused: one is made for the schedule, and one for the file.
-static LINES: [(u64, &str, u8, &str); 13] = [
+// request of memory that is refused: one is made for a schedule, and one for the file.
+static LINES: [(u64, &str, u8, &str); 20] = [
     (
         0,
         "txsh --schedule 1,1,2,1,2 run.tx",
@@ -62,7 +62,6 @@ static LINES: [(u64, &str, u8, &str); 13] = [
     ),
     (0, "txsh --schedule=1 --limit x run.tx", 2, "error: "),
     (0, "txsh --schedule=1", 2, "error: "),
-    (0, "txsh --threads run.tx", 2, "error: "),
     (
         0,
         "txsh --schedule=1 --check run.tx",
@@ -70,6 +69,34 @@ static LINES: [(u64, &str, u8, &str); 13] = [
         "Job { way: Schedule(\"1\"), limit: 65536, check: true, file: \"run.tx\" }",
     ),
     (0, "txsh --schedule=1 --check=yes run.tx", 2, "error: "),
+    (
+        0,
+        "txsh --threads run.tx",
+        0,
+        "Job { way: Threads, limit: 65536, check: false, file: \"run.tx\" }",
+    ),
+    (1, "txsh --threads run.tx", 3, "no memory"),
+    (
+        2,
+        "txsh --threads run.tx",
+        0,
+        "Job { way: Threads, limit: 65536, check: false, file: \"run.tx\" }",
+    ),
+    (
+        0,
+        "txsh --check --limit=7 --threads run.tx",
+        0,
+        "Job { way: Threads, limit: 7, check: true, file: \"run.tx\" }",
+    ),
+    (
+        0,
+        "txsh --threads --schedule 1 run.tx",
+        2,
+        "exactly one of --schedule and --threads",
+    ),
+    (0, "txsh --threads=2 run.tx", 2, "error: "),
+    (0, "txsh --threads --threads run.tx", 2, "error: "),
+    (0, "txsh --threads", 2, "error: "),
 ];
 
 #[test]

@@ -1,5 +1,6 @@
 // Workers over ports that answer by a manner of their own.
-ghost use Rattle.std.specs.Prelude.{◌≡◌, [], IfOk, All};
+ghost use Rattle.std.specs.Prelude.{◌≡◌, [], IfOk, All, ℕ};
+ghost use Rattle.workers.specs.Families.{HaveOneHome};
 ghost use Rattle.workers.specs.Port.{IsNoChild, grown};
 
 use heap::Heap;
@@ -98,6 +99,10 @@ fn kept(entries: &mut Entries, operation: Op, reply: Reply) -> Reply
 }
 
 impl Port for Mannered {
+    ghost Home = { ℕ };
+
+    ghost home = { λ p. 0 };
+
     ghost number = { λ p. p.pid };
 
     ghost done = { λ p. p.entries.items };
@@ -241,7 +246,8 @@ static FAULTS: [(Manner, Manner, &str, WorkFault); 4] = [
 ];
 
 fn two(heap: Heap, manners: (Manner, Manner)) -> Result<Vec<Mannered, Heap>, AllocError>
-    ensures { IfOk result (λ ports. All (λ p. p.entries.items ≡ []) ports.items) }
+    ensures fresh { IfOk result (λ ports. All (λ p. p.entries.items ≡ []) ports.items) }
+    ensures home { IfOk result (λ ports. HaveOneHome {H = ℕ} (λ p. 0) ports.items) }
 {
     let mut ports = Vec::new(heap);
     ports.push(fresh(heap, Pid(1), manners.0))?;
@@ -363,6 +369,10 @@ impl Meeting {
 }
 
 impl Port for Meeting {
+    ghost Home = { ℕ };
+
+    ghost home = { λ p. 0 };
+
     ghost number = { λ p. p.pid };
 
     ghost done = { λ p. p.entries.items };
@@ -386,7 +396,8 @@ impl Port for Meeting {
 
 // Two ports of which each answers only after the other was called.
 fn two_meeting(alloc: Global, heap: Heap) -> Result<Vec<Meeting, Heap>, AllocError>
-    ensures { IfOk result (λ ports. All (λ p. p.entries.items ≡ []) ports.items) }
+    ensures fresh { IfOk result (λ ports. All (λ p. p.entries.items ≡ []) ports.items) }
+    ensures home { IfOk result (λ ports. HaveOneHome {H = ℕ} (λ p. 0) ports.items) }
 {
     let first = Arc::new(alloc, AtomicU64::new(0))?;
     let second = Arc::new(alloc, AtomicU64::new(0))?;
@@ -407,7 +418,7 @@ fn two_meeting(alloc: Global, heap: Heap) -> Result<Vec<Meeting, Heap>, AllocErr
 }
 
 #[test]
-fn workers_go_side_by_side(rt: HostRuntime) -> Result<(), Fail> {
+fn workers_side_by_side(rt: HostRuntime) -> Result<(), Fail> {
     let heap = heap::open(rt.alloc())?;
     let Ok(script) = read_script(heap, b"priorities 0\n1 stat /\n2 stat /\n") else {
         return Err("no script")?;

@@ -18,7 +18,7 @@ use Rattle.history_laws.specs.Headline.{IsSerializable, LegalHistoriesAreSeriali
 use Rattle.history_laws.specs.Histories.{RightEntriesKeepHistoriesLegal, CommittedIsSerial, PlacesSuffice, RepliesAreAFunction, RightEntriesHavePlaces, BeginningsAreLegal, OwnEntriesGrow, AfterOneMore, ViewsMayBeLoose, TouchedObjectsStay}
 use Rattle.history_laws.specs.Limits.{LimitsAreKept}
 use Rattle.history_laws.specs.Marks.{ModesFollowMarks}
-use Rattle.history_laws.specs.Processes.{child_in, ForksAndExitsMove, UnmadeAreRefused}
+use Rattle.history_laws.specs.Processes.{child_in, ChildrenAreForked, ForksAndExitsMove, UnmadeAreRefused}
 use Rattle.history_laws.specs.Processes.{born as makes}
 use Rattle.history_laws.specs.Standing.{WhatStands}
 use Rattle.history_laws.specs.Trees.{IsATree, CommittedDirectoriesAreATree}
@@ -34,6 +34,7 @@ use Rattle.history_laws.proofs.Standing as standing
 use Rattle.history_laws.proofs.Trees as trees
 use Rattle.history_laws.proofs.calls.Outcomes as outcomes
 use Rattle.history_laws.proofs.calls.Processes as call_processes
+use Rattle.history_laws.proofs.entries.Forks as entry_forks
 use Rattle.history_laws.proofs.entries.Lists as entry_lists
 use Rattle.history_laws.proofs.entries.Moments as moments
 use Rattle.history_laws.proofs.entries.Phases as phases
@@ -191,6 +192,10 @@ forks_and_exits_move = entry_processes.forks_and_exits_move calls_are_lawful_lem
 -- the entries of a process that was never made are refused: entries/Processes.antt
 pub unmade_are_refused : UnmadeAreRefused
 unmade_are_refused = entry_processes.unmade_are_refused calls_are_lawful_lem
+
+-- each process that was not there at the start was made by a fork: entries/Forks.antt
+pub children_are_forked : ChildrenAreForked
+children_are_forked = entry_forks.children_are_forked calls_are_lawful_lem
 
 -- a directory's list mode follows from its readers and writers: Marks.antt
 pub modes_follow_marks : ModesFollowMarks

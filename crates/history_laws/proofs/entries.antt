@@ -8,3 +8,4 @@ pub mod Phases
 pub mod Lists
 pub mod OwnStatus
 pub mod Processes
+pub mod Forks

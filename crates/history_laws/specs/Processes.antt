@@ -1,8 +1,8 @@
 -- What one right entry does to the table of processes.
-use Rattle.std.specs.Prelude.{◌≡◌, ◌≢◌, ℕ, suc, ◌+◌, ◌<◌, Bool, true, false, ◌⊎◌, List, Option}
-use Rattle.std.specs.Prelude.{Some, None}
+use Rattle.std.specs.Prelude.{◌≡◌, ◌≢◌, ℕ, suc, ◌+◌, ◌<◌, ◌≤◌, Bool, true, false, ◌⊎◌, List, ◌∷◌}
+use Rattle.std.specs.Prelude.{◌++◌, length, Option, Some, None}
 use Rattle.std.specs.List.{AllByRecursion}
-use Rattle.model.specs.Calls.{Call, Exit, Child}
+use Rattle.model.specs.Calls.{Call, Exit, Fork, Child}
 use Rattle.model.specs.Entries.{Op, Do, Reply, Answers, NoProcess, Entry}
 use Rattle.model.specs.Moments.{idle, Moment, is_alive, next, after, priority_of}
 use Rattle.model.specs.Legal.{Legal, mine}
@@ -54,3 +54,21 @@ abbrev pub UnmadeAreRefused : Type 0
 UnmadeAreRefused = (root : ℕ) (priorities : List ℕ) (limit : ℕ) (es : List Entry)
     → Legal root priorities limit es → (q : ℕ) → (after root priorities es).committed.made < q
     → AllByRecursion (λ e. e.reply ≡ NoProcess) (mine q es)
+
+-- Among the entries is that of a fork that made the process q. The one who forked was made before;
+-- the first process is number 1.
+pub record IsForked (es : List Entry) (q : ℕ) : Type 0 where
+  pub before : List Entry
+  pub fork : Entry
+  pub later : List Entry
+  pub among : es ≡ before ++ fork ∷ later
+  pub asked : fork.op ≡ Do Fork
+  pub answered : fork.reply ≡ Answers (Child q)
+  pub number : 0 < fork.pid
+  pub earlier : fork.pid < q
+
+-- Each process that was not there at the start was made by a fork of an earlier one.
+abbrev pub ChildrenAreForked : Type 0
+ChildrenAreForked = (root : ℕ) (priorities : List ℕ) (limit : ℕ) (es : List Entry)
+    → Legal root priorities limit es → (q : ℕ) → length priorities < q
+    → q ≤ (after root priorities es).committed.made → IsForked es q

@@ -26,7 +26,8 @@ ghost use Rattle.history_laws.specs.Histories.{OwnEntriesGrow, AfterOneMore, Vie
 ghost use Rattle.history_laws.specs.Histories.{TouchedObjectsStay};
 ghost use Rattle.history_laws.specs.Limits.{LimitsAreKept};
 ghost use Rattle.history_laws.specs.Marks.{ModesFollowMarks};
-ghost use Rattle.history_laws.specs.Processes.{ForksAndExitsMove, UnmadeAreRefused};
+ghost use Rattle.history_laws.specs.Processes.{ChildrenAreForked, ForksAndExitsMove};
+ghost use Rattle.history_laws.specs.Processes.{UnmadeAreRefused};
 ghost use Rattle.history_laws.specs.Standing.{WhatStands};
 ghost use Rattle.history_laws.specs.Trees.{CommittedDirectoriesAreATree};
 
@@ -202,6 +203,12 @@ pub fn forks_and_exits_move()
 /// Proved in `proofs/entries/Processes.antt`.
 pub fn unmade_are_refused()
     ensures { UnmadeAreRefused }
+{}
+
+/// Each process that was not there at the start was made by a fork, which has an entry.
+/// Proved in `proofs/entries/Forks.antt`.
+pub fn children_are_forked()
+    ensures { ChildrenAreForked }
 {}
 
 /// A directory's list mode follows from whether it has readers and whether it has writers.

@@ -1,5 +1,5 @@
 -- What comes of a check's end.
-use Rattle.std.proofs.Common.{◌≡◌, Result, Ok, Err, IfErr, OnOk}
+use Rattle.std.proofs.Common.{Result, Ok, Err, IfErr, OnOk}
 use Rattle.std.specs.Result.{OnErr}
 
 pub on_ok : {A E P Q : Type 0} (r : Result A E) → (P → Q) → OnOk r P → OnOk r Q

@@ -11,6 +11,9 @@ use Rattle.script.specs.declared.faults.ScriptFault.{ScriptFault}
 use Rattle.script.specs.declared.faults.ScriptFault.TheVariants.{NoMemory as NoScriptMemory}
 use Rattle.script.specs.declared.faults.ScheduleFault.{ScheduleFault}
 use Rattle.script.specs.declared.faults.ScheduleFault.TheVariants.{NoMemory as NoScheduleMemory}
+use Rattle.workers.specs.declared.fault.WorkFault.{WorkFault}
+use Rattle.workers.specs.declared.fault.WorkFault.TheVariants.{HistoryFull as NoRoomForWork}
+use Rattle.workers.specs.declared.fault.WorkFault.TheVariants.{NoMemory as NoWorkMemory}
 
 abbrev pub fault_of_script : ScriptFault → RunFault
 fault_of_script NoScriptMemory = NoMemory
@@ -23,6 +26,10 @@ fault_of_schedule fault = Schedule fault
 abbrev pub fault_of_check : CheckFault → RunFault
 fault_of_check NoCheckMemory = NoMemory
 fault_of_check (Wrong place) = Check place
+
+abbrev pub fault_of_work : WorkFault → RunFault
+fault_of_work NoRoomForWork = HistoryFull
+fault_of_work NoWorkMemory = NoMemory
 
 abbrev pub status_of : RunFault → ℕ
 status_of (Script fault) = 1

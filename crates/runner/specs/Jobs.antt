@@ -8,11 +8,23 @@ use Rattle.words.specs.declared.Way.TheVariants as way
 use Rattle.runner.specs.Checks.{IsChecked, NotChecked}
 use Rattle.runner.specs.Faults.{status_of}
 use Rattle.runner.specs.Runs.{Ran, Ended}
+use Rattle.runner.specs.Threads.{RanByThreads, EndedByThreads}
 use Rattle.runner.specs.declared.fault.RunFault.{RunFault}
 use Rattle.runner.specs.declared.fault.RunFault.TheVariants.{Read, Write, Check}
 
-abbrev pub list_of : Way → List ℕ
-list_of (way.Schedule list) = string_bytes list
+-- The script was run in this way, and its transcript is written behind what stood there before.
+abbrev pub HasRun : Way → ℕ → (given left old new : Option (List ℕ)) → Shown → Type 0
+HasRun (way.Schedule list) limit given left old new kernel =
+    Ran (string_bytes list) limit given left old new kernel
+HasRun way.Threads limit given left old new kernel =
+    RanByThreads limit given left old new kernel
+
+-- A fault has ended the run in this way.
+abbrev pub HasEnded : Way → ℕ → (given left old new : Option (List ℕ)) → RunFault → Type 0
+HasEnded (way.Schedule list) limit given left old new fault =
+    Ended (string_bytes list) limit given left old new fault
+HasEnded way.Threads limit given left old new fault =
+    EndedByThreads limit given left old new fault
 
 -- The run was done, with its transcript in `mid`. Behind it stands that the history passes the
 -- check, if one was to be made. The status is 0.
@@ -21,7 +33,7 @@ pub record IsDone
     : Type 0 where
   pub kernel : Shown
   pub mid : Option (List ℕ)
-  pub ran : Ran (list_of job.way) job.limit given left old mid kernel
+  pub ran : HasRun job.way job.limit given left old mid kernel
   pub checked : IsChecked job.check kernel.log mid new
   pub success : status ≡ 0
 
@@ -32,7 +44,7 @@ pub record CheckEnded
     : Type 0 where
   pub kernel : Shown
   pub mid : Option (List ℕ)
-  pub ran : Ran (list_of job.way) job.limit given left old mid kernel
+  pub ran : HasRun job.way job.limit given left old mid kernel
   pub wanted : job.check ≡ true
   pub fails : NotChecked kernel.log mid new write_failed fault
   pub passes : (place : ℕ) → fault ≡ Check place → ⊥
@@ -44,7 +56,7 @@ pub record IsFaulted
     (status : ℕ)
     : Type 0 where
   pub fault : RunFault
-  pub ended : Ended (list_of job.way) job.limit given left old new fault
+  pub ended : HasEnded job.way job.limit given left old new fault
       ⊎ CheckEnded job given left old new write_failed fault
   pub read : fault ≡ Read → read_failed
   pub write : fault ≡ Write → write_failed

@@ -1,10 +1,12 @@
 // Why a run has ended early.
 ghost use Rattle.std.specs.Prelude.{◌≡◌};
-ghost use Rattle.runner.specs.Faults.{fault_of_check, fault_of_schedule, fault_of_script, status_of};
+ghost use Rattle.runner.specs.Faults.{fault_of_check, fault_of_schedule, fault_of_script};
+ghost use Rattle.runner.specs.Faults.{fault_of_work, status_of};
 
 use replay::CheckFault;
 use script::{ScheduleFault, ScriptFault};
 use thiserror::Error;
+use workers::WorkFault;
 
 /// Why a run has ended early. Its text is what the program reports.
 #[derive(Clone, Copy, Debug, PartialEq, Eq, Error)]
@@ -21,10 +23,10 @@ pub enum RunFault {
     /// The sink has failed.
     #[error("write failed")]
     Write,
-    /// The history has no room left for a step's entry.
+    /// The history has no room left for an entry.
     #[error("history full")]
     HistoryFull,
-    /// Memory was refused.
+    /// Memory was refused, or a thread.
     #[error("no memory")]
     NoMemory,
     /// The check of the history says that the entry of this place, counted from 1, is wrong.
@@ -60,6 +62,16 @@ impl RunFault {
         match fault {
             CheckFault::Wrong(place) => RunFault::Check(place),
             CheckFault::NoMemory => RunFault::NoMemory,
+        }
+    }
+
+    /// The run's fault where a worker was stopped.
+    pub fn of_work(fault: WorkFault) -> RunFault
+        ensures { result ≡ fault_of_work fault }
+    {
+        match fault {
+            WorkFault::HistoryFull => RunFault::HistoryFull,
+            WorkFault::NoMemory => RunFault::NoMemory,
         }
     }
 

@@ -1,20 +1,53 @@
 // The program from the opened file on.
-ghost use Rattle.std.specs.Prelude.{◌⊎◌, ◌<◌, ◌≤◌, IfErr, OnOk};
+ghost use Rattle.std.specs.Prelude.{◌≡◌, ◌≢◌, ◌⊎◌, ◌<◌, ◌≤◌, IfErr, IfOk, OnOk};
 ghost use Rattle.device.specs.Device.{CanCount};
 ghost use Rattle.runner.specs.Faults.{status_of};
-ghost use Rattle.runner.specs.Jobs.{IsDone, IsFaulted};
+ghost use Rattle.runner.specs.Jobs.{HasEnded, HasRun, IsDone, IsFaulted};
 
 use crate::RunFault;
 use crate::checking::check_if;
 use crate::reporting::report_fault;
 use crate::run::run_schedule;
+use crate::threads::run_script_by_threads;
 use device::{Sink, Source};
 use heap::Heap;
+use kernel::Kernel;
 use replay::legal_histories_have_no_fault;
+use std::sync::Wait;
+use std::thread::Threads;
 use words::{Job, MAX_LIMIT, Way};
 
+// Runs the script of a job in its way.
+fn run_script<R: Threads + Wait + Sync, I: Source, O: Sink>(
+    rt: &R,
+    heap: Heap,
+    job: &Job,
+    source: &mut I,
+    out: &mut O,
+) -> Result<Kernel, RunFault>
+    requires reads { CanCount (I.failures source.old) }
+    requires writes { CanCount (O.failures out.old) }
+    requires limited { job.now.limit ≤ MAX_LIMIT }
+    ensures ok { IfOk result (HasRun job.now.way job.now.limit
+        (I.remaining source.old) (I.remaining source.new)
+        (O.written out.old) (O.written out.new)) }
+    ensures fault { IfErr result (HasEnded job.now.way job.now.limit
+        (I.remaining source.old) (I.remaining source.new)
+        (O.written out.old) (O.written out.new)) }
+    ensures read { result ≡ Err RunFault.Read → I.failures source.old < I.failures source.new }
+    ensures write { result ≡ Err RunFault.Write → O.failures out.old < O.failures out.new }
+    ensures no_write_failure { result ≢ Err RunFault.Write
+        → O.failures out.new ≡ O.failures out.old }
+{
+    match &job.way {
+        Way::Schedule(list) => run_schedule(heap, source, list.as_str(), job.limit as usize, out),
+        Way::Threads => run_script_by_threads(rt, heap, source, job.limit as usize, out),
+    }
+}
+
 // Does a job, up to its fault.
-fn do_job<I: Source, O: Sink>(
+fn do_job<R: Threads + Wait + Sync, I: Source, O: Sink>(
+    rt: &R,
     heap: Heap,
     job: &Job,
     source: &mut I,
@@ -32,8 +65,7 @@ fn do_job<I: Source, O: Sink>(
         (I.failures source.old < I.failures source.new)
         (O.failures out.old < O.failures out.new) (status_of fault)) }
 {
-    let Way::Schedule(list) = &job.way;
-    match run_schedule(heap, source, list.as_str(), job.limit as usize, out) {
+    match run_script(rt, heap, job, source, out) {
         Ok(kernel) => {
             legal_histories_have_no_fault();
             let told = check_if(job.check, heap, kernel.history(), out);
@@ -44,11 +76,13 @@ fn do_job<I: Source, O: Sink>(
     }
 }
 
-/// Does a job: runs its schedule of the script that the source spells, and checks the history if it
-/// says so. The transcript goes to `out`, behind it that the history passes, and where a fault ends
-/// the job its line goes to `err`. Returns the program's exit status: 0 when all is done, else that
-/// of the fault. A failure of `err` changes no status.
-pub fn run_job<I: Source, O: Sink, E: Sink>(
+/// Does a job: runs the script that the source spells, by a schedule or by threads, and checks the
+/// history if it says so. The transcript goes to `out`, behind it that the history passes, and where
+/// a fault ends the job its line goes to `err`. Returns the program's exit status: 0 when all is
+/// done, else that of the fault. A failure of `err` changes no status. A run by threads waits for
+/// them.
+pub fn run_job<R: Threads + Wait + Sync, I: Source, O: Sink, E: Sink>(
+    rt: &R,
     heap: Heap,
     job: &Job,
     source: &mut I,
@@ -68,7 +102,7 @@ pub fn run_job<I: Source, O: Sink, E: Sink>(
         (I.failures source.old < I.failures source.new)
         (O.failures out.old < O.failures out.new) result }
 {
-    let fault = match do_job(heap, job, source, out) {
+    let fault = match do_job(rt, heap, job, source, out) {
         Ok(()) => return 0,
         Err(fault) => fault,
     };

@@ -1,18 +1,16 @@
 // A script and a schedule of it, from a source to a sink.
 ghost use Rattle.std.specs.Prelude.{◌≡◌, ◌≢◌, ◌<◌, ◌≤◌, IfErr, IfOk};
 ghost use Rattle.device.specs.Device.{CanCount};
-ghost use Rattle.runner.specs.Runs.{Ended, GivesScript, NoScript, Ran};
+ghost use Rattle.runner.specs.Runs.{Ended, Ran};
 
 use crate::RunFault;
+use crate::reading::script_in;
 use crate::steps::do_steps;
-use device::{ReadFault, Sink, Source, read_all};
+use device::{Sink, Source};
 use heap::Heap;
 use kernel::Kernel;
-use script::{SCRIPT_LIMIT, Script, read_schedule, read_script, steps_of};
+use script::{read_schedule, steps_of};
 use words::MAX_LIMIT;
-
-// One byte more than a script may have, so that a longer one is noticed.
-const MOST_READ: usize = SCRIPT_LIMIT + 1;
 
 /// Reads a script from `source`, checks `list`, a schedule of it, and executes its steps on a fresh
 /// kernel with this history limit. After each step the line of its entry is written to `sink`.
@@ -62,25 +60,5 @@ pub fn run_schedule<I: Source, O: Sink>(
             drop(kernel);
             Err(fault)
         }
-    }
-}
-
-// The script that a source spells.
-fn script_in<I: Source>(heap: Heap, source: &mut I) -> Result<Script, RunFault>
-    requires { CanCount (I.failures source.old) }
-    ensures ok { IfOk result (GivesScript (I.remaining source.old) (I.remaining source.new)) }
-    ensures fault { IfErr result (NoScript (I.remaining source.old) (I.remaining source.new)) }
-    ensures read { result ≡ Err RunFault.Read → I.failures source.old < I.failures source.new }
-    ensures no_failure { result ≢ Err RunFault.Read
-        → I.failures source.new ≡ I.failures source.old }
-{
-    let text = match read_all(heap, source, MOST_READ) {
-        Ok(text) => text,
-        Err(ReadFault::Device) => return Err(RunFault::Read),
-        Err(ReadFault::NoMemory) => return Err(RunFault::NoMemory),
-    };
-    match read_script(heap, text.as_slice()) {
-        Ok(script) => Ok(script),
-        Err(fault) => Err(RunFault::of_script(fault)),
     }
 }

@@ -10,15 +10,18 @@ use runner::{RunFault, read_words, report_command_line, report_fault, run_job};
 use std::alloc::Global;
 use std::fs::File;
 use std::process::ExitCode;
+use std::sync::Wait;
+use std::thread::Threads;
 use std::{env, io};
 use words::{CommandLineFault, Job, MAX_LIMIT};
 
 fn main(rt: HostRuntime) -> ExitCode {
-    ExitCode::from(status(&rt))
+    ExitCode::from(status(&rt, &rt))
 }
 
-/// Reads the command line and does its job. Returns the exit status.
-fn status(rt: &HostRuntime) -> u8 {
+/// Reads the command line and does its job. Returns the exit status. Only `main` may give the host's
+/// threads to others, so they come as a handle of their own.
+fn status<R: Threads + Wait + Sync>(rt: &HostRuntime, threads: &R) -> u8 {
     let mut out = Counted::new(rt.stdout());
     let mut err = Counted::new(rt.stderr());
     let Ok(heap) = heap::open(rt.alloc()) else {
@@ -33,7 +36,7 @@ fn status(rt: &HostRuntime) -> u8 {
         return RunFault::Read.status();
     };
     let mut source = Counted::new(file);
-    run_job(heap, &job, &mut source, &mut out, &mut err)
+    run_job(threads, heap, &job, &mut source, &mut out, &mut err)
 }
 
 /// The job that the command line gives.

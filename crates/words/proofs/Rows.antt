@@ -1,9 +1,9 @@
 -- Faults of command lines that are written out, computed.
 use Rattle.std.proofs.Common.{◌≡◌, refl, codes, List, [], ◌∷◌, Option, Some, None}
 use Rattle.clap.specs.Words.{Kinds, Text, fault_of}
-use Rattle.clap.specs.declared.error.kind.ErrorKind.TheVariants.{ArgumentConflict, DisplayHelp, MissingRequiredArgument, UnknownArgument, ValueValidation}
+use Rattle.clap.specs.declared.error.kind.ErrorKind.TheVariants.{ArgumentConflict, DisplayHelp, MissingRequiredArgument, TooManyValues, UnknownArgument, ValueValidation}
 use Rattle.clap.proofs.OnLiterals.{clap_on_literals}
-use Rattle.words.specs.Txsh.{txsh, number_in}
+use Rattle.words.specs.Txsh.{txsh, number_in, value_in}
 
 -- what clap finds in the words behind the program's name
 abbrev found_in : List Text → Kinds
@@ -33,15 +33,15 @@ two_files : found_in (codes "--schedule=1" ∷ codes "run.tx" ∷ codes "run.tx"
 unfolding clap_on_literals
 two_files = refl
 
--- the text that clap has for `check`
-abbrev check_in : List Text → Option Text
-check_in words = number_in (codes "txsh" ∷ words) (codes "check")
+-- the text that clap has for a flag
+abbrev flag_in : Text → List Text → Option Text
+flag_in id words = number_in (codes "txsh" ∷ words) id
 
-check_given : check_in (codes "--schedule=1" ∷ codes "--check" ∷ codes "run.tx" ∷ []) ≡ Some (codes "true")
+check_given : flag_in (codes "check") (codes "--schedule=1" ∷ codes "--check" ∷ codes "run.tx" ∷ []) ≡ Some (codes "true")
 unfolding clap_on_literals
 check_given = refl
 
-check_missing : check_in (codes "--schedule=1" ∷ codes "run.tx" ∷ []) ≡ Some (codes "false")
+check_missing : flag_in (codes "check") (codes "--schedule=1" ∷ codes "run.tx" ∷ []) ≡ Some (codes "false")
 unfolding clap_on_literals
 check_missing = refl
 
@@ -53,12 +53,36 @@ check_twice : found_in (codes "--check" ∷ codes "--check" ∷ codes "--schedul
 unfolding clap_on_literals
 check_twice = refl
 
--- no fault of clap's: the program itself asks for a way
+threads_fit : found_in (codes "--threads" ∷ codes "run.tx" ∷ []) ≡ []
+unfolding clap_on_literals
+threads_fit = refl
+
+threads_given : flag_in (codes "threads") (codes "--threads" ∷ codes "run.tx" ∷ []) ≡ Some (codes "true")
+unfolding clap_on_literals
+threads_given = refl
+
+threads_missing : flag_in (codes "threads") (codes "--schedule=1" ∷ codes "run.tx" ∷ []) ≡ Some (codes "false")
+unfolding clap_on_literals
+threads_missing = refl
+
+schedule_missing : value_in (codes "txsh" ∷ codes "--threads" ∷ codes "run.tx" ∷ []) (codes "schedule") ≡ None
+unfolding clap_on_literals
+schedule_missing = refl
+
+threads_take_no_value : found_in (codes "--threads=2" ∷ codes "run.tx" ∷ []) ≡ TooManyValues ∷ []
+unfolding clap_on_literals
+threads_take_no_value = refl
+
+-- no fault of clap's: the program itself asks for exactly one way
 no_way : found_in (codes "run.tx" ∷ []) ≡ []
 unfolding clap_on_literals
 no_way = refl
 
-unknown_way : found_in (codes "--threads" ∷ codes "run.tx" ∷ []) ≡ UnknownArgument ∷ []
+both_ways : found_in (codes "--schedule=1" ∷ codes "--threads" ∷ codes "run.tx" ∷ []) ≡ []
+unfolding clap_on_literals
+both_ways = refl
+
+unknown_way : found_in (codes "--steps" ∷ codes "run.tx" ∷ []) ≡ UnknownArgument ∷ []
 unfolding clap_on_literals
 unknown_way = refl
 

@@ -1,6 +1,6 @@
 -- The command line, as clap reads it.
-use Rattle.std.specs.Prelude.{◌≡◌, ◌≢◌, ℕ, pos, min, List, Option, Some, None}
-use Rattle.std.specs.Prelude.{Bool, Result, false, true, codes, map, string_bytes, unwrap_or, []}
+use Rattle.std.specs.Prelude.{◌≡◌, ◌≢◌, ◌⊎◌, ◌↔◌, ℕ, pos, min, List, Option, Some, None}
+use Rattle.std.specs.Prelude.{Bool, Result, true, codes, map, string_bytes, unwrap_or, []}
 use Rattle.std.specs.Borrow.{Bor}
 use Rattle.std.specs.Result.{result_unwrap_or}
 use Rattle.std.specs.Str.Parse.{ParsesUnsigned}
@@ -13,7 +13,7 @@ use Rattle.clap.specs.declared.error.Error.{Error}
 use Rattle.clap.specs.declared.error.kind.ErrorKind.TheVariants.{DisplayHelp, OutOfMemory}
 use Rattle.words.specs.declared.TheConstants.{DEFAULT_LIMIT, MAX_LIMIT}
 use Rattle.words.specs.declared.Way.{Way}
-use Rattle.words.specs.declared.Way.TheVariants.{Schedule}
+use Rattle.words.specs.declared.Way.TheVariants.{Schedule, Threads}
 use Rattle.words.specs.declared.Job.{Job}
 use Rattle.words.specs.declared.CommandLineFault.{CommandLineFault}
 use Rattle.words.specs.declared.CommandLineFault.TheVariants.{OneWay, NotUtf8}
@@ -24,6 +24,12 @@ schedule_rule = record (new_rule (codes "schedule")) {
   long = Some (codes "schedule");
   action = Some Set;
   value_names = 1;
+}
+
+abbrev pub threads_rule : Rule
+threads_rule = record (new_rule (codes "threads")) {
+  long = Some (codes "threads");
+  action = Some SetTrue;
 }
 
 abbrev pub limit_rule : Rule
@@ -43,19 +49,34 @@ check_rule = record (new_rule (codes "check")) {
 abbrev pub file_rule : Rule
 file_rule = record (new_rule (codes "file")) { action = Some Set; required = true; value_names = 1 }
 
--- `txsh [--schedule LIST] [--limit N] [--check] FILE`
+-- `txsh [--schedule LIST] [--threads] [--limit N] [--check] FILE`: that exactly one of the two ways
+-- is given is the program's own rule, below
 abbrev pub txsh : App
 txsh =
-    let options = with_rule (with_rule (new_app (codes "txsh")) schedule_rule) limit_rule in
-    with_rule (with_rule options check_rule) file_rule
+    let ways = with_rule (with_rule (new_app (codes "txsh")) schedule_rule) threads_rule in
+    with_rule (with_rule (with_rule ways limit_rule) check_rule) file_rule
 
--- a schedule is given
-abbrev pub IsWay : (Text → Option Text) → Way → Type 0
-IsWay value (Schedule list) = value (codes "schedule") ≡ Some (string_bytes list)
+-- a flag is set, by clap's text for it: `true` where the words have it, else `false`
+abbrev pub IsSet : Option Text → Type 0
+IsSet text = text ≡ Some (codes "true")
 
--- no way is given
-abbrev pub HasNotOneWay : (Text → Option Text) → Type 0
-HasNotOneWay value = value (codes "schedule") ≡ None
+-- whether a flag is set
+abbrev pub IsFlag : Option Text → Bool → Type 0
+IsFlag text flag = (flag ≡ true) ↔ IsSet text
+
+-- a schedule is given and threads are not asked for, or the other way round. `value` gives the
+-- options' values, `number` the texts that numbers and flags are read from.
+abbrev pub IsWay : (Text → Option Text) → (Text → Option Text) → Way → Type 0
+IsWay value number (Schedule list) =
+    (value (codes "schedule") ≡ Some (string_bytes list)) × (IsSet (number (codes "threads")) → ⊥)
+IsWay value number Threads =
+    (value (codes "schedule") ≡ None) × IsSet (number (codes "threads"))
+
+-- both ways are given, or neither
+abbrev pub HasNotOneWay : (Text → Option Text) → (Text → Option Text) → Type 0
+HasNotOneWay value number =
+    ((value (codes "schedule") ≢ None) × IsSet (number (codes "threads")))
+    ⊎ ((value (codes "schedule") ≡ None) × (IsSet (number (codes "threads")) → ⊥))
 
 -- the number that the text reads as, at most the largest limit; the default where there is none
 abbrev pub IsLimit : Option Text → ℕ → Type 0
@@ -65,15 +86,9 @@ IsLimit (Some text) limit =
     × ParsesUnsigned 32 10 text read
     × (limit ≡ min (result_unwrap_or read DEFAULT_LIMIT) MAX_LIMIT)
 
--- whether a flag is set, by clap's text for it: `true` where the words have it, else `false`
-abbrev pub IsFlag : Option Text → Bool → Type 0
-IsFlag None flag = flag ≡ false
-IsFlag (Some text) flag =
-    (text ≡ codes "true" → flag ≡ true) × (text ≡ codes "false" → flag ≡ false)
-
 -- the job that the options' values give
 pub record IsJob (value number : Text → Option Text) (job : Job) : Type 0 where
-  pub way : IsWay value job.way
+  pub way : IsWay value number job.way
   pub limit : IsLimit (number (codes "limit")) job.limit
   pub check : IsFlag (number (codes "check")) job.check
   pub file : string_bytes job.file ≡ unwrap_or (value (codes "file")) []
@@ -86,7 +101,7 @@ texts words = map (λ word. word.now) words
 abbrev pub value_in : List Text → Text → Option Text
 value_in words id = first_of id (matches_of txsh words)
 
--- the text that is read as a number there
+-- the text that is read as a number or a flag there
 abbrev pub number_in : List Text → Text → Option Text
 number_in words id = one_of id (matches_of txsh words)
 
@@ -125,12 +140,14 @@ IsParseFault words (Usage error) =
 IsParseFault words NoMemory = Unit {0}
 
 -- why the values give no job
-abbrev pub IsJobFault : (Text → Option Text) → CommandLineFault → Type 0
-IsJobFault value OneWay = HasNotOneWay value
-IsJobFault value NoMemory = Unit {0}
-IsJobFault value _ = ⊥
+abbrev pub IsJobFault : (Text → Option Text) → (Text → Option Text) → CommandLineFault → Type 0
+IsJobFault value number OneWay = HasNotOneWay value number
+IsJobFault value number NoMemory = Unit {0}
+IsJobFault value number _ = ⊥
 
--- why the words give no job: clap finds no fault in them and no way is given, or no matches
+-- why the words give no job: clap finds no fault in them and not exactly one way is given, or no
+-- matches
 abbrev pub IsFaultOf : List Text → CommandLineFault → Type 0
-IsFaultOf words OneWay = (fault_of txsh words ≡ []) × HasNotOneWay (value_in words)
+IsFaultOf words OneWay =
+    (fault_of txsh words ≡ []) × HasNotOneWay (value_in words) (number_in words)
 IsFaultOf words other = IsParseFault words other

@@ -1,11 +1,12 @@
-//! The command line of `txsh`: `txsh [--schedule LIST] [--limit N] [--check] FILE`.
+//! The command line of `txsh`: `txsh (--schedule LIST | --threads) [--limit N] [--check] FILE`.
 #![tactic(auto)]
 
 ghost use Rattle.std.specs.Prelude.{◌≡◌, ◌≤◌, [], false, IfOk, IfErr, codes, string_bytes};
 ghost use Rattle.clap.specs.Words.{app_of, fault_of, first_value, found_of, one_text, rule_of};
 ghost use Rattle.words.specs.Txsh.{IsFaultOf, IsFlag, IsJob, IsJobFault, IsLimit, IsParseFault};
-ghost use Rattle.words.specs.Txsh.{IsReportedAs, SameMatches, check_rule, file_rule, limit_rule};
-ghost use Rattle.words.specs.Txsh.{number_in, schedule_rule, status_of, texts, txsh, value_in};
+ghost use Rattle.words.specs.Txsh.{IsReportedAs, IsWay, SameMatches, check_rule, file_rule};
+ghost use Rattle.words.specs.Txsh.{limit_rule, number_in, schedule_rule, status_of, texts};
+ghost use Rattle.words.specs.Txsh.{threads_rule, txsh, value_in};
 
 use clap::error::ErrorKind;
 use clap::{Arg, ArgAction, ArgMatches, Command, Error};
@@ -24,6 +25,8 @@ pub const DEFAULT_LIMIT: u32 = 65_536;
 pub enum Way {
     /// Step by step: the k-th time that a process stands in this list it runs its k-th line.
     Schedule(String<Heap>),
+    /// A thread for each process, children too; the transcript is printed at the end.
+    Threads,
 }
 
 /// What the command line asks for.
@@ -72,14 +75,16 @@ impl CommandLineFault {
     }
 }
 
-// The program itself reports that a way to run is missing, so clap's own usage line would call
-// `--schedule` an option.
-const USAGE: &str = "txsh --schedule <LIST> [--limit <N>] [--check] <FILE>";
+// The program itself sees to it that one way to run is given, so clap's own usage line would call
+// `--schedule` and `--threads` options.
+const USAGE: &str = "txsh (--schedule <LIST> | --threads) [--limit <N>] [--check] <FILE>";
 
 const ABOUT: &str =
     "Runs the operations of a script on a kernel with transactions, and prints the reply to each.";
 
-const EXAMPLE: &str = "Example:\n  txsh --schedule 1,1,2,1,2 examples/first-run.tx";
+const EXAMPLES: &str = "Examples:
+  txsh --schedule 1,1,2,1,2 examples/first-run.tx
+  txsh --threads examples/first-run.tx";
 
 // `--schedule LIST`
 fn schedule_arg<'a>(alloc: Global) -> Arg<'a>
@@ -91,6 +96,17 @@ fn schedule_arg<'a>(alloc: Global) -> Arg<'a>
         .value_name("LIST")
         .help("The steps, as process numbers with commas: each runs that process's next line")
         .action(ArgAction::Set)
+}
+
+// `--threads`
+fn threads_arg<'a>(alloc: Global) -> Arg<'a>
+    ensures rule { rule_of result ≡ threads_rule }
+    ensures local { result.global ≡ false }
+{
+    Arg::new(alloc, "threads")
+        .long("threads")
+        .help("A thread for each process, children too; the transcript is printed at the end")
+        .action(ArgAction::SetTrue)
 }
 
 // `--limit N`
@@ -134,14 +150,15 @@ fn command<'a>(alloc: Global) -> Result<Command<'a>, AllocError>
     ensures { IfOk result (λ command. app_of command ≡ txsh) }
 {
     let with_schedule = Command::new(alloc, "txsh").arg(schedule_arg(alloc))?;
-    let with_limit = with_schedule.arg(limit_arg(alloc))?;
+    let with_threads = with_schedule.arg(threads_arg(alloc))?;
+    let with_limit = with_threads.arg(limit_arg(alloc))?;
     let with_check = with_limit.arg(check_arg(alloc))?;
     let with_file = with_check.arg(file_arg(alloc))?;
     Ok(
         with_file
             .override_usage(USAGE)
             .about(ABOUT)
-            .after_help(EXAMPLE),
+            .after_help(EXAMPLES),
     )
 }
 
@@ -186,27 +203,40 @@ fn limit_of(matches: &ArgMatches) -> u32
     }
 }
 
-// Whether the history is to be checked.
-fn check_of(matches: &ArgMatches) -> bool
-    ensures { IsFlag (one_text (found_of matches.now) (codes "check")) result }
+// Whether a flag is set. `get_flag` does the same, but promises nothing of a text that is neither
+// `true` nor `false`.
+fn flag_of(matches: &ArgMatches, id: &str) -> bool
+    ensures { IsFlag (one_text (found_of matches.now) id.now) result }
 {
-    matches.get_flag("check")
+    matches.get_one::<bool>(id).unwrap_or(false)
+}
+
+// The way to run, where exactly one is given.
+fn way_of(heap: Heap, matches: &ArgMatches) -> Result<Way, CommandLineFault>
+    ensures ok { IfOk result
+        (IsWay (first_value (found_of matches.now)) (one_text (found_of matches.now))) }
+    ensures err { IfErr result
+        (IsJobFault (first_value (found_of matches.now)) (one_text (found_of matches.now))) }
+{
+    match (matches.get_str("schedule"), flag_of(matches, "threads")) {
+        (Some(list), false) => Ok(Way::Schedule(owned_text(heap, list)?)),
+        (None, true) => Ok(Way::Threads),
+        _ => Err(CommandLineFault::OneWay),
+    }
 }
 
 // The job that the matches give. The command requires a file, so one is named.
 fn job_of(heap: Heap, matches: &ArgMatches) -> Result<Job, CommandLineFault>
     ensures ok { IfOk result
         (IsJob (first_value (found_of matches.now)) (one_text (found_of matches.now))) }
-    ensures err { IfErr result (IsJobFault (first_value (found_of matches.now))) }
+    ensures err { IfErr result
+        (IsJobFault (first_value (found_of matches.now)) (one_text (found_of matches.now))) }
     ensures small { IfOk result (λ job. job.limit ≤ MAX_LIMIT) }
 {
-    let Some(list) = matches.get_str("schedule") else {
-        return Err(CommandLineFault::OneWay);
-    };
     Ok(Job {
-        way: Way::Schedule(owned_text(heap, list)?),
+        way: way_of(heap, matches)?,
         limit: limit_of(matches),
-        check: check_of(matches),
+        check: flag_of(matches, "check"),
         file: owned_text(heap, matches.get_str("file").unwrap_or(""))?,
     })
 }
@@ -224,10 +254,10 @@ fn owned_text(heap: Heap, text: &str) -> Result<String<Heap>, CommandLineFault>
 /// The job that a command line gives. The first word is the program's name. clap takes its memory
 /// from `alloc`, and the job's is from `heap`.
 ///
-/// Words that fit the command's usage give a job, or `OneWay` where no way to run is among them.
-/// Other words give `Help`, where help is asked for first, or else `Usage`, in clap's own words.
-/// `NoMemory` may come in place of each, where memory was refused. `NotUtf8` never comes, since the
-/// words are UTF-8 here.
+/// Words that fit the command's usage give a job where exactly one way to run is among them, else
+/// `OneWay`. Other words give `Help`, where help is asked for first, or else `Usage`, in clap's own
+/// words. `NoMemory` may come in place of each, where memory was refused. `NotUtf8` never comes,
+/// since the words are UTF-8 here.
 pub fn read_words<'a>(
     alloc: Global,
     heap: Heap,

@@ -61,11 +61,11 @@ goes_on {lines} {before} {done} {place} {after_it} operation r stands next entry
     )
 
 -- a fork that made a child
-pub bears : {P : Type 0} {number : P → ℕ} {done : P → List (Op × Reply)} {lines : List Op} {old new : List (Op × Reply)} {place after_it : Place}
+pub bears : {P H : Type 0} {number : P → ℕ} {home : P → H} {done : P → List (Op × Reply)} {h : H} {lines : List Op} {old new : List (Op × Reply)} {place after_it : Place}
     {operation : Op} {pid : ℕ} {child : P}
-    → Stands lines old place → asked place ≡ Some operation → IsBorn number done operation old new pid child → after_it ≡ after place (child_reply pid)
+    → Stands lines old place → asked place ≡ Some operation → IsBorn number home done h operation old new pid child → after_it ≡ after place (child_reply pid)
     → Stands lines new after_it × (children new ≡ children old ++ pid ∷ [])
-bears {P} {number} {done} {lines} {old} {new} {place} {after_it} {operation} {pid} {child} stands next born there =
+bears {P} {H} {number} {home} {done} {h} {lines} {old} {new} {place} {after_it} {operation} {pid} {child} stands next born there =
     let S : List (Op × Reply) → Type 0 = λ d. Stands lines d after_it in
     let T : Place → Type 0 = λ p. Stands lines (old ++ (fork, child_reply pid) ∷ []) p in (
       subst S (sym born.list) (subst T (sym there) (Stands-push fork (child_reply pid) stands (next ∙ ap Some born.is_fork))),
@@ -73,10 +73,10 @@ bears {P} {number} {done} {lines} {old} {new} {place} {after_it} {operation} {pi
     )
 
 -- what comes after some operations that made no child
-pub comes-later : {P : Type 0} (number : P → ℕ) (done : P → List (Op × Reply)) (lines : List Op) (old mid new : List (Op × Reply)) (place : Place) (event : Option (Event P))
-    → children mid ≡ children old → Comes number done lines mid new place event → Comes number done lines old new place event
-comes-later number done lines old mid new place None e comes = (comes.0, comes.1 ∙ e)
-comes-later number done lines old mid new place (Some Ended) e comes = (comes.0, comes.1 ∙ e)
-comes-later number done lines old mid new place (Some (Forked pid child)) e comes =
-    (comes.0, comes.1 ∙ ap (λ (xs : List ℕ). xs ++ pid ∷ []) e, comes.2, comes.3)
-comes-later number done lines old mid new place (Some (Stopped fault)) e comes = comes
+pub comes-later : {P H : Type 0} (number : P → ℕ) (home : P → H) (done : P → List (Op × Reply)) (h : H) (lines : List Op) (old mid new : List (Op × Reply)) (place : Place) (event : Option (Event P))
+    → children mid ≡ children old → Comes number home done h lines mid new place event → Comes number home done h lines old new place event
+comes-later number home done h lines old mid new place None e comes = (comes.0, comes.1 ∙ e)
+comes-later number home done h lines old mid new place (Some Ended) e comes = (comes.0, comes.1 ∙ e)
+comes-later number home done h lines old mid new place (Some (Forked pid child)) e comes =
+    (comes.0, comes.1 ∙ ap (λ (xs : List ℕ). xs ++ pid ∷ []) e, comes.2, comes.3, comes.4)
+comes-later number home done h lines old mid new place (Some (Stopped fault)) e comes = comes

@@ -9,22 +9,25 @@ use Rattle.workers.specs.Rules.{Place}
 use Rattle.workers.specs.Families.{children}
 use Rattle.workers.specs.Work.{IsStopped, IsWork, Stands}
 
--- the operation was a fork, and made a child whose port is new
-pub record IsBorn {P : Type 0} (number : P → ℕ) (done : P → List (Op × Reply)) (operation : Op)
-    (old new : List (Op × Reply)) (pid : ℕ) (child : P) : Type 0 where
+-- the operation was a fork, and made a child whose port is new and leads to the kernel h
+pub record IsBorn {P H : Type 0} (number : P → ℕ) (home : P → H) (done : P → List (Op × Reply))
+    (h : H) (operation : Op) (old new : List (Op × Reply)) (pid : ℕ) (child : P)
+    : Type 0 where
   pub is_fork : operation ≡ fork
   pub list : new ≡ old ++ (fork, child_reply pid) ∷ []
   pub number_is : number child ≡ pid
+  pub home_is : home child ≡ h
   pub fresh : done child ≡ []
 
 -- The worker of these lines goes on, from its place, or has come to the end, to a child, or to a
 -- refusal. Only a fork that made a child adds one.
-abbrev pub Comes : {P : Type 0} → (P → ℕ) → (P → List (Op × Reply)) → List Op
+abbrev pub Comes : {P H : Type 0} → (P → ℕ) → (P → H) → (P → List (Op × Reply)) → H → List Op
     → List (Op × Reply) → List (Op × Reply) → Place → Option (Event P) → Type 0
-Comes number done lines old new place None =
+Comes number home done h lines old new place None =
     Stands lines new place × (children new ≡ children old)
-Comes number done lines old new place (Some Ended) =
+Comes number home done h lines old new place (Some Ended) =
     IsWork lines new × (children new ≡ children old)
-Comes number done lines old new place (Some (Forked pid child)) = Stands lines new place
-    × (children new ≡ children old ++ pid ∷ []) × (number child ≡ pid) × (done child ≡ [])
-Comes number done lines old new place (Some (Stopped fault)) = IsStopped lines new
+Comes number home done h lines old new place (Some (Forked pid child)) = Stands lines new place
+    × (children new ≡ children old ++ pid ∷ []) × (number child ≡ pid) × (home child ≡ h)
+    × (done child ≡ [])
+Comes number home done h lines old new place (Some (Stopped fault)) = IsStopped lines new

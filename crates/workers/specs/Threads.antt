@@ -16,18 +16,18 @@ promised_process thread = thread.promise.process
 abbrev pub promised : {P L A : Type 0} → List (PromisedHandle (Family P A) (FamilyOf L)) → List ℕ
 promised threads = map promised_process threads
 
-abbrev pub IsOver : {P L A : Type 0}
-    → (L → List Line) → List Line → PromisedHandle (Family P A) (FamilyOf L) → Type 0
-IsOver listed lines thread = listed thread.promise.lines.value ≡ lines
+abbrev pub IsOver : {P L A : Type 0} → L → PromisedHandle (Family P A) (FamilyOf L) → Type 0
+IsOver lines thread = thread.promise.lines.value ≡ lines
 
 -- each thread works over these lines
 abbrev pub AreOver : {P L A : Type 0}
-    → (L → List Line) → List Line → List (PromisedHandle (Family P A) (FamilyOf L)) → Type 0
-AreOver listed lines threads = AllByRecursion (IsOver listed lines) threads
+    → L → List (PromisedHandle (Family P A) (FamilyOf L)) → Type 0
+AreOver lines threads = AllByRecursion (IsOver lines) threads
 
 -- The ports have grown by the families of these processes.
-pub record Added {P : Type 0} (number : P → ℕ) (done : P → List (Op × Reply)) (lines : List Line)
-    (processes : List ℕ) (old new : List P) : Type 0 where
+pub record Added {P H : Type 0} (number : P → ℕ) (home : P → H) (done : P → List (Op × Reply))
+    (lines : List Line) (h : H) (processes : List ℕ) (old new : List P)
+    : Type 0 where
   pub families : List P
   pub grown : new ≡ old ++ families
-  pub each : AreFamilies number done lines processes families
+  pub each : AreFamilies number home done lines h processes families

@@ -2,11 +2,11 @@
 ghost use Rattle.std.specs.Prelude.{◌≡◌, ◌<◌, ◌≤◌, ◌⊎◌, [], ◌∷◌, map, All, IfOk, IfSome, None};
 ghost use Rattle.std.specs.Thread.{IsSync};
 ghost use Rattle.script.specs.Steps.{ops_for};
-ghost use Rattle.workers.specs.Families.{AreFamilies, children};
+ghost use Rattle.workers.specs.Families.{AreFamilies, HaveOneHome, children};
 ghost use Rattle.workers.specs.Threads.{Added, AreOver, promised};
 ghost use Rattle.workers.specs.Work.{IsWork};
 
-use crate::lines::Lines;
+use crate::lines::{Lines, ScriptLines};
 use crate::worker::{Event, run_on};
 use crate::{Place, Port, WorkFault};
 use heap::Heap;
@@ -38,9 +38,10 @@ struct FamilyOf<L> {
     lines: Snapshot<L>,
 }
 
-impl<P: Port, L: Lines, A: Allocator> Promise<Family<P, A>> for FamilyOf<L> {
+impl<P: Port, L: Lines<P>, A: Allocator> Promise<Family<P, A>> for FamilyOf<L> {
     ghost kept_by = { λ p family. family.stop ≡ None → AreFamilies
-        P.number P.done (L.listed p.lines.value) (p.process ∷ []) family.ports.items };
+        P.number P.home P.done (L.listed p.lines.value) (P.home (L.port p.lines.value))
+        (p.process ∷ []) family.ports.items };
 }
 
 // The stop of the lower process.
@@ -58,7 +59,7 @@ fn lower(first: Option<Stop>, second: Option<Stop>) -> Option<Stop>
 }
 
 // Joins threads, and adds the families that they give back behind the ports that are there.
-fn collected<R: Threads, P: Port, L: Lines, A: Allocator>(
+fn collected<R: Threads, P: Port, L: Lines<P>, A: Allocator>(
     rt: &R,
     process: Pid,
     mut ports: Vec<P, A>,
@@ -66,9 +67,10 @@ fn collected<R: Threads, P: Port, L: Lines, A: Allocator>(
     mut stop: Option<Stop>,
     mut threads: VecDeque<PromisedHandle<Family<P, A>, FamilyOf<L>>, A>,
 ) -> Family<P, A>
-    requires over { AreOver L.listed (L.listed lines.now) threads.items }
+    requires over { AreOver lines.now threads.items }
     ensures none { result.stop ≡ None → stop ≡ None }
-    ensures added { result.stop ≡ None → Added P.number P.done (L.listed lines.now)
+    ensures added { result.stop ≡ None → Added P.number P.home P.done
+        (L.listed lines.now) (P.home (L.port lines.now))
         (promised threads.items) ports.items result.ports.items }
 {
     while let Some(thread) = threads.pop_front() {
@@ -86,7 +88,7 @@ fn collected<R: Threads, P: Port, L: Lines, A: Allocator>(
 }
 
 // The port of a process that has done its work, with the families that its threads give back.
-fn gathered<R: Threads, P: Port, L: Lines, A: Allocator>(
+fn gathered<R: Threads, P: Port, L: Lines<P>, A: Allocator>(
     rt: &R,
     alloc: A,
     port: P,
@@ -95,10 +97,12 @@ fn gathered<R: Threads, P: Port, L: Lines, A: Allocator>(
     threads: VecDeque<PromisedHandle<Family<P, A>, FamilyOf<L>>, A>,
 ) -> Family<P, A>
     requires work { stop ≡ None → IsWork (ops_for (P.number port) (L.listed lines.now)) (P.done port) }
+    requires home { P.home port ≡ P.home (L.port lines.now) }
     requires threads { stop ≡ None → promised threads.items ≡ children (P.done port) }
-    requires over { AreOver L.listed (L.listed lines.now) threads.items }
-    ensures { result.stop ≡ None → AreFamilies
-        P.number P.done (L.listed lines.now) (P.number port ∷ []) result.ports.items }
+    requires over { AreOver lines.now threads.items }
+    ensures { result.stop ≡ None → AreFamilies P.number P.home P.done
+        (L.listed lines.now) (P.home (L.port lines.now))
+        (P.number port ∷ []) result.ports.items }
 {
     let process = port.pid();
     let mut ports = Vec::new(alloc);
@@ -116,20 +120,23 @@ fn gathered<R: Threads, P: Port, L: Lines, A: Allocator>(
 fn work<
     R: Threads + Wait + Sync,
     P: Port + Send,
-    L: Lines + Sync,
+    L: Lines<P> + Sync,
     A: Allocator + Copy + Send + Sync,
 >(rt: &R, alloc: A, port: P, lines: &L, levels: u32) -> Family<P, A>
-    requires { P.done port ≡ [] }
-    ensures { result.stop ≡ None → AreFamilies
-        P.number P.done (L.listed lines.now) (P.number port ∷ []) result.ports.items }
+    requires { (P.done port ≡ []) × (P.home port ≡ P.home (L.port lines.now)) }
+    ensures { result.stop ≡ None → AreFamilies P.number P.home P.done
+        (L.listed lines.now) (P.home (L.port lines.now))
+        (P.number port ∷ []) result.ports.items }
 {
     thread::scope(
         thread::scope_env(),
         rt,
         |scope| -> Family<P, A>
-            requires { IsSync R.row × (P.done port ≡ []) }
-            ensures { result.stop ≡ None → AreFamilies
-                P.number P.done (L.listed lines.entry.now) (P.number port ∷ []) result.ports.items }
+            requires { IsSync R.row × (P.done port ≡ [])
+                × (P.home port ≡ P.home (L.port lines.now)) }
+            ensures { result.stop ≡ None → AreFamilies P.number P.home P.done
+                (L.listed lines.entry.now) (P.home (L.port lines.entry.now))
+                (P.number port ∷ []) result.ports.items }
         {
             let mut port = port;
             let process = port.pid();
@@ -154,9 +161,11 @@ fn work<
                             let started = scope.spawn_with(
                                 promise,
                                 move || -> Family<P, A>
-                                    requires { IsSync R.row × (P.done child ≡ []) × (0 < levels) }
-                                    ensures { result.stop ≡ None → AreFamilies
-                                        P.number P.done (L.listed lines.entry.now) (P.number child ∷ []) result.ports.items }
+                                    requires { IsSync R.row × (P.done child ≡ []) × (0 < levels)
+                                        × (P.home child ≡ P.home (L.port lines.now)) }
+                                    ensures { result.stop ≡ None → AreFamilies P.number P.home P.done
+                                        (L.listed lines.entry.now) (P.home (L.port lines.entry.now))
+                                        (P.number child ∷ []) result.ports.items }
                                 { work(rt, alloc, child, lines, levels - 1) },
                             );
                             match started {
@@ -173,26 +182,30 @@ fn work<
 }
 
 // Starts a thread for each process, and joins them all.
-fn run_all<R: Threads + Wait + Sync, P: Port + Send, L: Lines + Sync>(
-    rt: &R,
-    heap: Heap,
-    ports: Vec<P, Heap>,
-    lines: &L,
-) -> Result<Vec<P, Heap>, WorkFault>
-    requires { All (λ p. P.done p ≡ []) ports.items }
-    ensures { IfOk result (λ v. AreFamilies
-        P.number P.done (L.listed lines.now) (map P.number ports.entry.items) v.items) }
+fn run_all<
+    R: Threads + Wait + Sync,
+    P: Port + Send,
+    L: Lines<P> + Sync,
+    A: Allocator + Copy + Send + Sync,
+>(rt: &R, alloc: A, ports: Vec<P, A>, lines: &L) -> Result<Vec<P, A>, WorkFault>
+    requires fresh { All (λ p. P.done p ≡ []) ports.items }
+    requires home { All (λ p. P.home p ≡ P.home (L.port lines.now)) ports.items }
+    ensures { IfOk result (λ v. AreFamilies P.number P.home P.done
+        (L.listed lines.now) (P.home (L.port lines.now))
+        (map P.number ports.items) v.items) }
 {
     let family = thread::scope(
         thread::scope_env(),
         rt,
-        |scope| -> Family<P, Heap>
-            requires { IsSync R.row × All (λ p. P.done p ≡ []) ports.items }
-            ensures { result.stop ≡ None → AreFamilies
-                P.number P.done (L.listed lines.entry.now) (map P.number ports.entry.items) result.ports.items }
+        |scope| -> Family<P, A>
+            requires { IsSync R.row × All (λ p. P.done p ≡ []) ports.items
+                × All (λ p. P.home p ≡ P.home (L.port lines.now)) ports.items }
+            ensures { result.stop ≡ None → AreFamilies P.number P.home P.done
+                (L.listed lines.entry.now) (P.home (L.port lines.entry.now))
+                (map P.number ports.items) result.ports.items }
         {
             let mut ports = VecDeque::from(ports);
-            let mut threads = VecDeque::new(heap);
+            let mut threads = VecDeque::new(alloc);
             let mut stop = None;
             while let Some(port) = ports.pop_front() {
                 let process = port.pid();
@@ -205,11 +218,13 @@ fn run_all<R: Threads + Wait + Sync, P: Port + Send, L: Lines + Sync>(
                     };
                     let started = scope.spawn_with(
                         promise,
-                        move || -> Family<P, Heap>
-                            requires { IsSync R.row × (P.done port ≡ []) }
-                            ensures { result.stop ≡ None → AreFamilies
-                                P.number P.done (L.listed lines.entry.now) (P.number port ∷ []) result.ports.items }
-                        { work(rt, heap, port, lines, MAX_PROCESSES) },
+                        move || -> Family<P, A>
+                            requires { IsSync R.row × (P.done port ≡ [])
+                                × (P.home port ≡ P.home (L.port lines.now)) }
+                            ensures { result.stop ≡ None → AreFamilies P.number P.home P.done
+                                (L.listed lines.entry.now) (P.home (L.port lines.entry.now))
+                                (P.number port ∷ []) result.ports.items }
+                        { work(rt, alloc, port, lines, MAX_PROCESSES) },
                     );
                     match started {
                         Ok(thread) => threads.push_back_reserved(thread),
@@ -217,7 +232,7 @@ fn run_all<R: Threads + Wait + Sync, P: Port + Send, L: Lines + Sync>(
                     }
                 }
             }
-            collected(rt, Pid(0), Vec::new(heap), lines, stop, threads)
+            collected(rt, Pid(0), Vec::new(alloc), lines, stop, threads)
         },
     );
     match family.stop {
@@ -236,9 +251,18 @@ pub fn run_workers<R: Threads + Wait + Sync, P: Port + Send>(
     ports: Vec<P, Heap>,
     script: &Script,
 ) -> Result<Vec<P, Heap>, WorkFault>
-    requires { All (λ p. P.done p ≡ []) ports.items }
-    ensures { IfOk result (λ v. AreFamilies
-        P.number P.done script.now.lines (map P.number ports.entry.items) v.items) }
+    requires fresh { All (λ p. P.done p ≡ []) ports.items }
+    requires home { HaveOneHome P.home ports.items }
+    ensures { IfOk result (λ v. (h : P.Home) → All (λ p. P.home p ≡ h) ports.entry.items
+        → AreFamilies P.number P.home P.done script.now.lines h
+        (map P.number ports.entry.items) v.items) }
 {
-    run_all(rt, heap, ports, script)
+    let Some(first) = ports.first() else {
+        return Ok(ports);
+    };
+    let lines = ScriptLines {
+        script,
+        port: Snapshot::of(first),
+    };
+    run_all(rt, heap, ports, &lines)
 }

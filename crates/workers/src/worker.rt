@@ -24,9 +24,9 @@ pub(crate) enum Event<P> {
 
 // Asks for an operation. A fork that makes a child gives the child's number and port.
 fn ask<R: Wait, P: Port>(rt: &R, port: &mut P, operation: Op) -> Result<(Pid, P), Reply>
-    ensures same { P.number port.new ≡ P.number port.old }
-    ensures child { IfOk result (λ child. IsBorn P.number P.done operation
-        (P.done port.old) (P.done port.new) child.0 child.1) }
+    ensures same { (P.number port.new ≡ P.number port.old) × (P.home port.new ≡ P.home port.old) }
+    ensures child { IfOk result (λ child. IsBorn P.number P.home P.done (P.home port.old)
+        operation (P.done port.old) (P.done port.new) child.0 child.1) }
     ensures reply { IfErr result (λ reply.
         P.done port.new ≡ grown (P.done port.old) operation reply) }
     ensures childless { IfErr result (λ reply. child_of operation reply ≡ []) }
@@ -41,7 +41,7 @@ fn ask<R: Wait, P: Port>(rt: &R, port: &mut P, operation: Op) -> Result<(Pid, P)
 
 // Gives up the transaction that the process is in, if it is in one.
 fn stop<R: Wait, P: Port>(rt: &R, port: &mut P, place: &Place)
-    ensures same { P.number port.new ≡ P.number port.old }
+    ensures same { (P.number port.new ≡ P.number port.old) × (P.home port.new ≡ P.home port.old) }
     ensures stopped { (lines : List Op) → Stands lines (P.done port.old) (shown place.now)
         → IsStopped lines (P.done port.new) }
 {
@@ -57,13 +57,14 @@ fn take_reply<R: Wait, P: Port>(
     place: &mut Place,
     reply: Reply,
 ) -> Option<Event<P>>
-    ensures same { P.number port.new ≡ P.number port.old }
+    ensures same { (P.number port.new ≡ P.number port.old) × (P.home port.new ≡ P.home port.old) }
     ensures comes { (lines : List Op) (before : List (Op × Reply)) (operation : Op)
         → Stands lines before (shown place.old)
         → asked (shown place.old) ≡ Some operation
         → child_of operation reply ≡ []
         → P.done port.old ≡ grown before operation reply
-        → Comes P.number P.done lines before (P.done port.new) (shown place.new) result }
+        → Comes P.number P.home P.done (P.home port.old) lines
+        before (P.done port.new) (shown place.new) result }
 {
     match WorkFault::of_reply(&reply) {
         Some(fault) => {
@@ -100,9 +101,9 @@ fn take_child<P: Port>(place: &mut Place, born: (Pid, P)) -> Event<P>
 
 // One operation of a worker, if one is left.
 fn step<R: Wait, P: Port>(rt: &R, port: &mut P, place: &mut Place) -> Option<Event<P>>
-    ensures same { P.number port.new ≡ P.number port.old }
+    ensures same { (P.number port.new ≡ P.number port.old) × (P.home port.new ≡ P.home port.old) }
     ensures comes { (lines : List Op) → Stands lines (P.done port.old) (shown place.old)
-        → Comes P.number P.done lines
+        → Comes P.number P.home P.done (P.home port.old) lines
         (P.done port.old) (P.done port.new) (shown place.new) result }
 {
     match place.next() {
@@ -120,9 +121,9 @@ fn step<R: Wait, P: Port>(rt: &R, port: &mut P, place: &mut Place) -> Option<Eve
 
 /// Goes on with the work of a process up to the next child, or to its end.
 pub(crate) fn run_on<R: Wait, P: Port>(rt: &R, port: &mut P, place: &mut Place) -> Event<P>
-    ensures same { P.number port.new ≡ P.number port.old }
+    ensures same { (P.number port.new ≡ P.number port.old) × (P.home port.new ≡ P.home port.old) }
     ensures comes { (lines : List Op) → Stands lines (P.done port.old) (shown place.old)
-        → Comes P.number P.done lines
+        → Comes P.number P.home P.done (P.home port.old) lines
         (P.done port.old) (P.done port.new) (shown place.new) (Some result) }
 {
     for _ in rt.forever() {

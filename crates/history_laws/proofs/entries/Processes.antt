@@ -54,7 +54,7 @@ said_child NoMemory answer h = absurd cc
 said_child NoProcess answer h = absurd cc
 
 -- and one that is not executed makes none
-unsaid_child : (said : Reply) → answer_in said ≡ None → (child_in said ≡ None) × (born said ≡ 0)
+pub unsaid_child : (said : Reply) → answer_in said ≡ None → (child_in said ≡ None) × (born said ≡ 0)
 unsaid_child (Answers a) h = absurd cc
 unsaid_child said h = (refl, refl)
 

@@ -1,5 +1,5 @@
 use denote.Param.Send.{sendable}
-use Rattle.edge_tests.proofs.Sent.{closure_sent, pass_sent}
+use Rattle.ports.proofs.Sent.{closure_sent, pass_sent}
 use Rattle.edge_tests.proofs.of_turnstile.both_worked.Goals as goal
 
 pub join-requires-send-F : goal.join-requires-send-F

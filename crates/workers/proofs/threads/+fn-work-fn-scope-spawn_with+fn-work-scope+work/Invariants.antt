@@ -23,5 +23,6 @@ invariant-scope-loop g l = record {
   number : g.P.Port.number l.port ≡ l.process;
   stands : Stands (ops_for l.process (g.L.Lines.listed l.lines.now)) (g.P.Port.done l.port) (shown l.place);
   threads : l.stop ≡ None → promised l.threads.items ≡ children (g.P.Port.done l.port);
-  over : AreOver g.L.Lines.listed (g.L.Lines.listed l.lines.now) l.threads.items;
+  home : g.P.Port.home l.port ≡ g.P.Port.home (g.L.Lines.port l.lines.now);
+  over : AreOver l.lines.now l.threads.items;
 }

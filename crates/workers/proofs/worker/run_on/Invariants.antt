@@ -11,6 +11,7 @@ invariant-loop g l = record {
   can_next : (goal.iterator-loop g).can_next l.iterator';
   is_finite : (goal.iterator-loop g).is_finite l.iterator';
   same : g.P.Port.number l.port ≡ g.P.Port.number l.fn.port;
+  home : g.P.Port.home l.port ≡ g.P.Port.home l.fn.port;
   went : (lines : List Op) → Stands lines (g.P.Port.done l.fn.port) (shown l.fn.place)
       → Stands lines (g.P.Port.done l.port) (shown l.place) × (children (g.P.Port.done l.port) ≡ children (g.P.Port.done l.fn.port));
 }

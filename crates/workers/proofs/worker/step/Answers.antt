@@ -10,5 +10,5 @@ returns-in-Ok-clause-comes g c = λ lines stands.
     let born = c.in-Ok.ensures.child in
     let next : asked (shown c.args.place.now) ≡ Some c.in-Ok-Some.operation = search rules in
     let on = bears stands next born c.take_child.ensures.place in
-    subst (λ e. Comes g.P.Port.number g.P.Port.done lines (g.P.Port.done c.args.port.now) (g.P.Port.done c.ask.new.port) (shown c.take_child.new.place) (Some e))
-    (sym c.take_child.ensures.event) (on.0, on.1, born.number_is, born.fresh)
+    subst (λ e. Comes g.P.Port.number g.P.Port.home g.P.Port.done (g.P.Port.home c.args.port.now) lines (g.P.Port.done c.args.port.now) (g.P.Port.done c.ask.new.port) (shown c.take_child.new.place) (Some e))
+    (sym c.take_child.ensures.event) (on.0, on.1, born.number_is, born.home_is, born.fresh)

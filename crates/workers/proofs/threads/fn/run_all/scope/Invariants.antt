@@ -7,7 +7,8 @@ use Rattle.workers.proofs.threads.fn.run_all.scope.Given as goal
 abbrev pub invariant-loop-port : goal.invariant-loop-port
 invariant-loop-port g l = record {
   fresh : AllByRecursion (λ p. g.P.Port.done p ≡ []) l.ports.items;
-  over : AreOver g.L.Lines.listed (g.L.Lines.listed l.lines.now) l.threads.items;
+  home : AllByRecursion (λ p. g.P.Port.home p ≡ g.P.Port.home (g.L.Lines.port l.lines.now)) l.ports.items;
+  over : AreOver l.lines.now l.threads.items;
   numbers : l.stop ≡ None → promised l.threads.items ++ map g.P.Port.number l.ports.items ≡ map g.P.Port.number l.initial.ports.items;
 }
 

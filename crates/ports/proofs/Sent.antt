@@ -241,10 +241,10 @@ lease_sync T A g f = record { shared = λ d b o ν q. part_keyless (SendLease.th
 pub pass_sent : IsSend Pass.the_row
 pass_sent = search (kernel_sent, seat_sent, sendable, crosses) depth 40 fits 30000
 
-turnstile_shared : IsSync Turnstile.the_row
+pub turnstile_shared : IsSync Turnstile.the_row
 turnstile_shared = search (kernel_sent, shared_sync, lease_sync, sendable, crosses, over.crosses, frees_by, frees.frees) depth 40 fits 30000
 
-heap_shared : IsSync (Metered.the_row Global.the_row)
+pub heap_shared : IsSync (Metered.the_row Global.the_row)
 heap_shared = search (sendable, crosses) depth 40
 
 -- what a closure of four captures is made of

@@ -1,0 +1,96 @@
+-- The processes that are there at the start, and what a run of all comes to.
+use Rattle.std.proofs.Common.{◌≡◌, ℕ, zero, suc, ◌<◌, ◌≤◌, List, [], ◌∷◌, ◌++◌, ◌⊎◌, inl, inr, length, map, refl, sym, ◌∙◌, ap, subst, true, false, Bool, arith}
+use Rattle.std.specs.Prelude.{if◌then◌else◌, nat_lt, ◌&&◌}
+use Rattle.std.specs.List.{AllByRecursion}
+use Rattle.std.proofs.lemmas.Bool.{cases_lt}
+use Rattle.std.proofs.lemmas.Bool.Decides.{nat_tests}
+use Rattle.call_laws.proofs.Laws.{first_processes_live}
+use Rattle.history.specs.Log.{Log}
+use Rattle.ids.specs.declared.limits.TheConstants.{MAX_PROCESSES}
+use Rattle.kernel.specs.Shown.{Shown, Kept, moment}
+use Rattle.model.specs.Legal.{Legal}
+use Rattle.model.specs.Moments.{all_below, is_alive, start}
+use Rattle.model.specs.State.{Kernel as State}
+use Rattle.ports.proofs.Called.{begins_on}
+use Rattle.ports.proofs.Found.{Among, AreWorked, Found, all_among, among_left, among_right, gates, waiting_found, works}
+use Rattle.ports.specs.Runs.{IsRunByThreads}
+use Rattle.script.specs.Contents.{ScriptContents}
+use Rattle.turnstile.specs.Calls.{KeepsPass, first_pass, first_passes, has_pass, living_numbers}
+use Rattle.turnstile.specs.Histories.{Begins, IsLegal}
+use Rattle.turnstile.specs.Passes.{Gate, PassView}
+
+below_among : (test : ℕ → Bool) (n q : ℕ) → test q ≡ true → q < n → Among (all_below test n) q
+below_among test zero q holds low = absurd (omega arith)
+below_among test (suc n) q holds low = elim (cases_lt q n) [
+  | inl below ↦ (let here = below_among test n q holds below in
+      elim (test n) as (λ b. Among (if b then all_below test n ++ n ∷ [] else all_below test n) q) [
+        | true ↦ among_left (all_below test n) (n ∷ []) q here
+        | false ↦ here
+      ])
+  | inr above ↦ (let is : n ≡ q = omega arith in
+      let last : test n ≡ true = ap test is ∙ holds in
+      subst (λ (b : Bool). Among (if b then all_below test n ++ n ∷ [] else all_below test n) q) (sym last) (among_right (all_below test n) (n ∷ []) q (inl is)))
+]
+
+-- each process that is there at the start is one of those that get a pass
+living : (k : State) (priorities : List ℕ) → k ≡ start 0 priorities → length priorities ≤ MAX_PROCESSES
+    → (q : ℕ) → 0 < q → q ≤ length priorities → Among (living_numbers k) q
+living k priorities is few zero positive low = absurd (omega arith)
+living k priorities is few (suc i) positive low =
+    let firsts = first_processes_live 0 priorities in
+    let alive : is_alive k (suc i) ≡ true = ap (λ (s : State). is_alive s (suc i)) is ∙ firsts.alive i (omega arith) in
+    let small : nat_lt (suc i) 4294967296 ≡ true = grind (arith, nat_tests) in
+    let has : has_pass k (suc i) ≡ true = ap (λ (b : Bool). b && is_alive k (suc i)) small ∙ alive in
+    let made : k.made ≡ length priorities = ap (λ (s : State). s.made) is ∙ firsts.made in
+    below_among (has_pass k) (suc k.made) (suc i) has (omega arith)
+
+-- the first passes are those of the living processes
+pub numbers_of : (g : Gate) (qs : List ℕ) → map (λ (p : PassView). p.pid) (map (first_pass g) qs) ≡ qs
+numbers_of g [] = refl
+numbers_of g (q ∷ qs) = ap (λ (xs : List ℕ). q ∷ xs) (numbers_of g qs)
+
+-- they have seen what was there when the turnstile was made
+pub firsts_begun : (g : Gate) (qs : List ℕ) → AllByRecursion (λ (p : PassView). p.seen ≡ p.gate.start) (map (first_pass g) qs)
+firsts_begun g [] = tt
+firsts_begun g (q ∷ qs) = (refl, firsts_begun g qs)
+
+-- the kernel that a turnstile begins with has no entry
+pub record IsFresh (script : ScriptContents) (limit : ℕ) (g : Gate) (k : State) : Type 0 where
+  pub gate : g.start ≡ record { entries = []; priorities = script.priorities; limit = limit }
+  pub state : k ≡ start 0 script.priorities
+  pub some : 0 < length script.priorities
+  pub few : length script.priorities ≤ MAX_PROCESSES
+
+pub fresh_gate : (script : ScriptContents) (limit : ℕ) (g : Gate) (v : Shown) → Kept v → g.start ≡ v.log
+    → v.log ≡ record { entries = []; priorities = script.priorities; limit = limit }
+    → 0 < length script.priorities → length script.priorities ≤ MAX_PROCESSES → IsFresh script limit g v.state
+fresh_gate script limit g v kept gate log some few = record {
+  gate = gate ∙ log;
+  state = kept.state ∙ ap (λ (l : Log). (moment l).committed) log;
+  some = some;
+  few = few;
+}
+
+-- a run whose passes have all come back
+pub has_run : (script : ScriptContents) (limit : ℕ) (g : Gate) (k : State) (passes : List PassView) (log : Log)
+    → IsFresh script limit g k → AreWorked script.lines g (map (λ (p : PassView). p.pid) (first_passes g k)) passes
+    → AllByRecursion (λ (p : PassView). Begins p.gate.start p.seen) passes → AllByRecursion (KeepsPass log) passes → IsLegal log
+    → IsRunByThreads script limit log
+has_run script limit g k passes log fresh came begun kept legal =
+    let numbers = numbers_of g (living_numbers k) in
+    let worked : AreWorked script.lines g (living_numbers k) passes = subst (λ (w : List ℕ). AreWorked script.lines g w passes) numbers came in
+    let one = waiting_found script.lines g (living_numbers k) passes worked 1 (living k script.priorities fresh.state fresh.few 1 (omega arith) (omega arith)) in
+    let gate : one.pass.gate ≡ g = all_among (λ (p : PassView). p.gate ≡ g) passes one.pass (gates script.lines g (living_numbers k) passes worked) one.among in
+    let start_is = ap (λ (h : Gate). h.start) gate ∙ fresh.gate in
+    let grown : Begins one.pass.gate.start log =
+    begins_on one.pass.gate.start one.pass.seen log
+    (all_among (λ (p : PassView). Begins p.gate.start p.seen) passes one.pass begun one.among)
+    (all_among (KeepsPass log) passes one.pass kept one.among).longer in
+    let priorities : log.priorities ≡ script.priorities = grown.priorities ∙ ap (λ (l : Log). l.priorities) start_is in
+    record {
+      legal = legal.legal;
+      same_priorities = priorities;
+      same_limit = grown.limit ∙ ap (λ (l : Log). l.limit) start_is;
+      works = works script.lines g (living_numbers k) passes log worked kept legal.legal
+          (λ q positive low. living k script.priorities fresh.state fresh.few q positive (subst (λ (ps : List ℕ). q ≤ length ps) priorities low));
+    }

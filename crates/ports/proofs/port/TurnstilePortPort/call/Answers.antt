@@ -1,0 +1,13 @@
+use Rattle.std.proofs.Common.{rules, ◌≡◌}
+use Rattle.ids.specs.declared.reply.Reply.{Reply}
+use Rattle.ports.proofs.Called.{called_done}
+use Rattle.ports.specs.Ports.{done_by}
+use Rattle.turnstile.specs.Calls.{Called}
+use Rattle.workers.specs.Port.{grown}
+use Rattle.ports.proofs.port.TurnstilePortPort.call.Goals as goal
+
+pub returns-clause-done : goal.returns-clause-done
+returns-clause-done g c =
+    let called : Called c.args.self.now c.args.operation c.call.result c.call.new.pass = search rules in
+    let same : c.call.new.pass.pid ≡ c.args.self.now.pid = search rules in
+    called_done c.args.self.now c.call.new.pass c.args.operation c.call.result same called
