@@ -80,7 +80,7 @@ frees_by : {D : Type 0} {G : Type 1} (g : G) (holds : D → Ty → Ptr → Fml)
 frees_by g holds h = record { frees = h }
 
 patch_sent : IsSend Patch.the_row
-patch_sent = search (sendable, crosses, over.crosses, maps.crosses, frees_by, frees.frees) depth 40 fits 30000
+patch_sent = search (sendable, crosses, over.crosses, frees_by, frees.frees) depth 40 fits 30000
 
 bytes_sent : IsSend FileShadow.the_row
 bytes_sent = search (sendable, crosses, over.crosses, frees_by, frees.frees) depth 40 fits 30000
@@ -125,7 +125,7 @@ shadow_sent : IsSend Shadow.the_row
 shadow_sent = search (patches_sent, sendable, crosses, over.crosses) depth 40 fits 30000
 
 dir_sent : IsSend Dir.the_row
-dir_sent = search (sendable, crosses, over.crosses, maps.crosses, frees_by, frees.frees) depth 40 fits 30000
+dir_sent = search (sendable, crosses, over.crosses, frees_by, frees.frees) depth 40 fits 30000
 
 open_file_sent : IsSend (OpenFile.the_field).row
 open_file_sent = search (room_sent, sendable, crosses, over.crosses) depth 40 fits 30000
