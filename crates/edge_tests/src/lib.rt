@@ -10,6 +10,10 @@ mod jobs;
 #[cfg(test)]
 mod of_device;
 #[cfg(test)]
+mod of_hostile;
+#[cfg(test)]
+mod of_passes;
+#[cfg(test)]
 mod of_runner;
 #[cfg(test)]
 mod of_script;
@@ -19,6 +23,8 @@ mod of_threads;
 mod of_transcript;
 #[cfg(test)]
 mod of_turnstile;
+#[cfg(test)]
+mod of_two_threads;
 #[cfg(test)]
 mod of_words;
 #[cfg(test)]

@@ -20,7 +20,7 @@ fn path(letter: u8, number: u64) -> [u8; 4] {
     [b'/', letter, b'0' + tens as u8, b'0' + ones as u8]
 }
 
-fn mkdir(heap: Heap, path: &[u8]) -> Result<Op, AllocError> {
+pub(crate) fn mkdir(heap: Heap, path: &[u8]) -> Result<Op, AllocError> {
     Ok(Op::Call(Call::Mkdir(Bytes::copy(heap, path)?)))
 }
 
@@ -29,10 +29,10 @@ fn stat(heap: Heap, path: &[u8]) -> Result<Op, AllocError> {
 }
 
 // A turnstile with the passes of its two processes.
-struct Opened {
-    turnstile: Turnstile,
-    one: Pass,
-    two: Pass,
+pub(crate) struct Opened {
+    pub(crate) turnstile: Turnstile,
+    pub(crate) one: Pass,
+    pub(crate) two: Pass,
 }
 
 // The first of two passes, and the second.
@@ -45,7 +45,7 @@ fn two_of(passes: &mut Vec<Pass, Heap>) -> Option<(Pass, Pass)>
     Some((one, two))
 }
 
-fn begun(heap: Heap, kernel: Kernel) -> Option<Opened>
+pub(crate) fn begun(heap: Heap, kernel: Kernel) -> Option<Opened>
     ensures one { IfSome result (λ o. o.one.gate ≡ o.turnstile) }
     ensures two { IfSome result (λ o. o.two.gate ≡ o.turnstile) }
 {

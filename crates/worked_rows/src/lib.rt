@@ -12,6 +12,10 @@ mod freed;
 #[cfg(test)]
 mod given_up;
 #[cfg(test)]
+mod growths;
+#[cfg(test)]
+mod limits;
+#[cfg(test)]
 mod links;
 #[cfg(test)]
 mod modes;
@@ -35,6 +39,8 @@ mod renames;
 mod row;
 #[cfg(test)]
 mod shared;
+#[cfg(test)]
+mod shown;
 #[cfg(test)]
 mod tests;
 #[cfg(test)]

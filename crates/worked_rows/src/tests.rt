@@ -1,6 +1,7 @@
 // Each row is run step by step, and as one run of the kernel.
 use crate::files::FILES;
 use crate::freed::FREED;
+use crate::growths::{grow_all, grow_script};
 use crate::links::LINKS;
 use crate::pipes::{HALVES, PIPES};
 use crate::processes::{ENDED, PROCESSES};
@@ -87,10 +88,33 @@ fn a_run_leaves_the_transcript_of_the_row(rt: HostRuntime) -> Result<(), Fail> {
     all_at_once(heap, &ENDED)
 }
 
+// Each request for memory of each step of each row is refused in turn.
+#[test]
+fn refuse_each_growth(rt: HostRuntime) -> Result<(), Fail> {
+    let heap = heap::open(rt.alloc())?;
+    let rows = [
+        grow_all(heap, &TRANSACTIONS)?,
+        grow_all(heap, &TREES)?,
+        grow_all(heap, &FILES)?,
+        grow_all(heap, &LINKS)?,
+        grow_all(heap, &FREED)?,
+        grow_all(heap, &RENAMES)?,
+        grow_all(heap, &SHARED)?,
+        grow_all(heap, &PIPES)?,
+        grow_all(heap, &HALVES)?,
+        grow_all(heap, &PROCESSES)?,
+        grow_all(heap, &ENDED)?,
+    ];
+    for refused in rows {
+        assert!(rt; refused > 0);
+    }
+    Ok(())
+}
+
 // Opens a file so often in one process.
 fn open_often(kernel: &mut Kernel, heap: Heap, count: u32) -> Result<(), Fail> {
     for _ in 0..count {
-        do_script(kernel, heap, "priorities 0\n1 open /a RDWR,CREAT\n", "1")?;
+        let _refused = grow_script(kernel, heap, "priorities 0\n1 open /a RDWR,CREAT\n", "1")?;
     }
     Ok(())
 }
@@ -114,7 +138,7 @@ static TOLD_AFTER_64: &str = "64 P1 open /a RDWR,CREAT -> 63
 // A process that has opened a file 64 times, and the calls after that.
 fn opened_often(kernel: &mut Kernel, heap: Heap) -> Result<Vec<u8, Heap>, Fail> {
     open_often(kernel, heap, 64)?;
-    do_script(kernel, heap, AFTER_64, "1,1,1,1,1")?;
+    let _refused = grow_script(kernel, heap, AFTER_64, "1,1,1,1,1")?;
     transcript_of(heap, kernel)
 }
 
@@ -130,7 +154,7 @@ fn a_process_has_64_descriptors(rt: HostRuntime) -> Result<(), Fail> {
 // A process shares a descriptor so often.
 fn share_often(kernel: &mut Kernel, heap: Heap, count: u32) -> Result<(), Fail> {
     for _ in 0..count {
-        do_script(kernel, heap, "priorities 0\n1 dup 0\n", "1")?;
+        let _refused = grow_script(kernel, heap, "priorities 0\n1 dup 0\n", "1")?;
     }
     Ok(())
 }
@@ -173,9 +197,9 @@ static TOLD_AFTER_SHARING: &str = "65 P1 dup 0 -> 63
 // A process whose descriptors are all one, and the calls after that. What finds no descriptor
 // touches nothing.
 fn shared_often(kernel: &mut Kernel, heap: Heap) -> Result<Vec<u8, Heap>, Fail> {
-    do_script(kernel, heap, SHARED_ONCE, "1,1")?;
+    let _refused = grow_script(kernel, heap, SHARED_ONCE, "1,1")?;
     share_often(kernel, heap, 63)?;
-    do_script(kernel, heap, AFTER_SHARING, "1,1,1,1,2,1,2,1,1,1,1,1")?;
+    let _refused = grow_script(kernel, heap, AFTER_SHARING, "1,1,1,1,2,1,2,1,1,1,1,1")?;
     transcript_of(heap, kernel)
 }
 

@@ -1,0 +1,480 @@
+// Texts that are no scripts and lists that are no schedules, and devices that fail in every place of
+// a run.
+ghost use Rattle.std.specs.Prelude.{◌≡◌};
+
+use crate::halting::halting;
+use device::{Failing, Portions, Trickling};
+use heap::Heap;
+use ids::Pid;
+use runner::{RunFault, run_schedule};
+use script::{ScheduleFault, ScriptFault, read_schedule, read_script};
+use std::alloc::AllocError;
+use std::test::Fail;
+
+// How a run of a text by a list ends, and what it has then written.
+fn end_of(heap: Heap, text: &[u8], list: &str, limit: u32) -> (Option<RunFault>, Vec<u8, Heap>) {
+    let mut source = Portions {
+        bytes: text,
+        most: 5000,
+    };
+    let mut sink = halting(heap, 10_000);
+    let limit = limit.min(100) as usize;
+    let fault = run_schedule(heap, &mut source, list, limit, &mut sink).err();
+    (fault, sink.bytes)
+}
+
+// Whether a run of a text has this fault, and has written nothing.
+fn has_fault(heap: Heap, text: &[u8], list: &str, fault: RunFault) -> bool {
+    let (found, written) = end_of(heap, text, list, 100);
+    found == Some(fault) && written.is_empty()
+}
+
+// Texts that are no scripts by their first line, which is not skipped, or by their last.
+static HEADS: [(&[u8], ScriptFault); 31] = [
+    (b"", ScriptFault::PrioritiesExpected(1)),
+    (b"\n", ScriptFault::PrioritiesExpected(2)),
+    (b"\n\n", ScriptFault::PrioritiesExpected(3)),
+    (b"# c\n", ScriptFault::PrioritiesExpected(2)),
+    (b"#", ScriptFault::NotEnded(1)),
+    (b"\n#", ScriptFault::NotEnded(2)),
+    (b" ", ScriptFault::NotEnded(1)),
+    (b" \n", ScriptFault::PrioritiesExpected(1)),
+    (b" # c\npriorities 0\n", ScriptFault::PrioritiesExpected(1)),
+    (b"priorities 0", ScriptFault::NotEnded(1)),
+    (b"priorities 0\r", ScriptFault::NotEnded(1)),
+    (b"priorities 0\r\n", ScriptFault::PrioritiesExpected(1)),
+    (b"priorities\n", ScriptFault::PrioritiesExpected(1)),
+    (b"priorities \n", ScriptFault::PrioritiesExpected(1)),
+    (b"priorities 8\n", ScriptFault::PrioritiesExpected(1)),
+    (b"priorities 00\n", ScriptFault::PrioritiesExpected(1)),
+    (b"priorities 01\n", ScriptFault::PrioritiesExpected(1)),
+    (b"priorities -1\n", ScriptFault::PrioritiesExpected(1)),
+    (b"priorities +1\n", ScriptFault::PrioritiesExpected(1)),
+    (b"priorities 0,1\n", ScriptFault::PrioritiesExpected(1)),
+    (b"priorities 0 \n", ScriptFault::PrioritiesExpected(1)),
+    (b"priorities  0\n", ScriptFault::PrioritiesExpected(1)),
+    (b"priorities\t0\n", ScriptFault::PrioritiesExpected(1)),
+    (b" priorities 0\n", ScriptFault::PrioritiesExpected(1)),
+    (b"Priorities 0\n", ScriptFault::PrioritiesExpected(1)),
+    (b"priority 0\n", ScriptFault::PrioritiesExpected(1)),
+    (
+        b"\xef\xbb\xbfpriorities 0\n",
+        ScriptFault::PrioritiesExpected(1),
+    ),
+    (
+        b"priorities 18446744073709551616\n",
+        ScriptFault::PrioritiesExpected(1),
+    ),
+    (b"priorities 0\0\n", ScriptFault::PrioritiesExpected(1)),
+    (b"\0", ScriptFault::NotEnded(1)),
+    (b"1 end\npriorities 0\n", ScriptFault::PrioritiesExpected(1)),
+];
+
+// Second lines of texts that are no scripts.
+static LINES: [(&[u8], ScriptFault); 60] = [
+    (b" ", ScriptFault::ProcessExpected(2)),
+    (b"0", ScriptFault::ProcessExpected(2)),
+    (b"0 stat /", ScriptFault::ProcessExpected(2)),
+    (b" 1 stat /", ScriptFault::ProcessExpected(2)),
+    (b"-1 end", ScriptFault::ProcessExpected(2)),
+    (b"+1 end", ScriptFault::ProcessExpected(2)),
+    (b"01 end", ScriptFault::ProcessExpected(2)),
+    (b"4097 end", ScriptFault::ProcessExpected(2)),
+    (b"18446744073709551617 end", ScriptFault::ProcessExpected(2)),
+    (b"1\tend", ScriptFault::ProcessExpected(2)),
+    (b"1end", ScriptFault::ProcessExpected(2)),
+    (b"end", ScriptFault::ProcessExpected(2)),
+    (b"priorities 0", ScriptFault::ProcessExpected(2)),
+    (b"\xff", ScriptFault::ProcessExpected(2)),
+    (b"1", ScriptFault::UnknownOperation(2)),
+    (b"1 ", ScriptFault::UnknownOperation(2)),
+    (b"1 frob", ScriptFault::UnknownOperation(2)),
+    (b"1  stat /", ScriptFault::UnknownOperation(2)),
+    (b"1 END", ScriptFault::UnknownOperation(2)),
+    (b"1 end\r", ScriptFault::UnknownOperation(2)),
+    (b"1 stat\0 /", ScriptFault::UnknownOperation(2)),
+    (b"1 stat", ScriptFault::BadArguments(2)),
+    (b"1 stat ", ScriptFault::BadArguments(2)),
+    (b"1 stat / ", ScriptFault::BadArguments(2)),
+    (b"1 stat  /", ScriptFault::BadArguments(2)),
+    (b"1 stat /a /b", ScriptFault::BadArguments(2)),
+    (b"1 stat /\\xAA", ScriptFault::BadArguments(2)),
+    (b"1 stat \\ea", ScriptFault::BadArguments(2)),
+    (b"1 stat a\\e", ScriptFault::BadArguments(2)),
+    (b"1 stat \\", ScriptFault::BadArguments(2)),
+    (b"1 stat \\x", ScriptFault::BadArguments(2)),
+    (b"1 stat \\x4", ScriptFault::BadArguments(2)),
+    (b"1 stat \\n", ScriptFault::BadArguments(2)),
+    (b"1 stat /\x01", ScriptFault::BadArguments(2)),
+    (b"1 stat /\x7f", ScriptFault::BadArguments(2)),
+    (b"1 stat /\xc3\xa4", ScriptFault::BadArguments(2)),
+    (b"1 stat /\0", ScriptFault::BadArguments(2)),
+    (b"1 end ", ScriptFault::BadArguments(2)),
+    (b"1 end end", ScriptFault::BadArguments(2)),
+    (b"1 begin RESTART,RESTART", ScriptFault::BadArguments(2)),
+    (b"1 begin RESTART,", ScriptFault::BadArguments(2)),
+    (b"1 begin 1", ScriptFault::BadArguments(2)),
+    (b"1 begin -", ScriptFault::BadArguments(2)),
+    (b"1 abort  no_restart", ScriptFault::BadArguments(2)),
+    (b"1 abort NO_RESTART", ScriptFault::BadArguments(2)),
+    (b"1 read 0", ScriptFault::BadArguments(2)),
+    (b"1 read 0 -1", ScriptFault::BadArguments(2)),
+    (b"1 read 0 1048577", ScriptFault::BadArguments(2)),
+    (b"1 read 0x0 1", ScriptFault::BadArguments(2)),
+    (b"1 close 4294967296", ScriptFault::BadArguments(2)),
+    (
+        b"1 close 18446744073709551616",
+        ScriptFault::BadArguments(2),
+    ),
+    (b"1 lseek 0 -0 SET", ScriptFault::BadArguments(2)),
+    (b"1 lseek 0 --1 SET", ScriptFault::BadArguments(2)),
+    (b"1 lseek 0 - SET", ScriptFault::BadArguments(2)),
+    (b"1 lseek 0 01 SET", ScriptFault::BadArguments(2)),
+    (b"1 open /a RDWR,,CREAT", ScriptFault::BadArguments(2)),
+    (b"1 open /a rdwr", ScriptFault::BadArguments(2)),
+    (b"1 open /a", ScriptFault::BadArguments(2)),
+    (b"1 fill 0 1 0", ScriptFault::BadArguments(2)),
+    (b"1 fill 0 1048577 00", ScriptFault::BadArguments(2)),
+];
+
+// A text whose second line is this.
+fn with_line(heap: Heap, line: &[u8]) -> Result<Vec<u8, Heap>, AllocError> {
+    let mut text = Vec::from_slice(heap, b"priorities 0\n")?;
+    text.extend_from_slice(line)?;
+    text.push(b'\n')?;
+    Ok(text)
+}
+
+// Whether the text whose second line is this has this fault, and has it also before a worse one.
+fn line_has_fault(heap: Heap, line: &[u8], fault: ScriptFault) -> Result<bool, AllocError> {
+    let mut text = with_line(heap, line)?;
+    let alone = has_fault(heap, text.as_slice(), "", RunFault::Script(fault));
+    text.extend_from_slice(b"0 frob\n1")?;
+    Ok(alone && has_fault(heap, text.as_slice(), ",", RunFault::Script(fault)))
+}
+
+#[test]
+fn texts_that_are_no_scripts_have_their_faults(rt: HostRuntime) -> Result<(), Fail> {
+    let heap = heap::open(rt.alloc())?;
+    for (place, (text, fault)) in HEADS.iter().enumerate() {
+        assert!(rt;
+            has_fault(heap, text, "", RunFault::Script(*fault)),
+            "{place}"
+        );
+    }
+    for (place, (line, fault)) in LINES.iter().enumerate() {
+        assert!(rt; line_has_fault(heap, line, *fault)?, "{place}");
+    }
+    Ok(())
+}
+
+// As many line feeds as a script may have bytes, and one more.
+#[test]
+fn a_text_that_is_too_long_has_no_other_fault(rt: HostRuntime) -> Result<(), Fail> {
+    let heap = heap::open(rt.alloc())?;
+    let mut text = Vec::from_elem(heap, b'\n', 1_048_576)?;
+    let all = RunFault::Script(ScriptFault::PrioritiesExpected(1_048_577));
+    assert!(rt; has_fault(heap, text.as_slice(), "", all));
+    text.push(b' ')?;
+    let long = RunFault::Script(ScriptFault::TooLong);
+    assert!(rt; has_fault(heap, text.as_slice(), ",", long));
+    Ok(())
+}
+
+// Every operation.
+static ALL: &str = "priorities 0 7
+1 begin
+1 begin RESTART,ABORT_UNSUPPORTED
+1 open /a RDWR,CREAT,EXCL,TRUNC,APPEND
+1 close 0
+1 read 0 10
+1 write 0 a\\x00\\x5c
+1 fill 0 3 7a
+1 lseek 0 -1 END
+1 ftruncate 0 5
+1 stat /
+1 fstat 0
+1 link /a /b
+1 unlink /b
+1 rename /a /b
+1 mkdir /c
+1 rmdir /c
+1 list /
+1 dup 0
+1 dup2 0 1
+1 pipe
+1 fork
+1 abort
+1 abort no_restart
+1 end
+1 exit
+";
+
+// How many lines are ended in a text.
+fn ended(text: &[u8]) -> usize {
+    let mut count = 0usize;
+    for byte in text {
+        if *byte == b'\n' {
+            count = count.wrapping_add(1);
+        }
+    }
+    count
+}
+
+// How many lines a text is read as, or its fault.
+fn lines_in(heap: Heap, text: &[u8]) -> Result<usize, ScriptFault> {
+    let script = read_script(heap, text)?;
+    Ok(script.lines().len())
+}
+
+// A beginning of a script is one where its last line is ended.
+fn expected_lines(text: &[u8]) -> Result<usize, ScriptFault> {
+    let ended = ended(text);
+    match text.last().copied() {
+        None => Err(ScriptFault::PrioritiesExpected(1)),
+        Some(b'\n') => Ok(ended.wrapping_sub(1)),
+        Some(_) => Err(ScriptFault::NotEnded(ended.wrapping_add(1))),
+    }
+}
+
+#[test]
+fn each_beginning_of_a_script_is_one_or_not_ended(rt: HostRuntime) -> Result<(), Fail> {
+    let heap = heap::open(rt.alloc())?;
+    let text = ALL.as_bytes();
+    for len in 0..=text.len() {
+        let text = &text[..len];
+        assert!(rt; lines_in(heap, text) == expected_lines(text), "{len}");
+    }
+    Ok(())
+}
+
+static FIRST_RUN: &str = "priorities 0 0\n1 begin\n1 mkdir /a\n1 end\n2 stat /a\n2 stat /a\n";
+
+static FIRST_LIST: &str = "1,1,2,1,2";
+
+static FIRST_LINES: &str = "1 P1 begin -> begun
+2 P1 mkdir /a -> ok
+3 P2 stat /a -> ENOENT
+4 P1 end -> committed
+5 P2 stat /a -> dir size 0 links 1
+";
+
+// Lists that are no schedules. The whole list is read before lines are counted.
+static LISTS: [&str; 20] = [
+    ",",
+    "1,",
+    ",1",
+    "1,,1",
+    "01",
+    " 1",
+    "1 ",
+    "1, 2",
+    "1 2",
+    "1;2",
+    "1\n",
+    "0",
+    "-1",
+    "+1",
+    "0x1",
+    "P1",
+    "4097",
+    "18446744073709551617",
+    "\u{ff11}",
+    "3,3,x",
+];
+
+// Schedules that ask for more lines of this process than the first run has.
+static LONG_LISTS: [(&str, u32); 4] = [
+    ("3", 3),
+    ("4096", 4096),
+    ("1,1,1,1", 1),
+    ("1,2,2,1,2,1,1", 2),
+];
+
+// How many steps a list has, or its fault.
+fn steps_in(heap: Heap, list: &str) -> Result<usize, Option<ScheduleFault>> {
+    let Ok(script) = read_script(heap, FIRST_RUN.as_bytes()) else {
+        return Err(None);
+    };
+    match read_schedule(heap, list, &script) {
+        Ok(pids) => Ok(pids.len()),
+        Err(fault) => Err(Some(fault)),
+    }
+}
+
+// A beginning of a list of digits is one where no comma is its last byte.
+fn expected_steps(list: &str) -> Result<usize, Option<ScheduleFault>> {
+    if list.as_bytes().ends_with(b",") {
+        Err(Some(ScheduleFault::BadList))
+    } else {
+        Ok(list.len().div_ceil(2))
+    }
+}
+
+#[test]
+fn lists_that_are_no_schedules_have_their_faults(rt: HostRuntime) -> Result<(), Fail> {
+    let heap = heap::open(rt.alloc())?;
+    for list in &LISTS {
+        let fault = RunFault::Schedule(ScheduleFault::BadList);
+        assert!(rt;
+            has_fault(heap, FIRST_RUN.as_bytes(), list, fault),
+            "{list}"
+        );
+    }
+    for (list, number) in &LONG_LISTS {
+        let fault = RunFault::Schedule(ScheduleFault::NoLine(Pid(*number)));
+        assert!(rt;
+            has_fault(heap, FIRST_RUN.as_bytes(), list, fault),
+            "{list}"
+        );
+    }
+    Ok(())
+}
+
+#[test]
+fn each_beginning_of_a_schedule_is_one_or_none(rt: HostRuntime) -> Result<(), Fail> {
+    let heap = heap::open(rt.alloc())?;
+    for list in [
+        "", "1", "1,", "1,1", "1,1,", "1,1,2", "1,1,2,", "1,1,2,1", "1,1,2,1,",
+    ] {
+        assert!(rt; steps_in(heap, list) == expected_steps(list), "{list}");
+    }
+    Ok(())
+}
+
+// Whether the first run into a sink that takes so many bytes ends so, and the sink has just these.
+fn is_cut(heap: Heap, room: usize, fault: Option<RunFault>) -> bool {
+    let mut source = Portions {
+        bytes: FIRST_RUN.as_bytes(),
+        most: 1,
+    };
+    let mut sink = halting(heap, room);
+    let found = run_schedule(heap, &mut source, FIRST_LIST, 100, &mut sink).err();
+    let bytes = FIRST_LINES.as_bytes();
+    found == fault
+        && sink.bytes.as_slice() == &bytes[..room.min(bytes.len())]
+        && sink.failures == u64::from(fault.is_some())
+}
+
+// Whether a sink that takes one byte at each write has all.
+fn is_trickled(heap: Heap) -> bool {
+    let mut source = Portions {
+        bytes: FIRST_RUN.as_bytes(),
+        most: 5000,
+    };
+    let mut sink = Trickling {
+        bytes: Vec::new(heap),
+        failures: 0,
+    };
+    let fault = run_schedule(heap, &mut source, FIRST_LIST, 100, &mut sink).err();
+    fault.is_none() && sink.bytes.as_slice() == FIRST_LINES.as_bytes() && sink.failures == 0
+}
+
+#[test]
+fn a_sink_that_fails_has_what_came_before(rt: HostRuntime) -> Result<(), Fail> {
+    let heap = heap::open(rt.alloc())?;
+    assert_eq!(rt; FIRST_LINES.len(), 120);
+    for room in 0..120usize {
+        assert!(rt; is_cut(heap, room, Some(RunFault::Write)), "{room}");
+    }
+    assert!(rt; is_cut(heap, 120, None));
+    assert!(rt; is_trickled(heap));
+    Ok(())
+}
+
+// How often a source has failed that fails after so many reads, and whether the run then ends so
+// and has written this.
+fn failures_of(heap: Heap, left: usize, fault: Option<RunFault>, out: &str) -> (u64, bool) {
+    let mut source = Failing {
+        bytes: FIRST_RUN.as_bytes(),
+        left,
+        failures: 0,
+    };
+    let mut sink = halting(heap, 1000);
+    let found = run_schedule(heap, &mut source, FIRST_LIST, 100, &mut sink).err();
+    let right = found == fault && sink.bytes.as_slice() == out.as_bytes() && sink.failures == 0;
+    (source.failures, right)
+}
+
+#[test]
+fn a_source_that_fails_leaves_nothing_written(rt: HostRuntime) -> Result<(), Fail> {
+    let heap = heap::open(rt.alloc())?;
+    // 60 bytes by threes, and the read that finds the end.
+    for left in 0..21usize {
+        let failed = failures_of(heap, left, Some(RunFault::Read), "");
+        assert!(rt; failed == (1, true), "{left}");
+    }
+    assert!(rt; failures_of(heap, 21, None, FIRST_LINES) == (0, true));
+    Ok(())
+}
+
+static ISOLATED: &str =
+    "priorities 0 0\n1 begin\n1 open /a WRONLY,CREAT\n2 stat /a\n1 end\n2 stat /a\n";
+
+// A limit, and what a run under it has written.
+static LIMITS: [(u32, &str); 5] = [
+    (0, ""),
+    (1, ""),
+    (2, "1 P1 begin -> begun\n"),
+    (3, "1 P1 begin -> begun\n2 P1 open /a WRONLY,CREAT -> 0\n"),
+    (
+        4,
+        "1 P1 begin -> begun\n2 P1 open /a WRONLY,CREAT -> 0\n3 P2 stat /a -> ENOENT\n\
+            4 P1 end -> committed\n",
+    ),
+];
+
+static WHOLE: &str = "1 P1 begin -> begun\n2 P1 open /a WRONLY,CREAT -> 0\n\
+    3 P2 stat /a -> ENOENT\n4 P1 end -> committed\n5 P2 stat /a -> file size 0 links 1\n";
+
+// Whether a run under a limit ends so, and has written this.
+fn is_limited(heap: Heap, limit: u32, fault: Option<RunFault>, out: &str) -> bool {
+    let (found, written) = end_of(heap, ISOLATED.as_bytes(), FIRST_LIST, limit);
+    found == fault && written.as_slice() == out.as_bytes()
+}
+
+#[test]
+fn a_full_history_ends_a_run(rt: HostRuntime) -> Result<(), Fail> {
+    let heap = heap::open(rt.alloc())?;
+    for (limit, out) in &LIMITS {
+        assert!(rt;
+            is_limited(heap, *limit, Some(RunFault::HistoryFull), out),
+            "{limit}"
+        );
+    }
+    assert!(rt; is_limited(heap, 5, None, WHOLE));
+    Ok(())
+}
+
+// How the first run ends where this request for memory is refused, whether it has then written
+// whole lines alone, and how many requests it has made.
+fn refused(heap: Heap, sinks: Heap, number: u64) -> (Option<RunFault>, bool, u64) {
+    let mut source = Portions {
+        bytes: FIRST_RUN.as_bytes(),
+        most: 5000,
+    };
+    let mut sink = halting(sinks, 1000);
+    heap.refuse(number);
+    let fault = run_schedule(heap, &mut source, FIRST_LIST, 100, &mut sink).err();
+    let written = sink.bytes.as_slice();
+    let whole = written.is_empty() || written.ends_with(b"\n");
+    (
+        fault,
+        whole && FIRST_LINES.as_bytes().starts_with(written),
+        heap.made(),
+    )
+}
+
+#[test]
+fn refused_memory_ends_a_run_behind_a_line(rt: HostRuntime) -> Result<(), Fail> {
+    let heap = heap::open(rt.alloc())?;
+    let sinks = heap::open(rt.alloc())?;
+    let (fault, whole, made) = refused(heap, sinks, 0);
+    assert!(rt; fault.is_none() && whole && 0 < made);
+    for number in 0..made {
+        let next = number.saturating_add(1);
+        let (fault, whole, _) = refused(heap, sinks, next);
+        assert!(rt; fault == Some(RunFault::NoMemory) && whole, "{next}");
+    }
+    Ok(())
+}
