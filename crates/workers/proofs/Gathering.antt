@@ -1,5 +1,6 @@
 -- Families that come back from threads.
-use Rattle.std.proofs.Common.{◌≡◌, ℕ, ◌++◌, List, [], ◌∷◌, sym, ap, ◌∙◌, refl, append_assoc, append-nil, subst}
+use Rattle.std.proofs.Common.{◌≡◌, ℕ, ◌++◌, List, [], ◌∷◌, map, sym, ap, ◌∙◌, refl, append_assoc, append-nil, subst}
+use Rattle.std.specs.List.{AllByRecursion}
 use Rattle.std.specs.declared.thread.PromisedHandle.{PromisedHandle}
 use Rattle.ids.specs.declared.call.Op.{Op}
 use Rattle.ids.specs.declared.reply.Reply.{Reply}
@@ -8,7 +9,7 @@ use Rattle.script.specs.declared.read.Line.{Line}
 use Rattle.workers.specs.declared.threads.Family.{Family}
 use Rattle.workers.specs.declared.threads.FamilyOf.{FamilyOf}
 use Rattle.workers.specs.Families.{AreFamilies, children}
-use Rattle.workers.specs.Threads.{Added, AreOver, IsOver, promised}
+use Rattle.workers.specs.Threads.{Added, AreOver, promised}
 use Rattle.workers.specs.Work.{IsWork}
 
 -- some families, and then others
@@ -44,13 +45,13 @@ pub none_added : {P H : Type 0} (number : P → ℕ) (home : P → H) (done : P 
 none_added number home done lines h all ports = record { some = []; grown = sym (append-nil ports); rest = λ more f. f }
 
 pub over_rest : {P L A : Type 0} (lines : L) (threads rest : List (PromisedHandle (Family P A) (FamilyOf L))) (thread : PromisedHandle (Family P A) (FamilyOf L))
-    → threads ≡ thread ∷ rest → AreOver lines threads → IsOver lines thread × AreOver lines rest
+    → threads ≡ thread ∷ rest → AreOver lines threads → (thread.promise.lines.value ≡ lines) × AreOver lines rest
 over_rest {P} {L} {A} lines threads rest thread e over = let F : List (PromisedHandle (Family P A) (FamilyOf L)) → Type 0 = λ ts. AreOver lines ts in subst F e over
 
 -- the family of one thread more
 pub joined : {P H L A : Type 0} (number : P → ℕ) (home : P → H) (done : P → List (Op × Reply)) (listed : L → List Line) (port : L → P) (lines : L) (all : List ℕ)
     (threads others : List (PromisedHandle (Family P A) (FamilyOf L))) (thread : PromisedHandle (Family P A) (FamilyOf L)) (old ports family new : List P)
-    → threads ≡ thread ∷ others → IsOver lines thread → new ≡ ports ++ family
+    → threads ≡ thread ∷ others → thread.promise.lines.value ≡ lines → new ≡ ports ++ family
     → Completes number home done (listed lines) (home (port lines)) all (promised threads) old ports
     → AreFamilies number home done (listed thread.promise.lines.value) (home (port thread.promise.lines.value)) (thread.promise.process ∷ []) family
     → Completes number home done (listed lines) (home (port lines)) all (promised others) old new
@@ -79,13 +80,14 @@ all_joined {P} {H} {L} {A} number home done lines h all threads old ports none b
       each = subst Q (append-nil before.some) (before.rest [] (ap promised none));
     }
 
--- the process of one thread more
-pub promised_more : {P L A : Type 0} (threads : List (PromisedHandle (Family P A) (FamilyOf L))) (thread : PromisedHandle (Family P A) (FamilyOf L))
-    → promised (threads ++ thread ∷ []) ≡ promised threads ++ thread.promise.process ∷ []
-promised_more [] thread = refl
-promised_more (first ∷ threads) thread = ap (λ (xs : List ℕ). first.promise.process ∷ xs) (promised_more threads thread)
+-- the process of one promise more
+pub promised_more : {L : Type 0} (promises : List (FamilyOf L)) (promise : FamilyOf L)
+    → map (λ (p : FamilyOf L). p.process) (promises ++ promise ∷ []) ≡ map (λ (p : FamilyOf L). p.process) promises ++ promise.process ∷ []
+promised_more [] promise = refl
+promised_more (first ∷ promises) promise = ap (λ (xs : List ℕ). first.process ∷ xs) (promised_more promises promise)
 
-pub over_more : {P L A : Type 0} (lines : L) (threads : List (PromisedHandle (Family P A) (FamilyOf L))) (thread : PromisedHandle (Family P A) (FamilyOf L))
-    → AreOver lines threads → IsOver lines thread → AreOver lines (threads ++ thread ∷ [])
-over_more lines [] thread over is = (is, tt)
-over_more lines (first ∷ threads) thread over is = (over.0, over_more lines threads thread over.1 is)
+pub over_more : {L : Type 0} (lines : L) (promises : List (FamilyOf L)) (promise : FamilyOf L)
+    → AllByRecursion (λ (p : FamilyOf L). p.lines.value ≡ lines) promises → promise.lines.value ≡ lines
+    → AllByRecursion (λ (p : FamilyOf L). p.lines.value ≡ lines) (promises ++ promise ∷ [])
+over_more lines [] promise over is = (is, tt)
+over_more lines (first ∷ promises) promise over is = (over.0, over_more lines promises promise over.1 is)

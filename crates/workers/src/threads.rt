@@ -1,9 +1,9 @@
 // The threads of workers, and the ports that come back.
-ghost use Rattle.std.specs.Prelude.{◌≡◌, ◌<◌, ◌≤◌, ◌⊎◌, [], ◌∷◌, map, All, IfOk, IfSome, None};
+ghost use Rattle.std.specs.Prelude.{◌≡◌, ◌<◌, ◌≤◌, ◌⊎◌, ◌++◌, [], ◌∷◌, true, false, map, All, IfOk, IfSome, None};
 ghost use Rattle.std.specs.Thread.{IsSync};
 ghost use Rattle.script.specs.Steps.{ops_for};
 ghost use Rattle.workers.specs.Families.{AreFamilies, HaveOneHome, children};
-ghost use Rattle.workers.specs.Threads.{Added, AreOver, promised};
+ghost use Rattle.workers.specs.Threads.{Added, AreOver, IsNew, Returned, promised, promises};
 ghost use Rattle.workers.specs.Work.{IsWork};
 
 use crate::lines::{Lines, ScriptLines};
@@ -17,7 +17,7 @@ use std::collections::VecDeque;
 use std::snapshot::Snapshot;
 use std::sync::Wait;
 use std::thread;
-use std::thread::{Promise, PromisedHandle, Threads};
+use std::thread::{Promise, PromisedHandle, Scope, Threads};
 
 // Why a worker stopped, and of which process.
 type Stop = (Pid, WorkFault);
@@ -38,10 +38,21 @@ struct FamilyOf<L> {
     lines: Snapshot<L>,
 }
 
+impl<L> FamilyOf<L> {
+    fn new(process: Pid, lines: &L) -> FamilyOf<L>
+        ensures { (result.process ≡ process) × (result.lines.value ≡ lines.now) }
+    {
+        FamilyOf {
+            process,
+            lines: Snapshot::of(lines),
+        }
+    }
+}
+
 impl<P: Port, L: Lines<P>, A: Allocator> Promise<Family<P, A>> for FamilyOf<L> {
-    ghost kept_by = { λ p family. family.stop ≡ None → AreFamilies
+    ghost kept_by = { λ p family. Returned
         P.number P.home P.done (L.listed p.lines.value) (P.home (L.port p.lines.value))
-        (p.process ∷ []) family.ports.items };
+        (p.process ∷ []) family };
 }
 
 // The stop of the lower process.
@@ -100,9 +111,8 @@ fn gathered<R: Threads, P: Port, L: Lines<P>, A: Allocator>(
     requires home { P.home port ≡ P.home (L.port lines.now) }
     requires threads { stop ≡ None → promised threads.items ≡ children (P.done port) }
     requires over { AreOver lines.now threads.items }
-    ensures { result.stop ≡ None → AreFamilies P.number P.home P.done
-        (L.listed lines.now) (P.home (L.port lines.now))
-        (P.number port ∷ []) result.ports.items }
+    ensures { Returned P.number P.home P.done (L.listed lines.now) (P.home (L.port lines.now))
+        (P.number port ∷ []) result }
 {
     let process = port.pid();
     let mut ports = Vec::new(alloc);
@@ -113,67 +123,82 @@ fn gathered<R: Threads, P: Port, L: Lines<P>, A: Allocator>(
     collected(rt, process, ports, lines, stop, threads)
 }
 
-// Its allocator is a type of its own: a thread that starts threads like itself cannot be given a
-// `'static` reference.
+// Starts a thread that keeps a promise, and puts its handle behind the others. Answers whether it was
+// started: what is there stays where it was not.
+fn start<
+    's,
+    E,
+    T: Send + Drop + 's,
+    Q: Promise<T> + Drop,
+    A: Allocator,
+    F: FnOnce() -> T + Send + 's,
+>(
+    scope: &Scope<'s, E>,
+    promise: Q,
+    threads: &mut VecDeque<PromisedHandle<T, Q>, A>,
+    work: F,
+) -> bool
+    requires runs { F.pre work }
+    requires keeps { (given : T) → F.post work given → Q.kept_by promise given }
+    ensures started { result ≡ true
+        → promises threads.new.items ≡ promises threads.old.items ++ promise ∷ [] }
+    ensures refused { result ≡ false → threads.new.items ≡ threads.old.items }
+{
+    if threads.reserve(1).is_err() {
+        return false;
+    }
+    match scope.spawn_with(promise, work) {
+        Ok(thread) => {
+            threads.push_back_reserved(thread);
+            true
+        }
+        Err(_) => false,
+    }
+}
+
 // Does the work of a process, and starts a thread for each of its children. Their families may be
-// so many levels deep.
+// so many levels deep. Its allocator is a type of its own: a thread that starts threads like itself
+// cannot be given a `'static` reference.
 fn work<
     R: Threads + Wait + Sync,
     P: Port + Send,
     L: Lines<P> + Sync,
     A: Allocator + Copy + Send + Sync,
 >(rt: &R, alloc: A, port: P, lines: &L, levels: u32) -> Family<P, A>
-    requires { (P.done port ≡ []) × (P.home port ≡ P.home (L.port lines.now)) }
-    ensures { result.stop ≡ None → AreFamilies P.number P.home P.done
-        (L.listed lines.now) (P.home (L.port lines.now))
-        (P.number port ∷ []) result.ports.items }
+    requires { IsNew P.home P.done (P.home (L.port lines.now)) port }
+    ensures { Returned P.number P.home P.done (L.listed lines.now) (P.home (L.port lines.now))
+        (P.number port ∷ []) result }
 {
     thread::scope(
         thread::scope_env(),
         rt,
         |scope| -> Family<P, A>
-            requires { IsSync R.row × (P.done port ≡ [])
-                × (P.home port ≡ P.home (L.port lines.now)) }
-            ensures { result.stop ≡ None → AreFamilies P.number P.home P.done
-                (L.listed lines.entry.now) (P.home (L.port lines.entry.now))
-                (P.number port ∷ []) result.ports.items }
+            requires { IsSync R.row × IsNew P.home P.done (P.home (L.port lines.now)) port }
+            ensures { Returned P.number P.home P.done (L.listed lines.entry.now)
+                (P.home (L.port lines.entry.now)) (P.number port ∷ []) result }
         {
             let mut port = port;
-            let process = port.pid();
-            let mut place = Place::start(process, lines.all());
+            let mut place = Place::start(port.pid(), lines.all());
             let mut threads = VecDeque::new(alloc);
             let mut stop = None;
             for _ in rt.forever() {
-                match run_on(rt, &mut port, &mut place) {
+                let (pid, child) = match run_on(rt, &mut port, &mut place) {
+                    Event::Forked(pid, child) => (pid, child),
                     Event::Ended => break,
                     Event::Stopped(fault) => {
-                        stop = lower(stop, Some((process, fault)));
+                        stop = lower(stop, Some((port.pid(), fault)));
                         break;
                     }
-                    Event::Forked(pid, child) => {
-                        if levels == 0 || threads.reserve(1).is_err() {
-                            stop = lower(stop, Some((pid, WorkFault::NoMemory)));
-                        } else {
-                            let promise = FamilyOf {
-                                process: pid,
-                                lines: Snapshot::of(lines),
-                            };
-                            let started = scope.spawn_with(
-                                promise,
-                                move || -> Family<P, A>
-                                    requires { IsSync R.row × (P.done child ≡ []) × (0 < levels)
-                                        × (P.home child ≡ P.home (L.port lines.now)) }
-                                    ensures { result.stop ≡ None → AreFamilies P.number P.home P.done
-                                        (L.listed lines.entry.now) (P.home (L.port lines.entry.now))
-                                        (P.number child ∷ []) result.ports.items }
-                                { work(rt, alloc, child, lines, levels - 1) },
-                            );
-                            match started {
-                                Ok(thread) => threads.push_back_reserved(thread),
-                                Err(_) => stop = lower(stop, Some((pid, WorkFault::NoMemory))),
-                            }
-                        }
-                    }
+                };
+                let promise = FamilyOf::new(pid, lines);
+                let child_work = move || -> Family<P, A>
+                    requires { IsSync R.row × (0 < levels)
+                        × IsNew P.home P.done (P.home (L.port lines.now)) child }
+                    ensures { Returned P.number P.home P.done (L.listed lines.entry.now)
+                        (P.home (L.port lines.entry.now)) (P.number child ∷ []) result }
+                { work(rt, alloc, child, lines, levels - 1) };
+                if levels == 0 || !start(scope, promise, &mut threads, child_work) {
+                    stop = lower(stop, Some((pid, WorkFault::NoMemory)));
                 }
             }
             gathered(rt, alloc, port, lines, stop, threads)
@@ -181,7 +206,39 @@ fn work<
     )
 }
 
-// Starts a thread for each process, and joins them all.
+// Starts a thread for each process in this scope, and joins them all.
+fn work_all<
+    's,
+    E,
+    R: Threads + Wait + Sync,
+    P: Port + Send + 's,
+    L: Lines<P> + Sync,
+    A: Allocator + Copy + Send + Sync + 's,
+>(scope: &Scope<'s, E>, rt: &'s R, alloc: A, ports: Vec<P, A>, lines: &'s L) -> Family<P, A>
+    requires fresh { All (λ p. P.done p ≡ []) ports.items }
+    requires home { All (λ p. P.home p ≡ P.home (L.port lines.now)) ports.items }
+    ensures { Returned P.number P.home P.done (L.listed lines.now) (P.home (L.port lines.now))
+        (map P.number ports.items) result }
+{
+    let mut ports = VecDeque::from(ports);
+    let mut threads = VecDeque::new(alloc);
+    let mut stop = None;
+    while let Some(port) = ports.pop_front() {
+        let process = port.pid();
+        let promise = FamilyOf::new(process, lines);
+        let port_work = move || -> Family<P, A>
+            requires { IsSync R.row × IsNew P.home P.done (P.home (L.port lines.now)) port }
+            ensures { Returned P.number P.home P.done (L.listed lines.entry.now)
+                (P.home (L.port lines.entry.now)) (P.number port ∷ []) result }
+        { work(rt, alloc, port, lines, MAX_PROCESSES) };
+        if !start(scope, promise, &mut threads, port_work) {
+            stop = lower(stop, Some((process, WorkFault::NoMemory)));
+        }
+    }
+    collected(rt, Pid(0), Vec::new(alloc), lines, stop, threads)
+}
+
+// The families of all processes, or the fault of the lowest that was stopped.
 fn run_all<
     R: Threads + Wait + Sync,
     P: Port + Send,
@@ -200,40 +257,9 @@ fn run_all<
         |scope| -> Family<P, A>
             requires { IsSync R.row × All (λ p. P.done p ≡ []) ports.items
                 × All (λ p. P.home p ≡ P.home (L.port lines.now)) ports.items }
-            ensures { result.stop ≡ None → AreFamilies P.number P.home P.done
-                (L.listed lines.entry.now) (P.home (L.port lines.entry.now))
-                (map P.number ports.items) result.ports.items }
-        {
-            let mut ports = VecDeque::from(ports);
-            let mut threads = VecDeque::new(alloc);
-            let mut stop = None;
-            while let Some(port) = ports.pop_front() {
-                let process = port.pid();
-                if threads.reserve(1).is_err() {
-                    stop = lower(stop, Some((process, WorkFault::NoMemory)));
-                } else {
-                    let promise = FamilyOf {
-                        process,
-                        lines: Snapshot::of(lines),
-                    };
-                    let started = scope.spawn_with(
-                        promise,
-                        move || -> Family<P, A>
-                            requires { IsSync R.row × (P.done port ≡ [])
-                                × (P.home port ≡ P.home (L.port lines.now)) }
-                            ensures { result.stop ≡ None → AreFamilies P.number P.home P.done
-                                (L.listed lines.entry.now) (P.home (L.port lines.entry.now))
-                                (P.number port ∷ []) result.ports.items }
-                        { work(rt, alloc, port, lines, MAX_PROCESSES) },
-                    );
-                    match started {
-                        Ok(thread) => threads.push_back_reserved(thread),
-                        Err(_) => stop = lower(stop, Some((process, WorkFault::NoMemory))),
-                    }
-                }
-            }
-            collected(rt, Pid(0), Vec::new(alloc), lines, stop, threads)
-        },
+            ensures { Returned P.number P.home P.done (L.listed lines.entry.now)
+                (P.home (L.port lines.entry.now)) (map P.number ports.items) result }
+        { work_all(scope, rt, alloc, ports, lines) },
     );
     match family.stop {
         None => Ok(family.ports),
