@@ -25,8 +25,8 @@ use history::History;
 use ids::{Answer, Call, Op, Pid, Reply};
 use kernel::Kernel;
 use std::alloc::AllocError;
-use std::marker::Model;
 use std::hint::spin_loop;
+use std::marker::Model;
 use std::snapshot::Snapshot;
 use std::sync::Wait;
 
