@@ -1,16 +1,18 @@
 // What the edges of a run cost: to read a script and a schedule, and to print a transcript.
-ghost use Rattle.std.specs.Prelude.{◌≡◌, None};
+ghost use Rattle.std.specs.Prelude.{◌≡◌, IfOk, None};
+ghost use Rattle.script.specs.Schedules.{AreProcessNumbers};
 
 use crate::clock::{Lap, print_cost};
 use crate::steps::{kernel_of, step};
 use anyhow::{Result, bail};
-use device::{Counted, DeviceFailed, Sink, write_all};
+use device::{Counted, DeviceFailed, Sink};
 use heap::Heap;
 use ids::{Bytes, Call, Op, Pid};
 use kernel::Kernel;
 use script::{Script, read_schedule, read_script, steps_of};
 use std::alloc::AllocError;
 use std::fs::File;
+use std::io::Write;
 use transcript::print;
 
 // How many lines the script has, three for each name.
@@ -69,12 +71,9 @@ fn script_in(rt: &HostRuntime, heap: Heap, text: &str) -> Result<Script> {
     Ok(script)
 }
 
-fn schedule_in(
-    rt: &HostRuntime,
-    heap: Heap,
-    text: &str,
-    script: &Script,
-) -> Result<Vec<Pid, Heap>> {
+fn schedule_in(rt: &HostRuntime, heap: Heap, text: &str, script: &Script) -> Result<Vec<Pid, Heap>>
+    ensures { IfOk result (λ pids. AreProcessNumbers pids.items) }
+{
     let lap = Lap::start(rt, heap)?;
     let Ok(pids) = read_schedule(heap, text, script) else {
         bail!("the schedule is not read")
@@ -151,11 +150,9 @@ fn fill(kernel: &mut Kernel, heap: Heap) -> Result<()> {
 // Writes so many bytes to the file of this path, 64 KiB at a time.
 fn write_bytes(rt: &HostRuntime, heap: Heap, count: u64, path: &str) -> Result<()> {
     let portion = Vec::from_elem(heap, b'x', 65_536)?;
-    let mut sink = Counted::new(File::create(rt, path)?);
+    let mut file = File::create(rt, path)?;
     for _ in 0..count / 65_536 {
-        if write_all(&mut sink, portion.as_slice()).is_err() {
-            bail!("the bytes are not written")
-        }
+        file.write_all(portion.as_slice())?;
     }
     Ok(())
 }

@@ -95,12 +95,11 @@ fn look_by_two<R: Threads + Wait + Sync>(
     rt: &R,
     heap: Heap,
     turnstile: &Turnstile,
-    passes: Two,
+    one: Pass,
+    two: Pass,
 ) -> u64
-    requires one { passes.one.gate ≡ turnstile.now }
-    requires two { passes.two.gate ≡ turnstile.now }
+    requires { (one.gate ≡ turnstile.now) × (two.gate ≡ turnstile.now) }
 {
-    let Two { one, two } = passes;
     let (first, second) = join(
         rt,
         || -> u64
@@ -124,14 +123,19 @@ fn look_by_four<R: Threads + Wait + Sync>(
     requires low { (low.one.gate ≡ turnstile.now) × (low.two.gate ≡ turnstile.now) }
     requires high { (high.one.gate ≡ turnstile.now) × (high.two.gate ≡ turnstile.now) }
 {
+    let Two { one, two } = low;
+    let Two {
+        one: three,
+        two: four,
+    } = high;
     let (first, second) = join(
         rt,
         || -> u64
-            requires { (low.one.gate ≡ turnstile.now) × (low.two.gate ≡ turnstile.now) }
-        { look_by_two(rt, heap, turnstile, low) },
+            requires { (one.gate ≡ turnstile.now) × (two.gate ≡ turnstile.now) }
+        { look_by_two(rt, heap, turnstile, one, two) },
         || -> u64
-            requires { (high.one.gate ≡ turnstile.now) × (high.two.gate ≡ turnstile.now) }
-        { look_by_two(rt, heap, turnstile, high) },
+            requires { (three.gate ≡ turnstile.now) × (four.gate ≡ turnstile.now) }
+        { look_by_two(rt, heap, turnstile, three, four) },
     );
     first.wrapping_add(second)
 }
@@ -165,7 +169,10 @@ fn look_by<R: Threads + Wait + Sync>(
             let Two { one, two: _ } = low;
             look_through(rt, heap, turnstile, one)
         }
-        2 => look_by_two(rt, heap, turnstile, low),
+        2 => {
+            let Two { one, two } = low;
+            look_by_two(rt, heap, turnstile, one, two)
+        }
         _ => look_by_four(rt, heap, turnstile, low, high),
     }
 }
@@ -181,7 +188,10 @@ fn print_looks<R: Threads + Wait + Sync>(
 ) -> Result<()>
     requires { All (λ p. p.gate ≡ turnstile.now) passes.items }
 {
-    let (Some(high), Some(low)) = (two_of(&mut passes), two_of(&mut passes)) else {
+    let Some(high) = two_of(&mut passes) else {
+        bail!("there are too few passes")
+    };
+    let Some(low) = two_of(&mut passes) else {
         bail!("there are too few passes")
     };
     let lap = Lap::start(rt, heap)?;
