@@ -9,7 +9,6 @@
 //! was measured. This is a measure and no test: with no words it only prints how it is used.
 #![tactic(auto)]
 
-mod calls;
 mod checked;
 mod clock;
 mod edges;
@@ -17,6 +16,7 @@ mod growth;
 mod lengths;
 mod lock;
 mod paths;
+mod rows;
 mod steps;
 mod work;
 
@@ -54,9 +54,9 @@ fn print_part<R: Threads + Wait + Sync>(
     part: &str,
 ) -> Result<()> {
     match part {
-        "small" => calls::print_small(rt, heap),
-        "large" => calls::print_large(rt, heap),
-        "largest" => calls::print_largest(rt, heap),
+        "small" => rows::print_small(rt, heap),
+        "large" => rows::print_large(rt, heap),
+        "largest" => rows::print_largest(rt, heap),
         "lengths" => lengths::print_lengths(rt, heap),
         "growth" => growth::print_growth(rt, heap),
         "lock" => lock::print_lock(rt, threads, heap),
