@@ -1,7 +1,8 @@
 mod Names
-mod Entries
-mod Ordered
+mod Halved
+mod Kept
+mod Around
+mod Merged
+mod Stepped
 mod Laid
-mod Noted
-mod Emptied
 pub mod Laws

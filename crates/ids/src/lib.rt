@@ -7,7 +7,6 @@
 mod aspect;
 mod bytes;
 mod call;
-mod compared;
 mod edit;
 mod entry;
 mod errno;

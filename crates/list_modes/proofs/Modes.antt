@@ -1,10 +1,10 @@
 -- The list mode by the counts is the list mode by the marks.
-use Rattle.std.proofs.Common.{◌≡◌, ℕ, ◌≤◌, refl, sym, ◌∙◌, ap, false, Bool}
-use Rattle.std.specs.Prelude.{◌&&◌, nat_lt}
+use Rattle.std.proofs.Common.{◌≡◌, ℕ, ◌≤◌, ◌<◌, refl, sym, ◌∙◌, ap, true, false, Bool}
+use Rattle.std.specs.Prelude.{if◌then◌else◌, ◌&&◌, nat_lt}
 use Rattle.std.specs.BTreeMap as tree
 use Rattle.model.specs.Moments.{count_below}
-use Rattle.model.specs.Modes.{any_below}
-use Rattle.list_modes.specs.Holding.{Held, Table, nothing, held_of, IsBelow, mode_in}
+use Rattle.model.specs.Modes.{ListMode, NoTx, Read, Write, Exclusive, any_below}
+use Rattle.list_modes.specs.Holding.{Held, Table, nothing, held_of, IsBelow, mode_among, mode_in}
 use Rattle.list_modes.specs.Counted.{Counts, counts_in, pids, mode_by, IsCounted}
 use Rattle.list_modes.proofs.Counting.{any_counted, any_same}
 

@@ -1,12 +1,13 @@
 -- A look at the names of a directory of which no other process writes an entry clashes with nothing.
-use Rattle.std.proofs.Common.{◌≡◌, ℕ, ◌<◌, refl, sym, ◌∙◌, ap, subst, true, false, Bool, List, [], ◌∷◌, ◌++◌, ◌+◌, ◌-◌, take, drop, drop-cons, get_or, length, arith, inl, inr, append_assoc}
+use Rattle.std.proofs.Common.{◌≡◌, ℕ, ◌<◌, ◌≤◌, refl, sym, ◌∙◌, ap, subst, true, false, Bool, List, [], ◌∷◌, ◌++◌, ◌+◌, ◌-◌, take, drop, drop-cons, get_or, length, filter, arith, inl, inr, append_assoc}
 use Rattle.std.specs.Prelude.{◌||◌, ◌&&◌, ◌==◌, not, slice_range, if◌then◌else◌}
-use Rattle.std.proofs.lemmas.Bool.{cases_lt, eqb-true, or_cases, or_left, or_right, and_parts, false≢true, false_from_ne_true, not-true, not-false}
+use Rattle.std.specs.List.{list_any}
+use Rattle.std.proofs.lemmas.Bool.{cases_lt, eqb-true, or_cases, or_left, or_right, and_parts, and_from, both_ways, false≢true, false_from_ne_true, not-true, not-false}
 use Rattle.std.proofs.lemmas.List.{get_or_default, get_or_past, take_more}
 use Rattle.model.specs.Aspects.{Aspect, Entry, Names, Size, Block, Links, Ends, Offset, Front, Back}
 use Rattle.model.specs.Steps.{Touch}
 use Rattle.model.specs.Clashes.{clash, has_touch, same_aspect}
-use Rattle.model.specs.Modes.{NoTx, Read, Write, Exclusive, any_below}
+use Rattle.model.specs.Modes.{ListMode, NoTx, Read, Write, Exclusive, any_below}
 use Rattle.records.specs.Touches.{touched_by}
 use Rattle.conflict.specs.declared.found.Clash.{Clash}
 use Rattle.conflict.specs.Clashing.{AreClashesOf, AreClashes}

@@ -10,7 +10,7 @@ use Rattle.model.specs.Modes.{ListMode, reads_names}
 use Rattle.model.specs.Clashes.{has_touch}
 use Rattle.records.specs.Touches.{touched_by, with_touch, with_touches}
 use Rattle.list_modes.specs.declared.Held.{Held}
-use Rattle.list_modes.specs.Holding.{Table, held_of, IsPartOf, IsBelow, mode_among, mode_in}
+use Rattle.list_modes.specs.Holding.{Table, nothing, held_of, IsPartOf, IsBelow, mode_among, mode_in}
 use Rattle.marked_records.specs.Marks.{changes_names, marks_of, marks_at, joined, IsMarked, SetsMarks, IsBetween, mode_by_touches}
 
 any_first : {X : Type 0} (test : X → Bool) (n : ℕ) (xs : List X) → list_any test (take n xs) ≡ true → list_any test xs ≡ true

@@ -1,6 +1,6 @@
 -- What recorded touches mark at a directory, and which touches need not be asked about.
-use Rattle.std.specs.Prelude.{◌≡◌, ℕ, Bool, true, false, not, ◌||◌, ◌==◌, if◌then◌else◌}
-use Rattle.std.specs.Prelude.{List, length, take, filter}
+use Rattle.std.specs.Prelude.{◌≡◌, ℕ, ◌∷◌, Bool, true, false, not, ◌&&◌, ◌||◌, ◌==◌, if◌then◌else◌}
+use Rattle.std.specs.Prelude.{List, [], length, take, drop, ◌++◌, filter}
 use Rattle.std.specs.List.{list_any}
 use Rattle.model.specs.Aspects.{Aspect, Entry, Names}
 use Rattle.model.specs.Steps.{Touch}

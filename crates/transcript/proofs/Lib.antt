@@ -1,4 +1,3 @@
 pub mod Lines
 pub mod Names
-pub mod Plain
 pub mod Printing
