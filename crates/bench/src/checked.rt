@@ -1,33 +1,41 @@
 // How long it takes to check a history, against how long it took to run it.
-use crate::names::nanos_since;
-use crate::work::{Verb, call, kernel_of, open_both, path, rewind, step};
+use crate::clock::{Lap, print_cost};
+use crate::paths::path_in;
+use crate::steps::{kernel_of, make_directory, step};
 use anyhow::{Result, bail};
 use heap::Heap;
-use ids::Bytes;
+use ids::{Bytes, Call, Fd, Op, OpenFlags, Whence};
 use kernel::Kernel;
 use replay::check;
-use std::time::Instant;
 
 // The directories in the root, and how many names lie in each.
 static DIRECTORIES: [&str; 10] = ["/a", "/b", "/c", "/d", "/e", "/g", "/h", "/i", "/j", "/k"];
 
 const NAMES: u64 = 1000;
 
-fn do_call(kernel: &mut Kernel, verb: Verb, bytes: Bytes) -> Result<()> {
-    step(kernel, 1, call(verb, bytes))
+// The calls that are run, besides those that make the names.
+const CALLS: u64 = 100_000;
+
+fn call(kernel: &mut Kernel, call: Call) -> Result<()> {
+    step(kernel, 1, Op::Call(call))
 }
 
-// Makes the file `/f`, a pipe, and the directories with their names.
+// Opens the file `/f`, which is new, on descriptor 0, and a pipe on 1 and 2.
+fn open_both(kernel: &mut Kernel, heap: Heap) -> Result<()> {
+    let flags = OpenFlags::READ
+        .with(OpenFlags::WRITE)
+        .with(OpenFlags::CREAT);
+    call(kernel, Call::Open(Bytes::copy(heap, b"/f")?, flags))?;
+    call(kernel, Call::Pipe)
+}
+
+// Makes the directories with their names.
 fn fill(kernel: &mut Kernel, heap: Heap) -> Result<()> {
-    open_both(kernel, heap)?;
     for directory in &DIRECTORIES {
-        do_call(
-            kernel,
-            Verb::Mkdir,
-            Bytes::copy(heap, directory.as_bytes())?,
-        )?;
+        make_directory(kernel, heap, directory.as_bytes())?;
         for number in 0..NAMES {
-            do_call(kernel, Verb::Mkdir, path(heap, directory, b'n', number)?)?;
+            let path = path_in(heap, directory, b'n', number)?;
+            call(kernel, Call::Mkdir(path))?;
         }
     }
     Ok(())
@@ -35,24 +43,29 @@ fn fill(kernel: &mut Kernel, heap: Heap) -> Result<()> {
 
 // A directory comes between these names and goes again, and two of them are looked for.
 fn do_names(kernel: &mut Kernel, heap: Heap, directory: &str, number: u64) -> Result<()> {
-    do_call(kernel, Verb::Mkdir, path(heap, directory, b'm', number)?)?;
-    do_call(kernel, Verb::Stat, path(heap, directory, b'n', number)?)?;
-    do_call(kernel, Verb::Rmdir, path(heap, directory, b'm', number)?)?;
-    do_call(
-        kernel,
-        Verb::Stat,
-        path(heap, directory, b'n', NAMES.saturating_sub(number).min(999))?,
-    )
+    let other = NAMES.saturating_sub(number).min(999);
+    call(kernel, Call::Mkdir(path_in(heap, directory, b'm', number)?))?;
+    call(kernel, Call::Stat(path_in(heap, directory, b'n', number)?))?;
+    call(kernel, Call::Rmdir(path_in(heap, directory, b'm', number)?))?;
+    call(kernel, Call::Stat(path_in(heap, directory, b'n', other)?))
+}
+
+fn rewind(kernel: &mut Kernel) -> Result<()> {
+    call(kernel, Call::Lseek(Fd(0), 0, Whence::Set))
+}
+
+fn write(kernel: &mut Kernel, heap: Heap, fd: Fd) -> Result<()> {
+    call(kernel, Call::Write(fd, Bytes::copy(heap, &[b'x'; 64])?))
 }
 
 // 64 bytes are written to the file and to the pipe, and read again.
 fn do_bytes(kernel: &mut Kernel, heap: Heap) -> Result<()> {
     rewind(kernel)?;
-    do_call(kernel, Verb::Write, Bytes::copy(heap, &[b'x'; 64])?)?;
+    write(kernel, heap, Fd(0))?;
     rewind(kernel)?;
-    do_call(kernel, Verb::Read, Bytes::copy(heap, b"")?)?;
-    do_call(kernel, Verb::Fill, Bytes::copy(heap, &[b'x'; 64])?)?;
-    do_call(kernel, Verb::Drain, Bytes::copy(heap, b"")?)
+    call(kernel, Call::Read(Fd(0), 64))?;
+    write(kernel, heap, Fd(2))?;
+    call(kernel, Call::Read(Fd(1), 64))
 }
 
 // Ten calls for each name.
@@ -66,25 +79,31 @@ fn do_calls(kernel: &mut Kernel, heap: Heap) -> Result<()> {
     Ok(())
 }
 
-fn print_on(rt: &HostRuntime, kernel: &mut Kernel, heap: Heap) -> Result<()> {
-    let start = Instant::now(rt)?;
-    fill(kernel, heap)?;
-    do_calls(kernel, heap)?;
-    let run = nanos_since(rt, &start)? / 1_000_000;
-    let start = Instant::now(rt)?;
-    if check(heap, kernel.history()).is_err() {
-        bail!("the history does not pass")
+fn print_checks(rt: &HostRuntime, kernel: &Kernel, heap: Heap) -> Result<()> {
+    for _ in 0..3u64 {
+        let lap = Lap::start(rt, heap)?;
+        if check(heap, kernel.history()).is_err() {
+            bail!("the history does not pass")
+        }
+        print_cost(rt, "check", "check them", CALLS, lap.cost(rt, heap)?)?;
     }
-    let checked = nanos_since(rt, &start)? / 1_000_000;
-    println!(rt; "100000 calls over 10000 names: run in {run} milliseconds, checked in {checked}")?;
     Ok(())
 }
 
-/// Prints how many milliseconds it takes to run 100,000 plain calls in a tree of 10,000 names, which
-/// are made first, and to check their history.
+fn print_check_on(rt: &HostRuntime, kernel: &mut Kernel, heap: Heap) -> Result<()> {
+    open_both(kernel, heap)?;
+    let lap = Lap::start(rt, heap)?;
+    fill(kernel, heap)?;
+    do_calls(kernel, heap)?;
+    print_cost(rt, "check", "run the calls", CALLS, lap.cost(rt, heap)?)?;
+    print_checks(rt, kernel, heap)
+}
+
+/// Prints what it costs to run 100,000 plain calls in a tree of 10,000 names, which are made first,
+/// and what it costs to check their history.
 pub(crate) fn print_check(rt: &HostRuntime, heap: Heap) -> Result<()> {
     let mut kernel = kernel_of(heap, 1)?;
-    let done = print_on(rt, &mut kernel, heap);
+    let done = print_check_on(rt, &mut kernel, heap);
     drop(kernel);
     done
 }

@@ -1,95 +1,107 @@
-// How long a call takes in short and in long transactions, and how long their ends take.
-use crate::names::nanos_since;
-use crate::work::{Verb, begin, call, path, step};
+// What a call costs in short and in long transactions, and what their ends cost.
+use crate::clock::{Cost, Lap, print_cost};
+use crate::steps::{abort, begin, end, kernel_of, prepare};
+use crate::work::{Work, do_often};
 use anyhow::Result;
 use heap::Heap;
-use ids::Op;
 use kernel::Kernel;
-use std::time::Instant;
 
-// Does a transaction of so many calls, each of which makes a directory, and ends it so. Returns the
-// nanoseconds that its calls took, and those that its end took.
-fn transaction(
-    rt: &HostRuntime,
-    kernel: &mut Kernel,
-    heap: Heap,
-    calls: u64,
-    last: Op,
-) -> Result<(u64, u64)> {
-    begin(kernel, 1)?;
-    let start = Instant::now(rt)?;
-    for number in 0..calls {
-        step(kernel, 1, call(Verb::Mkdir, path(heap, "", b't', number)?))?;
-    }
-    let within = nanos_since(rt, &start)?;
-    let start = Instant::now(rt)?;
-    step(kernel, 1, last)?;
-    Ok((within, nanos_since(rt, &start)?))
-}
-
-fn remove(kernel: &mut Kernel, heap: Heap, count: u64) -> Result<()> {
-    for number in 0..count {
-        step(kernel, 1, call(Verb::Rmdir, path(heap, "", b't', number)?))?;
-    }
-    Ok(())
-}
-
-// How many nanoseconds calls took in transactions, and how many their ends.
+// What calls cost plainly and in transactions, and what the ends of these cost.
 #[derive(Clone, Copy)]
-struct Times {
-    calls: u64,
-    end: u64,
-    abort: u64,
+struct Costs {
+    plain: Cost,
+    within: Cost,
+    end: Cost,
+    abort: Cost,
 }
 
-// So many transactions of so many calls that are committed, and as many that are given up. Returns
-// the sums.
-fn times_of(
+// Makes so many directories by plain calls, and removes them.
+fn plain(rt: &HostRuntime, kernel: &mut Kernel, heap: Heap, calls: u64) -> Result<Cost> {
+    let lap = Lap::start(rt, heap)?;
+    do_often(kernel, heap, Work::Mkdir, calls)?;
+    let cost = lap.cost(rt, heap)?;
+    do_often(kernel, heap, Work::Rmdir, calls)?;
+    Ok(cost)
+}
+
+// Makes so many directories in a transaction that stays open.
+fn within(rt: &HostRuntime, kernel: &mut Kernel, heap: Heap, calls: u64) -> Result<Cost> {
+    begin(kernel, 1)?;
+    let lap = Lap::start(rt, heap)?;
+    do_often(kernel, heap, Work::Mkdir, calls)?;
+    lap.cost(rt, heap)
+}
+
+// Commits what `within` has made, and removes it.
+fn commit(rt: &HostRuntime, kernel: &mut Kernel, heap: Heap, calls: u64) -> Result<Cost> {
+    let lap = Lap::start(rt, heap)?;
+    end(kernel, 1)?;
+    let cost = lap.cost(rt, heap)?;
+    do_often(kernel, heap, Work::Rmdir, calls)?;
+    Ok(cost)
+}
+
+fn give_up(rt: &HostRuntime, kernel: &mut Kernel, heap: Heap) -> Result<Cost> {
+    let lap = Lap::start(rt, heap)?;
+    abort(kernel, 1)?;
+    lap.cost(rt, heap)
+}
+
+// So many times: the calls plainly, in a transaction that is committed, and in one that is given
+// up.
+fn costs_of(
     rt: &HostRuntime,
     kernel: &mut Kernel,
     heap: Heap,
     calls: u64,
     times: u64,
-) -> Result<Times> {
-    let mut sum = Times {
-        calls: 0,
-        end: 0,
-        abort: 0,
+) -> Result<Costs> {
+    let mut sum = Costs {
+        plain: Cost::none(),
+        within: Cost::none(),
+        end: Cost::none(),
+        abort: Cost::none(),
     };
     for _ in 0..times {
-        let (within, end) = transaction(rt, kernel, heap, calls, Op::End)?;
-        remove(kernel, heap, calls)?;
-        let last = Op::Abort { no_restart: true };
-        let (_within, abort) = transaction(rt, kernel, heap, calls, last)?;
-        sum.calls = sum.calls.saturating_add(within);
-        sum.end = sum.end.saturating_add(end);
-        sum.abort = sum.abort.saturating_add(abort);
+        sum.plain = sum.plain.and(plain(rt, kernel, heap, calls)?);
+        sum.within = sum.within.and(within(rt, kernel, heap, calls)?);
+        sum.end = sum.end.and(commit(rt, kernel, heap, calls)?);
+        sum.within = sum.within.and(within(rt, kernel, heap, calls)?);
+        sum.abort = sum.abort.and(give_up(rt, kernel, heap)?);
     }
     Ok(sum)
 }
 
-// Prints how many nanoseconds a call takes in a transaction of so many, and how many for each call
-// its commit takes, and its abort.
-fn print_transaction(
+fn print_length(
     rt: &HostRuntime,
     kernel: &mut Kernel,
     heap: Heap,
+    row: &str,
     calls: u64,
     times: u64,
 ) -> Result<()> {
-    let sum = times_of(rt, kernel, heap, calls, times)?;
+    let costs = costs_of(rt, kernel, heap, calls, times)?;
     let all = calls.saturating_mul(times);
-    let call = sum.calls.checked_div(all).unwrap_or(0);
-    let end = sum.end.checked_div(all).unwrap_or(0);
-    let abort = sum.abort.checked_div(all).unwrap_or(0);
-    println!(rt;
-        "transaction of {calls} calls: {call} nanoseconds a call, end {end}, abort {abort}"
-    )?;
+    print_cost(rt, "plain", row, all, costs.plain)?;
+    print_cost(rt, "within", row, all.saturating_mul(2), costs.within)?;
+    print_cost(rt, "end", row, all, costs.end)?;
+    print_cost(rt, "abort", row, all, costs.abort)
+}
+
+fn print_lengths_on(rt: &HostRuntime, kernel: &mut Kernel, heap: Heap) -> Result<()> {
+    prepare(kernel, heap)?;
+    for _ in 0..3u64 {
+        print_length(rt, kernel, heap, "transactions of 10 calls", 10, 500)?;
+        print_length(rt, kernel, heap, "transactions of 10000 calls", 10_000, 1)?;
+    }
     Ok(())
 }
 
-/// Prints a line for transactions of 10 calls, and for one of 10,000.
-pub(crate) fn print_transactions(rt: &HostRuntime, kernel: &mut Kernel, heap: Heap) -> Result<()> {
-    print_transaction(rt, kernel, heap, 10, 1000)?;
-    print_transaction(rt, kernel, heap, 10_000, 1)
+/// Prints what a mkdir costs in transactions of 10 calls and of 10,000, and what for each call their
+/// end costs and their abort.
+pub(crate) fn print_lengths(rt: &HostRuntime, heap: Heap) -> Result<()> {
+    let mut kernel = kernel_of(heap, 1)?;
+    let done = print_lengths_on(rt, &mut kernel, heap);
+    drop(kernel);
+    done
 }

@@ -1,196 +1,200 @@
-// The rows that are timed.
-use crate::lengths::print_transactions;
-use crate::names::{print_children, print_names};
-use crate::work::{Verb, begin, call, end, kernel_of, open_both, path, rewind, step};
+// The rows of single calls, plain and in a transaction.
+use crate::clock::{Lap, print_cost};
+use crate::steps::{begin, end, kernel_of, prepare};
+use crate::work::{Work, do_often, make_between};
 use anyhow::Result;
 use heap::Heap;
-use ids::{Bytes, Pid};
 use kernel::Kernel;
-use std::time::Instant;
 
-// A row of calls in `/d`, on the file `/f`, or on a pipe.
+/// A row of the table: its name, what is done, and how often.
 struct Row {
     name: &'static str,
-    verb: Verb,
+    work: Work,
     count: u64,
 }
 
-static ROWS: [Row; 7] = [
+// The rows of a directory with 1,000 names, in the order in which they are done.
+static ROWS: [Row; 10] = [
     Row {
-        name: "mkdir",
-        verb: Verb::Mkdir,
+        name: "mkdir of 1000 names",
+        work: Work::Mkdir,
         count: 1000,
     },
     Row {
-        name: "stat",
-        verb: Verb::Stat,
+        name: "stat of one name of 1000",
+        work: Work::Stat,
         count: 1000,
     },
     Row {
-        name: "rmdir",
-        verb: Verb::Rmdir,
+        name: "stat along 8 names",
+        work: Work::StatDeep,
         count: 1000,
     },
     Row {
-        name: "list",
-        verb: Verb::List,
+        name: "list of 1000 names",
+        work: Work::List,
         count: 10,
     },
     Row {
-        name: "write",
-        verb: Verb::Write,
+        name: "rmdir of 1000 names",
+        work: Work::Rmdir,
         count: 1000,
     },
     Row {
-        name: "read",
-        verb: Verb::Read,
+        name: "create, write 64 bytes, close",
+        work: Work::Create,
         count: 1000,
     },
     Row {
-        name: "pipe",
-        verb: Verb::Fill,
+        name: "open, read 64 bytes, close",
+        work: Work::Read,
+        count: 1000,
+    },
+    Row {
+        name: "rename",
+        work: Work::Rename,
+        count: 1000,
+    },
+    Row {
+        name: "unlink",
+        work: Work::Unlink,
+        count: 1000,
+    },
+    Row {
+        name: "pipe, write and read 64 bytes",
+        work: Work::Pipe,
         count: 1000,
     },
 ];
 
-// Makes the file `/f`, a pipe, the directory `/d` and so many in it.
-fn fill(kernel: &mut Kernel, heap: Heap, names: u64) -> Result<()> {
-    open_both(kernel, heap)?;
-    step(kernel, 1, call(Verb::Mkdir, Bytes::copy(heap, b"/d")?))?;
-    for number in 0..names {
-        step(
-            kernel,
-            1,
-            call(Verb::Mkdir, path(heap, "/d", b'n', number)?),
-        )?;
+// Forks are refused in a transaction, so this row has plain calls alone.
+static FORKS: [Row; 1] = [Row {
+    name: "fork and exit",
+    work: Work::Fork,
+    count: 400,
+}];
+
+// The rows of a directory with 100,000 names.
+static LARGE: [Row; 3] = [
+    Row {
+        name: "mkdir of 100000 names",
+        work: Work::Mkdir,
+        count: 100_000,
+    },
+    Row {
+        name: "rmdir refused, 100000 names",
+        work: Work::Refused,
+        count: 10,
+    },
+    Row {
+        name: "rmdir of 100000 names",
+        work: Work::Rmdir,
+        count: 100_000,
+    },
+];
+
+fn print_plain(rt: &HostRuntime, kernel: &mut Kernel, heap: Heap, rows: &[Row]) -> Result<()> {
+    for row in rows {
+        let lap = Lap::start(rt, heap)?;
+        do_often(kernel, heap, row.work, row.count)?;
+        print_cost(rt, "plain", row.name, row.count, lap.cost(rt, heap)?)?;
     }
     Ok(())
 }
 
-// How many names a live transaction has looked for.
-const TOUCHES: u64 = 100;
-
-// The processes from 2 on begin a transaction and look for names that are not there.
-fn open(kernel: &mut Kernel, heap: Heap, live: u32) -> Result<()> {
-    for number in 0..live {
-        let pid = number.saturating_add(2);
-        begin(kernel, pid)?;
-        for touch in 0..TOUCHES {
-            let name = u64::from(number)
-                .saturating_mul(TOUCHES)
-                .saturating_add(touch);
-            let path = path(heap, "", b'l', name)?;
-            drop(kernel.step(Pid(pid), call(Verb::Stat, path)));
-        }
+// A transaction for each row. Its calls are told, and all from its begin to its end.
+fn print_within(rt: &HostRuntime, kernel: &mut Kernel, heap: Heap, rows: &[Row]) -> Result<()> {
+    for row in rows {
+        let whole = Lap::start(rt, heap)?;
+        begin(kernel, 1)?;
+        let lap = Lap::start(rt, heap)?;
+        do_often(kernel, heap, row.work, row.count)?;
+        let calls = lap.cost(rt, heap)?;
+        end(kernel, 1)?;
+        let whole = whole.cost(rt, heap)?;
+        print_cost(rt, "within", row.name, row.count, calls)?;
+        print_cost(rt, "whole", row.name, row.count, whole)?;
     }
     Ok(())
 }
 
-// The path of a row's i-th call, where there are so many names, or what it writes.
-fn bytes_in(heap: Heap, verb: Verb, i: u64, names: u64) -> Result<Bytes> {
-    let bytes = match verb {
-        Verb::List => Bytes::copy(heap, b"/d"),
-        Verb::Stat => path(heap, "/d", b'n', i.saturating_mul(names / 1000)),
-        Verb::Mkdir | Verb::Rmdir => path(heap, "/d", b'm', i),
-        Verb::Write | Verb::Fill => Bytes::copy(heap, &[b'x'; 64]),
-        Verb::Read | Verb::Drain => Bytes::copy(heap, b""),
-    };
-    Ok(bytes?)
-}
+// How often the rows of 1,000 names are done on one kernel.
+const REPETITIONS: u64 = 8;
 
-// The call of a row that comes behind so many.
-fn verb_at(verb: Verb, i: u64) -> Verb {
-    match verb {
-        Verb::Fill => { if i % 2 == 0 { Verb::Fill } else { Verb::Drain } }
-        _ => verb,
-    }
-}
-
-fn do_row(kernel: &mut Kernel, heap: Heap, row: &Row, names: u64) -> Result<()> {
-    rewind(kernel)?;
-    for i in 0..row.count {
-        let verb = verb_at(row.verb, i);
-        let bytes = bytes_in(heap, verb, i, names)?;
-        step(kernel, 1, call(verb, bytes))?;
+fn print_small_on(rt: &HostRuntime, kernel: &mut Kernel, heap: Heap) -> Result<()> {
+    prepare(kernel, heap)?;
+    for _ in 0..REPETITIONS {
+        print_plain(rt, kernel, heap, &ROWS)?;
+        print_plain(rt, kernel, heap, &FORKS)?;
+        print_within(rt, kernel, heap, &ROWS)?;
     }
     Ok(())
 }
 
-fn do_within(kernel: &mut Kernel, heap: Heap, row: &Row, names: u64) -> Result<()> {
-    begin(kernel, 1)?;
-    do_row(kernel, heap, row, names)?;
-    end(kernel, 1)
-}
-
-// How many of the row's calls a second would do.
-fn rate(rt: &HostRuntime, start: &Instant, row: &Row) -> Result<u64> {
-    let span = start.elapsed(rt)?;
-    let nanos = u64::from(span.subsec_nanos());
-    let nanos = span
-        .as_secs()
-        .saturating_mul(1_000_000_000)
-        .saturating_add(nanos);
-    let calls = row.count.saturating_mul(1_000_000_000);
-    Ok(calls.checked_div(nanos).unwrap_or(calls))
-}
-
-// The rate of each row by plain calls.
-fn plain_rates(rt: &HostRuntime, kernel: &mut Kernel, heap: Heap, names: u64) -> Result<[u64; 7]> {
-    let mut plain = [0u64; 7];
-    for (row, found) in ROWS.iter().zip(&mut plain) {
-        let start = Instant::now(rt)?;
-        do_row(kernel, heap, row, names)?;
-        *found = rate(rt, &start, row)?;
-    }
-    Ok(plain)
-}
-
-// The rate of a row in a transaction.
-fn rate_within(
-    rt: &HostRuntime,
-    kernel: &mut Kernel,
-    heap: Heap,
-    row: &Row,
-    names: u64,
-) -> Result<u64> {
-    let start = Instant::now(rt)?;
-    do_within(kernel, heap, row, names)?;
-    rate(rt, &start, row)
-}
-
-fn print_rates(rt: &HostRuntime, kernel: &mut Kernel, heap: Heap, names: u64) -> Result<()> {
-    let plain = plain_rates(rt, kernel, heap, names)?;
-    for (row, plain) in ROWS.iter().zip(&plain) {
-        let within = rate_within(rt, kernel, heap, row, names)?;
-        println!(rt; "{} {plain} {within}", row.name)?;
-    }
-    Ok(())
-}
-
-/// Prints a line for each call: its name, how many a second are done by plain calls, and how many
-/// in a transaction.
-pub(crate) fn measure(rt: &HostRuntime, heap: Heap, names: u64, live: u64) -> Result<()> {
-    let live = live.min(4000) as u32;
-    println!(rt;
-        "{names} names, {live} live transactions: calls a second, plain and in a transaction"
-    )?;
-    let mut kernel = kernel_of(heap, u64::from(live) + 1)?;
-    let done = measure_on(rt, &mut kernel, heap, names, live);
+/// Prints the rows of 1,000 names, of files, of a pipe and of forks.
+pub(crate) fn print_small(rt: &HostRuntime, heap: Heap) -> Result<()> {
+    let mut kernel = kernel_of(heap, 1)?;
+    let done = print_small_on(rt, &mut kernel, heap);
     drop(kernel);
     done
 }
 
-fn measure_on(
+fn print_large_on(rt: &HostRuntime, kernel: &mut Kernel, heap: Heap) -> Result<()> {
+    prepare(kernel, heap)?;
+    print_plain(rt, kernel, heap, &LARGE)?;
+    print_within(rt, kernel, heap, &LARGE)
+}
+
+/// Prints the rows of 100,000 names.
+pub(crate) fn print_large(rt: &HostRuntime, heap: Heap) -> Result<()> {
+    let mut kernel = kernel_of(heap, 1)?;
+    let done = print_large_on(rt, &mut kernel, heap);
+    drop(kernel);
+    done
+}
+
+// After how many nanoseconds no further names are made.
+const LONGEST: u64 = 20_000_000_000;
+
+// How many names are made between two looks at the clock.
+const PORTION: u64 = 1000;
+
+// Makes so many portions of names, and prints them all as one row from the start of `lap`. Where it takes
+// too long it stops earlier, and the row has fewer calls.
+fn print_portions(
     rt: &HostRuntime,
     kernel: &mut Kernel,
     heap: Heap,
-    names: u64,
-    live: u32,
+    lap: &Lap,
+    row: &str,
+    from: u64,
+    to: u64,
 ) -> Result<()> {
-    fill(kernel, heap, names)?;
-    open(kernel, heap, live)?;
-    print_rates(rt, kernel, heap, names)?;
-    print_names(rt, kernel, heap)?;
-    print_children(rt, kernel)?;
-    print_transactions(rt, kernel, heap)
+    let mut made = from.wrapping_mul(PORTION);
+    for portion in from..to {
+        let cost = lap.cost(rt, heap)?;
+        if cost.nanos > LONGEST {
+            break;
+        }
+        let first = portion.wrapping_mul(PORTION);
+        made = first.wrapping_add(PORTION);
+        make_between(kernel, heap, first, made)?;
+    }
+    print_cost(rt, "plain", row, made, lap.cost(rt, heap)?)
+}
+
+fn print_largest_on(rt: &HostRuntime, kernel: &mut Kernel, heap: Heap) -> Result<()> {
+    prepare(kernel, heap)?;
+    let lap = Lap::start(rt, heap)?;
+    print_portions(rt, kernel, heap, &lap, "mkdir of 500000 names", 0, 500)?;
+    print_portions(rt, kernel, heap, &lap, "mkdir of 1000000 names", 500, 1000)
+}
+
+/// Prints the rows of 500,000 and of 1,000,000 names, of which the second begins with the first. A
+/// row that takes longer than 20 seconds is of fewer names.
+pub(crate) fn print_largest(rt: &HostRuntime, heap: Heap) -> Result<()> {
+    let mut kernel = kernel_of(heap, 1)?;
+    let done = print_largest_on(rt, &mut kernel, heap);
+    drop(kernel);
+    done
 }

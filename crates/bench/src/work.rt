@@ -1,135 +1,126 @@
-// Calls on names that are numbered, and a kernel to make them on.
-use anyhow::{Result, bail};
+// What the rows measure: one or a few calls with the name of a number.
+use crate::paths::{DEEP, path, scattered, shuffled};
+use crate::steps::{child, step, step_refused};
+use anyhow::Result;
 use heap::Heap;
-use ids::{Answer, BeginFlags, Bytes, Call, Fd, Op, OpenFlags, Pid, Priority, Reply, Whence};
+use ids::{Bytes, Call, Fd, Op, OpenFlags};
 use kernel::Kernel;
-use std::alloc::AllocError;
 
+/// The work of a row.
 #[derive(Clone, Copy)]
-pub(crate) enum Verb {
+pub(crate) enum Work {
+    /// Makes a directory.
     Mkdir,
+    /// Looks at one.
     Stat,
+    /// Looks at the directory of eight names.
+    StatDeep,
+    /// Removes a directory.
     Rmdir,
+    /// Is refused to remove the directory of all.
+    Refused,
+    /// Lists the directory of all.
     List,
-    Write,
+    /// Makes a file, writes 64 bytes to it and closes it: three calls.
+    Create,
+    /// Opens a file, reads 64 bytes from it and closes it: three calls.
     Read,
-    // A write to a pipe and a read from it, by turns.
-    Fill,
-    Drain,
+    /// Gives a file another name.
+    Rename,
+    /// Takes a file's name away.
+    Unlink,
+    /// Writes 64 bytes to a pipe and reads them again: two calls.
+    Pipe,
+    /// Makes a child, which exits: two calls.
+    Fork,
 }
 
-// A kernel of so many processes, and 4,096 at most, with room for a million entries.
-pub(crate) fn kernel_of(heap: Heap, processes: u64) -> Result<Kernel> {
-    let Some(zero) = Priority::new(0) else {
-        bail!("no priority")
-    };
-    let priorities = Vec::from_elem(heap, zero, processes.clamp(1, 4096) as usize)?;
-    Ok(Kernel::new(heap, priorities.as_slice(), 1_048_576)?)
+// The ends of the pipe, and the descriptor that a file gets beside it.
+const READER: Fd = Fd(0);
+
+const WRITER: Fd = Fd(1);
+
+const FILE: Fd = Fd(2);
+
+fn call(kernel: &mut Kernel, call: Call) -> Result<()> {
+    step(kernel, 1, Op::Call(call))
 }
 
-// A call with these bytes: a path, or what is written. Reads and writes are those of descriptor 0,
-// or of the pipe on descriptors 1 and 2, and a read is of 64 bytes.
-pub(crate) fn call(verb: Verb, bytes: Bytes) -> Op {
-    match verb {
-        Verb::Mkdir => Op::Call(Call::Mkdir(bytes)),
-        Verb::Stat => Op::Call(Call::Stat(bytes)),
-        Verb::Rmdir => Op::Call(Call::Rmdir(bytes)),
-        Verb::List => Op::Call(Call::List(bytes)),
-        Verb::Write => Op::Call(Call::Write(Fd(0), bytes)),
-        Verb::Read => {
-            drop(bytes);
-            Op::Call(Call::Read(Fd(0), 64))
-        }
-        Verb::Fill => Op::Call(Call::Write(Fd(2), bytes)),
-        Verb::Drain => {
-            drop(bytes);
-            Op::Call(Call::Read(Fd(1), 64))
-        }
+fn refuse(kernel: &mut Kernel, heap: Heap) -> Result<()> {
+    let path = Bytes::copy(heap, b"/d")?;
+    step_refused(kernel, 1, Op::Call(Call::Rmdir(path)))
+}
+
+fn create(kernel: &mut Kernel, heap: Heap, number: u64) -> Result<()> {
+    let flags = OpenFlags::WRITE.with(OpenFlags::CREAT);
+    call(kernel, Call::Open(path(heap, b'f', number)?, flags))?;
+    call(kernel, Call::Write(FILE, Bytes::copy(heap, &[b'x'; 64])?))?;
+    call(kernel, Call::Close(FILE))
+}
+
+fn read(kernel: &mut Kernel, heap: Heap, number: u64) -> Result<()> {
+    call(
+        kernel,
+        Call::Open(path(heap, b'f', number)?, OpenFlags::READ),
+    )?;
+    call(kernel, Call::Read(FILE, 64))?;
+    call(kernel, Call::Close(FILE))
+}
+
+fn rename(kernel: &mut Kernel, heap: Heap, number: u64) -> Result<()> {
+    let old = path(heap, b'f', number)?;
+    let new = path(heap, b'g', number)?;
+    call(kernel, Call::Rename(old, new))
+}
+
+fn pass(kernel: &mut Kernel, heap: Heap) -> Result<()> {
+    call(kernel, Call::Write(WRITER, Bytes::copy(heap, &[b'x'; 64])?))?;
+    call(kernel, Call::Read(READER, 64))
+}
+
+fn fork(kernel: &mut Kernel) -> Result<()> {
+    let pid = child(kernel)?;
+    step(kernel, pid, Op::Call(Call::Exit))
+}
+
+// Does the work once, with the names of this number.
+fn do_work(kernel: &mut Kernel, heap: Heap, work: Work, number: u64) -> Result<()> {
+    match work {
+        Work::Mkdir => call(kernel, Call::Mkdir(path(heap, b'n', number)?)),
+        Work::Stat => call(kernel, Call::Stat(path(heap, b'n', number)?)),
+        Work::StatDeep => call(kernel, Call::Stat(Bytes::copy(heap, DEEP.as_bytes())?)),
+        Work::Rmdir => call(kernel, Call::Rmdir(path(heap, b'n', number)?)),
+        Work::Refused => refuse(kernel, heap),
+        Work::List => call(kernel, Call::List(Bytes::copy(heap, b"/d")?)),
+        Work::Create => create(kernel, heap, number),
+        Work::Read => read(kernel, heap, number),
+        Work::Rename => rename(kernel, heap, number),
+        Work::Unlink => call(kernel, Call::Unlink(path(heap, b'g', number)?)),
+        Work::Pipe => pass(kernel, heap),
+        Work::Fork => fork(kernel),
     }
 }
 
-// Opens the file `/f`, which is new, and then a pipe.
-pub(crate) fn open_both(kernel: &mut Kernel, heap: Heap) -> Result<()> {
-    let flags = OpenFlags::READ
-        .with(OpenFlags::WRITE)
-        .with(OpenFlags::CREAT);
-    step(
-        kernel,
-        1,
-        Op::Call(Call::Open(Bytes::copy(heap, b"/f")?, flags)),
-    )?;
-    step(kernel, 1, Op::Call(Call::Pipe))
+// The number of the i-th name of so many: new names come in no order, and are met in another.
+fn number_of(work: Work, i: u64, count: u64) -> u64 {
+    match work {
+        Work::Mkdir | Work::Create => scattered(i),
+        _ => scattered(shuffled(i, count)),
+    }
 }
 
-// The next call on descriptor 0 is at the first byte.
-pub(crate) fn rewind(kernel: &mut Kernel) -> Result<()> {
-    step(kernel, 1, Op::Call(Call::Lseek(Fd(0), 0, Whence::Set)))
-}
-
-fn digit(number: u64) -> u8 {
-    b'0' + (number % 10) as u8
-}
-
-// A path of a directory, a slash, a letter, and the number in seven digits.
-pub(crate) fn path(
-    heap: Heap,
-    directory: &str,
-    letter: u8,
-    number: u64,
-) -> std::result::Result<Bytes, AllocError> {
-    let name = [
-        b'/',
-        letter,
-        digit(number / 1_000_000),
-        digit(number / 100_000),
-        digit(number / 10_000),
-        digit(number / 1000),
-        digit(number / 100),
-        digit(number / 10),
-        digit(number),
-    ];
-    let mut bytes = Vec::with_capacity(heap, directory.len() + 9)?;
-    bytes.extend_from_slice(directory.as_bytes())?;
-    bytes.extend_from_slice(&name)?;
-    Ok(Bytes::new(bytes))
-}
-
-fn is_done(reply: &Reply) -> bool {
-    matches!(
-        reply,
-        Reply::Answer(_) | Reply::Begun | Reply::Committed | Reply::GivenUp { .. }
-    )
-}
-
-// Does one step, which is to be answered.
-pub(crate) fn step(kernel: &mut Kernel, pid: u32, op: Op) -> Result<()> {
-    let reply = kernel.step(Pid(pid), op);
-    let done = is_done(&reply);
-    drop(reply);
-    if !done {
-        bail!("a step was not done")
+/// Does the work so many times, each time with another name.
+pub(crate) fn do_often(kernel: &mut Kernel, heap: Heap, work: Work, count: u64) -> Result<()> {
+    for i in 0..count {
+        do_work(kernel, heap, work, number_of(work, i, count))?;
     }
     Ok(())
 }
 
-// The child of the first process's fork.
-pub(crate) fn child(kernel: &mut Kernel) -> Result<u32> {
-    let reply = kernel.step(Pid(1), Op::Call(Call::Fork));
-    let made = match &reply {
-        Reply::Answer(Answer::Child(pid)) => pid.0,
-        _ => 0,
-    };
-    drop(reply);
-    if made == 0 {
-        bail!("no child was made")
+/// Makes the directories of the new names from one place up to another.
+pub(crate) fn make_between(kernel: &mut Kernel, heap: Heap, from: u64, to: u64) -> Result<()> {
+    for i in from..to {
+        do_work(kernel, heap, Work::Mkdir, scattered(i))?;
     }
-    Ok(made)
-}
-
-pub(crate) fn begin(kernel: &mut Kernel, pid: u32) -> Result<()> {
-    step(kernel, pid, Op::Begin(BeginFlags::none()))
-}
-
-pub(crate) fn end(kernel: &mut Kernel, pid: u32) -> Result<()> {
-    step(kernel, pid, Op::End)
+    Ok(())
 }

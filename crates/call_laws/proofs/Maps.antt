@@ -1,14 +1,13 @@
 -- Sums over maps, what a changed map gives, and what holds of lists: for any map with a total order.
 use Rattle.std.proofs.Common.{◌≡◌, ◌≢◌, ◌⊎◌, ℕ, ◌+◌, Bool, true, false, cond, List, [], ◌∷◌, map, Option, Some, None, sum_by, refl, sym, ap, ap₂, ◌∙◌, arith, ◌<◌, nat_cmp, inl, inr}
 use Rattle.std.specs.declared.cmp.Ordering.{Ordering}
-use Rattle.std.specs.Ordering.{is_eq}
-use Rattle.std.specs.Cmp.{IsTotalOrder, tied_itself, nat_cmp_total}
+use Rattle.std.specs.Cmp.{IsTotalOrder}
 use Rattle.std.specs.List.{AllByRecursion}
 use Rattle.std.specs.FinMap.Entries.{find}
-use Rattle.model.specs.FiniteMap.{FinMap, get, empty, insert, remove, retain_keys, entries, keys, values, get-entries, get-empty, get-remove, get-retain_keys, len-entries, len-empty, nat_cmp-IsAntisymmetric}
+use Rattle.model.specs.FiniteMap.{FinMap, get, empty, insert, remove, retain_keys, entries, keys, values, get-entries, get-empty, get-retain_keys, len-entries, len-empty, nat_cmp-IsAntisymmetric}
 use Rattle.std.proofs.lemmas.Bool.{cases_eq}
 use Rattle.std.proofs.lemmas.List.Sums.{sum_by-cons}
-use Rattle.model.proofs.Laws.{all_entries, apart, get_same, get_other, nothing_left}
+use Rattle.model.proofs.Laws.{all_entries, get_same, get_other, nothing_left}
 pub use Rattle.model.proofs.Laws.{removed_same, removed_other}
 
 pub not_none : {A : Type 0} (x : A) → Some x ≡ None → ⊥

@@ -1,21 +1,20 @@
 -- Runs of blocks, and what is taken from a pipe.
-use Rattle.std.proofs.Common.{◌≡◌, ℕ, suc, ◌+◌, List, [], ◌∷◌, ◌++◌, Bool, false, map, length, refl, sym, ap, ◌∙◌, arith}
+use Rattle.std.proofs.Common.{◌≡◌, ℕ, suc, ◌+◌, List, [], ◌∷◌, ◌++◌, false, map, length, refl, sym, ap, ◌∙◌, arith}
 use Rattle.model.specs.Aspects.{Block}
 use Rattle.model.specs.Plan.{rising}
 use Rattle.model.specs.Paths.{is_empty}
 use Rattle.model.specs.Calls.{Bytes}
 use Rattle.model.specs.Changes.{Take}
 use Rattle.model.specs.Plans.{changed, read_pipe}
-use Rattle.look.specs.Asked.{touching}
 
-pub run_more : (w : Bool) (f first more : ℕ) → touching w (map (Block f) (rising first more)) ++ touching w (Block f (first + more) ∷ []) ≡ touching w (map (Block f) (rising first (more + 1)))
-run_more w f first ℕ.zero = let e : first + 0 ≡ first = omega arith in ap (λ n. touching w (Block f n ∷ [])) e
-run_more w f first (suc m) =
+pub run_more : (f first more : ℕ) → map (Block f) (rising first more) ++ Block f (first + more) ∷ [] ≡ map (Block f) (rising first (more + 1))
+run_more f first ℕ.zero = let e : first + 0 ≡ first = omega arith in ap (λ n. Block f n ∷ []) e
+run_more f first (suc m) =
     let e : first + suc m ≡ suc first + m = omega arith in
     let l : suc m + 1 ≡ suc (m + 1) = omega arith in
-    ap (λ n. touching w (map (Block f) (rising first (suc m))) ++ touching w (Block f n ∷ [])) e
-    ∙ ap (λ t. record { aspect = Block f first; write = w } ∷ t) (run_more w f (suc first) m)
-    ∙ ap (λ n. touching w (map (Block f) (rising first n))) (sym l)
+    ap (λ n. map (Block f) (rising first (suc m)) ++ Block f n ∷ []) e
+    ∙ ap (λ t. Block f first ∷ t) (run_more f (suc first) m)
+    ∙ ap (λ n. map (Block f) (rising first n)) (sym l)
 
 pub taken_plan : (p : ℕ) (bytes : List ℕ) → is_empty bytes ≡ false → read_pipe p bytes ≡ changed (Bytes bytes) (Take p (length bytes) ∷ [])
 taken_plan p [] is = absurd (grind (arith, is))

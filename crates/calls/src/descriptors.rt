@@ -12,7 +12,7 @@ use crate::paths::status;
 use heap::Heap;
 use ids::{Answer, Edit, Errno, Fd, MAX_PROCESSES, Pid, Refusal, Slot};
 use look::Look;
-use walk::Touches;
+use walk::Reads;
 
 pub(crate) fn close(heap: Heap, own: &Own, fd: Fd) -> Result<Change, Refusal>
     ensures { Tells (plan own.now (Close fd)) result }
@@ -26,12 +26,12 @@ pub(crate) fn fstat<L: Look>(
     look: &L,
     own: &Own,
     fd: Fd,
-    touches: &mut Touches,
+    reads: &mut Reads,
 ) -> Result<Change, Refusal>
-    ensures { Comes (L.state look.now) (plan own.now (Fstat fd)) touches.old result touches.new }
+    ensures { Comes (L.state look.now) (plan own.now (Fstat fd)) reads.old result reads.new }
 {
     let it = slot(own, fd)?;
-    status(look, it.inode, it.kind, touches)
+    status(look, it.inode, it.kind, reads)
 }
 
 pub(crate) fn dup(heap: Heap, own: &Own, fd: Fd) -> Result<Change, Refusal>

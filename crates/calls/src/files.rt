@@ -25,26 +25,26 @@ use heap::Heap;
 use ids::{Answer, Bytes, Edit, Errno, Fd, Kind, Mode, Num, OpenFlags, Refusal, Slot, Which};
 use look::Look;
 use std::alloc::AllocError;
-use walk::{Last, Touches, walk_to_last};
+use walk::{Last, Reads, walk_to_last};
 
 pub(crate) fn open<L: Look>(
     look: &L,
     own: &Own,
     path: &Bytes,
     flags: OpenFlags,
-    touches: &mut Touches,
+    reads: &mut Reads,
 ) -> Result<Change, Refusal>
     requires { own.now.root ≡ (L.state look.now).root }
     ensures { Comes (L.state look.now)
-        (plan own.now (Open path.now flags)) touches.old result touches.new }
+        (plan own.now (Open path.now flags)) reads.old result reads.new }
 {
     must_read_or_write(flags)?;
     must_create_to_exclude(flags)?;
     must_write_to_truncate(flags)?;
-    let path = parsed(touches.heap(), path)?;
-    let fd = lowest(touches.heap(), own)?;
-    let last = walk_to_last(look, refusal_of_root(flags), &path, touches)?;
-    opened(look, own, flags, fd, last, touches)
+    let path = parsed(reads.heap(), path)?;
+    let fd = lowest(reads.heap(), own)?;
+    let last = walk_to_last(look, refusal_of_root(flags), &path, reads)?;
+    opened(look, own, flags, fd, last, reads)
 }
 
 fn opened<L: Look>(
@@ -53,14 +53,14 @@ fn opened<L: Look>(
     flags: OpenFlags,
     fd: Fd,
     last: Last,
-    touches: &mut Touches,
+    reads: &mut Reads,
 ) -> Result<Change, Refusal>
     ensures { Comes (L.state look.now)
-        (opened own.now flags fd last last.found) touches.old result touches.new }
+        (opened own.now flags fd last last.found) reads.old result reads.new }
 {
     match last.found() {
-        None => opened_new(touches.heap(), own, flags, fd, last),
-        Some(place) => opened_old(look, own, flags, fd, place, touches),
+        None => opened_new(reads.heap(), own, flags, fd, last),
+        Some(place) => opened_old(look, own, flags, fd, place, reads),
     }
 }
 
@@ -87,14 +87,14 @@ fn opened_old<L: Look>(
     flags: OpenFlags,
     fd: Fd,
     place: (Num, Option<Kind>),
-    touches: &mut Touches,
+    reads: &mut Reads,
 ) -> Result<Change, Refusal>
     ensures { (at : Last) → Comes (L.state look.now)
-        (opened own.now flags fd at (Some place)) touches.old result touches.new }
+        (opened own.now flags fd at (Some place)) reads.old result reads.new }
 {
     must_be_new(flags)?;
     must_not_be_directory(&place, Errno::EISDIR)?;
-    let cut = cut_if(look, flags, place.0, touches)?;
+    let cut = cut_if(look, flags, place.0, reads)?;
     let edits = cut.with(Edit::OpenInode(0, Which::There(place.0), mode(flags), own.pid(), fd))?;
     changed(Answer::Fd(fd), edits)
 }
@@ -115,29 +115,24 @@ fn cut_if<L: Look>(
     look: &L,
     flags: OpenFlags,
     file: Num,
-    touches: &mut Touches,
+    reads: &mut Reads,
 ) -> Result<Edits, Refusal>
     ensures { Comes (L.state look.now)
-        (if is_truncating flags then cut_to file 0 else Give []) touches.old result touches.new }
+        (if is_truncating flags then cut_to file 0 else Give []) reads.old result reads.new }
 {
     if flags.truncates() {
-        cut_to(look, file, 0, touches)
+        cut_to(look, file, 0, reads)
     } else {
-        Ok(Edits::new(touches.heap()))
+        Ok(Edits::new(reads.heap()))
     }
 }
 
 // A file's new length.
-fn cut_to<L: Look>(
-    look: &L,
-    file: Num,
-    length: u32,
-    touches: &mut Touches,
-) -> Result<Edits, Refusal>
-    ensures { Comes (L.state look.now) (cut_to file length) touches.old result touches.new }
+fn cut_to<L: Look>(look: &L, file: Num, length: u32, reads: &mut Reads) -> Result<Edits, Refusal>
+    ensures { Comes (L.state look.now) (cut_to file length) reads.old result reads.new }
 {
-    let size = size(look, file, touches)?;
-    let edits = Edits::new(touches.heap()).with(Edit::Cut(file, size, length))?;
+    let size = size(look, file, reads)?;
+    let edits = Edits::new(reads.heap()).with(Edit::Cut(file, size, length))?;
     Ok(edits)
 }
 
@@ -146,16 +141,16 @@ pub(crate) fn ftruncate<L: Look>(
     own: &Own,
     fd: Fd,
     length: u32,
-    touches: &mut Touches,
+    reads: &mut Reads,
 ) -> Result<Change, Refusal>
     ensures { Comes (L.state look.now)
-        (plan own.now (Ftruncate fd length)) touches.old result touches.new }
+        (plan own.now (Ftruncate fd length)) reads.old result reads.new }
 {
     let it = slot(own, fd)?;
     refuse_if(!it.writing, Errno::EBADF)?;
     must_not_be_pipe(it.kind, Errno::EINVAL)?;
     must_be_at_most(length, LARGEST, Errno::EFBIG)?;
-    let cut = cut_to(look, it.inode, length, touches)?;
+    let cut = cut_to(look, it.inode, length, reads)?;
     changed(Answer::Done, cut)
 }
 
@@ -164,38 +159,33 @@ pub(crate) fn read<L: Look>(
     own: &Own,
     fd: Fd,
     count: u32,
-    touches: &mut Touches,
+    reads: &mut Reads,
 ) -> Result<Change, Refusal>
     ensures { Comes (L.state look.now)
-        (plan own.now (Read fd count)) touches.old result touches.new }
+        (plan own.now (Read fd count)) reads.old result reads.new }
 {
     let it = slot(own, fd)?;
     refuse_if(!it.reading, Errno::EBADF)?;
     if is_zero(count) {
-        unchanged(touches.heap(), Answer::Bytes(no_bytes(touches)))
+        unchanged(reads.heap(), Answer::Bytes(no_bytes(reads)))
     } else {
-        read_some(look, it, count, touches)
+        read_some(look, it, count, reads)
     }
 }
 
-fn no_bytes(touches: &Touches) -> Bytes
+fn no_bytes(reads: &Reads) -> Bytes
     ensures { result ≡ [] }
 {
-    Bytes::new(Vec::new(touches.heap()))
+    Bytes::new(Vec::new(reads.heap()))
 }
 
-fn read_some<L: Look>(
-    look: &L,
-    it: Slot,
-    count: u32,
-    touches: &mut Touches,
-) -> Result<Change, Refusal>
-    ensures { Comes (L.state look.now) (read_some it count) touches.old result touches.new }
+fn read_some<L: Look>(look: &L, it: Slot, count: u32, reads: &mut Reads) -> Result<Change, Refusal>
+    ensures { Comes (L.state look.now) (read_some it count) reads.old result reads.new }
 {
     if is_pipe(it.kind) {
-        read_some_pipe(look, it.inode, count, touches)
+        read_some_pipe(look, it.inode, count, reads)
     } else {
-        read_some_file(look, it.inode, it.description, count, touches)
+        read_some_file(look, it.inode, it.description, count, reads)
     }
 }
 
@@ -203,12 +193,12 @@ fn read_some_pipe<L: Look>(
     look: &L,
     pipe: Num,
     count: u32,
-    touches: &mut Touches,
+    reads: &mut Reads,
 ) -> Result<Change, Refusal>
-    ensures { Comes (L.state look.now) (some_of_pipe pipe count) touches.old result touches.new }
+    ensures { Comes (L.state look.now) (some_of_pipe pipe count) reads.old result reads.new }
 {
-    let bytes = read_pipe(look, pipe, count, touches)?;
-    read_from_pipe(look, pipe, bytes, touches)
+    let bytes = read_pipe(look, pipe, count, reads)?;
+    read_from_pipe(look, pipe, bytes, reads)
 }
 
 fn read_some_file<L: Look>(
@@ -216,14 +206,14 @@ fn read_some_file<L: Look>(
     file: Num,
     description: Num,
     count: u32,
-    touches: &mut Touches,
+    reads: &mut Reads,
 ) -> Result<Change, Refusal>
     ensures { Comes (L.state look.now)
-        (some_of_file file description count) touches.old result touches.new }
+        (some_of_file file description count) reads.old result reads.new }
 {
-    let offset = offset(look, description, touches)?;
-    let bytes = read_file(look, file, offset, count, touches)?;
-    let edits = moved_on(touches.heap(), description, offset, &bytes)?;
+    let offset = offset(look, description, reads)?;
+    let bytes = read_file(look, file, offset, count, reads)?;
+    let edits = moved_on(reads.heap(), description, offset, &bytes)?;
     changed(Answer::Bytes(bytes), edits)
 }
 
@@ -244,24 +234,24 @@ fn read_from_pipe<L: Look>(
     look: &L,
     pipe: Num,
     bytes: Bytes,
-    touches: &mut Touches,
+    reads: &mut Reads,
 ) -> Result<Change, Refusal>
     requires { length bytes < 2 ^ 32 }
-    ensures { Comes (L.state look.now) (read_pipe pipe bytes) touches.old result touches.new }
+    ensures { Comes (L.state look.now) (read_pipe pipe bytes) reads.old result reads.new }
 {
     if is_empty(&bytes) {
-        nothing_from_pipe(look, pipe, touches)
+        nothing_from_pipe(look, pipe, reads)
     } else {
-        taken(touches.heap(), pipe, bytes)
+        taken(reads.heap(), pipe, bytes)
     }
 }
 
-fn nothing_from_pipe<L: Look>(look: &L, pipe: Num, touches: &mut Touches) -> Result<Change, Refusal>
-    ensures { Comes (L.state look.now) (read_pipe pipe []) touches.old result touches.new }
+fn nothing_from_pipe<L: Look>(look: &L, pipe: Num, reads: &mut Reads) -> Result<Change, Refusal>
+    ensures { Comes (L.state look.now) (read_pipe pipe []) reads.old result reads.new }
 {
-    let ends = ends(look, pipe, touches)?;
+    let ends = ends(look, pipe, reads)?;
     must_be_zero(ends.1, Errno::EAGAIN)?;
-    unchanged(touches.heap(), Answer::Bytes(no_bytes(touches)))
+    unchanged(reads.heap(), Answer::Bytes(no_bytes(reads)))
 }
 
 fn taken(heap: Heap, pipe: Num, bytes: Bytes) -> Result<Change, Refusal>
@@ -277,17 +267,17 @@ pub(crate) fn write<L: Look>(
     own: &Own,
     fd: Fd,
     bytes: &Bytes,
-    touches: &mut Touches,
+    reads: &mut Reads,
 ) -> Result<Change, Refusal>
     ensures { Comes (L.state look.now)
-        (plan own.now (Write fd bytes.now)) touches.old result touches.new }
+        (plan own.now (Write fd bytes.now)) reads.old result reads.new }
 {
     let it = slot(own, fd)?;
     refuse_if(!it.writing, Errno::EBADF)?;
     if is_empty(bytes) {
-        unchanged(touches.heap(), Answer::Count(0))
+        unchanged(reads.heap(), Answer::Count(0))
     } else {
-        write_some(look, it, bytes, touches)
+        write_some(look, it, bytes, reads)
     }
 }
 
@@ -301,14 +291,14 @@ fn write_some<L: Look>(
     look: &L,
     it: Slot,
     bytes: &Bytes,
-    touches: &mut Touches,
+    reads: &mut Reads,
 ) -> Result<Change, Refusal>
-    ensures { Comes (L.state look.now) (write_some it bytes.now) touches.old result touches.new }
+    ensures { Comes (L.state look.now) (write_some it bytes.now) reads.old result reads.new }
 {
     if is_pipe(it.kind) {
-        write_pipe(look, it.inode, bytes, touches)
+        write_pipe(look, it.inode, bytes, reads)
     } else {
-        write_file(look, it, bytes, touches)
+        write_file(look, it, bytes, reads)
     }
 }
 
@@ -316,49 +306,44 @@ fn write_pipe<L: Look>(
     look: &L,
     pipe: Num,
     bytes: &Bytes,
-    touches: &mut Touches,
+    reads: &mut Reads,
 ) -> Result<Change, Refusal>
     ensures { Comes (L.state look.now)
-        (some_to_pipe pipe bytes.now) touches.old result touches.new }
+        (some_to_pipe pipe bytes.now) reads.old result reads.new }
 {
-    let ends = ends(look, pipe, touches)?;
+    let ends = ends(look, pipe, reads)?;
     must_not_be_zero(ends.0, Errno::EPIPE)?;
-    let fitting = fit_bytes(look, pipe, bytes, touches)?;
+    let fitting = fit_bytes(look, pipe, bytes, reads)?;
     must_fit(fitting, bytes)?;
     must_not_be_zero(fitting, Errno::EAGAIN)?;
-    let kept = first_bytes(touches.heap(), bytes, fitting)?;
+    let kept = first_bytes(reads.heap(), bytes, fitting)?;
     changed_by(
-        touches.heap(),
+        reads.heap(),
         Answer::Count(fitting),
         Edit::Append(pipe, kept),
     )
 }
 
-fn fit_bytes<L: Look>(
-    look: &L,
-    pipe: Num,
-    bytes: &Bytes,
-    touches: &mut Touches,
-) -> Result<u32, Refusal>
+fn fit_bytes<L: Look>(look: &L, pipe: Num, bytes: &Bytes, reads: &mut Reads) -> Result<u32, Refusal>
     ensures { Comes (L.state look.now)
-        (ask (Fit pipe (length bytes.now))) touches.old result touches.new }
+        (ask (Fit pipe (length bytes.now))) reads.old result reads.new }
 {
-    fit(look, pipe, bytes.as_slice().len(), touches)
+    fit(look, pipe, bytes.as_slice().len(), reads)
 }
 
 fn write_file<L: Look>(
     look: &L,
     it: Slot,
     bytes: &Bytes,
-    touches: &mut Touches,
+    reads: &mut Reads,
 ) -> Result<Change, Refusal>
-    ensures { Comes (L.state look.now) (some_to_file it bytes.now) touches.old result touches.new }
+    ensures { Comes (L.state look.now) (some_to_file it bytes.now) reads.old result reads.new }
 {
-    let place = place_to_write(look, &it, touches)?;
+    let place = place_to_write(look, &it, reads)?;
     must_be_below(place, LARGEST, Errno::EFBIG)?;
-    let size = size(look, it.inode, touches)?;
-    let kept = first_bytes(touches.heap(), bytes, LARGEST - place)?;
-    put(touches.heap(), it.inode, it.description, place, kept, size)
+    let size = size(look, it.inode, reads)?;
+    let kept = first_bytes(reads.heap(), bytes, LARGEST - place)?;
+    put(reads.heap(), it.inode, it.description, place, kept, size)
 }
 
 fn put(
@@ -393,13 +378,13 @@ fn first_bytes(heap: Heap, bytes: &Bytes, count: u32) -> Result<Bytes, AllocErro
     }
 }
 
-fn place_to_write<L: Look>(look: &L, it: &Slot, touches: &mut Touches) -> Result<u32, Refusal>
+fn place_to_write<L: Look>(look: &L, it: &Slot, reads: &mut Reads) -> Result<u32, Refusal>
     ensures { Comes (L.state look.now)
-        (place_to_write it.now it.now.appending) touches.old result touches.new }
+        (place_to_write it.now it.now.appending) reads.old result reads.new }
 {
     if it.appending {
-        size(look, it.inode, touches)
+        size(look, it.inode, reads)
     } else {
-        offset(look, it.description, touches)
+        offset(look, it.description, reads)
     }
 }

@@ -1,11 +1,12 @@
 // The aspects that changes write.
-ghost use Rattle.std.specs.Prelude.{◌≡◌, ◌++◌, ◌∷◌, [], OnOk, map};
+ghost use Rattle.std.specs.Prelude.{◌≡◌, ◌+◌, ◌<◌, ◌^◌, ◌++◌, ◌∷◌, [], OnOk, map};
 ghost use Rattle.std.specs.List.{flat_map};
-ghost use Rattle.model.specs.Aspects.{Ends, Entry, Links};
+ghost use Rattle.model.specs.Aspects.{Block, Ends, Entry, Links};
+ghost use Rattle.model.specs.Plan.{blocks};
 ghost use Rattle.model.specs.Changes.{marks, file_replaced, Put_bytes, Cut};
 ghost use Rattle.look.specs.Asked.{writing};
 
-use crate::asking::touch_blocks;
+use crate::asking::blocks_of;
 use ids::{Aspect, Edit, Name, Num, Replaced};
 use std::alloc::AllocError;
 use walk::Touches;
@@ -66,6 +67,19 @@ fn mark_move(
     }
 }
 
+// The blocks of so many bytes of a file from a place on.
+fn mark_blocks(file: Num, place: u32, count: u32, touches: &mut Touches) -> Result<(), AllocError>
+    requires { place + count < 2 ^ 32 }
+    ensures { OnOk result
+        (touches.new ≡ touches.old ++ writing (map (Block file) (blocks place count))) }
+{
+    let (first, len) = blocks_of(place, count);
+    for more in 0..len {
+        touches.write(Aspect::Block(file, first + more))?;
+    }
+    Ok(())
+}
+
 // Bytes of a file that had so many before.
 fn mark_bytes(
     file: Num,
@@ -86,7 +100,7 @@ fn mark_bytes(
     if before < end {
         touches.write(Aspect::Size(file))?;
     }
-    touch_blocks(touches, file, place, count, true)
+    mark_blocks(file, place, count, touches)
 }
 
 // A file's length, before and after.
@@ -97,7 +111,7 @@ fn mark_cut(file: Num, before: u32, after: u32, touches: &mut Touches) -> Result
     if before != after {
         touches.write(Aspect::Size(file))?;
     }
-    touch_blocks(touches, file, after, before.saturating_sub(after), true)
+    mark_blocks(file, after, before.saturating_sub(after), touches)
 }
 
 // What one change writes.

@@ -20,39 +20,34 @@ use heap::Heap;
 use ids::{Answer, Bytes, Edit, Errno, Kind, Num, Refusal, Replaced, Stat};
 use look::Look;
 use path::Path;
-use walk::{Last, Touches, must_be_directory, or_refuse, walk_to_last};
+use walk::{Last, Reads, must_be_directory, or_refuse, walk_to_last};
 
 // What an object is like.
 pub(crate) fn status<L: Look>(
     look: &L,
     num: Num,
     kind: Option<Kind>,
-    touches: &mut Touches,
+    reads: &mut Reads,
 ) -> Result<Change, Refusal>
-    ensures { Comes (L.state look.now) (status (num, kind)) touches.old result touches.new }
+    ensures { Comes (L.state look.now) (status (num, kind)) reads.old result reads.new }
 {
     match kind {
-        Some(kind) => status_of(look, num, kind, touches),
+        Some(kind) => status_of(look, num, kind, reads),
         None => Err(Refusal::Errno(Errno::ENOENT)),
     }
 }
 
-fn status_of<L: Look>(
-    look: &L,
-    num: Num,
-    kind: Kind,
-    touches: &mut Touches,
-) -> Result<Change, Refusal>
-    ensures { Comes (L.state look.now) (status (num, Some kind)) touches.old result touches.new }
+fn status_of<L: Look>(look: &L, num: Num, kind: Kind, reads: &mut Reads) -> Result<Change, Refusal>
+    ensures { Comes (L.state look.now) (status (num, Some kind)) reads.old result reads.new }
 {
     match kind {
         Kind::File => {
-            let size = size(look, num, touches)?;
-            let links = links(look, num, touches)?;
-            stated(touches.heap(), Kind::File, num, size, links)
+            let size = size(look, num, reads)?;
+            let links = links(look, num, reads)?;
+            stated(reads.heap(), Kind::File, num, size, links)
         }
-        Kind::Dir => stated(touches.heap(), Kind::Dir, num, 0, 1),
-        Kind::Pipe => stated(touches.heap(), Kind::Pipe, num, 0, 0),
+        Kind::Dir => stated(reads.heap(), Kind::Dir, num, 0, 1),
+        Kind::Pipe => stated(reads.heap(), Kind::Pipe, num, 0, 0),
     }
 }
 
@@ -82,13 +77,13 @@ fn done(heap: Heap, edit: Edit) -> Result<Change, Refusal>
 fn place_at<L: Look>(
     look: &L,
     path: &Bytes,
-    touches: &mut Touches,
+    reads: &mut Reads,
 ) -> Result<(Num, Option<Kind>), Refusal>
     ensures { let k = L.state look.now in
-        Comes k (place_at k.root path.now) touches.old result touches.new }
+        Comes k (place_at k.root path.now) reads.old result reads.new }
 {
-    let path = parsed(touches.heap(), path)?;
-    walk::walk(look, &path, touches)
+    let path = parsed(reads.heap(), path)?;
+    walk::walk(look, &path, reads)
 }
 
 // Where the last name of a path stands.
@@ -96,58 +91,43 @@ fn last_at<L: Look>(
     look: &L,
     of_root: Errno,
     path: &Bytes,
-    touches: &mut Touches,
+    reads: &mut Reads,
 ) -> Result<Last, Refusal>
     ensures { let k = L.state look.now in
-        Comes k (last_at k.root of_root path.now) touches.old result touches.new }
+        Comes k (last_at k.root of_root path.now) reads.old result reads.new }
 {
-    let path = parsed(touches.heap(), path)?;
-    walk_to_last(look, of_root, &path, touches)
+    let path = parsed(reads.heap(), path)?;
+    walk_to_last(look, of_root, &path, reads)
 }
 
-pub(crate) fn stat<L: Look>(
-    look: &L,
-    path: &Bytes,
-    touches: &mut Touches,
-) -> Result<Change, Refusal>
+pub(crate) fn stat<L: Look>(look: &L, path: &Bytes, reads: &mut Reads) -> Result<Change, Refusal>
     ensures { (pid : ℕ) → Comes (L.state look.now)
         (plan (own (L.state look.now) pid (Stat_path path.now)) (Stat_path path.now))
-        touches.old result touches.new }
+        reads.old result reads.new }
 {
-    let place = place_at(look, path, touches)?;
-    status(look, place.0, place.1, touches)
+    let place = place_at(look, path, reads)?;
+    status(look, place.0, place.1, reads)
 }
 
-pub(crate) fn mkdir<L: Look>(
-    look: &L,
-    path: &Bytes,
-    touches: &mut Touches,
-) -> Result<Change, Refusal>
+pub(crate) fn mkdir<L: Look>(look: &L, path: &Bytes, reads: &mut Reads) -> Result<Change, Refusal>
     ensures { (pid : ℕ) → Comes (L.state look.now)
         (plan (own (L.state look.now) pid (Mkdir path.now)) (Mkdir path.now))
-        touches.old result touches.new }
+        reads.old result reads.new }
 {
-    let last = last_at(look, Errno::EEXIST, path, touches)?;
+    let last = last_at(look, Errno::EEXIST, path, reads)?;
     absent(last.found())?;
-    done(
-        touches.heap(),
-        Edit::MakeDirectory(last.parent, last.name, 0),
-    )
+    done(reads.heap(), Edit::MakeDirectory(last.parent, last.name, 0))
 }
 
-pub(crate) fn rmdir<L: Look>(
-    look: &L,
-    path: &Bytes,
-    touches: &mut Touches,
-) -> Result<Change, Refusal>
+pub(crate) fn rmdir<L: Look>(look: &L, path: &Bytes, reads: &mut Reads) -> Result<Change, Refusal>
     ensures { (pid : ℕ) → Comes (L.state look.now)
         (plan (own (L.state look.now) pid (Rmdir path.now)) (Rmdir path.now))
-        touches.old result touches.new }
+        reads.old result reads.new }
 {
-    let last = last_at(look, Errno::EBUSY, path, touches)?;
-    let dir = empty_directory(look, last.found(), touches)?;
+    let last = last_at(look, Errno::EBUSY, path, reads)?;
+    let dir = empty_directory(look, last.found(), reads)?;
     done(
-        touches.heap(),
+        reads.heap(),
         Edit::UnnameDirectory(last.parent, last.name, dir),
     )
 }
@@ -156,53 +136,42 @@ pub(crate) fn rmdir<L: Look>(
 fn empty_directory<L: Look>(
     look: &L,
     found: Option<(Num, Option<Kind>)>,
-    touches: &mut Touches,
+    reads: &mut Reads,
 ) -> Result<Num, Refusal>
-    ensures { Comes (L.state look.now) (empty_directory found) touches.old result touches.new }
+    ensures { Comes (L.state look.now) (empty_directory found) reads.old result reads.new }
 {
     let what = or_refuse(Errno::ENOENT, found)?;
     must_be_directory(&what)?;
-    must_have_no_names(look, what.0, touches)?;
+    must_have_no_names(look, what.0, reads)?;
     Ok(what.0)
 }
 
-fn must_have_no_names<L: Look>(look: &L, dir: Num, touches: &mut Touches) -> Result<(), Refusal>
-    ensures { Comes (L.state look.now) (without_names dir) touches.old result touches.new }
+fn must_have_no_names<L: Look>(look: &L, dir: Num, reads: &mut Reads) -> Result<(), Refusal>
+    ensures { Comes (L.state look.now) (without_names dir) reads.old result reads.new }
 {
-    let is_empty = has_no_names(look, dir, touches)?;
+    let is_empty = has_no_names(look, dir, reads)?;
     refuse_if(!is_empty, Errno::ENOTEMPTY)
 }
 
-pub(crate) fn list<L: Look>(
-    look: &L,
-    path: &Bytes,
-    touches: &mut Touches,
-) -> Result<Change, Refusal>
+pub(crate) fn list<L: Look>(look: &L, path: &Bytes, reads: &mut Reads) -> Result<Change, Refusal>
     ensures { (pid : ℕ) → Comes (L.state look.now)
         (plan (own (L.state look.now) pid (List_directory path.now)) (List_directory path.now))
-        touches.old result touches.new }
+        reads.old result reads.new }
 {
-    let place = place_at(look, path, touches)?;
+    let place = place_at(look, path, reads)?;
     must_be_directory(&place)?;
-    let entries = names(look, place.0, touches)?;
-    unchanged(touches.heap(), Answer::Names(entries))
+    let entries = names(look, place.0, reads)?;
+    unchanged(reads.heap(), Answer::Names(entries))
 }
 
-pub(crate) fn unlink<L: Look>(
-    look: &L,
-    path: &Bytes,
-    touches: &mut Touches,
-) -> Result<Change, Refusal>
+pub(crate) fn unlink<L: Look>(look: &L, path: &Bytes, reads: &mut Reads) -> Result<Change, Refusal>
     ensures { (pid : ℕ) → Comes (L.state look.now)
         (plan (own (L.state look.now) pid (Unlink path.now)) (Unlink path.now))
-        touches.old result touches.new }
+        reads.old result reads.new }
 {
-    let last = last_at(look, Errno::EPERM, path, touches)?;
+    let last = last_at(look, Errno::EPERM, path, reads)?;
     let file = file_named(last.found())?;
-    done(
-        touches.heap(),
-        Edit::UnnameFile(last.parent, last.name, file),
-    )
+    done(reads.heap(), Edit::UnnameFile(last.parent, last.name, file))
 }
 
 // The file whose name goes.
@@ -218,75 +187,70 @@ pub(crate) fn link<L: Look>(
     look: &L,
     old: &Bytes,
     path: &Bytes,
-    touches: &mut Touches,
+    reads: &mut Reads,
 ) -> Result<Change, Refusal>
     ensures { (pid : ℕ) → Comes (L.state look.now)
         (plan (own (L.state look.now) pid (Link old.now path.now)) (Link old.now path.now))
-        touches.old result touches.new }
+        reads.old result reads.new }
 {
-    let from = parsed(touches.heap(), old)?;
-    let to = parsed(touches.heap(), path)?;
-    link_paths(look, &from, &to, touches)
+    let from = parsed(reads.heap(), old)?;
+    let to = parsed(reads.heap(), path)?;
+    link_paths(look, &from, &to, reads)
 }
 
 fn link_paths<L: Look>(
     look: &L,
     from: &Path,
     to: &Path,
-    touches: &mut Touches,
+    reads: &mut Reads,
 ) -> Result<Change, Refusal>
     ensures { let k = L.state look.now in
-        Comes k (link_paths k.root from.now to.now) touches.old result touches.new }
+        Comes k (link_paths k.root from.now to.now) reads.old result reads.new }
 {
-    let what = walk::walk(look, from, touches)?;
+    let what = walk::walk(look, from, reads)?;
     must_not_be_directory(&what, Errno::EPERM)?;
-    name_file(look, what.0, to, touches)
+    name_file(look, what.0, to, reads)
 }
 
 // One more name for a file.
-fn name_file<L: Look>(
-    look: &L,
-    file: Num,
-    to: &Path,
-    touches: &mut Touches,
-) -> Result<Change, Refusal>
+fn name_file<L: Look>(look: &L, file: Num, to: &Path, reads: &mut Reads) -> Result<Change, Refusal>
     ensures { let k = L.state look.now in
-        Comes k (name_file k.root file to.now) touches.old result touches.new }
+        Comes k (name_file k.root file to.now) reads.old result reads.new }
 {
-    let last = walk_to_last(look, Errno::EEXIST, to, touches)?;
+    let last = walk_to_last(look, Errno::EEXIST, to, reads)?;
     absent(last.found())?;
-    done(touches.heap(), Edit::NameFile(last.parent, last.name, file))
+    done(reads.heap(), Edit::NameFile(last.parent, last.name, file))
 }
 
 pub(crate) fn rename<L: Look>(
     look: &L,
     old: &Bytes,
     path: &Bytes,
-    touches: &mut Touches,
+    reads: &mut Reads,
 ) -> Result<Change, Refusal>
     ensures { (pid : ℕ) → Comes (L.state look.now)
         (plan (own (L.state look.now) pid (Rename old.now path.now)) (Rename old.now path.now))
-        touches.old result touches.new }
+        reads.old result reads.new }
 {
-    let from = parsed(touches.heap(), old)?;
-    let to = parsed(touches.heap(), path)?;
-    rename_paths(look, &from, &to, touches)
+    let from = parsed(reads.heap(), old)?;
+    let to = parsed(reads.heap(), path)?;
+    rename_paths(look, &from, &to, reads)
 }
 
 fn rename_paths<L: Look>(
     look: &L,
     from: &Path,
     to: &Path,
-    touches: &mut Touches,
+    reads: &mut Reads,
 ) -> Result<Change, Refusal>
     ensures { let k = L.state look.now in
-        Comes k (rename_paths k.root from.now to.now) touches.old result touches.new }
+        Comes k (rename_paths k.root from.now to.now) reads.old result reads.new }
 {
     must_not_be_root(from, to)?;
-    let at = walk_to_last(look, Errno::EBUSY, from, touches)?;
+    let at = walk_to_last(look, Errno::EBUSY, from, reads)?;
     let what = or_refuse(Errno::ENOENT, at.found())?;
-    let onto = move_target(look, &what, from, to, touches)?;
-    moved(look, at, what, onto, touches)
+    let onto = move_target(look, &what, from, to, reads)?;
+    moved(look, at, what, onto, reads)
 }
 
 // Where the new name stands, which must not be below what moves.
@@ -295,13 +259,13 @@ fn move_target<L: Look>(
     what: &(Num, Option<Kind>),
     from: &Path,
     to: &Path,
-    touches: &mut Touches,
+    reads: &mut Reads,
 ) -> Result<Last, Refusal>
     ensures { let k = L.state look.now in
-        Comes k (move_target k.root what.now from.now to.now) touches.old result touches.new }
+        Comes k (move_target k.root what.now from.now to.now) reads.old result reads.new }
 {
     must_not_go_below(what, from, to)?;
-    walk_to_last(look, Errno::EBUSY, to, touches)
+    walk_to_last(look, Errno::EBUSY, to, reads)
 }
 
 // The change of a name that moves.
@@ -317,16 +281,16 @@ fn moved<L: Look>(
     from: Last,
     what: (Num, Option<Kind>),
     to: Last,
-    touches: &mut Touches,
+    reads: &mut Reads,
 ) -> Result<Change, Refusal>
     ensures { Comes (L.state look.now)
-        (moved from what to to.found) touches.old result touches.new }
+        (moved from what to to.found) reads.old result reads.new }
 {
     if gives(to.found(), what.0) {
-        unchanged(touches.heap(), Answer::Done)
+        unchanged(reads.heap(), Answer::Done)
     } else {
-        let replaced = replaced(look, &what, to.found(), touches)?;
-        done(touches.heap(), move_edit(from, to, what.0, replaced))
+        let replaced = replaced(look, &what, to.found(), reads)?;
+        done(reads.heap(), move_edit(from, to, what.0, replaced))
     }
 }
 
@@ -345,12 +309,12 @@ fn replaced<L: Look>(
     look: &L,
     what: &(Num, Option<Kind>),
     found: Option<(Num, Option<Kind>)>,
-    touches: &mut Touches,
+    reads: &mut Reads,
 ) -> Result<Replaced, Refusal>
-    ensures { Comes (L.state look.now) (replaced what.now found) touches.old result touches.new }
+    ensures { Comes (L.state look.now) (replaced what.now found) reads.old result reads.new }
 {
     match found {
-        Some(old) => replaced_over(look, what, &old, touches),
+        Some(old) => replaced_over(look, what, &old, reads),
         None => Ok(Replaced::Nothing),
     }
 }
@@ -359,39 +323,35 @@ fn replaced_over<L: Look>(
     look: &L,
     what: &(Num, Option<Kind>),
     old: &(Num, Option<Kind>),
-    touches: &mut Touches,
+    reads: &mut Reads,
 ) -> Result<Replaced, Refusal>
     ensures { Comes (L.state look.now)
-        (replaced_over what.now old.now) touches.old result touches.new }
+        (replaced_over what.now old.now) reads.old result reads.new }
 {
     must_be_no_directory_for(what, old)?;
     must_be_directory_for(what, old)?;
-    replaced_by_name(look, *old, touches)
+    replaced_by_name(look, *old, reads)
 }
 
 // What loses the name: a file, or a directory, which has to be empty.
 fn replaced_by_name<L: Look>(
     look: &L,
     old: (Num, Option<Kind>),
-    touches: &mut Touches,
+    reads: &mut Reads,
 ) -> Result<Replaced, Refusal>
     ensures { Comes (L.state look.now)
-        (replaced_by_name old.0 (is_directory old)) touches.old result touches.new }
+        (replaced_by_name old.0 (is_directory old)) reads.old result reads.new }
 {
     if is_directory(&old) {
-        replaced_directory(look, old.0, touches)
+        replaced_directory(look, old.0, reads)
     } else {
         Ok(Replaced::File(old.0))
     }
 }
 
-fn replaced_directory<L: Look>(
-    look: &L,
-    num: Num,
-    touches: &mut Touches,
-) -> Result<Replaced, Refusal>
-    ensures { Comes (L.state look.now) (replaced_by_name num true) touches.old result touches.new }
+fn replaced_directory<L: Look>(look: &L, num: Num, reads: &mut Reads) -> Result<Replaced, Refusal>
+    ensures { Comes (L.state look.now) (replaced_by_name num true) reads.old result reads.new }
 {
-    must_have_no_names(look, num, touches)?;
+    must_have_no_names(look, num, reads)?;
     Ok(Replaced::Directory(num))
 }

@@ -17,28 +17,35 @@ use heap::Heap;
 use ids::{Answer, Call, Edit, Errno, Pid, Refusal, Touch};
 use look::Look;
 use std::alloc::AllocError;
-use walk::Touches;
+use walk::Reads;
 
 /// What a call comes to, before it takes effect.
 #[derive(Drop)]
 pub struct Plan {
     /// The answer or the refusal.
     pub answer: Result<Answer, Errno>,
-    /// What it touches, in order.
+    /// What it touches, in order: what it reads, where that counts, and then what it writes.
     pub touches: Vec<Touch, Heap>,
     /// What it changes, in order.
     pub edits: Vec<Edit, Heap>,
 }
 
-/// What a call of a process comes to in a state. It changes nothing; `AllocError` says that memory
-/// was refused.
-pub fn plan_of<L: Look>(heap: Heap, look: &L, pid: Pid, call: &Call) -> Result<Plan, AllocError>
-    ensures { IfOk result (IsPlan (L.state look.now) pid call.now) }
+/// What a call of a process comes to in a state; where reads do not count, its touches are those that
+/// are written. It changes nothing; `AllocError` says that memory was refused.
+pub fn plan_of<L: Look>(
+    heap: Heap,
+    look: &L,
+    pid: Pid,
+    call: &Call,
+    reads_count: bool,
+) -> Result<Plan, AllocError>
+    ensures { IfOk result (IsPlan (L.state look.now) pid call.now reads_count) }
 {
-    let mut touches = Touches::new(heap);
-    match change_of(heap, look, pid, call, &mut touches) {
+    let mut reads = Reads::new(heap, reads_count);
+    match change_of(heap, look, pid, call, &mut reads) {
         Ok(change) => {
             let Change { answer, edits } = change;
+            let mut touches = reads.into_touches();
             mark_all(edits.as_slice(), &mut touches)?;
             Ok(Plan {
                 answer: Ok(answer),
@@ -48,7 +55,7 @@ pub fn plan_of<L: Look>(heap: Heap, look: &L, pid: Pid, call: &Call) -> Result<P
         }
         Err(Refusal::Errno(errno)) => Ok(Plan {
             answer: Err(errno),
-            touches: touches.into_vec(),
+            touches: reads.into_touches().into_vec(),
             edits: Vec::new(heap),
         }),
         Err(Refusal::NoMemory) => Err(AllocError),
@@ -75,22 +82,22 @@ fn is_on_descriptors(call: &Call) -> bool
     )
 }
 
-// Its answer and its changes, with the touches of what it asked.
+// Its answer and its changes, with what it read.
 fn change_of<L: Look>(
     heap: Heap,
     look: &L,
     pid: Pid,
     call: &Call,
-    touches: &mut Touches,
+    reads: &mut Reads,
 ) -> Result<Change, Refusal>
     ensures { Comes (L.state look.now)
-        (plan (own (L.state look.now) pid call.now) call.now) touches.old result touches.new }
+        (plan (own (L.state look.now) pid call.now) call.now) reads.old result reads.new }
 {
     if is_on_descriptors(call) {
         let own = own_of(heap, look, pid)?;
-        change_by_descriptors(heap, look, &own, call, touches)
+        change_by_descriptors(heap, look, &own, call, reads)
     } else {
-        change_by_paths(heap, look, pid, call, touches)
+        change_by_paths(heap, look, pid, call, reads)
     }
 }
 
@@ -100,20 +107,20 @@ fn change_by_descriptors<L: Look>(
     look: &L,
     own: &Own,
     call: &Call,
-    touches: &mut Touches,
+    reads: &mut Reads,
 ) -> Result<Change, Refusal>
     requires own { own.now.root ≡ (L.state look.now).root }
     requires call { is_on_descriptors call.now ≡ true }
-    ensures { Comes (L.state look.now) (plan own.now call.now) touches.old result touches.new }
+    ensures { Comes (L.state look.now) (plan own.now call.now) reads.old result reads.new }
 {
     match call {
-        Call::Open(path, flags) => open(look, own, path, *flags, touches),
+        Call::Open(path, flags) => open(look, own, path, *flags, reads),
         Call::Close(fd) => close(heap, own, *fd),
-        Call::Read(fd, count) => read(look, own, *fd, *count, touches),
-        Call::Write(fd, bytes) => write(look, own, *fd, bytes, touches),
-        Call::Lseek(fd, by, whence) => lseek(look, own, *fd, *by, *whence, touches),
-        Call::Ftruncate(fd, length) => ftruncate(look, own, *fd, *length, touches),
-        Call::Fstat(fd) => fstat(look, own, *fd, touches),
+        Call::Read(fd, count) => read(look, own, *fd, *count, reads),
+        Call::Write(fd, bytes) => write(look, own, *fd, bytes, reads),
+        Call::Lseek(fd, by, whence) => lseek(look, own, *fd, *by, *whence, reads),
+        Call::Ftruncate(fd, length) => ftruncate(look, own, *fd, *length, reads),
+        Call::Fstat(fd) => fstat(look, own, *fd, reads),
         Call::Dup(fd) => dup(heap, own, *fd),
         Call::Dup2(old, new) => dup2(heap, own, *old, *new),
         Call::Pipe => pipe(heap, own),
@@ -128,20 +135,20 @@ fn change_by_paths<L: Look>(
     look: &L,
     pid: Pid,
     call: &Call,
-    touches: &mut Touches,
+    reads: &mut Reads,
 ) -> Result<Change, Refusal>
     requires { is_on_descriptors call.now ≡ false }
     ensures { Comes (L.state look.now)
-        (plan (own (L.state look.now) pid call.now) call.now) touches.old result touches.new }
+        (plan (own (L.state look.now) pid call.now) call.now) reads.old result reads.new }
 {
     match call {
-        Call::Stat(path) => stat(look, path, touches),
-        Call::Link(old, new) => link(look, old, new, touches),
-        Call::Unlink(path) => unlink(look, path, touches),
-        Call::Rename(old, new) => rename(look, old, new, touches),
-        Call::Mkdir(path) => mkdir(look, path, touches),
-        Call::Rmdir(path) => rmdir(look, path, touches),
-        Call::List(path) => list(look, path, touches),
+        Call::Stat(path) => stat(look, path, reads),
+        Call::Link(old, new) => link(look, old, new, reads),
+        Call::Unlink(path) => unlink(look, path, reads),
+        Call::Rename(old, new) => rename(look, old, new, reads),
+        Call::Mkdir(path) => mkdir(look, path, reads),
+        Call::Rmdir(path) => rmdir(look, path, reads),
+        Call::List(path) => list(look, path, reads),
         Call::Fork => {
             let own = own_to_fork(heap, look, pid)?;
             fork(heap, &own)

@@ -12,7 +12,7 @@ use crate::own::{Own, slot};
 use heap::Heap;
 use ids::{Answer, Edit, Errno, Fd, LARGEST_FILE, Refusal, Slot, Whence};
 use look::Look;
-use walk::Touches;
+use walk::Reads;
 
 pub(crate) fn lseek<L: Look>(
     look: &L,
@@ -20,25 +20,25 @@ pub(crate) fn lseek<L: Look>(
     fd: Fd,
     distance: i64,
     whence: Whence,
-    touches: &mut Touches,
+    reads: &mut Reads,
 ) -> Result<Change, Refusal>
     ensures { Comes (L.state look.now)
-        (plan own.now (Lseek fd distance whence)) touches.old result touches.new }
+        (plan own.now (Lseek fd distance whence)) reads.old result reads.new }
 {
     let it = slot(own, fd)?;
     must_not_be_pipe(it.kind, Errno::ESPIPE)?;
-    let place = base(look, &it, whence, touches)?;
-    sought(touches.heap(), &it, place_of(place, distance))
+    let place = base(look, &it, whence, reads)?;
+    sought(reads.heap(), &it, place_of(place, distance))
 }
 
 // From where it counts.
-fn base<L: Look>(look: &L, it: &Slot, whence: Whence, touches: &mut Touches) -> Result<u32, Refusal>
-    ensures { Comes (L.state look.now) (base it.now whence) touches.old result touches.new }
+fn base<L: Look>(look: &L, it: &Slot, whence: Whence, reads: &mut Reads) -> Result<u32, Refusal>
+    ensures { Comes (L.state look.now) (base it.now whence) reads.old result reads.new }
 {
     match whence {
         Whence::Set => Ok(0),
-        Whence::Cur => offset(look, it.description, touches),
-        Whence::End => size(look, it.inode, touches),
+        Whence::Cur => offset(look, it.description, reads),
+        Whence::End => size(look, it.inode, reads),
     }
 }
 

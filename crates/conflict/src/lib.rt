@@ -10,4 +10,3 @@ mod touches;
 
 pub use find::clashes;
 pub use found::Clash;
-pub use touches::keep_writes;

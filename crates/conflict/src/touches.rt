@@ -1,10 +1,9 @@
 // The parts of touches.
-ghost use Rattle.std.specs.Prelude.{◌≡◌, filter};
+ghost use Rattle.std.specs.Prelude.{◌≡◌};
 ghost use Rattle.conflict.specs.Clashing.{name_of};
 ghost use Rattle.model.specs.Clashes.{same_aspect};
 
-use heap::Heap;
-use ids::{Aspect, Touch};
+use ids::Aspect;
 
 /// Whether two aspects are the same part of the kernel's state.
 #[tactic(auto, using(crate::proofs::Names::same_name_from_eq))]
@@ -33,11 +32,4 @@ pub fn name_of(aspect: &Aspect) -> &[u8]
         Aspect::Entry(_, name) => name.as_slice(),
         _ => &[],
     }
-}
-
-/// Keeps the writes, in order, and drops the reads. It takes no memory.
-pub fn keep_writes(touches: &mut Vec<Touch, Heap>)
-    ensures { touches.new.items ≡ filter (λ t. t.write) touches.old.items }
-{
-    touches.retain(|touch| touch.write);
 }

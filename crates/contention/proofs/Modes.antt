@@ -1,9 +1,8 @@
 -- The list mode by what contenders have touched is that of the definitions.
-use Rattle.std.proofs.Common.{◌≡◌, ℕ, ◌∙◌, sym, ap, Bool, List, length}
-use Rattle.std.specs.List.{list_any}
+use Rattle.std.proofs.Common.{◌≡◌, ℕ, ◌∙◌, sym, ap, List, length}
 use Rattle.ids.specs.declared.entry.Rank.{Rank}
 use Rattle.model.specs.Steps.{Touch}
-use Rattle.model.specs.Moments.{Moment, bound, held_by}
+use Rattle.model.specs.Moments.{Moment, held_by}
 use Rattle.model.specs.Modes.{reads_names, is_reader, is_writer, mode_of}
 use Rattle.records.specs.Touches.{touched_by}
 use Rattle.list_modes.specs.Holding.{mode_among}

@@ -1,8 +1,7 @@
 mod Names
-mod Halved
-mod Kept
-mod Around
-mod Merged
-mod Stepped
+mod Entries
+mod Ordered
 mod Laid
+mod Noted
+mod Emptied
 pub mod Laws

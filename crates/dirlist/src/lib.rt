@@ -1,12 +1,11 @@
-//! One directory: its names in byte order with the numbers that they give, and room that is
-//! promised to later additions.
+//! One directory: its names with the numbers that they give, and room that is promised to later
+//! additions.
 #![tactic(auto)]
 
-ghost use Rattle.std.specs.Prelude.{◌≡◌, ◌+◌, ◌<◌, ◌==◌, nat_lt, IsTrue, None};
-ghost use Rattle.std.specs.Prelude.{IfOk, MatchResult, OnOk, OnErr};
+ghost use Rattle.std.specs.Prelude.{◌≡◌, ◌+◌, ◌<◌, ◌==◌, nat_lt, None};
+ghost use Rattle.std.specs.Prelude.{IfOk, OnOk, OnErr};
 ghost use Rattle.model.specs.FiniteMap as map;
 ghost use Rattle.model.specs.State.{name_cmp};
-ghost use Rattle.dirlist.specs.Places.{IsPlaceOf, IsPlaceFor};
 
 mod patch;
 
@@ -14,8 +13,12 @@ use heap::Heap;
 use ids::{Name, NameList, Num};
 pub use patch::Patch;
 use std::alloc::AllocError;
-use std::cmp::Ordering;
+use std::collections::HashMap;
+use std::hash::{BuildHasherDefault, FoldHasher};
 use std::marker::Model;
+
+/// Numbers under their names, found by a hash whose seed is fixed.
+type Numbers = HashMap<Name, Num, BuildHasherDefault<FoldHasher>, Heap>;
 
 /// One directory's names, each with the number of the object that it gives.
 ///
@@ -23,12 +26,13 @@ use std::marker::Model;
 /// but [`Dir::insert_promised`] and [`Dir::release`] uses that room up.
 #[derive(Drop)]
 pub struct Dir {
-    slots: Vec<(Name, Num), Heap>,
+    numbers: Numbers,
     promised: usize,
 }
 
 impl Model for Dir {
-    ghost use Rattle.std.specs.Prelude.{◌+◌, ◌≤◌, IsTrue, vec_len, vec_capacity};
+    ghost use Rattle.std.specs.Prelude.{◌≤◌};
+    ghost use Rattle.std.specs.HashMap.{spare};
     ghost use Rattle.model.specs.FiniteMap as map;
     ghost use Rattle.model.specs.State.{name_cmp};
     ghost use Rattle.dirlist.specs.Listing.{Listing, listing_code};
@@ -38,12 +42,11 @@ impl Model for Dir {
     ghost coded = { listing_code };
 
     ghost view = { λ d. record {
-      names = map.from_sorted {R = name_cmp} d.slots.items;
+      names = map.from_entries {R = name_cmp} d.numbers.entries;
       promised = d.promised;
     } };
 
-    ghost invariant = { λ d. IsTrue (map.is_sorted name_cmp d.slots.items)
-        × (vec_len d.slots + d.promised ≤ vec_capacity d.slots) };
+    ghost invariant = { λ d. d.promised ≤ spare d.numbers };
 }
 
 impl Dir {
@@ -53,7 +56,7 @@ impl Dir {
         ensures promised { result.promised ≡ 0 }
     {
         Dir {
-            slots: Vec::new(heap),
+            numbers: HashMap::new(heap),
             promised: 0,
         }
     }
@@ -62,20 +65,18 @@ impl Dir {
     pub fn lookup(&self, name: &Name) -> Option<Num>
         ensures { result ≡ map.get self.now.names name.now }
     {
-        match place(self.slots.as_slice(), name) {
-            Ok(at) => Some(self.slots[at].1),
-            Err(_at) => None,
-        }
+        self.numbers.get(name).copied()
     }
 
     /// A copy of the names, in byte order. Refused memory changes nothing.
     pub fn names(&self, heap: Heap) -> Result<NameList, AllocError>
         ensures { IfOk result (λ names. names ≡ map.keys self.now.names) }
     {
-        let mut names = Vec::with_capacity(heap, self.slots.len())?;
-        for slot in &self.slots {
-            names.push(slot.0.try_clone()?)?;
+        let mut names = Vec::with_capacity(heap, self.numbers.len())?;
+        for name in self.numbers.keys() {
+            names.push(name.try_clone()?)?;
         }
+        names.sort_unstable();
         Ok(NameList::new(names))
     }
 
@@ -83,7 +84,7 @@ impl Dir {
     pub fn len(&self) -> usize
         ensures { result ≡ map.len self.now.names }
     {
-        self.slots.len()
+        self.numbers.len()
     }
 
     /// Whether there are no names.
@@ -108,7 +109,7 @@ impl Dir {
         let Some(wanted) = self.promised.checked_add(1) else {
             return Err(AllocError);
         };
-        self.slots.reserve(wanted)?;
+        self.numbers.reserve(wanted)?;
         self.promised = wanted;
         Ok(())
     }
@@ -129,8 +130,8 @@ impl Dir {
         ensures names { self.new.names ≡ map.insert self.old.names name num }
         ensures promised { self.new.promised + 1 ≡ self.old.promised }
     {
-        let at = place(self.slots.as_slice(), &name).unwrap_err();
-        self.slots.insert(at, (name, num)).unwrap();
+        let added: Result<_, _> = self.numbers.insert(name, num);
+        let _former = added.unwrap();
         self.promised -= 1;
     }
 
@@ -152,27 +153,6 @@ impl Dir {
         ensures value { result ≡ map.get self.old.names name.now }
         ensures rest { self.new ≡ record self.old { names = map.remove self.old.names name.now } }
     {
-        match place(self.slots.as_slice(), name) {
-            Ok(at) => {
-                let (_name, num) = self.slots.remove(at);
-                Some(num)
-            }
-            Err(_at) => None,
-        }
+        self.numbers.remove(name)
     }
-}
-
-/// Where a name stands in a list whose names rise, or where it would, by halving.
-pub fn place<T>(slots: &[(Name, T)], name: &Name) -> Result<usize, usize>
-    requires { IsTrue (map.is_sorted name_cmp slots.now) }
-    ensures { MatchResult result
-        (IsPlaceOf name_cmp name.now slots.now) (IsPlaceFor name_cmp name.now slots.now) }
-{
-    slots.binary_search_by(|slot| compare(&slot.0, name))
-}
-
-fn compare(name: &Name, other: &Name) -> Ordering
-    ensures { result ≡ name_cmp name.now other.now }
-{
-    name.as_slice().cmp(&other.as_slice())
 }

@@ -1,15 +1,18 @@
 // What a transaction changed in the names of one directory.
-ghost use Rattle.std.specs.Prelude.{◌≡◌, ◌++◌, ◌==◌, ℕ, IfOk, IsTrue, OnErr, OnOk};
+ghost use Rattle.std.specs.Prelude.{◌≡◌, ◌++◌, ◌==◌, ℕ, IfOk, OnErr, OnOk};
 ghost use Rattle.std.specs.Prelude.{map as list_map};
+ghost use Rattle.std.specs.List.{filter};
+ghost use Rattle.std.specs.Option.{is_none, is_some};
+ghost use Rattle.std.specs.HashMap.{keys};
 ghost use Rattle.model.specs.FiniteMap as map;
 ghost use Rattle.model.specs.State.{name_cmp};
 ghost use Rattle.dirlist.specs.Patches.{IsLaid, noted_back};
-ghost use Rattle.dirlist.specs.Places.{after, before};
 
-use crate::{Dir, place};
+use crate::{Dir, Numbers};
 use heap::Heap;
 use ids::{Name, NameList, Num};
 use std::alloc::AllocError;
+use std::collections::BTreeMap;
 use std::marker::Model;
 
 /// Changes to the names of one directory: what each changed name gives now, a number, or `None`
@@ -18,11 +21,11 @@ use std::marker::Model;
 /// Laid on top of a [`Dir`], they say which names there are. The directory itself is not changed.
 #[derive(Drop)]
 pub struct Patch {
-    given: Vec<(Name, Option<Num>), Heap>,
+    given: BTreeMap<Name, Option<Num>, Heap>,
 }
 
 impl Model for Patch {
-    ghost use Rattle.std.specs.Prelude.{IsTrue};
+    ghost use Rattle.std.specs.BTreeMap.{IsOrdered};
     ghost use Rattle.model.specs.FiniteMap as map;
     ghost use Rattle.model.specs.State.{name_cmp};
     ghost use Rattle.dirlist.specs.Patches.{Notes, notes_code};
@@ -31,9 +34,9 @@ impl Model for Patch {
 
     ghost coded = { notes_code };
 
-    ghost view = { λ p. map.from_sorted {R = name_cmp} p.given.items };
+    ghost view = { λ p. map.from_entries {R = name_cmp} p.given.entries };
 
-    ghost invariant = { λ p. IsTrue (map.is_sorted name_cmp p.given.items) };
+    ghost invariant = { λ p. IsOrdered name_cmp p.given };
 }
 
 impl Patch {
@@ -42,7 +45,7 @@ impl Patch {
         ensures { result ≡ map.empty }
     {
         Patch {
-            given: Vec::new(heap),
+            given: BTreeMap::new(heap),
         }
     }
 
@@ -57,10 +60,7 @@ impl Patch {
     pub fn look(&self, name: &Name) -> Option<Option<Num>>
         ensures { result ≡ map.get self.now name.now }
     {
-        match place(self.given.as_slice(), name) {
-            Ok(at) => Some(self.given[at].1),
-            Err(_at) => None,
-        }
+        self.given.get(name).copied()
     }
 
     /// Notes what a name gives now, in place of what was noted of it. Refused memory changes
@@ -69,16 +69,8 @@ impl Patch {
         ensures ok { OnOk result (self.new ≡ map.insert self.old name given) }
         ensures err { OnErr result (self.new ≡ self.old) }
     {
-        match place(self.given.as_slice(), &name) {
-            Ok(at) => {
-                self.given[at].1 = given;
-                Ok(())
-            }
-            Err(at) => {
-                self.given.insert(at, (name, given))?;
-                Ok(())
-            }
-        }
+        self.given.insert(name, given)?;
+        Ok(())
     }
 
     /// Takes a name's note back: what was noted of the name before comes in its place. A name that
@@ -86,14 +78,15 @@ impl Patch {
     pub fn put_back(&mut self, name: &Name, former: Option<Option<Num>>)
         ensures { self.new ≡ noted_back name.now former self.old }
     {
-        match place(self.given.as_slice(), name) {
-            Ok(at) => match former {
-                Some(given) => self.given[at].1 = given,
-                None => {
-                    let _note = self.given.remove(at);
+        match former {
+            Some(given) => {
+                if let Some(noted) = self.given.get_mut(name) {
+                    *noted = given;
                 }
-            },
-            Err(_at) => (),
+            }
+            None => {
+                let _given = self.given.remove(name);
+            }
         }
     }
 
@@ -103,18 +96,24 @@ impl Patch {
         ensures { IfOk result (λ list. (names : map.FinMap name_cmp ℕ)
             → IsLaid self.now dir.now.names names → list ≡ map.keys names) }
     {
-        let mut names = Vec::new(heap);
-        let mut rest = dir.slots.as_slice();
-        for (name, given) in &self.given {
-            let (before, after) = around(rest, name);
-            push_names(&mut names, before)?;
-            if given.is_some() {
+        let mut names = Vec::with_capacity(heap, dir.numbers.len())?;
+        self.push_unnoted(&mut names, &dir.numbers)?;
+        push_given(&mut names, &self.given)?;
+        names.sort_unstable();
+        Ok(NameList::new(names))
+    }
+
+    // Adds copies of the names of which nothing is noted behind the others.
+    fn push_unnoted(&self, names: &mut Vec<Name, Heap>, numbers: &Numbers) -> Result<(), AllocError>
+        ensures { OnOk result (names.new.items ≡ names.old.items
+            ++ filter (λ x. is_none (map.get self.now x)) (keys numbers.now)) }
+    {
+        for name in numbers.keys() {
+            if self.look(name).is_none() {
                 names.push(name.try_clone()?)?;
             }
-            rest = after;
         }
-        push_names(&mut names, rest)?;
-        Ok(NameList::new(names))
+        Ok(())
     }
 
     /// Whether a directory has no names with these changes on top. It takes no memory.
@@ -122,40 +121,35 @@ impl Patch {
         ensures { (names : map.FinMap name_cmp ℕ)
             → IsLaid self.now dir.now.names names → result ≡ (map.len names == 0) }
     {
-        self.given.iter().all(|(_name, given)| given.is_none())
-            && dir
-                .slots
-                .iter()
-                .all(|(name, _num)| self.look(name).is_some())
+        // With fewer notes than names one name stays.
+        if self.given.len() < dir.numbers.len() {
+            return false;
+        }
+        dir.numbers.keys().all(|name| self.look(name).is_some())
+            && self.given.values().all(|given| given.is_none())
     }
 
     /// The changes in the byte order of their names, with no memory.
-    pub fn into_given(self) -> Vec<(Name, Option<Num>), Heap>
-        ensures { result.items ≡ map.entries self }
+    pub fn into_given(self) -> BTreeMap<Name, Option<Num>, Heap>
+        ensures { result.entries ≡ map.entries self }
     {
         let Patch { given } = self;
         given
     }
 }
 
-// The entries before a name, and those behind it, of a list whose names rise.
-fn around<'a>(slots: &'a [(Name, Num)], name: &Name) -> (&'a [(Name, Num)], &'a [(Name, Num)])
-    requires { IsTrue (map.is_sorted name_cmp slots.now) }
-    ensures before { result.0.now ≡ before name_cmp name.now slots.now }
-    ensures after { result.1.now ≡ after name_cmp name.now slots.now }
+// Adds copies of the names that give a number behind the others.
+fn push_given(
+    names: &mut Vec<Name, Heap>,
+    given: &BTreeMap<Name, Option<Num>, Heap>,
+) -> Result<(), AllocError>
+    ensures { OnOk result (names.new.items ≡ names.old.items
+        ++ list_map (λ e. e.0) (filter (λ e. is_some e.1) given.now.entries)) }
 {
-    match place(slots, name) {
-        Ok(at) => (&slots[..at], &slots[at + 1..]),
-        Err(at) => slots.split_at(at),
-    }
-}
-
-// Adds copies of the names of these entries behind the others.
-fn push_names(names: &mut Vec<Name, Heap>, slots: &[(Name, Num)]) -> Result<(), AllocError>
-    ensures { OnOk result (names.new.items ≡ names.old.items ++ list_map (λ e. e.0) slots.now) }
-{
-    for (name, _num) in slots {
-        names.push(name.try_clone()?)?;
+    for (name, num) in given {
+        if num.is_some() {
+            names.push(name.try_clone()?)?;
+        }
     }
     Ok(())
 }

@@ -1,10 +1,14 @@
 -- The order of aspects: by the object, the part of it, the block, the name.
-use Rattle.std.specs.Prelude.{ℕ, List, [], ◌∷◌}
-use Rattle.std.specs.Ordering.{nat_cmp}
+use Rattle.std.specs.Prelude.{◌≡◌, refl, ℕ, List, [], ◌∷◌, ◌++◌, true}
+use Rattle.std.specs.Hash as fed
+use Rattle.std.specs.Ordering.{nat_cmp, is_eq, eq_by_cmp}
 use Rattle.std.specs.declared.cmp.Ordering.{Ordering}
+use Rattle.std.specs.declared.cmp.Ordering.TheVariants.{Less, Equal, Greater}
+use Rattle.std.proofs.Common.{ap}
 use Rattle.std.specs.Cmp.{IsTotalOrder}
 use Rattle.std.specs.Cmp.Lexicographic.{slice_cmp}
 use Rattle.std.proofs.lemmas.Cmp.{nat_list_cmp_total, on_total}
+use Rattle.std.proofs.lemmas.Map.Lookups.{exact_bytes}
 use Rattle.ids.specs.declared.aspect.Aspect.{Aspect}
 use Rattle.ids.specs.declared.aspect.Aspect.TheVariants.{Entry, Names, Size, Block, Links, Ends}
 use Rattle.ids.specs.declared.aspect.Aspect.TheVariants.{Offset, Front, Back}
@@ -67,3 +71,20 @@ aspect_cmp a b = slice_cmp nat_cmp (aspect_code a) (aspect_code b)
 pub aspect_cmp_total : IsTotalOrder aspect_cmp
 unfolding aspect_cmp
 aspect_cmp_total = on_total aspect_code nat_list_cmp_total
+
+-- what is fed to a hash: the object, the part of it, the block, the name
+abbrev fed_of : List ℕ → List (List ℕ)
+fed_of (o ∷ k ∷ b ∷ x) = fed.usize o ++ fed.u8 k ++ fed.u32 b ++ x ∷ []
+fed_of _ = []
+
+abbrev pub aspect_fed : Aspect → List (List ℕ)
+aspect_fed a = fed_of (aspect_code a)
+
+pub fed_alike : (a b : Aspect) → eq_by_cmp aspect_cmp a b ≡ true → aspect_fed a ≡ aspect_fed b
+unfolding aspect_cmp
+fed_alike a b h = ap fed_of (exact_bytes (aspect_code a) (aspect_code b) (equal_from _ h))
+  where
+    equal_from : (o : Ordering) → is_eq o ≡ true → o ≡ Equal
+    equal_from Less h = cc
+    equal_from Equal h = refl
+    equal_from Greater h = cc

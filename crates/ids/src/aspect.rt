@@ -7,12 +7,13 @@ ghost use Rattle.std.specs.Cmp.Lexicographic.{slice_cmp};
 ghost use Rattle.std.specs.Ordering.{as_partial_cmp, eq_by_cmp, nat_cmp};
 ghost use Rattle.std.proofs.Common.{rules};
 ghost use Rattle.std.proofs.lemmas.Cmp.{eq_by_cmp_equiv};
-ghost use Rattle.ids.specs.Order.{object_of, kind_of, block_of, name_of};
+ghost use Rattle.ids.specs.Order.{object_of, kind_of, block_of, name_of, fed_alike};
 
 use crate::bytes::Name;
 use crate::number::{Num, Pid};
 use std::alloc::AllocError;
 use std::cmp::Ordering;
+use std::hash::{Hash, Hasher};
 
 /// What a touch speaks of: a part of the kernel's state that calls see and change.
 #[derive(Debug, Drop)]
@@ -190,6 +191,22 @@ impl Ord for Aspect {
             Ordering::Equal => compare_in_object(self, other),
             order => order,
         }
+    }
+}
+
+// The name is one write of all its bytes, as in the hash of a name.
+impl Hash for Aspect {
+    ghost use Rattle.ids.specs.Order.{aspect_fed};
+
+    ghost hash_input = { aspect_fed };
+
+    ghost respects_eq = { fed_alike };
+
+    fn hash<H: Hasher>(&self, state: &mut H) {
+        state.write_usize(self.object());
+        state.write_u8(self.part());
+        state.write_u32(self.block());
+        state.write(self.name());
     }
 }
 

@@ -2,7 +2,9 @@
 ghost use Rattle.std.specs.Prelude.{◌≡◌, IfOk};
 
 use heap::Heap;
+use smallvec::SmallVec;
 use std::alloc::AllocError;
+use std::default::MadeWith;
 use std::marker::Model;
 
 /// Bytes that are owned: a path as it was given, or what is read or written.
@@ -59,11 +61,15 @@ impl Bytes {
     }
 }
 
+// The length up to which a name takes no memory: its bytes stand where those of a longer one are
+// told of.
+const SHORT: usize = 24;
+
 /// A name in a directory. That it has 1 to 255 bytes and no slash is for the path that it came
-/// from.
+/// from. A name of up to 24 bytes takes no memory, and neither does a copy of it.
 #[derive(Debug, Drop)]
 pub struct Name {
-    bytes: Bytes,
+    bytes: SmallVec<u8, SHORT, Heap>,
 }
 
 impl Model for Name {
@@ -71,7 +77,7 @@ impl Model for Name {
 
     ghost Value = { List ℕ };
 
-    ghost view = { λ n. n.bytes };
+    ghost view = { λ n. n.bytes.items };
 }
 
 impl Name {
@@ -87,7 +93,7 @@ impl Name {
         ensures { IfOk result (λ b. b ≡ bytes.now) }
     {
         Ok(Name {
-            bytes: Bytes::copy(heap, bytes)?,
+            bytes: SmallVec::from_slice(heap, bytes)?,
         })
     }
 
@@ -95,9 +101,16 @@ impl Name {
     pub fn try_clone(&self) -> Result<Name, AllocError>
         ensures { IfOk result (λ b. b ≡ self.now) }
     {
-        Ok(Name {
-            bytes: self.bytes.try_clone()?,
-        })
+        Name::copy(*self.bytes.allocator(), self.as_slice())
+    }
+}
+
+// What stands in the free places of a short list of names.
+impl MadeWith<Heap> for Name {
+    fn made_with(heap: Heap) -> Name {
+        Name {
+            bytes: SmallVec::new(heap),
+        }
     }
 }
 

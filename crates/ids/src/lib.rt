@@ -7,6 +7,7 @@
 mod aspect;
 mod bytes;
 mod call;
+mod compared;
 mod edit;
 mod entry;
 mod errno;

@@ -7,8 +7,8 @@ use Rattle.kernel.proofs.Words.{holds_place, IsApart, Inside, Outcome, Taken, Ri
 use Rattle.kernel.proofs.Words.{executed_again, nowhere_seen, childless, phase_is, plain_calls_run, right_by, views_may_be_loose, what_stands, live_age}
 use Rattle.kernel.proofs.Words.{IsDoomedBy, Doomed, effect, made_by, AreNew, with_change, view_at, changes_in, part_with, state_with, Stands}
 use Rattle.kernel.proofs.Words.{calling, moment, Fields, Dooms, CanEnter, IsIn, Moves, part_at, part_of, shown_by, changes_of, doomed_by, is_no_entry, is_some}
-use Rattle.kernel.proofs.Words.{Edit, FitsAll, is_alive, sum_by, news, filter, distinct, with_touches, with_touches-append, Make_directory}
-use Rattle.kernel.proofs.Words.{Unname_directory, Touch, touches, counted, all_done, CanEdit, Committed, IsPlan, Plans, Live}
+use Rattle.kernel.proofs.Words.{Edit, FitsAll, is_alive, sum_by, news, distinct, with_touches, with_touches-append, Make_directory}
+use Rattle.kernel.proofs.Words.{Unname_directory, Touch, touches, counted, counting, all_done, CanEdit, Committed, IsPlan, Plans, Live}
 use Rattle.model.specs.Changes.{Make_file, Name_file, Unname_file, Move, Put_bytes, Cut, Open_inode, Set_offset, Share_slot, Clear_slot, Make_pipe, Take, Append, New_process, End_process}
 use Rattle.call_laws.specs.Fits.{Fits}
 use Rattle.shadow.specs.Looks.{DirectoriesAreKept}
@@ -30,10 +30,7 @@ use Rattle.calls.specs.declared.plan.Plan.{Plan as Planned}
 use Rattle.kernel.proofs.Entries.{Grows, child_is_last, pids, not_both, not_doomed, comes_to, enters_grown, goes, moves, one_more, processes, stay_as_many, stays, slot_changes, slot_views, caller_lives, free_at}
 
 -- the touches that count
-abbrev counted_by : Option (BeginFlags × ℕ) → List Touch → List Touch
-counted_by within ts = if is_some within then ts else filter (λ t. t.write) ts
-
-counts : (m : Moment) (pid : ℕ) (call : Call) (within : Option (BeginFlags × ℕ)) → Stands (calling within) (status m pid) → counted_by within (touches (seen_by m pid) pid call) ≡ counted_touches m pid call
+counts : (m : Moment) (pid : ℕ) (call : Call) (within : Option (BeginFlags × ℕ)) → Stands (calling within) (status m pid) → counting (is_some within) (touches (seen_by m pid) pid call) ≡ counted_touches m pid call
 counts m pid call None is = ap (λ s. counted s (touches (seen_by m pid) pid call)) (sym (phase_is m pid idle is (λ h. absurd cc)))
 counts m pid call (Some within) is = ap (λ s. counted s (touches (seen_by m pid) pid call)) (sym (phase_is m pid (live within.0 within.1 is.0) is.1 (λ h. absurd cc)))
 
@@ -107,18 +104,18 @@ module _ (f : Fields) (pid : ℕ) (within : Option (BeginFlags × ℕ)) (call : 
       subst (λ k. CanChange k pid None (edits sees.state pid call)) none (calls_change sees.state pid seen_well call)
 
   -- with the touches that count
-  pub plans : (p q : Planned) → IsPlan sees.state pid call p → DirectoriesAreKept sees → q.answer ≡ p.answer → q.touches.items ≡ counted_by within p.touches.items → q.edits.items ≡ p.edits.items
-      → record { answer : q.answer ≡ reply (seen_by (moment f.log) pid) pid call; plans : Plans f pid within call q.touches.items q.edits.items }
-  plans p q is used answers counts_only edits_same =
+  pub plans : (p : Planned) → IsPlan sees.state pid call (is_some within) p → DirectoriesAreKept sees
+      → record { answer : p.answer ≡ reply (seen_by (moment f.log) pid) pid call; plans : Plans f pid within call p.touches.items p.edits.items }
+  plans p is used =
       let seen = slot_views f asks.holds pid in
       let goes = (views_may_be_loose 0 f.log.priorities f.log.limit f.log.entries asks.holds.legal pid).goes_on call in
       record {
-        answer = answers ∙ is.answer ∙ ap (λ k. reply k pid call) seen ∙ sym goes.reply;
+        answer = is.answer ∙ ap (λ k. reply k pid call) seen ∙ sym goes.reply;
         plans = record {
-          touches = counts_only ∙ ap (counted_by within) (is.touches ∙ ap (λ k. touches k pid call) seen ∙ sym goes.touches) ∙ counts (moment f.log) pid call within asks.stands;
-          edits = edits_same ∙ is.edits ∙ ap (λ k. edits k pid call) seen ∙ sym goes.edits;
-          kinds = subst (CanChange f.stable.state pid within) (sym (edits_same ∙ is.edits)) (can_change within asks.stands asks.supported);
-          parents = subst (HaveParents f.stable.reserves) (sym (edits_same ∙ is.edits)) (have_parents sees pid call seen_well seen_alive used);
+          touches = is.touches ∙ ap (counting (is_some within)) (ap (λ k. touches k pid call) seen ∙ sym goes.touches) ∙ counts (moment f.log) pid call within asks.stands;
+          edits = is.edits ∙ ap (λ k. edits k pid call) seen ∙ sym goes.edits;
+          kinds = subst (CanChange f.stable.state pid within) (sym is.edits) (can_change within asks.stands asks.supported);
+          parents = subst (HaveParents f.stable.reserves) (sym is.edits) (have_parents sees pid call seen_well seen_alive used);
         };
       }
 

@@ -22,7 +22,6 @@ ghost use Rattle.kernel.specs.Shown.{moment};
 
 use crate::state::{Live, State, add_entry, end_transaction, enter};
 use calls::{Plan, plan_of};
-use conflict::keep_writes;
 use contention::{Doomed, Verdict};
 use heap::Heap;
 use ids::{Answer, Call, Cause, Edit, Errno, Nums, Op, Pid, Pids, Reply, Touch, Why};
@@ -71,7 +70,7 @@ fn doom_each(s: &mut State, all: Vec<Doomed, Heap>)
     }
 }
 
-/// What a call comes to, over what its process sees. Outside a transaction only the writes count.
+/// What a call comes to, over what its process sees. Outside a transaction reads do not count.
 fn plan_for(s: &State, pid: Pid, within: &Within, call: &Call) -> Result<Plan, AllocError>
     requires { Calls (fields s.now) pid within.now call.now }
     ensures answer { IfOk result (λ p.
@@ -81,11 +80,7 @@ fn plan_for(s: &State, pid: Pid, within: &Within, call: &Call) -> Result<Plan, A
 {
     let view = s.transactions.view(pid);
     s.transactions.directories_are_kept(pid);
-    let mut plan = plan_of(s.heap, &view, pid, call)?;
-    if within.is_none() {
-        keep_writes(&mut plan.touches);
-    }
-    Ok(plan)
+    plan_of(s.heap, &view, pid, call, within.is_some())
 }
 
 /// Whether a call's edits make a process.

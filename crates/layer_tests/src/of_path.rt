@@ -3,6 +3,9 @@ use heap::Heap;
 use ids::{Errno, Refusal};
 use path::Path;
 
+// A name that is too long to stand in place, and more names than stand in the path itself.
+const LONG: &[u8] = b"/abcdefghijklmnopqrstuvwxyz/b/c/d/e";
+
 fn refusal(heap: Heap, bytes: &[u8]) -> Option<Refusal> {
     Path::parse(heap, bytes).err()
 }
@@ -13,7 +16,7 @@ fn each_request_is_refused_once(rt: HostRuntime) {
     let mut refused = 0u64;
     for number in 1..10u64 {
         heap.refuse(number);
-        match refusal(heap, b"/a/b") {
+        match refusal(heap, LONG) {
             None => break,
             Some(why) => {
                 assert_eq!(rt; why, Refusal::NoMemory);
@@ -21,7 +24,10 @@ fn each_request_is_refused_once(rt: HostRuntime) {
             }
         }
     }
-    assert!(rt; refused > 0);
+    assert!(rt; refused > 1);
+    heap.refuse(1);
+    assert_eq!(rt; refusal(heap, b"/a/b"), None);
+    assert_eq!(rt; heap.made(), 0);
     heap.refuse(0);
     assert_eq!(rt; refusal(heap, b"a"), Some(Refusal::Errno(Errno::EINVAL)));
     assert_eq!(rt; heap.made(), 0);

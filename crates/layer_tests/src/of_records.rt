@@ -71,8 +71,10 @@ fn a_repeated_touch_is_kept_once_and_takes_no_memory(rt: HostRuntime) {
 fn is_addition_refused(rt: &impl Abort, heap: Heap, records: &mut Records, number: u64) -> bool
     requires { 2 < length records.old }
 {
-    let more = [entry(rt, heap, "d", true), entry(rt, heap, "e", true)];
-    let more = Vec::from_array(heap, more).expect(rt, "memory");
+    // These names do not stand in place, so their copies ask for memory too.
+    let first = entry(rt, heap, "d234567890123456789012345", true);
+    let second = entry(rt, heap, "e234567890123456789012345", true);
+    let more = Vec::from_array(heap, [first, second]).expect(rt, "memory");
     heap.refuse(number);
     let added = records.add(Pid(2), more);
     heap.refuse(0);

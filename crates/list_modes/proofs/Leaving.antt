@@ -1,13 +1,13 @@
 -- A table of which nothing is held, and one of which a process holds nothing any more.
-use Rattle.std.proofs.Common.{◌≡◌, ◌≢◌, ℕ, zero, suc, ◌+◌, ◌≤◌, refl, sym, ◌∙◌, ap, true, false, Bool, List, [], Option, None, unwrap_or}
-use Rattle.std.specs.Prelude.{if◌then◌else◌, ◌&&◌, ◌==◌}
+use Rattle.std.proofs.Common.{◌≡◌, ◌≢◌, ℕ, zero, suc, ◌+◌, refl, sym, ◌∙◌, ap, true, false, Bool, [], None, unwrap_or}
+use Rattle.std.specs.Prelude.{if◌then◌else◌, ◌==◌}
 use Rattle.std.specs.Map.{lookup}
 use Rattle.std.specs.BTreeMap as tree
 use Rattle.std.specs.Ordering.{is_eq, nat_cmp}
 use Rattle.std.proofs.lemmas.Bool.{eqb-true, eqb-false}
 use Rattle.model.specs.Moments.{count_below}
 use Rattle.list_modes.specs.Holding.{Held, Table, nothing, place_cmp, held_of, SetsHeld, LetsGo}
-use Rattle.list_modes.specs.Counted.{Counts, counts_in, no_counts, tally, pids, one, IsCounted}
+use Rattle.list_modes.specs.Counted.{Counts, no_counts, tally, pids, IsCounted}
 use Rattle.list_modes.proofs.Tallies.{other_process, counts_equal}
 
 none_pass : (n : ℕ) → count_below (λ q. false) n ≡ 0

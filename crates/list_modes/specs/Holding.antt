@@ -1,5 +1,5 @@
 -- What processes hold of directories, and the list mode that comes of it.
-use Rattle.std.specs.Prelude.{◌≡◌, ℕ, ◌≤◌, Bool, true, false, ◌&&◌, ◌||◌, ◌==◌, if◌then◌else◌}
+use Rattle.std.specs.Prelude.{◌≡◌, ℕ, ◌≤◌, Bool, true, false, not, ◌&&◌, ◌||◌, ◌==◌, if◌then◌else◌}
 use Rattle.std.specs.Prelude.{List, unwrap_or}
 use Rattle.std.specs.Map.{lookup}
 use Rattle.std.specs.Ordering.{nat_cmp, ordering_then, is_eq}
@@ -60,3 +60,8 @@ mode_among reads writes n =
 abbrev pub mode_in : Table → ℕ → ℕ → ListMode
 mode_in table dir n = mode_among (λ q. (held_of table q dir).names_read)
     (λ q. (held_of table q dir).entry_written) n
+
+-- whether one of so many processes, but not this one, writes an entry of a directory
+abbrev pub others_write : Table → ℕ → ℕ → ℕ → Bool
+others_write table dir pid n =
+    any_below (λ q. not (q == pid) && (held_of table q dir).entry_written) n

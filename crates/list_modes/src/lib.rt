@@ -8,7 +8,7 @@
 
 ghost use Rattle.std.specs.Prelude.{◌≡◌, ℕ, [], ◌||◌, OnErr, OnOk};
 ghost use Rattle.list_modes.specs.Holding.{nothing, held_of, with_marks, IsPartOf, SetsHeld, LetsGo};
-ghost use Rattle.list_modes.specs.Holding.{IsBelow, mode_in};
+ghost use Rattle.list_modes.specs.Holding.{IsBelow, mode_in, others_write};
 
 mod table;
 
@@ -135,5 +135,14 @@ impl Holders {
         ensures { (n : ℕ) → IsBelow n self.now → result ≡ mode_in self.now dir n }
     {
         counts_at(&self.counts, dir).mode()
+    }
+
+    /// Whether a process other than this one writes an entry of a directory. It takes no memory,
+    /// and two look-ups.
+    pub fn others_write(&self, dir: Num, pid: Pid) -> bool
+        ensures { (n : ℕ) → IsBelow n self.now → result ≡ others_write self.now dir pid n }
+    {
+        let own = self.held(dir, pid).entry_written;
+        counts_at(&self.counts, dir).writers > u64::from(own)
     }
 }

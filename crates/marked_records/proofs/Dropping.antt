@@ -1,19 +1,16 @@
 -- A look at the names of a directory of which no other process writes an entry clashes with nothing.
-use Rattle.std.proofs.Common.{◌≡◌, ℕ, ◌<◌, ◌≤◌, refl, sym, ◌∙◌, ap, subst, true, false, Bool, List, [], ◌∷◌, ◌++◌, ◌+◌, ◌-◌, take, drop, drop-cons, get_or, length, filter, arith, inl, inr, append_assoc}
+use Rattle.std.proofs.Common.{◌≡◌, ℕ, ◌<◌, refl, sym, ◌∙◌, ap, subst, true, false, Bool, List, [], ◌∷◌, ◌++◌, ◌+◌, ◌-◌, take, drop, drop-cons, get_or, length, arith, inl, inr, append_assoc}
 use Rattle.std.specs.Prelude.{◌||◌, ◌&&◌, ◌==◌, not, slice_range, if◌then◌else◌}
-use Rattle.std.specs.List.{list_any}
-use Rattle.std.proofs.lemmas.Bool.{cases_lt, eqb-true, or_cases, or_left, or_right, and_parts, and_from, both_ways, false≢true, false_from_ne_true, not-true, not-false}
+use Rattle.std.proofs.lemmas.Bool.{cases_lt, eqb-true, or_cases, or_left, or_right, and_parts, false≢true, false_from_ne_true, not-true, not-false}
 use Rattle.std.proofs.lemmas.List.{get_or_default, get_or_past, take_more}
 use Rattle.model.specs.Aspects.{Aspect, Entry, Names, Size, Block, Links, Ends, Offset, Front, Back}
 use Rattle.model.specs.Steps.{Touch}
 use Rattle.model.specs.Clashes.{clash, has_touch, same_aspect}
-use Rattle.model.specs.Modes.{ListMode, NoTx, Read, Write, Exclusive, any_below}
 use Rattle.records.specs.Touches.{touched_by}
 use Rattle.conflict.specs.declared.found.Clash.{Clash}
 use Rattle.conflict.specs.Clashing.{AreClashesOf, AreClashes}
-use Rattle.list_modes.specs.Holding.{mode_among}
 use Rattle.list_modes.proofs.Laws.{none_below}
-use Rattle.marked_records.specs.Marks.{changes_names, marks_at, mode_by_touches, is_unwritten, looks_at, dropped, AreUnwritten}
+use Rattle.marked_records.specs.Marks.{changes_names, marks_at, others_write, looks_at, dropped, AreUnwritten}
 
 or_none : (b : Bool) → (b || false) ≡ b
 or_none true = refl
@@ -106,21 +103,18 @@ module _ (lists : List (List Touch)) (pid : ℕ) (test : ℕ → Bool) (unwritte
     by true passes of later = ([], found, refl, dropped_alone t passes, later found of)
     by false kept of later = (of.0, of.1, of.2, of.3, later of.1 of.4)
 
--- by the list mode of the directory
-unwritten_by : (reads writes : ℕ → Bool) (n : ℕ) → is_unwritten (mode_among reads writes n) ≡ true → any_below writes n ≡ false
-unwritten_by reads writes n h = by (any_below (λ q. reads q && writes q) n) (any_below writes n) (any_below reads n) refl h where
-  by : (a b c : Bool) → any_below writes n ≡ b → is_unwritten (if a then Exclusive else if b then Write else if c then Read else NoTx) ≡ true → any_below writes n ≡ false
-  by true b c is e = absurd (false≢true e)
-  by false true c is e = absurd (false≢true e)
-  by false false c is e = is
-
-pub unwritten_by_mode : (lists : List (List Touch)) (pid : ℕ) → AreUnwritten lists pid (λ d. is_unwritten (mode_by_touches lists d))
-unwritten_by_mode lists pid d q passes other = elim (cases_lt q (length lists)) [
-  | inl below ↦ none_below (writes d) (length lists) (unwritten_by (λ x. (marks_at d (touched_by lists x)).names_read) (writes d) (length lists) passes) q below
+-- where no other process writes an entry
+pub none_unwritten : (lists : List (List Touch)) (pid : ℕ) → AreUnwritten lists pid (λ d. not (others_write lists pid d))
+none_unwritten lists pid d q passes other = elim (cases_lt q (length lists)) [
+  | inl below ↦ alone (q == pid) (writes q) other (none_below (λ x. not (x == pid) && writes x) (length lists) (not-true (others_write lists pid d) passes) q below)
   | inr beyond ↦ ap (λ ts. (marks_at d ts).entry_written) (get_or_past lists q [] beyond)
 ] where
-  writes : ℕ → ℕ → Bool
-  writes e x = (marks_at e (touched_by lists x)).entry_written
+  writes : ℕ → Bool
+  writes x = (marks_at d (touched_by lists x)).entry_written
+
+  alone : (own b : Bool) → own ≡ false → (not own && b) ≡ false → b ≡ false
+  alone false b e h = h
+  alone true b e h = absurd (false≢true (sym e))
 
 -- clashes of some touches, and of those that come after them
 pub clashes_join : (lists : List (List Touch)) (pid : ℕ) (ts us : List Touch) (f g : List Clash) → AreClashes lists pid ts f → AreClashes lists pid us g → AreClashes lists pid (ts ++ us) (f ++ g)
@@ -137,8 +131,8 @@ pub asked_alone : (lists : List (List Touch)) (pid : ℕ) (ts : List Touch) (i :
 asked_alone lists pid ts i found within are t is = subst (λ (us : List Touch). AreClashes lists pid us found) (one_slice ts i t within is) are
 
 -- and of one that is not asked about
-pub not_asked : (lists : List (List Touch)) (pid : ℕ) (u : Touch) → not (looks_at (λ d. is_unwritten (mode_by_touches lists d)) u.aspect u.write) ≡ false → AreClashes lists pid (u ∷ []) []
-not_asked lists pid u dropped = ([], [], refl, dropped_alone lists pid (λ d. is_unwritten (mode_by_touches lists d)) (unwritten_by_mode lists pid) u (not-false _ dropped), refl)
+pub not_asked : (lists : List (List Touch)) (pid : ℕ) (u : Touch) → not (looks_at (λ d. not (others_write lists pid d)) u.aspect u.write) ≡ false → AreClashes lists pid (u ∷ []) []
+not_asked lists pid u dropped = ([], [], refl, dropped_alone lists pid (λ d. not (others_write lists pid d)) (none_unwritten lists pid) u (not-false _ dropped), refl)
 
 pub clashes_more : (lists : List (List Touch)) (pid : ℕ) (ts : List Touch) (i : ℕ) (found own all : List Clash) → i < length ts → AreClashes lists pid (take i ts) found → ((t : Touch) → t ≡ get_or ts i t → AreClashes lists pid (t ∷ []) own) → all ≡ found ++ own → AreClashes lists pid (take (i + 1) ts) all
 clashes_more lists pid ts i found own all within are of is = by ts within are of where

@@ -1,17 +1,17 @@
 -- What is held, by what is recorded.
 use Rattle.std.proofs.Common.{◌≡◌, ◌≢◌, ℕ, ◌+◌, ◌<◌, ◌≤◌, refl, sym, ◌∙◌, ap, subst, true, false, Bool, List, [], ◌∷◌, ◌++◌, take, drop, length, set, get_or, arith, length-append}
-use Rattle.std.specs.Prelude.{◌||◌, if◌then◌else◌}
+use Rattle.std.specs.Prelude.{◌||◌, ◌&&◌, ◌==◌, not, if◌then◌else◌}
 use Rattle.std.specs.List.{list_any}
 use Rattle.std.proofs.lemmas.Bool.{or_left, eq-eqb, ne_eqb}
 use Rattle.std.proofs.lemmas.List.{take-append-drop, take-append-le, take-take, take_all, get_or_past, get_or-set_same, set-set, set-get_or}
 use Rattle.std.proofs.lemmas.List.Folds.{list_any-append, list_any_more}
 use Rattle.model.specs.Steps.{Touch}
-use Rattle.model.specs.Modes.{ListMode, reads_names}
+use Rattle.model.specs.Modes.{ListMode, any_below, reads_names}
 use Rattle.model.specs.Clashes.{has_touch}
 use Rattle.records.specs.Touches.{touched_by, with_touch, with_touches}
 use Rattle.list_modes.specs.declared.Held.{Held}
-use Rattle.list_modes.specs.Holding.{Table, nothing, held_of, IsPartOf, IsBelow, mode_among, mode_in}
-use Rattle.marked_records.specs.Marks.{changes_names, marks_of, marks_at, joined, IsMarked, SetsMarks, IsBetween, mode_by_touches}
+use Rattle.list_modes.specs.Holding.{Table, held_of, IsPartOf, IsBelow, mode_among, mode_in, others_write}
+use Rattle.marked_records.specs.Marks.{changes_names, marks_of, marks_at, joined, IsMarked, SetsMarks, IsBetween, mode_by_touches, others_write as others_write_by}
 
 any_first : {X : Type 0} (test : X → Bool) (n : ℕ) (xs : List X) → list_any test (take n xs) ≡ true → list_any test xs ≡ true
 any_first test n xs h = ap (list_any test) (sym (take-append-drop n xs)) ∙ list_any-append test (take n xs) (drop n xs) ∙ or_left (list_any test (take n xs)) (list_any test (drop n xs)) h
@@ -24,10 +24,15 @@ between_marked lists table p count ts was is = record {
   held : (d : ℕ) → held_of table p d ≡ marks_at d ts
   held d = was.each p d ∙ ap (marks_at d) (sym is)
 
+below_all : (lists : List (List Touch)) (table : Table) → IsMarked lists table → IsBelow (length lists) table
+below_all lists table was q e far = was.each q e ∙ ap (marks_at e) (get_or_past lists q [] far)
+
 pub mode_marked : (lists : List (List Touch)) (table : Table) (d : ℕ) (mode : ListMode) → IsMarked lists table → ((n : ℕ) → IsBelow n table → mode ≡ mode_in table d n) → mode ≡ mode_by_touches lists d
-mode_marked lists table d mode was is = is (length lists) below ∙ (λ i. mode_among (λ q. (was.each q d i).names_read) (λ q. (was.each q d i).entry_written) (length lists)) where
-  below : IsBelow (length lists) table
-  below q e far = was.each q e ∙ ap (marks_at e) (get_or_past lists q [] far)
+mode_marked lists table d mode was is = is (length lists) (below_all lists table was) ∙ (λ i. mode_among (λ q. (was.each q d i).names_read) (λ q. (was.each q d i).entry_written) (length lists))
+
+-- and so is whether others write
+pub others_marked : (lists : List (List Touch)) (table : Table) (p d : ℕ) (others : Bool) → IsMarked lists table → ((n : ℕ) → IsBelow n table → others ≡ others_write table d p n) → others ≡ others_write_by lists p d
+others_marked lists table p d others was is = is (length lists) (below_all lists table was) ∙ (λ i. any_below (λ q. not (q == p) && (was.each q d i).entry_written) (length lists))
 
 held_equal : (a b : Held) → a.names_read ≡ b.names_read → a.entry_written ≡ b.entry_written → a ≡ b
 held_equal a b names entries = λ i. record { names_read = names i; entry_written = entries i }

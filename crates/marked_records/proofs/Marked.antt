@@ -1,8 +1,8 @@
 -- The holder table after the marks of one touch.
-use Rattle.std.proofs.Common.{◌≡◌, ℕ, refl, sym, ◌∙◌, ap, subst, true, false, Bool, List}
+use Rattle.std.proofs.Common.{◌≡◌, ℕ, refl, sym, ◌∙◌, ap, true, false, Bool, List}
 use Rattle.std.specs.Prelude.{if◌then◌else◌, ◌&&◌, ◌||◌, ◌==◌}
 use Rattle.std.proofs.lemmas.Bool.{eqb-true, eq-eqb}
-use Rattle.model.specs.Aspects.{Aspect, Entry, Names}
+use Rattle.model.specs.Aspects.{Entry, Names}
 use Rattle.model.specs.Steps.{Touch}
 use Rattle.list_modes.specs.declared.Held.{Held}
 use Rattle.list_modes.specs.Holding.{Table, held_of, with_marks, SetsHeld}

@@ -1,10 +1,10 @@
 -- What recorded touches mark at a directory, and which touches need not be asked about.
-use Rattle.std.specs.Prelude.{◌≡◌, ℕ, ◌∷◌, Bool, true, false, not, ◌&&◌, ◌||◌, ◌==◌, if◌then◌else◌}
-use Rattle.std.specs.Prelude.{List, [], length, take, drop, ◌++◌, filter}
+use Rattle.std.specs.Prelude.{◌≡◌, ℕ, Bool, true, false, not, ◌&&◌, ◌||◌, ◌==◌, if◌then◌else◌}
+use Rattle.std.specs.Prelude.{List, length, take, filter}
 use Rattle.std.specs.List.{list_any}
 use Rattle.model.specs.Aspects.{Aspect, Entry, Names}
 use Rattle.model.specs.Steps.{Touch}
-use Rattle.model.specs.Modes.{ListMode, NoTx, Read, Write, Exclusive, reads_names}
+use Rattle.model.specs.Modes.{ListMode, any_below, reads_names}
 use Rattle.records.specs.Touches.{touched_by}
 use Rattle.list_modes.specs.declared.Held.{Held}
 use Rattle.list_modes.specs.Holding.{Table, held_of, with_marks, IsPartOf, mode_among}
@@ -54,12 +54,10 @@ abbrev pub mode_by_touches : List (List Touch) → ℕ → ListMode
 mode_by_touches lists d = mode_among (λ q. (marks_at d (touched_by lists q)).names_read)
     (λ q. (marks_at d (touched_by lists q)).entry_written) (length lists)
 
--- whether no process writes an entry, by the list mode
-abbrev pub is_unwritten : ListMode → Bool
-is_unwritten NoTx = true
-is_unwritten Read = true
-is_unwritten Write = false
-is_unwritten Exclusive = false
+-- whether a process but this one writes an entry of a directory
+abbrev pub others_write : List (List Touch) → ℕ → ℕ → Bool
+others_write lists pid d =
+    any_below (λ q. not (q == pid) && (marks_at d (touched_by lists q)).entry_written) (length lists)
 
 -- a look at all names of a directory that passes the test
 abbrev pub looks_at : (ℕ → Bool) → Aspect → Bool → Bool

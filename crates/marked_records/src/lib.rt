@@ -1,8 +1,9 @@
 //! What each process's live transaction touched, with the list modes of directories beside it
 //! (TxOS, sections 4 and 5).
 //!
-//! A look at all names of a directory clashes with nothing where no process writes an entry of it.
-//! Its list mode says so, so such a look is dropped before clashes are asked for.
+//! A look at all names of a directory clashes with nothing where no other process writes an entry of
+//! it. What is counted for its list mode says so, and such a look is dropped before clashes are asked
+//! for.
 #![tactic(auto)]
 
 ghost use Rattle.std.specs.Prelude.{◌≡◌, ℕ, ◌<◌, ◌-◌, ◌++◌, ◌∷◌, [], length, take, set, get_or};
@@ -11,7 +12,7 @@ ghost use Rattle.list_modes.specs.Holding.{held_of};
 ghost use Rattle.model.specs.Steps.{Touch as OfModel};
 ghost use Rattle.records.specs.Touches.{touched_by, with_touches};
 ghost use Rattle.marked_records.specs.Marks.{SetsMarks, marks_at, mode_by_touches};
-ghost use Rattle.marked_records.specs.Marks.{is_unwritten, looks_at};
+ghost use Rattle.marked_records.specs.Marks.{others_write, looks_at};
 ghost use Rattle.conflict.specs.Clashing.{AreClashes};
 
 mod marking;
@@ -151,17 +152,21 @@ impl MarkedRecords {
         self.records.release(pid);
     }
 
-    // Whether a touch may clash with one of another process: where no process writes an entry of a
-    // directory, a look at its names does not.
-    fn may_clash(&self, touch: &Touch) -> bool
-        ensures { result ≡ not (looks_at (λ d. is_unwritten (mode_by_touches self.now d))
+    // Whether a process other than the caller writes an entry of a directory.
+    fn others_write(&self, caller: Pid, dir: Num) -> bool
+        ensures { result ≡ others_write self.now caller dir }
+    {
+        self.holders.others_write(dir, caller)
+    }
+
+    // Whether a touch may clash with one of another process: where no other process writes an entry
+    // of a directory, a look at its names does not.
+    fn may_clash(&self, caller: Pid, touch: &Touch) -> bool
+        ensures { result ≡ not (looks_at (λ d. not (others_write self.now caller d))
             touch.now.aspect touch.now.write) }
     {
         match (&touch.aspect, touch.write) {
-            (Aspect::Names(dir), false) => match self.mode(*dir) {
-                ListMode::NoTx | ListMode::Read => false,
-                ListMode::Write | ListMode::Exclusive => true,
-            },
+            (Aspect::Names(dir), false) => self.others_write(caller, *dir),
             _ => true,
         }
     }
@@ -178,7 +183,7 @@ impl MarkedRecords {
         ensures { IfOk result (λ own. (t : OfModel) → t ≡ get_or touches.now i t
             → AreClashes self.now caller (t ∷ []) own.items) }
     {
-        if self.may_clash(&touches[i]) {
+        if self.may_clash(caller, &touches[i]) {
             clashes(heap, &self.records, caller, &touches[i..i + 1])
         } else {
             Ok(Vec::new(heap))
@@ -186,8 +191,8 @@ impl MarkedRecords {
     }
 
     /// All clashes of these touches of a process with what others touched, in order. It is not
-    /// asked about looks at the names of directories of which no process writes an entry. Refused
-    /// memory is an error.
+    /// asked about looks at the names of directories of which no other process writes an entry.
+    /// Refused memory is an error.
     pub fn clashes(
         &self,
         heap: Heap,

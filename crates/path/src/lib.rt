@@ -12,13 +12,17 @@ ghost use Rattle.path.specs.Parsing.{IsRefusalBy, pieces_left, bytes_left};
 use heap::Heap;
 use ids::{Errno, Name, Refusal};
 pub use ids::{NAME_LIMIT, PATH_LIMIT};
+use smallvec::SmallVec;
 use std::alloc::AllocError;
 use std::marker::Model;
+
+// Up to four names stand in the path itself.
+type Names = SmallVec<Name, 4, Heap>;
 
 /// The names of a path, from the root on. The path `/` has none.
 #[derive(Debug, Drop)]
 pub struct Path {
-    names: Vec<Name, Heap>,
+    names: Names,
 }
 
 impl Model for Path {
@@ -46,7 +50,7 @@ impl Path {
         }
         match bytes {
             [b'/'] => Ok(Path {
-                names: Vec::new(heap),
+                names: SmallVec::new(heap),
             }),
             [b'/', names @ ..] => Ok(Path {
                 names: read_names(heap, names)?,
@@ -87,11 +91,11 @@ fn is_same(name: &Name, other: &Name) -> bool
 }
 
 // The names between slashes, read from the left until one is refused.
-fn read_names(heap: Heap, bytes: &[u8]) -> Result<Vec<Name, Heap>, Refusal>
+fn read_names(heap: Heap, bytes: &[u8]) -> Result<Names, Refusal>
     ensures ok { IfOk result (λ names. names_in (pieces bytes.now) ≡ Ok names.items) }
     ensures refused { IfErr result (λ why. IsRefusalBy why (names_in (pieces bytes.now))) }
 {
-    let mut names = Vec::new(heap);
+    let mut names = SmallVec::new(heap);
     let mut left = Some(bytes);
     while let Some(bytes) = left {
         let (piece, behind) = cut_at_slash(bytes);
@@ -120,7 +124,7 @@ fn first_slash(bytes: &[u8]) -> Option<usize>
 }
 
 // One more name, if it is one.
-fn push_name(heap: Heap, names: &mut Vec<Name, Heap>, piece: &[u8]) -> Result<(), Refusal>
+fn push_name(heap: Heap, names: &mut Names, piece: &[u8]) -> Result<(), Refusal>
     ensures ok { OnOk result (names.new.items ≡ names.old.items ++ piece.now ∷ []) }
     ensures is_name { OnOk result ((others : List (List ℕ))
         → names_in (piece.now ∷ others) ≡ with_first piece.now (names_in others)) }

@@ -1,5 +1,5 @@
 -- What a call through a pass does to the list of its port.
-use Rattle.std.proofs.Common.{◌≡◌, ℕ, List, [], ◌∷◌, ◌++◌, Bool, true, false, map, refl, sym, ◌∙◌, ap, subst, append-nil}
+use Rattle.std.proofs.Common.{◌≡◌, ℕ, List, [], ◌∷◌, ◌++◌, Bool, true, false, map, refl, sym, ◌∙◌, ap, subst}
 use Rattle.std.specs.Prelude.{if◌then◌else◌, MatchBool}
 use Rattle.std.proofs.lemmas.List.{map-append}
 use Rattle.history.specs.Log.{Log}
@@ -13,7 +13,7 @@ use Rattle.ports.specs.Ports.{done_by, replied, work_in}
 use Rattle.turnstile.specs.Calls.{Called, Ends, Forked}
 use Rattle.turnstile.specs.Histories.{Begins, own}
 use Rattle.turnstile.specs.Passes.{PassView}
-use Rattle.workers.specs.Port.{child_reply, fork, grown, is_refusal}
+use Rattle.workers.specs.Port.{grown, is_refusal}
 
 -- the replies that stand for no entry are those of refused operations
 refusals : (r : Reply) → is_refusal r ≡ is_no_entry r

@@ -1,5 +1,5 @@
 -- The processes that are there at the start, and what a run of all comes to.
-use Rattle.std.proofs.Common.{◌≡◌, ℕ, zero, suc, ◌<◌, ◌≤◌, List, [], ◌∷◌, ◌++◌, ◌⊎◌, inl, inr, length, map, refl, sym, ◌∙◌, ap, subst, true, false, Bool, arith}
+use Rattle.std.proofs.Common.{◌≡◌, ℕ, zero, suc, ◌<◌, ◌≤◌, List, [], ◌∷◌, ◌++◌, inl, inr, length, map, refl, sym, ◌∙◌, ap, subst, true, false, Bool, arith}
 use Rattle.std.specs.Prelude.{if◌then◌else◌, nat_lt, ◌&&◌}
 use Rattle.std.specs.List.{AllByRecursion}
 use Rattle.std.proofs.lemmas.Bool.{cases_lt}
@@ -8,11 +8,10 @@ use Rattle.call_laws.proofs.Laws.{first_processes_live}
 use Rattle.history.specs.Log.{Log}
 use Rattle.ids.specs.declared.limits.TheConstants.{MAX_PROCESSES}
 use Rattle.kernel.specs.Shown.{Shown, Kept, moment}
-use Rattle.model.specs.Legal.{Legal}
 use Rattle.model.specs.Moments.{all_below, is_alive, start}
 use Rattle.model.specs.State.{Kernel as State}
 use Rattle.ports.proofs.Called.{begins_on}
-use Rattle.ports.proofs.Found.{Among, AreWorked, Found, all_among, among_left, among_right, gates, waiting_found, works}
+use Rattle.ports.proofs.Found.{Among, AreWorked, all_among, among_left, among_right, gates, waiting_found, works}
 use Rattle.ports.specs.Runs.{IsRunByThreads}
 use Rattle.script.specs.Contents.{ScriptContents}
 use Rattle.turnstile.specs.Calls.{KeepsPass, first_pass, first_passes, has_pass, living_numbers}

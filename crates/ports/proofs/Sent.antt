@@ -53,6 +53,9 @@ use Rattle.ids.specs.contracts.aspect.Touch as Touch
 use Rattle.ids.specs.contracts.aspect.Cause as Cause
 use Rattle.ids.specs.contracts.call.Call as Call
 use Rattle.ids.specs.contracts.call.Op as Op
+use Rattle.ids.specs.contracts.bytes.Bytes as Bytes
+use Rattle.ids.specs.contracts.bytes.Name as Name
+use Rattle.ids.specs.contracts.bytes.NameList as NameList
 use Rattle.ids.specs.contracts.reply.Answer as Answer
 use Rattle.ids.specs.contracts.reply.Reply as Reply
 use Rattle.ids.specs.contracts.entry.Entry as Entry
@@ -80,7 +83,7 @@ frees_by : {D : Type 0} {G : Type 1} (g : G) (holds : D → Ty → Ptr → Fml)
 frees_by g holds h = record { frees = h }
 
 patch_sent : IsSend Patch.the_row
-patch_sent = search (sendable, crosses, over.crosses, frees_by, frees.frees) depth 40 fits 30000
+patch_sent = search (sendable, crosses, over.crosses, maps.crosses, frees_by, frees.frees) depth 40 fits 30000
 
 bytes_sent : IsSend FileShadow.the_row
 bytes_sent = search (sendable, crosses, over.crosses, frees_by, frees.frees) depth 40 fits 30000
@@ -125,7 +128,7 @@ shadow_sent : IsSend Shadow.the_row
 shadow_sent = search (patches_sent, sendable, crosses, over.crosses) depth 40 fits 30000
 
 dir_sent : IsSend Dir.the_row
-dir_sent = search (sendable, crosses, over.crosses, frees_by, frees.frees) depth 40 fits 30000
+dir_sent = search (sendable, crosses, over.crosses, maps.crosses, frees_by, frees.frees) depth 40 fits 30000
 
 open_file_sent : IsSend (OpenFile.the_field).row
 open_file_sent = search (room_sent, sendable, crosses, over.crosses) depth 40 fits 30000
@@ -193,8 +196,17 @@ call_sent = search (sendable, crosses, over.crosses, frees_by, frees.frees) dept
 op_sent : IsSend (Op.the_field).row
 op_sent = search (call_sent, sendable, crosses, over.crosses, frees_by, frees.frees) depth 40 fits 30000
 
+name_sent : IsSend Name.the_row
+name_sent = search (sendable, crosses, over.crosses, frees_by, frees.frees) depth 40 fits 30000
+
+names_sent : IsSend NameList.the_row
+names_sent = search (name_sent, sendable, crosses, over.crosses, frees_by, frees.frees) depth 40 fits 30000
+
+text_sent : IsSend Bytes.the_row
+text_sent = search (sendable, crosses, over.crosses, frees_by, frees.frees) depth 40 fits 30000
+
 answer_sent : IsSend (Answer.the_field).row
-answer_sent = search (sendable, crosses, over.crosses, frees_by, frees.frees) depth 40 fits 30000
+answer_sent = search (names_sent, text_sent, sendable, crosses, over.crosses, frees_by, frees.frees) depth 40 fits 30000
 
 reply_sent : IsSend (Reply.the_field).row
 reply_sent = search (answer_sent, cause_sent, sendable, crosses, over.crosses, frees_by, frees.frees) depth 40 fits 30000

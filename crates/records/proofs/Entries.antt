@@ -1,11 +1,11 @@
 -- The marks of one touch, and those of a directory's entries.
-use Rattle.std.proofs.Common.{◌≡◌, ◌∙◌, sym, refl, ap, subst, Option, Some, None, ℕ, zero, suc, ◌<◌, Bool, true, false, cond, not, ◌&&◌, ◌||◌, ◌==◌, List, [], ◌∷◌, filter, if◌then◌else◌, arith}
-use Rattle.std.specs.List.{AllByRecursion}
+use Rattle.std.proofs.Common.{◌≡◌, ◌∙◌, sym, refl, ap, ℕ, zero, suc, ◌<◌, Bool, true, false, cond, not, ◌&&◌, ◌||◌, ◌==◌, List, [], ◌∷◌, filter, if◌then◌else◌, arith}
+use Rattle.std.specs.List.{AllByRecursion, list_any}
 use Rattle.std.specs.List.Sorted.{IsStrictlySortedBy}
 use Rattle.std.specs.Ordering.{is_eq, is_gt, is_le, nat_cmp, ordering_then}
 use Rattle.std.specs.Cmp.Lexicographic.{slice_cmp}
-use Rattle.std.specs.Map.{lookup, keys_of}
-use Rattle.std.specs.BTreeMap.{BTreeMap, IsOrdered, is_at}
+use Rattle.std.specs.BTreeSet.{IsOrdered, contains}
+use Rattle.std.specs.BTreeMap.{is_at}
 use Rattle.std.specs.BTreeMap.Range.{range_contains, IsLeBy}
 use Rattle.std.specs.declared.ops.Bound.TheVariants.{Included, Excluded}
 use Rattle.std.specs.declared.cmp.Ordering.{Ordering}
@@ -20,10 +20,10 @@ use Rattle.model.specs.Steps.{Touch}
 use Rattle.model.specs.Modes.{writes_entry}
 use Rattle.records.specs.Codes.{is_touch}
 use Rattle.records.specs.Groups.{among, AreDistinct}
-use Rattle.records.specs.Index.{side, side_at, users_on, holds}
+use Rattle.records.specs.Index.{users_on, holds, is_written_entry, ListsWritten}
 use Rattle.records.specs.Ranges.{touch_on, marks_with, marks_of, marks_on, marks_of_writers, marks_of_entries}
+use Rattle.records.specs.declared.index.Index.{Index}
 use Rattle.records.specs.declared.mark.Mark.{Mark}
-use Rattle.records.specs.declared.users.Users.{Users}
 use Rattle.records.proofs.Exact.{touch_from_tied}
 use Rattle.records.proofs.Aspects.{aspect_from_tied, tied_aspect, touch_by}
 use Rattle.records.proofs.Once.{is_mark, is_found, found_in, found_with, once_with, once_filter, once_append, and_false, Once}
@@ -34,46 +34,48 @@ found_of caller t m ps = found_in m (λ k. not (k.pid == caller)) (marks_with t 
 once_of : (caller : ℕ) (t : Touch) (ps : List ℕ) → AreDistinct ps → Once (marks_of caller t ps)
 once_of caller t ps once = once_filter (λ k. not (k.pid == caller)) (marks_with t ps) (once_with t ps once)
 
-same_touch : (t : Touch) (m : Mark) (s : BTreeMap Aspect Users) (b : Bool) → is_touch t m.touch ≡ b → (b && among m.pid (users_on s t)) ≡ (b && holds s m)
+same_touch : (t : Touch) (m : Mark) (s : Index) (b : Bool) → is_touch t m.touch ≡ b → (b && among m.pid (users_on s t)) ≡ (b && holds s m)
 same_touch t m s true h = ap (λ u. among m.pid (users_on s u)) (touch_from_tied t m.touch h)
 same_touch t m s false h = refl
 
-pub on_touch : (caller : ℕ) (t : Touch) (m : Mark) (s : BTreeMap Aspect Users) → is_found m (marks_on caller t s) ≡ (not (m.pid == caller) && (is_touch t m.touch && holds s m))
+pub on_touch : (caller : ℕ) (t : Touch) (m : Mark) (s : Index) → is_found m (marks_on caller t s) ≡ (not (m.pid == caller) && (is_touch t m.touch && holds s m))
 on_touch caller t m s = found_of caller t m (users_on s t) ∙ ap (λ b. not (m.pid == caller) && b) (same_touch t m s (is_touch t m.touch) refl)
 
-pub once_on : (caller : ℕ) (t : Touch) (s : BTreeMap Aspect Users) → ((u : Touch) → AreDistinct (users_on s u)) → Once (marks_on caller t s)
+pub once_on : (caller : ℕ) (t : Touch) (s : Index) → ((u : Touch) → AreDistinct (users_on s u)) → Once (marks_on caller t s)
 once_on caller t s once = once_of caller t (users_on s t) (once t)
 
--- the users of an aspect among these entries
-abbrev users_at : List (Aspect × Users) → Aspect → Option Users
-users_at es a = lookup (is_at (aspect_cmp a)) es
+-- whether an aspect is among these
+abbrev is_listed : List Aspect → Aspect → Bool
+is_listed es a = list_any (is_at (aspect_cmp a)) es
 
-none_below : (a : Aspect) (es : List (Aspect × Users)) → AllByRecursion (λ b. aspect_cmp a b ≡ Less) (keys_of es) → users_at es a ≡ None
-none_below a [] below = refl
-none_below a (e ∷ es) below = ap (λ o. cond (is_eq o) (Some e.1) (users_at es a)) below.0 ∙ none_below a es below.1
+none_listed : (a : Aspect) (es : List Aspect) → AllByRecursion (λ b. aspect_cmp a b ≡ Less) es → is_listed es a ≡ false
+none_listed a [] below = refl
+none_listed a (b ∷ es) below = ap (λ o. is_eq o || is_listed es a) below.0 ∙ none_listed a es below.1
 
-none_at : (a b : Aspect) (es : List (Aspect × Users)) → AllByRecursion (λ c. aspect_cmp b c ≡ Less) (keys_of es) → is_eq (aspect_cmp a b) ≡ true → users_at es a ≡ None
-none_at a b es below h = ap (users_at es) (aspect_from_tied a b h) ∙ none_below b es below
+no_or : (c g w h : Bool) → (c && ((g && (w && false)) && h)) ≡ false
+no_or true true true h = refl
+no_or true true false h = refl
+no_or true false w h = refl
+no_or false g w h = refl
 
-no_or : (c g w : Bool) → (c && ((g && w) && false)) ≡ false
-no_or c true w = ap (λ b. c && b) (and_false w) ∙ and_false c
-no_or c false w = and_false c
+first_kept : (w l h g : Bool) → cond g ((w && h) || ((g && (w && l)) && h)) ((g && (w && l)) && h) ≡ ((g && (w && true)) && h)
+first_kept w l h false = refl
+first_kept false l h true = refl
+first_kept true l true true = refl
+first_kept true true false true = refl
+first_kept true false false true = refl
 
-or_false : (b : Bool) → (b || false) ≡ b
-or_false true = refl
-or_false false = refl
+-- whether a mark is found by the first aspect or by another
+at_first : (c g w l h b k : Bool) → (b ≡ true → g ≡ k) → cond k ((c && ((b && w) && h)) || (c && ((g && (w && l)) && h))) (c && ((g && (w && l)) && h)) ≡ (c && ((g && (w && (b || l))) && h))
+at_first false g w l h b true e = refl
+at_first false g w l h b false e = refl
+at_first true g w l h false true e = refl
+at_first true g w l h false false e = refl
+at_first true g w l h true k e = ap (λ x. cond x ((w && h) || ((g && (w && l)) && h)) ((g && (w && l)) && h)) (sym (e refl)) ∙ first_kept w l h g
 
-with_first : (g c w x : Bool) → cond g ((c && (w && x)) || false) false ≡ (c && ((g && w) && x))
-with_first true c w x = or_false (c && (w && x))
-with_first false c w x = sym (and_false c)
-
-with_others : (g c r : Bool) → cond g ((c && false) || r) r ≡ r
-with_others true c r = ap (λ b. b || r) (and_false c)
-with_others false c r = refl
-
-kept_first : (caller : ℕ) (m : Mark) (e : Aspect × Users) (es : List (Aspect × Users)) (b : Bool) → is_found m (marks_of_writers caller (if b then e ∷ es else es)) ≡ cond b ((not (m.pid == caller) && (is_touch (touch_on e.0 true) m.touch && among m.pid (side true e.1))) || is_found m (marks_of_writers caller es)) (is_found m (marks_of_writers caller es))
-kept_first caller m e es true = list_any-append (is_mark m) (marks_of caller (touch_on e.0 true) (side true e.1)) (marks_of_writers caller es) ∙ ap (λ b. b || is_found m (marks_of_writers caller es)) (found_of caller (touch_on e.0 true) m (side true e.1))
-kept_first caller m e es false = refl
+kept_first : (caller : ℕ) (m : Mark) (s : Index) (a : Aspect) (es : List Aspect) (b : Bool) → is_found m (marks_of_writers caller s (if b then a ∷ es else es)) ≡ cond b ((not (m.pid == caller) && (is_touch (touch_on a true) m.touch && holds s m)) || is_found m (marks_of_writers caller s es)) (is_found m (marks_of_writers caller s es))
+kept_first caller m s a es true = list_any-append (is_mark m) (marks_on caller (touch_on a true) s) (marks_of_writers caller s es) ∙ ap (λ b. b || is_found m (marks_of_writers caller s es)) (on_touch caller (touch_on a true) m s)
+kept_first caller m s a es false = refl
 
 turned : (a b : Aspect) (c : Bool) → is_eq (aspect_cmp a b) ≡ c → is_eq (aspect_cmp b a) ≡ c
 turned a b true h = ap (λ x. is_eq (aspect_cmp x a)) (sym (aspect_from_tied a b h)) ∙ tied_aspect a
@@ -83,63 +85,35 @@ turned a b false h = by (is_eq (aspect_cmp b a)) refl where
   by true k = absurd (false≢true (sym h ∙ ap (λ x. is_eq (aspect_cmp x b)) (sym (aspect_from_tied b a k)) ∙ tied_aspect b))
 
 -- a test of aspects says which entries are taken
-pub found_writers : (caller : ℕ) (g : Aspect → Bool) (m : Mark) (es : List (Aspect × Users)) → IsStrictlySortedBy aspect_cmp (keys_of es) → is_found m (marks_of_writers caller (filter (λ e. g e.0) es)) ≡ (not (m.pid == caller) && ((g m.touch.aspect && m.touch.write) && among m.pid (side_at true (users_at es m.touch.aspect))))
-unfolding IsStrictlySortedBy
-found_writers caller g m [] sorted = sym (no_or (not (m.pid == caller)) (g m.touch.aspect) m.touch.write)
-found_writers caller g m (e ∷ es) sorted =
-    kept_first caller m e (filter (λ e. g e.0) es) (g e.0)
-    ∙ ap (λ b. cond (g e.0) ((not (m.pid == caller) && (b && among m.pid (side true e.1))) || is_found m (marks_of_writers caller (filter (λ e. g e.0) es))) (is_found m (marks_of_writers caller (filter (λ e. g e.0) es)))) (touch_by (touch_on e.0 true) m.touch)
-    ∙ ap (λ r. cond (g e.0) ((not (m.pid == caller) && ((is_eq (aspect_cmp e.0 m.touch.aspect) && m.touch.write) && among m.pid (side true e.1))) || r) r) (found_writers caller g m es sorted.1)
-    ∙ at (is_eq (aspect_cmp m.touch.aspect e.0)) refl
-  where
-    c : Bool
-    c = not (m.pid == caller)
-
-    at : (b : Bool) → is_eq (aspect_cmp m.touch.aspect e.0) ≡ b → cond (g e.0) ((c && ((is_eq (aspect_cmp e.0 m.touch.aspect) && m.touch.write) && among m.pid (side true e.1))) || (c && ((g m.touch.aspect && m.touch.write) && among m.pid (side_at true (users_at es m.touch.aspect))))) (c && ((g m.touch.aspect && m.touch.write) && among m.pid (side_at true (users_at es m.touch.aspect)))) ≡ (c && ((g m.touch.aspect && m.touch.write) && among m.pid (side_at true (cond b (Some e.1) (users_at es m.touch.aspect)))))
-    at true h =
-        ap (λ o. cond (g e.0) ((c && ((is_eq (aspect_cmp e.0 m.touch.aspect) && m.touch.write) && among m.pid (side true e.1))) || (c && ((g m.touch.aspect && m.touch.write) && among m.pid (side_at true o)))) (c && ((g m.touch.aspect && m.touch.write) && among m.pid (side_at true o)))) (none_at m.touch.aspect e.0 es sorted.0 h)
-        ∙ ap (λ r. cond (g e.0) ((c && ((is_eq (aspect_cmp e.0 m.touch.aspect) && m.touch.write) && among m.pid (side true e.1))) || r) r) (no_or c (g m.touch.aspect) m.touch.write)
-        ∙ ap (λ b. cond (g e.0) ((c && ((b && m.touch.write) && among m.pid (side true e.1))) || false) false) (turned m.touch.aspect e.0 true h)
-        ∙ with_first (g e.0) c m.touch.write (among m.pid (side true e.1))
-        ∙ ap (λ a. c && ((g a && m.touch.write) && among m.pid (side true e.1))) (sym (aspect_from_tied m.touch.aspect e.0 h))
-    at false h =
-        ap (λ b. cond (g e.0) ((c && ((b && m.touch.write) && among m.pid (side true e.1))) || (c && ((g m.touch.aspect && m.touch.write) && among m.pid (side_at true (users_at es m.touch.aspect))))) (c && ((g m.touch.aspect && m.touch.write) && among m.pid (side_at true (users_at es m.touch.aspect))))) (turned m.touch.aspect e.0 false h)
-        ∙ with_others (g e.0) c (c && ((g m.touch.aspect && m.touch.write) && among m.pid (side_at true (users_at es m.touch.aspect))))
+found_writers : (caller : ℕ) (g : Aspect → Bool) (m : Mark) (s : Index) (es : List Aspect) → is_found m (marks_of_writers caller s (filter g es)) ≡ (not (m.pid == caller) && ((g m.touch.aspect && (m.touch.write && is_listed es m.touch.aspect)) && holds s m))
+found_writers caller g m s [] = sym (no_or (not (m.pid == caller)) (g m.touch.aspect) m.touch.write (holds s m))
+found_writers caller g m s (a ∷ es) =
+    kept_first caller m s a (filter g es) (g a)
+    ∙ ap (λ r. cond (g a) ((not (m.pid == caller) && (is_touch (touch_on a true) m.touch && holds s m)) || r) r) (found_writers caller g m s es)
+    ∙ ap (λ b. cond (g a) ((not (m.pid == caller) && (b && holds s m)) || (not (m.pid == caller) && ((g m.touch.aspect && (m.touch.write && is_listed es m.touch.aspect)) && holds s m))) (not (m.pid == caller) && ((g m.touch.aspect && (m.touch.write && is_listed es m.touch.aspect)) && holds s m))) (touch_by (touch_on a true) m.touch ∙ ap (λ b. b && m.touch.write) (turned m.touch.aspect a (is_eq (aspect_cmp m.touch.aspect a)) refl))
+    ∙ at_first (not (m.pid == caller)) (g m.touch.aspect) m.touch.write (is_listed es m.touch.aspect) (holds s m) (is_eq (aspect_cmp m.touch.aspect a)) (g a) (λ h. ap g (aspect_from_tied m.touch.aspect a h))
 
 left_apart : (c x y : Bool) → (c && (x && y)) ≡ true → x ≡ true
 left_apart true true y h = refl
 left_apart true false y h = h
 left_apart false x y h = absurd (false≢true h)
 
-first_is : (b c : Bool) → (b && c) ≡ true → b ≡ true
-first_is true c h = refl
-first_is false c h = h
+once_first : (caller : ℕ) (s : Index) (a : Aspect) (es : List Aspect) (b : Bool) → ((u : Touch) → AreDistinct (users_on s u)) → Once (marks_of_writers caller s es) → ((m : Mark) → is_touch (touch_on a true) m.touch ≡ true → is_found m (marks_of_writers caller s es) ≡ false) → Once (marks_of_writers caller s (if b then a ∷ es else es))
+once_first caller s a es true once rest apart =
+    once_append (marks_on caller (touch_on a true) s) (marks_of_writers caller s es) (once_on caller (touch_on a true) s once) rest
+    (λ m h. apart m (left_apart (not (m.pid == caller)) (is_touch (touch_on a true) m.touch) (holds s m) (sym (on_touch caller (touch_on a true) m s) ∙ h)))
+once_first caller s a es false once rest apart = rest
 
-once_first : (caller : ℕ) (e : Aspect × Users) (es : List (Aspect × Users)) (b : Bool) → AreDistinct (side true e.1) → Once (marks_of_writers caller es) → ((m : Mark) → is_touch (touch_on e.0 true) m.touch ≡ true → is_found m (marks_of_writers caller es) ≡ false) → Once (marks_of_writers caller (if b then e ∷ es else es))
-once_first caller e es true once rest apart =
-    once_append (marks_of caller (touch_on e.0 true) (side true e.1)) (marks_of_writers caller es) (once_of caller (touch_on e.0 true) (side true e.1) once) rest
-    (λ m h. apart m (left_apart (not (m.pid == caller)) (is_touch (touch_on e.0 true) m.touch) (among m.pid (side true e.1)) (sym (found_of caller (touch_on e.0 true) m (side true e.1)) ∙ h)))
-once_first caller e es false once rest apart = rest
-
-pub once_writers : (caller : ℕ) (g : Aspect → Bool) (es : List (Aspect × Users)) → IsStrictlySortedBy aspect_cmp (keys_of es) → ((a : Aspect) → AreDistinct (side_at true (users_at es a))) → Once (marks_of_writers caller (filter (λ e. g e.0) es))
+once_writers : (caller : ℕ) (g : Aspect → Bool) (s : Index) (es : List Aspect) → IsStrictlySortedBy aspect_cmp es → ((u : Touch) → AreDistinct (users_on s u)) → Once (marks_of_writers caller s (filter g es))
 unfolding IsStrictlySortedBy
-once_writers caller g [] sorted once = tt
-once_writers caller g (e ∷ es) sorted once = once_first caller e (filter (λ e. g e.0) es) (g e.0) own (once_writers caller g es sorted.1 rest) apart where
-  own : AreDistinct (side true e.1)
-  own = subst (λ b. AreDistinct (side_at true (cond b (Some e.1) (users_at es e.0)))) (tied_aspect e.0) (once e.0)
-
-  rest_by : (a : Aspect) (b : Bool) → is_eq (aspect_cmp a e.0) ≡ b → AreDistinct (side_at true (cond b (Some e.1) (users_at es a))) → AreDistinct (side_at true (users_at es a))
-  rest_by a true h d = subst (λ o. AreDistinct (side_at true o)) (sym (none_at a e.0 es sorted.0 h)) tt
-  rest_by a false h d = d
-
-  rest : (a : Aspect) → AreDistinct (side_at true (users_at es a))
-  rest a = rest_by a (is_eq (aspect_cmp a e.0)) refl (once a)
-
-  apart : (m : Mark) → is_touch (touch_on e.0 true) m.touch ≡ true → is_found m (marks_of_writers caller (filter (λ e. g e.0) es)) ≡ false
+once_writers caller g s [] sorted once = tt
+once_writers caller g s (a ∷ es) sorted once = once_first caller s a (filter g es) (g a) once (once_writers caller g s es sorted.1 once) apart where
+  apart : (m : Mark) → is_touch (touch_on a true) m.touch ≡ true → is_found m (marks_of_writers caller s (filter g es)) ≡ false
   apart m h =
-      found_writers caller g m es sorted.1
-      ∙ ap (λ o. not (m.pid == caller) && ((g m.touch.aspect && m.touch.write) && among m.pid (side_at true o))) (none_at m.touch.aspect e.0 es sorted.0 (turned e.0 m.touch.aspect true (first_is (is_eq (aspect_cmp e.0 m.touch.aspect)) m.touch.write (sym (touch_by (touch_on e.0 true) m.touch) ∙ h))))
-      ∙ no_or (not (m.pid == caller)) (g m.touch.aspect) m.touch.write
+      found_writers caller g m s es
+      ∙ ap (λ x. not (m.pid == caller) && ((g m.touch.aspect && (m.touch.write && is_listed es x)) && holds s m)) (sym (ap (λ (t : Touch). t.aspect) (touch_from_tied (touch_on a true) m.touch h)))
+      ∙ ap (λ l. not (m.pid == caller) && ((g m.touch.aspect && (m.touch.write && l)) && holds s m)) (none_listed a es sorted.0)
+      ∙ no_or (not (m.pid == caller)) (g m.touch.aspect) m.touch.write (holds s m)
 
 -- which aspects are entries of a directory, by their order
 low : (n : ℕ) → is_gt (nat_cmp 0 n) ≡ false
@@ -223,17 +197,23 @@ entries_span d a w =
     ∙ ap (λ b. (b && (kind_of a == 0)) && w) (nat_tied d (object_of a))
     ∙ by_kind d a w
 
-written_entry : (d : ℕ) (m : Mark) (s : BTreeMap Aspect Users) (w : Bool) → m.touch.write ≡ w → (writes_entry d m.touch.aspect w && among m.pid (side_at true (users_at s.entries m.touch.aspect))) ≡ (writes_entry d m.touch.aspect w && among m.pid (side_at w (users_at s.entries m.touch.aspect)))
-written_entry d m s true h = refl
-written_entry d m s false h = ap (λ b. b && among m.pid (side_at true (users_at s.entries m.touch.aspect))) (none d m.touch.aspect) ∙ sym (ap (λ b. b && among m.pid (side_at false (users_at s.entries m.touch.aspect))) (none d m.touch.aspect)) where
-  none : (d : ℕ) (a : Aspect) → writes_entry d a false ≡ false
-  none d a = sym (by_kind d a false) ∙ and_false ((d == object_of a) && (kind_of a == 0))
+entry_by : (d : ℕ) (a : Aspect) (w : Bool) → writes_entry d a w ≡ true → is_written_entry a w ≡ true
+entry_by d (Entry e x) true h = refl
+entry_by d a w h = absurd (false≢true h)
 
-pub on_entries : (caller d : ℕ) (m : Mark) (s : BTreeMap Aspect Users) → IsOrdered aspect_cmp s → is_found m (marks_of_entries caller d s) ≡ (not (m.pid == caller) && (writes_entry d m.touch.aspect m.touch.write && holds s m))
-on_entries caller d m s ordered =
-    found_writers caller (is_entry d) m s.entries ordered
-    ∙ ap (λ b. not (m.pid == caller) && (b && among m.pid (side_at true (users_at s.entries m.touch.aspect)))) (entries_span d m.touch.aspect m.touch.write)
-    ∙ ap (λ b. not (m.pid == caller) && b) (written_entry d m s m.touch.write refl)
+listed_too : (e w l h : Bool) → ((e && w) ≡ true → h ≡ true → l ≡ true) → ((e && (w && l)) && h) ≡ ((e && w) && h)
+listed_too true true l true k = ap (λ b. b && true) (k refl refl)
+listed_too true true true false k = refl
+listed_too true true false false k = refl
+listed_too true false l h k = refl
+listed_too false w l h k = refl
 
-pub once_entries : (caller d : ℕ) (s : BTreeMap Aspect Users) → IsOrdered aspect_cmp s → ((u : Touch) → AreDistinct (users_on s u)) → Once (marks_of_entries caller d s)
-once_entries caller d s ordered once = once_writers caller (is_entry d) s.entries ordered (λ a. once (touch_on a true))
+pub on_entries : (caller d : ℕ) (m : Mark) (s : Index) → ListsWritten s → is_found m (marks_of_entries caller d s) ≡ (not (m.pid == caller) && (writes_entry d m.touch.aspect m.touch.write && holds s m))
+on_entries caller d m s listed =
+    found_writers caller (is_entry d) m s s.written.keys
+    ∙ ap (λ b. not (m.pid == caller) && b) (listed_too (is_entry d m.touch.aspect) m.touch.write (contains aspect_cmp s.written m.touch.aspect) (holds s m)
+    (λ e h. listed.each m (entry_by d m.touch.aspect m.touch.write (sym (entries_span d m.touch.aspect m.touch.write) ∙ e)) h))
+    ∙ ap (λ b. not (m.pid == caller) && (b && holds s m)) (entries_span d m.touch.aspect m.touch.write)
+
+pub once_entries : (caller d : ℕ) (s : Index) → IsOrdered aspect_cmp s.written → ((u : Touch) → AreDistinct (users_on s u)) → Once (marks_of_entries caller d s)
+once_entries caller d s ordered once = once_writers caller (is_entry d) s s.written.keys ordered once

@@ -1,6 +1,8 @@
 -- What is found is exactly what clashes.
-use Rattle.std.proofs.Common.{◌≡◌, ◌∙◌, sym, refl, ap, subst, ℕ, Bool, true, false, not, ◌&&◌, ◌||◌, ◌==◌, List}
-use Rattle.std.specs.BTreeMap.{BTreeMap, IsOrdered}
+use Rattle.std.proofs.Common.{◌≡◌, ◌∙◌, sym, refl, ap, subst, ℕ, Bool, true, false, not, ◌&&◌, ◌||◌, ◌==◌, List, [], ◌∷◌, ◌++◌, length, arith}
+use Rattle.std.specs.Map.{lookup}
+use Rattle.std.specs.Ordering.{eq_by_cmp}
+use Rattle.std.specs.BTreeSet.{IsOrdered}
 use Rattle.std.proofs.lemmas.Bool.{and_parts, false≢true}
 use Rattle.std.proofs.lemmas.List.Folds.{list_any-append}
 use Rattle.std.proofs.lemmas.Cmp.{nat_eq_equiv}
@@ -12,11 +14,11 @@ use Rattle.model.specs.Clashes.{same_aspect, names_against, clash}
 use Rattle.records.specs.Codes.{is_touch}
 use Rattle.records.specs.Groups.{AreDistinct, alike}
 use Rattle.records.specs.Marks.{mark_of}
-use Rattle.records.specs.Index.{users_on, holds, IsIndexed}
-use Rattle.records.specs.Ranges.{touch_on, marks_on, marks_by_names, marks_on_aspect, clashing_marks}
+use Rattle.records.specs.Index.{side_at, users_on, holds, IsIndexed, ListsWritten}
+use Rattle.records.specs.Ranges.{touch_on, marks_of, marks_on, marks_of_writers, entries_of, marks_by_names, marks_on_aspect, clashing_marks}
 use Rattle.records.specs.Holders.{has_mark, AreEachOnce, AreHolders}
+use Rattle.records.specs.declared.index.Index.{Index}
 use Rattle.records.specs.declared.mark.Mark.{Mark}
-use Rattle.records.specs.declared.users.Users.{Users}
 use Rattle.records.proofs.Once.{is_mark, is_found, and_false, Once, once_append, each_once, mark_test}
 use Rattle.records.proofs.Exact.{touch_from_tied, touch_parts, aspect_is}
 use Rattle.records.proofs.Entries.{on_touch, on_entries, once_on, once_entries}
@@ -67,10 +69,10 @@ entry_written : (d : ℕ) (b : Aspect) (v : Bool) → writes_entry d b v ≡ by_
 entry_written d (Entry e x) true = refl
 entry_written d b v = refl
 
-found_by_names : (caller : ℕ) (a : Aspect) (w : Bool) (m : Mark) (s : BTreeMap Aspect Users) → IsOrdered aspect_cmp s → is_found m (marks_by_names caller a w s) ≡ (not (m.pid == caller) && (by_names a w m.touch.aspect m.touch.write && holds s m))
-found_by_names caller (Entry d x) true m s ordered = on_touch caller (touch_on (Names d) false) m s ∙ ap (λ b. not (m.pid == caller) && (b && holds s m)) (touch_parts (Names d) false m.touch ∙ names_read d x m.touch.aspect m.touch.write)
-found_by_names caller (Names d) false m s ordered = on_entries caller d m s ordered ∙ ap (λ b. not (m.pid == caller) && (b && holds s m)) (entry_written d m.touch.aspect m.touch.write)
-found_by_names caller a w m s ordered = sym (and_false (not (m.pid == caller)))
+found_by_names : (caller : ℕ) (a : Aspect) (w : Bool) (m : Mark) (s : Index) → ListsWritten s → is_found m (marks_by_names caller a w s) ≡ (not (m.pid == caller) && (by_names a w m.touch.aspect m.touch.write && holds s m))
+found_by_names caller (Entry d x) true m s listed = on_touch caller (touch_on (Names d) false) m s ∙ ap (λ b. not (m.pid == caller) && (b && holds s m)) (touch_parts (Names d) false m.touch ∙ names_read d x m.touch.aspect m.touch.write)
+found_by_names caller (Names d) false m s listed = on_entries caller d m s listed ∙ ap (λ b. not (m.pid == caller) && (b && holds s m)) (entry_written d m.touch.aspect m.touch.write)
+found_by_names caller a w m s listed = sym (and_false (not (m.pid == caller)))
 
 joined : (c a b h : Bool) → ((c && (a && h)) || (c && (b && h))) ≡ (c && ((a || b) && h))
 joined true true true h = elim h as (λ h. (h || h) ≡ h) [ true ↦ refl | false ↦ refl ]
@@ -83,7 +85,7 @@ read_or_written true true = refl
 read_or_written true false = refl
 read_or_written false v = refl
 
-found_on_aspect : (caller : ℕ) (a : Aspect) (w : Bool) (m : Mark) (s : BTreeMap Aspect Users) → is_found m (marks_on_aspect caller a w s) ≡ (not (m.pid == caller) && ((same_aspect a m.touch.aspect && (w || m.touch.write)) && holds s m))
+found_on_aspect : (caller : ℕ) (a : Aspect) (w : Bool) (m : Mark) (s : Index) → is_found m (marks_on_aspect caller a w s) ≡ (not (m.pid == caller) && ((same_aspect a m.touch.aspect && (w || m.touch.write)) && holds s m))
 found_on_aspect caller a true m s =
     list_any-append (is_mark m) (marks_on caller (touch_on a true) s) (marks_on caller (touch_on a false) s)
     ∙ ap (λ b. b || is_found m (marks_on caller (touch_on a false) s)) (on_touch caller (touch_on a true) m s ∙ ap (λ b. not (m.pid == caller) && (b && holds s m)) (touch_parts a true m.touch))
@@ -92,11 +94,11 @@ found_on_aspect caller a true m s =
     ∙ ap (λ b. not (m.pid == caller) && (b && holds s m)) (read_or_written (same_aspect a m.touch.aspect) m.touch.write)
 found_on_aspect caller a false m s = on_touch caller (touch_on a true) m s ∙ ap (λ b. not (m.pid == caller) && (b && holds s m)) (touch_parts a true m.touch)
 
-found_clashing : (caller : ℕ) (t : Touch) (m : Mark) (s : BTreeMap Aspect Users) → IsOrdered aspect_cmp s → is_found m (clashing_marks caller t s) ≡ (not (m.pid == caller) && (clash t m.touch && holds s m))
-found_clashing caller t m s ordered =
+found_clashing : (caller : ℕ) (t : Touch) (m : Mark) (s : Index) → ListsWritten s → is_found m (clashing_marks caller t s) ≡ (not (m.pid == caller) && (clash t m.touch && holds s m))
+found_clashing caller t m s listed =
     list_any-append (is_mark m) (marks_on_aspect caller t.aspect t.write s) (marks_by_names caller t.aspect t.write s)
     ∙ ap (λ b. b || is_found m (marks_by_names caller t.aspect t.write s)) (found_on_aspect caller t.aspect t.write m s)
-    ∙ ap (λ b. (not (m.pid == caller) && ((same_aspect t.aspect m.touch.aspect && (t.write || m.touch.write)) && holds s m)) || b) (found_by_names caller t.aspect t.write m s ordered)
+    ∙ ap (λ b. (not (m.pid == caller) && ((same_aspect t.aspect m.touch.aspect && (t.write || m.touch.write)) && holds s m)) || b) (found_by_names caller t.aspect t.write m s listed)
     ∙ joined (not (m.pid == caller)) (same_aspect t.aspect m.touch.aspect && (t.write || m.touch.write)) (by_names t.aspect t.write m.touch.aspect m.touch.write) (holds s m)
     ∙ ap (λ b. not (m.pid == caller) && (((same_aspect t.aspect m.touch.aspect && (t.write || m.touch.write)) || b) && holds s m)) (sym (either_way t.aspect t.write m.touch.aspect m.touch.write))
 
@@ -114,7 +116,7 @@ refused false a h e = refl
 written_not_read : (a : Aspect) (u : Touch) → is_touch (touch_on a true) u ≡ true → is_touch (touch_on a false) u ≡ false
 written_not_read a u h = ap (λ v. is_touch (touch_on a false) v) (sym (touch_from_tied (touch_on a true) u h)) ∙ touch_parts a false (touch_on a true) ∙ and_false (same_aspect a a)
 
-once_on_aspect : (caller : ℕ) (a : Aspect) (w : Bool) (s : BTreeMap Aspect Users) → ((u : Touch) → AreDistinct (users_on s u)) → Once (marks_on_aspect caller a w s)
+once_on_aspect : (caller : ℕ) (a : Aspect) (w : Bool) (s : Index) → ((u : Touch) → AreDistinct (users_on s u)) → Once (marks_on_aspect caller a w s)
 once_on_aspect caller a true s once =
     once_append (marks_on caller (touch_on a true) s) (marks_on caller (touch_on a false) s)
     (once_on caller (touch_on a true) s once) (once_on caller (touch_on a false) s once)
@@ -123,7 +125,7 @@ once_on_aspect caller a true s once =
     (written_not_read a m.touch (passed (not (m.pid == caller)) (is_touch (touch_on a true) m.touch) (holds s m) (sym (on_touch caller (touch_on a true) m s) ∙ h))))
 once_on_aspect caller a false s once = once_on caller (touch_on a true) s once
 
-once_by_names : (caller : ℕ) (a : Aspect) (w : Bool) (s : BTreeMap Aspect Users) → IsOrdered aspect_cmp s → ((u : Touch) → AreDistinct (users_on s u)) → Once (marks_by_names caller a w s)
+once_by_names : (caller : ℕ) (a : Aspect) (w : Bool) (s : Index) → IsOrdered aspect_cmp s.written → ((u : Touch) → AreDistinct (users_on s u)) → Once (marks_by_names caller a w s)
 once_by_names caller (Entry d x) true s ordered once = once_on caller (touch_on (Names d) false) s once
 once_by_names caller (Names d) false s ordered once = once_entries caller d s ordered once
 once_by_names caller a w s ordered once = tt
@@ -148,11 +150,11 @@ names_elsewhere a w b v h = ap (λ c. by_names a w c v) (sym (aspect_is a b h)) 
 first_of : (a b : Bool) → (a && b) ≡ true → a ≡ true
 first_of a b h = (and_parts a b h).0
 
-once_clashing : (caller : ℕ) (t : Touch) (s : BTreeMap Aspect Users) → IsOrdered aspect_cmp s → ((u : Touch) → AreDistinct (users_on s u)) → Once (clashing_marks caller t s)
-once_clashing caller t s ordered once =
+once_clashing : (caller : ℕ) (t : Touch) (s : Index) → ListsWritten s → IsOrdered aspect_cmp s.written → ((u : Touch) → AreDistinct (users_on s u)) → Once (clashing_marks caller t s)
+once_clashing caller t s listed ordered once =
     once_append (marks_on_aspect caller t.aspect t.write s) (marks_by_names caller t.aspect t.write s)
     (once_on_aspect caller t.aspect t.write s once) (once_by_names caller t.aspect t.write s ordered once)
-    (λ m h. found_by_names caller t.aspect t.write m s ordered
+    (λ m h. found_by_names caller t.aspect t.write m s listed
     ∙ refused (not (m.pid == caller)) (by_names t.aspect t.write m.touch.aspect m.touch.write) (holds s m)
     (names_elsewhere t.aspect t.write m.touch.aspect m.touch.write
     (first_of (same_aspect t.aspect m.touch.aspect) (t.write || m.touch.write)
@@ -160,12 +162,38 @@ once_clashing caller t s ordered once =
     (sym (found_on_aspect caller t.aspect t.write m s) ∙ h)))))
 
 -- what is collected are the holders
-pub holders_from : (lists : List (List Touch)) (s : BTreeMap Aspect Users) (caller : ℕ) (t : Touch) → IsIndexed lists s → IsOrdered aspect_cmp s → (found : List Mark) → found ≡ clashing_marks caller t s → AreHolders lists caller t found
-holders_from lists s caller t indexed ordered found is = record {
+pub holders_from : (lists : List (List Touch)) (s : Index) (caller : ℕ) (t : Touch) → IsIndexed lists s → ListsWritten s → (found : List Mark) → found ≡ clashing_marks caller t s → AreHolders lists caller t found
+holders_from lists s caller t indexed listed found is = record {
   exact = λ q u.
       ap (has_mark q u) is
       ∙ mark_test q u (clashing_marks caller t s)
-      ∙ found_clashing caller t (mark_of q u) s ordered
+      ∙ found_clashing caller t (mark_of q u) s listed
       ∙ ap (λ b. not (q == caller) && (clash t u && b)) (indexed.each (mark_of q u));
-  once = subst AreEachOnce (sym is) (each_once (clashing_marks caller t s) (once_clashing caller t s ordered indexed.once));
+  once = subst AreEachOnce (sym is) (each_once (clashing_marks caller t s) (once_clashing caller t s listed listed.ordered indexed.once));
 }
+
+-- where no aspect has users, nothing clashes
+none_on : (caller : ℕ) (t : Touch) (s : Index) → s.users.entries ≡ [] → marks_on caller t s ≡ []
+none_on caller t s h = ap (λ es. marks_of caller t (side_at t.write (lookup (eq_by_cmp aspect_cmp t.aspect) es))) h
+
+none_of_writers : (caller : ℕ) (s : Index) (es : List Aspect) → s.users.entries ≡ [] → marks_of_writers caller s es ≡ []
+none_of_writers caller s [] h = refl
+none_of_writers caller s (a ∷ es) h = ap (λ l. l ++ marks_of_writers caller s es) (none_on caller (touch_on a true) s h) ∙ none_of_writers caller s es h
+
+none_by_names : (caller : ℕ) (a : Aspect) (w : Bool) (s : Index) → s.users.entries ≡ [] → marks_by_names caller a w s ≡ []
+none_by_names caller (Entry d x) true s h = none_on caller (touch_on (Names d) false) s h
+none_by_names caller (Names d) false s h = none_of_writers caller s (entries_of d s) h
+none_by_names caller a w s h = refl
+
+none_on_aspect : (caller : ℕ) (a : Aspect) (w : Bool) (s : Index) → s.users.entries ≡ [] → marks_on_aspect caller a w s ≡ []
+none_on_aspect caller a true s h = ap (λ l. l ++ marks_on caller (touch_on a false) s) (none_on caller (touch_on a true) s h) ∙ none_on caller (touch_on a false) s h
+none_on_aspect caller a false s h = none_on caller (touch_on a true) s h
+
+pub none_clashing : (caller : ℕ) (t : Touch) (s : Index) → length s.users.entries ≡ 0 → clashing_marks caller t s ≡ []
+none_clashing caller t s e =
+    ap (λ l. l ++ marks_by_names caller t.aspect t.write s) (none_on_aspect caller t.aspect t.write s (no_entries s.users.entries e))
+    ∙ none_by_names caller t.aspect t.write s (no_entries s.users.entries e)
+  where
+    no_entries : {X : Type 0} (es : List X) → length es ≡ 0 → es ≡ []
+    no_entries [] h = refl
+    no_entries (x ∷ es) h = absurd (omega arith)

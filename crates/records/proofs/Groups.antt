@@ -1,5 +1,6 @@
 -- Processes in a list, each once, as one is added or taken out.
-use Rattle.std.proofs.Common.{◌≡◌, ◌∙◌, sym, refl, ap, ℕ, Bool, true, false, cond, not, ◌||◌, ◌==◌, List, [], ◌∷◌, ◌++◌, inl, inr, if◌then◌else◌}
+use Rattle.std.proofs.Common.{◌≡◌, ◌∙◌, sym, refl, ap, ℕ, Bool, true, false, cond, not, ◌||◌, ◌==◌, List, [], ◌∷◌, ◌++◌, filter, inl, inr, if◌then◌else◌, subst}
+use Rattle.std.specs.List.Retain.{RetainsInTurn}
 use Rattle.std.proofs.lemmas.Bool.{cases_eq, eq-eqb, ne_eqb, eqb-true, false≢true}
 use Rattle.std.proofs.lemmas.List.Folds.{list_any-append}
 use Rattle.records.specs.Groups.{among, AreDistinct, with_pid, without_pid}
@@ -78,3 +79,13 @@ distinct_kept x ps false h once = once
 pub distinct_without : (p : ℕ) (ps : List ℕ) → AreDistinct ps → AreDistinct (without_pid p ps)
 distinct_without p [] once = tt
 distinct_without p (x ∷ ps) once = distinct_kept x (without_pid p ps) (not (x == p)) (among_without x p ps ∙ ap (cond (p == x) false) once.0 ∙ none_left (p == x)) (distinct_without p ps once.1)
+
+-- What a test leaves that changes neither itself nor an element.
+pub left_by_test : {X F : Type 0} (R : F → X → Bool → F → X → Type 0) (test : X → Bool) (f : F)
+    → ((x : X) (b : Bool) (g : F) (y : X) → R f x b g y → (b ≡ test x) × (g ≡ f) × (y ≡ x))
+    → (xs ys : List X) → RetainsInTurn R f xs ys → ys ≡ filter test xs
+left_by_test R test f says [] ys none = none
+left_by_test R test f says (x ∷ xs) ys kept =
+    let said = says x kept.0 kept.1 kept.2 kept.3 in
+    let rest = left_by_test R test f says xs kept.4 (subst (λ g. RetainsInTurn R g xs kept.4) said.1 kept.5) in
+    kept.6 ∙ (λ i. cond (said.0 i) (said.2 i ∷ rest i) (rest i))

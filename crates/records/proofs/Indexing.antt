@@ -1,19 +1,17 @@
 -- The users of aspects and the journals, as a touch is added to a journal or taken from its end.
 use Rattle.std.proofs.Common.{◌≡◌, ◌∙◌, sym, refl, ap, subst, Option, Some, None, ℕ, zero, suc, ◌<◌, ◌-◌, if◌then◌else◌, Bool, true, false, cond, not, ◌&&◌, ◌||◌, ◌==◌, List, [], ◌∷◌, ◌++◌, length, set, inl, inr, arith}
-use Rattle.std.specs.BTreeMap.{BTreeMap}
 use Rattle.std.proofs.lemmas.Bool.{cases_eq, eq-eqb, ne_eqb, false≢true}
 use Rattle.std.proofs.lemmas.List.{get_or-set_same, get_or-set_other, set-set, set-get_or, length_push, get_or_push, append-nil, length-set}
 use Rattle.std.specs.Option.{option_to_list}
 use Rattle.std.proofs.lemmas.List.Folds.{list_any-append}
-use Rattle.model.specs.Aspects.{Aspect}
 use Rattle.model.specs.Steps.{Touch}
 use Rattle.model.specs.Clashes.{same_aspect}
 use Rattle.records.specs.Touches.{touched_by, with_touch}
 use Rattle.records.specs.Codes.{is_touch}
 use Rattle.records.specs.Groups.{among, AreDistinct, with_pid, without_pid}
 use Rattle.records.specs.Index.{has, users_on, holds, IsIndexed}
+use Rattle.records.specs.declared.index.Index.{Index}
 use Rattle.records.specs.declared.mark.Mark.{Mark}
-use Rattle.records.specs.declared.users.Users.{Users}
 use Rattle.records.proofs.Exact.{touch_from_tied, test_is}
 use Rattle.records.proofs.Groups.{among_with, among_without, distinct_with, distinct_without}
 use Rattle.records.proofs.Laws.{with_there, with_new}
@@ -34,7 +32,7 @@ has_push u t us =
     ∙ ap (λ b. b || has u us) (test_is t u)
 
 -- one journal has changed, and the users by it
-indexed_set : (lists : List (List Touch)) (s n : BTreeMap Aspect Users) (p : ℕ) (l : List Touch) → IsIndexed lists s → p < length lists → ((m : Mark) → m.pid ≡ p → holds n m ≡ has m.touch l) → ((m : Mark) → (m.pid ≡ p → ⊥) → holds n m ≡ holds s m) → ((t : Touch) → AreDistinct (users_on n t)) → IsIndexed (set lists p l) n
+indexed_set : (lists : List (List Touch)) (s n : Index) (p : ℕ) (l : List Touch) → IsIndexed lists s → p < length lists → ((m : Mark) → m.pid ≡ p → holds n m ≡ has m.touch l) → ((m : Mark) → (m.pid ≡ p → ⊥) → holds n m ≡ holds s m) → ((t : Touch) → AreDistinct (users_on n t)) → IsIndexed (set lists p l) n
 indexed_set lists s n p l indexed within own others once = record {
   each = λ m. elim (cases_eq m.pid p) [
     | inl e ↦ own m e ∙ ap (has m.touch) (sym (ap (λ q. touched_by (set lists p l) q) e ∙ get_or-set_same lists p l [] within))
@@ -67,7 +65,7 @@ entered_test : (q p : ℕ) (ps : List ℕ) (b : Bool) → among q (cond b (with_
 entered_test q p ps true = among_with q p ps ∙ ored (p == q) (among q ps)
 entered_test q p ps false = refl
 
-left_test : (q p : ℕ) (ps : List ℕ) (b : Bool) → among q (cond b (without_pid p ps) ps) ≡ cond (b && (p == q)) false (among q ps)
+pub left_test : (q p : ℕ) (ps : List ℕ) (b : Bool) → among q (cond b (without_pid p ps) ps) ≡ cond (b && (p == q)) false (among q ps)
 left_test q p ps true = among_without q p ps
 left_test q p ps false = refl
 
@@ -80,14 +78,14 @@ left_once p ps true once = distinct_without p ps once
 left_once p ps false once = once
 
 -- a process is among the users by a touch, or not any more
-abbrev pub Enters : ℕ → Touch → BTreeMap Aspect Users → BTreeMap Aspect Users → Type 0
+abbrev pub Enters : ℕ → Touch → Index → Index → Type 0
 Enters p t s n = (u : Touch) → users_on n u ≡ cond (is_touch t u) (with_pid p (users_on s u)) (users_on s u)
 
-abbrev pub Leaves : ℕ → Touch → BTreeMap Aspect Users → BTreeMap Aspect Users → Type 0
+abbrev pub Leaves : ℕ → Touch → Index → Index → Type 0
 Leaves p t s n = (u : Touch) → users_on n u ≡ cond (is_touch t u) (without_pid p (users_on s u)) (users_on s u)
 
 -- a touch that is new to its process is added, with its user
-pub indexed_added : (lists : List (List Touch)) (s n : BTreeMap Aspect Users) (t : Touch) (p : ℕ) → IsIndexed lists s → p < length lists → Enters p t s n → IsIndexed (set lists p (touched_by lists p ++ t ∷ [])) n
+pub indexed_added : (lists : List (List Touch)) (s n : Index) (t : Touch) (p : ℕ) → IsIndexed lists s → p < length lists → Enters p t s n → IsIndexed (set lists p (touched_by lists p ++ t ∷ [])) n
 indexed_added lists s n t p indexed within enters =
     let at : (m : Mark) → holds n m ≡ cond (is_touch t m.touch && (p == m.pid)) true (holds s m) = λ m. ap (among m.pid) (enters m.touch) ∙ entered_test m.pid p (users_on s m.touch) (is_touch t m.touch) in
     indexed_set lists s n p (touched_by lists p ++ t ∷ []) indexed within
@@ -103,7 +101,7 @@ pub noted_again : (lists : List (List Touch)) (t : Touch) (p : ℕ) → has t (t
 noted_again lists t p h = sym (ap (set lists p) (with_there (touched_by lists p) t h) ∙ set-get_or lists p [])
 
 -- the last touch is taken away, with its user
-pub indexed_taken : (lists : List (List Touch)) (s n : BTreeMap Aspect Users) (t : Touch) (p : ℕ) (l : List Touch) → IsIndexed lists s → p < length lists → touched_by lists p ≡ l ++ t ∷ [] → has t l ≡ false → Leaves p t s n → IsIndexed (set lists p l) n
+pub indexed_taken : (lists : List (List Touch)) (s n : Index) (t : Touch) (p : ℕ) (l : List Touch) → IsIndexed lists s → p < length lists → touched_by lists p ≡ l ++ t ∷ [] → has t l ≡ false → Leaves p t s n → IsIndexed (set lists p l) n
 indexed_taken lists s n t p l indexed within last none leaves =
     let at : (m : Mark) → holds n m ≡ cond (is_touch t m.touch && (p == m.pid)) false (holds s m) = λ m. ap (among m.pid) (leaves m.touch) ∙ left_test m.pid p (users_on s m.touch) (is_touch t m.touch) in
     indexed_set lists s n p l indexed within
@@ -112,7 +110,7 @@ indexed_taken lists s n t p l indexed within last none leaves =
     (λ u. subst AreDistinct (sym (leaves u)) (left_once p (users_on s u) (is_touch t u) (indexed.once u)))
 
 -- the same touches, and the same users
-pub indexed_same : (js ks : List (List Touch)) (s n : BTreeMap Aspect Users) → IsIndexed js s → ks ≡ js → ((u : Touch) → users_on n u ≡ users_on s u) → IsIndexed ks n
+pub indexed_same : (js ks : List (List Touch)) (s n : Index) → IsIndexed js s → ks ≡ js → ((u : Touch) → users_on n u ≡ users_on s u) → IsIndexed ks n
 indexed_same js ks s n indexed e same = record {
   each = λ m. ap (among m.pid) (same m.touch) ∙ indexed.each m ∙ ap (λ x. has m.touch (touched_by x m.pid)) (sym e);
   once = λ t. subst AreDistinct (sym (same t)) (indexed.once t);
@@ -122,15 +120,15 @@ with_by : (p : ℕ) (ps : List ℕ) → among p ps ≡ true → with_pid p ps �
 with_by p ps h = ap (λ b. if b then ps else ps ++ p ∷ []) h
 
 -- a process that was there already is entered again
-again_by : (p : ℕ) (t u : Touch) (s : BTreeMap Aspect Users) (b : Bool) → is_touch t u ≡ b → among p (users_on s t) ≡ true → cond b (with_pid p (users_on s u)) (users_on s u) ≡ users_on s u
+again_by : (p : ℕ) (t u : Touch) (s : Index) (b : Bool) → is_touch t u ≡ b → among p (users_on s t) ≡ true → cond b (with_pid p (users_on s u)) (users_on s u) ≡ users_on s u
 again_by p t u s true e h = with_by p (users_on s u) (ap (λ v. among p (users_on s v)) (sym (touch_from_tied t u e)) ∙ h)
 again_by p t u s false e h = refl
 
-pub indexed_again : (js : List (List Touch)) (s n : BTreeMap Aspect Users) (t : Touch) (p : ℕ) → IsIndexed js s → among p (users_on s t) ≡ true → Enters p t s n → IsIndexed js n
+pub indexed_again : (js : List (List Touch)) (s n : Index) (t : Touch) (p : ℕ) → IsIndexed js s → among p (users_on s t) ≡ true → Enters p t s n → IsIndexed js n
 indexed_again js s n t p indexed there enters = indexed_same js js s n indexed refl (λ u. enters u ∙ again_by p t u s (is_touch t u) refl there)
 
 -- a process is entered and goes again, where there is no place in the journal
-pub indexed_back : (js ks : List (List Touch)) (s n o : BTreeMap Aspect Users) (t : Touch) (p : ℕ) → IsIndexed js s → ks ≡ js → p < length js → has t (touched_by js p) ≡ false → Enters p t s n → Leaves p t n o → IsIndexed ks o
+pub indexed_back : (js ks : List (List Touch)) (s n o : Index) (t : Touch) (p : ℕ) → IsIndexed js s → ks ≡ js → p < length js → has t (touched_by js p) ≡ false → Enters p t s n → Leaves p t n o → IsIndexed ks o
 indexed_back js ks s n o t p indexed e within none enters leaves =
     let l : List Touch = touched_by js p ++ t ∷ [] in
     let long : p < length (set js p l) = subst (λ k. p < k) (sym (length-set js p l)) within in
@@ -144,13 +142,13 @@ enrolled_same (l ∷ js) zero = refl
 enrolled_same (l ∷ js) (suc q) = enrolled_same js q
 
 -- a process more that touched nothing, or one less
-pub indexed_enrolled : (js : List (List Touch)) (s : BTreeMap Aspect Users) → IsIndexed js s → IsIndexed (js ++ [] ∷ []) s
+pub indexed_enrolled : (js : List (List Touch)) (s : Index) → IsIndexed js s → IsIndexed (js ++ [] ∷ []) s
 indexed_enrolled js s indexed = record {
   each = λ m. indexed.each m ∙ ap (has m.touch) (sym (enrolled_same js m.pid));
   once = indexed.once;
 }
 
-shrunk_by : (js ks : List (List Touch)) (s : BTreeMap Aspect Users) → IsIndexed js s → js ≡ ks ++ [] ∷ [] → IsIndexed ks s
+shrunk_by : (js ks : List (List Touch)) (s : Index) → IsIndexed js s → js ≡ ks ++ [] ∷ [] → IsIndexed ks s
 shrunk_by js ks s indexed e = record {
   each = λ m. indexed.each m ∙ ap (λ x. has m.touch (touched_by x m.pid)) e ∙ ap (has m.touch) (enrolled_same ks m.pid);
   once = indexed.once;
@@ -159,7 +157,7 @@ shrunk_by js ks s indexed e = record {
 last_there : (ks : List (List Touch)) (l : List Touch) → touched_by (ks ++ l ∷ []) (length (ks ++ l ∷ []) - 1) ≡ l
 last_there ks l = get_or_push ks l [] (length (ks ++ l ∷ []) - 1) (omega (arith, length_push ks l))
 
-pub indexed_shrunk : (js ks : List (List Touch)) (s : BTreeMap Aspect Users) (o : Option (List Touch)) → IsIndexed js s → js ≡ ks ++ option_to_list o → touched_by js (length js - 1) ≡ [] → IsIndexed ks s
+pub indexed_shrunk : (js ks : List (List Touch)) (s : Index) (o : Option (List Touch)) → IsIndexed js s → js ≡ ks ++ option_to_list o → touched_by js (length js - 1) ≡ [] → IsIndexed ks s
 indexed_shrunk js ks s (Some l) indexed e untouched =
     let none : l ≡ [] = sym (last_there ks l) ∙ ap (λ x. touched_by x (length x - 1)) (sym e) ∙ untouched in
     shrunk_by js ks s indexed (e ∙ ap (λ x. ks ++ x ∷ []) none)

@@ -7,6 +7,7 @@ mod Groups
 mod Aspects
 mod Uses
 mod Indexing
+mod Listing
 mod Once
 mod Entries
 mod Found

@@ -1,8 +1,6 @@
 // Who clashes with a touch: the users of its aspect, and for a directory those of its entries or
 // of all its names.
 ghost use Rattle.std.specs.Prelude.{◌≡◌, ◌++◌, IfOk};
-ghost use Rattle.std.specs.BTreeMap.{IsOrdered};
-ghost use Rattle.ids.specs.Order.{aspect_cmp};
 ghost use Rattle.records.specs.Marks.{mark_of};
 ghost use Rattle.records.specs.Ranges.{touch_on, marks_of, marks_on, marks_of_entries};
 ghost use Rattle.records.specs.Ranges.{marks_on_aspect, marks_by_names, clashing_marks};
@@ -57,7 +55,7 @@ fn collect_touch(
     ensures { IfOk result (λ r. r.items
         ≡ found.entry.items ++ marks_on caller (touch_on aspect.now write) index.now) }
 {
-    match index.get(aspect) {
+    match index.users.get(aspect) {
         Some(users) => collect_pids(caller, aspect, write, users.side(write), found),
         None => Ok(found),
     }
@@ -77,12 +75,16 @@ fn collect_entries(
     let lo = Aspect::Entry(directory, Name::copy(heap, &[])?);
     let hi = Aspect::Names(directory);
     let mut found = found;
-    for (aspect, users) in index.range((Bound::Included(&lo), Bound::Excluded(&hi))) {
-        found = collect_pids(caller, aspect, true, users.side(true), found)?;
+    for aspect in index
+        .written
+        .range((Bound::Included(&lo), Bound::Excluded(&hi)))
+    {
+        found = collect_touch(index, caller, aspect, true, found)?;
     }
     Ok(found)
 }
 
+/// Adds the marks of the others on a touch's own aspect.
 fn collect_aspect(
     index: &Index,
     caller: Pid,
@@ -92,9 +94,12 @@ fn collect_aspect(
     ensures { IfOk result (λ r. r.items ≡ found.entry.items
         ++ marks_on_aspect caller touch.now.aspect touch.now.write index.now) }
 {
-    let found = collect_touch(index, caller, &touch.aspect, true, found)?;
+    let Some(users) = index.users.get(&touch.aspect) else {
+        return Ok(found);
+    };
+    let found = collect_pids(caller, &touch.aspect, true, users.side(true), found)?;
     if touch.write {
-        collect_touch(index, caller, &touch.aspect, false, found)
+        collect_pids(caller, &touch.aspect, false, users.side(false), found)
     } else {
         Ok(found)
     }
@@ -123,10 +128,9 @@ fn collect_by_names(
 
 /// All marks of the others that clash with a touch. Where there are none, it takes no memory.
 pub fn collect(heap: Heap, index: &Index, caller: Pid, touch: &Touch) -> Result<Found, AllocError>
-    ensures found { IfOk result (λ r. r.items ≡ clashing_marks caller touch.now index.now) }
-    ensures ordered { IsOrdered aspect_cmp index.now }
+    ensures { IfOk result (λ r. r.items ≡ clashing_marks caller touch.now index.now) }
 {
-    if index.len() == 0 {
+    if index.users.is_empty() {
         return Ok(Vec::new(heap));
     }
     let found = collect_aspect(index, caller, touch, Vec::new(heap))?;

@@ -1,33 +1,144 @@
-// Who uses which aspect.
-ghost use Rattle.std.specs.Prelude.{◌≡◌, not, true, cond, None, [], IfOk, OnOk, OnErr};
-ghost use Rattle.std.specs.BTreeMap.{get};
+// Who uses which aspect, and which entries of directories are written.
+ghost use Rattle.std.specs.Prelude.{◌≡◌, not, true, false, cond, None, [], IfOk, OnOk, OnErr};
+ghost use Rattle.std.specs.HashMap.{get};
+ghost use Rattle.std.specs.BTreeSet.{contains, IsOrdered};
+ghost use Rattle.std.specs.Ordering.{eq_by_cmp};
 ghost use Rattle.ids.specs.Order.{aspect_cmp};
+ghost use Rattle.model.specs.Aspects.{Aspect as Touchable};
 ghost use Rattle.model.specs.Steps.{Touch as Touched};
 ghost use Rattle.records.specs.Codes.{is_touch};
 ghost use Rattle.records.specs.Groups.{among, with_pid, without_pid};
-ghost use Rattle.records.specs.Index.{users_on};
+ghost use Rattle.records.specs.Index.{users_in, users_on, is_written_entry, ListsWritten};
+ghost use Rattle.records.specs.Ranges.{touch_on};
 
 use crate::users::Users;
 use heap::Heap;
 use ids::{Aspect, Pid, Touch};
 use std::alloc::AllocError;
-use std::collections::BTreeMap;
+use std::collections::{BTreeSet, HashMap};
+use std::hash::{BuildHasherDefault, FoldHasher};
 
-/// The users of each aspect that somebody uses.
-pub type Index = BTreeMap<Aspect, Users, Heap>;
+/// The users of each aspect that somebody uses, found by a hash whose seed is fixed.
+pub type UsersByAspect = HashMap<Aspect, Users, BuildHasherDefault<FoldHasher>, Heap>;
+
+/// Entries of directories, those of one directory next to each other.
+pub type Entries = BTreeSet<Aspect, Heap>;
+
+/// Who uses which aspect.
+#[derive(Drop)]
+pub struct Index {
+    /// The users of each aspect.
+    pub users: UsersByAspect,
+    /// The entries of directories that somebody writes: a look at all names meets just these.
+    pub written: Entries,
+}
 
 /// A process is the first user of an aspect. Refused memory changes nothing.
-fn open(heap: Heap, index: &mut Index, pid: Pid, touch: &Touch) -> Result<(), AllocError>
-    requires { get aspect_cmp index.old touch.now.aspect ≡ None }
-    ensures ok { OnOk result ((u : Touched) → users_on index.new u
-        ≡ cond (is_touch touch.now u) (with_pid pid (users_on index.old u)) (users_on index.old u)) }
-    ensures err { OnErr result ((u : Touched) → users_on index.new u ≡ users_on index.old u) }
+fn open(heap: Heap, table: &mut UsersByAspect, pid: Pid, touch: &Touch) -> Result<(), AllocError>
+    requires { get (eq_by_cmp aspect_cmp) table.old touch.now.aspect ≡ None }
+    ensures ok { OnOk result ((u : Touched) → users_in table.new u
+        ≡ cond (is_touch touch.now u) (with_pid pid (users_in table.old u)) (users_in table.old u)) }
+    ensures err { OnErr result ((u : Touched) → users_in table.new u ≡ users_in table.old u) }
 {
     let mut users = Users::none(heap);
     users.join(pid, touch.write)?;
     let aspect = touch.aspect.try_clone()?;
-    index.insert(aspect, users)?;
+    table.insert(aspect, users)?;
     Ok(())
+}
+
+/// A process is among the users of an aspect, and the answer is whether it was not so before.
+/// Where it was, it takes no memory. Refused memory changes nothing.
+fn enter_users(
+    heap: Heap,
+    table: &mut UsersByAspect,
+    pid: Pid,
+    touch: &Touch,
+) -> Result<bool, AllocError>
+    ensures new { IfOk result (λ new. new ≡ not (among pid (users_in table.old touch.now))) }
+    ensures ok { OnOk result ((u : Touched) → users_in table.new u
+        ≡ cond (is_touch touch.now u) (with_pid pid (users_in table.old u)) (users_in table.old u)) }
+    ensures err { OnErr result ((u : Touched) → users_in table.new u ≡ users_in table.old u) }
+{
+    match table.get_mut(&touch.aspect) {
+        Some(users) => users.join(pid, touch.write),
+        None => {
+            open(heap, table, pid, touch)?;
+            Ok(true)
+        }
+    }
+}
+
+/// A process goes from the users of an aspect, and the answer is whether nobody is left there.
+fn leave_aspect(table: &mut UsersByAspect, pid: Pid, touch: &Touch) -> bool
+    ensures users { (u : Touched) → users_in table.new u ≡ cond (is_touch touch.now u)
+        (without_pid pid (users_in table.old u)) (users_in table.old u) }
+    ensures nobody { result ≡ true
+        → (u : Touched) → u.aspect ≡ touch.now.aspect → users_in table.new u ≡ [] }
+{
+    match table.get_mut(&touch.aspect) {
+        Some(users) => {
+            users.leave(pid, touch.write);
+            users.is_empty()
+        }
+        None => false,
+    }
+}
+
+/// A process goes from the users of an aspect, which is forgotten where nobody is left. It takes no
+/// memory.
+fn leave_users(table: &mut UsersByAspect, pid: Pid, touch: &Touch)
+    ensures { (u : Touched) → users_in table.new u ≡ cond (is_touch touch.now u)
+        (without_pid pid (users_in table.old u)) (users_in table.old u) }
+{
+    if leave_aspect(table, pid, touch) {
+        table.remove(&touch.aspect);
+    }
+}
+
+/// Whether somebody writes an aspect.
+fn is_written(table: &UsersByAspect, aspect: &Aspect) -> bool
+    ensures { result ≡ false → users_in table.now (touch_on aspect.now true) ≡ [] }
+{
+    match table.get(aspect) {
+        Some(users) => !users.writers.is_empty(),
+        None => false,
+    }
+}
+
+fn writes_entry(touch: &Touch) -> bool
+    ensures { result ≡ is_written_entry touch.now.aspect touch.now.write }
+{
+    match (&touch.aspect, touch.write) {
+        (Aspect::Entry(_, _), true) => true,
+        _ => false,
+    }
+}
+
+/// The entry that a touch writes is among the written ones. Refused memory changes nothing.
+fn list_entry(written: &mut Entries, touch: &Touch) -> Result<(), AllocError>
+    ensures ok { OnOk result (is_written_entry touch.now.aspect touch.now.write ≡ true
+        → contains aspect_cmp written.new touch.now.aspect ≡ true) }
+    ensures keeps { (a : Touchable) → contains aspect_cmp written.old a ≡ true
+        → contains aspect_cmp written.new a ≡ true }
+    ensures ordered { IsOrdered aspect_cmp written.old → IsOrdered aspect_cmp written.new }
+{
+    if writes_entry(touch) {
+        written.insert(touch.aspect.try_clone()?)?;
+    }
+    Ok(())
+}
+
+/// The entry that a touch writes is not among the written ones any more, where nobody writes it. It
+/// takes no memory.
+fn unlist_entry(table: &UsersByAspect, written: &mut Entries, touch: &Touch)
+    ensures keeps { (a : Touchable) → contains aspect_cmp written.old a ≡ true
+        → (users_in table.now (touch_on a true) ≡ [] → ⊥) → contains aspect_cmp written.new a ≡ true }
+    ensures ordered { IsOrdered aspect_cmp written.old → IsOrdered aspect_cmp written.new }
+{
+    if writes_entry(touch) && !is_written(table, &touch.aspect) {
+        written.remove(&touch.aspect);
+    }
 }
 
 /// A process uses an aspect, and the answer is whether it did not do so before. Where it did, it
@@ -37,38 +148,26 @@ pub fn enter(heap: Heap, index: &mut Index, pid: Pid, touch: &Touch) -> Result<b
     ensures ok { OnOk result ((u : Touched) → users_on index.new u
         ≡ cond (is_touch touch.now u) (with_pid pid (users_on index.old u)) (users_on index.old u)) }
     ensures err { OnErr result ((u : Touched) → users_on index.new u ≡ users_on index.old u) }
+    ensures listed { ListsWritten index.old → ListsWritten index.new }
 {
-    match index.get_mut(&touch.aspect) {
-        Some(users) => users.join(pid, touch.write),
-        None => {
-            open(heap, index, pid, touch)?;
-            Ok(true)
-        }
+    if !enter_users(heap, &mut index.users, pid, touch)? {
+        return Ok(false);
     }
-}
-
-/// A process goes from the users of an aspect, and the answer is whether nobody is left there.
-fn leave_users(index: &mut Index, pid: Pid, touch: &Touch) -> bool
-    ensures users { (u : Touched) → users_on index.new u ≡ cond (is_touch touch.now u)
-        (without_pid pid (users_on index.old u)) (users_on index.old u) }
-    ensures nobody { result ≡ true
-        → (u : Touched) → u.aspect ≡ touch.now.aspect → users_on index.new u ≡ [] }
-{
-    match index.get_mut(&touch.aspect) {
-        Some(users) => {
-            users.leave(pid, touch.write);
-            users.is_empty()
+    match list_entry(&mut index.written, touch) {
+        Ok(()) => Ok(true),
+        Err(refused) => {
+            leave_users(&mut index.users, pid, touch);
+            Err(refused)
         }
-        None => false,
     }
 }
 
 /// A process does not use an aspect any more. It takes no memory.
 pub fn leave(index: &mut Index, pid: Pid, touch: &Touch)
-    ensures { (u : Touched) → users_on index.new u ≡ cond (is_touch touch.now u)
+    ensures users { (u : Touched) → users_on index.new u ≡ cond (is_touch touch.now u)
         (without_pid pid (users_on index.old u)) (users_on index.old u) }
+    ensures listed { ListsWritten index.old → ListsWritten index.new }
 {
-    if leave_users(index, pid, touch) {
-        index.remove(&touch.aspect);
-    }
+    leave_users(&mut index.users, pid, touch);
+    unlist_entry(&index.users, &mut index.written, touch);
 }

@@ -2,10 +2,10 @@
 //! reads it and who writes it, and for a directory the entries that are written, in order.
 //!
 //! For each aspect that is touched stand the processes that write it and those that read it, each
-//! once. So who clashes with a touch is one look-up of its aspect; entries of a directory clash
-//! with a look at all its names, and those that are written stand next to each other. Beside it
-//! each process has its touches in the order in which they came, each once, so that they can be
-//! taken back.
+//! once, found by a hash: who clashes with a touch is one look-up of its aspect. Entries of a
+//! directory clash with a look at all its names; those that somebody writes stand in order besides,
+//! one directory's next to each other. Each process has its touches in the order in which they came,
+//! each once, so that they can be taken back.
 #![tactic(auto)]
 
 mod holders;

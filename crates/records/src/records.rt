@@ -2,7 +2,7 @@
 ghost use Rattle.std.specs.Prelude.{◌≡◌, ◌-◌, ◌<◌, ◌++◌, ◌∷◌, [], false, length};
 ghost use Rattle.std.specs.Prelude.{take, set, IfOk, IfErr, OnOk, OnErr};
 ghost use Rattle.records.specs.Holders.{AreHolders};
-ghost use Rattle.records.specs.Index.{has, IsIndexed};
+ghost use Rattle.records.specs.Index.{has, IsIndexed, ListsWritten};
 ghost use Rattle.records.specs.Touches.{touched_by, with_touch, with_touches};
 
 use crate::holders::collect;
@@ -12,7 +12,7 @@ use crate::mark::Mark;
 use heap::Heap;
 use ids::{Pid, Touch};
 use std::alloc::AllocError;
-use std::collections::BTreeMap;
+use std::collections::{BTreeSet, HashMap};
 use std::marker::Model;
 
 /// What each process's live transaction touched. Contracts see the touches of each process, each
@@ -21,19 +21,19 @@ use std::marker::Model;
 pub struct Records {
     heap: Heap,
     journals: Vec<Journal, Heap>,
-    users: Index,
+    index: Index,
 }
 
 impl Model for Records {
     ghost use Rattle.std.specs.Prelude.{List};
     ghost use Rattle.model.specs.Steps.{Touch};
-    ghost use Rattle.records.specs.Index.{IsIndexed};
+    ghost use Rattle.records.specs.Index.{IsIndexed, ListsWritten};
 
     ghost Value = { List (List Touch) };
 
     ghost view = { λ r. r.journals.items };
 
-    ghost invariant = { λ r. IsIndexed r.journals.items r.users };
+    ghost invariant = { λ r. IsIndexed r.journals.items r.index × ListsWritten r.index };
 }
 
 /// A touch more at the end of a journal that has not got it. Refused memory gives it back and
@@ -80,6 +80,7 @@ fn note(
         ≡ set journals.old.items pid (with_touch (touched_by journals.old.items pid) touch)) }
     ensures err { OnErr result (journals.new.items ≡ journals.old.items) }
     ensures indexed { IsIndexed journals.new.items index.new }
+    ensures listed { ListsWritten index.old → ListsWritten index.new }
 {
     if !enter(heap, index, pid, &touch)? {
         return Ok(());
@@ -101,7 +102,10 @@ impl Records {
         Records {
             heap,
             journals: Vec::new(heap),
-            users: BTreeMap::new(heap),
+            index: Index {
+                users: HashMap::new(heap),
+                written: BTreeSet::new(heap),
+            },
         }
     }
 
@@ -151,7 +155,7 @@ impl Records {
     pub fn holders(&self, caller: Pid, touch: &Touch) -> Result<Vec<Mark, Heap>, AllocError>
         ensures { IfOk result (λ found. AreHolders self.now caller touch.now found.items) }
     {
-        collect(self.heap, &self.users, caller, touch)
+        collect(self.heap, &self.index, caller, touch)
     }
 
     /// A touch more of a process, unless it has it already. Refused memory changes nothing.
@@ -161,7 +165,7 @@ impl Records {
             ≡ set self.old pid (with_touch (touched_by self.old pid) touch)) }
         ensures err { OnErr result (self.new ≡ self.old) }
     {
-        note(self.heap, &mut self.journals, &mut self.users, pid, touch)
+        note(self.heap, &mut self.journals, &mut self.index, pid, touch)
     }
 
     /// The last touch of a process is forgotten. It takes no memory.
@@ -172,7 +176,7 @@ impl Records {
             (take (length (touched_by self.old pid) - 1) (touched_by self.old pid)) }
     {
         let touch = pop_from(&mut self.journals, pid);
-        leave(&mut self.users, pid, &touch);
+        leave(&mut self.index, pid, &touch);
     }
 
     /// A process's touches behind the first so many are forgotten. It takes no memory, and as many

@@ -5,17 +5,21 @@ ghost use Rattle.records.specs.Index.{side};
 
 use heap::Heap;
 use ids::Pid;
+use smallvec::SmallVec;
 use std::alloc::AllocError;
+
+// Most aspects have one user or two, which take no memory.
+type Pids = SmallVec<Pid, 2, Heap>;
 
 /// Who reads an aspect and who writes it, each process once.
 #[derive(Drop)]
 pub struct Users {
-    pub writers: Vec<Pid, Heap>,
-    pub readers: Vec<Pid, Heap>,
+    pub writers: Pids,
+    pub readers: Pids,
 }
 
 /// A process is among these, and the answer is whether it is new. Refused memory changes nothing.
-fn join_pids(pids: &mut Vec<Pid, Heap>, pid: Pid) -> Result<bool, AllocError>
+fn join_pids(pids: &mut Pids, pid: Pid) -> Result<bool, AllocError>
     ensures new { IfOk result (λ new. new ≡ not (among pid pids.old.items)) }
     ensures ok { OnOk result (pids.new.items ≡ with_pid pid pids.old.items) }
     ensures err { OnErr result (pids.new.items ≡ pids.old.items) }
@@ -28,7 +32,7 @@ fn join_pids(pids: &mut Vec<Pid, Heap>, pid: Pid) -> Result<bool, AllocError>
 }
 
 /// A process goes from these. It takes no memory.
-fn leave_pids(pids: &mut Vec<Pid, Heap>, pid: Pid)
+fn leave_pids(pids: &mut Pids, pid: Pid)
     ensures { pids.new.items ≡ without_pid pid pids.old.items }
 {
     pids.retain(|other| *other != pid);
@@ -41,8 +45,8 @@ impl Users {
         ensures readers { result.readers.items ≡ [] }
     {
         Users {
-            writers: Vec::new(heap),
-            readers: Vec::new(heap),
+            writers: SmallVec::new(heap),
+            readers: SmallVec::new(heap),
         }
     }
 

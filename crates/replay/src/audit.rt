@@ -59,7 +59,7 @@ impl PlainKernel {
             (Ran self.old pid (call_in (Do call.now) reply.now chosen.now) self.new)
             (CannotRun self.old pid (call_in (Do call.now) reply.now chosen.now))) }
     {
-        let plan = plan_of(heap, self, pid, call)?;
+        let plan = plan_of(heap, self, pid, call, false)?;
         if !is_reply(&plan.answer, reply)
             || !self.is_living(pid)
             || !self.can_be_chosen(plan.edits.as_slice(), chosen)

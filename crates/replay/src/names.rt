@@ -58,6 +58,7 @@ impl Names {
     {
         match place(self.slots.as_slice(), &name) {
             Ok(at) => {
+                drop(name);
                 self.slots[at].1 = num;
                 Ok(())
             }
@@ -73,9 +74,7 @@ impl Names {
         ensures { self.new ≡ map.remove self.old name.now }
     {
         match place(self.slots.as_slice(), name) {
-            Ok(at) => {
-                let (_name, _num) = self.slots.remove(at);
-            }
+            Ok(at) => drop(self.slots.remove(at)),
             Err(_at) => (),
         }
     }

@@ -4,6 +4,8 @@ use Rattle.runner.specs.declared.fault.RunFault.{RunFault}
 use Rattle.runner.specs.declared.fault.RunFault.TheVariants.{Script, Schedule, Read}
 use Rattle.runner.specs.declared.fault.RunFault.TheVariants.{Write, HistoryFull, NoMemory}
 use Rattle.runner.specs.declared.fault.RunFault.TheVariants.{Check}
+use Rattle.runner.specs.declared.refusal.Refusal.{Refusal}
+use Rattle.runner.specs.declared.refusal.Refusal.TheVariants as refusal
 use Rattle.replay.specs.declared.checking.CheckFault.{CheckFault}
 use Rattle.replay.specs.declared.checking.CheckFault.TheVariants.{Wrong}
 use Rattle.replay.specs.declared.checking.CheckFault.TheVariants.{NoMemory as NoCheckMemory}
@@ -26,6 +28,10 @@ fault_of_schedule fault = Schedule fault
 abbrev pub fault_of_check : CheckFault → RunFault
 fault_of_check NoCheckMemory = NoMemory
 fault_of_check (Wrong place) = Check place
+
+abbrev pub fault_of_refusal : Refusal → RunFault
+fault_of_refusal refusal.HistoryFull = HistoryFull
+fault_of_refusal refusal.NoMemory = NoMemory
 
 abbrev pub fault_of_work : WorkFault → RunFault
 fault_of_work NoRoomForWork = HistoryFull

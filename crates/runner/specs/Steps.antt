@@ -1,5 +1,5 @@
 -- How far a run has come with its steps.
-use Rattle.std.specs.Prelude.{◌≡◌, ◌≢◌, ℕ, ◌+◌, List, [], ◌∷◌, ◌++◌, length}
+use Rattle.std.specs.Prelude.{◌≡◌, ◌≢◌, ℕ, List}
 use Rattle.std.specs.Prelude.{map, take, slice_get, true, false, Option, Some}
 use Rattle.std.specs.Io.KnownBytes.{append_known}
 use Rattle.device.specs.Device.{IsPart}
@@ -11,7 +11,9 @@ use Rattle.kernel.specs.Steps.{Added, has_place}
 use Rattle.model.specs.Entries.{Reply}
 use Rattle.model.specs.Moments.{status}
 use Rattle.model.specs.Replies.{needed}
-use Rattle.transcript.specs.Line.{line_of, transcript}
+use Rattle.transcript.specs.Line.{transcript}
+use Rattle.runner.specs.declared.refusal.Refusal.{Refusal}
+use Rattle.runner.specs.declared.refusal.Refusal.TheVariants as refusal
 use Rattle.runner.specs.declared.fault.RunFault.{RunFault}
 use Rattle.runner.specs.declared.fault.RunFault.TheVariants.{Write, HistoryFull, NoMemory}
 
@@ -36,42 +38,47 @@ pub record Took (old new : Log) (pid : ℕ) (op : Op) : Type 0 where
 
 -- Why a step was refused: its places are not free, or they are, and it needs one, and memory was
 -- refused.
-abbrev pub Refused : Log → ℕ → Op → RunFault → Type 0
-Refused log pid op HistoryFull = has_place log pid op ≡ false
-Refused log pid op NoMemory =
+abbrev pub Refused : Log → ℕ → Op → Refusal → Type 0
+Refused log pid op refusal.HistoryFull = has_place log pid op ≡ false
+Refused log pid op refusal.NoMemory =
     (has_place log pid op ≡ true) × (needed (status (moment log) pid) op ≢ 0)
-Refused log pid op _ = ⊥
 
--- The first `count` steps are done, and their transcript is written behind what stood there before.
--- The next one was refused.
-pub record StopsBefore
-    (fault : RunFault) (priorities : List ℕ) (limit : ℕ) (steps : List (ℕ × Op))
-    (old new : Option (List ℕ))
+-- The first `count` steps are done, and the next one was refused.
+pub record Halted
+    (refusal : Refusal) (priorities : List ℕ) (limit : ℕ) (steps : List (ℕ × Op)) (kernel : Shown)
     : Type 0 where
   pub count : ℕ
-  pub kernel : Shown
   pub done : HasDone priorities limit (take count steps) kernel
-  pub written : new ≡ append_known old (transcript kernel.log.entries)
   pub pid : ℕ
   pub op : Op
   pub next : slice_get steps count ≡ Some (pid, op)
-  pub refused : Refused kernel.log pid op fault
+  pub refused : Refused kernel.log pid op refusal
 
--- The first `count` steps are done. All lines but that of the last are written, and a beginning of
--- that one.
+-- A step was refused, and the transcript of those before it is written behind what stood there
+-- before.
+pub record StopsBefore
+    (refusal : Refusal) (priorities : List ℕ) (limit : ℕ) (steps : List (ℕ × Op))
+    (old new : Option (List ℕ))
+    : Type 0 where
+  pub kernel : Shown
+  pub halted : Halted refusal priorities limit steps kernel
+  pub written : new ≡ append_known old (transcript kernel.log.entries)
+
+-- The first `count` steps are done, and of their transcript a beginning is written.
 pub record StopsWriting
     (priorities : List ℕ) (limit : ℕ) (steps : List (ℕ × Op)) (old new : Option (List ℕ))
     : Type 0 where
   pub count : ℕ
   pub kernel : Shown
   pub done : HasDone priorities limit (take count steps) kernel
-  pub before : List Entry
-  pub last : Entry
-  pub entries : kernel.log.entries ≡ before ++ last ∷ []
-  pub part : IsPart (append_known old (transcript before)) new (line_of (length before + 1) last)
+  pub part : IsPart old new (transcript kernel.log.entries)
 
 -- how far the steps have come where a fault stops them
 abbrev pub Stops :
     RunFault → List ℕ → ℕ → List (ℕ × Op) → (old new : Option (List ℕ)) → Type 0
 Stops Write priorities limit steps old new = StopsWriting priorities limit steps old new
-Stops fault priorities limit steps old new = StopsBefore fault priorities limit steps old new
+Stops HistoryFull priorities limit steps old new =
+    StopsBefore refusal.HistoryFull priorities limit steps old new
+Stops NoMemory priorities limit steps old new =
+    StopsBefore refusal.NoMemory priorities limit steps old new
+Stops _ priorities limit steps old new = ⊥

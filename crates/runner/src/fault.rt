@@ -1,8 +1,9 @@
 // Why a run has ended early.
 ghost use Rattle.std.specs.Prelude.{◌≡◌};
-ghost use Rattle.runner.specs.Faults.{fault_of_check, fault_of_schedule, fault_of_script};
-ghost use Rattle.runner.specs.Faults.{fault_of_work, status_of};
+ghost use Rattle.runner.specs.Faults.{fault_of_check, fault_of_refusal, fault_of_schedule};
+ghost use Rattle.runner.specs.Faults.{fault_of_script, fault_of_work, status_of};
 
+use crate::refusal::Refusal;
 use replay::CheckFault;
 use script::{ScheduleFault, ScriptFault};
 use thiserror::Error;
@@ -72,6 +73,16 @@ impl RunFault {
         match fault {
             WorkFault::HistoryFull => RunFault::HistoryFull,
             WorkFault::NoMemory => RunFault::NoMemory,
+        }
+    }
+
+    // The run's fault where a step was refused.
+    pub(crate) fn of_refusal(refusal: Refusal) -> RunFault
+        ensures { result ≡ fault_of_refusal refusal }
+    {
+        match refusal {
+            Refusal::HistoryFull => RunFault::HistoryFull,
+            Refusal::NoMemory => RunFault::NoMemory,
         }
     }
 

@@ -8,6 +8,7 @@ mod fault;
 mod job;
 mod printing;
 mod reading;
+mod refusal;
 mod reporting;
 mod run;
 mod steps;

@@ -13,12 +13,13 @@ use script::{read_schedule, steps_of};
 use words::MAX_LIMIT;
 
 /// Reads a script from `source`, checks `list`, a schedule of it, and executes its steps on a fresh
-/// kernel with this history limit. After each step the line of its entry is written to `sink`.
-/// Returns the kernel.
+/// kernel with this history limit. The transcript is written to `sink` behind the last step. Returns
+/// the kernel.
 ///
 /// A `Script` or `Schedule` fault comes before any step, and then nothing was written. `Read` and
-/// `Write` come only where the device has failed. `HistoryFull` and `NoMemory` stop the run after
-/// the lines of the steps before.
+/// `Write` come only where the device has failed; where `Write` comes a beginning of the transcript
+/// was written. `HistoryFull` and `NoMemory` stop the run, and the transcript of the steps before is
+/// written.
 pub fn run_schedule<I: Source, O: Sink>(
     heap: Heap,
     source: &mut I,

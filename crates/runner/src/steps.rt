@@ -4,31 +4,32 @@ ghost use Rattle.std.specs.Io.KnownBytes.{append_known};
 ghost use Rattle.device.specs.Device.{CanCount};
 ghost use Rattle.kernel.specs.Shown.{Kept};
 ghost use Rattle.transcript.specs.Line.{transcript};
-ghost use Rattle.runner.specs.Steps.{HasDone, Refused, Stops, Took};
+ghost use Rattle.runner.specs.Steps.{Halted, HasDone, Refused, Stops, Took};
 
 use crate::RunFault;
-use crate::printing::print_from;
+use crate::printing::print;
+use crate::refusal::Refusal;
 use device::Sink;
 use heap::Heap;
 use ids::{Op, Pid, Reply};
 use kernel::Kernel;
 
-// Executes one step. A fault, HistoryFull or NoMemory, means that nothing has changed.
-fn do_step(kernel: &mut Kernel, pid: Pid, op: Op) -> Result<(), RunFault>
+// Executes one step. Where it is refused nothing has changed.
+fn do_step(kernel: &mut Kernel, pid: Pid, op: Op) -> Result<(), Refusal>
     ensures kept { Kept kernel.new }
     ensures ok { OnOk result (Took kernel.old.log kernel.new.log pid op) }
     ensures unchanged { OnErr result (kernel.new ≡ kernel.old) }
-    ensures fault { IfErr result (Refused kernel.old.log pid op) }
+    ensures refused { IfErr result (Refused kernel.old.log pid op) }
 {
     let reply = kernel.step(pid, op);
     match &reply {
         Reply::HistoryFull => {
             drop(reply);
-            Err(RunFault::HistoryFull)
+            Err(Refusal::HistoryFull)
         }
         Reply::NoMemory => {
             drop(reply);
-            Err(RunFault::NoMemory)
+            Err(Refusal::NoMemory)
         }
         _ => {
             drop(reply);
@@ -37,8 +38,23 @@ fn do_step(kernel: &mut Kernel, pid: Pid, op: Op) -> Result<(), RunFault>
     }
 }
 
-// Executes steps in a row on a kernel whose history is empty. After each the line of its entry is
-// written.
+// Executes steps in a row on a kernel whose history is empty, up to the first that is refused.
+fn make_steps(kernel: &mut Kernel, steps: Vec<(Pid, Op), Heap>) -> Result<(), Refusal>
+    requires kept { Kept kernel.old }
+    requires fresh { kernel.old.log.entries ≡ [] }
+    ensures done { OnOk result (HasDone
+        kernel.old.log.priorities kernel.old.log.limit steps.entry.items kernel.new) }
+    ensures refused { IfErr result (λ refusal. Halted refusal
+        kernel.old.log.priorities kernel.old.log.limit steps.entry.items kernel.new) }
+{
+    for (pid, op) in steps {
+        do_step(kernel, pid, op)?;
+    }
+    Ok(())
+}
+
+// Executes steps in a row on a kernel whose history is empty, and then writes the transcript of
+// those that were done. Where a step is refused and the sink fails too, the fault is Write.
 pub(crate) fn do_steps<S: Sink>(
     kernel: &mut Kernel,
     steps: Vec<(Pid, Op), Heap>,
@@ -57,10 +73,10 @@ pub(crate) fn do_steps<S: Sink>(
     ensures write { result ≡ Err RunFault.Write → S.failures sink.old < S.failures sink.new }
     ensures no_failure { result ≢ Err RunFault.Write → S.failures sink.new ≡ S.failures sink.old }
 {
-    for (pid, op) in steps {
-        let before = kernel.history().entries().len();
-        do_step(kernel, pid, op)?;
-        print_from(kernel.history(), before, sink)?;
+    let made = make_steps(kernel, steps);
+    print(kernel.history(), sink)?;
+    match made {
+        Ok(()) => Ok(()),
+        Err(refusal) => Err(RunFault::of_refusal(refusal)),
     }
-    Ok(())
 }

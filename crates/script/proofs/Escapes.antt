@@ -1,5 +1,6 @@
 -- The bytes of a word, one after another.
-use Rattle.std.proofs.Common.{◌≡◌, ℕ, ◌++◌, ◌&&◌, ◌==◌, List, [], ◌∷◌, Option, Some, None, Bool, true, false, cond, eqb, length, ap, ◌∙◌, refl}
+use Rattle.std.proofs.Common.{◌≡◌, ℕ, ◌++◌, ◌&&◌, ◌==◌, List, [], ◌∷◌, Option, Some, None, Bool, true, false, cond, eqb, length, ap, sym, ◌∙◌, refl, append_assoc, append-nil}
+use Rattle.std.specs.List.{list_all}
 use Rattle.script.specs.Numbers.{hex_in, with_digits}
 use Rattle.script.specs.Texts.{before, bytes_after, bytes_behind, escape_of, first_of, is_plain}
 
@@ -53,3 +54,14 @@ ends_at done a rest false e f = at_none done a rest e f
 pub at_end : (done text : List ℕ) → eqb (length text) 0 ≡ false → first_of text ≡ None → bytes_after done text ≡ None
 at_end done [] some f = absurd (cc some)
 at_end done (a ∷ rest) some f = ends_at done a rest (is_plain a) refl f
+
+both : (s t : Bool) → (s && t) ≡ true → (s ≡ true) × (t ≡ true)
+both true t e = (refl, e)
+both false t e = absurd (cc e)
+
+-- bytes that stand for themselves
+pub all_plain : (done text : List ℕ) → list_all is_plain text ≡ true → bytes_after done text ≡ Some (done ++ text)
+all_plain done [] e = ap Some (sym (append-nil done))
+all_plain done (a ∷ rest) e =
+    let each = both (is_plain a) (list_all is_plain rest) e in
+    at_plain done a rest each.0 ∙ all_plain (done ++ a ∷ []) rest each.1 ∙ ap Some (append_assoc done (a ∷ []) rest)

@@ -1,35 +1,41 @@
 // Numbers in their spelling.
-ghost use Rattle.std.specs.Prelude.{◌≡◌, ◌≤◌, IfSome};
+ghost use Rattle.std.specs.Prelude.{◌≡◌, ◌≤◌, ◌<◌, IfNone, IfSome};
+ghost use Rattle.std.specs.Str.Parse.{AllDigits, digits_value};
 ghost use Rattle.script.specs.Numbers.{hex_in, byte_in, decimal_in, offset_in};
 
-use itoa::Buffer;
-
-// The number whose decimal the text is, if it is at most that.
-fn number_of(text: &str, most: u64) -> Option<u64>
-    ensures value { result ≡ decimal_in most text.now }
+// The number that digits write, if it is at most that, and there are no other bytes.
+fn digits_in(word: &[u8], most: u64) -> Option<u64>
+    ensures some { IfSome result (λ n. AllDigits 10 word.now × (n ≡ digits_value 10 word.now)) }
     ensures small { IfSome result (λ n. n ≤ most) }
+    ensures none { IfNone result (AllDigits 10 word.now → most < digits_value 10 word.now) }
 {
-    match text.parse::<u64>() {
-        Ok(n) => {
-            if n <= most && Buffer::new().format(n) == text {
-                Some(n)
-            } else {
-                None
-            }
+    let mut n = 0;
+    for byte in word {
+        if *byte < b'0' || *byte > b'9' {
+            return None;
         }
-        Err(_) => None,
+        let next = u128::from(n) * 10 + u128::from(*byte - b'0');
+        if next > u128::from(most) {
+            return None;
+        }
+        n = next as u64;
     }
+    Some(n)
 }
 
-// The same of bytes.
+// The number whose decimal the word is, if it is at most that: a decimal is `0`, or does not begin
+// with it.
 fn decimal_in(word: &[u8], most: u64) -> Option<u64>
     ensures value { result ≡ decimal_in most word.now }
     ensures small { IfSome result (λ n. n ≤ most) }
 {
-    match str::from_utf8(word) {
-        Ok(text) => number_of(text, most),
-        Err(_) => None,
+    if word.is_empty() {
+        return None;
     }
+    if word.len() > 1 && word[0] == b'0' {
+        return None;
+    }
+    digits_in(word, most)
 }
 
 // The same for at most 32 bits.

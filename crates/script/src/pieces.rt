@@ -20,6 +20,19 @@ fn cut_at(text: &[u8], byte: u8) -> (&[u8], Option<&[u8]>)
     (text, None)
 }
 
+// How many pieces a text has.
+fn count_of(text: &[u8], byte: u8) -> usize
+    ensures { result ≡ length (slice_split (λ b. eqb b byte) text.now) }
+{
+    let mut count = 1;
+    for b in text {
+        if *b == byte {
+            count += 1;
+        }
+    }
+    count
+}
+
 // The pieces of a text that are still to come: what stands before, between and behind the bytes of
 // one kind.
 #[derive(Drop)]
@@ -62,6 +75,16 @@ impl<'a> Pieces<'a> {
         ensures { result ≡ (length self.now == 0) }
     {
         self.rest.is_none()
+    }
+
+    // How many pieces are still to come.
+    pub(crate) fn len(&self) -> usize
+        ensures { result ≡ length self.now }
+    {
+        match self.rest {
+            Some(text) => count_of(text, self.byte),
+            None => 0,
+        }
     }
 
     // The piece, where there is exactly one.

@@ -19,6 +19,9 @@ use ids::{MAX_PROCESSES, Op, Pid, Priority};
 use std::alloc::AllocError;
 use std::marker::Model;
 
+// The most lines that a script has: the shortest is `1 end` with its line feed.
+const MOST_LINES: usize = SCRIPT_LIMIT / 6;
+
 /// A line of a script: what a process does next.
 #[derive(Debug, Drop)]
 pub struct Line {
@@ -243,7 +246,9 @@ fn script_of(
         (IsFault (behind_head number (priorities_of words.old) pieces.old)) }
 {
     let priorities = priorities_of(heap, number, words)?;
-    let mut lines = Vec::new(heap);
+    let Ok(mut lines) = Vec::with_capacity(heap, pieces.len().min(MOST_LINES)) else {
+        return Err(ScriptFault::NoMemory);
+    };
     read_lines(heap, number + 1, pieces, &mut lines)?;
     Ok(Script { priorities, lines })
 }

@@ -36,7 +36,7 @@ fn read_pids(text: &[u8], pids: &mut Vec<Pid, Heap>) -> Result<(), ScheduleFault
 }
 
 // How many lines each process has.
-fn counts_of(heap: Heap, lines: &[Line]) -> Result<Vec<usize, Heap>, AllocError>
+pub(crate) fn counts_of(heap: Heap, lines: &[Line]) -> Result<Vec<usize, Heap>, AllocError>
     ensures len { IfOk result (λ counts. vec_len counts ≡ PROCESS_NUMBERS_END) }
     ensures counts { IfOk result (λ counts. (p : ℕ) → p < PROCESS_NUMBERS_END
         → slice_index counts.items p ≡ lines_for p lines.now) }
@@ -84,7 +84,9 @@ pub fn read_schedule(
     ensures small { IfOk result (λ pids. AreProcessNumbers pids.items) }
     ensures fault { IfErr result (IsFault (schedule_of text.now script.now.lines)) }
 {
-    let mut pids = Vec::new(heap);
+    let Ok(mut pids) = Vec::with_capacity(heap, text.len() / 2 + 1) else {
+        return Err(ScheduleFault::NoMemory);
+    };
     read_pids(text.as_bytes(), &mut pids)?;
     has_lines(heap, script.lines(), pids.as_slice())?;
     Ok(pids)

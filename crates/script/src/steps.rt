@@ -1,11 +1,13 @@
 // The steps that a schedule says.
 ghost use Rattle.std.specs.Prelude.{◌≡◌, ◌<◌, ◌++◌, ◌∷◌, ℕ, List, [], IfOk, OnOk, OnErr};
-ghost use Rattle.std.specs.Prelude.{slice_index_or, vec_len, drop, replicate, slice_get, slice_set};
+ghost use Rattle.std.specs.Prelude.{length, slice_index_or, vec_len, drop, replicate};
+ghost use Rattle.std.specs.Prelude.{slice_get, slice_set};
 ghost use Rattle.script.specs.Schedules.{AreProcessNumbers};
 ghost use Rattle.script.specs.Steps.{HoldOps, ops_for, steps};
 ghost use Rattle.script.specs.declared.read.Line.{Line};
 
 use crate::limits::PROCESS_NUMBERS_END;
+use crate::schedule::counts_of;
 use crate::{Line, Script};
 use heap::Heap;
 use ids::{Op, Pid};
@@ -33,12 +35,13 @@ impl Model for Queue {
 }
 
 impl Queue {
-    fn new(heap: Heap) -> Queue
-        ensures { result ≡ [] }
+    // An empty queue, with room for so many.
+    fn with_room(heap: Heap, count: usize) -> Result<Queue, AllocError>
+        ensures { IfOk result (λ queue. queue ≡ []) }
     {
-        Queue {
-            ops: VecDeque::new(heap),
-        }
+        Ok(Queue {
+            ops: VecDeque::with_capacity(heap, count)?,
+        })
     }
 
     fn push(&mut self, op: Op) -> Result<(), AllocError>
@@ -57,14 +60,17 @@ impl Queue {
     }
 }
 
-// Puts the empty queues into an empty vector.
-fn put_queues(heap: Heap, queues: &mut Vec<Queue, Heap>) -> Result<(), AllocError>
-    requires { queues.old.items ≡ [] }
+// Puts empty queues into an empty vector: for each process one with room for its lines, and the one
+// for all other numbers.
+fn put_queues(heap: Heap, counts: &[usize], queues: &mut Vec<Queue, Heap>) -> Result<(), AllocError>
+    requires none { queues.old.items ≡ [] }
+    requires each { length counts.now ≡ PROCESS_NUMBERS_END }
     ensures { OnOk result (queues.new.items ≡ replicate QUEUES []) }
 {
-    for _ in 0..QUEUES {
-        queues.push(Queue::new(heap))?;
+    for count in counts {
+        queues.push(Queue::with_room(heap, *count)?)?;
     }
+    queues.push(Queue::with_room(heap, 0)?)?;
     Ok(())
 }
 
@@ -138,7 +144,8 @@ fn put_steps(
     requires none { taken.old.items ≡ [] }
     ensures { OnOk result (taken.new.items ≡ steps lines.entry.items pids.now) }
 {
-    put_queues(heap, queues)?;
+    let counts = counts_of(heap, lines.as_slice())?;
+    put_queues(heap, counts.as_slice(), queues)?;
     fill(queues, lines)?;
     take_all(queues, pids, taken)
 }
@@ -155,7 +162,7 @@ pub fn steps_of(
     ensures { IfOk result (λ v. v.items ≡ steps script.lines pids.now) }
 {
     let mut queues = Vec::new(heap);
-    let mut taken = Vec::new(heap);
+    let mut taken = Vec::with_capacity(heap, pids.len())?;
     put_steps(heap, script.into_lines(), pids, &mut queues, &mut taken)?;
     Ok(taken)
 }

@@ -1,5 +1,7 @@
 // Bytes in their spelling.
-ghost use Rattle.std.specs.Prelude.{◌≡◌, ◌<◌, IfErr, IfSome, OnOk, Some, None, length, option_map};
+ghost use Rattle.std.specs.Prelude.{◌≡◌, ◌<◌, [], IfErr, IfSome, OnOk, Some, None};
+ghost use Rattle.std.specs.Prelude.{length, option_map};
+ghost use Rattle.std.specs.List.{list_all};
 ghost use Rattle.script.specs.Texts.{bytes_after, escape_of, first_of, is_plain, text_in};
 ghost use Rattle.script.specs.Words.{Reads};
 
@@ -13,6 +15,18 @@ fn is_plain(byte: u8) -> bool
     ensures { result ≡ is_plain byte }
 {
     byte >= b'!' && byte <= b'~' && byte != b'\\'
+}
+
+// Whether each byte stands for itself.
+fn are_plain(text: &[u8]) -> bool
+    ensures { result ≡ list_all is_plain text.now }
+{
+    for byte in text {
+        if !is_plain(*byte) {
+            return false;
+        }
+    }
+    true
 }
 
 // The byte that the escape at the beginning of a text says, and what stands behind the escape.
@@ -59,6 +73,30 @@ fn read_bytes(text: &[u8], bytes: &mut Vec<u8, Heap>) -> Result<(), WordFault>
     Ok(())
 }
 
+// The bytes that a text with escapes spells.
+fn escaped_in(heap: Heap, text: &[u8]) -> Result<Bytes, WordFault>
+    ensures { Reads (bytes_after [] text.now) result }
+{
+    let Ok(mut bytes) = Vec::with_capacity(heap, text.len()) else {
+        return Err(WordFault::NoMemory);
+    };
+    read_bytes(text, &mut bytes)?;
+    Ok(Bytes::new(bytes))
+}
+
+// The bytes that a text spells, which are the text where each byte stands for itself.
+fn bytes_in(heap: Heap, text: &[u8]) -> Result<Bytes, WordFault>
+    ensures { Reads (bytes_after [] text.now) result }
+{
+    if !are_plain(text) {
+        return escaped_in(heap, text);
+    }
+    match Bytes::copy(heap, text) {
+        Ok(bytes) => Ok(bytes),
+        Err(_) => Err(WordFault::NoMemory),
+    }
+}
+
 // The bytes that a word spells: `\e` for none, else one or more.
 pub(crate) fn text_in(heap: Heap, word: &[u8]) -> Result<Bytes, WordFault>
     ensures { Reads (text_in word.now) result }
@@ -69,7 +107,5 @@ pub(crate) fn text_in(heap: Heap, word: &[u8]) -> Result<Bytes, WordFault>
     if word.is_empty() {
         return Err(WordFault::Malformed);
     }
-    let mut bytes = Vec::new(heap);
-    read_bytes(word, &mut bytes)?;
-    Ok(Bytes::new(bytes))
+    bytes_in(heap, word)
 }

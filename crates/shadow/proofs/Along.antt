@@ -5,7 +5,7 @@ use Rattle.std.proofs.lemmas.List.Elements.{Contains-append_cases, Contains-appe
 use Rattle.std.proofs.lemmas.List.Sums.{sum_by-append}
 use Rattle.model.specs.FiniteMap.{get}
 use Rattle.model.specs.State.{A_pipe, pipe_of_inode, Kernel, Inode, file_of, file_of_inode, kind, kind_of, mapped}
-use Rattle.model.specs.Changes.{Append, Edit, Make_pipe, Take, all_applied, applied, written}
+use Rattle.model.specs.Changes.{Append, Edit, Make_pipe, Take, all_applied, applied}
 use Rattle.model.specs.Moments.{is_alive, is_in}
 use Rattle.call_laws.specs.Fits.{Fits, FitsAll}
 use Rattle.call_laws.specs.WellFormed.{WellFormed}

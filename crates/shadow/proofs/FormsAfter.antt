@@ -3,7 +3,7 @@ use Rattle.std.proofs.Common.{◌≡◌, ◌≢◌, ℕ, ◌+◌, ◌==◌, ◌|
 use Rattle.std.proofs.lemmas.Bool.{false≢true}
 use Rattle.model.specs.FiniteMap.{get}
 use Rattle.model.specs.State.{Kind, A_file, A_directory, A_pipe, Kernel, Inode, kind, kind_of, mapped}
-use Rattle.model.specs.Changes.{Edit, number, written}
+use Rattle.model.specs.Changes.{Edit}
 use Rattle.call_laws.specs.Fits.{Fits}
 use Rattle.freeing_laws.specs.Counts.{times}
 use Rattle.shadow.specs.declared.change.Contents.{Contents}

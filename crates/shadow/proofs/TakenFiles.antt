@@ -5,7 +5,6 @@ use Rattle.model.specs.State.{Inode}
 use Rattle.model.specs.Changes.{Put_bytes, Cut}
 use Rattle.std.specs.List.{Contains}
 use Rattle.model.specs.Plan.{blocks}
-use Rattle.freeing_laws.specs.Counts.{named, unnamed}
 use Rattle.shadow.specs.Patches.{AllReach, new_ends, Net, Patches, added_by, form_of, net_at, numbers_in, patched}
 use Rattle.shadow.specs.Notes.{At, IsFiled}
 use Rattle.shadow.specs.Steps.{TakesIn, bytes_cut, bytes_written, filed, growth}

@@ -33,6 +33,7 @@ use ids::{Kind, Name, Num};
 use objects::{Description, FileData, PipeData};
 use slab::Slab;
 use std::alloc::AllocError;
+use std::collections::BTreeMap;
 use std::marker::Model;
 
 /// A file, and how many open file descriptions are of it.
@@ -423,17 +424,17 @@ impl Store {
     /// Lays notes over a directory that is shown: what each noted name gives from now on, a number
     /// or nothing. So many promises of room in it are given up, and the names that come take their
     /// room from these. The objects of the numbers are shown or to come. It takes no memory.
-    pub fn lay(&mut self, dir: Num, notes: Vec<(Name, Option<Num>), Heap>, promised: usize)
+    pub fn lay(&mut self, dir: Num, notes: BTreeMap<Name, Option<Num>, Heap>, promised: usize)
         requires shown { is_shown (map.get self.old.places dir) ≡ true }
         requires room { (listing : Listing) →
             listing_at self.old dir ≡ Some listing → promised ≤ listing.promised }
-        requires added { count_by (λ note. is_some note.1) notes.items ≤ promised }
+        requires added { count_by (λ note. is_some note.1) notes.entries ≤ promised }
         requires numbers { AllByRecursion (λ note.
-            IfSome note.1 (λ n. may_be_named (map.get self.old.places n) ≡ true)) notes.items }
+            IfSome note.1 (λ n. may_be_named (map.get self.old.places n) ≡ true)) notes.entries }
         ensures laid { self.new ≡
-            altered (with_listing (laid_listing notes.entry.items promised)) self.old dir }
+            altered (with_listing (laid_listing notes.entry.entries promised)) self.old dir }
         ensures shown { inodes self.new ≡
-            with_names (laid notes.entry.items) (inodes self.old) dir }
+            with_names (laid notes.entry.entries) (inodes self.old) dir }
         ensures open { descriptions self.new ≡ descriptions self.old }
     {
         let mut left = promised;

@@ -1,3 +1,4 @@
 pub mod Lines
 pub mod Names
+pub mod Plain
 pub mod Printing

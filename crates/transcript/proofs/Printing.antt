@@ -2,7 +2,7 @@
 use Rattle.std.proofs.Common.{◌≡◌, ℕ, ◌+◌, ◌<◌, ◌≤◌, List, [], ◌∷◌, ◌++◌, Bool, true, false, Option, sym, ap, ◌∙◌, append_assoc, append-nil, refl, take, length, get_or, arith, subst}
 use Rattle.std.specs.Prelude.{Result, Ok, Err, OnErr, OnOk, flat_map}
 use Rattle.std.specs.Io.KnownBytes.{append_known}
-use Rattle.std.proofs.lemmas.List.{get_or_default, take_all, take_more}
+use Rattle.std.proofs.lemmas.List.{take_all, take_more}
 use Rattle.std.proofs.lemmas.List.Concat.{flat_map-append}
 use Rattle.device.specs.Device.{IsPart}
 use Rattle.device.specs.declared.DeviceFailed.{DeviceFailed}
@@ -101,38 +101,6 @@ Prints-next f xs i x below is p q = Prints-as (Prints-then _ _ p q) (sym (one_mo
 pub Prints-all : {S : Type 0} {written : S → Option (List ℕ)} {failures : S → ℕ} {a b : Printer S} {X : Type 0} (f : X → List ℕ) (xs : List X) (i : ℕ)
     → length xs ≤ i → Prints written failures a b (flat_map f (take i xs)) → Prints written failures a b (flat_map f xs)
 Prints-all {X = X} f xs i end p = Prints-as p (ap (λ (ys : List X). flat_map f ys) (take_all i xs end))
-
-pub Prints-next_number : {S : Type 0} {written : S → Option (List ℕ)} {failures : S → ℕ} {a b c : Printer S} (f : ℕ → List ℕ) (xs : List ℕ) (i : ℕ) → i < length xs
-    → Prints written failures a b (flat_map f (take i xs)) → Prints written failures b c (f (get_or xs i 0)) → Prints written failures a c (flat_map f (take (i + 1) xs))
-Prints-next_number f xs i below p q = Prints-next f xs i (get_or xs i 0) below (get_or_default xs i 0 (get_or xs i 0) below) p q
-
--- one byte more is pending
-pub Prints-pending : {S : Type 0} {written : S → Option (List ℕ)} {failures : S → ℕ} {a b : Printer S} {pending : List ℕ} (byte : ℕ)
-    → Prints written failures a b [] → pending ≡ b.pending ++ byte ∷ [] → Prints written failures a (record b { pending = pending }) (byte ∷ [])
-Prints-pending {S} {written} {failures} {a} {b} {pending} byte p e =
-    let q : Prints written failures b (record b { pending = pending }) (byte ∷ []) = record {
-      same_sink = refl;
-      part = λ h. record {
-        front = [];
-        back = b.pending ++ byte ∷ [];
-        whole = refl;
-        appended = sym (append_known-nil (written b.sink.now));
-        kept = λ _. sym e;
-      };
-      clean = λ h. (refl, h);
-      stays = λ h. (refl, refl, h);
-      cause = λ h k. absurd (cc (h, k));
-    } in Prints-then [] (byte ∷ []) p q
-
--- what is printed by a printer is printed by what is equal to it
-pub Prints-by : {S : Type 0} {written : S → Option (List ℕ)} {failures : S → ℕ} {a b c : Printer S} {t : List ℕ}
-    → Prints written failures a b t → c ≡ b → Prints written failures a c t
-Prints-by {S} {written} {failures} {a} {b} {c} {t} p e = let P : Printer S → Type 0 = λ x. Prints written failures a x t in subst P (sym e) p
-
--- one more byte of a text
-pub Prints-byte : {S : Type 0} {written : S → Option (List ℕ)} {failures : S → ℕ} {a b c : Printer S} (xs : List ℕ) (i : ℕ) → i < length xs
-    → Prints written failures a b (take i xs) → Prints written failures b c (get_or xs i 0 ∷ []) → Prints written failures a c (take (i + 1) xs)
-Prints-byte xs i below p q = Prints-as (Prints-then _ _ p q) (sym (take_more xs i 0 below))
 
 -- what can print can print again
 pub CanPrint-after : {S : Type 0} {written : S → Option (List ℕ)} {failures : S → ℕ} {a b : Printer S} {t : List ℕ}

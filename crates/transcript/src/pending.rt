@@ -1,10 +1,10 @@
 // Bytes that are printed and not yet written.
-ghost use Rattle.std.specs.Prelude.{◌≡◌, ◌<◌, ◌≤◌, ◌++◌, ◌∷◌, ◌==◌, [], length};
+ghost use Rattle.std.specs.Prelude.{◌≡◌, ◌+◌, ◌≤◌, ◌++◌, [], length, nat_le};
 
 use std::marker::Model;
 
 // How many bytes are gathered before they are written.
-const CAPACITY: usize = 512;
+const CAPACITY: usize = 8192;
 
 // Up to `CAPACITY` bytes, in order.
 #[derive(Drop)]
@@ -34,19 +34,20 @@ impl Pending {
         }
     }
 
-    pub(crate) fn is_full(&self) -> bool
-        ensures value { result ≡ (length self.now == CAPACITY) }
-        ensures within { length self.now ≤ CAPACITY }
+    // Whether there is room for the text too.
+    pub(crate) fn fits(&self, text: &[u8]) -> bool
+        ensures { result ≡ nat_le (length self.now + length text.now) CAPACITY }
     {
-        self.len == CAPACITY
+        text.len() <= CAPACITY - self.len
     }
 
-    pub(crate) fn push(&mut self, byte: u8)
-        requires { length self.old < CAPACITY }
-        ensures { self.new ≡ self.old ++ byte ∷ [] }
+    pub(crate) fn append(&mut self, text: &[u8])
+        requires { length self.old + length text.now ≤ CAPACITY }
+        ensures { self.new ≡ self.old ++ text.now }
     {
-        self.bytes[self.len] = byte;
-        self.len += 1;
+        let end = self.len + text.len();
+        self.bytes[self.len..end].copy_from_slice(text);
+        self.len = end;
     }
 
     pub(crate) fn clear(&mut self)

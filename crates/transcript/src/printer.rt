@@ -1,5 +1,5 @@
 // Texts printed one after another, until the sink fails.
-ghost use Rattle.std.specs.Prelude.{◌≡◌, ◌++◌, ◌∷◌, [], true, false, decimal, OnErr, OnOk};
+ghost use Rattle.std.specs.Prelude.{◌≡◌, ◌++◌, [], true, false, decimal, OnErr, OnOk};
 ghost use Rattle.std.specs.Fmt.{signed_decimal};
 ghost use Rattle.device.specs.Device.{CanCount};
 
@@ -60,15 +60,29 @@ impl<'a, S: Sink> Printer<'a, S> {
         }
     }
 
-    // Prints one byte.
-    pub(crate) fn put_byte(&mut self, byte: u8)
-        requires { CanPrint S.failures self.old }
-        ensures { Prints S.written S.failures self.old self.new (byte ∷ []) }
+    // Writes a text at once, where nothing is pending.
+    fn write(&mut self, text: &[u8])
+        requires can { CanPrint S.failures self.old }
+        requires pending { self.old.pending ≡ [] }
+        ensures { Prints S.written S.failures self.old self.new text.now }
     {
-        if self.pending.is_full() {
-            self.flush();
+        if !self.failed && write_all(self.sink, text).is_err() {
+            self.failed = true;
         }
-        self.pending.push(byte);
+    }
+
+    // Prints bytes for which there is no room: what is pending is written first, and they are written
+    // too if there are more of them than are ever gathered.
+    fn put_over(&mut self, text: &[u8])
+        requires { CanPrint S.failures self.old }
+        ensures { Prints S.written S.failures self.old self.new text.now }
+    {
+        self.flush();
+        if self.pending.fits(text) {
+            self.pending.append(text);
+        } else {
+            self.write(text);
+        }
     }
 
     // Prints bytes as they are.
@@ -76,8 +90,10 @@ impl<'a, S: Sink> Printer<'a, S> {
         requires { CanPrint S.failures self.old }
         ensures { Prints S.written S.failures self.old self.new text.now }
     {
-        for byte in text {
-            self.put_byte(*byte);
+        if self.pending.fits(text) {
+            self.pending.append(text);
+        } else {
+            self.put_over(text);
         }
     }
 

@@ -1,7 +1,7 @@
 // Bytes in their spelling.
-ghost use Rattle.std.specs.Prelude.{◌≡◌, ◌<◌, flat_map};
+ghost use Rattle.std.specs.Prelude.{◌≡◌, ◌<◌, false, flat_map};
 ghost use Rattle.transcript.specs.Printer.{CanPrint, Prints};
-ghost use Rattle.transcript.specs.Text.{byte_text, hex_digit, text_of};
+ghost use Rattle.transcript.specs.Text.{byte_text, hex_digit, is_plain, text_of};
 
 use crate::printer::Printer;
 use device::Sink;
@@ -13,25 +13,36 @@ fn hex_digit(n: u8) -> u8
     if n < 10 { b'0' + n } else { b'a' - 10 + n }
 }
 
-// A byte as itself, or by its hexadecimal digits.
-fn put_spelled<S: Sink>(out: &mut Printer<'_, S>, byte: u8)
-    requires { CanPrint S.failures out.old }
-    ensures { Prints S.written S.failures out.old out.new (byte_text byte) }
+// Whether a byte stands for itself.
+fn is_plain(byte: u8) -> bool
+    ensures { result ≡ is_plain byte }
 {
-    if byte >= b'!' && byte <= b'~' && byte != b'\\' {
-        out.put_byte(byte);
-    } else {
-        out.put(&[b'\\', b'x', hex_digit(byte / 16), hex_digit(byte % 16)]);
-    }
+    byte >= b'!' && byte <= b'~' && byte != b'\\'
 }
 
+// A byte by its hexadecimal digits.
+fn put_escape<S: Sink>(out: &mut Printer<'_, S>, byte: u8)
+    requires can { CanPrint S.failures out.old }
+    requires escaped { is_plain byte ≡ false }
+    ensures { Prints S.written S.failures out.old out.new (byte_text byte) }
+{
+    out.put(&[b'\\', b'x', hex_digit(byte / 16), hex_digit(byte % 16)]);
+}
+
+// Bytes in a row that stand for themselves are put at once, and each other byte by its digits.
 fn put_bytes<S: Sink>(out: &mut Printer<'_, S>, bytes: &[u8])
     requires { CanPrint S.failures out.old }
     ensures { Prints S.written S.failures out.old out.new (flat_map byte_text bytes.now) }
 {
-    for byte in bytes {
-        put_spelled(out, *byte);
+    let mut start = 0;
+    for (index, byte) in bytes.iter().enumerate() {
+        if !is_plain(*byte) {
+            out.put(&bytes[start..index]);
+            put_escape(out, *byte);
+            start = index + 1;
+        }
     }
+    out.put(&bytes[start..]);
 }
 
 // Bytes as a script spells them.

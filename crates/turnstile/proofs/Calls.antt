@@ -1,5 +1,5 @@
 -- One call: the kernel is taken, makes a step and is given back.
-use Rattle.std.proofs.Common.{◌≡◌, ℕ, suc, ◌+◌, ◌≤◌, arith, Bool, true, false, MatchBool, IfSome, IfNone, Option, Some, None, List, [], ◌∷◌, ◌++◌, refl, sym, ap, ◌∙◌, subst}
+use Rattle.std.proofs.Common.{◌≡◌, ℕ, suc, ◌+◌, arith, Bool, true, false, MatchBool, IfSome, IfNone, Option, Some, None, List, [], ◌∷◌, ◌++◌, refl, sym, ap, ◌∙◌, subst}
 use Rattle.atomic_table.specs.Table.{Me, rest}
 use Rattle.atomic_table.specs.Seated.{TableId}
 use Rattle.history.specs.Log.{Log}

@@ -1,11 +1,11 @@
 -- A step that makes a process, and the pass of that process.
-use Rattle.std.proofs.Common.{◌≡◌, ◌≢◌, ℕ, suc, ◌+◌, ◌<◌, Option, Some, None, [], sym, refl, ap, ◌∙◌, subst, arith}
+use Rattle.std.proofs.Common.{◌≡◌, ◌≢◌, ℕ, suc, ◌<◌, Option, Some, None, [], sym, refl, ap, ◌∙◌, subst, arith}
 use Rattle.atomic_table.specs.Table.{Me}
 use Rattle.atomic_table.specs.Seated.{TableId}
 use Rattle.history.specs.Log.{Log}
 use Rattle.history_laws.specs.Processes.{child_in}
 use Rattle.kernel.specs.declared.kernel.Kernel.{Kernel}
-use Rattle.kernel.specs.Steps.{Added, IsStep}
+use Rattle.kernel.specs.Steps.{IsStep}
 use Rattle.kernel.specs.Shown.{Shown, Kept}
 use Rattle.model.specs.State.{Kernel as State}
 use Rattle.model.specs.Calls.{Fork, Child, Done, Descriptor, Count, New_place, Bytes, Pair, Stated, Listing}

@@ -6,7 +6,7 @@ use mathlib.Core.Option as maybe
 use native.Mathlib.Decide.{ℕ_discrete}
 use lib.ListN.{get_elem?}
 use prog.Atomic.{either}
-use Rattle.atomic_table.specs.Table.{State, Me, Step, step, keeps, takes, gives, stepped, Allows, Arrives, Splits, Joins, opening}
+use Rattle.atomic_table.specs.Table.{State, Me, Step, step, keeps, takes, gives, Allows, Arrives, Splits, Joins, opening}
 use Rattle.atomic_table.proofs.Lists.{at_set, set_here, set_else}
 use Rattle.history.specs.Log.{Log}
 use Rattle.turnstile.specs.Histories.{Begins, own, made_of}
@@ -128,16 +128,16 @@ module _ {K : Type 0} (history : K → Log) (IsLawful : Log → Type 0) (key : L
     not_made = λ _ _. refl;
   }
 
-  pub takes_kernel : (slots id : ℕ) (o : PassState) → Allows Rule slots id (Process o, []) 0 (λ n. either (eqb n 0) 1 n) (took history IsLawful (step slots 0 0 1 none) (Process o, []))
-  takes_kernel slots id o s r wide at _ = dite (ℕ_discrete (word s) 0)
+  -- a pass takes the kernel where the word is 0, whatever it then makes of the word but 0
+  takes_by : (f : ℕ → ℕ) → ((n : ℕ) → f n ≢ 0) → (st : Step (Option K)) (slots id : ℕ) (o : PassState) → Allows Rule slots id (Process o, []) 0 f (took history IsLawful st (Process o, []))
+  takes_by f taken st slots id o s r wide at _ = let x : ℕ = f (word s) in dite (ℕ_discrete (word s) 0)
       (λ hit. let home = r.at_home hit in let k = home.0 in let f : IsPass key r.log r.owner id o = r.each_seat id (Process o) at in let w : Role = Takes (having_seen o r.log) in let act = takes 0 (Some k) in (
         w,
         act,
         home.1,
-        subst (λ b. Rule (stepped s 0 (either b 1 (word s)) id [] w act)) (sym (eq-eqb (word s) 0 hit))
-            (kept_still s r (set s.words 0 1) 1 (set s.homes 0 none) (set s.views id w) id r.owner (length-set s.words 0 1 ∙ r.one_word) (set_word s r 1) (λ z. absurd (omega arith))
-            (seats_stay (Fits key r.log 1 id r.owner) s.views id w (record { mine = f.mine; was_made = f.was_made; begun = f.begun; has_seen = before_self r.log; entries = refl }, record { taken = λ z. omega arith; holds = refl; whole = refl })
-            (λ j v other e. stays s r 1 id j (λ taken _. absurd (taken hit)) v e))),
+        kept_still s r (set s.words 0 x) x (set s.homes 0 none) (set s.views id w) id r.owner (length-set s.words 0 x ∙ r.one_word) (set_word s r x) (λ z. absurd (taken (word s) z))
+            (seats_stay (Fits key r.log x id r.owner) s.views id w (record { mine = f.mine; was_made = f.was_made; begun = f.begun; has_seen = before_self r.log; entries = refl }, record { taken = taken (word s); holds = refl; whole = refl })
+            (λ j v other e. stays s r x id j (λ t _. absurd (t hit)) v e)),
         subst (λ b. MatchBool b (Got history IsLawful (Process o, []) (w, (0, Some k) ∷ [])) (◌≡◌ {A = M} (w, (0, Some k) ∷ []) (Process o, []))) (sym (eq-eqb (word s) 0 hit)) (
           k,
           (λ i. (Takes (having_seen o (sym home.2 i)), (0, Some k) ∷ [])),
@@ -154,14 +154,16 @@ module _ {K : Type 0} (history : K → Log) (IsLawful : Log → Type 0) (key : L
         w,
         keeps,
         tt,
-        subst (λ b. Rule (stepped s 0 (either b 1 (word s)) id [] w keeps)) (sym (ne_eqb (word s) 0 miss))
-            (kept_still s r (set s.words 0 (word s)) (word s) s.homes (set s.views id w) r.holder r.owner (length-set s.words 0 (word s) ∙ r.one_word) (set_word s r (word s)) r.at_home
-            (seats_stay (Fits key r.log (word s) r.holder r.owner) s.views id w (r.each_seat id w at) (λ j v _ e. r.each_seat j v e))),
+        kept_still s r (set s.words 0 x) x s.homes (set s.views id w) r.holder r.owner (length-set s.words 0 x ∙ r.one_word) (set_word s r x) (λ z. absurd (taken (word s) z))
+            (seats_stay (Fits key r.log x r.holder r.owner) s.views id w (r.each_seat id w at) (λ j v _ e. stays s r x r.holder j (λ _ holds. (taken (word s), holds)) v e)),
         subst (λ b. MatchBool b (Got history IsLawful (Process o, []) (w, [])) (◌≡◌ {A = M} (w, []) (Process o, []))) (sym (ne_eqb (word s) 0 miss)) refl,
       ))
 
+  taken_or_as_before : (n : ℕ) → either (eqb n 0) 1 n ≢ 0
+  taken_or_as_before n = dite (ℕ_discrete n 0) (λ hit. subst (λ b. either b 1 n ≢ 0) (sym (eq-eqb n 0 hit)) (λ z. omega arith)) (λ miss. subst (λ b. either b 1 n ≢ 0) (sym (ne_eqb n 0 miss)) miss)
+
   pub gives_kernel : (slots id : ℕ) (o : PassState) (k : K) → slots ≡ 1 → IsLawful (history k) → Follows o.pid o.seen (history k)
-      → Allows Rule slots id (Takes o, (0, Some k) ∷ []) 0 (λ _. 0) (λ _. gave history (step slots 0 0 0 none) (Takes o, (0, Some k) ∷ []) 0)
+      → Allows Rule slots id (Takes o, (0, Some k) ∷ []) 0 (λ _. 0) (gave history (step slots 0 0 0 none) (Takes o, (0, Some k) ∷ []))
   gives_kernel slots id o k one lawful follows s r wide at _ = let f = r.each_seat id (Takes o) at in let log : Log = history k in let w : Role = Process (having_seen o log) in
       let next : Follows o.pid r.log log = subst (λ x. Follows o.pid x log) f.1.whole follows in let here : 0 < length s.homes = omega arith in let more = next.more_made in let made = f.0.was_made in (
         w,
@@ -238,11 +240,17 @@ module _ {K : Type 0} (history : K → Log) (IsLawful : Log → Type 0) (key : L
 
   -- the same for a seat of which only an equation is known
   pub takes_at : (slots id : ℕ) (m : M) (o : PassState) → m ≡ (Process o, []) → Allows Rule slots id m 0 (λ n. either (eqb n 0) 1 n) (took history IsLawful (step slots 0 0 1 none) m)
-  takes_at slots id m o is = subst (λ (m : M). Allows Rule slots id m 0 (λ n. either (eqb n 0) 1 n) (took history IsLawful (step slots 0 0 1 none) m)) (sym is) (takes_kernel slots id o)
+  takes_at slots id m o is = subst (λ (m : M). Allows Rule slots id m 0 (λ n. either (eqb n 0) 1 n) (took history IsLawful (step slots 0 0 1 none) m)) (sym is)
+      (takes_by (λ n. either (eqb n 0) 1 n) taken_or_as_before (step slots 0 0 1 none) slots id o)
+
+  -- the same where the word becomes that of one that is awaited
+  pub awaits_at : (slots id : ℕ) (m : M) (o : PassState) → m ≡ (Process o, []) → Allows Rule slots id m 0 (λ _. 2) (took history IsLawful (step slots 0 2 0 none) m)
+  awaits_at slots id m o is = subst (λ (m : M). Allows Rule slots id m 0 (λ _. 2) (took history IsLawful (step slots 0 2 0 none) m)) (sym is)
+      (takes_by (λ _. 2) (λ _ z. omega arith) (step slots 0 2 0 none) slots id o)
 
   pub gives_at : (slots id : ℕ) (m : M) (o : PassState) (k : K) → m ≡ (Takes o, (0, Some k) ∷ []) → slots ≡ 1 → IsLawful (history k) → Follows o.pid o.seen (history k)
-      → Allows Rule slots id m 0 (λ _. 0) (λ _. gave history (step slots 0 0 0 none) m 0)
-  gives_at slots id m o k is one lawful follows = subst (λ (m : M). Allows Rule slots id m 0 (λ _. 0) (λ _. gave history (step slots 0 0 0 none) m 0)) (sym is) (gives_kernel slots id o k one lawful follows)
+      → Allows Rule slots id m 0 (λ _. 0) (gave history (step slots 0 0 0 none) m)
+  gives_at slots id m o k is one lawful follows = subst (λ (m : M). Allows Rule slots id m 0 (λ _. 0) (gave history (step slots 0 0 0 none) m)) (sym is) (gives_kernel slots id o k one lawful follows)
 
   pub deals_at : (id next : ℕ) (v : Role) (h : Log) → v ≡ Deals next h → next ≤ made_of key → Splits Rule id v (dealt_on v) (dealt v)
   deals_at id next v h is near = subst (λ v. Splits Rule id v (dealt_on v) (dealt v)) (sym is) (deals id next h near)
@@ -257,7 +265,7 @@ module _ {K : Type 0} (history : K → Log) (IsLawful : Log → Type 0) (key : L
   closed_hit st m m' n hit then = subst (λ b. MatchBool b ((k : K) × (m' ≡ (Closes (history k), (0, Some k) ∷ [])) × IsLawful (history k)) (Unit {0})) (eq-eqb n 0 hit) then
 
   pub gives_born : (slots id : ℕ) (o : PassState) (k : K) → slots ≡ 1 → IsLawful (history k) → Follows o.pid o.seen (history k) → made_of o.seen < made_of (history k)
-      → Allows Rule slots id (Takes o, (0, Some k) ∷ []) 0 (λ _. 0) (λ _. gave_born history (step slots 0 0 0 none) (Takes o, (0, Some k) ∷ []) 0)
+      → Allows Rule slots id (Takes o, (0, Some k) ∷ []) 0 (λ _. 0) (gave_born history (step slots 0 0 0 none) (Takes o, (0, Some k) ∷ []))
   gives_born slots id o k one lawful follows new s r wide at _ = let f = r.each_seat id (Takes o) at in let log : Log = history k in let child : ℕ = made_of log in let w : Role = Bears (having_seen o log) in
       let next : Follows o.pid r.log log = subst (λ x. Follows o.pid x log) f.1.whole follows in let newer : made_of r.log < child = subst (λ x. made_of x < child) f.1.whole new in
       let here : 0 < length s.homes = omega arith in let mine = f.0.was_made in
@@ -280,8 +288,8 @@ module _ {K : Type 0} (history : K → Log) (IsLawful : Log → Type 0) (key : L
       )
 
   pub gives_born_at : (slots id : ℕ) (m : M) (o : PassState) (k : K) → m ≡ (Takes o, (0, Some k) ∷ []) → slots ≡ 1 → IsLawful (history k) → Follows o.pid o.seen (history k) → made_of o.seen < made_of (history k)
-      → Allows Rule slots id m 0 (λ _. 0) (λ _. gave_born history (step slots 0 0 0 none) m 0)
-  gives_born_at slots id m o k is one lawful follows new = subst (λ (m : M). Allows Rule slots id m 0 (λ _. 0) (λ _. gave_born history (step slots 0 0 0 none) m 0)) (sym is) (gives_born slots id o k one lawful follows new)
+      → Allows Rule slots id m 0 (λ _. 0) (gave_born history (step slots 0 0 0 none) m)
+  gives_born_at slots id m o k is one lawful follows new = subst (λ (m : M). Allows Rule slots id m 0 (λ _. 0) (gave_born history (step slots 0 0 0 none) m)) (sym is) (gives_born slots id o k one lawful follows new)
 
   bears : (id : ℕ) (o : PassState) → Splits Rule id (Bears o) (Process o) (Process (pass_state (made_of o.seen) o.seen o.start))
   bears id o s r at = let f = r.each_seat id (Bears o) at in let vs : List Role = set s.views id (Process o) in let n : ℕ = length vs in let child : ℕ = made_of o.seen in

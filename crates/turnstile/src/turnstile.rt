@@ -25,6 +25,7 @@ use history::History;
 use ids::{Answer, Call, Op, Pid, Reply};
 use kernel::Kernel;
 use std::alloc::AllocError;
+use std::hint::spin_loop;
 use std::marker::Model;
 use std::snapshot::Snapshot;
 use std::sync::Wait;
@@ -32,6 +33,13 @@ use std::sync::Wait;
 const FREE: u64 = 0;
 
 const TAKEN: u64 = 1;
+
+// Taken, and a thread may sleep until it is free.
+const AWAITED: u64 = 2;
+
+// How often a thread looks whether the kernel is free before it sleeps. A step takes about as long
+// as some of these looks.
+const LOOKS: u32 = 100;
 
 type Place = Seat<Option<Kernel>, Role>;
 
@@ -241,16 +249,49 @@ impl Turnstile {
         shared.exchange(seat, 0, None)
     }
 
-    // The kernel, once it is free. The thread sleeps while it is not.
+    // The kernel, where it is free at one of some looks.
+    fn look_and_take(&self, seat: &mut Place) -> Option<Kernel>
+        requires { (seat.old.table_id ≡ self.now.table) × IsAtRest seat.old.me }
+        ensures some { IfSome result (λ k. HasTaken seat.old k.log seat.new) }
+        ensures none { IfNone result (seat.new ≡ seat.old) }
+    {
+        for _ in 0..LOOKS {
+            if self.table.shared.peek(0) == FREE
+                && let Some(kernel) = self.take(seat)
+            {
+                return Some(kernel);
+            }
+            spin_loop();
+        }
+        None
+    }
+
+    // The kernel, where it is free. Where it is not, who gives it back wakes a thread that sleeps.
+    fn await_and_take(&self, seat: &mut Place) -> Option<Kernel>
+        requires { (seat.old.table_id ≡ self.now.table) × IsAtRest seat.old.me }
+        ensures some { IfSome result (λ k. HasTaken seat.old k.log seat.new) }
+        ensures none { IfNone result (seat.new ≡ seat.old) }
+    {
+        let shared = &self.table.shared;
+        if shared.swap::<Take>(seat, 0, AWAITED) != FREE {
+            return None;
+        }
+        shared.exchange(seat, 0, None)
+    }
+
+    // The kernel, once it is free. The thread looks for it for a while, and then sleeps.
     fn wait_and_take<R: Wait>(&self, rt: &R, seat: &mut Place) -> Kernel
         requires { (seat.old.table_id ≡ self.now.table) × IsAtRest seat.old.me }
         ensures { HasTaken seat.old result.log seat.new }
     {
+        if let Some(kernel) = self.look_and_take(seat) {
+            return kernel;
+        }
         for _ in rt.forever() {
-            if let Some(kernel) = self.take(seat) {
+            if let Some(kernel) = self.await_and_take(seat) {
                 return kernel;
             }
-            self.table.shared.park(rt, 0, TAKEN as u32);
+            self.table.shared.park(rt, 0, AWAITED as u32);
         }
         unreachable!()
     }
@@ -266,8 +307,9 @@ impl Turnstile {
         let shared = &self.table.shared;
         // The slot had none.
         drop(shared.exchange(seat, 0, Some(kernel)));
-        shared.store::<Give>(seat, 0, FREE);
-        shared.wake_one(0);
+        if shared.swap::<Give>(seat, 0, FREE) == AWAITED {
+            shared.wake_one(0);
+        }
     }
 
     // One step of the process whose seat has the kernel.
@@ -324,8 +366,9 @@ impl Turnstile {
         let shared = &self.table.shared;
         // The slot had none.
         drop(shared.exchange(seat, 0, Some(kernel)));
-        shared.store::<GiveBorn>(seat, 0, FREE);
-        shared.wake_one(0);
+        if shared.swap::<GiveBorn>(seat, 0, FREE) == AWAITED {
+            shared.wake_one(0);
+        }
         shared.split_seat::<Born>(seat)
     }
 

@@ -1,10 +1,11 @@
 //! The walk along a path's names, from the root of any state that can be looked at.
 //!
-//! Each name that is looked up is touched, whether it is there or not. The touches are added to
-//! those before; where memory is refused, some may have been added.
+//! Each name that is looked up is read, whether it is there or not. Where reads count they are added
+//! to those before; where memory is refused, some may have been added.
 #![tactic(auto)]
 
 mod last;
+mod reads;
 mod steps;
 mod touches;
 
@@ -13,10 +14,11 @@ ghost use Rattle.model.specs.Walks.{look as look_in, walk, last_of};
 ghost use Rattle.look.specs.Asked.{Comes};
 ghost use Rattle.walk.specs.Walking.{next_of, start, look_last};
 
-use ids::{Aspect, Errno, Kind, Name, Num, Refusal};
+use ids::{Errno, Kind, Name, Num, Refusal};
 pub use last::Last;
 use look::Look;
 use path::Path;
+pub use reads::Reads;
 pub use steps::{must_be_directory, or_refuse};
 pub use touches::Touches;
 
@@ -24,12 +26,12 @@ pub use touches::Touches;
 pub fn walk<L: Look>(
     look: &L,
     path: &Path,
-    touches: &mut Touches,
+    reads: &mut Reads,
 ) -> Result<(Num, Option<Kind>), Refusal>
     ensures { let k = L.state look.now in
-        Comes k (walk (start k) path.now) touches.old result touches.new }
+        Comes k (walk (start k) path.now) reads.old result reads.new }
 {
-    walk_along(look, path.components(), touches)
+    walk_along(look, path.components(), reads)
 }
 
 /// Where the last name of a path stands, and what it gives; `of_root` where the path has no names.
@@ -37,12 +39,12 @@ pub fn walk_to_last<L: Look>(
     look: &L,
     of_root: Errno,
     path: &Path,
-    touches: &mut Touches,
+    reads: &mut Reads,
 ) -> Result<Last, Refusal>
     ensures { let k = L.state look.now in
-        Comes k (last_of k.root of_root path.now) touches.old result touches.new }
+        Comes k (last_of k.root of_root path.now) reads.old result reads.new }
 {
-    walk_to_last_of(look, of_root, path.components(), touches)
+    walk_to_last_of(look, of_root, path.components(), reads)
 }
 
 // What a name gives.
@@ -50,11 +52,11 @@ fn find<L: Look>(
     look: &L,
     dir: Num,
     name: &Name,
-    touches: &mut Touches,
+    reads: &mut Reads,
 ) -> Result<Option<(Num, Option<Kind>)>, Refusal>
-    ensures { Comes (L.state look.now) (ask (Look_up dir name.now)) touches.old result touches.new }
+    ensures { Comes (L.state look.now) (ask (Look_up dir name.now)) reads.old result reads.new }
 {
-    touches.read(Aspect::Entry(dir, name.try_clone()?))?;
+    reads.add_entry(dir, name)?;
     Ok(look.find(dir, name))
 }
 
@@ -63,12 +65,12 @@ fn look_up<L: Look>(
     look: &L,
     place: &(Num, Option<Kind>),
     name: &Name,
-    touches: &mut Touches,
+    reads: &mut Reads,
 ) -> Result<Option<(Num, Option<Kind>)>, Refusal>
-    ensures { Comes (L.state look.now) (look_in place.now name.now) touches.old result touches.new }
+    ensures { Comes (L.state look.now) (look_in place.now name.now) reads.old result reads.new }
 {
     must_be_directory(place)?;
-    find(look, place.0, name, touches)
+    find(look, place.0, name, reads)
 }
 
 // One name that has to be there.
@@ -76,11 +78,11 @@ fn next<L: Look>(
     look: &L,
     place: &(Num, Option<Kind>),
     name: &Name,
-    touches: &mut Touches,
+    reads: &mut Reads,
 ) -> Result<(Num, Option<Kind>), Refusal>
-    ensures { Comes (L.state look.now) (next_of place.now name.now) touches.old result touches.new }
+    ensures { Comes (L.state look.now) (next_of place.now name.now) reads.old result reads.new }
 {
-    let found = look_up(look, place, name, touches)?;
+    let found = look_up(look, place, name, reads)?;
     or_refuse(Errno::ENOENT, found)
 }
 
@@ -88,14 +90,14 @@ fn next<L: Look>(
 fn walk_along<L: Look>(
     look: &L,
     names: &[Name],
-    touches: &mut Touches,
+    reads: &mut Reads,
 ) -> Result<(Num, Option<Kind>), Refusal>
     ensures { let k = L.state look.now in
-        Comes k (walk (start k) names.now) touches.old result touches.new }
+        Comes k (walk (start k) names.now) reads.old result reads.new }
 {
     let mut place = (look.root(), Some(Kind::Dir));
     for name in names {
-        place = next(look, &place, name, touches)?;
+        place = next(look, &place, name, reads)?;
     }
     Ok(place)
 }
@@ -105,16 +107,16 @@ fn walk_to_last_of<L: Look>(
     look: &L,
     of_root: Errno,
     names: &[Name],
-    touches: &mut Touches,
+    reads: &mut Reads,
 ) -> Result<Last, Refusal>
     ensures { let k = L.state look.now in
-        Comes k (last_of k.root of_root names.now) touches.old result touches.new }
+        Comes k (last_of k.root of_root names.now) reads.old result reads.new }
 {
     let [parents @ .., last] = names else {
         return Err(Refusal::Errno(of_root));
     };
-    let place = walk_along(look, parents, touches)?;
-    look_at_last(look, place, last, touches)
+    let place = walk_along(look, parents, reads)?;
+    look_at_last(look, place, last, reads)
 }
 
 // The last name, where the others lead here.
@@ -122,11 +124,11 @@ fn look_at_last<L: Look>(
     look: &L,
     place: (Num, Option<Kind>),
     name: &Name,
-    touches: &mut Touches,
+    reads: &mut Reads,
 ) -> Result<Last, Refusal>
-    ensures { Comes (L.state look.now) (look_last name.now place) touches.old result touches.new }
+    ensures { Comes (L.state look.now) (look_last name.now place) reads.old result reads.new }
 {
-    let found = look_up(look, &place, name, touches)?;
+    let found = look_up(look, &place, name, reads)?;
     Ok(Last {
         parent: place.0,
         name: name.try_clone()?,

@@ -113,7 +113,7 @@ static FILES: [Refused; 12] = [
 2 P1 rmdir /a -> ok
 3 P2 list / -> names 0
 ",
-        requests: 5,
+        requests: 2,
     },
     // And by a transaction.
     Refused {
@@ -175,7 +175,7 @@ static FILES: [Refused; 12] = [
 4 P1 rmdir /a -> ok
 5 P2 list / -> names 1 b
 ",
-        requests: 5,
+        requests: 2,
     },
     // A plain call makes a file and opens it.
     Refused {

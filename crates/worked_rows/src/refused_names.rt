@@ -93,7 +93,7 @@ static NAMES: [Refused; 8] = [
 3 P1 fstat 0 -> file size 0 links 0
 4 P2 list / -> names 0
 ",
-        requests: 5,
+        requests: 2,
     },
     // So does a transaction, and gives it up.
     Refused {
@@ -161,7 +161,7 @@ static NAMES: [Refused; 8] = [
 7 P2 list / -> names 1 d
 8 P2 list /d -> names 1 b
 ",
-        requests: 5,
+        requests: 2,
     },
     // So does a transaction.
     Refused {

@@ -1,6 +1,5 @@
 -- Families that come back from threads.
-use Rattle.std.proofs.Common.{◌≡◌, ℕ, ◌++◌, List, [], ◌∷◌, map, sym, ap, ◌∙◌, refl, append_assoc, append-nil, subst}
-use Rattle.std.specs.List.{AllByRecursion}
+use Rattle.std.proofs.Common.{◌≡◌, ℕ, ◌++◌, List, [], ◌∷◌, sym, ap, ◌∙◌, refl, append_assoc, append-nil, subst}
 use Rattle.std.specs.declared.thread.PromisedHandle.{PromisedHandle}
 use Rattle.ids.specs.declared.call.Op.{Op}
 use Rattle.ids.specs.declared.reply.Reply.{Reply}
@@ -79,15 +78,3 @@ all_joined {P} {H} {L} {A} number home done lines h all threads old ports none b
       grown = before.grown;
       each = subst Q (append-nil before.some) (before.rest [] (ap promised none));
     }
-
--- the process of one promise more
-pub promised_more : {L : Type 0} (promises : List (FamilyOf L)) (promise : FamilyOf L)
-    → map (λ (p : FamilyOf L). p.process) (promises ++ promise ∷ []) ≡ map (λ (p : FamilyOf L). p.process) promises ++ promise.process ∷ []
-promised_more [] promise = refl
-promised_more (first ∷ promises) promise = ap (λ (xs : List ℕ). first.process ∷ xs) (promised_more promises promise)
-
-pub over_more : {L : Type 0} (lines : L) (promises : List (FamilyOf L)) (promise : FamilyOf L)
-    → AllByRecursion (λ (p : FamilyOf L). p.lines.value ≡ lines) promises → promise.lines.value ≡ lines
-    → AllByRecursion (λ (p : FamilyOf L). p.lines.value ≡ lines) (promises ++ promise ∷ [])
-over_more lines [] promise over is = (is, tt)
-over_more lines (first ∷ promises) promise over is = (over.0, over_more lines promises promise over.1 is)

@@ -1,12 +1,11 @@
 -- Each process that was not there at the start was made by a fork, which has an entry.
-use Rattle.std.proofs.Common.{◌≡◌, ◌≢◌, ℕ, zero, suc, ◌+◌, ◌<◌, ◌≤◌, List, [], ◌∷◌, ◌++◌, length, Option, Some, None, Result, Ok, Err, refl, sym, ◌∙◌, ap, subst, true, false, Bool, inl, inr, eqb, arith}
+use Rattle.std.proofs.Common.{◌≡◌, ◌≢◌, ℕ, zero, suc, ◌+◌, ◌<◌, ◌≤◌, List, [], ◌∷◌, Option, Some, None, refl, sym, ◌∙◌, ap, true, false, inl, inr, arith}
 use Rattle.std.proofs.lemmas.Bool.{cases_Bool, cases_eq, cases_lt, false≢true}
 use Rattle.model.specs.State.{Kernel}
-use Rattle.model.specs.Plan.{Errno}
-use Rattle.model.specs.Calls.{Call, Exit, Fork, Answer, Child}
+use Rattle.model.specs.Calls.{Call, Exit, Fork, Child}
 use Rattle.model.specs.Steps.{reply}
-use Rattle.model.specs.Entries.{Op, Do, Reply, Answers, Entry, answer_in, is_inside}
-use Rattle.model.specs.Moments.{gone, idle, Moment, status, is_alive, at_start, after, after_from, next, seen_by}
+use Rattle.model.specs.Entries.{Do, Reply, Answers, Entry, answer_in, is_inside}
+use Rattle.model.specs.Moments.{idle, Moment, is_alive, at_start, after_from, next, seen_by}
 use Rattle.model.specs.Legal.{Right, LegalFrom, Legal}
 use Rattle.call_laws.specs.WellFormed.{WellFormed}
 use Rattle.call_laws.specs.CallLaws.{CallLaws}

@@ -1,4 +1,4 @@
-use Rattle.std.proofs.Common.{sym, ◌∙◌, ap, arith}
+use Rattle.std.proofs.Common.{◌∙◌, ap, arith}
 use Rattle.list_modes.specs.Holding.{held_of}
 use Rattle.marked_records.specs.Marks.{joined, marks_of}
 use Rattle.marked_records.proofs.Held.{own_more, others_more, between_first}

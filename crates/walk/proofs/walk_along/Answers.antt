@@ -10,7 +10,7 @@ use Rattle.walk.proofs.walk_along.Goals as goal
 pub loop-name-preserved : goal.loop-name-preserved
 loop-name-preserved g c =
     let k = g.L.Look.state c.args.look.now in
-    let t = c.loop-name.touches in
+    let t = c.loop-name.reads in
     let rest = drop (c.loop-name.name-index + 1) c.args.names.now in
     c.loop-name.invariant
     ∙ ap (λ xs. asked k (walk c.loop-name.place xs) t) (drop_more _ _ c.name-item.result c.loop-name-test.true ∙ ap (λ x. x ∷ rest) (sym c.name-item.is))
@@ -20,7 +20,7 @@ loop-name-preserved g c =
 pub returns-in_err-place : goal.returns-in_err-place
 returns-in_err-place g c =
     let k = g.L.Look.state c.args.look.now in
-    let t = c.loop-name.touches in
+    let t = c.loop-name.reads in
     let rest = drop (c.loop-name.name-index + 1) c.args.names.now in
     same (c.loop-name.invariant
     ∙ ap (λ xs. asked k (walk c.loop-name.place xs) t) (drop_more _ _ c.name-item.result c.loop-name-test.true ∙ ap (λ x. x ∷ rest) (sym c.name-item.is))
@@ -30,4 +30,4 @@ returns-in_err-place g c =
 pub returns : goal.returns
 returns g c =
     let k = g.L.Look.state c.args.look.now in
-    record { is = c.loop-name.invariant ∙ ap (λ xs. asked k (walk c.loop-name.place xs) c.loop-name.touches) (drop_all _ _ c.loop-name-test.false) }
+    record { is = c.loop-name.invariant ∙ ap (λ xs. asked k (walk c.loop-name.place xs) c.loop-name.reads) (drop_all _ _ c.loop-name-test.false) }

@@ -8,4 +8,4 @@ use Rattle.walk.proofs.walk_along.Given as goal
 abbrev pub invariant-loop-name : goal.invariant-loop-name
 invariant-loop-name g l =
     let k = g.L.Look.state l.look in
-    asked k (walk (start k) l.names) l.fn.touches ≡ asked k (walk l.place (drop l.name-index l.names)) l.touches
+    asked k (walk (start k) l.names) l.fn.reads ≡ asked k (walk l.place (drop l.name-index l.names)) l.reads

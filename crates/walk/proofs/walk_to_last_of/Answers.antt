@@ -8,11 +8,11 @@ use Rattle.walk.proofs.walk_to_last_of.Goals as goal
 pub returns-in_err-place : goal.returns-in_err-place
 returns-in_err-place g c =
     let k = g.L.Look.state c.args.look.now in
-    same (ap (λ m. asked k m c.args.touches.now) (last_of-last k c.args.of_root _ _ c.in-len1-up.len_at_least c.last-item.is))
+    same (ap (λ m. asked k m c.args.reads.now) (last_of-last k c.args.of_root _ _ c.in-len1-up.len_at_least c.last-item.is))
     (stops (look_last c.last-item.result) c.from_residual.ensures.1 c.in_err-place.ensures)
 
 pub returns : goal.returns
 returns g c =
     let k = g.L.Look.state c.args.look.now in
-    same (ap (λ m. asked k m c.args.touches.now) (last_of-last k c.args.of_root _ _ c.in-len1-up.len_at_least c.last-item.is))
+    same (ap (λ m. asked k m c.args.reads.now) (last_of-last k c.args.of_root _ _ c.in-len1-up.len_at_least c.last-item.is))
     (goes (look_last c.last-item.result) c.in_ok-place.ensures c.look_at_last.ensures)

@@ -1,9 +1,13 @@
-use Rattle.std.proofs.Common.{◌≡◌, length, vec_len, sym, arith}
-use Rattle.model.specs.State.{name_cmp}
-use Rattle.dirlist.proofs.Kept.{len-from_sorted}
+use Rattle.std.proofs.Common.{nat_eq, sym, ap, ◌∙◌}
+use Rattle.std.specs.Cmp.Lexicographic.{pointwise, texts_ties}
+use Rattle.model.specs.FiniteMap as finite
+use Rattle.dirlist.specs.Listing.{Listing}
+use Rattle.dirlist.proofs.Names.{name_exact, name_total}
+use Rattle.dirlist.proofs.Entries.{len_made}
 use Rattle.dirlist.proofs.Dir.len.Goals as goal
 
 pub returns : goal.returns
 returns c =
-    let n : length c.self.inside.slots.items ≡ vec_len c.self.inside.slots = sym c.self.inside.slots.ok.0 in
-    rw (← c.self.view_is, len-from_sorted name_cmp _ c.self.invariant.0) (omega arith)
+    c.len.ensures.len
+    ∙ sym (len_made name_total name_exact (pointwise nat_eq) texts_ties c.self.inside.numbers.entries c.len.ensures.unique)
+    ∙ ap (λ (d : Listing). finite.len d.names) c.self.view_is

@@ -1,10 +1,19 @@
-use Rattle.std.proofs.Common.{◌≡◌, map, take, sym, ap, ◌∙◌, ℕ, List}
-use Rattle.std.proofs.lemmas.List.{take_all}
-use Rattle.model.specs.State.{Name, name_cmp}
-use Rattle.dirlist.proofs.Kept.{keys-from_sorted}
+use Rattle.std.proofs.Common.{◌≡◌, ℕ, List, IsPermutation, map, ap, subst, ◌∙◌}
+use Rattle.std.proofs.lemmas.Map.Iter.{iter_end}
+use Rattle.std.specs.Map.{keys_of}
+use Rattle.std.specs.Map.Iter.{deref}
+use Rattle.model.specs.FiniteMap as finite
+use Rattle.model.specs.State.{Name}
+use Rattle.dirlist.specs.Listing.{Listing}
+use Rattle.dirlist.proofs.Laid.{table_sorted}
 use Rattle.dirlist.proofs.Dir.names.Goals as goal
 
 pub returns : goal.returns
 returns c =
-    let all : take c.loop-slot.slot-index c.deref-slot-items.result.now ≡ c.self.inside.slots.items = take_all _ _ c.loop-slot-test.false ∙ c.deref-slot-items.ensures.value in
-    rw (c.new.ensures, ← c.self.view_is) (c.loop-slot.invariant ∙ ap (λ (es : List (Name × ℕ)). map (λ e. e.0) es) all ∙ sym (keys-from_sorted name_cmp _ c.self.invariant.0))
+    let es : List (Name × ℕ) = c.self.inside.numbers.entries in
+    let shown : map deref c.loop-name.yielded ≡ keys_of es
+    = (iter_end deref (keys_of es) c.loop-name.yielded c.into_iter-name-iterator.result c.loop-name.name-iterator c.next.new.self c.next.result (c.into_iter-name-iterator.ensures.into_iter_gives ∙ c.keys-name-items.ensures.rest) c.loop-name.yielded_by c.in-None.is c.next.ensures.steps).0 in
+    let moved : IsPermutation (keys_of es) c.sort_unstable.new.self.items
+    = subst (λ (us : List Name). IsPermutation us c.sort_unstable.new.self.items) (c.loop-name.invariant ∙ shown) c.sort_unstable.ensures.permutation in
+    c.new.ensures ∙ table_sorted es c.keys-name-items.ensures.unique c.sort_unstable.new.self.items moved c.sort_unstable.ensures.sorted
+    ∙ ap (λ (d : Listing). finite.keys d.names) c.self.view_is

@@ -1,4 +1,3 @@
-use Rattle.std.proofs.Common.{sym, ◌∙◌}
 use Rattle.list_modes.proofs.Leaving.{counted_none}
 use Rattle.list_modes.proofs.Holders.new.Goals as goal
 

@@ -1,4 +1,4 @@
-use Rattle.std.proofs.Common.{sym, ◌∙◌, ap, Some, arith}
+use Rattle.std.proofs.Common.{Some, arith}
 use Rattle.list_modes.proofs.Tallies.{on_err, held_updated, room_from, below_pids, none_counted, recounted_from}
 use Rattle.list_modes.proofs.table.add_marks.Goals as goal
 

@@ -1,4 +1,4 @@
-use Rattle.std.proofs.Common.{sym, ◌∙◌, ap}
+use Rattle.std.proofs.Common.{◌∙◌, ap}
 use Rattle.list_modes.specs.Counted.{all_recounted}
 use Rattle.list_modes.proofs.Tallies.{recounted_there}
 use Rattle.list_modes.proofs.table.recount.Goals as goal

@@ -1,4 +1,4 @@
-use Rattle.std.proofs.Common.{sym, ◌∙◌, ap, None, refl, arith}
+use Rattle.std.proofs.Common.{sym, ◌∙◌, None, refl, arith}
 use Rattle.list_modes.specs.Holding.{nothing}
 use Rattle.list_modes.proofs.Tallies.{held_updated, room_from, some_from, below_pids, recounted_from, counted_same, uncounted_from}
 use Rattle.list_modes.proofs.table.take_marks.Goals as goal

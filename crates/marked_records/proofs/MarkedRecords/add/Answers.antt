@@ -1,4 +1,4 @@
-use Rattle.std.proofs.Common.{◌<◌, ℕ, List, length, sym, ◌∙◌, subst}
+use Rattle.std.proofs.Common.{◌<◌, List, length, sym, ◌∙◌, subst}
 use Rattle.model.specs.Steps.{Touch}
 use Rattle.marked_records.proofs.Held.{marks_before, taken_back}
 use Rattle.marked_records.proofs.MarkedRecords.add.Goals as goal

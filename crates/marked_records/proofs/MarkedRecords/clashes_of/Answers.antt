@@ -1,11 +1,10 @@
-use Rattle.std.proofs.Common.{◌≡◌, ◌+◌, List, ◌∷◌, [], get_or, sym, ◌∙◌, ap, subst}
+use Rattle.std.proofs.Common.{◌≡◌, ◌+◌, List, ◌∷◌, [], get_or, sym, ◌∙◌, subst}
 use Rattle.std.specs.Prelude.{slice_range}
 use Rattle.std.specs.Result.{IfOk}
 use Rattle.std.proofs.lemmas.Result.{IfOk-weaker}
 use Rattle.model.specs.Steps.{Touch}
 use Rattle.conflict.specs.declared.found.Clash.{Clash}
 use Rattle.conflict.specs.Clashing.{AreClashes}
-use Rattle.marked_records.specs.Marks.{is_unwritten, looks_at, mode_by_touches}
 use Rattle.marked_records.proofs.Dropping.{asked_alone, not_asked, one_touch}
 use Rattle.marked_records.proofs.MarkedRecords.clashes_of.Goals as goal
 

@@ -1,4 +1,4 @@
-use Rattle.std.proofs.Common.{◌≡◌, ◌≢◌, ℕ, take, drop, ◌++◌}
+use Rattle.std.proofs.Common.{◌≡◌, ◌≢◌, ℕ, drop, ◌++◌}
 use Rattle.list_modes.specs.Holding.{held_of, IsPartOf}
 use Rattle.marked_records.specs.Marks.{marks_at}
 use Rattle.marked_records.proofs.marking.unmark_behind.Given as goal

@@ -1,12 +1,11 @@
-use Rattle.std.proofs.Common.{rules, ◌≡◌, ◌<◌, ◌≤◌, [], All, List, length, map, sym, subst, ap, ◌∙◌}
+use Rattle.std.proofs.Common.{rules, ◌≡◌, [], All, List, map, sym, subst}
 use Rattle.std.proofs.lemmas.List.Elements.{All-from_recursion, recursion_from_All}
-use Rattle.ids.specs.declared.limits.TheConstants.{MAX_PROCESSES}
 use Rattle.kernel.specs.Shown.{Kept}
-use Rattle.ports.proofs.Firsts.{IsFresh, firsts_begun, fresh_gate, has_run}
+use Rattle.ports.proofs.Firsts.{firsts_begun, fresh_gate, has_run}
 use Rattle.ports.proofs.Found.{AreWorked, gates}
 use Rattle.script.specs.Contents.{AreValidPriorities}
 use Rattle.turnstile.specs.Calls.{KeepsPass, first_passes, living_numbers}
-use Rattle.turnstile.specs.Histories.{Begins, IsLegal}
+use Rattle.turnstile.specs.Histories.{Begins}
 use Rattle.turnstile.specs.Passes.{PassView}
 use Rattle.ports.proofs.run.run_threads.Goals as goal
 

@@ -1,25 +1,24 @@
-use Rattle.std.proofs.Common.{◌≡◌, sym, ap, Some}
-use Rattle.std.specs.Option.{is_some}
-use Rattle.std.specs.BTreeMap.{get}
-use Rattle.ids.specs.Order.{aspect_cmp}
-use Rattle.records.specs.Groups.{with_pid}
-use Rattle.records.proofs.Uses.{changed_at, same_at, joined_sides, same_sides, both_ok, both_err}
+use Rattle.records.proofs.Indexing.{not_false, not_true}
+use Rattle.records.proofs.Listing.{listed_entered, listed_again, listed_same, undone}
 use Rattle.records.proofs.index.enter.Goals as goal
 
-pub returns-in-Some-clause-ok : goal.returns-in-Some-clause-ok
-returns-in-Some-clause-ok c =
-    let was : get aspect_cmp c.args.index.now c.args.touch.now.aspect ≡ Some c.in-Some.users.now = sym c.in-Some.ensures.value in
-    both_ok c.join.result _ _ _
-    (λ w r. changed_at c.args.index.now (c.get_mut.follows.lender c.join.new.self) c.args.touch.now (with_pid c.args.pid) (Some c.in-Some.users.now) c.join.new.self was
-    (joined_sides c.in-Some.users.now c.join.new.self c.args.touch.now.write c.args.pid w r)
-    ((c.get_mut.follows.holds c.join.new.self).3 (ap is_some was)).0)
-    c.join.ensures.writers c.join.ensures.readers
+pub returns-then-not-branch-clause-listed : goal.returns-then-not-branch-clause-listed
+returns-then-not-branch-clause-listed c = λ listed. record {
+  each = listed_again c.args.index.now (record { users = c.enter_users.new.table; written = c.args.index.now.written }) c.args.touch.now c.args.pid (not_false _ _ c.in_ok-enter_users.ensures.new c.if-not-branch.true) c.in_ok-enter_users.ensures.ok (λ a there. there) listed.each;
+  ordered = listed.ordered;
+}
 
-pub returns-in-Some-clause-err : goal.returns-in-Some-clause-err
-returns-in-Some-clause-err c =
-    let was : get aspect_cmp c.args.index.now c.args.touch.now.aspect ≡ Some c.in-Some.users.now = sym c.in-Some.ensures.value in
-    both_err c.join.result _ _ _
-    (λ w r. same_at c.args.index.now (c.get_mut.follows.lender c.join.new.self) c.args.touch.now (Some c.in-Some.users.now) c.join.new.self was
-    (same_sides c.in-Some.users.now c.join.new.self w r)
-    ((c.get_mut.follows.holds c.join.new.self).3 (ap is_some was)).0)
-    c.join.ensures.same_writers c.join.ensures.same_readers
+pub returns-in-Ok-clause-listed : goal.returns-in-Ok-clause-listed
+returns-in-Ok-clause-listed c = λ listed. record {
+  each = listed_entered c.args.index.now (record { users = c.enter_users.new.table; written = c.list_entry.new.written }) c.args.touch.now c.args.pid listed.each c.in_ok-enter_users.ensures.ok c.list_entry.ensures.keeps c.in-Ok.ensures.ok;
+  ordered = c.list_entry.ensures.ordered listed.ordered;
+}
+
+pub returns-in-Err-clause-err : goal.returns-in-Err-clause-err
+returns-in-Err-clause-err c = undone c.args.index.now.users c.enter_users.new.table c.leave_users.new.table c.args.touch.now c.args.pid (not_true _ _ c.in_ok-enter_users.ensures.new c.if-not-branch.false) c.in_ok-enter_users.ensures.ok c.leave_users.ensures
+
+pub returns-in-Err-clause-listed : goal.returns-in-Err-clause-listed
+returns-in-Err-clause-listed c = λ listed. record {
+  each = listed_same c.args.index.now (record { users = c.leave_users.new.table; written = c.list_entry.new.written }) (returns-in-Err-clause-err c) c.list_entry.ensures.keeps listed.each;
+  ordered = c.list_entry.ensures.ordered listed.ordered;
+}

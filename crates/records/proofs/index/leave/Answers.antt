@@ -1,6 +1,8 @@
-use Rattle.std.proofs.Common.{◌∙◌}
-use Rattle.records.proofs.Uses.{forgotten_at}
+use Rattle.records.proofs.Listing.{listed_left}
 use Rattle.records.proofs.index.leave.Goals as goal
 
-pub returns-then-leave_users : goal.returns-then-leave_users
-returns-then-leave_users c = λ u. forgotten_at c.leave_users.new.index c.remove.new.self c.args.touch.now.aspect (c.leave_users.ensures.nobody c.if-leave_users.true) c.remove.ensures.updates.0 u ∙ c.leave_users.ensures.users u
+pub returns-clause-listed : goal.returns-clause-listed
+returns-clause-listed c = λ listed. record {
+  each = listed_left c.args.index.now (record { users = c.leave_users.new.table; written = c.unlist_entry.new.written }) c.args.touch.now c.args.pid c.leave_users.ensures c.unlist_entry.ensures.keeps listed.each;
+  ordered = c.unlist_entry.ensures.ordered listed.ordered;
+}

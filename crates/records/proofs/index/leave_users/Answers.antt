@@ -1,17 +1,6 @@
-use Rattle.std.proofs.Common.{◌≡◌, sym, ap, Some}
-use Rattle.std.specs.Option.{is_some}
-use Rattle.std.specs.BTreeMap.{get}
-use Rattle.ids.specs.Order.{aspect_cmp}
-use Rattle.records.specs.Groups.{without_pid}
-use Rattle.records.proofs.Uses.{changed_at, left_sides, absent_at}
+use Rattle.std.proofs.Common.{◌∙◌}
+use Rattle.records.proofs.Uses.{forgotten_at}
 use Rattle.records.proofs.index.leave_users.Goals as goal
 
-pub returns-in-Some-clause-users : goal.returns-in-Some-clause-users
-returns-in-Some-clause-users c =
-    let was : get aspect_cmp c.args.index.now c.args.touch.now.aspect ≡ Some c.in-Some.users.now = sym c.in-Some.ensures.value in
-    changed_at c.args.index.now (c.get_mut.follows.lender c.leave.new.self) c.args.touch.now (without_pid c.args.pid) (Some c.in-Some.users.now) c.leave.new.self was
-    (left_sides c.in-Some.users.now c.leave.new.self c.args.touch.now.write c.args.pid c.leave.ensures.writers c.leave.ensures.readers)
-    ((c.get_mut.follows.holds c.leave.new.self).3 (ap is_some was)).0
-
-pub returns-in-None-clause-users : goal.returns-in-None-clause-users
-returns-in-None-clause-users c = absent_at c.args.index.now c.get_mut.follows.lender-at-none c.args.touch.now c.args.pid (sym c.in-None.ensures.value) c.get_mut.follows.holds-at-none
+pub returns-then-leave_aspect : goal.returns-then-leave_aspect
+returns-then-leave_aspect c = λ u. forgotten_at c.leave_aspect.new.table c.remove.new.self c.args.touch.now.aspect (c.leave_aspect.ensures.nobody c.if-leave_aspect.true) c.remove.ensures.updates.0 u ∙ c.leave_aspect.ensures.users u

@@ -20,6 +20,6 @@ returns-in-Ok-clause-indexed c = rw c.in-Ok.ensures.ok (indexed_added c.args.jou
 
 pub returns-in-Err-clause-indexed : goal.returns-in-Err-clause-indexed
 returns-in-Err-clause-indexed c =
-    let leaves = rw c.in-Err.ensures.back at c.leave.ensures in
+    let leaves = rw c.in-Err.ensures.back at c.leave.ensures.users in
     indexed_back c.args.journals.now.items _ c.args.index.now c.enter.new.index c.leave.new.index c.args.touch c.args.pid c.requires.indexed c.in-Err.ensures.err c.requires.within
     (sym (c.requires.indexed.each (mark_of c.args.pid c.args.touch)) ∙ not_true _ _ c.in_ok-enter.ensures.new c.if-not-branch.false) c.in_ok-enter.ensures.ok leaves

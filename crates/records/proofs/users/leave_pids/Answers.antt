@@ -1,6 +1,6 @@
 use Rattle.std.proofs.Common.{rules}
-use Rattle.std.proofs.lemmas.Fn.{filter_same}
+use Rattle.records.proofs.Groups.{left_by_test}
 use Rattle.records.proofs.users.leave_pids.Goals as goal
 
 pub returns : goal.returns
-returns c = filter_same _ _ _ (λ x b f' k. search rules) _ _ c.retain.ensures.filtered
+returns c = left_by_test _ _ _ (λ x b f' y k. search rules) _ _ c.retain.ensures.filtered

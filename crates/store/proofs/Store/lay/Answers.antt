@@ -1,5 +1,4 @@
 use Rattle.std.proofs.Common.{◌≡◌, ◌<◌, ◌∷◌, length, Some, None, refl, sym, subst, ap, ◌∙◌, rules, arith}
-use Rattle.std.specs.Vec.Iter.{into_iter_items}
 use Rattle.store.specs.Laid.{laid, laid_listing}
 use Rattle.store.specs.Shown.{descriptions, inodes}
 use Rattle.store.proofs.Changes.{descriptions-changed, inodes-changed}
@@ -9,44 +8,51 @@ use Rattle.store.proofs.Store.lay.Goals as goal
 pub loop-name-init : goal.loop-name-init
 loop-name-init c =
     let v = c.args.self.now in
-    let gives : into_iter_items c.into_iter-name-iterator.result ≡ c.args.notes.items = search rules in
-    subst (λ rest. Lays v v c.args.dir c.args.notes.items rest c.args.promised c.args.promised) (sym gives)
-    (begins v c.args.dir c.args.notes.items c.args.promised c.requires.shown c.requires.room c.requires.added c.requires.numbers)
+    let gives : c.into_iter-name-iterator.result ≡ c.args.notes.entries = search rules in
+    subst (λ rest. Lays v v c.args.dir c.args.notes.entries rest c.args.promised c.args.promised) (sym gives)
+    (begins v c.args.dir c.args.notes.entries c.args.promised c.requires.shown c.requires.room c.requires.added c.requires.numbers)
 
 pub add_name-requires-clause-room : goal.add_name-requires-clause-room
 add_name-requires-clause-room c =
-    let is : into_iter_items c.loop-name.name-iterator ≡ (c.in-Some.name, Some c.in-Some-num.num) ∷ into_iter_items c.next.new.self = search rules in
-    room_left c.args.self.now c.loop-name.self c.args.dir c.args.notes.items c.in-Some.name c.in-Some-num.num (into_iter_items c.next.new.self) c.args.promised c.loop-name.left
-    (subst (λ rest. Lays c.args.self.now c.loop-name.self c.args.dir c.args.notes.items rest c.args.promised c.loop-name.left) is c.loop-name.invariant)
+    let is : c.loop-name.name-iterator ≡ (c.in-Some.name, Some c.in-Some-num.num) ∷ c.next.new.self = search rules in
+    room_left c.args.self.now c.loop-name.self c.args.dir c.args.notes.entries c.in-Some.name c.in-Some-num.num c.next.new.self c.args.promised c.loop-name.left
+    (subst (λ rest. Lays c.args.self.now c.loop-name.self c.args.dir c.args.notes.entries rest c.args.promised c.loop-name.left) is c.loop-name.invariant)
 
 pub add_name-requires-clause-dir : goal.add_name-requires-clause-dir
 add_name-requires-clause-dir c = shown-comes_not _ c.loop-name.invariant.shown
 
 pub add_name-requires-clause-num : goal.add_name-requires-clause-num
 add_name-requires-clause-num c =
-    let is : into_iter_items c.loop-name.name-iterator ≡ (c.in-Some.name, Some c.in-Some-num.num) ∷ into_iter_items c.next.new.self = search rules in
-    (subst (λ rest. Lays c.args.self.now c.loop-name.self c.args.dir c.args.notes.items rest c.args.promised c.loop-name.left) is c.loop-name.invariant).numbers.0
+    let is : c.loop-name.name-iterator ≡ (c.in-Some.name, Some c.in-Some-num.num) ∷ c.next.new.self = search rules in
+    (subst (λ rest. Lays c.args.self.now c.loop-name.self c.args.dir c.args.notes.entries rest c.args.promised c.loop-name.left) is c.loop-name.invariant).numbers.0
 
 pub overflow_sub-left : goal.overflow_sub-left
 overflow_sub-left c =
-    let is : into_iter_items c.loop-name.name-iterator ≡ (c.in-Some.name, Some c.in-Some-num.num) ∷ into_iter_items c.next.new.self = search rules in
+    let is : c.loop-name.name-iterator ≡ (c.in-Some.name, Some c.in-Some-num.num) ∷ c.next.new.self = search rules in
     let some : 0 < c.loop-name.left
-    = some_left c.args.self.now c.loop-name.self c.loop-name.self c.args.dir c.args.notes.items (into_iter_items c.next.new.self) c.in-Some.name c.args.promised c.loop-name.left c.in-Some-num.num
-    (subst (λ rest. Lays c.args.self.now c.loop-name.self c.args.dir c.args.notes.items rest c.args.promised c.loop-name.left) is c.loop-name.invariant) in
+    = some_left c.args.self.now c.loop-name.self c.loop-name.self c.args.dir c.args.notes.entries c.next.new.self c.in-Some.name c.args.promised c.loop-name.left c.in-Some-num.num
+    (subst (λ rest. Lays c.args.self.now c.loop-name.self c.args.dir c.args.notes.entries rest c.args.promised c.loop-name.left) is c.loop-name.invariant) in
     omega arith
 
 pub loop-name-preserved-in-Some-num : goal.loop-name-preserved-in-Some-num
 loop-name-preserved-in-Some-num c =
-    let is : into_iter_items c.loop-name.name-iterator ≡ (c.in-Some.name, Some c.in-Some-num.num) ∷ into_iter_items c.next.new.self = search rules in
-    goes_on c.args.self.now c.loop-name.self c.add_name.new.self c.args.dir c.args.notes.items (into_iter_items c.next.new.self) c.in-Some.name c.args.promised c.loop-name.left c.in-Some-num.num
-    (subst (λ rest. Lays c.args.self.now c.loop-name.self c.args.dir c.args.notes.items rest c.args.promised c.loop-name.left) is c.loop-name.invariant)
+    let is : c.loop-name.name-iterator ≡ (c.in-Some.name, Some c.in-Some-num.num) ∷ c.next.new.self = search rules in
+    goes_on c.args.self.now c.loop-name.self c.add_name.new.self c.args.dir c.args.notes.entries c.next.new.self c.in-Some.name c.args.promised c.loop-name.left c.in-Some-num.num
+    (subst (λ rest. Lays c.args.self.now c.loop-name.self c.args.dir c.args.notes.entries rest c.args.promised c.loop-name.left) is c.loop-name.invariant)
     c.add_name.ensures.added
+
+pub loop-name-preserved-in-None-num : goal.loop-name-preserved-in-None-num
+loop-name-preserved-in-None-num c =
+    let is : c.loop-name.name-iterator ≡ (c.in-Some.name, None) ∷ c.next.new.self = search rules in
+    goes_on-gone c.args.self.now c.loop-name.self c.remove_name-former.new.self c.args.dir c.args.notes.entries c.next.new.self c.in-Some.name c.args.promised c.loop-name.left
+    (subst (λ rest. Lays c.args.self.now c.loop-name.self c.args.dir c.args.notes.entries rest c.args.promised c.loop-name.left) is c.loop-name.invariant)
+    c.remove_name-former.ensures.removed
 
 pub loop-name-preserved : goal.loop-name-preserved
 loop-name-preserved c =
-    let is : into_iter_items c.loop-name.name-iterator ≡ (c.in-Some.name, None) ∷ into_iter_items c.next.new.self = search rules in
-    goes_on-gone c.args.self.now c.loop-name.self c.remove_name-former.new.self c.args.dir c.args.notes.items (into_iter_items c.next.new.self) c.in-Some.name c.args.promised c.loop-name.left
-    (subst (λ rest. Lays c.args.self.now c.loop-name.self c.args.dir c.args.notes.items rest c.args.promised c.loop-name.left) is c.loop-name.invariant)
+    let is : c.loop-name.name-iterator ≡ (c.in-Some.name, None) ∷ c.next.new.self = search rules in
+    goes_on-gone c.args.self.now c.loop-name.self c.remove_name-former.new.self c.args.dir c.args.notes.entries c.next.new.self c.in-Some.name c.args.promised c.loop-name.left
+    (subst (λ rest. Lays c.args.self.now c.loop-name.self c.args.dir c.args.notes.entries rest c.args.promised c.loop-name.left) is c.loop-name.invariant)
     c.remove_name-former.ensures.removed
 
 pub release_all-requires : goal.release_all-requires
@@ -54,11 +60,11 @@ release_all-requires c = c.loop-name.invariant.shown
 
 pub returns-clause-laid : goal.returns-clause-laid
 returns-clause-laid c =
-    let zero : length (into_iter_items c.loop-name.name-iterator) ≡ 0 = search rules in
-    c.release_all.ensures ∙ ended c.args.self.now c.loop-name.self c.args.dir c.args.notes.items _ c.args.promised c.loop-name.left zero c.loop-name.invariant
+    let zero : length c.loop-name.name-iterator ≡ 0 = search rules in
+    c.release_all.ensures ∙ ended c.args.self.now c.loop-name.self c.args.dir c.args.notes.entries _ c.args.promised c.loop-name.left zero c.loop-name.invariant
 
 pub returns-clause-shown : goal.returns-clause-shown
-returns-clause-shown c = ap inodes (returns-clause-laid c) ∙ inodes-changed (laid_listing c.args.notes.items c.args.promised) (laid c.args.notes.items) (λ _. refl) c.args.self.now c.args.dir
+returns-clause-shown c = ap inodes (returns-clause-laid c) ∙ inodes-changed (laid_listing c.args.notes.entries c.args.promised) (laid c.args.notes.entries) (λ _. refl) c.args.self.now c.args.dir
 
 pub returns-clause-open : goal.returns-clause-open
-returns-clause-open c = ap descriptions (returns-clause-laid c) ∙ descriptions-changed (laid_listing c.args.notes.items c.args.promised) c.args.self.now c.args.dir
+returns-clause-open c = ap descriptions (returns-clause-laid c) ∙ descriptions-changed (laid_listing c.args.notes.entries c.args.promised) c.args.self.now c.args.dir

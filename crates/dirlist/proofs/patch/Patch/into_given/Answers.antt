@@ -1,8 +1,8 @@
 use Rattle.std.proofs.Common.{sym, ap, ◌∙◌}
-use Rattle.model.specs.FiniteMap as map
-use Rattle.model.specs.State.{name_cmp}
-use Rattle.dirlist.proofs.Kept.{entries-kept}
+use Rattle.model.specs.FiniteMap as finite
+use Rattle.dirlist.proofs.Names.{name_total}
+use Rattle.dirlist.proofs.Entries.{entries_made}
 use Rattle.dirlist.proofs.patch.Patch.into_given.Goals as goal
 
 pub returns : goal.returns
-returns c = sym (entries-kept name_cmp _ c.self.invariant) ∙ ap map.entries c.self.view_is
+returns c = sym (entries_made name_total c.self.inside.given.entries c.self.invariant) ∙ ap finite.entries c.self.view_is

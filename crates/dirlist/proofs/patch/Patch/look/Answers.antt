@@ -1,16 +1,13 @@
-use Rattle.std.proofs.Common.{ℕ, List, Option, sym, subst}
-use Rattle.model.specs.State.{Name, name_cmp}
-use Rattle.dirlist.specs.Places.{IsPlaceOf, IsPlaceFor}
-use Rattle.dirlist.proofs.Names.{name_total}
-use Rattle.dirlist.proofs.Kept.{get-place, get-no_place}
+use Rattle.std.proofs.Common.{refl, sym, ap, ◌∙◌}
+use Rattle.model.specs.FiniteMap as finite
+use Rattle.dirlist.specs.Patches.{Notes}
+use Rattle.dirlist.proofs.Names.{name_exact, name_total}
+use Rattle.dirlist.proofs.Entries.{get_at}
+use Rattle.dirlist.proofs.Laid.{same}
 use Rattle.dirlist.proofs.patch.Patch.look.Goals as goal
 
-pub returns-in-Ok : goal.returns-in-Ok
-returns-in-Ok c =
-    let here : IsPlaceOf name_cmp c.args.name.now c.self.inside.given.items c.in-Ok.at = subst (λ (es : List (Name × Option ℕ)). IsPlaceOf name_cmp c.args.name.now es c.in-Ok.at) c.as_slice.ensures.value c.in-Ok.ensures in
-    rw (← c.self.view_is) (sym (get-place name_total _ _ _ c.index.result.now c.self.invariant here (sym c.index.ensures)))
-
-pub returns-in-Err : goal.returns-in-Err
-returns-in-Err c =
-    let here : IsPlaceFor name_cmp c.args.name.now c.self.inside.given.items c.in-Err._at = subst (λ (es : List (Name × Option ℕ)). IsPlaceFor name_cmp c.args.name.now es c.in-Err._at) c.as_slice.ensures.value c.in-Err.ensures in
-    rw (← c.self.view_is) (sym (get-no_place name_total _ _ _ c.self.invariant here))
+pub returns : goal.returns
+returns c =
+    c.copied.ensures ∙ c.get.ensures.value
+    ∙ sym (get_at name_total name_exact same (λ x y. refl) c.self.inside.given.entries c.args.name.now)
+    ∙ ap (λ (m : Notes). finite.get m c.args.name.now) c.self.view_is

@@ -1,9 +1,6 @@
 use Rattle.std.proofs.Common.{rules, ◌≡◌}
-use Rattle.ids.specs.declared.reply.Reply.{Reply}
 use Rattle.ports.proofs.Called.{called_done}
-use Rattle.ports.specs.Ports.{done_by}
 use Rattle.turnstile.specs.Calls.{Called}
-use Rattle.workers.specs.Port.{grown}
 use Rattle.ports.proofs.port.TurnstilePortPort.call.Goals as goal
 
 pub returns-clause-done : goal.returns-clause-done

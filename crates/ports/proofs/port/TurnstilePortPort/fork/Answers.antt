@@ -1,10 +1,7 @@
-use Rattle.std.proofs.Common.{rules, ◌≡◌, sym, subst}
-use Rattle.std.specs.Prelude.{IfErr, IfOk}
-use Rattle.ids.specs.declared.reply.Reply.{Reply}
+use Rattle.std.proofs.Common.{rules, ◌≡◌}
 use Rattle.ports.proofs.Called.{called_done}
-use Rattle.ports.specs.Ports.{done_by}
 use Rattle.turnstile.specs.Calls.{Called, Forked}
-use Rattle.workers.specs.Port.{child_reply, fork, grown}
+use Rattle.workers.specs.Port.{child_reply, fork}
 use Rattle.ports.proofs.port.TurnstilePortPort.fork.Goals as goal
 use Rattle.ports.proofs.port.TurnstilePortPort.fork.Goals.{in-Ok, in-Err}
 

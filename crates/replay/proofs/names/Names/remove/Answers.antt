@@ -10,13 +10,13 @@ pub invariant_of-self : goal.invariant_of-self
 invariant_of-self c =
     let xs = c.self.inside.slots.items in
     let here : IsPlaceOf name_cmp c.args.name.now xs c.in-Ok.at = subst (λ (es : List (Name × ℕ)). IsPlaceOf name_cmp c.args.name.now es c.in-Ok.at) c.as_slice.ensures.value c.in-Ok.ensures in
-    rw c.remove-name.ensures.items (is_sorted-remove name_total c.args.name.now xs _ c.self.invariant here)
+    rw c.remove.ensures.items (is_sorted-remove name_total c.args.name.now xs _ c.self.invariant here)
 
 pub returns-in-Ok : goal.returns-in-Ok
 returns-in-Ok c =
     let xs = c.self.inside.slots.items in
     let here : IsPlaceOf name_cmp c.args.name.now xs c.in-Ok.at = subst (λ (es : List (Name × ℕ)). IsPlaceOf name_cmp c.args.name.now es c.in-Ok.at) c.as_slice.ensures.value c.in-Ok.ensures in
-    rw c.remove-name.ensures.items (from_sorted-remove name_total c.args.name.now xs _ c.self.invariant here ∙ ap (λ d. map.remove d c.args.name.now) c.self.view_is)
+    rw c.remove.ensures.items (from_sorted-remove name_total c.args.name.now xs _ c.self.invariant here ∙ ap (λ d. map.remove d c.args.name.now) c.self.view_is)
 
 pub returns-in-Err : goal.returns-in-Err
 returns-in-Err c =

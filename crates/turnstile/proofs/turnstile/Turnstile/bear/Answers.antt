@@ -13,12 +13,12 @@ use Rattle.turnstile.proofs.turnstile.Turnstile.bear.Goals as goal
 abbrev M : Type 0
 M = Me (Option Kernel) Role
 
-pub store-requires : goal.store-requires
-store-requires c = let k = c.requires.kernel in
+pub swap-requires : goal.swap-requires
+swap-requires c = let k = c.requires.kernel in
     let is : c.exchange.new.seat.me ≡ (Takes (taker_of c.args.seat.now.me.0), (0, Some c.args.kernel) ∷ []) = c.exchange.ensures.3 ∙ ap (λ (m : M). (m.0, (0, Some c.args.kernel) ∷ rest m.1)) c.requires.seat.1 in
     (search rules, search rules, gives_born_at history IsLegal _ _ _ _ (taker_of c.args.seat.now.me.0) c.args.kernel is c.self.invariant.1 k.0 k.1 k.2)
 
 pub split_seat-requires : goal.split_seat-requires
 split_seat-requires c =
     let is : c.exchange.new.seat.me ≡ (Takes (taker_of c.args.seat.now.me.0), (0, Some c.args.kernel) ∷ []) = c.exchange.ensures.3 ∙ ap (λ (m : M). (m.0, (0, Some c.args.kernel) ∷ rest m.1)) c.requires.seat.1 in
-    (search rules, search rules, bears_at history IsLegal _ _ _ (having_seen (taker_of c.args.seat.now.me.0) c.args.kernel.log) (ap (λ (m : M). m.0) c.store.ensures.2 ∙ ap (λ (m : M). given_born history m.0 m.1) is))
+    (search rules, search rules, bears_at history IsLegal _ _ _ (having_seen (taker_of c.args.seat.now.me.0) c.args.kernel.log) (ap (λ (m : M). m.0) c.swap.ensures.2 ∙ ap (λ (m : M). given_born history m.0 m.1) is))

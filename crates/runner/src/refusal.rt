@@ -1,0 +1,8 @@
+// Why a step was refused.
+#[derive(Clone, Copy)]
+pub(crate) enum Refusal {
+    // The history has no room left for an entry.
+    HistoryFull,
+    // Memory was refused.
+    NoMemory,
+}

@@ -1,0 +1,79 @@
+// What a plan reads.
+ghost use Rattle.std.specs.Prelude.{◌≡◌, ◌∷◌, [], Some, None, OnOk, if◌then◌else◌, unwrap_or};
+ghost use Rattle.look.specs.Asked.{noting};
+ghost use Rattle.model.specs.Aspects.{Entry};
+
+use crate::touches::Touches;
+use heap::Heap;
+use ids::{Aspect, Name, Num, Touch};
+use std::alloc::AllocError;
+use std::marker::Model;
+
+/// What is read, in the order in which it is asked for, or nothing at all where reads do not count,
+/// as in a call outside any transaction.
+#[derive(Drop)]
+pub struct Reads {
+    count: bool,
+    touches: Vec<Touch, Heap>,
+}
+
+impl Model for Reads {
+    ghost use Rattle.std.specs.Prelude.{List, Option, Some, None, if◌then◌else◌};
+    ghost use Rattle.ids.specs.declared.aspect.Touch.{Touch};
+
+    ghost Value = { Option (List Touch) };
+
+    ghost view = { λ r. if r.count then Some r.touches.items else None };
+}
+
+impl Reads {
+    /// Nothing yet. It takes no memory.
+    pub fn new(heap: Heap, count: bool) -> Reads
+        ensures { result ≡ (if count then Some [] else None) }
+    {
+        Reads {
+            count,
+            touches: Vec::new(heap),
+        }
+    }
+
+    /// The allocator.
+    pub fn heap(&self) -> Heap {
+        *self.touches.allocator()
+    }
+
+    /// One more. Where reads do not count it takes no memory.
+    pub fn add(&mut self, aspect: Aspect) -> Result<(), AllocError>
+        ensures { OnOk result (self.new ≡ noting self.old (aspect ∷ [])) }
+    {
+        if self.count {
+            let write = false;
+            self.touches.push(Touch { aspect, write })?;
+        }
+        Ok(())
+    }
+
+    /// What a name of a directory gives. The name is copied only where reads count.
+    pub fn add_entry(&mut self, dir: Num, name: &Name) -> Result<(), AllocError>
+        ensures { OnOk result (self.new ≡ noting self.old (Entry dir name.now ∷ [])) }
+    {
+        if self.count {
+            self.add(Aspect::Entry(dir, name.try_clone()?))?;
+        }
+        Ok(())
+    }
+
+    /// The touches, none where reads do not count.
+    pub fn into_touches(self) -> Touches
+        ensures { result ≡ unwrap_or self [] }
+    {
+        let Reads { count, touches } = self;
+        if count {
+            Touches { touches }
+        } else {
+            Touches {
+                touches: Vec::new(*touches.allocator()),
+            }
+        }
+    }
+}

@@ -1,0 +1,292 @@
+/*
+ * The machine's own kernel as a peer: the rows of crates/bench by system calls, in a folder that lies on tmpfs.
+ *
+ * usage: tmpfs FOLDER PART, with PART one of small, large, largest and lines
+ *
+ * Each line has, with tabs between: "tmpfs", the row's name, a number of calls, their nanoseconds by CLOCK_MONOTONIC,
+ * and 0. The folder is empty before and after.
+ */
+#define _GNU_SOURCE
+#include <dirent.h>
+#include <fcntl.h>
+#include <stdint.h>
+#include <stdio.h>
+#include <stdlib.h>
+#include <string.h>
+#include <sys/stat.h>
+#include <sys/wait.h>
+#include <time.h>
+#include <unistd.h>
+
+#define DEEP "p/p/p/p/p/p/p/p"
+
+static char content[64];
+static int pipe_ends[2];
+
+static void fail(const char *what)
+{
+    perror(what);
+    exit(1);
+}
+
+static void must(int result, const char *what)
+{
+    if (result < 0)
+        fail(what);
+}
+
+static int64_t nanos(void)
+{
+    struct timespec now;
+    clock_gettime(CLOCK_MONOTONIC, &now);
+    return now.tv_sec * INT64_C(1000000000) + now.tv_nsec;
+}
+
+/* The number of the i-th new name, and the i-th of so many in another order: as in crates/bench/src/paths.rt. */
+static uint64_t scattered(uint64_t i)
+{
+    return i * 648055 % 1048576;
+}
+
+static uint64_t shuffled(uint64_t i, uint64_t count)
+{
+    return (i * 7919 + 13) % count;
+}
+
+/* "d/", a letter, and the number in seven digits. */
+static void set_path(char path[16], char letter, uint64_t number)
+{
+    memcpy(path, "d/", 2);
+    path[2] = letter;
+    for (int place = 9; place >= 3; place--) {
+        path[place] = '0' + number % 10;
+        number /= 10;
+    }
+    path[10] = 0;
+}
+
+typedef void work(uint64_t number);
+
+static void do_mkdir(uint64_t number)
+{
+    char path[16];
+    set_path(path, 'n', number);
+    must(mkdir(path, 0755), "mkdir");
+}
+
+static void do_stat(uint64_t number)
+{
+    char path[16];
+    struct stat found;
+    set_path(path, 'n', number);
+    must(stat(path, &found), "stat");
+}
+
+static void do_stat_deep(uint64_t number)
+{
+    struct stat found;
+    (void)number;
+    must(stat(DEEP, &found), "stat");
+}
+
+static void do_rmdir(uint64_t number)
+{
+    char path[16];
+    set_path(path, 'n', number);
+    must(rmdir(path), "rmdir");
+}
+
+static void do_refused(uint64_t number)
+{
+    (void)number;
+    if (rmdir("d") == 0)
+        exit(1);
+}
+
+static void do_list(uint64_t number)
+{
+    DIR *directory = opendir("d");
+    (void)number;
+    if (!directory)
+        fail("opendir");
+    while (readdir(directory))
+        continue;
+    closedir(directory);
+}
+
+static void do_create(uint64_t number)
+{
+    char path[16];
+    int file;
+    set_path(path, 'f', number);
+    file = open(path, O_WRONLY | O_CREAT, 0644);
+    must(file, "open");
+    must(write(file, content, sizeof content), "write");
+    close(file);
+}
+
+static void do_read(uint64_t number)
+{
+    char path[16], bytes[64];
+    int file;
+    set_path(path, 'f', number);
+    file = open(path, O_RDONLY);
+    must(file, "open");
+    must(read(file, bytes, sizeof bytes), "read");
+    close(file);
+}
+
+static void do_rename(uint64_t number)
+{
+    char old[16], new[16];
+    set_path(old, 'f', number);
+    set_path(new, 'g', number);
+    must(rename(old, new), "rename");
+}
+
+static void do_unlink(uint64_t number)
+{
+    char path[16];
+    set_path(path, 'g', number);
+    must(unlink(path), "unlink");
+}
+
+static void do_pipe(uint64_t number)
+{
+    char bytes[64];
+    (void)number;
+    must(write(pipe_ends[1], content, sizeof content), "write");
+    must(read(pipe_ends[0], bytes, sizeof bytes), "read");
+}
+
+static void do_fork(uint64_t number)
+{
+    pid_t child = fork();
+    (void)number;
+    must(child, "fork");
+    if (child == 0)
+        _exit(0);
+    must(waitpid(child, NULL, 0), "waitpid");
+}
+
+static void print_row(const char *row, uint64_t count, int64_t start)
+{
+    printf("tmpfs\t%s\t%lu\t%ld\t0\n", row, (unsigned long)count, (long)(nanos() - start));
+    fflush(stdout);
+}
+
+/* New names come in no order. */
+static void new_names(const char *row, uint64_t count, work *each)
+{
+    int64_t start = nanos();
+    for (uint64_t i = 0; i < count; i++)
+        each(scattered(i));
+    print_row(row, count, start);
+}
+
+/* Old names are met in another order. */
+static void old_names(const char *row, uint64_t count, work *each)
+{
+    int64_t start = nanos();
+    for (uint64_t i = 0; i < count; i++)
+        each(scattered(shuffled(i, count)));
+    print_row(row, count, start);
+}
+
+static void small(void)
+{
+    for (int repetition = 0; repetition < 8; repetition++) {
+        new_names("mkdir of 1000 names", 1000, do_mkdir);
+        old_names("stat of one name of 1000", 1000, do_stat);
+        old_names("stat along 8 names", 1000, do_stat_deep);
+        old_names("list of 1000 names", 10, do_list);
+        old_names("rmdir of 1000 names", 1000, do_rmdir);
+        new_names("create, write 64 bytes, close", 1000, do_create);
+        old_names("open, read 64 bytes, close", 1000, do_read);
+        old_names("rename", 1000, do_rename);
+        old_names("unlink", 1000, do_unlink);
+        old_names("pipe, write and read 64 bytes", 1000, do_pipe);
+        old_names("fork and exit", 100, do_fork);
+    }
+}
+
+static void large(void)
+{
+    new_names("mkdir of 100000 names", 100000, do_mkdir);
+    old_names("rmdir refused, 100000 names", 10, do_refused);
+    old_names("rmdir of 100000 names", 100000, do_rmdir);
+}
+
+static void largest(void)
+{
+    int64_t start = nanos();
+    for (uint64_t i = 0; i < 500000; i++)
+        do_mkdir(scattered(i));
+    print_row("mkdir of 500000 names", 500000, start);
+    for (uint64_t i = 500000; i < 1000000; i++)
+        do_mkdir(scattered(i));
+    print_row("mkdir of 1000000 names", 1000000, start);
+    for (uint64_t i = 0; i < 1000000; i++)
+        do_rmdir(scattered(i));
+}
+
+/* The lines of the long transcript of crates/bench/src/edges.rt, by fprintf. */
+static void lines(void)
+{
+    for (int repetition = 0; repetition < 3; repetition++) {
+        int64_t start = nanos();
+        FILE *file = fopen("lines", "w");
+        if (!file)
+            fail("fopen");
+        for (long line = 1; line <= 1000000; line++)
+            fprintf(file, "%ld P%d stat / -> dir size %d links %d\n", line, 1, 0, 1);
+        fclose(file);
+        print_row("print a million lines", 1000000, start);
+        unlink("lines");
+    }
+}
+
+/* Makes the folder's directories and the pipe. */
+static void prepare(void)
+{
+    char path[] = DEEP;
+    must(mkdir("d", 0755), "mkdir");
+    for (size_t length = 1; length <= strlen(DEEP); length += 2) {
+        memcpy(path, DEEP, sizeof path);
+        path[length] = 0;
+        must(mkdir(path, 0755), "mkdir");
+    }
+    must(pipe(pipe_ends), "pipe");
+    memset(content, 'x', sizeof content);
+}
+
+/* Removes the folder's directories. */
+static void clear(void)
+{
+    char path[] = DEEP;
+    for (int length = (int)strlen(DEEP); length >= 1; length -= 2) {
+        path[length] = 0;
+        must(rmdir(path), "rmdir");
+    }
+    must(rmdir("d"), "rmdir");
+}
+
+int main(int count, char **words)
+{
+    if (count != 3) {
+        fprintf(stderr, "usage: tmpfs FOLDER PART\n");
+        return 2;
+    }
+    must(chdir(words[1]), "chdir");
+    prepare();
+    if (!strcmp(words[2], "small"))
+        small();
+    else if (!strcmp(words[2], "large"))
+        large();
+    else if (!strcmp(words[2], "largest"))
+        largest();
+    else if (!strcmp(words[2], "lines"))
+        lines();
+    clear();
+    return 0;
+}
