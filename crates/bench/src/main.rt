@@ -1,4 +1,4 @@
-//! `bench`: prints what calls of the kernel cost. The script of the same name at the top puts its
+//! `bench`: prints what calls of the kernel cost. The script `bench/calls` puts its
 //! lines beside those of the peers, in one table.
 //!
 //! usage: bench PART | bench edges FILE
