@@ -2,3 +2,4 @@ pub mod Lines
 pub mod Names
 pub mod Plain
 pub mod Printing
+mod Table

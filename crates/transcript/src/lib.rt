@@ -9,6 +9,7 @@ mod operation;
 mod pending;
 mod printer;
 mod reply;
+mod spelling;
 mod text;
 
 pub use line::{print, print_line};

@@ -1,6 +1,10 @@
 // Bytes that are printed and not yet written.
 ghost use Rattle.std.specs.Prelude.{◌≡◌, ◌+◌, ◌≤◌, ◌++◌, [], length, nat_le};
+ghost use Rattle.transcript.specs.Text.{byte_text};
+ghost use Rattle.transcript.specs.declared.spelling.TheConstants.{WIDTH};
 
+use crate::spelling::{SPELLINGS, WIDTH};
+use crate::text::is_plain;
 use std::marker::Model;
 
 // How many bytes are gathered before they are written.
@@ -48,6 +52,23 @@ impl Pending {
         let end = self.len + text.len();
         self.bytes[self.len..end].copy_from_slice(text);
         self.len = end;
+    }
+
+    // Whether there is room for one more byte, however it is spelled.
+    pub(crate) fn has_room(&self) -> bool
+        ensures { result ≡ nat_le (length self.now + WIDTH) CAPACITY }
+    {
+        self.len <= CAPACITY - WIDTH
+    }
+
+    // Appends a byte in its spelling. All of its entry is copied, which takes no branch.
+    pub(crate) fn spell(&mut self, byte: u8)
+        requires { length self.old + WIDTH ≤ CAPACITY }
+        ensures { self.new ≡ self.old ++ byte_text byte }
+    {
+        let len = self.len + if is_plain(byte) { 1 } else { WIDTH };
+        self.append(&SPELLINGS[usize::from(byte)]);
+        self.len = len;
     }
 
     pub(crate) fn clear(&mut self)

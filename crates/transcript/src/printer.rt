@@ -16,6 +16,7 @@ pub(crate) struct Printer<'a, S: Sink> {
 }
 
 impl<'a, S: Sink> Printer<'a, S> {
+    ghost use Rattle.transcript.specs.Text.{byte_text};
     ghost use Rattle.transcript.specs.Printer.{CanPrint, Prints};
 
     pub(crate) fn new(sink: &'a mut S) -> Self
@@ -94,6 +95,27 @@ impl<'a, S: Sink> Printer<'a, S> {
             self.pending.append(text);
         } else {
             self.put_over(text);
+        }
+    }
+
+    // Prints a byte in its spelling, where there is no room for it: what is pending is written first.
+    fn put_byte_over(&mut self, byte: u8)
+        requires { CanPrint S.failures self.old }
+        ensures { Prints S.written S.failures self.old self.new (byte_text byte) }
+    {
+        self.flush();
+        self.pending.spell(byte);
+    }
+
+    // Prints a byte in its spelling.
+    pub(crate) fn put_byte(&mut self, byte: u8)
+        requires { CanPrint S.failures self.old }
+        ensures { Prints S.written S.failures self.old self.new (byte_text byte) }
+    {
+        if self.pending.has_room() {
+            self.pending.spell(byte);
+        } else {
+            self.put_byte_over(byte);
         }
     }
 
