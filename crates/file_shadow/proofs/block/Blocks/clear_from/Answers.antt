@@ -9,7 +9,7 @@ use Rattle.file_shadow.proofs.block.Blocks.clear_from.Goals as goal
 pub returns : goal.returns
 returns c =
     let places : List ℕ = c.self.inside.places.items in
-    let old : List (Option ℕ) = c.self.inside.bytes.items in
+    let old : List (Option ℕ) = c.self.inside.cells.items in
     let new : List (Option ℕ) = c.wipe.new.out in
     let index : ℕ = c.args.index in
     let low : index < length places = omega (arith, c.requires, ap (λ v. length v.blocks) c.self.view_is, length-map places (block_at old)) in
@@ -24,7 +24,7 @@ returns c =
       block = block_at new (get_or places index 0);
       here = subst (λ (b : List (Option ℕ)). Kept c.args.place b (block_at new (get_or places index 0))) (sym (block_is old places index low) ∙ ap (λ v. get_or v.blocks index []) c.self.view_is)
           (kept_in old new (get_or places index 0) c.args.place (omega arith) wiped);
-      blocks = ap (λ (b : List (Option ℕ)). blocks_at b places) (written c.self.inside.bytes.len new old (c.self.inside.bytes.ok.0 ∙ sym wiped.len))
+      blocks = ap (λ (b : List (Option ℕ)). blocks_at b places) (written c.self.inside.cells.len new old (c.self.inside.cells.ok.0 ∙ sym wiped.len))
           ∙ one_changes places old new c.self.invariant index low wiped.len (λ p out. wiped.outside p (elim out [ inl a ↦ inl (omega arith) | inr b ↦ inr (omega arith) ]))
           ∙ ap (λ v. set v.blocks index (block_at new (get_or places index 0))) c.self.view_is;
       room = ap (λ v. v.room) c.self.view_is;

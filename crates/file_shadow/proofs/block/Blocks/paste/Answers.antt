@@ -9,7 +9,7 @@ use Rattle.file_shadow.proofs.block.Blocks.paste.Goals as goal
 pub returns : goal.returns
 returns c =
     let places : List ℕ = c.self.inside.places.items in
-    let old : List (Option ℕ) = c.self.inside.bytes.items in
+    let old : List (Option ℕ) = c.self.inside.cells.items in
     let new : List (Option ℕ) = c.write_over.new.out in
     let index : ℕ = c.args.index in
     let low : index < length places = omega (arith, c.requires.within, ap (λ v. length v.blocks) c.self.view_is, length-map places (block_at old)) in
@@ -24,7 +24,7 @@ returns c =
       here = subst (λ (b : List (Option ℕ)). Pasted (length c.args.bytes.now) c.args.place c.args.bytes.now b (block_at new (get_or places index 0)))
           (sym (block_is old places index low) ∙ ap (λ v. get_or v.blocks index []) c.self.view_is)
           (pasted_in old new (get_or places index 0) (length c.args.bytes.now) c.args.place c.args.bytes.now (omega arith) c.requires.fits pasted);
-      blocks = ap (λ (b : List (Option ℕ)). blocks_at b places) (written c.self.inside.bytes.len new old (c.self.inside.bytes.ok.0 ∙ sym pasted.len))
+      blocks = ap (λ (b : List (Option ℕ)). blocks_at b places) (written c.self.inside.cells.len new old (c.self.inside.cells.ok.0 ∙ sym pasted.len))
           ∙ one_changes places old new c.self.invariant index low pasted.len (λ p out. pasted.outside p (elim out [ inl a ↦ inl (omega arith) | inr b ↦ inr (omega (arith, c.requires.fits)) ]))
           ∙ ap (λ v. set v.blocks index (block_at new (get_or places index 0))) c.self.view_is;
       room = ap (λ v. v.room) c.self.view_is;
