@@ -6,6 +6,7 @@ mod Running
 mod Following
 mod Counted
 mod Maps
+mod Trees
 mod Setting
 mod Keeping
 mod Starting

@@ -1,16 +1,8 @@
-use Rattle.std.proofs.Common.{ℕ, List, sym, subst}
-use Rattle.model.specs.State.{Name, name_cmp}
-use Rattle.replay.specs.Places.{IsPlaceOf, IsPlaceFor}
+use Rattle.std.proofs.Common.{sym, ap, ◌∙◌}
+use Rattle.model.specs.FiniteMap as map
 use Rattle.replay.proofs.Orders.{name_total}
-use Rattle.replay.proofs.Kept.{get-place, get-no_place}
+use Rattle.replay.proofs.Trees.{get_at}
 use Rattle.replay.proofs.names.Names.get.Goals as goal
 
-pub returns-in-Ok : goal.returns-in-Ok
-returns-in-Ok c =
-    let here : IsPlaceOf name_cmp c.args.name.now c.self.inside.slots.items c.in-Ok.at = subst (λ (es : List (Name × ℕ)). IsPlaceOf name_cmp c.args.name.now es c.in-Ok.at) c.as_slice.ensures.value c.in-Ok.ensures in
-    rw (← c.self.view_is) (sym (get-place name_total _ _ _ c.index.result.now c.self.invariant here (sym c.index.ensures)))
-
-pub returns-in-Err : goal.returns-in-Err
-returns-in-Err c =
-    let here : IsPlaceFor name_cmp c.args.name.now c.self.inside.slots.items c.in-Err._at = subst (λ (es : List (Name × ℕ)). IsPlaceFor name_cmp c.args.name.now es c.in-Err._at) c.as_slice.ensures.value c.in-Err.ensures in
-    rw (← c.self.view_is) (sym (get-no_place name_total _ _ _ c.self.invariant here))
+pub returns : goal.returns
+returns c = c.copied.ensures ∙ c.get.ensures.value ∙ sym (get_at name_total c.self.inside.given.entries c.args.name.now) ∙ ap (λ m. map.get m c.args.name.now) c.self.view_is

@@ -1,35 +1,10 @@
-use Rattle.std.proofs.Common.{◌≡◌, ℕ, List, sym, ap, subst, ◌∙◌}
-use Rattle.std.specs.List.{insert}
+use Rattle.std.proofs.Common.{ap, ◌∙◌}
 use Rattle.model.specs.FiniteMap as map
-use Rattle.model.specs.State.{Name, name_cmp}
-use Rattle.replay.specs.Places.{IsPlaceOf, IsPlaceFor}
-use Rattle.replay.proofs.Orders.{name_total}
-use Rattle.replay.proofs.Kept.{is_sorted-set, from_sorted-set, is_sorted-insert, from_sorted-insert}
+use Rattle.replay.proofs.Orders.{name_total, name_exact}
+use Rattle.replay.proofs.Trees.{inserted}
 use Rattle.replay.proofs.names.Names.insert.Goals as goal
 
-pub invariant_of-self : goal.invariant_of-self
-invariant_of-self c =
-    let xs = c.self.inside.slots.items in
-    let here : IsPlaceOf name_cmp c.args.name xs c.in-Ok.at = subst (λ (es : List (Name × ℕ)). IsPlaceOf name_cmp c.args.name es c.in-Ok.at) c.as_slice.ensures.value c.in-Ok.ensures in
-    is_sorted-set name_total c.args.name c.args.num xs c.self.invariant _ here c.index_mut.result.now (sym c.index_mut.ensures.value)
-
-pub invariant_of-self-in-Err : goal.invariant_of-self-in-Err
-invariant_of-self-in-Err c =
-    let xs = c.self.inside.slots.items in
-    let here : IsPlaceFor name_cmp c.args.name xs c.in-Err.at = subst (λ (es : List (Name × ℕ)). IsPlaceFor name_cmp c.args.name es c.in-Err.at) c.as_slice.ensures.value c.in-Err.ensures in
-    let e : c.insert.new.self.items ≡ insert xs c.in-Err.at (c.args.name, c.args.num) = rw c.in_ok-insert-in-Err.was at c.insert.ensures.items in
-    rw e (is_sorted-insert name_total c.args.name c.args.num xs c.self.invariant _ here)
-
-pub returns-in-Ok : goal.returns-in-Ok
-returns-in-Ok c =
-    let xs = c.self.inside.slots.items in
-    let here : IsPlaceOf name_cmp c.args.name xs c.in-Ok.at = subst (λ (es : List (Name × ℕ)). IsPlaceOf name_cmp c.args.name es c.in-Ok.at) c.as_slice.ensures.value c.in-Ok.ensures in
-    from_sorted-set name_total c.args.name c.args.num xs c.self.invariant _ here c.index_mut.result.now (sym c.index_mut.ensures.value)
-    ∙ ap (λ v. map.insert v c.args.name c.args.num) c.self.view_is
-
-pub returns-in_ok-insert-in-Err : goal.returns-in_ok-insert-in-Err
-returns-in_ok-insert-in-Err c =
-    let xs = c.self.inside.slots.items in
-    let here : IsPlaceFor name_cmp c.args.name xs c.in-Err.at = subst (λ (es : List (Name × ℕ)). IsPlaceFor name_cmp c.args.name es c.in-Err.at) c.as_slice.ensures.value c.in-Err.ensures in
-    let e : c.insert.new.self.items ≡ insert xs c.in-Err.at (c.args.name, c.args.num) = rw c.in_ok-insert-in-Err.was at c.insert.ensures.items in
-    rw e (from_sorted-insert name_total c.args.name c.args.num xs c.self.invariant _ here ∙ ap (λ v. map.insert v c.args.name c.args.num) c.self.view_is)
+pub returns : goal.returns
+returns c =
+    inserted name_total name_exact c.self.inside.given.entries c.insert.new.self.entries c.args.name c.args.num c.in_ok-insert.ensures.updates.0
+    ∙ ap (λ m. map.insert m c.args.name c.args.num) c.self.view_is

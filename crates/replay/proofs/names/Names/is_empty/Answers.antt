@@ -1,15 +1,13 @@
-use Rattle.std.proofs.Common.{◌≡◌, List, [], ◌∷◌, map, refl, sym, ap, ◌∙◌}
+use Rattle.std.proofs.Common.{sym, ap, ◌∙◌}
+use Rattle.std.specs.Map.{keys_of}
 use Rattle.model.specs.FiniteMap as finite
 use Rattle.model.specs.Paths.{is_empty}
-use Rattle.model.specs.State.{name_cmp}
-use Rattle.replay.proofs.Kept.{entries-kept}
+use Rattle.replay.proofs.Orders.{name_total}
+use Rattle.replay.proofs.Trees.{entries_made, none_there}
 use Rattle.replay.proofs.names.Names.is_empty.Goals as goal
-
-empty-map : {A B : Type 0} (f : A → B) (xs : List A) → is_empty xs ≡ is_empty (map f xs)
-empty-map f [] = refl
-empty-map f (x ∷ xs) = refl
 
 pub returns : goal.returns
 returns c =
-    c.are_none.ensures ∙ ap is_empty c.as_slice.ensures.value ∙ ap is_empty (sym (entries-kept name_cmp _ c.self.invariant))
-    ∙ ap (λ m. is_empty (finite.entries m)) c.self.view_is ∙ empty-map (λ e. e.0) (finite.entries c.args.self.now)
+    none_there c.is_empty.result c.self.inside.given.entries c.is_empty.ensures
+    ∙ ap (λ es. is_empty (keys_of es)) (sym (entries_made name_total c.self.inside.given.entries c.self.invariant))
+    ∙ ap (λ m. is_empty (finite.keys m)) c.self.view_is

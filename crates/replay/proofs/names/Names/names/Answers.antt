@@ -1,10 +1,18 @@
-use Rattle.std.proofs.Common.{◌≡◌, map, take, sym, ap, ◌∙◌, ℕ, List}
-use Rattle.std.proofs.lemmas.List.{take_all}
-use Rattle.model.specs.State.{Name, name_cmp}
-use Rattle.replay.proofs.Kept.{keys-from_sorted}
+use Rattle.std.proofs.Common.{◌≡◌, ℕ, List, map, sym, ap, ◌∙◌}
+use Rattle.std.proofs.lemmas.Map.Iter.{iter_end}
+use Rattle.std.specs.Map.{keys_of}
+use Rattle.std.specs.Map.Iter.{deref}
+use Rattle.model.specs.FiniteMap as finite
+use Rattle.model.specs.State.{Name}
+use Rattle.replay.proofs.Orders.{name_total}
+use Rattle.replay.proofs.Trees.{entries_made}
 use Rattle.replay.proofs.names.Names.names.Goals as goal
 
 pub returns : goal.returns
 returns c =
-    let all : take c.loop-slot.slot-index c.deref-slot-items.result.now ≡ c.self.inside.slots.items = take_all _ _ c.loop-slot-test.false ∙ c.deref-slot-items.ensures.value in
-    rw (c.new.ensures, ← c.self.view_is) (c.loop-slot.invariant ∙ ap (λ (es : List (Name × ℕ)). map (λ e. e.0) es) all ∙ sym (keys-from_sorted name_cmp _ c.self.invariant))
+    let es : List (Name × ℕ) = c.self.inside.given.entries in
+    let shown : map deref c.loop-name.yielded ≡ keys_of es
+    = (iter_end deref (keys_of es) c.loop-name.yielded c.into_iter-name-iterator.result c.loop-name.name-iterator c.next.new.self c.next.result (c.into_iter-name-iterator.ensures.into_iter_gives ∙ c.keys-name-items.ensures.rest) c.loop-name.yielded_by c.in-None.is c.next.ensures.steps).0 in
+    c.new.ensures ∙ c.loop-name.invariant ∙ shown
+    ∙ ap keys_of (sym (entries_made name_total es c.self.invariant))
+    ∙ ap finite.keys c.self.view_is

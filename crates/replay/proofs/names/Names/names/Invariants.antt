@@ -1,6 +1,7 @@
--- The names so far are those of the slots so far.
-use Rattle.std.proofs.Common.{◌≡◌, map, take}
+-- The names so far are those that the tree has shown.
+use Rattle.std.proofs.Common.{◌≡◌, map}
+use Rattle.std.specs.Map.Iter.{deref}
 use Rattle.replay.proofs.names.Names.names.Given as goal
 
-abbrev pub invariant-loop-slot : goal.invariant-loop-slot
-invariant-loop-slot l = l.names.items ≡ map (λ e. e.0) (take l.slot-index l.slot-items)
+abbrev pub invariant-loop-name : goal.invariant-loop-name
+invariant-loop-name l = l.names.items ≡ map deref l.yielded
