@@ -52,8 +52,6 @@ pub held_is : (k : Kernel) (d : ℕ) → is_held k d ≡ list_any (λ e. nat_lt 
 unfolding holders
 held_is k d = sym (any-values (held_by d) (entries k.processes))
 
-pub reached_is : (k : Kernel) (n : ℕ) → is_reached k n ≡ (n == k.root) || (list_any (λ e. nat_lt 0 (given_by n e.1)) (entries k.inodes) || list_any (λ e. e.1.inode == n) (entries k.descriptions))
-unfolding links openings
-reached_is k n =
-    ap (λ b. (n == k.root) || (b || nat_lt 0 (openings k n))) (sym (any-values (given_by n) (entries k.inodes)))
-    ∙ ap (λ b. (n == k.root) || (list_any (λ e. nat_lt 0 (given_by n e.1)) (entries k.inodes) || b)) (sym (any-counted (λ d. d.inode == n) (entries k.descriptions)))
+pub reached_is : (k : Kernel) (n : ℕ) → is_reached k n ≡ (n == k.root) || (nat_lt 0 (links k n) || list_any (λ e. e.1.inode == n) (entries k.descriptions))
+unfolding openings
+reached_is k n = ap (λ b. (n == k.root) || (nat_lt 0 (links k n) || b)) (sym (any-counted (λ d. d.inode == n) (entries k.descriptions)))

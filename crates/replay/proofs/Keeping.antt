@@ -14,7 +14,7 @@ use Rattle.replay.specs.declared.transaction.Transaction.{Transaction}
 use Rattle.replay.specs.declared.transaction.Transaction.TheVariants.{Live, Doomed}
 
 -- the test of keys is that of numbers
-test_is : (q k : ℕ) → eq_by_cmp nat_cmp q k ≡ (q == k)
+pub test_is : (q k : ℕ) → eq_by_cmp nat_cmp q k ≡ (q == k)
 test_is q k = by (q == k) refl where
   by : (b : Bool) → (q == k) ≡ b → eq_by_cmp nat_cmp q k ≡ (q == k)
   by true e = ap (eq_by_cmp nat_cmp q) (sym (eqb-true q k e)) ∙ ap is_eq (tied_itself nat_cmp_total q) ∙ sym e

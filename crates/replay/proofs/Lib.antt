@@ -7,6 +7,7 @@ mod Following
 mod Counted
 mod Maps
 mod Trees
+mod Linked
 mod Setting
 mod Keeping
 mod Starting

@@ -4,10 +4,9 @@ use Rattle.std.specs.Prelude.{min}
 use Rattle.std.specs.List.{list_any}
 use Rattle.std.proofs.lemmas.List.{map_more}
 use Rattle.model.specs.FiniteMap.{get, entries, entries-empty}
-use Rattle.model.specs.State.{Name, Kernel, Kind, Description, Process, entry_of, kind_of, mapped, names_of}
+use Rattle.model.specs.State.{Name, Kernel, Kind, Description, Process, entry_of, kind_of, links, mapped, names_of}
 use Rattle.model.specs.Changes.{process_of, or_new, is_reached}
 use Rattle.model.specs.Calls.{Slot, slot_of}
-use Rattle.replay.specs.Counts.{given_by}
 use Rattle.replay.proofs.Counted.{reached_is}
 
 -- what a name gives, with its kind
@@ -53,9 +52,9 @@ end_small (Ok a) bytes place count low few is =
     let part : length a ≡ min count (length bytes - place) = ap length is ∙ length-take count (drop place bytes) ∙ ap (min count) (length-drop place bytes) in
     omega arith
 
--- whether a name or a description gives an inode
+-- whether a name gives an inode, or a description
 abbrev pub named : Kernel → ℕ → Bool
-named k n = list_any (λ e. nat_lt 0 (given_by n e.1)) (entries k.inodes)
+named k n = nat_lt 0 (links k n)
 
 abbrev opened : Kernel → ℕ → Bool
 opened k n = list_any (λ e. e.1.inode == n) (entries k.descriptions)

@@ -1,8 +1,10 @@
 -- What is counted in each object.
-use Rattle.std.specs.Prelude.{ℕ, ◌==◌, Bool, true, false, Some}
-use Rattle.std.specs.List.{count_by}
-use Rattle.model.specs.FiniteMap.{get, values}
-use Rattle.model.specs.State.{Kernel, Inode, Description, Process, names_of_inode, is_end}
+use Rattle.std.specs.Prelude.{◌≡◌, ℕ, ◌==◌, Bool, true, false, cond, Option, None, Some}
+use Rattle.std.specs.List.{count_by, sum_by}
+use Rattle.std.specs.Option.{unwrap_or}
+use Rattle.std.specs.Ordering.{nat_cmp}
+use Rattle.model.specs.FiniteMap.{FinMap, get, values}
+use Rattle.model.specs.State.{Kernel, Inode, Description, Process, name_cmp, names_of_inode, is_end}
 
 -- how many names of an inode give n
 abbrev pub given_by : ℕ → Inode → ℕ
@@ -21,3 +23,24 @@ is_open false d = d.reading
 abbrev pub ended_by : Kernel → ℕ → Bool → Process → ℕ
 ended_by k p writing process =
     count_by (λ d. is_end (is_open writing) p (get k.descriptions d)) (values process.table)
+
+-- how often names give n
+abbrev pub times_given : ℕ → FinMap name_cmp ℕ → ℕ
+times_given n names = count_by (λ m. m == n) (values names)
+
+-- how often one name gives n, where it gave this before
+abbrev pub given_once : ℕ → Option ℕ → ℕ
+given_once n None = 0
+given_once n (Some m) = cond (m == n) 1 0
+
+-- how many names of all these inodes give n
+abbrev pub given_by_all : FinMap nat_cmp Inode → ℕ → ℕ
+given_by_all inodes n = sum_by (given_by n) (values inodes)
+
+-- what is counted of n, where what is not there counts 0
+abbrev pub count_at : FinMap nat_cmp ℕ → ℕ → ℕ
+count_at counts n = unwrap_or (get counts n) 0
+
+-- the counts are those of the names that give each number
+abbrev pub AreCounted : FinMap nat_cmp Inode → FinMap nat_cmp ℕ → Type 0
+AreCounted inodes counts = (n : ℕ) → count_at counts n ≡ given_by_all inodes n

@@ -1,8 +1,8 @@
 // What each edit makes of a plain kernel.
-ghost use Rattle.std.specs.Prelude.{◌≡◌, ◌++◌, IfOk, OnOk, [], get_or, true, drop, option_copied};
-ghost use Rattle.model.specs.FiniteMap.{get, insert, remove};
+ghost use Rattle.std.specs.Prelude.{◌≡◌, ◌++◌, IfOk, OnOk, Some, [], get_or, true, drop, option_copied};
+ghost use Rattle.model.specs.FiniteMap.{empty, get, insert, remove};
 ghost use Rattle.model.specs.State.{File as A_file, Pipe as A_pipe};
-ghost use Rattle.model.specs.State.{file_of, mapped, pipe_of};
+ghost use Rattle.model.specs.State.{file_of, mapped, names_of_inode, pipe_of};
 ghost use Rattle.model.specs.Changes.{applied, at_offset, at_start, clear_name, number, open_at};
 ghost use Rattle.model.specs.Changes.{or_new, process_of, set_description, set_inode, set_name};
 ghost use Rattle.model.specs.Changes.{set_offset, set_process, sized, with_slot, without_slot};
@@ -10,13 +10,15 @@ ghost use Rattle.model.specs.Changes.{written, to_read, to_write};
 ghost use Rattle.replay.specs.Edits.{is_of_processes};
 
 use crate::bytes::{appended, no_bytes, rest, sized, written};
-use crate::inode::{Inode, file_out, names_out, pipe_out};
+use crate::inode::{Inode, file_out, pipe_out};
+use crate::inodes::Inodes;
 use crate::names::Names;
 use crate::plain::{Description, PlainKernel, Process, place_of};
 use crate::table::Table;
 use heap::Heap;
 use ids::{Bytes, Edit, Fd, Mode, Name, Num, Pid, Which};
 use std::alloc::AllocError;
+use std::mem::replace;
 
 // The new number of a place, 0 where there is none.
 fn made(chosen: &[Num], place: usize) -> Num
@@ -40,8 +42,9 @@ fn number(chosen: &[Num], which: &Which) -> Num
 
 // Where memory is refused, a kernel is left in between, and is of no use any more.
 impl PlainKernel {
-    // An inode gets new contents, or comes.
+    // An inode without names gets new contents, or comes.
     fn set_inode(&mut self, num: Num, inode: Inode) -> Result<(), AllocError>
+        requires { names_of_inode (Some inode) ≡ empty }
         ensures { OnOk result (self.new ≡ set_inode num inode self.old) }
     {
         let _before = self.inodes.insert(num, inode)?;
@@ -61,23 +64,21 @@ impl PlainKernel {
         ensures { OnOk result (self.new ≡ set_name dir name.now num self.old) }
     {
         let name = name.try_clone()?;
-        let inode = self.take_inode(heap, dir)?;
-        let mut names = names_out(heap, inode);
-        names.insert(name, num)?;
-        self.set_inode(dir, Inode::directory(names))
+        let inodes = replace(&mut self.inodes, Inodes::new(heap));
+        self.inodes = inodes.with_name(heap, dir, name, num)?;
+        Ok(())
     }
 
     // A name gives nothing any more.
     fn clear_name(&mut self, heap: Heap, dir: Num, name: &Name) -> Result<(), AllocError>
         ensures { OnOk result (self.new ≡ clear_name dir name.now self.old) }
     {
-        let inode = self.take_inode(heap, dir)?;
-        let mut names = names_out(heap, inode);
-        names.remove(name);
-        self.set_inode(dir, Inode::directory(names))
+        let inodes = replace(&mut self.inodes, Inodes::new(heap));
+        self.inodes = inodes.without_name(heap, dir, name)?;
+        Ok(())
     }
 
-    // A new inode with its name.
+    // A new inode without names of its own, with its name.
     fn make(
         &mut self,
         heap: Heap,
@@ -86,6 +87,7 @@ impl PlainKernel {
         num: Num,
         inode: Inode,
     ) -> Result<(), AllocError>
+        requires { names_of_inode (Some inode) ≡ empty }
         ensures { OnOk result
             (self.new ≡ set_name dir name.now num (set_inode num inode self.old)) }
     {

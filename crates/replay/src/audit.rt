@@ -17,6 +17,7 @@ ghost use Rattle.replay.specs.declared.audit.Stop.TheVariants.{NoMemory};
 
 use crate::answers::is_reply;
 use crate::inode::Inode;
+use crate::inodes::Inodes;
 use crate::names::Names;
 use crate::plain::{PlainKernel, Process, place_of, small};
 use crate::table::Table;
@@ -344,7 +345,7 @@ impl Audit {
         ensures transactions { IfOk result (λ r. r.transactions ≡ empty) }
     {
         let made = small(priorities.len())?;
-        let mut inodes = Table::new(heap);
+        let mut inodes = Inodes::new(heap);
         let _before = inodes.insert(root, Inode::directory(Names::new(heap)))?;
         Ok(Audit {
             kernel: PlainKernel {

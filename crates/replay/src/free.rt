@@ -77,7 +77,7 @@ impl PlainKernel {
     fn remove_inode(&mut self, num: Num)
         ensures { self.new ≡ record self.old { inodes = remove self.old.inodes num } }
     {
-        let _inode = self.inodes.remove(num);
+        self.inodes.remove(num);
     }
 
     // Each of these goes so.

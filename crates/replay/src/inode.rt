@@ -1,14 +1,15 @@
 // An inode of the plain kernel.
-ghost use Rattle.std.specs.Prelude.{◌≡◌, Some, option_copied, IfOk};
+ghost use Rattle.std.specs.Prelude.{◌≡◌, ℕ, ◌-◌, Some, option_copied, IfOk};
 ghost use Rattle.model.specs.FiniteMap.{get, keys};
 ghost use Rattle.model.specs.Paths.{is_empty};
 ghost use Rattle.model.specs.State.{Inode, File as A_file, Directory as A_directory, mapped};
 ghost use Rattle.model.specs.State.{Pipe as A_pipe, kind, file_of_inode, names_of_inode};
 ghost use Rattle.model.specs.State.{pipe_of_inode};
-ghost use Rattle.replay.specs.Counts.{given_by};
+ghost use Rattle.replay.specs.Counts.{count_at, times_given};
 
 use crate::bytes::no_bytes;
 use crate::names::Names;
+use crate::tree::Tree;
 use heap::Heap;
 use ids::{Bytes, Kind, Name, NameList, Num};
 use std::alloc::AllocError;
@@ -113,14 +114,15 @@ impl Inode {
         }
     }
 
-    // How many of its names give a number.
-    pub(crate) fn count(&self, num: Num) -> usize
-        ensures { result ≡ given_by num self.now }
+    // One name less gives each number, as often as its names give it.
+    pub(crate) fn lose_names(&self, counts: &mut Tree<usize>)
+        ensures { (n : ℕ) → count_at counts.new n
+            ≡ count_at counts.old n - times_given n (names_of_inode (Some self.now)) }
     {
         match &self.content {
-            Content::Directory(names) => names.count(num),
-            Content::File(_) => 0,
-            Content::Pipe(_) => 0,
+            Content::Directory(names) => names.lose_all(counts),
+            Content::File(_) => (),
+            Content::Pipe(_) => (),
         }
     }
 

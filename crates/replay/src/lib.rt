@@ -12,12 +12,14 @@ mod bytes;
 mod checking;
 mod free;
 mod inode;
+mod inodes;
 mod names;
 mod numbers;
 mod plain;
 mod root;
 mod table;
 mod transaction;
+mod tree;
 
 pub use checking::{CheckFault, check};
 

@@ -1,9 +1,12 @@
 // The names of a directory with the numbers that they give: a tree in the bytes' order, so that a
 // name among many comes and goes in few steps.
-ghost use Rattle.std.specs.Prelude.{◌≡◌, ◌==◌, IfOk, OnOk, count_by};
+ghost use Rattle.std.specs.Prelude.{◌≡◌, ℕ, ◌-◌, IfOk, OnOk};
 ghost use Rattle.model.specs.FiniteMap as map;
 ghost use Rattle.model.specs.Paths.{is_empty};
+ghost use Rattle.replay.specs.Counts.{count_at, times_given};
 
+use crate::inodes::lose;
+use crate::tree::Tree;
 use heap::Heap;
 use ids::{Name, NameList, Num};
 use std::alloc::AllocError;
@@ -49,19 +52,20 @@ impl Names {
         self.given.get(name).copied()
     }
 
-    // A name gives a number.
-    pub(crate) fn insert(&mut self, name: Name, num: Num) -> Result<(), AllocError>
-        ensures { OnOk result (self.new ≡ map.insert self.old name num) }
+    // A name gives a number. It gives what the name gave before.
+    pub(crate) fn insert(&mut self, name: Name, num: Num) -> Result<Option<Num>, AllocError>
+        ensures changed { OnOk result (self.new ≡ map.insert self.old name num) }
+        ensures before { IfOk result (λ before. before ≡ map.get self.old name) }
     {
-        self.given.insert(name, num)?;
-        Ok(())
+        Ok(self.given.insert(name, num)?)
     }
 
-    // A name gives nothing any more.
-    pub(crate) fn remove(&mut self, name: &Name)
-        ensures { self.new ≡ map.remove self.old name.now }
+    // A name gives nothing any more. It gives what the name gave before.
+    pub(crate) fn remove(&mut self, name: &Name) -> Option<Num>
+        ensures changed { self.new ≡ map.remove self.old name.now }
+        ensures before { result ≡ map.get self.old name.now }
     {
-        let _num = self.given.remove(name);
+        self.given.remove(name)
     }
 
     // A copy of the names, in order.
@@ -82,10 +86,13 @@ impl Names {
         self.given.is_empty()
     }
 
-    // How many give this number.
-    pub(crate) fn count(&self, num: Num) -> usize
-        ensures { result ≡ count_by (λ n. n == num) (map.values self.now) }
+    // One name less gives each number, as often as these names give it.
+    pub(crate) fn lose_all(&self, counts: &mut Tree<usize>)
+        ensures { (n : ℕ)
+            → count_at counts.new n ≡ count_at counts.old n - times_given n self.now }
     {
-        self.given.values().filter(|given| **given == num).count()
+        for num in self.given.values() {
+            lose(counts, *num);
+        }
     }
 }

@@ -9,7 +9,8 @@ ghost use Rattle.model.specs.Moments.{is_alive};
 ghost use Rattle.replay.specs.Counts.{given_by, held_by, is_open, ended_by};
 
 use crate::bytes::part;
-use crate::inode::{Inode, file_in, given_in, is_empty_in, kind_in, names_in, pipe_in};
+use crate::inode::{file_in, given_in, is_empty_in, kind_in, names_in, pipe_in};
+use crate::inodes::Inodes;
 use crate::table::Table;
 use heap::Heap;
 use ids::{Bytes, Fd, Kind, Name, NameList, Num, PIPE_CAPACITY, Pid, Slot};
@@ -71,7 +72,7 @@ impl Model for Process {
 #[derive(Drop)]
 pub(crate) struct PlainKernel {
     pub(crate) root: Num,
-    pub(crate) inodes: Table<Inode>,
+    pub(crate) inodes: Inodes,
     pub(crate) descriptions: Table<Description>,
     pub(crate) processes: Table<Process>,
     pub(crate) made: u32,
@@ -149,7 +150,7 @@ impl PlainKernel {
         ensures { result ≡ is_reached self.now inode }
     {
         inode == self.root
-            || is_named_in(self.inodes.as_slice(), inode)
+            || self.inodes.is_named(inode)
             || is_opened_in(self.descriptions.as_slice(), inode)
     }
 }
@@ -165,31 +166,13 @@ pub(crate) fn small(count: usize) -> Result<u32, AllocError>
 }
 
 // One count more.
-fn counted(so_far: usize, more: usize) -> Result<usize, AllocError>
+pub(crate) fn counted(so_far: usize, more: usize) -> Result<usize, AllocError>
     ensures { IfOk result (λ n. n ≡ so_far + more) }
 {
     match so_far.checked_add(more) {
         Some(count) => Ok(count),
         None => Err(AllocError),
     }
-}
-
-// How many names of these inodes give a number.
-fn links_in(inodes: &[(Num, Inode)], num: Num) -> Result<u32, AllocError>
-    ensures { IfOk result (λ n. n ≡ sum_by (given_by num) (map (λ e. e.1) inodes.now)) }
-{
-    let mut count = 0;
-    for slot in inodes {
-        count = counted(count, slot.1.count(num))?;
-    }
-    small(count)
-}
-
-// Whether there is such a name.
-fn is_named_in(inodes: &[(Num, Inode)], num: Num) -> bool
-    ensures { result ≡ list_any (λ e. nat_lt 0 (given_by num e.1)) inodes.now }
-{
-    inodes.iter().any(|slot| slot.1.count(num) > 0)
 }
 
 // Whether one of these descriptions is of an inode.
@@ -321,7 +304,7 @@ impl Look for PlainKernel {
     }
 
     fn links(&self, file: Num) -> Result<u32, AllocError> {
-        links_in(self.inodes.as_slice(), file)
+        small(self.inodes.count(file))
     }
 
     fn ends(&self, pipe: Num) -> Result<(u32, u32), AllocError> {

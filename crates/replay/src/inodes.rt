@@ -1,0 +1,185 @@
+// All inodes, with how many names give each number: so a number's names are counted in few steps,
+// and no name is looked for.
+ghost use Rattle.std.specs.Prelude.{◌≡◌, ℕ, ◌+◌, ◌-◌, ◌==◌, nat_lt, cond, IfOk, OnOk, Some, option_copied};
+ghost use Rattle.model.specs.FiniteMap as map;
+ghost use Rattle.model.specs.State.{Directory as A_directory, names_of_inode};
+ghost use Rattle.replay.specs.Counts.{count_at, given_by_all, times_given, given_once};
+
+use crate::bytes::no_bytes;
+use crate::inode::{Inode, names_out};
+use crate::plain::counted;
+use crate::tree::Tree;
+use heap::Heap;
+use ids::{Name, Num};
+use std::alloc::AllocError;
+use std::marker::Model;
+
+/// What each number stands for, and how many names of all inodes give each number.
+#[derive(Drop)]
+pub(crate) struct Inodes {
+    each: Tree<Inode>,
+    counts: Tree<usize>,
+}
+
+impl Model for Inodes {
+    ghost use Rattle.std.specs.Ordering.{nat_cmp};
+    ghost use Rattle.model.specs.FiniteMap as map;
+    ghost use Rattle.model.specs.State.{Inode};
+    ghost use Rattle.replay.specs.Counts.{AreCounted};
+
+    ghost Value = { map.FinMap nat_cmp Inode };
+
+    ghost view = { λ i. i.each };
+
+    ghost invariant = { λ i. AreCounted i.each i.counts };
+}
+
+impl Inodes {
+    // None. It takes no memory.
+    pub(crate) fn new(heap: Heap) -> Inodes
+        ensures { result ≡ map.empty }
+    {
+        Inodes {
+            each: Tree::new(heap),
+            counts: Tree::new(heap),
+        }
+    }
+
+    // What a number stands for.
+    pub(crate) fn get(&self, num: Num) -> Option<&Inode>
+        ensures { option_copied result ≡ map.get self.now num }
+    {
+        self.each.get(num)
+    }
+
+    // How many names give a number.
+    pub(crate) fn count(&self, num: Num) -> usize
+        ensures { result ≡ given_by_all self.now num }
+    {
+        count_of(&self.counts, num)
+    }
+
+    // Whether a name gives a number.
+    pub(crate) fn is_named(&self, num: Num) -> bool
+        ensures { result ≡ nat_lt 0 (given_by_all self.now num) }
+    {
+        self.count(num) > 0
+    }
+
+    // A number gets an inode without names. It gives the one before.
+    pub(crate) fn insert(&mut self, num: Num, inode: Inode) -> Result<Option<Inode>, AllocError>
+        requires { names_of_inode (Some inode) ≡ map.empty }
+        ensures changed { OnOk result (self.new ≡ map.insert self.old num inode) }
+        ensures before { IfOk result (λ before. before ≡ map.get self.old num) }
+    {
+        let before = self.each.insert(num, inode)?;
+        lose_all(&mut self.counts, &before);
+        Ok(before)
+    }
+
+    // A number stands for nothing any more.
+    pub(crate) fn remove(&mut self, num: Num)
+        ensures { self.new ≡ map.remove self.old num }
+    {
+        let before = self.each.remove(num);
+        lose_all(&mut self.counts, &before);
+    }
+
+    // The inodes where a name of a directory gives a number.
+    pub(crate) fn with_name(
+        self,
+        heap: Heap,
+        dir: Num,
+        name: Name,
+        num: Num,
+    ) -> Result<Inodes, AllocError>
+        ensures { IfOk result (λ i. i ≡ map.insert self dir
+            (A_directory (map.insert (names_of_inode (map.get self dir)) name num))) }
+    {
+        let Inodes {
+            mut each,
+            mut counts,
+        } = self;
+        let inode = each.insert(dir, Inode::file(no_bytes(heap)))?;
+        let mut names = names_out(heap, inode);
+        let before = names.insert(name, num)?;
+        let _placeholder = each.insert(dir, Inode::directory(names))?;
+        gain(&mut counts, num)?;
+        lose_some(&mut counts, before);
+        Ok(Inodes { each, counts })
+    }
+
+    // The inodes where a name of a directory gives nothing any more.
+    pub(crate) fn without_name(
+        self,
+        heap: Heap,
+        dir: Num,
+        name: &Name,
+    ) -> Result<Inodes, AllocError>
+        ensures { IfOk result (λ i. i ≡ map.insert self dir
+            (A_directory (map.remove (names_of_inode (map.get self dir)) name.now))) }
+    {
+        let Inodes {
+            mut each,
+            mut counts,
+        } = self;
+        let inode = each.insert(dir, Inode::file(no_bytes(heap)))?;
+        let mut names = names_out(heap, inode);
+        let before = names.remove(name);
+        let _placeholder = each.insert(dir, Inode::directory(names))?;
+        lose_some(&mut counts, before);
+        Ok(Inodes { each, counts })
+    }
+}
+
+// What is counted of a number.
+fn count_of(counts: &Tree<usize>, num: Num) -> usize
+    ensures { result ≡ count_at counts.now num }
+{
+    match counts.get(num) {
+        Some(count) => *count,
+        None => 0,
+    }
+}
+
+// One name more gives a number.
+fn gain(counts: &mut Tree<usize>, num: Num) -> Result<(), AllocError>
+    ensures { OnOk result ((n : ℕ)
+        → count_at counts.new n ≡ count_at counts.old n + cond (num == n) 1 0) }
+{
+    let more = counted(count_of(counts, num), 1)?;
+    let _before = counts.insert(num, more)?;
+    Ok(())
+}
+
+// One name less gives a number. What counts 0 is not kept.
+pub(crate) fn lose(counts: &mut Tree<usize>, num: Num)
+    ensures { (n : ℕ) → count_at counts.new n ≡ count_at counts.old n - cond (num == n) 1 0 }
+{
+    let count = count_of(counts, num);
+    if count > 1 {
+        counts.change(num, count - 1);
+    } else {
+        let _before = counts.remove(num);
+    }
+}
+
+// One name less gives this number, if it is one.
+fn lose_some(counts: &mut Tree<usize>, num: Option<Num>)
+    ensures { (n : ℕ) → count_at counts.new n ≡ count_at counts.old n - given_once n num }
+{
+    if let Some(num) = num {
+        lose(counts, num);
+    }
+}
+
+// What an inode's names gave they give no more.
+fn lose_all(counts: &mut Tree<usize>, inode: &Option<Inode>)
+    ensures { (n : ℕ) → count_at counts.new n
+        ≡ count_at counts.old n - times_given n (names_of_inode inode.now) }
+{
+    match inode {
+        Some(inode) => inode.lose_names(counts),
+        None => (),
+    }
+}
