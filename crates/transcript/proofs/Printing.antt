@@ -102,6 +102,11 @@ pub Prints-all : {S : Type 0} {written : S → Option (List ℕ)} {failures : S 
     → length xs ≤ i → Prints written failures a b (flat_map f (take i xs)) → Prints written failures a b (flat_map f xs)
 Prints-all {X = X} f xs i end p = Prints-as p (ap (λ (ys : List X). flat_map f ys) (take_all i xs end))
 
+-- the texts of some, and then of some more
+pub Prints-more : {S : Type 0} {written : S → Option (List ℕ)} {failures : S → ℕ} {a b c : Printer S} {X : Type 0} (f : X → List ℕ) (xs ys : List X)
+    → Prints written failures a b (flat_map f xs) → Prints written failures b c (flat_map f ys) → Prints written failures a c (flat_map f (xs ++ ys))
+Prints-more f xs ys p q = Prints-as (Prints-then _ _ p q) (sym (flat_map-append f xs ys))
+
 -- what can print can print again
 pub CanPrint-after : {S : Type 0} {written : S → Option (List ℕ)} {failures : S → ℕ} {a b : Printer S} {t : List ℕ}
     → Prints written failures a b t → CanPrint failures a → CanPrint failures b

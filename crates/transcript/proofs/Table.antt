@@ -1,8 +1,9 @@
 -- The table of spellings, and a spelling that is appended.
-use Rattle.std.proofs.Common.{◌≡◌, ℕ, ◌+◌, ◌<◌, ◌≤◌, List, [], ◌∷◌, ◌++◌, Bool, true, false, refl, sym, ap, ◌∙◌, take, drop, length, get_or, arith, length-append}
-use Rattle.std.specs.Prelude.{◌/◌, ◌%◌, if◌then◌else◌, map}
+use Rattle.std.proofs.Common.{◌≡◌, ℕ, ◌+◌, ◌<◌, ◌≤◌, List, [], ◌∷◌, ◌++◌, Bool, true, false, refl, sym, ap, ◌∙◌, take, drop, length, get_or, arith, append_assoc, append-nil, length-append, length-take}
+use Rattle.std.specs.Prelude.{◌/◌, ◌%◌, if◌then◌else◌, flat_map, map}
 use Rattle.std.specs.List.{range_with_len}
-use Rattle.std.proofs.lemmas.List.{take-append-le, take-append-drop}
+use Rattle.std.proofs.lemmas.List.{take-append-le, take-append-drop, take_more}
+use Rattle.std.proofs.lemmas.List.Concat.{flat_map-append}
 use Rattle.std.proofs.Math.Seq.{take-append-add}
 use Rattle.std.proofs.lemmas.List.FromFn.{get_or-map-range_with_len}
 use Rattle.transcript.specs.Text.{backslash, byte_text, hex_digit, is_plain, letter_x}
@@ -53,3 +54,38 @@ spelled front bytes kept byte width below width_is is =
     ap (λ (n : ℕ). take (length front + n) bytes) width_is
     ∙ appended front bytes (entry_of byte) kept (width_of (is_plain byte)) here (width_within byte (is_plain byte))
     ∙ ap (λ (text : List ℕ). front ++ text) (entry_cut byte (is_plain byte))
+
+width_cut : (byte : ℕ) (plain : Bool) → length (if plain then byte ∷ [] else backslash ∷ letter_x ∷ hex_digit (byte / 16) ∷ hex_digit (byte % 16) ∷ []) ≡ width_of plain
+width_cut byte true = refl
+width_cut byte false = refl
+
+width_is : (byte : ℕ) → length (byte_text byte) ≡ width_of (is_plain byte)
+width_is byte = width_cut byte (is_plain byte)
+
+width_below : (plain : Bool) → width_of plain ≤ 4
+width_below true = omega arith
+width_below false = omega arith
+
+-- no spelling is longer than an entry
+pub spelled_within : (byte : ℕ) → length (byte_text byte) ≤ 4
+spelled_within byte = omega (arith, width_is byte, width_below (is_plain byte))
+
+text_more : (xs : List ℕ) (i : ℕ) → i < length xs
+    → flat_map byte_text (take i xs) ++ byte_text (get_or xs i 0) ≡ flat_map byte_text (take (i + 1) xs)
+text_more xs i below =
+    ap (λ (ys : List ℕ). flat_map byte_text (take i xs) ++ ys) (sym (append-nil (byte_text (get_or xs i 0))))
+    ∙ sym (flat_map-append byte_text (take i xs) (get_or xs i 0 ∷ []))
+    ∙ ap (λ (ys : List ℕ). flat_map byte_text ys) (sym (take_more xs i 0 below))
+
+-- one more byte is spelled
+pub spelled_more : (before out after bytes : List ℕ) (end i : ℕ) → end ≤ length out → i < length bytes → get_or bytes i 0 < 256
+    → take end out ≡ before ++ flat_map byte_text (take i bytes)
+    → take (end + 4) after ≡ take end out ++ get_or SPELLINGS (get_or bytes i 0) []
+    → take (end + length (byte_text (get_or bytes i 0))) after ≡ before ++ flat_map byte_text (take (i + 1) bytes)
+spelled_more before out after bytes end i within below byte so_far entry =
+    let at : end ≡ length (take end out) = omega (arith, length-take end out) in
+    ap (λ (n : ℕ). take (n + length (byte_text (get_or bytes i 0))) after) at
+    ∙ spelled (take end out) after (end + 4) (get_or bytes i 0) (length (byte_text (get_or bytes i 0))) byte (width_is (get_or bytes i 0)) entry
+    ∙ ap (λ (ys : List ℕ). ys ++ byte_text (get_or bytes i 0)) so_far
+    ∙ append_assoc before (flat_map byte_text (take i bytes)) (byte_text (get_or bytes i 0))
+    ∙ ap (λ (ys : List ℕ). before ++ ys) (text_more bytes i below)

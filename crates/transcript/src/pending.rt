@@ -1,14 +1,16 @@
 // Bytes that are printed and not yet written.
-ghost use Rattle.std.specs.Prelude.{◌≡◌, ◌+◌, ◌≤◌, ◌++◌, [], length, nat_le};
+ghost use Rattle.std.specs.Prelude.{◌≡◌, ◌+◌, ◌*◌, ◌≤◌, ◌++◌, [], flat_map, length, nat_le};
 ghost use Rattle.transcript.specs.Text.{byte_text};
 ghost use Rattle.transcript.specs.declared.spelling.TheConstants.{WIDTH};
 
-use crate::spelling::{SPELLINGS, WIDTH};
-use crate::text::is_plain;
+use crate::spelling::{WIDTH, spell};
 use std::marker::Model;
 
 // How many bytes are gathered before they are written.
 const CAPACITY: usize = 8192;
+
+// How many bytes are spelled at once, at most.
+pub(crate) const PORTION: usize = 128;
 
 // Up to `CAPACITY` bytes, in order.
 #[derive(Drop)]
@@ -54,21 +56,20 @@ impl Pending {
         self.len = end;
     }
 
-    // Whether there is room for one more byte, however it is spelled.
+    // Whether there is room for a portion more, however its bytes are spelled.
     pub(crate) fn has_room(&self) -> bool
-        ensures { result ≡ nat_le (length self.now + WIDTH) CAPACITY }
+        ensures { result ≡ nat_le (length self.now + PORTION * WIDTH) CAPACITY }
     {
-        self.len <= CAPACITY - WIDTH
+        self.len <= CAPACITY - PORTION * WIDTH
     }
 
-    // Appends a byte in its spelling. All of its entry is copied, which takes no branch.
-    pub(crate) fn spell(&mut self, byte: u8)
-        requires { length self.old + WIDTH ≤ CAPACITY }
-        ensures { self.new ≡ self.old ++ byte_text byte }
+    // Appends the bytes of a portion in their spelling.
+    pub(crate) fn spell(&mut self, bytes: &[u8])
+        requires room { length self.old + PORTION * WIDTH ≤ CAPACITY }
+        requires portion { length bytes.now ≤ PORTION }
+        ensures { self.new ≡ self.old ++ flat_map byte_text bytes.now }
     {
-        let len = self.len + if is_plain(byte) { 1 } else { WIDTH };
-        self.append(&SPELLINGS[usize::from(byte)]);
-        self.len = len;
+        self.len = spell(&mut self.bytes, self.len, bytes);
     }
 
     pub(crate) fn clear(&mut self)

@@ -1,9 +1,10 @@
 // Texts printed one after another, until the sink fails.
-ghost use Rattle.std.specs.Prelude.{◌≡◌, ◌++◌, [], true, false, decimal, OnErr, OnOk};
+ghost use Rattle.std.specs.Prelude.{◌≡◌, ◌≤◌, ◌++◌, [], true, false, decimal, flat_map, length};
+ghost use Rattle.std.specs.Prelude.{OnErr, OnOk};
 ghost use Rattle.std.specs.Fmt.{signed_decimal};
 ghost use Rattle.device.specs.Device.{CanCount};
 
-use crate::pending::Pending;
+use crate::pending::{PORTION, Pending};
 use device::{DeviceFailed, Sink, write_all};
 use itoa::Buffer;
 
@@ -98,24 +99,27 @@ impl<'a, S: Sink> Printer<'a, S> {
         }
     }
 
-    // Prints a byte in its spelling, where there is no room for it: what is pending is written first.
-    fn put_byte_over(&mut self, byte: u8)
-        requires { CanPrint S.failures self.old }
-        ensures { Prints S.written S.failures self.old self.new (byte_text byte) }
+    // Prints the bytes of a portion in their spelling, where there is no room for them: what is pending
+    // is written first.
+    fn put_portion_over(&mut self, bytes: &[u8])
+        requires can { CanPrint S.failures self.old }
+        requires portion { length bytes.now ≤ PORTION }
+        ensures { Prints S.written S.failures self.old self.new (flat_map byte_text bytes.now) }
     {
         self.flush();
-        self.pending.spell(byte);
+        self.pending.spell(bytes);
     }
 
-    // Prints a byte in its spelling.
-    pub(crate) fn put_byte(&mut self, byte: u8)
-        requires { CanPrint S.failures self.old }
-        ensures { Prints S.written S.failures self.old self.new (byte_text byte) }
+    // Prints the bytes of a portion in their spelling.
+    pub(crate) fn put_portion(&mut self, bytes: &[u8])
+        requires can { CanPrint S.failures self.old }
+        requires portion { length bytes.now ≤ PORTION }
+        ensures { Prints S.written S.failures self.old self.new (flat_map byte_text bytes.now) }
     {
         if self.pending.has_room() {
-            self.pending.spell(byte);
+            self.pending.spell(bytes);
         } else {
-            self.put_byte_over(byte);
+            self.put_portion_over(bytes);
         }
     }
 

@@ -1,4 +1,8 @@
 // How each byte is spelled.
+ghost use Rattle.std.specs.Prelude.{◌≡◌, ◌+◌, ◌*◌, ◌≤◌, ◌++◌, [], take, length, get_or, flat_map};
+ghost use Rattle.transcript.specs.Text.{byte_text};
+
+use crate::text::is_plain;
 
 // The longest spelling, in bytes.
 pub(crate) const WIDTH: usize = 4;
@@ -262,3 +266,35 @@ pub(crate) const SPELLINGS: [[u8; WIDTH]; 256] = [
     *b"\\xfe",
     *b"\\xff",
 ];
+
+// How long a byte's spelling is.
+fn width(byte: u8) -> usize
+    ensures { result ≡ length (byte_text byte) }
+{
+    if is_plain(byte) { 1 } else { WIDTH }
+}
+
+// Puts all of a byte's entry from a place on.
+fn put_entry(out: &mut [u8], place: usize, byte: u8)
+    requires { place + WIDTH ≤ length out.old }
+    ensures entry { take (place + WIDTH) out.new ≡ take place out.old ++ get_or SPELLINGS byte [] }
+    ensures len { length out.new ≡ length out.old }
+{
+    out[place..place + WIDTH].copy_from_slice(&SPELLINGS[usize::from(byte)]);
+}
+
+// Spells bytes from a place on, and answers where they end. All of each entry is copied, which takes
+// no branch; behind the end anything may stand.
+pub(crate) fn spell(out: &mut [u8], place: usize, bytes: &[u8]) -> usize
+    requires { place + length bytes.now * WIDTH ≤ length out.old }
+    ensures spelled { take result out.new ≡ take place out.old ++ flat_map byte_text bytes.now }
+    ensures end { result ≤ place + length bytes.now * WIDTH }
+    ensures len { length out.new ≡ length out.old }
+{
+    let mut end = place;
+    for byte in bytes {
+        put_entry(out, end, *byte);
+        end += width(*byte);
+    }
+    end
+}

@@ -3,6 +3,7 @@ ghost use Rattle.std.specs.Prelude.{◌≡◌, true, flat_map};
 ghost use Rattle.transcript.specs.Printer.{CanPrint, Prints};
 ghost use Rattle.transcript.specs.Text.{byte_text, is_plain, text_of};
 
+use crate::pending::PORTION;
 use crate::printer::Printer;
 use device::Sink;
 
@@ -18,8 +19,11 @@ fn put_bytes<S: Sink>(out: &mut Printer<'_, S>, bytes: &[u8])
     requires { CanPrint S.failures out.old }
     ensures { Prints S.written S.failures out.old out.new (flat_map byte_text bytes.now) }
 {
-    for byte in bytes {
-        out.put_byte(*byte);
+    let mut rest = bytes;
+    while !rest.is_empty() {
+        let (portion, behind) = rest.split_at(rest.len().min(PORTION));
+        out.put_portion(portion);
+        rest = behind;
     }
 }
 

@@ -1,18 +1,16 @@
-use Rattle.std.proofs.lemmas.List.{get_or_default}
+use Rattle.std.proofs.Common.{◌≡◌, ◌++◌, ◌∙◌, List, ℕ, ap, sym, append_assoc, rules}
 use Rattle.transcript.specs.Text.{byte_text}
-use Rattle.transcript.proofs.Printing.{CanPrint-after, Prints-all, Prints-next, Prints-none}
+use Rattle.transcript.proofs.Printing.{CanPrint-after, Prints-more}
 use Rattle.transcript.proofs.text.put_bytes.Goals as goal
 
-pub loop-byte-init : goal.loop-byte-init
-loop-byte-init g c = (c.requires, Prints-none _ _ _)
-
-pub loop-byte-preserved : goal.loop-byte-preserved
-loop-byte-preserved g c =
-    let printed = Prints-next byte_text c.args.bytes.now c.loop-byte.byte-index _ c.loop-byte-test.true (get_or_default c.args.bytes.now c.loop-byte.byte-index 0 _ c.loop-byte-test.true) c.loop-byte.invariant.1 c.put_byte.ensures in
-    (CanPrint-after printed c.requires, printed)
-
-pub put_byte-requires : goal.put_byte-requires
-put_byte-requires g c = c.loop-byte.invariant.0
-
-pub returns : goal.returns
-returns g c = Prints-all byte_text c.args.bytes.now c.loop-byte.byte-index c.loop-byte-test.false c.loop-byte.invariant.1
+pub loop-rest-preserved : goal.loop-rest-preserved
+loop-rest-preserved g c =
+    let so_far = c.loop-rest.invariant.1 in
+    let front : List ℕ = so_far.0 in
+    let portion : List ℕ = c.split_at.result.0.now in
+    let behind : List ℕ = c.split_at.result.1.now in
+    let printed = Prints-more byte_text front portion so_far.2 c.put_portion.ensures in
+    let halves : c.loop-rest.rest.now ≡ portion ++ behind = search rules in (
+      CanPrint-after printed c.requires,
+      (front ++ portion, so_far.1 ∙ ap (λ (xs : List ℕ). front ++ xs) halves ∙ sym (append_assoc front portion behind), printed),
+    )
