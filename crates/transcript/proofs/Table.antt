@@ -7,7 +7,7 @@ use Rattle.std.proofs.lemmas.List.Concat.{flat_map-append}
 use Rattle.std.proofs.Math.Seq.{take-append-add}
 use Rattle.std.proofs.lemmas.List.FromFn.{get_or-map-range_with_len}
 use Rattle.transcript.specs.Text.{backslash, byte_text, hex_digit, is_plain, letter_x}
-use Rattle.transcript.specs.declared.spelling.TheConstants.{SPELLINGS}
+use Rattle.transcript.specs.declared.spelling.TheConstants.{SPELLINGS, WIDTHS}
 
 -- the entry of a byte
 abbrev pub entry_of : ℕ → List ℕ
@@ -89,3 +89,13 @@ spelled_more before out after bytes end i within below byte so_far entry =
     ∙ ap (λ (ys : List ℕ). ys ++ byte_text (get_or bytes i 0)) so_far
     ∙ append_assoc before (flat_map byte_text (take i bytes)) (byte_text (get_or bytes i 0))
     ∙ ap (λ (ys : List ℕ). before ++ ys) (text_more bytes i below)
+
+widths_are : WIDTHS ≡ map (λ byte. width_of (is_plain byte)) (range_with_len 0 256)
+widths_are = refl
+
+-- what the table of lengths tells
+pub width_told : (byte : ℕ) → byte < 256 → get_or WIDTHS byte 0 ≡ length (byte_text byte)
+width_told byte below =
+    ap (λ (t : List ℕ). get_or t byte 0) widths_are
+    ∙ get_or-map-range_with_len (λ (b : ℕ). width_of (is_plain b)) 0 256 byte byte 0 below (omega arith)
+    ∙ sym (width_is byte)

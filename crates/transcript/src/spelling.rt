@@ -2,8 +2,6 @@
 ghost use Rattle.std.specs.Prelude.{◌≡◌, ◌+◌, ◌*◌, ◌≤◌, ◌++◌, [], take, length, get_or, flat_map};
 ghost use Rattle.transcript.specs.Text.{byte_text};
 
-use crate::text::is_plain;
-
 // The longest spelling, in bytes.
 pub(crate) const WIDTH: usize = 4;
 
@@ -267,11 +265,32 @@ pub(crate) const SPELLINGS: [[u8; WIDTH]; 256] = [
     *b"\\xff",
 ];
 
+// The length of each spelling.
+const WIDTHS: [u8; 256] = [
+    4, 4, 4, 4, 4, 4, 4, 4, 4, 4, 4, 4, 4, 4, 4, 4, 4, 4, 4, 4, 4, 4, 4, 4, 4, 4, 4, 4, 4, 4, 4, 4,
+    4, 1, 1, 1, 1, 1, 1, 1, 1, 1, 1, 1, 1, 1, 1, 1, 1, 1, 1, 1, 1, 1, 1, 1, 1, 1, 1, 1, 1, 1, 1, 1,
+    1, 1, 1, 1, 1, 1, 1, 1, 1, 1, 1, 1, 1, 1, 1, 1, 1, 1, 1, 1, 1, 1, 1, 1, 1, 1, 1, 1, 4, 1, 1, 1,
+    1, 1, 1, 1, 1, 1, 1, 1, 1, 1, 1, 1, 1, 1, 1, 1, 1, 1, 1, 1, 1, 1, 1, 1, 1, 1, 1, 1, 1, 1, 1, 4,
+    4, 4, 4, 4, 4, 4, 4, 4, 4, 4, 4, 4, 4, 4, 4, 4, 4, 4, 4, 4, 4, 4, 4, 4, 4, 4, 4, 4, 4, 4, 4, 4,
+    4, 4, 4, 4, 4, 4, 4, 4, 4, 4, 4, 4, 4, 4, 4, 4, 4, 4, 4, 4, 4, 4, 4, 4, 4, 4, 4, 4, 4, 4, 4, 4,
+    4, 4, 4, 4, 4, 4, 4, 4, 4, 4, 4, 4, 4, 4, 4, 4, 4, 4, 4, 4, 4, 4, 4, 4, 4, 4, 4, 4, 4, 4, 4, 4,
+    4, 4, 4, 4, 4, 4, 4, 4, 4, 4, 4, 4, 4, 4, 4, 4, 4, 4, 4, 4, 4, 4, 4, 4, 4, 4, 4, 4, 4, 4, 4, 4,
+];
+
 // How long a byte's spelling is.
+#[tactic(auto, using(crate::proofs::Table::width_told))]
 fn width(byte: u8) -> usize
     ensures { result ≡ length (byte_text byte) }
 {
-    if is_plain(byte) { 1 } else { WIDTH }
+    usize::from((&WIDTHS)[usize::from(byte)])
+}
+
+// The entry of a byte, taken out of the table: a copy from the table itself would have to ask whether
+// it overlaps what it is copied to.
+fn entry(byte: u8) -> [u8; WIDTH]
+    ensures { result ≡ get_or SPELLINGS byte [] }
+{
+    (&SPELLINGS)[usize::from(byte)]
 }
 
 // Puts all of a byte's entry from a place on.
@@ -280,7 +299,7 @@ fn put_entry(out: &mut [u8], place: usize, byte: u8)
     ensures entry { take (place + WIDTH) out.new ≡ take place out.old ++ get_or SPELLINGS byte [] }
     ensures len { length out.new ≡ length out.old }
 {
-    out[place..place + WIDTH].copy_from_slice(&SPELLINGS[usize::from(byte)]);
+    out[place..place + WIDTH].copy_from_slice(&entry(byte));
 }
 
 // Spells bytes from a place on, and answers where they end. All of each entry is copied, which takes

@@ -1,7 +1,8 @@
 // Bytes in their spelling.
-ghost use Rattle.std.specs.Prelude.{◌≡◌, true, flat_map};
+ghost use Rattle.std.specs.Prelude.{◌≡◌, ◌≤◌, true, flat_map, length};
 ghost use Rattle.transcript.specs.Printer.{CanPrint, Prints};
 ghost use Rattle.transcript.specs.Text.{byte_text, is_plain, text_of};
+ghost use Rattle.transcript.specs.declared.pending.TheConstants.{PORTION};
 
 use crate::pending::PORTION;
 use crate::printer::Printer;
@@ -14,6 +15,46 @@ pub(crate) fn is_plain(byte: u8) -> bool
     byte >= b'!' && byte <= b'~' && byte != b'\\'
 }
 
+// Whether each byte of a portion stands for itself. All of them are looked at, whatever the first ones
+// are, so that many are looked at together.
+fn are_plain(portion: &[u8]) -> bool
+    ensures { result ≡ true → flat_map byte_text portion.now ≡ portion.now }
+{
+    let mut plain = true;
+    for byte in portion {
+        plain &= is_plain(*byte);
+    }
+    plain
+}
+
+// Whether each byte of a text stands for itself.
+fn is_plain_text(text: &[u8]) -> bool
+    ensures { result ≡ true → flat_map byte_text text.now ≡ text.now }
+{
+    let mut rest = text;
+    while !rest.is_empty() {
+        let (portion, behind) = rest.split_at(rest.len().min(PORTION));
+        if !are_plain(portion) {
+            return false;
+        }
+        rest = behind;
+    }
+    true
+}
+
+// The bytes of a portion in their spelling.
+fn put_portion<S: Sink>(out: &mut Printer<'_, S>, portion: &[u8])
+    requires can { CanPrint S.failures out.old }
+    requires portion { length portion.now ≤ PORTION }
+    ensures { Prints S.written S.failures out.old out.new (flat_map byte_text portion.now) }
+{
+    if are_plain(portion) {
+        out.put(portion);
+    } else {
+        out.put_portion(portion);
+    }
+}
+
 // Each byte in its spelling.
 fn put_bytes<S: Sink>(out: &mut Printer<'_, S>, bytes: &[u8])
     requires { CanPrint S.failures out.old }
@@ -22,21 +63,9 @@ fn put_bytes<S: Sink>(out: &mut Printer<'_, S>, bytes: &[u8])
     let mut rest = bytes;
     while !rest.is_empty() {
         let (portion, behind) = rest.split_at(rest.len().min(PORTION));
-        out.put_portion(portion);
+        put_portion(out, portion);
         rest = behind;
     }
-}
-
-// Whether each byte stands for itself.
-fn are_plain(bytes: &[u8]) -> bool
-    ensures { result ≡ true → flat_map byte_text bytes.now ≡ bytes.now }
-{
-    for byte in bytes {
-        if !is_plain(*byte) {
-            return false;
-        }
-    }
-    true
 }
 
 // Bytes as a script spells them.
@@ -47,7 +76,7 @@ pub(crate) fn put_text<S: Sink>(out: &mut Printer<'_, S>, text: &[u8])
 {
     if text.is_empty() {
         out.put(b"\\e");
-    } else if are_plain(text) {
+    } else if is_plain_text(text) {
         out.put(text);
     } else {
         put_bytes(out, text);
