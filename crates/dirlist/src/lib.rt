@@ -7,8 +7,10 @@ ghost use Rattle.std.specs.Prelude.{IfOk, OnOk, OnErr};
 ghost use Rattle.model.specs.FiniteMap as map;
 ghost use Rattle.model.specs.State.{name_cmp};
 
+mod order;
 mod patch;
 
+use crate::order::sort_names;
 use heap::Heap;
 use ids::{Name, NameList, Num};
 pub use patch::Patch;
@@ -76,7 +78,7 @@ impl Dir {
         for name in self.numbers.keys() {
             names.push(name.try_clone()?)?;
         }
-        names.sort_unstable();
+        sort_names(heap, &mut names);
         Ok(NameList::new(names))
     }
 

@@ -8,6 +8,7 @@ ghost use Rattle.model.specs.FiniteMap as map;
 ghost use Rattle.model.specs.State.{name_cmp};
 ghost use Rattle.dirlist.specs.Patches.{IsLaid, noted_back};
 
+use crate::order::sort_names;
 use crate::{Dir, Numbers};
 use heap::Heap;
 use ids::{Name, NameList, Num};
@@ -99,7 +100,7 @@ impl Patch {
         let mut names = Vec::with_capacity(heap, dir.numbers.len())?;
         self.push_unnoted(&mut names, &dir.numbers)?;
         push_given(&mut names, &self.given)?;
-        names.sort_unstable();
+        sort_names(heap, &mut names);
         Ok(NameList::new(names))
     }
 

@@ -18,4 +18,4 @@ returns c =
     = c.in_ok-push_given.ensures ∙ ap (λ (ns : List Name). ns ++ given gs) (c.in_ok-push_unnoted.ensures ∙ ap (λ (ns : List Name). ns ++ kept) c.in_ok-names.ensures.items) in
     c.new.ensures
     ∙ sorted_over gs es c.self.invariant c.len.ensures.unique c.args.self.now c.args.dir.now.names c.self.view_is (ap (λ (d : Listing). d.names) c.dir.view_is) names laid
-    c.push_given.new.names.items c.sort_unstable.new.self.items all c.sort_unstable.ensures.permutation c.sort_unstable.ensures.sorted
+    c.push_given.new.names.items c.sort_names.new.names.items all c.sort_names.ensures.permutation c.sort_names.ensures.sorted
