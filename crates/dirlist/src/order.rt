@@ -10,11 +10,26 @@ use std::alloc::AllocError;
 // From so many names on keys are sorted first.
 const MANY: usize = 64;
 
+// How many pairs of neighbours are looked at for whether names seem to rise or to fall.
+const PAIRS: usize = 16;
+
+// How many of these pairs may be the other way round.
+const STRAYS: usize = 2;
+
 // How many bytes of a name stand in a key.
 const WORD: usize = 8;
 
+// How many bytes of two names are compared at once.
+const STRIDE: usize = 32;
+
 // How often groups are parted, at most.
 const PASSES: usize = 8;
+
+// How many bytes the passes after the first may look at, for each of the names.
+const BYTES: usize = 80;
+
+// What coming to a name costs, in bytes.
+const VISIT: usize = 16;
 
 // What a name is sorted by: eight of its bytes as a number, behind those that all of its group share.
 // The keys of a group stand together.
@@ -28,13 +43,15 @@ struct Key {
 // Puts names in byte order.
 //
 // Many names are arranged by keys first, which are smaller than names and need no look elsewhere,
-// unless they seem to be in order. The sort behind it finds them in order; it alone answers for it,
-// and where memory for keys is refused it does all of the work.
+// unless they seem to rise or to fall. The sort behind it alone answers for the order. Mostly it finds
+// the names in order, which takes one comparison each. It has more to do where some keys were still
+// alike when the passes ended, and where the names were not arranged, as memory for keys was refused
+// or the names only seemed to rise or to fall.
 pub(crate) fn sort_names(heap: Heap, names: &mut Vec<Name, Heap>)
     ensures permutation { IsPermutation names.old.items names.new.items }
     ensures sorted { IsSorted name_cmp names.new.items }
 {
-    if !seem_sorted(names.as_slice()) {
+    if !seem_ordered(names.as_slice()) {
         if let Ok(mut keys) = sorted_keys(heap, names.as_slice()) {
             arrange(names, keys.as_mut_slice());
         }
@@ -42,12 +59,27 @@ pub(crate) fn sort_names(heap: Heap, names: &mut Vec<Name, Heap>)
     names.sort_unstable();
 }
 
-// Whether there are few names, or the first of them are in order.
-fn seem_sorted(names: &[Name]) -> bool {
-    match names.get(..MANY) {
-        Some(first) => first.is_sorted(),
-        None => true,
+// Whether there are few names, or they seem to rise or to fall: the sort alone is fast on those. The
+// pairs are spread over all names, so that a part of them does not decide.
+fn seem_ordered(names: &[Name]) -> bool {
+    if names.len() < MANY {
+        return true;
     }
+    let mut rising = 0usize;
+    let mut falling = 0usize;
+    for part in names.chunks((names.len() / PAIRS).max(2)) {
+        if let [one, two, ..] = part {
+            if one < two {
+                rising = rising.wrapping_add(1);
+            } else {
+                falling = falling.wrapping_add(1);
+            }
+        }
+        if rising > STRAYS && falling > STRAYS {
+            return false;
+        }
+    }
+    true
 }
 
 // The keys of names, in the order of the names.
@@ -63,16 +95,20 @@ fn sorted_keys(heap: Heap, names: &[Name]) -> Result<Vec<Key, Heap>, AllocError>
             group: 0,
         })?;
     }
-    for _ in 0..PASSES {
-        if !refine(keys.as_mut_slice(), names) {
+    let mut alike = split(keys.as_mut_slice(), names);
+    let mut left = names.len().saturating_mul(BYTES);
+    for _ in 1..PASSES {
+        if !alike {
             break;
         }
+        alike = refine(keys.as_mut_slice(), names, &mut left);
     }
     Ok(keys)
 }
 
-// Sorts each group, and parts it into smaller ones. Whether any two keys are still alike.
-fn refine(keys: &mut [Key], names: &[Name]) -> bool {
+// Sorts each group, and parts it into smaller ones, while `left` bytes may still be looked at. Whether
+// a further pass is of use: some keys are still alike, and some bytes are left.
+fn refine(keys: &mut [Key], names: &[Name], left: &mut usize) -> bool {
     let mut alike = false;
     let mut start = 0usize;
     for _ in 0..keys.len() {
@@ -83,12 +119,29 @@ fn refine(keys: &mut [Key], names: &[Name]) -> bool {
         let end = start.wrapping_add(len);
         if len > 1 {
             if let Some(group) = keys.get_mut(start..end) {
+                *left = left.saturating_sub(cost(group, names));
+                if *left == 0 {
+                    return false;
+                }
                 alike |= split(group, names);
             }
         }
         start = end;
     }
     alike
+}
+
+// How many bytes parting a group looks at, at most: in each name no more than the first one has.
+fn cost(group: &[Key], names: &[Name]) -> usize {
+    let Some(first) = group.first() else {
+        return 0;
+    };
+    match names.get(first.place as usize) {
+        Some(name) => group
+            .len()
+            .saturating_mul(name.as_slice().len().saturating_add(VISIT)),
+        None => 0,
+    }
 }
 
 // How many keys are of the group of the first.
@@ -152,11 +205,19 @@ fn common<'a>(bytes: &'a [u8], other: &[u8]) -> &'a [u8] {
         return bytes;
     }
     let mut len = 0usize;
-    for (one, two) in bytes.iter().zip(other) {
+    for (one, two) in bytes.chunks(STRIDE).zip(other.chunks(STRIDE)) {
         if one != two {
             break;
         }
-        len = len.wrapping_add(1);
+        len = len.wrapping_add(STRIDE);
+    }
+    if let (Some(rest), Some(other_rest)) = (bytes.get(len..), other.get(len..)) {
+        for (one, two) in rest.iter().zip(other_rest) {
+            if one != two {
+                break;
+            }
+            len = len.wrapping_add(1);
+        }
     }
     match bytes.get(..len) {
         Some(front) => front,
