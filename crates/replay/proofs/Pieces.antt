@@ -1,8 +1,8 @@
 -- Bytes that are cut, filled up and put together.
-use Rattle.std.proofs.Common.{◌≡◌, ℕ, ◌+◌, ◌-◌, ◌++◌, List, length, take, drop, sym, ap, ◌∙◌, arith, append_assoc, length-drop}
+use Rattle.std.proofs.Common.{◌≡◌, ℕ, ◌+◌, ◌-◌, ◌++◌, List, length, take, drop, sym, ap, ◌∙◌, arith, length-drop}
 use Rattle.std.specs.Prelude.{min, replicate}
 use Rattle.std.proofs.lemmas.List.{take_all, take_min, drop_min}
-use Rattle.model.specs.Changes.{sized, written}
+use Rattle.model.specs.Changes.{sized}
 
 -- a part whose ends are within the list
 pub part_within : {A : Type 0} (xs : List A) (skipped count start more : ℕ) → start ≡ min skipped (length xs) → more ≡ min count (length xs - start) → take ((start + more) - start) (drop start xs) ≡ take count (drop skipped xs)
@@ -21,9 +21,3 @@ rest_within xs skipped start first =
 -- a list that is cut or filled up
 pub sized_told : (len n : ℕ) (bytes items : List ℕ) → items ≡ bytes → n ≡ length items → take len items ++ replicate (len - n) 0 ≡ sized len bytes
 sized_told len n bytes items is same = ap (λ n. take len items ++ replicate (len - n) 0) same ∙ ap (sized len) is
-
--- what is before the written bytes, they, and what is behind
-pub written_told : (bytes over before first behind : List ℕ) (place end : ℕ) → end ≡ place + length over → before ≡ sized place bytes → first ≡ before ++ over → behind ≡ drop end bytes → first ++ behind ≡ written bytes place over
-written_told bytes over before first behind place end sum is both rest =
-    ap (λ (f : List ℕ). f ++ behind) both ∙ append_assoc before over behind ∙ ap (λ (b : List ℕ). b ++ (over ++ behind)) is
-    ∙ ap (λ (t : List ℕ). sized place bytes ++ (over ++ t)) (rest ∙ ap (λ n. drop n bytes) sum)

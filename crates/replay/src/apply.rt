@@ -118,7 +118,7 @@ impl PlainKernel {
             ≡ set_inode file (A_file (written (file_of self.old file) place bytes.now)) self.old) }
     {
         let inode = self.take_inode(heap, file)?;
-        let all = written(heap, file_out(heap, inode), place, bytes)?;
+        let all = written(file_out(heap, inode), place, bytes)?;
         self.set_inode(file, Inode::file(all))
     }
 

@@ -1,5 +1,5 @@
 // Changes of bytes.
-ghost use Rattle.std.specs.Prelude.{◌≡◌, ◌++◌, [], IfOk, drop, take};
+ghost use Rattle.std.specs.Prelude.{◌≡◌, ◌+◌, ◌≤◌, ◌++◌, [], IfOk, OnOk, drop, length, take};
 ghost use Rattle.model.specs.Changes.{sized, written};
 
 use heap::Heap;
@@ -47,19 +47,37 @@ pub(crate) fn appended(bytes: Bytes, more: &[u8]) -> Result<Bytes, AllocError>
     Ok(Bytes::new(all))
 }
 
-// With these bytes from a place on; a gap before them is zeros.
-pub(crate) fn written(
-    heap: Heap,
-    bytes: Bytes,
-    place: usize,
-    over: &[u8],
-) -> Result<Bytes, AllocError>
+// Writes bytes over those from a place on. They have to end within them.
+fn paste(all: &mut [u8], place: usize, over: &[u8])
+    requires { place + length over.now ≤ length all.old }
+    ensures { all.new
+        ≡ take place all.old ++ (over.now ++ drop (place + length over.now) all.old) }
+{
+    all[place..place + over.len()].copy_from_slice(over);
+}
+
+// Writes bytes from a place on that reach to the end or past it, each once.
+fn put_at_end(all: &mut Vec<u8, Heap>, place: usize, over: &[u8]) -> Result<(), AllocError>
+    requires { length all.old.items ≤ place + length over.now }
+    ensures { OnOk result (all.new.items ≡ written all.old.items place over.now) }
+{
+    all.resize(place, 0)?;
+    all.extend_from_slice(over)
+}
+
+// With these bytes from a place on; a gap before them is zeros. The others stay where they stand, so
+// that a write costs what it writes, however long the file is.
+pub(crate) fn written(bytes: Bytes, place: usize, over: &[u8]) -> Result<Bytes, AllocError>
     ensures { IfOk result (λ all. all ≡ written bytes place over.now) }
 {
     let Some(end) = place.checked_add(over.len()) else {
         return Err(AllocError);
     };
-    let behind = Bytes::copy(heap, rest(bytes.as_slice(), end))?;
-    let before = sized(bytes, place)?;
-    appended(appended(before, over)?, behind.as_slice())
+    let mut all = bytes.into_vec();
+    if end <= all.len() {
+        paste(all.as_mut_slice(), place, over);
+    } else {
+        put_at_end(&mut all, place, over)?;
+    }
+    Ok(Bytes::new(all))
 }

@@ -1,4 +1,5 @@
-// The plain kernel: whole maps, and nothing counted beforehand.
+// The plain kernel: whole maps. How many names give each number is counted as names come and go;
+// openings and holders are counted when they are asked for.
 ghost use Rattle.std.specs.Prelude.{◌≡◌, ◌+◌, ◌==◌, nat_lt, IfOk, Some, None, map, option_copied};
 ghost use Rattle.std.specs.List.{count_by, list_any, sum_by};
 ghost use Rattle.model.specs.FiniteMap.{get};
