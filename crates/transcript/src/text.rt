@@ -1,8 +1,7 @@
 // Bytes in their spelling.
-ghost use Rattle.std.specs.Prelude.{◌≡◌, ◌≤◌, true, flat_map, length};
+ghost use Rattle.std.specs.Prelude.{◌≡◌, ◌++◌, true, flat_map};
 ghost use Rattle.transcript.specs.Printer.{CanPrint, Prints};
 ghost use Rattle.transcript.specs.Text.{byte_text, is_plain, text_of};
-ghost use Rattle.transcript.specs.declared.pending.TheConstants.{PORTION};
 
 use crate::pending::PORTION;
 use crate::printer::Printer;
@@ -27,44 +26,39 @@ fn are_plain(portion: &[u8]) -> bool
     plain
 }
 
-// Whether each byte of a text stands for itself.
-fn is_plain_text(text: &[u8]) -> bool
-    ensures { result ≡ true → flat_map byte_text text.now ≡ text.now }
+// Cuts a text behind its first portions in which each byte stands for itself.
+fn split_plain(text: &[u8]) -> (&[u8], &[u8])
+    ensures parts { text.now ≡ result.0.now ++ result.1.now }
+    ensures plain { flat_map byte_text result.0.now ≡ result.0.now }
 {
     let mut rest = text;
     while !rest.is_empty() {
         let (portion, behind) = rest.split_at(rest.len().min(PORTION));
         if !are_plain(portion) {
-            return false;
+            break;
         }
         rest = behind;
     }
-    true
+    text.split_at(text.len() - rest.len())
 }
 
-// The bytes of a portion in their spelling.
-fn put_portion<S: Sink>(out: &mut Printer<'_, S>, portion: &[u8])
-    requires can { CanPrint S.failures out.old }
-    requires portion { length portion.now ≤ PORTION }
-    ensures { Prints S.written S.failures out.old out.new (flat_map byte_text portion.now) }
-{
-    if are_plain(portion) {
-        out.put(portion);
-    } else {
-        out.put_portion(portion);
-    }
-}
-
-// Each byte in its spelling.
+// Each byte in its spelling. Portions that follow each other and need no other spelling are printed
+// together, so that a long run of them is written at once.
 fn put_bytes<S: Sink>(out: &mut Printer<'_, S>, bytes: &[u8])
     requires { CanPrint S.failures out.old }
     ensures { Prints S.written S.failures out.old out.new (flat_map byte_text bytes.now) }
 {
     let mut rest = bytes;
     while !rest.is_empty() {
-        let (portion, behind) = rest.split_at(rest.len().min(PORTION));
-        put_portion(out, portion);
-        rest = behind;
+        let (plain, others) = split_plain(rest);
+        if plain.is_empty() {
+            let (portion, behind) = rest.split_at(rest.len().min(PORTION));
+            out.put_portion(portion);
+            rest = behind;
+        } else {
+            out.put(plain);
+            rest = others;
+        }
     }
 }
 
@@ -76,8 +70,6 @@ pub(crate) fn put_text<S: Sink>(out: &mut Printer<'_, S>, text: &[u8])
 {
     if text.is_empty() {
         out.put(b"\\e");
-    } else if is_plain_text(text) {
-        out.put(text);
     } else {
         put_bytes(out, text);
     }
