@@ -7,8 +7,6 @@
 
 mod pass;
 mod rule;
-#[cfg(test)]
-mod tests;
 mod turnstile;
 
 pub use pass::Pass;

@@ -1,0 +1,30 @@
+-- What a contract sees of a kernel, and what holds of each.
+use Rattle.std.specs.Prelude.{◌≡◌, ℕ, Bool, true, false}
+use Rattle.history.specs.Log.{Log}
+use Rattle.model.specs.State.{Kernel as State}
+use Rattle.model.specs.Moments.{Status, gone, idle, live, doomed, Moment, after}
+use Rattle.model.specs.Legal.{Legal}
+
+-- its history, and the committed state
+pub record Shown : Type 0 where
+  pub log : Log
+  pub state : State
+
+-- What the history comes to: the committed state, and each process's status. The root has number 0.
+abbrev pub moment : Log → Moment
+moment log = after 0 log.priorities log.entries
+
+-- whether a process is in a live transaction
+abbrev pub is_live_status : Status → Bool
+is_live_status (live flags age calls) = true
+is_live_status gone = false
+is_live_status idle = false
+is_live_status (doomed cause flags age) = false
+
+abbrev pub is_live : Moment → ℕ → Bool
+is_live m pid = is_live_status (m.phase pid)
+
+-- The history is legal, and the state is what it committed.
+pub record Kept (v : Shown) : Type 0 where
+  pub legal : Legal 0 v.log.priorities v.log.limit v.log.entries
+  pub state : v.state ≡ (moment v.log).committed
