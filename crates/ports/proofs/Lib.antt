@@ -1,4 +1,3 @@
 mod Called
 mod Firsts
 mod Found
-pub mod Sent

@@ -5,3 +5,4 @@ pub mod Closing
 pub mod Meeting
 pub mod Living
 mod Forking
+pub mod Sent

@@ -1,5 +1,4 @@
 use Rattle.std.proofs.Common.{rules, ap, ◌≤◌, arith}
-use Rattle.std.proofs.Common.{Option}
 use Rattle.atomic_table.specs.Table.{Me}
 use Rattle.turnstile.specs.Histories.{IsLegal, made_of}
 use Rattle.turnstile.specs.declared.rule.Role.{Role}

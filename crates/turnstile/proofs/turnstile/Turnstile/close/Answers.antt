@@ -1,4 +1,4 @@
-use Rattle.std.proofs.Common.{rules, ℕ, Option, Some, List, ◌∷◌, [], sym, ap, ◌∙◌}
+use Rattle.std.proofs.Common.{rules, ℕ, Some, List, ◌∷◌, [], sym, ap, ◌∙◌}
 use mathlib.Core.Option.{none}
 use Rattle.atomic_table.specs.Table.{Me, Step, step, rest}
 use Rattle.turnstile.specs.Histories.{IsLegal}

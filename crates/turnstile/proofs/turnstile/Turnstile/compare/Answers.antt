@@ -1,4 +1,4 @@
-use Rattle.std.proofs.Common.{rules, ◌≡◌, Option, ap, subst, ◌∙◌}
+use Rattle.std.proofs.Common.{rules, ◌≡◌, ap, subst, ◌∙◌}
 use Rattle.atomic_table.specs.Table.{Me}
 use Rattle.turnstile.specs.Histories.{IsLegal}
 use Rattle.turnstile.specs.declared.rule.Role.{Role}

@@ -1,4 +1,4 @@
-use Rattle.std.proofs.Common.{rules, ◌≡◌, [], ◌∷◌, Some, Option, ap, ◌∙◌}
+use Rattle.std.proofs.Common.{rules, ◌≡◌, [], ◌∷◌, Some, ap, ◌∙◌}
 use Rattle.atomic_table.specs.Table.{Me, rest}
 use Rattle.turnstile.specs.Histories.{IsLegal}
 use Rattle.turnstile.specs.declared.rule.Role.{Role}
