@@ -9,7 +9,7 @@ use Rattle.workers.specs.Families.{HaveOneHome}
 use Rattle.ports.proofs.run.worked.Goals as goal
 
 pub run_workers-requires-send-P : goal.run_workers-requires-send-P
-run_workers-requires-send-P g c κs within = search (pass_sent, turnstile_shared, c.type_bounds.send-K, sendable, crosses) depth 12
+run_workers-requires-send-P g c κs within = search (pass_sent _ g.K.Machine c.type_bounds.send-K, turnstile_shared _ g.K.Machine c.type_bounds.send-K, sendable, crosses) depth 12
 
 pub run_workers-requires-clause-home : goal.run_workers-requires-clause-home
 run_workers-requires-clause-home g c κs within =
