@@ -26,3 +26,9 @@ news_of_two first last =
     let b : sum_by news (last ∷ []) ≡ news last + sum_by news [] = sum_by-cons news last [] in
     let none : sum_by news [] ≡ 0 = refl in
     omega arith
+
+pub news_of_one : (e : Edit) → sum_by news (e ∷ []) ≡ news e
+news_of_one e =
+    let a : sum_by news (e ∷ []) ≡ news e + sum_by news [] = sum_by-cons news e [] in
+    let none : sum_by news [] ≡ 0 = refl in
+    omega arith

@@ -384,3 +384,9 @@ moving_takes chosen d x e y num replaced m old new moved loses openings slots lo
     takes_first chosen (Move d x e y num replaced) old new (λ n. moving_taken chosen d x e y num replaced n (net_at old.inodes n) (net_at moved.mid n) (net_at m n) (net_at new.inodes n)
     (naming_at d x None old.inodes moved.mid moved.gone n) (naming_at e y (Some num) moved.mid m moved.come n) (loses n))
     openings slots lost (λ d o. refl) (λ pid o. refl) refl
+
+-- that a name moves takes no name from an inode
+pub moved_count : (d : ℕ) (x : Name) (e : ℕ) (y : Name) (num : ℕ) (s t : Changes) → AreNamed d x e y num s t → (n : ℕ) → (net_at t n).unnamed ≡ (net_at s n).unnamed
+moved_count d x e y num s t moved n =
+    ap (λ (net : Net). net.unnamed) (naming_at e y (Some num) moved.mid t moved.come n).rest
+    ∙ ap (λ (net : Net). net.unnamed) (naming_at d x None s moved.mid moved.gone n).rest

@@ -47,6 +47,7 @@ impl Stable {
             Ok(()) => Ok(chosen),
             Err(AllocError) => {
                 self.give_up(chosen.as_slice(), parent);
+                drop(chosen);
                 Err(AllocError)
             }
         }
@@ -71,9 +72,9 @@ impl Stable {
             Some(last) => match edits.pop() {
                 None => self.perform_one(chosen, last),
                 Some(first) => {
-                    self.perform_first(chosen, first)?;
-                    self.perform_last(chosen, last);
-                    Ok(())
+                    let performed = self.perform_two(chosen, first, &last);
+                    drop(last);
+                    performed
                 }
             },
         }
@@ -92,11 +93,31 @@ impl Stable {
         ensures same { OnErr result (KeepsSame self.old self.new) }
     {
         if is_last(&edit) {
-            self.perform_last(chosen, edit);
+            self.perform_last(chosen, &edit);
+            drop(edit);
             Ok(())
         } else {
             self.perform_first(chosen, edit)
         }
+    }
+
+    // A call with two edits. Refused memory changes nothing.
+    fn perform_two(&mut self, chosen: &[Num], first: Edit, last: &Edit) -> Result<(), AllocError>
+        requires kinds { CanEdit (first ∷ last.now ∷ []) }
+        requires count { length chosen.now ≡ sum_by news (first ∷ last.now ∷ []) }
+        requires fits { FitsAll chosen.now self.old.state (first ∷ last.now ∷ []) }
+        requires covers { Covers self.old (effect chosen.now (first ∷ last.now ∷ []) ∷ []) }
+        ensures state { OnOk result (self.new.state
+            ≡ tidy (all_applied chosen.now (first ∷ last.now ∷ []) self.old.state)) }
+        ensures kept { OnOk result (KeepsMore self.new self.old
+            (λ c. claimed_by c (effect chosen.now (first ∷ last.now ∷ [])))) }
+        ensures err { OnErr result (self.new.state ≡ self.old.state) }
+        ensures same { OnErr result (KeepsSame self.old self.new) }
+    {
+        self.state_is_tidied();
+        self.perform_first(chosen, first)?;
+        self.perform_last(chosen, last);
+        Ok(())
     }
 
     // An edit of a name or of a file's bytes. Refused memory changes nothing.
@@ -127,18 +148,23 @@ impl Stable {
             }
             Edit::UnnameFile(parent, name, num) => {
                 self.unname(parent, &name, num);
+                drop(name);
                 Ok(())
             }
             Edit::UnnameDirectory(parent, name, num) => {
                 self.unname(parent, &name, num);
+                drop(name);
                 Ok(())
             }
             Edit::Move(from, old, to, new, num, replaced) => {
                 self.rename(from, &old, to, new, num, replaced);
+                drop(old);
                 Ok(())
             }
             Edit::PutBytes(file, place, bytes, _before) => {
-                self.write(file, place as usize, bytes.as_slice())
+                let written = self.write(file, place as usize, bytes.as_slice());
+                drop(bytes);
+                written
             }
             Edit::Cut(file, _before, after) => self.cut(file, after as usize),
             Edit::Take(pipe, count) => {
@@ -147,6 +173,7 @@ impl Stable {
             }
             Edit::Append(pipe, bytes) => {
                 self.append(pipe, bytes.as_slice());
+                drop(bytes);
                 Ok(())
             }
             Edit::MakePipe(_place, pid, reading, writing) => {
@@ -157,23 +184,23 @@ impl Stable {
     }
 
     // An edit of a description or a slot. It takes no memory.
-    fn perform_last(&mut self, chosen: &[Num], edit: Edit)
-        requires last { (m : ℕ) × IsLast m edit × (m + news edit ≤ length chosen.now) }
-        requires fits { Fits chosen.now self.old.state edit }
-        requires covers { (c : Claim) → claimed_by_one c chosen.now edit ≤ reserved self.old c }
-        ensures state { self.new.state ≡ tidy (applied chosen.now edit self.old.state) }
-        ensures kept { KeepsMore self.new self.old (λ c. claimed_by_one c chosen.now edit) }
+    fn perform_last(&mut self, chosen: &[Num], edit: &Edit)
+        requires last { (m : ℕ) × IsLast m edit.now × (m + news edit.now ≤ length chosen.now) }
+        requires fits { Fits chosen.now self.old.state edit.now }
+        requires covers { (c : Claim) → claimed_by_one c chosen.now edit.now ≤ reserved self.old c }
+        ensures state { self.new.state ≡ tidy (applied chosen.now edit.now self.old.state) }
+        ensures kept { KeepsMore self.new self.old (λ c. claimed_by_one c chosen.now edit.now) }
     {
         match edit {
             Edit::OpenInode(place, inode, mode, pid, fd) => {
-                let inode = number(chosen, inode);
-                self.open_inode(chosen[place as usize], inode, mode, pid, fd);
+                let inode = number(chosen, *inode);
+                self.open_inode(chosen[*place as usize], inode, *mode, *pid, *fd);
             }
-            Edit::SetOffset(description, place) => self.store.set_offset(description, place),
+            Edit::SetOffset(description, place) => self.store.set_offset(*description, *place),
             Edit::ShareSlot(pid, fd, description, _pipes) => {
-                self.reslot(pid, fd, Some(description));
+                self.reslot(*pid, *fd, Some(*description));
             }
-            Edit::ClearSlot(pid, fd, _pipes) => self.reslot(pid, fd, None),
+            Edit::ClearSlot(pid, fd, _pipes) => self.reslot(*pid, *fd, None),
             _ => unreachable!(),
         }
     }

@@ -11,7 +11,7 @@ ghost use Rattle.shadow.specs.Patches.{of_bytes, patched};
 ghost use Rattle.shadow.specs.Patches.{numbers_in, untouched};
 ghost use Rattle.shadow.specs.declared.change.Contents.TheVariants.{Names};
 ghost use Rattle.shadow.specs.declared.change.Made.TheVariants as Made;
-ghost use Rattle.shadow.specs.declared.change.Former.TheVariants.{Noted};
+ghost use Rattle.shadow.specs.declared.change.Former.TheVariants.{Noted, Other};
 ghost use Rattle.shadow.specs.Notes.{IsAppended, IsPassedBy, IsPiped, IsTaken};
 ghost use Rattle.shadow.specs.Notes.{IsCut, IsGiven, IsGone, IsMade, IsNamed, IsPutBack, IsUnnamed};
 ghost use Rattle.shadow.specs.Notes.{IsWritten, SameNet, put_back, room_for};
@@ -128,7 +128,7 @@ impl Change {
         ensures { IsPutBack name.now former (net_of (Some self.old)) (net_of (Some self.new)) }
     {
         match former {
-            Former::Other(contents) => self.contents = contents,
+            Former::Other(contents) => drop(mem::replace(&mut self.contents, contents)),
             Former::Noted(given) => put_back_in(&mut self.contents, name, given),
         }
     }
@@ -188,7 +188,8 @@ impl Change {
         ensures { IsPiped pipe.reader pipe.writer (net_of (Some self.old)) (net_of (Some self.new)) }
     {
         self.made = Some(Made::Pipe);
-        self.contents = Contents::Pipe(Some(pipe), PipeShadow::new(heap));
+        let contents = Contents::Pipe(Some(pipe), PipeShadow::new(heap));
+        drop(mem::replace(&mut self.contents, contents));
     }
 
     // Makes room for a file that grows.
@@ -210,7 +211,7 @@ impl Change {
     {
         self.made = Some(what);
         self.named += 1;
-        self.contents = fresh_of(heap, what);
+        drop(mem::replace(&mut self.contents, fresh_of(heap, what)));
     }
 
     /// Notes that the inode has a name more. It takes no memory.
@@ -276,19 +277,26 @@ fn note_in(
 {
     match contents {
         Contents::Names(_fresh, names) => names.note(name, given),
-        Contents::Same => {
-            *contents = first_name(heap, false, name, given)?;
-            Ok(())
-        }
-        Contents::Bytes(_fresh, _bytes) => {
-            *contents = first_name(heap, true, name, given)?;
-            Ok(())
-        }
-        Contents::Pipe(_new, _changes) => {
-            *contents = first_name(heap, true, name, given)?;
-            Ok(())
-        }
+        Contents::Same => note_first(contents, heap, false, name, given),
+        Contents::Bytes(_fresh, _bytes) => note_first(contents, heap, true, name, given),
+        Contents::Pipe(_new, _changes) => note_first(contents, heap, true, name, given),
     }
+}
+
+// Notes what a name gives now, in place of what was noted.
+fn note_first(
+    contents: &mut Contents,
+    heap: Heap,
+    fresh: bool,
+    name: Name,
+    given: Option<Num>,
+) -> Result<(), AllocError>
+    ensures ok { OnOk result (contents.new ≡ Names fresh (insert empty name given)) }
+    ensures err { OnErr result (contents.new ≡ contents.old) }
+{
+    let noted = first_name(heap, fresh, name, given)?;
+    drop(mem::replace(contents, noted));
+    Ok(())
 }
 
 // Notes that a name is gone, and gives what the note took the place of; bytes of a file or of a pipe
@@ -310,19 +318,25 @@ fn note_gone_in(contents: &mut Contents, heap: Heap, name: Name) -> Result<Forme
             names.note(name, None)?;
             Ok(Former::Noted(former))
         }
-        Contents::Same => {
-            let noted = first_name(heap, false, name, None)?;
-            Ok(Former::Other(mem::replace(contents, noted)))
-        }
-        Contents::Bytes(_fresh, _bytes) => {
-            let noted = first_name(heap, true, name, None)?;
-            Ok(Former::Other(mem::replace(contents, noted)))
-        }
-        Contents::Pipe(_new, _changes) => {
-            let noted = first_name(heap, true, name, None)?;
-            Ok(Former::Other(mem::replace(contents, noted)))
-        }
+        Contents::Same => note_first_gone(contents, heap, false, name),
+        Contents::Bytes(_fresh, _bytes) => note_first_gone(contents, heap, true, name),
+        Contents::Pipe(_new, _changes) => note_first_gone(contents, heap, true, name),
     }
+}
+
+// Notes that a name is gone, in place of what was noted, and gives that.
+fn note_first_gone(
+    contents: &mut Contents,
+    heap: Heap,
+    fresh: bool,
+    name: Name,
+) -> Result<Former, AllocError>
+    ensures ok { OnOk result (contents.new ≡ Names fresh (insert empty name None)) }
+    ensures former { IfOk result (λ former. former ≡ Other contents.old) }
+    ensures err { OnErr result (contents.new ≡ contents.old) }
+{
+    let noted = first_name(heap, fresh, name, None)?;
+    Ok(Former::Other(mem::replace(contents, noted)))
 }
 
 // Takes a name's note back, where there are notes of names.
@@ -368,19 +382,31 @@ fn write_in(
 {
     match contents {
         Contents::Bytes(_fresh, changes) => changes.write(place, bytes),
-        Contents::Same => {
-            *contents = first_bytes(heap, false, place, bytes)?;
-            Ok(())
-        }
-        Contents::Names(_fresh, _names) => {
-            *contents = first_bytes(heap, true, place, bytes)?;
-            Ok(())
-        }
-        Contents::Pipe(_new, _changes) => {
-            *contents = first_bytes(heap, true, place, bytes)?;
-            Ok(())
-        }
+        Contents::Same => write_first(contents, heap, false, place, bytes),
+        Contents::Names(_fresh, _names) => write_first(contents, heap, true, place, bytes),
+        Contents::Pipe(_new, _changes) => write_first(contents, heap, true, place, bytes),
     }
+}
+
+// Notes bytes that are written, in place of what was noted.
+fn write_first(
+    contents: &mut Contents,
+    heap: Heap,
+    fresh: bool,
+    place: usize,
+    bytes: &[u8],
+) -> Result<(), AllocError>
+    requires { place + length bytes.now ≤ LARGEST_FILE }
+    ensures contents { OnOk result ((o : Option Inode)
+        → patched contents.new o ≡ Some (File (written (bytes_before fresh o) place bytes.now))) }
+    ensures form { OnOk result (form_of contents.new ≡ of_bytes fresh) }
+    ensures numbers { OnOk result ((b : ℕ)
+        → Contains (numbers_in contents.new) b ↔ Contains (blocks place (length bytes.now)) b) }
+    ensures err { OnErr result (contents.new ≡ contents.old) }
+{
+    let noted = first_bytes(heap, fresh, place, bytes)?;
+    drop(mem::replace(contents, noted));
+    Ok(())
 }
 
 // The changes of a file with the bytes of one write.
@@ -407,10 +433,21 @@ fn cut_in(contents: &mut Contents, heap: Heap, len: usize)
 {
     match contents {
         Contents::Bytes(_fresh, changes) => changes.cut(len),
-        Contents::Same => *contents = first_cut(heap, false, len),
-        Contents::Names(_fresh, _names) => *contents = first_cut(heap, true, len),
-        Contents::Pipe(_new, _changes) => *contents = first_cut(heap, true, len),
+        Contents::Same => cut_first(contents, heap, false, len),
+        Contents::Names(_fresh, _names) => cut_first(contents, heap, true, len),
+        Contents::Pipe(_new, _changes) => cut_first(contents, heap, true, len),
     }
+}
+
+// Notes a file's length, in place of what was noted.
+fn cut_first(contents: &mut Contents, heap: Heap, fresh: bool, len: usize)
+    requires { len ≤ LARGEST_FILE }
+    ensures contents { (o : Option Inode)
+        → patched contents.new o ≡ Some (File (sized len (bytes_before fresh o))) }
+    ensures form { form_of contents.new ≡ of_bytes fresh }
+    ensures numbers { numbers_in contents.new ≡ [] }
+{
+    drop(mem::replace(contents, first_cut(heap, fresh, len)));
 }
 
 // The changes of a file with one cut.
@@ -436,7 +473,7 @@ fn take_in(contents: &mut Contents, heap: Heap, count: usize) -> Result<(), Allo
         Contents::Same => {
             let mut changes = PipeShadow::new(heap);
             changes.take(count)?;
-            *contents = Contents::Pipe(None, changes);
+            drop(mem::replace(contents, Contents::Pipe(None, changes)));
             Ok(())
         }
         Contents::Names(_fresh, _names) => Ok(()),
@@ -454,7 +491,7 @@ fn append_in(contents: &mut Contents, heap: Heap, bytes: &[u8]) -> Result<(), Al
         Contents::Same => {
             let mut changes = PipeShadow::new(heap);
             changes.append(bytes)?;
-            *contents = Contents::Pipe(None, changes);
+            drop(mem::replace(contents, Contents::Pipe(None, changes)));
             Ok(())
         }
         Contents::Names(_fresh, _names) => Ok(()),

@@ -62,6 +62,7 @@ impl Stable {
                 Ok(()) => Ok(chosen),
                 Err(AllocError) => {
                     self.give_up(chosen.as_slice(), None);
+                    drop(chosen);
                     Err(AllocError)
                 }
             },
@@ -228,7 +229,8 @@ impl Stable {
         ensures state { self.new.state ≡ self.old.state }
     {
         for (num, change) in inodes.each {
-            self.give_up_inode(num, change);
+            self.give_up_inode(num, &change);
+            drop(change);
         }
     }
 
@@ -248,9 +250,9 @@ impl Stable {
     }
 
     // Gives back what was kept for the changes of one inode.
-    fn give_up_inode(&mut self, num: Num, change: Change)
-        requires { (c : Claim) → inode_claim num (net_of (Some change)) c ≤ reserved self.old c }
-        ensures kept { KeepsMore self.new self.old (inode_claim num (net_of (Some change))) }
+    fn give_up_inode(&mut self, num: Num, change: &Change)
+        requires { (c : Claim) → inode_claim num (net_of (Some change.now)) c ≤ reserved self.old c }
+        ensures kept { KeepsMore self.new self.old (inode_claim num (net_of (Some change.now))) }
         ensures state { self.new.state ≡ self.old.state }
     {
         for _given in 0..change.promised {

@@ -60,7 +60,7 @@ impl Inodes {
         if self.get(num).is_some() {
             return Ok(());
         }
-        self.each.insert(num, Change::new(heap))?;
+        drop(self.each.insert(num, Change::new(heap))?);
         Ok(())
     }
 
@@ -117,22 +117,25 @@ impl Inodes {
     pub(crate) fn note_names(
         &mut self,
         from: Num,
-        old: Name,
+        old: &Name,
         to: Num,
         new: Name,
         num: Num,
     ) -> Result<(), AllocError>
         requires from { kept_at self.old from ≢ None }
         requires to { kept_at self.old to ≢ None }
-        ensures ok { OnOk result (AreNamed from old to new num self.old self.new) }
+        ensures ok { OnOk result (AreNamed from old.now to new num self.old self.new) }
         ensures err { OnErr result (SameInodes self.old self.new) }
     {
         let noted = old.try_clone()?;
         let former = self.note_gone(from, noted)?;
         match self.note_name(to, new, Some(num)) {
-            Ok(()) => Ok(()),
+            Ok(()) => {
+                drop(former);
+                Ok(())
+            }
             Err(AllocError) => {
-                self.put_back(from, &old, former);
+                self.put_back(from, old, former);
                 Err(AllocError)
             }
         }

@@ -52,8 +52,9 @@ fn lay_inode(store: &mut Store, heap: Heap, num: Num, change: Change)
         ..
     } = change;
     match contents {
-        Contents::Same => (),
+        Contents::Same => drop(room),
         Contents::Names(_fresh, names) => {
+            drop(room);
             if made.is_some() {
                 store.install(num);
             }
@@ -66,10 +67,13 @@ fn lay_inode(store: &mut Store, heap: Heap, num: Num, change: Change)
                 lay_bytes(store, heap, num, bytes, room);
             }
         }
-        Contents::Pipe(new, changes) => match new {
-            Some(pipe) => install_pipe(store, num, pipe, changes),
-            None => lay_pipe(store, num, &changes),
-        },
+        Contents::Pipe(new, changes) => {
+            drop(room);
+            match new {
+                Some(pipe) => install_pipe(store, num, pipe, changes),
+                None => lay_pipe(store, num, &changes),
+            }
+        }
     }
 }
 

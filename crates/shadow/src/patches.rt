@@ -1,6 +1,6 @@
 // All that a transaction has changed, object by object.
 ghost use Rattle.std.specs.Prelude.{◌≡◌, ◌≢◌, ◌+◌, ◌≤◌, ◌∷◌, [], ℕ, List, length, OnErr, OnOk};
-ghost use Rattle.std.specs.Prelude.{◌<◌, None, Some, if◌then◌else◌};
+ghost use Rattle.std.specs.Prelude.{◌<◌, None, Some, if◌then◌else◌, true};
 ghost use Rattle.ids.specs.declared.limits.TheConstants.{LARGEST_FILE};
 ghost use Rattle.model.specs.Changes.{Name_file, Move, Put_bytes, Cut, news, number, at_start};
 ghost use Rattle.model.specs.Changes.{Append, Make_pipe, Take, inode_replaced, to_read, to_write};
@@ -173,14 +173,22 @@ impl Patches {
             Edit::UnnameFile(parent, name, num) => self.unname(parent, name, num),
             Edit::UnnameDirectory(parent, name, num) => self.unname(parent, name, num),
             Edit::Move(from, old, to, new, num, replaced) => {
-                self.rename(from, old, to, new, num, replaced)
+                let noted = self.rename(from, &old, to, new, num, replaced);
+                drop(old);
+                noted
             }
             Edit::PutBytes(file, place, bytes, before) => {
-                self.write(file, place, &bytes, before)
+                let noted = self.write(file, place, &bytes, before);
+                drop(bytes);
+                noted
             }
             Edit::Cut(file, before, after) => self.cut(file, before, after),
             Edit::Take(pipe, count) => self.take(pipe, count),
-            Edit::Append(pipe, bytes) => self.append(pipe, &bytes),
+            Edit::Append(pipe, bytes) => {
+                let noted = self.append(pipe, &bytes);
+                drop(bytes);
+                noted
+            }
             Edit::MakePipe(_place, pid, reading, writing) => {
                 self.make_pipe(chosen[0], pid, (reading, chosen[1]), (writing, chosen[2]))
             }
@@ -240,14 +248,14 @@ impl Patches {
     fn rename(
         &mut self,
         from: Num,
-        old: Name,
+        old: &Name,
         to: Num,
         new: Name,
         num: Num,
         replaced: Replaced,
     ) -> Result<(), AllocError>
         ensures ok { OnOk result ((chosen : List ℕ)
-            → TakesIn chosen (Move from old to new num replaced) self.old self.new) }
+            → TakesIn chosen (Move from old.now to new num replaced) self.old self.new) }
         ensures err { OnErr result (SamePatches self.old self.new) }
         ensures openings { self.new.openings ≡ self.old.openings }
         ensures slots { self.new.slots ≡ self.old.slots }
@@ -394,7 +402,11 @@ impl Patches {
             None => Ok(()),
             Some(last) => match edits.pop() {
                 None => self.note_one(chosen, last),
-                Some(first) => self.note_two(chosen, first, last),
+                Some(first) => {
+                    let noted = self.note_two(chosen, first, &last);
+                    drop(last);
+                    noted
+                }
             },
         }
     }
@@ -408,25 +420,41 @@ impl Patches {
         ensures err { OnErr result (SamePatches self.old self.new) }
     {
         if is_last(&edit) {
-            self.make_places(chosen, &edit)?;
-            self.note_last(chosen, &edit);
-            Ok(())
+            let noted = self.note_lone_last(chosen, &edit);
+            drop(edit);
+            noted
         } else {
             self.note_first(chosen, edit)
         }
     }
 
-    // A call with two edits: the places for the second are made first.
-    fn note_two(&mut self, chosen: &[Num], first: Edit, last: Edit) -> Result<(), AllocError>
-        requires kinds { CanEdit (first ∷ last ∷ []) }
-        requires count { length chosen.now ≡ news first + news last }
-        requires apart { AreApart chosen.now first }
-        ensures ok { OnOk result (TakesAll chosen.now (first ∷ last ∷ []) self.old self.new) }
+    // A call with one edit, which is of a description or a slot.
+    fn note_lone_last(&mut self, chosen: &[Num], edit: &Edit) -> Result<(), AllocError>
+        requires kinds { CanEdit (edit.now ∷ []) }
+        requires count { length chosen.now ≡ news edit.now }
+        requires last { is_last edit.now ≡ true }
+        ensures ok { OnOk result (TakesAll chosen.now (edit.now ∷ []) self.old self.new) }
         ensures err { OnErr result (SamePatches self.old self.new) }
     {
-        self.make_places(chosen, &last)?;
+        self.make_places(chosen, edit)?;
+        self.note_last(chosen, edit);
+        Ok(())
+    }
+
+    // A call with two edits: the places for the second are made first.
+    fn note_two(&mut self, chosen: &[Num], first: Edit, last: &Edit) -> Result<(), AllocError>
+        requires kinds { CanEdit (first ∷ last.now ∷ []) }
+        requires count { length chosen.now ≡ news first + news last.now }
+        requires apart { AreApart chosen.now first }
+        ensures ok { OnOk result (TakesAll chosen.now (first ∷ last.now ∷ []) self.old self.new) }
+        ensures err { OnErr result (SamePatches self.old self.new) }
+    {
+        if let Err(refused) = self.make_places(chosen, last) {
+            drop(first);
+            return Err(refused);
+        }
         self.note_first(chosen, first)?;
-        self.note_last(chosen, &last);
+        self.note_last(chosen, last);
         Ok(())
     }
 }

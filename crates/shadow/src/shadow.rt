@@ -86,6 +86,7 @@ impl Shadow {
             }
             Err(AllocError) => {
                 stable.give_up(chosen.as_slice(), parent);
+                drop(chosen);
                 Err(AllocError)
             }
         }

@@ -6,6 +6,7 @@ use Rattle.shadow.specs.declared.change.Contents.TheVariants.{Names}
 use Rattle.shadow.specs.Patches.{added_by, patched}
 use Rattle.shadow.specs.Steps.{name_noted}
 use Rattle.shadow.proofs.NamesNoted.{added_first, added_more, named_first, named_more, taken_back}
+use Rattle.shadow.proofs.Outcomes.{ok_so}
 use Rattle.shadow.proofs.change.note_gone_in.Goals as goal
 
 pub returns-in_ok-note-in-Names-clause-contents : goal.returns-in_ok-note-in-Names-clause-contents
@@ -25,34 +26,44 @@ returns-in_ok-note-in-Names-clause-back c =
     ∙ taken_back c.in-Names.names c.args.name None)
     ∙ sym c.in-Names.is
 
-pub returns-in_ok-noted-in-Same-clause-contents : goal.returns-in_ok-noted-in-Same-clause-contents
-returns-in_ok-noted-in-Same-clause-contents c = λ o.
-    named_first false c.args.name None c.replace.new.dest (c.replace.ensures.after ∙ c.in_ok-noted-in-Same.ensures) o
-    ∙ ap (λ (d : Contents). name_noted c.args.name None (patched d o)) (sym c.in-Same.is)
+pub returns-in-Same-clause-contents : goal.returns-in-Same-clause-contents
+returns-in-Same-clause-contents c =
+    ok_so c.note_first_gone.result
+    (λ is o. named_first false c.args.name None c.note_first_gone.new.contents is o
+    ∙ ap (λ (d : Contents). name_noted c.args.name None (patched d o)) (sym c.in-Same.is))
+    c.note_first_gone.ensures.ok
 
-pub returns-in_ok-noted-in-Same-clause-added : goal.returns-in_ok-noted-in-Same-clause-added
-returns-in_ok-noted-in-Same-clause-added c =
-    let more : added_by c.replace.new.dest ≤ added_by c.args.contents.now + 0 =
-    added_first false c.args.name None c.replace.new.dest (c.replace.ensures.after ∙ c.in_ok-noted-in-Same.ensures) (added_by c.args.contents.now) in omega (arith, more)
+pub returns-in-Same-clause-added : goal.returns-in-Same-clause-added
+returns-in-Same-clause-added c =
+    ok_so c.note_first_gone.result
+    (λ is. let more : added_by c.note_first_gone.new.contents ≤ added_by c.args.contents.now + 0 =
+    added_first false c.args.name None c.note_first_gone.new.contents is (added_by c.args.contents.now) in omega (arith, more))
+    c.note_first_gone.ensures.ok
 
-pub returns-in_ok-noted-in-Bytes-clause-contents :
-    goal.returns-in_ok-noted-in-Bytes-clause-contents
-returns-in_ok-noted-in-Bytes-clause-contents c = λ o.
-    named_first true c.args.name None c.replace-in-Bytes.new.dest (c.replace-in-Bytes.ensures.after ∙ c.in_ok-noted-in-Bytes.ensures) o
-    ∙ ap (λ (d : Contents). name_noted c.args.name None (patched d o)) (sym c.in-Bytes.is)
+pub returns-in-Bytes-clause-contents : goal.returns-in-Bytes-clause-contents
+returns-in-Bytes-clause-contents c =
+    ok_so c.note_first_gone-in-Bytes.result
+    (λ is o. named_first true c.args.name None c.note_first_gone-in-Bytes.new.contents is o
+    ∙ ap (λ (d : Contents). name_noted c.args.name None (patched d o)) (sym c.in-Bytes.is))
+    c.note_first_gone-in-Bytes.ensures.ok
 
-pub returns-in_ok-noted-in-Bytes-clause-added : goal.returns-in_ok-noted-in-Bytes-clause-added
-returns-in_ok-noted-in-Bytes-clause-added c =
-    let more : added_by c.replace-in-Bytes.new.dest ≤ added_by c.args.contents.now + 0 =
-    added_first true c.args.name None c.replace-in-Bytes.new.dest (c.replace-in-Bytes.ensures.after ∙ c.in_ok-noted-in-Bytes.ensures) (added_by c.args.contents.now) in omega (arith, more)
+pub returns-in-Bytes-clause-added : goal.returns-in-Bytes-clause-added
+returns-in-Bytes-clause-added c =
+    ok_so c.note_first_gone-in-Bytes.result
+    (λ is. let more : added_by c.note_first_gone-in-Bytes.new.contents ≤ added_by c.args.contents.now + 0 =
+    added_first true c.args.name None c.note_first_gone-in-Bytes.new.contents is (added_by c.args.contents.now) in omega (arith, more))
+    c.note_first_gone-in-Bytes.ensures.ok
 
-pub returns-in_ok-noted-in-Pipe-clause-contents :
-    goal.returns-in_ok-noted-in-Pipe-clause-contents
-returns-in_ok-noted-in-Pipe-clause-contents c = λ o.
-    named_first true c.args.name None c.replace-in-Pipe.new.dest (c.replace-in-Pipe.ensures.after ∙ c.in_ok-noted-in-Pipe.ensures) o
-    ∙ ap (λ (d : Contents). name_noted c.args.name None (patched d o)) (sym c.in-Pipe.is)
+pub returns-in-Pipe-clause-contents : goal.returns-in-Pipe-clause-contents
+returns-in-Pipe-clause-contents c =
+    ok_so c.note_first_gone-in-Pipe.result
+    (λ is o. named_first true c.args.name None c.note_first_gone-in-Pipe.new.contents is o
+    ∙ ap (λ (d : Contents). name_noted c.args.name None (patched d o)) (sym c.in-Pipe.is))
+    c.note_first_gone-in-Pipe.ensures.ok
 
-pub returns-in_ok-noted-in-Pipe-clause-added : goal.returns-in_ok-noted-in-Pipe-clause-added
-returns-in_ok-noted-in-Pipe-clause-added c =
-    let more : added_by c.replace-in-Pipe.new.dest ≤ added_by c.args.contents.now + 0 =
-    added_first true c.args.name None c.replace-in-Pipe.new.dest (c.replace-in-Pipe.ensures.after ∙ c.in_ok-noted-in-Pipe.ensures) (added_by c.args.contents.now) in omega (arith, more)
+pub returns-in-Pipe-clause-added : goal.returns-in-Pipe-clause-added
+returns-in-Pipe-clause-added c =
+    ok_so c.note_first_gone-in-Pipe.result
+    (λ is. let more : added_by c.note_first_gone-in-Pipe.new.contents ≤ added_by c.args.contents.now + 0 =
+    added_first true c.args.name None c.note_first_gone-in-Pipe.new.contents is (added_by c.args.contents.now) in omega (arith, more))
+    c.note_first_gone-in-Pipe.ensures.ok

@@ -18,34 +18,41 @@ returns-in-Names-clause-added c =
     (λ is. added_more c.in-Names._fresh c.in-Names.names c.note.new.self c.args.name c.args.given c.args.contents.now c.in-Names.is is)
     c.note.ensures.ok
 
-pub returns-in_ok-contents-in-Same-clause-contents :
-    goal.returns-in_ok-contents-in-Same-clause-contents
-returns-in_ok-contents-in-Same-clause-contents c = λ o.
-    named_first false c.args.name c.args.given c.in_ok-contents-in-Same.field-0 c.in_ok-contents-in-Same.ensures o
-    ∙ ap (λ (d : Contents). name_noted c.args.name c.args.given (patched d o)) (sym c.in-Same.is)
+pub returns-in-Same-clause-contents : goal.returns-in-Same-clause-contents
+returns-in-Same-clause-contents c =
+    ok_so c.note_first.result
+    (λ is o. named_first false c.args.name c.args.given c.note_first.new.contents is o
+    ∙ ap (λ (d : Contents). name_noted c.args.name c.args.given (patched d o)) (sym c.in-Same.is))
+    c.note_first.ensures.ok
 
-pub returns-in_ok-contents-in-Same-clause-added : goal.returns-in_ok-contents-in-Same-clause-added
-returns-in_ok-contents-in-Same-clause-added c =
-    added_first false c.args.name c.args.given c.in_ok-contents-in-Same.field-0 c.in_ok-contents-in-Same.ensures _
+pub returns-in-Same-clause-added : goal.returns-in-Same-clause-added
+returns-in-Same-clause-added c =
+    ok_so c.note_first.result
+    (λ is. added_first false c.args.name c.args.given c.note_first.new.contents is _)
+    c.note_first.ensures.ok
 
-pub returns-in_ok-contents-in-Bytes-clause-contents :
-    goal.returns-in_ok-contents-in-Bytes-clause-contents
-returns-in_ok-contents-in-Bytes-clause-contents c = λ o.
-    named_first true c.args.name c.args.given c.in_ok-contents-in-Bytes.field-0 c.in_ok-contents-in-Bytes.ensures o
-    ∙ ap (λ (d : Contents). name_noted c.args.name c.args.given (patched d o)) (sym c.in-Bytes.is)
+pub returns-in-Bytes-clause-contents : goal.returns-in-Bytes-clause-contents
+returns-in-Bytes-clause-contents c =
+    ok_so c.note_first-in-Bytes.result
+    (λ is o. named_first true c.args.name c.args.given c.note_first-in-Bytes.new.contents is o
+    ∙ ap (λ (d : Contents). name_noted c.args.name c.args.given (patched d o)) (sym c.in-Bytes.is))
+    c.note_first-in-Bytes.ensures.ok
 
-pub returns-in_ok-contents-in-Bytes-clause-added :
-    goal.returns-in_ok-contents-in-Bytes-clause-added
-returns-in_ok-contents-in-Bytes-clause-added c =
-    added_first true c.args.name c.args.given c.in_ok-contents-in-Bytes.field-0 c.in_ok-contents-in-Bytes.ensures _
+pub returns-in-Bytes-clause-added : goal.returns-in-Bytes-clause-added
+returns-in-Bytes-clause-added c =
+    ok_so c.note_first-in-Bytes.result
+    (λ is. added_first true c.args.name c.args.given c.note_first-in-Bytes.new.contents is _)
+    c.note_first-in-Bytes.ensures.ok
 
-pub returns-in_ok-contents-in-Pipe-clause-contents :
-    goal.returns-in_ok-contents-in-Pipe-clause-contents
-returns-in_ok-contents-in-Pipe-clause-contents c = λ o.
-    named_first true c.args.name c.args.given c.in_ok-contents-in-Pipe.field-0 c.in_ok-contents-in-Pipe.ensures o
-    ∙ ap (λ (d : Contents). name_noted c.args.name c.args.given (patched d o)) (sym c.in-Pipe.is)
+pub returns-in-Pipe-clause-contents : goal.returns-in-Pipe-clause-contents
+returns-in-Pipe-clause-contents c =
+    ok_so c.note_first-in-Pipe.result
+    (λ is o. named_first true c.args.name c.args.given c.note_first-in-Pipe.new.contents is o
+    ∙ ap (λ (d : Contents). name_noted c.args.name c.args.given (patched d o)) (sym c.in-Pipe.is))
+    c.note_first-in-Pipe.ensures.ok
 
-pub returns-in_ok-contents-in-Pipe-clause-added :
-    goal.returns-in_ok-contents-in-Pipe-clause-added
-returns-in_ok-contents-in-Pipe-clause-added c =
-    added_first true c.args.name c.args.given c.in_ok-contents-in-Pipe.field-0 c.in_ok-contents-in-Pipe.ensures _
+pub returns-in-Pipe-clause-added : goal.returns-in-Pipe-clause-added
+returns-in-Pipe-clause-added c =
+    ok_so c.note_first-in-Pipe.result
+    (λ is. added_first true c.args.name c.args.given c.note_first-in-Pipe.new.contents is _)
+    c.note_first-in-Pipe.ensures.ok

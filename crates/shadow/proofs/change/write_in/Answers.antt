@@ -14,17 +14,20 @@ returns-in-Bytes-clause-numbers c =
     (joined c.in-Bytes.changes.changed.numbers c.write.new.self.changed.numbers (blocks c.args.place (length c.args.bytes.now)) is))
     c.write.ensures.changed
 
-pub returns-in_ok-contents-in-Same-clause-numbers :
-    goal.returns-in_ok-contents-in-Same-clause-numbers
-returns-in_ok-contents-in-Same-clause-numbers c =
-    behind_none (numbers_in c.args.contents.now) (numbers_in c.in_ok-contents-in-Same.field-0) (blocks c.args.place (length c.args.bytes.now)) (ap numbers_in c.in-Same.is) c.in_ok-contents-in-Same.ensures.numbers
+pub returns-in-Same-clause-numbers : goal.returns-in-Same-clause-numbers
+returns-in-Same-clause-numbers c =
+    ok_so c.write_first.result
+    (behind_none (numbers_in c.args.contents.now) (numbers_in c.write_first.new.contents) (blocks c.args.place (length c.args.bytes.now)) (ap numbers_in c.in-Same.is))
+    c.write_first.ensures.numbers
 
-pub returns-in_ok-contents-in-Names-clause-numbers :
-    goal.returns-in_ok-contents-in-Names-clause-numbers
-returns-in_ok-contents-in-Names-clause-numbers c =
-    behind_none (numbers_in c.args.contents.now) (numbers_in c.in_ok-contents-in-Names.field-0) (blocks c.args.place (length c.args.bytes.now)) (ap numbers_in c.in-Names.is) c.in_ok-contents-in-Names.ensures.numbers
+pub returns-in-Names-clause-numbers : goal.returns-in-Names-clause-numbers
+returns-in-Names-clause-numbers c =
+    ok_so c.write_first-in-Names.result
+    (behind_none (numbers_in c.args.contents.now) (numbers_in c.write_first-in-Names.new.contents) (blocks c.args.place (length c.args.bytes.now)) (ap numbers_in c.in-Names.is))
+    c.write_first-in-Names.ensures.numbers
 
-pub returns-in_ok-contents-in-Pipe-clause-numbers :
-    goal.returns-in_ok-contents-in-Pipe-clause-numbers
-returns-in_ok-contents-in-Pipe-clause-numbers c =
-    behind_none (numbers_in c.args.contents.now) (numbers_in c.in_ok-contents-in-Pipe.field-0) (blocks c.args.place (length c.args.bytes.now)) (ap numbers_in c.in-Pipe.is) c.in_ok-contents-in-Pipe.ensures.numbers
+pub returns-in-Pipe-clause-numbers : goal.returns-in-Pipe-clause-numbers
+returns-in-Pipe-clause-numbers c =
+    ok_so c.write_first-in-Pipe.result
+    (behind_none (numbers_in c.args.contents.now) (numbers_in c.write_first-in-Pipe.new.contents) (blocks c.args.place (length c.args.bytes.now)) (ap numbers_in c.in-Pipe.is))
+    c.write_first-in-Pipe.ensures.numbers

@@ -29,13 +29,13 @@ lay-requires-clause-numbers c =
     (then_numbers c.args.store.now c.if-is_some.store c.args.num c.args.change c.in-Names.names (ready c) (shown c))
 
 -- the notes are laid over the names that are shown then
-pub returns-in-Names-clause-here : goal.returns-in-Names-clause-here
-returns-in-Names-clause-here c =
+pub returns-after-is_some-clause-here : goal.returns-after-is_some-clause-here
+returns-after-is_some-clause-here c =
     subst (λ w. IsCarriedBy c.args.change w (get c.args.store.now.places c.args.num) (get c.lay.new.self.places c.args.num)) (sym c.in-Names.is)
-    (laid_here c.args.store.now c.if-is_some.store c.lay.new.self c.args.num (is_some c.args.change.made) c.in-Names.names c.args.change.promised (shown c.before.before.before)
+    (laid_here c.args.store.now c.if-is_some.store c.lay.new.self c.args.num (is_some c.args.change.made) c.in-Names.names c.args.change.promised (shown c.before)
     (c.lay.ensures.laid ∙ ap (λ gs. altered (with_listing (laid_listing gs c.args.change.promised)) c.if-is_some.store c.args.num) c.into_given.ensures))
 
-pub returns-in-Names-clause-others : goal.returns-in-Names-clause-others
-returns-in-Names-clause-others c =
-    laid_elsewhere c.args.store.now c.if-is_some.store c.lay.new.self c.args.num (is_some c.args.change.made) c.in-Names.names c.args.change.promised (shown c.before.before.before)
+pub returns-after-is_some-clause-others : goal.returns-after-is_some-clause-others
+returns-after-is_some-clause-others c =
+    laid_elsewhere c.args.store.now c.if-is_some.store c.lay.new.self c.args.num (is_some c.args.change.made) c.in-Names.names c.args.change.promised (shown c.before)
     (c.lay.ensures.laid ∙ ap (λ gs. altered (with_listing (laid_listing gs c.args.change.promised)) c.if-is_some.store c.args.num) c.into_given.ensures)

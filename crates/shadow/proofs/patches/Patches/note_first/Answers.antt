@@ -49,16 +49,16 @@ returns-in-UnnameDirectory-clause-ok c =
 
 pub returns-in-Move-clause-ok : goal.returns-in-Move-clause-ok
 returns-in-Move-clause-ok c =
-    ok_so c.rename.result
-    (λ t. subst (λ (e : Edit). TakesIn c.args.chosen.now e c.args.self.now c.rename.new.self) (sym c.in-Move.is) (t c.args.chosen.now))
-    c.rename.ensures.ok
+    ok_so c.rename-noted.result
+    (λ t. subst (λ (e : Edit). TakesIn c.args.chosen.now e c.args.self.now c.rename-noted.new.self) (sym c.in-Move.is) (t c.args.chosen.now))
+    c.rename-noted.ensures.ok
 
 pub returns-in-PutBytes-clause-ok : goal.returns-in-PutBytes-clause-ok
 returns-in-PutBytes-clause-ok c =
-    ok_so c.write.result
-    (λ t. subst (λ (e : Edit). TakesIn c.args.chosen.now e c.args.self.now c.write.new.self) (sym c.in-PutBytes.is)
-    (put_taken c.args.chosen.now c.args.self.now c.write.new.self c.in-PutBytes.file c.in-PutBytes.place c.in-PutBytes.bytes c.in-PutBytes.before t))
-    c.write.ensures.ok
+    ok_so c.write-noted.result
+    (λ t. subst (λ (e : Edit). TakesIn c.args.chosen.now e c.args.self.now c.write-noted.new.self) (sym c.in-PutBytes.is)
+    (put_taken c.args.chosen.now c.args.self.now c.write-noted.new.self c.in-PutBytes.file c.in-PutBytes.place c.in-PutBytes.bytes c.in-PutBytes.before t))
+    c.write-noted.ensures.ok
 
 pub returns-in-Cut-clause-ok : goal.returns-in-Cut-clause-ok
 returns-in-Cut-clause-ok c =
@@ -76,10 +76,10 @@ returns-in-Take-clause-ok c =
 
 pub returns-in-Append-clause-ok : goal.returns-in-Append-clause-ok
 returns-in-Append-clause-ok c =
-    ok_so c.append.result
-    (λ t. subst (λ (e : Edit). TakesIn c.args.chosen.now e c.args.self.now c.append.new.self) (sym c.in-Append.is)
-    (append_taken c.args.chosen.now c.args.self.now c.append.new.self c.in-Append.pipe c.in-Append.bytes t))
-    c.append.ensures.ok
+    ok_so c.append-noted.result
+    (λ t. subst (λ (e : Edit). TakesIn c.args.chosen.now e c.args.self.now c.append-noted.new.self) (sym c.in-Append.is)
+    (append_taken c.args.chosen.now c.args.self.now c.append-noted.new.self c.in-Append.pipe c.in-Append.bytes t))
+    c.append-noted.ensures.ok
 
 pub returns-in-MakePipe-clause-ok : goal.returns-in-MakePipe-clause-ok
 returns-in-MakePipe-clause-ok c =

@@ -86,7 +86,7 @@ returns-in-PutBytes-clause-state c =
     let chosen : List ℕ = c.args.chosen.now in let k : Kernel = c.args.self.now.state in
     let e : Edit = Put_bytes c.in-PutBytes.file c.in-PutBytes.place c.in-PutBytes.bytes
     c.in-PutBytes._before in
-    ok_so c.write.result (λ h. h c.in-PutBytes._before
+    ok_so c.write-written.result (λ h. h c.in-PutBytes._before
     ∙ ap (λ bytes. applied []
     (Put_bytes c.in-PutBytes.file c.in-PutBytes.place bytes c.in-PutBytes._before) k)
     c.as_slice.ensures
@@ -94,7 +94,7 @@ returns-in-PutBytes-clause-state c =
     c.in-PutBytes._before
     ∙ none_goes chosen k e c.state_is_tidied.ensures
     (subst (Fits chosen k) c.in-PutBytes.is c.requires.fits) refl
-    ∙ ap (λ (e : Edit). tidy (applied chosen e k)) (sym c.in-PutBytes.is)) c.write.ensures.state
+    ∙ ap (λ (e : Edit). tidy (applied chosen e k)) (sym c.in-PutBytes.is)) c.write-written.ensures.state
 
 pub returns-in-Cut-clause-state : goal.returns-in-Cut-clause-state
 returns-in-Cut-clause-state c =
