@@ -102,9 +102,9 @@ pub fn first_slots(heap: Heap, count: usize) -> Result<Vec<Slot, Heap>, AllocErr
     ensures first { IfOk result (λ slots. AreFirstSlots slots.items count) }
 {
     let mut slots = Vec::with_capacity(heap, count + 1)?;
-    let _ = slots.push(Slot::Gone);
+    drop(slots.push(Slot::Gone));
     for _i in 0..count {
-        let _ = slots.push(Slot::Idle);
+        drop(slots.push(Slot::Idle));
     }
     Ok(slots)
 }
@@ -142,9 +142,10 @@ pub fn doom_slot(slot: Slot, doomed: Doomed, stable: &mut Stable) -> Slot
                 reply: doomed.reply,
             })
         }
-        Slot::Gone => Slot::Gone,
-        Slot::Idle => Slot::Idle,
-        Slot::Doomed(doom) => Slot::Doomed(doom),
+        other => {
+            drop(doomed);
+            other
+        }
     }
 }
 
@@ -169,9 +170,10 @@ pub fn causes_in(slot: Slot) -> Option<(Cause, Cause)>
 {
     match slot {
         Slot::Doomed(Doom { entry, reply, .. }) => Some((entry, reply)),
-        Slot::Gone => None,
-        Slot::Idle => None,
-        Slot::Live(_) => None,
+        other => {
+            drop(other);
+            None
+        }
     }
 }
 

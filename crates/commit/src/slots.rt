@@ -109,7 +109,7 @@ impl Slots {
         ensures { (before : List Slot_of) → self.old ≡ before ++ Idle_slot ∷ []
             → self.new ≡ before }
     {
-        let _ = self.all.pop();
+        drop(self.all.pop());
     }
 }
 
