@@ -6,7 +6,7 @@ use Rattle.std.specs.Ordering.{eq_by_cmp}
 use Rattle.std.specs.Cmp.{nat_cmp_total, eq_by_cmp_equiv}
 use Rattle.std.proofs.lemmas.Bool.{eqb-true}
 use Rattle.std.proofs.lemmas.List.Sums.{sum_by-cons}
-use Rattle.model.specs.FiniteMap.{FinMap, get, empty, entries, insert, remove, values, entries-empty, get-empty, get-insert, get-remove, nat_cmp-IsAntisymmetric}
+use Rattle.model.specs.FiniteMap.{FinMap, get, empty, insert, remove, entries-empty, get-empty, get-insert, get-remove, nat_cmp-IsAntisymmetric}
 use Rattle.model.specs.State.{Inode, Directory, Name, name_cmp, names_of_inode}
 use Rattle.model.proofs.Laws.{weight, weighed, sum-insert, sum-remove}
 use Rattle.replay.specs.Counts.{AreCounted, count_at, given_by, given_by_all, given_once, times_given}
@@ -106,10 +106,10 @@ module _ (m : FinMap nat_cmp Inode) (c d : FinMap nat_cmp ℕ) (counted : AreCou
   counted_gone less = λ n. omega (arith, counted n, less n, all-gone m k n)
 
   module _ (x : Name) where
-    pub counted_named : (b : FinMap nat_cmp ℕ) (v : ℕ) → ((n : ℕ) → count_at b n ≡ count_at c n + cond (v == n) 1 0) → ((n : ℕ) → count_at d n ≡ count_at b n - given_once n (get (names_of_inode (get m k)) x))
+    pub counted_named : (v : ℕ) → ((n : ℕ) → count_at d n ≡ count_at c n + cond (v == n) 1 0 - given_once n (get (names_of_inode (get m k)) x))
         → AreCounted (insert m k (Directory (insert (names_of_inode (get m k)) x v))) d
-    counted_named b v more less = λ n.
-        omega (arith, counted n, more n, less n, all-set m k n (Directory (insert (names_of_inode (get m k)) x v)), name-set (names_of_inode (get m k)) x n v)
+    counted_named v less = λ n.
+        omega (arith, counted n, less n, all-set m k n (Directory (insert (names_of_inode (get m k)) x v)), name-set (names_of_inode (get m k)) x n v)
 
     pub counted_unnamed : ((n : ℕ) → count_at d n ≡ count_at c n - given_once n (get (names_of_inode (get m k)) x)) → AreCounted (insert m k (Directory (remove (names_of_inode (get m k)) x))) d
     counted_unnamed less = λ n.

@@ -47,7 +47,7 @@ impl PlainKernel {
         requires { names_of_inode (Some inode) ≡ empty }
         ensures { OnOk result (self.new ≡ set_inode num inode self.old) }
     {
-        let _before = self.inodes.insert(num, inode)?;
+        drop(self.inodes.insert(num, inode)?);
         Ok(())
     }
 
@@ -63,9 +63,9 @@ impl PlainKernel {
     fn set_name(&mut self, heap: Heap, dir: Num, name: &Name, num: Num) -> Result<(), AllocError>
         ensures { OnOk result (self.new ≡ set_name dir name.now num self.old) }
     {
-        let name = name.try_clone()?;
         let inodes = replace(&mut self.inodes, Inodes::new(heap));
-        self.inodes = inodes.with_name(heap, dir, name, num)?;
+        let named = inodes.with_name(heap, dir, name, num)?;
+        drop(replace(&mut self.inodes, named));
         Ok(())
     }
 
@@ -74,7 +74,8 @@ impl PlainKernel {
         ensures { OnOk result (self.new ≡ clear_name dir name.now self.old) }
     {
         let inodes = replace(&mut self.inodes, Inodes::new(heap));
-        self.inodes = inodes.without_name(heap, dir, name)?;
+        let left = inodes.without_name(heap, dir, name)?;
+        drop(replace(&mut self.inodes, left));
         Ok(())
     }
 
@@ -168,8 +169,7 @@ impl PlainKernel {
     fn set_description(&mut self, num: Num, description: Description) -> Result<(), AllocError>
         ensures { OnOk result (self.new ≡ set_description num description self.old) }
     {
-        let _before = self.descriptions.insert(num, description)?;
-        Ok(())
+        self.descriptions.set(num, description)
     }
 
     // Takes a process out, or makes one without descriptors.
@@ -190,8 +190,7 @@ impl PlainKernel {
     fn set_process(&mut self, pid: Pid, process: Process) -> Result<(), AllocError>
         ensures { OnOk result (self.new ≡ set_process pid process self.old) }
     {
-        let _before = self.processes.insert(place_of(pid), process)?;
-        Ok(())
+        self.processes.set(place_of(pid), process)
     }
 
     // A descriptor gives a description.
@@ -263,7 +262,7 @@ impl PlainKernel {
     fn end_process(&mut self, pid: Pid)
         ensures { self.new ≡ record self.old { processes = remove self.old.processes pid } }
     {
-        let _process = self.processes.remove(place_of(pid));
+        drop(self.processes.remove(place_of(pid)));
     }
 }
 

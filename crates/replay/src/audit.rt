@@ -1,8 +1,11 @@
 // A run of a history's committed calls on a plain kernel.
 ghost use Rattle.std.specs.Prelude.{◌≡◌, ◌<◌, ◌+◌, ◌^◌, ◌==◌, ℕ, List, [], length, drop};
-ghost use Rattle.std.specs.Prelude.{IfOk, MatchBool, MatchOption, MatchResult, OnOk, true};
+ghost use Rattle.std.specs.Prelude.{IfOk, MatchBool, MatchOption, MatchResult, OnOk, true, false};
 ghost use Rattle.std.specs.Prelude.{if◌then◌else◌, option_copied};
-ghost use Rattle.model.specs.FiniteMap.{empty, get};
+ghost use Rattle.model.specs.FiniteMap.{empty, get, insert};
+ghost use Rattle.model.specs.State.{Directory as A_directory};
+ghost use Rattle.calls.specs.Planned.{IsPlan};
+ghost use Rattle.model.specs.Calls.{Call as Made};
 ghost use Rattle.model.specs.Entries.{Do};
 ghost use Rattle.model.specs.Moments.{is_in, start, with_processes};
 ghost use Rattle.freeing_laws.specs.Sweep.{IsTidied};
@@ -22,7 +25,7 @@ use crate::names::Names;
 use crate::plain::{PlainKernel, Process, place_of, small};
 use crate::table::Table;
 use crate::transaction::{Transaction, doomed_kept, is_executed, own_kept, suits};
-use calls::plan_of;
+use calls::{Plan, plan_of};
 use heap::Heap;
 use ids::{Call, Entry, Num, Op, Pid, Priority, Reply};
 use std::alloc::AllocError;
@@ -61,6 +64,27 @@ impl PlainKernel {
             (CannotRun self.old pid (call_in (Do call.now) reply.now chosen.now))) }
     {
         let plan = plan_of(heap, self, pid, call, false)?;
+        let right = self.step_by(heap, pid, &plan, reply, chosen);
+        drop(plan);
+        right
+    }
+
+    // A call that comes to this. It is right where it is answered so, with these new numbers.
+    fn step_by(
+        &mut self,
+        heap: Heap,
+        pid: Pid,
+        plan: &Plan,
+        reply: &Reply,
+        chosen: &[Num],
+    ) -> Result<bool, AllocError>
+        requires tidied { IsTidied self.old }
+        requires executed { is_executed reply.now ≡ true }
+        ensures { (call : Made) → IsPlan self.old pid call false plan.now
+            → IfOk result (λ right. MatchBool right
+            (Ran self.old pid (call_in (Do call) reply.now chosen.now) self.new)
+            (CannotRun self.old pid (call_in (Do call) reply.now chosen.now))) }
+    {
         if !is_reply(&plan.answer, reply)
             || !self.is_living(pid)
             || !self.can_be_chosen(plan.edits.as_slice(), chosen)
@@ -277,10 +301,7 @@ fn keep(
         ≡ (if q == pid then kept else get transactions.old q)) }
 {
     match kept {
-        Some(transaction) => {
-            let _before = transactions.insert(place_of(pid), transaction)?;
-            Ok(())
-        }
+        Some(transaction) => transactions.set(place_of(pid), transaction),
         None => Ok(()),
     }
 }
@@ -333,9 +354,26 @@ fn first_processes(heap: Heap, priorities: &[Priority]) -> Result<Table<Process>
             table: Table::new(heap),
             priority: priority.level(),
         };
-        let _before = processes.insert(Num(index + 1), process)?;
+        processes.set(Num(index + 1), process)?;
     }
     Ok(processes)
+}
+
+// The empty root alone.
+fn first_inodes(heap: Heap, root: Num) -> Result<Inodes, AllocError>
+    ensures { IfOk result (λ inodes. inodes ≡ insert empty root (A_directory empty)) }
+{
+    let mut inodes = Inodes::new(heap);
+    match inodes.insert(root, Inode::directory(Names::new(heap))) {
+        Ok(before) => {
+            drop(before);
+            Ok(inodes)
+        }
+        Err(refused) => {
+            drop(inodes);
+            Err(refused)
+        }
+    }
 }
 
 impl Audit {
@@ -345,18 +383,23 @@ impl Audit {
         ensures transactions { IfOk result (λ r. r.transactions ≡ empty) }
     {
         let made = small(priorities.len())?;
-        let mut inodes = Inodes::new(heap);
-        let _before = inodes.insert(root, Inode::directory(Names::new(heap)))?;
-        Ok(Audit {
-            kernel: PlainKernel {
-                root,
-                inodes,
-                descriptions: Table::new(heap),
-                processes: first_processes(heap, priorities)?,
-                made,
-            },
-            transactions: Table::new(heap),
-        })
+        let processes = first_processes(heap, priorities)?;
+        match first_inodes(heap, root) {
+            Ok(inodes) => Ok(Audit {
+                kernel: PlainKernel {
+                    root,
+                    inodes,
+                    descriptions: Table::new(heap),
+                    processes,
+                    made,
+                },
+                transactions: Table::new(heap),
+            }),
+            Err(refused) => {
+                drop(processes);
+                Err(refused)
+            }
+        }
     }
 
     // The entry at a place, behind those before it.
@@ -397,7 +440,14 @@ pub(crate) fn passes(
 {
     let mut audit = Audit::new(heap, root, priorities)?;
     for at in 0..entries.len() {
-        audit.follow(heap, entries, at)?;
+        match audit.follow(heap, entries, at) {
+            Ok(()) => (),
+            Err(stop) => {
+                drop(audit);
+                return Err(stop);
+            }
+        }
     }
+    drop(audit);
     Ok(())
 }

@@ -94,11 +94,35 @@ impl PlainKernel {
         ensures { OnOk result (self.new ≡ freed chosen.now edit.now self.old) }
     {
         let gone = self.let_go(heap, edit)?;
-        let inodes = self.with_inodes_of(unnamed(heap, edit)?, gone.as_slice())?;
-        self.apply(heap, edit, chosen)?;
-        self.free_descriptions(gone.as_slice());
-        self.free_inodes(inodes.as_slice());
-        Ok(())
+        let edited = self.edit_with(heap, edit, chosen, gone.as_slice());
+        drop(gone);
+        edited
+    }
+
+    // One edit, which lets these descriptions go, and what it lets go is freed.
+    fn edit_with(
+        &mut self,
+        heap: Heap,
+        edit: &Edit,
+        chosen: &[Num],
+        gone: &[Num],
+    ) -> Result<(), AllocError>
+        requires { gone.now ≡ let_go self.old edit.now }
+        ensures { OnOk result (self.new ≡ freed chosen.now edit.now self.old) }
+    {
+        let inodes = self.with_inodes_of(unnamed(heap, edit)?, gone)?;
+        match self.apply(heap, edit, chosen) {
+            Ok(()) => {
+                self.free_descriptions(gone);
+                self.free_inodes(inodes.as_slice());
+                drop(inodes);
+                Ok(())
+            }
+            Err(refused) => {
+                drop(inodes);
+                Err(refused)
+            }
+        }
     }
 
     // The edits of a call, each with what it lets go freed.
@@ -147,11 +171,7 @@ impl Process {
 fn values_of(heap: Heap, slots: &[(Num, Num)]) -> Result<Vec<Num, Heap>, AllocError>
     ensures { IfOk result (λ all. all.items ≡ map (λ e. e.1) slots.now) }
 {
-    let mut all = Vec::with_capacity(heap, slots.len())?;
-    for slot in slots {
-        all.push(slot.1)?;
-    }
-    Ok(all)
+    slots.iter().map(|slot| slot.1).collect(heap)
 }
 
 // All descriptions that a process's descriptors give; none where there is no process.

@@ -1,12 +1,14 @@
 // All inodes, with how many names give each number: so a number's names are counted in few steps,
 // and no name is looked for.
-ghost use Rattle.std.specs.Prelude.{◌≡◌, ℕ, ◌+◌, ◌-◌, ◌==◌, nat_lt, cond, IfOk, OnOk, Some, option_copied};
+ghost use Rattle.std.specs.Prelude.{◌≡◌, ℕ, ◌+◌, ◌-◌, ◌==◌, nat_lt, cond, IfOk, OnOk, Some, []};
+ghost use Rattle.std.specs.Prelude.{option_copied};
 ghost use Rattle.model.specs.FiniteMap as map;
-ghost use Rattle.model.specs.State.{Directory as A_directory, names_of_inode};
+ghost use Rattle.model.specs.State.{File as A_file, Directory as A_directory, names_of_inode};
 ghost use Rattle.replay.specs.Counts.{count_at, given_by_all, times_given, given_once};
 
 use crate::bytes::no_bytes;
 use crate::inode::{Inode, names_out};
+use crate::names::Names;
 use crate::plain::counted;
 use crate::tree::Tree;
 use heap::Heap;
@@ -83,6 +85,7 @@ impl Inodes {
     {
         let before = self.each.remove(num);
         lose_all(&mut self.counts, &before);
+        drop(before);
     }
 
     // The inodes where a name of a directory gives a number.
@@ -90,23 +93,24 @@ impl Inodes {
         self,
         heap: Heap,
         dir: Num,
-        name: Name,
+        name: &Name,
         num: Num,
     ) -> Result<Inodes, AllocError>
         ensures { IfOk result (λ i. i ≡ map.insert self dir
-            (A_directory (map.insert (names_of_inode (map.get self dir)) name num))) }
+            (A_directory (map.insert (names_of_inode (map.get self dir)) name.now num))) }
     {
         let Inodes {
             mut each,
             mut counts,
         } = self;
-        let inode = each.insert(dir, Inode::file(no_bytes(heap)))?;
-        let mut names = names_out(heap, inode);
-        let before = names.insert(name, num)?;
-        let _placeholder = each.insert(dir, Inode::directory(names))?;
-        gain(&mut counts, num)?;
-        lose_some(&mut counts, before);
-        Ok(Inodes { each, counts })
+        match set_name(&mut each, &mut counts, heap, dir, name, num) {
+            Ok(()) => Ok(Inodes { each, counts }),
+            Err(refused) => {
+                drop(each);
+                drop(counts);
+                Err(refused)
+            }
+        }
     }
 
     // The inodes where a name of a directory gives nothing any more.
@@ -123,13 +127,85 @@ impl Inodes {
             mut each,
             mut counts,
         } = self;
-        let inode = each.insert(dir, Inode::file(no_bytes(heap)))?;
-        let mut names = names_out(heap, inode);
-        let before = names.remove(name);
-        let _placeholder = each.insert(dir, Inode::directory(names))?;
-        lose_some(&mut counts, before);
-        Ok(Inodes { each, counts })
+        match take_name(&mut each, heap, dir, name) {
+            Ok(before) => {
+                lose_some(&mut counts, before);
+                Ok(Inodes { each, counts })
+            }
+            Err(refused) => {
+                drop(each);
+                drop(counts);
+                Err(refused)
+            }
+        }
     }
+}
+
+// Takes a directory's names out; an empty file stands in its place.
+fn names_taken(each: &mut Tree<Inode>, heap: Heap, dir: Num) -> Result<Names, AllocError>
+    ensures left { OnOk result (each.new ≡ map.insert each.old dir (A_file [])) }
+    ensures taken { IfOk result (λ names. names ≡ names_of_inode (map.get each.old dir)) }
+{
+    let inode = each.insert(dir, Inode::file(no_bytes(heap)))?;
+    Ok(names_out(heap, inode))
+}
+
+// A name of a directory gives a number. It gives what the name gave before.
+fn give_name(
+    each: &mut Tree<Inode>,
+    heap: Heap,
+    dir: Num,
+    name: &Name,
+    num: Num,
+) -> Result<Option<Num>, AllocError>
+    ensures changed { OnOk result (each.new ≡ map.insert each.old dir
+        (A_directory (map.insert (names_of_inode (map.get each.old dir)) name.now num))) }
+    ensures before { IfOk result
+        (λ before. before ≡ map.get (names_of_inode (map.get each.old dir)) name.now) }
+{
+    let mut names = names_taken(each, heap, dir)?;
+    let before = names.insert(name, num)?;
+    each.set(dir, Inode::directory(names))?;
+    Ok(before)
+}
+
+// A name of a directory gives nothing any more. It gives what the name gave before.
+fn take_name(
+    each: &mut Tree<Inode>,
+    heap: Heap,
+    dir: Num,
+    name: &Name,
+) -> Result<Option<Num>, AllocError>
+    ensures changed { OnOk result (each.new ≡ map.insert each.old dir
+        (A_directory (map.remove (names_of_inode (map.get each.old dir)) name.now))) }
+    ensures before { IfOk result
+        (λ before. before ≡ map.get (names_of_inode (map.get each.old dir)) name.now) }
+{
+    let mut names = names_taken(each, heap, dir)?;
+    let before = names.remove(name);
+    each.set(dir, Inode::directory(names))?;
+    Ok(before)
+}
+
+// A name of a directory gives a number, and is counted in place of what it gave before.
+fn set_name(
+    each: &mut Tree<Inode>,
+    counts: &mut Tree<usize>,
+    heap: Heap,
+    dir: Num,
+    name: &Name,
+    num: Num,
+) -> Result<(), AllocError>
+    ensures changed { OnOk result (each.new ≡ map.insert each.old dir
+        (A_directory (map.insert (names_of_inode (map.get each.old dir)) name.now num))) }
+    ensures counted { OnOk result ((n : ℕ) → count_at counts.new n
+        ≡ count_at counts.old n + cond (num == n) 1 0
+        - given_once n (map.get (names_of_inode (map.get each.old dir)) name.now)) }
+{
+    let before = give_name(each, heap, dir, name, num)?;
+    gain(counts, num)?;
+    lose_some(counts, before);
+    Ok(())
 }
 
 // What is counted of a number.
@@ -148,8 +224,7 @@ fn gain(counts: &mut Tree<usize>, num: Num) -> Result<(), AllocError>
         → count_at counts.new n ≡ count_at counts.old n + cond (num == n) 1 0) }
 {
     let more = counted(count_of(counts, num), 1)?;
-    let _before = counts.insert(num, more)?;
-    Ok(())
+    counts.set(num, more)
 }
 
 // One name less gives a number. What counts 0 is not kept.

@@ -1,6 +1,6 @@
 // The names of a directory with the numbers that they give: a tree in the bytes' order, so that a
 // name among many comes and goes in few steps.
-ghost use Rattle.std.specs.Prelude.{◌≡◌, ℕ, ◌-◌, IfOk, OnOk};
+ghost use Rattle.std.specs.Prelude.{◌≡◌, ◌++◌, ℕ, ◌-◌, IfOk, OnOk};
 ghost use Rattle.model.specs.FiniteMap as map;
 ghost use Rattle.model.specs.Paths.{is_empty};
 ghost use Rattle.replay.specs.Counts.{count_at, times_given};
@@ -53,11 +53,11 @@ impl Names {
     }
 
     // A name gives a number. It gives what the name gave before.
-    pub(crate) fn insert(&mut self, name: Name, num: Num) -> Result<Option<Num>, AllocError>
-        ensures changed { OnOk result (self.new ≡ map.insert self.old name num) }
-        ensures before { IfOk result (λ before. before ≡ map.get self.old name) }
+    pub(crate) fn insert(&mut self, name: &Name, num: Num) -> Result<Option<Num>, AllocError>
+        ensures changed { OnOk result (self.new ≡ map.insert self.old name.now num) }
+        ensures before { IfOk result (λ before. before ≡ map.get self.old name.now) }
     {
-        Ok(self.given.insert(name, num)?)
+        Ok(self.given.insert(name.try_clone()?, num)?)
     }
 
     // A name gives nothing any more. It gives what the name gave before.
@@ -73,10 +73,23 @@ impl Names {
         ensures { IfOk result (λ names. names ≡ map.keys self.now) }
     {
         let mut names = Vec::with_capacity(heap, self.given.len())?;
+        match self.add_to(&mut names) {
+            Ok(()) => Ok(NameList::new(names)),
+            Err(refused) => {
+                drop(names);
+                Err(refused)
+            }
+        }
+    }
+
+    // Copies of the names come behind others, in order.
+    fn add_to(&self, names: &mut Vec<Name, Heap>) -> Result<(), AllocError>
+        ensures { OnOk result (names.new.items ≡ names.old.items ++ map.keys self.now) }
+    {
         for name in self.given.keys() {
             names.push(name.try_clone()?)?;
         }
-        Ok(NameList::new(names))
+        Ok(())
     }
 
     // Whether there are none.

@@ -66,6 +66,14 @@ impl<T: Drop> Table<T> {
         }
     }
 
+    // A number gets a value.
+    pub(crate) fn set(&mut self, num: Num, value: T) -> Result<(), AllocError>
+        ensures { OnOk result (self.new ≡ map.insert self.old num value) }
+    {
+        drop(self.insert(num, value)?);
+        Ok(())
+    }
+
     // A number stands for nothing any more. It gives the value before.
     pub(crate) fn remove(&mut self, num: Num) -> Option<T>
         ensures changed { self.new ≡ map.remove self.old num }

@@ -53,6 +53,14 @@ impl<T: Drop> Tree<T> {
         Ok(self.slots.insert(num, value)?)
     }
 
+    // A number gets a value.
+    pub(crate) fn set(&mut self, num: Num, value: T) -> Result<(), AllocError>
+        ensures { OnOk result (self.new ≡ map.insert self.old num value) }
+    {
+        drop(self.insert(num, value)?);
+        Ok(())
+    }
+
     // A number that has a value gets another. It takes no memory.
     pub(crate) fn change(&mut self, num: Num, value: T)
         requires { map.get self.old num ≢ None }

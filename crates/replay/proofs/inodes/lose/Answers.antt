@@ -1,4 +1,4 @@
-use Rattle.std.proofs.Common.{◌≡◌, ◌+◌, ap, ◌∙◌, arith}
+use Rattle.std.proofs.Common.{◌≡◌, ap, ◌∙◌, arith}
 use Rattle.replay.specs.Counts.{count_at}
 use Rattle.replay.proofs.Linked.{lost, lost_last}
 use Rattle.replay.proofs.inodes.lose.Goals as goal

@@ -3,7 +3,6 @@ use Rattle.std.proofs.lemmas.Map.Iter.{iter_end}
 use Rattle.std.specs.List.{count_by}
 use Rattle.std.specs.Map.{values_of}
 use Rattle.std.specs.Map.Iter.{deref}
-use Rattle.model.specs.FiniteMap as finite
 use Rattle.model.specs.State.{Name}
 use Rattle.replay.specs.Counts.{count_at, times_given}
 use Rattle.replay.proofs.Orders.{name_total}

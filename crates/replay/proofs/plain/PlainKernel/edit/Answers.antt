@@ -1,12 +1,5 @@
-use Rattle.std.proofs.Common.{ap, ◌++◌, ◌∙◌}
-use Rattle.freeing_laws.specs.Counts.{unnamed}
-use Rattle.freeing_laws.specs.Sweep.{inodes_of}
-use Rattle.replay.proofs.Freed.{edit_freed}
+use Rattle.std.proofs.Common.{◌∙◌}
 use Rattle.replay.proofs.plain.PlainKernel.edit.Goals as goal
 
-pub returns : goal.returns
-returns c = edit_freed c.args.chosen.now c.args.edit.now c.args.self.now _ _ _ _ _
-    (c.as_slice-2.ensures.value ∙ c.in_ok-gone.ensures)
-    (c.as_slice-3.ensures.value ∙ c.in_ok-inodes.ensures ∙ ap (λ xs. xs ++ inodes_of c.args.self.now c.as_slice.result.now) c.in_ok-unnamed.ensures
-    ∙ ap (λ xs. unnamed c.args.edit.now ++ inodes_of c.args.self.now xs) (c.as_slice.ensures.value ∙ c.in_ok-gone.ensures))
-    c.in_ok-apply.ensures c.free_descriptions.ensures c.free_inodes.ensures
+pub edit_with-edited-requires : goal.edit_with-edited-requires
+edit_with-edited-requires c = c.as_slice.ensures.value ∙ c.in_ok-gone.ensures

@@ -1,12 +1,4 @@
-use Rattle.std.proofs.Common.{List, sym, ap, subst, ◌∙◌}
-use Rattle.model.specs.Changes.{Edit}
-use Rattle.model.specs.Steps.{CanBeChosen}
-use Rattle.freeing_laws.specs.Sweep.{all_freed}
-use Rattle.replay.proofs.Running.{ran_step}
 use Rattle.replay.proofs.plain.PlainKernel.step.Goals as goal
 
 pub returns : goal.returns
-returns c = ran_step c.args.self.now c.args.pid c.args.call.now c.args.reply.now _ _ c.args.chosen.now _ c.requires.tidied
-    (sym c.is_living.ensures ∙ c.if-not-is_living.false) (c.is_reply.ensures.0 c.if-not-is_reply.false) c.in_ok-plan.ensures.answer c.in_ok-plan.ensures.edits
-    (subst (λ (xs : List Edit). CanBeChosen c.args.self.now xs c.args.chosen.now) c.as_slice.ensures.value ((c.can_be_chosen.ensures c.requires.tidied.well).0 c.if-not-can_be_chosen.false))
-    (c.in_ok-edit_all.ensures ∙ ap (λ xs. all_freed c.args.chosen.now xs c.args.self.now) c.as_slice-2.ensures.value)
+returns c = c.step_by-right.ensures c.args.call.now c.in_ok-plan.ensures
