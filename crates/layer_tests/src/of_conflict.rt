@@ -47,12 +47,11 @@ fn processes(rt: &impl Abort, heap: Heap) -> Records
     records
 }
 
-fn add(rt: &impl Abort, heap: Heap, records: &mut Records, pid: Pid, touch: &Touch)
+fn add(rt: &impl Abort, heap: Heap, records: &mut Records, pid: Pid, touch: Touch)
     requires { pid < length records.old }
     ensures { length records.new ≡ length records.old }
 {
-    let copy = touch.try_clone().expect(rt, "memory");
-    let touches = Vec::from_array(heap, [copy]).expect(rt, "memory");
+    let touches = Vec::from_array(heap, [touch]).expect(rt, "memory");
     records.add(pid, touches).expect(rt, "memory");
 }
 
@@ -61,39 +60,60 @@ fn found(rt: &impl Abort, heap: Heap, records: &Records, touches: &[Touch]) -> V
     clashes(heap, records, Pid(1), touches).expect(rt, "memory")
 }
 
+/// Whether a clash is with this touch of this process.
+fn is_with(clash: &Clash, expected: &(Pid, Touch)) -> bool {
+    clash.other == expected.0 && is_same(&clash.theirs, &expected.1)
+}
+
 /// The clashes are with these touches of these processes, in this order.
 fn assert_found(rt: &impl Abort, found: &[Clash], expected: &[(Pid, Touch)]) {
     assert_eq!(rt; found.len(), expected.len());
-    for (clash, (pid, touch)) in found.iter().zip(expected) {
-        assert_eq!(rt; clash.other, *pid);
-        assert!(rt; is_same(&clash.theirs, touch), "{clash:?}");
+    for (clash, wanted) in found.iter().zip(expected) {
+        assert!(rt; is_with(clash, wanted), "{clash:?}");
     }
+}
+
+/// Processes 2 and 3 have touched the length of a file, and process 2 its links.
+fn touched(rt: &impl Abort, heap: Heap) -> Records
+    ensures { length result ≡ 4 }
+{
+    let mut records = processes(rt, heap);
+    add(rt, heap, &mut records, Pid(3), write(Aspect::Size(Num(2))));
+    add(rt, heap, &mut records, Pid(2), read(Aspect::Size(Num(2))));
+    add(rt, heap, &mut records, Pid(2), write(Aspect::Size(Num(2))));
+    add(rt, heap, &mut records, Pid(2), read(Aspect::Links(Num(2))));
+    records
+}
+
+fn asked() -> [Touch; 3] {
+    [
+        write(Aspect::Links(Num(2))),
+        read(Aspect::Ends(Num(2))),
+        write(Aspect::Size(Num(2))),
+    ]
+}
+
+fn wanted() -> [(Pid, Touch); 4] {
+    [
+        (Pid(2), read(Aspect::Links(Num(2)))),
+        (Pid(2), write(Aspect::Size(Num(2)))),
+        (Pid(2), read(Aspect::Size(Num(2)))),
+        (Pid(3), write(Aspect::Size(Num(2)))),
+    ]
 }
 
 #[test]
 fn clashes_stand_by_touch_and_process_and_writes_first(rt: HostRuntime) {
     let heap = heap::open(rt.alloc()).expect(&rt, "memory");
-    let mut records = processes(&rt, heap);
-    let size = write(Aspect::Size(Num(2)));
-    let seen = read(Aspect::Size(Num(2)));
-    let links = read(Aspect::Links(Num(2)));
-    add(&rt, heap, &mut records, Pid(3), &size);
-    add(&rt, heap, &mut records, Pid(2), &seen);
-    add(&rt, heap, &mut records, Pid(2), &size);
-    add(&rt, heap, &mut records, Pid(2), &links);
-    let touches = [
-        write(Aspect::Links(Num(2))),
-        read(Aspect::Ends(Num(2))),
-        write(Aspect::Size(Num(2))),
-    ];
-    let expected = [
-        (Pid(2), links),
-        (Pid(2), write(Aspect::Size(Num(2)))),
-        (Pid(2), seen),
-        (Pid(3), size),
-    ];
+    let records = touched(&rt, heap);
+    let touches = asked();
     let all = found(&rt, heap, &records, &touches);
+    drop(touches);
+    drop(records);
+    let expected = wanted();
     assert_found(&rt, all.as_slice(), &expected);
+    drop(expected);
+    drop(all);
 }
 
 #[test]
@@ -105,21 +125,29 @@ fn a_refused_copy_says_so(rt: HostRuntime) {
         heap,
         &mut records,
         Pid(2),
-        &entry(&rt, heap, 1, "a", true),
+        entry(&rt, heap, 1, "a", true),
     );
     let lists = [read(Aspect::Names(Num(1)))];
     heap.refuse(1);
-    assert!(rt; is_refused(clashes(heap, &records, Pid(1), &lists)));
+    let first = is_refused(clashes(heap, &records, Pid(1), &lists));
     heap.refuse(0);
-    assert!(rt; !is_refused(clashes(heap, &records, Pid(1), &lists)));
+    let second = is_refused(clashes(heap, &records, Pid(1), &lists));
+    drop(lists);
+    drop(records);
+    assert_eq!(rt; [first, second], [true, false]);
 }
 
 #[test]
 fn where_none_clashes_no_memory_is_taken(rt: HostRuntime) {
     let heap = heap::open(rt.alloc()).expect(&rt, "memory");
     let mut records = processes(&rt, heap);
-    add(&rt, heap, &mut records, Pid(2), &read(Aspect::Size(Num(1))));
+    add(&rt, heap, &mut records, Pid(2), read(Aspect::Size(Num(1))));
+    let touches = [read(Aspect::Size(Num(1)))];
     heap.refuse(1);
-    let all = found(&rt, heap, &records, &[read(Aspect::Size(Num(1)))]);
-    assert_eq!(rt; (all.len(), heap.made()), (0, 0));
+    let all = found(&rt, heap, &records, &touches);
+    let told = [all.len() as u64, heap.made()];
+    drop(all);
+    drop(touches);
+    drop(records);
+    assert_eq!(rt; told, [0; 2]);
 }

@@ -1,6 +1,7 @@
 // What a refused growth leaves.
 ghost use Rattle.std.specs.Prelude.{◌≡◌, ◌<◌, length};
 
+use crate::refused::is_done;
 use contention::{Contenders, Verdict};
 use heap::Heap;
 use ids::{Age, Aspect, Num, Pid, Priority, Touch};
@@ -19,20 +20,24 @@ fn level(rt: &impl Abort, number: u8) -> Priority {
     Priority::new(number).expect(rt, "a priority")
 }
 
-/// What a call of process 1 comes to that reads or writes the length.
-fn verdict_of(rt: &impl Abort, heap: Heap, all: &Contenders, write: bool) -> Verdict
-    requires { 1 < length all.now }
-{
-    let touches = touches(rt, heap, write);
-    all.verdict(heap, Pid(1), touches.as_slice())
-        .expect(rt, "memory")
-}
-
 fn doomed_count(verdict: &Verdict) -> Option<usize> {
     match verdict {
         Verdict::Lose(..) => None,
         Verdict::Go(doomed) => Some(doomed.len()),
     }
+}
+
+/// How many a call of process 1 dooms that reads or writes the length, if it goes on.
+fn doomed_by(rt: &impl Abort, heap: Heap, all: &Contenders, write: bool) -> Option<usize>
+    requires { 1 < length all.now }
+{
+    let touches = touches(rt, heap, write);
+    let verdict = all
+        .verdict(heap, Pid(1), touches.as_slice())
+        .expect(rt, "memory");
+    let count = doomed_count(&verdict);
+    drop(verdict);
+    count
 }
 
 #[test]
@@ -43,7 +48,9 @@ fn a_refused_growth_leaves_all_as_it_was(rt: HostRuntime) {
     all.begin(Pid(2), Age(1));
     let more = touches(&rt, heap, true);
     heap.refuse(1);
-    assert!(rt; all.add(Pid(2), more).is_err());
-    let verdict = verdict_of(&rt, heap, &all, true);
-    assert_eq!(rt; doomed_count(&verdict), Some(0));
+    let added = is_done(all.add(Pid(2), more));
+    let doomed = doomed_by(&rt, heap, &all, true);
+    drop(all);
+    assert!(rt; !added);
+    assert_eq!(rt; doomed, Some(0));
 }

@@ -26,7 +26,7 @@ pub(crate) fn put(dir: &mut Dir, name: Name, num: Num) -> Result<(), AllocError>
 // The names, each with a blank behind it.
 fn assert_names(rt: &impl Abort, heap: Heap, dir: &Dir, want: &[u8]) {
     let names = dir.names(heap).expect(rt, "memory");
-    let told = joined(rt, heap, names.as_slice());
+    let told = joined(rt, heap, names);
     assert_eq!(rt; told.as_slice(), want);
 }
 
@@ -45,6 +45,7 @@ fn refused_memory_changes_nothing(rt: HostRuntime) {
     heap.refuse(1);
     assert!(rt; is_refused(dir.names(heap)));
     assert_names(&rt, heap, &dir, b"a ");
+    drop(dir);
 }
 
 // Adds a name in promised room where it is not there yet.
@@ -70,6 +71,9 @@ fn promised_room_takes_no_memory(rt: HostRuntime) {
     put_promised(&mut dir, first, Num(1));
     let one_is_left = dir.is_promised();
     put_promised(&mut dir, second, Num(2));
-    assert_eq!(rt; [one_is_left, dir.is_promised()], [true, false]);
-    assert_eq!(rt; (heap.made(), dir.len()), (0, 3));
+    let another_is_left = dir.is_promised();
+    let told = [heap.made(), dir.len() as u64];
+    drop(dir);
+    assert_eq!(rt; [one_is_left, another_is_left], [true, false]);
+    assert_eq!(rt; told, [0, 3]);
 }

@@ -15,7 +15,9 @@ fn filled(rt: &impl Abort, heap: Heap, byte: u8) -> FileData {
 
 // Whether a byte is written, whether its block is then the one that is changed, how many are, and
 // the length.
-fn written(heap: Heap, shadow: &mut FileShadow, file: &FileData) -> (bool, bool, usize, usize) {
+type Written = (bool, bool, usize, usize);
+
+fn written(heap: Heap, shadow: &mut FileShadow, file: &FileData) -> Written {
     let done = shadow.write(9000, b"z").is_ok();
     let changed = shadow.changed();
     (
@@ -26,19 +28,27 @@ fn written(heap: Heap, shadow: &mut FileShadow, file: &FileData) -> (bool, bool,
     )
 }
 
+// The same of a new shadow where this request for memory is refused, and once more.
+fn written_twice(heap: Heap, file: &FileData, number: u64) -> (Written, Written) {
+    let mut shadow = FileShadow::new(heap);
+    heap.refuse(number);
+    let first = written(heap, &mut shadow, file);
+    let second = written(heap, &mut shadow, file);
+    drop(shadow);
+    (first, second)
+}
+
 #[test]
 fn a_refused_write_changes_nothing(rt: HostRuntime) {
     let heap = heap::open(rt.alloc()).expect(&rt, "memory");
     let file = filled(&rt, heap, 9);
     // Room for the numbers, for where the blocks lie, and for their bytes.
     for number in 1..4 {
-        let mut shadow = FileShadow::new(heap);
-        heap.refuse(number);
-        let refused = written(heap, &mut shadow, &file);
-        let told = (refused, written(heap, &mut shadow, &file));
-        let expected = ((false, false, 0, 3000), (true, true, 1, 9001));
-        assert_eq!(rt; told, expected, "request {number}");
+        let (first, second) = written_twice(heap, &file, number);
+        assert!(rt; first == (false, false, 0, 3000), "request {number}");
+        assert!(rt; second == (true, true, 1, 9001), "request {number}");
     }
+    drop(file);
 }
 
 #[test]
@@ -48,7 +58,11 @@ fn a_cut_takes_no_memory_and_a_refused_read_changes_nothing(rt: HostRuntime) {
     let mut shadow = FileShadow::new(heap);
     heap.refuse(1);
     shadow.cut(20_000);
-    let len = shadow.len(&file);
-    assert!(rt; is_refused(shadow.read(heap, &file, 0, 3)));
-    assert_eq!(rt; [len, shadow.len(&file)], [20_000; 2]);
+    let before = shadow.len(&file);
+    let refused = is_refused(shadow.read(heap, &file, 0, 3));
+    let after = shadow.len(&file);
+    drop(shadow);
+    drop(file);
+    assert!(rt; refused);
+    assert_eq!(rt; [before, after], [20_000; 2]);
 }

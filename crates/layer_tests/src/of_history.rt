@@ -1,5 +1,5 @@
 // A history takes its memory when it is made, and none for an entry.
-use crate::refused::is_refused;
+use crate::refused::{is_done, is_refused};
 use heap::Heap;
 use history::History;
 use ids::{Entry, Nums, Op, Pid, Pids, Priority, Reply};
@@ -16,10 +16,7 @@ fn begun(heap: Heap) -> Entry {
 
 // Whether one more entry has a place.
 fn is_taken(heap: Heap, history: &mut History) -> bool {
-    match history.push(begun(heap)) {
-        Ok(()) => true,
-        Err(_entry) => false,
-    }
+    is_done(history.push(begun(heap)))
 }
 
 #[test]
@@ -33,9 +30,16 @@ fn takes_its_memory_at_the_start(rt: HostRuntime) {
         is_taken(heap, &mut history),
         is_taken(heap, &mut history),
     ];
-    assert_eq!(rt; (taken, heap.made()), ([true, true, false], 0));
-    let lengths = [history.entries().len(), history.priorities().len()];
-    assert_eq!(rt; (lengths, history.limit()), ([2; 2], 2));
+    let made = heap.made();
+    let lengths = [
+        history.entries().len(),
+        history.priorities().len(),
+        history.limit(),
+    ];
+    drop(history);
+    assert_eq!(rt; taken, [true, true, false]);
+    assert_eq!(rt; made, 0);
+    assert_eq!(rt; lengths, [2; 3]);
 }
 
 #[test]

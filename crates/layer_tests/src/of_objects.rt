@@ -18,7 +18,9 @@ fn a_file_grows_in_room_that_was_made(rt: HostRuntime) {
     file.write_at(2999, b"z").expect(&rt, "memory");
     file.cut(10).expect(&rt, "memory");
     file.cut(3000).expect(&rt, "memory");
-    assert_eq!(rt; (heap.made(), file.len()), (0, 3000));
+    let told = [heap.made(), file.len() as u64];
+    drop(file);
+    assert_eq!(rt; told, [0, 3000]);
 }
 
 #[test]
@@ -34,10 +36,12 @@ fn a_refused_file_stays(rt: HostRuntime) {
     let cut = is_refused(file.cut(5000));
     heap.refuse(1);
     let promised = is_refused(file.promise(5000));
-    assert_eq!(rt; [read, written, cut, promised], [true; 4]);
     assert_holds(&rt, &file, b"abc");
     file.write_at(5000, b"z").expect(&rt, "memory");
-    assert_eq!(rt; file.len(), 5001);
+    let len = file.len();
+    drop(file);
+    assert_eq!(rt; [read, written, cut, promised], [true; 4]);
+    assert_eq!(rt; len, 5001);
 }
 
 // Two ones and ten letters, the last of them at the front of the pipe's memory.
@@ -57,7 +61,9 @@ fn a_pipe_takes_its_memory_at_the_start(rt: HostRuntime) {
     let mut pipe = PipeData::new(heap).expect(&rt, "memory");
     heap.refuse(0);
     put_around(&mut pipe);
-    assert_eq!(rt; (heap.made(), pipe.room()), (0, 4084));
+    let told = [heap.made(), pipe.room() as u64];
+    drop(pipe);
+    assert_eq!(rt; told, [0, 4084]);
 }
 
 #[test]
@@ -69,5 +75,8 @@ fn a_refused_pipe_stays(rt: HostRuntime) {
     let read = is_refused(pipe.read(heap, 0, 3));
     heap.refuse(1);
     let taken = is_refused(pipe.take(heap, 3));
-    assert_eq!(rt; (read, taken, pipe.len()), (true, true, 12));
+    let len = pipe.len();
+    drop(pipe);
+    assert_eq!(rt; [read, taken], [true; 2]);
+    assert_eq!(rt; len, 12);
 }

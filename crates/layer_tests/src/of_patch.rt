@@ -45,8 +45,14 @@ fn changes(rt: &impl Abort, heap: Heap) -> Patch {
 // The names with a patch on top, each with a blank behind it.
 fn assert_names_over(rt: &impl Abort, heap: Heap, patch: &Patch, dir: &Dir, want: &[u8]) {
     let names = patch.names_over(heap, dir).expect(rt, "memory");
-    let told = joined(rt, heap, names.as_slice());
+    let told = joined(rt, heap, names);
     assert_eq!(rt; told.as_slice(), want);
+}
+
+// Whether the names are refused where this request for memory is.
+fn are_refused(heap: Heap, patch: &Patch, dir: &Dir, number: u64) -> bool {
+    heap.refuse(number);
+    is_refused(patch.names_over(heap, dir))
 }
 
 #[test]
@@ -59,6 +65,8 @@ fn a_refused_note_changes_nothing(rt: HostRuntime) {
     assert!(rt; patch.note(first, None).is_err());
     heap.refuse(0);
     assert_names_over(&rt, heap, &patch, &dir, b"a b d ");
+    drop(patch);
+    drop(dir);
 }
 
 #[test]
@@ -68,10 +76,13 @@ fn refused_names_change_nothing(rt: HostRuntime) {
     let patch = changes(&rt, heap);
     heap.refuse(0);
     assert_names_over(&rt, heap, &patch, &dir, b"a c d e ");
-    for refused in 1..3 {
-        heap.refuse(refused);
-        assert!(rt; is_refused(patch.names_over(heap, &dir)));
-    }
+    let refused = [
+        are_refused(heap, &patch, &dir, 1),
+        are_refused(heap, &patch, &dir, 2),
+    ];
     heap.refuse(0);
     assert_names_over(&rt, heap, &patch, &dir, b"a c d e ");
+    drop(patch);
+    drop(dir);
+    assert_eq!(rt; refused, [true; 2]);
 }

@@ -2,6 +2,7 @@
 use heap::Heap;
 use ids::{Errno, Refusal};
 use path::Path;
+use std::process::Abort;
 
 // A name that is too long to stand in place, and more names than stand in the path itself.
 const LONG: &[u8] = b"/abcdefghijklmnopqrstuvwxyz/b/c/d/e";
@@ -10,21 +11,22 @@ fn refusal(heap: Heap, bytes: &[u8]) -> Option<Refusal> {
     Path::parse(heap, bytes).err()
 }
 
-#[test]
-fn each_request_is_refused_once(rt: HostRuntime) {
-    let heap = heap::open(rt.alloc()).expect(&rt, "memory");
-    let mut refused = 0u64;
+// How many requests the long path makes: each is refused once.
+fn refused_requests(rt: &impl Abort, heap: Heap) -> u64 {
     for number in 1..10u64 {
         heap.refuse(number);
         match refusal(heap, LONG) {
-            None => break,
-            Some(why) => {
-                assert_eq!(rt; why, Refusal::NoMemory);
-                refused = number;
-            }
+            None => return number - 1,
+            Some(why) => assert_eq!(rt; why, Refusal::NoMemory),
         }
     }
-    assert!(rt; refused > 1);
+    9
+}
+
+#[test]
+fn each_request_is_refused_once(rt: HostRuntime) {
+    let heap = heap::open(rt.alloc()).expect(&rt, "memory");
+    assert!(rt; refused_requests(&rt, heap) > 1);
     heap.refuse(1);
     assert_eq!(rt; refusal(heap, b"/a/b"), None);
     assert_eq!(rt; heap.made(), 0);

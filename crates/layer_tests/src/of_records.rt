@@ -1,6 +1,7 @@
 // Who holds what, by small records, and what a refused growth leaves.
 ghost use Rattle.std.specs.Prelude.{◌≡◌, ◌<◌, length};
 
+use crate::refused::is_done;
 use heap::Heap;
 use ids::{Aspect, Name, Num, Pid, Touch};
 use records::Records;
@@ -47,10 +48,12 @@ fn three_processes(rt: &impl Abort, heap: Heap) -> Records
 
 /// How many of the touches of others clash with a look at all names by process 0.
 fn met_by_a_listing(rt: &impl Abort, records: &Records) -> usize {
-    records
-        .holders(Pid(0), &listing())
-        .expect(rt, "memory")
-        .len()
+    let look = listing();
+    let found = records.holders(Pid(0), &look).expect(rt, "memory");
+    let count = found.len();
+    drop(found);
+    drop(look);
+    count
 }
 
 #[test]
@@ -59,12 +62,15 @@ fn a_repeated_touch_is_kept_once_and_takes_no_memory(rt: HostRuntime) {
     let mut records = three_processes(&rt, heap);
     let again = Vec::from_array(heap, [entry(&rt, heap, "b", true)]).expect(&rt, "memory");
     heap.refuse(1);
-    assert!(rt; records.add(Pid(1), again).is_ok());
-    assert_eq!(rt; (heap.made(), records.count(Pid(1))), (0, 1));
+    assert!(rt; is_done(records.add(Pid(1), again)));
+    assert_eq!(rt; heap.made(), 0);
+    assert_eq!(rt; records.count(Pid(1)), 1);
     records.release(Pid(1));
     assert_eq!(rt; heap.made(), 0);
     heap.refuse(0);
-    assert_eq!(rt; met_by_a_listing(&rt, &records), 1);
+    let met = met_by_a_listing(&rt, &records);
+    drop(records);
+    assert_eq!(rt; met, 1);
 }
 
 /// Whether two added entries of process 2 are refused, where this request for memory is.
@@ -76,9 +82,18 @@ fn is_addition_refused(rt: &impl Abort, heap: Heap, records: &mut Records, numbe
     let second = entry(rt, heap, "e234567890123456789012345", true);
     let more = Vec::from_array(heap, [first, second]).expect(rt, "memory");
     heap.refuse(number);
-    let added = records.add(Pid(2), more);
+    let added = is_done(records.add(Pid(2), more));
     heap.refuse(0);
-    added.is_err()
+    !added
+}
+
+/// The same of the three processes, and how many touches a listing meets then.
+fn refused_and_met(rt: &impl Abort, heap: Heap, number: u64) -> (bool, usize) {
+    let mut records = three_processes(rt, heap);
+    let refused = is_addition_refused(rt, heap, &mut records, number);
+    let met = met_by_a_listing(rt, &records);
+    drop(records);
+    (refused, met)
 }
 
 #[test]
@@ -86,13 +101,11 @@ fn a_refused_growth_leaves_all_as_it_was(rt: HostRuntime) {
     let heap = heap::open(rt.alloc()).expect(&rt, "memory");
     let mut refused = 0u32;
     for number in 1..8 {
-        let mut records = three_processes(&rt, heap);
-        if is_addition_refused(&rt, heap, &mut records, number) {
+        let (is_refused, met) = refused_and_met(&rt, heap, number);
+        if is_refused {
             refused = refused.wrapping_add(1);
-            assert_eq!(rt; met_by_a_listing(&rt, &records), 2);
-        } else {
-            assert_eq!(rt; met_by_a_listing(&rt, &records), 4);
         }
+        assert_eq!(rt; met, if is_refused { 2 } else { 4 });
     }
     assert!(rt; refused > 1);
 }

@@ -31,8 +31,8 @@ fn added(
 {
     stable.directories_are_kept();
     let root = View::new(stable, None).root();
-    let mut edits = Vec::new(heap);
-    edits.push(Edit::MakeDirectory(root, Name::copy(heap, name)?, 0))?;
+    let name = Name::copy(heap, name)?;
+    let edits = Vec::from_array(heap, [Edit::MakeDirectory(root, name, 0)])?;
     let chosen = shadow.edit(stable, edits)?;
     Ok(chosen.as_slice()[0])
 }
@@ -45,7 +45,10 @@ fn added_again(rt: &impl Abort, heap: Heap, request: u64) -> (bool, Num) {
     heap.refuse(request);
     let refused = is_refused(added(heap, &mut stable, &mut shadow, b"a"));
     heap.refuse(0);
-    let num = begun(rt, heap, &mut stable, b"b").1;
+    let (other, num) = begun(rt, heap, &mut stable, b"b");
+    drop(other);
+    drop(shadow);
+    drop(stable);
     (refused, num)
 }
 
@@ -78,7 +81,10 @@ fn refused_memory_gives_numbers_back(rt: HostRuntime) {
 fn two_transactions_have_two_numbers(rt: HostRuntime) {
     let heap = heap::open(rt.alloc()).expect(&rt, "memory");
     let mut stable = first_stable(&rt, heap);
-    let (_first, one) = begun(&rt, heap, &mut stable, b"a");
-    let (_second, two) = begun(&rt, heap, &mut stable, b"b");
+    let (first, one) = begun(&rt, heap, &mut stable, b"a");
+    let (second, two) = begun(&rt, heap, &mut stable, b"b");
+    drop(second);
+    drop(first);
+    drop(stable);
     assert_eq!(rt; [one, two], [Num(1), Num(2)]);
 }

@@ -47,10 +47,15 @@ fn refused_memory_changes_nothing(rt: HostRuntime) {
     let root = store.root();
     assert!(rt; is_once_refused(heap, &mut store));
     heap.refuse(1);
-    let promised = store.promise(root).is_ok();
-    assert_eq!(rt; [promised, store.is_promised(root)], [false; 2]);
-    assert_eq!(rt; name_count(&store, root), Some(0));
+    let refused = [store.promise(root).is_ok(), store.is_promised(root)];
+    let count = name_count(&store, root);
     heap.refuse(0);
-    let reserved = store.reserve_num(no_names(heap)).is_ok();
-    assert_eq!(rt; [reserved, store.promise(root).is_ok()], [true; 2]);
+    let done = [
+        store.reserve_num(no_names(heap)).is_ok(),
+        store.promise(root).is_ok(),
+    ];
+    drop(store);
+    assert_eq!(rt; refused, [false; 2]);
+    assert_eq!(rt; count, Some(0));
+    assert_eq!(rt; done, [true; 2]);
 }

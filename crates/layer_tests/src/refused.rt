@@ -5,3 +5,8 @@ use std::alloc::AllocError;
 pub(crate) fn is_refused<T: Drop>(made: Result<T, AllocError>) -> bool {
     made.is_err()
 }
+
+// Whether a thing was done. What comes back otherwise goes here.
+pub(crate) fn is_done<T: Drop>(done: Result<(), T>) -> bool {
+    done.is_ok()
+}
