@@ -18,19 +18,28 @@ pub(crate) fn plain(heap: Heap, pid: u32, op: Op, reply: Reply) -> Entry {
     }
 }
 
-// An entry that makes an object.
-pub(crate) fn making(rt: &impl Abort, heap: Heap, pid: u32, call: Call, num: usize) -> Entry {
-    let mut entry = plain(heap, pid, Op::Call(call), Reply::Answer(Answer::Done));
-    entry.chosen.push(Num(num)).expect(rt, "memory");
+// An entry of a call that makes an object.
+pub(crate) fn making(rt: &impl Abort, heap: Heap, pid: u32, op: Op, num: usize) -> Entry {
+    let mut entry = plain(heap, pid, op, Reply::Answer(Answer::Done));
+    choose(rt, &mut entry, num);
     entry
+}
+
+// One new number more.
+fn choose(rt: &impl Abort, entry: &mut Entry, num: usize) {
+    entry.chosen.push(Num(num)).expect(rt, "memory");
 }
 
 pub(crate) fn path(rt: &impl Abort, heap: Heap, path: &[u8]) -> Bytes {
     Bytes::copy(heap, path).expect(rt, "memory")
 }
 
+pub(crate) fn mkdir_op(rt: &impl Abort, heap: Heap, name: &[u8]) -> Op {
+    Op::Call(Call::Mkdir(path(rt, heap, name)))
+}
+
 pub(crate) fn mkdir(rt: &impl Abort, heap: Heap, pid: u32, name: &[u8], num: usize) -> Entry {
-    making(rt, heap, pid, Call::Mkdir(path(rt, heap, name)), num)
+    making(rt, heap, pid, mkdir_op(rt, heap, name), num)
 }
 
 pub(crate) fn stat(rt: &impl Abort, heap: Heap, pid: u32, name: &[u8], reply: Reply) -> Entry {
@@ -42,9 +51,10 @@ pub(crate) fn open_new(rt: &impl Abort, heap: Heap) -> Entry {
     let flags = OpenFlags::READ
         .with(OpenFlags::WRITE)
         .with(OpenFlags::CREAT);
-    let mut entry = making(rt, heap, 1, Call::Open(path(rt, heap, b"/a"), flags), 1);
-    entry.chosen.push(Num(2)).expect(rt, "memory");
-    entry.reply = Reply::Answer(Answer::Fd(Fd(0)));
+    let op = Op::Call(Call::Open(path(rt, heap, b"/a"), flags));
+    let mut entry = plain(heap, 1, op, Reply::Answer(Answer::Fd(Fd(0))));
+    choose(rt, &mut entry, 1);
+    choose(rt, &mut entry, 2);
     entry
 }
 
@@ -101,7 +111,12 @@ pub(crate) fn empty(rt: &impl Abort, heap: Heap) -> History {
     History::new(heap, &[zero, zero], 16).expect(rt, "memory")
 }
 
+// Whether a thing was done. What comes back otherwise goes here.
+fn is_done<T: Drop>(done: Result<(), T>) -> bool {
+    done.is_ok()
+}
+
 // One entry more.
 pub(crate) fn add(rt: &impl Abort, history: &mut History, entry: Entry) {
-    assert!(rt; history.push(entry).is_ok());
+    assert!(rt; is_done(history.push(entry)));
 }

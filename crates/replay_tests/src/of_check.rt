@@ -1,29 +1,43 @@
 // What the checker says of histories that were changed.
 use crate::histories::{
-    aborted, add, begin, directory, empty, mkdir, open_new, plain, read, rewind, stat, write,
+    aborted, add, begin, directory, empty, mkdir, mkdir_op, open_new, plain, read, rewind, stat,
+    write,
 };
 use heap::Heap;
 use history::History;
-use ids::{Errno, Op, Pid, Reply};
+use ids::{Entry, Errno, Op, Pid, Reply};
 use replay::{CheckFault, check};
 use std::process::Abort;
 
+// What the checker says of a history, which goes then.
+fn checked(heap: Heap, history: History) -> Result<(), CheckFault> {
+    let told = check(heap, &history);
+    drop(history);
+    told
+}
+
+// A directory that is made, or that is not although it could be.
+fn second_entry(rt: &impl Abort, heap: Heap, made: bool) -> Entry {
+    if made {
+        mkdir(rt, heap, 1, b"/a", 1)
+    } else {
+        let op = mkdir_op(rt, heap, b"/a");
+        plain(heap, 1, op, Reply::Errno(Errno::ENOENT))
+    }
+}
+
 // A directory is made in a transaction; this is what stands at entries 2 and 4.
 fn first_run(rt: &impl Abort, heap: Heap, made: bool, ended: Reply) -> History {
+    let fourth = plain(heap, 1, Op::End, ended);
     let mut history = empty(rt, heap);
     add(rt, &mut history, begin(heap, 1));
-    let mut second = mkdir(rt, heap, 1, b"/a", 1);
-    if !made {
-        second.reply = Reply::Errno(Errno::ENOENT);
-        second.chosen = ids::Nums::new(heap);
-    }
-    add(rt, &mut history, second);
+    add(rt, &mut history, second_entry(rt, heap, made));
     add(
         rt,
         &mut history,
         stat(rt, heap, 2, b"/a", Reply::Errno(Errno::ENOENT)),
     );
-    add(rt, &mut history, plain(heap, 1, Op::End, ended));
+    add(rt, &mut history, fourth);
     add(rt, &mut history, stat(rt, heap, 2, b"/a", directory(1)));
     history
 }
@@ -32,21 +46,21 @@ fn first_run(rt: &impl Abort, heap: Heap, made: bool, ended: Reply) -> History {
 fn first_run_passes(rt: HostRuntime) {
     let heap = heap::open(rt.alloc()).expect(&rt, "memory");
     let history = first_run(&rt, heap, true, Reply::Committed);
-    assert_eq!(rt; check(heap, &history), Ok(()));
+    assert_eq!(rt; checked(heap, history), Ok(()));
 }
 
 #[test]
 fn wrong_call_of_a_transaction_is_told(rt: HostRuntime) {
     let heap = heap::open(rt.alloc()).expect(&rt, "memory");
     let history = first_run(&rt, heap, false, Reply::Committed);
-    assert_eq!(rt; check(heap, &history), Err(CheckFault::Wrong(2)));
+    assert_eq!(rt; checked(heap, history), Err(CheckFault::Wrong(2)));
 }
 
 #[test]
 fn end_of_a_transaction_has_to_suit(rt: HostRuntime) {
     let heap = heap::open(rt.alloc()).expect(&rt, "memory");
     let history = first_run(&rt, heap, true, Reply::NotInTransaction);
-    assert_eq!(rt; check(heap, &history), Err(CheckFault::Wrong(4)));
+    assert_eq!(rt; checked(heap, history), Err(CheckFault::Wrong(4)));
 }
 
 // What is written to a file is read, or these bytes are.
@@ -62,32 +76,46 @@ fn write_and_read(rt: &impl Abort, heap: Heap, found: &[u8]) -> History {
 #[test]
 fn what_was_written_has_to_be_read(rt: HostRuntime) {
     let heap = heap::open(rt.alloc()).expect(&rt, "memory");
-    assert_eq!(rt; check(heap, &write_and_read(&rt, heap, b"hi")), Ok(()));
+    assert_eq!(rt; checked(heap, write_and_read(&rt, heap, b"hi")), Ok(()));
     let wrong = Err(CheckFault::Wrong(4));
-    assert_eq!(rt; check(heap, &write_and_read(&rt, heap, b"ho")), wrong);
+    assert_eq!(rt; checked(heap, write_and_read(&rt, heap, b"ho")), wrong);
+}
+
+// A transaction with a wrong reply is given up.
+fn given_up(rt: &impl Abort, heap: Heap) -> History {
+    let mut history = empty(rt, heap);
+    add(rt, &mut history, begin(heap, 1));
+    let op = mkdir_op(rt, heap, b"/a");
+    add(
+        rt,
+        &mut history,
+        plain(heap, 1, op, Reply::Errno(Errno::EEXIST)),
+    );
+    let abort = Op::Abort { no_restart: false };
+    add(
+        rt,
+        &mut history,
+        plain(heap, 1, abort, Reply::GivenUp { restarted: false }),
+    );
+    add(
+        rt,
+        &mut history,
+        stat(rt, heap, 1, b"/a", Reply::Errno(Errno::ENOENT)),
+    );
+    history
 }
 
 #[test]
 fn aborted_calls_may_be_anything(rt: HostRuntime) {
     let heap = heap::open(rt.alloc()).expect(&rt, "memory");
-    let mut history = empty(&rt, heap);
-    add(&rt, &mut history, begin(heap, 1));
-    let mut third = mkdir(&rt, heap, 1, b"/a", 1);
-    third.reply = Reply::Errno(Errno::EEXIST);
-    third.chosen = ids::Nums::new(heap);
-    add(&rt, &mut history, third);
-    let abort = Op::Abort { no_restart: false };
-    add(
-        &rt,
-        &mut history,
-        plain(heap, 1, abort, Reply::GivenUp { restarted: false }),
-    );
-    add(
-        &rt,
-        &mut history,
-        stat(&rt, heap, 1, b"/a", Reply::Errno(Errno::ENOENT)),
-    );
-    assert_eq!(rt; check(heap, &history), Ok(()));
+    assert_eq!(rt; checked(heap, given_up(&rt, heap)), Ok(()));
+}
+
+// A directory is made, which dooms process 1.
+fn dooming(rt: &impl Abort, heap: Heap) -> Entry {
+    let mut entry = mkdir(rt, heap, 2, b"/a", 1);
+    entry.doomed.push(Pid(1)).expect(rt, "memory");
+    entry
 }
 
 // A plain call dooms a transaction that is told this other process.
@@ -99,9 +127,7 @@ fn doomed(rt: &impl Abort, heap: Heap, other: u32) -> History {
         &mut history,
         stat(rt, heap, 1, b"/a", Reply::Errno(Errno::ENOENT)),
     );
-    let mut third = mkdir(rt, heap, 2, b"/a", 1);
-    third.doomed.push(Pid(1)).expect(rt, "memory");
-    add(rt, &mut history, third);
+    add(rt, &mut history, dooming(rt, heap));
     add(
         rt,
         &mut history,
@@ -114,8 +140,7 @@ fn doomed(rt: &impl Abort, heap: Heap, other: u32) -> History {
 fn causes_may_be_anything(rt: HostRuntime) {
     let heap = heap::open(rt.alloc()).expect(&rt, "memory");
     for other in [2, 7] {
-        let history = doomed(&rt, heap, other);
-        assert_eq!(rt; check(heap, &history), Ok(()));
+        assert_eq!(rt; checked(heap, doomed(&rt, heap, other)), Ok(()));
     }
 }
 
@@ -131,11 +156,22 @@ fn roots(rt: &impl Abort, heap: Heap, first: usize, second: usize) -> History {
 #[test]
 fn root_is_found(rt: HostRuntime) {
     let heap = heap::open(rt.alloc()).expect(&rt, "memory");
-    assert_eq!(rt; check(heap, &roots(&rt, heap, 0, 0)), Ok(()));
-    assert_eq!(rt; check(heap, &roots(&rt, heap, 9, 9)), Ok(()));
     let wrong = |place| Err(CheckFault::Wrong(place));
-    assert_eq!(rt; check(heap, &roots(&rt, heap, 9, 8)), wrong(3));
-    assert_eq!(rt; check(heap, &roots(&rt, heap, 1, 1)), wrong(2));
+    for (first, second, told) in [
+        (0, 0, Ok(())),
+        (9, 9, Ok(())),
+        (9, 8, wrong(3)),
+        (1, 1, wrong(2)),
+    ] {
+        assert_eq!(rt; checked(heap, roots(&rt, heap, first, second)), told);
+    }
+}
+
+// Whether a history passes or there is no memory, where this request is refused.
+fn decides_nothing(heap: Heap, history: &History, number: u64) -> bool {
+    heap.refuse(number);
+    let result = check(heap, history);
+    result == Ok(()) || result == Err(CheckFault::NoMemory)
 }
 
 #[test]
@@ -143,8 +179,7 @@ fn refused_memory_decides_nothing(rt: HostRuntime) {
     let heap = heap::open(rt.alloc()).expect(&rt, "memory");
     let history = first_run(&rt, heap, true, Reply::Committed);
     for number in 1..200u64 {
-        heap.refuse(number);
-        let result = check(heap, &history);
-        assert!(rt; result == Ok(()) || result == Err(CheckFault::NoMemory));
+        assert!(rt; decides_nothing(heap, &history, number));
     }
+    drop(history);
 }
