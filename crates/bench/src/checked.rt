@@ -1,11 +1,11 @@
 // How long it takes to check a history, against how long it took to run it.
-use crate::clock::{Lap, print_cost};
+use crate::clock::Lap;
 use crate::paths::path_in;
 use crate::steps::{kernel_of, make_directory, step};
 use anyhow::{Result, bail};
 use heap::Heap;
 use ids::{Bytes, Call, Fd, Op, OpenFlags, Whence};
-use kernel::Kernel;
+use machine::Machine;
 use replay::check;
 
 // The directories in the root, and how many names lie in each.
@@ -16,12 +16,12 @@ const NAMES: u64 = 1000;
 // The calls that are run, besides those that make the names.
 const CALLS: u64 = 100_000;
 
-fn call(kernel: &mut Kernel, call: Call) -> Result<()> {
+fn call<K: Machine>(kernel: &mut K, call: Call) -> Result<()> {
     step(kernel, 1, Op::Call(call))
 }
 
 // Opens the file `/f`, which is new, on descriptor 0, and a pipe on 1 and 2.
-fn open_both(kernel: &mut Kernel, heap: Heap) -> Result<()> {
+fn open_both<K: Machine>(kernel: &mut K, heap: Heap) -> Result<()> {
     let flags = OpenFlags::READ
         .with(OpenFlags::WRITE)
         .with(OpenFlags::CREAT);
@@ -30,7 +30,7 @@ fn open_both(kernel: &mut Kernel, heap: Heap) -> Result<()> {
 }
 
 // Makes the directories with their names.
-fn fill(kernel: &mut Kernel, heap: Heap) -> Result<()> {
+fn fill<K: Machine>(kernel: &mut K, heap: Heap) -> Result<()> {
     for directory in &DIRECTORIES {
         make_directory(kernel, heap, directory.as_bytes())?;
         for number in 0..NAMES {
@@ -42,7 +42,7 @@ fn fill(kernel: &mut Kernel, heap: Heap) -> Result<()> {
 }
 
 // A directory comes between these names and goes again, and two of them are looked for.
-fn do_names(kernel: &mut Kernel, heap: Heap, directory: &str, number: u64) -> Result<()> {
+fn do_names<K: Machine>(kernel: &mut K, heap: Heap, directory: &str, number: u64) -> Result<()> {
     let other = NAMES.saturating_sub(number).min(999);
     call(kernel, Call::Mkdir(path_in(heap, directory, b'm', number)?))?;
     call(kernel, Call::Stat(path_in(heap, directory, b'n', number)?))?;
@@ -50,16 +50,16 @@ fn do_names(kernel: &mut Kernel, heap: Heap, directory: &str, number: u64) -> Re
     call(kernel, Call::Stat(path_in(heap, directory, b'n', other)?))
 }
 
-fn rewind(kernel: &mut Kernel) -> Result<()> {
+fn rewind<K: Machine>(kernel: &mut K) -> Result<()> {
     call(kernel, Call::Lseek(Fd(0), 0, Whence::Set))
 }
 
-fn write(kernel: &mut Kernel, heap: Heap, fd: Fd) -> Result<()> {
+fn write<K: Machine>(kernel: &mut K, heap: Heap, fd: Fd) -> Result<()> {
     call(kernel, Call::Write(fd, Bytes::copy(heap, &[b'x'; 64])?))
 }
 
 // 64 bytes are written to the file and to the pipe, and read again.
-fn do_bytes(kernel: &mut Kernel, heap: Heap) -> Result<()> {
+fn do_bytes<K: Machine>(kernel: &mut K, heap: Heap) -> Result<()> {
     rewind(kernel)?;
     write(kernel, heap, Fd(0))?;
     rewind(kernel)?;
@@ -69,7 +69,7 @@ fn do_bytes(kernel: &mut Kernel, heap: Heap) -> Result<()> {
 }
 
 // Ten calls for each name.
-fn do_calls(kernel: &mut Kernel, heap: Heap) -> Result<()> {
+fn do_calls<K: Machine>(kernel: &mut K, heap: Heap) -> Result<()> {
     for number in 0..NAMES {
         for directory in &DIRECTORIES {
             do_names(kernel, heap, directory, number)?;
@@ -79,30 +79,30 @@ fn do_calls(kernel: &mut Kernel, heap: Heap) -> Result<()> {
     Ok(())
 }
 
-fn print_checks(rt: &HostRuntime, kernel: &Kernel, heap: Heap) -> Result<()> {
+fn print_checks<K: Machine>(rt: &HostRuntime, kernel: &K, heap: Heap) -> Result<()> {
     for _ in 0..3u64 {
         let lap = Lap::start(rt, heap)?;
         if check(heap, kernel.history()).is_err() {
             bail!("the history does not pass")
         }
-        print_cost(rt, "check", "check them", CALLS, lap.cost(rt, heap)?)?;
+        lap.print(rt, heap, "check", "check them", CALLS)?;
     }
     Ok(())
 }
 
-fn print_check_on(rt: &HostRuntime, kernel: &mut Kernel, heap: Heap) -> Result<()> {
+fn print_check_on<K: Machine>(rt: &HostRuntime, kernel: &mut K, heap: Heap) -> Result<()> {
     open_both(kernel, heap)?;
     let lap = Lap::start(rt, heap)?;
     fill(kernel, heap)?;
     do_calls(kernel, heap)?;
-    print_cost(rt, "check", "run the calls", CALLS, lap.cost(rt, heap)?)?;
+    lap.print(rt, heap, "check", "run the calls", CALLS)?;
     print_checks(rt, kernel, heap)
 }
 
 /// Prints what it costs to run 100,000 plain calls in a tree of 10,000 names, which are made first,
 /// and what it costs to check their history.
-pub(crate) fn print_check(rt: &HostRuntime, heap: Heap) -> Result<()> {
-    let mut kernel = kernel_of(heap, 1)?;
+pub(crate) fn print_check<K: Machine>(rt: &HostRuntime, heap: Heap) -> Result<()> {
+    let mut kernel: K = kernel_of(heap, 1)?;
     let done = print_check_on(rt, &mut kernel, heap);
     drop(kernel);
     done

@@ -29,7 +29,7 @@ impl Cost {
 }
 
 /// A time that is running, with the requests that were made before.
-#[derive(Drop)]
+#[derive(Clone, Copy)]
 pub(crate) struct Lap {
     start: Instant,
     made: u64,
@@ -55,6 +55,18 @@ impl Lap {
             .saturating_add(part);
         let requests = heap.made().wrapping_sub(self.made);
         Ok(Cost { nanos, requests })
+    }
+
+    /// Prints what has been spent since the start as a line of the table.
+    pub(crate) fn print(
+        &self,
+        rt: &HostRuntime,
+        heap: Heap,
+        way: &str,
+        row: &str,
+        calls: u64,
+    ) -> Result<()> {
+        print_cost(rt, way, row, calls, self.cost(rt, heap)?)
     }
 }
 

@@ -4,7 +4,7 @@ use crate::steps::{abort, begin, end, kernel_of, prepare};
 use crate::work::{Work, do_often};
 use anyhow::Result;
 use heap::Heap;
-use kernel::Kernel;
+use machine::Machine;
 
 // What calls cost plainly and in transactions, and what the ends of these cost.
 #[derive(Clone, Copy)]
@@ -16,7 +16,7 @@ struct Costs {
 }
 
 // Makes so many directories by plain calls, and removes them.
-fn plain(rt: &HostRuntime, kernel: &mut Kernel, heap: Heap, calls: u64) -> Result<Cost> {
+fn plain<K: Machine>(rt: &HostRuntime, kernel: &mut K, heap: Heap, calls: u64) -> Result<Cost> {
     let lap = Lap::start(rt, heap)?;
     do_often(kernel, heap, Work::Mkdir, calls)?;
     let cost = lap.cost(rt, heap)?;
@@ -25,7 +25,7 @@ fn plain(rt: &HostRuntime, kernel: &mut Kernel, heap: Heap, calls: u64) -> Resul
 }
 
 // Makes so many directories in a transaction that stays open.
-fn within(rt: &HostRuntime, kernel: &mut Kernel, heap: Heap, calls: u64) -> Result<Cost> {
+fn within<K: Machine>(rt: &HostRuntime, kernel: &mut K, heap: Heap, calls: u64) -> Result<Cost> {
     begin(kernel, 1)?;
     let lap = Lap::start(rt, heap)?;
     do_often(kernel, heap, Work::Mkdir, calls)?;
@@ -33,7 +33,7 @@ fn within(rt: &HostRuntime, kernel: &mut Kernel, heap: Heap, calls: u64) -> Resu
 }
 
 // Commits what `within` has made, and removes it.
-fn commit(rt: &HostRuntime, kernel: &mut Kernel, heap: Heap, calls: u64) -> Result<Cost> {
+fn commit<K: Machine>(rt: &HostRuntime, kernel: &mut K, heap: Heap, calls: u64) -> Result<Cost> {
     let lap = Lap::start(rt, heap)?;
     end(kernel, 1)?;
     let cost = lap.cost(rt, heap)?;
@@ -41,7 +41,7 @@ fn commit(rt: &HostRuntime, kernel: &mut Kernel, heap: Heap, calls: u64) -> Resu
     Ok(cost)
 }
 
-fn give_up(rt: &HostRuntime, kernel: &mut Kernel, heap: Heap) -> Result<Cost> {
+fn give_up<K: Machine>(rt: &HostRuntime, kernel: &mut K, heap: Heap) -> Result<Cost> {
     let lap = Lap::start(rt, heap)?;
     abort(kernel, 1)?;
     lap.cost(rt, heap)
@@ -49,9 +49,9 @@ fn give_up(rt: &HostRuntime, kernel: &mut Kernel, heap: Heap) -> Result<Cost> {
 
 // So many times: the calls plainly, in a transaction that is committed, and in one that is given
 // up.
-fn costs_of(
+fn costs_of<K: Machine>(
     rt: &HostRuntime,
-    kernel: &mut Kernel,
+    kernel: &mut K,
     heap: Heap,
     calls: u64,
     times: u64,
@@ -72,9 +72,9 @@ fn costs_of(
     Ok(sum)
 }
 
-fn print_length(
+fn print_length<K: Machine>(
     rt: &HostRuntime,
-    kernel: &mut Kernel,
+    kernel: &mut K,
     heap: Heap,
     row: &str,
     calls: u64,
@@ -88,7 +88,7 @@ fn print_length(
     print_cost(rt, "abort", row, all, costs.abort)
 }
 
-fn print_lengths_on(rt: &HostRuntime, kernel: &mut Kernel, heap: Heap) -> Result<()> {
+fn print_lengths_on<K: Machine>(rt: &HostRuntime, kernel: &mut K, heap: Heap) -> Result<()> {
     prepare(kernel, heap)?;
     for _ in 0..3u64 {
         print_length(rt, kernel, heap, "transactions of 10 calls", 10, 500)?;
@@ -99,8 +99,8 @@ fn print_lengths_on(rt: &HostRuntime, kernel: &mut Kernel, heap: Heap) -> Result
 
 /// Prints what a mkdir costs in transactions of 10 calls and of 10,000, and what for each call their
 /// end costs and their abort.
-pub(crate) fn print_lengths(rt: &HostRuntime, heap: Heap) -> Result<()> {
-    let mut kernel = kernel_of(heap, 1)?;
+pub(crate) fn print_lengths<K: Machine>(rt: &HostRuntime, heap: Heap) -> Result<()> {
+    let mut kernel: K = kernel_of(heap, 1)?;
     let done = print_lengths_on(rt, &mut kernel, heap);
     drop(kernel);
     done

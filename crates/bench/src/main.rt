@@ -22,24 +22,44 @@ mod work;
 
 use anyhow::{Result, bail};
 use heap::Heap;
+use kernel::Kernel;
+use machine::Machine;
 use std::alloc::Global;
 use std::env;
 use std::sync::Wait;
 use std::thread::Threads;
 
 fn main(rt: HostRuntime) -> Result<()> {
-    run(&rt, &rt, rt.alloc())
+    run::<_, Kernel>(&rt, &rt, rt.alloc())
 }
 
 // Only `main` may give the host's threads to others, so they come as a handle of their own.
-fn run<R: Threads + Wait + Sync>(rt: &HostRuntime, threads: &R, global: Global) -> Result<()> {
+fn run<R: Threads + Wait + Sync, K: Machine + Send>(
+    rt: &HostRuntime,
+    threads: &R,
+    global: Global,
+) -> Result<()> {
+    let words = words_of(rt, global)?;
+    print_as_told::<_, K>(rt, threads, global, words.as_slice())
+}
+
+fn words_of(rt: &HostRuntime, global: Global) -> Result<Vec<String>> {
     let mut words = Vec::new(global);
     for word in env::args(rt)? {
         words.push(word)?;
     }
-    match words.as_slice() {
-        [_, part] => print_part(rt, threads, heap::open(global)?, part.as_str()),
-        [_, part, file] => print_to(rt, heap::open(global)?, part.as_str(), file.as_str()),
+    Ok(words)
+}
+
+fn print_as_told<R: Threads + Wait + Sync, K: Machine + Send>(
+    rt: &HostRuntime,
+    threads: &R,
+    global: Global,
+    words: &[String],
+) -> Result<()> {
+    match words {
+        [_, part] => print_part::<_, K>(rt, threads, heap::open(global)?, part.as_str()),
+        [_, part, file] => print_to::<K>(rt, heap::open(global)?, part.as_str(), file.as_str()),
         _ => {
             println!(rt; "usage: bench PART | bench edges FILE")?;
             Ok(())
@@ -47,27 +67,27 @@ fn run<R: Threads + Wait + Sync>(rt: &HostRuntime, threads: &R, global: Global) 
     }
 }
 
-fn print_part<R: Threads + Wait + Sync>(
+fn print_part<R: Threads + Wait + Sync, K: Machine + Send>(
     rt: &HostRuntime,
     threads: &R,
     heap: Heap,
     part: &str,
 ) -> Result<()> {
     match part {
-        "small" => rows::print_small(rt, heap),
-        "large" => rows::print_large(rt, heap),
-        "largest" => rows::print_largest(rt, heap),
-        "lengths" => lengths::print_lengths(rt, heap),
-        "growth" => growth::print_growth(rt, heap),
-        "lock" => lock::print_lock(rt, threads, heap),
-        "check" => checked::print_check(rt, heap),
+        "small" => rows::print_small::<K>(rt, heap),
+        "large" => rows::print_large::<K>(rt, heap),
+        "largest" => rows::print_largest::<K>(rt, heap),
+        "lengths" => lengths::print_lengths::<K>(rt, heap),
+        "growth" => growth::print_growth::<K>(rt, heap),
+        "lock" => lock::print_lock::<_, K>(rt, threads, heap),
+        "check" => checked::print_check::<K>(rt, heap),
         _ => bail!("{part} is no part"),
     }
 }
 
-fn print_to(rt: &HostRuntime, heap: Heap, part: &str, file: &str) -> Result<()> {
+fn print_to<K: Machine>(rt: &HostRuntime, heap: Heap, part: &str, file: &str) -> Result<()> {
     if part != "edges" {
         bail!("{part} takes no file")
     }
-    edges::print_edges(rt, heap, file)
+    edges::print_edges::<K>(rt, heap, file)
 }

@@ -1,10 +1,10 @@
 // The rows of single calls, plain and in a transaction.
-use crate::clock::{Lap, print_cost};
+use crate::clock::{Cost, Lap, print_cost};
 use crate::steps::{begin, end, kernel_of, prepare};
 use crate::work::{Work, do_often, make_between};
 use anyhow::Result;
 use heap::Heap;
-use kernel::Kernel;
+use machine::Machine;
 
 /// A row of the table: its name, what is done, and how often.
 struct Row {
@@ -93,25 +93,46 @@ static LARGE: [Row; 3] = [
     },
 ];
 
-fn print_plain(rt: &HostRuntime, kernel: &mut Kernel, heap: Heap, rows: &[Row]) -> Result<()> {
+fn print_plain<K: Machine>(
+    rt: &HostRuntime,
+    kernel: &mut K,
+    heap: Heap,
+    rows: &[Row],
+) -> Result<()> {
     for row in rows {
         let lap = Lap::start(rt, heap)?;
         do_often(kernel, heap, row.work, row.count)?;
-        print_cost(rt, "plain", row.name, row.count, lap.cost(rt, heap)?)?;
+        lap.print(rt, heap, "plain", row.name, row.count)?;
     }
     Ok(())
 }
 
-// A transaction for each row. Its calls are told, and all from its begin to its end.
-fn print_within(rt: &HostRuntime, kernel: &mut Kernel, heap: Heap, rows: &[Row]) -> Result<()> {
+// Makes a row's calls in a transaction. Gives what they cost, and what all costs from its begin to
+// its end.
+fn costs_within<K: Machine>(
+    rt: &HostRuntime,
+    kernel: &mut K,
+    heap: Heap,
+    row: &Row,
+) -> Result<(Cost, Cost)> {
+    let whole = Lap::start(rt, heap)?;
+    begin(kernel, 1)?;
+    let lap = Lap::start(rt, heap)?;
+    do_often(kernel, heap, row.work, row.count)?;
+    let calls = lap.cost(rt, heap)?;
+    end(kernel, 1)?;
+    Ok((calls, whole.cost(rt, heap)?))
+}
+
+// A transaction for each row.
+fn print_within<K: Machine>(
+    rt: &HostRuntime,
+    kernel: &mut K,
+    heap: Heap,
+    rows: &[Row],
+) -> Result<()> {
     for row in rows {
-        let whole = Lap::start(rt, heap)?;
-        begin(kernel, 1)?;
-        let lap = Lap::start(rt, heap)?;
-        do_often(kernel, heap, row.work, row.count)?;
-        let calls = lap.cost(rt, heap)?;
-        end(kernel, 1)?;
-        let whole = whole.cost(rt, heap)?;
+        let (calls, whole) = costs_within(rt, kernel, heap, row)?;
         print_cost(rt, "within", row.name, row.count, calls)?;
         print_cost(rt, "whole", row.name, row.count, whole)?;
     }
@@ -121,7 +142,7 @@ fn print_within(rt: &HostRuntime, kernel: &mut Kernel, heap: Heap, rows: &[Row])
 // How often the rows of 1,000 names are done on one kernel.
 const REPETITIONS: u64 = 8;
 
-fn print_small_on(rt: &HostRuntime, kernel: &mut Kernel, heap: Heap) -> Result<()> {
+fn print_small_on<K: Machine>(rt: &HostRuntime, kernel: &mut K, heap: Heap) -> Result<()> {
     prepare(kernel, heap)?;
     for _ in 0..REPETITIONS {
         print_plain(rt, kernel, heap, &ROWS)?;
@@ -132,22 +153,22 @@ fn print_small_on(rt: &HostRuntime, kernel: &mut Kernel, heap: Heap) -> Result<(
 }
 
 /// Prints the rows of 1,000 names, of files, of a pipe and of forks.
-pub(crate) fn print_small(rt: &HostRuntime, heap: Heap) -> Result<()> {
-    let mut kernel = kernel_of(heap, 1)?;
+pub(crate) fn print_small<K: Machine>(rt: &HostRuntime, heap: Heap) -> Result<()> {
+    let mut kernel: K = kernel_of(heap, 1)?;
     let done = print_small_on(rt, &mut kernel, heap);
     drop(kernel);
     done
 }
 
-fn print_large_on(rt: &HostRuntime, kernel: &mut Kernel, heap: Heap) -> Result<()> {
+fn print_large_on<K: Machine>(rt: &HostRuntime, kernel: &mut K, heap: Heap) -> Result<()> {
     prepare(kernel, heap)?;
     print_plain(rt, kernel, heap, &LARGE)?;
     print_within(rt, kernel, heap, &LARGE)
 }
 
 /// Prints the rows of 100,000 names.
-pub(crate) fn print_large(rt: &HostRuntime, heap: Heap) -> Result<()> {
-    let mut kernel = kernel_of(heap, 1)?;
+pub(crate) fn print_large<K: Machine>(rt: &HostRuntime, heap: Heap) -> Result<()> {
+    let mut kernel: K = kernel_of(heap, 1)?;
     let done = print_large_on(rt, &mut kernel, heap);
     drop(kernel);
     done
@@ -161,9 +182,9 @@ const PORTION: u64 = 1000;
 
 // Makes so many portions of names, and prints them all as one row from the start of `lap`. Where it takes
 // too long it stops earlier, and the row has fewer calls.
-fn print_portions(
+fn print_portions<K: Machine>(
     rt: &HostRuntime,
-    kernel: &mut Kernel,
+    kernel: &mut K,
     heap: Heap,
     lap: &Lap,
     row: &str,
@@ -180,10 +201,10 @@ fn print_portions(
         made = first.wrapping_add(PORTION);
         make_between(kernel, heap, first, made)?;
     }
-    print_cost(rt, "plain", row, made, lap.cost(rt, heap)?)
+    lap.print(rt, heap, "plain", row, made)
 }
 
-fn print_largest_on(rt: &HostRuntime, kernel: &mut Kernel, heap: Heap) -> Result<()> {
+fn print_largest_on<K: Machine>(rt: &HostRuntime, kernel: &mut K, heap: Heap) -> Result<()> {
     prepare(kernel, heap)?;
     let lap = Lap::start(rt, heap)?;
     print_portions(rt, kernel, heap, &lap, "mkdir of 500000 names", 0, 500)?;
@@ -192,8 +213,8 @@ fn print_largest_on(rt: &HostRuntime, kernel: &mut Kernel, heap: Heap) -> Result
 
 /// Prints the rows of 500,000 and of 1,000,000 names, of which the second begins with the first. A
 /// row that takes longer than 20 seconds is of fewer names.
-pub(crate) fn print_largest(rt: &HostRuntime, heap: Heap) -> Result<()> {
-    let mut kernel = kernel_of(heap, 1)?;
+pub(crate) fn print_largest<K: Machine>(rt: &HostRuntime, heap: Heap) -> Result<()> {
+    let mut kernel: K = kernel_of(heap, 1)?;
     let done = print_largest_on(rt, &mut kernel, heap);
     drop(kernel);
     done

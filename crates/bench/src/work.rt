@@ -4,7 +4,7 @@ use crate::steps::{child, step, step_refused};
 use anyhow::Result;
 use heap::Heap;
 use ids::{Bytes, Call, Fd, Op, OpenFlags};
-use kernel::Kernel;
+use machine::Machine;
 
 /// The work of a row.
 #[derive(Clone, Copy)]
@@ -42,23 +42,23 @@ const WRITER: Fd = Fd(1);
 
 const FILE: Fd = Fd(2);
 
-fn call(kernel: &mut Kernel, call: Call) -> Result<()> {
+fn call<K: Machine>(kernel: &mut K, call: Call) -> Result<()> {
     step(kernel, 1, Op::Call(call))
 }
 
-fn refuse(kernel: &mut Kernel, heap: Heap) -> Result<()> {
+fn refuse<K: Machine>(kernel: &mut K, heap: Heap) -> Result<()> {
     let path = Bytes::copy(heap, b"/d")?;
     step_refused(kernel, 1, Op::Call(Call::Rmdir(path)))
 }
 
-fn create(kernel: &mut Kernel, heap: Heap, number: u64) -> Result<()> {
+fn create<K: Machine>(kernel: &mut K, heap: Heap, number: u64) -> Result<()> {
     let flags = OpenFlags::WRITE.with(OpenFlags::CREAT);
     call(kernel, Call::Open(path(heap, b'f', number)?, flags))?;
     call(kernel, Call::Write(FILE, Bytes::copy(heap, &[b'x'; 64])?))?;
     call(kernel, Call::Close(FILE))
 }
 
-fn read(kernel: &mut Kernel, heap: Heap, number: u64) -> Result<()> {
+fn read<K: Machine>(kernel: &mut K, heap: Heap, number: u64) -> Result<()> {
     call(
         kernel,
         Call::Open(path(heap, b'f', number)?, OpenFlags::READ),
@@ -67,24 +67,24 @@ fn read(kernel: &mut Kernel, heap: Heap, number: u64) -> Result<()> {
     call(kernel, Call::Close(FILE))
 }
 
-fn rename(kernel: &mut Kernel, heap: Heap, number: u64) -> Result<()> {
+fn rename<K: Machine>(kernel: &mut K, heap: Heap, number: u64) -> Result<()> {
     let old = path(heap, b'f', number)?;
     let new = path(heap, b'g', number)?;
     call(kernel, Call::Rename(old, new))
 }
 
-fn pass(kernel: &mut Kernel, heap: Heap) -> Result<()> {
+fn pass<K: Machine>(kernel: &mut K, heap: Heap) -> Result<()> {
     call(kernel, Call::Write(WRITER, Bytes::copy(heap, &[b'x'; 64])?))?;
     call(kernel, Call::Read(READER, 64))
 }
 
-fn fork(kernel: &mut Kernel) -> Result<()> {
+fn fork<K: Machine>(kernel: &mut K) -> Result<()> {
     let pid = child(kernel)?;
     step(kernel, pid, Op::Call(Call::Exit))
 }
 
 // Does the work once, with the names of this number.
-fn do_work(kernel: &mut Kernel, heap: Heap, work: Work, number: u64) -> Result<()> {
+fn do_work<K: Machine>(kernel: &mut K, heap: Heap, work: Work, number: u64) -> Result<()> {
     match work {
         Work::Mkdir => call(kernel, Call::Mkdir(path(heap, b'n', number)?)),
         Work::Stat => call(kernel, Call::Stat(path(heap, b'n', number)?)),
@@ -110,7 +110,12 @@ fn number_of(work: Work, i: u64, count: u64) -> u64 {
 }
 
 /// Does the work so many times, each time with another name.
-pub(crate) fn do_often(kernel: &mut Kernel, heap: Heap, work: Work, count: u64) -> Result<()> {
+pub(crate) fn do_often<K: Machine>(
+    kernel: &mut K,
+    heap: Heap,
+    work: Work,
+    count: u64,
+) -> Result<()> {
     for i in 0..count {
         do_work(kernel, heap, work, number_of(work, i, count))?;
     }
@@ -118,7 +123,12 @@ pub(crate) fn do_often(kernel: &mut Kernel, heap: Heap, work: Work, count: u64) 
 }
 
 /// Makes the directories of the new names from one place up to another.
-pub(crate) fn make_between(kernel: &mut Kernel, heap: Heap, from: u64, to: u64) -> Result<()> {
+pub(crate) fn make_between<K: Machine>(
+    kernel: &mut K,
+    heap: Heap,
+    from: u64,
+    to: u64,
+) -> Result<()> {
     for i in from..to {
         do_work(kernel, heap, Work::Mkdir, scattered(i))?;
     }

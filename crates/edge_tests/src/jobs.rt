@@ -4,6 +4,7 @@ ghost use Rattle.std.specs.Prelude.{◌≤◌, IfOk};
 use crate::halting::halting;
 use device::Portions;
 use heap::Heap;
+use kernel::Kernel;
 use runner::run_job;
 use std::alloc::AllocError;
 use std::sync::Wait;
@@ -57,7 +58,7 @@ pub(crate) fn is_as_expected<R: Threads + Wait + Sync>(
     };
     let mut out = halting(sinks, expected.room);
     let mut err = halting(sinks, 1000);
-    let status = run_job(rt, heap, job, &mut source, &mut out, &mut err);
+    let status = run_job::<Kernel, _, _, _, _>(rt, heap, job, &mut source, &mut out, &mut err);
     status == expected.status
         && out.bytes.as_slice() == expected.out.as_bytes()
         && err.bytes.as_slice() == expected.err.as_bytes()

@@ -6,26 +6,33 @@ use crate::halting::halting;
 use device::{Failing, Portions, Trickling};
 use heap::Heap;
 use ids::Pid;
+use kernel::Kernel;
+use machine::Machine;
 use runner::{RunFault, run_schedule};
 use script::{ScheduleFault, ScriptFault, read_schedule, read_script};
 use std::alloc::AllocError;
 use std::test::Fail;
 
 // How a run of a text by a list ends, and what it has then written.
-fn end_of(heap: Heap, text: &[u8], list: &str, limit: u32) -> (Option<RunFault>, Vec<u8, Heap>) {
+fn end_of<K: Machine>(
+    heap: Heap,
+    text: &[u8],
+    list: &str,
+    limit: u32,
+) -> (Option<RunFault>, Vec<u8, Heap>) {
     let mut source = Portions {
         bytes: text,
         most: 5000,
     };
     let mut sink = halting(heap, 10_000);
     let limit = limit.min(100) as usize;
-    let fault = run_schedule(heap, &mut source, list, limit, &mut sink).err();
+    let fault = run_schedule::<K, _, _>(heap, &mut source, list, limit, &mut sink).err();
     (fault, sink.bytes)
 }
 
 // Whether a run of a text has this fault, and has written nothing.
 fn has_fault(heap: Heap, text: &[u8], list: &str, fault: RunFault) -> bool {
-    let (found, written) = end_of(heap, text, list, 100);
+    let (found, written) = end_of::<Kernel>(heap, text, list, 100);
     found == Some(fault) && written.is_empty()
 }
 
@@ -224,7 +231,9 @@ fn ended(text: &[u8]) -> usize {
 // How many lines a text is read as, or its fault.
 fn lines_in(heap: Heap, text: &[u8]) -> Result<usize, ScriptFault> {
     let script = read_script(heap, text)?;
-    Ok(script.lines().len())
+    let count = script.lines().len();
+    drop(script);
+    Ok(count)
 }
 
 // A beginning of a script is one where its last line is ended.
@@ -296,10 +305,12 @@ fn steps_in(heap: Heap, list: &str) -> Result<usize, Option<ScheduleFault>> {
     let Ok(script) = read_script(heap, FIRST_RUN.as_bytes()) else {
         return Err(None);
     };
-    match read_schedule(heap, list, &script) {
+    let steps = match read_schedule(heap, list, &script) {
         Ok(pids) => Ok(pids.len()),
         Err(fault) => Err(Some(fault)),
-    }
+    };
+    drop(script);
+    steps
 }
 
 // A beginning of a list of digits is one where no comma is its last byte.
@@ -343,13 +354,13 @@ fn each_beginning_of_a_schedule_is_one_or_none(rt: HostRuntime) -> Result<(), Fa
 }
 
 // Whether the first run into a sink that takes so many bytes ends so, and the sink has just these.
-fn is_cut(heap: Heap, room: usize, fault: Option<RunFault>) -> bool {
+fn is_cut<K: Machine>(heap: Heap, room: usize, fault: Option<RunFault>) -> bool {
     let mut source = Portions {
         bytes: FIRST_RUN.as_bytes(),
         most: 1,
     };
     let mut sink = halting(heap, room);
-    let found = run_schedule(heap, &mut source, FIRST_LIST, 100, &mut sink).err();
+    let found = run_schedule::<K, _, _>(heap, &mut source, FIRST_LIST, 100, &mut sink).err();
     let bytes = FIRST_LINES.as_bytes();
     found == fault
         && sink.bytes.as_slice() == &bytes[..room.min(bytes.len())]
@@ -357,7 +368,7 @@ fn is_cut(heap: Heap, room: usize, fault: Option<RunFault>) -> bool {
 }
 
 // Whether a sink that takes one byte at each write has all.
-fn is_trickled(heap: Heap) -> bool {
+fn is_trickled<K: Machine>(heap: Heap) -> bool {
     let mut source = Portions {
         bytes: FIRST_RUN.as_bytes(),
         most: 5000,
@@ -366,7 +377,7 @@ fn is_trickled(heap: Heap) -> bool {
         bytes: Vec::new(heap),
         failures: 0,
     };
-    let fault = run_schedule(heap, &mut source, FIRST_LIST, 100, &mut sink).err();
+    let fault = run_schedule::<K, _, _>(heap, &mut source, FIRST_LIST, 100, &mut sink).err();
     fault.is_none() && sink.bytes.as_slice() == FIRST_LINES.as_bytes() && sink.failures == 0
 }
 
@@ -375,23 +386,31 @@ fn a_sink_that_fails_has_what_came_before(rt: HostRuntime) -> Result<(), Fail> {
     let heap = heap::open(rt.alloc())?;
     assert_eq!(rt; FIRST_LINES.len(), 120);
     for room in 0..120usize {
-        assert!(rt; is_cut(heap, room, Some(RunFault::Write)), "{room}");
+        assert!(rt;
+            is_cut::<Kernel>(heap, room, Some(RunFault::Write)),
+            "{room}"
+        );
     }
-    assert!(rt; is_cut(heap, 120, None));
-    assert!(rt; is_trickled(heap));
+    assert!(rt; is_cut::<Kernel>(heap, 120, None));
+    assert!(rt; is_trickled::<Kernel>(heap));
     Ok(())
 }
 
 // How often a source has failed that fails after so many reads, and whether the run then ends so
 // and has written this.
-fn failures_of(heap: Heap, left: usize, fault: Option<RunFault>, out: &str) -> (u64, bool) {
+fn failures_of<K: Machine>(
+    heap: Heap,
+    left: usize,
+    fault: Option<RunFault>,
+    out: &str,
+) -> (u64, bool) {
     let mut source = Failing {
         bytes: FIRST_RUN.as_bytes(),
         left,
         failures: 0,
     };
     let mut sink = halting(heap, 1000);
-    let found = run_schedule(heap, &mut source, FIRST_LIST, 100, &mut sink).err();
+    let found = run_schedule::<K, _, _>(heap, &mut source, FIRST_LIST, 100, &mut sink).err();
     let right = found == fault && sink.bytes.as_slice() == out.as_bytes() && sink.failures == 0;
     (source.failures, right)
 }
@@ -401,10 +420,10 @@ fn a_source_that_fails_leaves_nothing_written(rt: HostRuntime) -> Result<(), Fai
     let heap = heap::open(rt.alloc())?;
     // 60 bytes by threes, and the read that finds the end.
     for left in 0..21usize {
-        let failed = failures_of(heap, left, Some(RunFault::Read), "");
+        let failed = failures_of::<Kernel>(heap, left, Some(RunFault::Read), "");
         assert!(rt; failed == (1, true), "{left}");
     }
-    assert!(rt; failures_of(heap, 21, None, FIRST_LINES) == (0, true));
+    assert!(rt; failures_of::<Kernel>(heap, 21, None, FIRST_LINES) == (0, true));
     Ok(())
 }
 
@@ -429,7 +448,7 @@ static WHOLE: &str = "1 P1 begin -> begun\n2 P1 open /a WRONLY,CREAT -> 0\n\
 
 // Whether a run under a limit ends so, and has written this.
 fn is_limited(heap: Heap, limit: u32, fault: Option<RunFault>, out: &str) -> bool {
-    let (found, written) = end_of(heap, ISOLATED.as_bytes(), FIRST_LIST, limit);
+    let (found, written) = end_of::<Kernel>(heap, ISOLATED.as_bytes(), FIRST_LIST, limit);
     found == fault && written.as_slice() == out.as_bytes()
 }
 
@@ -448,14 +467,14 @@ fn a_full_history_ends_a_run(rt: HostRuntime) -> Result<(), Fail> {
 
 // How the first run ends where this request for memory is refused, whether it has then written
 // whole lines alone, and how many requests it has made.
-fn refused(heap: Heap, sinks: Heap, number: u64) -> (Option<RunFault>, bool, u64) {
+fn refused<K: Machine>(heap: Heap, sinks: Heap, number: u64) -> (Option<RunFault>, bool, u64) {
     let mut source = Portions {
         bytes: FIRST_RUN.as_bytes(),
         most: 5000,
     };
     let mut sink = halting(sinks, 1000);
     heap.refuse(number);
-    let fault = run_schedule(heap, &mut source, FIRST_LIST, 100, &mut sink).err();
+    let fault = run_schedule::<K, _, _>(heap, &mut source, FIRST_LIST, 100, &mut sink).err();
     let written = sink.bytes.as_slice();
     let whole = written.is_empty() || written.ends_with(b"\n");
     (
@@ -469,11 +488,11 @@ fn refused(heap: Heap, sinks: Heap, number: u64) -> (Option<RunFault>, bool, u64
 fn refused_memory_ends_a_run_behind_a_line(rt: HostRuntime) -> Result<(), Fail> {
     let heap = heap::open(rt.alloc())?;
     let sinks = heap::open(rt.alloc())?;
-    let (fault, whole, made) = refused(heap, sinks, 0);
+    let (fault, whole, made) = refused::<Kernel>(heap, sinks, 0);
     assert!(rt; fault.is_none() && whole && 0 < made);
     for number in 0..made {
         let next = number.saturating_add(1);
-        let (fault, whole, _) = refused(heap, sinks, next);
+        let (fault, whole, _) = refused::<Kernel>(heap, sinks, next);
         assert!(rt; fault == Some(RunFault::NoMemory) && whole, "{next}");
     }
     Ok(())

@@ -4,6 +4,7 @@ use crate::jobs::{Expected, is_as_expected, is_run, job_of};
 use device::{Failing, Portions};
 use heap::Heap;
 use kernel::Kernel;
+use machine::Machine;
 use runner::{RunFault, print, report_fault, run_schedule};
 use std::sync::Wait;
 use std::test::Fail;
@@ -344,19 +345,19 @@ fn wrong_entries_have_their_text(rt: HostRuntime) -> Result<(), Fail> {
 
 // Whether the first run ends with this fault, or none, where the source fails after so many reads,
 // and then has written this.
-fn is_faulted(heap: Heap, left: usize, fault: Option<RunFault>, out: &str) -> bool {
+fn is_faulted<K: Machine>(heap: Heap, left: usize, fault: Option<RunFault>, out: &str) -> bool {
     let mut source = Failing {
         bytes: FIRST_RUN.as_bytes(),
         left,
         failures: 0,
     };
     let mut sink = halting(heap, 1000);
-    let expected = run_schedule(heap, &mut source, FIRST_LIST, 100, &mut sink).err();
-    expected == fault && sink.bytes.as_slice() == out.as_bytes()
+    let run: Result<K, RunFault> = run_schedule(heap, &mut source, FIRST_LIST, 100, &mut sink);
+    run.err() == fault && sink.bytes.as_slice() == out.as_bytes()
 }
 
 // The kernel of the first run.
-fn first_kernel(heap: Heap) -> Result<Kernel, RunFault> {
+fn first_kernel<K: Machine>(heap: Heap) -> Result<K, RunFault> {
     let mut source = Portions {
         bytes: FIRST_RUN.as_bytes(),
         most: 7,
@@ -367,8 +368,13 @@ fn first_kernel(heap: Heap) -> Result<Kernel, RunFault> {
 
 // Whether writing its history to a sink that takes so many bytes has this result, and the sink then
 // has these.
-fn is_printed(heap: Heap, room: usize, expected: Result<(), RunFault>, out: &str) -> bool {
-    let Ok(kernel) = first_kernel(heap) else {
+fn is_printed<K: Machine>(
+    heap: Heap,
+    room: usize,
+    expected: Result<(), RunFault>,
+    out: &str,
+) -> bool {
+    let Ok(kernel) = first_kernel::<K>(heap) else {
         return false;
     };
     let mut sink = halting(heap, room);
@@ -380,10 +386,13 @@ fn devices_that_fail_end_the_run(rt: HostRuntime) -> Result<(), Fail> {
     let heap = heap::open(rt.alloc())?;
     // 60 bytes by threes, and the read that finds the end.
     for left in 0..21usize {
-        assert!(rt; is_faulted(heap, left, Some(RunFault::Read), ""), "{left}");
+        assert!(rt;
+            is_faulted::<Kernel>(heap, left, Some(RunFault::Read), ""),
+            "{left}"
+        );
     }
-    assert!(rt; is_faulted(heap, 21, None, FIRST_LINES));
-    assert!(rt; is_printed(heap, 1000, Ok(()), FIRST_LINES));
-    assert!(rt; is_printed(heap, 3, Err(RunFault::Write), "1 P"));
+    assert!(rt; is_faulted::<Kernel>(heap, 21, None, FIRST_LINES));
+    assert!(rt; is_printed::<Kernel>(heap, 1000, Ok(()), FIRST_LINES));
+    assert!(rt; is_printed::<Kernel>(heap, 3, Err(RunFault::Write), "1 P"));
     Ok(())
 }

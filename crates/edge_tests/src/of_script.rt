@@ -8,7 +8,12 @@ use std::test::Fail;
 // Whether a text is read as these lines, or has this fault.
 fn is_read_as(alloc: Global, heap: Heap, text: &[u8], expected: &str) -> bool {
     match read_script(heap, text) {
-        Ok(script) => has_debug_text(alloc, &script.into_lines(), expected),
+        Ok(script) => {
+            let lines = script.into_lines();
+            let right = has_debug_text(alloc, &lines, expected);
+            drop(lines);
+            right
+        }
         Err(fault) => has_text(alloc, &fault, expected),
     }
 }
@@ -213,10 +218,17 @@ fn operations_are_read_or_refused(rt: HostRuntime) -> Result<(), Fail> {
 fn gives_steps(alloc: Global, heap: Heap, script: Script, list: &str, expected: &str) -> bool {
     match read_schedule(heap, list, &script) {
         Ok(pids) => match steps_of(heap, script, pids.as_slice()) {
-            Ok(steps) => has_debug_text(alloc, &steps, expected),
+            Ok(steps) => {
+                let right = has_debug_text(alloc, &steps, expected);
+                drop(steps);
+                right
+            }
             Err(_) => has_text(alloc, &ScriptFault::NoMemory, expected),
         },
-        Err(fault) => has_text(alloc, &fault, expected),
+        Err(fault) => {
+            drop(script);
+            has_text(alloc, &fault, expected)
+        }
     }
 }
 
@@ -294,7 +306,11 @@ fn long_text(heap: Heap) -> Result<Vec<u8, Heap>, AllocError> {
 // How many priorities and lines a text has.
 fn counts_of(heap: Heap, text: &[u8]) -> (usize, usize) {
     match read_script(heap, text) {
-        Ok(script) => (script.priorities().len(), script.lines().len()),
+        Ok(script) => {
+            let counts = (script.priorities().len(), script.lines().len());
+            drop(script);
+            counts
+        }
         Err(_) => (0, 0),
     }
 }

@@ -5,6 +5,8 @@ use crate::halting::halting;
 use crate::jobs::{Expected, is_as_expected, is_run, job_of};
 use device::{Failing, Portions};
 use heap::Heap;
+use kernel::Kernel;
+use machine::Machine;
 use runner::{RunFault, run_job, run_script_by_threads};
 use std::sync::Wait;
 use std::test::Fail;
@@ -166,7 +168,7 @@ fn refused_memory_ends_a_run_by_threads(rt: HostRuntime) -> Result<(), Fail> {
 
 // Whether the family ends with this fault, or none, where the source fails after so many reads, and
 // then has written this.
-fn is_faulted<R: Threads + Wait + Sync>(
+fn is_faulted<K: Machine + Send, R: Threads + Wait + Sync>(
     rt: &R,
     heap: Heap,
     left: usize,
@@ -179,8 +181,8 @@ fn is_faulted<R: Threads + Wait + Sync>(
         failures: 0,
     };
     let mut sink = halting(heap, 1000);
-    let told = run_script_by_threads(rt, heap, &mut source, 100, &mut sink).err();
-    told == fault && sink.bytes.as_slice() == out.as_bytes()
+    let run: Result<K, RunFault> = run_script_by_threads(rt, heap, &mut source, 100, &mut sink);
+    run.err() == fault && sink.bytes.as_slice() == out.as_bytes()
 }
 
 #[test]
@@ -189,11 +191,11 @@ fn sources_that_fail_end_the_run_by_threads(rt: HostRuntime) -> Result<(), Fail>
     // 41 bytes by threes, and the read that finds the end.
     for left in 0..15usize {
         assert!(rt;
-            is_faulted(&rt, heap, left, Some(RunFault::Read), ""),
+            is_faulted::<Kernel, _>(&rt, heap, left, Some(RunFault::Read), ""),
             "{left}"
         );
     }
-    assert!(rt; is_faulted(&rt, heap, 15, None, FAMILY_LINES));
+    assert!(rt; is_faulted::<Kernel, _>(&rt, heap, 15, None, FAMILY_LINES));
     Ok(())
 }
 
@@ -251,7 +253,7 @@ fn passes<R: Threads + Wait + Sync>(rt: &R, heap: Heap, text: &str) -> bool {
     let mut out = halting(heap, 1_000_000);
     let mut err = halting(heap, 1000);
     let job = checked_job(heap);
-    let status = run_job(rt, heap, &job, &mut source, &mut out, &mut err);
+    let status = run_job::<Kernel, _, _, _, _>(rt, heap, &job, &mut source, &mut out, &mut err);
     status == 0 && out.bytes.as_slice().ends_with(b"check: ok\n") && err.bytes.is_empty()
 }
 

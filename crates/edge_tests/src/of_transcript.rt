@@ -185,11 +185,26 @@ fn doom(entry: &mut Entry) -> Result<(), AllocError> {
 }
 
 fn sample(heap: Heap) -> Result<Vec<Entry, Heap>, Fail> {
-    let replies = replies(heap)?;
     let lines = read_script(heap, SCRIPT.as_bytes())?.into_lines();
+    let replies = match replies(heap) {
+        Ok(replies) => replies,
+        Err(error) => {
+            drop(lines);
+            return Err(Fail::from(error));
+        }
+    };
     let mut entries = entries_of(heap, lines, replies)?;
-    doom(entries.last_mut().ok_or("no entry")?)?;
-    Ok(entries)
+    match doom_last(entries.as_mut_slice()) {
+        Ok(()) => Ok(entries),
+        Err(error) => {
+            drop(entries);
+            Err(error)
+        }
+    }
+}
+
+fn doom_last(entries: &mut [Entry]) -> Result<(), Fail> {
+    Ok(doom(entries.last_mut().ok_or("no entry")?)?)
 }
 
 // Whether a sink that takes so many bytes gets just these of the transcript, and fails where there

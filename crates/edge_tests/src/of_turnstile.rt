@@ -6,6 +6,7 @@ use crate::texts::inspect;
 use heap::Heap;
 use ids::{Answer, Bytes, Call, Entry, Kind, Op, Pid, Priority, Reply};
 use kernel::Kernel;
+use machine::Machine;
 use std::alloc::AllocError;
 use std::process::Abort;
 use std::sync::Wait;
@@ -28,15 +29,21 @@ fn stat(heap: Heap, path: &[u8]) -> Result<Op, AllocError> {
     Ok(Op::Call(Call::Stat(Bytes::copy(heap, path)?)))
 }
 
+// A kernel of two processes, with a history of so many entries.
+pub(crate) fn kernel_of_two<K: Machine>(heap: Heap, limit: usize) -> Result<K, Fail> {
+    let zero = Priority::new(0).ok_or("no priority")?;
+    Ok(K::new(heap, &[zero, zero], limit.min(4000))?)
+}
+
 // A turnstile with the passes of its two processes.
-pub(crate) struct Opened {
-    pub(crate) turnstile: Turnstile,
-    pub(crate) one: Pass,
-    pub(crate) two: Pass,
+pub(crate) struct Opened<K: Machine> {
+    pub(crate) turnstile: Turnstile<K>,
+    pub(crate) one: Pass<K>,
+    pub(crate) two: Pass<K>,
 }
 
 // The first of two passes, and the second.
-fn two_of(passes: &mut Vec<Pass, Heap>) -> Option<(Pass, Pass)>
+fn two_of<K: Machine>(passes: &mut Vec<Pass<K>, Heap>) -> Option<(Pass<K>, Pass<K>)>
     ensures { (gate : Gate) → All (λ p. p.gate ≡ gate) passes.old.items
         → IfSome result (λ two. (two.0.gate ≡ gate) × (two.1.gate ≡ gate)) }
 {
@@ -45,7 +52,7 @@ fn two_of(passes: &mut Vec<Pass, Heap>) -> Option<(Pass, Pass)>
     Some((one, two))
 }
 
-pub(crate) fn begun(heap: Heap, kernel: Kernel) -> Option<Opened>
+pub(crate) fn begun<K: Machine>(heap: Heap, kernel: K) -> Option<Opened<K>>
     ensures one { IfSome result (λ o. o.one.gate ≡ o.turnstile) }
     ensures two { IfSome result (λ o. o.two.gate ≡ o.turnstile) }
 {
@@ -58,7 +65,10 @@ pub(crate) fn begun(heap: Heap, kernel: Kernel) -> Option<Opened>
     }
 }
 
-fn with_two(turnstile: Turnstile, mut passes: Vec<Pass, Heap>) -> Option<Opened>
+fn with_two<K: Machine>(
+    turnstile: Turnstile<K>,
+    mut passes: Vec<Pass<K>, Heap>,
+) -> Option<Opened<K>>
     requires { All (λ p. p.gate ≡ turnstile) passes.items }
     ensures one { IfSome result (λ o. o.one.gate ≡ o.turnstile) }
     ensures two { IfSome result (λ o. o.two.gate ≡ o.turnstile) }
@@ -90,7 +100,7 @@ fn is_directory(reply: &Option<Reply>) -> bool {
 }
 
 // Makes `/a` at once. Answers whether it was done.
-fn makes(heap: Heap, turnstile: &Turnstile, pass: &mut Pass) -> bool
+fn makes<K: Machine>(heap: Heap, turnstile: &Turnstile<K>, pass: &mut Pass<K>) -> bool
     requires { pass.old.gate ≡ turnstile.now }
     ensures { pass.new.gate ≡ pass.old.gate }
 {
@@ -101,7 +111,7 @@ fn makes(heap: Heap, turnstile: &Turnstile, pass: &mut Pass) -> bool
 }
 
 // Looks at `/a` at once. Answers whether it is a directory.
-fn sees(heap: Heap, turnstile: &Turnstile, pass: &mut Pass) -> bool
+fn sees<K: Machine>(heap: Heap, turnstile: &Turnstile<K>, pass: &mut Pass<K>) -> bool
     requires { pass.old.gate ≡ turnstile.now }
     ensures { pass.new.gate ≡ pass.old.gate }
 {
@@ -127,7 +137,7 @@ fn is_fourth(reply: &Reply) -> bool {
 }
 
 // Makes a directory, and waits for the other thread.
-fn work<R: Wait + Abort>(rt: &R, turnstile: &Turnstile, pass: &mut Pass, op: Op)
+fn work<K: Machine, R: Wait + Abort>(rt: &R, turnstile: &Turnstile<K>, pass: &mut Pass<K>, op: Op)
     requires { pass.old.gate ≡ turnstile.now }
     ensures { pass.new.gate ≡ pass.old.gate }
 {
@@ -135,13 +145,13 @@ fn work<R: Wait + Abort>(rt: &R, turnstile: &Turnstile, pass: &mut Pass, op: Op)
 }
 
 // Makes a hundred directories, and waits at each for the other thread.
-fn worked<R: Wait + Abort>(
+fn worked<K: Machine, R: Wait + Abort>(
     rt: &R,
     heap: Heap,
-    turnstile: &Turnstile,
-    mut pass: Pass,
+    turnstile: &Turnstile<K>,
+    mut pass: Pass<K>,
     letter: u8,
-) -> Pass
+) -> Pass<K>
     requires { pass.gate ≡ turnstile.now }
     ensures { result.gate ≡ pass.gate }
 {
@@ -152,24 +162,24 @@ fn worked<R: Wait + Abort>(
     pass
 }
 
-fn both_worked<R: Threads + Wait + Abort + Sync>(
+fn both_worked<R: Threads + Wait + Abort + Sync, K: Machine + Send>(
     rt: &R,
     heap: Heap,
-    turnstile: &Turnstile,
-    one: Pass,
-    two: Pass,
-) -> (Pass, Pass)
+    turnstile: &Turnstile<K>,
+    one: Pass<K>,
+    two: Pass<K>,
+) -> (Pass<K>, Pass<K>)
     requires one { one.gate ≡ turnstile.now }
     requires two { two.gate ≡ turnstile.now }
     ensures { (result.0.gate ≡ turnstile.now) × (result.1.gate ≡ turnstile.now) }
 {
     join(
         rt,
-        || -> Pass
+        || -> Pass<K>
             requires { one.gate ≡ turnstile.now }
             ensures { result.gate ≡ turnstile.entry.now }
         { worked(rt, heap, turnstile, one, b'a') },
-        || -> Pass
+        || -> Pass<K>
             requires { two.gate ≡ turnstile.now }
             ensures { result.gate ≡ turnstile.entry.now }
         { worked(rt, heap, turnstile, two, b'b') },
@@ -177,7 +187,13 @@ fn both_worked<R: Threads + Wait + Abort + Sync>(
 }
 
 // The first process makes a directory, the second sees it, and they meet. Nobody waits.
-fn assert_met(rt: &impl Abort, heap: Heap, turnstile: &Turnstile, one: &mut Pass, two: &mut Pass)
+fn assert_met<K: Machine>(
+    rt: &impl Abort,
+    heap: Heap,
+    turnstile: &Turnstile<K>,
+    one: &mut Pass<K>,
+    two: &mut Pass<K>,
+)
     requires { (one.old.gate ≡ turnstile.now) × (two.old.gate ≡ turnstile.now) }
     ensures { (one.new.gate ≡ turnstile.now) × (two.new.gate ≡ turnstile.now) }
 {
@@ -188,7 +204,7 @@ fn assert_met(rt: &impl Abort, heap: Heap, turnstile: &Turnstile, one: &mut Pass
 }
 
 // The kernel after its two processes have met in one thread.
-fn met(rt: &impl Abort, heap: Heap, opened: Opened) -> Option<Kernel>
+fn met<K: Machine>(rt: &impl Abort, heap: Heap, opened: Opened<K>) -> Option<K>
     requires one { opened.one.gate ≡ opened.turnstile }
     requires two { opened.two.gate ≡ opened.turnstile }
 {
@@ -203,7 +219,11 @@ fn met(rt: &impl Abort, heap: Heap, opened: Opened) -> Option<Kernel>
 }
 
 // The kernel after its two processes have met in one thread, and have worked in one each.
-fn shared<R: Threads + Wait + Abort + Sync>(rt: &R, heap: Heap, opened: Opened) -> Option<Kernel>
+fn shared<K: Machine + Send, R: Threads + Wait + Abort + Sync>(
+    rt: &R,
+    heap: Heap,
+    opened: Opened<K>,
+) -> Option<K>
     requires one { opened.one.gate ≡ opened.turnstile }
     requires two { opened.two.gate ≡ opened.turnstile }
 {
@@ -220,7 +240,7 @@ fn shared<R: Threads + Wait + Abort + Sync>(rt: &R, heap: Heap, opened: Opened) 
 
 // The kernel after each process has forked, one of them without waiting, and the second has made a
 // directory.
-fn forked<R: Wait + Abort>(rt: &R, heap: Heap, opened: Opened) -> Option<Kernel>
+fn forked<K: Machine, R: Wait + Abort>(rt: &R, heap: Heap, opened: Opened<K>) -> Option<K>
     requires one { opened.one.gate ≡ opened.turnstile }
     requires two { opened.two.gate ≡ opened.turnstile }
 {
@@ -247,13 +267,17 @@ fn forked<R: Wait + Abort>(rt: &R, heap: Heap, opened: Opened) -> Option<Kernel>
 }
 
 // How many entries there are, how many processes were made, and whether the children live.
-fn families(kernel: &Kernel) -> (usize, usize, bool) {
+fn families<K: Machine>(kernel: &K) -> (usize, usize, bool) {
     let both = kernel.is_living(Pid(3)) && kernel.is_living(Pid(4));
     (kernel.history().entries().len(), kernel.made(), both)
 }
 
 // What two processes and their children have come to.
-fn family<R: Wait + Abort>(rt: &R, heap: Heap, kernel: Kernel) -> Option<(usize, usize, bool)> {
+fn family<K: Machine, R: Wait + Abort>(
+    rt: &R,
+    heap: Heap,
+    kernel: K,
+) -> Option<(usize, usize, bool)> {
     let opened = begun(heap, kernel)?;
     Some(inspect(forked(rt, heap, opened)?, families))
 }
@@ -277,7 +301,7 @@ fn count(entries: &[Entry], pid: Pid, letter: u8) -> u64 {
 }
 
 // How many entries there are, and how many directories each process has made in order.
-fn counts(kernel: &Kernel) -> (usize, u64, u64) {
+fn counts<K: Machine>(kernel: &K) -> (usize, u64, u64) {
     let entries = kernel.history().entries();
     let ones = count(entries, Pid(1), b'a');
     let twos = count(entries, Pid(2), b'b');
@@ -285,38 +309,60 @@ fn counts(kernel: &Kernel) -> (usize, u64, u64) {
 }
 
 // What the two processes have done.
-fn done<R: Threads + Wait + Abort + Sync>(
+fn done<K: Machine + Send, R: Threads + Wait + Abort + Sync>(
     rt: &R,
     heap: Heap,
-    kernel: Kernel,
+    kernel: K,
 ) -> Option<(usize, u64, u64)> {
     let opened = begun(heap, kernel)?;
     Some(inspect(shared(rt, heap, opened)?, counts))
 }
 
-// How many entries two processes have made that have met in one thread.
-fn entries_after_meeting(rt: &impl Abort, heap: Heap, kernel: Kernel) -> Option<usize> {
+fn entry_count<K: Machine>(kernel: &K) -> usize {
+    kernel.history().entries().len()
+}
+
+// How many entries the two processes have made that have met in one thread.
+fn meeting<K: Machine>(rt: &impl Abort, heap: Heap, kernel: K) -> Option<usize> {
     let opened = begun(heap, kernel)?;
-    Some(inspect(met(rt, heap, opened)?, |kernel| {
-        kernel.history().entries().len()
-    }))
+    Some(inspect(met(rt, heap, opened)?, entry_count))
+}
+
+// The same of a new kernel.
+fn entries_after_meeting<K: Machine, R: Abort>(rt: &R, heap: Heap) -> Result<Option<usize>, Fail> {
+    let kernel: K = kernel_of_two(heap, 2)?;
+    Ok(meeting(rt, heap, kernel))
+}
+
+// What the two processes of a new kernel have done.
+fn all_counts<K: Machine + Send, R: Threads + Wait + Abort + Sync>(
+    rt: &R,
+    heap: Heap,
+) -> Result<Option<(usize, u64, u64)>, Fail> {
+    let kernel: K = kernel_of_two(heap, 202)?;
+    Ok(done(rt, heap, kernel))
+}
+
+// What the two processes of a new kernel and their children have come to.
+fn all_families<K: Machine, R: Wait + Abort>(
+    rt: &R,
+    heap: Heap,
+) -> Result<Option<(usize, usize, bool)>, Fail> {
+    let kernel: K = kernel_of_two(heap, 10)?;
+    Ok(family(rt, heap, kernel))
 }
 
 #[test]
 fn two_passes_meet_in_one_thread(rt: HostRuntime) -> Result<(), Fail> {
     let heap = heap::open(rt.alloc())?;
-    let zero = Priority::new(0).ok_or("no priority")?;
-    let kernel = Kernel::new(heap, &[zero, zero], 2)?;
-    assert!(rt; entries_after_meeting(&rt, heap, kernel) == Some(2));
+    assert!(rt; entries_after_meeting::<Kernel, _>(&rt, heap)? == Some(2));
     Ok(())
 }
 
 #[test]
 fn one_thread_and_two(rt: HostRuntime) -> Result<(), Fail> {
     let heap = heap::open(rt.alloc())?;
-    let zero = Priority::new(0).ok_or("no priority")?;
-    let kernel = Kernel::new(heap, &[zero, zero], 202)?;
-    assert!(rt; done(&rt, heap, kernel) == Some((202, 100, 100)));
+    assert!(rt; all_counts::<Kernel, _>(&rt, heap)? == Some((202, 100, 100)));
     Ok(())
 }
 
@@ -324,8 +370,6 @@ fn one_thread_and_two(rt: HostRuntime) -> Result<(), Fail> {
 #[test]
 fn children_have_no_pass(rt: HostRuntime) -> Result<(), Fail> {
     let heap = heap::open(rt.alloc())?;
-    let zero = Priority::new(0).ok_or("no priority")?;
-    let kernel = Kernel::new(heap, &[zero, zero], 10)?;
-    assert!(rt; family(&rt, heap, kernel) == Some((3, 4, true)));
+    assert!(rt; all_families::<Kernel, _>(&rt, heap)? == Some((3, 4, true)));
     Ok(())
 }

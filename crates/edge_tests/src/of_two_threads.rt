@@ -1,11 +1,12 @@
 // Two threads, each with its own process, and transactions on one kernel.
 ghost use Rattle.std.specs.Prelude.{◌≡◌};
 
-use crate::of_turnstile::{Opened, begun, mkdir};
+use crate::of_turnstile::{Opened, begun, kernel_of_two, mkdir};
 use crate::texts::inspect;
 use heap::Heap;
-use ids::{Answer, BeginFlags, Entry, Op, Pid, Priority, Reply};
+use ids::{Answer, BeginFlags, Entry, Op, Pid, Reply};
 use kernel::Kernel;
+use machine::Machine;
 use replay::check;
 use std::process::Abort;
 use std::sync::Wait;
@@ -38,7 +39,7 @@ fn is_well(reply: &Reply) -> bool {
 }
 
 // Does an operation, and waits for the other thread.
-fn call<R: Wait + Abort>(rt: &R, turnstile: &Turnstile, pass: &mut Pass, op: Op)
+fn call<K: Machine, R: Wait + Abort>(rt: &R, turnstile: &Turnstile<K>, pass: &mut Pass<K>, op: Op)
     requires { pass.old.gate ≡ turnstile.now }
     ensures { pass.new.gate ≡ pass.old.gate }
 {
@@ -46,7 +47,12 @@ fn call<R: Wait + Abort>(rt: &R, turnstile: &Turnstile, pass: &mut Pass, op: Op)
 }
 
 // A transaction that makes a directory.
-fn transact<R: Wait + Abort>(rt: &R, turnstile: &Turnstile, pass: &mut Pass, mkdir: Op)
+fn transact<K: Machine, R: Wait + Abort>(
+    rt: &R,
+    turnstile: &Turnstile<K>,
+    pass: &mut Pass<K>,
+    mkdir: Op,
+)
     requires { pass.old.gate ≡ turnstile.now }
     ensures { pass.new.gate ≡ pass.old.gate }
 {
@@ -55,13 +61,13 @@ fn transact<R: Wait + Abort>(rt: &R, turnstile: &Turnstile, pass: &mut Pass, mkd
     call(rt, turnstile, pass, Op::End);
 }
 
-fn transacted<R: Wait + Abort>(
+fn transacted<K: Machine, R: Wait + Abort>(
     rt: &R,
     heap: Heap,
-    turnstile: &Turnstile,
-    mut pass: Pass,
+    turnstile: &Turnstile<K>,
+    mut pass: Pass<K>,
     letter: u8,
-) -> Pass
+) -> Pass<K>
     requires { pass.gate ≡ turnstile.now }
     ensures { result.gate ≡ pass.gate }
 {
@@ -72,24 +78,24 @@ fn transacted<R: Wait + Abort>(
     pass
 }
 
-fn both_transacted<R: Threads + Wait + Abort + Sync>(
+fn both_transacted<R: Threads + Wait + Abort + Sync, K: Machine + Send>(
     rt: &R,
     heap: Heap,
-    turnstile: &Turnstile,
-    one: Pass,
-    two: Pass,
-) -> (Pass, Pass)
+    turnstile: &Turnstile<K>,
+    one: Pass<K>,
+    two: Pass<K>,
+) -> (Pass<K>, Pass<K>)
     requires one { one.gate ≡ turnstile.now }
     requires two { two.gate ≡ turnstile.now }
     ensures { (result.0.gate ≡ turnstile.now) × (result.1.gate ≡ turnstile.now) }
 {
     join(
         rt,
-        || -> Pass
+        || -> Pass<K>
             requires { one.gate ≡ turnstile.now }
             ensures { result.gate ≡ turnstile.entry.now }
         { transacted(rt, heap, turnstile, one, b'a') },
-        || -> Pass
+        || -> Pass<K>
             requires { two.gate ≡ turnstile.now }
             ensures { result.gate ≡ turnstile.entry.now }
         { transacted(rt, heap, turnstile, two, b'b') },
@@ -97,7 +103,11 @@ fn both_transacted<R: Threads + Wait + Abort + Sync>(
 }
 
 // The kernel after both have worked, and have met.
-fn shared<R: Threads + Wait + Abort + Sync>(rt: &R, heap: Heap, opened: Opened) -> Option<Kernel>
+fn shared<K: Machine + Send, R: Threads + Wait + Abort + Sync>(
+    rt: &R,
+    heap: Heap,
+    opened: Opened<K>,
+) -> Option<K>
     requires one { opened.one.gate ≡ opened.turnstile }
     requires two { opened.two.gate ≡ opened.turnstile }
 {
@@ -123,7 +133,7 @@ fn entries_of(entries: &[Entry], pid: Pid) -> usize {
 }
 
 // How many entries each process has, and whether the history passes the check.
-fn told(heap: Heap, kernel: &Kernel) -> (usize, usize, bool) {
+fn told<K: Machine>(heap: Heap, kernel: &K) -> (usize, usize, bool) {
     let entries = kernel.history().entries();
     let ones = entries_of(entries, Pid(1));
     let twos = entries_of(entries, Pid(2));
@@ -131,10 +141,10 @@ fn told(heap: Heap, kernel: &Kernel) -> (usize, usize, bool) {
     (ones, twos, passes && entries.len() == 3000)
 }
 
-fn done<R: Threads + Wait + Abort + Sync>(
+fn done<K: Machine + Send, R: Threads + Wait + Abort + Sync>(
     rt: &R,
     heap: Heap,
-    kernel: Kernel,
+    kernel: K,
 ) -> Option<(usize, usize, bool)> {
     let opened = begun(heap, kernel)?;
     let kernel = shared(rt, heap, opened)?;
@@ -143,11 +153,18 @@ fn done<R: Threads + Wait + Abort + Sync>(
     Some(found)
 }
 
+// The same of a new kernel.
+fn all_told<K: Machine + Send, R: Threads + Wait + Abort + Sync>(
+    rt: &R,
+    heap: Heap,
+) -> Result<Option<(usize, usize, bool)>, Fail> {
+    let kernel: K = kernel_of_two(heap, 4000)?;
+    Ok(done(rt, heap, kernel))
+}
+
 #[test]
 fn two_threads_one_kernel(rt: HostRuntime) -> Result<(), Fail> {
     let heap = heap::open(rt.alloc())?;
-    let zero = Priority::new(0).ok_or("no priority")?;
-    let kernel = Kernel::new(heap, &[zero, zero], 4000)?;
-    assert!(rt; done(&rt, heap, kernel) == Some((1500, 1500, true)));
+    assert!(rt; all_told::<Kernel, _>(&rt, heap)? == Some((1500, 1500, true)));
     Ok(())
 }

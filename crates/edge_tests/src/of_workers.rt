@@ -86,15 +86,21 @@ fn kept(entries: &mut Entries, operation: Op, reply: Reply) -> Reply
     ensures grown { entries.new.items ≡ grown entries.old.items operation result }
     ensures childless { IsNoChild reply → IsNoChild result }
 {
-    if let Reply::HistoryFull | Reply::NoMemory = reply {
+    if let Reply::HistoryFull | Reply::NoMemory = &reply {
+        drop(operation);
         return reply;
     }
-    match reply.try_clone() {
-        Ok(copy) => match entries.push((operation, copy)) {
-            Ok(()) => reply,
-            Err(_) => Reply::NoMemory,
-        },
-        Err(_) => Reply::NoMemory,
+    let Ok(copy) = reply.try_clone() else {
+        drop(operation);
+        drop(reply);
+        return Reply::NoMemory;
+    };
+    match entries.push((operation, copy)) {
+        Ok(()) => reply,
+        Err(_) => {
+            drop(reply);
+            Reply::NoMemory
+        }
     }
 }
 
@@ -262,11 +268,14 @@ fn run<R: Threads + Wait + Sync>(
     manners: (Manner, Manner),
     text: &str,
 ) -> Result<Result<Vec<Mannered, Heap>, WorkFault>, AllocError> {
+    let ports = two(heap, manners)?;
     let Ok(script) = read_script(heap, text.as_bytes()) else {
+        drop(ports);
         return Err(AllocError);
     };
-    let ports = two(heap, manners)?;
-    Ok(run_workers(rt, heap, ports, &script))
+    let run = run_workers(rt, heap, ports, &script);
+    drop(script);
+    Ok(run)
 }
 
 fn gives<R: Threads + Wait + Sync>(
@@ -277,7 +286,11 @@ fn gives<R: Threads + Wait + Sync>(
     told: &[Told],
 ) -> Result<bool, AllocError> {
     Ok(match run(rt, heap, manners, text)? {
-        Ok(ports) => are_told(ports.as_slice(), told),
+        Ok(ports) => {
+            let right = are_told(ports.as_slice(), told);
+            drop(ports);
+            right
+        }
         Err(_) => false,
     })
 }
@@ -289,7 +302,10 @@ fn fails<R: Threads + Wait + Sync>(
 ) -> Result<bool, AllocError> {
     let (first, second, text, expected) = *case;
     Ok(match run(rt, heap, (first, second), text)? {
-        Ok(_) => false,
+        Ok(ports) => {
+            drop(ports);
+            false
+        }
         Err(fault) => fault == expected,
     })
 }
@@ -385,6 +401,7 @@ impl Port for Meeting {
         if self.meets() {
             kept(&mut self.entries, operation, Reply::Answer(Answer::Done))
         } else {
+            drop(operation);
             Reply::NoMemory
         }
     }
@@ -417,13 +434,30 @@ fn two_meeting(alloc: Global, heap: Heap) -> Result<Vec<Meeting, Heap>, AllocErr
     Ok(ports)
 }
 
+// Whether two workers over such ports come to their ends.
+fn have_met<R: Threads + Wait + Sync>(
+    rt: &R,
+    alloc: Global,
+    heap: Heap,
+) -> Result<bool, AllocError> {
+    let ports = two_meeting(alloc, heap)?;
+    let Ok(script) = read_script(heap, b"priorities 0\n1 stat /\n2 stat /\n") else {
+        drop(ports);
+        return Err(AllocError);
+    };
+    let met = are_worked(run_workers(rt, heap, ports, &script));
+    drop(script);
+    Ok(met)
+}
+
+// Whether workers have come to their ends. Their ports go here.
+fn are_worked<T: Drop>(run: Result<T, WorkFault>) -> bool {
+    run.is_ok()
+}
+
 #[test]
 fn workers_side_by_side(rt: HostRuntime) -> Result<(), Fail> {
     let heap = heap::open(rt.alloc())?;
-    let Ok(script) = read_script(heap, b"priorities 0\n1 stat /\n2 stat /\n") else {
-        return Err("no script")?;
-    };
-    let ports = two_meeting(rt.alloc(), heap)?;
-    assert!(rt; run_workers(&rt, heap, ports, &script).is_ok());
+    assert!(rt; have_met(&rt, rt.alloc(), heap)?);
     Ok(())
 }

@@ -30,15 +30,17 @@ use crate::mutated::{list_cut, mutated, script_cut, try_mutated};
 use crate::random::Random;
 use crate::refused::try_refused;
 use crate::report::{print_case, print_tally};
-use crate::runs::{plan_of, try_limit, try_whole};
+use crate::runs::{Plan, plan_of, try_limit, try_whole};
 use crate::tally::Tally;
 use crate::trials::Trials;
+use kernel::Kernel;
+use machine::Machine;
 use std::alloc::AllocError;
 use std::process::ExitCode;
 use std::{env, io};
 
 fn main(rt: HostRuntime) -> ExitCode {
-    match run(&rt) {
+    match run::<Kernel>(&rt) {
         Ok(true) => ExitCode::from(0),
         Ok(false) => ExitCode::from(1),
         Err(_) => ExitCode::from(5),
@@ -46,14 +48,14 @@ fn main(rt: HostRuntime) -> ExitCode {
 }
 
 // Whether all agrees.
-fn run(rt: &HostRuntime) -> io::Result<bool> {
+fn run<K: Machine>(rt: &HostRuntime) -> io::Result<bool> {
     let mut texts = Vec::new(rt.alloc());
     for text in env::args(rt)? {
         texts.push(text)?;
     }
     match texts.as_slice() {
         [_, seed, count] => match (seed.as_str().parse::<u64>(), count.as_str().parse::<u64>()) {
-            (Ok(seed), Ok(count)) => try_all(rt, seed, count.min(1_000_000)),
+            (Ok(seed), Ok(count)) => try_all::<K>(rt, seed, count.min(1_000_000)),
             _ => usage(rt),
         },
         _ => usage(rt),
@@ -65,7 +67,7 @@ fn usage(rt: &HostRuntime) -> io::Result<bool> {
     Ok(false)
 }
 
-fn try_all(rt: &HostRuntime, seed: u64, count: u64) -> io::Result<bool> {
+fn try_all<K: Machine>(rt: &HostRuntime, seed: u64, count: u64) -> io::Result<bool> {
     let mut trials = Trials {
         heap: heap::open(rt.alloc())?,
         random: Random::new(seed),
@@ -73,7 +75,7 @@ fn try_all(rt: &HostRuntime, seed: u64, count: u64) -> io::Result<bool> {
     };
     for number in 0..count {
         let case = case_of(trials.heap, &mut trials.random)?;
-        let right = try_case(rt, &mut trials, &case, number)?;
+        let right = try_case::<K>(rt, &mut trials, &case, number)?;
         if !right {
             return Ok(false);
         }
@@ -83,15 +85,20 @@ fn try_all(rt: &HostRuntime, seed: u64, count: u64) -> io::Result<bool> {
 }
 
 // Whether a script and what comes of it by changes is as it has to be. What is not is printed.
-fn try_case(rt: &HostRuntime, trials: &mut Trials, case: &Case, number: u64) -> io::Result<bool> {
-    if let Err(difference) = try_right(trials, case) {
+fn try_case<K: Machine>(
+    rt: &HostRuntime,
+    trials: &mut Trials,
+    case: &Case,
+    number: u64,
+) -> io::Result<bool> {
+    if let Err(difference) = try_right::<K>(trials, case) {
         print_case(rt, case, difference)?;
         return Ok(false);
     }
     let changed = mutated(trials, case)?;
-    let right = try_changed(rt, trials, &changed)?;
+    let right = try_changed::<K>(rt, trials, &changed)?;
     if number == 0 && right {
-        return try_cuts(rt, trials, case);
+        return try_cuts::<K>(rt, trials, case);
     }
     Ok(right)
 }
@@ -105,16 +112,22 @@ fn limit_of(random: &mut Random) -> usize {
     }
 }
 
-fn try_right(trials: &mut Trials, case: &Case) -> Result<(), Difference> {
+fn try_right<K: Machine>(trials: &mut Trials, case: &Case) -> Result<(), Difference> {
     let plan = plan_of(trials.heap, case)?;
-    try_whole(trials.heap, case, &plan)?;
-    let limit = limit_of(&mut trials.random);
-    try_limit(trials, &plan, limit)?;
-    try_refused(trials, &plan)
+    let tried = try_plan::<K>(trials, case, &plan);
+    drop(plan);
+    tried
 }
 
-fn try_changed(rt: &HostRuntime, trials: &mut Trials, case: &Case) -> io::Result<bool> {
-    match try_mutated(trials, case) {
+fn try_plan<K: Machine>(trials: &mut Trials, case: &Case, plan: &Plan) -> Result<(), Difference> {
+    try_whole::<K>(trials.heap, case, plan)?;
+    let limit = limit_of(&mut trials.random);
+    try_limit::<K>(trials, plan, limit)?;
+    try_refused::<K>(trials, plan)
+}
+
+fn try_changed<K: Machine>(rt: &HostRuntime, trials: &mut Trials, case: &Case) -> io::Result<bool> {
+    match try_mutated::<K>(trials, case) {
         Ok(()) => Ok(true),
         Err(difference) => {
             print_case(rt, case, difference)?;
@@ -124,17 +137,17 @@ fn try_changed(rt: &HostRuntime, trials: &mut Trials, case: &Case) -> io::Result
 }
 
 // Tries each beginning of a script, and each of its schedule.
-fn try_cuts(rt: &HostRuntime, trials: &mut Trials, case: &Case) -> io::Result<bool> {
+fn try_cuts<K: Machine>(rt: &HostRuntime, trials: &mut Trials, case: &Case) -> io::Result<bool> {
     for len in 0..case.script.len() {
         let cut = script_cut(trials.heap, case, len)?;
-        let right = try_changed(rt, trials, &cut)?;
+        let right = try_changed::<K>(rt, trials, &cut)?;
         if !right {
             return Ok(false);
         }
     }
     for len in 0..case.list.len() {
         let cut = list_cut(trials.heap, case, len)?;
-        let right = try_changed(rt, trials, &cut)?;
+        let right = try_changed::<K>(rt, trials, &cut)?;
         if !right {
             return Ok(false);
         }

@@ -5,6 +5,7 @@ use crate::random::Random;
 use crate::runs::run_whole;
 use crate::trials::Trials;
 use heap::Heap;
+use machine::Machine;
 use runner::RunFault;
 use script::{ScriptFault, read_script};
 use std::alloc::AllocError;
@@ -163,8 +164,8 @@ fn is_first(heap: Heap, text: &[u8], fault: ScriptFault) -> bool {
 }
 
 // A script and schedule that may be anything run and pass the check, or have their first fault.
-pub(crate) fn try_mutated(trials: &mut Trials, case: &Case) -> Result<(), Difference> {
-    match run_whole(trials.heap, case) {
+pub(crate) fn try_mutated<K: Machine>(trials: &mut Trials, case: &Case) -> Result<(), Difference> {
+    match run_whole::<K>(trials.heap, case) {
         Ok(transcript) => {
             drop(transcript);
             trials.tally.read = trials.tally.read.wrapping_add(1);

@@ -5,7 +5,7 @@ use crate::runs::{Plan, Steps, is_same, kernel_of, push_copy, run_at_once, trans
 use crate::trials::Trials;
 use heap::Heap;
 use ids::{Op, Pid, Reply};
-use kernel::Kernel;
+use machine::Machine;
 
 // More entries than a random script has steps.
 const LIMIT: usize = 200;
@@ -14,7 +14,7 @@ const LIMIT: usize = 200;
 const MOST: u64 = 100_000;
 
 // Makes a step with one of its requests refused. Answers whether it was refused memory.
-fn is_refused(heap: Heap, kernel: &mut Kernel, pid: Pid, op: Op, number: u64) -> bool {
+fn is_refused<K: Machine>(heap: Heap, kernel: &mut K, pid: Pid, op: Op, number: u64) -> bool {
     heap.refuse(number);
     let reply = kernel.step(pid, op);
     heap.refuse(0);
@@ -24,9 +24,9 @@ fn is_refused(heap: Heap, kernel: &mut Kernel, pid: Pid, op: Op, number: u64) ->
 }
 
 // Makes a step that has to take no memory.
-fn step_silent(
+fn step_silent<K: Machine>(
     trials: &mut Trials,
-    kernel: &mut Kernel,
+    kernel: &mut K,
     pid: Pid,
     op: Op,
 ) -> Result<bool, Difference> {
@@ -42,9 +42,9 @@ fn step_silent(
 
 // Makes a step whose requests are refused one after the other, until it gets through or is left
 // out. Answers whether it got through.
-fn step_refused(
+fn step_refused<K: Machine>(
     trials: &mut Trials,
-    kernel: &mut Kernel,
+    kernel: &mut K,
     pid: Pid,
     op: &Op,
 ) -> Result<bool, Difference> {
@@ -65,9 +65,9 @@ fn step_refused(
 }
 
 // Makes a step, and answers whether it got through.
-fn step(
+fn step<K: Machine>(
     trials: &mut Trials,
-    kernel: &mut Kernel,
+    kernel: &mut K,
     places: &mut Places,
     pid: Pid,
     op: &Op,
@@ -84,9 +84,9 @@ fn step(
 }
 
 // Makes steps, and puts copies of those that got through behind the others.
-fn step_all(
+fn step_all<K: Machine>(
     trials: &mut Trials,
-    kernel: &mut Kernel,
+    kernel: &mut K,
     places: &mut Places,
     steps: &[(Pid, Op)],
     made: &mut Steps,
@@ -100,9 +100,9 @@ fn step_all(
 }
 
 // Makes the steps of a plan, puts those that got through, and tells the transcript.
-fn stepped(
+fn stepped<K: Machine>(
     trials: &mut Trials,
-    kernel: &mut Kernel,
+    kernel: &mut K,
     plan: &Plan,
     made: &mut Steps,
 ) -> Result<Vec<u8, Heap>, Difference> {
@@ -111,20 +111,26 @@ fn stepped(
     transcript_of(trials.heap, kernel.history())
 }
 
-fn run_refused(
+fn run_refused<K: Machine>(
     trials: &mut Trials,
     plan: &Plan,
     made: &mut Steps,
 ) -> Result<Vec<u8, Heap>, Difference> {
-    let mut kernel = kernel_of(trials.heap, plan.priorities.as_slice(), LIMIT)?;
+    let mut kernel: K = kernel_of(trials.heap, plan.priorities.as_slice(), LIMIT)?;
     stepped(trials, &mut kernel, plan, made)
 }
 
 // Each request of each step is refused once. What gets through comes to what it comes to where
 // nothing is refused.
-pub(crate) fn try_refused(trials: &mut Trials, plan: &Plan) -> Result<(), Difference> {
+pub(crate) fn try_refused<K: Machine>(trials: &mut Trials, plan: &Plan) -> Result<(), Difference> {
     let mut made = Vec::new(trials.heap);
-    let told = run_refused(trials, plan, &mut made)?;
-    let other = run_at_once(trials.heap, plan.priorities.as_slice(), LIMIT, made)?;
+    let told = match run_refused::<K>(trials, plan, &mut made) {
+        Ok(told) => told,
+        Err(difference) => {
+            drop(made);
+            return Err(difference);
+        }
+    };
+    let other = run_at_once::<K>(trials.heap, plan.priorities.as_slice(), LIMIT, made)?;
     is_same(told.as_slice(), other.as_slice())
 }

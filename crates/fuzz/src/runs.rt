@@ -10,7 +10,7 @@ use device::{Halting, Portions};
 use heap::Heap;
 use history::History;
 use ids::{Entry, MAX_PROCESSES, Op, Pid, Priority, Reply};
-use kernel::Kernel;
+use machine::Machine;
 use replay::check;
 use runner::{RunFault, print, run_schedule};
 use script::{Script, read_schedule, read_script, steps_of};
@@ -47,7 +47,7 @@ fn check_history(heap: Heap, history: &History) -> Result<(), RunFault> {
     }
 }
 
-fn run_into(heap: Heap, case: &Case, sink: &mut Halting) -> Result<(), RunFault>
+fn run_into<K: Machine>(heap: Heap, case: &Case, sink: &mut Halting) -> Result<(), RunFault>
     requires { sink.old.failures ≡ 0 }
 {
     let mut source = Portions {
@@ -55,7 +55,7 @@ fn run_into(heap: Heap, case: &Case, sink: &mut Halting) -> Result<(), RunFault>
         most: 4096,
     };
     let list = text_of(case.list.as_slice());
-    match run_schedule(heap, &mut source, list, AMPLE, sink) {
+    match run_schedule::<K, _, _>(heap, &mut source, list, AMPLE, sink) {
         Ok(kernel) => {
             let checked = check_history(heap, kernel.history());
             drop(kernel);
@@ -66,9 +66,9 @@ fn run_into(heap: Heap, case: &Case, sink: &mut Halting) -> Result<(), RunFault>
 }
 
 // The transcript of a script, run as the program does and checked, or the fault.
-pub(crate) fn run_whole(heap: Heap, case: &Case) -> Result<Vec<u8, Heap>, RunFault> {
+pub(crate) fn run_whole<K: Machine>(heap: Heap, case: &Case) -> Result<Vec<u8, Heap>, RunFault> {
     let mut sink = open_sink(heap);
-    run_into(heap, case, &mut sink)?;
+    run_into::<K>(heap, case, &mut sink)?;
     Ok(sink.bytes)
 }
 
@@ -99,13 +99,19 @@ fn script_of(heap: Heap, case: &Case) -> Result<Script, Difference> {
 fn steps_in(heap: Heap, list: &str, script: Script) -> Result<Steps, Difference> {
     match read_schedule(heap, list, &script) {
         Ok(pids) => Ok(steps_of(heap, script, pids.as_slice())?),
-        Err(_) => Err(Difference::Fault),
+        Err(_) => {
+            drop(script);
+            Err(Difference::Fault)
+        }
     }
 }
 
 pub(crate) fn plan_of(heap: Heap, case: &Case) -> Result<Plan, Difference> {
     let script = script_of(heap, case)?;
-    let priorities = Vec::from_slice(heap, script.priorities())?;
+    let Ok(priorities) = Vec::from_slice(heap, script.priorities()) else {
+        drop(script);
+        return Err(Difference::NoMemory);
+    };
     let steps = steps_in(heap, text_of(case.list.as_slice()), script)?;
     Ok(Plan { priorities, steps })
 }
@@ -116,24 +122,34 @@ pub(crate) fn push_copy(steps: &mut Steps, pid: Pid, op: &Op) -> Result<(), Allo
     Ok(())
 }
 
+fn push_copies(copy: &mut Steps, steps: &[(Pid, Op)]) -> Result<(), AllocError> {
+    for (pid, op) in steps {
+        push_copy(copy, *pid, op)?;
+    }
+    Ok(())
+}
+
 fn copy_of(heap: Heap, steps: &[(Pid, Op)]) -> Result<Steps, AllocError> {
     let mut copy = Vec::new(heap);
-    for (pid, op) in steps {
-        push_copy(&mut copy, *pid, op)?;
+    match push_copies(&mut copy, steps) {
+        Ok(()) => Ok(copy),
+        Err(error) => {
+            drop(copy);
+            Err(error)
+        }
     }
-    Ok(copy)
 }
 
 // A kernel with these processes, of which there are some.
-pub(crate) fn kernel_of(
+pub(crate) fn kernel_of<K: Machine>(
     heap: Heap,
     priorities: &[Priority],
     limit: usize,
-) -> Result<Kernel, Difference> {
+) -> Result<K, Difference> {
     if priorities.is_empty() || priorities.len() > MAX_PROCESSES as usize {
         return Err(Difference::Fault);
     }
-    Ok(Kernel::new(heap, priorities, limit.min(AMPLE))?)
+    Ok(K::new(heap, priorities, limit.min(AMPLE))?)
 }
 
 // Counts the last entry, which has to be the one behind so many.
@@ -176,8 +192,8 @@ fn count(tally: &mut Tally, entries: &[Entry], reply: &Reply) {
 }
 
 // Makes a step, which has to find its place just where one is left.
-fn step(
-    kernel: &mut Kernel,
+fn step<K: Machine>(
+    kernel: &mut K,
     places: &mut Places,
     tally: &mut Tally,
     pid: Pid,
@@ -193,8 +209,8 @@ fn step(
     judged
 }
 
-fn step_all(
-    kernel: &mut Kernel,
+fn step_all<K: Machine>(
+    kernel: &mut K,
     places: &mut Places,
     tally: &mut Tally,
     steps: &[(Pid, Op)],
@@ -206,9 +222,9 @@ fn step_all(
 }
 
 // Makes steps one by one, and tells the transcript.
-fn stepped(
+fn stepped<K: Machine>(
     heap: Heap,
-    kernel: &mut Kernel,
+    kernel: &mut K,
     places: &mut Places,
     tally: &mut Tally,
     steps: &[(Pid, Op)],
@@ -218,37 +234,44 @@ fn stepped(
 }
 
 // Makes steps at once, and tells the transcript.
-fn made_at_once(
+fn made_at_once<K: Machine>(
     heap: Heap,
-    kernel: &mut Kernel,
+    kernel: &mut K,
     steps: Steps,
 ) -> Result<Vec<u8, Heap>, Difference> {
     let wanted = steps.len();
     let replies = kernel.run(steps)?;
-    require(replies.len() == wanted, Difference::Entry)?;
+    let made = replies.len();
+    drop(replies);
+    require(made == wanted, Difference::Entry)?;
     transcript_of(heap, kernel.history())
 }
 
 // The transcript of steps at once, by these processes and under a limit.
-pub(crate) fn run_at_once(
+pub(crate) fn run_at_once<K: Machine>(
     heap: Heap,
     priorities: &[Priority],
     limit: usize,
     steps: Steps,
 ) -> Result<Vec<u8, Heap>, Difference> {
-    let mut kernel = kernel_of(heap, priorities, limit)?;
-    made_at_once(heap, &mut kernel, steps)
+    match kernel_of::<K>(heap, priorities, limit) {
+        Ok(mut kernel) => made_at_once(heap, &mut kernel, steps),
+        Err(difference) => {
+            drop(steps);
+            Err(difference)
+        }
+    }
 }
 
 // The transcript of steps one by one, under a limit. Each reply is judged.
-fn run_stepped(
+fn run_stepped<K: Machine>(
     heap: Heap,
     plan: &Plan,
     limit: usize,
     tally: &mut Tally,
 ) -> Result<Vec<u8, Heap>, Difference> {
     let mut places = Places::new(plan.priorities.len(), limit);
-    let mut kernel = kernel_of(heap, plan.priorities.as_slice(), limit)?;
+    let mut kernel: K = kernel_of(heap, plan.priorities.as_slice(), limit)?;
     stepped(heap, &mut kernel, &mut places, tally, plan.steps.as_slice())
 }
 
@@ -257,19 +280,27 @@ pub(crate) fn is_same(one: &[u8], other: &[u8]) -> Result<(), Difference> {
 }
 
 // A script ends well as the program runs it, and its transcript is that of its steps.
-pub(crate) fn try_whole(heap: Heap, case: &Case, plan: &Plan) -> Result<(), Difference> {
-    let Ok(whole) = run_whole(heap, case) else {
+pub(crate) fn try_whole<K: Machine>(
+    heap: Heap,
+    case: &Case,
+    plan: &Plan,
+) -> Result<(), Difference> {
+    let Ok(whole) = run_whole::<K>(heap, case) else {
         return Err(Difference::Fault);
     };
     let steps = copy_of(heap, plan.steps.as_slice())?;
-    let other = run_at_once(heap, plan.priorities.as_slice(), AMPLE, steps)?;
+    let other = run_at_once::<K>(heap, plan.priorities.as_slice(), AMPLE, steps)?;
     is_same(whole.as_slice(), other.as_slice())
 }
 
 // Under a limit each step finds its place just where one is left, one by one and at once.
-pub(crate) fn try_limit(trials: &mut Trials, plan: &Plan, limit: usize) -> Result<(), Difference> {
-    let one_by_one = run_stepped(trials.heap, plan, limit, &mut trials.tally)?;
+pub(crate) fn try_limit<K: Machine>(
+    trials: &mut Trials,
+    plan: &Plan,
+    limit: usize,
+) -> Result<(), Difference> {
+    let one_by_one = run_stepped::<K>(trials.heap, plan, limit, &mut trials.tally)?;
     let steps = copy_of(trials.heap, plan.steps.as_slice())?;
-    let at_once = run_at_once(trials.heap, plan.priorities.as_slice(), limit, steps)?;
+    let at_once = run_at_once::<K>(trials.heap, plan.priorities.as_slice(), limit, steps)?;
     is_same(one_by_one.as_slice(), at_once.as_slice())
 }

@@ -2,3 +2,4 @@ mod Words
 mod Entries
 mod Edits
 mod Calls
+pub mod Sent

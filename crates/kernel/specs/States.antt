@@ -17,8 +17,8 @@ use Rattle.history_laws.specs.Limits.{most_processes}
 use Rattle.commit.specs.Views.{Shown as Transactions}
 use Rattle.commit.specs.Views.{View, view_at, gone_slot, idle_slot, live_slot, doomed_slot}
 use Rattle.kernel.specs.declared.state.State.{State}
-use Rattle.kernel.specs.Shown.{Shown, moment}
-use Rattle.kernel.specs.Steps.{IsStep, entry_of, has_place, is_no_entry, with_entry}
+use Rattle.machine.specs.Shown.{Shown, moment}
+use Rattle.machine.specs.Steps.{IsStep, entry_of, has_place, is_no_entry, with_entry}
 use Rattle.model.specs.Effects.{Effect, effects, all_done}
 use Rattle.commit.specs.Dooming.{with_doom}
 use Rattle.commit.specs.declared.slot.Standing.{Standing}

@@ -18,7 +18,7 @@ ghost use Rattle.kernel.specs.States.{Born, Calls, CanChange, Does, Dooms, IsCon
 ghost use Rattle.kernel.specs.States.{Moves, Plans};
 ghost use Rattle.kernel.specs.States.{Unchanged, ends_process, fields, first_is, makes_process};
 ghost use Rattle.kernel.specs.States.{no_part, part_after, part_at, part_with, state_with, with_born};
-ghost use Rattle.kernel.specs.Shown.{moment};
+ghost use Rattle.machine.specs.Shown.{moment};
 
 use crate::state::{Live, State, add_entry, end_transaction, enter};
 use calls::{Plan, plan_of};
@@ -81,6 +81,26 @@ fn plan_for(s: &State, pid: Pid, within: &Within, call: &Call) -> Result<Plan, A
     let view = s.transactions.view(pid);
     s.transactions.directories_are_kept(pid);
     plan_of(s.heap, &view, pid, call, within.is_some())
+}
+
+/// What a call comes to, and whether it loses or which processes it dooms.
+fn judged(s: &State, pid: Pid, within: &Within, call: &Call) -> Result<(Plan, Verdict), AllocError>
+    requires { Calls (fields s.now) pid within.now call.now }
+    ensures answer { IfOk result (λ p.
+        p.0.answer ≡ reply (seen_by (moment s.now.history) pid) pid call.now) }
+    ensures plans { IfOk result (λ p.
+        Plans (fields s.now) pid within.now call.now p.0.touches.items p.0.edits.items) }
+    ensures verdict { IfOk result (λ p. IsVerdict (moment s.now.history) pid
+        (counted_touches (moment s.now.history) pid call.now) p.1) }
+{
+    let plan = plan_for(s, pid, within, call)?;
+    match s.contenders.verdict(s.heap, pid, plan.touches.as_slice()) {
+        Ok(verdict) => Ok((plan, verdict)),
+        Err(refused) => {
+            drop(plan);
+            Err(refused)
+        }
+    }
 }
 
 /// Whether a call's edits make a process.
@@ -256,10 +276,18 @@ pub fn run(s: &mut State, pid: Pid, within: Within, call: Call) -> Result<Reply,
     ensures ok { IfOk result (Does (fields s.old) (fields s.new) pid (entries.Do call)) }
     ensures err { OnErr result (Unchanged (fields s.old) (fields s.new)) }
 {
-    let plan = plan_for(s, pid, &within, &call)?;
-    let verdict = s.contenders.verdict(s.heap, pid, plan.touches.as_slice())?;
+    let (plan, verdict) = match judged(s, pid, &within, &call) {
+        Ok(judged) => judged,
+        Err(refused) => {
+            drop(call);
+            return Err(refused);
+        }
+    };
     match verdict {
-        Verdict::Lose(entry, reply) => Ok(refuse(s, pid, within, call, entry, reply)),
+        Verdict::Lose(entry, reply) => {
+            drop(plan);
+            Ok(refuse(s, pid, within, call, entry, reply))
+        }
         Verdict::Go(doomed) => take(s, pid, within, call, plan, doomed),
     }
 }

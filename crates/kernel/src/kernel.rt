@@ -10,8 +10,8 @@ ghost use Rattle.history_laws.specs.Headline.{IsSerializable};
 ghost use Rattle.history_laws.specs.Limits.{StaysWithinLimits};
 ghost use Rattle.history_laws.specs.Trees.{IsATree};
 ghost use Rattle.records.specs.Touches.{distinct, touched_by};
-ghost use Rattle.kernel.specs.Shown.{Kept, moment, is_live};
-ghost use Rattle.kernel.specs.Steps.{IsStep, Steps};
+ghost use Rattle.machine.specs.Shown.{Kept, moment, is_live};
+ghost use Rattle.machine.specs.Steps.{IsStep, Steps};
 
 use crate::state::State;
 use crate::step::step;
@@ -32,7 +32,7 @@ pub struct Kernel {
 }
 
 impl Model for Kernel {
-    ghost use Rattle.kernel.specs.Shown.{Shown};
+    ghost use Rattle.machine.specs.Shown.{Shown};
     ghost use Rattle.kernel.specs.States.{IsConsistent, fields, shown};
 
     ghost Value = { Shown };
@@ -54,8 +54,15 @@ impl Kernel {
             k.log ≡ record { entries = []; priorities = priorities.now; limit = limit }) }
     {
         let history = History::new(heap, priorities, limit)?;
-        let contenders = Contenders::new(heap, priorities)?;
-        let transactions = Transactions::new(heap, priorities)?;
+        let Ok(contenders) = Contenders::new(heap, priorities) else {
+            drop(history);
+            return Err(AllocError);
+        };
+        let Ok(transactions) = Transactions::new(heap, priorities) else {
+            drop(contenders);
+            drop(history);
+            return Err(AllocError);
+        };
         Ok(Kernel {
             state: State {
                 heap,
@@ -159,10 +166,13 @@ impl Kernel {
         ensures err { OnErr result (self.new ≡ self.old) }
     {
         let _ = self.history();
-        let mut replies = Vec::with_capacity(self.state.heap, ops.len())?;
+        let Ok(mut replies) = Vec::with_capacity(self.state.heap, ops.len()) else {
+            drop(ops);
+            return Err(AllocError);
+        };
         for (pid, op) in ops {
             let reply = self.step(pid, op);
-            let _ = replies.push(reply);
+            drop(replies.push(reply));
         }
         Ok(replies)
     }

@@ -2,6 +2,7 @@
 //! a transaction; all other calls run in it and outside.
 #![tactic(auto)]
 
+mod as_machine;
 mod execute;
 mod kernel;
 mod state;

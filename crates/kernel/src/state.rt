@@ -3,7 +3,7 @@ ghost use Rattle.std.specs.Prelude.{◌≡◌, []};
 ghost use Rattle.contention.specs.Contenders.{contender_at};
 ghost use Rattle.kernel.specs.States.{CanEnter, CanEndTransaction, Does, Fields, IsIn, Moves};
 ghost use Rattle.kernel.specs.States.{cleared, fields, plain, settled_as};
-ghost use Rattle.kernel.specs.Steps.{entry_of};
+ghost use Rattle.machine.specs.Steps.{entry_of};
 
 use commit::Transactions;
 use contention::Contenders;

@@ -5,11 +5,11 @@ ghost use Rattle.model.specs.Entries.{is_inside};
 ghost use Rattle.model.specs.Legal.{restarts};
 ghost use Rattle.model.specs.Moments.{Status, has_free, status};
 ghost use Rattle.model.specs.Replies.{needed};
-ghost use Rattle.kernel.specs.Shown.{moment};
+ghost use Rattle.machine.specs.Shown.{moment};
 ghost use Rattle.kernel.specs.States.{Asks, Calls, Does, IsConsistent, Stands, fields};
 
 use crate::execute::{aborted, run};
-use crate::state::{Live, State, add_entry, end_transaction};
+use crate::state::{Live, State, Told, add_entry, end_transaction};
 use commit::Standing;
 use ids::{Age, BeginFlags, Call, Errno, Op, Pid, Reply, Why};
 use std::alloc::AllocError;
@@ -98,6 +98,7 @@ fn notice(s: &mut State, pid: Pid, flags: BeginFlags, age: Age, op: Op) -> Reply
 {
     let restarted = is_restarted(s, flags, &op);
     let Some((entry, reply)) = s.transactions.take_causes(pid) else {
+        drop(op);
         return Reply::NoProcess;
     };
     let told = (aborted(entry, restarted), aborted(reply, restarted));
@@ -149,17 +150,23 @@ fn unsupported() -> Reply
     }
 }
 
+/// The reply to an end or an abort outside a transaction.
+fn outside() -> Told
+    ensures { (result.0 ≡ entries.NotInTransaction) × (result.1 ≡ entries.NotInTransaction) }
+{
+    (Reply::NotInTransaction, Reply::NotInTransaction)
+}
+
 /// An operation of a process that is in no transaction.
 fn step_idle(s: &mut State, pid: Pid, op: Op) -> Reply
     requires { Asks (fields s.old) pid Standing.Idle op }
     ensures { Does (fields s.old) (fields s.new) pid op result }
 {
-    let outside = (Reply::NotInTransaction, Reply::NotInTransaction);
     match op {
         Op::Begin(flags) => begin(s, pid, flags),
         Op::Call(call) => step_call(s, pid, None, call),
-        Op::End => add_entry(s, pid, Op::End, outside),
-        Op::Abort { no_restart } => add_entry(s, pid, Op::Abort { no_restart }, outside),
+        Op::End => add_entry(s, pid, Op::End, outside()),
+        Op::Abort { no_restart } => add_entry(s, pid, Op::Abort { no_restart }, outside()),
     }
 }
 
@@ -187,6 +194,7 @@ pub fn step(s: &mut State, pid: Pid, op: Op) -> Reply
 {
     let standing = standing_of(s, pid);
     if !has_free(s, needed(&standing, &op)) {
+        drop(op);
         return Reply::HistoryFull;
     }
     match standing {

@@ -8,7 +8,7 @@ use Rattle.ids.specs.declared.call.Op.{Op}
 use Rattle.ids.specs.declared.entry.Entry.{Entry}
 use Rattle.ids.specs.declared.reply.Reply.{Reply}
 use Rattle.ids.specs.declared.reply.Reply.TheVariants as reply
-use Rattle.kernel.specs.Steps.{is_no_entry}
+use Rattle.machine.specs.Steps.{is_no_entry}
 use Rattle.ports.specs.Ports.{done_by, replied, work_in}
 use Rattle.turnstile.specs.Calls.{Called, Ends, Forked}
 use Rattle.turnstile.specs.Histories.{Begins, own}

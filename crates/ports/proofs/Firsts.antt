@@ -7,7 +7,7 @@ use Rattle.std.proofs.lemmas.Bool.Decides.{nat_tests}
 use Rattle.call_laws.proofs.Laws.{first_processes_live}
 use Rattle.history.specs.Log.{Log}
 use Rattle.ids.specs.declared.limits.TheConstants.{MAX_PROCESSES}
-use Rattle.kernel.specs.Shown.{Shown, Kept, moment}
+use Rattle.machine.specs.Shown.{Shown, Kept, moment}
 use Rattle.model.specs.Moments.{all_below, is_alive, start}
 use Rattle.model.specs.State.{Kernel as State}
 use Rattle.ports.proofs.Called.{begins_on}

@@ -10,7 +10,7 @@ use Rattle.history_laws.specs.Processes.{IsForked}
 use Rattle.ids.specs.declared.call.Op.{Op}
 use Rattle.ids.specs.declared.entry.Entry.{Entry}
 use Rattle.ids.specs.declared.reply.Reply.{Reply}
-use Rattle.kernel.specs.Shown.{moment}
+use Rattle.machine.specs.Shown.{moment}
 use Rattle.model.specs.Legal.{Legal, mine}
 use Rattle.ports.specs.Ports.{done_by, replied, work_in}
 use Rattle.script.specs.declared.read.Line.{Line}

@@ -1,4 +1,4 @@
 mod Called
 mod Firsts
 mod Found
-pub mod Sent
+mod Sent

@@ -1,7 +1,7 @@
 -- What a run by threads comes to.
 use Rattle.std.specs.Prelude.{◌≡◌, ℕ, ◌<◌, ◌≤◌}
 use Rattle.history.specs.Log.{Log}
-use Rattle.kernel.specs.Shown.{moment}
+use Rattle.machine.specs.Shown.{moment}
 use Rattle.model.specs.Legal.{Legal}
 use Rattle.ports.specs.Ports.{work_in}
 use Rattle.script.specs.Contents.{ScriptContents}

@@ -3,6 +3,7 @@ ghost use Rattle.std.specs.Prelude.{◌≡◌, []};
 ghost use Rattle.turnstile.specs.Histories.{Begins};
 
 use ids::{Op, Pid, Reply};
+use machine::Machine;
 use std::marker::Model;
 use std::sync::Wait;
 use turnstile::{Pass, Turnstile};
@@ -12,12 +13,12 @@ use workers::Port;
 /// turnstile was made, so what was done through the port is what the process's own entries say.
 /// Contracts see its pass.
 #[derive(Drop)]
-pub struct TurnstilePort<'a> {
-    turnstile: &'a Turnstile,
-    pass: Pass,
+pub struct TurnstilePort<'a, K: Machine> {
+    turnstile: &'a Turnstile<K>,
+    pass: Pass<K>,
 }
 
-impl<'a> Model for TurnstilePort<'a> {
+impl<'a, K: Machine> Model for TurnstilePort<'a, K> {
     ghost use Rattle.std.specs.Prelude.{◌≡◌, []};
     ghost use Rattle.turnstile.specs.Histories.{Begins};
     ghost use Rattle.turnstile.specs.Passes.{PassView};
@@ -31,9 +32,9 @@ impl<'a> Model for TurnstilePort<'a> {
         × Begins p.pass.gate.start p.pass.seen };
 }
 
-impl<'a> TurnstilePort<'a> {
+impl<'a, K: Machine> TurnstilePort<'a, K> {
     /// The port of a pass, which goes to the turnstile that the pass is of.
-    pub fn new(turnstile: &'a Turnstile, pass: Pass) -> TurnstilePort<'a>
+    pub fn new(turnstile: &'a Turnstile<K>, pass: Pass<K>) -> TurnstilePort<'a, K>
         requires gate { pass.gate ≡ turnstile.now }
         requires fresh { turnstile.now.start.entries ≡ [] }
         requires begun { Begins pass.gate.start pass.seen }
@@ -43,7 +44,7 @@ impl<'a> TurnstilePort<'a> {
     }
 
     /// The pass.
-    pub fn into_pass(self) -> Pass
+    pub fn into_pass(self) -> Pass<K>
         ensures same { result ≡ self.entry }
         ensures begun { Begins self.entry.gate.start self.entry.seen }
     {
@@ -51,7 +52,7 @@ impl<'a> TurnstilePort<'a> {
     }
 }
 
-impl<'a> Port for TurnstilePort<'a> {
+impl<'a, K: Machine> Port for TurnstilePort<'a, K> {
     ghost use Rattle.ports.specs.Ports.{done_by};
     ghost use Rattle.turnstile.specs.Passes.{Gate};
 

@@ -8,7 +8,7 @@ ghost use Rattle.workers.specs.Families.{AreFamilies};
 use crate::TurnstilePort;
 use heap::Heap;
 use ids::MAX_ENTRIES;
-use kernel::Kernel;
+use machine::Machine;
 use script::Script;
 use std::alloc::AllocError;
 use std::collections::VecDeque;
@@ -18,11 +18,11 @@ use turnstile::{Pass, Turnstile};
 use workers::{WorkFault, run_workers};
 
 // A port for each pass.
-fn ports_of<'a>(
+fn ports_of<'a, K: Machine>(
     heap: Heap,
-    turnstile: &'a Turnstile,
-    passes: Vec<Pass, Heap>,
-) -> Result<Vec<TurnstilePort<'a>, Heap>, AllocError>
+    turnstile: &'a Turnstile<K>,
+    passes: Vec<Pass<K>, Heap>,
+) -> Result<Vec<TurnstilePort<'a, K>, Heap>, AllocError>
     requires gates { All (λ p. p.gate ≡ turnstile.now) passes.items }
     requires begun { All (λ p. p.seen ≡ p.gate.start) passes.items }
     requires fresh { turnstile.now.start.entries ≡ [] }
@@ -37,7 +37,10 @@ fn ports_of<'a>(
 }
 
 // The passes of ports.
-fn passes_of(heap: Heap, ports: Vec<TurnstilePort, Heap>) -> Result<Vec<Pass, Heap>, AllocError>
+fn passes_of<K: Machine>(
+    heap: Heap,
+    ports: Vec<TurnstilePort<K>, Heap>,
+) -> Result<Vec<Pass<K>, Heap>, AllocError>
     ensures same { IfOk result (λ passes. passes.items ≡ ports.entry.items) }
     ensures begun { IfOk result (λ passes. All (λ p. Begins p.gate.start p.seen) passes.items) }
 {
@@ -50,13 +53,13 @@ fn passes_of(heap: Heap, ports: Vec<TurnstilePort, Heap>) -> Result<Vec<Pass, He
 }
 
 // Has the lines of each process done in a thread of its own. The passes come back, family by family.
-fn worked<R: Threads + Wait + Sync>(
+fn worked<R: Threads + Wait + Sync, K: Machine + Send>(
     rt: &R,
     heap: Heap,
-    turnstile: &Turnstile,
-    passes: Vec<Pass, Heap>,
+    turnstile: &Turnstile<K>,
+    passes: Vec<Pass<K>, Heap>,
     script: &Script,
-) -> Result<Vec<Pass, Heap>, WorkFault>
+) -> Result<Vec<Pass<K>, Heap>, WorkFault>
     requires gates { All (λ p. p.gate ≡ turnstile.now) passes.items }
     requires begun { All (λ p. p.seen ≡ p.gate.start) passes.items }
     requires fresh { turnstile.now.start.entries ≡ [] }
@@ -77,16 +80,16 @@ fn worked<R: Threads + Wait + Sync>(
 /// Runs a script on a fresh kernel with this history limit, with a thread for each process, children
 /// too, and joins them all. Returns the kernel. The fault is that of the lowest process whose worker
 /// was stopped by a refusal, or for which no thread could be started.
-pub fn run_threads<R: Threads + Wait + Sync>(
+pub fn run_threads<K: Machine + Send, R: Threads + Wait + Sync>(
     rt: &R,
     heap: Heap,
     script: &Script,
     limit: usize,
-) -> Result<Kernel, WorkFault>
+) -> Result<K, WorkFault>
     requires { limit ≤ MAX_ENTRIES }
-    ensures { IfOk result (λ kernel. IsRunByThreads script.now limit kernel.log) }
+    ensures { IfOk result (λ kernel. IsRunByThreads script.now limit (K.shown kernel).log) }
 {
-    let Ok(kernel) = Kernel::new(heap, script.priorities(), limit) else {
+    let Ok(kernel) = K::new(heap, script.priorities(), limit) else {
         return Err(WorkFault::NoMemory);
     };
     let Ok((turnstile, passes)) = Turnstile::new(heap, kernel) else {

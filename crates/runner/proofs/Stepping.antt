@@ -8,7 +8,7 @@ use Rattle.device.specs.Device.{IsPart}
 use Rattle.history.specs.Log.{Log}
 use Rattle.ids.specs.declared.call.Op.{Op}
 use Rattle.ids.specs.declared.entry.Entry.{Entry}
-use Rattle.kernel.specs.Shown.{Shown, Kept}
+use Rattle.machine.specs.Shown.{Shown, Kept}
 use Rattle.transcript.specs.Line.{transcript}
 use Rattle.runner.specs.Steps.{operations, Halted, HasDone, Took, Refused, StopsWriting, Stops}
 use Rattle.runner.specs.Faults.{fault_of_refusal}

@@ -1,7 +1,7 @@
 -- How the program's job ends. `given` and `left` are what the source has to give before and after,
 -- `old` and `new` what the sink holds.
 use Rattle.std.specs.Prelude.{◌≡◌, ◌⊎◌, ℕ, true, List, Option, string_bytes}
-use Rattle.kernel.specs.Shown.{Shown}
+use Rattle.machine.specs.Shown.{Shown}
 use Rattle.words.specs.declared.Job.{Job}
 use Rattle.words.specs.declared.Way.{Way}
 use Rattle.words.specs.declared.Way.TheVariants as way

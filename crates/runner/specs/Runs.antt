@@ -2,7 +2,7 @@
 -- before and after, `old` and `new` what the sink holds.
 use Rattle.std.specs.Prelude.{◌≡◌, ℕ, List, Option, Ok, Err, ◌⊎◌}
 use Rattle.std.specs.Io.KnownBytes.{append_known}
-use Rattle.kernel.specs.Shown.{Shown}
+use Rattle.machine.specs.Shown.{Shown}
 use Rattle.script.specs.Schedules.{schedule_of}
 use Rattle.script.specs.Contents.{ScriptContents}
 use Rattle.script.specs.Steps.{steps}

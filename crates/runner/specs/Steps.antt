@@ -5,9 +5,9 @@ use Rattle.std.specs.Io.KnownBytes.{append_known}
 use Rattle.device.specs.Device.{IsPart}
 use Rattle.ids.specs.declared.call.Op.{Op}
 use Rattle.ids.specs.declared.entry.Entry.{Entry}
-use Rattle.kernel.specs.Shown.{Shown, Kept, moment}
+use Rattle.machine.specs.Shown.{Shown, Kept, moment}
 use Rattle.history.specs.Log.{Log}
-use Rattle.kernel.specs.Steps.{Added, has_place}
+use Rattle.machine.specs.Steps.{Added, has_place}
 use Rattle.model.specs.Entries.{Reply}
 use Rattle.model.specs.Moments.{status}
 use Rattle.model.specs.Replies.{needed}

@@ -4,7 +4,7 @@ use Rattle.std.specs.Prelude.{◌≡◌, ℕ, List, Option}
 use Rattle.std.specs.Io.KnownBytes.{append_known}
 use Rattle.device.specs.Device.{IsPart}
 use Rattle.history.specs.Log.{Log}
-use Rattle.kernel.specs.Shown.{Shown}
+use Rattle.machine.specs.Shown.{Shown}
 use Rattle.ports.specs.Runs.{IsRunByThreads}
 use Rattle.script.specs.Contents.{ScriptContents}
 use Rattle.transcript.specs.Line.{transcript}

@@ -11,26 +11,26 @@ use crate::run::run_schedule;
 use crate::threads::run_script_by_threads;
 use device::{Sink, Source};
 use heap::Heap;
-use kernel::Kernel;
+use machine::Machine;
 use replay::legal_histories_have_no_fault;
 use std::sync::Wait;
 use std::thread::Threads;
 use words::{Job, MAX_LIMIT, Way};
 
 // Runs the script of a job in its way.
-fn run_script<R: Threads + Wait + Sync, I: Source, O: Sink>(
+fn run_script<K: Machine + Send, R: Threads + Wait + Sync, I: Source, O: Sink>(
     rt: &R,
     heap: Heap,
     job: &Job,
     source: &mut I,
     out: &mut O,
-) -> Result<Kernel, RunFault>
+) -> Result<K, RunFault>
     requires reads { CanCount (I.failures source.old) }
     requires writes { CanCount (O.failures out.old) }
     requires limited { job.now.limit ≤ MAX_LIMIT }
-    ensures ok { IfOk result (HasRun job.now.way job.now.limit
+    ensures ok { IfOk result (λ kernel. HasRun job.now.way job.now.limit
         (I.remaining source.old) (I.remaining source.new)
-        (O.written out.old) (O.written out.new)) }
+        (O.written out.old) (O.written out.new) (K.shown kernel)) }
     ensures fault { IfErr result (HasEnded job.now.way job.now.limit
         (I.remaining source.old) (I.remaining source.new)
         (O.written out.old) (O.written out.new)) }
@@ -46,7 +46,7 @@ fn run_script<R: Threads + Wait + Sync, I: Source, O: Sink>(
 }
 
 // Does a job, up to its fault.
-fn do_job<R: Threads + Wait + Sync, I: Source, O: Sink>(
+fn do_job<K: Machine + Send, R: Threads + Wait + Sync, I: Source, O: Sink>(
     rt: &R,
     heap: Heap,
     job: &Job,
@@ -65,7 +65,7 @@ fn do_job<R: Threads + Wait + Sync, I: Source, O: Sink>(
         (I.failures source.old < I.failures source.new)
         (O.failures out.old < O.failures out.new) (status_of fault)) }
 {
-    match run_script(rt, heap, job, source, out) {
+    match run_script::<K, _, _, _>(rt, heap, job, source, out) {
         Ok(kernel) => {
             legal_histories_have_no_fault();
             let told = check_if(job.check, heap, kernel.history(), out);
@@ -76,12 +76,12 @@ fn do_job<R: Threads + Wait + Sync, I: Source, O: Sink>(
     }
 }
 
-/// Does a job: runs the script that the source spells, by a schedule or by threads, and checks the
-/// history if it says so. The transcript goes to `out`, behind it that the history passes, and where
+/// Does a job on a kernel of the type `K`: runs the script that the source spells, by a schedule or
+/// by threads, and checks the history if it says so. The transcript goes to `out`, behind it that the history passes, and where
 /// a fault ends the job its line goes to `err`. Returns the program's exit status: 0 when all is
 /// done, else that of the fault. A failure of `err` changes no status. A run by threads waits for
 /// them.
-pub fn run_job<R: Threads + Wait + Sync, I: Source, O: Sink, E: Sink>(
+pub fn run_job<K: Machine + Send, R: Threads + Wait + Sync, I: Source, O: Sink, E: Sink>(
     rt: &R,
     heap: Heap,
     job: &Job,
@@ -102,7 +102,7 @@ pub fn run_job<R: Threads + Wait + Sync, I: Source, O: Sink, E: Sink>(
         (I.failures source.old < I.failures source.new)
         (O.failures out.old < O.failures out.new) result }
 {
-    let fault = match do_job(rt, heap, job, source, out) {
+    let fault = match do_job::<K, _, _, _>(rt, heap, job, source, out) {
         Ok(()) => return 0,
         Err(fault) => fault,
     };

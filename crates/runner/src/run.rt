@@ -8,7 +8,7 @@ use crate::reading::script_in;
 use crate::steps::do_steps;
 use device::{Sink, Source};
 use heap::Heap;
-use kernel::Kernel;
+use machine::Machine;
 use script::{read_schedule, steps_of};
 use words::MAX_LIMIT;
 
@@ -20,19 +20,19 @@ use words::MAX_LIMIT;
 /// `Write` come only where the device has failed; where `Write` comes a beginning of the transcript
 /// was written. `HistoryFull` and `NoMemory` stop the run, and the transcript of the steps before is
 /// written.
-pub fn run_schedule<I: Source, O: Sink>(
+pub fn run_schedule<K: Machine, I: Source, O: Sink>(
     heap: Heap,
     source: &mut I,
     list: &str,
     limit: usize,
     sink: &mut O,
-) -> Result<Kernel, RunFault>
+) -> Result<K, RunFault>
     requires reads { CanCount (I.failures source.old) }
     requires writes { CanCount (O.failures sink.old) }
     requires limited { limit ≤ MAX_LIMIT }
-    ensures ok { IfOk result (Ran list.now limit
+    ensures ok { IfOk result (λ kernel. Ran list.now limit
         (I.remaining source.old) (I.remaining source.new)
-        (O.written sink.old) (O.written sink.new)) }
+        (O.written sink.old) (O.written sink.new) (K.shown kernel)) }
     ensures fault { IfErr result (Ended list.now limit
         (I.remaining source.old) (I.remaining source.new)
         (O.written sink.old) (O.written sink.new)) }
@@ -48,7 +48,7 @@ pub fn run_schedule<I: Source, O: Sink>(
         Ok(pids) => pids,
         Err(fault) => return Err(RunFault::of_schedule(fault)),
     };
-    let Ok(mut kernel) = Kernel::new(heap, script.priorities(), limit) else {
+    let Ok(mut kernel) = K::new(heap, script.priorities(), limit) else {
         return Err(RunFault::NoMemory);
     };
     let Ok(steps) = steps_of(heap, script, &pids) else {

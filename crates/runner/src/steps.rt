@@ -2,7 +2,7 @@
 ghost use Rattle.std.specs.Prelude.{◌≡◌, ◌≢◌, ◌<◌, [], IfErr, OnErr, OnOk};
 ghost use Rattle.std.specs.Io.KnownBytes.{append_known};
 ghost use Rattle.device.specs.Device.{CanCount};
-ghost use Rattle.kernel.specs.Shown.{Kept};
+ghost use Rattle.machine.specs.Shown.{Kept};
 ghost use Rattle.transcript.specs.Line.{transcript};
 ghost use Rattle.runner.specs.Steps.{Halted, HasDone, Refused, Stops, Took};
 
@@ -12,14 +12,14 @@ use crate::refusal::Refusal;
 use device::Sink;
 use heap::Heap;
 use ids::{Op, Pid, Reply};
-use kernel::Kernel;
+use machine::Machine;
 
 // Executes one step. Where it is refused nothing has changed.
-fn do_step(kernel: &mut Kernel, pid: Pid, op: Op) -> Result<(), Refusal>
-    ensures kept { Kept kernel.new }
-    ensures ok { OnOk result (Took kernel.old.log kernel.new.log pid op) }
-    ensures unchanged { OnErr result (kernel.new ≡ kernel.old) }
-    ensures refused { IfErr result (Refused kernel.old.log pid op) }
+fn do_step<K: Machine>(kernel: &mut K, pid: Pid, op: Op) -> Result<(), Refusal>
+    ensures kept { Kept (K.shown kernel.new) }
+    ensures ok { OnOk result (Took (K.shown kernel.old).log (K.shown kernel.new).log pid op) }
+    ensures unchanged { OnErr result (K.shown kernel.new ≡ K.shown kernel.old) }
+    ensures refused { IfErr result (Refused (K.shown kernel.old).log pid op) }
 {
     let reply = kernel.step(pid, op);
     match &reply {
@@ -39,13 +39,15 @@ fn do_step(kernel: &mut Kernel, pid: Pid, op: Op) -> Result<(), Refusal>
 }
 
 // Executes steps in a row on a kernel whose history is empty, up to the first that is refused.
-fn make_steps(kernel: &mut Kernel, steps: Vec<(Pid, Op), Heap>) -> Result<(), Refusal>
-    requires kept { Kept kernel.old }
-    requires fresh { kernel.old.log.entries ≡ [] }
+fn make_steps<K: Machine>(kernel: &mut K, steps: Vec<(Pid, Op), Heap>) -> Result<(), Refusal>
+    requires kept { Kept (K.shown kernel.old) }
+    requires fresh { (K.shown kernel.old).log.entries ≡ [] }
     ensures done { OnOk result (HasDone
-        kernel.old.log.priorities kernel.old.log.limit steps.entry.items kernel.new) }
+        (K.shown kernel.old).log.priorities (K.shown kernel.old).log.limit steps.entry.items
+        (K.shown kernel.new)) }
     ensures refused { IfErr result (λ refusal. Halted refusal
-        kernel.old.log.priorities kernel.old.log.limit steps.entry.items kernel.new) }
+        (K.shown kernel.old).log.priorities (K.shown kernel.old).log.limit steps.entry.items
+        (K.shown kernel.new)) }
 {
     for (pid, op) in steps {
         do_step(kernel, pid, op)?;
@@ -55,20 +57,21 @@ fn make_steps(kernel: &mut Kernel, steps: Vec<(Pid, Op), Heap>) -> Result<(), Re
 
 // Executes steps in a row on a kernel whose history is empty, and then writes the transcript of
 // those that were done. Where a step is refused and the sink fails too, the fault is Write.
-pub(crate) fn do_steps<S: Sink>(
-    kernel: &mut Kernel,
+pub(crate) fn do_steps<K: Machine, S: Sink>(
+    kernel: &mut K,
     steps: Vec<(Pid, Op), Heap>,
     sink: &mut S,
 ) -> Result<(), RunFault>
-    requires kept { Kept kernel.old }
-    requires fresh { kernel.old.log.entries ≡ [] }
+    requires kept { Kept (K.shown kernel.old) }
+    requires fresh { (K.shown kernel.old).log.entries ≡ [] }
     requires device { CanCount (S.failures sink.old) }
     ensures done { OnOk result (HasDone
-        kernel.old.log.priorities kernel.old.log.limit steps.entry.items kernel.new) }
+        (K.shown kernel.old).log.priorities (K.shown kernel.old).log.limit steps.entry.items
+        (K.shown kernel.new)) }
     ensures written { OnOk result (S.written sink.new
-        ≡ append_known (S.written sink.old) (transcript kernel.new.log.entries)) }
+        ≡ append_known (S.written sink.old) (transcript (K.shown kernel.new).log.entries)) }
     ensures fault { IfErr result (λ fault. Stops fault
-        kernel.old.log.priorities kernel.old.log.limit steps.entry.items
+        (K.shown kernel.old).log.priorities (K.shown kernel.old).log.limit steps.entry.items
         (S.written sink.old) (S.written sink.new)) }
     ensures write { result ≡ Err RunFault.Write → S.failures sink.old < S.failures sink.new }
     ensures no_failure { result ≢ Err RunFault.Write → S.failures sink.new ≡ S.failures sink.old }

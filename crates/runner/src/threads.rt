@@ -8,7 +8,7 @@ use crate::printing::print;
 use crate::reading::script_in;
 use device::{Sink, Source};
 use heap::Heap;
-use kernel::Kernel;
+use machine::Machine;
 use ports::run_threads;
 use std::sync::Wait;
 use std::thread::Threads;
@@ -21,19 +21,19 @@ use words::MAX_LIMIT;
 /// A fault that is no `Write` leaves nothing written. `Read` and `Write` come only where the device
 /// has failed. `HistoryFull` and `NoMemory` mean that a worker was stopped; a thread that cannot be
 /// started counts as refused memory. Nothing is promised of how long the threads take.
-pub fn run_script_by_threads<R: Threads + Wait + Sync, I: Source, O: Sink>(
+pub fn run_script_by_threads<K: Machine + Send, R: Threads + Wait + Sync, I: Source, O: Sink>(
     rt: &R,
     heap: Heap,
     source: &mut I,
     limit: usize,
     sink: &mut O,
-) -> Result<Kernel, RunFault>
+) -> Result<K, RunFault>
     requires reads { CanCount (I.failures source.old) }
     requires writes { CanCount (O.failures sink.old) }
     requires limited { limit ≤ MAX_LIMIT }
-    ensures ok { IfOk result (RanByThreads limit
+    ensures ok { IfOk result (λ kernel. RanByThreads limit
         (I.remaining source.old) (I.remaining source.new)
-        (O.written sink.old) (O.written sink.new)) }
+        (O.written sink.old) (O.written sink.new) (K.shown kernel)) }
     ensures fault { IfErr result (EndedByThreads limit
         (I.remaining source.old) (I.remaining source.new)
         (O.written sink.old) (O.written sink.new)) }
@@ -45,7 +45,7 @@ pub fn run_script_by_threads<R: Threads + Wait + Sync, I: Source, O: Sink>(
         → O.failures sink.new ≡ O.failures sink.old }
 {
     let script = script_in(heap, source)?;
-    let kernel = match run_threads(rt, heap, &script, limit) {
+    let kernel: K = match run_threads(rt, heap, &script, limit) {
         Ok(kernel) => kernel,
         Err(fault) => return Err(RunFault::of_work(fault)),
     };

@@ -4,7 +4,7 @@ use Rattle.std.specs.Prelude.{if◌then◌else◌}
 use Rattle.history.specs.Log.{Log}
 use Rattle.model.specs.Entries.{Op, Reply, Entry}
 use Rattle.model.specs.Legal.{mine}
-use Rattle.kernel.specs.Steps.{Added}
+use Rattle.machine.specs.Steps.{Added}
 use Rattle.history_laws.proofs.Laws.{before_is_an_order, own_entries_grow, own_entries_follow}
 use Rattle.turnstile.specs.Histories.{Begins, own}
 

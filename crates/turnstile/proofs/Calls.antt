@@ -3,9 +3,8 @@ use Rattle.std.proofs.Common.{◌≡◌, ℕ, suc, ◌+◌, arith, Bool, true, f
 use Rattle.atomic_table.specs.Table.{Me, rest}
 use Rattle.atomic_table.specs.Seated.{TableId}
 use Rattle.history.specs.Log.{Log}
-use Rattle.kernel.specs.declared.kernel.Kernel.{Kernel}
-use Rattle.kernel.specs.Shown.{Shown, moment}
-use Rattle.kernel.specs.Steps.{is_no_entry, has_place, Added, IsStep}
+use Rattle.machine.specs.Shown.{Shown, moment}
+use Rattle.machine.specs.Steps.{is_no_entry, has_place, Added, IsStep}
 use Rattle.model.specs.Calls.{Child}
 use Rattle.model.specs.Entries.{Op, Reply, Answers, Entry}
 use Rattle.model.specs.Legal.{Legal}
@@ -22,10 +21,11 @@ use Rattle.turnstile.specs.declared.rule.Role.{Role}
 use Rattle.turnstile.specs.declared.rule.Role.TheVariants.{Takes}
 use Rattle.turnstile.proofs.Beginnings.{before_self, before_trans, last, before_added, own_added, own_other}
 
-abbrev pub history : Kernel → Log
-history k = k.log
+-- the history of a kernel, by what contracts see of it
+abbrev pub history : {K : Type 0} → (K → Shown) → K → Log
+history shown k = (shown k).log
 
-pub same_seat : (p q : Place) → q.table_id ≡ p.table_id → q.id ≡ p.id → q.me ≡ p.me → q ≡ p
+pub same_seat : {K : Type 0} (p q : Place K) → q.table_id ≡ p.table_id → q.id ≡ p.id → q.me ≡ p.me → q ≡ p
 same_seat p q t i m = λ k. record { marker = q.marker; table_id = t k; id = i k; me = m k }
 
 -- a step is told by the histories alone
@@ -86,12 +86,12 @@ step_called z o old new op reply before same s = record {
     }
 
 -- what the pass of a seat has seen after the call
-pub called_pass : (p q r : Place) (log : Log) (op : Op) (reply : Reply) → HasTaken p log q → Stepped q op reply r
+pub called_pass : {K : Type 0} (p q r : Place K) (log : Log) (op : Op) (reply : Reply) → HasTaken p log q → Stepped q op reply r
     → IsSamePass (pass_view p.table_id (pass_of p.me.0)) (pass_view r.table_id (pass_of r.me.0)) × Called (pass_view p.table_id (pass_of p.me.0)) op reply (pass_view r.table_id (pass_of r.me.0))
-called_pass p q r log op reply taken stepped = let o : PassState = pass_of p.me.0 in let new : Log = stepped.log in
-    let taker : taker_of q.me.0 ≡ having_seen o log = ap (λ (m : Me (Option Kernel) Role). taker_of m.0) taken.me in
+called_pass {K = K} p q r log op reply taken stepped = let o : PassState = pass_of p.me.0 in let new : Log = stepped.log in
+    let taker : taker_of q.me.0 ≡ having_seen o log = ap (λ (m : Me (Option K) Role). taker_of m.0) taken.me in
     let step : IsStep (shown log) (shown new) o.pid op reply = subst (λ (x : PassState). IsStep (shown x.seen) (shown new) x.pid op reply) taker stepped.step in
-    let pass_is : pass_of r.me.0 ≡ having_seen o new = ap (λ (m : Me (Option Kernel) Role). pass_of m.0) stepped.me ∙ ap (λ (x : PassState). having_seen x new) taker in
+    let pass_is : pass_of r.me.0 ≡ having_seen o new = ap (λ (m : Me (Option K) Role). pass_of m.0) stepped.me ∙ ap (λ (x : PassState). having_seen x new) taker in
     let table : r.table_id ≡ p.table_id = stepped.same.0 ∙ taken.same.0 in
     let P : TableId × PassState → Type 0 = λ x. IsSamePass (pass_view p.table_id o) (pass_view x.0 x.1) × Called (pass_view p.table_id o) op reply (pass_view x.0 x.1) in
     subst P (λ i. (sym table i, sym pass_is i)) (
@@ -105,19 +105,19 @@ called_pass p q r log op reply taken stepped = let o : PassState = pass_of p.me.
     )
 
 -- the kernel that comes out of the slot
-pub takes_out : (p q r : Place) (x : Option Kernel) (k : Kernel) → q.table_id ≡ p.table_id → q.id ≡ p.id → q.me ≡ (Takes (having_seen (pass_of p.me.0) k.log), (0, Some k) ∷ []) → Learns (λ (k : Kernel). k.log) IsLegal (pass_of p.me.0) k.log
+pub takes_out : {K : Type 0} (shown : K → Shown) (p q r : Place K) (x : Option K) (k : K) → q.table_id ≡ p.table_id → q.id ≡ p.id → q.me ≡ (Takes (having_seen (pass_of p.me.0) (shown k).log), (0, Some k) ∷ []) → Learns IsLegal (pass_of p.me.0) (shown k).log
     → r.table_id ≡ q.table_id → r.id ≡ q.id → q.me.1 ≡ (0, x) ∷ rest q.me.1 → r.me ≡ (q.me.0, (0, None) ∷ rest q.me.1)
-    → IfSome x (λ k. HasTaken p k.log r) × IfNone x (r ≡ p)
-takes_out p q r x k t i is learns t' i' out me = let e : x ≡ Some k = ap head (sym out ∙ ap (λ (m : Me (Option Kernel) Role). m.1) is) in
-    subst (λ (x : Option Kernel). IfSome x (λ k. HasTaken p k.log r) × IfNone x (r ≡ p)) (sym e) (
+    → IfSome x (λ k. HasTaken p (shown k).log r) × IfNone x (r ≡ p)
+takes_out {K = K} shown p q r x k t i is learns t' i' out me = let e : x ≡ Some k = ap head (sym out ∙ ap (λ (m : Me (Option K) Role). m.1) is) in
+    subst (λ (x : Option K). IfSome x (λ k. HasTaken p (shown k).log r) × IfNone x (r ≡ p)) (sym e) (
       record {
         same = (t' ∙ t, i' ∙ i);
-        me = me ∙ ap (λ (m : Me (Option Kernel) Role). (m.0, (0, None) ∷ rest m.1)) is;
+        me = me ∙ ap (λ (m : Me (Option K) Role). (m.0, (0, None) ∷ rest m.1)) is;
         learns = learns;
       },
       tt,
     )
   where
-    head : List (ℕ × Option Kernel) → Option Kernel
+    head : List (ℕ × Option K) → Option K
     head [] = None
     head (y ∷ ys) = y.1

@@ -4,9 +4,8 @@ use Rattle.atomic_table.specs.Table.{Me}
 use Rattle.atomic_table.specs.Seated.{TableId}
 use Rattle.history.specs.Log.{Log}
 use Rattle.history_laws.specs.Processes.{child_in}
-use Rattle.kernel.specs.declared.kernel.Kernel.{Kernel}
-use Rattle.kernel.specs.Steps.{IsStep}
-use Rattle.kernel.specs.Shown.{Shown, Kept}
+use Rattle.machine.specs.Steps.{IsStep}
+use Rattle.machine.specs.Shown.{Shown, Kept}
 use Rattle.model.specs.State.{Kernel as State}
 use Rattle.model.specs.Calls.{Fork, Child, Done, Descriptor, Count, New_place, Bytes, Pair, Stated, Listing}
 use Rattle.model.specs.Entries.{Op, Do, Reply, Answers, Refuses, Begun, Committed, GivenUp, Aborted, Busy, InTransaction, NotInTransaction, HistoryFull, NoMemory, NoProcess}
@@ -19,15 +18,15 @@ use Rattle.turnstile.specs.declared.rule.Role.{Role}
 use Rattle.turnstile.specs.declared.rule.Role.TheVariants.{Process}
 use Rattle.turnstile.proofs.Calls.{child_is_next, made_moves, step_follows, step_shown}
 
-abbrev M : Type 0
-M = Me (Option Kernel) Role
+abbrev M : Type 0 → Type 0
+M K = Me (Option K) Role
 
 -- a seat with the role of a pass has that pass
-pub is_pass : (m : M) (o : PassState) → m ≡ (Process o, []) → m ≡ (Process (pass_of m.0), [])
-is_pass m o is = is ∙ sym (ap (λ (m : M). (Process (pass_of m.0), [])) is)
+pub is_pass : {K : Type 0} (m : M K) (o : PassState) → m ≡ (Process o, []) → m ≡ (Process (pass_of m.0), [])
+is_pass {K = K} m o is = is ∙ sym (ap (λ (m : M K). (Process (pass_of m.0), [])) is)
 
-pub pass_is : (m : M) (o : PassState) → m ≡ (Process o, []) → pass_of m.0 ≡ o
-pass_is m o is = ap (λ (m : M). pass_of m.0) is
+pub pass_is : {K : Type 0} (m : M K) (o : PassState) → m ≡ (Process o, []) → pass_of m.0 ≡ o
+pass_is {K = K} m o is = ap (λ (m : M K). pass_of m.0) is
 
 -- the reply that tells of a child
 pub told_child : (reply : Reply) (n : ℕ) → child_in reply ≡ Some n → reply ≡ Answers (Child n)
@@ -64,9 +63,9 @@ pub made_is : (k : Shown) → Kept k → made_of k.log ≡ k.state.made
 unfolding made_of
 made_is k kept = ap (λ (s : State). s.made) (sym kept.state)
 
-module _ (p q r : Place) (k k' : Log) (pid : ℕ) (op : Op) (reply : Reply) (taken : HasTaken p k q) (pid_is : pid ≡ (pass_of p.me.0).pid) (legal : IsLegal k') (step : IsStep (shown k) (shown k') pid op reply) where
+module _ {K : Type 0} (p q r : Place K) (k k' : Log) (pid : ℕ) (op : Op) (reply : Reply) (taken : HasTaken p k q) (pid_is : pid ≡ (pass_of p.me.0).pid) (legal : IsLegal k') (step : IsStep (shown k) (shown k') pid op reply) where
   taker_is : taker_of q.me.0 ≡ having_seen (pass_of p.me.0) k
-  taker_is = ap (λ (m : M). taker_of m.0) taken.me
+  taker_is = ap (λ (m : M K). taker_of m.0) taken.me
 
   follows : Follows (pass_of p.me.0).pid k k'
   follows = subst (λ n. Follows n k k') pid_is (step_follows k k' pid op reply taken.learns.lawful legal step)
@@ -84,7 +83,7 @@ module _ (p q r : Place) (k k' : Log) (pid : ℕ) (op : Op) (reply : Reply) (tak
   }
 
 -- what follows where a process was made
-module _ (p q : Place) (k k' : Log) (pid n : ℕ) (op : Op) (taken : HasTaken p k q) (pid_is : pid ≡ (pass_of p.me.0).pid) (legal : IsLegal k') (step : IsStep (shown k) (shown k') pid op (Answers (Child n))) where
+module _ {K : Type 0} (p q : Place K) (k k' : Log) (pid n : ℕ) (op : Op) (taken : HasTaken p k q) (pid_is : pid ≡ (pass_of p.me.0).pid) (legal : IsLegal k') (step : IsStep (shown k) (shown k') pid op (Answers (Child n))) where
   next : n ≡ suc (made_of k)
   next = child_is_next k k' pid op (Answers (Child n)) taken.learns.lawful legal step.entry n refl
 

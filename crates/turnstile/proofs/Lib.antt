@@ -5,3 +5,5 @@ pub mod Closing
 pub mod Meeting
 pub mod Living
 mod Forking
+pub mod Sent
+pub mod Full

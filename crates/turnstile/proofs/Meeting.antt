@@ -3,7 +3,6 @@ use Rattle.std.proofs.Common.{◌≡◌, Option, sym, ap, ◌∙◌, inl, inr}
 use Rattle.atomic_table.specs.Table.{Me}
 use Rattle.atomic_table.specs.Seated.{TableId}
 use Rattle.history.specs.Log.{Log}
-use Rattle.kernel.specs.declared.kernel.Kernel.{Kernel}
 use Rattle.turnstile.specs.Rule.{Compares, copied, informed, met}
 use Rattle.turnstile.specs.Passes.{pass_view, pass_of}
 use Rattle.turnstile.specs.Calls.{Met}
@@ -11,8 +10,8 @@ use Rattle.turnstile.specs.declared.rule.PassState.{PassState}
 use Rattle.turnstile.specs.declared.rule.Role.{Role}
 use Rattle.turnstile.specs.declared.rule.Role.TheVariants.{Process, Knows, Meets}
 
-abbrev M : Type 0
-M = Me (Option Kernel) Role
+abbrev M : Type 0 → Type 0
+M K = Me (Option K) Role
 
 pub meets : (z z' : TableId) (o o' : PassState) → Compares o o'.seen → Compares o' o.seen → Met (pass_view z o) (pass_view z' o')
 meets z z' o o' one two = elim one.1 [ inl before ↦ inl record { longer = before; own_kept = one.0 before } | inr before ↦ inr record { longer = before; own_kept = two.0 before } ]
@@ -24,5 +23,5 @@ pub informed_is : (v w : Role) → v ≡ Process (pass_of v) → w ≡ Process (
 informed_is v w is at = λ i. informed (is i) (copied (at i))
 
 -- the seat is as it was before it was told
-pub as_before : (m j l : M) (x : Role) (h : Log) → j ≡ (x, m.1) → x ≡ Meets (pass_of m.0) h → m.0 ≡ Process (pass_of m.0) → l ≡ (met j.0, j.1) → l ≡ m
-as_before m j l x h is at rest then = then ∙ (ap (λ (j : M). (met j.0, j.1)) is ∙ ((λ i. (met (at i), m.1)) ∙ (λ i. (sym rest i, m.1))))
+pub as_before : {K : Type 0} (m j l : M K) (x : Role) (h : Log) → j ≡ (x, m.1) → x ≡ Meets (pass_of m.0) h → m.0 ≡ Process (pass_of m.0) → l ≡ (met j.0, j.1) → l ≡ m
+as_before {K = K} m j l x h is at rest then = then ∙ (ap (λ (j : M K). (met j.0, j.1)) is ∙ ((λ i. (met (at i), m.1)) ∙ (λ i. (sym rest i, m.1))))

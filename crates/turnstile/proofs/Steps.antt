@@ -141,7 +141,7 @@ module _ {K : Type 0} (history : K → Log) (IsLawful : Log → Type 0) (key : L
         subst (λ b. MatchBool b (Got history IsLawful (Process o, []) (w, (0, Some k) ∷ [])) (◌≡◌ {A = M} (w, (0, Some k) ∷ []) (Process o, []))) (sym (eq-eqb (word s) 0 hit)) (
           k,
           (λ i. (Takes (having_seen o (sym home.2 i)), (0, Some k) ∷ [])),
-          subst (Learns history IsLawful o) (sym home.2) record {
+          subst (Learns IsLawful o) (sym home.2) record {
             lawful = r.lawful;
             before = f.has_seen;
             entries = f.entries;
@@ -350,7 +350,7 @@ module _ {K : Type 0} (history : K → Log) (IsLawful : Log → Type 0) (key : L
   compares_at slots id m o h is = subst (λ v. Allows Rule slots id (v, m.1) 0 (λ n. n) (compared (step slots 0 0 0 none) (v, m.1))) (sym is) (compares slots id o h m.1)
 
 module _ {K : Type 0} (history : K → Log) (IsLawful : Log → Type 0) (st : Step (Option K)) (m m' : Me (Option K) Role) (o : PassState) (is : m ≡ (Process o, [])) (n : ℕ) where
-  pub took_hit : n ≡ 0 → took history IsLawful st m n m' → (k : K) × (m' ≡ (Takes (having_seen o (history k)), (0, Some k) ∷ [])) × Learns history IsLawful o (history k)
+  pub took_hit : n ≡ 0 → took history IsLawful st m n m' → (k : K) × (m' ≡ (Takes (having_seen o (history k)), (0, Some k) ∷ [])) × Learns IsLawful o (history k)
   took_hit hit then = subst (λ (z : Me (Option K) Role). Got history IsLawful z m') is (subst (λ b. MatchBool b (Got history IsLawful m m') (m' ≡ m)) (eq-eqb n 0 hit) then)
 
   pub took_miss : n ≢ 0 → took history IsLawful st m n m' → m' ≡ m

@@ -6,7 +6,7 @@ use Rattle.model.specs.Calls.{Fork, Child}
 use Rattle.model.specs.Entries.{Op, Do, Reply, Answers, HistoryFull, Entry}
 use Rattle.model.specs.State.{Kernel as State}
 use Rattle.model.specs.Moments.{is_alive, all_below}
-use Rattle.kernel.specs.Steps.{is_no_entry, has_place, IsStep}
+use Rattle.machine.specs.Steps.{is_no_entry, has_place, IsStep}
 use Rattle.turnstile.specs.Histories.{IsLegal, Begins, own, shown}
 use Rattle.turnstile.specs.Passes.{Gate, PassView}
 

@@ -3,7 +3,7 @@ use Rattle.std.specs.Prelude.{◌≡◌, ℕ, List}
 use Rattle.history.specs.Log.{Log}
 use Rattle.model.specs.Entries.{Entry}
 use Rattle.model.specs.Legal.{Legal, IsBefore, mine}
-use Rattle.kernel.specs.Shown.{Shown, moment}
+use Rattle.machine.specs.Shown.{Shown, moment}
 
 -- the root is number 0
 pub record IsLegal (log : Log) : Type 0 where

@@ -4,8 +4,7 @@ use Rattle.std.specs.Prelude.{List, [], ◌∷◌, length, get_or}
 use Rattle.atomic_table.specs.Table.{Me}
 use Rattle.atomic_table.specs.declared.shared.Seat.{Seat}
 use Rattle.history.specs.Log.{Log}
-use Rattle.kernel.specs.declared.kernel.Kernel.{Kernel}
-use Rattle.kernel.specs.Steps.{IsStep}
+use Rattle.machine.specs.Steps.{IsStep}
 use Rattle.model.specs.Entries.{Op, Reply}
 use Rattle.model.specs.State.{Kernel as State}
 use Rattle.turnstile.specs.Histories.{IsLegal, made_of, shown}
@@ -16,25 +15,25 @@ use Rattle.turnstile.specs.declared.rule.PassState.{PassState}
 use Rattle.turnstile.specs.declared.rule.Role.{Role}
 use Rattle.turnstile.specs.declared.rule.Role.TheVariants.{Process, Takes, Closes}
 
-abbrev pub Place : Type 0
-Place = Seat (Option Kernel) Role
+abbrev pub Place : Type 0 → Type 0
+Place K = Seat (Option K) Role
 
 abbrev pub taker_of : Role → PassState
 taker_of (Takes o) = o
 taker_of _ = no_pass
 
-abbrev pub IsAtRest : Me (Option Kernel) Role → Type 0
+abbrev pub IsAtRest : {K : Type 0} → Me (Option K) Role → Type 0
 IsAtRest m = m ≡ (Process (pass_of m.0), [])
 
 -- it has the kernel in hand, and the slot is empty
-abbrev pub IsTaking : Me (Option Kernel) Role → Type 0
+abbrev pub IsTaking : {K : Type 0} → Me (Option K) Role → Type 0
 IsTaking m = m ≡ (Takes (taker_of m.0), (0, None) ∷ [])
 
 -- the pass of the process that was made last
 abbrev pub child_of : PassState → Log → PassState
 child_of o log = pass_state (made_of log) log o.start
 
-abbrev pub IsSameSeat : Place → Place → Type 0
+abbrev pub IsSameSeat : {K : Type 0} → Place K → Place K → Type 0
 IsSameSeat p q = (q.table_id ≡ p.table_id) × (q.id ≡ p.id)
 
 abbrev pub closer_of : Role → Log
@@ -42,17 +41,18 @@ closer_of (Closes h) = h
 closer_of _ = no_log
 
 -- it has the kernel for ever
-abbrev pub IsClosing : Me (Option Kernel) Role → Type 0
+abbrev pub IsClosing : {K : Type 0} → Me (Option K) Role → Type 0
 IsClosing m = m.0 ≡ Closes (closer_of m.0)
 
 -- the seat took the kernel, and has seen its history
-pub record HasTaken (p : Place) (log : Log) (q : Place) : Type 0 where
+pub record HasTaken {K : Type 0} (p : Place K) (log : Log) (q : Place K) : Type 0 where
   pub same : IsSameSeat p q
   pub me : q.me ≡ (Takes (having_seen (pass_of p.me.0) log), (0, None) ∷ [])
-  pub learns : Learns (λ (k : Kernel). k.log) IsLegal (pass_of p.me.0) log
+  pub learns : Learns IsLegal (pass_of p.me.0) log
 
 -- the seat gave the kernel back after a step of its process
-pub record Stepped (p : Place) (op : Op) (reply : Reply) (q : Place) : Type 0 where
+pub record Stepped {K : Type 0} (p : Place K) (op : Op) (reply : Reply) (q : Place K)
+    : Type 0 where
   pub log : Log
   pub same : IsSameSeat p q
   pub me : q.me ≡ (Process (having_seen (taker_of p.me.0) log), [])

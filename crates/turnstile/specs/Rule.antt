@@ -78,6 +78,14 @@ Fits key log word holder owner j (Closes h) = HasKernel log word holder j h
 Fits key log word holder owner j (Checks h o) = HasKernel log word holder j h
     × Begins o.seen h × (own o.pid h ≡ own o.pid o.seen)
 
+-- what a seat learns of the history that it finds
+pub record Learns (IsLawful : Log → Type 0) (o : PassState) (log : Log) : Type 0 where
+  pub lawful : IsLawful log
+  pub before : Begins o.seen log
+  pub entries : own o.pid log ≡ own o.pid o.seen
+  pub was_made : o.pid ≤ made_of log
+  pub not_made : (p : ℕ) → made_of log < p → own p log ≡ own p o.start
+
 module _ {K : Type 0} (history : K → Log) (IsLawful : Log → Type 0) where
   -- the kernel is in the slot
   abbrev pub IsHome : Log → List (maybe.Option (Option K)) → Type 0
@@ -97,17 +105,9 @@ module _ {K : Type 0} (history : K → Log) (IsLawful : Log → Type 0) where
     -- what the history has of a process that was not made it had at the start
     pub not_made : (p : ℕ) → made_of log < p → own p log ≡ own p key
 
-  -- what a seat learns of the history that it finds
-  pub record Learns (o : PassState) (log : Log) : Type 0 where
-    pub lawful : IsLawful log
-    pub before : Begins o.seen log
-    pub entries : own o.pid log ≡ own o.pid o.seen
-    pub was_made : o.pid ≤ made_of log
-    pub not_made : (p : ℕ) → made_of log < p → own p log ≡ own p o.start
-
   abbrev pub Got : Me (Option K) Role → Me (Option K) Role → Type 0
   Got (Process o, c) m' = (k : K)
-      × (m' ≡ (Takes (having_seen o (history k)), (0, Some k) ∷ c)) × Learns o (history k)
+      × (m' ≡ (Takes (having_seen o (history k)), (0, Some k) ∷ c)) × Learns IsLawful o (history k)
   Got m m' = Unit {0}
 
   abbrev pub took : Step (Option K) → Me (Option K) Role → ℕ → Me (Option K) Role → Type 0

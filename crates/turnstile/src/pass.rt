@@ -4,18 +4,18 @@ ghost use Rattle.std.specs.Prelude.{◌≡◌};
 use crate::rule::Role;
 use atomic_table::Seat;
 use ids::Pid;
-use kernel::Kernel;
+use machine::Machine;
 use std::marker::Model;
 
 /// The right to make the steps of one process at one turnstile. Contracts see the process, and what
 /// the pass has seen of the history.
 #[derive(Drop)]
-pub struct Pass {
+pub struct Pass<K: Machine> {
     pub(crate) pid: Pid,
-    pub(crate) seat: Seat<Option<Kernel>, Role>,
+    pub(crate) seat: Seat<Option<K>, Role>,
 }
 
-impl Model for Pass {
+impl<K: Machine> Model for Pass<K> {
     ghost use Rattle.std.specs.Prelude.{◌≡◌, []};
     ghost use Rattle.turnstile.specs.Histories.{IsLegal};
     ghost use Rattle.turnstile.specs.Passes.{PassView, pass_view, pass_of};
@@ -30,7 +30,7 @@ impl Model for Pass {
         × IsLegal (pass_of p.seat.me.0).seen };
 }
 
-impl Pass {
+impl<K: Machine> Pass<K> {
     /// The process whose steps it makes.
     pub fn pid(&self) -> Pid
         ensures { result ≡ self.now.pid }

@@ -1,7 +1,7 @@
 //! The table of one word and one slot, what its seats know, and what each step collects.
 use atomic_table::{Join, Play, Split, TableRule};
 use history::History;
-use kernel::Kernel;
+use machine::Machine;
 use std::snapshot::Snapshot;
 
 /// The state of a pass. No value of it is made.
@@ -40,12 +40,12 @@ pub enum Role {
 /// The rule of the table.
 pub struct OneLock;
 
-impl TableRule<Option<Kernel>, Role, Snapshot<History>> for OneLock {
+impl<K: Machine> TableRule<Option<K>, Role, Snapshot<History>> for OneLock {
     ghost use Rattle.turnstile.specs.Histories.{IsLegal};
     ghost use Rattle.turnstile.specs.Rule.{Kept};
     ghost use Rattle.turnstile.specs.declared.rule.Role.TheVariants.{Deals};
 
-    ghost holds = { λ key. Kept (λ k. k.log) IsLegal key.value };
+    ghost holds = { λ key. Kept (λ k. (K.shown k).log) IsLegal key.value };
 
     ghost first = { λ key. Deals 0 key.value };
 }
@@ -53,29 +53,29 @@ impl TableRule<Option<Kernel>, Role, Snapshot<History>> for OneLock {
 /// Takes the kernel where the word is free.
 pub struct Take;
 
-impl Play<Option<Kernel>, Role> for Take {
+impl<K: Machine> Play<Option<K>, Role> for Take {
     ghost use Rattle.turnstile.specs.Histories.{IsLegal};
     ghost use Rattle.turnstile.specs.Rule.{took};
 
-    ghost then = { took (λ k. k.log) IsLegal };
+    ghost then = { took (λ k. (K.shown k).log) IsLegal };
 }
 
 /// Gives the kernel back.
 pub struct Give;
 
-impl Play<Option<Kernel>, Role> for Give {
+impl<K: Machine> Play<Option<K>, Role> for Give {
     ghost use Rattle.turnstile.specs.Rule.{gave};
 
-    ghost then = { gave (λ k. k.log) };
+    ghost then = { gave (λ k. (K.shown k).log) };
 }
 
 /// Gives the kernel back, and keeps the number of the process that was made.
 pub struct GiveBorn;
 
-impl Play<Option<Kernel>, Role> for GiveBorn {
+impl<K: Machine> Play<Option<K>, Role> for GiveBorn {
     ghost use Rattle.turnstile.specs.Rule.{gave_born};
 
-    ghost then = { gave_born (λ k. k.log) };
+    ghost then = { gave_born (λ k. (K.shown k).log) };
 }
 
 /// Cuts off the seat of the process that was made.
@@ -92,17 +92,17 @@ impl Split<Role> for Born {
 /// Takes the kernel for ever.
 pub struct Close;
 
-impl Play<Option<Kernel>, Role> for Close {
+impl<K: Machine> Play<Option<K>, Role> for Close {
     ghost use Rattle.turnstile.specs.Histories.{IsLegal};
     ghost use Rattle.turnstile.specs.Rule.{closed};
 
-    ghost then = { closed (λ k. k.log) IsLegal };
+    ghost then = { closed (λ k. (K.shown k).log) IsLegal };
 }
 
 /// Tells that the closed history begins with what the collected pass had seen.
 pub struct Check;
 
-impl Play<Option<Kernel>, Role> for Check {
+impl<K: Machine> Play<Option<K>, Role> for Check {
     ghost use Rattle.turnstile.specs.Rule.{checked};
 
     ghost then = { checked };
@@ -157,7 +157,7 @@ impl Join<Role> for Inform {
 /// Compares what a pass has seen with what it was told.
 pub struct Compare;
 
-impl Play<Option<Kernel>, Role> for Compare {
+impl<K: Machine> Play<Option<K>, Role> for Compare {
     ghost use Rattle.turnstile.specs.Rule.{compared};
 
     ghost then = { compared };

@@ -1,25 +1,83 @@
 // What the calls answer while the kernel is taken. Only this crate can hold the kernel taken, so
-// the test stands here.
+// the test stands here, on a machine of its own.
 ghost use Rattle.std.specs.Prelude.{◌≡◌, All};
 
 use super::*;
 use heap::Heap;
-use ids::{Op, Priority};
-use kernel::Kernel;
+use history::History;
+use ids::{Op, Pid, Priority, Reply};
+use machine::Machine;
+use std::alloc::AllocError;
+use std::marker::Model;
 use std::test::*;
 
-fn kernel_of_two(heap: Heap) -> Result<Kernel, Fail> {
-    let zero = Priority::new(0).ok_or("no priority")?;
-    Ok(Kernel::new(heap, &[zero, zero], 200)?)
+// A machine whose history has no place: each operation finds it full.
+#[derive(Drop)]
+struct Full {
+    history: History,
 }
 
-// Whether there is nothing. What there is goes here, so that no other function has to drop it.
-fn is_none<T: Drop>(made: Option<T>) -> bool {
-    made.is_none()
+impl Model for Full {
+    ghost use Rattle.std.specs.Prelude.{◌≡◌, []};
+    ghost use Rattle.machine.specs.Shown.{Shown};
+    ghost use Rattle.model.specs.Moments.{start};
+
+    ghost Value = { Shown };
+
+    ghost view = { λ f. record { log = f.history; state = start 0 f.history.priorities } };
+
+    ghost invariant = { λ f. (f.history.entries ≡ []) × (f.history.limit ≡ 0) };
+}
+
+impl Machine for Full {
+    ghost shown = { λ f. f };
+
+    fn new(heap: Heap, priorities: &[Priority], limit: usize) -> Result<Full, AllocError> {
+        if limit > 0 {
+            return Err(AllocError);
+        }
+        let history = History::new(heap, priorities, 0)?;
+        Ok(Full { history })
+    }
+
+    fn history(&self) -> &History {
+        &self.history
+    }
+
+    #[tactic(auto, using(crate::proofs::Full::made))]
+    fn made(&self) -> usize {
+        self.history.priorities().len()
+    }
+
+    #[tactic(auto, using(crate::proofs::Full::nobody, crate::proofs::Full::living))]
+    fn is_living(&self, pid: Pid) -> bool {
+        let made = self.history.priorities().len();
+        if pid.0 == 0 {
+            return false;
+        }
+        pid.0 as usize <= made
+    }
+
+    fn step(&mut self, _pid: Pid, op: Op) -> Reply {
+        let _no_place = self.history.limit();
+        drop(op);
+        Reply::HistoryFull
+    }
+
+    fn run(&mut self, ops: Vec<(Pid, Op), Heap>) -> Result<Vec<Reply, Heap>, AllocError> {
+        let _no_place = self.history.limit();
+        drop(ops);
+        Err(AllocError)
+    }
+}
+
+fn machine_of_two(heap: Heap) -> Result<Full, Fail> {
+    let zero = Priority::new(0).ok_or("no priority")?;
+    Ok(Full::new(heap, &[zero, zero], 0)?)
 }
 
 // Takes the kernel by the last of the passes, which goes.
-fn taken(turnstile: &Turnstile, passes: &mut Vec<Pass, Heap>) -> Option<Kernel>
+fn taken<K: Machine>(turnstile: &Turnstile<K>, passes: &mut Vec<Pass<K>, Heap>) -> Option<K>
     requires { All (λ p. p.gate ≡ turnstile.now) passes.old.items }
     ensures { All (λ p. p.gate ≡ turnstile.now) passes.new.items }
 {
@@ -28,31 +86,34 @@ fn taken(turnstile: &Turnstile, passes: &mut Vec<Pass, Heap>) -> Option<Kernel>
 }
 
 // Whether a call by the last of the passes, which goes, is refused.
-fn is_call_refused(turnstile: &Turnstile, passes: &mut Vec<Pass, Heap>) -> bool
+fn is_call_refused<K: Machine>(turnstile: &Turnstile<K>, passes: &mut Vec<Pass<K>, Heap>) -> bool
     requires { All (λ p. p.gate ≡ turnstile.now) passes.old.items }
     ensures { All (λ p. p.gate ≡ turnstile.now) passes.new.items }
 {
     match passes.pop() {
-        Some(mut pass) => is_none(turnstile.try_call(&mut pass, Op::End)),
+        Some(mut pass) => turnstile.try_call(&mut pass, Op::End).is_none(),
         None => false,
     }
 }
 
 // Whether the kernel cannot be taken, and then whether `try_call` and `close` say that it is taken.
-fn told_while_taken(turnstile: Turnstile, mut passes: Vec<Pass, Heap>) -> [bool; 3]
+fn told_while_taken<K: Machine>(
+    turnstile: Turnstile<K>,
+    mut passes: Vec<Pass<K>, Heap>,
+) -> [bool; 3]
     requires { All (λ p. p.gate ≡ turnstile) passes.items }
 {
     let held = taken(&turnstile, &mut passes);
     let called = is_call_refused(&turnstile, &mut passes);
-    let closed = is_none(turnstile.close(passes));
-    [is_none(held), called, closed]
+    let closed = turnstile.close(passes).is_none();
+    [held.is_none(), called, closed]
 }
 
 #[test]
 fn a_taken_kernel(rt: HostRuntime) -> Result<(), Fail> {
     let heap = heap::open(rt.alloc())?;
-    let kernel = kernel_of_two(heap)?;
-    let (turnstile, passes) = Turnstile::new(heap, kernel).ok().ok_or("no memory")?;
+    let machine = machine_of_two(heap)?;
+    let (turnstile, passes) = Turnstile::new(heap, machine).ok().ok_or("no memory")?;
     assert_eq!(rt; told_while_taken(turnstile, passes), [false, true, true]);
     Ok(())
 }

@@ -23,7 +23,7 @@ use atomic_table::{Refused, Seat, Table};
 use heap::Heap;
 use history::History;
 use ids::{Answer, Call, Op, Pid, Reply};
-use kernel::Kernel;
+use machine::Machine;
 use std::alloc::AllocError;
 use std::hint::spin_loop;
 use std::marker::Model;
@@ -41,18 +41,18 @@ const AWAITED: u64 = 2;
 // as some of these looks.
 const LOOKS: u32 = 100;
 
-type Place = Seat<Option<Kernel>, Role>;
+type Place<K> = Seat<Option<K>, Role>;
 
-type Lock = Table<Option<Kernel>, Role, Snapshot<History>, OneLock, Heap>;
+type Lock<K> = Table<Option<K>, Role, Snapshot<History>, OneLock, Heap>;
 
 /// The one lock around a kernel. Threads share it by reference, each with passes of its own.
 /// Contracts see which one it is, and the history with which it was made.
 #[derive(Drop)]
-pub struct Turnstile {
-    table: Lock,
+pub struct Turnstile<K: Machine> {
+    table: Lock<K>,
 }
 
-impl Model for Turnstile {
+impl<K: Machine> Model for Turnstile<K> {
     ghost use Rattle.std.specs.Prelude.{◌≡◌};
     ghost use Rattle.turnstile.specs.Passes.{Gate, gate_of};
 
@@ -65,8 +65,8 @@ impl Model for Turnstile {
 }
 
 // Whether this is the number of a living process.
-fn lives(kernel: &Kernel, number: usize) -> bool
-    ensures { result ≡ has_pass kernel.now.state number }
+fn lives<K: Machine>(kernel: &K, number: usize) -> bool
+    ensures { result ≡ has_pass (K.shown kernel.now).state number }
 {
     match u32::try_from(number) {
         Ok(number) => kernel.is_living(Pid(number)),
@@ -75,8 +75,8 @@ fn lives(kernel: &Kernel, number: usize) -> bool
 }
 
 // Of each number up to that of the process made last, whether it is that of a living process.
-fn living(heap: Heap, kernel: &Kernel) -> Result<Vec<bool, Heap>, AllocError>
-    ensures { IfOk result (λ l. Lives kernel.now.state l.items) }
+fn living<K: Machine>(heap: Heap, kernel: &K) -> Result<Vec<bool, Heap>, AllocError>
+    ensures { IfOk result (λ l. Lives (K.shown kernel.now).state l.items) }
 {
     let mut living = Vec::new(heap);
     for number in 0..=kernel.made() {
@@ -86,12 +86,12 @@ fn living(heap: Heap, kernel: &Kernel) -> Result<Vec<bool, Heap>, AllocError>
 }
 
 // A pass for each number that is marked. There is room for them.
-fn deal(
-    lock: &Lock,
-    mut dealer: Place,
-    mut passes: Vec<Pass, Heap>,
+fn deal<K: Machine>(
+    lock: &Lock<K>,
+    mut dealer: Place<K>,
+    mut passes: Vec<Pass<K>, Heap>,
     living: &[bool],
-) -> Vec<Pass, Heap>
+) -> Vec<Pass<K>, Heap>
     requires lock { (lock.now.shared.table_id.words ≡ 1) × IsLegal lock.now.shared.key.value }
     requires dealer { (dealer.table_id ≡ lock.now.shared.table_id)
         × (dealer.me ≡ (Deals 0 lock.now.shared.key.value, [])) }
@@ -116,7 +116,7 @@ fn deal(
 
 // Shows that the history of the seat, which has the kernel for ever, begins with what each of the
 // passes had seen. It is for contracts alone: the word that it loads is not used.
-fn check_passes(lock: &Lock, seat: &mut Place, mut passes: Vec<Pass, Heap>)
+fn check_passes<K: Machine>(lock: &Lock<K>, seat: &mut Place<K>, mut passes: Vec<Pass<K>, Heap>)
     requires lock { lock.now.shared.table_id.words ≡ 1 }
     requires seat { (seat.old.table_id ≡ lock.now.shared.table_id) × IsClosing seat.old.me }
     requires passes { All
@@ -136,14 +136,14 @@ fn check_passes(lock: &Lock, seat: &mut Place, mut passes: Vec<Pass, Heap>)
 
 // What a turnstile needs before its kernel is given away.
 #[derive(Drop)]
-struct Room {
+struct Room<K: Machine> {
     living: Vec<bool, Heap>,
-    passes: Vec<Pass, Heap>,
-    slots: Vec<Option<Kernel>, Heap>,
+    passes: Vec<Pass<K>, Heap>,
+    slots: Vec<Option<K>, Heap>,
 }
 
-fn make_room(heap: Heap, kernel: &Kernel) -> Result<Room, AllocError>
-    ensures living { IfOk result (λ r. Lives kernel.now.state r.living.items) }
+fn make_room<K: Machine>(heap: Heap, kernel: &K) -> Result<Room<K>, AllocError>
+    ensures living { IfOk result (λ r. Lives (K.shown kernel.now).state r.living.items) }
     ensures passes { IfOk result (λ r. (r.passes.items ≡ [])
         × (vec_capacity r.passes ≡ length r.living.items)) }
     ensures slots { IfOk result (λ r. (r.slots.items ≡ []) × (vec_capacity r.slots ≡ 1)) }
@@ -160,15 +160,15 @@ fn make_room(heap: Heap, kernel: &Kernel) -> Result<Room, AllocError>
 
 // The table of a kernel, and the seat that deals its passes. Refused memory gives the same kernel
 // back.
-fn table_of(
+fn table_of<K: Machine>(
     heap: Heap,
-    kernel: Kernel,
-    mut slots: Vec<Option<Kernel>, Heap>,
-) -> Result<(Lock, Place), Kernel>
+    kernel: K,
+    mut slots: Vec<Option<K>, Heap>,
+) -> Result<(Lock<K>, Place<K>), K>
     requires { (slots.items ≡ []) × (vec_capacity slots ≡ 1) }
-    ensures start { IfOk result (λ t. (t.0.shared.key.value ≡ kernel.log)
+    ensures start { IfOk result (λ t. (t.0.shared.key.value ≡ (K.shown kernel).log)
         × IsLegal t.0.shared.key.value) }
-    ensures made { IfOk result (λ t. made_of t.0.shared.key.value ≡ kernel.state.made) }
+    ensures made { IfOk result (λ t. made_of t.0.shared.key.value ≡ (K.shown kernel).state.made) }
     ensures table { IfOk result (λ t. (t.0.shared.table_id.words ≡ 1)
         × (t.0.shared.table_id.slots ≡ 1)) }
     ensures dealer { IfOk result (λ t. (t.1.table_id ≡ t.0.shared.table_id)
@@ -196,12 +196,12 @@ fn child_in(reply: &Reply) -> Option<Pid>
     }
 }
 
-impl Turnstile {
+impl<K: Machine> Turnstile<K> {
     /// A pass for each living process, rising; each has seen the kernel's history. Refused memory
     /// gives the same kernel back.
-    pub fn new(heap: Heap, kernel: Kernel) -> Result<(Turnstile, Vec<Pass, Heap>), Kernel>
-        ensures start { IfOk result (λ t. (t.0.start ≡ kernel.log) × IsLegal t.0.start) }
-        ensures passes { IfOk result (λ t. t.1.items ≡ first_passes t.0 kernel.state) }
+    pub fn new(heap: Heap, kernel: K) -> Result<(Turnstile<K>, Vec<Pass<K>, Heap>), K>
+        ensures start { IfOk result (λ t. (t.0.start ≡ (K.shown kernel).log) × IsLegal t.0.start) }
+        ensures passes { IfOk result (λ t. t.1.items ≡ first_passes t.0 (K.shown kernel).state) }
         ensures gates { IfOk result (λ t. All (λ p. p.gate ≡ t.0) t.1.items) }
         ensures err { IfErr result (λ k. k ≡ kernel) }
     {
@@ -222,10 +222,11 @@ impl Turnstile {
     /// passes had seen, and has just that pass's own entries of its process. `None` stands where
     /// the kernel was taken and not given back, as by a thread that ended in the midst of a call;
     /// when it comes no clause says.
-    pub fn close(self, passes: Vec<Pass, Heap>) -> Option<Kernel>
+    pub fn close(self, passes: Vec<Pass<K>, Heap>) -> Option<K>
         requires { All (λ p. p.gate ≡ self) passes.items }
-        ensures legal { IfSome result (λ kernel. IsLegal kernel.log) }
-        ensures passes { IfSome result (λ kernel. All (KeepsPass kernel.log) passes.entry.items) }
+        ensures legal { IfSome result (λ kernel. IsLegal (K.shown kernel).log) }
+        ensures passes { IfSome result (λ kernel.
+            All (KeepsPass (K.shown kernel).log) passes.entry.items) }
     {
         let Turnstile { table } = self;
         let (found, mut seat) = table.shared.swap_new_seat::<Close>(0, TAKEN);
@@ -237,9 +238,9 @@ impl Turnstile {
     }
 
     // The kernel, where it is free.
-    pub(crate) fn take(&self, seat: &mut Place) -> Option<Kernel>
+    pub(crate) fn take(&self, seat: &mut Place<K>) -> Option<K>
         requires { (seat.old.table_id ≡ self.now.table) × IsAtRest seat.old.me }
-        ensures some { IfSome result (λ k. HasTaken seat.old k.log seat.new) }
+        ensures some { IfSome result (λ k. HasTaken seat.old (K.shown k).log seat.new) }
         ensures none { IfNone result (seat.new ≡ seat.old) }
     {
         let shared = &self.table.shared;
@@ -250,9 +251,9 @@ impl Turnstile {
     }
 
     // The kernel, where it is free at one of some looks.
-    fn look_and_take(&self, seat: &mut Place) -> Option<Kernel>
+    fn look_and_take(&self, seat: &mut Place<K>) -> Option<K>
         requires { (seat.old.table_id ≡ self.now.table) × IsAtRest seat.old.me }
-        ensures some { IfSome result (λ k. HasTaken seat.old k.log seat.new) }
+        ensures some { IfSome result (λ k. HasTaken seat.old (K.shown k).log seat.new) }
         ensures none { IfNone result (seat.new ≡ seat.old) }
     {
         for _ in 0..LOOKS {
@@ -267,9 +268,9 @@ impl Turnstile {
     }
 
     // The kernel, where it is free. Where it is not, who gives it back wakes a thread that sleeps.
-    fn await_and_take(&self, seat: &mut Place) -> Option<Kernel>
+    fn await_and_take(&self, seat: &mut Place<K>) -> Option<K>
         requires { (seat.old.table_id ≡ self.now.table) × IsAtRest seat.old.me }
-        ensures some { IfSome result (λ k. HasTaken seat.old k.log seat.new) }
+        ensures some { IfSome result (λ k. HasTaken seat.old (K.shown k).log seat.new) }
         ensures none { IfNone result (seat.new ≡ seat.old) }
     {
         let shared = &self.table.shared;
@@ -280,9 +281,9 @@ impl Turnstile {
     }
 
     // The kernel, once it is free. The thread looks for it for a while, and then sleeps.
-    fn wait_and_take<R: Wait>(&self, rt: &R, seat: &mut Place) -> Kernel
+    fn wait_and_take<R: Wait>(&self, rt: &R, seat: &mut Place<K>) -> K
         requires { (seat.old.table_id ≡ self.now.table) × IsAtRest seat.old.me }
-        ensures { HasTaken seat.old result.log seat.new }
+        ensures { HasTaken seat.old (K.shown result).log seat.new }
     {
         if let Some(kernel) = self.look_and_take(seat) {
             return kernel;
@@ -297,12 +298,12 @@ impl Turnstile {
     }
 
     // Gives the kernel back after one step of the seat's process.
-    fn give(&self, seat: &mut Place, kernel: Kernel)
+    fn give(&self, seat: &mut Place<K>, kernel: K)
         requires seat { (seat.old.table_id ≡ self.now.table) × IsTaking seat.old.me }
-        requires kernel { IsLegal kernel.log
-            × Follows (taker_of seat.old.me.0).pid (taker_of seat.old.me.0).seen kernel.log }
+        requires kernel { IsLegal (K.shown kernel).log
+            × Follows (taker_of seat.old.me.0).pid (taker_of seat.old.me.0).seen (K.shown kernel).log }
         ensures { IsSameSeat seat.old seat.new
-            × (seat.new.me ≡ (Process (having_seen (taker_of seat.old.me.0) kernel.log), [])) }
+            × (seat.new.me ≡ (Process (having_seen (taker_of seat.old.me.0) (K.shown kernel).log), [])) }
     {
         let shared = &self.table.shared;
         // The slot had none.
@@ -313,11 +314,11 @@ impl Turnstile {
     }
 
     // One step of the process whose seat has the kernel.
-    fn step(&self, seat: &mut Place, pid: Pid, mut kernel: Kernel, op: Op) -> Reply
+    fn step(&self, seat: &mut Place<K>, pid: Pid, mut kernel: K, op: Op) -> Reply
         requires seat { (seat.old.table_id ≡ self.now.table) × IsTaking seat.old.me }
-        requires kernel { ((taker_of seat.old.me.0).seen ≡ kernel.log)
+        requires kernel { ((taker_of seat.old.me.0).seen ≡ (K.shown kernel).log)
             × ((taker_of seat.old.me.0).pid ≡ pid) }
-        requires legal { IsLegal kernel.log }
+        requires legal { IsLegal (K.shown kernel).log }
         ensures { Stepped seat.old op result seat.new }
     {
         let reply = kernel.step(pid, op);
@@ -327,7 +328,7 @@ impl Turnstile {
 
     /// One operation of the pass's process, where the kernel is free. It waits for nobody: `None`
     /// stands where the kernel was taken, and then nothing has changed.
-    pub fn try_call(&self, pass: &mut Pass, op: Op) -> Option<Reply>
+    pub fn try_call(&self, pass: &mut Pass<K>, op: Op) -> Option<Reply>
         requires { pass.old.gate ≡ self.now }
         ensures same { IsSamePass pass.old pass.new }
         ensures some { IfSome result (λ reply. Called pass.old op reply pass.new) }
@@ -343,7 +344,7 @@ impl Turnstile {
     }
 
     /// One operation of the pass's process. It may wait for other threads.
-    pub fn call<R: Wait>(&self, rt: &R, pass: &mut Pass, op: Op) -> Reply
+    pub fn call<R: Wait>(&self, rt: &R, pass: &mut Pass<K>, op: Op) -> Reply
         requires { pass.old.gate ≡ self.now }
         ensures same { IsSamePass pass.old pass.new }
         ensures called { Called pass.old op result pass.new }
@@ -353,15 +354,15 @@ impl Turnstile {
     }
 
     // Gives the kernel back after a step that made a process, and cuts off the seat of that process.
-    fn bear(&self, seat: &mut Place, kernel: Kernel) -> Place
+    fn bear(&self, seat: &mut Place<K>, kernel: K) -> Place<K>
         requires seat { (seat.old.table_id ≡ self.now.table) × IsTaking seat.old.me }
-        requires kernel { IsLegal kernel.log
-            × Follows (taker_of seat.old.me.0).pid (taker_of seat.old.me.0).seen kernel.log
-            × (made_of (taker_of seat.old.me.0).seen < made_of kernel.log) }
+        requires kernel { IsLegal (K.shown kernel).log
+            × Follows (taker_of seat.old.me.0).pid (taker_of seat.old.me.0).seen (K.shown kernel).log
+            × (made_of (taker_of seat.old.me.0).seen < made_of (K.shown kernel).log) }
         ensures seat { IsSameSeat seat.old seat.new
-            × (seat.new.me ≡ (Process (having_seen (taker_of seat.old.me.0) kernel.log), [])) }
+            × (seat.new.me ≡ (Process (having_seen (taker_of seat.old.me.0) (K.shown kernel).log), [])) }
         ensures child { (result.table_id ≡ seat.old.table_id)
-            × (result.me ≡ (Process (child_of (taker_of seat.old.me.0) kernel.log), [])) }
+            × (result.me ≡ (Process (child_of (taker_of seat.old.me.0) (K.shown kernel).log), [])) }
     {
         let shared = &self.table.shared;
         // The slot had none.
@@ -375,7 +376,7 @@ impl Turnstile {
     /// A fork by the pass's process. It gives the child's number and a pass for it, which has seen
     /// as much as the caller's then; all that the child needs is made before the step. `Err` has
     /// the reply where no child was made. It may wait for other threads.
-    pub fn fork<R: Wait>(&self, rt: &R, pass: &mut Pass) -> Result<(Pid, Pass), Reply>
+    pub fn fork<R: Wait>(&self, rt: &R, pass: &mut Pass<K>) -> Result<(Pid, Pass<K>), Reply>
         requires { pass.old.gate ≡ self.now }
         ensures same { IsSamePass pass.old pass.new }
         ensures ok { IfOk result (λ c. Forked pass.old c.0 pass.new c.1) }
@@ -398,7 +399,7 @@ impl Turnstile {
     }
 
     // Tells the first seat what the second has seen, and compares.
-    fn compare(&self, seat: &mut Place, other: &mut Place)
+    fn compare(&self, seat: &mut Place<K>, other: &mut Place<K>)
         requires seat { (seat.old.table_id ≡ self.now.table) × IsAtRest seat.old.me }
         requires other { (other.old.table_id ≡ self.now.table) × IsAtRest other.old.me }
         ensures same { (seat.new ≡ seat.old) × (other.new ≡ other.old) }
@@ -412,7 +413,7 @@ impl Turnstile {
 
     /// What one of the two passes has seen begins what the other has seen. Both stay as they are,
     /// and it waits for nobody.
-    pub fn meet(&self, first: &mut Pass, second: &mut Pass)
+    pub fn meet(&self, first: &mut Pass<K>, second: &mut Pass<K>)
         requires { (first.old.gate ≡ self.now) × (second.old.gate ≡ self.now) }
         ensures same { (first.new ≡ first.old) × (second.new ≡ second.old) }
         ensures legal { IsLegal first.new.seen × IsLegal second.new.seen }

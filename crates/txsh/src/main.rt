@@ -6,6 +6,7 @@ ghost use Rattle.std.specs.Prelude.{◌≤◌, IfOk};
 
 use device::Counted;
 use heap::Heap;
+use kernel::Kernel;
 use runner::{RunFault, read_words, report_command_line, report_fault, run_job};
 use std::alloc::Global;
 use std::fs::File;
@@ -36,7 +37,7 @@ fn status<R: Threads + Wait + Sync>(rt: &HostRuntime, threads: &R) -> u8 {
         return RunFault::Read.status();
     };
     let mut source = Counted::new(file);
-    run_job(threads, heap, &job, &mut source, &mut out, &mut err)
+    run_job::<Kernel, _, _, _, _>(threads, heap, &job, &mut source, &mut out, &mut err)
 }
 
 /// The job that the command line gives.

@@ -3,6 +3,7 @@ use crate::row::{do_script, kernel_of};
 use heap::Heap;
 use ids::{Answer, Call, Entry, Errno, Op, Pid, Priority, Reply};
 use kernel::Kernel;
+use machine::Machine;
 use std::test::Fail;
 
 // A script, a schedule of it, and how many bytes each step moves. `AGAIN` stands where it is to be
@@ -117,8 +118,8 @@ fn have_moved(entries: &[Entry], counts: &[usize]) -> bool {
     true
 }
 
-fn is_moved(heap: Heap, row: &Moved) -> Result<bool, Fail> {
-    let mut kernel = kernel_of(heap, row.script, 100)?;
+fn is_moved<K: Machine>(heap: Heap, row: &Moved) -> Result<bool, Fail> {
+    let mut kernel: K = kernel_of(heap, row.script, 100)?;
     do_script(&mut kernel, heap, row.script, row.schedule)?;
     Ok(have_moved(kernel.history().entries(), row.counts))
 }
@@ -127,24 +128,34 @@ fn is_moved(heap: Heap, row: &Moved) -> Result<bool, Fail> {
 fn pipes_have_4096_bytes(rt: HostRuntime) -> Result<(), Fail> {
     let heap = heap::open(rt.alloc())?;
     for row in &MOVED {
-        assert!(rt; is_moved(heap, row)?, "{}", row.script);
+        assert!(rt; is_moved::<Kernel>(heap, row)?, "{}", row.script);
     }
     Ok(())
 }
 
 // A kernel of 4,000 processes.
-fn kernel_of_many(heap: Heap) -> Result<Kernel, Fail> {
+fn kernel_of_many<K: Machine>(heap: Heap) -> Result<K, Fail> {
     let zero = Priority::new(0).ok_or("no priority")?;
     let priorities = Vec::from_elem(heap, zero, 4000)?;
-    Ok(Kernel::new(heap, priorities.as_slice(), 200)?)
+    Ok(K::new(heap, priorities.as_slice(), 200)?)
+}
+
+fn is_child(reply: &Reply) -> bool {
+    matches!(reply, Reply::Answer(Answer::Child(_)))
+}
+
+fn is_again(reply: &Reply) -> bool {
+    matches!(reply, Reply::Errno(Errno::EAGAIN))
 }
 
 // How many children a process makes until it is refused one, and what it is told then.
-fn children_of(kernel: &mut Kernel, pid: Pid) -> (usize, bool) {
+fn children_of<K: Machine>(kernel: &mut K, pid: Pid) -> (usize, bool) {
     for made in 0..100usize {
-        match kernel.step(pid, Op::Call(Call::Fork)) {
-            Reply::Answer(Answer::Child(_)) => {}
-            reply => return (made, matches!(reply, Reply::Errno(Errno::EAGAIN))),
+        let reply = kernel.step(pid, Op::Call(Call::Fork));
+        let (child, again) = (is_child(&reply), is_again(&reply));
+        drop(reply);
+        if !child {
+            return (made, again);
         }
     }
     (100, false)
@@ -152,16 +163,16 @@ fn children_of(kernel: &mut Kernel, pid: Pid) -> (usize, bool) {
 
 // The children of the first process, and those of the last when another has ended: a process that
 // has ended counts as made.
-fn all_children(heap: Heap) -> Result<[(usize, bool); 2], Fail> {
-    let mut kernel = kernel_of_many(heap)?;
+fn all_children<K: Machine>(heap: Heap) -> Result<[(usize, bool); 2], Fail> {
+    let mut kernel: K = kernel_of_many(heap)?;
     let first = children_of(&mut kernel, Pid(1));
-    let _ = kernel.step(Pid(4000), Op::Call(Call::Exit));
+    drop(kernel.step(Pid(4000), Op::Call(Call::Exit)));
     Ok([first, children_of(&mut kernel, Pid(4096))])
 }
 
 #[test]
 fn processes_are_4096_at_most(rt: HostRuntime) -> Result<(), Fail> {
     let heap = heap::open(rt.alloc())?;
-    assert!(rt; all_children(heap)? == [(96, true), (0, true)]);
+    assert!(rt; all_children::<Kernel>(heap)? == [(96, true), (0, true)]);
     Ok(())
 }

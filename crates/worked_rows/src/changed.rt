@@ -1,20 +1,14 @@
 // Histories of rows in which one reply is changed. The check tells where the call counts.
-use crate::files::FILES;
-use crate::freed::FREED;
-use crate::links::LINKS;
-use crate::pipes::{HALVES, PIPES};
-use crate::processes::{ENDED, PROCESSES};
-use crate::renames::RENAMES;
 use crate::row::{Row, do_script, kernel_of};
-use crate::shared::SHARED;
-use crate::transactions::TRANSACTIONS;
-use crate::trees::TREES;
+use crate::rows::all_rows;
 use heap::Heap;
 use history::History;
 use ids::{Answer, Entry, Errno, Pid, Reply};
 use kernel::Kernel;
+use machine::Machine;
 use replay::{CheckFault, check};
 use std::alloc::AllocError;
+use std::mem;
 use std::test::Fail;
 
 // Whether a call was executed. A fork in a transaction is not.
@@ -37,16 +31,23 @@ fn other_than(reply: &Reply) -> Reply {
 fn copy_of(entry: &Entry, changed: bool) -> Result<Entry, AllocError> {
     let mut copy = entry.try_clone()?;
     if changed {
-        copy.reply = other_than(&entry.reply);
+        drop(mem::replace(&mut copy.reply, other_than(&entry.reply)));
     }
     Ok(copy)
 }
 
 fn add(history: &mut History, entry: &Entry, changed: bool) -> Result<(), Fail> {
-    match history.push(copy_of(entry, changed)?) {
-        Ok(()) => Ok(()),
-        Err(_) => Err(Fail::from("the copy has no place")),
+    let copy = copy_of(entry, changed)?;
+    if is_done(history.push(copy)) {
+        Ok(())
+    } else {
+        Err(Fail::from("the copy has no place"))
     }
+}
+
+// Whether a thing was done. What comes back otherwise goes here.
+fn is_done<T: Drop>(done: Result<(), T>) -> bool {
+    done.is_ok()
 }
 
 // Adds entries, of which the one at this place has another reply.
@@ -61,8 +62,11 @@ fn add_all(history: &mut History, entries: &[Entry], changed: usize) -> Result<(
 fn check_changed(heap: Heap, history: &History, at: usize) -> Result<Result<(), CheckFault>, Fail> {
     let entries = history.entries();
     let mut copy = History::new(heap, history.priorities(), entries.len())?;
-    add_all(&mut copy, entries, at)?;
-    Ok(check(heap, &copy))
+    let added = add_all(&mut copy, entries, at);
+    let told = check(heap, &copy);
+    drop(copy);
+    added?;
+    Ok(told)
 }
 
 // Whether a process is in a transaction after these entries.
@@ -121,38 +125,35 @@ fn first_missed(heap: Heap, history: &History) -> Result<Option<usize>, Fail> {
 }
 
 // Does the row's steps, and tells that place.
-fn missed_on(kernel: &mut Kernel, heap: Heap, row: &Row) -> Result<Option<usize>, Fail> {
+fn missed_on<K: Machine>(kernel: &mut K, heap: Heap, row: &Row) -> Result<Option<usize>, Fail> {
     do_script(kernel, heap, row.script, row.schedule)?;
     first_missed(heap, kernel.history())
 }
 
-fn missed_in(heap: Heap, row: &Row) -> Result<Option<usize>, Fail> {
-    let mut kernel = kernel_of(heap, row.script, row.limit)?;
+fn missed_in<K: Machine>(heap: Heap, row: &Row) -> Result<Option<usize>, Fail> {
+    let mut kernel: K = kernel_of(heap, row.script, row.limit)?;
     missed_on(&mut kernel, heap, row)
 }
 
 // The script of the first of these rows in which a changed reply is missed.
-fn all_found(heap: Heap, rows: &[Row]) -> Result<(), Fail> {
+fn all_found<K: Machine>(heap: Heap, rows: &[Row]) -> Result<(), Fail> {
     for row in rows {
-        if missed_in(heap, row)?.is_some() {
+        if missed_in::<K>(heap, row)?.is_some() {
             return Err(Fail::from(row.script));
         }
     }
     Ok(())
 }
 
+// Every row.
+fn each_found<K: Machine>(heap: Heap) -> Result<(), Fail> {
+    for rows in all_rows() {
+        all_found::<K>(heap, rows)?;
+    }
+    Ok(())
+}
+
 #[test]
 fn changed_replies_are_found(rt: HostRuntime) -> Result<(), Fail> {
-    let heap = heap::open(rt.alloc())?;
-    all_found(heap, &TRANSACTIONS)?;
-    all_found(heap, &TREES)?;
-    all_found(heap, &FILES)?;
-    all_found(heap, &LINKS)?;
-    all_found(heap, &FREED)?;
-    all_found(heap, &RENAMES)?;
-    all_found(heap, &SHARED)?;
-    all_found(heap, &PIPES)?;
-    all_found(heap, &HALVES)?;
-    all_found(heap, &PROCESSES)?;
-    all_found(heap, &ENDED)
+    each_found::<Kernel>(heap::open(rt.alloc())?)
 }

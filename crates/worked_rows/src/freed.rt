@@ -3,6 +3,7 @@ use crate::processes::ENDED;
 use crate::row::{Row, do_script, kernel_of, number_at};
 use heap::Heap;
 use kernel::Kernel;
+use machine::Machine;
 use std::test::Fail;
 
 // At the end of each nothing is left but the root, and no process is in a transaction.
@@ -387,7 +388,7 @@ static EIGHT: &str = "priorities 0
 static PATHS: [&str; 8] = ["/1", "/2", "/3", "/4", "/5", "/6", "/7", "/8"];
 
 // The largest number that one of eight new directories gets.
-fn largest_of_eight(heap: Heap, kernel: &mut Kernel) -> Result<usize, Fail> {
+fn largest_of_eight<K: Machine>(heap: Heap, kernel: &mut K) -> Result<usize, Fail> {
     do_script(kernel, heap, EIGHT, "1,1,1,1,1,1,1,1")?;
     let mut largest = 0usize;
     for path in &PATHS {
@@ -397,13 +398,13 @@ fn largest_of_eight(heap: Heap, kernel: &mut Kernel) -> Result<usize, Fail> {
 }
 
 // The same after the steps of a row.
-fn largest_after(heap: Heap, kernel: &mut Kernel, row: &Row) -> Result<usize, Fail> {
+fn largest_after<K: Machine>(heap: Heap, kernel: &mut K, row: &Row) -> Result<usize, Fail> {
     do_script(kernel, heap, row.script, row.schedule)?;
     largest_of_eight(heap, kernel)
 }
 
-fn largest_in(heap: Heap, row: &Row) -> Result<usize, Fail> {
-    let mut kernel = kernel_of(heap, row.script, row.limit)?;
+fn largest_in<K: Machine>(heap: Heap, row: &Row) -> Result<usize, Fail> {
+    let mut kernel: K = kernel_of(heap, row.script, row.limit)?;
     largest_after(heap, &mut kernel, row)
 }
 
@@ -412,10 +413,10 @@ fn largest_in(heap: Heap, row: &Row) -> Result<usize, Fail> {
 fn the_root_alone_is_left(rt: HostRuntime) -> Result<(), Fail> {
     let heap = heap::open(rt.alloc())?;
     for row in &FREED {
-        assert_eq!(rt; largest_in(heap, row)?, 8);
+        assert_eq!(rt; largest_in::<Kernel>(heap, row)?, 8);
     }
     for row in &ENDED {
-        assert_eq!(rt; largest_in(heap, row)?, 8);
+        assert_eq!(rt; largest_in::<Kernel>(heap, row)?, 8);
     }
     Ok(())
 }
@@ -426,15 +427,18 @@ static OPEN: &str = "priorities 0
 1 unlink /a
 ";
 
-fn largest_with_one_open(heap: Heap) -> Result<usize, Fail> {
-    let mut kernel = kernel_of(heap, OPEN, 100)?;
+fn largest_with_one_open<K: Machine>(heap: Heap) -> Result<usize, Fail> {
+    let mut kernel: K = kernel_of(heap, OPEN, 100)?;
     do_script(&mut kernel, heap, OPEN, "1,1")?;
     largest_of_eight(heap, &mut kernel)
 }
 
 #[test]
 fn an_open_file_keeps_its_numbers(rt: HostRuntime) -> Result<(), Fail> {
-    assert_eq!(rt; largest_with_one_open(heap::open(rt.alloc())?)?, 10);
+    assert_eq!(rt;
+        largest_with_one_open::<Kernel>(heap::open(rt.alloc())?)?,
+        10
+    );
     Ok(())
 }
 
@@ -443,14 +447,17 @@ static PIPED: &str = "priorities 0
 1 pipe
 ";
 
-fn largest_with_one_pipe(heap: Heap) -> Result<usize, Fail> {
-    let mut kernel = kernel_of(heap, PIPED, 100)?;
+fn largest_with_one_pipe<K: Machine>(heap: Heap) -> Result<usize, Fail> {
+    let mut kernel: K = kernel_of(heap, PIPED, 100)?;
     do_script(&mut kernel, heap, PIPED, "1")?;
     largest_of_eight(heap, &mut kernel)
 }
 
 #[test]
 fn a_pipe_keeps_three_numbers(rt: HostRuntime) -> Result<(), Fail> {
-    assert_eq!(rt; largest_with_one_pipe(heap::open(rt.alloc())?)?, 11);
+    assert_eq!(rt;
+        largest_with_one_pipe::<Kernel>(heap::open(rt.alloc())?)?,
+        11
+    );
     Ok(())
 }

@@ -2,6 +2,7 @@
 use crate::row::{do_script, do_steps, kernel_of, number_at, steps_in};
 use heap::Heap;
 use kernel::Kernel;
+use machine::Machine;
 use std::test::Fail;
 
 // A script, a schedule of it, and how many numbers it takes.
@@ -32,7 +33,7 @@ static GIVES_UP: [Given; 2] = [
 ];
 
 // How many requests for memory a transaction makes that is given up.
-fn requests_of_giving_up(heap: Heap, kernel: &mut Kernel, row: &Given) -> Result<u64, Fail> {
+fn requests_of_giving_up<K: Machine>(heap: Heap, kernel: &mut K, row: &Given) -> Result<u64, Fail> {
     let steps = steps_in(heap, row.0, row.1)?;
     heap.refuse(0);
     do_steps(kernel, steps);
@@ -41,9 +42,9 @@ fn requests_of_giving_up(heap: Heap, kernel: &mut Kernel, row: &Given) -> Result
 
 // How many requests the second of such transactions makes, the most that one of the next does, and
 // the number that a directory gets then.
-fn requests_after_the_first(
+fn requests_after_the_first<K: Machine>(
     heap: Heap,
-    kernel: &mut Kernel,
+    kernel: &mut K,
     row: &Given,
 ) -> Result<[u64; 3], Fail> {
     let _ = requests_of_giving_up(heap, kernel, row)?;
@@ -56,8 +57,8 @@ fn requests_after_the_first(
     Ok([first, most, number_at(heap, kernel, "/a")? as u64])
 }
 
-fn requests_and_number(heap: Heap, row: &Given) -> Result<[u64; 3], Fail> {
-    let mut kernel = kernel_of(heap, row.0, 200)?;
+fn requests_and_number<K: Machine>(heap: Heap, row: &Given) -> Result<[u64; 3], Fail> {
+    let mut kernel: K = kernel_of(heap, row.0, 200)?;
     requests_after_the_first(heap, &mut kernel, row)
 }
 
@@ -67,7 +68,7 @@ fn requests_and_number(heap: Heap, row: &Given) -> Result<[u64; 3], Fail> {
 fn what_is_given_up_is_given_back(rt: HostRuntime) -> Result<(), Fail> {
     let heap = heap::open(rt.alloc())?;
     for row in &GIVES_UP {
-        let [first, most, number] = requests_and_number(heap, row)?;
+        let [first, most, number] = requests_and_number::<Kernel>(heap, row)?;
         assert_eq!(rt; first, most);
         assert!(rt; number <= row.2);
     }

@@ -107,8 +107,10 @@ fn grow_on(kernel: &mut Kernel, heap: Heap, row: &Row) -> Result<(u64, Vec<u8, H
 }
 
 fn grow_row(heap: Heap, row: &Row) -> Result<(u64, Vec<u8, Heap>), Fail> {
-    let mut kernel = kernel_of(heap, row.script, row.limit)?;
-    grow_on(&mut kernel, heap, row)
+    let mut kernel: Kernel = kernel_of(heap, row.script, row.limit)?;
+    let grown = grow_on(&mut kernel, heap, row);
+    drop(kernel);
+    grown
 }
 
 // Each of these rows has its transcript. Answers how many requests were refused.

@@ -38,6 +38,8 @@ mod renames;
 #[cfg(test)]
 mod row;
 #[cfg(test)]
+mod rows;
+#[cfg(test)]
 mod shared;
 #[cfg(test)]
 mod shown;

@@ -3,6 +3,7 @@ use crate::row::{do_script, do_steps, kernel_of, steps_in, transcript_of};
 use heap::Heap;
 use ids::{Answer, Errno, Fd, Kind, Reply};
 use kernel::Kernel;
+use machine::Machine;
 use std::test::Fail;
 
 static ISOLATED: &str = "priorities 0 0
@@ -45,20 +46,25 @@ fn told_answer(answer: &Answer) -> &'static str {
 }
 
 // Whether the steps, in one run, are answered so.
-fn is_answered(heap: Heap, kernel: &mut Kernel, wanted: &[&str]) -> Result<bool, Fail> {
+fn is_answered<K: Machine>(heap: Heap, kernel: &mut K, wanted: &[&str]) -> Result<bool, Fail> {
     let steps = steps_in(heap, ISOLATED, "1,1,2,1,2")?;
     let replies = kernel.run(steps)?;
-    let mut right = replies.len() == wanted.len();
-    for (reply, text) in replies.as_slice().iter().zip(wanted) {
-        right = right && told(reply) == *text;
-    }
+    let right = are_told(replies.as_slice(), wanted);
     drop(replies);
     Ok(right)
 }
 
+fn are_told(replies: &[Reply], wanted: &[&str]) -> bool {
+    let mut right = replies.len() == wanted.len();
+    for (reply, text) in replies.iter().zip(wanted) {
+        right = right && told(reply) == *text;
+    }
+    right
+}
+
 // Whether they are answered so under a limit, and the history is as long as the limit says.
-fn is_right(heap: Heap, limit: usize, wanted: &[&str]) -> Result<bool, Fail> {
-    let mut kernel = kernel_of(heap, ISOLATED, limit)?;
+fn is_right<K: Machine>(heap: Heap, limit: usize, wanted: &[&str]) -> Result<bool, Fail> {
+    let mut kernel: K = kernel_of(heap, ISOLATED, limit)?;
     let right = is_answered(heap, &mut kernel, wanted)?;
     Ok(right && kernel.history().entries().len() == limit)
 }
@@ -67,7 +73,7 @@ fn is_right(heap: Heap, limit: usize, wanted: &[&str]) -> Result<bool, Fail> {
 fn each_limit_has_its_replies(rt: HostRuntime) -> Result<(), Fail> {
     let heap = heap::open(rt.alloc())?;
     for (limit, wanted) in &LIMITS {
-        assert!(rt; is_right(heap, *limit, wanted)?, "{limit}");
+        assert!(rt; is_right::<Kernel>(heap, *limit, wanted)?, "{limit}");
     }
     Ok(())
 }
@@ -87,7 +93,11 @@ static TOLD: &str = "1 P1 begin -> begun
 ";
 
 // A call that would doom a transaction is refused memory, and not asked again.
-fn refused_once(heap: Heap, kernel: &mut Kernel, number: u64) -> Result<Vec<u8, Heap>, Fail> {
+fn refused_once<K: Machine>(
+    heap: Heap,
+    kernel: &mut K,
+    number: u64,
+) -> Result<Vec<u8, Heap>, Fail> {
     do_script(kernel, heap, LOOKED, "1,1")?;
     let steps = steps_in(heap, MAKES, "2")?;
     heap.refuse(number);
@@ -97,8 +107,8 @@ fn refused_once(heap: Heap, kernel: &mut Kernel, number: u64) -> Result<Vec<u8, 
     transcript_of(heap, kernel)
 }
 
-fn refused(heap: Heap, number: u64) -> Result<Vec<u8, Heap>, Fail> {
-    let mut kernel = kernel_of(heap, LOOKED, 100)?;
+fn refused<K: Machine>(heap: Heap, number: u64) -> Result<Vec<u8, Heap>, Fail> {
+    let mut kernel: K = kernel_of(heap, LOOKED, 100)?;
     refused_once(heap, &mut kernel, number)
 }
 
@@ -107,7 +117,10 @@ fn refused(heap: Heap, number: u64) -> Result<Vec<u8, Heap>, Fail> {
 fn what_is_refused_dooms_nobody(rt: HostRuntime) -> Result<(), Fail> {
     let heap = heap::open(rt.alloc())?;
     for number in 1..6u64 {
-        assert_eq!(rt; refused(heap, number)?.as_slice(), TOLD.as_bytes());
+        assert_eq!(rt;
+            refused::<Kernel>(heap, number)?.as_slice(),
+            TOLD.as_bytes()
+        );
     }
     Ok(())
 }

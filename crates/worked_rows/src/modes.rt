@@ -1,9 +1,10 @@
 // What live transactions have touched, and the list modes that come of it.
 use crate::row::{do_script, kernel_of, transcript_of};
+use crate::views::in_root;
 use heap::Heap;
-use ids::{Aspect, ListMode, Name, Num, Pid, Touch};
+use ids::{Aspect, ListMode, Num, Pid, Touch};
 use kernel::Kernel;
-use look::Look;
+use records::Mark;
 use std::test::Fail;
 
 static TWO_ADD: &str = "priorities 0 0
@@ -34,10 +35,7 @@ static TOLD: &str = "1 P1 mkdir /d -> ok
 ";
 
 fn directory(heap: Heap, kernel: &Kernel) -> Result<Num, Fail> {
-    let view = kernel.view(Pid(1));
-    let found = view.find(view.root(), &Name::copy(heap, b"d")?);
-    let (dir, _kind) = found.ok_or("no directory")?;
-    Ok(dir)
+    in_root(heap, &kernel.view(Pid(1)), b"d")
 }
 
 fn mode_of(heap: Heap, kernel: &Kernel) -> Result<ListMode, Fail> {
@@ -45,26 +43,29 @@ fn mode_of(heap: Heap, kernel: &Kernel) -> Result<ListMode, Fail> {
 }
 
 // The list modes of `/d` when both have added to it, when one of them has listed it too, and when
-// both have ended.
-fn modes(kernel: &mut Kernel, heap: Heap) -> Result<[ListMode; 3], Fail> {
+// both have ended, and the transcript.
+fn modes(kernel: &mut Kernel, heap: Heap) -> Result<([ListMode; 3], Vec<u8, Heap>), Fail> {
     do_script(kernel, heap, TWO_ADD, "1,1,2,1,2")?;
     let added = mode_of(heap, kernel)?;
     do_script(kernel, heap, ONE_LISTS, "1")?;
     let listed = mode_of(heap, kernel)?;
     do_script(kernel, heap, BOTH_END, "2,1")?;
-    Ok([added, listed, mode_of(heap, kernel)?])
+    let ended = mode_of(heap, kernel)?;
+    Ok(([added, listed, ended], transcript_of(heap, kernel)?))
 }
 
 #[test]
 fn list_modes_are_told(rt: HostRuntime) -> Result<(), Fail> {
     let heap = heap::open(rt.alloc())?;
-    let mut kernel = kernel_of(heap, TWO_ADD, 100)?;
-    let found = modes(&mut kernel, heap)?;
+    let mut kernel: Kernel = kernel_of(heap, TWO_ADD, 100)?;
+    let modes = modes(&mut kernel, heap);
+    drop(kernel);
+    let (found, told) = modes?;
     assert_eq!(rt;
         found,
         [ListMode::Write, ListMode::Exclusive, ListMode::NoTx]
     );
-    assert_eq!(rt; transcript_of(heap, &kernel)?.as_slice(), TOLD.as_bytes());
+    assert_eq!(rt; told.as_slice(), TOLD.as_bytes());
     Ok(())
 }
 
@@ -77,10 +78,18 @@ fn met_by_a_look(kernel: &mut Kernel, heap: Heap) -> Result<(usize, Pid, bool), 
         aspect: Aspect::Names(dir),
         write: false,
     };
-    let found = kernel.records().holders(Pid(1), &look)?;
-    match found.as_slice() {
-        [only] => Ok((1, only.pid, is_written(&only.touch, dir, b"b"))),
-        _ => Ok((found.len(), Pid(0), false)),
+    let found = kernel.records().holders(Pid(1), &look);
+    drop(look);
+    let found = found?;
+    let met = met_in(found.as_slice(), dir);
+    drop(found);
+    Ok(met)
+}
+
+fn met_in(found: &[Mark], dir: Num) -> (usize, Pid, bool) {
+    match found {
+        [only] => (1, only.pid, is_written(&only.touch, dir, b"b")),
+        _ => (found.len(), Pid(0), false),
     }
 }
 
@@ -97,7 +106,9 @@ fn is_written(touch: &Touch, dir: Num, name: &[u8]) -> bool {
 #[test]
 fn a_look_meets_the_names_that_others_add(rt: HostRuntime) -> Result<(), Fail> {
     let heap = heap::open(rt.alloc())?;
-    let mut kernel = kernel_of(heap, TWO_ADD, 100)?;
-    assert_eq!(rt; met_by_a_look(&mut kernel, heap)?, (1, Pid(2), true));
+    let mut kernel: Kernel = kernel_of(heap, TWO_ADD, 100)?;
+    let met = met_by_a_look(&mut kernel, heap);
+    drop(kernel);
+    assert_eq!(rt; met?, (1, Pid(2), true));
     Ok(())
 }

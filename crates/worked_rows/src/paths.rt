@@ -4,6 +4,7 @@ use crate::row::kernel_of;
 use heap::Heap;
 use ids::{Bytes, Call, Errno, Op, Pid, Reply};
 use kernel::Kernel;
+use machine::Machine;
 use std::alloc::AllocError;
 use std::process::Abort;
 use std::test::Fail;
@@ -21,9 +22,15 @@ fn long_path(heap: Heap, names: &[usize]) -> Result<Bytes, AllocError> {
 }
 
 // The error of a stat of this path.
-fn error_of(kernel: &mut Kernel, path: Bytes) -> Option<Errno> {
+fn error_of<K: Machine>(kernel: &mut K, path: Bytes) -> Option<Errno> {
     let reply = kernel.step(Pid(1), Op::Call(Call::Stat(path)));
-    match &reply {
+    let errno = errno_in(&reply);
+    drop(reply);
+    errno
+}
+
+fn errno_in(reply: &Reply) -> Option<Errno> {
+    match reply {
         Reply::Errno(errno) => Some(*errno),
         _ => None,
     }
@@ -47,7 +54,7 @@ static FORMS: [(&str, Option<Errno>); 8] = [
     ("/", None),
 ];
 
-fn assert_errors(rt: &impl Abort, heap: Heap, kernel: &mut Kernel) -> Result<(), Fail> {
+fn assert_errors<K: Machine>(rt: &impl Abort, heap: Heap, kernel: &mut K) -> Result<(), Fail> {
     for (names, errno) in &LONG {
         assert_eq!(rt; error_of(kernel, long_path(heap, names)?), Some(*errno));
     }
@@ -60,9 +67,12 @@ fn assert_errors(rt: &impl Abort, heap: Heap, kernel: &mut Kernel) -> Result<(),
     Ok(())
 }
 
+fn assert_forms<K: Machine>(rt: &impl Abort, heap: Heap) -> Result<(), Fail> {
+    let mut kernel: K = kernel_of(heap, "priorities 0\n", 100)?;
+    assert_errors(rt, heap, &mut kernel)
+}
+
 #[test]
 fn each_form_of_path_has_its_answer(rt: HostRuntime) -> Result<(), Fail> {
-    let heap = heap::open(rt.alloc())?;
-    let mut kernel = kernel_of(heap, "priorities 0\n", 100)?;
-    assert_errors(&rt, heap, &mut kernel)
+    assert_forms::<Kernel>(&rt, heap::open(rt.alloc())?)
 }

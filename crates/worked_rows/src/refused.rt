@@ -4,6 +4,7 @@ use crate::row::{do_script, do_steps, kernel_of, steps_in, transcript_of};
 use heap::Heap;
 use ids::Priority;
 use kernel::Kernel;
+use machine::Machine;
 use std::test::Fail;
 
 pub(crate) struct Part {
@@ -21,12 +22,17 @@ pub(crate) struct Refused {
     pub(crate) requests: u64,
 }
 
-fn do_part(kernel: &mut Kernel, heap: Heap, part: &Part) -> Result<(), Fail> {
+fn do_part<K: Machine>(kernel: &mut K, heap: Heap, part: &Part) -> Result<(), Fail> {
     do_script(kernel, heap, part.script, part.schedule)
 }
 
 // Does the step with one of its requests refused, and answers whether it has left no entry.
-fn is_refused(kernel: &mut Kernel, heap: Heap, step: &Part, number: u64) -> Result<bool, Fail> {
+fn is_refused<K: Machine>(
+    kernel: &mut K,
+    heap: Heap,
+    step: &Part,
+    number: u64,
+) -> Result<bool, Fail> {
     let steps = steps_in(heap, step.script, step.schedule)?;
     let before = kernel.history().entries().len();
     heap.refuse(number);
@@ -37,8 +43,8 @@ fn is_refused(kernel: &mut Kernel, heap: Heap, step: &Part, number: u64) -> Resu
 
 // Does a row's parts, with a request of its step refused. Answers whether it was, and the
 // transcript at the end.
-fn do_parts(
-    kernel: &mut Kernel,
+fn do_parts<K: Machine>(
+    kernel: &mut K,
     heap: Heap,
     row: &Refused,
     number: u64,
@@ -52,17 +58,21 @@ fn do_parts(
     Ok((refused, transcript_of(heap, kernel)?))
 }
 
-fn refuse_once(heap: Heap, row: &Refused, number: u64) -> Result<(bool, Vec<u8, Heap>), Fail> {
-    let mut kernel = kernel_of(heap, row.step.script, 100)?;
+fn refuse_once<K: Machine>(
+    heap: Heap,
+    row: &Refused,
+    number: u64,
+) -> Result<(bool, Vec<u8, Heap>), Fail> {
+    let mut kernel: K = kernel_of(heap, row.step.script, 100)?;
     do_parts(&mut kernel, heap, row, number)
 }
 
 // Whether each refused request of a row's step leaves all as it was, and there are as many as the row
 // says.
-pub(crate) fn is_right(heap: Heap, row: &Refused) -> Result<bool, Fail> {
+pub(crate) fn is_right<K: Machine>(heap: Heap, row: &Refused) -> Result<bool, Fail> {
     let mut refusals = 0u64;
     for number in 1..50u64 {
-        let (refused, told) = refuse_once(heap, row, number)?;
+        let (refused, told) = refuse_once::<K>(heap, row, number)?;
         if told.as_slice() != row.transcript.as_bytes() {
             return Ok(false);
         }
@@ -74,20 +84,29 @@ pub(crate) fn is_right(heap: Heap, row: &Refused) -> Result<bool, Fail> {
 }
 
 // Whether a run has not begun that is refused the room for its replies.
-fn has_not_begun(heap: Heap, kernel: &mut Kernel, text: &str) -> Result<bool, Fail> {
+fn has_not_begun<K: Machine>(heap: Heap, kernel: &mut K, text: &str) -> Result<bool, Fail> {
     let steps = steps_in(heap, text, "1,1")?;
     heap.refuse(1);
     let refused = kernel.run(steps).is_err();
     Ok(refused && kernel.history().entries().is_empty())
 }
 
+// The same of a new kernel.
+fn has_never_begun<K: Machine>(heap: Heap) -> Result<bool, Fail> {
+    let text = "priorities 0\n1 begin\n1 end\n";
+    let mut kernel: K = kernel_of(heap, text, 100)?;
+    has_not_begun(heap, &mut kernel, text)
+}
+
 #[test]
 fn a_refused_run_has_not_begun(rt: HostRuntime) -> Result<(), Fail> {
-    let heap = heap::open(rt.alloc())?;
-    let text = "priorities 0\n1 begin\n1 end\n";
-    let mut kernel = kernel_of(heap, text, 100)?;
-    assert!(rt; has_not_begun(heap, &mut kernel, text)?);
+    assert!(rt; has_never_begun::<Kernel>(heap::open(rt.alloc())?)?);
     Ok(())
+}
+
+// Whether there is memory for a kernel.
+fn is_made<K: Machine>(heap: Heap, priority: Priority) -> bool {
+    K::new(heap, &[priority, priority], 10).is_ok()
 }
 
 // Each request of a new kernel is refused once.
@@ -97,7 +116,7 @@ fn a_refused_kernel_is_not_made(rt: HostRuntime) -> Result<(), Fail> {
     for number in 1..64u64 {
         let zero = Priority::new(0).ok_or("no priority")?;
         heap.refuse(number);
-        let made = Kernel::new(heap, &[zero, zero], 10).is_ok();
+        let made = is_made::<Kernel>(heap, zero);
         heap.refuse(0);
         if made {
             assert!(rt; number > 4);

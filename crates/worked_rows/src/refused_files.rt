@@ -1,5 +1,6 @@
 // Each request for memory refused once, in calls on directories and files.
 use crate::refused::{Part, Refused, is_right};
+use kernel::Kernel;
 use std::test::Fail;
 
 static FILES: [Refused; 12] = [
@@ -363,7 +364,7 @@ static FILES: [Refused; 12] = [
 fn refused_calls_on_files_change_nothing(rt: HostRuntime) -> Result<(), Fail> {
     let heap = heap::open(rt.alloc())?;
     for row in &FILES {
-        assert!(rt; is_right(heap, row)?, "{}", row.transcript);
+        assert!(rt; is_right::<Kernel>(heap, row)?, "{}", row.transcript);
     }
     Ok(())
 }

@@ -1,5 +1,6 @@
 // Each request for memory refused once, in calls on names of files.
 use crate::refused::{Part, Refused, is_right};
+use kernel::Kernel;
 use std::test::Fail;
 
 static NAMES: [Refused; 8] = [
@@ -287,7 +288,7 @@ static NAMES: [Refused; 8] = [
 fn refused_calls_on_names_change_nothing(rt: HostRuntime) -> Result<(), Fail> {
     let heap = heap::open(rt.alloc())?;
     for row in &NAMES {
-        assert!(rt; is_right(heap, row)?, "{}", row.transcript);
+        assert!(rt; is_right::<Kernel>(heap, row)?, "{}", row.transcript);
     }
     Ok(())
 }

@@ -1,5 +1,6 @@
 // Each request for memory refused once, in calls on pipes, and in forks and exits.
 use crate::refused::{Part, Refused, is_right};
+use kernel::Kernel;
 use std::test::Fail;
 
 static PIPES: [Refused; 9] = [
@@ -317,7 +318,7 @@ static PIPES: [Refused; 9] = [
 fn refused_calls_on_pipes_change_nothing(rt: HostRuntime) -> Result<(), Fail> {
     let heap = heap::open(rt.alloc())?;
     for row in &PIPES {
-        assert!(rt; is_right(heap, row)?, "{}", row.transcript);
+        assert!(rt; is_right::<Kernel>(heap, row)?, "{}", row.transcript);
     }
     Ok(())
 }

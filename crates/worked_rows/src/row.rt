@@ -3,7 +3,7 @@ use device::Halting;
 use heap::Heap;
 use history::History;
 use ids::{Answer, Bytes, Call, Op, Pid, Reply};
-use kernel::Kernel;
+use machine::Machine;
 use replay::check;
 use runner::print;
 use script::{Script, read_schedule, read_script, steps_of};
@@ -25,9 +25,9 @@ fn script_of(heap: Heap, text: &str) -> Result<Script, Fail> {
 }
 
 // A kernel with the processes of a script.
-pub(crate) fn kernel_of(heap: Heap, text: &str, limit: usize) -> Result<Kernel, Fail> {
+pub(crate) fn kernel_of<K: Machine>(heap: Heap, text: &str, limit: usize) -> Result<K, Fail> {
     let script = script_of(heap, text)?;
-    Ok(Kernel::new(heap, script.priorities(), limit.min(1000))?)
+    Ok(K::new(heap, script.priorities(), limit.min(1000))?)
 }
 
 // The steps of a script by a schedule.
@@ -44,15 +44,15 @@ pub(crate) fn steps_in(
 }
 
 // Does steps one by one.
-pub(crate) fn do_steps(kernel: &mut Kernel, steps: Vec<(Pid, Op), Heap>) {
+pub(crate) fn do_steps<K: Machine>(kernel: &mut K, steps: Vec<(Pid, Op), Heap>) {
     for (pid, op) in steps {
-        let _ = kernel.step(pid, op);
+        drop(kernel.step(pid, op));
     }
 }
 
 // Does the steps of a script by a schedule on a kernel.
-pub(crate) fn do_script(
-    kernel: &mut Kernel,
+pub(crate) fn do_script<K: Machine>(
+    kernel: &mut K,
     heap: Heap,
     text: &str,
     schedule: &str,
@@ -70,7 +70,7 @@ pub(crate) fn pass(heap: Heap, history: &History) -> Result<(), Fail> {
 }
 
 // The transcript of what a kernel has done, whose history has to pass the check.
-pub(crate) fn transcript_of(heap: Heap, kernel: &Kernel) -> Result<Vec<u8, Heap>, Fail> {
+pub(crate) fn transcript_of<K: Machine>(heap: Heap, kernel: &K) -> Result<Vec<u8, Heap>, Fail> {
     let mut sink = Halting {
         bytes: Vec::new(heap),
         left: 100_000,
@@ -84,11 +84,17 @@ pub(crate) fn transcript_of(heap: Heap, kernel: &Kernel) -> Result<Vec<u8, Heap>
 }
 
 // The number of what is at a path.
-pub(crate) fn number_at(heap: Heap, kernel: &mut Kernel, path: &str) -> Result<usize, Fail> {
+pub(crate) fn number_at<K: Machine>(heap: Heap, kernel: &mut K, path: &str) -> Result<usize, Fail> {
     let path = Bytes::copy(heap, path.as_bytes())?;
     let reply = kernel.step(Pid(1), Op::Call(Call::Stat(path)));
-    match &reply {
-        Reply::Answer(Answer::Stat(stat)) => Ok(stat.num.0),
-        _ => Err(Fail::from("nothing is there")),
+    let number = number_in(&reply);
+    drop(reply);
+    Ok(number.ok_or("nothing is there")?)
+}
+
+fn number_in(reply: &Reply) -> Option<usize> {
+    match reply {
+        Reply::Answer(Answer::Stat(stat)) => Some(stat.num.0),
+        _ => None,
     }
 }

@@ -1,45 +1,38 @@
 // Each row is run step by step, and as one run of the kernel.
-use crate::files::FILES;
-use crate::freed::FREED;
 use crate::growths::{grow_all, grow_script};
-use crate::links::LINKS;
-use crate::pipes::{HALVES, PIPES};
-use crate::processes::{ENDED, PROCESSES};
-use crate::renames::RENAMES;
 use crate::row::{Row, do_script, kernel_of, steps_in, transcript_of};
-use crate::shared::SHARED;
-use crate::transactions::TRANSACTIONS;
-use crate::trees::TREES;
+use crate::rows::all_rows;
 use heap::Heap;
 use kernel::Kernel;
+use machine::Machine;
 use std::test::Fail;
 
 // Does the row's steps on its kernel, one by one, and tells the transcript.
-fn step_by_step(kernel: &mut Kernel, heap: Heap, row: &Row) -> Result<Vec<u8, Heap>, Fail> {
+fn step_by_step<K: Machine>(kernel: &mut K, heap: Heap, row: &Row) -> Result<Vec<u8, Heap>, Fail> {
     do_script(kernel, heap, row.script, row.schedule)?;
     transcript_of(heap, kernel)
 }
 
 // The same in one run.
-fn at_once(kernel: &mut Kernel, heap: Heap, row: &Row) -> Result<Vec<u8, Heap>, Fail> {
-    let _ = kernel.run(steps_in(heap, row.script, row.schedule)?)?;
+fn at_once<K: Machine>(kernel: &mut K, heap: Heap, row: &Row) -> Result<Vec<u8, Heap>, Fail> {
+    drop(kernel.run(steps_in(heap, row.script, row.schedule)?)?);
     transcript_of(heap, kernel)
 }
 
-fn transcript_by_steps(heap: Heap, row: &Row) -> Result<Vec<u8, Heap>, Fail> {
-    let mut kernel = kernel_of(heap, row.script, row.limit)?;
+fn transcript_by_steps<K: Machine>(heap: Heap, row: &Row) -> Result<Vec<u8, Heap>, Fail> {
+    let mut kernel: K = kernel_of(heap, row.script, row.limit)?;
     step_by_step(&mut kernel, heap, row)
 }
 
-fn transcript_at_once(heap: Heap, row: &Row) -> Result<Vec<u8, Heap>, Fail> {
-    let mut kernel = kernel_of(heap, row.script, row.limit)?;
+fn transcript_at_once<K: Machine>(heap: Heap, row: &Row) -> Result<Vec<u8, Heap>, Fail> {
+    let mut kernel: K = kernel_of(heap, row.script, row.limit)?;
     at_once(&mut kernel, heap, row)
 }
 
 // The script of the first of these rows whose steps, one by one, leave another transcript.
-fn all_by_steps(heap: Heap, rows: &[Row]) -> Result<(), Fail> {
+fn all_by_steps<K: Machine>(heap: Heap, rows: &[Row]) -> Result<(), Fail> {
     for row in rows {
-        if transcript_by_steps(heap, row)?.as_slice() != row.transcript.as_bytes() {
+        if transcript_by_steps::<K>(heap, row)?.as_slice() != row.transcript.as_bytes() {
             return Err(Fail::from(row.script));
         }
     }
@@ -47,66 +40,47 @@ fn all_by_steps(heap: Heap, rows: &[Row]) -> Result<(), Fail> {
 }
 
 // The script of the first of these rows that leaves another transcript as one run.
-fn all_at_once(heap: Heap, rows: &[Row]) -> Result<(), Fail> {
+fn all_at_once<K: Machine>(heap: Heap, rows: &[Row]) -> Result<(), Fail> {
     for row in rows {
-        if transcript_at_once(heap, row)?.as_slice() != row.transcript.as_bytes() {
+        if transcript_at_once::<K>(heap, row)?.as_slice() != row.transcript.as_bytes() {
             return Err(Fail::from(row.script));
         }
     }
     Ok(())
 }
 
+// Every row, step by step.
+fn each_by_steps<K: Machine>(heap: Heap) -> Result<(), Fail> {
+    for rows in all_rows() {
+        all_by_steps::<K>(heap, rows)?;
+    }
+    Ok(())
+}
+
 #[test]
 fn steps_leave_the_transcript_of_the_row(rt: HostRuntime) -> Result<(), Fail> {
-    let heap = heap::open(rt.alloc())?;
-    all_by_steps(heap, &TRANSACTIONS)?;
-    all_by_steps(heap, &TREES)?;
-    all_by_steps(heap, &FILES)?;
-    all_by_steps(heap, &LINKS)?;
-    all_by_steps(heap, &FREED)?;
-    all_by_steps(heap, &RENAMES)?;
-    all_by_steps(heap, &SHARED)?;
-    all_by_steps(heap, &PIPES)?;
-    all_by_steps(heap, &HALVES)?;
-    all_by_steps(heap, &PROCESSES)?;
-    all_by_steps(heap, &ENDED)
+    each_by_steps::<Kernel>(heap::open(rt.alloc())?)
+}
+
+// Every row, as one run.
+fn each_at_once<K: Machine>(heap: Heap) -> Result<(), Fail> {
+    for rows in all_rows() {
+        all_at_once::<K>(heap, rows)?;
+    }
+    Ok(())
 }
 
 #[test]
 fn a_run_leaves_the_transcript_of_the_row(rt: HostRuntime) -> Result<(), Fail> {
-    let heap = heap::open(rt.alloc())?;
-    all_at_once(heap, &TRANSACTIONS)?;
-    all_at_once(heap, &TREES)?;
-    all_at_once(heap, &FILES)?;
-    all_at_once(heap, &LINKS)?;
-    all_at_once(heap, &FREED)?;
-    all_at_once(heap, &RENAMES)?;
-    all_at_once(heap, &SHARED)?;
-    all_at_once(heap, &PIPES)?;
-    all_at_once(heap, &HALVES)?;
-    all_at_once(heap, &PROCESSES)?;
-    all_at_once(heap, &ENDED)
+    each_at_once::<Kernel>(heap::open(rt.alloc())?)
 }
 
 // Each request for memory of each step of each row is refused in turn.
 #[test]
 fn refuse_each_growth(rt: HostRuntime) -> Result<(), Fail> {
     let heap = heap::open(rt.alloc())?;
-    let rows = [
-        grow_all(heap, &TRANSACTIONS)?,
-        grow_all(heap, &TREES)?,
-        grow_all(heap, &FILES)?,
-        grow_all(heap, &LINKS)?,
-        grow_all(heap, &FREED)?,
-        grow_all(heap, &RENAMES)?,
-        grow_all(heap, &SHARED)?,
-        grow_all(heap, &PIPES)?,
-        grow_all(heap, &HALVES)?,
-        grow_all(heap, &PROCESSES)?,
-        grow_all(heap, &ENDED)?,
-    ];
-    for refused in rows {
-        assert!(rt; refused > 0);
+    for rows in all_rows() {
+        assert!(rt; grow_all(heap, rows)? > 0);
     }
     Ok(())
 }
@@ -145,8 +119,10 @@ fn opened_often(kernel: &mut Kernel, heap: Heap) -> Result<Vec<u8, Heap>, Fail> 
 #[test]
 fn a_process_has_64_descriptors(rt: HostRuntime) -> Result<(), Fail> {
     let heap = heap::open(rt.alloc())?;
-    let mut kernel = kernel_of(heap, AFTER_64, 100)?;
-    let told = opened_often(&mut kernel, heap)?;
+    let mut kernel: Kernel = kernel_of(heap, AFTER_64, 100)?;
+    let told = opened_often(&mut kernel, heap);
+    drop(kernel);
+    let told = told?;
     assert!(rt; told.as_slice().ends_with(TOLD_AFTER_64.as_bytes()));
     Ok(())
 }
@@ -206,8 +182,10 @@ fn shared_often(kernel: &mut Kernel, heap: Heap) -> Result<Vec<u8, Heap>, Fail> 
 #[test]
 fn a_process_shares_63_times(rt: HostRuntime) -> Result<(), Fail> {
     let heap = heap::open(rt.alloc())?;
-    let mut kernel = kernel_of(heap, AFTER_SHARING, 100)?;
-    let told = shared_often(&mut kernel, heap)?;
+    let mut kernel: Kernel = kernel_of(heap, AFTER_SHARING, 100)?;
+    let told = shared_often(&mut kernel, heap);
+    drop(kernel);
+    let told = told?;
     assert!(rt; told.as_slice().ends_with(TOLD_AFTER_SHARING.as_bytes()));
     Ok(())
 }

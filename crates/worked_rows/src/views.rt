@@ -1,9 +1,10 @@
 // What a process sees, from above.
 use crate::row::{do_script, kernel_of};
 use heap::Heap;
-use ids::{Name, Pid};
+use ids::{Name, Num, Pid};
 use kernel::Kernel;
 use look::Look;
+use std::alloc::AllocError;
 use std::test::Fail;
 
 static TWO_ADD: &str = "priorities 0 0 0
@@ -17,14 +18,33 @@ static TWO_ADD: &str = "priorities 0 0 0
 // The names of `/d` in what a process sees, each with a line feed.
 fn seen_names(heap: Heap, kernel: &Kernel, pid: Pid) -> Result<Vec<u8, Heap>, Fail> {
     let view = kernel.view(pid);
-    let found = view.find(view.root(), &Name::copy(heap, b"d")?);
-    let (dir, _kind) = found.ok_or("no directory")?;
+    names_in(heap, &view, in_root(heap, &view, b"d")?)
+}
+
+// The names of a directory, each with a line feed.
+fn names_in<L: Look>(heap: Heap, view: &L, dir: Num) -> Result<Vec<u8, Heap>, Fail> {
+    let names = view.names(heap, dir)?;
+    let told = lines_of(heap, names.as_slice());
+    drop(names);
+    Ok(told?)
+}
+
+fn lines_of(heap: Heap, names: &[Name]) -> Result<Vec<u8, Heap>, AllocError> {
     let mut told = Vec::new(heap);
-    for name in view.names(heap, dir)?.as_slice() {
+    for name in names {
         told.extend_from_slice(name.as_slice())?;
         told.push(b'\n')?;
     }
     Ok(told)
+}
+
+// The number of what has this name in the root.
+pub(crate) fn in_root<L: Look>(heap: Heap, view: &L, name: &[u8]) -> Result<Num, Fail> {
+    let name = Name::copy(heap, name)?;
+    let found = view.find(view.root(), &name);
+    drop(name);
+    let (num, _kind) = found.ok_or("nothing is there")?;
+    Ok(num)
 }
 
 // Two transactions add to `/d`. What each process sees there then.
@@ -38,8 +58,10 @@ fn seen_by_each(kernel: &mut Kernel, heap: Heap) -> Result<[Vec<u8, Heap>; 3], F
 }
 
 fn seen(heap: Heap) -> Result<[Vec<u8, Heap>; 3], Fail> {
-    let mut kernel = kernel_of(heap, TWO_ADD, 100)?;
-    seen_by_each(&mut kernel, heap)
+    let mut kernel: Kernel = kernel_of(heap, TWO_ADD, 100)?;
+    let seen = seen_by_each(&mut kernel, heap);
+    drop(kernel);
+    seen
 }
 
 // Each sees its own name there, and nothing of them is committed.
@@ -65,13 +87,9 @@ static WRITES: &str = "priorities 0
 
 // The numbers of the blocks of `/a` into which process 1 has written.
 fn blocks_of(heap: Heap, kernel: &Kernel) -> Result<Vec<u32, Heap>, Fail> {
-    let view = kernel.view(Pid(1));
-    let found = view.find(view.root(), &Name::copy(heap, b"a")?);
-    let (file, _kind) = found.ok_or("no file")?;
+    let file = in_root(heap, &kernel.view(Pid(1)), b"a")?;
     let shadow = kernel.shadow(Pid(1)).ok_or("no transaction")?;
-    let mut told = Vec::new(heap);
-    told.extend_from_slice(shadow.changed(file))?;
-    Ok(told)
+    Ok(Vec::from_slice(heap, shadow.changed(file))?)
 }
 
 fn written_blocks(kernel: &mut Kernel, heap: Heap) -> Result<Vec<u32, Heap>, Fail> {
@@ -83,8 +101,10 @@ fn written_blocks(kernel: &mut Kernel, heap: Heap) -> Result<Vec<u32, Heap>, Fai
 #[test]
 fn blocks_of_writes_are_told(rt: HostRuntime) -> Result<(), Fail> {
     let heap = heap::open(rt.alloc())?;
-    let mut kernel = kernel_of(heap, WRITES, 100)?;
-    let told = written_blocks(&mut kernel, heap)?;
+    let mut kernel: Kernel = kernel_of(heap, WRITES, 100)?;
+    let told = written_blocks(&mut kernel, heap);
+    drop(kernel);
+    let told = told?;
     assert_eq!(rt; told.as_slice(), [1u32, 4].as_slice());
     Ok(())
 }

@@ -1,4 +1,4 @@
-use Rattle.kernel.proofs.Words.{refl, subst, Abort, Asks, End, NotInTransaction, fields, idle, Idle}
+use Rattle.kernel.proofs.Words.{refl, subst, sym, Abort, Asks, CanEnter, End, NotInTransaction, fields, idle, plain, Idle}
 use Rattle.kernel.proofs.Entries.{free_at, leaves, none_else}
 use Rattle.kernel.proofs.step.step_idle.Goals as goal
 
@@ -6,11 +6,13 @@ pub add_entry-requires-clause-can : goal.add_entry-requires-clause-can
 add_entry-requires-clause-can c =
     let f = fields c.args.s.now in
     let asks = subst (Asks f c.args.pid Idle) c.in-End.is c.requires in
-    leaves f asks.holds c.args.pid End NotInTransaction idle asks.stands (refl, none_else c.args.pid End NotInTransaction, free_at f c.args.pid End idle asks.stands asks.place) refl refl refl (λ n t. refl)
+    subst (λ r. CanEnter f (plain c.args.pid End r)) (sym c.outside.ensures.0)
+    (leaves f asks.holds c.args.pid End NotInTransaction idle asks.stands (refl, none_else c.args.pid End NotInTransaction, free_at f c.args.pid End idle asks.stands asks.place) refl refl refl (λ n t. refl))
 
 pub add_entry-requires-in-Abort-clause-can : goal.add_entry-requires-in-Abort-clause-can
 add_entry-requires-in-Abort-clause-can c =
     let f = fields c.args.s.now in
     let op = Abort c.in-Abort.no_restart in
     let asks = subst (Asks f c.args.pid Idle) c.in-Abort.is c.requires in
-    leaves f asks.holds c.args.pid op NotInTransaction idle asks.stands (refl, none_else c.args.pid op NotInTransaction, free_at f c.args.pid op idle asks.stands asks.place) refl refl refl (λ n t. refl)
+    subst (λ r. CanEnter f (plain c.args.pid op r)) (sym c.outside-in-Abort.ensures.0)
+    (leaves f asks.holds c.args.pid op NotInTransaction idle asks.stands (refl, none_else c.args.pid op NotInTransaction, free_at f c.args.pid op idle asks.stands asks.place) refl refl refl (λ n t. refl))

@@ -4,4 +4,4 @@ use Rattle.turnstile.specs.Passes.{PassView}
 use Rattle.ports.proofs.run.passes_of.Goals as goal
 
 pub returns-clause-begun : goal.returns-clause-begun
-returns-clause-begun c = All-from_recursion (λ (p : PassView). Begins p.gate.start p.seen) _ c.loop-port.invariant.begun
+returns-clause-begun g c = All-from_recursion (λ (p : PassView). Begins p.gate.start p.seen) _ c.loop-port.invariant.begun

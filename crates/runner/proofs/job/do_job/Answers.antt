@@ -6,7 +6,7 @@ use Rattle.runner.proofs.job.do_job.Goals as goal
 pub returns-in-Ok-clause-done : goal.returns-in-Ok-clause-done
 returns-in-Ok-clause-done g c =
     on_ok c.check_if-told.result (λ checked. record {
-      kernel = c.in-Ok.kernel;
+      kernel = g.K.Machine.shown c.in-Ok.kernel;
       mid = g.O.Sink.written c.run_script.new.out;
       ran = search rules;
       checked = subst (λ log. IsChecked c.args.job.now.check log (g.O.Sink.written c.run_script.new.out) (g.O.Sink.written c.check_if-told.new.sink)) c.history.ensures.value checked;
@@ -20,19 +20,19 @@ returns-in-Ok-clause-fault g c =
     let last = g.O.Sink.failures c.check_if-told.new.sink in
     let same : g.O.Sink.failures c.run_script.new.out ≡ g.O.Sink.failures c.args.out.now = search rules in
     if_err c.check_if-told.result (λ fault wanted not.
-    let fails : NotChecked c.in-Ok.kernel.log mid new (g.O.Sink.failures c.args.out.now < last) fault =
-    subst (λ n. NotChecked c.in-Ok.kernel.log mid new (n < last) fault) same (subst (λ log. NotChecked log mid new (g.O.Sink.failures c.run_script.new.out < last) fault) c.history.ensures.value not) in
+    let fails : NotChecked (g.K.Machine.shown c.in-Ok.kernel).log mid new (g.O.Sink.failures c.args.out.now < last) fault =
+    subst (λ n. NotChecked (g.K.Machine.shown c.in-Ok.kernel).log mid new (n < last) fault) same (subst (λ log. NotChecked log mid new (g.O.Sink.failures c.run_script.new.out < last) fault) c.history.ensures.value not) in
     record {
       fault = fault;
       ended = inr (record {
-        kernel = c.in-Ok.kernel;
+        kernel = g.K.Machine.shown c.in-Ok.kernel;
         mid = mid;
         ran = search rules;
         wanted = wanted;
         fails = fails;
-        passes = λ place e. c.legal_histories_have_no_fault.ensures 0 c.in-Ok.kernel.log.priorities c.in-Ok.kernel.log.limit c.in-Ok.kernel.log.entries c.history.ensures.kept.legal place (subst (NotChecked c.in-Ok.kernel.log mid new (g.O.Sink.failures c.args.out.now < last)) e fails).0;
+        passes = λ place e. c.legal_histories_have_no_fault.ensures 0 (g.K.Machine.shown c.in-Ok.kernel).log.priorities (g.K.Machine.shown c.in-Ok.kernel).log.limit (g.K.Machine.shown c.in-Ok.kernel).log.entries c.history.ensures.kept.legal place (subst (NotChecked (g.K.Machine.shown c.in-Ok.kernel).log mid new (g.O.Sink.failures c.args.out.now < last)) e fails).0;
       });
-      read = λ e. absurd (subst (NotChecked c.in-Ok.kernel.log mid new (g.O.Sink.failures c.args.out.now < last)) e fails);
-      write = λ e. (subst (NotChecked c.in-Ok.kernel.log mid new (g.O.Sink.failures c.args.out.now < last)) e fails).2;
+      read = λ e. absurd (subst (NotChecked (g.K.Machine.shown c.in-Ok.kernel).log mid new (g.O.Sink.failures c.args.out.now < last)) e fails);
+      write = λ e. (subst (NotChecked (g.K.Machine.shown c.in-Ok.kernel).log mid new (g.O.Sink.failures c.args.out.now < last)) e fails).2;
       reported = refl;
     }) c.check_if-told.ensures.wanted c.check_if-told.ensures.fault

@@ -3,4 +3,4 @@ use Rattle.runner.proofs.steps.make_steps.Given as goal
 
 -- the steps so far are done
 abbrev pub invariant-loop-pid : goal.invariant-loop-pid
-invariant-loop-pid l = HasDone l.fn.kernel.log.priorities l.fn.kernel.log.limit l.yielded l.kernel
+invariant-loop-pid g l = HasDone (g.K.Machine.shown l.fn.kernel).log.priorities (g.K.Machine.shown l.fn.kernel).log.limit l.yielded (g.K.Machine.shown l.kernel)

@@ -5,7 +5,7 @@ use Rattle.turnstile.specs.Holding.{IsSameSeat, closer_of}
 use Rattle.turnstile.proofs.turnstile.check_passes.Given as goal
 
 abbrev pub invariant-loop-pass : goal.invariant-loop-pass
-invariant-loop-pass l = record {
+invariant-loop-pass g l = record {
   same : IsSameSeat l.initial.seat l.seat;
   me : l.seat.me ≡ l.initial.seat.me;
   gates : All (λ p. p.gate ≡ gate_of l.lock.shared.table_id l.lock.shared.key.value) l.passes.items;
@@ -13,4 +13,4 @@ invariant-loop-pass l = record {
 }
 
 abbrev pub decreases-loop-pass : goal.decreases-loop-pass
-decreases-loop-pass l = goal.left-loop-pass l
+decreases-loop-pass g l = goal.left-loop-pass g l

@@ -7,7 +7,7 @@ use Rattle.turnstile.specs.declared.rule.Role.TheVariants.{Deals}
 use Rattle.turnstile.proofs.turnstile.deal.Given as goal
 
 abbrev pub invariant-loop-i : goal.invariant-loop-i
-invariant-loop-i l = record {
+invariant-loop-i g l = record {
   table : l.dealer.table_id ≡ l.lock.shared.table_id;
   me : l.dealer.me ≡ (Deals l.i l.lock.shared.key.value, []);
   items : l.passes.items ≡ map (first_pass (gate_of l.lock.shared.table_id l.lock.shared.key.value)) (all_below (is_set l.living) l.i);

@@ -32,7 +32,7 @@ module _ (priorities : List ℕ) (limit : ℕ) (f : Fields) (log : f.log ≡ rec
 pub invariant_of-result : goal.invariant_of-result
 invariant_of-result c = first_holds c.args.priorities.now c.args.limit _
     (λ i. record { entries = c.in_ok-history.ensures.empty i; priorities = c.in_ok-history.ensures.priorities i; limit = c.in_ok-history.ensures.limit i })
-    c.in_ok-transactions.ensures.count c.in_ok-transactions.ensures.first c.in_ok-contenders.ensures.count c.in_ok-contenders.ensures.first c.in_ok-contenders.ensures.each c.in_ok-transactions.ensures.state c.requires.not_too_many
+    c.in-Ok-new.ensures.count c.in-Ok-new.ensures.first c.in-Ok.ensures.count c.in-Ok.ensures.first c.in-Ok.ensures.each c.in-Ok-new.ensures.state c.requires.not_too_many
 
 pub returns-clause-kept : goal.returns-clause-kept
 returns-clause-kept c = let holds = invariant_of-result c in record { legal = holds.legal; state = holds.state }

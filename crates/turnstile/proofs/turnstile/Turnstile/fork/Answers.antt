@@ -10,7 +10,7 @@ use Rattle.turnstile.proofs.Forking.{follows_taken, fork_step, stepped, child_pi
 use Rattle.turnstile.proofs.turnstile.Turnstile.fork.Goals as goal
 
 pub bear-seat-requires-clause-kernel : goal.bear-seat-requires-clause-kernel
-bear-seat-requires-clause-kernel g c = let p = c.pass.inside.seat in let q = c.wait_and_take-kernel.new.seat in let k = c.wait_and_take-kernel.result in let k' = c.step-reply.new.self in
+bear-seat-requires-clause-kernel g c = let p = c.pass.inside.seat in let q = c.wait_and_take-kernel.new.seat in let k = g.K.Machine.shown c.wait_and_take-kernel.result in let k' = g.K.Machine.shown c.step-reply.new.self in
     let taken = c.wait_and_take-kernel.ensures in let n = c.in-Some.pid in let legal : IsLegal k'.log = record { legal = c.step-reply.ensures.kept.legal } in
     let step = fork_step k k' c.pass.inside.pid n c.step-reply.result c.step-reply.ensures.step (sym c.child_in.ensures ∙ c.in-Some.is) in (
       legal,
@@ -19,7 +19,7 @@ bear-seat-requires-clause-kernel g c = let p = c.pass.inside.seat in let q = c.w
     )
 
 pub invariant_of-result : goal.invariant_of-result
-invariant_of-result g c = let p = c.pass.inside.seat in let q = c.wait_and_take-kernel.new.seat in let k = c.wait_and_take-kernel.result in let k' = c.step-reply.new.self in
+invariant_of-result g c = let p = c.pass.inside.seat in let q = c.wait_and_take-kernel.new.seat in let k = g.K.Machine.shown c.wait_and_take-kernel.result in let k' = g.K.Machine.shown c.step-reply.new.self in
     let taken = c.wait_and_take-kernel.ensures in let n = c.in-Some.pid in let legal : IsLegal k'.log = record { legal = c.step-reply.ensures.kept.legal } in
     let step = fork_step k k' c.pass.inside.pid n c.step-reply.result c.step-reply.ensures.step (sym c.child_in.ensures ∙ c.in-Some.is) in
     let o : PassState = child_of (taker_of q.me.0) k'.log in let is = c.bear-seat.ensures.child.1 in let same = pass_is c.bear-seat.result.me o is in (
@@ -29,19 +29,19 @@ invariant_of-result g c = let p = c.pass.inside.seat in let q = c.wait_and_take-
     )
 
 pub give-requires-clause-kernel : goal.give-requires-clause-kernel
-give-requires-clause-kernel g c = let p = c.pass.inside.seat in let q = c.wait_and_take-kernel.new.seat in let k = c.wait_and_take-kernel.result in let k' = c.step-reply.new.self in
+give-requires-clause-kernel g c = let p = c.pass.inside.seat in let q = c.wait_and_take-kernel.new.seat in let k = g.K.Machine.shown c.wait_and_take-kernel.result in let k' = g.K.Machine.shown c.step-reply.new.self in
     let legal : IsLegal k'.log = record { legal = c.step-reply.ensures.kept.legal } in
     (legal, follows_taken p q q k.log k'.log c.pass.inside.pid (Do Fork) c.step-reply.result c.wait_and_take-kernel.ensures c.pass.invariant.1 legal (step_shown k k' c.pass.inside.pid (Do Fork) c.step-reply.result c.step-reply.ensures.step))
 
 pub returns-in-Some-clause-same : goal.returns-in-Some-clause-same
-returns-in-Some-clause-same g c = let p = c.pass.inside.seat in let q = c.wait_and_take-kernel.new.seat in let k = c.wait_and_take-kernel.result in let k' = c.step-reply.new.self in
+returns-in-Some-clause-same g c = let p = c.pass.inside.seat in let q = c.wait_and_take-kernel.new.seat in let k = g.K.Machine.shown c.wait_and_take-kernel.result in let k' = g.K.Machine.shown c.step-reply.new.self in
     let taken = c.wait_and_take-kernel.ensures in let n = c.in-Some.pid in let legal : IsLegal k'.log = record { legal = c.step-reply.ensures.kept.legal } in
     let step = fork_step k k' c.pass.inside.pid n c.step-reply.result c.step-reply.ensures.step (sym c.child_in.ensures ∙ c.in-Some.is) in
     let r = c.bear-seat.new.seat in let b = c.bear-seat.ensures.seat in
     rw (← c.pass.view_is) (called_pass p q r k.log (Do Fork) (Answers (Child n)) taken (stepped p q r k.log k'.log c.pass.inside.pid (Do Fork) (Answers (Child n)) taken c.pass.invariant.1 legal step b.0 b.1)).0
 
 pub returns-in-Some-clause-ok : goal.returns-in-Some-clause-ok
-returns-in-Some-clause-ok g c = let p = c.pass.inside.seat in let q = c.wait_and_take-kernel.new.seat in let k = c.wait_and_take-kernel.result in let k' = c.step-reply.new.self in
+returns-in-Some-clause-ok g c = let p = c.pass.inside.seat in let q = c.wait_and_take-kernel.new.seat in let k = g.K.Machine.shown c.wait_and_take-kernel.result in let k' = g.K.Machine.shown c.step-reply.new.self in
     let taken = c.wait_and_take-kernel.ensures in let n = c.in-Some.pid in let legal : IsLegal k'.log = record { legal = c.step-reply.ensures.kept.legal } in
     let step = fork_step k k' c.pass.inside.pid n c.step-reply.result c.step-reply.ensures.step (sym c.child_in.ensures ∙ c.in-Some.is) in
     let r = c.bear-seat.new.seat in let b = c.bear-seat.ensures.seat in let x = c.bear-seat.ensures.child in let t : PassState = taker_of q.me.0 in let seen = pass_is r.me (having_seen t k'.log) b.1 in
@@ -52,13 +52,13 @@ returns-in-Some-clause-ok g c = let p = c.pass.inside.seat in let q = c.wait_and
     }
 
 pub returns-in-None-clause-same : goal.returns-in-None-clause-same
-returns-in-None-clause-same g c = let p = c.pass.inside.seat in let q = c.wait_and_take-kernel.new.seat in let k = c.wait_and_take-kernel.result in let k' = c.step-reply.new.self in
+returns-in-None-clause-same g c = let p = c.pass.inside.seat in let q = c.wait_and_take-kernel.new.seat in let k = g.K.Machine.shown c.wait_and_take-kernel.result in let k' = g.K.Machine.shown c.step-reply.new.self in
     let taken = c.wait_and_take-kernel.ensures in let legal : IsLegal k'.log = record { legal = c.step-reply.ensures.kept.legal } in let r = c.give.new.seat in
     let step = step_shown k k' c.pass.inside.pid (Do Fork) c.step-reply.result c.step-reply.ensures.step in
     rw (← c.pass.view_is) (called_pass p q r k.log (Do Fork) c.step-reply.result taken (stepped p q r k.log k'.log c.pass.inside.pid (Do Fork) c.step-reply.result taken c.pass.invariant.1 legal step c.give.ensures.0 c.give.ensures.1)).0
 
 pub returns-in-None-clause-err : goal.returns-in-None-clause-err
-returns-in-None-clause-err g c = let p = c.pass.inside.seat in let q = c.wait_and_take-kernel.new.seat in let k = c.wait_and_take-kernel.result in let k' = c.step-reply.new.self in
+returns-in-None-clause-err g c = let p = c.pass.inside.seat in let q = c.wait_and_take-kernel.new.seat in let k = g.K.Machine.shown c.wait_and_take-kernel.result in let k' = g.K.Machine.shown c.step-reply.new.self in
     let taken = c.wait_and_take-kernel.ensures in let legal : IsLegal k'.log = record { legal = c.step-reply.ensures.kept.legal } in let r = c.give.new.seat in
     let step = step_shown k k' c.pass.inside.pid (Do Fork) c.step-reply.result c.step-reply.ensures.step in
     rw (← c.pass.view_is) (called_pass p q r k.log (Do Fork) c.step-reply.result taken (stepped p q r k.log k'.log c.pass.inside.pid (Do Fork) c.step-reply.result taken c.pass.invariant.1 legal step c.give.ensures.0 c.give.ensures.1)).1

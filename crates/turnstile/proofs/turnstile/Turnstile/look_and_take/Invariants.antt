@@ -2,4 +2,4 @@ use Rattle.std.proofs.Common.{◌≡◌}
 use Rattle.turnstile.proofs.turnstile.Turnstile.look_and_take.Given as goal
 
 abbrev pub invariant-loop : goal.invariant-loop
-invariant-loop l = l.seat ≡ l.initial.seat
+invariant-loop g l = l.seat ≡ l.initial.seat

@@ -1,8 +1,7 @@
-use Rattle.std.proofs.Common.{rules, ℕ, Option, Some, List, ◌∷◌, sym, ap, ◌∙◌}
+use Rattle.std.proofs.Common.{rules, ℕ, Some, List, ◌∷◌, sym, ap, ◌∙◌}
 use mathlib.Core.Option.{none}
 use Rattle.atomic_table.specs.Table.{Me, Step, step, rest}
 use Rattle.turnstile.specs.Histories.{IsLegal}
-use Rattle.kernel.specs.declared.kernel.Kernel.{Kernel}
 use Rattle.turnstile.specs.Passes.{pass_of}
 use Rattle.turnstile.specs.declared.rule.Role.{Role}
 use Rattle.turnstile.proofs.Steps.{takes_at, took_hit, took_miss}
@@ -10,28 +9,28 @@ use Rattle.turnstile.proofs.Calls.{history, same_seat, takes_out}
 use Rattle.turnstile.proofs.turnstile.Turnstile.take.Goals as goal
 
 pub compare_exchange-requires : goal.compare_exchange-requires
-compare_exchange-requires c = (search rules, search rules, takes_at _ _ _ _ _ _ (pass_of c.args.seat.now.me.0) c.requires.1)
+compare_exchange-requires g c = (search rules, search rules, takes_at _ _ _ _ _ _ (pass_of c.args.seat.now.me.0) c.requires.1)
 
-abbrev any_step : Step (Option Kernel)
+abbrev any_step : {S : Type 0} → Step S
 any_step = step 0 0 0 1 none
 
 pub returns-then-compare_exchange-ne-FREE-clause-none :
     goal.returns-then-compare_exchange-ne-FREE-clause-none
-returns-then-compare_exchange-ne-FREE-clause-none c = let e = c.compare_exchange.ensures in
-    same_seat c.args.seat.now c.compare_exchange.new.seat e.0 e.1 (took_miss history IsLegal any_step _ _ (pass_of c.args.seat.now.me.0) c.requires.1 _ c.if-compare_exchange-ne-FREE.true e.2)
+returns-then-compare_exchange-ne-FREE-clause-none g c = let e = c.compare_exchange.ensures in
+    same_seat c.args.seat.now c.compare_exchange.new.seat e.0 e.1 (took_miss (history g.K.Machine.shown) IsLegal any_step _ _ (pass_of c.args.seat.now.me.0) c.requires.1 _ c.if-compare_exchange-ne-FREE.true e.2)
 
 pub exchange-requires : goal.exchange-requires
-exchange-requires c = let e = c.compare_exchange.ensures in
-    let t = took_hit history IsLegal any_step _ _ (pass_of c.args.seat.now.me.0) c.requires.1 _ c.if-compare_exchange-ne-FREE.false e.2 in
-    let out = ap (λ (m : Me (Option Kernel) Role). m.1) t.1 in
-    (e.0 ∙ (c.requires.0 ∙ sym (ap (λ z. z.table) c.self.view_is)), (Some t.0, out ∙ ap (λ (xs : List (ℕ × Option Kernel)). (0, Some t.0) ∷ rest xs) (sym out)))
+exchange-requires g c = let e = c.compare_exchange.ensures in
+    let t = took_hit (history g.K.Machine.shown) IsLegal any_step _ _ (pass_of c.args.seat.now.me.0) c.requires.1 _ c.if-compare_exchange-ne-FREE.false e.2 in
+    let out = ap (λ (m : Me _ Role). m.1) t.1 in
+    (e.0 ∙ (c.requires.0 ∙ sym (ap (λ z. z.table) c.self.view_is)), (Some t.0, out ∙ ap (λ (xs : List (ℕ × _)). (0, Some t.0) ∷ rest xs) (sym out)))
 
 pub returns-clause-some : goal.returns-clause-some
-returns-clause-some c = let e = c.compare_exchange.ensures in let x = c.exchange.ensures in
-    let t = took_hit history IsLegal any_step _ _ (pass_of c.args.seat.now.me.0) c.requires.1 _ c.if-compare_exchange-ne-FREE.false e.2 in
-    (takes_out c.args.seat.now c.compare_exchange.new.seat c.exchange.new.seat c.exchange.result t.0 e.0 e.1 t.1 t.2 x.0 x.1 x.2 x.3).0
+returns-clause-some g c = let e = c.compare_exchange.ensures in let x = c.exchange.ensures in
+    let t = took_hit (history g.K.Machine.shown) IsLegal any_step _ _ (pass_of c.args.seat.now.me.0) c.requires.1 _ c.if-compare_exchange-ne-FREE.false e.2 in
+    (takes_out g.K.Machine.shown c.args.seat.now c.compare_exchange.new.seat c.exchange.new.seat c.exchange.result t.0 e.0 e.1 t.1 t.2 x.0 x.1 x.2 x.3).0
 
 pub returns-clause-none : goal.returns-clause-none
-returns-clause-none c = let e = c.compare_exchange.ensures in let x = c.exchange.ensures in
-    let t = took_hit history IsLegal any_step _ _ (pass_of c.args.seat.now.me.0) c.requires.1 _ c.if-compare_exchange-ne-FREE.false e.2 in
-    (takes_out c.args.seat.now c.compare_exchange.new.seat c.exchange.new.seat c.exchange.result t.0 e.0 e.1 t.1 t.2 x.0 x.1 x.2 x.3).1
+returns-clause-none g c = let e = c.compare_exchange.ensures in let x = c.exchange.ensures in
+    let t = took_hit (history g.K.Machine.shown) IsLegal any_step _ _ (pass_of c.args.seat.now.me.0) c.requires.1 _ c.if-compare_exchange-ne-FREE.false e.2 in
+    (takes_out g.K.Machine.shown c.args.seat.now c.compare_exchange.new.seat c.exchange.new.seat c.exchange.result t.0 e.0 e.1 t.1 t.2 x.0 x.1 x.2 x.3).1

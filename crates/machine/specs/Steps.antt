@@ -4,7 +4,7 @@ use Rattle.history.specs.Log.{Log}
 use Rattle.model.specs.Moments.{status, has_free}
 use Rattle.model.specs.Replies.{needed}
 use Rattle.model.specs.Entries.{Entry, Op, Reply, HistoryFull, NoMemory}
-use Rattle.kernel.specs.Shown.{Shown, Kept, moment}
+use Rattle.machine.specs.Shown.{Shown, Kept, moment}
 
 -- whether a reply stands for no entry
 abbrev pub is_no_entry : Reply → Bool
