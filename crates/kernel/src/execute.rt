@@ -20,7 +20,7 @@ ghost use Rattle.kernel.specs.States.{Unchanged, ends_process, fields, first_is,
 ghost use Rattle.kernel.specs.States.{no_part, part_after, part_at, part_with, state_with, with_born};
 ghost use Rattle.machine.specs.Shown.{moment};
 
-use crate::state::{Live, State, add_entry, end_transaction, enter};
+use crate::state::{Live, State, Told, add_entry, end_transaction, enter};
 use calls::{Plan, plan_of};
 use contention::{Doomed, Verdict};
 use heap::Heap;
@@ -215,6 +215,36 @@ fn change(
     }
 }
 
+/// A copy of a reply, and the processes that are doomed. Refused memory gives nothing.
+fn copies_of(heap: Heap, reply: &Reply, doomed: &[Doomed]) -> Result<(Reply, Pids), AllocError>
+    ensures reply { IfOk result (λ c. c.0 ≡ reply.now) }
+    ensures pids { IfOk result (λ c. c.1 ≡ map (λ d. d.pid) doomed.now) }
+{
+    let pids = pids_of(heap, doomed)?;
+    Ok((reply.try_clone()?, pids))
+}
+
+/// The reply to a call, for the entry and for the caller, and the processes that are doomed. Refused
+/// memory gives nothing.
+fn told_of(
+    heap: Heap,
+    answer: Result<Answer, Errno>,
+    doomed: &[Doomed],
+) -> Result<(Told, Pids), AllocError>
+    ensures entry { IfOk result (λ t. t.0.0 ≡ answered answer) }
+    ensures reply { IfOk result (λ t. t.0.1 ≡ answered answer) }
+    ensures pids { IfOk result (λ t. t.1 ≡ map (λ d. d.pid) doomed.now) }
+{
+    let reply = reply_of(answer);
+    match copies_of(heap, &reply, doomed) {
+        Ok((entry, pids)) => Ok(((entry, reply), pids)),
+        Err(refused) => {
+            drop(reply);
+            Err(refused)
+        }
+    }
+}
+
 /// A call that loses against nobody: it dooms all with whom it clashes, and takes effect. Refused
 /// memory changes nothing.
 fn take(
@@ -233,12 +263,33 @@ fn take(
     ensures ok { IfOk result (Does (fields s.old) (fields s.new) pid (entries.Do call)) }
     ensures err { OnErr result (Unchanged (fields s.old) (fields s.new)) }
 {
-    let pids = pids_of(s.heap, doomed.as_slice())?;
-    let reply = reply_of(plan.answer);
-    let told = reply.try_clone()?;
-    let chosen = change(s, pid, &within, &call, plan.touches, plan.edits)?;
+    let Plan {
+        answer,
+        touches,
+        edits,
+    } = plan;
+    let (told, pids) = match told_of(s.heap, answer, doomed.as_slice()) {
+        Ok(told) => told,
+        Err(refused) => {
+            drop(call);
+            drop(touches);
+            drop(edits);
+            drop(doomed);
+            return Err(refused);
+        }
+    };
+    let chosen = match change(s, pid, &within, &call, touches, edits) {
+        Ok(chosen) => chosen,
+        Err(refused) => {
+            drop(call);
+            drop(doomed);
+            drop(told);
+            return Err(refused);
+        }
+    };
     doom_each(s, doomed);
-    enter(s, pid, Op::Call(call), told, chosen, pids);
+    let (entry, reply) = told;
+    enter(s, pid, Op::Call(call), entry, chosen, pids);
     Ok(reply)
 }
 
