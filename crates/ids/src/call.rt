@@ -74,9 +74,15 @@ impl Call {
             Call::Ftruncate(fd, length) => Ok(Call::Ftruncate(*fd, *length)),
             Call::Stat(path) => Ok(Call::Stat(path.try_clone()?)),
             Call::Fstat(fd) => Ok(Call::Fstat(*fd)),
-            Call::Link(old, new) => Ok(Call::Link(old.try_clone()?, new.try_clone()?)),
+            Call::Link(old, new) => {
+                let (old, new) = paths_copied(old, new)?;
+                Ok(Call::Link(old, new))
+            }
             Call::Unlink(path) => Ok(Call::Unlink(path.try_clone()?)),
-            Call::Rename(old, new) => Ok(Call::Rename(old.try_clone()?, new.try_clone()?)),
+            Call::Rename(old, new) => {
+                let (old, new) = paths_copied(old, new)?;
+                Ok(Call::Rename(old, new))
+            }
             Call::Mkdir(path) => Ok(Call::Mkdir(path.try_clone()?)),
             Call::Rmdir(path) => Ok(Call::Rmdir(path.try_clone()?)),
             Call::List(path) => Ok(Call::List(path.try_clone()?)),
@@ -87,6 +93,13 @@ impl Call {
             Call::Exit => Ok(Call::Exit),
         }
     }
+}
+
+// Copies of two paths on the same allocators. Refused memory changes nothing.
+fn paths_copied(old: &Bytes, new: &Bytes) -> Result<(Bytes, Bytes), AllocError>
+    ensures { IfOk result (λ copies. (copies.0 ≡ old.now) × (copies.1 ≡ new.now)) }
+{
+    Ok((old.try_clone()?, new.try_clone()?))
 }
 
 /// What a process asks of the kernel: a call, or to begin, end or give up a transaction (TxOS,

@@ -27,13 +27,30 @@ impl Entry {
     pub fn try_clone(&self) -> Result<Entry, AllocError>
         ensures { IfOk result (λ copy. copy ≡ self.now) }
     {
+        let chosen = self.chosen.try_clone()?;
+        let doomed = self.doomed.try_clone()?;
+        let (op, reply) = step_copied(&self.op, &self.reply)?;
         Ok(Entry {
             pid: self.pid,
-            op: self.op.try_clone()?,
-            reply: self.reply.try_clone()?,
-            chosen: self.chosen.try_clone()?,
-            doomed: self.doomed.try_clone()?,
+            op,
+            reply,
+            chosen,
+            doomed,
         })
+    }
+}
+
+// Copies of an operation and its reply on the same allocators. Refused memory changes nothing.
+fn step_copied(op: &Op, reply: &Reply) -> Result<(Op, Reply), AllocError>
+    ensures { IfOk result (λ copies. (copies.0 ≡ op.now) × (copies.1 ≡ reply.now)) }
+{
+    let op = op.try_clone()?;
+    match reply.try_clone() {
+        Ok(reply) => Ok((op, reply)),
+        Err(refused) => {
+            drop(op);
+            Err(refused)
+        }
     }
 }
 

@@ -12,18 +12,16 @@ use crate::trees::TREES;
 
 // The rows of each kind. The functions that go over them do so in a loop, since the proof of a call
 // for each kind is long.
-pub(crate) fn all_rows() -> [&'static [Row]; 11] {
-    [
-        &TRANSACTIONS,
-        &TREES,
-        &FILES,
-        &LINKS,
-        &FREED,
-        &RENAMES,
-        &SHARED,
-        &PIPES,
-        &HALVES,
-        &PROCESSES,
-        &ENDED,
-    ]
-}
+pub(crate) static ALL_ROWS: [&[Row]; 11] = [
+    &TRANSACTIONS,
+    &TREES,
+    &FILES,
+    &LINKS,
+    &FREED,
+    &RENAMES,
+    &SHARED,
+    &PIPES,
+    &HALVES,
+    &PROCESSES,
+    &ENDED,
+];
