@@ -172,11 +172,14 @@ fn entries_of(
     lines: Vec<Line, Heap>,
     replies: Vec<Reply, Heap>,
 ) -> Result<Vec<Entry, Heap>, AllocError> {
-    lines
-        .into_iter()
-        .zip(replies)
-        .map(|(line, reply)| entry(heap, line, reply))
-        .collect(heap)
+    let mut entries = Vec::with_capacity(heap, lines.len())?;
+    let mut replies = replies.into_iter();
+    for line in lines {
+        if let Some(reply) = replies.next() {
+            entries.push(entry(heap, line, reply))?;
+        }
+    }
+    Ok(entries)
 }
 
 fn doom(entry: &mut Entry) -> Result<(), AllocError> {

@@ -1,5 +1,5 @@
 // Workers over ports that answer by a manner of their own.
-ghost use Rattle.std.specs.Prelude.{◌≡◌, [], IfOk, All, ℕ};
+ghost use Rattle.std.specs.Prelude.{◌≡◌, ◌++◌, ◌∷◌, [], IfOk, All, ℕ, false, true};
 ghost use Rattle.workers.specs.Families.{HaveOneHome};
 ghost use Rattle.workers.specs.Port.{IsNoChild, grown};
 
@@ -95,13 +95,19 @@ fn kept(entries: &mut Entries, operation: Op, reply: Reply) -> Reply
         drop(reply);
         return Reply::NoMemory;
     };
-    match entries.push((operation, copy)) {
-        Ok(()) => reply,
-        Err(_) => {
-            drop(reply);
-            Reply::NoMemory
-        }
+    if is_added(entries, operation, copy) {
+        return reply;
     }
+    drop(reply);
+    Reply::NoMemory
+}
+
+// Adds an operation and its reply. Answers whether there was memory.
+fn is_added(entries: &mut Entries, operation: Op, reply: Reply) -> bool
+    ensures added { result ≡ true → entries.new.items ≡ entries.old.items ++ (operation, reply) ∷ [] }
+    ensures refused { result ≡ false → entries.new.items ≡ entries.old.items }
+{
+    entries.push((operation, reply)).is_ok()
 }
 
 impl Port for Mannered {
@@ -133,10 +139,11 @@ impl Port for Mannered {
         };
         let brothers = if self.entries.is_empty() { 0 } else { 1 };
         let pid = Pid(self.pid.0.wrapping_mul(10).wrapping_add(brothers));
-        let entry = (Op::Call(Call::Fork), Reply::Answer(Answer::Child(pid)));
-        match self.entries.push(entry) {
-            Ok(()) => Ok((pid, fresh(self.heap, pid, self.manner))),
-            Err(_) => Err(Reply::NoMemory),
+        let reply = Reply::Answer(Answer::Child(pid));
+        if is_added(&mut self.entries, Op::Call(Call::Fork), reply) {
+            Ok((pid, fresh(self.heap, pid, self.manner)))
+        } else {
+            Err(Reply::NoMemory)
         }
     }
 }

@@ -1,6 +1,6 @@
 // Histories of rows in which one reply is changed. The check tells where the call counts.
 use crate::row::{Row, do_script, kernel_of};
-use crate::rows::all_rows;
+use crate::rows::{KINDS, rows_of};
 use heap::Heap;
 use history::History;
 use ids::{Answer, Entry, Errno, Pid, Reply};
@@ -147,8 +147,8 @@ fn all_found<K: Machine>(heap: Heap, rows: &[Row]) -> Result<(), Fail> {
 
 // Every row.
 fn each_found<K: Machine>(heap: Heap) -> Result<(), Fail> {
-    for rows in all_rows() {
-        all_found::<K>(heap, rows)?;
+    for kind in 0..KINDS {
+        all_found::<K>(heap, rows_of(kind))?;
     }
     Ok(())
 }

@@ -409,15 +409,20 @@ fn largest_in<K: Machine>(heap: Heap, row: &Row) -> Result<usize, Fail> {
 }
 
 // Were a number of an inode or a description kept, eight more would not end at 8.
+fn root_alone_is_left<K: Machine>(heap: Heap, rows: &[Row]) -> Result<bool, Fail> {
+    for row in rows {
+        if largest_in::<K>(heap, row)? != 8 {
+            return Ok(false);
+        }
+    }
+    Ok(true)
+}
+
 #[test]
 fn the_root_alone_is_left(rt: HostRuntime) -> Result<(), Fail> {
     let heap = heap::open(rt.alloc())?;
-    for row in &FREED {
-        assert_eq!(rt; largest_in::<Kernel>(heap, row)?, 8);
-    }
-    for row in &ENDED {
-        assert_eq!(rt; largest_in::<Kernel>(heap, row)?, 8);
-    }
+    assert!(rt; root_alone_is_left::<Kernel>(heap, &FREED)?);
+    assert!(rt; root_alone_is_left::<Kernel>(heap, &ENDED)?);
     Ok(())
 }
 

@@ -5,6 +5,7 @@ use heap::Heap;
 use ids::Priority;
 use kernel::Kernel;
 use machine::Machine;
+use std::process::Abort;
 use std::test::Fail;
 
 pub(crate) struct Part {
@@ -69,7 +70,7 @@ fn refuse_once<K: Machine>(
 
 // Whether each refused request of a row's step leaves all as it was, and there are as many as the row
 // says.
-pub(crate) fn is_right<K: Machine>(heap: Heap, row: &Refused) -> Result<bool, Fail> {
+fn is_right<K: Machine>(heap: Heap, row: &Refused) -> Result<bool, Fail> {
     let mut refusals = 0u64;
     for number in 1..50u64 {
         let (refused, told) = refuse_once::<K>(heap, row, number)?;
@@ -81,6 +82,18 @@ pub(crate) fn is_right<K: Machine>(heap: Heap, row: &Refused) -> Result<bool, Fa
         }
     }
     Ok(refusals >= row.requests && refusals < 49)
+}
+
+// Each refused request of the steps of these rows leaves all as it was.
+pub(crate) fn assert_right<K: Machine>(
+    rt: &impl Abort,
+    heap: Heap,
+    rows: &[Refused],
+) -> Result<(), Fail> {
+    for row in rows {
+        assert!(rt; is_right::<K>(heap, row)?, "{}", row.transcript);
+    }
+    Ok(())
 }
 
 // Whether a run has not begun that is refused the room for its replies.

@@ -1,5 +1,5 @@
 // Each request for memory refused once, in calls on directories and files.
-use crate::refused::{Part, Refused, is_right};
+use crate::refused::{Part, Refused, assert_right};
 use kernel::Kernel;
 use std::test::Fail;
 
@@ -362,9 +362,5 @@ static FILES: [Refused; 12] = [
 
 #[test]
 fn refused_calls_on_files_change_nothing(rt: HostRuntime) -> Result<(), Fail> {
-    let heap = heap::open(rt.alloc())?;
-    for row in &FILES {
-        assert!(rt; is_right::<Kernel>(heap, row)?, "{}", row.transcript);
-    }
-    Ok(())
+    assert_right::<Kernel>(&rt, heap::open(rt.alloc())?, &FILES)
 }

@@ -1,5 +1,5 @@
 // Each request for memory refused once, in calls on names of files.
-use crate::refused::{Part, Refused, is_right};
+use crate::refused::{Part, Refused, assert_right};
 use kernel::Kernel;
 use std::test::Fail;
 
@@ -286,9 +286,5 @@ static NAMES: [Refused; 8] = [
 
 #[test]
 fn refused_calls_on_names_change_nothing(rt: HostRuntime) -> Result<(), Fail> {
-    let heap = heap::open(rt.alloc())?;
-    for row in &NAMES {
-        assert!(rt; is_right::<Kernel>(heap, row)?, "{}", row.transcript);
-    }
-    Ok(())
+    assert_right::<Kernel>(&rt, heap::open(rt.alloc())?, &NAMES)
 }

@@ -1,5 +1,5 @@
 // Each request for memory refused once, in calls on pipes, and in forks and exits.
-use crate::refused::{Part, Refused, is_right};
+use crate::refused::{Part, Refused, assert_right};
 use kernel::Kernel;
 use std::test::Fail;
 
@@ -316,9 +316,5 @@ static PIPES: [Refused; 9] = [
 
 #[test]
 fn refused_calls_on_pipes_change_nothing(rt: HostRuntime) -> Result<(), Fail> {
-    let heap = heap::open(rt.alloc())?;
-    for row in &PIPES {
-        assert!(rt; is_right::<Kernel>(heap, row)?, "{}", row.transcript);
-    }
-    Ok(())
+    assert_right::<Kernel>(&rt, heap::open(rt.alloc())?, &PIPES)
 }

@@ -10,18 +10,23 @@ use crate::shared::SHARED;
 use crate::transactions::TRANSACTIONS;
 use crate::trees::TREES;
 
-// The rows of each kind. The functions that go over them do so in a loop, since the proof of a call
-// for each kind is long.
-pub(crate) static ALL_ROWS: [&[Row]; 11] = [
-    &TRANSACTIONS,
-    &TREES,
-    &FILES,
-    &LINKS,
-    &FREED,
-    &RENAMES,
-    &SHARED,
-    &PIPES,
-    &HALVES,
-    &PROCESSES,
-    &ENDED,
-];
+// How many kinds of rows there are.
+pub(crate) const KINDS: usize = 11;
+
+// The rows of a kind, of which the numbers are below `KINDS`. The functions that go over all of them
+// do so in a loop, since the proof of a call for each kind is long; and so is that of a list of them.
+pub(crate) fn rows_of(kind: usize) -> &'static [Row] {
+    match kind {
+        0 => &TRANSACTIONS,
+        1 => &TREES,
+        2 => &FILES,
+        3 => &LINKS,
+        4 => &FREED,
+        5 => &RENAMES,
+        6 => &SHARED,
+        7 => &PIPES,
+        8 => &HALVES,
+        9 => &PROCESSES,
+        _ => &ENDED,
+    }
+}

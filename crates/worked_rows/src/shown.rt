@@ -1,6 +1,6 @@
 // All that a kernel shows, as a text.
 use heap::Heap;
-use ids::{Kind, Num, Pid, Slot};
+use ids::{Fd, Kind, Name, Num, Pid, Slot};
 use kernel::Kernel;
 use look::Look;
 use std::alloc::AllocError;
@@ -29,7 +29,21 @@ fn show_names<L: Look>(
     dirs: &mut Vec<Num, Heap>,
 ) -> Result<(), AllocError> {
     write!(text, "\n{dir:?}")?;
-    for name in view.names(heap, dir)?.as_slice() {
+    let names = view.names(heap, dir)?;
+    let shown = show_each(heap, text, view, dir, names.as_slice(), dirs);
+    drop(names);
+    shown
+}
+
+fn show_each<L: Look>(
+    heap: Heap,
+    text: &mut Text,
+    view: &L,
+    dir: Num,
+    names: &[Name],
+    dirs: &mut Vec<Num, Heap>,
+) -> Result<(), AllocError> {
+    for name in names {
         let found = view.find(dir, name);
         write!(text, " {name:?} {found:?}")?;
         match found {
@@ -88,7 +102,18 @@ fn show_table<L: Look>(heap: Heap, text: &mut Text, view: &L, pid: Pid) -> Resul
     let birth = view.birth(pid)?;
     write!(text, "\n{birth:?}")?;
     let table = view.table(heap, pid)?;
-    for (fd, slot) in &table {
+    let shown = show_slots(heap, text, view, table.as_slice());
+    drop(table);
+    shown
+}
+
+fn show_slots<L: Look>(
+    heap: Heap,
+    text: &mut Text,
+    view: &L,
+    table: &[(Fd, Slot)],
+) -> Result<(), AllocError> {
+    for (fd, slot) in table {
         write!(text, "\n{fd:?}")?;
         show_slot(heap, text, view, slot)?;
     }

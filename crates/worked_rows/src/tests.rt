@@ -1,7 +1,7 @@
 // Each row is run step by step, and as one run of the kernel.
 use crate::growths::{grow_all, grow_script};
 use crate::row::{Row, do_script, kernel_of, steps_in, transcript_of};
-use crate::rows::all_rows;
+use crate::rows::{KINDS, rows_of};
 use heap::Heap;
 use kernel::Kernel;
 use machine::Machine;
@@ -51,8 +51,8 @@ fn all_at_once<K: Machine>(heap: Heap, rows: &[Row]) -> Result<(), Fail> {
 
 // Every row, step by step.
 fn each_by_steps<K: Machine>(heap: Heap) -> Result<(), Fail> {
-    for rows in all_rows() {
-        all_by_steps::<K>(heap, rows)?;
+    for kind in 0..KINDS {
+        all_by_steps::<K>(heap, rows_of(kind))?;
     }
     Ok(())
 }
@@ -64,8 +64,8 @@ fn steps_leave_the_transcript_of_the_row(rt: HostRuntime) -> Result<(), Fail> {
 
 // Every row, as one run.
 fn each_at_once<K: Machine>(heap: Heap) -> Result<(), Fail> {
-    for rows in all_rows() {
-        all_at_once::<K>(heap, rows)?;
+    for kind in 0..KINDS {
+        all_at_once::<K>(heap, rows_of(kind))?;
     }
     Ok(())
 }
@@ -79,8 +79,8 @@ fn a_run_leaves_the_transcript_of_the_row(rt: HostRuntime) -> Result<(), Fail> {
 #[test]
 fn refuse_each_growth(rt: HostRuntime) -> Result<(), Fail> {
     let heap = heap::open(rt.alloc())?;
-    for rows in all_rows() {
-        assert!(rt; grow_all(heap, rows)? > 0);
+    for kind in 0..KINDS {
+        assert!(rt; grow_all(heap, rows_of(kind))? > 0);
     }
     Ok(())
 }
