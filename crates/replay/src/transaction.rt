@@ -1,14 +1,9 @@
 // What is kept of a process's transaction.
-ghost use Rattle.std.specs.Prelude.{◌≡◌, ◌++◌, ◌∷◌, ◌||◌, [], true, if◌then◌else◌, IfOk};
-ghost use Rattle.std.specs.Prelude.{option_copied};
-ghost use Rattle.model.specs.Suits.{is_begun, is_busy, is_clash, is_committed, is_executed};
-ghost use Rattle.model.specs.Suits.{is_given_up, is_in_transaction, is_no_process};
-ghost use Rattle.model.specs.Suits.{is_not_in_transaction, is_refused_inside, suits_idle};
-ghost use Rattle.model.specs.Suits.{is_for_unsupported};
-ghost use Rattle.model.specs.Suits.{suits_live};
-ghost use Rattle.replay.specs.Transactions.{begun_anew, begun_kept, doomed_kept, own_kept};
+ghost use Rattle.std.specs.Prelude.{◌≡◌, [], IfOk, option_copied};
+ghost use Rattle.model.specs.Suits.{is_clash, is_executed, is_refused_inside, suits_idle, suits_live};
+ghost use Rattle.replay.specs.Transactions.{begun_kept, doomed_kept, own_kept};
 ghost use Rattle.replay.specs.Transactions.{settled_kept, suits_kept, with_place};
-ghost use Rattle.model.specs.Entries.{is_inside, is_unsupported};
+ghost use Rattle.model.specs.Entries.{is_unsupported};
 
 use heap::Heap;
 use ids::{BeginFlags, Call, Errno, Op, Reply, Why};
@@ -39,15 +34,6 @@ impl Places {
         }
     }
 
-    // One more.
-    fn with(self, at: usize) -> Result<Places, AllocError>
-        ensures { IfOk result (λ all. all ≡ self ++ at ∷ []) }
-    {
-        let Places { mut places } = self;
-        places.push(at)?;
-        Ok(Places { places })
-    }
-
     // All of them.
     pub(crate) fn as_slice(&self) -> &[usize]
         ensures { result.now ≡ self.now }
@@ -69,17 +55,9 @@ pub(crate) enum Transaction {
 pub(crate) fn suits(is_living: bool, kept: Option<&Transaction>, op: &Op, reply: &Reply) -> bool
     ensures { result ≡ suits_kept is_living (option_copied kept.entry) op.now reply.now }
 {
-    if is_living {
-        suits_living(kept, op, reply)
-    } else {
-        is_no_process(reply)
+    if !is_living {
+        return matches!(reply, Reply::NoProcess);
     }
-}
-
-// Of a living process.
-fn suits_living(kept: Option<&Transaction>, op: &Op, reply: &Reply) -> bool
-    ensures { result ≡ suits_kept true (option_copied kept.entry) op.now reply.now }
-{
     match kept {
         None => suits_idle(op, reply),
         Some(Transaction::Live(flags, _)) => suits_live(*flags, op, reply),
@@ -92,10 +70,10 @@ fn suits_idle(op: &Op, reply: &Reply) -> bool
     ensures { result ≡ suits_idle op.now reply.now }
 {
     match op {
-        Op::Call(_) => is_busy(reply) || is_executed(reply),
-        Op::Begin(_) => is_begun(reply),
-        Op::End => is_not_in_transaction(reply),
-        Op::Abort { no_restart: _ } => is_not_in_transaction(reply),
+        Op::Call(_) => matches!(reply, Reply::Busy(_)) || is_executed(reply),
+        Op::Begin(_) => matches!(reply, Reply::Begun),
+        Op::End => matches!(reply, Reply::NotInTransaction),
+        Op::Abort { no_restart: _ } => matches!(reply, Reply::NotInTransaction),
     }
 }
 
@@ -104,28 +82,12 @@ fn suits_live(flags: BeginFlags, op: &Op, reply: &Reply) -> bool
     ensures { result ≡ suits_live flags op.now reply.now }
 {
     match op {
-        Op::Call(call) => suits_call(flags, call, reply),
-        Op::Begin(_) => is_in_transaction(reply),
-        Op::End => is_committed(reply),
-        Op::Abort { no_restart: _ } => is_given_up(reply),
+        Op::Call(Call::Fork | Call::Exit) => is_refused_inside(flags, reply),
+        Op::Call(_) => is_clash(reply) || is_executed(reply),
+        Op::Begin(_) => matches!(reply, Reply::InTransaction),
+        Op::End => matches!(reply, Reply::Committed),
+        Op::Abort { no_restart: _ } => matches!(reply, Reply::GivenUp { restarted: _ }),
     }
-}
-
-fn suits_call(flags: BeginFlags, call: &Call, reply: &Reply) -> bool
-    ensures { result ≡ (if is_inside call.now then is_clash reply.now || is_executed reply.now
-        else is_refused_inside flags reply.now) }
-{
-    if is_inside(call) {
-        is_clash(reply) || is_executed(reply)
-    } else {
-        is_refused_inside(flags, reply)
-    }
-}
-
-fn is_inside(call: &Call) -> bool
-    ensures { result ≡ is_inside call.now }
-{
-    !matches!(call, Call::Fork | Call::Exit)
 }
 
 fn is_clash(reply: &Reply) -> bool
@@ -135,48 +97,6 @@ fn is_clash(reply: &Reply) -> bool
         Reply::Aborted { why, restarted: _ } => matches!(why, Why::Clash(_)),
         _ => false,
     }
-}
-
-fn is_busy(reply: &Reply) -> bool
-    ensures { result ≡ is_busy reply.now }
-{
-    matches!(reply, Reply::Busy(_))
-}
-
-fn is_begun(reply: &Reply) -> bool
-    ensures { result ≡ is_begun reply.now }
-{
-    matches!(reply, Reply::Begun)
-}
-
-fn is_committed(reply: &Reply) -> bool
-    ensures { result ≡ is_committed reply.now }
-{
-    matches!(reply, Reply::Committed)
-}
-
-fn is_given_up(reply: &Reply) -> bool
-    ensures { result ≡ is_given_up reply.now }
-{
-    matches!(reply, Reply::GivenUp { restarted: _ })
-}
-
-fn is_in_transaction(reply: &Reply) -> bool
-    ensures { result ≡ is_in_transaction reply.now }
-{
-    matches!(reply, Reply::InTransaction)
-}
-
-fn is_not_in_transaction(reply: &Reply) -> bool
-    ensures { result ≡ is_not_in_transaction reply.now }
-{
-    matches!(reply, Reply::NotInTransaction)
-}
-
-fn is_no_process(reply: &Reply) -> bool
-    ensures { result ≡ is_no_process reply.now }
-{
-    matches!(reply, Reply::NoProcess)
 }
 
 pub(crate) fn is_executed(reply: &Reply) -> bool
@@ -200,17 +120,11 @@ fn is_refused_inside(flags: BeginFlags, reply: &Reply) -> bool
 {
     match reply {
         Reply::Aborted { why, restarted: _ } => {
-            is_for_unsupported(why) && flags.aborts_unsupported()
+            matches!(why, Why::Unsupported) && flags.aborts_unsupported()
         }
         Reply::Errno(errno) => !flags.aborts_unsupported() && is_unsupported(*errno),
         _ => false,
     }
-}
-
-fn is_for_unsupported(why: &Why) -> bool
-    ensures { result ≡ is_for_unsupported why.now }
-{
-    matches!(why, Why::Unsupported)
 }
 
 // After an entry of the process itself, which stands at this place.
@@ -245,8 +159,9 @@ fn with_place(kept: Option<Transaction>, at: usize) -> Result<Option<Transaction
 {
     match kept {
         Some(Transaction::Live(flags, places)) => {
-            let places = places.with(at)?;
-            Ok(Some(Transaction::Live(flags, places)))
+            let Places { mut places } = places;
+            places.push(at)?;
+            Ok(Some(Transaction::Live(flags, Places { places })))
         }
         Some(Transaction::Doomed(flags)) => Ok(Some(Transaction::Doomed(flags))),
         None => Ok(None),
@@ -270,16 +185,11 @@ fn begun_kept(heap: Heap, kept: Option<Transaction>, op: &Op) -> Option<Transact
 fn settled_kept(heap: Heap, kept: Option<Transaction>, again: bool) -> Option<Transaction>
     ensures { result ≡ settled_kept kept again }
 {
-    match kept {
-        Some(Transaction::Live(flags, _places)) => begun_anew(heap, flags, again),
-        Some(Transaction::Doomed(flags)) => begun_anew(heap, flags, again),
-        None => None,
-    }
-}
-
-fn begun_anew(heap: Heap, flags: BeginFlags, again: bool) -> Option<Transaction>
-    ensures { result ≡ begun_anew flags again }
-{
+    let flags = match kept {
+        Some(Transaction::Live(flags, _places)) => flags,
+        Some(Transaction::Doomed(flags)) => flags,
+        None => return None,
+    };
     if again {
         Some(Transaction::Live(flags, Places::new(heap)))
     } else {
