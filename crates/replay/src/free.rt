@@ -16,7 +16,10 @@ impl PlainKernel {
     fn given(&self, pid: Pid, fd: Fd) -> Option<Num>
         ensures { result ≡ get (process_of self.now pid).table fd }
     {
-        given_in(self.processes.get(place_of(pid)), fd)
+        match self.processes.get(place_of(pid)) {
+            Some(process) => process.table.get(Num(fd.0 as usize)).copied(),
+            None => None,
+        }
     }
 
     // The descriptions that descriptors give no more after an edit.
@@ -69,15 +72,8 @@ impl PlainKernel {
         ensures { self.new ≡ free_inode num self.old }
     {
         if !self.is_reached(num) {
-            self.remove_inode(num);
+            self.inodes.remove(num);
         }
-    }
-
-    // An inode goes.
-    fn remove_inode(&mut self, num: Num)
-        ensures { self.new ≡ record self.old { inodes = remove self.old.inodes num } }
-    {
-        self.inodes.remove(num);
     }
 
     // Each of these goes so.
@@ -141,32 +137,6 @@ impl PlainKernel {
     }
 }
 
-// The description that a descriptor gives; none where there is no process.
-fn given_in(process: Option<&Process>, fd: Fd) -> Option<Num>
-    ensures { result ≡ get (or_new (option_copied process.entry)).table fd }
-{
-    match process {
-        Some(process) => process.given(fd),
-        None => None,
-    }
-}
-
-impl Process {
-    // The description that a descriptor gives.
-    fn given(&self, fd: Fd) -> Option<Num>
-        ensures { result ≡ get self.now.table fd }
-    {
-        self.table.get(Num(fd.0 as usize)).copied()
-    }
-
-    // All descriptions that descriptors give.
-    fn values(&self, heap: Heap) -> Result<Vec<Num, Heap>, AllocError>
-        ensures { IfOk result (λ all. all.items ≡ values self.now.table) }
-    {
-        values_of(heap, self.table.as_slice())
-    }
-}
-
 // The numbers of a table, in order.
 fn values_of(heap: Heap, slots: &[(Num, Num)]) -> Result<Vec<Num, Heap>, AllocError>
     ensures { IfOk result (λ all. all.items ≡ map (λ e. e.1) slots.now) }
@@ -180,7 +150,7 @@ fn values_in(heap: Heap, process: Option<&Process>) -> Result<Vec<Num, Heap>, Al
         (λ all. all.items ≡ values (or_new (option_copied process.entry)).table) }
 {
     match process {
-        Some(process) => process.values(heap),
+        Some(process) => values_of(heap, process.table.as_slice()),
         None => Ok(Vec::new(heap)),
     }
 }

@@ -1,5 +1,5 @@
 // An inode of the plain kernel.
-ghost use Rattle.std.specs.Prelude.{◌≡◌, ℕ, ◌-◌, Some, option_copied, IfOk};
+ghost use Rattle.std.specs.Prelude.{◌≡◌, ℕ, ◌-◌, option_copied, IfOk};
 ghost use Rattle.model.specs.FiniteMap.{get, keys};
 ghost use Rattle.model.specs.Paths.{is_empty};
 ghost use Rattle.model.specs.State.{Inode, File as A_file, Directory as A_directory, mapped};
@@ -69,129 +69,16 @@ impl Inode {
             content: Content::Pipe(bytes),
         }
     }
-
-    // What kind of object it is.
-    fn kind(&self) -> Kind
-        ensures { result ≡ kind self.now }
-    {
-        match &self.content {
-            Content::File(_) => Kind::File,
-            Content::Directory(_) => Kind::Dir,
-            Content::Pipe(_) => Kind::Pipe,
-        }
-    }
-
-    // What a name gives; nothing where it is no directory.
-    fn given(&self, name: &Name) -> Option<Num>
-        ensures { result ≡ get (names_of_inode (Some self.now)) name.now }
-    {
-        match &self.content {
-            Content::Directory(names) => names.get(name),
-            Content::File(_) => None,
-            Content::Pipe(_) => None,
-        }
-    }
-
-    // All names.
-    fn names(&self, heap: Heap) -> Result<NameList, AllocError>
-        ensures { IfOk result (λ names. names ≡ keys (names_of_inode (Some self.now))) }
-    {
-        match &self.content {
-            Content::Directory(names) => names.names(heap),
-            Content::File(_) => Ok(NameList::new(Vec::new(heap))),
-            Content::Pipe(_) => Ok(NameList::new(Vec::new(heap))),
-        }
-    }
-
-    // Whether it has no names.
-    fn is_empty(&self) -> bool
-        ensures { result ≡ is_empty (keys (names_of_inode (Some self.now))) }
-    {
-        match &self.content {
-            Content::Directory(names) => names.is_empty(),
-            Content::File(_) => true,
-            Content::Pipe(_) => true,
-        }
-    }
-
-    // One name less gives each number, as often as its names give it.
-    pub(crate) fn lose_names(&self, counts: &mut Tree<usize>)
-        ensures { (n : ℕ) → count_at counts.new n
-            ≡ count_at counts.old n - times_given n (names_of_inode (Some self.now)) }
-    {
-        match &self.content {
-            Content::Directory(names) => names.lose_all(counts),
-            Content::File(_) => (),
-            Content::Pipe(_) => (),
-        }
-    }
-
-    // The bytes of a file.
-    fn file_bytes(&self) -> &[u8]
-        ensures { result.now ≡ file_of_inode (Some self.now) }
-    {
-        match &self.content {
-            Content::File(bytes) => bytes.as_slice(),
-            Content::Directory(_) => &[],
-            Content::Pipe(_) => &[],
-        }
-    }
-
-    // The bytes of a pipe.
-    fn pipe_bytes(&self) -> &[u8]
-        ensures { result.now ≡ pipe_of_inode (Some self.now) }
-    {
-        match &self.content {
-            Content::Pipe(bytes) => bytes.as_slice(),
-            Content::File(_) => &[],
-            Content::Directory(_) => &[],
-        }
-    }
-
-    // The names of a directory, as its own; none where it is none.
-    fn into_names(self, heap: Heap) -> Names
-        ensures { result ≡ names_of_inode (Some self) }
-    {
-        let Inode { content } = self;
-        match content {
-            Content::Directory(names) => names,
-            Content::File(_) => Names::new(heap),
-            Content::Pipe(_) => Names::new(heap),
-        }
-    }
-
-    // The bytes of a file, as its own.
-    fn into_file(self, heap: Heap) -> Bytes
-        ensures { result ≡ file_of_inode (Some self) }
-    {
-        let Inode { content } = self;
-        match content {
-            Content::File(bytes) => bytes,
-            Content::Directory(_) => no_bytes(heap),
-            Content::Pipe(_) => no_bytes(heap),
-        }
-    }
-
-    // The bytes of a pipe, as its own.
-    fn into_pipe(self, heap: Heap) -> Bytes
-        ensures { result ≡ pipe_of_inode (Some self) }
-    {
-        let Inode { content } = self;
-        match content {
-            Content::Pipe(bytes) => bytes,
-            Content::File(_) => no_bytes(heap),
-            Content::Directory(_) => no_bytes(heap),
-        }
-    }
 }
 
 // The kind of an inode that may be there.
 pub(crate) fn kind_in(inode: Option<&Inode>) -> Option<Kind>
     ensures { result ≡ mapped kind (option_copied inode.entry) }
 {
-    match inode {
-        Some(inode) => Some(inode.kind()),
-        None => None,
+    match &inode?.content {
+        Content::File(_) => Some(Kind::File),
+        Content::Directory(_) => Some(Kind::Dir),
+        Content::Pipe(_) => Some(Kind::Pipe),
     }
 }
 
@@ -200,7 +87,11 @@ pub(crate) fn given_in(inode: Option<&Inode>, name: &Name) -> Option<Num>
     ensures { result ≡ get (names_of_inode (option_copied inode.entry)) name.now }
 {
     match inode {
-        Some(inode) => inode.given(name),
+        Some(inode) => match &inode.content {
+            Content::Directory(names) => names.get(name),
+            Content::File(_) => None,
+            Content::Pipe(_) => None,
+        },
         None => None,
     }
 }
@@ -211,7 +102,11 @@ pub(crate) fn names_in(heap: Heap, inode: Option<&Inode>) -> Result<NameList, Al
         (λ names. names ≡ keys (names_of_inode (option_copied inode.entry))) }
 {
     match inode {
-        Some(inode) => inode.names(heap),
+        Some(inode) => match &inode.content {
+            Content::Directory(names) => names.names(heap),
+            Content::File(_) => Ok(NameList::new(Vec::new(heap))),
+            Content::Pipe(_) => Ok(NameList::new(Vec::new(heap))),
+        },
         None => Ok(NameList::new(Vec::new(heap))),
     }
 }
@@ -221,7 +116,11 @@ pub(crate) fn is_empty_in(inode: Option<&Inode>) -> bool
     ensures { result ≡ is_empty (keys (names_of_inode (option_copied inode.entry))) }
 {
     match inode {
-        Some(inode) => inode.is_empty(),
+        Some(inode) => match &inode.content {
+            Content::Directory(names) => names.is_empty(),
+            Content::File(_) => true,
+            Content::Pipe(_) => true,
+        },
         None => true,
     }
 }
@@ -231,7 +130,11 @@ pub(crate) fn file_in(inode: Option<&Inode>) -> &[u8]
     ensures { result.now ≡ file_of_inode (option_copied inode.entry) }
 {
     match inode {
-        Some(inode) => inode.file_bytes(),
+        Some(inode) => match &inode.content {
+            Content::File(bytes) => bytes.as_slice(),
+            Content::Directory(_) => &[],
+            Content::Pipe(_) => &[],
+        },
         None => &[],
     }
 }
@@ -241,7 +144,11 @@ pub(crate) fn pipe_in(inode: Option<&Inode>) -> &[u8]
     ensures { result.now ≡ pipe_of_inode (option_copied inode.entry) }
 {
     match inode {
-        Some(inode) => inode.pipe_bytes(),
+        Some(inode) => match &inode.content {
+            Content::Pipe(bytes) => bytes.as_slice(),
+            Content::File(_) => &[],
+            Content::Directory(_) => &[],
+        },
         None => &[],
     }
 }
@@ -251,8 +158,10 @@ pub(crate) fn names_out(heap: Heap, inode: Option<Inode>) -> Names
     ensures { result ≡ names_of_inode inode }
 {
     match inode {
-        Some(inode) => inode.into_names(heap),
-        None => Names::new(heap),
+        Some(Inode {
+            content: Content::Directory(names),
+        }) => names,
+        _ => Names::new(heap),
     }
 }
 
@@ -261,8 +170,10 @@ pub(crate) fn file_out(heap: Heap, inode: Option<Inode>) -> Bytes
     ensures { result ≡ file_of_inode inode }
 {
     match inode {
-        Some(inode) => inode.into_file(heap),
-        None => no_bytes(heap),
+        Some(Inode {
+            content: Content::File(bytes),
+        }) => bytes,
+        _ => no_bytes(heap),
     }
 }
 
@@ -271,7 +182,24 @@ pub(crate) fn pipe_out(heap: Heap, inode: Option<Inode>) -> Bytes
     ensures { result ≡ pipe_of_inode inode }
 {
     match inode {
-        Some(inode) => inode.into_pipe(heap),
-        None => no_bytes(heap),
+        Some(Inode {
+            content: Content::Pipe(bytes),
+        }) => bytes,
+        _ => no_bytes(heap),
+    }
+}
+
+// What an inode's names gave they give no more.
+pub(crate) fn lose_all(counts: &mut Tree<usize>, inode: &Option<Inode>)
+    ensures { (n : ℕ) → count_at counts.new n
+        ≡ count_at counts.old n - times_given n (names_of_inode inode.now) }
+{
+    match inode {
+        Some(inode) => match &inode.content {
+            Content::Directory(names) => names.lose_all(counts),
+            Content::File(_) => (),
+            Content::Pipe(_) => (),
+        },
+        None => (),
     }
 }

@@ -4,10 +4,10 @@ ghost use Rattle.std.specs.Prelude.{◌≡◌, ℕ, ◌+◌, ◌-◌, ◌==◌, 
 ghost use Rattle.std.specs.Prelude.{option_copied};
 ghost use Rattle.model.specs.FiniteMap as map;
 ghost use Rattle.model.specs.State.{File as A_file, Directory as A_directory, names_of_inode};
-ghost use Rattle.replay.specs.Counts.{count_at, given_by_all, times_given, given_once};
+ghost use Rattle.replay.specs.Counts.{count_at, given_by_all, given_once};
 
 use crate::bytes::no_bytes;
-use crate::inode::{Inode, names_out};
+use crate::inode::{Inode, lose_all, names_out};
 use crate::names::Names;
 use crate::plain::counted;
 use crate::tree::Tree;
@@ -245,16 +245,5 @@ fn lose_some(counts: &mut Tree<usize>, num: Option<Num>)
 {
     if let Some(num) = num {
         lose(counts, num);
-    }
-}
-
-// What an inode's names gave they give no more.
-fn lose_all(counts: &mut Tree<usize>, inode: &Option<Inode>)
-    ensures { (n : ℕ) → count_at counts.new n
-        ≡ count_at counts.old n - times_given n (names_of_inode inode.now) }
-{
-    match inode {
-        Some(inode) => inode.lose_names(counts),
-        None => (),
     }
 }

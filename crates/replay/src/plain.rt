@@ -235,17 +235,15 @@ fn is_end(description: Option<&Description>, pipe: Num, writing: bool) -> bool
     ensures { result ≡ is_end (is_open writing) pipe (option_copied description.entry) }
 {
     match description {
-        Some(description) => { description.inode == pipe && description.is_open(writing) }
+        Some(description) => {
+            let is_open = if writing {
+                description.writing
+            } else {
+                description.reading
+            };
+            description.inode == pipe && is_open
+        }
         None => false,
-    }
-}
-
-impl Description {
-    // Whether it is open to write, or to read.
-    fn is_open(&self, writing: bool) -> bool
-        ensures { result ≡ is_open writing self.now }
-    {
-        if writing { self.writing } else { self.reading }
     }
 }
 
@@ -360,15 +358,8 @@ impl PlainKernel {
     {
         let mut all = Vec::with_capacity(heap, slots.len())?;
         for (fd, description) in slots {
-            all.push((fd_of(*fd)?, self.slot(*description)))?;
+            all.push((Fd(small(fd.0)?), self.slot(*description)))?;
         }
         Ok(all)
     }
-}
-
-// A descriptor of this number.
-fn fd_of(num: Num) -> Result<Fd, AllocError>
-    ensures { IfOk result (λ fd. fd ≡ num) }
-{
-    Ok(Fd(small(num.0)?))
 }

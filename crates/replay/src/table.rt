@@ -7,7 +7,6 @@ ghost use Rattle.replay.specs.Places.{IsPlaceOf, IsPlaceFor};
 use heap::Heap;
 use ids::Num;
 use std::alloc::AllocError;
-use std::cmp::Ordering;
 use std::marker::Model;
 use std::mem::replace;
 
@@ -113,11 +112,5 @@ fn place<T>(slots: &[(Num, T)], num: Num) -> Result<usize, usize>
     ensures { MatchResult result
         (IsPlaceOf nat_cmp num slots.now) (IsPlaceFor nat_cmp num slots.now) }
 {
-    slots.binary_search_by(|slot| compare(slot.0, num))
-}
-
-fn compare(num: Num, other: Num) -> Ordering
-    ensures { result ≡ nat_cmp num other }
-{
-    num.0.cmp(&other.0)
+    slots.binary_search_by(|slot| slot.0.0.cmp(&num.0))
 }
