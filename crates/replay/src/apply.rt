@@ -96,23 +96,6 @@ impl PlainKernel {
         self.set_name(heap, dir, name, num)
     }
 
-    // A name moves.
-    fn move_name(
-        &mut self,
-        heap: Heap,
-        dir: Num,
-        name: &Name,
-        onto: Num,
-        new: &Name,
-        num: Num,
-    ) -> Result<(), AllocError>
-        ensures { OnOk result
-            (self.new ≡ set_name onto new.now num (clear_name dir name.now self.old)) }
-    {
-        self.clear_name(heap, dir, name)?;
-        self.set_name(heap, onto, new, num)
-    }
-
     // Bytes of a file from a place on.
     fn put(&mut self, heap: Heap, file: Num, place: usize, bytes: &[u8]) -> Result<(), AllocError>
         ensures { OnOk result (self.new
@@ -159,8 +142,14 @@ impl PlainKernel {
         ensures { OnOk result
             (self.new ≡ set_offset num place (get self.old.descriptions num) self.old) }
     {
-        match moved(self.descriptions.get(num), place) {
-            Some(description) => self.set_description(num, description),
+        match self.descriptions.get(num) {
+            Some(description) => {
+                let moved = Description {
+                    offset: place,
+                    ..*description
+                };
+                self.set_description(num, moved)
+            }
             None => Ok(()),
         }
     }
@@ -241,8 +230,18 @@ impl PlainKernel {
     {
         let (pipe, reader, writer) = nums;
         self.set_inode(pipe, Inode::pipe(no_bytes(heap)))?;
-        self.open_at(heap, reader, at_start(pipe, &to_read()), pid, fds.0)?;
-        self.open_at(heap, writer, at_start(pipe, &to_write()), pid, fds.1)
+        let to_read = Mode {
+            reading: true,
+            writing: false,
+            appending: false,
+        };
+        let to_write = Mode {
+            reading: false,
+            writing: true,
+            appending: false,
+        };
+        self.open_at(heap, reader, at_start(pipe, &to_read), pid, fds.0)?;
+        self.open_at(heap, writer, at_start(pipe, &to_write), pid, fds.1)
     }
 
     // A child with the descriptors and the priority of its parent.
@@ -256,29 +255,6 @@ impl PlainKernel {
         self.set_process(child, process)?;
         self.made = child.0;
         Ok(())
-    }
-
-    // A process is gone.
-    fn end_process(&mut self, pid: Pid)
-        ensures { self.new ≡ record self.old { processes = remove self.old.processes pid } }
-    {
-        drop(self.processes.remove(place_of(pid)));
-    }
-}
-
-// A description with another offset.
-fn moved(description: Option<&Description>, place: u32) -> Option<Description>
-    ensures { result ≡ mapped (at_offset place) (option_copied description.entry) }
-{
-    match description {
-        Some(description) => Some(Description {
-            inode: description.inode,
-            reading: description.reading,
-            writing: description.writing,
-            appending: description.appending,
-            offset: place,
-        }),
-        None => None,
     }
 }
 
@@ -335,26 +311,6 @@ fn at_start(inode: Num, mode: &Mode) -> Description
     }
 }
 
-fn to_read() -> Mode
-    ensures { result ≡ to_read }
-{
-    Mode {
-        reading: true,
-        writing: false,
-        appending: false,
-    }
-}
-
-fn to_write() -> Mode
-    ensures { result ≡ to_write }
-{
-    Mode {
-        reading: false,
-        writing: true,
-        appending: false,
-    }
-}
-
 impl PlainKernel {
     // One edit, and nothing freed.
     pub(crate) fn apply(
@@ -378,7 +334,8 @@ impl PlainKernel {
             Edit::UnnameFile(dir, name, _) => self.clear_name(heap, *dir, name),
             Edit::UnnameDirectory(dir, name, _) => self.clear_name(heap, *dir, name),
             Edit::Move(dir, name, onto, new, num, _) => {
-                self.move_name(heap, *dir, name, *onto, new, *num)
+                self.clear_name(heap, *dir, name)?;
+                self.set_name(heap, *onto, new, *num)
             }
             Edit::PutBytes(file, place, bytes, _) => {
                 self.put(heap, *file, *place as usize, bytes.as_slice())
@@ -416,7 +373,7 @@ impl PlainKernel {
             Edit::ClearSlot(pid, fd, _) => self.clear_slot(heap, *pid, *fd),
             Edit::NewProcess(child, parent, _) => self.new_process(heap, *child, *parent),
             Edit::EndProcess(pid, _) => {
-                self.end_process(*pid);
+                drop(self.take_process(heap, *pid));
                 Ok(())
             }
             _ => unreachable!(),

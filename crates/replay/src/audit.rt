@@ -104,32 +104,14 @@ impl PlainKernel {
     {
         match &entry.op {
             Op::Call(call) => {
-                self.run_call(heap, pid, call, &entry.reply, entry.chosen.as_slice())
+                if !is_executed(&entry.reply) {
+                    return Ok(true);
+                }
+                self.step(heap, pid, call, &entry.reply, entry.chosen.as_slice())
             }
             Op::Begin(_) => Ok(true),
             Op::End => Ok(true),
             Op::Abort { no_restart: _ } => Ok(true),
-        }
-    }
-
-    // A call, if it was executed.
-    fn run_call(
-        &mut self,
-        heap: Heap,
-        pid: Pid,
-        call: &Call,
-        reply: &Reply,
-        chosen: &[Num],
-    ) -> Result<bool, AllocError>
-        requires { IsTidied self.old }
-        ensures { IfOk result (λ right. MatchBool right
-            (Ran self.old pid (call_in (Do call.now) reply.now chosen.now) self.new)
-            (CannotRun self.old pid (call_in (Do call.now) reply.now chosen.now))) }
-    {
-        if is_executed(reply) {
-            self.step(heap, pid, call, reply, chosen)
-        } else {
-            Ok(true)
         }
     }
 
@@ -210,28 +192,6 @@ impl PlainKernel {
         self.run_all(heap, entry.pid, entries, places)
     }
 
-    // Inside a transaction; a doomed one has no calls.
-    fn run_inside(
-        &mut self,
-        heap: Heap,
-        transaction: &Transaction,
-        entries: &[Entry],
-        entry: &Entry,
-    ) -> Result<Option<usize>, AllocError>
-        requires { IsTidied self.old }
-        ensures { IfOk result (λ wrong. MatchOption wrong (Ran self.old entry.now.pid
-            (run_kept true (Some transaction.now) entries.now entry.now.op entry.now.reply
-            entry.now.chosen) self.new)
-            (StopsInside self.old transaction.now entries.now entry.now)) }
-    {
-        match transaction {
-            Transaction::Live(_, places) => {
-                self.run_live(heap, entry, entries, places.as_slice())
-            }
-            Transaction::Doomed(_) => Ok(None),
-        }
-    }
-
     // The calls of an entry that take effect now, by what is kept of a living process.
     fn run_kept(
         &mut self,
@@ -249,7 +209,12 @@ impl PlainKernel {
     {
         match kept {
             None => self.run_idle(heap, entry, at),
-            Some(transaction) => self.run_inside(heap, transaction, entries, entry),
+            Some(transaction) => match transaction {
+                Transaction::Live(_, places) => {
+                    self.run_live(heap, entry, entries, places.as_slice())
+                }
+                Transaction::Doomed(_) => Ok(None),
+            },
         }
     }
 }

@@ -1,3 +1,5 @@
+use Rattle.std.proofs.Common.{ap, ◌∙◌}
+use Rattle.model.specs.Changes.{set_name}
 use Rattle.replay.proofs.Edited.{appends, cuts, edited, makes_directory, makes_file, moves, names_file, puts, takes, unnames_directory, unnames_file}
 use Rattle.replay.proofs.Setting.{if_ok}
 use Rattle.replay.proofs.plain.PlainKernel.apply.Goals as goal
@@ -17,8 +19,9 @@ returns-in-UnnameFile c = if_ok c.clear_name.result c.clear_name.ensures (λ h. 
 pub returns-in-UnnameDirectory : goal.returns-in-UnnameDirectory
 returns-in-UnnameDirectory c = if_ok c.clear_name-in-UnnameDirectory.result c.clear_name-in-UnnameDirectory.ensures (λ h. edited _ _ _ _ _ c.in-UnnameDirectory.is (unnames_directory _ _ _ _ _ _ h))
 
-pub returns-in-Move : goal.returns-in-Move
-returns-in-Move c = if_ok c.move_name.result c.move_name.ensures (λ h. edited _ _ _ _ _ c.in-Move.is (moves _ _ _ _ _ _ _ _ _ h))
+pub returns-in_ok-clear_name-in-Move : goal.returns-in_ok-clear_name-in-Move
+returns-in_ok-clear_name-in-Move c = if_ok c.set_name-in-Move.result c.set_name-in-Move.ensures (λ h. edited _ _ _ _ _ c.in-Move.is (moves _ _ _ _ _ _ _ _ _
+    (h ∙ ap (set_name c.in-Move.onto c.in-Move.new c.in-Move.num) c.in_ok-clear_name-in-Move.ensures)))
 
 pub returns-in-PutBytes : goal.returns-in-PutBytes
 returns-in-PutBytes c = if_ok c.put.result c.put.ensures (λ h. edited _ _ _ _ _ c.in-PutBytes.is (puts _ _ _ _ _ _ _ _ c.as_slice.ensures h))

@@ -1,4 +1,4 @@
-use Rattle.std.proofs.Common.{ap, ◌∙◌}
+use Rattle.std.proofs.Common.{Some, ap, ◌∙◌}
 use Rattle.model.specs.FiniteMap.{get}
 use Rattle.model.specs.State.{mapped}
 use Rattle.model.specs.Changes.{at_offset}
@@ -7,8 +7,8 @@ use Rattle.replay.proofs.plain.PlainKernel.set_offset.Goals as goal
 
 pub returns-in-Some : goal.returns-in-Some
 returns-in-Some c = if_ok c.set_description.result c.set_description.ensures (λ h. offset_set c.args.self.now _ c.args.num c.args.place _ _
-    (c.in-Some.ensures ∙ ap (mapped (at_offset c.args.place)) (c.get.ensures ∙ ap (λ k. get k.descriptions c.args.num) c.self.view_is)) h)
+    (ap (mapped (at_offset c.args.place)) (ap Some c.description.view_is ∙ c.in-Some.ensures ∙ ap (λ k. get k.descriptions c.args.num) c.self.view_is)) h)
 
 pub returns-in-None : goal.returns-in-None
 returns-in-None c = offset_kept c.args.self.now c.args.num c.args.place _
-    (c.in-None.ensures ∙ ap (mapped (at_offset c.args.place)) (c.get.ensures ∙ ap (λ k. get k.descriptions c.args.num) c.self.view_is))
+    (ap (mapped (at_offset c.args.place)) (c.in-None.ensures ∙ ap (λ k. get k.descriptions c.args.num) c.self.view_is))
