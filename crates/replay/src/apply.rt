@@ -187,8 +187,9 @@ impl PlainKernel {
         ensures { OnOk result
             (self.new ≡ set_process pid (with_slot fd num (process_of self.old pid)) self.old) }
     {
-        let process = self.take_process(heap, pid);
-        self.set_process(pid, with_slot(process, fd, num)?)
+        let mut process = self.take_process(heap, pid);
+        let _before = process.table.insert(Num(fd.0 as usize), num)?;
+        self.set_process(pid, process)
     }
 
     // A descriptor gives nothing any more.
@@ -196,8 +197,9 @@ impl PlainKernel {
         ensures { OnOk result
             (self.new ≡ set_process pid (without_slot fd (process_of self.old pid)) self.old) }
     {
-        let process = self.take_process(heap, pid);
-        self.set_process(pid, without_slot(process, fd))
+        let mut process = self.take_process(heap, pid);
+        let _before = process.table.remove(Num(fd.0 as usize));
+        self.set_process(pid, process)
     }
 
     // A new description with its slot.
@@ -256,30 +258,13 @@ impl PlainKernel {
         self.made = child.0;
         Ok(())
     }
-}
 
-// A process with one more descriptor, or one that gives another description.
-fn with_slot(process: Process, fd: Fd, num: Num) -> Result<Process, AllocError>
-    ensures { IfOk result (λ p. p ≡ with_slot fd num process) }
-{
-    let Process {
-        mut table,
-        priority,
-    } = process;
-    let _before = table.insert(Num(fd.0 as usize), num)?;
-    Ok(Process { table, priority })
-}
-
-// A process without a descriptor.
-fn without_slot(process: Process, fd: Fd) -> Process
-    ensures { result ≡ without_slot fd process }
-{
-    let Process {
-        mut table,
-        priority,
-    } = process;
-    let _before = table.remove(Num(fd.0 as usize));
-    Process { table, priority }
+    // A process is gone.
+    fn end_process(&mut self, pid: Pid)
+        ensures { self.new ≡ record self.old { processes = remove self.old.processes pid } }
+    {
+        drop(self.processes.remove(place_of(pid)));
+    }
 }
 
 // A copy of a process, or one without descriptors.
@@ -373,7 +358,7 @@ impl PlainKernel {
             Edit::ClearSlot(pid, fd, _) => self.clear_slot(heap, *pid, *fd),
             Edit::NewProcess(child, parent, _) => self.new_process(heap, *child, *parent),
             Edit::EndProcess(pid, _) => {
-                drop(self.take_process(heap, *pid));
+                self.end_process(*pid);
                 Ok(())
             }
             _ => unreachable!(),

@@ -143,7 +143,10 @@ impl PlainKernel {
     pub(crate) fn is_held(&self, description: Num) -> bool
         ensures { result ≡ is_held self.now description }
     {
-        is_held_in(self.processes.as_slice(), description)
+        self.processes
+            .as_slice()
+            .iter()
+            .any(|slot| slot.1.holds(description))
     }
 
     // Whether an inode is the root, or a name or a description gives it.
@@ -183,19 +186,15 @@ fn is_opened_in(descriptions: &[(Num, Description)], inode: Num) -> bool
     descriptions.iter().any(|slot| slot.1.inode == inode)
 }
 
-// Whether a descriptor of these processes gives a description.
-fn is_held_in(processes: &[(Num, Process)], description: Num) -> bool
-    ensures { result ≡ list_any (λ e. nat_lt 0 (held_by description e.1)) processes.now }
-{
-    processes.iter().any(|slot| slot.1.holds(description))
-}
-
 impl Process {
     // Whether a descriptor of it gives a description.
     fn holds(&self, description: Num) -> bool
         ensures { result ≡ nat_lt 0 (held_by description self.now) }
     {
-        is_given_in(self.table.as_slice(), description)
+        self.table
+            .as_slice()
+            .iter()
+            .any(|slot| slot.1 == description)
     }
 
     // How many of its descriptors are open so on a pipe.
@@ -203,31 +202,12 @@ impl Process {
         ensures { (k : Kernel) → k.descriptions ≡ descriptions.now
             → result ≡ ended_by k pipe writing self.now }
     {
-        ends_of(self.table.as_slice(), descriptions, pipe, writing)
+        self.table
+            .as_slice()
+            .iter()
+            .filter(|slot| is_end(descriptions.get(slot.1), pipe, writing))
+            .count()
     }
-}
-
-// Whether one of these descriptors gives a description.
-fn is_given_in(slots: &[(Num, Num)], description: Num) -> bool
-    ensures { result ≡ list_any (λ e. e.1 == description) slots.now }
-{
-    slots.iter().any(|slot| slot.1 == description)
-}
-
-// How many of these descriptors are open so on a pipe.
-fn ends_of(
-    slots: &[(Num, Num)],
-    descriptions: &Table<Description>,
-    pipe: Num,
-    writing: bool,
-) -> usize
-    ensures { result
-        ≡ count_by (λ e. is_end (is_open writing) pipe (get descriptions.now e.1)) slots.now }
-{
-    slots
-        .iter()
-        .filter(|slot| is_end(descriptions.get(slot.1), pipe, writing))
-        .count()
 }
 
 // Whether a description is of a pipe, and open to write, or to read.

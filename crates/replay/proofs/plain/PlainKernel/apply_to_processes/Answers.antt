@@ -21,4 +21,4 @@ pub returns-in-NewProcess : goal.returns-in-NewProcess
 returns-in-NewProcess c = if_ok c.new_process.result c.new_process.ensures (λ h. edited _ _ _ _ _ c.in-NewProcess.is (forks _ _ _ _ _ _ h))
 
 pub returns-in-EndProcess : goal.returns-in-EndProcess
-returns-in-EndProcess c = edited _ _ _ _ _ c.in-EndProcess.is (ends _ _ _ _ _ c.take_process.ensures.left)
+returns-in-EndProcess c = edited _ _ _ _ _ c.in-EndProcess.is (ends _ _ _ _ _ c.end_process.ensures)
