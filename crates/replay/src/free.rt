@@ -137,20 +137,16 @@ impl PlainKernel {
     }
 }
 
-// The numbers of a table, in order.
-fn values_of(heap: Heap, slots: &[(Num, Num)]) -> Result<Vec<Num, Heap>, AllocError>
-    ensures { IfOk result (λ all. all.items ≡ map (λ e. e.1) slots.now) }
-{
-    slots.iter().map(|slot| slot.1).collect(heap)
-}
-
 // All descriptions that a process's descriptors give; none where there is no process.
 fn values_in(heap: Heap, process: Option<&Process>) -> Result<Vec<Num, Heap>, AllocError>
     ensures { IfOk result
         (λ all. all.items ≡ values (or_new (option_copied process.entry)).table) }
 {
     match process {
-        Some(process) => values_of(heap, process.table.as_slice()),
+        Some(process) => {
+            let slots = process.table.as_slice();
+            slots.iter().map(|slot| slot.1).collect(heap)
+        }
         None => Ok(Vec::new(heap)),
     }
 }

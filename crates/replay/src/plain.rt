@@ -155,7 +155,11 @@ impl PlainKernel {
     {
         inode == self.root
             || self.inodes.is_named(inode)
-            || is_opened_in(self.descriptions.as_slice(), inode)
+            || self
+                .descriptions
+                .as_slice()
+                .iter()
+                .any(|slot| slot.1.inode == inode)
     }
 }
 
@@ -177,13 +181,6 @@ pub(crate) fn counted(so_far: usize, more: usize) -> Result<usize, AllocError>
         Some(count) => Ok(count),
         None => Err(AllocError),
     }
-}
-
-// Whether one of these descriptions is of an inode.
-fn is_opened_in(descriptions: &[(Num, Description)], inode: Num) -> bool
-    ensures { result ≡ list_any (λ e. e.1.inode == inode) descriptions.now }
-{
-    descriptions.iter().any(|slot| slot.1.inode == inode)
 }
 
 impl Process {
