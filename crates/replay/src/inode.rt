@@ -158,9 +158,11 @@ pub(crate) fn names_out(heap: Heap, inode: Option<Inode>) -> Names
     ensures { result ≡ names_of_inode inode }
 {
     match inode {
-        Some(Inode {
-            content: Content::Directory(names),
-        }) => names,
+        Some(
+            Inode {
+                content: Content::Directory(names),
+            },
+        ) => names,
         _ => Names::new(heap),
     }
 }
@@ -170,9 +172,11 @@ pub(crate) fn file_out(heap: Heap, inode: Option<Inode>) -> Bytes
     ensures { result ≡ file_of_inode inode }
 {
     match inode {
-        Some(Inode {
-            content: Content::File(bytes),
-        }) => bytes,
+        Some(
+            Inode {
+                content: Content::File(bytes),
+            },
+        ) => bytes,
         _ => no_bytes(heap),
     }
 }
@@ -182,9 +186,11 @@ pub(crate) fn pipe_out(heap: Heap, inode: Option<Inode>) -> Bytes
     ensures { result ≡ pipe_of_inode inode }
 {
     match inode {
-        Some(Inode {
-            content: Content::Pipe(bytes),
-        }) => bytes,
+        Some(
+            Inode {
+                content: Content::Pipe(bytes),
+            },
+        ) => bytes,
         _ => no_bytes(heap),
     }
 }

@@ -143,10 +143,7 @@ impl PlainKernel {
     pub(crate) fn is_held(&self, description: Num) -> bool
         ensures { result ≡ is_held self.now description }
     {
-        self.processes
-            .as_slice()
-            .iter()
-            .any(|slot| slot.1.holds(description))
+        is_held_in(self.processes.as_slice(), description)
     }
 
     // Whether an inode is the root, or a name or a description gives it.
@@ -155,11 +152,7 @@ impl PlainKernel {
     {
         inode == self.root
             || self.inodes.is_named(inode)
-            || self
-                .descriptions
-                .as_slice()
-                .iter()
-                .any(|slot| slot.1.inode == inode)
+            || is_opened_in(self.descriptions.as_slice(), inode)
     }
 }
 
@@ -183,15 +176,26 @@ pub(crate) fn counted(so_far: usize, more: usize) -> Result<usize, AllocError>
     }
 }
 
+// Whether one of these descriptions is of an inode.
+fn is_opened_in(descriptions: &[(Num, Description)], inode: Num) -> bool
+    ensures { result ≡ list_any (λ e. e.1.inode == inode) descriptions.now }
+{
+    descriptions.iter().any(|slot| slot.1.inode == inode)
+}
+
+// Whether a descriptor of these processes gives a description.
+fn is_held_in(processes: &[(Num, Process)], description: Num) -> bool
+    ensures { result ≡ list_any (λ e. nat_lt 0 (held_by description e.1)) processes.now }
+{
+    processes.iter().any(|slot| slot.1.holds(description))
+}
+
 impl Process {
     // Whether a descriptor of it gives a description.
     fn holds(&self, description: Num) -> bool
         ensures { result ≡ nat_lt 0 (held_by description self.now) }
     {
-        self.table
-            .as_slice()
-            .iter()
-            .any(|slot| slot.1 == description)
+        is_given_in(self.table.as_slice(), description)
     }
 
     // How many of its descriptors are open so on a pipe.
@@ -207,20 +211,29 @@ impl Process {
     }
 }
 
+// Whether one of these descriptors gives a description.
+fn is_given_in(slots: &[(Num, Num)], description: Num) -> bool
+    ensures { result ≡ list_any (λ e. e.1 == description) slots.now }
+{
+    slots.iter().any(|slot| slot.1 == description)
+}
+
 // Whether a description is of a pipe, and open to write, or to read.
 fn is_end(description: Option<&Description>, pipe: Num, writing: bool) -> bool
     ensures { result ≡ is_end (is_open writing) pipe (option_copied description.entry) }
 {
     match description {
-        Some(description) => {
-            let is_open = if writing {
-                description.writing
-            } else {
-                description.reading
-            };
-            description.inode == pipe && is_open
-        }
+        Some(description) => { description.inode == pipe && description.is_open(writing) }
         None => false,
+    }
+}
+
+impl Description {
+    // Whether it is open to write, or to read.
+    fn is_open(&self, writing: bool) -> bool
+        ensures { result ≡ is_open writing self.now }
+    {
+        if writing { self.writing } else { self.reading }
     }
 }
 

@@ -1,7 +1,5 @@
-use Rattle.std.proofs.Common.{◌≡◌, ◌||◌, ◌==◌, nat_lt, List, ℕ, sym, ap, ◌∙◌, rules, tests}
+use Rattle.std.proofs.Common.{◌≡◌, ◌||◌, ◌==◌, nat_lt, List, ℕ, sym, ap, ◌∙◌}
 use Rattle.std.specs.List.{list_any}
-use Rattle.std.proofs.lemmas.Iterator.{YieldsList-from_slice}
-use Rattle.std.proofs.lemmas.Iterator.Search.{any_from_yields_List}
 use Rattle.model.specs.FiniteMap.{entries}
 use Rattle.model.specs.State.{Description}
 use Rattle.replay.specs.Counts.{given_by_all}
@@ -32,6 +30,5 @@ returns-else-is_named c =
           ∙ ap (λ k. nat_lt 0 (given_by_all k.inodes n)) c.self.view_is ∙ ap (nat_lt 0) (sym (links_is k n))
           ∙ ap (λ b. b || named k n) w.if-eq.ensures
     ] in
-    reached_late k n c.self.inside.root c.if-eq.value (ap (λ k. k.root) c.self.view_is) told c.any.result c.if-is_named.false
-    (any_from_yields_List (λ e. e.1.inode == n) _ _ _ c.any.ensures.ran (YieldsList-from_slice c.as_slice.result.now cc) (λ x b q k. search (rules, tests))
-    ∙ ap (λ (es : List (ℕ × Description)). list_any (λ e. e.1.inode == n) es) (c.as_slice.ensures ∙ ap (λ k. entries k.descriptions) c.self.view_is))
+    reached_late k n c.self.inside.root c.if-eq.value (ap (λ k. k.root) c.self.view_is) told c.is_opened_in.result c.if-is_named.false
+    (c.is_opened_in.ensures ∙ ap (λ (es : List (ℕ × Description)). list_any (λ e. e.1.inode == n) es) (c.as_slice.ensures ∙ ap (λ k. entries k.descriptions) c.self.view_is))
