@@ -2,8 +2,8 @@
 ghost use Rattle.std.specs.Prelude.{◌≡◌, ◌++◌, IfOk, OnOk, Some, [], get_or, true, drop, option_copied};
 ghost use Rattle.model.specs.FiniteMap.{empty, get, insert, remove};
 ghost use Rattle.model.specs.State.{File as A_file, Pipe as A_pipe};
-ghost use Rattle.model.specs.State.{file_of, mapped, names_of_inode, pipe_of};
-ghost use Rattle.model.specs.Changes.{applied, at_offset, at_start, clear_name, number, open_at};
+ghost use Rattle.model.specs.State.{file_of, names_of_inode, pipe_of};
+ghost use Rattle.model.specs.Changes.{applied, at_start, clear_name, number, open_at};
 ghost use Rattle.model.specs.Changes.{or_new, process_of, set_description, set_inode, set_name};
 ghost use Rattle.model.specs.Changes.{set_offset, set_process, sized, with_slot, without_slot};
 ghost use Rattle.model.specs.Changes.{written, to_read, to_write};

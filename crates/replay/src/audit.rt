@@ -11,7 +11,7 @@ ghost use Rattle.model.specs.Moments.{is_in, start, with_processes};
 ghost use Rattle.freeing_laws.specs.Sweep.{IsTidied};
 ghost use Rattle.model.specs.Passing.{Passes};
 ghost use Rattle.replay.specs.Failing.{IsStop};
-ghost use Rattle.replay.specs.Ran.{CannotRun, Follows, Ran, RanAt, StopsHere, StopsIn, StopsInside};
+ghost use Rattle.replay.specs.Ran.{CannotRun, Follows, Ran, RanAt, StopsHere, StopsIn};
 ghost use Rattle.replay.specs.Ran.{StopsNow};
 ghost use Rattle.model.specs.Suits.{is_executed};
 ghost use Rattle.replay.specs.Transactions.{call_first, call_in, call_of, calls_at_places};

@@ -158,12 +158,12 @@ pub(crate) fn names_out(heap: Heap, inode: Option<Inode>) -> Names
     ensures { result ≡ names_of_inode inode }
 {
     match inode {
-        Some(
-            Inode {
-                content: Content::Directory(names),
-            },
-        ) => names,
-        _ => Names::new(heap),
+        Some(Inode { content }) => match content {
+            Content::Directory(names) => names,
+            Content::File(_) => Names::new(heap),
+            Content::Pipe(_) => Names::new(heap),
+        },
+        None => Names::new(heap),
     }
 }
 
@@ -172,12 +172,12 @@ pub(crate) fn file_out(heap: Heap, inode: Option<Inode>) -> Bytes
     ensures { result ≡ file_of_inode inode }
 {
     match inode {
-        Some(
-            Inode {
-                content: Content::File(bytes),
-            },
-        ) => bytes,
-        _ => no_bytes(heap),
+        Some(Inode { content }) => match content {
+            Content::File(bytes) => bytes,
+            Content::Directory(_) => no_bytes(heap),
+            Content::Pipe(_) => no_bytes(heap),
+        },
+        None => no_bytes(heap),
     }
 }
 
@@ -186,12 +186,12 @@ pub(crate) fn pipe_out(heap: Heap, inode: Option<Inode>) -> Bytes
     ensures { result ≡ pipe_of_inode inode }
 {
     match inode {
-        Some(
-            Inode {
-                content: Content::Pipe(bytes),
-            },
-        ) => bytes,
-        _ => no_bytes(heap),
+        Some(Inode { content }) => match content {
+            Content::Pipe(bytes) => bytes,
+            Content::File(_) => no_bytes(heap),
+            Content::Directory(_) => no_bytes(heap),
+        },
+        None => no_bytes(heap),
     }
 }
 

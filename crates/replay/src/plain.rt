@@ -1,7 +1,7 @@
 // The plain kernel: whole maps. How many names give each number is counted as names come and go;
 // openings and holders are counted when they are asked for.
 ghost use Rattle.std.specs.Prelude.{◌≡◌, ◌+◌, ◌==◌, nat_lt, IfOk, Some, None, map, option_copied};
-ghost use Rattle.std.specs.List.{count_by, list_any, sum_by};
+ghost use Rattle.std.specs.List.{list_any, sum_by};
 ghost use Rattle.model.specs.FiniteMap.{get};
 ghost use Rattle.model.specs.State.{Kernel, Description as Opened, ends, is_end, links, kind_of};
 ghost use Rattle.model.specs.Calls.{slot_of};
