@@ -13,8 +13,8 @@ use crate::trees::TREES;
 // How many kinds of rows there are.
 pub(crate) const KINDS: usize = 11;
 
-// The rows of a kind, of which the numbers are below `KINDS`. The functions that go over all of them
-// do so in a loop, since the proof of a call for each kind is long; and so is that of a list of them.
+// The rows of a kind, whose number is below `KINDS`. The functions that go over all of them do so in
+// a loop, since the proof of a call for each kind is long.
 pub(crate) fn rows_of(kind: usize) -> &'static [Row] {
     match kind {
         0 => &TRANSACTIONS,
