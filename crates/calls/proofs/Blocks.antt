@@ -1,5 +1,5 @@
 -- Runs of blocks, and what is taken from a pipe.
-use Rattle.std.proofs.Common.{◌≡◌, ℕ, suc, ◌+◌, List, [], ◌∷◌, ◌++◌, false, map, length, refl, sym, ap, ◌∙◌, arith}
+use Rattle.std.proofs.Common.{◌≡◌, ℕ, suc, ◌+◌, List, [], ◌∷◌, ◌++◌, true, false, map, length, refl, sym, ap, ◌∙◌, arith}
 use Rattle.model.specs.Aspects.{Block}
 use Rattle.model.specs.Plan.{rising}
 use Rattle.model.specs.Paths.{is_empty}
@@ -19,3 +19,7 @@ run_more f first (suc m) =
 pub taken_plan : (p : ℕ) (bytes : List ℕ) → is_empty bytes ≡ false → read_pipe p bytes ≡ changed (Bytes bytes) (Take p (length bytes) ∷ [])
 taken_plan p [] is = absurd (grind (arith, is))
 taken_plan p (b ∷ bytes) is = refl
+
+pub nothing_plan : (p : ℕ) (bytes : List ℕ) → is_empty bytes ≡ true → read_pipe p bytes ≡ read_pipe p []
+nothing_plan p [] is = refl
+nothing_plan p (b ∷ bytes) is = absurd (grind (arith, is))

@@ -1,13 +1,13 @@
 // The tests of calls on descriptors.
 ghost use Rattle.std.specs.Prelude.{◌&&◌, ◌||◌, ◌≡◌, ◌==◌, not, nat_lt, nat_le};
 ghost use Rattle.std.specs.Prelude.{if◌then◌else◌, IfOk, ◌<◌, length};
-ghost use Rattle.model.specs.Plan.{refuse_if, EBADF, EINVAL, EEXIST, EISDIR, ENOENT, EAGAIN};
+ghost use Rattle.model.specs.Plan.{refuse_if, EINVAL, EEXIST, EISDIR, ENOENT, EAGAIN};
 ghost use Rattle.ids.specs.Flags.{is_reading, is_writing, is_creating, is_exclusive, is_truncating};
 ghost use Rattle.model.specs.Plans.{is_pipe, largest, whole_write};
 ghost use Rattle.look.specs.Asked.{Tells};
 
 use crate::steps::refuse_if;
-use ids::{Bytes, Errno, Fd, Kind, LARGEST_FILE, OpenFlags, Refusal, WHOLE_WRITE};
+use ids::{Bytes, Errno, Kind, LARGEST_FILE, OpenFlags, Refusal, WHOLE_WRITE};
 
 /// How many bytes a file has at most.
 pub(crate) const LARGEST: u32 = LARGEST_FILE as u32;
@@ -41,12 +41,6 @@ pub(crate) fn refusal_of_root(flags: OpenFlags) -> Errno
     }
 }
 
-pub(crate) fn must_create(flags: OpenFlags) -> Result<(), Refusal>
-    ensures { Tells (refuse_if (not (is_creating flags)) ENOENT) result }
-{
-    refuse_if(!flags.creates(), Errno::ENOENT)
-}
-
 pub(crate) fn must_be_new(flags: OpenFlags) -> Result<(), Refusal>
     ensures { Tells (refuse_if (is_creating flags && is_exclusive flags) EEXIST) result }
 {
@@ -62,12 +56,6 @@ pub(crate) fn must_not_be_pipe(kind: Option<Kind>, errno: Errno) -> Result<(), R
     }
 }
 
-pub(crate) fn must_be_at_most(place: u32, most: u32, errno: Errno) -> Result<(), Refusal>
-    ensures { Tells (refuse_if (nat_lt most place) errno) result }
-{
-    refuse_if(most < place, errno)
-}
-
 pub(crate) fn must_be_below(place: u32, bound: u32, errno: Errno) -> Result<(), Refusal>
     ensures value { Tells (refuse_if (nat_le bound place) errno) result }
     ensures within { IfOk result (λ _. place < bound) }
@@ -77,12 +65,6 @@ pub(crate) fn must_be_below(place: u32, bound: u32, errno: Errno) -> Result<(), 
     } else {
         Ok(())
     }
-}
-
-pub(crate) fn must_not_be_zero(number: u32, errno: Errno) -> Result<(), Refusal>
-    ensures { Tells (refuse_if (number == 0) errno) result }
-{
-    refuse_if(number == 0, errno)
 }
 
 // A short text goes into a pipe whole.
@@ -97,23 +79,4 @@ pub(crate) fn must_fit(fitting: u32, bytes: &Bytes) -> Result<(), Refusal>
         (fitting as usize) < count && count <= WHOLE_WRITE,
         Errno::EAGAIN,
     )
-}
-
-pub(crate) fn is_zero(number: u32) -> bool
-    ensures { result ≡ (number == 0) }
-{
-    number == 0
-}
-
-// A descriptor is one of 0 to 63.
-pub(crate) fn must_be_descriptor(fd: Fd) -> Result<(), Refusal>
-    ensures { Tells (refuse_if (nat_lt 63 fd) EBADF) result }
-{
-    must_be_at_most(fd.0, 63, Errno::EBADF)
-}
-
-pub(crate) fn must_be_zero(number: u32, errno: Errno) -> Result<(), Refusal>
-    ensures { Tells (refuse_if (nat_lt 0 number) errno) result }
-{
-    refuse_if(0 < number, errno)
 }

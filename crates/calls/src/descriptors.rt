@@ -6,11 +6,12 @@ ghost use Rattle.model.specs.Calls.{Descriptor, Close, Fstat, Dup, Dup2, Open_pi
 ghost use Rattle.look.specs.Asked.{Comes, Tells};
 
 use crate::change::{Change, changed_by, unchanged};
-use crate::checks::{must_be_below, must_be_descriptor};
-use crate::own::{Own, is_one, pipe_in, slot, two_of};
+use crate::checks::must_be_below;
+use crate::own::{Own, pipe_in, slot, two_of};
 use crate::paths::status;
+use crate::steps::refuse_if;
 use heap::Heap;
-use ids::{Answer, Edit, Errno, Fd, MAX_PROCESSES, Pid, Refusal, Slot};
+use ids::{Answer, Edit, Errno, Fd, MAX_PROCESSES, Pid, Refusal};
 use look::Look;
 use walk::Reads;
 
@@ -39,15 +40,9 @@ pub(crate) fn dup(heap: Heap, own: &Own, fd: Fd) -> Result<Change, Refusal>
 {
     let it = slot(own, fd)?;
     let free = own.free(heap)?;
-    duplicated(heap, own, &it, free.as_slice())
-}
-
-fn duplicated(heap: Heap, own: &Own, it: &Slot, free: &[Fd]) -> Result<Change, Refusal>
-    ensures { Tells (duplicated own.now it.now free.now) result }
-{
-    match free {
+    match free.as_slice() {
         [fd, ..] => {
-            let pipes = pipe_in(heap, it)?;
+            let pipes = pipe_in(heap, &it)?;
             changed_by(
                 heap,
                 Answer::Fd(*fd),
@@ -62,39 +57,24 @@ pub(crate) fn dup2(heap: Heap, own: &Own, old: Fd, new: Fd) -> Result<Change, Re
     ensures { Tells (plan own.now (Dup2 old new)) result }
 {
     let it = slot(own, old)?;
-    must_be_descriptor(new)?;
-    if is_one(old, new) {
+    refuse_if(63 < new.0, Errno::EBADF)?;
+    if old == new {
         unchanged(heap, Answer::Fd(old))
     } else {
-        replaced(heap, own, &it, new)
+        let pipes = two_of(heap, &it, &own.slot_at(new))?;
+        changed_by(
+            heap,
+            Answer::Fd(new),
+            Edit::ShareSlot(own.pid(), new, it.description, pipes),
+        )
     }
-}
-
-// A descriptor that shares another's description, whatever it was open on.
-fn replaced(heap: Heap, own: &Own, it: &Slot, new: Fd) -> Result<Change, Refusal>
-    ensures { let pipes = pipe_in (Some it.now) ++ pipe_in (slot_at own.now new) in
-        Tells (changed (Descriptor new) (Share_slot own.now.pid new it.now.description pipes ∷ []))
-        result }
-{
-    let pipes = two_of(heap, it, &own.slot_at(new))?;
-    changed_by(
-        heap,
-        Answer::Fd(new),
-        Edit::ShareSlot(own.pid(), new, it.description, pipes),
-    )
 }
 
 pub(crate) fn pipe(heap: Heap, own: &Own) -> Result<Change, Refusal>
     ensures { Tells (plan own.now Open_pipe) result }
 {
     let free = own.free(heap)?;
-    piped(heap, own, free.as_slice())
-}
-
-fn piped(heap: Heap, own: &Own, free: &[Fd]) -> Result<Change, Refusal>
-    ensures { Tells (piped own.now free.now) result }
-{
-    match free {
+    match free.as_slice() {
         [reader, writer, ..] => changed_by(
             heap,
             Answer::Pair(*reader, *writer),
@@ -107,15 +87,9 @@ fn piped(heap: Heap, own: &Own, free: &[Fd]) -> Result<Change, Refusal>
 pub(crate) fn fork(heap: Heap, own: &Own) -> Result<Change, Refusal>
     ensures { Tells (plan own.now Fork) result }
 {
-    match own.birth() {
-        Some(birth) => forked(heap, own, birth),
-        None => Err(Refusal::Errno(Errno::EAGAIN)),
-    }
-}
-
-fn forked(heap: Heap, own: &Own, birth: (u32, u8)) -> Result<Change, Refusal>
-    ensures { Tells (forked own.now (Some birth)) result }
-{
+    let Some(birth) = own.birth() else {
+        return Err(Refusal::Errno(Errno::EAGAIN));
+    };
     must_be_below(birth.0, MAX_PROCESSES, Errno::EAGAIN)?;
     let pipes = own.pipes(heap)?;
     changed_by(

@@ -2,28 +2,28 @@
 ghost use Rattle.std.specs.Prelude.{◌≡◌, ◌<◌, ◌≤◌, ◌^◌, ◌+◌, [], ◌∷◌, length, take};
 ghost use Rattle.std.specs.Prelude.{IfOk, Some, None, ◌++◌, if◌then◌else◌};
 ghost use Rattle.model.specs.Paths.{is_empty};
-ghost use Rattle.model.specs.Plan.{Give, ask, Fit};
+ghost use Rattle.model.specs.Plan.{Give};
 ghost use Rattle.model.specs.Walks.{Last};
-ghost use Rattle.model.specs.Changes.{Take, Set_offset, Put_bytes};
+ghost use Rattle.model.specs.Changes.{Set_offset, Put_bytes};
 ghost use Rattle.ids.specs.Flags.{is_truncating};
-ghost use Rattle.model.specs.Plans.{plan, changed, mode, opened, cut_to, read_some};
-ghost use Rattle.model.specs.Plans.{read_pipe, write_some, place_to_write};
-ghost use Rattle.model.specs.Calls.{Slot, Count, Bytes as Read_bytes, Open, Read, Write, Ftruncate};
-ghost use Rattle.calls.specs.Parts.{some_of_pipe, some_of_file, some_to_pipe, some_to_file};
+ghost use Rattle.model.specs.Plans.{plan, changed, mode, opened, cut_to};
+ghost use Rattle.model.specs.Plans.{read_pipe, place_to_write};
+ghost use Rattle.model.specs.Calls.{Slot, Count, Open, Read, Write, Ftruncate};
+ghost use Rattle.calls.specs.Parts.{open_path, some_of_pipe, some_of_file, some_to_pipe, some_to_file};
 ghost use Rattle.look.specs.Asked.{Comes, Tells};
 
 use crate::asking::{ends, fit, offset, read_file, read_pipe, size};
 use crate::change::{Change, Edits, changed, changed_by, unchanged};
 use crate::checks::{
-    LARGEST, is_zero, must_be_at_most, must_be_below, must_be_new, must_be_zero, must_create,
-    must_create_to_exclude, must_fit, must_not_be_pipe, must_not_be_zero, must_read_or_write,
-    must_write_to_truncate, refusal_of_root,
+    LARGEST, must_be_below, must_be_new, must_create_to_exclude, must_fit, must_not_be_pipe,
+    must_read_or_write, must_write_to_truncate, refusal_of_root,
 };
 use crate::own::{Own, is_pipe, lowest, slot};
 use crate::steps::{must_not_be_directory, parsed, refuse_if};
 use heap::Heap;
 use ids::{Answer, Bytes, Edit, Errno, Fd, Kind, Mode, Num, OpenFlags, Refusal, Slot, Which};
 use look::Look;
+use path::Path;
 use std::alloc::AllocError;
 use walk::{Last, Reads, walk_to_last};
 
@@ -42,8 +42,24 @@ pub(crate) fn open<L: Look>(
     must_create_to_exclude(flags)?;
     must_write_to_truncate(flags)?;
     let path = parsed(reads.heap(), path)?;
+    let change = open_path(look, own, flags, &path, reads);
+    drop(path);
+    change
+}
+
+fn open_path<L: Look>(
+    look: &L,
+    own: &Own,
+    flags: OpenFlags,
+    path: &Path,
+    reads: &mut Reads,
+) -> Result<Change, Refusal>
+    requires { own.now.root ≡ (L.state look.now).root }
+    ensures { Comes (L.state look.now)
+        (open_path own.now flags path.now) reads.old result reads.new }
+{
     let fd = lowest(reads.heap(), own)?;
-    let last = walk_to_last(look, refusal_of_root(flags), &path, reads)?;
+    let last = walk_to_last(look, refusal_of_root(flags), path, reads)?;
     opened(look, own, flags, fd, last, reads)
 }
 
@@ -74,7 +90,7 @@ fn opened_new(
 ) -> Result<Change, Refusal>
     ensures { Tells (opened own.now flags fd last None) result }
 {
-    must_create(flags)?;
+    refuse_if(!flags.creates(), Errno::ENOENT)?;
     let made = Edits::new(heap).with(Edit::MakeFile(last.parent, last.name, 0))?;
     let edits = made.with(Edit::OpenInode(1, Which::Made(0), mode(flags), own.pid(), fd))?;
     changed(Answer::Fd(fd), edits)
@@ -149,7 +165,7 @@ pub(crate) fn ftruncate<L: Look>(
     let it = slot(own, fd)?;
     refuse_if(!it.writing, Errno::EBADF)?;
     must_not_be_pipe(it.kind, Errno::EINVAL)?;
-    must_be_at_most(length, LARGEST, Errno::EFBIG)?;
+    refuse_if(LARGEST < length, Errno::EFBIG)?;
     let cut = cut_to(look, it.inode, length, reads)?;
     changed(Answer::Done, cut)
 }
@@ -166,10 +182,12 @@ pub(crate) fn read<L: Look>(
 {
     let it = slot(own, fd)?;
     refuse_if(!it.reading, Errno::EBADF)?;
-    if is_zero(count) {
+    if count == 0 {
         unchanged(reads.heap(), Answer::Bytes(no_bytes(reads)))
+    } else if is_pipe(it.kind) {
+        read_some_pipe(look, it.inode, count, reads)
     } else {
-        read_some(look, it, count, reads)
+        read_some_file(look, it.inode, it.description, count, reads)
     }
 }
 
@@ -177,16 +195,6 @@ fn no_bytes(reads: &Reads) -> Bytes
     ensures { result ≡ [] }
 {
     Bytes::new(Vec::new(reads.heap()))
-}
-
-fn read_some<L: Look>(look: &L, it: Slot, count: u32, reads: &mut Reads) -> Result<Change, Refusal>
-    ensures { Comes (L.state look.now) (read_some it count) reads.old result reads.new }
-{
-    if is_pipe(it.kind) {
-        read_some_pipe(look, it.inode, count, reads)
-    } else {
-        read_some_file(look, it.inode, it.description, count, reads)
-    }
 }
 
 fn read_some_pipe<L: Look>(
@@ -198,7 +206,12 @@ fn read_some_pipe<L: Look>(
     ensures { Comes (L.state look.now) (some_of_pipe pipe count) reads.old result reads.new }
 {
     let bytes = read_pipe(look, pipe, count, reads)?;
-    read_from_pipe(look, pipe, bytes, reads)
+    if is_empty(&bytes) {
+        nothing_from_pipe(look, pipe, reads)
+    } else {
+        let count = bytes.as_slice().len() as u32;
+        changed_by(reads.heap(), Answer::Bytes(bytes), Edit::Take(pipe, count))
+    }
 }
 
 fn read_some_file<L: Look>(
@@ -230,36 +243,12 @@ fn moved_on(heap: Heap, description: Num, offset: u32, bytes: &Bytes) -> Result<
     }
 }
 
-fn read_from_pipe<L: Look>(
-    look: &L,
-    pipe: Num,
-    bytes: Bytes,
-    reads: &mut Reads,
-) -> Result<Change, Refusal>
-    requires { length bytes < 2 ^ 32 }
-    ensures { Comes (L.state look.now) (read_pipe pipe bytes) reads.old result reads.new }
-{
-    if is_empty(&bytes) {
-        nothing_from_pipe(look, pipe, reads)
-    } else {
-        taken(reads.heap(), pipe, bytes)
-    }
-}
-
 fn nothing_from_pipe<L: Look>(look: &L, pipe: Num, reads: &mut Reads) -> Result<Change, Refusal>
     ensures { Comes (L.state look.now) (read_pipe pipe []) reads.old result reads.new }
 {
     let ends = ends(look, pipe, reads)?;
-    must_be_zero(ends.1, Errno::EAGAIN)?;
+    refuse_if(0 < ends.1, Errno::EAGAIN)?;
     unchanged(reads.heap(), Answer::Bytes(no_bytes(reads)))
-}
-
-fn taken(heap: Heap, pipe: Num, bytes: Bytes) -> Result<Change, Refusal>
-    requires { length bytes < 2 ^ 32 }
-    ensures { Tells (changed (Read_bytes bytes) (Take pipe (length bytes) ∷ [])) result }
-{
-    let count = bytes.as_slice().len() as u32;
-    changed_by(heap, Answer::Bytes(bytes), Edit::Take(pipe, count))
 }
 
 pub(crate) fn write<L: Look>(
@@ -276,8 +265,10 @@ pub(crate) fn write<L: Look>(
     refuse_if(!it.writing, Errno::EBADF)?;
     if is_empty(bytes) {
         unchanged(reads.heap(), Answer::Count(0))
+    } else if is_pipe(it.kind) {
+        write_pipe(look, it.inode, bytes, reads)
     } else {
-        write_some(look, it, bytes, reads)
+        write_file(look, it, bytes, reads)
     }
 }
 
@@ -285,21 +276,6 @@ fn is_empty(bytes: &Bytes) -> bool
     ensures { result ≡ is_empty bytes.now }
 {
     bytes.as_slice().is_empty()
-}
-
-fn write_some<L: Look>(
-    look: &L,
-    it: Slot,
-    bytes: &Bytes,
-    reads: &mut Reads,
-) -> Result<Change, Refusal>
-    ensures { Comes (L.state look.now) (write_some it bytes.now) reads.old result reads.new }
-{
-    if is_pipe(it.kind) {
-        write_pipe(look, it.inode, bytes, reads)
-    } else {
-        write_file(look, it, bytes, reads)
-    }
 }
 
 fn write_pipe<L: Look>(
@@ -312,23 +288,16 @@ fn write_pipe<L: Look>(
         (some_to_pipe pipe bytes.now) reads.old result reads.new }
 {
     let ends = ends(look, pipe, reads)?;
-    must_not_be_zero(ends.0, Errno::EPIPE)?;
-    let fitting = fit_bytes(look, pipe, bytes, reads)?;
+    refuse_if(ends.0 == 0, Errno::EPIPE)?;
+    let fitting = fit(look, pipe, bytes.as_slice().len(), reads)?;
     must_fit(fitting, bytes)?;
-    must_not_be_zero(fitting, Errno::EAGAIN)?;
+    refuse_if(fitting == 0, Errno::EAGAIN)?;
     let kept = first_bytes(reads.heap(), bytes, fitting)?;
     changed_by(
         reads.heap(),
         Answer::Count(fitting),
         Edit::Append(pipe, kept),
     )
-}
-
-fn fit_bytes<L: Look>(look: &L, pipe: Num, bytes: &Bytes, reads: &mut Reads) -> Result<u32, Refusal>
-    ensures { Comes (L.state look.now)
-        (ask (Fit pipe (length bytes.now))) reads.old result reads.new }
-{
-    fit(look, pipe, bytes.as_slice().len(), reads)
 }
 
 fn write_file<L: Look>(

@@ -55,13 +55,6 @@ impl Own {
         self.pid
     }
 
-    // The open descriptors.
-    fn table(&self) -> &[(Fd, Slot)]
-        ensures { result.now ≡ self.now.table }
-    {
-        self.table.as_slice()
-    }
-
     // How many processes were made, and its priority, where it forks.
     pub(crate) fn birth(&self) -> Option<(u32, u8)>
         ensures { result ≡ self.now.birth }
@@ -73,80 +66,38 @@ impl Own {
     pub(crate) fn slot_at(&self, fd: Fd) -> Option<Slot>
         ensures { result ≡ slot_at self.now fd }
     {
-        find_slot(self.table(), fd)
+        let table = self.table.as_slice();
+        for entry in table {
+            if entry.0 == fd {
+                return Some(entry.1);
+            }
+        }
+        None
     }
 
     // The descriptors that are free.
-    pub(crate) fn free(&self, heap: Heap) -> Result<Fds, AllocError>
-        ensures { IfOk result (λ fds. fds ≡ free self.now) }
+    pub(crate) fn free(&self, heap: Heap) -> Result<Vec<Fd, Heap>, AllocError>
+        ensures { IfOk result (λ fds. fds.items ≡ free self.now) }
     {
-        find_free(heap, self.table())
+        let table = self.table.as_slice();
+        let mut fds = Vec::new(heap);
+        for number in 0..DESCRIPTORS as u32 {
+            add_if_free(&mut fds, table, Fd(number))?;
+        }
+        Ok(fds)
     }
 
     // The pipes of the descriptors, each once.
     pub(crate) fn pipes(&self, heap: Heap) -> Result<Nums, AllocError>
         ensures { IfOk result (λ pipes. pipes ≡ pipes_in self.now) }
     {
-        find_pipes(heap, self.table())
-    }
-}
-
-/// Descriptors.
-#[derive(Drop)]
-pub(crate) struct Fds {
-    fds: Vec<Fd, Heap>,
-}
-
-impl Model for Fds {
-    ghost use Rattle.std.specs.Prelude.{List, ℕ};
-
-    ghost Value = { List ℕ };
-
-    ghost view = { λ f. f.fds.items };
-}
-
-impl Fds {
-    // None.
-    fn new(heap: Heap) -> Fds
-        ensures { result ≡ [] }
-    {
-        Fds {
-            fds: Vec::new(heap),
+        let table = self.table.as_slice();
+        let mut pipes = Nums::new(heap);
+        for entry in table {
+            add_pipe(&mut pipes, entry.1.kind, entry.1.inode)?;
         }
+        Ok(pipes)
     }
-
-    // One more.
-    fn add(&mut self, fd: Fd) -> Result<(), AllocError>
-        ensures { OnOk result (self.new ≡ self.old ++ fd ∷ []) }
-    {
-        self.fds.push(fd)?;
-        Ok(())
-    }
-
-    // All of them, in order.
-    pub(crate) fn as_slice(&self) -> &[Fd]
-        ensures { result.now ≡ self.now }
-    {
-        self.fds.as_slice()
-    }
-}
-
-fn find_slot(table: &[(Fd, Slot)], fd: Fd) -> Option<Slot>
-    ensures { result ≡ lookup (λ g. g == fd) table.now }
-{
-    for entry in table {
-        if is_one(entry.0, fd) {
-            return Some(entry.1);
-        }
-    }
-    None
-}
-
-// Whether two descriptors are one.
-pub(crate) fn is_one(first: Fd, second: Fd) -> bool
-    ensures { result ≡ (first == second) }
-{
-    first == second
 }
 
 fn has(table: &[(Fd, Slot)], fd: Fd) -> bool
@@ -155,38 +106,22 @@ fn has(table: &[(Fd, Slot)], fd: Fd) -> bool
     table.iter().any(|entry| entry.0 == fd)
 }
 
-fn find_free(heap: Heap, table: &[(Fd, Slot)]) -> Result<Fds, AllocError>
-    ensures { IfOk result (λ fds. fds ≡ free_from table.now 0 descriptor_limit) }
+fn add_if_free(fds: &mut Vec<Fd, Heap>, table: &[(Fd, Slot)], fd: Fd) -> Result<(), AllocError>
+    ensures { OnOk result
+        (fds.new.items ≡ (if list_any (λ e. e.0 == fd) table.now then fds.old.items
+        else fds.old.items ++ fd ∷ [])) }
 {
-    let mut fds = Fds::new(heap);
-    for number in 0..DESCRIPTORS as u32 {
-        add_if_free(&mut fds, table, Fd(number))?;
+    if has(table, fd) {
+        return Ok(());
     }
-    Ok(fds)
-}
-
-fn add_if_free(fds: &mut Fds, table: &[(Fd, Slot)], fd: Fd) -> Result<(), AllocError>
-    ensures { OnOk result (fds.new ≡ (if list_any (λ e. e.0 == fd) table.now then fds.old
-        else fds.old ++ fd ∷ [])) }
-{
-    if has(table, fd) { Ok(()) } else { fds.add(fd) }
+    fds.push(fd)?;
+    Ok(())
 }
 
 fn has_num(nums: &[Num], num: Num) -> bool
     ensures { result ≡ list_any (λ m. m == num) nums.now }
 {
     nums.iter().any(|entry| *entry == num)
-}
-
-fn find_pipes(heap: Heap, table: &[(Fd, Slot)]) -> Result<Nums, AllocError>
-    ensures { IfOk result
-        (λ pipes. pipes ≡ each_once [] (flat_map (λ e. pipe_in (Some e.1)) table.now)) }
-{
-    let mut pipes = Nums::new(heap);
-    for entry in table {
-        add_pipe(&mut pipes, entry.1.kind, entry.1.inode)?;
-    }
-    Ok(pipes)
 }
 
 fn add_pipe(pipes: &mut Nums, kind: Option<Kind>, inode: Num) -> Result<(), AllocError>
@@ -219,14 +154,14 @@ pub(crate) fn slot(own: &Own, fd: Fd) -> Result<Slot, Refusal>
 pub(crate) fn lowest(heap: Heap, own: &Own) -> Result<Fd, Refusal>
     ensures { Tells (first_of_free (free own.now)) result }
 {
-    let fds = own.free(heap)?;
-    first_of(&fds)
+    let free = own.free(heap)?;
+    first_of(free.as_slice())
 }
 
-fn first_of(fds: &Fds) -> Result<Fd, Refusal>
-    ensures { Tells (first_of_free fds.now) result }
+fn first_of(free: &[Fd]) -> Result<Fd, Refusal>
+    ensures { Tells (first_of_free free.now) result }
 {
-    match fds.as_slice() {
+    match free {
         [fd, ..] => Ok(*fd),
         [] => Err(Refusal::Errno(Errno::EMFILE)),
     }

@@ -1,11 +1,9 @@
 // The plans of calls on paths.
-ghost use Rattle.std.specs.Prelude.{◌≡◌, ◌∷◌, [], ℕ, Some, true, false};
-ghost use Rattle.model.specs.Changes.{Move};
+ghost use Rattle.std.specs.Prelude.{◌≡◌, ◌∷◌, [], ℕ, Some};
 ghost use Rattle.calls.specs.Parts.{place_at, last_at, empty_directory, without_names};
-ghost use Rattle.calls.specs.Parts.{file_named, link_paths, name_file, rename_paths};
-ghost use Rattle.calls.specs.Parts.{move_target, gives, replaced, replaced_over};
-ghost use Rattle.model.specs.Walks.{is_directory};
-ghost use Rattle.model.specs.Plans.{plan, changed, unchanged, status, moved, replaced_by_name};
+ghost use Rattle.calls.specs.Parts.{file_named, link_paths, rename_paths, move_target, gives, replaced};
+ghost use Rattle.model.specs.Changes.{Move};
+ghost use Rattle.model.specs.Plans.{plan, changed, unchanged, status, moved};
 ghost use Rattle.model.specs.Calls.{own, Done, Stated, Stat as Stat_path, Mkdir, Rmdir};
 ghost use Rattle.model.specs.Calls.{List_directory, Link, Unlink, Rename};
 ghost use Rattle.look.specs.Asked.{Comes, Tells};
@@ -195,7 +193,10 @@ pub(crate) fn link<L: Look>(
 {
     let from = parsed(reads.heap(), old)?;
     let to = parsed(reads.heap(), path)?;
-    link_paths(look, &from, &to, reads)
+    let change = link_paths(look, &from, &to, reads);
+    drop(to);
+    drop(from);
+    change
 }
 
 fn link_paths<L: Look>(
@@ -209,17 +210,9 @@ fn link_paths<L: Look>(
 {
     let what = walk::walk(look, from, reads)?;
     must_not_be_directory(&what, Errno::EPERM)?;
-    name_file(look, what.0, to, reads)
-}
-
-// One more name for a file.
-fn name_file<L: Look>(look: &L, file: Num, to: &Path, reads: &mut Reads) -> Result<Change, Refusal>
-    ensures { let k = L.state look.now in
-        Comes k (name_file k.root file to.now) reads.old result reads.new }
-{
     let last = walk_to_last(look, Errno::EEXIST, to, reads)?;
     absent(last.found())?;
-    done(reads.heap(), Edit::NameFile(last.parent, last.name, file))
+    done(reads.heap(), Edit::NameFile(last.parent, last.name, what.0))
 }
 
 pub(crate) fn rename<L: Look>(
@@ -234,7 +227,10 @@ pub(crate) fn rename<L: Look>(
 {
     let from = parsed(reads.heap(), old)?;
     let to = parsed(reads.heap(), path)?;
-    rename_paths(look, &from, &to, reads)
+    let change = rename_paths(look, &from, &to, reads);
+    drop(to);
+    drop(from);
+    change
 }
 
 fn rename_paths<L: Look>(
@@ -287,10 +283,17 @@ fn moved<L: Look>(
         (moved from what to to.found) reads.old result reads.new }
 {
     if gives(to.found(), what.0) {
-        unchanged(reads.heap(), Answer::Done)
-    } else {
-        let replaced = replaced(look, &what, to.found(), reads)?;
-        done(reads.heap(), move_edit(from, to, what.0, replaced))
+        drop(to);
+        drop(from);
+        return unchanged(reads.heap(), Answer::Done);
+    }
+    match replaced(look, &what, to.found(), reads) {
+        Ok(replaced) => done(reads.heap(), move_edit(from, to, what.0, replaced)),
+        Err(refusal) => {
+            drop(to);
+            drop(from);
+            Err(refusal)
+        }
     }
 }
 
@@ -304,7 +307,7 @@ fn gives(found: Option<(Num, Option<Kind>)>, num: Num) -> bool
     }
 }
 
-// What loses its name to what moves.
+// What loses its name to what moves: nothing, a file, or a directory, which has to be empty.
 fn replaced<L: Look>(
     look: &L,
     what: &(Num, Option<Kind>),
@@ -313,45 +316,15 @@ fn replaced<L: Look>(
 ) -> Result<Replaced, Refusal>
     ensures { Comes (L.state look.now) (replaced what.now found) reads.old result reads.new }
 {
-    match found {
-        Some(old) => replaced_over(look, what, &old, reads),
-        None => Ok(Replaced::Nothing),
-    }
-}
-
-fn replaced_over<L: Look>(
-    look: &L,
-    what: &(Num, Option<Kind>),
-    old: &(Num, Option<Kind>),
-    reads: &mut Reads,
-) -> Result<Replaced, Refusal>
-    ensures { Comes (L.state look.now)
-        (replaced_over what.now old.now) reads.old result reads.new }
-{
-    must_be_no_directory_for(what, old)?;
-    must_be_directory_for(what, old)?;
-    replaced_by_name(look, *old, reads)
-}
-
-// What loses the name: a file, or a directory, which has to be empty.
-fn replaced_by_name<L: Look>(
-    look: &L,
-    old: (Num, Option<Kind>),
-    reads: &mut Reads,
-) -> Result<Replaced, Refusal>
-    ensures { Comes (L.state look.now)
-        (replaced_by_name old.0 (is_directory old)) reads.old result reads.new }
-{
+    let Some(old) = found else {
+        return Ok(Replaced::Nothing);
+    };
+    must_be_no_directory_for(what, &old)?;
+    must_be_directory_for(what, &old)?;
     if is_directory(&old) {
-        replaced_directory(look, old.0, reads)
+        must_have_no_names(look, old.0, reads)?;
+        Ok(Replaced::Directory(old.0))
     } else {
         Ok(Replaced::File(old.0))
     }
-}
-
-fn replaced_directory<L: Look>(look: &L, num: Num, reads: &mut Reads) -> Result<Replaced, Refusal>
-    ensures { Comes (L.state look.now) (replaced_by_name num true) reads.old result reads.new }
-{
-    must_have_no_names(look, num, reads)?;
-    Ok(Replaced::Directory(num))
 }

@@ -1,5 +1,5 @@
-use Rattle.std.proofs.Common.{sym}
-use Rattle.std.proofs.Common.{[], ◌∷◌, ◌++◌, ap, ◌∙◌, Some, if◌then◌else◌}
+use Rattle.std.proofs.Common.{[], ◌∷◌, ◌++◌, sym, ap, ◌∙◌, Some, nat_lt, if◌then◌else◌}
+use Rattle.model.specs.Plan.{refuse_if, EBADF}
 use Rattle.model.specs.Plans.{changed, unchanged, pipe_in, slot_at}
 use Rattle.model.specs.Calls.{Descriptor}
 use Rattle.model.specs.Changes.{Share_slot}
@@ -9,11 +9,11 @@ use Rattle.calls.proofs.descriptors.dup2.Goals as goal
 pub returns-in_err-it : goal.returns-in_err-it
 returns-in_err-it c k before = stops _ c.from_residual.ensures.1 (c.in_err-it.ensures _ _)
 
-pub returns-in_err-must_be_descriptor : goal.returns-in_err-must_be_descriptor
-returns-in_err-must_be_descriptor c k before = goes _ (c.in_ok-it.ensures _ _) (stops _ c.from_residual-in_err-must_be_descriptor.ensures.1 (c.in_err-must_be_descriptor.ensures _ _))
+pub returns-in_err-refuse_if : goal.returns-in_err-refuse_if
+returns-in_err-refuse_if c k before = goes _ (c.in_ok-it.ensures _ _) (stops _ c.from_residual-in_err-refuse_if.ensures.1 (via (ap (λ n. refuse_if (nat_lt 63 n) EBADF) (sym c.new.view_is)) (c.in_err-refuse_if.ensures _ _)))
 
-pub returns-then-is_one : goal.returns-then-is_one
-returns-then-is_one c k before = goes _ (c.in_ok-it.ensures _ _) (goes _ (c.in_ok-must_be_descriptor.ensures _ _) (via (ap (λ b. if b then unchanged (Descriptor c.args.old) else changed (Descriptor c.args.new) (Share_slot c.args.own.now.pid c.args.new c.in_ok-it.it.description (pipe_in (Some c.in_ok-it.it) ++ pipe_in (slot_at c.args.own.now c.args.new)) ∷ [])) (sym c.is_one.ensures ∙ c.if-is_one.true)) (c.unchanged.ensures _ _)))
+pub returns-then-eq : goal.returns-then-eq
+returns-then-eq c k before = goes _ (c.in_ok-it.ensures _ _) (goes _ (via (ap (λ n. refuse_if (nat_lt 63 n) EBADF) (sym c.new.view_is)) (c.in_ok-refuse_if.ensures _ _)) (via (ap (λ b. if b then unchanged (Descriptor c.args.old) else changed (Descriptor c.args.new) (Share_slot c.args.own.now.pid c.args.new c.in_ok-it.it.description (pipe_in (Some c.in_ok-it.it) ++ pipe_in (slot_at c.args.own.now c.args.new)) ∷ [])) (sym c.eq.ensures ∙ c.if-eq.true)) (c.unchanged.ensures _ _)))
 
-pub returns-else-is_one : goal.returns-else-is_one
-returns-else-is_one c k before = goes _ (c.in_ok-it.ensures _ _) (goes _ (c.in_ok-must_be_descriptor.ensures _ _) (via (ap (λ b. if b then unchanged (Descriptor c.args.old) else changed (Descriptor c.args.new) (Share_slot c.args.own.now.pid c.args.new c.in_ok-it.it.description (pipe_in (Some c.in_ok-it.it) ++ pipe_in (slot_at c.args.own.now c.args.new)) ∷ [])) (sym c.is_one.ensures ∙ c.if-is_one.false)) (c.replaced.ensures _ _)))
+pub returns-in_ok-pipes : goal.returns-in_ok-pipes
+returns-in_ok-pipes c k before = goes _ (c.in_ok-it.ensures _ _) (goes _ (via (ap (λ n. refuse_if (nat_lt 63 n) EBADF) (sym c.new.view_is)) (c.in_ok-refuse_if.ensures _ _)) (via (ap (λ b. if b then unchanged (Descriptor c.args.old) else changed (Descriptor c.args.new) (Share_slot c.args.own.now.pid c.args.new c.in_ok-it.it.description (pipe_in (Some c.in_ok-it.it) ++ pipe_in (slot_at c.args.own.now c.args.new)) ∷ [])) (sym c.eq.ensures ∙ c.if-eq.false)) (via (λ i. changed (Descriptor c.args.new) (Share_slot (sym c.pid.ensures i) c.args.new c.in_ok-it.it.description ((ap (λ s. pipe_in (Some c.in_ok-it.it) ++ pipe_in s) (sym c.slot_at.ensures) ∙ sym c.in_ok-pipes.ensures) i) ∷ [])) (c.changed_by.ensures _ _))))

@@ -8,8 +8,8 @@ use Rattle.calls.proofs.files.nothing_from_pipe.Goals as goal
 pub returns-in_err-ends : goal.returns-in_err-ends
 returns-in_err-ends g c = stops _ c.from_residual.ensures.1 c.in_err-ends.ensures
 
-pub returns-in_err-must_be_zero : goal.returns-in_err-must_be_zero
-returns-in_err-must_be_zero g c = goes _ c.in_ok-ends.ensures (stops _ c.from_residual-in_err-must_be_zero.ensures.1 (c.in_err-must_be_zero.ensures _ _))
+pub returns-in_err-refuse_if : goal.returns-in_err-refuse_if
+returns-in_err-refuse_if g c = goes _ c.in_ok-ends.ensures (stops _ c.from_residual-in_err-refuse_if.ensures.1 (c.in_err-refuse_if.ensures _ _))
 
 pub returns : goal.returns
-returns g c = goes _ c.in_ok-ends.ensures (goes _ (c.in_ok-must_be_zero.ensures _ _) (via (ap (λ bytes. unchanged (Bytes bytes)) (sym c.no_bytes.ensures)) (c.unchanged.ensures _ _)))
+returns g c = goes _ c.in_ok-ends.ensures (goes _ (c.in_ok-refuse_if.ensures _ _) (via (ap (λ bytes. unchanged (Bytes bytes)) (sym c.no_bytes.ensures)) (c.unchanged.ensures _ _)))

@@ -1,4 +1,3 @@
-use Rattle.std.proofs.Common.{sym}
 use Rattle.walk.proofs.Laws.{goes, stops}
 use Rattle.calls.proofs.files.open.Goals as goal
 
@@ -14,11 +13,5 @@ returns-in_err-must_write_to_truncate g c = goes _ (c.in_ok-must_read_or_write.e
 pub returns-in_err-path : goal.returns-in_err-path
 returns-in_err-path g c = goes _ (c.in_ok-must_read_or_write.ensures _ _) (goes _ (c.in_ok-must_create_to_exclude.ensures _ _) (goes _ (c.in_ok-must_write_to_truncate.ensures _ _) (stops _ c.from_residual-in_err-path.ensures.1 (c.in_err-path.ensures _ _))))
 
-pub returns-in_err-fd : goal.returns-in_err-fd
-returns-in_err-fd g c = goes _ (c.in_ok-must_read_or_write.ensures _ _) (goes _ (c.in_ok-must_create_to_exclude.ensures _ _) (goes _ (c.in_ok-must_write_to_truncate.ensures _ _) (goes _ (c.in_ok-path.ensures _ _) (stops _ c.from_residual-in_err-fd.ensures.1 (c.in_err-fd.ensures _ _)))))
-
-pub returns-in_err-last : goal.returns-in_err-last
-returns-in_err-last g c = goes _ (c.in_ok-must_read_or_write.ensures _ _) (goes _ (c.in_ok-must_create_to_exclude.ensures _ _) (goes _ (c.in_ok-must_write_to_truncate.ensures _ _) (goes _ (c.in_ok-path.ensures _ _) (goes _ (c.in_ok-fd.ensures _ _) (rw (c.requires, sym c.refusal_of_root.ensures) (stops _ c.from_residual-in_err-last.ensures.1 c.in_err-last.ensures))))))
-
 pub returns : goal.returns
-returns g c = goes _ (c.in_ok-must_read_or_write.ensures _ _) (goes _ (c.in_ok-must_create_to_exclude.ensures _ _) (goes _ (c.in_ok-must_write_to_truncate.ensures _ _) (goes _ (c.in_ok-path.ensures _ _) (goes _ (c.in_ok-fd.ensures _ _) (rw (c.requires, sym c.refusal_of_root.ensures) (goes _ c.in_ok-last.ensures (c.opened.ensures)))))))
+returns g c = goes _ (c.in_ok-must_read_or_write.ensures _ _) (goes _ (c.in_ok-must_create_to_exclude.ensures _ _) (goes _ (c.in_ok-must_write_to_truncate.ensures _ _) (goes _ (c.in_ok-path.ensures _ _) c.open_path-change.ensures)))

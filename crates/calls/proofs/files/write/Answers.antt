@@ -1,7 +1,7 @@
-use Rattle.std.proofs.Common.{sym}
-use Rattle.std.proofs.Common.{ap, ◌∙◌, if◌then◌else◌}
+use Rattle.std.proofs.Common.{sym, ap, ◌∙◌, if◌then◌else◌}
 use Rattle.model.specs.Plans.{unchanged, write_some}
 use Rattle.model.specs.Calls.{Count}
+use Rattle.calls.specs.Parts.{some_to_pipe, some_to_file}
 use Rattle.walk.proofs.Laws.{goes, stops, via}
 use Rattle.calls.proofs.files.write.Goals as goal
 
@@ -14,5 +14,8 @@ returns-in_err-refuse_if g c = goes _ (c.in_ok-it.ensures _ _) (stops _ c.from_r
 pub returns-then-is_empty : goal.returns-then-is_empty
 returns-then-is_empty g c = goes _ (c.in_ok-it.ensures _ _) (goes _ (c.in_ok-refuse_if.ensures _ _) (via (ap (λ b. if b then unchanged (Count 0) else write_some c.in_ok-it.it c.args.bytes.now) (sym c.is_empty.ensures ∙ c.if-is_empty.true)) (c.unchanged.ensures _ _)))
 
-pub returns-else-is_empty : goal.returns-else-is_empty
-returns-else-is_empty g c = goes _ (c.in_ok-it.ensures _ _) (goes _ (c.in_ok-refuse_if.ensures _ _) (via (ap (λ b. if b then unchanged (Count 0) else write_some c.in_ok-it.it c.args.bytes.now) (sym c.is_empty.ensures ∙ c.if-is_empty.false)) (c.write_some.ensures)))
+pub returns-then-is_pipe : goal.returns-then-is_pipe
+returns-then-is_pipe g c = goes _ (c.in_ok-it.ensures _ _) (goes _ (c.in_ok-refuse_if.ensures _ _) (via (ap (λ b. if b then unchanged (Count 0) else write_some c.in_ok-it.it c.args.bytes.now) (sym c.is_empty.ensures ∙ c.if-is_empty.false)) (via (ap (λ b. if b then some_to_pipe c.in_ok-it.it.inode c.args.bytes.now else some_to_file c.in_ok-it.it c.args.bytes.now) (sym c.is_pipe.ensures ∙ c.if-is_pipe.true)) c.write_pipe.ensures)))
+
+pub returns-else-is_pipe : goal.returns-else-is_pipe
+returns-else-is_pipe g c = goes _ (c.in_ok-it.ensures _ _) (goes _ (c.in_ok-refuse_if.ensures _ _) (via (ap (λ b. if b then unchanged (Count 0) else write_some c.in_ok-it.it c.args.bytes.now) (sym c.is_empty.ensures ∙ c.if-is_empty.false)) (via (ap (λ b. if b then some_to_pipe c.in_ok-it.it.inode c.args.bytes.now else some_to_file c.in_ok-it.it c.args.bytes.now) (sym c.is_pipe.ensures ∙ c.if-is_pipe.false)) c.write_file.ensures)))

@@ -8,4 +8,4 @@ pub returns-in_err-to : goal.returns-in_err-to
 returns-in_err-to g c pid = goes _ (c.in_ok-from.ensures _ _) (stops _ c.from_residual-in_err-to.ensures.1 (c.in_err-to.ensures _ _))
 
 pub returns : goal.returns
-returns g c pid = goes _ (c.in_ok-from.ensures _ _) (goes _ (c.in_ok-to.ensures _ _) c.link_paths.ensures)
+returns g c pid = goes _ (c.in_ok-from.ensures _ _) (goes _ (c.in_ok-to.ensures _ _) c.link_paths-change.ensures)

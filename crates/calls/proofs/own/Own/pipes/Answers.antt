@@ -1,10 +1,10 @@
-use Rattle.std.proofs.Common.{[]}
-use Rattle.std.proofs.Common.{subst}
-use Rattle.std.specs.Prelude.{IfOk}
+use Rattle.std.proofs.Common.{◌∷◌, sym, ap, ◌∙◌, ◌++◌}
+use Rattle.std.proofs.Common.{◌++◌, ◌+◌, drop}
+use Rattle.std.specs.Prelude.{reverse}
+use Rattle.std.proofs.lemmas.List.{drop_more}
 use Rattle.model.specs.Plans.{each_once}
-use Rattle.calls.proofs.Frees.{pipes_of}
-use Rattle.std.proofs.Common.{◌≡◌}
+use Rattle.calls.proofs.Frees.{once_step, pipes_of}
 use Rattle.calls.proofs.own.Own.pipes.Goals as goal
 
-pub returns : goal.returns
-returns c = subst (λ t. IfOk c.find_pipes.result (λ pipes. pipes ≡ each_once [] (pipes_of t))) c.table.ensures c.find_pipes.ensures
+pub loop-entry-preserved : goal.loop-entry-preserved
+loop-entry-preserved c = c.loop-entry.invariant ∙ ap (λ rest. c.loop-entry.pipes ++ each_once (reverse c.loop-entry.pipes) (pipes_of rest)) (drop_more _ _ c.entry-item.result c.loop-entry-test.true ∙ ap (λ e. e ∷ drop (c.loop-entry.entry-index + 1) c.as_slice-table.result.now) (sym c.entry-item.is)) ∙ once_step c.loop-entry.pipes c.entry-item.result (drop (c.loop-entry.entry-index + 1) c.as_slice-table.result.now) ∙ ap (λ pipes. pipes ++ each_once (reverse pipes) (pipes_of (drop (c.loop-entry.entry-index + 1) c.as_slice-table.result.now))) (sym c.in_ok-add_pipe.ensures)
