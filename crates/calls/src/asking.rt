@@ -88,7 +88,6 @@ pub(crate) fn offset<L: Look>(look: &L, description: Num, reads: &mut Reads) -> 
 }
 
 // Bytes of a file from a place on, so many at most.
-#[tactic(auto, using(walk::proofs::Laws::noting_more))]
 pub(crate) fn read_file<L: Look>(
     look: &L,
     file: Num,
@@ -107,7 +106,6 @@ pub(crate) fn read_file<L: Look>(
 }
 
 // Bytes from the front of a pipe, so many at most.
-#[tactic(auto, using(walk::proofs::Laws::noting_more))]
 pub(crate) fn read_pipe<L: Look>(
     look: &L,
     pipe: Num,
@@ -127,7 +125,6 @@ pub(crate) fn read_pipe<L: Look>(
 }
 
 // How many of so many bytes fit into a pipe.
-#[tactic(auto, using(walk::proofs::Laws::noting_more))]
 pub(crate) fn fit<L: Look>(
     look: &L,
     pipe: Num,

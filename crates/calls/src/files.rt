@@ -60,23 +60,13 @@ fn open_path<L: Look>(
 {
     let fd = lowest(reads.heap(), own)?;
     let last = walk_to_last(look, refusal_of_root(flags), path, reads)?;
-    opened(look, own, flags, fd, last, reads)
-}
-
-fn opened<L: Look>(
-    look: &L,
-    own: &Own,
-    flags: OpenFlags,
-    fd: Fd,
-    last: Last,
-    reads: &mut Reads,
-) -> Result<Change, Refusal>
-    ensures { Comes (L.state look.now)
-        (opened own.now flags fd last last.found) reads.old result reads.new }
-{
     match last.found() {
         None => opened_new(reads.heap(), own, flags, fd, last),
-        Some(place) => opened_old(look, own, flags, fd, place, reads),
+        Some(place) => {
+            let change = opened_old(look, own, flags, fd, place, reads);
+            drop(last);
+            change
+        }
     }
 }
 

@@ -1,5 +1,6 @@
-use Rattle.std.proofs.Common.{sym}
-use Rattle.walk.proofs.Laws.{goes, stops}
+use Rattle.std.proofs.Common.{sym, ap, ◌∙◌}
+use Rattle.model.specs.Plans.{opened}
+use Rattle.walk.proofs.Laws.{goes, stops, via}
 use Rattle.calls.proofs.files.open_path.Goals as goal
 
 pub returns-in_err-fd : goal.returns-in_err-fd
@@ -8,5 +9,8 @@ returns-in_err-fd g c = stops _ c.from_residual.ensures.1 (c.in_err-fd.ensures _
 pub returns-in_err-last : goal.returns-in_err-last
 returns-in_err-last g c = goes _ (c.in_ok-fd.ensures _ _) (rw (c.requires, sym c.refusal_of_root.ensures) (stops _ c.from_residual-in_err-last.ensures.1 c.in_err-last.ensures))
 
-pub returns : goal.returns
-returns g c = goes _ (c.in_ok-fd.ensures _ _) (rw (c.requires, sym c.refusal_of_root.ensures) (goes _ c.in_ok-last.ensures c.opened.ensures))
+pub returns-in-None : goal.returns-in-None
+returns-in-None g c = goes _ (c.in_ok-fd.ensures _ _) (rw (c.requires, sym c.refusal_of_root.ensures) (goes _ c.in_ok-last.ensures (via (ap (opened c.args.own.now c.args.flags c.in_ok-fd.fd c.in_ok-last.last) (sym c.found.ensures ∙ c.in-None.is)) (c.opened_new.ensures _ _))))
+
+pub returns-in-Some : goal.returns-in-Some
+returns-in-Some g c = goes _ (c.in_ok-fd.ensures _ _) (rw (c.requires, sym c.refusal_of_root.ensures) (goes _ c.in_ok-last.ensures (via (ap (opened c.args.own.now c.args.flags c.in_ok-fd.fd c.in_ok-last.last) (sym c.found.ensures ∙ c.in-Some.is)) (c.opened_old-change.ensures c.in_ok-last.last))))
