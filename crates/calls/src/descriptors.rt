@@ -57,10 +57,12 @@ pub(crate) fn dup2(heap: Heap, own: &Own, old: Fd, new: Fd) -> Result<Change, Re
     ensures { Tells (plan own.now (Dup2 old new)) result }
 {
     let it = slot(own, old)?;
+    // A descriptor is one of 0 to 63.
     refuse_if(63 < new.0, Errno::EBADF)?;
     if old == new {
         unchanged(heap, Answer::Fd(old))
     } else {
+        // It shares the description, whatever it was open on.
         let pipes = two_of(heap, &it, &own.slot_at(new))?;
         changed_by(
             heap,

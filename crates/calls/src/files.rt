@@ -9,7 +9,8 @@ ghost use Rattle.ids.specs.Flags.{is_truncating};
 ghost use Rattle.model.specs.Plans.{plan, changed, mode, opened, cut_to};
 ghost use Rattle.model.specs.Plans.{read_pipe, place_to_write};
 ghost use Rattle.model.specs.Calls.{Slot, Count, Open, Read, Write, Ftruncate};
-ghost use Rattle.calls.specs.Parts.{open_path, some_of_pipe, some_of_file, some_to_pipe, some_to_file};
+ghost use Rattle.calls.specs.Parts.{open_path, some_of_pipe, some_of_file, some_to_pipe};
+ghost use Rattle.calls.specs.Parts.{some_to_file};
 ghost use Rattle.look.specs.Asked.{Comes, Tells};
 
 use crate::asking::{ends, fit, offset, read_file, read_pipe, size};

@@ -1,7 +1,8 @@
 // The plans of calls on paths.
 ghost use Rattle.std.specs.Prelude.{◌≡◌, ◌∷◌, [], ℕ, Some};
 ghost use Rattle.calls.specs.Parts.{place_at, last_at, empty_directory, without_names};
-ghost use Rattle.calls.specs.Parts.{file_named, link_paths, rename_paths, move_target, gives, replaced};
+ghost use Rattle.calls.specs.Parts.{file_named, link_paths, rename_paths, move_target};
+ghost use Rattle.calls.specs.Parts.{gives, replaced};
 ghost use Rattle.model.specs.Changes.{Move};
 ghost use Rattle.model.specs.Plans.{plan, changed, unchanged, status, moved};
 ghost use Rattle.model.specs.Calls.{own, Done, Stated, Stat as Stat_path, Mkdir, Rmdir};
