@@ -1,7 +1,7 @@
 // The tests of calls on descriptors.
-ghost use Rattle.std.specs.Prelude.{◌&&◌, ◌||◌, ◌≡◌, ◌==◌, not, nat_lt, nat_le};
+ghost use Rattle.std.specs.Prelude.{◌&&◌, ◌||◌, ◌≡◌, not, nat_lt, nat_le};
 ghost use Rattle.std.specs.Prelude.{if◌then◌else◌, IfOk, ◌<◌, length};
-ghost use Rattle.model.specs.Plan.{refuse_if, EINVAL, EEXIST, EISDIR, ENOENT, EAGAIN};
+ghost use Rattle.model.specs.Plan.{refuse_if, EINVAL, EEXIST, EISDIR, EAGAIN};
 ghost use Rattle.ids.specs.Flags.{is_reading, is_writing, is_creating, is_exclusive, is_truncating};
 ghost use Rattle.model.specs.Plans.{is_pipe, largest, whole_write};
 ghost use Rattle.look.specs.Asked.{Tells};

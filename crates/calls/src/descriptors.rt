@@ -1,8 +1,6 @@
 // The plans of calls on descriptors and processes.
-ghost use Rattle.std.specs.Prelude.{Some, ◌++◌, ◌∷◌, []};
-ghost use Rattle.model.specs.Changes.{Share_slot};
-ghost use Rattle.model.specs.Plans.{plan, changed, duplicated, piped, forked, pipe_in, slot_at};
-ghost use Rattle.model.specs.Calls.{Descriptor, Close, Fstat, Dup, Dup2, Open_pipe, Fork, Exit};
+ghost use Rattle.model.specs.Plans.{plan};
+ghost use Rattle.model.specs.Calls.{Close, Fstat, Dup, Dup2, Open_pipe, Fork, Exit};
 ghost use Rattle.look.specs.Asked.{Comes, Tells};
 
 use crate::change::{Change, changed_by, unchanged};

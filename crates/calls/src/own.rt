@@ -1,8 +1,7 @@
 // What a process sees of itself without a touch.
 ghost use Rattle.std.specs.Prelude.{◌≡◌, ◌==◌, ◌++◌, ◌∷◌, [], Some, IfOk, OnOk, if◌then◌else◌};
-ghost use Rattle.std.specs.Map.{lookup};
-ghost use Rattle.std.specs.List.{list_any, flat_map};
-ghost use Rattle.model.specs.Plans.{descriptor_limit, slot, slot_at, free, free_from, each_once};
+ghost use Rattle.std.specs.List.{list_any};
+ghost use Rattle.model.specs.Plans.{slot, slot_at, free};
 ghost use Rattle.model.specs.Plans.{pipes_in, first_of_free, pipe_in, is_pipe};
 ghost use Rattle.model.specs.Calls.{own, Exit, Fork};
 ghost use Rattle.look.specs.Asked.{Tells};
