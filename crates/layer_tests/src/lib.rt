@@ -1,10 +1,15 @@
 //! Tests of the layers below the kernel: what refused memory leaves, what takes none, and little
-//! else. What a call does where it succeeds its contract tells, and the worked rows of the kernel go
-//! through all layers. They stand here so that no layer is proved a second time for its tests.
+//! else; and of the checker, on histories that are written by hand. What a call does where it
+//! succeeds its contract tells, and the worked rows of the kernel go through all layers. They stand
+//! here so that no layer is proved a second time for its tests.
 #![tactic(auto)]
 
 #[cfg(test)]
+mod histories;
+#[cfg(test)]
 mod names;
+#[cfg(test)]
+mod of_check;
 #[cfg(test)]
 mod of_conflict;
 #[cfg(test)]
