@@ -13,12 +13,23 @@ use std::alloc::AllocError;
 use std::marker::Model;
 
 /// What a process sees of itself without a touch.
-#[derive(Drop)]
 pub(crate) struct Own {
     pub(crate) root: Num,
     pub(crate) pid: Pid,
     pub(crate) table: Vec<(Fd, Slot), Heap>,
     pub(crate) birth: Option<(u32, u8)>,
+}
+
+// By hand: a derived drop is opened at every place where a value goes, this one is called.
+impl Drop for Own {
+    fn drop(self) {
+        let Own {
+            root: _,
+            pid: _,
+            table: _,
+            birth: _,
+        } = self;
+    }
 }
 
 impl Model for Own {

@@ -22,10 +22,16 @@ use std::mem::replace;
 
 /// A slot for each process, at its number. How many are in a transaction is stored, so that no step
 /// counts them.
-#[derive(Drop)]
 pub struct Slots {
     all: Vec<Slot, Heap>,
     within: usize,
+}
+
+// By hand: a derived drop is opened at every place where a value goes, this one is called.
+impl Drop for Slots {
+    fn drop(self) {
+        let Slots { all: _, within: _ } = self;
+    }
 }
 
 impl Model for Slots {

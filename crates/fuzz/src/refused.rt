@@ -18,7 +18,7 @@ fn is_refused<K: Machine>(heap: Heap, kernel: &mut K, pid: Pid, op: Op, number: 
     heap.refuse(number);
     let reply = kernel.step(pid, op);
     heap.refuse(0);
-    let refused = matches!(reply, Reply::NoMemory);
+    let refused = matches!(&reply, Reply::NoMemory);
     drop(reply);
     refused
 }
@@ -32,7 +32,7 @@ fn step_silent<K: Machine>(
 ) -> Result<bool, Difference> {
     trials.heap.refuse(1);
     let reply = kernel.step(pid, op);
-    let silent = trials.heap.made() == 0 && !matches!(reply, Reply::NoMemory);
+    let silent = trials.heap.made() == 0 && !matches!(&reply, Reply::NoMemory);
     trials.heap.refuse(0);
     drop(reply);
     trials.tally.silent = trials.tally.silent.wrapping_add(1);

@@ -16,7 +16,7 @@ use std::cmp::Ordering;
 use std::hash::{Hash, Hasher};
 
 /// What a touch speaks of: a part of the kernel's state that calls see and change.
-#[derive(Debug, Drop)]
+#[derive(Debug)]
 pub enum Aspect {
     /// What a name of a directory gives.
     Entry(Num, Name),
@@ -36,6 +36,23 @@ pub enum Aspect {
     Front(Num),
     /// What a writer adds to a pipe.
     Back(Num),
+}
+
+// By hand: a derived drop is opened at every place where a value goes, this one is called.
+impl Drop for Aspect {
+    fn drop(self) {
+        match self {
+            Aspect::Entry(_, _) => {}
+            Aspect::Names(_) => {}
+            Aspect::Size(_) => {}
+            Aspect::Block(_, _) => {}
+            Aspect::Links(_) => {}
+            Aspect::Ends(_) => {}
+            Aspect::Offset(_) => {}
+            Aspect::Front(_) => {}
+            Aspect::Back(_) => {}
+        }
+    }
 }
 
 impl Aspect {
@@ -211,12 +228,22 @@ impl Hash for Aspect {
 }
 
 /// An aspect that is read or written.
-#[derive(Debug, Drop)]
+#[derive(Debug)]
 pub struct Touch {
     /// What is touched.
     pub aspect: Aspect,
     /// Whether it is written, and not only read.
     pub write: bool,
+}
+
+// By hand: a derived drop is opened at every place where a value goes, this one is called.
+impl Drop for Touch {
+    fn drop(self) {
+        let Touch {
+            aspect: _,
+            write: _,
+        } = self;
+    }
 }
 
 impl Touch {
@@ -232,12 +259,19 @@ impl Touch {
 }
 
 /// Why a process lost a conflict: the touch of its own that clashed, and the process that won.
-#[derive(Debug, Drop)]
+#[derive(Debug)]
 pub struct Cause {
     /// A touch of the process that is aborted or put off.
     pub touch: Touch,
     /// The process that won.
     pub other: Pid,
+}
+
+// By hand: a derived drop is opened at every place where a value goes, this one is called.
+impl Drop for Cause {
+    fn drop(self) {
+        let Cause { touch: _, other: _ } = self;
+    }
 }
 
 impl Cause {
@@ -253,12 +287,22 @@ impl Cause {
 }
 
 /// Why a transaction was aborted.
-#[derive(Debug, Drop)]
+#[derive(Debug)]
 pub enum Why {
     /// It lost a conflict.
     Clash(Cause),
     /// It made a call that transactions do not support.
     Unsupported,
+}
+
+// By hand: a derived drop is opened at every place where a value goes, this one is called.
+impl Drop for Why {
+    fn drop(self) {
+        match self {
+            Why::Clash(_) => {}
+            Why::Unsupported => {}
+        }
+    }
 }
 
 impl Why {

@@ -8,9 +8,16 @@ use std::default::MadeWith;
 use std::marker::Model;
 
 /// Bytes that are owned: a path as it was given, or what is read or written.
-#[derive(Debug, Drop)]
+#[derive(Debug)]
 pub struct Bytes {
     bytes: Vec<u8, Heap>,
+}
+
+// By hand: a derived drop is opened at every place where a value goes, this one is called.
+impl Drop for Bytes {
+    fn drop(self) {
+        let Bytes { bytes: _ } = self;
+    }
 }
 
 impl Model for Bytes {
@@ -67,9 +74,16 @@ const SHORT: usize = 24;
 
 /// A name in a directory. That it has 1 to 255 bytes and no slash is for the path that it came
 /// from. A name of up to 24 bytes takes no memory, and neither does a copy of it.
-#[derive(Debug, Drop)]
+#[derive(Debug)]
 pub struct Name {
     bytes: SmallVec<u8, SHORT, Heap>,
+}
+
+// By hand: a derived drop is opened at every place where a value goes, this one is called.
+impl Drop for Name {
+    fn drop(self) {
+        let Name { bytes: _ } = self;
+    }
 }
 
 impl Model for Name {
@@ -115,9 +129,16 @@ impl MadeWith<Heap> for Name {
 }
 
 /// Names in order, as `list` answers them.
-#[derive(Debug, Drop)]
+#[derive(Debug)]
 pub struct NameList {
     names: Vec<Name, Heap>,
+}
+
+// By hand: a derived drop is opened at every place where a value goes, this one is called.
+impl Drop for NameList {
+    fn drop(self) {
+        let NameList { names: _ } = self;
+    }
 }
 
 impl Model for NameList {

@@ -18,7 +18,7 @@ pub enum Whence {
 }
 
 /// A call (POSIX.1-2017, by the function of each name). Paths are bytes as they were given.
-#[derive(Debug, Drop)]
+#[derive(Debug)]
 pub enum Call {
     /// Opens the file of a path.
     Open(Bytes, OpenFlags),
@@ -58,6 +58,33 @@ pub enum Call {
     Fork,
     /// Ends the process.
     Exit,
+}
+
+// By hand: a derived drop is opened at every place where a value goes, this one is called.
+impl Drop for Call {
+    fn drop(self) {
+        match self {
+            Call::Open(_, _) => {}
+            Call::Close(_) => {}
+            Call::Read(_, _) => {}
+            Call::Write(_, _) => {}
+            Call::Lseek(_, _, _) => {}
+            Call::Ftruncate(_, _) => {}
+            Call::Stat(_) => {}
+            Call::Fstat(_) => {}
+            Call::Link(_, _) => {}
+            Call::Unlink(_) => {}
+            Call::Rename(_, _) => {}
+            Call::Mkdir(_) => {}
+            Call::Rmdir(_) => {}
+            Call::List(_) => {}
+            Call::Dup(_) => {}
+            Call::Dup2(_, _) => {}
+            Call::Pipe => {}
+            Call::Fork => {}
+            Call::Exit => {}
+        }
+    }
 }
 
 impl Call {

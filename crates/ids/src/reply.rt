@@ -32,7 +32,7 @@ pub struct Stat {
 }
 
 /// What a call answers that is not refused.
-#[derive(Debug, Drop)]
+#[derive(Debug)]
 pub enum Answer {
     /// It is done.
     Done,
@@ -52,6 +52,23 @@ pub enum Answer {
     Names(NameList),
     /// A child's number.
     Child(Pid),
+}
+
+// By hand: a derived drop is opened at every place where a value goes, this one is called.
+impl Drop for Answer {
+    fn drop(self) {
+        match self {
+            Answer::Done => {}
+            Answer::Fd(_) => {}
+            Answer::Count(_) => {}
+            Answer::Place(_) => {}
+            Answer::Bytes(_) => {}
+            Answer::Pair(_, _) => {}
+            Answer::Stat(_) => {}
+            Answer::Names(_) => {}
+            Answer::Child(_) => {}
+        }
+    }
 }
 
 impl Answer {
@@ -74,7 +91,7 @@ impl Answer {
 }
 
 /// What an operation is answered.
-#[derive(Debug, Drop)]
+#[derive(Debug)]
 pub enum Reply {
     /// A call's answer.
     Answer(Answer),
@@ -108,6 +125,29 @@ pub enum Reply {
     NoMemory,
     /// The process was never made or has ended.
     NoProcess,
+}
+
+// By hand: a derived drop is opened at every place where a value goes, this one is called.
+impl Drop for Reply {
+    fn drop(self) {
+        match self {
+            Reply::Answer(_) => {}
+            Reply::Errno(_) => {}
+            Reply::Begun => {}
+            Reply::Committed => {}
+            Reply::GivenUp { restarted: _ } => {}
+            Reply::Aborted {
+                why: _,
+                restarted: _,
+            } => {}
+            Reply::Busy(_) => {}
+            Reply::InTransaction => {}
+            Reply::NotInTransaction => {}
+            Reply::HistoryFull => {}
+            Reply::NoMemory => {}
+            Reply::NoProcess => {}
+        }
+    }
 }
 
 impl Reply {

@@ -12,7 +12,6 @@ use history::History;
 use ids::{Age, BeginFlags, Entry, Nums, Op, Pid, Pids, Reply};
 
 /// The fields of a kernel.
-#[derive(Drop)]
 pub struct State {
     /// Where all memory comes from.
     pub heap: Heap,
@@ -22,6 +21,18 @@ pub struct State {
     pub contenders: Contenders,
     /// What each transaction has changed, and what is committed.
     pub transactions: Transactions,
+}
+
+// By hand: a derived drop is opened at every place where a value goes, this one is called.
+impl Drop for State {
+    fn drop(self) {
+        let State {
+            heap: _,
+            history: _,
+            contenders: _,
+            transactions: _,
+        } = self;
+    }
 }
 
 /// The flags and the age of a live transaction.

@@ -28,10 +28,19 @@ use std::marker::Model;
 
 /// What each process's live transaction touched, and what that marks at directories. Contracts see
 /// the touches of each process, each once.
-#[derive(Drop)]
 pub struct MarkedRecords {
     records: Records,
     holders: Holders,
+}
+
+// By hand: a derived drop is opened at every place where a value goes, this one is called.
+impl Drop for MarkedRecords {
+    fn drop(self) {
+        let MarkedRecords {
+            records: _,
+            holders: _,
+        } = self;
+    }
 }
 
 impl Model for MarkedRecords {

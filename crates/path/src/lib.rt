@@ -20,9 +20,16 @@ use std::marker::Model;
 type Names = SmallVec<Name, 4, Heap>;
 
 /// The names of a path, from the root on. The path `/` has none.
-#[derive(Debug, Drop)]
+#[derive(Debug)]
 pub struct Path {
     names: Names,
+}
+
+// By hand: a derived drop is opened at every place where a value goes, this one is called.
+impl Drop for Path {
+    fn drop(self) {
+        let Path { names: _ } = self;
+    }
 }
 
 impl Model for Path {

@@ -25,12 +25,21 @@ pub type UsersByAspect = HashMap<Aspect, Users, BuildHasherDefault<FoldHasher>, 
 pub type Entries = BTreeSet<Aspect, Heap>;
 
 /// Who uses which aspect.
-#[derive(Drop)]
 pub struct Index {
     /// The users of each aspect.
     pub users: UsersByAspect,
     /// The entries of directories that somebody writes: a look at all names meets just these.
     pub written: Entries,
+}
+
+// By hand: a derived drop is opened at every place where a value goes, this one is called.
+impl Drop for Index {
+    fn drop(self) {
+        let Index {
+            users: _,
+            written: _,
+        } = self;
+    }
 }
 
 /// A process is the first user of an aspect. Refused memory changes nothing.

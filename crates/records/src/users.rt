@@ -12,10 +12,19 @@ use std::alloc::AllocError;
 type Pids = SmallVec<Pid, 2, Heap>;
 
 /// Who reads an aspect and who writes it, each process once.
-#[derive(Drop)]
 pub struct Users {
     pub writers: Pids,
     pub readers: Pids,
+}
+
+// By hand: a derived drop is opened at every place where a value goes, this one is called.
+impl Drop for Users {
+    fn drop(self) {
+        let Users {
+            writers: _,
+            readers: _,
+        } = self;
+    }
 }
 
 /// A process is among these, and the answer is whether it is new. Refused memory changes nothing.

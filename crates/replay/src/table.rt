@@ -11,9 +11,15 @@ use std::marker::Model;
 use std::mem::replace;
 
 /// What each number stands for.
-#[derive(Drop)]
 pub(crate) struct Table<T> {
     slots: Vec<(Num, T), Heap>,
+}
+
+// By hand: a derived drop is opened at every place where a value goes, this one is called.
+impl<T: Drop> Drop for Table<T> {
+    fn drop(self) {
+        let Table { slots: _ } = self;
+    }
 }
 
 impl<T> Model for Table<T> {

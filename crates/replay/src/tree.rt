@@ -10,9 +10,15 @@ use std::collections::BTreeMap;
 use std::marker::Model;
 
 /// What each number stands for.
-#[derive(Drop)]
 pub(crate) struct Tree<T> {
     slots: BTreeMap<Num, T, Heap>,
+}
+
+// By hand: a derived drop is opened at every place where a value goes, this one is called.
+impl<T: Drop> Drop for Tree<T> {
+    fn drop(self) {
+        let Tree { slots: _ } = self;
+    }
 }
 
 impl<T> Model for Tree<T> {

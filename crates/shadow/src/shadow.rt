@@ -30,10 +30,16 @@ use std::snapshot::Snapshot;
 ///
 /// They are kept object by object, so a look costs the logarithm of their number, and a commit
 /// costs what was changed. What each call changed is known to clauses alone.
-#[derive(Drop)]
 pub struct Shadow {
     log: Log,
     pub(crate) patches: Patches,
+}
+
+// By hand: a derived drop is opened at every place where a value goes, this one is called.
+impl Drop for Shadow {
+    fn drop(self) {
+        let Shadow { log: _, patches: _ } = self;
+    }
 }
 
 impl Model for Shadow {
@@ -121,7 +127,7 @@ impl Shadow {
         ensures state { stable.new.state ≡ tidy (all_done self stable.old.state) }
         ensures kept { KeepsMore stable.new stable.old (λ c. claimed c self) }
     {
-        let Shadow { patches, .. } = self;
+        let Shadow { log: _, patches } = self;
         let Patches {
             inodes,
             openings,
@@ -144,7 +150,7 @@ impl Shadow {
         ensures state { stable.new.state ≡ stable.old.state }
         ensures kept { KeepsMore stable.new stable.old (λ c. claimed c self) }
     {
-        let Shadow { patches, .. } = self;
+        let Shadow { log: _, patches } = self;
         stable.give_up_all(patches);
     }
 }

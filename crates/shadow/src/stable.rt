@@ -32,12 +32,21 @@ use std::marker::Model;
 use store::{Object, OpenPipe, Store};
 
 /// A process.
-#[derive(Drop)]
 pub(crate) struct Process {
     /// Its open descriptors.
     pub(crate) table: FdTable,
     /// Its priority.
     pub(crate) priority: Priority,
+}
+
+// By hand: a derived drop is opened at every place where a value goes, this one is called.
+impl Drop for Process {
+    fn drop(self) {
+        let Process {
+            table: _,
+            priority: _,
+        } = self;
+    }
 }
 
 impl Model for Process {
@@ -53,11 +62,20 @@ impl Model for Process {
 
 /// The committed state: the objects, the processes with their descriptors and priorities, and what
 /// is kept for transactions that may commit.
-#[derive(Drop)]
 pub struct Stable {
     /// Each place has the process of the next number; one that has ended leaves its place empty.
     pub(crate) processes: Vec<Option<Process>, Heap>,
     pub(crate) store: Store,
+}
+
+// By hand: a derived drop is opened at every place where a value goes, this one is called.
+impl Drop for Stable {
+    fn drop(self) {
+        let Stable {
+            processes: _,
+            store: _,
+        } = self;
+    }
 }
 
 impl Model for Stable {

@@ -37,7 +37,6 @@ use std::collections::BTreeMap;
 use std::marker::Model;
 
 /// A file, and how many open file descriptions are of it.
-#[derive(Drop)]
 pub struct OpenFile {
     /// Its bytes.
     pub bytes: FileData,
@@ -45,8 +44,17 @@ pub struct OpenFile {
     pub openings: u128,
 }
 
+// By hand: a derived drop is opened at every place where a value goes, this one is called.
+impl Drop for OpenFile {
+    fn drop(self) {
+        let OpenFile {
+            bytes: _,
+            openings: _,
+        } = self;
+    }
+}
+
 /// A pipe. Its bytes have all their memory, and two descriptions at most are of it.
-#[derive(Drop)]
 pub struct OpenPipe {
     /// Its bytes.
     pub bytes: PipeData,
@@ -56,8 +64,18 @@ pub struct OpenPipe {
     pub writer: Num,
 }
 
+// By hand: a derived drop is opened at every place where a value goes, this one is called.
+impl Drop for OpenPipe {
+    fn drop(self) {
+        let OpenPipe {
+            bytes: _,
+            reader: _,
+            writer: _,
+        } = self;
+    }
+}
+
 /// An open file description, and how many descriptors of processes name it.
-#[derive(Drop)]
 pub struct Opened {
     /// What is open, how, and at which offset.
     pub description: Description,
@@ -65,8 +83,17 @@ pub struct Opened {
     pub holders: u128,
 }
 
+// By hand: a derived drop is opened at every place where a value goes, this one is called.
+impl Drop for Opened {
+    fn drop(self) {
+        let Opened {
+            description: _,
+            holders: _,
+        } = self;
+    }
+}
+
 /// What a number stands for.
-#[derive(Drop)]
 pub enum Object {
     /// A directory.
     Directory(Dir),
@@ -78,6 +105,19 @@ pub enum Object {
     Description(Opened),
     /// Not settled yet: a file, a pipe or a description is to come.
     Nothing,
+}
+
+// By hand: a derived drop is opened at every place where a value goes, this one is called.
+impl Drop for Object {
+    fn drop(self) {
+        match self {
+            Object::Directory(_) => {}
+            Object::File(_) => {}
+            Object::Pipe(_) => {}
+            Object::Description(_) => {}
+            Object::Nothing => {}
+        }
+    }
 }
 
 /// How far an object is, from the reservation of its number until the number is given up.
@@ -92,7 +132,6 @@ pub enum Stage {
 }
 
 /// What a number that is in use is used for: its object, and how far that is.
-#[derive(Drop)]
 pub struct Place {
     /// How far the object is.
     pub stage: Stage,
@@ -100,23 +139,48 @@ pub struct Place {
     pub object: Object,
 }
 
+// By hand: a derived drop is opened at every place where a value goes, this one is called.
+impl Drop for Place {
+    fn drop(self) {
+        let Place {
+            stage: _,
+            object: _,
+        } = self;
+    }
+}
+
 /// What is kept of a number that is in use: its place, and how many names of shown directories give
 /// the number.
 ///
 /// A `usize` can count the directories, and the names of each. So a `u128` can count all names.
-#[derive(Drop)]
 struct Header {
     place: Place,
     links: u128,
 }
 
+// By hand: a derived drop is opened at every place where a value goes, this one is called.
+impl Drop for Header {
+    fn drop(self) {
+        let Header { place: _, links: _ } = self;
+    }
+}
+
 /// The objects, and the objects to come.
 ///
 /// A number is given out by [`Store::reserve_num`] alone, and again only once it was given up.
-#[derive(Drop)]
 pub struct Store {
     headers: Slab<Header, Heap>,
     root: Num,
+}
+
+// By hand: a derived drop is opened at every place where a value goes, this one is called.
+impl Drop for Store {
+    fn drop(self) {
+        let Store {
+            headers: _,
+            root: _,
+        } = self;
+    }
 }
 
 impl Model for Store {

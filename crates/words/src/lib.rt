@@ -21,7 +21,7 @@ pub const MAX_LIMIT: u32 = 1_048_576;
 pub const DEFAULT_LIMIT: u32 = 65_536;
 
 /// How a script is run.
-#[derive(Debug, Drop)]
+#[derive(Debug)]
 pub enum Way {
     /// Step by step: the k-th time that a process stands in this list it runs its k-th line.
     Schedule(String<Heap>),
@@ -29,8 +29,18 @@ pub enum Way {
     Threads,
 }
 
+// By hand: a derived drop is opened at every place where a value goes, this one is called.
+impl Drop for Way {
+    fn drop(self) {
+        match self {
+            Way::Schedule(_) => {}
+            Way::Threads => {}
+        }
+    }
+}
+
 /// What the command line asks for.
-#[derive(Debug, Drop)]
+#[derive(Debug)]
 pub struct Job {
     /// How the script is run.
     pub way: Way,
@@ -40,6 +50,18 @@ pub struct Job {
     pub check: bool,
     /// The script's file.
     pub file: String<Heap>,
+}
+
+// By hand: a derived drop is opened at every place where a value goes, this one is called.
+impl Drop for Job {
+    fn drop(self) {
+        let Job {
+            way: _,
+            limit: _,
+            check: _,
+            file: _,
+        } = self;
+    }
 }
 
 /// Why a command line gives no job.

@@ -44,7 +44,7 @@ fn try_step(kernel: &mut Kernel, heap: Heap, pid: Pid, op: Op, number: u64) -> T
     let made = heap.made();
     heap.refuse(0);
     let tried = Tried {
-        refused: matches!(reply, Reply::NoMemory),
+        refused: matches!(&reply, Reply::NoMemory),
         silent: ends || (!live && is_aborted(&reply)),
         made,
     };

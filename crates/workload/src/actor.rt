@@ -8,10 +8,19 @@ use ids::{BeginFlags, Bytes, Call, Fd, Op, OpenFlags, Pid};
 pub(crate) const PIECE: usize = 16_384;
 
 /// An operation, or a write of a content, whose bytes are taken when it is done.
-#[derive(Drop)]
 pub(crate) enum Act {
     Op(Op),
     Write(Fd, Content),
+}
+
+// By hand: a derived drop is opened at every place where a value goes, this one is called.
+impl Drop for Act {
+    fn drop(self) {
+        match self {
+            Act::Op(_) => {}
+            Act::Write(_, _) => {}
+        }
+    }
 }
 
 impl Act {
@@ -23,13 +32,24 @@ impl Act {
     }
 }
 
-#[derive(Drop)]
 pub(crate) struct Actor {
     pub(crate) pid: Pid,
     pub(crate) acts: Vec<Act, Heap>,
     // The next act, and the one behind the last begin.
     pub(crate) next: usize,
     pub(crate) begun: usize,
+}
+
+// By hand: a derived drop is opened at every place where a value goes, this one is called.
+impl Drop for Actor {
+    fn drop(self) {
+        let Actor {
+            pid: _,
+            acts: _,
+            next: _,
+            begun: _,
+        } = self;
+    }
 }
 
 impl Actor {

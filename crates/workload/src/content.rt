@@ -14,12 +14,22 @@ const POOL: usize = 1_048_576;
 static LETTERS: &[u8; 64] = b"eeeeeetttttaaaaoooonnniiisssrrrhhhllddccuummffppggwy       \n,.BX";
 
 /// The allocator, random numbers, and the bytes that contents are taken from.
-#[derive(Drop)]
 pub(crate) struct Room {
     pub(crate) heap: Heap,
     pub(crate) random: Random,
     // Plain text, and then bytes of all values.
     pool: Vec<u8, Heap>,
+}
+
+// By hand: a derived drop is opened at every place where a value goes, this one is called.
+impl Drop for Room {
+    fn drop(self) {
+        let Room {
+            heap: _,
+            random: _,
+            pool: _,
+        } = self;
+    }
 }
 
 /// A part of the pool: where it begins, and how long it is.

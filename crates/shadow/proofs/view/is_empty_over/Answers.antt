@@ -21,7 +21,7 @@ returns-in-Pipe c = λ o same. empty_has_none ∙ ap (λ t. is_empty (keys (name
 pub returns-in-Names-true-default : goal.returns-in-Names-true-default
 returns-in-Names-true-default c =
     let is : c.args.contents.now ≡ Names true c.in-Names-true-default.names = search rules in
-    empty_told _ true c.in-Names-true-default.names c.args.stored.now.names _ _ is (λ o same. sym c.new.ensures.names) c.is_empty_over-in-Names-true-default.ensures
+    empty_told _ true c.in-Names-true-default.names c.args.stored.now.names _ _ is (λ o same. sym c.new.ensures.names) c.is_empty_over.ensures
 
 pub returns-in-Names-false-default : goal.returns-in-Names-false-default
 returns-in-Names-false-default c =

@@ -6,7 +6,7 @@ use Rattle.shadow.proofs.view.names_over.Goals as goal
 pub returns-in-Names-true-default : goal.returns-in-Names-true-default
 returns-in-Names-true-default c =
     let is : c.args.contents.now ≡ Names true c.in-Names-true-default.names = search rules in
-    keys_told _ true c.in-Names-true-default.names c.args.stored.now.names _ _ is (λ o same. sym c.new-in-Names-true-default.ensures.names) c.names_over-in-Names-true-default.ensures
+    keys_told _ true c.in-Names-true-default.names c.args.stored.now.names _ _ is (λ o same. sym c.new-in-Names-true-default.ensures.names) c.names_over.ensures
 
 pub returns-in-Names-false-default : goal.returns-in-Names-false-default
 returns-in-Names-false-default c =

@@ -41,13 +41,6 @@ loop-name-preserved-in-Some-num c =
     (subst (λ rest. Lays c.args.self.now c.loop-name.self c.args.dir c.args.notes.entries rest c.args.promised c.loop-name.left) is c.loop-name.invariant)
     c.add_name.ensures.added
 
-pub loop-name-preserved-in-None-num : goal.loop-name-preserved-in-None-num
-loop-name-preserved-in-None-num c =
-    let is : c.loop-name.name-iterator ≡ (c.in-Some.name, None) ∷ c.next.new.self = search rules in
-    goes_on-gone c.args.self.now c.loop-name.self c.remove_name-former.new.self c.args.dir c.args.notes.entries c.next.new.self c.in-Some.name c.args.promised c.loop-name.left
-    (subst (λ rest. Lays c.args.self.now c.loop-name.self c.args.dir c.args.notes.entries rest c.args.promised c.loop-name.left) is c.loop-name.invariant)
-    c.remove_name-former.ensures.removed
-
 pub loop-name-preserved : goal.loop-name-preserved
 loop-name-preserved c =
     let is : c.loop-name.name-iterator ≡ (c.in-Some.name, None) ∷ c.next.new.self = search rules in

@@ -19,19 +19,19 @@ swap_file-data-requires c = file_there c.self.inside.store c.args.file (ap (λ (
 pub swap_file-empty-requires : goal.swap_file-empty-requires
 swap_file-empty-requires c = file_still c.self.inside.store c.swap_file-data.new.self c.args.file c.new-empty.result.bytes c.swap_file-data.ensures.shown
 
-abbrev is_file : (c : goal.After-drop-empty-inside) → kind_of (state_of c.self.inside.processes.items c.self.inside.store) c.args.file ≡ Some A_file
+abbrev is_file : (c : goal.After-drop-empty) → kind_of (state_of c.self.inside.processes.items c.self.inside.store) c.args.file ≡ Some A_file
 is_file c = ap (λ (v : Committed). kind_of v.state c.args.file) c.self.view_is ∙ c.requires.file
 
-was : (c : goal.After-drop-empty-inside) → get (inodes c.self.inside.store) c.args.file ≡ Some (File c.swap_file-data.result.bytes)
+was : (c : goal.After-drop-empty) → get (inodes c.self.inside.store) c.args.file ≡ Some (File c.swap_file-data.result.bytes)
 was c = former_is c.self.inside.store c.args.file c.swap_file-data.result (file_there c.self.inside.store c.args.file (is_file c)) c.swap_file-data.ensures.former
 
-now : (c : goal.After-drop-empty-inside) → c.swap_file-empty.new.self ≡ swapped c.write_at-written.new.self c.self.inside.store c.args.file
+now : (c : goal.After-drop-empty) → c.swap_file-empty.new.self ≡ swapped c.write_at-written.new.self c.self.inside.store c.args.file
 now c = swapped_twice c.new-empty.result c.write_at-written.new.self c.self.inside.store c.swap_file-data.new.self c.swap_file-empty.new.self c.args.file c.swap_file-data.ensures.swapped c.swap_file-empty.ensures.swapped
 
-same : (c : goal.After-drop-empty-inside) → c.write_at-written.new.self.bytes ≡ c.swap_file-data.result.bytes → get (inodes c.self.inside.store) c.args.file ≡ Some (File c.write_at-written.new.self.bytes)
+same : (c : goal.After-drop-empty) → c.write_at-written.new.self.bytes ≡ c.swap_file-data.result.bytes → get (inodes c.self.inside.store) c.args.file ≡ Some (File c.write_at-written.new.self.bytes)
 same c is = was c ∙ ap (λ bs. Some (File bs)) (sym is)
 
-changed : (c : goal.After-drop-empty-inside) → c.write_at-written.new.self.bytes ≡ written c.swap_file-data.result.bytes c.args.place c.args.bytes.now
+changed : (c : goal.After-drop-empty) → c.write_at-written.new.self.bytes ≡ written c.swap_file-data.result.bytes c.args.place c.args.bytes.now
     → c.write_at-written.new.self.bytes ≡ written (file_of (state_of c.self.inside.processes.items c.self.inside.store) c.args.file) c.args.place c.args.bytes.now
 changed c is = is ∙ ap (λ (o : Rattle.std.proofs.Common.Option Inode). written (file_of_inode o) c.args.place c.args.bytes.now) (sym (was c))
 
