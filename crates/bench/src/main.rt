@@ -1,17 +1,22 @@
 //! `bench`: prints what calls of the kernel cost. The script `bench/calls` puts its
 //! lines beside those of the peers, in one table.
 //!
-//! usage: bench PART | bench edges FILE
+//! usage: bench PART | bench edges FILE | bench ENDLESS MESSAGES [SHARE]
 //!
 //! PART is one of `small`, `large`, `largest`, `lengths`, `growth`, `lock` and `check`; `edges`
 //! writes transcripts to FILE. Each line has, with tabs between: how it was measured, a row's name,
 //! a number of calls, their nanoseconds, and their requests for memory. A row comes as often as it
-//! was measured. This is a measure and no test: with no words it only prints how it is used.
+//! was measured. ENDLESS is one of `forever`, which delivers so many MESSAGES, or SHARE hundredths
+//! of them, to a spool that empties itself, on a kernel that forgets what was done; `followed`,
+//! which checks the history besides, part by part; and both with `-times` behind them, which tell
+//! what the others print as 0: the nanoseconds and the requests of each twentieth of the run. This
+//! is a measure and no test: with no words it only prints how it is used.
 #![tactic(auto)]
 
 mod checked;
 mod clock;
 mod edges;
+mod forever;
 mod growth;
 mod lengths;
 mod lock;
@@ -20,6 +25,7 @@ mod rows;
 mod steps;
 mod work;
 
+use crate::forever::Wanted;
 use anyhow::{Result, bail};
 use heap::Heap;
 use kernel::Kernel;
@@ -59,9 +65,13 @@ fn print_as_told<R: Threads + Wait + Sync, K: Machine + Send>(
 ) -> Result<()> {
     match words {
         [_, part] => print_part::<_, K>(rt, threads, heap::open(global)?, part.as_str()),
-        [_, part, file] => print_to::<K>(rt, heap::open(global)?, part.as_str(), file.as_str()),
+        [_, part, word] => print_with::<K>(rt, heap::open(global)?, part.as_str(), word.as_str()),
+        [_, part, messages, share] => {
+            let heap = heap::open(global)?;
+            print_endless::<K>(rt, heap, part.as_str(), messages.as_str(), share.as_str())
+        }
         _ => {
-            println!(rt; "usage: bench PART | bench edges FILE")?;
+            println!(rt; "usage: bench PART | bench edges FILE | bench ENDLESS MESSAGES [SHARE]")?;
             Ok(())
         }
     }
@@ -85,9 +95,38 @@ fn print_part<R: Threads + Wait + Sync, K: Machine + Send>(
     }
 }
 
-fn print_to<K: Machine>(rt: &HostRuntime, heap: Heap, part: &str, file: &str) -> Result<()> {
-    if part != "edges" {
-        bail!("{part} takes no file")
+fn print_with<K: Machine>(rt: &HostRuntime, heap: Heap, part: &str, word: &str) -> Result<()> {
+    match part {
+        "edges" => edges::print_edges::<K>(rt, heap, word),
+        _ => print_endless::<K>(rt, heap, part, word, "100"),
     }
-    edges::print_edges::<K>(rt, heap, file)
+}
+
+fn print_endless<K: Machine>(
+    rt: &HostRuntime,
+    heap: Heap,
+    part: &str,
+    messages: &str,
+    share: &str,
+) -> Result<()> {
+    let wanted = wanted_of(part)?;
+    let Ok(messages) = messages.parse::<u64>() else {
+        bail!("{messages} is no number of messages")
+    };
+    let Ok(share) = share.parse::<u64>() else {
+        bail!("{share} is no share")
+    };
+    let messages = messages.saturating_mul(share.min(100)) / 100;
+    forever::print_forever::<K>(rt, heap, messages, wanted)
+}
+
+fn wanted_of(part: &str) -> Result<Wanted> {
+    let (check, times) = match part {
+        "forever" => (false, false),
+        "followed" => (true, false),
+        "forever-times" => (false, true),
+        "followed-times" => (true, true),
+        _ => bail!("{part} takes no word"),
+    };
+    Ok(Wanted { check, times })
 }

@@ -97,27 +97,15 @@ impl Transactions {
     }
 
     /// What a process sees: what is committed, with what its live transaction has changed on top.
-    /// The changes fit the states that they find.
+    /// The changes fit the states that they find. Each directory that is seen can have room promised.
     pub fn view(&self, pid: Pid) -> View<'_>
         requires { AllFit (changes_in (view_at self.now.slots pid)) self.now.stable.state }
-        ensures { result ≡ record self.now.stable {
+        ensures value { result ≡ record self.now.stable {
           state = all_done (changes_in (view_at self.now.slots pid)) self.now.stable.state;
         } }
+        ensures directories { DirectoriesAreKept result }
     {
         View::new(&self.stable, shadow_of(self.slots.as_slice(), pid))
-    }
-
-    /// Each directory that a process sees can have room promised.
-    pub fn directories_are_kept(&self, pid: Pid)
-        requires { AllFit (changes_in (view_at self.now.slots pid)) self.now.stable.state }
-        ensures { DirectoriesAreKept (record self.now.stable {
-          state = all_done (changes_in (view_at self.now.slots pid)) self.now.stable.state;
-        }) }
-    {
-        match shadow_of(self.slots.as_slice(), pid) {
-            None => self.stable.directories_are_kept(),
-            Some(shadow) => shadow.directories_are_kept(&self.stable),
-        }
     }
 
     /// What a process is.

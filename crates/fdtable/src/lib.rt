@@ -124,6 +124,7 @@ impl FdTable {
     pub fn entries(&self, heap: Heap) -> Result<Vec<(Fd, Num), Heap>, AllocError>
         ensures { IfOk result (λ list. list.items ≡ map.entries self.now) }
     {
+        // For the proof: who reads a field may rely on what a table always is.
         let _slots = &self.slots;
         let mut entries = Vec::new(heap);
         for number in 0..DESCRIPTORS as u32 {
@@ -138,19 +139,13 @@ impl FdTable {
     pub fn count(&self, description: Num) -> usize
         ensures { result ≡ count_by (λ d. d == description) (map.values self.now) }
     {
+        // For the proof: who reads a field may rely on what a table always is.
         let _slots = &self.slots;
         let mut count = 0;
         for number in 0..DESCRIPTORS as u32 {
             count += one_if(self.get(Fd(number)), description);
         }
         count
-    }
-
-    /// There are no more open descriptors than a process may have.
-    pub fn open_are_few(&self)
-        ensures { map.len self.now ≤ DESCRIPTORS }
-    {
-        let _slots = &self.slots;
     }
 }
 

@@ -64,7 +64,7 @@ impl Patch {
         self.given[fd.0 as usize] = Some(given);
     }
 
-    /// Only descriptors that a process may have are noted.
+    /// For the proof: only descriptors that a process may have are noted.
     pub fn noted_are_low(&self)
         ensures { (f : ℕ) → map.get self.now f ≢ None → f < DESCRIPTORS }
     {
@@ -75,6 +75,7 @@ impl Patch {
     pub fn table_over(&self, table: &FdTable) -> FdTable
         ensures { IsLaid self.now table.now result }
     {
+        // For the proof: who reads a field may rely on what a patch always is.
         let _given = &self.given;
         let mut laid = table.copy();
         for number in 0..DESCRIPTORS as u32 {

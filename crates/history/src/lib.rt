@@ -1,18 +1,25 @@
 //! The history of a kernel: the entries of all operations, in order, up to a limit.
 #![tactic(auto)]
 
-ghost use Rattle.std.specs.Prelude.{◌≡◌, ◌<◌, ◌≤◌, ◌↔◌, IfOk, IsErr, IfErr, OnOk, OnErr};
-ghost use Rattle.std.specs.Prelude.{[], ◌∷◌, ◌++◌, length};
+ghost use Rattle.std.specs.Prelude.{◌≡◌, ◌<◌, ◌≤◌, ◌↔◌, ◌+◌, ◌^◌, IfOk, IsErr, IfErr, OnOk, OnErr};
+ghost use Rattle.std.specs.Prelude.{[], ◌∷◌, ◌++◌, length, sum, true, false};
+ghost use Rattle.history.specs.Log.{all_forgotten, kept};
 
+mod past;
+
+use crate::past::Past;
 use heap::Heap;
 use ids::{Entry, Priority};
 use std::alloc::AllocError;
 use std::marker::Model;
 
-/// The entries so far, the priorities that the first processes have, and how many entries there
-/// may be. The memory of all places is taken when the history is made, so that an entry that has a
-/// place needs none.
+/// The entries so far, the priorities that the first processes have, and how many entries may be
+/// kept. The memory of all places is taken when the history is made, so that an entry that has a
+/// place needs none. Entries that are forgotten give their memory and their places back; clauses
+/// go on to speak of them.
 pub struct History {
+    past: Past,
+    forgotten: u64,
     entries: Vec<Entry, Heap>,
     priorities: Vec<Priority, Heap>,
     limit: usize,
@@ -22,6 +29,8 @@ pub struct History {
 impl Drop for History {
     fn drop(self) {
         let History {
+            past: _,
+            forgotten: _,
             entries: _,
             priorities: _,
             limit: _,
@@ -30,19 +39,25 @@ impl Drop for History {
 }
 
 impl Model for History {
-    ghost use Rattle.std.specs.Prelude.{◌≤◌, vec_len, vec_capacity};
+    ghost use Rattle.std.specs.Prelude.{◌≡◌, ◌<◌, ◌≤◌, ◌^◌, ◌++◌, sum, vec_len, vec_capacity};
     ghost use Rattle.history.specs.Log.{Log};
+    ghost use Rattle.history.specs.Past.{counts_in, entries_in};
 
     ghost Value = { Log };
 
     ghost view = { λ h. record {
-      entries = h.entries.items;
+      entries = entries_in h.past ++ h.entries.items;
       priorities = h.priorities.items;
       limit = h.limit;
+      forgotten = counts_in h.past;
     } };
 
-    ghost invariant = { λ h. (vec_len h.entries ≤ h.limit) × (h.limit ≤ vec_capacity h.entries) };
+    ghost invariant = { λ h. (vec_len h.entries ≤ h.limit) × (h.limit ≤ vec_capacity h.entries)
+        × (h.forgotten ≡ sum (counts_in h.past)) × (h.forgotten < 2 ^ 63) × (h.limit < 2 ^ 63) };
 }
+
+// The most entries that are ever forgotten, and the most that can be kept.
+const MOST_FORGOTTEN: u64 = (1 << 63) - 1;
 
 impl History {
     /// No entries, with the memory of `limit` of them. Refused memory gives nothing.
@@ -50,8 +65,15 @@ impl History {
         ensures empty { IfOk result (λ h. h.entries ≡ []) }
         ensures priorities { IfOk result (λ h. h.priorities ≡ priorities.now) }
         ensures limit { IfOk result (λ h. h.limit ≡ limit) }
+        ensures whole { IfOk result (λ h. h.forgotten ≡ []) }
     {
+        // Of more entries no allocator has the memory.
+        if limit as u64 > MOST_FORGOTTEN {
+            return Err(AllocError);
+        }
         Ok(History {
+            past: Past::Start,
+            forgotten: 0,
             entries: Vec::with_capacity(heap, limit)?,
             priorities: Vec::from_slice(heap, priorities)?,
             limit,
@@ -59,9 +81,9 @@ impl History {
     }
 
     /// Adds an entry behind the others. It takes no memory; the entry is given back, and nothing
-    /// has changed, exactly at the limit.
+    /// has changed, exactly where as many are kept as may be.
     pub fn push(&mut self, entry: Entry) -> Result<(), Entry>
-        ensures exactly { IsErr result ↔ (self.old.limit ≤ length self.old.entries) }
+        ensures exactly { IsErr result ↔ (self.old.limit ≤ length (kept self.old)) }
         ensures ok { OnOk result
             (self.new ≡ record self.old { entries = self.old.entries ++ entry ∷ [] }) }
         ensures returned { IfErr result (λ e. e ≡ entry) }
@@ -76,15 +98,47 @@ impl History {
 
     /// Adds an entry that has a place. It takes no memory.
     pub fn push_placed(&mut self, entry: Entry)
-        requires { length self.old.entries < self.old.limit }
+        requires { length (kept self.old) < self.old.limit }
         ensures { self.new ≡ record self.old { entries = self.old.entries ++ entry ∷ [] } }
     {
         let _ = self.push(entry);
     }
 
-    /// The entries, in order.
+    /// Forgets the entries that are kept: their memory is given back, and so are their places. It
+    /// takes no memory. False, and nothing has changed, where 2^63 entries would be forgotten then.
+    pub fn forget(&mut self) -> bool
+        ensures yes { result ≡ true → self.new ≡ all_forgotten self.old }
+        ensures no { result ≡ false → self.new ≡ self.old }
+    {
+        if self.entries.len() as u64 > MOST_FORGOTTEN - self.forgotten {
+            return false;
+        }
+        self.past.add(&self.entries);
+        self.forgotten += self.entries.len() as u64;
+        self.entries.clear();
+        true
+    }
+
+    /// How many entries were ever made: those that were forgotten, and those that are kept.
+    pub fn count(&self) -> u64
+        ensures value { result ≡ length self.now.entries }
+        ensures room { result + 1 < 2 ^ 64 }
+    {
+        self.forgotten + self.entries.len() as u64
+    }
+
+    /// How many entries were forgotten: those that are kept stand behind so many.
+    pub fn forgotten(&self) -> u64
+        ensures value { result ≡ sum self.now.forgotten }
+        ensures room { result < 2 ^ 63 }
+    {
+        self.forgotten
+    }
+
+    /// The entries that are kept, in order: all, where none was forgotten.
     pub fn entries(&self) -> &[Entry]
-        ensures { result.now ≡ self.now.entries }
+        ensures kept { result.now ≡ kept self.now }
+        ensures whole { self.now.forgotten ≡ [] → result.now ≡ self.now.entries }
     {
         self.entries.as_slice()
     }
@@ -96,10 +150,10 @@ impl History {
         self.priorities.as_slice()
     }
 
-    /// How many entries there may be. There are never more.
+    /// How many entries may be kept. There are never more.
     pub fn limit(&self) -> usize
         ensures value { result ≡ self.now.limit }
-        ensures within { length self.now.entries ≤ result }
+        ensures within { length (kept self.now) ≤ result }
     {
         self.limit
     }

@@ -2,6 +2,7 @@
 use Rattle.std.proofs.Common.{◌≡◌, ℕ, List, [], ◌∷◌, ◌++◌, refl, sym, ◌∙◌, ap, true, false, Bool, ◌⊎◌, inl, inr, eqb, append-nil, append_assoc, length, arith, ◌+◌}
 use Rattle.std.specs.Prelude.{if◌then◌else◌}
 use Rattle.model.specs.Entries.{Entry}
+use Rattle.model.specs.Forgetting.{Limit}
 use Rattle.model.specs.Moments.{Moment, next, after_from, at_start}
 use Rattle.model.specs.Legal.{ListsRun, LegalFrom, Legal, mine, IsBefore}
 use Rattle.history_laws.specs.Beginnings.{BeforeIsAnOrder, OwnEntriesFollow, LegalityFollows}
@@ -79,15 +80,15 @@ entries_after m [] = omega arith
 entries_after m (e ∷ es) = entries_after (next m e) es ∙ (let n = m.entries in omega arith)
 
 -- at the end of a legal history the live lists run
-lists_run : (limit : ℕ) (m : Moment) (es : List Entry) → LegalFrom limit m es → ListsRun (after_from m es)
+lists_run : (limit : Limit) (m : Moment) (es : List Entry) → LegalFrom limit m es → ListsRun (after_from m es)
 lists_run limit m [] legal = legal
 lists_run limit m (e ∷ es) legal = lists_run limit (next m e) es legal.2
 
-legal_rest : (limit : ℕ) (m : Moment) (es fs : List Entry) → LegalFrom limit m (es ++ fs) → LegalFrom limit (after_from m es) fs
+legal_rest : (limit : Limit) (m : Moment) (es fs : List Entry) → LegalFrom limit m (es ++ fs) → LegalFrom limit (after_from m es) fs
 legal_rest limit m [] fs h = h
 legal_rest limit m (e ∷ es) fs h = legal_rest limit (next m e) es fs h.2
 
-legal_joined : (limit : ℕ) (m : Moment) (es fs : List Entry) → LegalFrom limit m es → LegalFrom limit (after_from m es) fs → LegalFrom limit m (es ++ fs)
+legal_joined : (limit : Limit) (m : Moment) (es fs : List Entry) → LegalFrom limit m es → LegalFrom limit (after_from m es) fs → LegalFrom limit m (es ++ fs)
 legal_joined limit m [] fs h g = g
 legal_joined limit m (e ∷ es) fs h g = (h.0, h.1, legal_joined limit (next m e) es fs h.2 g)
 

@@ -1,6 +1,7 @@
 -- Each operation that finds its places after a legal history has a right entry.
 use Rattle.std.proofs.Common.{◌≡◌, ℕ, ◌+◌, ◌≤◌, inl, inr, arith}
 use Rattle.std.proofs.lemmas.Bool.{cases_Bool}
+use Rattle.model.specs.Forgetting.{Limit, limit_at}
 use Rattle.model.specs.Moments.{idle, Moment, is_alive, bound, after, reserved}
 use Rattle.call_laws.specs.WellFormed.{WellFormed}
 use Rattle.call_laws.specs.CallLaws.{CallLaws}
@@ -11,7 +12,7 @@ use Rattle.history_laws.proofs.NewNumbers.{right_entry}
 use Rattle.history_laws.proofs.Standing.{what_stands}
 
 -- no process above the bound has a transaction
-idle_above : (laws : CallLaws WellFormed) (limit : ℕ) (m : Moment) → Standing limit m → (q : ℕ) → bound m ≤ q → m.phase q ≡ idle
+idle_above : (laws : CallLaws WellFormed) (limit : Limit) (m : Moment) → Standing limit m → (q : ℕ) → bound m ≤ q → m.phase q ≡ idle
 idle_above laws limit m s q above = elim (cases_Bool (is_alive m.committed q)) [
   | inr dead ↦ s.phases.processes q dead
   | inl alive ↦ (let low : q ≤ m.committed.made = laws.alive_counted m.committed s.committed.well q alive in absurd (omega arith))
@@ -24,5 +25,5 @@ right_entries_exist laws root priorities limit es legal pid op free =
 pub ends_find_places : FromCallLaws EndsFindPlaces
 ends_find_places laws root priorities limit es legal pid op none =
     let m : Moment = after root priorities es in
-    let places : m.entries + reserved m ≤ limit = (what_stands laws root priorities limit es legal).places in
+    let places : m.entries + reserved m ≤ limit_at limit m.entries = (what_stands laws root priorities limit es legal).places in
     right_entries_exist laws root priorities limit es legal pid op (omega (arith, none, places))

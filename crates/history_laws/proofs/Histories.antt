@@ -1,11 +1,12 @@
 -- What holds of all legal histories, of the moments along them.
-use Rattle.std.proofs.Common.{◌≡◌, ℕ, ◌+◌, ◌⊎◌, List, [], ◌∷◌, ◌++◌, length, refl, sym, ap, subst, arith, Bool, true, false, eqb}
+use Rattle.std.proofs.Common.{◌≡◌, ℕ, ◌+◌, ◌≤◌, ◌⊎◌, List, [], ◌∷◌, ◌++◌, length, refl, sym, ◌∙◌, ap, subst, zero-add, Bool, true, false, eqb}
 use Rattle.std.specs.Prelude.{if◌then◌else◌}
 use Rattle.std.specs.List.{AllByRecursion}
 use Rattle.call_laws.specs.Objects.{IsThere}
 use Rattle.model.specs.Steps.{Touch}
 use Rattle.model.specs.Laws.{GoesTheSame}
-use Rattle.model.specs.Moments.{Moment, after, at_start, loose, loose_touches, calls_at, held_by, numbers, is_in}
+use Rattle.model.specs.Forgetting.{limit_at}
+use Rattle.model.specs.Moments.{Moment, after, at_start, loose, loose_touches, calls_at, held_by, numbers, is_in, reserved}
 use Rattle.model.specs.Legal.{LegalFrom, Legal, mine}
 use Rattle.call_laws.specs.CallLaws.{CallLaws, object_of}
 use Rattle.call_laws.specs.WellFormed.{WellFormed}
@@ -29,8 +30,8 @@ pub places : FromCallLaws PlacesSuffice
 unfolding Legal
 places laws root priorities limit es is =
     let steady = steady_after WellFormed laws limit (at_start root priorities) es is (steady_start WellFormed laws limit root priorities) in
-    let count : (after root priorities es).entries ≡ 0 + length es = entries_after (at_start root priorities) es in
-    omega (arith, steady.placed)
+    let count : (after root priorities es).entries ≡ length es = entries_after (at_start root priorities) es ∙ zero-add (length es) in
+    subst (λ n. n + reserved (after root priorities es) ≤ limit_at limit n) count steady.placed
 
 pub beginnings : BeginningsAreLegal
 unfolding Legal

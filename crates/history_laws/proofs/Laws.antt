@@ -4,6 +4,7 @@ use Rattle.std.specs.Prelude.{if◌then◌else◌}
 use Rattle.model.specs.State.{Kernel}
 use Rattle.model.specs.Steps.{reply, IsNowhere}
 use Rattle.model.specs.Entries.{Op, Entry, answer_in, is_inside}
+use Rattle.model.specs.Forgetting.{Limit}
 use Rattle.model.specs.Moments.{Status, gone, Moment, is_alive, is_in, status, has_free, numbers, calls_at, seen_by, after}
 use Rattle.model.specs.Legal.{Free, RightAt, Right, Legal}
 use Rattle.model.specs.Replies.{answered}
@@ -14,6 +15,7 @@ use Rattle.history_laws.specs.Causes.{DoomedAreToldTheirs, LosersAreToldTheirs}
 use Rattle.history_laws.specs.Choices.{RightEntriesExist, EndsFindPlaces}
 use Rattle.history_laws.specs.Untidied.{ListsAreTheirEffects}
 use Rattle.history_laws.specs.Entered.{PhasesMove, OwnAndDoomedMove, ReservedPlacesMove, RestartsBeginAnew, CommitsRunTheList, PlainCallsRun, CallsGoIn, ListsStay}
+use Rattle.history_laws.specs.Forgetting.{ForgettingIsLegal}
 use Rattle.history_laws.specs.Headline.{IsSerializable, LegalHistoriesAreSerializable}
 use Rattle.history_laws.specs.Histories.{RightEntriesKeepHistoriesLegal, CommittedIsSerial, PlacesSuffice, RepliesAreAFunction, RightEntriesHavePlaces, BeginningsAreLegal, OwnEntriesGrow, AfterOneMore, ViewsMayBeLoose, TouchedObjectsStay}
 use Rattle.history_laws.specs.Limits.{LimitsAreKept}
@@ -25,6 +27,7 @@ use Rattle.history_laws.specs.Trees.{IsATree, CommittedDirectoriesAreATree}
 use Rattle.history_laws.proofs.Beginnings as beginnings
 use Rattle.history_laws.proofs.Causes as causes
 use Rattle.history_laws.proofs.Choices as choices
+use Rattle.history_laws.proofs.Forgetting as forgetting
 use Rattle.history_laws.proofs.Histories as histories
 use Rattle.history_laws.proofs.Limits as limits
 use Rattle.history_laws.proofs.Marks as marks
@@ -43,7 +46,7 @@ use Rattle.history_laws.proofs.lists.UntidiedRuns as runs
 use Rattle.call_laws.specs.WellFormed.{WellFormed}
 
 -- the empty history is legal
-pub legal_start : (root : ℕ) (priorities : List ℕ) (limit : ℕ) → Legal root priorities limit []
+pub legal_start : (root : ℕ) (priorities : List ℕ) (limit : Limit) → Legal root priorities limit []
 unfolding Legal
 legal_start root priorities limit q = refl
 
@@ -54,6 +57,10 @@ after_one_more = histories.one_more
 -- a history goes on legally from where it stood: Beginnings.antt
 pub legality_follows : LegalityFollows
 legality_follows = beginnings.legality_follows
+
+-- a history stays legal where its entries are forgotten: Forgetting.antt
+pub forgetting_is_legal : ForgettingIsLegal
+forgetting_is_legal = forgetting.forgetting_is_legal
 
 -- each beginning of a legal history is legal: Legality.antt
 pub beginnings_are_legal : BeginningsAreLegal
@@ -80,11 +87,11 @@ pub right_entries_have_places : RightEntriesHavePlaces
 right_entries_have_places = replies.right_entries_have_places
 
 -- an entry is right by its row
-pub right_by : (limit : ℕ) (m : Moment) (e : Entry) (s : Status) (op : Op) → status m e.pid ≡ s → e.op ≡ op → RightAt limit m e s op → Right limit m e
+pub right_by : (limit : Limit) (m : Moment) (e : Entry) (s : Status) (op : Op) → status m e.pid ≡ s → e.op ≡ op → RightAt limit m e s op → Right limit m e
 right_by limit m e s op is_s is_op right = subst (λ o. RightAt limit m e (status m e.pid) o) (sym is_op) (subst (λ x. RightAt limit m e x op) (sym is_s) right)
 
 -- free places, by their test
-pub free_from : (limit : ℕ) (m : Moment) (needed : ℕ) → has_free limit m needed ≡ true → Free limit m needed
+pub free_from : (limit : Limit) (m : Moment) (needed : ℕ) → has_free limit m needed ≡ true → Free limit m needed
 free_from limit m needed h = leb-true _ _ h
 
 -- a living process's status is its phase
@@ -99,7 +106,7 @@ pub alive_is : (m : Moment) (q : ℕ) (s : Status) → status m q ≡ s → s �
 alive_is = moments.alive_is
 
 -- the phases after a right entry, of any moment
-pub phases_move : (limit : ℕ) (m : Moment) (e : Entry) → Right limit m e → PhasesMove m e
+pub phases_move : (limit : Limit) (m : Moment) (e : Entry) → Right limit m e → PhasesMove m e
 phases_move = phases.phases_move
 
 -- an entry moves its own process and those that it dooms: entries/Phases.antt
@@ -131,10 +138,10 @@ pub committed_directories_are_a_tree : CommittedDirectoriesAreATree
 committed_directories_are_a_tree = trees.committed_tree calls_are_lawful_lem
 
 -- the same of a state that is known to be the committed one
-pub serializable_at : (root : ℕ) (priorities : List ℕ) (limit : ℕ) (es : List Entry) (state : Kernel) → Legal root priorities limit es → state ≡ (after root priorities es).committed → IsSerializable root priorities limit es state
+pub serializable_at : (root : ℕ) (priorities : List ℕ) (limit : Limit) (es : List Entry) (state : Kernel) → Legal root priorities limit es → state ≡ (after root priorities es).committed → IsSerializable root priorities limit es state
 serializable_at root priorities limit es state legal is = subst (IsSerializable root priorities limit es) (sym is) (legal_histories_are_serializable root priorities limit es legal)
 
-pub tree_at : (root : ℕ) (priorities : List ℕ) (limit : ℕ) (es : List Entry) (state : Kernel) → Legal root priorities limit es → state ≡ (after root priorities es).committed → IsATree state
+pub tree_at : (root : ℕ) (priorities : List ℕ) (limit : Limit) (es : List Entry) (state : Kernel) → Legal root priorities limit es → state ≡ (after root priorities es).committed → IsATree state
 tree_at root priorities limit es state legal is = subst IsATree (sym is) (committed_directories_are_a_tree root priorities limit es legal)
 
 -- files, pipes, offsets and the count of processes stay within the limits: Limits.antt
@@ -214,7 +221,7 @@ pub executed_again : (k : Kernel) (pid : ℕ) (call : Call) → answer_in (answe
 executed_again = outcomes.executed_again
 
 -- a number that is nowhere in the committed state and not among those of a process's list is nowhere in what the process sees
-pub nowhere_seen : (root : ℕ) (priorities : List ℕ) (limit : ℕ) (es : List Entry) → Legal root priorities limit es → (q n : ℕ) → IsNowhere (after root priorities es).committed n
+pub nowhere_seen : (root : ℕ) (priorities : List ℕ) (limit : Limit) (es : List Entry) → Legal root priorities limit es → (q n : ℕ) → IsNowhere (after root priorities es).committed n
     → is_in n (numbers (calls_at (after root priorities es) q)) ≡ false → IsNowhere (seen_by (after root priorities es) q) n
 nowhere_seen root priorities limit es legal q n none out =
     let m = after root priorities es in

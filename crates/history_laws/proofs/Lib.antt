@@ -1,5 +1,6 @@
 mod FromCallLaws
 mod Membership
+mod Forgetting
 mod calls
 mod lists
 mod entries

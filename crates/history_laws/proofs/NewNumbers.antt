@@ -14,6 +14,7 @@ use Rattle.model.specs.Changes.{news, process_of, or_new}
 use Rattle.model.specs.Calls.{Call}
 use Rattle.model.specs.Steps.{edits, IsNowhere, AllDifferent}
 use Rattle.model.specs.Entries.{BeginFlags, Op, Do, Begin, End, Abort, Cause, Entry, is_inside}
+use Rattle.model.specs.Forgetting.{Limit, limit_at}
 use Rattle.model.specs.Moments.{Status, gone, idle, live, doomed, Moment, status, numbers, calls_of, calls_at, seen_by, counted_touches, is_in, bound, losing_cause}
 use Rattle.model.specs.Legal.{Free, IsApart, Taken, Outcome, Inside, RightAt}
 use Rattle.model.specs.Replies.{Spoken, outcome_for, inside_for, spoken_at, needed}
@@ -132,7 +133,7 @@ rising_different first zero = tt
 rising_different first (suc count) = (rising_from (λ m. first ≢ m) (suc first) count (λ n low same. (let f : first ≡ n = same in absurd (omega arith))), rising_different (suc first) count)
 
 -- Where processes that hold nothing have no calls, each operation with its places has a right entry.
-module _ (limit : ℕ) (m : Moment) (pid : ℕ) (beyond : (q : ℕ) → bound m ≤ q → m.phase q ≡ idle) where
+module _ (limit : Limit) (m : Moment) (pid : ℕ) (beyond : (q : ℕ) → bound m ≤ q → m.phase q ≡ idle) where
   abbrev entry : Op → Spoken → List ℕ → Entry
   entry op said chosen = record { pid = pid; op = op; reply = said.reply; chosen = chosen; doomed = said.doomed }
 
@@ -167,7 +168,7 @@ module _ (limit : ℕ) (m : Moment) (pid : ℕ) (beyond : (q : ℕ) → bound m 
   by_cause op s call (Some c) = ([], (refl, record { chosen = refl; doomed = refl }))
   by_cause op s call None = (new_numbers call, taken op s call)
 
-  inside : (op : Op) (s : Status) (flags : BeginFlags) (call : Call) (b : Bool) → m.entries + Rattle.model.specs.Moments.reserved m + 1 ≤ limit → (chosen : List ℕ) × Inside limit m (entry op (inside_for m pid s flags call b) chosen) s flags call b
+  inside : (op : Op) (s : Status) (flags : BeginFlags) (call : Call) (b : Bool) → m.entries + Rattle.model.specs.Moments.reserved m + 1 ≤ limit_at limit m.entries → (chosen : List ℕ) × Inside limit m (entry op (inside_for m pid s flags call b) chosen) s flags call b
   inside op s flags call true free = (let out = by_cause op s call (losing_cause m pid (counted_touches m pid call)) in (out.0, (out.1, free)))
   inside op s flags call false free = ([], (refl, record { chosen = refl; doomed = refl }, free))
 

@@ -3,6 +3,7 @@ use Rattle.std.proofs.Common.{◌≡◌, ◌+◌, ◌≤◌, arith, Option, Some
 use Rattle.model.specs.Plan.{Errno}
 use Rattle.model.specs.Calls.{Call, Answer}
 use Rattle.model.specs.Entries.{BeginFlags, Op, Do, Begin, End, Abort, Cause, Reply, Refuses, Entry, answer_in, is_inside, is_unsupported}
+use Rattle.model.specs.Forgetting.{limit_at}
 use Rattle.model.specs.Moments.{Status, gone, idle, live, doomed, status, counted_touches, losing_cause, reserved}
 use Rattle.model.specs.Legal.{Outcome, Inside, RightAt}
 use Rattle.model.specs.Replies.{Spoken, answered, outcome_for, inside_for, spoken_at, needed}
@@ -52,11 +53,11 @@ replies_are_a_function limit m e right = by_status (status m e.pid) e.op right w
 
 pub right_entries_have_places : RightEntriesHavePlaces
 right_entries_have_places limit m e right placed = by_status (status m e.pid) e.op right where
-  inside : (s : Status) (flags : BeginFlags) (call : Call) (b : Bool) → Inside limit m e s flags call b → m.entries + reserved m + 1 ≤ limit
+  inside : (s : Status) (flags : BeginFlags) (call : Call) (b : Bool) → Inside limit m e s flags call b → m.entries + reserved m + 1 ≤ limit_at limit m.entries
   inside s flags call true r = r.1
   inside s flags call false r = r.2
 
-  by_status : (s : Status) (op : Op) → RightAt limit m e s op → m.entries + reserved m + needed s op ≤ limit
+  by_status : (s : Status) (op : Op) → RightAt limit m e s op → m.entries + reserved m + needed s op ≤ limit_at limit m.entries
   by_status (doomed c flags age) op r = omega (arith, placed)
   by_status (live flags age es) End r = omega (arith, placed)
   by_status (live flags age es) (Abort no_restart) r = omega (arith, placed)

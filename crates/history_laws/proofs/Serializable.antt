@@ -1,6 +1,7 @@
 -- Each legal history is strictly serializable.
-use Rattle.std.proofs.Common.{◌≡◌, ℕ, List, [], ◌∷◌, ◌++◌, refl, sym, ◌∙◌, ap, subst, append_assoc}
+use Rattle.std.proofs.Common.{◌≡◌, List, [], ◌∷◌, ◌++◌, refl, sym, ◌∙◌, ap, subst, append_assoc}
 use Rattle.model.specs.Entries.{Entry}
+use Rattle.model.specs.Forgetting.{Limit}
 use Rattle.model.specs.Moments.{Moment, status, next, at_start, after, after_from, run_by}
 use Rattle.model.specs.Legal.{LegalFrom, Legal, items, serial, serial_from}
 use Rattle.history_laws.proofs.FromCallLaws.{FromCallLaws}
@@ -15,7 +16,7 @@ serial_more m [] later = refl
 serial_more m (e ∷ es) later = ap (λ xs. items e.pid (run_by (status m e.pid) e.op e.reply e.chosen) ++ xs) (serial_more (next m e) es later)
     ∙ sym (append_assoc (items e.pid (run_by (status m e.pid) e.op e.reply e.chosen)) (serial_from (next m e) es) (serial_from (after_from (next m e) es) later))
 
-asked : (limit : ℕ) (m : Moment) (e : Entry) (later : List Entry) → LegalFrom limit m (e ∷ later) → IsAsAsked limit m e
+asked : (limit : Limit) (m : Moment) (e : Entry) (later : List Entry) → LegalFrom limit m (e ∷ later) → IsAsAsked limit m e
 asked limit m e later legal = let said = replies_are_a_function limit m e legal.1 in record { reply = said.0; doomed = said.1 }
 
 pub serializable : FromCallLaws LegalHistoriesAreSerializable

@@ -5,6 +5,7 @@ use Rattle.std.proofs.lemmas.Bool.{cases_Bool, or_from, both_ways}
 use Rattle.model.specs.Steps.{Touch}
 use Rattle.model.specs.Entries.{Entry, Executed, is_inside}
 use Rattle.model.specs.Clashes.{clash, clashes, any_clash}
+use Rattle.model.specs.Forgetting.{Limit}
 use Rattle.model.specs.Moments.{gone, idle, Moment, is_alive, next, after, after_from, at_start, bound, holds_place, calls_at, held_by, loose_touches}
 use Rattle.model.specs.Legal.{Right, LegalFrom, Legal}
 use Rattle.call_laws.specs.WellFormed.{WellFormed}
@@ -24,19 +25,19 @@ use Rattle.history_laws.proofs.entries.Lists.{stays_after, commit_runs}
 use Rattle.history_laws.proofs.entries.OwnStatus.{goes_in, begun_anew, ages_next, Here, here_next}
 
 -- what is kept along a legal history
-record Kept (limit : ℕ) (m : Moment) : Type 0 where
+record Kept (limit : Limit) (m : Moment) : Type 0 where
   pub steady : Steady WellFormed limit m
   pub ages : AgesStand m
   pub here : Here m
 
-kept_next : (laws : CallLaws WellFormed) (limit : ℕ) (m : Moment) (e : Entry) → Right limit m e → Kept limit m → Kept limit (next m e)
+kept_next : (laws : CallLaws WellFormed) (limit : Limit) (m : Moment) (e : Entry) → Right limit m e → Kept limit m → Kept limit (next m e)
 kept_next laws limit m e right k = record {
   steady = steady_next WellFormed laws limit m e right k.steady;
   ages = ages_next m e (kind limit m e right) (phases_move limit m e right) k.ages;
   here = here_next m e (kind limit m e right) (phases_move limit m e right) k.here;
 }
 
-kept_after : (laws : CallLaws WellFormed) (limit : ℕ) (m : Moment) (es : List Entry) → LegalFrom limit m es → Kept limit m → Kept limit (after_from m es)
+kept_after : (laws : CallLaws WellFormed) (limit : Limit) (m : Moment) (es : List Entry) → LegalFrom limit m es → Kept limit m → Kept limit (after_from m es)
 kept_after laws limit m [] legal k = k
 kept_after laws limit m (e ∷ es) legal k = kept_after laws limit (next m e) es legal.2 (kept_next laws limit m e legal.1 k)
 
@@ -46,18 +47,18 @@ nothing_aged a h = absurd cc
 idle_gone : idle ≡ gone → ⊥
 idle_gone h = absurd cc
 
-kept_start : (laws : CallLaws WellFormed) (limit root : ℕ) (priorities : List ℕ) → Kept limit (at_start root priorities)
+kept_start : (laws : CallLaws WellFormed) (limit : Limit) (root : ℕ) (priorities : List ℕ) → Kept limit (at_start root priorities)
 kept_start laws limit root priorities = record {
   steady = steady_start WellFormed laws limit root priorities;
   ages = record { placed = λ q a h. nothing_aged a h; differ = λ p q a ne h g. nothing_aged a h };
   here = λ q h. idle_gone h;
 }
 
-kept_legal : (laws : CallLaws WellFormed) (root : ℕ) (priorities : List ℕ) (limit : ℕ) (es : List Entry) → Legal root priorities limit es → Kept limit (after root priorities es)
+kept_legal : (laws : CallLaws WellFormed) (root : ℕ) (priorities : List ℕ) (limit : Limit) (es : List Entry) → Legal root priorities limit es → Kept limit (after root priorities es)
 unfolding Legal
 kept_legal laws root priorities limit es legal = kept_after laws limit (at_start root priorities) es legal (kept_start laws limit root priorities)
 
-pub sound_legal : (laws : CallLaws WellFormed) (root : ℕ) (priorities : List ℕ) (limit : ℕ) (es : List Entry) → Legal root priorities limit es → Sound WellFormed (after root priorities es)
+pub sound_legal : (laws : CallLaws WellFormed) (root : ℕ) (priorities : List ℕ) (limit : Limit) (es : List Entry) → Legal root priorities limit es → Sound WellFormed (after root priorities es)
 sound_legal laws root priorities limit es legal = (kept_legal laws root priorities limit es legal).steady.sound
 
 no_clashes : (t : Touch) (us : List Touch) → ((u : Touch) → In u us → clash t u ≡ false) → clashes t us ≡ false
@@ -72,7 +73,7 @@ all_inside : (es : List Executed) → AllInside es → AllByRecursion (λ d. is_
 all_inside [] h = tt
 all_inside (e ∷ es) h = (h.0, all_inside es h.1)
 
-stands : (laws : CallLaws WellFormed) (limit : ℕ) (m : Moment) → Kept limit m → Standing limit m
+stands : (laws : CallLaws WellFormed) (limit : Limit) (m : Moment) → Kept limit m → Standing limit m
 stands laws limit m k = record {
   committed = record { well = s.lists.well; tidied = s.lists.tidied };
   phases = record { processes = k.steady.beyond; alive = lives; below = below; here = k.here };

@@ -1,6 +1,7 @@
 -- Beginnings of histories, and the entries of one process.
 use Rattle.std.specs.Prelude.{◌≡◌, ℕ, List, [], ◌++◌, ◌⊎◌, length}
 use Rattle.model.specs.Entries.{Entry}
+use Rattle.model.specs.Forgetting.{Limit}
 use Rattle.model.specs.Moments.{after, after_from}
 use Rattle.model.specs.Legal.{ListsRun, LegalFrom, Legal, mine, IsBefore}
 
@@ -27,11 +28,11 @@ pub record LegalityFollows : Type 0 where
       → after root priorities (es ++ fs) ≡ after_from (after root priorities es) fs
   pub entries : (root : ℕ) (priorities : List ℕ) (es : List Entry)
       → (after root priorities es).entries ≡ length es
-  pub runs : (root : ℕ) (priorities : List ℕ) (limit : ℕ) (es : List Entry)
+  pub runs : (root : ℕ) (priorities : List ℕ) (limit : Limit) (es : List Entry)
       → Legal root priorities limit es → ListsRun (after root priorities es)
-  pub nothing : (root : ℕ) (priorities : List ℕ) (limit : ℕ) → Legal root priorities limit []
-  pub rest : (root : ℕ) (priorities : List ℕ) (limit : ℕ) (es fs : List Entry)
+  pub nothing : (root : ℕ) (priorities : List ℕ) (limit : Limit) → Legal root priorities limit []
+  pub rest : (root : ℕ) (priorities : List ℕ) (limit : Limit) (es fs : List Entry)
       → Legal root priorities limit (es ++ fs) → LegalFrom limit (after root priorities es) fs
-  pub joined : (root : ℕ) (priorities : List ℕ) (limit : ℕ) (es fs : List Entry)
+  pub joined : (root : ℕ) (priorities : List ℕ) (limit : Limit) (es fs : List Entry)
       → Legal root priorities limit es → LegalFrom limit (after root priorities es) fs
       → Legal root priorities limit (es ++ fs)

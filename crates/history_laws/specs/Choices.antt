@@ -1,13 +1,14 @@
 -- That legal histories go on: each operation that finds its places has a right entry.
 use Rattle.std.specs.Prelude.{◌≡◌, ℕ, List}
 use Rattle.model.specs.Entries.{Op}
+use Rattle.model.specs.Forgetting.{Limit}
 use Rattle.model.specs.Moments.{Moment, status}
 use Rattle.model.specs.Legal.{Free, Right}
 use Rattle.model.specs.Replies.{needed, entry_for}
 use Rattle.history_laws.specs.Each.{AfterEach}
 
 -- with some new numbers the entry that is computed for the operation is right
-abbrev pub HasRightEntry : ℕ → Moment → ℕ → Op → Type 0
+abbrev pub HasRightEntry : Limit → Moment → ℕ → Op → Type 0
 HasRightEntry limit m pid op = (chosen : List ℕ)
     × Right limit m (entry_for limit m (record { pid = pid; op = op; chosen = chosen }))
 

@@ -1,16 +1,17 @@
 -- What laws of histories speak of: each legal history, and each entry that is right after one.
 use Rattle.std.specs.Prelude.{ℕ, List}
 use Rattle.model.specs.Entries.{Entry}
+use Rattle.model.specs.Forgetting.{Limit}
 use Rattle.model.specs.Moments.{Moment, after}
 use Rattle.model.specs.Legal.{Right, Legal}
 
 -- of the limit and the moment after each legal history
-abbrev pub AfterEach : (ℕ → Moment → Type 0) → Type 0
-AfterEach Holds = (root : ℕ) (priorities : List ℕ) (limit : ℕ) (es : List Entry)
+abbrev pub AfterEach : (Limit → Moment → Type 0) → Type 0
+AfterEach Holds = (root : ℕ) (priorities : List ℕ) (limit : Limit) (es : List Entry)
     → Legal root priorities limit es → Holds limit (after root priorities es)
 
 -- and of each right entry after it
 abbrev pub AtEach : (Moment → Entry → Type 0) → Type 0
-AtEach Holds = (root : ℕ) (priorities : List ℕ) (limit : ℕ) (es : List Entry) (e : Entry)
+AtEach Holds = (root : ℕ) (priorities : List ℕ) (limit : Limit) (es : List Entry) (e : Entry)
     → Legal root priorities limit es → Right limit (after root priorities es) e
     → Holds (after root priorities es) e

@@ -5,19 +5,20 @@ use Rattle.std.specs.Prelude.{◌≡◌, ℕ, List, ◌∷◌, ◌++◌}
 use Rattle.model.specs.State.{Kernel}
 use Rattle.model.specs.Steps.{Run}
 use Rattle.model.specs.Entries.{Entry}
+use Rattle.model.specs.Forgetting.{Limit}
 use Rattle.model.specs.Moments.{Moment, status, start, after, calls_at, seen_by}
 use Rattle.model.specs.Legal.{Legal, items, serial, serial_from}
 use Rattle.model.specs.Replies.{spoken_at}
 
 -- The entry is what its process and operation ask for after what stood before: its reply, with the
 -- cause that a loser is told, and the processes that it dooms.
-pub record IsAsAsked (limit : ℕ) (m : Moment) (e : Entry) : Type 0 where
+pub record IsAsAsked (limit : Limit) (m : Moment) (e : Entry) : Type 0 where
   pub reply : e.reply ≡ (spoken_at limit m e.pid (status m e.pid) e.op).reply
   pub doomed : e.doomed ≡ (spoken_at limit m e.pid (status m e.pid) e.op).doomed
 
 -- The history is strictly serializable, and the state is what it has committed.
 pub record IsSerializable
-    (root : ℕ) (priorities : List ℕ) (limit : ℕ) (es : List Entry) (state : Kernel)
+    (root : ℕ) (priorities : List ℕ) (limit : Limit) (es : List Entry) (state : Kernel)
     : Type 0 where
   -- Serial: a kernel without transactions, given one call after the other, comes to this state and
   -- answers each call as the history did. The calls are the executed plain ones at their entries,
@@ -39,6 +40,6 @@ pub record IsSerializable
 
 -- Each legal history is strictly serializable.
 abbrev pub LegalHistoriesAreSerializable : Type 0
-LegalHistoriesAreSerializable = (root : ℕ) (priorities : List ℕ) (limit : ℕ) (es : List Entry)
+LegalHistoriesAreSerializable = (root : ℕ) (priorities : List ℕ) (limit : Limit) (es : List Entry)
     → Legal root priorities limit es
     → IsSerializable root priorities limit es (after root priorities es).committed

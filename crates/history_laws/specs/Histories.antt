@@ -7,6 +7,7 @@ use Rattle.model.specs.Calls.{Call}
 use Rattle.model.specs.Steps.{Touch, Run}
 use Rattle.model.specs.Laws.{GoesTheSame}
 use Rattle.model.specs.Entries.{Entry}
+use Rattle.model.specs.Forgetting.{Limit, limit_at}
 use Rattle.model.specs.Moments.{Moment, status, is_in, start, next, after, reserved, calls_at}
 use Rattle.model.specs.Moments.{seen_by, held_by, numbers, loose, loose_touches}
 use Rattle.model.specs.Legal.{Right, Legal, serial, mine, IsBefore}
@@ -19,35 +20,35 @@ use Rattle.history_laws.specs.Each.{AfterEach}
 -- committed state, with the replies and numbers that they had.
 abbrev pub RightEntriesKeepHistoriesLegal : Type 0
 RightEntriesKeepHistoriesLegal =
-    (root : ℕ) (priorities : List ℕ) (limit : ℕ) (es : List Entry) (e : Entry)
+    (root : ℕ) (priorities : List ℕ) (limit : Limit) (es : List Entry) (e : Entry)
     → Legal root priorities limit es → Right limit (after root priorities es) e
     → Legal root priorities limit (es ++ e ∷ [])
 
 -- The committed state is the plain run of the serial list.
 abbrev pub CommittedIsSerial : Type 0
-CommittedIsSerial = (root : ℕ) (priorities : List ℕ) (limit : ℕ) (es : List Entry)
+CommittedIsSerial = (root : ℕ) (priorities : List ℕ) (limit : Limit) (es : List Entry)
     → Legal root priorities limit es
     → Run (start root priorities) (serial root priorities es) (after root priorities es).committed
 
 -- Entries and reserved places stay within the limit.
 abbrev pub PlacesSuffice : Type 0
-PlacesSuffice = (root : ℕ) (priorities : List ℕ) (limit : ℕ) (es : List Entry)
-    → Legal root priorities limit es → length es + reserved (after root priorities es) ≤ limit
+PlacesSuffice = (root : ℕ) (priorities : List ℕ) (limit : Limit) (es : List Entry)
+    → Legal root priorities limit es → length es + reserved (after root priorities es) ≤ limit_at limit (length es)
 
 -- A right entry's reply and doomed processes are those that are computed from what stood before.
 abbrev pub RepliesAreAFunction : Type 0
-RepliesAreAFunction = (limit : ℕ) (m : Moment) (e : Entry) → Right limit m e
+RepliesAreAFunction = (limit : Limit) (m : Moment) (e : Entry) → Right limit m e
     → (e.reply ≡ (spoken_at limit m e.pid (status m e.pid) e.op).reply)
     × (e.doomed ≡ (spoken_at limit m e.pid (status m e.pid) e.op).doomed)
 
 -- An entry is right only where it finds the places that it needs.
 abbrev pub RightEntriesHavePlaces : Type 0
-RightEntriesHavePlaces = (limit : ℕ) (m : Moment) (e : Entry) → Right limit m e
-    → m.entries + reserved m ≤ limit → m.entries + reserved m + needed (status m e.pid) e.op ≤ limit
+RightEntriesHavePlaces = (limit : Limit) (m : Moment) (e : Entry) → Right limit m e
+    → m.entries + reserved m ≤ limit_at limit m.entries → m.entries + reserved m + needed (status m e.pid) e.op ≤ limit_at limit m.entries
 
 -- Each beginning of a legal history is legal.
 abbrev pub BeginningsAreLegal : Type 0
-BeginningsAreLegal = (root : ℕ) (priorities : List ℕ) (limit : ℕ) (es fs : List Entry)
+BeginningsAreLegal = (root : ℕ) (priorities : List ℕ) (limit : Limit) (es fs : List Entry)
     → IsBefore es fs → Legal root priorities limit fs → Legal root priorities limit es
 
 -- One entry more is its process's and no other's.

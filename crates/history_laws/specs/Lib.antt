@@ -1,4 +1,5 @@
 pub mod Each
+pub mod Forgetting
 pub mod Histories
 pub mod Untidied
 pub mod Standing

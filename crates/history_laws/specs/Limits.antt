@@ -5,6 +5,7 @@ use Rattle.std.specs.Prelude.{ℕ, ◌≤◌, List, length}
 use Rattle.model.specs.State.{Kernel, file_of, pipe_of, offset_of}
 pub use Rattle.model.specs.Limits.{most_processes, capacity, largest}
 use Rattle.model.specs.Entries.{Entry}
+use Rattle.model.specs.Forgetting.{Limit}
 use Rattle.model.specs.Moments.{Moment, after, seen_by}
 use Rattle.model.specs.Legal.{Legal}
 
@@ -23,6 +24,6 @@ pub record StaysWithinLimits (m : Moment) : Type 0 where
 
 -- A legal history that starts with no more processes stays within the limits.
 abbrev pub LimitsAreKept : Type 0
-LimitsAreKept = (root : ℕ) (priorities : List ℕ) (limit : ℕ) (es : List Entry)
+LimitsAreKept = (root : ℕ) (priorities : List ℕ) (limit : Limit) (es : List Entry)
     → Legal root priorities limit es → length priorities ≤ most_processes
     → StaysWithinLimits (after root priorities es)

@@ -4,6 +4,7 @@ use Rattle.std.specs.Prelude.{◌++◌, length, Option, Some, None}
 use Rattle.std.specs.List.{AllByRecursion}
 use Rattle.model.specs.Calls.{Call, Exit, Fork, Child}
 use Rattle.model.specs.Entries.{Op, Do, Reply, Answers, NoProcess, Entry}
+use Rattle.model.specs.Forgetting.{Limit}
 use Rattle.model.specs.Moments.{idle, Moment, is_alive, next, after, priority_of}
 use Rattle.model.specs.Legal.{Legal, mine}
 use Rattle.history_laws.specs.Each.{AtEach}
@@ -51,7 +52,7 @@ ForksAndExitsMove = AtEach ProcessesMove
 
 -- The entries of a process that was never made are refused.
 abbrev pub UnmadeAreRefused : Type 0
-UnmadeAreRefused = (root : ℕ) (priorities : List ℕ) (limit : ℕ) (es : List Entry)
+UnmadeAreRefused = (root : ℕ) (priorities : List ℕ) (limit : Limit) (es : List Entry)
     → Legal root priorities limit es → (q : ℕ) → (after root priorities es).committed.made < q
     → AllByRecursion (λ e. e.reply ≡ NoProcess) (mine q es)
 
@@ -69,6 +70,6 @@ pub record IsForked (es : List Entry) (q : ℕ) : Type 0 where
 
 -- Each process that was not there at the start was made by a fork of an earlier one.
 abbrev pub ChildrenAreForked : Type 0
-ChildrenAreForked = (root : ℕ) (priorities : List ℕ) (limit : ℕ) (es : List Entry)
+ChildrenAreForked = (root : ℕ) (priorities : List ℕ) (limit : Limit) (es : List Entry)
     → Legal root priorities limit es → (q : ℕ) → length priorities < q
     → q ≤ (after root priorities es).committed.made → IsForked es q

@@ -5,6 +5,7 @@ use Rattle.model.specs.Changes.{tidy}
 use Rattle.model.specs.Steps.{IsNowhere}
 use Rattle.model.specs.Entries.{BeginFlags, is_inside}
 use Rattle.model.specs.Clashes.{any_clash}
+use Rattle.model.specs.Forgetting.{Limit, limit_at}
 use Rattle.model.specs.Moments.{Status, gone, idle, live, doomed, Moment, is_alive, is_in, bound}
 use Rattle.model.specs.Moments.{holds_place, reserved, calls_at, held_by, numbers, loose}
 use Rattle.call_laws.specs.WellFormed.{WellFormed}
@@ -58,13 +59,13 @@ pub record AgesStand (m : Moment) : Type 0 where
   pub placed : (q a : ℕ) → age_of (m.phase q) ≡ Some a → a ≤ m.entries
   pub differ : (p q a : ℕ) → p ≢ q → age_of (m.phase p) ≡ Some a → age_of (m.phase q) ≢ Some a
 
-pub record Standing (limit : ℕ) (m : Moment) : Type 0 where
+pub record Standing (limit : Limit) (m : Moment) : Type 0 where
   pub committed : CommittedStands m
   pub phases : PhasesStand m
   pub lists : (q : ℕ) → ListStands m q
   pub apart : (p q : ℕ) → p ≢ q → ListsStandApart m p q
   pub ages : AgesStand m
-  pub places : m.entries + reserved m ≤ limit
+  pub places : m.entries + reserved m ≤ limit_at limit m.entries
 
 abbrev pub WhatStands : Type 0
 WhatStands = AfterEach Standing

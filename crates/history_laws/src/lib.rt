@@ -18,6 +18,7 @@ ghost use Rattle.history_laws.specs.Untidied.{ListsAreTheirEffects};
 ghost use Rattle.history_laws.specs.Entered.{OwnAndDoomedMove, ReservedPlacesMove};
 ghost use Rattle.history_laws.specs.Entered.{RestartsBeginAnew, CommitsRunTheList, PlainCallsRun};
 ghost use Rattle.history_laws.specs.Entered.{CallsGoIn, ListsStay};
+ghost use Rattle.history_laws.specs.Forgetting.{ForgettingIsLegal};
 ghost use Rattle.history_laws.specs.Headline.{LegalHistoriesAreSerializable};
 ghost use Rattle.history_laws.specs.Histories.{RightEntriesKeepHistoriesLegal, CommittedIsSerial};
 ghost use Rattle.history_laws.specs.Histories.{PlacesSuffice, RepliesAreAFunction};
@@ -95,6 +96,12 @@ pub fn ends_find_places()
 /// Proved in `proofs/Legality.antt`.
 pub fn beginnings_are_legal()
     ensures { BeginningsAreLegal }
+{}
+
+/// A history stays legal where its entries are forgotten, and the limit never falls.
+/// Proved in `proofs/Forgetting.antt`.
+pub fn forgetting_is_legal()
+    ensures { ForgettingIsLegal }
 {}
 
 /// A history goes on legally from where it stood.

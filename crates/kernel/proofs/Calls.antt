@@ -6,7 +6,7 @@ use Rattle.kernel.proofs.Words.{counted_touches, clashes_with, losing_cause, all
 use Rattle.kernel.proofs.Words.{holds_place, IsApart, Inside, Outcome, Taken, Right, answered, Effect, effects, CallGoesIn, is_ended, calls_go_in}
 use Rattle.kernel.proofs.Words.{executed_again, nowhere_seen, childless, phase_is, plain_calls_run, right_by, views_may_be_loose, what_stands, live_age}
 use Rattle.kernel.proofs.Words.{IsDoomedBy, Doomed, effect, made_by, AreNew, with_change, view_at, changes_in, part_with, state_with, Stands}
-use Rattle.kernel.proofs.Words.{calling, moment, Fields, Dooms, CanEnter, IsIn, Moves, part_at, part_of, shown_by, changes_of, doomed_by, is_no_entry, is_some}
+use Rattle.kernel.proofs.Words.{calling, limit_of, moment, Fields, Dooms, CanEnter, IsIn, Moves, part_at, part_of, shown_by, changes_of, doomed_by, is_no_entry, is_some}
 use Rattle.kernel.proofs.Words.{Edit, FitsAll, is_alive, sum_by, news, distinct, with_touches, with_touches-append, Make_directory}
 use Rattle.kernel.proofs.Words.{Unname_directory, Touch, touches, counted, counting, all_done, CanEdit, Committed, IsPlan, Plans, Live}
 use Rattle.model.specs.Changes.{Make_file, Name_file, Unname_file, Move, Put_bytes, Cut, Open_inode, Set_offset, Share_slot, Clear_slot, Make_pipe, Take, Append, New_process, End_process}
@@ -92,10 +92,10 @@ module _ (f : Fields) (pid : ℕ) (within : Option (BeginFlags × ℕ)) (call : 
   sees = record (f.stable) { state = all_done (changes_in (view_at f.slots pid)) f.stable.state }
 
   seen_well : WellFormed sees.state
-  seen_well = subst WellFormed (sym (slot_views f asks.holds pid)) ((what_stands 0 f.log.priorities f.log.limit f.log.entries asks.holds.legal).lists pid).well
+  seen_well = subst WellFormed (sym (slot_views f asks.holds pid)) ((what_stands 0 f.log.priorities (limit_of f.log) f.log.entries asks.holds.legal).lists pid).well
 
   seen_alive : is_alive sees.state pid ≡ true
-  seen_alive = subst (λ k. is_alive k pid ≡ true) (sym (slot_views f asks.holds pid)) (((what_stands 0 f.log.priorities f.log.limit f.log.entries asks.holds.legal).lists pid).alive (caller_lives (moment f.log) pid within asks.stands))
+  seen_alive = subst (λ k. is_alive k pid ≡ true) (sym (slot_views f asks.holds pid)) (((what_stands 0 f.log.priorities (limit_of f.log) f.log.entries asks.holds.legal).lists pid).alive (caller_lives (moment f.log) pid within asks.stands))
 
   can_change : (w : Option (BeginFlags × ℕ)) → Stands (calling w) (status (moment f.log) pid) → (is_some w ≡ true → is_inside call ≡ true) → CanChange f.stable.state pid w (edits sees.state pid call)
   can_change (Some w) is supported = calls_edit sees.state pid seen_well call (supported refl)
@@ -108,7 +108,7 @@ module _ (f : Fields) (pid : ℕ) (within : Option (BeginFlags × ℕ)) (call : 
       → record { answer : p.answer ≡ reply (seen_by (moment f.log) pid) pid call; plans : Plans f pid within call p.touches.items p.edits.items }
   plans p is used =
       let seen = slot_views f asks.holds pid in
-      let goes = (views_may_be_loose 0 f.log.priorities f.log.limit f.log.entries asks.holds.legal pid).goes_on call in
+      let goes = (views_may_be_loose 0 f.log.priorities (limit_of f.log) f.log.entries asks.holds.legal pid).goes_on call in
       record {
         answer = is.answer ∙ ap (λ k. reply k pid call) seen ∙ sym goes.reply;
         plans = record {
@@ -238,7 +238,7 @@ pub plain_commits : (f : Fields) (pid : ℕ) (call : Call) → Calls f pid None 
 plain_commits f pid call asks es is chosen new =
     let same : es ≡ edits f.stable.state pid call = is ∙ ap (λ k. edits k pid call) (seen_idle (moment f.log) pid asks.stands ∙ sym asks.holds.state) in
     subst (FitsAll chosen f.stable.state) (sym same) (fits f.stable.state pid call chosen (record {
-      well = subst WellFormed (sym asks.holds.state) (what_stands 0 f.log.priorities f.log.limit f.log.entries asks.holds.legal).committed.well;
+      well = subst WellFormed (sym asks.holds.state) (what_stands 0 f.log.priorities (limit_of f.log) f.log.entries asks.holds.legal).committed.well;
       alive = subst (λ k. is_alive k pid ≡ true) (sym asks.holds.state) (caller_lives (moment f.log) pid None asks.stands);
       numbers = record { count = new.count ∙ ap (sum_by news) same; unused = new.nowhere; different = new.different };
     }))
@@ -266,7 +266,7 @@ module _ (f : Fields) (pid : ℕ) (within : Option (BeginFlags × ℕ)) (call : 
     chosen = record {
       count = new.count;
       unused = both IsUnmade (IsNowhere f.stable.state) (IsNowhere (seen_by m pid)) chosen
-          (λ n unmade none. nowhere_seen 0 f.log.priorities f.log.limit f.log.entries asks.holds.legal pid n (subst (λ k. IsNowhere k n) asks.holds.state none) (in_no_list pid n unmade)) new.unmade new.nowhere;
+          (λ n unmade none. nowhere_seen 0 f.log.priorities (limit_of f.log) f.log.entries asks.holds.legal pid n (subst (λ k. IsNowhere k n) asks.holds.state none) (in_no_list pid n unmade)) new.unmade new.nowhere;
       different = new.different;
     };
     apart = both IsUnmade (IsNowhere f.stable.state) (IsApart m e) chosen
@@ -274,14 +274,14 @@ module _ (f : Fields) (pid : ℕ) (within : Option (BeginFlags × ℕ)) (call : 
     doomed = wins.1;
   }
 
-  right_for : (w : Option (BeginFlags × ℕ)) → Stands (calling w) (status m pid) → (is_some w ≡ true → is_inside call ≡ true) → Right f.log.limit m e
-  right_for None is supported = right_by f.log.limit m e idle (Do call) is refl (subst (λ o. Outcome m e idle call o) (sym wins.0) taken, free_at f pid (Do call) idle is asks.place)
+  right_for : (w : Option (BeginFlags × ℕ)) → Stands (calling w) (status m pid) → (is_some w ≡ true → is_inside call ≡ true) → Right (limit_of f.log) m e
+  right_for None is supported = right_by (limit_of f.log) m e idle (Do call) is refl (subst (λ o. Outcome m e idle call o) (sym wins.0) taken, free_at f pid (Do call) idle is asks.place)
   right_for (Some w) l supported =
       let s = live w.0 w.1 l.0 in
-      right_by f.log.limit m e s (Do call) l.1 refl (subst (λ b. Inside f.log.limit m e s w.0 call b) (sym (supported refl))
+      right_by (limit_of f.log) m e s (Do call) l.1 refl (subst (λ b. Inside (limit_of f.log) m e s w.0 call b) (sym (supported refl))
       (subst (λ o. Outcome m e s call o) (sym wins.0) taken, free_at f pid (Do call) s l.1 asks.place))
 
-  right : Right f.log.limit m e
+  right : Right (limit_of f.log) m e
   right = right_for within asks.stands asks.supported
 
   abbrev changed : List Edit
@@ -289,7 +289,7 @@ module _ (f : Fields) (pid : ℕ) (within : Option (BeginFlags × ℕ)) (call : 
 
   -- a process in no transaction makes a child, ends, or does neither
   idle_fate : status m pid ≡ idle → Steadily (seen_by m pid) pid call ⊎ (Bears (seen_by m pid) pid call ⊎ Leaves (seen_by m pid) pid call)
-  idle_fate is = fate (seen_by m pid) pid (subst WellFormed (sym (seen_idle m pid is)) (what_stands 0 f.log.priorities f.log.limit f.log.entries asks.holds.legal).committed.well) call
+  idle_fate is = fate (seen_by m pid) pid (subst WellFormed (sym (seen_idle m pid is)) (what_stands 0 f.log.priorities (limit_of f.log) f.log.entries asks.holds.legal).committed.well) call
 
   -- the fields with the child that the call makes, if it makes one
   grows_for : (w : Option (BeginFlags × ℕ)) → Stands (calling w) (status m pid) → (is_some w ≡ true → is_inside call ≡ true) → Grows m e f (with_born w pid changed f)
@@ -314,7 +314,7 @@ module _ (f : Fields) (pid : ℕ) (within : Option (BeginFlags × ℕ)) (call : 
   -- those that are doomed have slots
   pub are_in : (g : Fields) → length g.slots ≡ length (with_born within pid changed f).slots → length g.held ≡ length (with_born within pid changed f).held → AllByRecursion (λ d. IsIn g d.pid) ds
   are_in g slots held = members (IsIn g) ds (λ q told.
-      let low = (what_stands 0 f.log.priorities f.log.limit f.log.entries asks.holds.legal).phases.below q (ap holds_place ((moves f.log e asks.holds.legal right).dooms q told).before) in
+      let low = (what_stands 0 f.log.priorities (limit_of f.log) f.log.entries asks.holds.legal).phases.below q (ap holds_place ((moves f.log e asks.holds.legal right).dooms q told).before) in
       let made = (processes f.log e asks.holds.legal right).made in
       record { slot = omega (arith, low, made, slots, grows.slot_count); held = omega (arith, low, made, held, grows.held_count) })
 
@@ -322,7 +322,7 @@ module _ (f : Fields) (pid : ℕ) (within : Option (BeginFlags × ℕ)) (call : 
   change = effect chosen changed
 
   goes_in : (w : BeginFlags × ℕ) → Stands (Live w.0 w.1) (status m pid) → CallGoesIn m e call w.0 w.1 answer
-  goes_in w l = calls_go_in 0 f.log.priorities f.log.limit f.log.entries e asks.holds.legal right call w.0 w.1 l.0 answer (phase_is m pid (live w.0 w.1 l.0) l.1 (λ h. absurd cc)) refl
+  goes_in w l = calls_go_in 0 f.log.priorities (limit_of f.log) f.log.entries e asks.holds.legal right call w.0 w.1 l.0 answer (phase_is m pid (live w.0 w.1 l.0) l.1 (λ h. absurd cc)) refl
       (executed_again (seen_by m pid) pid call)
 
   idle_phase : status m pid ≡ idle → (next m e).phase pid ≡ m.phase pid
@@ -346,7 +346,7 @@ module _ (f : Fields) (pid : ℕ) (within : Option (BeginFlags × ℕ)) (call : 
     ]
   ]
   part_is (Some w) l supported =
-      let goes = (views_may_be_loose 0 f.log.priorities f.log.limit f.log.entries asks.holds.legal pid).goes_on call in
+      let goes = (views_may_be_loose 0 f.log.priorities (limit_of f.log) f.log.entries asks.holds.legal pid).goes_on call in
       let ts = counted_touches m pid call in
       let steady = steadily (seen_by m pid) pid call (supported refl) in
       ap₂ (λ s t. record { slot = with_change change (shown_by s (changes_of m pid)); held = record { priority = priority_of m pid; age = live_age t; touches = with_touches (distinct (held_by m pid)) ts } })
@@ -416,7 +416,7 @@ births_so f g pid call asks es same is made =
     let k = f.stable.state in
     let e = New_process (suc k.made) pid is.1 in
     let priority = (process_of k pid).priority in
-    let stand = (what_stands 0 f.log.priorities f.log.limit f.log.entries asks.holds.legal) in
+    let stand = (what_stands 0 f.log.priorities (limit_of f.log) f.log.entries asks.holds.legal) in
     let tidied : IsTidied k = subst IsTidied (sym asks.holds.state) (record { well = stand.committed.well; tidied = stand.committed.tidied }) in
     let low = stand.committed.well.counted pid (caller_lives (moment f.log) pid None asks.stands) in
     let each : (q : ℕ) → part_at g q ≡ part_at (with_child priority f) q = λ q. ap₂ (λ vs hs. record { slot = view_at vs q; held = contender_at hs q }) made.slots made.held in

@@ -15,7 +15,15 @@ use Rattle.history_laws.proofs.Laws.{right_entries_have_places, status_alive, wh
 use Rattle.history_laws.proofs.Laws.{views_may_be_loose}
 use Rattle.freeing_laws.specs.Sweep.{AllFit}
 use Rattle.shadow.proofs.Laws.{calls_can_be_committed_lem}
-use Rattle.history.specs.Log.{Log}
+use Rattle.history.specs.Log.{Log, all_forgotten, kept}
+use Rattle.std.proofs.lemmas.List.Sums.{sum_by-append}
+use Rattle.model.specs.Forgetting.{limit_at}
+use Rattle.std.specs.Prelude.{sum, ◌-◌}
+use Rattle.std.proofs.Common.{leb-true, leb-false}
+use Rattle.std.proofs.lemmas.Bool.{lt-leb}
+use Rattle.std.proofs.lemmas.List.{length-drop}
+use Rattle.history_laws.proofs.Laws.{forgetting_is_legal}
+use Rattle.kernel.proofs.Words.{limit_of}
 use Rattle.model.specs.Plan.{ENOTSUP}
 use Rattle.model.specs.Calls.{Call}
 use Rattle.model.specs.Entries.{Refuses}
@@ -115,12 +123,12 @@ IsOther e q = (child_in e.reply ≢ Some q) × ((is_ended e.op e.reply ≡ false
 pub other : (e : Entry) → IsSteady e → (q : ℕ) → IsOther e q
 other e steady q = (λ some. absurd (cc steady.childless), inl steady.goes_on)
 
-module _ (log : Log) (e : Entry) (legal : Legal 0 log.priorities log.limit log.entries) (right : Right log.limit (moment log) e) where
+module _ (log : Log) (e : Entry) (legal : Legal 0 log.priorities (limit_of log) log.entries) (right : Right (limit_of log) (moment log) e) where
   abbrev m : Moment
   m = moment log
 
   pub processes : ProcessesMove m e
-  processes = forks_and_exits_move 0 log.priorities log.limit log.entries e legal right
+  processes = forks_and_exits_move 0 log.priorities (limit_of log) log.entries e legal right
 
   as_before : (q : ℕ) → IsOther e q → IsAsBefore m e q
   as_before q is = processes.others q is.0 is.1
@@ -129,12 +137,12 @@ module _ (log : Log) (e : Entry) (legal : Legal 0 log.priorities log.limit log.e
   same_bound none = let made : (next m e).committed.made ≡ m.committed.made + 0 = processes.made ∙ ap (λ n. m.committed.made + n) none in ap suc (omega arith)
 
   pub moves : PhasesMove m e
-  moves = phases_move log.limit m e right
+  moves = phases_move (limit_of log) m e right
 
   -- one whose phase stays
   pub stays : (q : ℕ) → IsOther e q → (next m e).phase q ≡ m.phase q → part_of (next m e) q ≡ part_of m q
   stays q is phase =
-      let list = lists_stay 0 log.priorities log.limit log.entries e legal right q (ap calls_of phase) in
+      let list = lists_stay 0 log.priorities (limit_of log) log.entries e legal right q (ap calls_of phase) in
       parts_alike _ _ _ _ _ _ _ _ _ _ (as_before q is).alive phase list.effects (as_before q is).priority (ap distinct list.held)
 
   -- a living one, by its new phase
@@ -169,8 +177,16 @@ module _ (log : Log) (e : Entry) (legal : Legal 0 log.priorities log.limit log.e
 pub entries_count : (log : Log) → (moment log).entries ≡ length log.entries
 entries_count log = legality_follows.entries 0 log.priorities log.entries
 
-pub places : (log : Log) → Legal 0 log.priorities log.limit log.entries → (moment log).entries + reserved (moment log) ≤ log.limit
-places log legal = (what_stands 0 log.priorities log.limit log.entries legal).places
+pub places : (log : Log) → Legal 0 log.priorities (limit_of log) log.entries → (moment log).entries + reserved (moment log) ≤ limit_at (limit_of log) (moment log).entries
+places log legal = (what_stands 0 log.priorities (limit_of log) log.entries legal).places
+
+-- the entries are those that were forgotten and those that are kept
+pub kept_count : (log : Log) → sum log.forgotten ≤ length log.entries → length (kept log) + sum log.forgotten ≡ length log.entries
+kept_count log forgot = (let left : length (kept log) ≡ length log.entries - sum log.forgotten = length-drop (sum log.forgotten) log.entries in omega (arith, forgot))
+
+-- where all that was ever forgotten is, the limit is that of those that are kept
+limit_now : (log : Log) → sum log.forgotten ≤ length log.entries → limit_at (limit_of log) (length log.entries) ≡ log.limit + sum log.forgotten
+limit_now log forgot = forgetting_is_legal.all (limit_of log) (length log.entries) forgot
 
 is_answer : (r s : Reply) → is_no_entry r ≡ false → is_no_entry s ≡ true → r ≢ s
 is_answer r s left right same = false≢true (sym left ∙ ap is_no_entry same ∙ right)
@@ -184,7 +200,7 @@ pub record Grows (m : Moment) (e : Entry) (past grown : Fields) : Type 0 where
   pub born : (child : ℕ) → child_in e.reply ≡ Some child → part_at grown child ≡ born_part (priority_of m e.pid)
 
 -- what an entry does, and whom it dooms, is done: it can be added
-module _ (past grown now : Fields) (holds : IsConsistent past) (e : Entry) (right : Right past.log.limit (moment past.log) e) (answers : is_no_entry e.reply ≡ false) (grows : Grows (moment past.log) e past grown)
+module _ (past grown now : Fields) (holds : IsConsistent past) (e : Entry) (right : Right (limit_of past.log) (moment past.log) e) (answers : is_no_entry e.reply ≡ false) (grows : Grows (moment past.log) e past grown)
     (ds : List Doomed) (dooms : pids ds ≡ e.doomed) (causes : AllByRecursion (IsDoomedBy (moment past.log) e.pid (dooming_touches (moment past.log) e.pid e.op)) ds)
     (moved : Moves grown now e.pid (part_of (next (moment past.log) e) e.pid) (next (moment past.log) e).committed ds) where
   abbrev was : Moment
@@ -194,7 +210,7 @@ module _ (past grown now : Fields) (holds : IsConsistent past) (e : Entry) (righ
   others q differs = elim (cases_Bool (is_in q e.doomed)) [
     | inl told ↦
         let d = (moves past.log e holds.legal right).dooms q told in
-        let alive = (what_stands 0 past.log.priorities past.log.limit past.log.entries holds.legal).phases.alive q (ap holds_place d.before) in
+        let alive = (what_stands 0 past.log.priorities (limit_of past.log) past.log.entries holds.legal).phases.alive q (ap holds_place d.before) in
         let older : child_in e.reply ≢ Some q = λ some. false≢true (sym ((processes past.log e holds.legal right).born q some).unmade ∙ alive) in
         moved.others q differs
         ∙ ap (doomed_by ds q) (grows.older q older ∙ holds.parts q ∙ ap (λ s. record { slot = shown_by s (changes_of was q); held = contender_of was q }) (status_alive was q alive ∙ d.before))
@@ -216,20 +232,22 @@ module _ (past grown now : Fields) (holds : IsConsistent past) (e : Entry) (righ
   enters_grown =
       let is : moment (with_entry past.log e) ≡ next was e = after_one_more 0 past.log.priorities past.log.entries e in
       subst (λ l. CanEnter (record now { log = l }) e) (sym (moved.log ∙ grows.log)) (record {
-        place = le-leb _ _ (right_entries_have_places past.log.limit was e right (places past.log holds.legal));
+        place = le-leb _ _ (right_entries_have_places (limit_of past.log) was e right (places past.log holds.legal));
         answers = answers;
+        forgot = holds.forgot;
         holds = record {
-          legal = legal_push 0 past.log.priorities past.log.limit past.log.entries e holds.legal right;
+          legal = legal_push 0 past.log.priorities (limit_of past.log) past.log.entries e holds.legal right;
           state = moved.state ∙ sym (ap (λ x. x.committed) is);
           slot_count = moved.slot_count ∙ grows.slot_count ∙ sym (ap bound is);
           held_count = moved.held_count ∙ grows.held_count ∙ sym (ap bound is);
           parts = λ q. each q ∙ sym (ap (λ x. part_of x q) is);
           few = holds.few;
+          forgot = (let more : length (past.log.entries ++ e ∷ []) ≡ length past.log.entries + 1 = length-append past.log.entries (e ∷ []) in omega (arith, holds.forgot));
         };
       })
 
 -- an entry that makes no process
-pub stay_as_many : (f : Fields) → IsConsistent f → (e : Entry) → Right f.log.limit (moment f.log) e → child_in e.reply ≡ None → born e.reply ≡ 0 → Grows (moment f.log) e f f
+pub stay_as_many : (f : Fields) → IsConsistent f → (e : Entry) → Right (limit_of f.log) (moment f.log) e → child_in e.reply ≡ None → born e.reply ≡ 0 → Grows (moment f.log) e f f
 stay_as_many f holds e right childless unborn =
     let same : bound (next (moment f.log) e) ≡ bound (moment f.log) = same_bound f.log e holds.legal right unborn in
     record {
@@ -257,7 +275,7 @@ pub child_is_last : (f : Fields) (priority q : ℕ) → q < length f.slots → q
 child_is_last f priority q slot held = ap₂ (λ v h. record { slot = v; held = h }) (at_other f.slots idle_slot gone_slot q (λ is. absurd (omega (arith, is, slot)))) (at_other f.held _ nobody q (λ is. absurd (omega (arith, is, held))))
 
 -- an entry that makes a process
-pub one_more : (f : Fields) → IsConsistent f → (e : Entry) → Right f.log.limit (moment f.log) e → (child : ℕ) → child_in e.reply ≡ Some child → born e.reply ≡ 1
+pub one_more : (f : Fields) → IsConsistent f → (e : Entry) → Right (limit_of f.log) (moment f.log) e → (child : ℕ) → child_in e.reply ≡ Some child → born e.reply ≡ 1
     → (priority : ℕ) → priority ≡ priority_of (moment f.log) e.pid → Grows (moment f.log) e f (with_child priority f)
 one_more f holds e right child is one priority same =
     let move = processes f.log e holds.legal right in
@@ -278,17 +296,39 @@ one_more f holds e right child is one priority same =
           ∙ ap born_part same;
     }
 
-pub enters : (past now : Fields) → (holds : IsConsistent past) → (e : Entry) (right : Right past.log.limit (moment past.log) e) → is_no_entry e.reply ≡ false → IsSteady e
+pub enters : (past now : Fields) → (holds : IsConsistent past) → (e : Entry) (right : Right (limit_of past.log) (moment past.log) e) → is_no_entry e.reply ≡ false → IsSteady e
     → (ds : List Doomed) → pids ds ≡ e.doomed → AllByRecursion (IsDoomedBy (moment past.log) e.pid (dooming_touches (moment past.log) e.pid e.op)) ds
     → Moves past now e.pid (part_of (next (moment past.log) e) e.pid) (next (moment past.log) e).committed ds → CanEnter now e
 enters past now holds e right answers steady = enters_grown past past now holds e right answers (stay_as_many past holds e right steady.childless steady.unborn)
 
 -- a right entry has its place
-pub room : (f : Fields) (e : Entry) → CanEnter f e → length f.log.entries < f.log.limit
+pub room : (f : Fields) (e : Entry) → CanEnter f e → length (kept f.log) < f.log.limit
 room f e can =
-    let placed = places_suffice 0 f.log.priorities f.log.limit (f.log.entries ++ e ∷ []) can.holds.legal in
+    let after : List Entry = f.log.entries ++ e ∷ [] in
+    let placed = places_suffice 0 f.log.priorities (limit_of f.log) after can.holds.legal in
+    let limit : limit_at (limit_of f.log) (length after) ≡ f.log.limit + sum f.log.forgotten = limit_now (with_entry f.log e) can.holds.forgot in
+    let count = kept_count f.log can.forgot in
     let more : length (f.log.entries ++ e ∷ []) ≡ length f.log.entries + 1 = length-append f.log.entries (e ∷ []) in
-    omega arith
+    omega (arith, placed, limit, count)
+
+-- the fields stay consistent where the entries that are kept are forgotten
+pub forgets : (f : Fields) → IsConsistent f → IsConsistent (record f { log = all_forgotten f.log })
+forgets f holds =
+    let count = kept_count f.log holds.forgot in
+    let more : sum (f.log.forgotten ++ length (kept f.log) ∷ []) ≡ sum f.log.forgotten + sum (length (kept f.log) ∷ []) = sum_by-append (λ n. n) f.log.forgotten (length (kept f.log) ∷ []) in
+    record {
+      legal = forgetting_is_legal.legal 0 f.log.priorities (limit_of f.log) f.log.entries (length (kept f.log)) (omega (arith, count)) holds.legal;
+      state = holds.state;
+      slot_count = holds.slot_count;
+      held_count = holds.held_count;
+      parts = holds.parts;
+      few = holds.few;
+      forgot = omega (arith, count, more);
+    }
+
+pub forgets_or_not : (f : Fields) → IsConsistent f → (new : Log) (b : Bool) → (b ≡ true → new ≡ all_forgotten f.log) → (b ≡ false → new ≡ f.log) → IsConsistent (record f { log = new })
+forgets_or_not f holds new true done not_done = subst (λ l. IsConsistent (record f { log = l })) (sym (done refl)) (forgets f holds)
+forgets_or_not f holds new false done not_done = subst (λ l. IsConsistent (record f { log = l })) (sym (not_done refl)) holds
 
 pub entered : (f : Fields) (e : Entry) → CanEnter f e → (new : Log) → new ≡ with_entry f.log e → (old : Fields) → old.log ≡ f.log → Does old (record f { log = new }) e.pid e.op e.reply
 entered f e can new is old same = record {
@@ -312,6 +352,7 @@ unchanged f pid held new holds state views kept = record {
     held_count = kept.count ∙ holds.held_count;
     parts = λ q. ap₂ (λ v h. record { slot = v; held = h }) (views.each q) (held_same q) ∙ holds.parts q;
     few = holds.few;
+    forgot = holds.forgot;
   };
   same = ap (λ k. record { log = f.log; state = k }) state;
 } where
@@ -343,7 +384,7 @@ within_shown false s ds dead = sym (ap holds_place (dead refl))
 
 module _ (f : Fields) (holds : IsConsistent f) (q : ℕ) where
   dead_is_idle : is_alive (moment f.log).committed q ≡ false → (moment f.log).phase q ≡ idle
-  dead_is_idle = (what_stands 0 f.log.priorities f.log.limit f.log.entries holds.legal).phases.processes q
+  dead_is_idle = (what_stands 0 f.log.priorities (limit_of f.log) f.log.entries holds.legal).phases.processes q
 
   -- a slot has the changes of its process's live list
   pub slot_changes : changes_in (view_at f.slots q) ≡ changes_of (moment f.log) q
@@ -354,7 +395,7 @@ module _ (f : Fields) (holds : IsConsistent f) (q : ℕ) where
   pub slot_fits : AllFit (changes_in (view_at f.slots q)) f.stable.state
   slot_fits =
       let m = moment f.log in
-      let lists = (what_stands 0 f.log.priorities f.log.limit f.log.entries holds.legal).lists q in
+      let lists = (what_stands 0 f.log.priorities (limit_of f.log) f.log.entries holds.legal).lists q in
       subst (AllFit (changes_in (view_at f.slots q))) (sym holds.state)
       (subst (λ ds. AllFit ds m.committed) (sym slot_changes) (calls_can_be_committed_lem m.committed q (calls_at m q) lists.goes))
 
@@ -364,7 +405,7 @@ module _ (f : Fields) (holds : IsConsistent f) (q : ℕ) where
 
   -- and tidied
   pub slot_sees : tidy (all_done (changes_in (view_at f.slots q)) f.stable.state) ≡ seen_by (moment f.log) q
-  slot_sees = ap tidy slot_views ∙ sym (views_may_be_loose 0 f.log.priorities f.log.limit f.log.entries holds.legal q).seen
+  slot_sees = ap tidy slot_views ∙ sym (views_may_be_loose 0 f.log.priorities (limit_of f.log) f.log.entries holds.legal q).seen
 
   pub slot_lives : is_live_slot (view_at f.slots q) ≡ is_live (moment f.log) q
   slot_lives = ap (λ p. is_live_slot p.slot) (holds.parts q) ∙ live_shown (is_alive (moment f.log).committed q) ((moment f.log).phase q) (changes_of (moment f.log) q) dead_is_idle
@@ -386,11 +427,31 @@ reserved_slots : (f : Fields) → IsConsistent f → reserved (moment f.log) ≡
 reserved_slots f holds = count_slots (λ q. holds_place ((moment f.log).phase q)) f.slots (slot_holds f holds) (bound (moment f.log)) (omega (arith, holds.slot_count))
     ∙ ap (λ n. count_by is_within (take n f.slots)) (sym holds.slot_count) ∙ ap (count_by is_within) (take-length f.slots)
 
-pub used_places : (f : Fields) → IsConsistent f → length f.log.entries + count_by is_within f.slots ≤ f.log.limit
-used_places f holds = subst₂ (λ a b. a + b ≤ f.log.limit) (entries_count f.log) (reserved_slots f holds) (places f.log holds.legal)
+pub used_places : (f : Fields) → IsConsistent f → length (kept f.log) + count_by is_within f.slots ≤ f.log.limit
+used_places f holds =
+    let all : length f.log.entries + count_by is_within f.slots ≤ limit_at (limit_of f.log) (length f.log.entries) =
+    subst₂ (λ a b. a + b ≤ limit_at (limit_of f.log) a) (entries_count f.log) (reserved_slots f holds) (places f.log holds.legal) in
+    let limit = limit_now f.log holds.forgot in
+    let count = kept_count f.log holds.forgot in
+    omega (arith, all, limit, count)
 
-pub free_places : (f : Fields) (n : ℕ) → IsConsistent f → has_free f.log.limit (moment f.log) n ≡ nat_le (length f.log.entries + count_by is_within f.slots + n) f.log.limit
-free_places f n holds = ap₂ (λ a b. nat_le (a + b + n) f.log.limit) (entries_count f.log) (reserved_slots f holds)
+-- a comparison is the same where both sides have as much more
+le_shift : (a b more : ℕ) → nat_le (a + more) (b + more) ≡ nat_le a b
+le_shift a b more = elim (cases_Bool (nat_le a b)) [
+  | inl is ↦ (let low : a ≤ b = leb-true a b is in le-leb (a + more) (b + more) (omega arith) ∙ sym is)
+  | inr not ↦ (let high : b < a = leb-false a b not in lt-leb (a + more) (b + more) (omega arith) ∙ sym not)
+]
+
+pub free_places : (f : Fields) (n : ℕ) → IsConsistent f → has_free (limit_of f.log) (moment f.log) n ≡ nat_le (length (kept f.log) + count_by is_within f.slots + n) f.log.limit
+free_places f n holds =
+    let held : ℕ = count_by is_within f.slots in
+    let gone : ℕ = sum f.log.forgotten in
+    let limit = limit_now f.log holds.forgot in
+    let count = kept_count f.log holds.forgot in
+    let left : length f.log.entries + held + n ≡ (length (kept f.log) + held + n) + gone = omega (arith, count) in
+    ap₂ (λ a b. nat_le (a + b + n) (limit_at (limit_of f.log) a)) (entries_count f.log) (reserved_slots f holds)
+    ∙ ap₂ nat_le left limit
+    ∙ le_shift (length (kept f.log) + held + n) f.log.limit gone
 
 stands_by : (standing : Standing) (s : Status) (changes : List Effect) → IsStandingOf standing (shown_by s changes) → Stands standing s
 stands_by Gone gone changes h = refl
@@ -409,8 +470,8 @@ caller_lives m pid None is = alive_is m pid idle is (λ h. absurd cc)
 caller_lives m pid (Some within) is = alive_is m pid (live within.0 within.1 is.0) is.1 (λ h. absurd cc)
 
 -- the places that an operation found
-pub free_at : (f : Fields) (pid : ℕ) (op : Op) (s : Status) → status (moment f.log) pid ≡ s → has_place f.log pid op ≡ true → Free f.log.limit (moment f.log) (needed s op)
-free_at f pid op s is place = free_from f.log.limit (moment f.log) (needed s op) (subst (λ x. has_free f.log.limit (moment f.log) (needed x op) ≡ true) is place)
+pub free_at : (f : Fields) (pid : ℕ) (op : Op) (s : Status) → status (moment f.log) pid ≡ s → has_place f.log pid op ≡ true → Free (limit_of f.log) (moment f.log) (needed s op)
+free_at f pid op s is place = free_from (limit_of f.log) (moment f.log) (needed s op) (subst (λ x. has_free (limit_of f.log) (moment f.log) (needed x op) ≡ true) is place)
 
 pub calm : (pid : ℕ) (op : Op) (reply : Reply) → answer_in reply ≡ None → IsSteady (plain pid op reply)
 calm pid op (Answers a) h = absurd cc
@@ -430,11 +491,11 @@ none_else pid op reply = record { chosen = refl; doomed = refl }
 
 -- a call that transactions do not support, of a live one
 pub denied : (f : Fields) (pid : ℕ) (call : Call) (reply : Reply) (s : Status) (flags : BeginFlags) → status (moment f.log) pid ≡ s → has_place f.log pid (Do call) ≡ true → is_inside call ≡ false
-    → reply ≡ unsupported flags → (age : ℕ) (calls : List Executed) → s ≡ live flags age calls → RightAt f.log.limit (moment f.log) (plain pid (Do call) reply) s (Do call)
+    → reply ≡ unsupported flags → (age : ℕ) (calls : List Executed) → s ≡ live flags age calls → RightAt (limit_of f.log) (moment f.log) (plain pid (Do call) reply) s (Do call)
 denied f pid call reply s flags is place outside says age calls lives =
-    let free = subst (λ x. Free f.log.limit (moment f.log) (needed x (Do call))) lives (free_at f pid (Do call) s is place) in
-    subst (λ x. RightAt f.log.limit (moment f.log) (plain pid (Do call) reply) x (Do call)) (sym lives)
-    (subst (λ b. Inside f.log.limit (moment f.log) (plain pid (Do call) reply) (live flags age calls) flags call b) (sym outside) (says, none_else pid (Do call) reply, free))
+    let free = subst (λ x. Free (limit_of f.log) (moment f.log) (needed x (Do call))) lives (free_at f pid (Do call) s is place) in
+    subst (λ x. RightAt (limit_of f.log) (moment f.log) (plain pid (Do call) reply) x (Do call)) (sym lives)
+    (subst (λ b. Inside (limit_of f.log) (moment f.log) (plain pid (Do call) reply) (live flags age calls) flags call b) (sym outside) (says, none_else pid (Do call) reply, free))
 
 -- it is not executed
 pub not_executed : (call : Call) (n : ℕ) (s : Status) → own_next n s (Do call) (Refuses ENOTSUP) [] ≡ s
@@ -445,7 +506,7 @@ not_executed call n (doomed cause flags age) = refl
 
 -- an entry that dooms nobody, of a process with this status
 module _ (f : Fields) (holds : IsConsistent f) (pid : ℕ) (op : Op) (reply : Reply) (s : Status) (is : status (moment f.log) pid ≡ s)
-    (right : RightAt f.log.limit (moment f.log) (plain pid op reply) s op) (answers : is_no_entry reply ≡ false) (none : answer_in reply ≡ None) where
+    (right : RightAt (limit_of f.log) (moment f.log) (plain pid op reply) s op) (answers : is_no_entry reply ≡ false) (none : answer_in reply ≡ None) where
   abbrev found : Moment
   found = moment f.log
 
@@ -455,8 +516,8 @@ module _ (f : Fields) (holds : IsConsistent f) (pid : ℕ) (op : Op) (reply : Re
   steady : IsSteady e
   steady = calm pid op reply none
 
-  pub is_right : Right f.log.limit found e
-  is_right = right_by f.log.limit found e s op is refl right
+  pub is_right : Right (limit_of f.log) found e
+  is_right = right_by (limit_of f.log) found e s op is refl right
 
   pub commits_nothing : run_by s op reply [] ≡ [] → f.stable.state ≡ (next found e).committed
   commits_nothing runs = holds.state ∙ sym (ap (λ calls. after_list pid calls found.committed) (ap (λ x. run_by x op reply []) is ∙ runs))
@@ -477,8 +538,8 @@ module _ (f : Fields) (holds : IsConsistent f) (pid : ℕ) (op : Op) (reply : Re
       → Shows f.slots new.slots pid v → new.stable.state ≡ (next found e).committed → CanEndTransaction (record f { transactions = new }) pid op reply again flags age
   closes new v again flags age here own shows state =
       let alive = alive_is found pid s is here in
-      let low = (what_stands 0 f.log.priorities f.log.limit f.log.entries holds.legal).committed.well.counted pid alive in
-      let phase = (phases_move f.log.limit found e is_right).own ∙ ap (λ x. own_next (found.entries + 1) x op reply []) (phase_is found pid s is here) ∙ own in
+      let low = (what_stands 0 f.log.priorities (limit_of f.log) f.log.entries holds.legal).committed.well.counted pid alive in
+      let phase = (phases_move (limit_of f.log) found e is_right).own ∙ ap (λ x. own_next (found.entries + 1) x op reply []) (phase_is found pid s is here) ∙ own in
       record {
         is_in = record { slot = omega (arith, low, shows.count, holds.slot_count); held = omega (arith, low, holds.held_count) };
         enters = λ g after. enters f g holds e is_right answers steady [] refl tt (record {

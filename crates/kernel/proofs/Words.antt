@@ -13,6 +13,8 @@ pub use Rattle.model.specs.Effects.{Effect, all_done, effects}
 pub use Rattle.model.specs.Entries.{Abort, Aborted, Answers, Begin, BeginFlags, Begun, Busy, Cause, Clash, Do, End, Entry, Executed, GivenUp, HistoryFull}
 pub use Rattle.model.specs.Entries.{InTransaction, NoMemory, NoProcess, NotInTransaction, Op, Reply, answer_in, is_inside, is_unsupported}
 pub use Rattle.model.specs.FiniteMap.{get}
+pub use Rattle.history.specs.Log.{Log, all_forgotten, kept}
+pub use Rattle.model.specs.Forgetting.{Limit, limit_at}
 pub use Rattle.model.specs.Legal.{Alone, Free, Inside, IsApart, Legal, Outcome, Right, RightAt, Taken}
 pub use Rattle.model.specs.Moments.{Moment, Status, after_list, after_one, all_below, at_start, bound, calls_at, calls_of, clashes_with, count_below, counted}
 pub use Rattle.model.specs.Moments.{counted_touches, doom_cause, doomed, dooming_touches, gone, has_free, held_by, holds_place, idle, is_alive, is_in}
@@ -21,7 +23,7 @@ pub use Rattle.model.specs.Replies.{answered, needed}
 pub use Rattle.model.specs.State.{A_directory, A_file, A_pipe, Kernel, Name, Process, names_of}
 pub use Rattle.model.specs.Steps.{IsNowhere, Touch, edits, edits_of, reply, touches}
 pub use Rattle.call_laws.specs.Fits.{FitsAll}
-pub use Rattle.history_laws.proofs.Laws.{calls_go_in, childless, commits_run_the_list, executed_again, legal_start, limits_are_kept, nowhere_seen, phase_is}
+pub use Rattle.history_laws.proofs.Laws.{calls_go_in, childless, commits_run_the_list, executed_again, forgetting_is_legal, legal_start, limits_are_kept, nowhere_seen, phase_is}
 pub use Rattle.history_laws.proofs.Laws.{plain_calls_run, right_by, serializable_at, tree_at, views_may_be_loose, what_stands}
 pub use Rattle.history_laws.specs.Entered.{CallGoesIn, PhasesMove, view}
 pub use Rattle.history_laws.specs.Limits.{StaysWithinLimits, most_processes}
@@ -37,7 +39,7 @@ pub use Rattle.contention.specs.declared.Doomed.{Doomed}
 pub use Rattle.shadow.specs.Log.{effect}
 pub use Rattle.shadow.specs.Steps.{CanEdit}
 pub use Rattle.shadow.specs.Committed.{Committed}
-pub use Rattle.machine.specs.Shown.{Kept, Shown, is_live, is_live_status, moment}
+pub use Rattle.machine.specs.Shown.{Kept, Shown, is_live, is_live_status, limit_of, moment}
 pub use Rattle.kernel.specs.States.{Asks, CanEnter, CanEndTransaction, Does, Dooms, Fields, IsConsistent, IsIn, Moves, Part, Plans, Stands, Unchanged, calling}
 pub use Rattle.kernel.specs.States.{changes_of, cleared, doomed_by, fields, part_at, part_of, part_with, plain, settled_as, shown, shown_by, state_with}
 pub use Rattle.kernel.specs.States.{Born, Calls, CanChange, ends_process, first_is, makes_process, no_part, part_after, with_born, with_child}

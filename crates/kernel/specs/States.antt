@@ -1,6 +1,6 @@
 -- What is kept of each process after a history, what an operation builds on, and how fields change.
 use Rattle.std.specs.Prelude.{◌≡◌, ◌≢◌, ◌<◌, ◌≤◌, ◌==◌, ◌⊎◌, ℕ, suc, Bool, true, false}
-use Rattle.std.specs.Prelude.{List, [], ◌∷◌, ◌++◌, length, Option, None, Some, is_some}
+use Rattle.std.specs.Prelude.{List, [], ◌∷◌, ◌++◌, length, sum, Option, None, Some, is_some}
 use Rattle.std.specs.Prelude.{if◌then◌else◌}
 use Rattle.ids.specs.declared.limits.TheConstants.{MAX_PROCESSES}
 use Rattle.history.specs.Log.{Log}
@@ -17,7 +17,7 @@ use Rattle.history_laws.specs.Limits.{most_processes}
 use Rattle.commit.specs.Views.{Shown as Transactions}
 use Rattle.commit.specs.Views.{View, view_at, gone_slot, idle_slot, live_slot, doomed_slot}
 use Rattle.kernel.specs.declared.state.State.{State}
-use Rattle.machine.specs.Shown.{Shown, moment}
+use Rattle.machine.specs.Shown.{Shown, limit_of, moment}
 use Rattle.machine.specs.Steps.{IsStep, entry_of, has_place, is_no_entry, with_entry}
 use Rattle.model.specs.Effects.{Effect, effects, all_done}
 use Rattle.commit.specs.Dooming.{with_doom}
@@ -77,12 +77,13 @@ part_at f q = record { slot = view_at f.slots q; held = contender_at f.held q }
 
 -- The history is legal, and each field shows what it comes to.
 pub record IsConsistent (f : Fields) : Type 0 where
-  pub legal : Legal 0 f.log.priorities f.log.limit f.log.entries
+  pub legal : Legal 0 f.log.priorities (limit_of f.log) f.log.entries
   pub state : f.stable.state ≡ (moment f.log).committed
   pub slot_count : length f.slots ≡ bound (moment f.log)
   pub held_count : length f.held ≡ bound (moment f.log)
   pub parts : (q : ℕ) → part_at f q ≡ part_of (moment f.log) q
   pub few : length f.log.priorities ≤ most_processes
+  pub forgot : sum f.log.forgotten ≤ length f.log.entries
 
 -- such a process has a slot, and its part of the touches
 pub record IsIn (f : Fields) (pid : ℕ) : Type 0 where
@@ -121,6 +122,7 @@ pub record Moves (old new : Fields) (pid : ℕ) (part : Part) (committed : Kerne
 pub record CanEnter (now : Fields) (e : Entry) : Type 0 where
   pub place : has_place now.log e.pid e.op ≡ true
   pub answers : is_no_entry e.reply ≡ false
+  pub forgot : sum now.log.forgotten ≤ length now.log.entries
   pub holds : IsConsistent (record now { log = with_entry now.log e })
 
 abbrev pub Stands : Standing → Status → Type 0

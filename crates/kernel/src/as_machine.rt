@@ -34,4 +34,8 @@ impl Machine for Kernel {
     fn run(&mut self, ops: Vec<(Pid, Op), Heap>) -> Result<Vec<Reply, Heap>, AllocError> {
         Kernel::run(self, ops)
     }
+
+    fn forget(&mut self) -> bool {
+        Kernel::forget(self)
+    }
 }

@@ -79,7 +79,6 @@ fn plan_for(s: &State, pid: Pid, within: &Within, call: &Call) -> Result<Plan, A
         Plans (fields s.now) pid within.now call.now p.touches.items p.edits.items) }
 {
     let view = s.transactions.view(pid);
-    s.transactions.directories_are_kept(pid);
     plan_of(s.heap, &view, pid, call, within.is_some())
 }
 

@@ -1,6 +1,6 @@
 // The kernel, and one step of it.
 ghost use Rattle.ids.specs.declared.limits.TheConstants.{MAX_ENTRIES, MAX_PROCESSES};
-ghost use Rattle.std.specs.Prelude.{◌≡◌, ℕ, ◌<◌, ◌≤◌, [], length, is_some, IfOk, IfSome, OnErr};
+ghost use Rattle.std.specs.Prelude.{◌≡◌, ℕ, ◌<◌, ◌≤◌, [], length, true, false, is_some, IfOk, IfSome, OnErr};
 ghost use Rattle.model.specs.Changes.{tidy};
 ghost use Rattle.model.specs.Modes.{mode_of};
 ghost use Rattle.model.specs.Moments.{bound, held_by, is_alive, seen_by};
@@ -10,8 +10,8 @@ ghost use Rattle.history_laws.specs.Headline.{IsSerializable};
 ghost use Rattle.history_laws.specs.Limits.{StaysWithinLimits};
 ghost use Rattle.history_laws.specs.Trees.{IsATree};
 ghost use Rattle.records.specs.Touches.{distinct, touched_by};
-ghost use Rattle.machine.specs.Shown.{Kept, moment, is_live};
-ghost use Rattle.machine.specs.Steps.{IsStep, Steps};
+ghost use Rattle.machine.specs.Shown.{Kept, limit_of, moment, is_live};
+ghost use Rattle.machine.specs.Steps.{forgetting, IsStep, Steps};
 
 use crate::state::State;
 use crate::step::step;
@@ -49,15 +49,20 @@ impl Model for Kernel {
 }
 
 impl Kernel {
-    /// A kernel with a process for each of these priorities, no names, and a history of at most
-    /// `limit` entries, whose memory it takes at once. Refused memory gives nothing.
+    /// A kernel with a process for each of these priorities, no names, and a history that keeps at
+    /// most `limit` entries, whose memory it takes at once. Refused memory gives nothing.
     pub fn new(heap: Heap, priorities: &[Priority], limit: usize) -> Result<Kernel, AllocError>
         requires some { 0 < length priorities.now }
         requires not_too_many { length priorities.now ≤ MAX_PROCESSES }
         requires limited { limit ≤ MAX_ENTRIES }
         ensures kept { IfOk result Kept }
         ensures log { IfOk result (λ k.
-            k.log ≡ record { entries = []; priorities = priorities.now; limit = limit }) }
+            k.log ≡ record {
+              entries = [];
+              priorities = priorities.now;
+              limit = limit;
+              forgotten = [];
+            }) }
     {
         let history = History::new(heap, priorities, limit)?;
         let Ok(contenders) = Contenders::new(heap, priorities) else {
@@ -79,12 +84,13 @@ impl Kernel {
         })
     }
 
-    /// The history. It is legal, what it committed is the state, and it is strictly serializable.
+    /// The history: all entries ever made, of which those that were not forgotten are kept. It is
+    /// legal, what it committed is the state, and it is strictly serializable.
     pub fn history(&self) -> &History
         ensures value { result.now ≡ self.now.log }
         ensures kept { Kept self.now }
-        ensures serial { IsSerializable 0 self.now.log.priorities self.now.log.limit
-            self.now.log.entries self.now.state }
+        ensures serial { IsSerializable 0 self.now.log.priorities
+            (limit_of self.now.log) self.now.log.entries self.now.state }
     {
         &self.state.history
     }
@@ -154,8 +160,8 @@ impl Kernel {
     /// that of one new entry.
     pub fn step(&mut self, pid: Pid, op: Op) -> Reply
         ensures kept { Kept self.new }
-        ensures serial { IsSerializable 0 self.new.log.priorities self.new.log.limit
-            self.new.log.entries self.new.state }
+        ensures serial { IsSerializable 0 self.new.log.priorities
+            (limit_of self.new.log) self.new.log.entries self.new.state }
         ensures step { IsStep self.old self.new pid op result }
     {
         step(&mut self.state, pid, op)
@@ -165,13 +171,12 @@ impl Kernel {
     /// stands among the replies.
     pub fn run(&mut self, ops: Vec<(Pid, Op), Heap>) -> Result<Vec<Reply, Heap>, AllocError>
         ensures kept { Kept self.new }
-        ensures serial { IsSerializable 0 self.new.log.priorities self.new.log.limit
-            self.new.log.entries self.new.state }
+        ensures serial { IsSerializable 0 self.new.log.priorities
+            (limit_of self.new.log) self.new.log.entries self.new.state }
         ensures steps { IfOk result (λ replies.
             Steps self.old ops.entry.items replies.items self.new) }
         ensures err { OnErr result (self.new ≡ self.old) }
     {
-        let _ = self.history();
         let Ok(mut replies) = Vec::with_capacity(self.state.heap, ops.len()) else {
             drop(ops);
             return Err(AllocError);
@@ -181,5 +186,16 @@ impl Kernel {
             drop(replies.push(reply));
         }
         Ok(replies)
+    }
+
+    /// Forgets the entries that are kept: their memory is given back, and as many places are free
+    /// as if there were none. What is committed and all transactions stand. It takes no memory.
+    /// False, and nothing has changed, where 2^63 entries would be forgotten then.
+    pub fn forget(&mut self) -> bool
+        ensures kept { Kept self.new }
+        ensures yes { result ≡ true → self.new ≡ forgetting self.old }
+        ensures no { result ≡ false → self.new ≡ self.old }
+    {
+        self.state.history.forget()
     }
 }

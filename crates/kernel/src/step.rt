@@ -5,7 +5,7 @@ ghost use Rattle.model.specs.Entries.{is_inside};
 ghost use Rattle.model.specs.Legal.{restarts};
 ghost use Rattle.model.specs.Moments.{Status, has_free, status};
 ghost use Rattle.model.specs.Replies.{needed};
-ghost use Rattle.machine.specs.Shown.{moment};
+ghost use Rattle.machine.specs.Shown.{limit_of, moment};
 ghost use Rattle.kernel.specs.States.{Asks, Calls, Does, IsConsistent, Stands, fields};
 
 use crate::execute::{aborted, run};
@@ -43,7 +43,7 @@ fn needed(standing: &Standing, op: &Op) -> usize
 /// Whether so many places are free.
 fn has_free(s: &State, needed: usize) -> bool
     requires { IsConsistent (fields s.now) }
-    ensures { result ≡ has_free s.now.history.limit (moment s.now.history) needed }
+    ensures { result ≡ has_free (limit_of s.now.history) (moment s.now.history) needed }
 {
     let held = s.transactions.count();
     s.history.limit() - s.history.entries().len() - held >= needed
@@ -52,7 +52,7 @@ fn has_free(s: &State, needed: usize) -> bool
 /// Whether a transaction with these flags is begun anew at this operation, if a place is free.
 fn is_restarted(s: &State, flags: BeginFlags, op: &Op) -> bool
     requires { IsConsistent (fields s.now) }
-    ensures { result ≡ restarts s.now.history.limit (moment s.now.history) flags op.now }
+    ensures { result ≡ restarts (limit_of s.now.history) (moment s.now.history) flags op.now }
 {
     match op {
         Op::Call(_) | Op::Begin(_) | Op::End => flags.restarts() && has_free(s, 1),
@@ -65,7 +65,7 @@ fn begin(s: &mut State, pid: Pid, flags: BeginFlags) -> Reply
     requires { Asks (fields s.old) pid Standing.Idle (entries.Begin flags) }
     ensures { Does (fields s.old) (fields s.new) pid (entries.Begin flags) result }
 {
-    let age = Age(s.history.entries().len() as u64 + 1);
+    let age = Age(s.history.count() + 1);
     let told = (Reply::Begun, Reply::Begun);
     end_transaction(s, pid, Op::Begin(flags), told, true, (flags, age))
 }

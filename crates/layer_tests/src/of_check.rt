@@ -5,8 +5,8 @@ use crate::histories::{
 };
 use heap::Heap;
 use history::History;
-use ids::{Entry, Errno, Op, Pid, Reply};
-use replay::{CheckFault, check};
+use ids::{Entry, Errno, Num, Op, Pid, Reply};
+use replay::{CheckFault, Checker, check};
 use std::process::Abort;
 
 // What the checker says of a history, which goes then.
@@ -180,6 +180,76 @@ fn refused_memory_decides_nothing(rt: HostRuntime) {
     let history = first_run(&rt, heap, true, Reply::Committed);
     for number in 1..200u64 {
         assert!(rt; decides_nothing(heap, &history, number));
+    }
+    drop(history);
+}
+
+// What the checker says of two parts of a history, for the root of number 0.
+fn checked_in_parts(
+    heap: Heap,
+    history: &History,
+    first: &[Entry],
+    second: &[Entry],
+) -> Result<(), CheckFault> {
+    let Ok(checker) = Checker::new(heap, Num(0), history.priorities()) else {
+        return Err(CheckFault::NoMemory);
+    };
+    let checker = checker.add(first)?;
+    let checker = checker.add(second)?;
+    drop(checker);
+    Ok(())
+}
+
+// What it says of a history whose first part has so many entries.
+fn checked_apart(heap: Heap, history: &History, count: usize) -> Result<(), CheckFault> {
+    let entries = history.entries();
+    let (first, second) = entries.split_at(count.min(entries.len()));
+    checked_in_parts(heap, history, first, second)
+}
+
+// Whether it says this of a history wherever the second part begins. The history goes then.
+fn is_told_apart(heap: Heap, history: History, told: Result<(), CheckFault>) -> bool {
+    let mut right = true;
+    for count in 0..6usize {
+        right = right && checked_apart(heap, &history, count) == told;
+    }
+    drop(history);
+    right
+}
+
+// The transaction of process 1 is live at the end of most first parts.
+#[test]
+fn parts_are_told_as_the_whole(rt: HostRuntime) {
+    let heap = heap::open(rt.alloc()).expect(&rt, "memory");
+    let right = first_run(&rt, heap, true, Reply::Committed);
+    assert!(rt; is_told_apart(heap, right, Ok(())));
+    let wrong_call = first_run(&rt, heap, false, Reply::Committed);
+    assert!(rt; is_told_apart(heap, wrong_call, Err(CheckFault::Wrong(2))));
+    let wrong_end = first_run(&rt, heap, true, Reply::NotInTransaction);
+    assert!(rt; is_told_apart(heap, wrong_end, Err(CheckFault::Wrong(4))));
+    let wrong_read = write_and_read(&rt, heap, b"ho");
+    assert!(rt; is_told_apart(heap, wrong_read, Err(CheckFault::Wrong(4))));
+    assert!(rt; is_told_apart(heap, doomed(&rt, heap, 2), Ok(())));
+}
+
+// A part that is added twice does not suit: process 2 would find the directory.
+#[test]
+fn a_part_has_its_place(rt: HostRuntime) {
+    let heap = heap::open(rt.alloc()).expect(&rt, "memory");
+    let history = first_run(&rt, heap, true, Reply::Committed);
+    let told = checked_in_parts(heap, &history, history.entries(), history.entries());
+    drop(history);
+    assert_eq!(rt; told, Err(CheckFault::Wrong(8)));
+}
+
+#[test]
+fn refused_memory_decides_nothing_of_parts(rt: HostRuntime) {
+    let heap = heap::open(rt.alloc()).expect(&rt, "memory");
+    let history = first_run(&rt, heap, true, Reply::Committed);
+    for number in 1..100u64 {
+        heap.refuse(number);
+        let told = checked_apart(heap, &history, 3);
+        assert!(rt; told == Ok(()) || told == Err(CheckFault::NoMemory));
     }
     drop(history);
 }

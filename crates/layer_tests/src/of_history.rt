@@ -51,3 +51,27 @@ fn refused_memory_gives_nothing(rt: HostRuntime) {
         assert!(rt; is_refused(History::new(heap, &[zero], 2)));
     }
 }
+
+// Forgotten entries give their places back, and go on to be counted.
+#[test]
+fn forgotten_entries_leave_their_places(rt: HostRuntime) {
+    let heap = heap::open(rt.alloc()).expect(&rt, "memory");
+    let zero = Priority::new(0).unwrap();
+    let mut history = History::new(heap, &[zero, zero], 2).expect(&rt, "memory");
+    heap.refuse(0);
+    let taken = [
+        is_taken(heap, &mut history),
+        is_taken(heap, &mut history),
+        is_taken(heap, &mut history),
+        history.forget(),
+        is_taken(heap, &mut history),
+    ];
+    let made = heap.made();
+    let left = history.entries().len();
+    let counts = [history.forgotten(), history.count()];
+    drop(history);
+    assert_eq!(rt; taken, [true, true, false, true, true]);
+    assert_eq!(rt; made, 0);
+    assert_eq!(rt; left, 1);
+    assert_eq!(rt; counts, [2, 3]);
+}

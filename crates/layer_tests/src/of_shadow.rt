@@ -29,7 +29,6 @@ fn added(
     requires none { shadow.old ≡ [] }
     ensures { stable.new.state ≡ stable.old.state }
 {
-    stable.directories_are_kept();
     let root = View::new(stable, None).root();
     let name = Name::copy(heap, name)?;
     let edits = Vec::from_array(heap, [Edit::MakeDirectory(root, name, 0)])?;

@@ -1,7 +1,8 @@
 -- What a contract sees of a kernel, and what holds of each.
-use Rattle.std.specs.Prelude.{◌≡◌, ℕ, Bool, true, false}
+use Rattle.std.specs.Prelude.{◌≡◌, ◌≤◌, ℕ, Bool, true, false, length, sum}
 use Rattle.history.specs.Log.{Log}
 use Rattle.model.specs.State.{Kernel as State}
+use Rattle.model.specs.Forgetting.{Limit}
 use Rattle.model.specs.Moments.{Status, gone, idle, live, doomed, Moment, after}
 use Rattle.model.specs.Legal.{Legal}
 
@@ -9,6 +10,10 @@ use Rattle.model.specs.Legal.{Legal}
 pub record Shown : Type 0 where
   pub log : Log
   pub state : State
+
+-- how many entries there may be: as many may be kept, and so many were forgotten, each time
+abbrev pub limit_of : Log → Limit
+limit_of log = record { capacity = log.limit; forgotten = log.forgotten }
 
 -- What the history comes to: the committed state, and each process's status. The root has number 0.
 abbrev pub moment : Log → Moment
@@ -24,7 +29,8 @@ is_live_status (doomed cause flags age) = false
 abbrev pub is_live : Moment → ℕ → Bool
 is_live m pid = is_live_status (m.phase pid)
 
--- The history is legal, and the state is what it committed.
+-- The history is legal, the state is what it committed, and what was forgotten are entries of it.
 pub record Kept (v : Shown) : Type 0 where
-  pub legal : Legal 0 v.log.priorities v.log.limit v.log.entries
+  pub legal : Legal 0 v.log.priorities (limit_of v.log) v.log.entries
   pub state : v.state ≡ (moment v.log).committed
+  pub forgot : sum v.log.forgotten ≤ length v.log.entries

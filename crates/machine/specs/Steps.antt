@@ -1,10 +1,10 @@
 -- What one step does, and what steps in a row do.
 use Rattle.std.specs.Prelude.{◌≡◌, ◌≢◌, ◌↔◌, ℕ, Bool, true, false, List, [], ◌∷◌, ◌++◌, MatchBool}
-use Rattle.history.specs.Log.{Log}
+use Rattle.history.specs.Log.{Log, all_forgotten}
 use Rattle.model.specs.Moments.{status, has_free}
 use Rattle.model.specs.Replies.{needed}
 use Rattle.model.specs.Entries.{Entry, Op, Reply, HistoryFull, NoMemory}
-use Rattle.machine.specs.Shown.{Shown, Kept, moment}
+use Rattle.machine.specs.Shown.{Shown, Kept, limit_of, moment}
 
 -- whether a reply stands for no entry
 abbrev pub is_no_entry : Reply → Bool
@@ -27,7 +27,7 @@ pub record Added (old new : Log) (pid : ℕ) (op : Op) (reply : Reply) : Type 0 
 
 -- whether so many places are free as the operation needs
 abbrev pub has_place : Log → ℕ → Op → Bool
-has_place log pid op = has_free log.limit (moment log) (needed (status (moment log) pid) op)
+has_place log pid op = has_free (limit_of log) (moment log) (needed (status (moment log) pid) op)
 
 pub record IsStep (old new : Shown) (pid : ℕ) (op : Op) (reply : Reply) : Type 0 where
   -- an entry, or nothing has changed
@@ -43,3 +43,7 @@ Steps old [] [] new = new ≡ old
 Steps old (o ∷ ops) (reply ∷ replies) new =
     (mid : Shown) × IsStep old mid o.0 o.1 reply × Kept mid × Steps mid ops replies new
 Steps old _ _ new = ⊥
+
+-- all that were kept are forgotten, and nothing else has changed
+abbrev pub forgetting : Shown → Shown
+forgetting v = record v { log = all_forgotten v.log }

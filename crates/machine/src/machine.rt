@@ -1,10 +1,10 @@
 // What is asked of a kernel.
 ghost use Rattle.ids.specs.declared.limits.TheConstants.{MAX_ENTRIES, MAX_PROCESSES};
-ghost use Rattle.std.specs.Prelude.{◌≡◌, ◌<◌, ◌≤◌, [], length, IfOk, OnErr};
+ghost use Rattle.std.specs.Prelude.{◌≡◌, ◌<◌, ◌≤◌, [], length, true, false, IfOk, OnErr};
 ghost use Rattle.model.specs.Moments.{is_alive};
 ghost use Rattle.history_laws.specs.Headline.{IsSerializable};
-ghost use Rattle.machine.specs.Shown.{Shown, Kept};
-ghost use Rattle.machine.specs.Steps.{IsStep, Steps};
+ghost use Rattle.machine.specs.Shown.{Shown, Kept, limit_of};
+ghost use Rattle.machine.specs.Steps.{forgetting, IsStep, Steps};
 
 use heap::Heap;
 use history::History;
@@ -16,22 +16,27 @@ pub trait Machine: Sized + Drop {
     /// What contracts see of it.
     ghost shown: { Self → Shown };
 
-    /// A kernel with a process for each of these priorities, no names, and a history of at most
-    /// `limit` entries, whose memory it takes at once. Refused memory gives nothing.
+    /// A kernel with a process for each of these priorities, no names, and a history that keeps at
+    /// most `limit` entries, whose memory it takes at once. Refused memory gives nothing.
     fn new(heap: Heap, priorities: &[Priority], limit: usize) -> Result<Self, AllocError>
         requires some { 0 < length priorities.now }
         requires not_too_many { length priorities.now ≤ MAX_PROCESSES }
         requires limited { limit ≤ MAX_ENTRIES }
         ensures kept { IfOk result (λ k. Kept (shown k)) }
-        ensures log { IfOk result (λ k.
-            (shown k).log ≡ record { entries = []; priorities = priorities.now; limit = limit }) };
+        ensures log { IfOk result (λ k. (shown k).log ≡ record {
+          entries = [];
+          priorities = priorities.now;
+          limit = limit;
+          forgotten = [];
+        }) };
 
-    /// The history. It is legal, what it committed is the state, and it is strictly serializable.
+    /// The history: all entries ever made, of which those that were not forgotten are kept. It is
+    /// legal, what it committed is the state, and it is strictly serializable.
     fn history(&self) -> &History
         ensures value { result.now ≡ (shown self.now).log }
         ensures kept { Kept (shown self.now) }
         ensures serial { let s = shown self.now in
-            IsSerializable 0 s.log.priorities s.log.limit s.log.entries s.state };
+            IsSerializable 0 s.log.priorities (limit_of s.log) s.log.entries s.state };
 
     /// How many processes were ever made: their numbers are 1, 2, and so on.
     fn made(&self) -> usize
@@ -46,7 +51,7 @@ pub trait Machine: Sized + Drop {
     fn step(&mut self, pid: Pid, op: Op) -> Reply
         ensures kept { Kept (shown self.new) }
         ensures serial { let s = shown self.new in
-            IsSerializable 0 s.log.priorities s.log.limit s.log.entries s.state }
+            IsSerializable 0 s.log.priorities (limit_of s.log) s.log.entries s.state }
         ensures step { IsStep (shown self.old) (shown self.new) pid op result };
 
     /// Steps in a row. Refused memory for the replies means that nothing has run; a later refusal
@@ -54,8 +59,16 @@ pub trait Machine: Sized + Drop {
     fn run(&mut self, ops: Vec<(Pid, Op), Heap>) -> Result<Vec<Reply, Heap>, AllocError>
         ensures kept { Kept (shown self.new) }
         ensures serial { let s = shown self.new in
-            IsSerializable 0 s.log.priorities s.log.limit s.log.entries s.state }
+            IsSerializable 0 s.log.priorities (limit_of s.log) s.log.entries s.state }
         ensures steps { IfOk result (λ replies.
             Steps (shown self.old) ops.entry.items replies.items (shown self.new)) }
         ensures err { OnErr result (shown self.new ≡ shown self.old) };
+
+    /// Forgets the entries that are kept: their memory is given back, and as many places are free
+    /// as if there were none. What is committed and all transactions stand. It takes no memory.
+    /// False, and nothing has changed, where 2^63 entries would be forgotten then.
+    fn forget(&mut self) -> bool
+        ensures kept { Kept (shown self.new) }
+        ensures yes { result ≡ true → shown self.new ≡ forgetting (shown self.old) }
+        ensures no { result ≡ false → shown self.new ≡ shown self.old };
 }

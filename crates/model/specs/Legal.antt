@@ -10,13 +10,14 @@ use Rattle.model.specs.Entries.{BeginFlags, Op, Do, Begin, End, Abort, Cause, Cl
 use Rattle.model.specs.Entries.{Reply, Refuses, Begun, Committed, GivenUp, Aborted, Busy}
 use Rattle.model.specs.Entries.{InTransaction, NotInTransaction, NoProcess, Entry, Executed}
 use Rattle.model.specs.Entries.{answer_in, is_inside}
+use Rattle.model.specs.Forgetting.{Limit, limit_at}
 use Rattle.model.specs.Moments.{Status, gone, idle, live, doomed, Moment, status, at_start, numbers}
 use Rattle.model.specs.Moments.{calls_at, seen_by, counted_touches, all_below, bound, losing_cause}
 use Rattle.model.specs.Moments.{clashes_with, is_in, run_by, next, reserved, has_free}
 
 -- at least so many places are free
-abbrev pub Free : ℕ → Moment → ℕ → Type 0
-Free limit m needed = m.entries + reserved m + needed ≤ limit
+abbrev pub Free : Limit → Moment → ℕ → Type 0
+Free limit m needed = m.entries + reserved m + needed ≤ limit_at limit m.entries
 
 -- no new numbers, and nobody doomed
 pub record Alone (e : Entry) : Type 0 where
@@ -24,7 +25,7 @@ pub record Alone (e : Entry) : Type 0 where
   pub doomed : e.doomed ≡ []
 
 -- this reply alone, where so many places are free
-abbrev pub Replied : ℕ → Moment → Entry → Reply → ℕ → Type 0
+abbrev pub Replied : Limit → Moment → Entry → Reply → ℕ → Type 0
 Replied limit m e reply needed = (e.reply ≡ reply) × Alone e × Free limit m needed
 
 -- a new number is not in the committed state, nor among the numbers of a list that stays live
@@ -52,7 +53,7 @@ Outcome m e s call (Some cause) = (e.reply ≡ lost s cause) × Alone e
 Outcome m e s call None = Taken m e call
 
 -- whether a transaction is begun anew at this operation
-abbrev pub restarts : ℕ → Moment → BeginFlags → Op → Bool
+abbrev pub restarts : Limit → Moment → BeginFlags → Op → Bool
 restarts limit m flags (Abort no_restart) =
     is_restarting flags && (not no_restart && has_free limit m 1)
 restarts limit m flags (Do call) = is_restarting flags && has_free limit m 1
@@ -65,13 +66,13 @@ unsupported flags =
     if is_aborting_unsupported flags then Aborted Unsupported false else Refuses ENOTSUP
 
 -- a call in a transaction
-abbrev pub Inside : ℕ → Moment → Entry → Status → BeginFlags → Call → Bool → Type 0
+abbrev pub Inside : Limit → Moment → Entry → Status → BeginFlags → Call → Bool → Type 0
 Inside limit m e s flags call true =
     Outcome m e s call (losing_cause m e.pid (counted_touches m e.pid call)) × Free limit m 1
 Inside limit m e s flags call false = Replied limit m e (unsupported flags) 1
 
 -- an entry is right, by the status of its process and its operation
-abbrev pub RightAt : ℕ → Moment → Entry → Status → Op → Type 0
+abbrev pub RightAt : Limit → Moment → Entry → Status → Op → Type 0
 RightAt limit m e (doomed cause flags age) op =
     (e.reply ≡ Aborted (Clash cause) (restarts limit m flags op)) × Alone e
 RightAt limit m e (live flags age calls) End = (e.reply ≡ Committed) × Alone e
@@ -87,7 +88,7 @@ RightAt limit m e (live flags age calls) (Do call) =
 RightAt limit m e idle (Do call) =
     Outcome m e idle call (losing_cause m e.pid (counted_touches m e.pid call)) × Free limit m 1
 
-abbrev pub Right : ℕ → Moment → Entry → Type 0
+abbrev pub Right : Limit → Moment → Entry → Type 0
 Right limit m e = RightAt limit m e (status m e.pid) e.op
 
 -- calls of one process as steps of a plain run
@@ -102,13 +103,13 @@ ListsRun m = (q : ℕ) → Run m.committed (items q (calls_at m q)) (seen_by m q
 
 -- from this moment on each entry is right after those before
 -- it, and at each moment the live lists run
-abbrev pub LegalFrom : ℕ → Moment → List Entry → Type 0
+abbrev pub LegalFrom : Limit → Moment → List Entry → Type 0
 LegalFrom limit m [] = ListsRun m
 LegalFrom limit m (e ∷ es) = ListsRun m × Right limit m e × LegalFrom limit (next m e) es
 
 -- A history of a kernel with this root number, these priorities and this limit is legal. Only the
 -- laws look into it: crates above carry it, and take what it gives from the laws.
-unfoldable pub Legal : ℕ → List ℕ → ℕ → List Entry → Type 0
+unfoldable pub Legal : ℕ → List ℕ → Limit → List Entry → Type 0
 Legal root priorities limit es = LegalFrom limit (at_start root priorities) es
 
 -- the serial list: executed plain calls at their entries, and a

@@ -11,6 +11,7 @@ pub mod Plans
 pub mod Steps
 pub mod Entries
 pub mod Clashes
+pub mod Forgetting
 pub mod Moments
 pub mod Legal
 pub mod Modes

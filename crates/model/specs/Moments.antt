@@ -15,6 +15,7 @@ use Rattle.model.specs.Entries.{Refuses, Begun, Committed, GivenUp, Aborted, Bus
 use Rattle.model.specs.Entries.{NotInTransaction, HistoryFull, NoMemory, NoProcess, Entry, Executed}
 use Rattle.model.specs.Entries.{answer_in}
 use Rattle.model.specs.Clashes.{any_clash, clashes, doomed_touch}
+use Rattle.model.specs.Forgetting.{Limit, limit_at}
 
 -- A transaction's age is the place of its first begin. A
 -- doomed one has the cause that it will be told.
@@ -267,5 +268,5 @@ abbrev pub reserved : Moment → ℕ
 reserved m = count_below (λ q. holds_place (m.phase q)) (bound m)
 
 -- whether so many places are free
-abbrev pub has_free : ℕ → Moment → ℕ → Bool
-has_free limit m needed = nat_le (m.entries + reserved m + needed) limit
+abbrev pub has_free : Limit → Moment → ℕ → Bool
+has_free limit m needed = nat_le (m.entries + reserved m + needed) (limit_at limit m.entries)

@@ -3,6 +3,7 @@ use Rattle.std.specs.Prelude.{ℕ, List}
 use Rattle.model.specs.State.{Kernel}
 use Rattle.model.specs.Steps.{Run}
 use Rattle.model.specs.Entries.{Entry}
+use Rattle.model.specs.Forgetting.{Limit}
 use Rattle.model.specs.Moments.{at_start, start}
 use Rattle.model.specs.Legal.{Legal, serial}
 use Rattle.model.specs.Suits.{AllSuit}
@@ -24,5 +25,5 @@ PassesForSome priorities es = (root : ℕ) × Passes root priorities es
 
 -- A legal history passes for its root.
 abbrev pub LegalHistoriesPass : Type 0
-LegalHistoriesPass = (root : ℕ) (priorities : List ℕ) (limit : ℕ) (es : List Entry)
+LegalHistoriesPass = (root : ℕ) (priorities : List ℕ) (limit : Limit) (es : List Entry)
     → Legal root priorities limit es → Passes root priorities es

@@ -8,6 +8,7 @@ use Rattle.model.specs.Steps.{reply}
 use Rattle.model.specs.Entries.{BeginFlags, Op, Do, Begin, End, Abort, Cause, Clash, Reply, Answers}
 use Rattle.model.specs.Entries.{Refuses, Begun, Committed, GivenUp, Aborted, InTransaction}
 use Rattle.model.specs.Entries.{NotInTransaction, HistoryFull, NoProcess, Entry, is_inside}
+use Rattle.model.specs.Forgetting.{Limit}
 use Rattle.model.specs.Moments.{Status, gone, idle, live, doomed, Moment, status, seen_by}
 use Rattle.model.specs.Moments.{counted_touches, all_below, bound, losing_cause, clashes_with, next}
 use Rattle.model.specs.Moments.{has_free}
@@ -36,7 +37,7 @@ inside_for m pid s flags call true =
     outcome_for m pid s call (losing_cause m pid (counted_touches m pid call))
 inside_for m pid s flags call false = alone (unsupported flags)
 
-abbrev pub spoken_at : ℕ → Moment → ℕ → Status → Op → Spoken
+abbrev pub spoken_at : Limit → Moment → ℕ → Status → Op → Spoken
 spoken_at limit m pid (doomed cause flags age) op =
     alone (Aborted (Clash cause) (restarts limit m flags op))
 spoken_at limit m pid (live flags age calls) End = alone Committed
@@ -71,25 +72,25 @@ pub record Asked : Type 0 where
   pub op : Op
   pub chosen : List ℕ
 
-abbrev pub entry_for : ℕ → Moment → Asked → Entry
+abbrev pub entry_for : Limit → Moment → Asked → Entry
 entry_for limit m a =
     let said = spoken_at limit m a.pid (status m a.pid) a.op in
     record { pid = a.pid; op = a.op; reply = said.reply; chosen = a.chosen; doomed = said.doomed }
 
-abbrev pub is_full : ℕ → Moment → Asked → Bool
+abbrev pub is_full : Limit → Moment → Asked → Bool
 is_full limit m a = not (has_free limit m (needed (status m a.pid) a.op))
 
 -- an operation that finds no place is answered so, and is no entry
-abbrev pub moment_for : ℕ → Moment → List Asked → Moment
+abbrev pub moment_for : Limit → Moment → List Asked → Moment
 moment_for limit m [] = m
 moment_for limit m (a ∷ rest) =
     moment_for limit (if is_full limit m a then m else next m (entry_for limit m a)) rest
 
-abbrev pub said_for : ℕ → Moment → Asked → Spoken
+abbrev pub said_for : Limit → Moment → Asked → Spoken
 said_for limit m a =
     if is_full limit m a then alone HistoryFull else spoken_at limit m a.pid (status m a.pid) a.op
 
-abbrev pub all_said : ℕ → Moment → List Asked → List Spoken
+abbrev pub all_said : Limit → Moment → List Asked → List Spoken
 all_said limit m [] = []
 all_said limit m (a ∷ rest) =
     said_for limit m a

@@ -58,6 +58,7 @@ pub begins_on : (a b c : Log) → Begins a b → Begins b c → Begins a c
 begins_on a b c f g = record {
   priorities = g.priorities ∙ f.priorities;
   limit = g.limit ∙ f.limit;
+  forgotten = g.forgotten ∙ f.forgotten;
   entries = before_is_an_order.through a.entries b.entries c.entries f.entries g.entries;
 }
 
@@ -65,5 +66,6 @@ pub begins_with : (h g : Log) → g ≡ h → Begins h g
 begins_with h g is = subst (λ (l : Log). Begins h l) (sym is) (record {
   priorities = refl;
   limit = refl;
+  forgotten = refl;
   entries = before_is_an_order.itself h.entries;
 })

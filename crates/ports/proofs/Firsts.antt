@@ -55,13 +55,13 @@ firsts_begun g (q ∷ qs) = (refl, firsts_begun g qs)
 
 -- the kernel that a turnstile begins with has no entry
 pub record IsFresh (script : ScriptContents) (limit : ℕ) (g : Gate) (k : State) : Type 0 where
-  pub gate : g.start ≡ record { entries = []; priorities = script.priorities; limit = limit }
+  pub gate : g.start ≡ record { entries = []; priorities = script.priorities; limit = limit; forgotten = [] }
   pub state : k ≡ start 0 script.priorities
   pub some : 0 < length script.priorities
   pub few : length script.priorities ≤ MAX_PROCESSES
 
 pub fresh_gate : (script : ScriptContents) (limit : ℕ) (g : Gate) (v : Shown) → Kept v → g.start ≡ v.log
-    → v.log ≡ record { entries = []; priorities = script.priorities; limit = limit }
+    → v.log ≡ record { entries = []; priorities = script.priorities; limit = limit; forgotten = [] }
     → 0 < length script.priorities → length script.priorities ≤ MAX_PROCESSES → IsFresh script limit g v.state
 fresh_gate script limit g v kept gate log some few = record {
   gate = gate ∙ log;
@@ -90,6 +90,7 @@ has_run script limit g k passes log fresh came begun kept legal =
       legal = legal.legal;
       same_priorities = priorities;
       same_limit = grown.limit ∙ ap (λ (l : Log). l.limit) start_is;
+      whole = grown.forgotten ∙ ap (λ (l : Log). l.forgotten) start_is;
       works = works script.lines g (living_numbers k) passes log worked kept legal.legal
           (λ q positive low. living k script.priorities fresh.state fresh.few q positive (subst (λ (ps : List ℕ). q ≤ length ps) priorities low));
     }

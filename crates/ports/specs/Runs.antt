@@ -1,18 +1,19 @@
 -- What a run by threads comes to.
-use Rattle.std.specs.Prelude.{◌≡◌, ℕ, ◌<◌, ◌≤◌}
+use Rattle.std.specs.Prelude.{◌≡◌, ℕ, ◌<◌, ◌≤◌, []}
 use Rattle.history.specs.Log.{Log}
-use Rattle.machine.specs.Shown.{moment}
+use Rattle.machine.specs.Shown.{limit_of, moment}
 use Rattle.model.specs.Legal.{Legal}
 use Rattle.ports.specs.Ports.{work_in}
 use Rattle.script.specs.Contents.{ScriptContents}
 use Rattle.script.specs.Steps.{ops_for}
 use Rattle.workers.specs.Work.{IsWork}
 
--- The history is legal, with the script's priorities and this limit. What each process did, whether
+-- The history is legal and whole, with the script's priorities and this limit. What each process did, whether
 -- it was there at the start or was made by a fork, is work of its lines.
 pub record IsRunByThreads (script : ScriptContents) (limit : ℕ) (log : Log) : Type 0 where
-  pub legal : Legal 0 log.priorities log.limit log.entries
+  pub legal : Legal 0 log.priorities (limit_of log) log.entries
   pub same_priorities : log.priorities ≡ script.priorities
   pub same_limit : log.limit ≡ limit
+  pub whole : log.forgotten ≡ []
   pub works : (q : ℕ) → 0 < q → q ≤ (moment log).committed.made
       → IsWork (ops_for q script.lines) (work_in log q)

@@ -24,3 +24,6 @@ mod Inside
 mod Placing
 mod Stopping
 mod Guessing
+mod Seen
+mod Longer
+mod Parts

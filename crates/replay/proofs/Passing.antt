@@ -1,5 +1,6 @@
 -- A legal history passes: each right entry suits.
-use Rattle.std.proofs.Common.{◌≡◌, ℕ, Bool, true, false, not, ◌&&◌, ◌||◌, List, [], ◌∷◌, Option, Some, None, refl, ap, ◌∙◌}
+use Rattle.model.specs.Forgetting.{Limit}
+use Rattle.std.proofs.Common.{◌≡◌, Bool, true, false, not, ◌&&◌, ◌||◌, List, [], ◌∷◌, Option, Some, None, refl, ap, ◌∙◌}
 use Rattle.std.specs.Prelude.{if◌then◌else◌}
 use Rattle.std.specs.Option.{is_some}
 use Rattle.ids.specs.Flags.{is_aborting_unsupported}
@@ -27,7 +28,7 @@ refused : (flags : BeginFlags) (b : Bool) → is_aborting_unsupported flags ≡ 
 refused flags true h = ap (λ b. is_refused_inside flags (said_by b)) h ∙ h
 refused flags false h = ap (λ b. is_refused_inside flags (said_by b)) h ∙ ap (λ b. not b && true) h
 
-module _ (limit : ℕ) (m : Moment) (e : Entry) where
+module _ (limit : Limit) (m : Moment) (e : Entry) where
   idle_call : (call : Call) (o : Option Cause) → Outcome m e idle call o → (is_busy e.reply || is_executed e.reply) ≡ true
   idle_call call (Some c) q = first_of _ _ (ap is_busy q.0)
   idle_call call None q = second_of _ _ (ap is_some q.answer)
@@ -51,7 +52,7 @@ module _ (limit : ℕ) (m : Moment) (e : Entry) where
   suits_at idle End r = ap is_not_in_transaction r.0
   suits_at idle (Abort no_restart) r = ap is_not_in_transaction r.0
 
-all_suit : (limit : ℕ) (m : Moment) (es : List Entry) → LegalFrom limit m es → AllSuit m es
+all_suit : (limit : Limit) (m : Moment) (es : List Entry) → LegalFrom limit m es → AllSuit m es
 all_suit limit m [] legal = tt
 all_suit limit m (e ∷ es) legal = (suits_at limit m e (status m e.pid) e.op legal.1, all_suit limit (next m e) es legal.2)
 

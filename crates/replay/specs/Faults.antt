@@ -1,4 +1,5 @@
 -- Where a history is wrong. Places are counted from 0.
+use Rattle.model.specs.Forgetting.{Limit}
 use Rattle.std.specs.Prelude.{◌≡◌, ◌⊎◌, ℕ, suc, ◌<◌, ◌≤◌, Bool, true, false, List, ◌∷◌}
 use Rattle.std.specs.Prelude.{drop, take, length, ⊤}
 use Rattle.model.specs.State.{Kernel}
@@ -84,5 +85,5 @@ IsFault priorities es NoMemory = ⊤
 -- A legal history has no fault: of a kernel's own history the checker never says that it is wrong.
 abbrev pub LegalHistoriesHaveNoFault : Type 0
 LegalHistoriesHaveNoFault =
-    (root : ℕ) (priorities : List ℕ) (limit : ℕ) (es : List Entry) → Legal root priorities limit es
+    (root : ℕ) (priorities : List ℕ) (limit : Limit) (es : List Entry) → Legal root priorities limit es
     → (place : ℕ) → IsFault priorities es (Wrong place) → ⊥

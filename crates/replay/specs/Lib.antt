@@ -7,3 +7,7 @@ pub mod Ran
 pub mod Chosen
 pub mod Faults
 pub mod Failing
+pub mod Windows
+pub mod SoFar
+pub mod Added
+pub mod Checked

@@ -1,12 +1,12 @@
 // A run of a history's committed calls on a plain kernel.
 ghost use Rattle.std.specs.Prelude.{◌≡◌, ◌<◌, ◌+◌, ◌^◌, ◌==◌, ℕ, List, [], length, drop};
 ghost use Rattle.std.specs.Prelude.{IfOk, MatchBool, MatchOption, MatchResult, OnOk, true, false};
-ghost use Rattle.std.specs.Prelude.{if◌then◌else◌, option_copied};
+ghost use Rattle.std.specs.Prelude.{if◌then◌else◌, get_or, option_copied};
 ghost use Rattle.model.specs.FiniteMap.{empty, get, insert};
 ghost use Rattle.model.specs.State.{Directory as A_directory};
 ghost use Rattle.calls.specs.Planned.{IsPlan};
 ghost use Rattle.model.specs.Calls.{Call as Made};
-ghost use Rattle.model.specs.Entries.{Do};
+ghost use Rattle.model.specs.Entries.{Do, Entry as Listed};
 ghost use Rattle.model.specs.Moments.{is_in, start, with_processes};
 ghost use Rattle.freeing_laws.specs.Sweep.{IsTidied};
 ghost use Rattle.model.specs.Passing.{Passes};
@@ -16,6 +16,7 @@ ghost use Rattle.replay.specs.Ran.{StopsNow};
 ghost use Rattle.model.specs.Suits.{is_executed};
 ghost use Rattle.replay.specs.Transactions.{call_first, call_in, call_of, calls_at_places};
 ghost use Rattle.replay.specs.Transactions.{doomed_kept, is_end, next_kept, run_kept};
+ghost use Rattle.replay.specs.Windows.{CanSee, CanSeeAll, CanSeeAny, CanSeeEach, Shows};
 ghost use Rattle.replay.specs.declared.audit.Stop.TheVariants.{NoMemory};
 
 use crate::answers::is_reply;
@@ -25,6 +26,8 @@ use crate::names::Names;
 use crate::plain::{PlainKernel, Process, place_of, small};
 use crate::table::Table;
 use crate::transaction::{Transaction, doomed_kept, is_executed, own_kept, suits};
+use crate::tree::Tree;
+use crate::window::Window;
 use calls::{Plan, plan_of};
 use heap::Heap;
 use ids::{Call, Entry, Num, Op, Pid, Priority, Reply};
@@ -120,15 +123,18 @@ impl PlainKernel {
         &mut self,
         heap: Heap,
         pid: Pid,
-        entries: &[Entry],
+        window: &Window<'_>,
         place: usize,
     ) -> Result<bool, AllocError>
-        requires { IsTidied self.old }
+        ghost es: { List Listed }
+        requires tidied { IsTidied self.old }
+        requires shows { Shows es window.now }
+        requires sees { CanSee window.now place }
         ensures { IfOk result (λ right. MatchBool right
-            (Ran self.old pid (call_first (drop place entries.now)) self.new)
-            (CannotRun self.old pid (call_first (drop place entries.now)))) }
+            (Ran self.old pid (call_first (drop place es)) self.new)
+            (CannotRun self.old pid (call_first (drop place es)))) }
     {
-        match entries.get(place) {
+        match window.entry(place) {
             Some(entry) => self.run_entry(heap, pid, entry),
             None => Ok(true),
         }
@@ -139,16 +145,19 @@ impl PlainKernel {
         &mut self,
         heap: Heap,
         pid: Pid,
-        entries: &[Entry],
+        window: &Window<'_>,
         places: &[usize],
     ) -> Result<Option<usize>, AllocError>
-        requires { IsTidied self.old }
+        ghost es: { List Listed }
+        requires tidied { IsTidied self.old }
+        requires shows { Shows es window.now }
+        requires sees { CanSeeAll window.now places.now }
         ensures { IfOk result (λ wrong. MatchOption wrong
-            (Ran self.old pid (calls_at_places entries.now places.now) self.new)
-            (StopsIn self.old pid entries.now places.now)) }
+            (Ran self.old pid (calls_at_places es places.now) self.new)
+            (StopsIn self.old pid es places.now)) }
     {
         for place in places {
-            let right = self.run_place(heap, pid, entries, *place)?;
+            let right = self.run_place(heap, pid, window, *place)?;
             if !right {
                 return Ok(Some(*place));
             }
@@ -177,19 +186,22 @@ impl PlainKernel {
         &mut self,
         heap: Heap,
         entry: &Entry,
-        entries: &[Entry],
+        window: &Window<'_>,
         places: &[usize],
     ) -> Result<Option<usize>, AllocError>
-        requires { IsTidied self.old }
+        ghost es: { List Listed }
+        requires tidied { IsTidied self.old }
+        requires shows { Shows es window.now }
+        requires sees { CanSeeAll window.now places.now }
         ensures { IfOk result (λ wrong. MatchOption wrong (Ran self.old entry.now.pid
-            (if is_end entry.now.op then calls_at_places entries.now places.now else []) self.new)
+            (if is_end entry.now.op then calls_at_places es places.now else []) self.new)
             (λ place. (is_end entry.now.op ≡ true)
-            × StopsIn self.old entry.now.pid entries.now places.now place)) }
+            × StopsIn self.old entry.now.pid es places.now place)) }
     {
         if !is_end(&entry.op) {
             return Ok(None);
         }
-        self.run_all(heap, entry.pid, entries, places)
+        self.run_all(heap, entry.pid, window, places)
     }
 
     // The calls of an entry that take effect now, by what is kept of a living process.
@@ -197,21 +209,24 @@ impl PlainKernel {
         &mut self,
         heap: Heap,
         kept: Option<&Transaction>,
-        entries: &[Entry],
+        window: &Window<'_>,
         entry: &Entry,
         at: usize,
     ) -> Result<Option<usize>, AllocError>
-        requires { IsTidied self.old }
+        ghost es: { List Listed }
+        requires tidied { IsTidied self.old }
+        requires shows { Shows es window.now }
+        requires sees { CanSeeEach window.now (option_copied kept) }
         ensures { IfOk result (λ wrong. MatchOption wrong (Ran self.old entry.now.pid
-            (run_kept true (option_copied kept.entry) entries.now entry.now.op entry.now.reply
+            (run_kept true (option_copied kept.entry) es entry.now.op entry.now.reply
             entry.now.chosen) self.new)
-            (StopsHere self.old (option_copied kept.entry) entries.now at entry.now)) }
+            (StopsHere self.old (option_copied kept.entry) es at entry.now)) }
     {
         match kept {
             None => self.run_idle(heap, entry, at),
             Some(transaction) => match transaction {
                 Transaction::Live(_, places) => {
-                    self.run_live(heap, entry, entries, places.as_slice())
+                    self.run_live(heap, entry, window, places.as_slice())
                 }
                 Transaction::Doomed(_) => Ok(None),
             },
@@ -247,18 +262,22 @@ fn run(
     kernel: &mut PlainKernel,
     heap: Heap,
     kept: Option<&Transaction>,
-    entries: &[Entry],
+    window: &Window<'_>,
+    entry: &Entry,
     at: usize,
 ) -> Result<Option<usize>, AllocError>
+    ghost es: { List Listed }
     requires tidied { IsTidied kernel.old }
-    requires within { at < length entries.now }
+    requires shows { Shows es window.now }
+    requires sees { CanSeeEach window.now (option_copied kept) }
+    requires within { at < length es }
+    requires here { entry.now ≡ get_or es at entry.now }
     ensures { IfOk result (λ wrong. MatchOption wrong
-        (RanAt entries.now at (option_copied kept.entry) kernel.old kernel.new)
-        (StopsNow entries.now at (option_copied kept.entry) kernel.old)) }
+        (RanAt es at (option_copied kept.entry) kernel.old kernel.new)
+        (StopsNow es at (option_copied kept.entry) kernel.old)) }
 {
-    let entry = &entries[at];
     if kernel.is_living(entry.pid) {
-        kernel.run_kept(heap, kept, entries, entry, at)
+        kernel.run_kept(heap, kept, window, entry, at)
     } else {
         Ok(None)
     }
@@ -376,22 +395,34 @@ impl Audit {
         }
     }
 
-    // The entry at a place, behind those before it.
-    fn follow(&mut self, heap: Heap, entries: &[Entry], at: usize) -> Result<(), Stop>
-        requires within { at < length entries.now }
+    // The entry at a place, which is one of the part, behind those before it.
+    fn follow(
+        &mut self,
+        heap: Heap,
+        window: &Window<'_>,
+        index: usize,
+        at: usize,
+    ) -> Result<(), Stop>
+        ghost es: { List Listed }
+        requires within { index < length window.now.part.now }
+        requires place { at ≡ window.now.offset + index }
         requires tidied { IsTidied self.old.kernel }
-        ensures { (root : ℕ) (priorities : List ℕ)
-            → Follows root priorities entries.now at self.old.kernel self.old.transactions
-            → MatchResult result (λ _. Follows root priorities entries.now (at + 1)
-            self.new.kernel self.new.transactions) (IsStop root priorities entries.now) }
+        requires shows { Shows es window.now }
+        requires sees { CanSeeAny window.now self.old.transactions }
+        ensures follows { (root : ℕ) (priorities : List ℕ)
+            → Follows root priorities es at self.old.kernel self.old.transactions
+            → MatchResult result (λ _. Follows root priorities es (at + 1)
+            self.new.kernel self.new.transactions) (IsStop root priorities es) }
+        ensures sees { OnOk result (CanSeeAny window.now self.new.transactions) }
+        ensures tidied { OnOk result (IsTidied self.new.kernel) }
     {
-        let entry = &entries[at];
+        let entry = &window.part[index];
         let kept = self.transactions.get(place_of(entry.pid));
         let living = self.kernel.is_living(entry.pid);
         if !suits(living, kept, &entry.op, &entry.reply) {
             return Err(Stop::Wrong(at, at));
         }
-        let wrong = run(&mut self.kernel, heap, kept, entries, at)?;
+        let wrong = run(&mut self.kernel, heap, kept, window, entry, at)?;
         match wrong {
             Some(place) => Err(Stop::Wrong(at, place)),
             None => {
@@ -399,6 +430,28 @@ impl Audit {
                 Ok(())
             }
         }
+    }
+
+    // All entries of the part, behind those before it. It gives the place behind them.
+    pub(crate) fn follow_all(&mut self, heap: Heap, window: &Window<'_>) -> Result<usize, Stop>
+        ghost es: { List Listed }
+        requires tidied { IsTidied self.old.kernel }
+        requires shows { Shows es window.now }
+        requires sees { CanSeeAny window.now self.old.transactions }
+        ensures follows { (root : ℕ) (priorities : List ℕ)
+            → Follows root priorities es window.now.offset
+            self.old.kernel self.old.transactions
+            → MatchResult result (λ end. (end ≡ window.now.offset + length window.now.part.now)
+            × Follows root priorities es end self.new.kernel self.new.transactions)
+            (IsStop root priorities es) }
+        ensures sees { OnOk result (CanSeeAny window.now self.new.transactions) }
+    {
+        let mut at = window.offset;
+        for index in 0..window.part.len() {
+            self.follow(heap, window, index, at)?;
+            at = at.checked_add(1).ok_or(Stop::NoMemory)?;
+        }
+        Ok(at)
     }
 }
 
@@ -413,15 +466,16 @@ pub(crate) fn passes(
         (IsStop root priorities.now entries.now) }
 {
     let mut audit = Audit::new(heap, root, priorities)?;
-    for at in 0..entries.len() {
-        match audit.follow(heap, entries, at) {
-            Ok(()) => (),
-            Err(stop) => {
-                drop(audit);
-                return Err(stop);
-            }
-        }
-    }
+    let kept = Tree::new(heap);
+    let window = Window {
+        part: entries,
+        offset: 0,
+        kept: &kept,
+    };
+    let followed = audit.follow_all(heap, &window);
     drop(audit);
-    Ok(())
+    match followed {
+        Ok(_) => Ok(()),
+        Err(stop) => Err(stop),
+    }
 }

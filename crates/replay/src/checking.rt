@@ -1,5 +1,6 @@
 // The check of a stored history.
 ghost use Rattle.std.specs.Prelude.{IfErr, OnOk};
+ghost use Rattle.history.specs.Log.{kept};
 ghost use Rattle.model.specs.Passing.{PassesForSome};
 ghost use Rattle.replay.specs.Failing.{IsTold, IsUnchosen};
 ghost use Rattle.replay.specs.Faults.{IsFault};
@@ -19,7 +20,7 @@ pub enum CheckFault {
     NoMemory,
 }
 
-/// Checks a stored history: whether each entry suits its process's status, and a plain kernel
+/// Checks a stored history, of which all entries are kept: whether each entry suits its process's status, and a plain kernel
 /// answers the committed calls as they were answered, with the numbers that they chose.
 ///
 /// It judges plain calls and committed transactions alone: calls of aborted transactions, causes,
@@ -27,8 +28,8 @@ pub enum CheckFault {
 /// place of the first entry up to which the history passes for no root, or, where that entry commits
 /// a transaction, of its first call up to which it cannot be run.
 pub fn check(heap: Heap, history: &History) -> Result<(), CheckFault>
-    ensures ok { OnOk result (PassesForSome history.now.priorities history.now.entries) }
-    ensures wrong { IfErr result (IsFault history.now.priorities history.now.entries) }
+    ensures ok { OnOk result (PassesForSome history.now.priorities (kept history.now)) }
+    ensures wrong { IfErr result (IsFault history.now.priorities (kept history.now)) }
 {
     let entries = history.entries();
     let priorities = history.priorities();

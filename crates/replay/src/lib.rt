@@ -5,10 +5,12 @@
 ghost use Rattle.model.specs.Passing.{LegalHistoriesPass};
 ghost use Rattle.replay.specs.Faults.{LegalHistoriesHaveNoFault};
 
+mod added;
 mod answers;
 mod apply;
 mod audit;
 mod bytes;
+mod checker;
 mod checking;
 mod free;
 mod inode;
@@ -20,7 +22,9 @@ mod root;
 mod table;
 mod transaction;
 mod tree;
+mod window;
 
+pub use checker::Checker;
 pub use checking::{CheckFault, check};
 
 /// A legal history passes: each entry suits, and the committed state exists.

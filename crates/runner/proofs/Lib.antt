@@ -1,2 +1,3 @@
 mod Stepping
 mod Ending
+mod Whole

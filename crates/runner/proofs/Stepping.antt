@@ -26,6 +26,7 @@ HasDone-took {old = old} {pid = pid} {op = op} h kept t =
       kept = kept;
       same_priorities = ap (λ (l : Log). l.priorities) t.added.is ∙ h.same_priorities;
       same_limit = ap (λ (l : Log). l.limit) t.added.is ∙ h.same_limit;
+      whole = ap (λ (l : Log). l.forgotten) t.added.is ∙ h.whole;
       done = ap (λ (l : Log). operations l.entries) t.added.is
           ∙ map-append (λ (e : Entry). (e.pid, e.op)) old.log.entries (entry ∷ [])
           ∙ ap (λ (xs : List (ℕ × Op)). xs ++ (pid, op) ∷ []) h.done;
@@ -33,7 +34,7 @@ HasDone-took {old = old} {pid = pid} {op = op} h kept t =
 
 -- the same steps, said in another way
 HasDone-as : {priorities : List ℕ} {limit : ℕ} {steps others : List (ℕ × Op)} {kernel : Shown} → HasDone priorities limit steps kernel → steps ≡ others → HasDone priorities limit others kernel
-HasDone-as h e = record { kept = h.kept; same_priorities = h.same_priorities; same_limit = h.same_limit; done = h.done ∙ e }
+HasDone-as h e = record { kept = h.kept; same_priorities = h.same_priorities; same_limit = h.same_limit; whole = h.whole; done = h.done ∙ e }
 
 -- where the next step is refused
 halts : (r : Result (Unit {0}) Refusal) (priorities : List ℕ) (limit : ℕ) (steps done : List (ℕ × Op)) (kernel : Shown) (pid : ℕ) (op : Op)

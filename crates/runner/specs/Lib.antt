@@ -2,6 +2,7 @@ pub mod Checks
 pub mod CommandLines
 pub mod Faults
 pub mod Jobs
+pub mod Printed
 pub mod Reading
 pub mod Runs
 pub mod Steps

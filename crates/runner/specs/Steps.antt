@@ -1,5 +1,5 @@
 -- How far a run has come with its steps.
-use Rattle.std.specs.Prelude.{◌≡◌, ◌≢◌, ℕ, List}
+use Rattle.std.specs.Prelude.{◌≡◌, ◌≢◌, ℕ, List, []}
 use Rattle.std.specs.Prelude.{map, take, slice_get, true, false, Option, Some}
 use Rattle.std.specs.Io.KnownBytes.{append_known}
 use Rattle.device.specs.Device.{IsPart}
@@ -21,14 +21,15 @@ use Rattle.runner.specs.declared.fault.RunFault.TheVariants.{Write, HistoryFull,
 abbrev pub operations : List Entry → List (ℕ × Op)
 operations entries = map (λ e. (e.pid, e.op)) entries
 
--- A kernel with these priorities and this limit has a legal history, and its operations are these
--- steps.
+-- A kernel with these priorities and this limit has a legal history, of which nothing was
+-- forgotten, and its operations are these steps.
 pub record HasDone
     (priorities : List ℕ) (limit : ℕ) (steps : List (ℕ × Op)) (kernel : Shown)
     : Type 0 where
   pub kept : Kept kernel
   pub same_priorities : kernel.log.priorities ≡ priorities
   pub same_limit : kernel.log.limit ≡ limit
+  pub whole : kernel.log.forgotten ≡ []
   pub done : operations kernel.log.entries ≡ steps
 
 -- One entry more, of this process and this operation.

@@ -1,5 +1,5 @@
 // The check of a run's history, after its last line.
-ghost use Rattle.std.specs.Prelude.{◌≡◌, ◌<◌, true, IfErr, OnErr, OnOk};
+ghost use Rattle.std.specs.Prelude.{◌≡◌, ◌<◌, [], true, IfErr, OnErr, OnOk};
 ghost use Rattle.std.specs.Io.KnownBytes.{append_known};
 ghost use Rattle.device.specs.Device.{CanCount, IsPart};
 ghost use Rattle.runner.specs.Checks.{IsChecked, NotChecked, passed};
@@ -24,9 +24,10 @@ fn write_passed<S: Sink>(sink: &mut S) -> Result<(), RunFault>
     }
 }
 
-// Checks a history, and writes that it passes.
+// Checks a history of which nothing was forgotten, and writes that it passes.
 fn check_history<S: Sink>(heap: Heap, history: &History, sink: &mut S) -> Result<(), RunFault>
-    requires { CanCount (S.failures sink.old) }
+    requires device { CanCount (S.failures sink.old) }
+    requires whole { history.now.forgotten ≡ [] }
     ensures ok { OnOk result
         (IsChecked true history.now (S.written sink.old) (S.written sink.new)) }
     ensures fault { IfErr result (NotChecked history.now (S.written sink.old) (S.written sink.new)
@@ -38,14 +39,15 @@ fn check_history<S: Sink>(heap: Heap, history: &History, sink: &mut S) -> Result
     }
 }
 
-// Checks a history if that is wanted, and writes that it passes.
+// Checks a history of which nothing was forgotten if that is wanted, and writes that it passes.
 pub(crate) fn check_if<S: Sink>(
     wanted: bool,
     heap: Heap,
     history: &History,
     sink: &mut S,
 ) -> Result<(), RunFault>
-    requires { CanCount (S.failures sink.old) }
+    requires device { CanCount (S.failures sink.old) }
+    requires whole { history.now.forgotten ≡ [] }
     ensures ok { OnOk result
         (IsChecked wanted history.now (S.written sink.old) (S.written sink.new)) }
     ensures fault { IfErr result (NotChecked history.now (S.written sink.old) (S.written sink.new)

@@ -7,7 +7,7 @@ ghost use Rattle.transcript.specs.Line.{transcript};
 ghost use Rattle.runner.specs.Steps.{Halted, HasDone, Refused, Stops, Took};
 
 use crate::RunFault;
-use crate::printing::print;
+use crate::printing::print_whole;
 use crate::refusal::Refusal;
 use device::Sink;
 use heap::Heap;
@@ -42,6 +42,7 @@ fn do_step<K: Machine>(kernel: &mut K, pid: Pid, op: Op) -> Result<(), Refusal>
 fn make_steps<K: Machine>(kernel: &mut K, steps: Vec<(Pid, Op), Heap>) -> Result<(), Refusal>
     requires kept { Kept (K.shown kernel.old) }
     requires fresh { (K.shown kernel.old).log.entries ≡ [] }
+    requires whole { (K.shown kernel.old).log.forgotten ≡ [] }
     ensures done { OnOk result (HasDone
         (K.shown kernel.old).log.priorities (K.shown kernel.old).log.limit steps.entry.items
         (K.shown kernel.new)) }
@@ -64,6 +65,7 @@ pub(crate) fn do_steps<K: Machine, S: Sink>(
 ) -> Result<(), RunFault>
     requires kept { Kept (K.shown kernel.old) }
     requires fresh { (K.shown kernel.old).log.entries ≡ [] }
+    requires whole { (K.shown kernel.old).log.forgotten ≡ [] }
     requires device { CanCount (S.failures sink.old) }
     ensures done { OnOk result (HasDone
         (K.shown kernel.old).log.priorities (K.shown kernel.old).log.limit steps.entry.items
@@ -77,7 +79,7 @@ pub(crate) fn do_steps<K: Machine, S: Sink>(
     ensures no_failure { result ≢ Err RunFault.Write → S.failures sink.new ≡ S.failures sink.old }
 {
     let made = make_steps(kernel, steps);
-    print(kernel.history(), sink)?;
+    print_whole(kernel.history(), sink)?;
     match made {
         Ok(()) => Ok(()),
         Err(refusal) => Err(RunFault::of_refusal(refusal)),

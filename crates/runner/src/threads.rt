@@ -4,7 +4,7 @@ ghost use Rattle.device.specs.Device.{CanCount};
 ghost use Rattle.runner.specs.Threads.{EndedByThreads, RanByThreads};
 
 use crate::RunFault;
-use crate::printing::print;
+use crate::printing::print_whole;
 use crate::reading::script_in;
 use device::{Sink, Source};
 use heap::Heap;
@@ -49,7 +49,7 @@ pub fn run_script_by_threads<K: Machine + Send, R: Threads + Wait + Sync, I: Sou
         Ok(kernel) => kernel,
         Err(fault) => return Err(RunFault::of_work(fault)),
     };
-    match print(kernel.history(), sink) {
+    match print_whole(kernel.history(), sink) {
         Ok(()) => Ok(kernel),
         Err(fault) => {
             drop(kernel);

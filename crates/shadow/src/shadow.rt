@@ -10,7 +10,6 @@ ghost use Rattle.freeing_laws.specs.Sweep.{AllFit};
 ghost use Rattle.shadow.specs.Claims.{AreUnused, Covers, HaveParents, KeepsMore, KeepsSame, claimed};
 ghost use Rattle.shadow.specs.Claims.{claimed_by};
 ghost use Rattle.shadow.specs.Log.{effect};
-ghost use Rattle.shadow.specs.Looks.{DirectoriesAreKept};
 ghost use Rattle.shadow.specs.Steps.{CanEdit};
 
 use crate::claiming::parent_of;
@@ -106,17 +105,6 @@ impl Shadow {
             → Contains result.now b ↔ Contains (blocks_written num self.now) b }
     {
         self.patches.inodes.changed(num)
-    }
-
-    /// Each directory of the committed state with these changes on top can have room promised.
-    pub fn directories_are_kept(&self, stable: &Stable)
-        requires fits { AllFit self.now stable.now.state }
-        requires covers { Covers stable.now self.now }
-        ensures { DirectoriesAreKept
-            (record stable.now { state = all_done self.now stable.now.state }) }
-    {
-        let _patches = &self.patches;
-        stable.directories_are_kept();
     }
 
     /// Makes the changes in the committed state, object by object, and frees what nothing leads to

@@ -264,14 +264,14 @@ impl Stable {
         self.store.links(num)
     }
 
-    /// Each directory can have room promised.
-    pub fn directories_are_kept(&self)
+    /// For the proof: each directory can have room promised.
+    pub(crate) fn directories_are_kept(&self)
         ensures { DirectoriesAreKept self.now }
     {
         let _store = &self.store;
     }
 
-    /// Its state is well formed, and nothing in it is unreached.
+    /// For the proof: its state is well formed, and nothing in it is unreached.
     pub(crate) fn state_is_tidied(&self)
         ensures { IsTidied self.now.state }
     {

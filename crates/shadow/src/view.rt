@@ -9,7 +9,8 @@ ghost use Rattle.model.specs.Changes.{process_of};
 ghost use Rattle.model.specs.Calls.{slot_of};
 ghost use Rattle.model.specs.Effects.{all_done};
 ghost use Rattle.freeing_laws.specs.Sweep.{AllFit};
-ghost use Rattle.shadow.specs.Looks.{IsNet, KeepsRest, changes_of};
+ghost use Rattle.shadow.specs.Claims.{Covers};
+ghost use Rattle.shadow.specs.Looks.{DirectoriesAreKept, IsNet, KeepsRest, changes_of};
 ghost use Rattle.shadow.specs.Patches.{net_of, patched};
 
 use crate::change::{Change, Contents};
@@ -73,16 +74,38 @@ fn keeps_rest(shadow: Option<&Shadow>)
     }
 }
 
+// For the proof: a change that makes a directory has claimed the room that it can promise.
+fn seen_are_kept(stable: &Stable, shadow: Option<&Shadow>)
+    requires { AllFit (changes_of (option_map (λ s. s.now) shadow)) stable.now.state }
+    ensures { Covers stable.now (changes_of (option_map (λ s. s.now) shadow.entry))
+        → DirectoriesAreKept (record stable.now {
+          state = all_done
+              (changes_of (option_map (λ s. s.now) shadow.entry)) stable.now.state;
+        }) }
+{
+    stable.directories_are_kept();
+    match shadow {
+        Some(shadow) => {
+            let _patches = &shadow.patches;
+        }
+        None => (),
+    }
+}
+
 impl<'a> View<'a> {
     /// The committed state with the changes of a process's transaction on top, if it is in one. The
-    /// changes fit the states that they find.
+    /// changes fit the states that they find. Each directory that is seen can have room promised,
+    /// where what the changes claim is kept for them.
     pub fn new(stable: &'a Stable, shadow: Option<&'a Shadow>) -> View<'a>
         requires { AllFit (changes_of (option_map (λ s. s.now) shadow)) stable.now.state }
-        ensures { result ≡ record stable.now {
+        ensures value { result ≡ record stable.now {
           state = all_done
               (changes_of (option_map (λ s. s.now) shadow.entry)) stable.now.state;
         } }
+        ensures directories { Covers stable.now (changes_of (option_map (λ s. s.now) shadow.entry))
+            → DirectoriesAreKept result }
     {
+        seen_are_kept(stable, shadow);
         View { stable, shadow }
     }
 

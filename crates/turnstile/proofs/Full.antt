@@ -1,33 +1,34 @@
 -- A machine whose history has no place, for the tests.
-use Rattle.std.proofs.Common.{◌≡◌, ℕ, zero, suc, ◌+◌, ◌<◌, ◌≤◌, List, [], Bool, true, false, refl, sym, ◌∙◌, ap, subst, inl, inr, length, arith, rules}
-use Rattle.std.specs.Prelude.{if◌then◌else◌, nat_le}
+use Rattle.std.proofs.Common.{◌≡◌, ℕ, zero, suc, ◌<◌, ◌≤◌, List, [], Bool, true, false, refl, sym, ◌∙◌, ap, subst, inl, inr, length, arith, rules}
+use Rattle.std.specs.Prelude.{if◌then◌else◌, nat_le, sum}
 use Rattle.std.proofs.lemmas.Bool.Decides.{nat_tests}
 use Rattle.call_laws.proofs.Laws.{first_processes_live}
 use Rattle.history.specs.Log.{Log}
 use Rattle.history_laws.proofs.Laws.{legal_start, serializable_at}
 use Rattle.history_laws.specs.Headline.{IsSerializable}
 use Rattle.ids.specs.declared.call.Op.{Op}
-use Rattle.machine.specs.Shown.{Kept, Shown, moment}
+use Rattle.machine.specs.Shown.{limit_of, Kept, Shown}
 use Rattle.machine.specs.Steps.{IsStep, has_place}
 use Rattle.model.specs.Entries.{Do, Begin, End, Abort, HistoryFull}
 use Rattle.model.specs.Legal.{Legal}
-use Rattle.model.specs.Moments.{Status, gone, idle, after, at_start, has_free, is_alive, reserved, start, status}
+use Rattle.model.specs.Moments.{gone, idle, after, is_alive, start}
 use Rattle.model.specs.Replies.{needed}
 
 abbrev pub full : Log → Shown
 full l = record { log = l; state = start 0 l.priorities }
 
-pub holds : (l : Log) → l.entries ≡ [] → Kept (full l)
-holds l none = record {
-  legal = subst (λ es. Legal 0 l.priorities l.limit es) (sym none) (legal_start 0 l.priorities l.limit);
+pub holds : (l : Log) → l.entries ≡ [] → l.forgotten ≡ [] → Kept (full l)
+holds l none whole = record {
+  legal = subst (λ es. Legal 0 l.priorities (limit_of l) es) (sym none) (legal_start 0 l.priorities (limit_of l));
   state = ap (λ es. (after 0 l.priorities es).committed) (sym none);
+  forgot = subst (λ counts. sum counts ≤ length l.entries) (sym whole) (omega arith);
 }
 
-pub kept : (l : Log) (v : Shown) → full l ≡ v → l.entries ≡ [] → Kept v
-kept l v is none = subst Kept is (holds l none)
+pub kept : (l : Log) (v : Shown) → full l ≡ v → l.entries ≡ [] → l.forgotten ≡ [] → Kept v
+kept l v is none whole = subst Kept is (holds l none whole)
 
-pub serial : (l : Log) (v : Shown) → full l ≡ v → l.entries ≡ [] → IsSerializable 0 v.log.priorities v.log.limit v.log.entries v.state
-serial l v is none = let k = kept l v is none in serializable_at 0 _ _ _ _ k.legal k.state
+pub serial : (l : Log) (v : Shown) → full l ≡ v → l.entries ≡ [] → l.forgotten ≡ [] → IsSerializable 0 v.log.priorities (limit_of v.log) v.log.entries v.state
+serial l v is none whole = let k = kept l v is none whole in serializable_at 0 _ _ _ _ k.legal k.state
 
 pub made : (priorities : List ℕ) → length priorities ≡ (start 0 priorities).made
 made priorities = sym (first_processes_live 0 priorities).made
@@ -51,19 +52,19 @@ needs_a_place true End = omega arith
 needs_a_place true (Abort no_restart) = omega arith
 needs_a_place false op = omega arith
 
-no_place : (priorities : List ℕ) (pid : ℕ) (op : Op) → has_place (record { entries = []; priorities = priorities; limit = 0 }) pid op ≡ false
+no_place : (priorities : List ℕ) (pid : ℕ) (op : Op) → has_place (record { entries = []; priorities = priorities; limit = 0; forgotten = [] }) pid op ≡ false
 no_place priorities pid op =
     let some = needs_a_place (is_alive (start 0 priorities) pid) op in
     grind (arith, nat_tests)
 
-holds_step : (l : Log) → l.entries ≡ [] → l.limit ≡ 0 → (pid : ℕ) (op : Op) → IsStep (full l) (full l) pid op HistoryFull
-holds_step l none limit pid op =
-    let log : l ≡ record { entries = []; priorities = l.priorities; limit = 0 } = search rules in
+holds_step : (l : Log) → l.entries ≡ [] → l.limit ≡ 0 → l.forgotten ≡ [] → (pid : ℕ) (op : Op) → IsStep (full l) (full l) pid op HistoryFull
+holds_step l none limit whole pid op =
+    let log : l ≡ record { entries = []; priorities = l.priorities; limit = 0; forgotten = [] } = search rules in
     record {
       entry = refl;
       full = ((λ e. ap (λ (l : Log). has_place l pid op) log ∙ no_place l.priorities pid op), λ e. refl);
       memory = λ e same. cc same;
     }
 
-pub step : (l : Log) (v : Shown) (pid : ℕ) (op : Op) → full l ≡ v → l.entries ≡ [] → l.limit ≡ 0 → IsStep v v pid op HistoryFull
-step l v pid op is none limit = subst (λ (s : Shown). IsStep s s pid op HistoryFull) is (holds_step l none limit pid op)
+pub step : (l : Log) (v : Shown) (pid : ℕ) (op : Op) → full l ≡ v → l.entries ≡ [] → l.limit ≡ 0 → l.forgotten ≡ [] → IsStep v v pid op HistoryFull
+step l v pid op is none limit whole = subst (λ (s : Shown). IsStep s s pid op HistoryFull) is (holds_step l none limit whole pid op)

@@ -26,7 +26,8 @@ impl Model for Full {
 
     ghost view = { λ f. record { log = f.history; state = start 0 f.history.priorities } };
 
-    ghost invariant = { λ f. (f.history.entries ≡ []) × (f.history.limit ≡ 0) };
+    ghost invariant = { λ f. (f.history.entries ≡ []) × (f.history.limit ≡ 0)
+        × (f.history.forgotten ≡ []) };
 }
 
 impl Machine for Full {
@@ -68,6 +69,11 @@ impl Machine for Full {
         let _no_place = self.history.limit();
         drop(ops);
         Err(AllocError)
+    }
+
+    fn forget(&mut self) -> bool {
+        let _no_entry = self.history.limit();
+        false
     }
 }
 

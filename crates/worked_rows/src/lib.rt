@@ -8,6 +8,8 @@ mod changed;
 #[cfg(test)]
 mod files;
 #[cfg(test)]
+mod forgotten;
+#[cfg(test)]
 mod freed;
 #[cfg(test)]
 mod given_up;

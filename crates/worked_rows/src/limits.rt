@@ -69,6 +69,49 @@ fn is_right<K: Machine>(heap: Heap, limit: usize, wanted: &[&str]) -> Result<boo
     Ok(right && kernel.history().entries().len() == limit)
 }
 
+// Whether they are answered so, one by one, where all is forgotten behind each of them.
+fn is_answered_anew<K: Machine>(heap: Heap, kernel: &mut K, wanted: &[&str]) -> Result<bool, Fail> {
+    let steps = steps_in(heap, ISOLATED, "1,1,2,1,2")?;
+    let mut right = steps.len() == wanted.len();
+    for ((pid, op), text) in steps.into_iter().zip(wanted) {
+        let reply = kernel.step(pid, op);
+        right = right && told(&reply) == *text;
+        drop(reply);
+        right = kernel.forget() && right;
+    }
+    Ok(right)
+}
+
+fn is_right_anew<K: Machine>(heap: Heap, limit: usize, wanted: &[&str]) -> Result<bool, Fail> {
+    let mut kernel: K = kernel_of(heap, ISOLATED, limit)?;
+    is_answered_anew(heap, &mut kernel, wanted)
+}
+
+// A begin needs two places, and the transaction holds one of them until its end.
+static FORGOTTEN: [(usize, [&str; 5]); 3] = [
+    (0, ["full", "full", "full", "full", "full"]),
+    (
+        1,
+        [
+            "full",
+            "0",
+            "an empty file",
+            "another reply",
+            "an empty file",
+        ],
+    ),
+    (2, ["begun", "0", "ENOENT", "committed", "an empty file"]),
+];
+
+#[test]
+fn what_is_forgotten_gives_its_places_back(rt: HostRuntime) -> Result<(), Fail> {
+    let heap = heap::open(rt.alloc())?;
+    for (limit, wanted) in &FORGOTTEN {
+        assert!(rt; is_right_anew::<Kernel>(heap, *limit, wanted)?, "{limit}");
+    }
+    Ok(())
+}
+
 #[test]
 fn each_limit_has_its_replies(rt: HostRuntime) -> Result<(), Fail> {
     let heap = heap::open(rt.alloc())?;

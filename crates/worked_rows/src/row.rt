@@ -71,13 +71,18 @@ pub(crate) fn pass(heap: Heap, history: &History) -> Result<(), Fail> {
 
 // The transcript of what a kernel has done, whose history has to pass the check.
 pub(crate) fn transcript_of<K: Machine>(heap: Heap, kernel: &K) -> Result<Vec<u8, Heap>, Fail> {
+    pass(heap, kernel.history())?;
+    lines_of(heap, kernel.history())
+}
+
+// The lines of the entries that a history keeps.
+pub(crate) fn lines_of(heap: Heap, history: &History) -> Result<Vec<u8, Heap>, Fail> {
     let mut sink = Halting {
         bytes: Vec::new(heap),
         left: 100_000,
         failures: 0,
     };
-    pass(heap, kernel.history())?;
-    match print(kernel.history(), &mut sink) {
+    match print(history, &mut sink) {
         Ok(()) => Ok(sink.bytes),
         Err(_) => Err(Fail::from("no transcript")),
     }

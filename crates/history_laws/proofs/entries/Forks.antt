@@ -5,6 +5,7 @@ use Rattle.model.specs.State.{Kernel}
 use Rattle.model.specs.Calls.{Call, Exit, Fork, Child}
 use Rattle.model.specs.Steps.{reply}
 use Rattle.model.specs.Entries.{Do, Reply, Answers, Entry, answer_in, is_inside}
+use Rattle.model.specs.Forgetting.{Limit}
 use Rattle.model.specs.Moments.{idle, Moment, is_alive, at_start, after_from, next, seen_by}
 use Rattle.model.specs.Legal.{Right, LegalFrom, Legal}
 use Rattle.call_laws.specs.WellFormed.{WellFormed}
@@ -47,7 +48,7 @@ makes : (r : Reply) → Makes r
 makes (Answers (Child q)) = One q refl refl
 makes r = Nothing refl
 
-module _ (laws : CallLaws WellFormed) (limit : ℕ) where
+module _ (laws : CallLaws WellFormed) (limit : Limit) where
   -- an entry that makes a process is a fork of one that lives
   by_fork : (m : Moment) (e : Entry) (q : ℕ) → Right limit m e → child_in e.reply ≡ Some q → (e.op ≡ Do Fork) × (is_alive m.committed e.pid ≡ true)
   by_fork m e q right child = by (kind limit m e right) where

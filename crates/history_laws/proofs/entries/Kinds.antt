@@ -5,6 +5,7 @@ use Rattle.ids.specs.Flags.{is_restarting}
 use Rattle.model.specs.Plan.{ENOTSUP}
 use Rattle.model.specs.Calls.{Call}
 use Rattle.model.specs.Entries.{BeginFlags, Op, Do, Begin, End, Abort, Cause, Clash, Unsupported, Reply, Refuses, Begun, Committed, GivenUp, Aborted, Busy, InTransaction, NotInTransaction, NoProcess, Entry, Executed, answer_in, is_inside}
+use Rattle.model.specs.Forgetting.{Limit}
 use Rattle.model.specs.Moments.{Status, gone, idle, live, doomed, Moment, status, counted_touches, losing_cause, settled, own_next, run_by, next, after_list, is_in, holds_place}
 use Rattle.model.specs.Legal.{Alone, Taken, Outcome, lost, restarts, Inside, RightAt, Right}
 use Rattle.history_laws.proofs.entries.Moments.{phase_is, phase_own, nothing_run}
@@ -56,7 +57,7 @@ settles m e s op said again is_s ne holds is_op is_reply alone still none other 
     let is_phase : m.phase e.pid ≡ s = phase_is m e.pid s is_s ne in
     Settles s again is_phase holds (ap stops is_reply ∙ some, ap restarts_by is_reply ∙ begins) (subst (Leaves m e) same (leaves m e s op said is_s is_phase is_op is_reply alone still none other unanswered))
 
-pub kind : (limit : ℕ) (m : Moment) (e : Entry) → Right limit m e → Kind m e
+pub kind : (limit : Limit) (m : Moment) (e : Entry) → Right limit m e → Kind m e
 kind limit m e right = by_status (status m e.pid) e.op refl refl right where
   inside : (flags : BeginFlags) (age : ℕ) (calls : List Executed) (call : Call) (b : Bool) → is_inside call ≡ b → status m e.pid ≡ live flags age calls → e.op ≡ Do call → Inside limit m e (live flags age calls) flags call b → Kind m e
   inside flags age calls call false is is_s is_op r = by_flag _ r.0 where

@@ -8,6 +8,7 @@ use Rattle.model.specs.Calls.{Call, Answer}
 use Rattle.model.specs.Steps.{Touch}
 use Rattle.model.specs.Entries.{BeginFlags, Begin, Reply, Begun, Committed, Entry, answer_in}
 use Rattle.model.specs.Clashes.{any_clash}
+use Rattle.model.specs.Forgetting.{Limit}
 use Rattle.model.specs.Moments.{Status, gone, idle, live, doomed, Moment, status, is_alive, list_touches, calls_of, calls_at, held_by, counted_touches, bound, clashes_with, settled, own_next, doom, doom_cause, dooming_touches, is_in, next, holds_place, reserved, count_below}
 use Rattle.model.specs.Legal.{Alone, Taken, Right}
 use Rattle.call_laws.specs.CallLaws.{CallLaws}
@@ -68,7 +69,7 @@ dooms_by m e (Settles s again is_phase holds some left) q is_doomed = nobody m e
 dooms_by m e (Rests some left) q is_doomed = nobody m e q left.alone.doomed is_doomed
 
 -- the phases after a right entry, in any moment
-pub phases_move : (limit : ℕ) (m : Moment) (e : Entry) → Right limit m e → PhasesMove m e
+pub phases_move : (limit : Limit) (m : Moment) (e : Entry) → Right limit m e → PhasesMove m e
 phases_move limit m e right = record {
   own = phase_own m e (own_free m e (kind limit m e right));
   dooms = dooms_by m e (kind limit m e right);
@@ -117,7 +118,7 @@ own_place_moves m e (Settles s again is_phase holds some left) =
     ap (λ x. one (holds_place x) + stops e.reply) left.phase ∙ settled_place s again (stops e.reply) holds some.0 ∙ sym (ap₂ (λ x n. one (holds_place x) + n) is_phase left.starts)
 own_place_moves m e (Rests some left) = ap₂ (λ s n. one (holds_place s) + n) left.phase some.0 ∙ sym (ap (λ n. one (holds_place (m.phase e.pid)) + n) left.starts)
 
-module _ (Well : Kernel → Type 0) (laws : CallLaws Well) (limit : ℕ) (m : Moment) (e : Entry) (right : Right limit m e) (s : Steady Well limit m) (s_next : Steady Well limit (next m e)) where
+module _ (Well : Kernel → Type 0) (laws : CallLaws Well) (limit : Limit) (m : Moment) (e : Entry) (right : Right limit m e) (s : Steady Well limit m) (s_next : Steady Well limit (next m e)) where
   abbrev held_then : ℕ → Bool
   held_then q = holds_place ((next m e).phase q)
 

@@ -4,9 +4,11 @@ use Rattle.std.specs.Prelude.{if◌then◌else◌}
 use Rattle.std.proofs.lemmas.Bool.{cases_Bool, cases_eq, cases_lt, both_ways, false≢true, eq-eqb, ne_eqb}
 use Rattle.model.specs.State.{Kernel}
 use Rattle.model.specs.Entries.{Cause, NoProcess, Entry}
+use Rattle.model.specs.Forgetting.{Limit, limit_at}
 use Rattle.model.specs.Moments.{Status, gone, idle, live, doomed, Moment, status, is_alive, bound, own_next, doom, doom_cause, dooming_touches, is_in, next, holds_place, reserved, count_below}
 use Rattle.model.specs.Legal.{Replied, RightAt, Right}
 use Rattle.call_laws.specs.CallLaws.{CallLaws}
+use Rattle.history_laws.proofs.Forgetting.{limit_rises}
 use Rattle.history_laws.proofs.lists.UntidiedRuns.{others_alive}
 use Rattle.history_laws.proofs.lists.LiveLists.{tidied_alive}
 use Rattle.history_laws.proofs.entries.Moments.{Sound, phase_own}
@@ -61,15 +63,15 @@ holds_doom gone c = refl
 holds_doom (doomed first flags age) c = refl
 
 -- Those that are no process are idle, and each transaction has its place.
-pub record Steady (Well : Kernel → Type 0) (limit : ℕ) (m : Moment) : Type 0 where
+pub record Steady (Well : Kernel → Type 0) (limit : Limit) (m : Moment) : Type 0 where
   pub sound : Sound Well m
   pub beyond : (q : ℕ) → is_alive m.committed q ≡ false → m.phase q ≡ idle
-  pub placed : m.entries + reserved m ≤ limit
+  pub placed : m.entries + reserved m ≤ limit_at limit m.entries
 
 gone_is : (m : Moment) (q : ℕ) → is_alive m.committed q ≡ false → status m q ≡ gone
 gone_is m q h = ap (λ b. if b then m.phase q else gone) h
 
-module _ (limit : ℕ) (m : Moment) (e : Entry) where
+module _ (limit : Limit) (m : Moment) (e : Entry) where
   abbrev own : Status
   own = own_next (m.entries + 1) (m.phase e.pid) e.op e.reply e.chosen
 
@@ -101,7 +103,7 @@ module _ (limit : ℕ) (m : Moment) (e : Entry) where
     at_doom true false f = ap (λ s. doom s (doom_cause m e.pid (dooming_touches m e.pid e.op) q)) (beyond q dead)
     at_doom false false f = beyond q dead
 
-module _ (Well : Kernel → Type 0) (laws : CallLaws Well) (limit : ℕ) (m : Moment) (e : Entry) (right : Right limit m e) (s : Steady Well limit m) where
+module _ (Well : Kernel → Type 0) (laws : CallLaws Well) (limit : Limit) (m : Moment) (e : Entry) (right : Right limit m e) (s : Steady Well limit m) where
   pub dead_stays : (q : ℕ) → is_alive m.committed q ≡ false → (next m e).phase q ≡ idle
   dead_stays = idle_stays limit m e right s.beyond
 
@@ -131,11 +133,12 @@ module _ (Well : Kernel → Type 0) (laws : CallLaws Well) (limit : ℕ) (m : Mo
   few = count_limit (λ q. holds_place ((next m e).phase q)) (bound m) (bound (next m e)) (λ q above. ap holds_place (dead_stays q (above_dead q above)))
 
   -- the place that an entry takes is one of the free ones, or the one that was reserved
-  pub placed_by : m.entries + reserved m + 1 + one (holds_place (own limit m e)) ≤ limit + one (holds_place (m.phase e.pid)) → (m.entries + 1) + reserved (next m e) ≤ limit
+  pub placed_by : m.entries + reserved m + 1 + one (holds_place (own limit m e)) ≤ limit_at limit m.entries + one (holds_place (m.phase e.pid)) → (m.entries + 1) + reserved (next m e) ≤ limit_at limit (m.entries + 1)
   placed_by room = elim (cases_lt e.pid (bound m)) [
-    | inl below ↦ (let moved : count_below (λ q. holds_place ((next m e).phase q)) (bound m) + one (holds_place (m.phase e.pid)) ≡ reserved m + one (holds_place (own limit m e)) = counted_next below in omega (arith, few))
+    | inl below ↦ (let up = limit_rises limit m.entries in let moved : count_below (λ q. holds_place ((next m e).phase q)) (bound m) + one (holds_place (m.phase e.pid)) ≡ reserved m + one (holds_place (own limit m e)) = counted_next below in omega (arith, few, up))
     | inr above ↦
+        let up = limit_rises limit m.entries in
         let same : count_below (λ q. holds_place ((next m e).phase q)) (bound m) ≡ reserved m = count_beyond (λ q. holds_place (m.phase q)) (λ q. holds_place ((next m e).phase q)) e.pid (bound m) (other_places limit m e) above in
         let none : one (holds_place (m.phase e.pid)) ≡ 0 = ap (λ x. one (holds_place x)) (s.beyond e.pid (above_dead e.pid above)) in
-        omega (arith, few)
+        omega (arith, few, up)
   ]

@@ -9,6 +9,7 @@ use Rattle.model.specs.Changes.{tidy}
 use Rattle.model.specs.Calls.{Call, Exit, Answer, Child}
 use Rattle.model.specs.Steps.{reply}
 use Rattle.model.specs.Entries.{Op, Do, Begin, End, Abort, Reply, Answers, Refuses, Begun, Committed, GivenUp, Aborted, Busy, InTransaction, NotInTransaction, HistoryFull, NoMemory, NoProcess, Entry, answer_in, is_inside, is_unsupported}
+use Rattle.model.specs.Forgetting.{Limit}
 use Rattle.model.specs.Moments.{gone, idle, live, Moment, status, is_alive, at_start, after, after_from, next, loose, calls_at, seen_by}
 use Rattle.model.specs.Legal.{RightAt, Right, LegalFrom, Legal, mine}
 use Rattle.call_laws.specs.WellFormed.{WellFormed}
@@ -87,7 +88,7 @@ exit_ends k pid Exit (Refuses e) h f = by (is_unsupported e) h where
 exit_ends k pid Exit said h f = absurd cc
 exit_ends k pid call said h f = refl
 
-module _ (limit : ℕ) (m : Moment) (e : Entry) (right : Right limit m e) (s : Steady WellFormed limit m) (laws : CallLaws WellFormed) where
+module _ (limit : Limit) (m : Moment) (e : Entry) (right : Right limit m e) (s : Steady WellFormed limit m) (laws : CallLaws WellFormed) where
   -- no process of this number is there yet
   unmade : is_alive m.committed (suc m.committed.made) ≡ false
   unmade = elim (cases_Bool (is_alive m.committed (suc m.committed.made))) [
@@ -163,17 +164,17 @@ forks_and_exits_move laws root priorities limit es e legal right =
     processes_move limit (after root priorities es) e right (steady_after WellFormed laws limit (at_start root priorities) es legal (steady_start WellFormed laws limit root priorities)) laws
 
 -- the count of processes made never falls
-made_grows : (laws : CallLaws WellFormed) (limit : ℕ) (m : Moment) (es : List Entry) → LegalFrom limit m es → Steady WellFormed limit m → m.committed.made ≤ (after_from m es).committed.made
+made_grows : (laws : CallLaws WellFormed) (limit : Limit) (m : Moment) (es : List Entry) → LegalFrom limit m es → Steady WellFormed limit m → m.committed.made ≤ (after_from m es).committed.made
 made_grows laws limit m [] legal s = omega arith
 made_grows laws limit m (e ∷ es) legal s =
     let here : (next m e).committed.made ≡ m.committed.made + born e.reply = (processes_move limit m e legal.1 s laws).made in
     let rest : (next m e).committed.made ≤ (after_from (next m e) es).committed.made = made_grows laws limit (next m e) es legal.2 (steady_next WellFormed laws limit m e legal.1 s) in
     omega arith
 
-refused_by : (limit : ℕ) (m : Moment) (e : Entry) (op : Op) → RightAt limit m e gone op → e.reply ≡ NoProcess
+refused_by : (limit : Limit) (m : Moment) (e : Entry) (op : Op) → RightAt limit m e gone op → e.reply ≡ NoProcess
 refused_by limit m e op right = right.0
 
-refused_from : (laws : CallLaws WellFormed) (limit : ℕ) (m : Moment) (es : List Entry) → LegalFrom limit m es → Steady WellFormed limit m → (q : ℕ) → (after_from m es).committed.made < q → AllByRecursion (λ e. e.reply ≡ NoProcess) (mine q es)
+refused_from : (laws : CallLaws WellFormed) (limit : Limit) (m : Moment) (es : List Entry) → LegalFrom limit m es → Steady WellFormed limit m → (q : ℕ) → (after_from m es).committed.made < q → AllByRecursion (λ e. e.reply ≡ NoProcess) (mine q es)
 refused_from laws limit m [] legal s q high = tt
 refused_from laws limit m (e ∷ es) legal s q high = by (eqb e.pid q) refl (refused_from laws limit (next m e) es legal.2 (steady_next WellFormed laws limit m e legal.1 s) q high) where
   dead : e.pid ≡ q → status m e.pid ≡ gone

@@ -1,8 +1,9 @@
 -- Each right entry keeps the moment sound, and commits nothing or calls of its process.
-use Rattle.std.proofs.Common.{◌≡◌, ℕ, ◌+◌, List, [], ◌∷◌, refl, sym, ◌∙◌, ap, true, false, Bool, ◌⊎◌, inl, inr}
+use Rattle.std.proofs.Common.{◌≡◌, ◌+◌, List, [], ◌∷◌, refl, sym, ◌∙◌, ap, true, false, Bool, ◌⊎◌, inl, inr}
 use Rattle.model.specs.State.{Kernel}
 use Rattle.model.specs.Changes.{tidy}
 use Rattle.model.specs.Entries.{Begin, Begun, Entry, Executed}
+use Rattle.model.specs.Forgetting.{Limit}
 use Rattle.model.specs.Moments.{Status, gone, idle, live, doomed, Moment, calls_of, calls_at, settled, own_next, next, is_in}
 use Rattle.model.specs.Legal.{Alone, Right}
 use Rattle.call_laws.specs.CallLaws.{CallLaws}
@@ -19,7 +20,7 @@ settled_empty (doomed cause flags age) false = refl
 settled_empty gone again = refl
 settled_empty idle again = refl
 
-pub sound_next : (Well : Kernel → Type 0) (laws : CallLaws Well) (limit : ℕ) (m : Moment) (e : Entry) → Right limit m e → Sound Well m → Sound Well (next m e)
+pub sound_next : (Well : Kernel → Type 0) (laws : CallLaws Well) (limit : Limit) (m : Moment) (e : Entry) → Right limit m e → Sound Well m → Sound Well (next m e)
 sound_next Well laws limit m e right s = by (kind limit m e right) where
   -- the calls of an entry's process, by the phase that it has then
   calls_then : (st : Status) → Alone e → (next m e).phase e.pid ≡ st → calls_of (own_after m e) ≡ calls_of st
@@ -42,7 +43,7 @@ pub record CommitsCalls (Well : Kernel → Type 0) (m : Moment) (e : Entry) : Ty
   pub next_state : (next m e).committed ≡ tidy (loose e.pid calls m.committed)
   pub idle_then : (next m e).phase e.pid ≡ idle
 
-pub commits_or_not : (Well : Kernel → Type 0) (laws : CallLaws Well) (limit : ℕ) (m : Moment) (e : Entry) → Right limit m e → Sound Well m → ((next m e).committed ≡ m.committed) ⊎ CommitsCalls Well m e
+pub commits_or_not : (Well : Kernel → Type 0) (laws : CallLaws Well) (limit : Limit) (m : Moment) (e : Entry) → Right limit m e → Sound Well m → ((next m e).committed ≡ m.committed) ⊎ CommitsCalls Well m e
 commits_or_not Well laws limit m e right s = by (kind limit m e right) where
   by : Kind m e → ((next m e).committed ≡ m.committed) ⊎ CommitsCalls Well m e
   by (Changes call is_s is_op taken) = inr (record {

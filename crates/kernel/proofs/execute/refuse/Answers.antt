@@ -1,4 +1,4 @@
-use Rattle.kernel.proofs.Words.{refl, sym, ap, subst, idle, live, Do, Aborted, Busy, Clash, Inside, Outcome, Calls, CanEndTransaction, fields, moment}
+use Rattle.kernel.proofs.Words.{limit_of, refl, sym, ap, subst, idle, live, Do, Aborted, Busy, Clash, Inside, Outcome, Calls, CanEndTransaction, fields, moment}
 use Rattle.kernel.proofs.Words.{plain}
 use Rattle.kernel.proofs.Entries.{ends, free_at, leaves, none_else, settles}
 use Rattle.kernel.proofs.execute.refuse.Goals as goal
@@ -22,6 +22,6 @@ end_transaction-requires-clause-can c =
     let asks = subst (λ w. Calls f e.pid w c.args.call) c.in-Some.is c.requires.asks in
     let s = live w.0 w.1 asks.stands.0 in
     subst (λ r. CanEndTransaction f e.pid e.op r again w.0 w.1) (sym c.aborted.ensures)
-    (ends f asks.holds e.pid e.op e.reply s asks.stands.1 (subst (λ b. Inside f.log.limit (moment f.log) e s w.0 c.args.call b) (sym (asks.supported refl))
+    (ends f asks.holds e.pid e.op e.reply s asks.stands.1 (subst (λ b. Inside (limit_of f.log) (moment f.log) e s w.0 c.args.call b) (sym (asks.supported refl))
     (subst (λ o. Outcome (moment f.log) e s c.args.call o) (sym c.requires.lost.0) (ap (Aborted (Clash c.args.entry)) c.restarts-again.ensures, none_else e.pid e.op e.reply), free_at f e.pid e.op s asks.stands.1 asks.place)) refl refl
     again w.0 w.1 (λ h. absurd cc) refl (settles s w.0 w.1 again refl refl))

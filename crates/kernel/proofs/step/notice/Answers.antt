@@ -1,4 +1,4 @@
-use Rattle.kernel.proofs.Words.{unwrap_or, ◌≡◌, Option, Some, refl, sym, ap, subst, ◌∙◌, Aborted, Cause, Clash, RightAt, doomed, Committed, causes_of}
+use Rattle.kernel.proofs.Words.{limit_of, unwrap_or, ◌≡◌, Option, Some, refl, sym, ap, subst, ◌∙◌, Aborted, Cause, Clash, RightAt, doomed, Committed, causes_of}
 use Rattle.kernel.proofs.Words.{changes_in, doomed_slot, view_at, moment, CanEndTransaction, plain, fields, shown_by, changes_of}
 use Rattle.kernel.proofs.Entries.{closes, commits_nothing, none_else, settles}
 use Rattle.kernel.proofs.step.notice.Goals as goal
@@ -21,7 +21,7 @@ end_transaction-requires-clause-can c =
     let reply = Aborted (Clash cause) again in
     let both : Some (cause, cause) ≡ Some (c.in-Some.entry, c.in-Some.reply) = sym (c.take_causes.ensures.causes ∙ ap causes_of (view (goal.at.end_transaction-requires-clause-can c).After-is_restarted-restarted)) ∙ c.in-Some.is in
     let first : c.in-Some.entry ≡ cause = ap (λ (o : Option (Cause × Cause)). (unwrap_or o (cause, cause)).0) (sym both) in
-    let right : RightAt f.log.limit (moment f.log) (plain c.args.pid c.args.op reply) s c.args.op = (ap (Aborted (Clash cause)) c.is_restarted-restarted.ensures, none_else c.args.pid c.args.op reply) in
+    let right : RightAt (limit_of f.log) (moment f.log) (plain c.args.pid c.args.op reply) s c.args.op = (ap (Aborted (Clash cause)) c.is_restarted-restarted.ensures, none_else c.args.pid c.args.op reply) in
     subst (λ r. CanEndTransaction (record f { transactions = taken }) c.args.pid c.args.op r again c.args.flags c.args.age) (sym (c.aborted.ensures ∙ ap (λ x. Aborted (Clash x) again) first))
     (closes f c.requires.holds c.args.pid c.args.op reply s c.requires.stands.1 right refl refl
     taken _ again c.args.flags c.args.age (λ h. absurd cc) (settles s c.args.flags c.args.age again refl refl) c.take_causes.ensures.slots

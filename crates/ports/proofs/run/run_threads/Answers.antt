@@ -27,7 +27,7 @@ returns-in-Some g c =
     let state = (g.K.Machine.shown c.in-Ok.kernel).state in
     let passes = c.in_ok-passes.passes.items in
     let valid : AreValidPriorities script.priorities = search rules in
-    let log : (g.K.Machine.shown c.in-Ok.kernel).log ≡ record { entries = []; priorities = script.priorities; limit = c.args.limit } = search rules in
+    let log : (g.K.Machine.shown c.in-Ok.kernel).log ≡ record { entries = []; priorities = script.priorities; limit = c.args.limit; forgotten = [] } = search rules in
     let kept : Kept (g.K.Machine.shown c.in-Ok.kernel) = search rules in
     let start : gate.start ≡ (g.K.Machine.shown c.in-Ok.kernel).log = search rules in
     let fresh = fresh_gate script c.args.limit gate (g.K.Machine.shown c.in-Ok.kernel) kept start log valid.some valid.few in

@@ -1,6 +1,7 @@
 use Rattle.kernel.proofs.Words.{◌≡◌, ℕ, zero, suc, ◌<◌, ◌≤◌, List, [], None, length, get_or, refl, sym, ◌∙◌, ap₂, subst, true, false}
 use Rattle.kernel.proofs.Words.{inl, inr, arith, cases_lt, get_or_past, get, idle, is_alive, start, at_start, most_processes}
 use Rattle.kernel.proofs.Words.{legal_start, Contender, nobody, contender_at, Fields, IsConsistent, part_at, Part, part_of, View, AreFirst, gone_slot}
+use Rattle.model.specs.Forgetting.{whole}
 use Rattle.call_laws.proofs.Laws.{first_processes_live}
 use Rattle.kernel.proofs.Entries.{no_priority, parts_alike}
 use Rattle.kernel.proofs.kernel.Kernel.new.Goals as goal
@@ -8,7 +9,7 @@ use Rattle.kernel.proofs.kernel.Kernel.new.Goals as goal
 abbrev part : View → Contender → Part
 part v h = record { slot = v; held = h }
 
-module _ (priorities : List ℕ) (limit : ℕ) (f : Fields) (log : f.log ≡ record { entries = []; priorities = priorities; limit = limit })
+module _ (priorities : List ℕ) (limit : ℕ) (f : Fields) (log : f.log ≡ record { entries = []; priorities = priorities; limit = limit; forgotten = [] })
     (slot_count : length f.slots ≡ suc (length priorities)) (slots : AreFirst f.slots (length priorities))
     (held_count : length f.held ≡ suc (length priorities)) (held_first : contender_at f.held 0 ≡ nobody)
     (held_each : (i : ℕ) → i < length priorities → contender_at f.held (suc i) ≡ record { priority = get_or priorities i 0; age = None; touches = [] })
@@ -27,12 +28,12 @@ module _ (priorities : List ℕ) (limit : ℕ) (f : Fields) (log : f.log ≡ rec
   -- what the fields of a new kernel show
   first_holds : IsConsistent f
   first_holds = subst (λ l. IsConsistent (record f { log = l })) (sym log)
-      (record { legal = legal_start 0 priorities limit; state = state; slot_count = slot_count; held_count = held_count; parts = parts; few = few })
+      (record { legal = legal_start 0 priorities (whole limit); state = state; slot_count = slot_count; held_count = held_count; parts = parts; few = few; forgot = omega arith })
 
 pub invariant_of-result : goal.invariant_of-result
 invariant_of-result c = first_holds c.args.priorities.now c.args.limit _
-    (λ i. record { entries = c.in_ok-history.ensures.empty i; priorities = c.in_ok-history.ensures.priorities i; limit = c.in_ok-history.ensures.limit i })
+    (λ i. record { entries = c.in_ok-history.ensures.empty i; priorities = c.in_ok-history.ensures.priorities i; limit = c.in_ok-history.ensures.limit i; forgotten = c.in_ok-history.ensures.whole i })
     c.in-Ok-new.ensures.count c.in-Ok-new.ensures.first c.in-Ok.ensures.count c.in-Ok.ensures.first c.in-Ok.ensures.each c.in-Ok-new.ensures.state c.requires.not_too_many
 
 pub returns-clause-kept : goal.returns-clause-kept
-returns-clause-kept c = let holds = invariant_of-result c in record { legal = holds.legal; state = holds.state }
+returns-clause-kept c = let holds = invariant_of-result c in record { legal = holds.legal; state = holds.state; forgot = holds.forgot }

@@ -9,12 +9,12 @@ use Rattle.replay.proofs.Stopping.{match_some}
 use Rattle.replay.proofs.plain.PlainKernel.run_live.Goals as goal
 
 pub returns-then-not-is_end : goal.returns-then-not-is_end
-returns-then-not-is_end c = ran_nothing c.args.self.now c.args.entry.now.pid _
-    (ap (λ b. if b then calls_at_places c.args.entries.now c.args.places.now else []) (sym c.is_end.ensures ∙ c.if-not-is_end.true)) c.requires
+returns-then-not-is_end g c = ran_nothing c.args.self.now c.args.entry.now.pid _
+    (ap (λ b. if b then calls_at_places g.es c.args.places.now else []) (sym c.is_end.ensures ∙ c.if-not-is_end.true)) c.requires.0
 
 pub returns : goal.returns
-returns c = ok_then c.run_all.result c.run_all.ensures (λ wrong h.
+returns g c = ok_then c.run_all.result c.run_all.ensures (λ wrong h.
     match_some wrong h
     (λ ran. subst (λ (cs : List Executed). Ran c.args.self.now c.args.entry.now.pid cs c.run_all.new.self)
-    (sym (ap (λ b. if b then calls_at_places c.args.entries.now c.args.places.now else []) (sym c.is_end.ensures ∙ c.if-not-is_end.false))) ran)
+    (sym (ap (λ b. if b then calls_at_places g.es c.args.places.now else []) (sym c.is_end.ensures ∙ c.if-not-is_end.false))) ran)
     (λ place stops. (sym c.is_end.ensures ∙ c.if-not-is_end.false, stops)))

@@ -2,4 +2,4 @@ use Rattle.turnstile.proofs.Full.{holds}
 use Rattle.turnstile.proofs.tests.FullMachine.new.Goals as goal
 
 pub returns-clause-kept : goal.returns-clause-kept
-returns-clause-kept c = holds c.in_ok-history.history c.in_ok-history.ensures.empty
+returns-clause-kept c = holds c.in_ok-history.history c.in_ok-history.ensures.empty c.in_ok-history.ensures.whole

@@ -1,0 +1,54 @@
+// What a checker was given, as clauses see it: nothing of it is stored.
+ghost use Rattle.std.specs.Prelude.{◌≡◌, ◌++◌, []};
+ghost use Rattle.replay.specs.Added.{entries_in, priorities_in};
+
+use ids::{Entry as Listed, Priority};
+use std::snapshot::Snapshot;
+
+/// The processes that a kernel began with, and entries, in order. It takes one byte, however many
+/// there were.
+pub(crate) enum Added {
+    /// None.
+    Start,
+    /// One more process, with its priority.
+    Process(Snapshot<Added>, Snapshot<Priority>),
+    /// One more entry.
+    Entry(Snapshot<Added>, Snapshot<Listed>),
+}
+
+// By hand: a derived drop is opened at every place where a value goes, this one is called.
+impl Drop for Added {
+    fn drop(self) {
+        match self {
+            Added::Start => {}
+            Added::Process(_, _) => {}
+            Added::Entry(_, _) => {}
+        }
+    }
+}
+
+impl Added {
+    /// Processes with these priorities, and no entry.
+    pub(crate) fn of(priorities: &[Priority]) -> Added
+        ensures priorities { priorities_in result ≡ priorities.now }
+        ensures entries { entries_in result ≡ [] }
+    {
+        let mut added = Added::Start;
+        for priority in priorities {
+            let before = Snapshot::of(&added);
+            added = Added::Process(before, Snapshot::of(priority));
+        }
+        added
+    }
+
+    /// These entries more. It takes no memory.
+    pub(crate) fn add(&mut self, entries: &[Listed])
+        ensures entries { entries_in self.new ≡ entries_in self.old ++ entries.now }
+        ensures priorities { priorities_in self.new ≡ priorities_in self.old }
+    {
+        for entry in entries {
+            let before = Snapshot::of(&*self);
+            *self = Added::Entry(before, Snapshot::of(entry));
+        }
+    }
+}
