@@ -105,8 +105,10 @@ impl History {
     }
 
     /// Forgets the entries that are kept: their memory is given back, and so are their places. It
-    /// takes no memory. False, and nothing has changed, where 2^63 entries would be forgotten then.
+    /// takes no memory. False, and nothing has changed, exactly where 2^63 entries or more would be
+    /// forgotten then.
     pub fn forget(&mut self) -> bool
+        ensures exactly { (result ≡ true) ↔ (length self.old.entries < 2 ^ 63) }
         ensures yes { result ≡ true → self.new ≡ all_forgotten self.old }
         ensures no { result ≡ false → self.new ≡ self.old }
     {

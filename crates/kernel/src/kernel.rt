@@ -1,6 +1,6 @@
 // The kernel, and one step of it.
 ghost use Rattle.ids.specs.declared.limits.TheConstants.{MAX_ENTRIES, MAX_PROCESSES};
-ghost use Rattle.std.specs.Prelude.{◌≡◌, ℕ, ◌<◌, ◌≤◌, [], length, true, false, is_some, IfOk, IfSome, OnErr};
+ghost use Rattle.std.specs.Prelude.{◌≡◌, ◌^◌, ◌↔◌, ℕ, ◌<◌, ◌≤◌, [], length, true, false, is_some, IfOk, IfSome, OnErr};
 ghost use Rattle.model.specs.Changes.{tidy};
 ghost use Rattle.model.specs.Modes.{mode_of};
 ghost use Rattle.model.specs.Moments.{bound, held_by, is_alive, seen_by};
@@ -190,9 +190,10 @@ impl Kernel {
 
     /// Forgets the entries that are kept: their memory is given back, and as many places are free
     /// as if there were none. What is committed and all transactions stand. It takes no memory.
-    /// False, and nothing has changed, where 2^63 entries would be forgotten then.
+    /// False, and nothing has changed, exactly where 2^63 entries or more would be forgotten then.
     pub fn forget(&mut self) -> bool
         ensures kept { Kept self.new }
+        ensures exactly { (result ≡ true) ↔ (length self.old.log.entries < 2 ^ 63) }
         ensures yes { result ≡ true → self.new ≡ forgetting self.old }
         ensures no { result ≡ false → self.new ≡ self.old }
     {

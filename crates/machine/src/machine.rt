@@ -1,6 +1,6 @@
 // What is asked of a kernel.
 ghost use Rattle.ids.specs.declared.limits.TheConstants.{MAX_ENTRIES, MAX_PROCESSES};
-ghost use Rattle.std.specs.Prelude.{◌≡◌, ◌<◌, ◌≤◌, [], length, true, false, IfOk, OnErr};
+ghost use Rattle.std.specs.Prelude.{◌≡◌, ◌^◌, ◌↔◌, ◌<◌, ◌≤◌, [], length, true, false, IfOk, OnErr};
 ghost use Rattle.model.specs.Moments.{is_alive};
 ghost use Rattle.history_laws.specs.Headline.{IsSerializable};
 ghost use Rattle.machine.specs.Shown.{Shown, Kept, limit_of};
@@ -66,9 +66,10 @@ pub trait Machine: Sized + Drop {
 
     /// Forgets the entries that are kept: their memory is given back, and as many places are free
     /// as if there were none. What is committed and all transactions stand. It takes no memory.
-    /// False, and nothing has changed, where 2^63 entries would be forgotten then.
+    /// False, and nothing has changed, exactly where 2^63 entries or more would be forgotten then.
     fn forget(&mut self) -> bool
         ensures kept { Kept (shown self.new) }
+        ensures exactly { (result ≡ true) ↔ (length (shown self.old).log.entries < 2 ^ 63) }
         ensures yes { result ≡ true → shown self.new ≡ forgetting (shown self.old) }
         ensures no { result ≡ false → shown self.new ≡ shown self.old };
 }

@@ -1,9 +1,12 @@
 -- A machine whose history has no place, for the tests.
-use Rattle.std.proofs.Common.{◌≡◌, ℕ, zero, suc, ◌<◌, ◌≤◌, List, [], Bool, true, false, refl, sym, ◌∙◌, ap, subst, inl, inr, length, arith, rules}
+use Rattle.std.proofs.Common.{◌≡◌, ℕ, zero, suc, ◌<◌, ◌≤◌, List, [], Bool, true, false, refl, sym, ◌∙◌, ap, subst, inl, inr, length, arith, rules, ◌-◌, ◌∷◌, ◌++◌, ◌+◌}
 use Rattle.std.specs.Prelude.{if◌then◌else◌, nat_le, sum}
 use Rattle.std.proofs.lemmas.Bool.Decides.{nat_tests}
 use Rattle.call_laws.proofs.Laws.{first_processes_live}
-use Rattle.history.specs.Log.{Log}
+use Rattle.history.specs.Log.{Log, all_forgotten, kept as kept_entries}
+use Rattle.history_laws.proofs.Laws.{forgetting_is_legal}
+use Rattle.std.proofs.lemmas.List.{length-drop}
+use Rattle.std.proofs.lemmas.List.Sums.{sum_by-append}
 use Rattle.history_laws.proofs.Laws.{legal_start, serializable_at}
 use Rattle.history_laws.specs.Headline.{IsSerializable}
 use Rattle.ids.specs.declared.call.Op.{Op}
@@ -17,17 +20,17 @@ use Rattle.model.specs.Replies.{needed}
 abbrev pub full : Log → Shown
 full l = record { log = l; state = start 0 l.priorities }
 
-pub holds : (l : Log) → l.entries ≡ [] → l.forgotten ≡ [] → Kept (full l)
+pub holds : (l : Log) → l.entries ≡ [] → sum l.forgotten ≡ 0 → Kept (full l)
 holds l none whole = record {
   legal = subst (λ es. Legal 0 l.priorities (limit_of l) es) (sym none) (legal_start 0 l.priorities (limit_of l));
   state = ap (λ es. (after 0 l.priorities es).committed) (sym none);
-  forgot = subst (λ counts. sum counts ≤ length l.entries) (sym whole) (omega arith);
+  forgot = omega (arith, whole);
 }
 
-pub kept : (l : Log) (v : Shown) → full l ≡ v → l.entries ≡ [] → l.forgotten ≡ [] → Kept v
+pub kept : (l : Log) (v : Shown) → full l ≡ v → l.entries ≡ [] → sum l.forgotten ≡ 0 → Kept v
 kept l v is none whole = subst Kept is (holds l none whole)
 
-pub serial : (l : Log) (v : Shown) → full l ≡ v → l.entries ≡ [] → l.forgotten ≡ [] → IsSerializable 0 v.log.priorities (limit_of v.log) v.log.entries v.state
+pub serial : (l : Log) (v : Shown) → full l ≡ v → l.entries ≡ [] → sum l.forgotten ≡ 0 → IsSerializable 0 v.log.priorities (limit_of v.log) v.log.entries v.state
 serial l v is none whole = let k = kept l v is none whole in serializable_at 0 _ _ _ _ k.legal k.state
 
 pub made : (priorities : List ℕ) → length priorities ≡ (start 0 priorities).made
@@ -52,19 +55,34 @@ needs_a_place true End = omega arith
 needs_a_place true (Abort no_restart) = omega arith
 needs_a_place false op = omega arith
 
-no_place : (priorities : List ℕ) (pid : ℕ) (op : Op) → has_place (record { entries = []; priorities = priorities; limit = 0; forgotten = [] }) pid op ≡ false
-no_place priorities pid op =
+no_place : (priorities counts : List ℕ) → sum counts ≡ 0 → (pid : ℕ) (op : Op) → has_place (record { entries = []; priorities = priorities; limit = 0; forgotten = counts }) pid op ≡ false
+no_place priorities counts none pid op =
     let some = needs_a_place (is_alive (start 0 priorities) pid) op in
-    grind (arith, nat_tests)
+    let all = forgetting_is_legal.all (record { capacity = 0; forgotten = counts }) (after 0 priorities []).entries (omega (arith, none)) in
+    grind (arith, nat_tests, none, all)
 
-holds_step : (l : Log) → l.entries ≡ [] → l.limit ≡ 0 → l.forgotten ≡ [] → (pid : ℕ) (op : Op) → IsStep (full l) (full l) pid op HistoryFull
+holds_step : (l : Log) → l.entries ≡ [] → l.limit ≡ 0 → sum l.forgotten ≡ 0 → (pid : ℕ) (op : Op) → IsStep (full l) (full l) pid op HistoryFull
 holds_step l none limit whole pid op =
-    let log : l ≡ record { entries = []; priorities = l.priorities; limit = 0; forgotten = [] } = search rules in
+    let log : l ≡ record { entries = []; priorities = l.priorities; limit = 0; forgotten = l.forgotten } = search rules in
     record {
       entry = refl;
-      full = ((λ e. ap (λ (l : Log). has_place l pid op) log ∙ no_place l.priorities pid op), λ e. refl);
+      full = ((λ e. ap (λ (l : Log). has_place l pid op) log ∙ no_place l.priorities l.forgotten whole pid op), λ e. refl);
       memory = λ e same. cc same;
     }
 
-pub step : (l : Log) (v : Shown) (pid : ℕ) (op : Op) → full l ≡ v → l.entries ≡ [] → l.limit ≡ 0 → l.forgotten ≡ [] → IsStep v v pid op HistoryFull
+pub step : (l : Log) (v : Shown) (pid : ℕ) (op : Op) → full l ≡ v → l.entries ≡ [] → l.limit ≡ 0 → sum l.forgotten ≡ 0 → IsStep v v pid op HistoryFull
 step l v pid op is none limit whole = subst (λ (s : Shown). IsStep s s pid op HistoryFull) is (holds_step l none limit whole pid op)
+
+-- where nothing was kept, nothing more is forgotten
+pub forgot_none : (l new : Log) (b : Bool) → l.entries ≡ [] → l.limit ≡ 0 → sum l.forgotten ≡ 0 → (b ≡ true → new ≡ all_forgotten l) → (b ≡ false → new ≡ l)
+    → (new.entries ≡ []) × (new.limit ≡ 0) × (sum new.forgotten ≡ 0)
+forgot_none l new true none limit nought done not_done =
+    let is : new ≡ all_forgotten l = done refl in
+    let parts : sum (l.forgotten ++ length (kept_entries l) ∷ []) ≡ sum l.forgotten + sum (length (kept_entries l) ∷ []) = sum_by-append (λ n. n) l.forgotten (length (kept_entries l) ∷ []) in
+    let empty : length l.entries ≡ 0 = ap length none in
+    let left : length (kept_entries l) ≡ length l.entries - sum l.forgotten = length-drop (sum l.forgotten) l.entries in
+    let sums : sum (l.forgotten ++ length (kept_entries l) ∷ []) ≡ 0 = omega (arith, parts, empty, left, nought) in
+    (ap (λ (l : Log). l.entries) is ∙ none, ap (λ (l : Log). l.limit) is ∙ limit, ap (λ (l : Log). sum l.forgotten) is ∙ sums)
+forgot_none l new false none limit nought done not_done =
+    let is : new ≡ l = not_done refl in
+    (ap (λ (l : Log). l.entries) is ∙ none, ap (λ (l : Log). l.limit) is ∙ limit, ap (λ (l : Log). sum l.forgotten) is ∙ nought)

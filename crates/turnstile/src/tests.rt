@@ -18,7 +18,7 @@ struct Full {
 }
 
 impl Model for Full {
-    ghost use Rattle.std.specs.Prelude.{◌≡◌, []};
+    ghost use Rattle.std.specs.Prelude.{◌≡◌, [], sum};
     ghost use Rattle.machine.specs.Shown.{Shown};
     ghost use Rattle.model.specs.Moments.{start};
 
@@ -27,7 +27,7 @@ impl Model for Full {
     ghost view = { λ f. record { log = f.history; state = start 0 f.history.priorities } };
 
     ghost invariant = { λ f. (f.history.entries ≡ []) × (f.history.limit ≡ 0)
-        × (f.history.forgotten ≡ []) };
+        × (sum f.history.forgotten ≡ 0) };
 }
 
 impl Machine for Full {
@@ -72,8 +72,7 @@ impl Machine for Full {
     }
 
     fn forget(&mut self) -> bool {
-        let _no_entry = self.history.limit();
-        false
+        self.history.forget()
     }
 }
 
