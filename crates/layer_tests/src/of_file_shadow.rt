@@ -42,8 +42,9 @@ fn written_twice(heap: Heap, file: &FileData, number: u64) -> (Written, Written)
 fn a_refused_write_changes_nothing(rt: HostRuntime) {
     let heap = heap::open(rt.alloc()).expect(&rt, "memory");
     let file = filled(&rt, heap, 9);
-    // Room for the numbers, for where the blocks lie, and for their bytes.
-    for number in 1..4 {
+    // Room for the numbers, for where the blocks lie, and for their bytes; and in what a commit makes
+    // of the file, for the groups of pieces, the pieces and their bytes.
+    for number in 1..7 {
         let (first, second) = written_twice(heap, &file, number);
         assert!(rt; first == (false, false, 0, 3000), "request {number}");
         assert!(rt; second == (true, true, 1, 9001), "request {number}");

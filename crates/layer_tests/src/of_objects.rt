@@ -2,25 +2,59 @@
 ghost use Rattle.std.specs.Prelude.{◌≡◌, []};
 
 use crate::refused::is_refused;
+use heap::Heap;
 use objects::{FileData, PipeData};
 use std::process::Abort;
 
-fn assert_holds(rt: &impl Abort, file: &FileData, want: &[u8]) {
-    assert_eq!(rt; file.as_slice(), want);
+fn assert_holds(rt: &impl Abort, heap: Heap, file: &FileData, want: &[u8]) {
+    let bytes = file.read_at(heap, 0, 100_000).expect(rt, "memory");
+    assert_eq!(rt; bytes.as_slice(), want);
 }
 
 #[test]
 fn a_file_grows_in_room_that_was_made(rt: HostRuntime) {
     let heap = heap::open(rt.alloc()).expect(&rt, "memory");
     let mut file = FileData::new(heap);
-    file.promise(3000).expect(&rt, "memory");
+    file.promise(0, 3000).expect(&rt, "memory");
     heap.refuse(1);
     file.write_at(2999, b"z").expect(&rt, "memory");
-    file.cut(10).expect(&rt, "memory");
-    file.cut(3000).expect(&rt, "memory");
+    file.cut(10);
+    file.cut(3000);
     let told = [heap.made(), file.len() as u64];
     drop(file);
     assert_eq!(rt; told, [0, 3000]);
+}
+
+#[test]
+fn a_gap_takes_no_memory(rt: HostRuntime) {
+    let heap = heap::open(rt.alloc()).expect(&rt, "memory");
+    let mut file = FileData::new(heap);
+    heap.refuse(1);
+    file.cut(1_048_576);
+    let told = [heap.made(), file.len() as u64];
+    heap.refuse(0);
+    file.cut(3);
+    assert_holds(&rt, heap, &file, &[0; 3]);
+    drop(file);
+    assert_eq!(rt; told, [0, 1_048_576]);
+}
+
+#[test]
+fn a_write_goes_over_the_borders_of_pieces(rt: HostRuntime) {
+    let heap = heap::open(rt.alloc()).expect(&rt, "memory");
+    let mut file = FileData::new(heap);
+    file.write_at(16_000, &[7; 40_000]).expect(&rt, "memory");
+    file.write_at(16_383, b"ab").expect(&rt, "memory");
+    let mut want = [0; 56_000];
+    want[16_000..].fill(7);
+    want[16_383] = b'a';
+    want[16_384] = b'b';
+    assert_holds(&rt, heap, &file, &want);
+    file.cut(16_384);
+    file.cut(16_385);
+    want[16_384] = 0;
+    assert_holds(&rt, heap, &file, &want[..16_385]);
+    drop(file);
 }
 
 #[test]
@@ -33,14 +67,13 @@ fn a_refused_file_stays(rt: HostRuntime) {
     heap.refuse(1);
     let written = is_refused(file.write_at(5000, b"z"));
     heap.refuse(1);
-    let cut = is_refused(file.cut(5000));
-    heap.refuse(1);
-    let promised = is_refused(file.promise(5000));
-    assert_holds(&rt, &file, b"abc");
+    let promised = is_refused(file.promise(0, 5000));
+    heap.refuse(0);
+    assert_holds(&rt, heap, &file, b"abc");
     file.write_at(5000, b"z").expect(&rt, "memory");
     let len = file.len();
     drop(file);
-    assert_eq!(rt; [read, written, cut, promised], [true; 4]);
+    assert_eq!(rt; [read, written, promised], [true; 3]);
     assert_eq!(rt; len, 5001);
 }
 

@@ -39,7 +39,6 @@ agrees_none = record {
   added = λ n. omega arith;
   still = λ n none. refl;
   kinds = λ k n f. tt;
-  rooms = λ k n f. omega arith;
   written = λ k n b f. (λ has. has, λ has. has);
   moved = λ k d f. tt;
   reach = λ k n f. tt;
@@ -95,7 +94,6 @@ along_of ds p a = record {
   added = a.added;
   still = a.still;
   kinds = a.kinds;
-  rooms = a.rooms;
   written = a.written;
   moved = a.moved;
   reach = a.reach;
@@ -118,7 +116,6 @@ of_along ds p claims a = record {
   added = a.added;
   still = a.still;
   kinds = a.kinds;
-  rooms = a.rooms;
   written = a.written;
   moved = a.moved;
   reach = a.reach;
@@ -174,16 +171,13 @@ agrees_same ds p q s a = record {
   inodes = λ k n fit. a.inodes k n fit ∙ ap (λ c. patched c (get k.inodes n)) (sym (contents n));
   descriptions = λ k d. a.descriptions k d ∙ ap (λ o. reopened o (get k.descriptions d)) (sym (s.openings d));
   processes = λ k pid. a.processes k pid ∙ sym (s.processes pid (get k.processes pid));
-  named = λ n. a.named n ∙ sym (ap (λ (net : Net). net.named) ((s.inodes.nets n).rest));
-  unnamed = λ n. ap (times n) s.lost ∙ a.unnamed n ∙ sym (ap (λ (net : Net). net.unnamed) ((s.inodes.nets n).rest));
+  named = λ n. a.named n ∙ sym (ap (λ (net : Net). net.named) (s.inodes.nets n));
+  unnamed = λ n. ap (times n) s.lost ∙ a.unnamed n ∙ sym (ap (λ (net : Net). net.unnamed) (s.inodes.nets n));
   lost = a.lost ∙ sym s.lost;
   claims = λ c. a.claims c ∙ sym (same_claim c);
   added = λ n. subst (λ c. added_by c ≤ (net_at q.inodes n).promised) (sym (contents n)) (subst (λ m. added_by (net_at p.inodes n).contents ≤ m) (sym (promised n)) (a.added n));
   still = λ n none. promised n ∙ a.still n (sym (ap form_of (contents n)) ∙ none);
   kinds = λ k n fit. subst (λ m. IsOver (kind_of k n) m (form_of (net_at q.inodes n).contents)) (sym (made n)) (subst (λ c. IsOver (kind_of k n) (net_at p.inodes n).made (form_of c)) (sym (contents n)) (a.kinds k n fit));
-  rooms = λ k n fit. (
-      let old : length (file_of (all_done ds k) n) ≤ max (length (file_of k n)) (net_at p.inodes n).room = a.rooms k n fit in
-      let more : (net_at p.inodes n).room ≤ (net_at q.inodes n).room = (s.inodes.nets n).room in omega arith);
   written = λ k n b fit. subst (λ c. Contains (numbers_in c) b ↔ Contains (blocks_written n ds) b) (sym (contents n)) (a.written k n b fit);
   moved = λ k d fit. subst (λ o. IsOverDescription o (is_some (get k.descriptions d))) (sym (s.openings d)) (a.moved k d fit);
   reach = λ k n fit. subst (λ c. AllReach c (get k.inodes n)) (sym (contents n)) (a.reach k n fit);
@@ -192,13 +186,13 @@ agrees_same ds p q s a = record {
 }
   where
     contents : (n : ℕ) → (net_at q.inodes n).contents ≡ (net_at p.inodes n).contents
-    contents n = ap (λ (net : Net). net.contents) ((s.inodes.nets n).rest)
+    contents n = ap (λ (net : Net). net.contents) (s.inodes.nets n)
 
     made : (n : ℕ) → (net_at q.inodes n).made ≡ (net_at p.inodes n).made
-    made n = ap (λ (net : Net). net.made) ((s.inodes.nets n).rest)
+    made n = ap (λ (net : Net). net.made) (s.inodes.nets n)
 
     promised : (n : ℕ) → (net_at q.inodes n).promised ≡ (net_at p.inodes n).promised
-    promised n = ap (λ (net : Net). net.promised) ((s.inodes.nets n).rest)
+    promised n = ap (λ (net : Net). net.promised) (s.inodes.nets n)
 
     same_claim : (c : Claim) → claim_in q c ≡ claim_in p c
     same_claim (Room d) = promised d

@@ -19,8 +19,6 @@ module _ (chosen : List ℕ) (p q : Patches) where
     unnamed = t.unnamed;
     lost = t.lost;
     forms = t.forms;
-    room = t.room;
-    grown = t.grown;
     added = t.added;
     news = t.news;
     written = t.written;
@@ -42,8 +40,6 @@ module _ (chosen : List ℕ) (p q : Patches) where
     unnamed = t.unnamed;
     lost = t.lost;
     forms = t.forms;
-    room = t.room;
-    grown = t.grown;
     added = t.added;
     news = t.news;
     written = t.written;
@@ -65,8 +61,6 @@ module _ (chosen : List ℕ) (p q : Patches) where
     unnamed = t.unnamed;
     lost = t.lost;
     forms = t.forms;
-    room = t.room;
-    grown = t.grown;
     added = t.added;
     news = t.news;
     written = t.written;
@@ -85,8 +79,6 @@ module _ (chosen : List ℕ) (p q : Patches) where
     unnamed = t.unnamed;
     lost = t.lost;
     forms = t.forms;
-    room = t.room;
-    grown = t.grown;
     added = t.added;
     news = t.news;
     written = t.written;
@@ -105,8 +97,6 @@ module _ (chosen : List ℕ) (p q : Patches) where
     unnamed = t.unnamed;
     lost = t.lost;
     forms = t.forms;
-    room = t.room;
-    grown = t.grown;
     added = t.added;
     news = t.news;
     written = t.written;
@@ -125,8 +115,6 @@ module _ (chosen : List ℕ) (p q : Patches) where
     unnamed = t.unnamed;
     lost = t.lost;
     forms = t.forms;
-    room = t.room;
-    grown = t.grown;
     added = t.added;
     news = t.news;
     written = t.written;
@@ -145,8 +133,6 @@ module _ (chosen : List ℕ) (p q : Patches) where
     unnamed = t.unnamed;
     lost = t.lost;
     forms = t.forms;
-    room = t.room;
-    grown = t.grown;
     added = t.added;
     news = t.news;
     written = t.written;

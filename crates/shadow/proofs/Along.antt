@@ -22,7 +22,6 @@ use Rattle.shadow.specs.Steps.{CanPass, MakesPipe, Applies, AreApart, IsOne, Tak
 use Rattle.shadow.proofs.Applied.{applies}
 use Rattle.shadow.proofs.FormsAfter.{over_after, kept_same, still_before}
 use Rattle.shadow.proofs.OpeningsAfter.{moved_there, moved_over, lives_before, alive_over}
-use Rattle.shadow.proofs.RoomsAfter.{room_after}
 
 -- the same as `Agrees` but for the claims, of a change of states that fits some, gives inodes so many
 -- names, takes names from these, and writes into these blocks
@@ -38,7 +37,6 @@ pub record Along (done : Kernel → Kernel) (Fit : Kernel → Type 0) (given : �
   pub added : (n : ℕ) → added_by (net_at p.inodes n).contents ≤ (net_at p.inodes n).promised
   pub still : (n : ℕ) → form_of (net_at p.inodes n).contents ≡ no_change → (net_at p.inodes n).promised ≡ 0
   pub kinds : (k : Kernel) (n : ℕ) → Fit k → IsOver (kind_of k n) (net_at p.inodes n).made (form_of (net_at p.inodes n).contents)
-  pub rooms : (k : Kernel) (n : ℕ) → Fit k → length (file_of (done k) n) ≤ max (length (file_of k n)) (net_at p.inodes n).room
   pub written : (k : Kernel) (n b : ℕ) → Fit k → Contains (numbers_in (net_at p.inodes n).contents) b ↔ Wrote n b
   pub moved : (k : Kernel) (d : ℕ) → Fit k → IsOverDescription (opening_at p.openings d) (is_some (get k.descriptions d))
   pub reach : (k : Kernel) (n : ℕ) → Fit k → AllReach (net_at p.inodes n).contents (get k.inodes n)
@@ -103,9 +101,6 @@ along_step done Fit given gone Wrote p q chosen e one apart t a = record {
       subst (λ m. IsOver (kind_of k n) m (form_of (net_at q.inodes n).contents)) (sym (t.made n))
       (subst (λ f. IsOver (kind_of k n) (made_after chosen e n (net_at p.inodes n).made) f) (sym (t.forms n))
       (over_after chosen e one apart (done k) fit.1 n (get k.inodes n) (net_at p.inodes n).made (net_at p.inodes n).contents (a.inodes k n fit.0) (a.kinds k n fit.0)));
-  rooms = λ k n fit.
-      subst (λ o. length (file_of_inode o) ≤ max (length (file_of k n)) (net_at q.inodes n).room) (sym ((step k).inodes n))
-      (room_after chosen e one (done k) fit.1 n (length (file_of k n)) (net_at p.inodes n).room (net_at q.inodes n).room (a.rooms k n fit.0) (t.room n) (t.grown n));
   written = λ k n b fit. (there k n b fit, back k n b fit);
   moved = λ k d fit.
       moved_over (opening_at q.openings d) (opening_at p.openings d) (is_some (get k.descriptions d)) (is_in d (opened_in chosen e)) (t.news d) (a.moved k d fit.0)
@@ -161,7 +156,6 @@ along_same done other Fit Fits' given given' gone gone' Wrote Wrote' p same fits
   added = a.added;
   still = a.still;
   kinds = λ k n fit. a.kinds k n (fits k fit);
-  rooms = λ k n fit. subst (λ later. length (file_of later n) ≤ max (length (file_of k n)) (net_at p.inodes n).room) (sym (same k)) (a.rooms k n (fits k fit));
   written = λ k n b fit. (λ has. (wrote n b).0 ((a.written k n b (fits k fit)).0 has), λ has. (a.written k n b (fits k fit)).1 ((wrote n b).1 has));
   moved = λ k d fit. a.moved k d (fits k fit);
   reach = λ k n fit. a.reach k n (fits k fit);

@@ -10,7 +10,7 @@ use Rattle.dirlist.specs.Listing.{Listing}
 use Rattle.dirlist.specs.Patches.{Notes}
 use Rattle.file_shadow.specs.View.{FileChanges, view_over}
 use Rattle.pipe_shadow.specs.View.{PipeChanges, view_over as pipe_over}
-use Rattle.objects.specs.Contents.{Content}
+use Rattle.objects.specs.Pieces.{FileContent}
 use Rattle.store.specs.Laid.{laid, laid_listing}
 use Rattle.store.specs.Numbers.{coming, held, present}
 use Rattle.store.specs.Places.{file_in, listing_in, openings_of}
@@ -115,7 +115,7 @@ module _ (notes : Notes) (promised : ℕ) (l : Listing) (room : promised ≤ l.p
       kept (Number m) = refl
 
 -- bytes are laid over a file, which is there or is to come
-module _ (bytes : FileChanges) (content : Content) where
+module _ (bytes : FileChanges) (content : FileContent) where
   abbrev written_place : ℕ → Place
   written_place openings = present (Kept_file (record { bytes = content; openings = openings }))
 
@@ -231,11 +231,11 @@ module _ (n promised : ℕ) (before after : Option Place) (staged : IsStaged bef
       is_fresh e = cc
 
   -- a file
-  pub bytes_become : (made : Option Made) (fresh : Bool) (bytes : FileChanges) (room : Content) → IsOver (mapped kind (inode_seen before)) made (of_bytes fresh) → ((c : Claim) → number_of c ≡ n → claim_of made promised c ≤ kept_by c before)
-      → IsReadyFile (is_some made) before room bytes.extent.end → IsWrittenOver bytes before after → Becomes (Bytes fresh bytes) made promised before after
-  bytes_become (Some New_one) fresh bytes room over covers ready is = absurd cc
-  bytes_become (Some New_pipe) fresh bytes room over covers ready is = absurd cc
-  bytes_become None fresh bytes room over covers ready is =
+  pub bytes_become : (made : Option Made) (fresh : Bool) (bytes : FileChanges) → IsOver (mapped kind (inode_seen before)) made (of_bytes fresh) → ((c : Claim) → number_of c ≡ n → claim_of made promised c ≤ kept_by c before)
+      → IsReadyFile (is_some made) before → IsWrittenOver bytes before after → Becomes (Bytes fresh bytes) made promised before after
+  bytes_become (Some New_one) fresh bytes over covers ready is = absurd cc
+  bytes_become (Some New_pipe) fresh bytes over covers ready is = absurd cc
+  bytes_become None fresh bytes over covers ready is =
       subst (λ b. Becomes (Bytes b bytes) None promised before after) (sym over.0)
       (subst (λ m. Becomes (Bytes false bytes) None m before after) (sym none)
       (subst (λ (o : Option Place). Becomes (Bytes false bytes) None 0 before o) (sym (is.place ∙ ap (λ o. Some (written_place bytes is.content (openings_of (file_in o)))) was))
@@ -249,7 +249,7 @@ module _ (n promised : ℕ) (before after : Option Place) (staged : IsStaged bef
       none = (
           let most : claim_of None promised (Room n) ≤ kept_by (Room n) before = covers (Room n) refl in
           let zero : kept_by (Room n) before ≡ 0 = ap (kept_by (Room n)) was in omega arith)
-  bytes_become (Some New_file) fresh bytes room over covers ready is =
+  bytes_become (Some New_file) fresh bytes over covers ready is =
       subst (λ b. Becomes (Bytes b bytes) (Some New_file) promised before after) (sym (is_fresh over))
       (subst (λ m. Becomes (Bytes true bytes) (Some New_file) m before after) (sym none)
       (subst (λ (o : Option Place). Becomes (Bytes true bytes) (Some New_file) 0 before o) (sym (is.place ∙ ap (λ o. Some (written_place bytes is.content (openings_of (file_in o)))) was))
@@ -257,7 +257,7 @@ module _ (n promised : ℕ) (before after : Option Place) (staged : IsStaged bef
       (new_bytes bytes is.content (is.shown ∙ ap (λ o. view_over bytes (bytes_in (file_in o))) was)))))
     where
       was : before ≡ Some (coming Nothing)
-      was = ready.0
+      was = ready
 
       none : promised ≡ 0
       none = (

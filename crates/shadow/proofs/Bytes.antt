@@ -8,7 +8,7 @@ use Rattle.model.specs.Changes.{Put_bytes, Cut, applied, sized, written, set_ino
 use Rattle.model.proofs.Laws.{get_same}
 use Rattle.call_laws.specs.Fits.{Fits}
 use Rattle.freeing_laws.proofs.Openings.{openings_change_lem}
-use Rattle.objects.specs.Contents.{Content}
+use Rattle.objects.specs.Pieces.{FileContent}
 use Rattle.store.specs.Numbers.{Numbers, held, if_held, object_at}
 use Rattle.store.specs.Places.{altered, changed_file, file_in, file_of as stored_file, with_bytes, with_file}
 use Rattle.store.specs.Shown.{inodes, descriptions, inode_of}
@@ -41,7 +41,7 @@ pub file_still : (s t : Numbers) (n : ℕ) (bytes : List ℕ) → inodes t ≡ i
 file_still s t n bytes is = file_there t n (ap (λ m. mapped kind (get m n)) is ∙ ap (mapped kind) (get_same (inodes s) n (File bytes)))
 
 -- its bytes are those that were answered
-pub former_is : (s : Numbers) (n : ℕ) (content : Content) → IsSome (option_and_then stored_file (object_at s n)) → option_map (λ f. f.bytes) (file_in (get s.places n)) ≡ Some content
+pub former_is : (s : Numbers) (n : ℕ) (content : FileContent) → IsSome (option_and_then stored_file (object_at s n)) → option_map (λ f. f.bytes) (file_in (get s.places n)) ≡ Some content
     → get (inodes s) n ≡ Some (File content.bytes)
 former_is s n content there former = get-inodes s n ∙ by_place (get s.places n) there former
   where
@@ -50,7 +50,7 @@ former_is s n content there former = get-inodes s n ∙ by_place (get s.places n
     by_stage Coming object there former = absurd cc
     by_stage Lost object there former = absurd cc
     by_stage Held (Kept_directory l) there former = absurd cc
-    by_stage Held (Kept_file file) there former = ap (mapped (λ (b : Content). File b.bytes)) former
+    by_stage Held (Kept_file file) there former = ap (mapped (λ (b : FileContent). File b.bytes)) former
     by_stage Held (Kept_pipe pipe) there former = absurd cc
     by_stage Held (Kept_description opened) there former = absurd cc
     by_stage Held Nothing there former = absurd cc
@@ -61,11 +61,11 @@ former_is s n content there former = get-inodes s n ∙ by_place (get s.places n
     by_place (Some place) there former = by_stage place.stage place.object there former
 
 -- the store with these bytes in place of the file's
-abbrev pub swapped : Content → Numbers → ℕ → Numbers
+abbrev pub swapped : FileContent → Numbers → ℕ → Numbers
 swapped content s n = altered (with_file (with_bytes content)) s n
 
 -- what is swapped twice is swapped once
-pub swapped_twice : (a b : Content) (s t u : Numbers) (n : ℕ) → t ≡ swapped a s n → u ≡ swapped b t n → u ≡ swapped b s n
+pub swapped_twice : (a b : FileContent) (s t u : Numbers) (n : ℕ) → t ≡ swapped a s n → u ≡ swapped b t n → u ≡ swapped b s n
 swapped_twice a b s t u n one two =
     two ∙ ap (λ t. swapped b t n) one ∙ altered-twice (with_file (with_bytes b)) (with_file (with_bytes a)) s n
     ∙ altered-alike (λ place. with_file (with_bytes b) (with_file (with_bytes a) place)) (with_file (with_bytes b)) s n (λ place. ap (λ (o : Object). record place { object = o }) (by_object place.object))
@@ -77,7 +77,7 @@ swapped_twice a b s t u n one two =
     by_object (Kept_description opened) = refl
     by_object Nothing = refl
 
-module _ (ps : Processes) (s : Numbers) (n : ℕ) (b : Content) (sound : Sound ps s) (file : kind_of (state_of ps s) n ≡ Some A_file) where
+module _ (ps : Processes) (s : Numbers) (n : ℕ) (b : FileContent) (sound : Sound ps s) (file : kind_of (state_of ps s) n ≡ Some A_file) where
   abbrev k : Kernel
   k = state_of ps s
 

@@ -78,7 +78,7 @@ module _ {ps : Processes} {s after : Numbers} {ds : List Effect} {p : Patches} (
           names_become n c.promised (get s.places n) (get after.places n) (can.sound.staged n) c.made fresh notes
           (subst (λ w. IsOver (mapped kind (inode_seen (get s.places n))) c.made (form_of w)) same over) covers h.listing h.there h.room carried
       by_contents (Bytes fresh bytes) same h carried =
-          bytes_become n c.promised (get s.places n) (get after.places n) (can.sound.staged n) c.made fresh bytes c.room
+          bytes_become n c.promised (get s.places n) (get after.places n) (can.sound.staged n) c.made fresh bytes
           (subst (λ w. IsOver (mapped kind (inode_seen (get s.places n))) c.made (form_of w)) same over) covers h carried
       by_contents (Piped None changes) same h carried =
           pipe_become n c.promised (get s.places n) (get after.places n) (can.sound.staged n) c.made changes

@@ -154,7 +154,7 @@ module _ (n : ℕ) (c : Change) (rest : List (ℕ × Change)) (sorted : IsStrict
         added = h.added;
         numbers = numbers_stay s t named_later (entries notes) h.numbers;
       }
-      by_contents (Bytes fresh bytes) h = subst (λ (o : Option Place). IsReadyFile (is_some d.made) o d.room bytes.extent.end) (sym (others m away)) h
+      by_contents (Bytes fresh bytes) h = subst (λ (o : Option Place). IsReadyFile (is_some d.made) o) (sym (others m away)) h
       by_contents (Piped fresh changes) h = subst (IsReadyPipe fresh changes) (sym (others m away)) h
 
 pub first_ready : (n : ℕ) (c : Change) (rest : List (ℕ × Change)) (s : Numbers) → AreReady ((n, c) ∷ rest) s → IsReady s n c

@@ -1,12 +1,12 @@
--- A file's bytes are noted, in changes that have room.
-use Rattle.std.proofs.Common.{◌≡◌, ◌↔◌, ℕ, ◌≤◌, List, ◌++◌, Option, None, refl, sym, ap, subst, ◌∙◌}
+-- A file's bytes are noted.
+use Rattle.std.proofs.Common.{◌≡◌, ◌↔◌, ℕ, List, ◌++◌, Option, None, refl, sym, subst}
 use Rattle.std.specs.List.{Contains}
 use Rattle.std.specs.Prelude.{⊤}
 use Rattle.model.specs.State.{Inode}
 use Rattle.shadow.specs.declared.change.Contents.{Contents}
 use Rattle.shadow.specs.declared.change.Contents.TheVariants.{Same, Names, Bytes, Pipe as Piped}
 use Rattle.shadow.specs.Patches.{AllReach, new_ends, of_pipe, Form, Net, added_by, form_of, no_change, numbers_in, of_bytes, of_names, patched}
-use Rattle.shadow.specs.Notes.{IsFiled, SameNet}
+use Rattle.shadow.specs.Notes.{IsFiled}
 use Rattle.shadow.specs.Steps.{filed}
 
 abbrev is_filed : Form → Type 0
@@ -37,22 +37,18 @@ all_reach (Names fresh notes) h o = absurd h
 all_reach (Bytes fresh bytes) h o = tt
 all_reach (Piped fresh changes) h o = absurd h
 
-pub filed_on : (f : Option Inode → Option Inode) (reach : ℕ) (more : List ℕ) (old mid : Net) (contents : Contents) → SameNet old mid → reach ≤ mid.room
-    → ((o : Option Inode) → patched contents o ≡ f (patched mid.contents o)) → form_of contents ≡ filed (form_of mid.contents)
-    → ((b : ℕ) → Contains (numbers_in contents) b ↔ Contains (numbers_in mid.contents ++ more) b) → IsFiled f reach more old (record mid { contents = contents })
-filed_on f reach more old mid contents same room so form numbers =
-    let was : mid.contents ≡ old.contents = ap (λ (net : Net). net.contents) same.rest in
-    record {
-      contents = λ o. so o ∙ ap (λ (c : Contents). f (patched c o)) was;
-      form = form ∙ ap (λ (c : Contents). filed (form_of c)) was;
-      added = adds_none contents filed_now;
-      reached = all_reach contents filed_now;
-      ends = ends_none contents filed_now;
-      room = same.room;
-      grown = room;
-      numbers = λ b. subst (λ (c : Contents). Contains (numbers_in contents) b ↔ Contains (numbers_in c ++ more) b) was (numbers b);
-      rest = ap (λ (net : Net). record net { contents = old.contents }) same.rest;
-    }
+pub filed_on : (f : Option Inode → Option Inode) (more : List ℕ) (old : Net) (contents : Contents)
+    → ((o : Option Inode) → patched contents o ≡ f (patched old.contents o)) → form_of contents ≡ filed (form_of old.contents)
+    → ((b : ℕ) → Contains (numbers_in contents) b ↔ Contains (numbers_in old.contents ++ more) b) → IsFiled f more old (record old { contents = contents })
+filed_on f more old contents so form numbers = record {
+  contents = so;
+  form = form;
+  added = adds_none contents filed_now;
+  reached = all_reach contents filed_now;
+  ends = ends_none contents filed_now;
+  numbers = numbers;
+  rest = refl;
+}
   where
     filed_now : is_filed (form_of contents)
-    filed_now = subst is_filed (sym form) (filed_is (form_of mid.contents))
+    filed_now = subst is_filed (sym form) (filed_is (form_of old.contents))

@@ -8,7 +8,7 @@ use Rattle.model.proofs.Laws.{tie}
 use Rattle.call_laws.proofs.Laws.{not_none, true_is_false}
 use Rattle.shadow.specs.declared.change.Change.{Change}
 use Rattle.shadow.specs.Patches.{Net, kept_at, net_at, net_of}
-use Rattle.shadow.specs.Notes.{At, SameInodes, SameNet}
+use Rattle.shadow.specs.Notes.{At, SameInodes}
 
 -- the test of std's map is the test of numbers
 pub tests_alike : (num n : ℕ) → is_eq (nat_cmp num n) ≡ (n == num)
@@ -23,11 +23,8 @@ tests_alike num n = by_cases (is_eq (nat_cmp num n)) (n == num) refl refl
 pub some_kept : {X : Type 0} (o : Option X) (c : X) → o ≡ Some c → is_some o ≡ true
 some_kept o c is = ap is_some is
 
-same_itself : (n : Net) → SameNet n n
-same_itself n = record { rest = refl; room = let same : n.room ≡ n.room = refl in omega arith }
-
-pub same_change : (old new : Change) → new ≡ old → SameNet (net_of (Some old)) (net_of (Some new))
-same_change old new is = subst (λ (w : Change). SameNet (net_of (Some old)) (net_of (Some w))) (sym is) (same_itself (net_of (Some old)))
+pub same_change : (old new : Change) → new ≡ old → net_of (Some new) ≡ net_of (Some old)
+same_change old new is = ap (λ (w : Change). net_of (Some w)) is
 
 -- All is kept as before but at one number, which now has this.
 module _ (num : ℕ) (w : Change) (old new : List (ℕ × Change)) (is : (n : ℕ) → kept_at new n ≡ cond (is_eq (nat_cmp num n)) (Some w) (kept_at old n)) where
@@ -52,15 +49,15 @@ module _ (num : ℕ) (w : Change) (old new : List (ℕ × Change)) (is : (n : �
     places = stay;
   }
 
-  pub same_back : (before : Option Change) → kept_at old num ≡ before → SameNet (net_of before) (net_of (Some w)) → SameInodes old new
+  pub same_back : (before : Option Change) → kept_at old num ≡ before → net_of (Some w) ≡ net_of before → SameInodes old new
   same_back before was h = record { nets = λ n. by_test n (n == num) refl; places = stay }
     where
-      here : SameNet (net_at old num) (net_at new num)
-      here = subst (λ o. SameNet (net_of o) (net_at new num)) (sym was) (subst (λ o. SameNet (net_of before) (net_of o)) (sym at_number) h)
+      here : net_at new num ≡ net_at old num
+      here = ap net_of at_number ∙ h ∙ sym (ap net_of was)
 
-      by_test : (n : ℕ) (b : Bool) → (n == num) ≡ b → SameNet (net_at old n) (net_at new n)
-      by_test n true e = subst (λ m. SameNet (net_at old m) (net_at new m)) (sym (eqb-true n num e)) here
-      by_test n false e = subst (λ o. SameNet (net_at old n) (net_of o)) (sym (is n ∙ ap (λ b. cond b (Some w) (kept_at old n)) (tests_alike num n ∙ e))) (same_itself (net_at old n))
+      by_test : (n : ℕ) (b : Bool) → (n == num) ≡ b → net_at new n ≡ net_at old n
+      by_test n true e = subst (λ m. net_at new m ≡ net_at old m) (sym (eqb-true n num e)) here
+      by_test n false e = ap net_of (is n ∙ ap (λ b. cond b (Some w) (kept_at old n)) (tests_alike num n ∙ e))
 
 -- what is not found is not kept
 pub none_kept : {X : Type 0} (o : Option (Bor X)) (kept : Option X) → option_copied o ≡ kept → is_some o ≡ false → kept ≡ None

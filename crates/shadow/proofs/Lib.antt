@@ -20,7 +20,6 @@ mod Moved
 mod Pairs
 mod Applied
 mod FormsAfter
-mod RoomsAfter
 mod OpeningsAfter
 mod Along
 mod Each_laid

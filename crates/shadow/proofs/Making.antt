@@ -15,7 +15,7 @@ use Rattle.freeing_laws.proofs.Openings.{openings_change_lem}
 use Rattle.freeing_laws.specs.Pipes.{ArePair}
 use Rattle.freeing_laws.specs.Sweep.{loses}
 use Rattle.dirlist.specs.Listing.{Listing}
-use Rattle.objects.specs.Contents.{Content}
+use Rattle.objects.specs.Pieces.{FileContent}
 use Rattle.store.specs.Numbers.{Numbers, coming, held, if_held, present}
 use Rattle.store.specs.Places.{altered, installed, is_coming, listing_at, may_be_named, with_listing, with_name}
 use Rattle.store.specs.Shown.{descriptions, description_of, inodes, inode_of}
@@ -315,7 +315,7 @@ module _ (ps : Processes) (s : Numbers) (v : Committed) (is : committed_of ps s 
       let some : 0 < kept_in s (Number n) = covered ps s v is (Number n) (claimed_by_one (Number n) (n ∷ []) (Make_file d x 0)) (covers (Number n)) (omega arith) in
       let same : kept_in s (Number n) ≡ kept_by (Number n) (get s.places n) = kept_is s (Number n) in omega arith)
 
-  pub makes_file : (bytes : Content) → bytes.bytes ≡ [] → Fits (n ∷ []) v.state (Make_file d x 0) → ((c : Claim) → claimed_by_one c (n ∷ []) (Make_file d x 0) ≤ reserved v c)
+  pub makes_file : (bytes : FileContent) → bytes.bytes ≡ [] → Fits (n ∷ []) v.state (Make_file d x 0) → ((c : Claim) → claimed_by_one c (n ∷ []) (Make_file d x 0) ≤ reserved v c)
       → Makes ps s (with_place s n (present (Kept_file (record { bytes = bytes; openings = 0 })))) d x n (Make_file d x 0)
   makes_file bytes bare fit covers =
       making_it ps s d x n Nothing (Kept_file (record { bytes = bytes; openings = 0 })) (File []) false (Make_file d x 0) sound fits.0 fits.1 fits refl (file_to_come covers)

@@ -16,7 +16,7 @@ use Rattle.file_shadow.specs.View.{FileChanges, len_on, view_over}
 use Rattle.file_shadow.proofs.Views.{length-view_over}
 use Rattle.ids.specs.declared.limits.TheConstants.{PIPE_CAPACITY}
 use Rattle.pipe_shadow.specs.View.{PipeChanges, view_over as pipe_over}
-use Rattle.objects.specs.Contents.{Content}
+use Rattle.objects.specs.Pieces.{FileContent}
 use Rattle.call_laws.specs.WellFormed.{CanBeNamed, WellFormed}
 use Rattle.call_laws.proofs.Laws.{not_none, true_is_false}
 use Rattle.freeing_laws.specs.Sweep.{AllFit}
@@ -230,37 +230,15 @@ listed o None fresh notes under =
       room = ap (λ o. or_zero (room_of (reserve_seen o))) is.1;
     }
 
--- a file of which bytes change reaches as far as the changes say
-kept_end : (kept : Option ℕ) (end len : ℕ) → end ≤ len_on kept end len
-kept_end None end len = omega arith
-kept_end (Some least) end len = omega arith
-
-end_within : (bytes : FileChanges) (xs : List ℕ)
-    → bytes.extent.end ≤ length (view_over bytes xs)
-end_within bytes xs =
-    let extent = bytes.extent in
-    let len : length (view_over bytes xs) ≡ len_on extent.kept extent.end (length xs) =
-    length-view_over bytes xs in
-    let low : extent.end ≤ len_on extent.kept extent.end (length xs) =
-    kept_end extent.kept extent.end (length xs) in omega arith
-
+-- the changes of a file can be made
 file_ready : (o : Option Place) (made : Option Made) (fresh : Bool) (bytes : FileChanges)
-    (room : Content) → IsUnder o made (Bytes fresh bytes)
-    → bytes.extent.end ≤ max (length (bytes_seen o)) room.room
-    → IsReadyFile (is_some made) o room bytes.extent.end
-file_ready o (Some Directory) fresh bytes room under grown =
+    → IsUnder o made (Bytes fresh bytes) → IsReadyFile (is_some made) o
+file_ready o (Some Directory) fresh bytes under =
     let directory : of_bytes fresh ≡ of_names true = under.over in absurd cc
-file_ready o (Some New_pipe) fresh bytes room under grown =
+file_ready o (Some New_pipe) fresh bytes under =
     let pipe : of_bytes fresh ≡ of_pipe true = under.over in absurd cc
-file_ready o (Some New_file) fresh bytes room under grown =
-    let is : o ≡ Some (coming Nothing) = other_comes o under.staged under.file in
-    let none : length (bytes_seen o) ≡ 0 = ap (λ o. length (bytes_seen o)) is in
-    (is, omega arith)
-file_ready o None fresh bytes room under grown =
-    let is : IsShownFile o = file_shown o under.over.1 in
-    let same : length (bytes_seen o) ≡ length is.0.bytes.bytes =
-    ap (λ o. length (bytes_seen o)) is.1 in
-    (is.0, is.1, omega arith)
+file_ready o (Some New_file) fresh bytes under = other_comes o under.staged under.file
+file_ready o None fresh bytes under = file_shown o under.over.1
 
 -- what is put into a pipe fits
 pipe_ready : (o : Option Place) (made : Option Made) (fresh : Option OpenPipe)
@@ -324,8 +302,6 @@ record Fits (ps : Processes) (s : Numbers) (ds : List Effect) (n : ℕ) (net : N
   added : added_by net.contents ≤ net.promised
   after : get (all_done ds (state_of ps s)).inodes n
       ≡ patched net.contents (inode_seen (get s.places n))
-  grown : length (file_of (all_done ds (state_of ps s)) n)
-      ≤ max (length (bytes_seen (get s.places n))) net.room
 
 -- what a commit finds, by what it sees of the changes and of the committed state
 pub can_commit : (ps : Processes) (s : Numbers) (logged ds : List Effect) (p noted : Patches)
@@ -387,9 +363,6 @@ module _ {ps : Processes} {s : Numbers} {ds : List Effect} {p : Patches}
     added = can.agrees.added n;
     after = can.agrees.inodes (state_of ps s) n can.fits
         ∙ ap (patched (net_at p.inodes n).contents) (inode_at n);
-    grown = subst
-        (λ o. length (file_of done n) ≤ max (length (file_of_inode o)) (net_at p.inodes n).room)
-        (inode_at n) (can.agrees.rooms (state_of ps s) n can.fits);
   }
 
   change_fits : (n : ℕ) (c : Change) → kept_at p.inodes n ≡ Some c
@@ -443,21 +416,6 @@ module _ {ps : Processes} {s : Numbers} {ds : List Effect} {p : Patches}
             (fits.after ∙ ap (λ w. patched w (inode_seen (get s.places n))) is);
       }
 
-  -- the changes of a file have room where its own bytes or the room that is kept reach so far
-  reaches : (n : ℕ) (c : Change) (fresh : Bool) (bytes : FileChanges)
-      → Fits ps s ds n (net_of (Some c)) → c.contents ≡ Bytes fresh bytes
-      → bytes.extent.end ≤ max (length (bytes_seen (get s.places n))) c.room.room
-  reaches n c fresh bytes fits is =
-      let before : List ℕ = bytes_before fresh (inode_seen (get s.places n)) in
-      let after : get done.inodes n ≡ Some (File (view_over bytes before)) =
-      fits.after ∙ ap (λ w. patched w (inode_seen (get s.places n))) is in
-      let len : length (file_of done n) ≡ length (view_over bytes before) =
-      ap (λ o. length (file_of_inode o)) after in
-      let low : bytes.extent.end ≤ length (view_over bytes before) = end_within bytes before in
-      let high : length (file_of done n)
-      ≤ max (length (bytes_seen (get s.places n))) c.room.room = fits.grown in
-      omega arith
-
   -- a pipe is no longer after the changes than pipes get
   short_at : (n : ℕ) (c : Change) (fresh : Option OpenPipe) (changes : PipeChanges)
       → Fits ps s ds n (net_of (Some c)) → c.contents ≡ Piped fresh changes
@@ -476,8 +434,7 @@ module _ {ps : Processes} {s : Numbers} {ds : List Effect} {p : Patches}
   change_ready n c fits (Names fresh notes) is under =
       directory_ready n c fresh notes fits is under
   change_ready n c fits (Bytes fresh bytes) is under =
-      file_ready (get s.places n) c.made fresh bytes c.room under
-      (reaches n c fresh bytes fits is)
+      file_ready (get s.places n) c.made fresh bytes under
   change_ready n c fits (Piped fresh changes) is under =
       pipe_ready (get s.places n) c.made fresh changes under
       (short_at n c fresh changes fits is)

@@ -21,7 +21,6 @@ record Making (what : What) (d num : ℕ) (x : Name) (n : ℕ) (old new : Net) :
   form : form_of new.contents ≡ made_form what d num n (form_of old.contents)
   reach : (o : Option Inode) → AllReach old.contents o → AllReach new.contents o
   ends : (ends : ℕ × ℕ) → new_ends new.contents ≡ Some ends → new_ends old.contents ≡ Some ends
-  room : old.room ≤ new.room
   added : added_by new.contents ≤ added_by old.contents + times n (d ∷ [])
   written : numbers_in new.contents ≡ (if (n == d) || (n == num) then [] else numbers_in old.contents)
 
@@ -33,7 +32,6 @@ making_parent what d num x n s t here away r =
     let none : times n (num ∷ []) ≡ 0 = counted_elsewhere n num away in
     let promised : t.promised ≡ s.promised + 1 = r.promised in
     let named : t.named ≡ s.named = ap (λ (net : Net). net.named) r.rest in
-    let room : t.room ≡ s.room = ap (λ (net : Net). net.room) r.rest in
     let added : added_by t.contents ≤ added_by s.contents + 1 = r.added in
     record {
       contents = λ o. rw (yes, no) (r.contents o);
@@ -44,7 +42,6 @@ making_parent what d num x n s t here away r =
       form = rw (yes, no) r.form;
       reach = λ o was. r.reach o;
       ends = λ ends is. no_ends t.contents r.ends ends is;
-      room = omega arith;
       added = omega arith;
       written = rw yes r.numbers;
     }
@@ -57,7 +54,6 @@ making_object what d num x n s t away here r =
     let one : times n (num ∷ []) ≡ 1 = counted_here n num here in
     let promised : t.promised ≡ s.promised = ap (λ (net : Net). net.promised) r.rest in
     let named : t.named ≡ s.named + 1 = r.named in
-    let room : t.room ≡ s.room = ap (λ (net : Net). net.room) r.rest in
     let added : added_by t.contents ≡ 0 = r.added in
     record {
       contents = λ o. rw (no, yes) (r.contents o);
@@ -68,7 +64,6 @@ making_object what d num x n s t away here r =
       form = rw (no, yes) r.form;
       reach = λ o was. r.reach o;
       ends = λ ends is. no_ends t.contents r.ends ends is;
-      room = omega arith;
       added = omega arith;
       written = rw (no, yes) r.numbers;
     }
@@ -88,7 +83,6 @@ making_other what d num x n s away apart =
       form = rw (no, not) refl;
       reach = λ o was. was;
       ends = λ ends is. is;
-      room = omega arith;
       added = omega arith;
       written = rw (no, not) refl;
     }
@@ -116,8 +110,6 @@ making_taken A_directory named d num x n s t r = let unnamed : t.unnamed ≡ s.u
   named = r.named;
   unnamed = omega arith;
   form = r.form;
-  room = r.room;
-  grown = omega arith;
   added = r.added;
   written = λ b. as_written b (numbers_in t.contents) (if (n == d) || (n == num) then [] else numbers_in s.contents) r.written;
 }
@@ -131,8 +123,6 @@ making_taken A_file named d num x n s t r = let unnamed : t.unnamed ≡ s.unname
   named = r.named;
   unnamed = omega arith;
   form = r.form;
-  room = r.room;
-  grown = omega arith;
   added = r.added;
   written = λ b. as_written b (numbers_in t.contents) (if (n == d) || (n == num) then [] else numbers_in s.contents) r.written;
 }
@@ -248,8 +238,6 @@ linking_taken chosen d num x n s m t g l =
     let later : t.promised ≡ m.promised = ap (λ (net : Net). net.promised) l.rest in
     let unnamed_first : m.unnamed ≡ s.unnamed = ap (λ (net : Net). net.unnamed) g.rest in
     let unnamed_then : t.unnamed ≡ m.unnamed = ap (λ (net : Net). net.unnamed) l.rest in
-    let room_first : m.room ≡ s.room = ap (λ (net : Net). net.room) g.rest in
-    let room_then : t.room ≡ m.room = ap (λ (net : Net). net.room) l.rest in
     let named : m.named ≡ s.named = ap (λ (net : Net). net.named) g.rest in
     let added_first : added_by m.contents ≤ added_by s.contents + times n (d ∷ []) = g.added in
     let added_then : added_by t.contents ≡ added_by m.contents = ap added_by contents in
@@ -262,8 +250,6 @@ linking_taken chosen d num x n s m t g l =
       named = l.named ∙ ap (λ u. u + times n (num ∷ [])) named;
       unnamed = omega arith;
       form = ap form_of contents ∙ g.form;
-      room = omega arith;
-      grown = omega arith;
       added = omega arith;
       written = λ b. as_written b (numbers_in t.contents) (kept_beside d n (numbers_in s.contents)) (ap numbers_in contents ∙ g.numbers);
     }
@@ -287,9 +273,6 @@ unnaming_taken what chosen d num x n s m t g l = by_what what
     named_same : t.named ≡ s.named + 0
     named_same = let first : m.named ≡ s.named = ap (λ (net : Net). net.named) g.rest in let later : t.named ≡ m.named = ap (λ (net : Net). net.named) l.rest in omega arith
 
-    room : s.room ≤ t.room
-    room = let first : m.room ≡ s.room = ap (λ (net : Net). net.room) g.rest in let later : t.room ≡ m.room = ap (λ (net : Net). net.room) l.rest in omega arith
-
     unnamed_more : t.unnamed ≡ s.unnamed + times n (num ∷ [])
     unnamed_more = l.unnamed ∙ ap (λ u. u + times n (num ∷ [])) (ap (λ (net : Net). net.unnamed) g.rest)
 
@@ -306,8 +289,6 @@ unnaming_taken what chosen d num x n s m t g l = by_what what
       named = named_same;
       unnamed = unnamed_more;
       form = ap form_of contents ∙ g.form;
-      room = room;
-      grown = omega arith;
       added = added;
       written = λ b. as_written b (numbers_in t.contents) (kept_beside d n (numbers_in s.contents)) (ap numbers_in contents ∙ g.numbers);
     }
@@ -322,8 +303,6 @@ unnaming_taken what chosen d num x n s m t g l = by_what what
       named = named_same;
       unnamed = unnamed_more;
       form = ap form_of contents ∙ g.form;
-      room = room;
-      grown = omega arith;
       added = added;
       written = λ b. as_written b (numbers_in t.contents) (kept_beside d n (numbers_in s.contents)) (ap numbers_in contents ∙ g.numbers);
     }
@@ -356,9 +335,6 @@ moving_taken chosen d x e y num replaced n s a b t g h l =
     let named_first : a.named ≡ s.named = ap (λ (net : Net). net.named) g.rest in
     let named_next : b.named ≡ a.named = ap (λ (net : Net). net.named) h.rest in
     let named_last : t.named ≡ b.named = ap (λ (net : Net). net.named) l.rest in
-    let room_first : a.room ≡ s.room = ap (λ (net : Net). net.room) g.rest in
-    let room_next : b.room ≡ a.room = ap (λ (net : Net). net.room) h.rest in
-    let room_last : t.room ≡ b.room = ap (λ (net : Net). net.room) l.rest in
     let unnamed_same : b.unnamed ≡ s.unnamed = ap (λ (net : Net). net.unnamed) h.rest ∙ ap (λ (net : Net). net.unnamed) g.rest in
     let added_first : added_by a.contents ≤ added_by s.contents + 0 = g.added in
     let added_next : added_by b.contents ≤ added_by a.contents + times n (e ∷ []) = h.added in
@@ -372,8 +348,6 @@ moving_taken chosen d x e y num replaced n s a b t g h l =
       named = omega arith;
       unnamed = l.unnamed ∙ ap (λ u. u + times n (inode_replaced replaced)) unnamed_same;
       form = ap form_of contents ∙ h.form ∙ ap (listed_at e n) g.form;
-      room = omega arith;
-      grown = omega arith;
       added = omega arith;
       written = λ k. as_written k (numbers_in t.contents) (kept_beside e n (kept_beside d n (numbers_in s.contents))) (ap numbers_in contents ∙ h.numbers ∙ ap (kept_beside e n) g.numbers);
     }

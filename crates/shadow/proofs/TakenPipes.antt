@@ -8,21 +8,20 @@ use Rattle.freeing_laws.specs.Counts.{named, times, unnamed}
 use Rattle.shadow.specs.declared.change.Made.TheVariants.{Pipe as A_pipe}
 use Rattle.shadow.specs.Patches.{AllReach, of_pipe, new_ends, Net, Patches, added_by, form_of, net_at, numbers_in, patched}
 use Rattle.shadow.specs.Notes.{At, IsAppended, IsPassed, IsPiped, IsTaken}
-use Rattle.shadow.specs.Steps.{CanPass, IsPassable, TakesIn, bytes_appended, bytes_taken, new_in, piped, blocks_by, numbers_kept, form_after, grown_to, inode_after, made_after, parents_in, kept_beside}
+use Rattle.shadow.specs.Steps.{CanPass, IsPassable, TakesIn, bytes_appended, bytes_taken, new_in, piped, blocks_by, numbers_kept, form_after, inode_after, made_after, parents_in, kept_beside}
 use Rattle.shadow.proofs.Noted.{Changes, as_written, Taken, takes_first, at_here}
 
 -- Bytes of a pipe change.
 passing_taken : (p : ℕ) (e : Edit) (f : List ℕ → List ℕ) (enough n : ℕ) (s t : Net) → ((o : Option Inode) → CanPass e n s.contents o → n ≡ p → IsPassable enough s.contents o)
     → ((o : Option Inode) → n ≡ p → inode_after [] e n o ≡ Some (Pipe (f (pipe_of_inode o)))) → ((o : Option Inode) → n ≢ p → inode_after [] e n o ≡ o)
     → made_after [] e n s.made ≡ s.made → parents_in e ≡ [] → named [] e ≡ [] → unnamed e ≡ [] → (n ≡ p → form_after [] e n (form_of s.contents) ≡ piped (form_of s.contents)) → (n ≢ p → form_after [] e n (form_of s.contents) ≡ form_of s.contents)
-    → grown_to e n ≡ 0 → ((bs : List ℕ) → numbers_kept [] e n bs ≡ bs) → blocks_by n e ≡ [] → (n ≡ p → IsPassed f enough s t) → (n ≢ p → t ≡ s) → Taken [] e n s t
-passing_taken p e f enough n s t can here away same_made no_parents no_names no_losses formed kept none kept_numbers no_blocks passed same = elim (cases_eq n p) [
+    → ((bs : List ℕ) → numbers_kept [] e n bs ≡ bs) → blocks_by n e ≡ [] → (n ≡ p → IsPassed f enough s t) → (n ≢ p → t ≡ s) → Taken [] e n s t
+passing_taken p e f enough n s t can here away same_made no_parents no_names no_losses formed kept kept_numbers no_blocks passed same = elim (cases_eq n p) [
   | inl is ↦
       let r : IsPassed f enough s t = passed is in
       let promised : t.promised ≡ s.promised = ap (λ (net : Net). net.promised) r.rest in
       let named_same : t.named ≡ s.named = ap (λ (net : Net). net.named) r.rest in
       let unnamed_same : t.unnamed ≡ s.unnamed = ap (λ (net : Net). net.unnamed) r.rest in
-      let room : t.room ≡ s.room = ap (λ (net : Net). net.room) r.rest in
       let added : added_by t.contents ≡ added_by s.contents = r.contents.added in
       let parents : times n (parents_in e) ≡ 0 = ap (times n) no_parents in
       let names : times n (named [] e) ≡ 0 = ap (times n) no_names in
@@ -36,8 +35,6 @@ passing_taken p e f enough n s t can here away same_made no_parents no_names no_
         named = omega arith;
         unnamed = omega arith;
         form = r.contents.form ∙ sym (formed is);
-        room = omega arith;
-        grown = omega arith;
         added = omega arith;
         written = λ b. subst (λ xs. Contains (numbers_in t.contents) b ↔ Contains xs b) (sym (ap₂ (λ a c. a ++ c) (kept_numbers (numbers_in s.contents)) no_blocks)) (as_written b (numbers_in t.contents) (numbers_in s.contents) r.contents.numbers);
       }
@@ -54,8 +51,6 @@ passing_taken p e f enough n s t can here away same_made no_parents no_names no_
         named = omega arith;
         unnamed = omega arith;
         form = sym (kept not);
-        room = omega arith;
-        grown = omega arith;
         added = omega arith;
         written = λ b. subst (λ xs. Contains (numbers_in s.contents) b ↔ Contains xs b) (sym (ap₂ (λ a c. a ++ c) (kept_numbers (numbers_in s.contents)) no_blocks)) (as_written b (numbers_in s.contents) (numbers_in s.contents) refl);
       })
@@ -74,7 +69,7 @@ take_takes p count old new at openings slots lost = takes_first [] (Take p count
     (λ o can is. can is) (λ o is. if_so (n == p) (bytes_taken count o) o (eq-eqb n p is)) (λ o away. if_not (n == p) (bytes_taken count o) o (ne_eqb n p away)) refl refl refl refl
     (λ is. if_so (n == p) (piped (form_of (net_at old.inodes n).contents)) (form_of (net_at old.inodes n).contents) (eq-eqb n p is))
     (λ away. if_not (n == p) (piped (form_of (net_at old.inodes n).contents)) (form_of (net_at old.inodes n).contents) (ne_eqb n p away))
-    refl (λ bs. refl) refl (at_here p n (IsTaken count) old.inodes new.inodes at) (at.others n))
+    (λ bs. refl) refl (at_here p n (IsTaken count) old.inodes new.inodes at) (at.others n))
     openings slots (lost ∙ sym (append-nil old.lost)) (λ d o. refl) (λ pid o. refl) refl
 
 pub append_takes : (p : ℕ) (bytes : List ℕ) (old new : Patches) → At p (IsAppended bytes) old.inodes new.inodes → new.openings ≡ old.openings → new.slots ≡ old.slots → new.lost ≡ old.lost → TakesIn [] (Append p bytes) old new
@@ -82,7 +77,7 @@ append_takes p bytes old new at openings slots lost = takes_first [] (Append p b
     (λ o can is. can is) (λ o is. if_so (n == p) (bytes_appended bytes o) o (eq-eqb n p is)) (λ o away. if_not (n == p) (bytes_appended bytes o) o (ne_eqb n p away)) refl refl refl refl
     (λ is. if_so (n == p) (piped (form_of (net_at old.inodes n).contents)) (form_of (net_at old.inodes n).contents) (eq-eqb n p is))
     (λ away. if_not (n == p) (piped (form_of (net_at old.inodes n).contents)) (form_of (net_at old.inodes n).contents) (ne_eqb n p away))
-    refl (λ bs. refl) refl (at_here p n (IsAppended bytes) old.inodes new.inodes at) (at.others n))
+    (λ bs. refl) refl (at_here p n (IsAppended bytes) old.inodes new.inodes at) (at.others n))
     openings slots (lost ∙ sym (append-nil old.lost)) (λ d o. refl) (λ pid o. refl) refl
 
 -- what is kept under one number where a pipe is made
@@ -97,7 +92,6 @@ pub record Piping (chosen : List ℕ) (i n : ℕ) (old new : Net) : Type 0 where
   pub promised : new.promised ≡ old.promised
   pub named : new.named ≡ old.named
   pub unnamed : new.unnamed ≡ old.unnamed
-  pub room : new.room ≡ old.room
 
 pub piping_at : (chosen : List ℕ) (i : ℕ) (s t : Changes) → At (new_in chosen i) (IsPiped (new_in chosen (i + 1)) (new_in chosen (i + 2))) s t → (n : ℕ) → Piping chosen i n (net_at s n) (net_at t n)
 piping_at chosen i s t at n = elim (cases_eq n (new_in chosen i)) [
@@ -116,7 +110,6 @@ piping_at chosen i s t at n = elim (cases_eq n (new_in chosen i)) [
         promised = ap (λ (net : Net). net.promised) r.rest;
         named = ap (λ (net : Net). net.named) r.rest;
         unnamed = ap (λ (net : Net). net.unnamed) r.rest;
-        room = ap (λ (net : Net). net.room) r.rest;
       }
   | inr away ↦
       let no : (n == new_in chosen i) ≡ false = ne_eqb n (new_in chosen i) away in
@@ -131,7 +124,6 @@ piping_at chosen i s t at n = elim (cases_eq n (new_in chosen i)) [
         promised = refl;
         named = refl;
         unnamed = refl;
-        room = refl;
       })
 ]
   where

@@ -62,12 +62,9 @@ pub record Agrees (ds : List Effect) (p : Patches) : Type 0 where
   -- no room is promised in what has not changed
   pub still : (n : ℕ) → form_of (net_at p.inodes n).contents ≡ no_change
       → (net_at p.inodes n).promised ≡ 0
-  -- where the changes fit: what stands below them is of their kind, and there is room for what has
-  -- grown
+  -- where the changes fit: what stands below them is of their kind
   pub kinds : (k : Kernel) (n : ℕ) → AllFit ds k
       → IsOver (kind_of k n) (net_at p.inodes n).made (form_of (net_at p.inodes n).contents)
-  pub rooms : (k : Kernel) (n : ℕ) → AllFit ds k
-      → length (file_of (all_done ds k) n) ≤ max (length (file_of k n)) (net_at p.inodes n).room
   pub written : (k : Kernel) (n b : ℕ) → AllFit ds k
       → Contains (numbers_in (net_at p.inodes n).contents) b ↔ Contains (blocks_written n ds) b
   pub moved : (k : Kernel) (d : ℕ) → AllFit ds k

@@ -16,7 +16,7 @@ use Rattle.file_shadow.specs.View.{FileChanges, view_over}
 use Rattle.pipe_shadow.specs.View.{PipeChanges, view_over as pipe_over}
 use Rattle.freeing_laws.specs.Counts.{listed, times}
 use Rattle.freeing_laws.specs.Sweep.{AreParented}
-use Rattle.objects.specs.Contents.{Content}
+use Rattle.objects.specs.Pieces.{FileContent}
 use Rattle.store.specs.Numbers.{Numbers, coming, object_at, present}
 use Rattle.store.specs.Places.{file_in, installed, may_be_named, openings_of, with_listing}
 use Rattle.store.specs.Laid.{laid_listing}
@@ -58,7 +58,7 @@ bytes_in None = []
 
 -- a file after its changes: it is shown, and its bytes are those of the view
 pub record IsWrittenOver (bytes : FileChanges) (before after : Option Place) : Type 0 where
-  pub content : Content
+  pub content : FileContent
   pub place : after ≡ Some (present (A_file (record {
     bytes = content;
     openings = openings_of (file_in before);
@@ -96,13 +96,10 @@ pub record IsReadyDirectory (s : Numbers) (n : ℕ) (c : Change) (notes : Notes)
   pub numbers : AllByRecursion
       (λ g. IfSome g.1 (λ m. may_be_named (get s.places m) ≡ true)) (entries notes)
 
--- Those of a file can be made: it is to come, and there is room for it; or it is shown, and it
--- reaches so far, or there is room to move it to.
-abbrev pub IsReadyFile : Bool → Option Place → Content → ℕ → Type 0
-IsReadyFile true before room end = (before ≡ Some (coming Nothing)) × (end ≤ room.room)
-IsReadyFile false before room end =
-    (file : OpenFile) × (before ≡ Some (present (A_file file)))
-    × (end ≤ max (length file.bytes.bytes) room.room)
+-- Those of a file can be made: it is to come, or it is shown.
+abbrev pub IsReadyFile : Bool → Option Place → Type 0
+IsReadyFile true before = before ≡ Some (coming Nothing)
+IsReadyFile false before = (file : OpenFile) × (before ≡ Some (present (A_file file)))
 
 -- Those of a pipe can be made: it is to come, or shown, and what they append fits where the pipe was
 -- no longer than pipes get.
@@ -117,8 +114,7 @@ IsReadyPipe None changes before =
 abbrev pub IsReadyContents : Numbers → ℕ → Change → Contents → Type 0
 IsReadyContents s n c Same = c.made ≡ None
 IsReadyContents s n c (Names fresh notes) = IsReadyDirectory s n c notes
-IsReadyContents s n c (Bytes fresh bytes) =
-    IsReadyFile (is_some c.made) (get s.places n) c.room bytes.extent.end
+IsReadyContents s n c (Bytes fresh bytes) = IsReadyFile (is_some c.made) (get s.places n)
 IsReadyContents s n c (Piped fresh changes) = IsReadyPipe fresh changes (get s.places n)
 
 abbrev pub IsReady : Numbers → ℕ → Change → Type 0

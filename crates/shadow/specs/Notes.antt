@@ -13,18 +13,13 @@ use Rattle.shadow.specs.declared.change.Made.{Made}
 use Rattle.shadow.specs.declared.change.Made.TheVariants.{Pipe as A_pipe}
 use Rattle.shadow.specs.Patches.{Net, Patches, added_by, form_of, kept_at, net_at, opening_at}
 use Rattle.shadow.specs.Patches.{AllReach, new_ends, numbers_in, of_pipe, patched, reslotted}
-use Rattle.shadow.specs.Steps.{bytes_cut, bytes_written, filed, growth, listed, name_noted, new_form}
+use Rattle.shadow.specs.Steps.{bytes_cut, bytes_written, filed, listed, name_noted, new_form}
 use Rattle.shadow.specs.Steps.{IsPassable, new_inode, piped}
 
 -- how much room in its directory a name takes that comes
 abbrev pub room_for : Option ℕ → ℕ
 room_for (Some n) = 1
 room_for None = 0
-
--- the same changes, with as much room or more
-pub record SameNet (old new : Net) : Type 0 where
-  pub rest : record new { room = old.room } ≡ old
-  pub room : old.room ≤ new.room
 
 -- a name of the directory gives this from now on
 pub record IsNamed (x : Name) (given : Option ℕ) (old new : Net) : Type 0 where
@@ -38,28 +33,22 @@ pub record IsNamed (x : Name) (given : Option ℕ) (old new : Net) : Type 0 wher
   pub ends : new_ends new.contents ≡ None
   pub rest : record new { contents = old.contents; promised = old.promised } ≡ old
 
--- the file has other bytes, as a function f of those before, in these blocks more; there is room for
--- growth
-pub record IsFiled (f : Option Inode → Option Inode) (reach : ℕ) (more : List ℕ) (old new : Net)
-    : Type 0 where
+-- the file has other bytes, as a function f of those before, in these blocks more
+pub record IsFiled (f : Option Inode → Option Inode) (more : List ℕ) (old new : Net) : Type 0 where
   pub contents : (o : Option Inode) → patched new.contents o ≡ f (patched old.contents o)
   pub form : form_of new.contents ≡ filed (form_of old.contents)
   pub added : added_by new.contents ≡ 0
   pub reached : (o : Option Inode) → AllReach new.contents o
   pub ends : new_ends new.contents ≡ None
-  pub room : old.room ≤ new.room
-  pub grown : reach ≤ new.room
   pub numbers : (b : ℕ) → Contains (numbers_in new.contents) b
       ↔ Contains (numbers_in old.contents ++ more) b
-  pub rest : record new { contents = old.contents; room = old.room } ≡ old
+  pub rest : record new { contents = old.contents } ≡ old
 
-abbrev pub IsWritten : ℕ → List ℕ → ℕ → Net → Net → Type 0
-IsWritten place bytes before =
-    IsFiled (bytes_written place bytes) (growth before (place + length bytes))
-    (blocks place (length bytes))
+abbrev pub IsWritten : ℕ → List ℕ → Net → Net → Type 0
+IsWritten place bytes = IsFiled (bytes_written place bytes) (blocks place (length bytes))
 
-abbrev pub IsCut : ℕ → ℕ → Net → Net → Type 0
-IsCut before after = IsFiled (bytes_cut after) (growth before after) []
+abbrev pub IsCut : ℕ → Net → Net → Type 0
+IsCut after = IsFiled (bytes_cut after) []
 
 -- the transaction made the object, with a name
 pub record IsMade (what : Made) (old new : Net) : Type 0 where
@@ -147,9 +136,9 @@ pub record IsGone (x : Name) (former : Former) (old new : Net) : Type 0 where
 abbrev pub IsPutBack : Name → Former → Net → Net → Type 0
 IsPutBack x former old new = new ≡ record old { contents = put_back former x old.contents }
 
--- All is as before but for room.
+-- All that counts is as before.
 pub record SameInodes (old new : List (ℕ × Change)) : Type 0 where
-  pub nets : (n : ℕ) → SameNet (net_at old n) (net_at new n)
+  pub nets : (n : ℕ) → net_at new n ≡ net_at old n
   pub places : (n : ℕ) → kept_at old n ≢ None → kept_at new n ≢ None
 
 -- Patches after which all shows as before.

@@ -109,14 +109,12 @@ numbers_in (Names fresh notes) = []
 numbers_in (Piped fresh changes) = []
 
 -- What counts of the changes of an inode: what the transaction made, for how many names room is
--- promised, how many names it gave the inode and took from it, for how many bytes it has room, and
--- the contents.
+-- promised, how many names it gave the inode and took from it, and the contents.
 pub record Net : Type 0 where
   pub made : Option Made
   pub promised : ℕ
   pub named : ℕ
   pub unnamed : ℕ
-  pub room : ℕ
   pub contents : Contents
 
 -- nothing is changed
@@ -126,7 +124,6 @@ untouched = record {
   promised = 0;
   named = 0;
   unnamed = 0;
-  room = 0;
   contents = Same;
 }
 
@@ -136,7 +133,6 @@ net_of (Some c) = record {
   promised = c.promised;
   named = c.named;
   unnamed = c.unnamed;
-  room = c.room.room;
   contents = c.contents;
 }
 net_of None = untouched

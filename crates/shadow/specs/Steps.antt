@@ -251,16 +251,6 @@ made_after chosen (Make_pipe i pid f g) n made =
     if n == new_in chosen i then Some A_pipe else made
 made_after chosen _ n made = made
 
--- how far a file reaches that an edit makes longer, and else 0
-abbrev pub growth : ℕ → ℕ → ℕ
-growth before after = if nat_lt before after then after else 0
-
-abbrev pub grown_to : Edit → ℕ → ℕ
-grown_to (Put_bytes m place bytes before) n =
-    if n == m then growth before (place + length bytes) else 0
-grown_to (Cut m before after) n = if n == m then growth before after else 0
-grown_to _ n = 0
-
 -- the blocks of a file into which an edit puts bytes
 abbrev pub blocks_by : ℕ → Edit → List ℕ
 blocks_by n (Put_bytes m place bytes before) =
@@ -325,8 +315,6 @@ pub record TakesIn (chosen : List ℕ) (e : Edit) (old new : Patches) : Type 0 w
       ≡ (net_at old.inodes n).unnamed + times n (unnamed e)
   pub forms : (n : ℕ) → form_of (net_at new.inodes n).contents
       ≡ form_after chosen e n (form_of (net_at old.inodes n).contents)
-  pub room : (n : ℕ) → (net_at old.inodes n).room ≤ (net_at new.inodes n).room
-  pub grown : (n : ℕ) → grown_to e n ≤ (net_at new.inodes n).room
   pub added : (n : ℕ) → added_by (net_at new.inodes n).contents
       ≤ added_by (net_at old.inodes n).contents + times n (parents_in e)
   pub news : (d : ℕ) → is_new (opening_at new.openings d)

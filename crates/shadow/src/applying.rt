@@ -166,7 +166,10 @@ impl Stable {
                 drop(bytes);
                 written
             }
-            Edit::Cut(file, _before, after) => self.cut(file, after as usize),
+            Edit::Cut(file, _before, after) => {
+                self.cut(file, after as usize);
+                Ok(())
+            }
             Edit::Take(pipe, count) => {
                 self.take(pipe, count as usize);
                 Ok(())
@@ -337,20 +340,18 @@ impl Stable {
         written
     }
 
-    // A file's length changes. Refused memory changes nothing.
-    fn cut(&mut self, file: Num, after: usize) -> Result<(), AllocError>
+    // A file's length changes.
+    fn cut(&mut self, file: Num, after: usize)
         requires small { after ≤ LARGEST_FILE }
         requires file { kind_of self.old.state file ≡ Some A_file }
-        ensures state { OnOk result ((before : ℕ) → self.new.state
-            ≡ applied [] (Cut file before after) self.old.state) }
+        ensures state { (before : ℕ) → self.new.state
+            ≡ applied [] (Cut file before after) self.old.state }
         ensures kept { KeepsSame self.old self.new }
-        ensures err { OnErr result (self.new.state ≡ self.old.state) }
     {
         let empty = FileData::new(self.heap());
         let mut data = self.store.swap_file(file, empty);
-        let cut = data.cut(after);
+        data.cut(after);
         let _empty = self.store.swap_file(file, data);
-        cut
     }
 
     // Bytes are taken from the front of a pipe.

@@ -14,15 +14,14 @@ ghost use Rattle.shadow.specs.declared.change.Made.TheVariants as Made;
 ghost use Rattle.shadow.specs.declared.change.Former.TheVariants.{Noted, Other};
 ghost use Rattle.shadow.specs.Notes.{IsAppended, IsPassedBy, IsPiped, IsTaken};
 ghost use Rattle.shadow.specs.Notes.{IsCut, IsGiven, IsGone, IsMade, IsNamed, IsPutBack, IsUnnamed};
-ghost use Rattle.shadow.specs.Notes.{IsWritten, SameNet, put_back, room_for};
-ghost use Rattle.shadow.specs.Steps.{bytes_cut, bytes_written, filed, growth, listed, name_noted};
+ghost use Rattle.shadow.specs.Notes.{IsWritten, put_back, room_for};
+ghost use Rattle.shadow.specs.Steps.{bytes_cut, bytes_written, filed, listed, name_noted};
 ghost use Rattle.shadow.specs.Steps.{new_form, new_inode};
 
 use dirlist::Patch;
 use file_shadow::FileShadow;
 use heap::Heap;
 use ids::{Name, Num};
-use objects::FileData;
 use pipe_shadow::PipeShadow;
 use std::alloc::AllocError;
 use std::mem;
@@ -72,23 +71,20 @@ pub(crate) struct Change {
     pub(crate) named: usize,
     /// How many names it took from the inode.
     pub(crate) unnamed: usize,
-    /// Room for the bytes of a file that has grown; it holds none.
-    pub(crate) room: FileData,
     /// What has changed of its contents.
     pub(crate) contents: Contents,
 }
 
 impl Change {
     /// Nothing is changed. It takes no memory.
-    pub(crate) fn new(heap: Heap) -> Change
-        ensures { SameNet untouched (net_of (Some result)) }
+    pub(crate) fn new() -> Change
+        ensures { net_of (Some result) ≡ untouched }
     {
         Change {
             made: None,
             promised: 0,
             named: 0,
             unnamed: 0,
-            room: FileData::new(heap),
             contents: Contents::Same,
         }
     }
@@ -133,35 +129,22 @@ impl Change {
         }
     }
 
-    /// Notes bytes that are written into the file from a place on, and makes room where it grows
-    /// from this length. Refused memory changes nothing that shows.
-    pub(crate) fn write(
-        &mut self,
-        heap: Heap,
-        place: usize,
-        bytes: &[u8],
-        before: usize,
-    ) -> Result<(), AllocError>
+    /// Notes bytes that are written into the file from a place on. Refused memory changes nothing.
+    pub(crate) fn write(&mut self, heap: Heap, place: usize, bytes: &[u8]) -> Result<(), AllocError>
         requires { place + length bytes.now ≤ LARGEST_FILE }
         ensures ok { OnOk result
-            (IsWritten place bytes.now before (net_of (Some self.old)) (net_of (Some self.new))) }
-        ensures err { OnErr result (SameNet (net_of (Some self.old)) (net_of (Some self.new))) }
+            (IsWritten place bytes.now (net_of (Some self.old)) (net_of (Some self.new))) }
+        ensures err { OnErr result (self.new ≡ self.old) }
     {
-        self.make_room(before, place + bytes.len())?;
         write_in(&mut self.contents, heap, place, bytes)
     }
 
-    /// Notes that the file is cut, or filled up, to this length, and makes room where it grows from
-    /// that before. Refused memory changes nothing that shows.
-    pub(crate) fn cut(&mut self, heap: Heap, before: usize, after: usize) -> Result<(), AllocError>
+    /// Notes that the file is cut, or filled up, to this length. It takes no memory.
+    pub(crate) fn cut(&mut self, heap: Heap, after: usize)
         requires { after ≤ LARGEST_FILE }
-        ensures ok { OnOk result
-            (IsCut before after (net_of (Some self.old)) (net_of (Some self.new))) }
-        ensures err { OnErr result (SameNet (net_of (Some self.old)) (net_of (Some self.new))) }
+        ensures { IsCut after (net_of (Some self.old)) (net_of (Some self.new)) }
     {
-        self.make_room(before, after)?;
         cut_in(&mut self.contents, heap, after);
-        Ok(())
     }
 
     /// Notes that so many bytes are taken from the front of the pipe. Refused memory changes nothing.
@@ -190,17 +173,6 @@ impl Change {
         self.made = Some(Made::Pipe);
         let contents = Contents::Pipe(Some(pipe), PipeShadow::new(heap));
         drop(mem::replace(&mut self.contents, contents));
-    }
-
-    // Makes room for a file that grows.
-    fn make_room(&mut self, before: usize, after: usize) -> Result<(), AllocError>
-        ensures same { SameNet (net_of (Some self.old)) (net_of (Some self.new)) }
-        ensures ok { OnOk result (growth before after ≤ (net_of (Some self.new)).room) }
-    {
-        if before < after {
-            self.room.promise(after)?;
-        }
-        Ok(())
     }
 
     /// Notes that the transaction made the object, with its first name. It takes no memory.

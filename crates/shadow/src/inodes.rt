@@ -60,7 +60,7 @@ impl Inodes {
         if self.get(num).is_some() {
             return Ok(());
         }
-        drop(self.each.insert(num, Change::new(heap))?);
+        drop(self.each.insert(num, Change::new())?);
         Ok(())
     }
 
@@ -173,31 +173,28 @@ impl Inodes {
         file: Num,
         place: usize,
         bytes: &[u8],
-        before: usize,
     ) -> Result<(), AllocError>
         requires place { kept_at self.old file ≢ None }
         requires small { place + length bytes.now ≤ LARGEST_FILE }
-        ensures ok { OnOk result (At file (IsWritten place bytes.now before) self.old self.new) }
+        ensures ok { OnOk result (At file (IsWritten place bytes.now) self.old self.new) }
         ensures err { OnErr result (SameInodes self.old self.new) }
     {
         let heap = self.heap;
         match self.each.get_mut(&file) {
-            Some(change) => change.write(heap, place, bytes, before),
+            Some(change) => change.write(heap, place, bytes),
             None => unreachable!(),
         }
     }
 
-    /// Notes a file's length, where there is a place for it. Refused memory changes nothing that
-    /// shows.
-    pub(crate) fn cut(&mut self, file: Num, before: usize, after: usize) -> Result<(), AllocError>
+    /// Notes a file's length, where there is a place for it. It takes no memory.
+    pub(crate) fn cut(&mut self, file: Num, after: usize)
         requires place { kept_at self.old file ≢ None }
         requires small { after ≤ LARGEST_FILE }
-        ensures ok { OnOk result (At file (IsCut before after) self.old self.new) }
-        ensures err { OnErr result (SameInodes self.old self.new) }
+        ensures { At file (IsCut after) self.old self.new }
     {
         let heap = self.heap;
         match self.each.get_mut(&file) {
-            Some(change) => change.cut(heap, before, after),
+            Some(change) => change.cut(heap, after),
             None => unreachable!(),
         }
     }

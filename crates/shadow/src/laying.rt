@@ -1,5 +1,5 @@
 // The changes of inodes and of descriptions, made in the store.
-ghost use Rattle.std.specs.Prelude.{◌≡◌, ◌≢◌, ◌≤◌, ◌<◌, ◌^◌, ◌⊎◌, ℕ, false, true, Some};
+ghost use Rattle.std.specs.Prelude.{◌≡◌, ◌≢◌, ◌≤◌, ◌<◌, ◌^◌, ℕ, false, true, Some};
 ghost use Rattle.std.specs.Prelude.{length};
 ghost use Rattle.ids.specs.declared.limits.TheConstants.{PIPE_CAPACITY};
 ghost use Rattle.model.specs.FiniteMap.{get};
@@ -47,14 +47,12 @@ fn lay_inode(store: &mut Store, heap: Heap, num: Num, change: Change)
     let Change {
         made,
         promised,
-        room,
         contents,
         ..
     } = change;
     match contents {
-        Contents::Same => drop(room),
+        Contents::Same => (),
         Contents::Names(_fresh, names) => {
-            drop(room);
             if made.is_some() {
                 store.install(num);
             }
@@ -62,13 +60,12 @@ fn lay_inode(store: &mut Store, heap: Heap, num: Num, change: Change)
         }
         Contents::Bytes(_fresh, bytes) => {
             if made.is_some() {
-                install_file(store, num, bytes, room);
+                install_file(store, heap, num, bytes);
             } else {
-                lay_bytes(store, heap, num, bytes, room);
+                lay_bytes(store, heap, num, bytes);
             }
         }
         Contents::Pipe(new, changes) => {
-            drop(room);
             match new {
                 Some(pipe) => install_pipe(store, num, pipe, changes),
                 None => lay_pipe(store, num, &changes),
@@ -113,15 +110,14 @@ pub(crate) fn pipe_len(store: &Store, num: Num) -> usize
     }
 }
 
-// Shows a new file, in its room.
-fn install_file(store: &mut Store, num: Num, bytes: FileShadow, room: FileData)
-    requires ready { IsReadyFile true (get store.old.places num) room bytes.extent.end }
+// Shows a new file.
+fn install_file(store: &mut Store, heap: Heap, num: Num, bytes: FileShadow)
+    requires ready { IsReadyFile true (get store.old.places num) }
     ensures root { store.new.root ≡ store.old.root }
     ensures here { IsWrittenOver bytes (get store.old.places num) (get store.new.places num) }
     ensures others { (n : ℕ) → n ≢ num → get store.new.places n ≡ get store.old.places n }
 {
-    let mut data = room;
-    data.cut(0).unwrap();
+    let mut data = FileData::new(heap);
     bytes.commit_into(&mut data);
     store.install_as(
         num,
@@ -132,31 +128,16 @@ fn install_file(store: &mut Store, num: Num, bytes: FileShadow, room: FileData)
     );
 }
 
-// Lays bytes over those of a file. Where it has too little room they are moved.
-fn lay_bytes(store: &mut Store, heap: Heap, num: Num, bytes: FileShadow, room: FileData)
-    requires ready { IsReadyFile false (get store.old.places num) room bytes.extent.end }
+// Lays bytes over those of a file.
+fn lay_bytes(store: &mut Store, heap: Heap, num: Num, bytes: FileShadow)
+    requires ready { IsReadyFile false (get store.old.places num) }
     ensures root { store.new.root ≡ store.old.root }
     ensures here { IsWrittenOver bytes (get store.old.places num) (get store.new.places num) }
     ensures others { (n : ℕ) → n ≢ num → get store.new.places n ≡ get store.old.places n }
 {
-    let file = store.swap_file(num, FileData::new(heap));
-    let mut file = roomy(file, room, bytes.room());
+    let mut file = store.swap_file(num, FileData::new(heap));
     bytes.commit_into(&mut file);
     let _empty = store.swap_file(num, file);
-}
-
-// A file with room for so many bytes: the file itself, or its bytes moved to this room.
-fn roomy(file: FileData, mut room: FileData, end: usize) -> FileData
-    requires { (end ≤ length file.bytes) ⊎ (end ≤ room.room) }
-    ensures bytes { result.bytes ≡ file.bytes }
-    ensures room { end ≤ result.room }
-{
-    if file.has_room(end) {
-        return file;
-    }
-    room.cut(0).unwrap();
-    room.write_at(0, file.as_slice()).unwrap();
-    room
 }
 
 /// Makes what is changed of descriptions. It takes no memory.

@@ -177,12 +177,12 @@ impl Patches {
                 drop(old);
                 noted
             }
-            Edit::PutBytes(file, place, bytes, before) => {
-                let noted = self.write(file, place, &bytes, before);
+            Edit::PutBytes(file, place, bytes, _before) => {
+                let noted = self.write(file, place, &bytes);
                 drop(bytes);
                 noted
             }
-            Edit::Cut(file, before, after) => self.cut(file, before, after),
+            Edit::Cut(file, _before, after) => self.cut(file, after),
             Edit::Take(pipe, count) => self.take(pipe, count),
             Edit::Append(pipe, bytes) => {
                 let noted = self.append(pipe, &bytes);
@@ -276,29 +276,30 @@ impl Patches {
     }
 
     // Bytes are written into a file.
-    fn write(&mut self, file: Num, place: u32, bytes: &Bytes, before: u32) -> Result<(), AllocError>
+    fn write(&mut self, file: Num, place: u32, bytes: &Bytes) -> Result<(), AllocError>
         requires { place + length bytes.now ≤ LARGEST_FILE }
-        ensures ok { OnOk result
-            (TakesIn [] (Put_bytes file place bytes.now before) self.old self.new) }
+        ensures ok { OnOk result ((before : ℕ)
+            → TakesIn [] (Put_bytes file place bytes.now before) self.old self.new) }
         ensures err { OnErr result (SamePatches self.old self.new) }
         ensures openings { self.new.openings ≡ self.old.openings }
         ensures slots { self.new.slots ≡ self.old.slots }
     {
         self.inodes.make_place(file)?;
-        self.inodes
-            .write(file, place as usize, bytes.as_slice(), before as usize)
+        self.inodes.write(file, place as usize, bytes.as_slice())
     }
 
     // A file's length changes.
-    fn cut(&mut self, file: Num, before: u32, after: u32) -> Result<(), AllocError>
+    fn cut(&mut self, file: Num, after: u32) -> Result<(), AllocError>
         requires { after ≤ LARGEST_FILE }
-        ensures ok { OnOk result (TakesIn [] (Cut file before after) self.old self.new) }
+        ensures ok { OnOk result ((before : ℕ)
+            → TakesIn [] (Cut file before after) self.old self.new) }
         ensures err { OnErr result (SamePatches self.old self.new) }
         ensures openings { self.new.openings ≡ self.old.openings }
         ensures slots { self.new.slots ≡ self.old.slots }
     {
         self.inodes.make_place(file)?;
-        self.inodes.cut(file, before as usize, after as usize)
+        self.inodes.cut(file, after as usize);
+        Ok(())
     }
 
     // Bytes are taken from the front of a pipe.

@@ -164,7 +164,7 @@ impl<'a> View<'a> {
         let stored = self.stable.file(file, &none);
         match change(self.shadow, file) {
             Some(change) => bytes_over(heap, &change.contents, stored, place, count),
-            None => stored.read_at(heap, place, count),
+            None => stored.read_at(heap, place, count.min(stored.len())),
         }
     }
 
@@ -288,7 +288,7 @@ fn bytes_over(
         → bytes ≡ take count (drop place (file_of_inode (patched contents.now o)))) }
 {
     match contents {
-        Contents::Same => stored.read_at(heap, place, count),
+        Contents::Same => stored.read_at(heap, place, count.min(stored.len())),
         Contents::Names(_, _) => Ok(Bytes::new(Vec::new(heap))),
         Contents::Pipe(_, _) => Ok(Bytes::new(Vec::new(heap))),
         Contents::Bytes(true, bytes) => bytes.read(heap, &FileData::new(heap), place, count),

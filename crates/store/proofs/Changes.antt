@@ -7,7 +7,7 @@ use Rattle.model.specs.FiniteMap.{FinMap, get, insert, remove, empty, get-empty}
 use Rattle.model.specs.State.{Inode, Description, Directory, File, Pipe, name_cmp, pipe_of_inode}
 use Rattle.model.specs.Changes.{at_offset}
 use Rattle.dirlist.specs.Listing.{Listing}
-use Rattle.objects.specs.Contents.{Content}
+use Rattle.objects.specs.Pieces.{FileContent}
 use Rattle.store.specs.Numbers.{Numbers, coming, present, object_at, held, if_held, no_names, IsFirstRoot}
 use Rattle.store.specs.Places.{altered_by, altered, installed, hidden, is_over, is_over_by, has_room, file_of, listing_of, IsRoomy, changed_file, changed_object, changed_opened, changed_pipe, passed, pipe_of, with_pipe, with_bytes, with_file, with_listing, with_opened, moved_to, swept, lost}
 use Rattle.store.specs.Shown.{chosen, inodes, inode_of, inode_in, descriptions, description_of, description_in, shown_at, with_inode, with_value, with_names, with_names_by, with_offset, with_offset_by}
@@ -259,7 +259,7 @@ inodes-opened f s n = inodes-left (with_opened f) (λ place. ap (shown_at place.
 -- a change of a count alone is not shown
 pub inode-filed : (f : OpenFile → OpenFile) → ((file : OpenFile) → (f file).bytes ≡ file.bytes) → (object : Object) → inode_of (changed_file f object) ≡ inode_of object
 inode-filed f same (Kept_directory listing) = refl
-inode-filed f same (Kept_file file) = ap (λ (content : Content). Some (File content.bytes)) (same file)
+inode-filed f same (Kept_file file) = ap (λ (content : FileContent). Some (File content.bytes)) (same file)
 inode-filed f same (Kept_pipe pipe) = refl
 inode-filed f same (Kept_description opened) = refl
 inode-filed f same Kept_nothing = refl
@@ -278,7 +278,7 @@ pub descriptions-opened : (f : Opened → Opened) → ((opened : Opened) → (f 
 descriptions-opened f same s n = descriptions-left (with_opened f) (λ place. ap (shown_at place.stage) (description-opened f same place.object)) s n
 
 -- other bytes of a file that is shown
-pub inodes-swapped : (content : Content) (s : Numbers) (n : ℕ) → IsSome (option_and_then file_of (object_at s n)) → inodes (altered (with_file (with_bytes content)) s n) ≡ insert (inodes s) n (File content.bytes)
+pub inodes-swapped : (content : FileContent) (s : Numbers) (n : ℕ) → IsSome (option_and_then file_of (object_at s n)) → inodes (altered (with_file (with_bytes content)) s n) ≡ insert (inodes s) n (File content.bytes)
 inodes-swapped content s n = by_place (get s.places n) refl
   where
     by_stage : (t : Stage) (object : Object) → get s.places n ≡ Some (record { stage = t; object = object }) → IsSome (option_and_then file_of (if_held t object)) → with_inode (inodes s) n (shown_at t (inode_of (changed_file (with_bytes content) object))) ≡ insert (inodes s) n (File content.bytes)

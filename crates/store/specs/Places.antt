@@ -7,7 +7,7 @@ use Rattle.std.specs.Ordering.{nat_cmp}
 use Rattle.model.specs.FiniteMap.{FinMap, get, insert, remove}
 use Rattle.model.specs.State.{Name}
 use Rattle.model.specs.Changes.{at_offset}
-use Rattle.objects.specs.Contents.{Content}
+use Rattle.objects.specs.Pieces.{FileContent}
 use Rattle.dirlist.specs.Listing.{Listing}
 use Rattle.store.specs.Numbers.{Numbers, held}
 use Rattle.store.specs.declared.Place.{Place}
@@ -108,7 +108,7 @@ abbrev pub with_opened : (Opened → Opened) → Place → Place
 with_opened f place = record place { object = changed_opened f place.object }
 
 -- a file with other bytes, and with one opening more or less
-abbrev pub with_bytes : Content → OpenFile → OpenFile
+abbrev pub with_bytes : FileContent → OpenFile → OpenFile
 with_bytes content file = record file { bytes = content }
 
 abbrev pub more_openings : OpenFile → OpenFile

@@ -1,5 +1,3 @@
-use Rattle.std.proofs.Common.{◌∙◌, ap}
-use Rattle.file_shadow.specs.View.{view_over}
 use Rattle.shadow.proofs.Overwriting.{over_beside, still_file, written_over}
 use Rattle.shadow.proofs.laying.lay_bytes.Goals as goal
 
@@ -12,7 +10,7 @@ pub returns-clause-here : goal.returns-clause-here
 returns-clause-here c =
     written_over c.args.store.now c.swap_file-file.new.self c.swap_file-empty.new.self c.args.num c.new.result c.commit_into.new.file c.swap_file-file.ensures.swapped
     c.requires.ready.0 c.requires.ready.1 c.args.bytes c.swap_file-file.result c.swap_file-empty.ensures.swapped c.swap_file-file.ensures.former
-    (c.commit_into.ensures.bytes ∙ ap (view_over c.args.bytes) c.roomy-file.ensures.bytes)
+    c.commit_into.ensures.bytes
 
 pub returns-clause-others : goal.returns-clause-others
 returns-clause-others c =

@@ -1,7 +1,7 @@
-use Rattle.std.proofs.Common.{◌+◌, length, Some}
+use Rattle.std.proofs.Common.{length, Some}
 use Rattle.model.specs.Plan.{blocks}
 use Rattle.shadow.specs.Patches.{net_of}
-use Rattle.shadow.specs.Steps.{bytes_written, growth}
+use Rattle.shadow.specs.Steps.{bytes_written}
 use Rattle.shadow.proofs.FiledOn.{filed_on}
 use Rattle.shadow.proofs.Outcomes.{ok_three}
 use Rattle.shadow.proofs.change.Change.write.Goals as goal
@@ -9,6 +9,5 @@ use Rattle.shadow.proofs.change.Change.write.Goals as goal
 pub returns-clause-ok : goal.returns-clause-ok
 returns-clause-ok c =
     ok_three c.write_in.result
-    (filed_on (bytes_written c.args.place c.args.bytes.now) (growth c.args.before (c.args.place + length c.args.bytes.now)) (blocks c.args.place (length c.args.bytes.now)) (net_of (Some c.args.self.now)) (net_of (Some c.make_room.new.self))
-    c.write_in.new.contents c.in_ok-make_room.ensures.same c.in_ok-make_room.ensures.ok)
+    (filed_on (bytes_written c.args.place c.args.bytes.now) (blocks c.args.place (length c.args.bytes.now)) (net_of (Some c.args.self.now)) c.write_in.new.contents)
     c.write_in.ensures.contents c.write_in.ensures.form c.write_in.ensures.numbers

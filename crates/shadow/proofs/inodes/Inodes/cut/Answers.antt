@@ -1,28 +1,14 @@
 use Rattle.std.proofs.Common.{◌≡◌, sym, subst, Some}
 use Rattle.shadow.specs.Patches.{kept_at}
-use Rattle.shadow.specs.Notes.{At, IsCut, SameInodes}
-use Rattle.shadow.proofs.InodesKept.{put_back, same_back, some_kept}
-use Rattle.shadow.proofs.Outcomes.{err_so, ok_so}
+use Rattle.shadow.specs.Notes.{At, IsCut}
+use Rattle.shadow.proofs.InodesKept.{put_back, some_kept}
 use Rattle.shadow.proofs.inodes.Inodes.cut.Goals as goal
 
-pub returns-clause-ok : goal.returns-clause-ok
-returns-clause-ok c =
+pub returns : goal.returns
+returns c =
     let es = c.self.inside.each.entries in
     let was : kept_at es c.args.file ≡ Some c.in-Some.change.now = sym c.in-Some.ensures.value in
-    ok_so c.cut.result
-    (λ h. subst (λ es. At c.args.file (IsCut c.args.before c.args.after) es (c.get_mut.follows.lender c.cut.new.self).entries) c.self.view_is
+    subst (λ es. At c.args.file (IsCut c.args.after) es (c.get_mut.follows.lender c.cut.new.self).entries) c.self.view_is
     (put_back c.args.file c.cut.new.self es (c.get_mut.follows.lender c.cut.new.self).entries
     ((c.get_mut.follows.holds c.cut.new.self).3 (some_kept (kept_at es c.args.file) c.in-Some.change.now was)).0
-    c.in-Some.change.now (IsCut c.args.before c.args.after) was h))
-    c.cut.ensures.ok
-
-pub returns-clause-err : goal.returns-clause-err
-returns-clause-err c =
-    let es = c.self.inside.each.entries in
-    let was : kept_at es c.args.file ≡ Some c.in-Some.change.now = sym c.in-Some.ensures.value in
-    err_so c.cut.result
-    (λ h. subst (λ es. SameInodes es (c.get_mut.follows.lender c.cut.new.self).entries) c.self.view_is
-    (same_back c.args.file c.cut.new.self es (c.get_mut.follows.lender c.cut.new.self).entries
-    ((c.get_mut.follows.holds c.cut.new.self).3 (some_kept (kept_at es c.args.file) c.in-Some.change.now was)).0
-    (Some c.in-Some.change.now) was h))
-    c.cut.ensures.err
+    c.in-Some.change.now (IsCut c.args.after) was c.cut.ensures)

@@ -2,20 +2,17 @@ use Rattle.std.proofs.Common.{[], refl, subst}
 use Rattle.model.specs.Changes.{Cut}
 use Rattle.shadow.specs.Patches.{Patches}
 use Rattle.shadow.specs.Steps.{TakesIn}
-use Rattle.shadow.proofs.Noted.{ok_so, only_inodes, same_then_takes}
+use Rattle.shadow.proofs.Noted.{only_inodes, same_then_takes}
 use Rattle.shadow.proofs.TakenFiles.{cut_takes}
 use Rattle.shadow.proofs.patches.Patches.cut.Goals as goal
 
 pub returns-clause-ok : goal.returns-clause-ok
-returns-clause-ok c =
+returns-clause-ok c before =
     let was = c.self.inside in
     let old : Patches = record { inodes = was.inodes; openings = was.openings; slots = was.slots; lost = was.lost.items } in
     let mid : Patches = record old { inodes = c.make_place.new.self } in
     let new : Patches = record old { inodes = c.cut.new.self } in
-    let edit = Cut c.args.file c.args.before c.args.after in
-    ok_so c.cut.result
-    (λ noted. subst (λ (p : Patches). TakesIn [] edit p new) c.self.view_is
-    (same_then_takes [] edit old mid new
+    subst (λ (p : Patches). TakesIn [] (Cut c.args.file before c.args.after) p new) c.self.view_is
+    (same_then_takes [] (Cut c.args.file before c.args.after) old mid new
     (only_inodes old mid c.make_place.ensures.same refl refl refl)
-    (cut_takes c.args.file c.args.before c.args.after mid new noted refl refl refl)))
-    c.cut.ensures.ok
+    (cut_takes c.args.file before c.args.after mid new c.cut.ensures refl refl refl))

@@ -57,14 +57,14 @@ pub returns-in-PutBytes-clause-ok : goal.returns-in-PutBytes-clause-ok
 returns-in-PutBytes-clause-ok c =
     ok_so c.write-noted.result
     (λ t. subst (λ (e : Edit). TakesIn c.args.chosen.now e c.args.self.now c.write-noted.new.self) (sym c.in-PutBytes.is)
-    (put_taken c.args.chosen.now c.args.self.now c.write-noted.new.self c.in-PutBytes.file c.in-PutBytes.place c.in-PutBytes.bytes c.in-PutBytes.before t))
+    (put_taken c.args.chosen.now c.args.self.now c.write-noted.new.self c.in-PutBytes.file c.in-PutBytes.place c.in-PutBytes.bytes c.in-PutBytes._before (t c.in-PutBytes._before)))
     c.write-noted.ensures.ok
 
 pub returns-in-Cut-clause-ok : goal.returns-in-Cut-clause-ok
 returns-in-Cut-clause-ok c =
     ok_so c.cut.result
     (λ t. subst (λ (e : Edit). TakesIn c.args.chosen.now e c.args.self.now c.cut.new.self) (sym c.in-Cut.is)
-    (cut_taken c.args.chosen.now c.args.self.now c.cut.new.self c.in-Cut.file c.in-Cut.before c.in-Cut.after t))
+    (cut_taken c.args.chosen.now c.args.self.now c.cut.new.self c.in-Cut.file c.in-Cut._before c.in-Cut.after (t c.in-Cut._before)))
     c.cut.ensures.ok
 
 pub returns-in-Take-clause-ok : goal.returns-in-Take-clause-ok

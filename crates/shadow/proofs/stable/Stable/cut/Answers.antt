@@ -7,10 +7,9 @@ use Rattle.store.specs.Shown.{inodes}
 use Rattle.shadow.specs.Claims.{KeepsSame}
 use Rattle.shadow.specs.Committed.{Committed}
 use Rattle.shadow.specs.Stored.{Sound, committed_of, state_of}
-use Rattle.shadow.proofs.Bytes.{either_way, file_still, file_there, former_is, swapped, swapped_twice, unswapped_sound, unswapped_state, cut_sound, cut_state}
+use Rattle.shadow.proofs.Bytes.{file_still, file_there, former_is, swapped, swapped_twice, cut_sound, cut_state}
 use Rattle.shadow.proofs.Edited.{same_of, state_is}
 use Rattle.shadow.proofs.Kept_on.{file_keeps}
-use Rattle.shadow.proofs.Outcomes.{err_so, ok_so}
 use Rattle.shadow.proofs.stable.Stable.cut.Goals as goal
 
 pub swap_file-data-requires : goal.swap_file-data-requires
@@ -25,36 +24,24 @@ is_file c = ap (λ (v : Committed). kind_of v.state c.args.file) c.self.view_is 
 was : (c : goal.After-drop-empty) → get (inodes c.self.inside.store) c.args.file ≡ Some (File c.swap_file-data.result.bytes)
 was c = former_is c.self.inside.store c.args.file c.swap_file-data.result (file_there c.self.inside.store c.args.file (is_file c)) c.swap_file-data.ensures.former
 
-now : (c : goal.After-drop-empty) → c.swap_file-empty.new.self ≡ swapped c.cut-cut.new.self c.self.inside.store c.args.file
-now c = swapped_twice c.new-empty.result c.cut-cut.new.self c.self.inside.store c.swap_file-data.new.self c.swap_file-empty.new.self c.args.file c.swap_file-data.ensures.swapped c.swap_file-empty.ensures.swapped
+now : (c : goal.After-drop-empty) → c.swap_file-empty.new.self ≡ swapped c.cut.new.self c.self.inside.store c.args.file
+now c = swapped_twice c.new-empty.result c.cut.new.self c.self.inside.store c.swap_file-data.new.self c.swap_file-empty.new.self c.args.file c.swap_file-data.ensures.swapped c.swap_file-empty.ensures.swapped
 
-same : (c : goal.After-drop-empty) → c.cut-cut.new.self.bytes ≡ c.swap_file-data.result.bytes → get (inodes c.self.inside.store) c.args.file ≡ Some (File c.cut-cut.new.self.bytes)
-same c is = was c ∙ ap (λ bs. Some (File bs)) (sym is)
-
-changed : (c : goal.After-drop-empty) → c.cut-cut.new.self.bytes ≡ sized c.args.after c.swap_file-data.result.bytes
-    → c.cut-cut.new.self.bytes ≡ sized c.args.after (file_of (state_of c.self.inside.processes.items c.self.inside.store) c.args.file)
-changed c is = is ∙ ap (λ (o : Rattle.std.proofs.Common.Option Inode). sized c.args.after (file_of_inode o)) (sym (was c))
+changed : (c : goal.After-drop-empty) → c.cut.new.self.bytes ≡ sized c.args.after (file_of (state_of c.self.inside.processes.items c.self.inside.store) c.args.file)
+changed c = c.cut.ensures ∙ ap (λ (o : Rattle.std.proofs.Common.Option Inode). sized c.args.after (file_of_inode o)) (sym (was c))
 
 pub invariant_of-self : goal.invariant_of-self
 invariant_of-self c =
-    let ps = c.self.inside.processes.items in let s = c.self.inside.store in let n = c.args.file in let b = c.cut-cut.new.self in
-    subst (Sound ps) (sym (now c)) (either_way c.cut-cut.result c.cut-cut.ensures.ok c.cut-cut.ensures.err
-    (λ h. cut_sound ps s n b c.self.invariant (is_file c) c.args.after (changed c h))
-    (λ h. unswapped_sound ps s n b c.self.invariant (is_file c) (same c h)))
+    subst (Sound c.self.inside.processes.items) (sym (now c))
+    (cut_sound c.self.inside.processes.items c.self.inside.store c.args.file c.cut.new.self c.self.invariant (is_file c) c.args.after (changed c))
 
 pub returns-clause-state : goal.returns-clause-state
-returns-clause-state c =
-    let ps = c.self.inside.processes.items in let s = c.self.inside.store in let n = c.args.file in let b = c.cut-cut.new.self in
-    ok_so c.cut-cut.result (λ h before. state_is ps ps s c.args.self.now c.self.view_is (state_of ps c.swap_file-empty.new.self) (applied [] (Cut n before c.args.after))
-    (ap (state_of ps) (now c) ∙ cut_state ps s n b c.self.invariant (is_file c) before c.args.after (changed c h))) c.cut-cut.ensures.ok
+returns-clause-state c before =
+    let ps = c.self.inside.processes.items in let s = c.self.inside.store in let n = c.args.file in
+    state_is ps ps s c.args.self.now c.self.view_is (state_of ps c.swap_file-empty.new.self) (applied [] (Cut n before c.args.after))
+    (ap (state_of ps) (now c) ∙ cut_state ps s n c.cut.new.self c.self.invariant (is_file c) before c.args.after (changed c))
 
 pub returns-clause-kept : goal.returns-clause-kept
 returns-clause-kept c =
-    let ps = c.self.inside.processes.items in let s = c.self.inside.store in let b = c.cut-cut.new.self in
+    let ps = c.self.inside.processes.items in let s = c.self.inside.store in let b = c.cut.new.self in
     subst (λ t. KeepsSame c.args.self.now (committed_of ps t)) (sym (now c)) (same_of ps ps s c.args.self.now c.self.view_is (swapped b s c.args.file) (file_keeps (with_bytes b) s c.args.file))
-
-pub returns-clause-err : goal.returns-clause-err
-returns-clause-err c =
-    let ps = c.self.inside.processes.items in let s = c.self.inside.store in let n = c.args.file in let b = c.cut-cut.new.self in
-    err_so c.cut-cut.result (λ h. state_is ps ps s c.args.self.now c.self.view_is (state_of ps c.swap_file-empty.new.self) (λ k. k)
-    (ap (state_of ps) (now c) ∙ unswapped_state ps s n b c.self.invariant (is_file c) (same c h))) c.cut-cut.ensures.err

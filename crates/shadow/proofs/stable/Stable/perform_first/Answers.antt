@@ -100,11 +100,11 @@ pub returns-in-Cut-clause-state : goal.returns-in-Cut-clause-state
 returns-in-Cut-clause-state c =
     let chosen : List ℕ = c.args.chosen.now in let k : Kernel = c.args.self.now.state in
     let e : Edit = Cut c.in-Cut.file c.in-Cut._before c.in-Cut.after in
-    ok_so c.cut.result (λ h. h c.in-Cut._before
+    c.cut.ensures.state c.in-Cut._before
     ∙ same_cut chosen k c.in-Cut.file c.in-Cut._before c.in-Cut.after
     ∙ none_goes chosen k e c.state_is_tidied.ensures
     (subst (Fits chosen k) c.in-Cut.is c.requires.fits) refl
-    ∙ ap (λ (e : Edit). tidy (applied chosen e k)) (sym c.in-Cut.is)) c.cut.ensures.state
+    ∙ ap (λ (e : Edit). tidy (applied chosen e k)) (sym c.in-Cut.is)
 
 pub returns-in-Take-clause-state : goal.returns-in-Take-clause-state
 returns-in-Take-clause-state c =

@@ -1,0 +1,253 @@
+// Bytes in a row.
+ghost use Rattle.objects.specs.declared.run.TheConstants.{LARGEST_RUN};
+ghost use Rattle.std.specs.Prelude.{◌≡◌, ◌+◌, ◌≤◌, ◌⊎◌, ◌==◌, nat_le, IfOk, IsOk, OnOk, OnErr};
+ghost use Rattle.std.specs.Prelude.{[], ◌++◌, length, take, drop, vec_capacity};
+ghost use Rattle.model.specs.Changes.{sized, written};
+ghost use Rattle.objects.specs.Contents.{pasted, Overlaid};
+ghost use Rattle.objects.specs.Pieces.{LaidIn};
+
+use crate::cell::Cell;
+use crate::slices::{lay, overlay, part, paste};
+use heap::Heap;
+use ids::Bytes;
+use std::alloc::AllocError;
+use std::marker::Model;
+use std::mem;
+
+/// How many bytes there are at most in a row: as many as one call reads or writes.
+pub const LARGEST_RUN: usize = 1_048_576;
+
+/// Bytes in a row, at most [`LARGEST_RUN`]. Its room is the number of bytes for which it has memory;
+/// no call makes it smaller.
+pub struct Run {
+    bytes: Vec<u8, Heap>,
+}
+
+// By hand: a derived drop is opened at every place where a value goes, this one is called.
+impl Drop for Run {
+    fn drop(self) {
+        let Run { bytes: _ } = self;
+    }
+}
+
+impl Model for Run {
+    ghost use Rattle.std.specs.Prelude.{◌≤◌, vec_len, vec_capacity};
+    ghost use Rattle.objects.specs.Contents.{Content};
+    ghost use Rattle.objects.specs.declared.run.TheConstants.{LARGEST_RUN};
+
+    ghost Value = { Content };
+
+    ghost view = { λ f. record {
+      bytes = f.bytes.items;
+      room = vec_capacity f.bytes;
+    } };
+
+    ghost invariant = { λ f. vec_len f.bytes ≤ LARGEST_RUN };
+}
+
+impl Run {
+    /// No bytes. It takes no memory.
+    pub fn new(heap: Heap) -> Run
+        ensures { result.bytes ≡ [] }
+    {
+        Run {
+            bytes: Vec::new(heap),
+        }
+    }
+
+    /// How many bytes it has.
+    pub fn len(&self) -> usize
+        ensures value { result ≡ length self.now.bytes }
+        ensures within { result ≤ self.now.room }
+        ensures small { result ≤ LARGEST_RUN }
+    {
+        self.bytes.len()
+    }
+
+    /// Whether it has no bytes.
+    pub fn is_empty(&self) -> bool
+        ensures { result ≡ (length self.now.bytes == 0) }
+    {
+        self.bytes.is_empty()
+    }
+
+    /// Whether it has memory for so many bytes.
+    pub fn has_room(&self, len: usize) -> bool
+        ensures { result ≡ nat_le len self.now.room }
+    {
+        len <= self.bytes.capacity()
+    }
+
+    /// All bytes, in order.
+    pub fn as_slice(&self) -> &[u8]
+        ensures value { result.now ≡ self.now.bytes }
+        ensures within { length result.now ≤ self.now.room }
+        ensures small { length result.now ≤ LARGEST_RUN }
+    {
+        self.bytes.as_slice()
+    }
+
+    /// A copy of at most `count` bytes from a place on; past the end there are none.
+    pub fn read_at(&self, heap: Heap, place: usize, count: usize) -> Result<Bytes, AllocError>
+        ensures { IfOk result (λ bytes. bytes ≡ take count (drop place self.now.bytes)) }
+    {
+        Bytes::copy(heap, part(self.bytes.as_slice(), place, count))
+    }
+
+    /// Makes room for so many bytes in all. Refused memory changes nothing.
+    pub fn promise(&mut self, len: usize) -> Result<(), AllocError>
+        ensures ok { OnOk result (len ≤ self.new.room) }
+        ensures bytes { self.new.bytes ≡ self.old.bytes }
+        ensures room { self.old.room ≤ self.new.room }
+        ensures promised { len ≤ self.old.room → IsOk result }
+        ensures err { OnErr result (self.new ≡ self.old) }
+    {
+        if self.bytes.len() < len {
+            self.bytes.reserve(len - self.bytes.len())?;
+        }
+        Ok(())
+    }
+
+    /// Writes bytes from a place on, and fills a gap before them with zero bytes. Where there is
+    /// room it takes no memory. Refused memory changes nothing.
+    pub fn write_at(&mut self, place: usize, bytes: &[u8]) -> Result<(), AllocError>
+        requires { place + length bytes.now ≤ LARGEST_RUN }
+        ensures ok { OnOk result (self.new.bytes ≡ written self.old.bytes place bytes.now) }
+        ensures promised { place + length bytes.now ≤ self.old.room → IsOk result }
+        ensures room { self.old.room ≤ self.new.room }
+        ensures err { OnErr result (self.new.bytes ≡ self.old.bytes) }
+    {
+        let end = place + bytes.len();
+        if end <= self.bytes.len() {
+            self.paste(place, bytes);
+            return Ok(());
+        }
+        self.bytes.reserve(end - self.bytes.len())?;
+        self.put_at_end(place, bytes);
+        Ok(())
+    }
+
+    // Writes bytes that reach to the end or past it, each once. There has to be room.
+    fn put_at_end(&mut self, place: usize, bytes: &[u8])
+        requires small { place + length bytes.now ≤ LARGEST_RUN }
+        requires end { length self.old.bytes ≤ place + length bytes.now }
+        requires room { place + length bytes.now ≤ self.old.room }
+        ensures bytes { self.new.bytes ≡ written self.old.bytes place bytes.now }
+        ensures room { self.old.room ≤ self.new.room }
+    {
+        self.bytes.resize(place, 0).unwrap();
+        self.bytes.extend_from_slice(bytes).unwrap();
+    }
+
+    /// Shortens it, or fills it up with zero bytes. Where there is room it takes no memory.
+    /// Refused memory changes nothing.
+    pub fn cut(&mut self, len: usize) -> Result<(), AllocError>
+        requires { len ≤ LARGEST_RUN }
+        ensures ok { OnOk result (self.new.bytes ≡ sized len self.old.bytes) }
+        ensures promised { len ≤ self.old.room → IsOk result }
+        ensures room { self.old.room ≤ self.new.room }
+        ensures err { OnErr result (self.new.bytes ≡ self.old.bytes) }
+    {
+        self.bytes.resize(len, 0)
+    }
+
+    /// Writes bytes over those from a place on. They have to end within the file. It takes no
+    /// memory.
+    pub fn paste(&mut self, place: usize, bytes: &[u8])
+        requires { place + length bytes.now ≤ length self.old.bytes }
+        ensures { self.new ≡ record self.old { bytes = pasted self.old.bytes place bytes.now } }
+    {
+        paste(self.bytes.as_mut_slice(), place, bytes);
+    }
+
+    /// Writes bytes over those from a place on, where they are there. They have to end within the
+    /// file. It takes no memory.
+    pub fn overlay(&mut self, place: usize, bytes: &[Option<u8>])
+        requires { place + length bytes.now ≤ length self.old.bytes }
+        ensures bytes { Overlaid (length bytes.now) place bytes.now self.old.bytes self.new.bytes }
+        ensures room { self.new.room ≡ self.old.room }
+    {
+        overlay(self.bytes.as_mut_slice(), place, bytes);
+    }
+
+    /// Writes over the bytes from a place on what was written into these places. They have to end
+    /// within the file. It takes no memory.
+    pub fn lay(&mut self, place: usize, cells: &[Cell])
+        requires { place + length cells.now ≤ length self.old.bytes }
+        ensures bytes { Overlaid (length cells.now) place cells.now self.old.bytes self.new.bytes }
+        ensures room { self.new.room ≡ self.old.room }
+    {
+        lay(self.bytes.as_mut_slice(), place, cells);
+    }
+
+    /// Writes over the bytes from a place on what was written into these places. Where they end
+    /// behind the bytes, zero bytes come there first. There has to be room; it takes no memory.
+    pub fn lay_at(&mut self, place: usize, cells: &[Cell])
+        requires small { place + length cells.now ≤ LARGEST_RUN }
+        requires room { place + length cells.now ≤ self.old.room }
+        ensures laid { LaidIn place cells.now self.old.bytes self.new.bytes }
+        ensures room { self.old.room ≤ self.new.room }
+    {
+        if self.bytes.len() < place + cells.len() {
+            self.cut(place + cells.len()).unwrap();
+        }
+        self.lay(place, cells);
+    }
+
+    /// Leaves at most so many of the first bytes.
+    pub fn shorten(&mut self, len: usize)
+        ensures bytes { self.new.bytes ≡ take len self.old.bytes }
+        ensures room { self.new.room ≡ self.old.room }
+    {
+        self.bytes.truncate(len);
+    }
+
+    /// Takes the bytes and the room of another, where one of both has no bytes: the bytes of the
+    /// one that has some, in the larger room. It takes no memory.
+    pub fn join(&mut self, other: Run)
+        requires { (self.old.bytes ≡ []) ⊎ (other.bytes ≡ []) }
+        ensures first { other.bytes ≡ [] → self.new.bytes ≡ self.old.bytes }
+        ensures second { self.old.bytes ≡ [] → self.new.bytes ≡ other.bytes }
+        ensures room { self.old.room ≤ self.new.room }
+        ensures other { other.room ≤ self.new.room }
+    {
+        let mut bytes = other.into_vec();
+        if self.bytes.capacity() < bytes.capacity() {
+            mem::swap(&mut self.bytes, &mut bytes);
+        }
+        if self.bytes.is_empty() {
+            self.bytes.extend_from_slice(bytes.as_slice()).unwrap();
+        }
+    }
+
+    /// Adds bytes behind those that are there, and zero bytes until so many were added. Refused memory
+    /// changes nothing.
+    pub fn add(&mut self, bytes: &[u8], len: usize) -> Result<(), AllocError>
+        requires { length self.old.bytes + len ≤ LARGEST_RUN }
+        ensures ok { OnOk result (self.new.bytes ≡ self.old.bytes ++ sized len bytes.now) }
+        ensures err { OnErr result (self.new.bytes ≡ self.old.bytes) }
+    {
+        let end = self.bytes.len() + len;
+        self.bytes.reserve(len)?;
+        self.bytes.extend_from_slice(part(bytes, 0, len)).unwrap();
+        self.bytes.resize(end, 0).unwrap();
+        Ok(())
+    }
+
+    // Its bytes, with its room.
+    fn into_vec(self) -> Vec<u8, Heap>
+        ensures bytes { result.items ≡ self.bytes }
+        ensures room { vec_capacity result ≡ self.room }
+    {
+        let Run { bytes } = self;
+        bytes
+    }
+
+    /// The bytes alone, with no memory.
+    pub fn into_bytes(self) -> Bytes
+        ensures { result ≡ self.bytes }
+    {
+        let Run { bytes } = self;
+        Bytes::new(bytes)
+    }
+}
