@@ -168,12 +168,7 @@ impl Inodes {
 
     /// Notes bytes that are written into a file, where there is a place for it. Refused memory
     /// changes nothing that shows.
-    pub(crate) fn write(
-        &mut self,
-        file: Num,
-        place: usize,
-        bytes: &[u8],
-    ) -> Result<(), AllocError>
+    pub(crate) fn write(&mut self, file: Num, place: usize, bytes: &[u8]) -> Result<(), AllocError>
         requires place { kept_at self.old file ≢ None }
         requires small { place + length bytes.now ≤ LARGEST_FILE }
         ensures ok { OnOk result (At file (IsWritten place bytes.now) self.old self.new) }
