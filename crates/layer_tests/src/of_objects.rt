@@ -11,6 +11,14 @@ fn assert_holds(rt: &impl Abort, heap: Heap, file: &FileData, want: &[u8]) {
     assert_eq!(rt; bytes.as_slice(), want);
 }
 
+// What stands in a file from a place on, as far as this reaches.
+fn assert_reads(rt: &impl Abort, heap: Heap, file: &FileData, place: usize, want: &[u8]) {
+    let bytes = file
+        .read_at(heap, place, want.len().min(100))
+        .expect(rt, "memory");
+    assert_eq!(rt; bytes.as_slice(), want);
+}
+
 #[test]
 fn a_file_grows_in_room_that_was_made(rt: HostRuntime) {
     let heap = heap::open(rt.alloc()).expect(&rt, "memory");
@@ -43,17 +51,16 @@ fn a_gap_takes_no_memory(rt: HostRuntime) {
 fn a_write_goes_over_the_borders_of_pieces(rt: HostRuntime) {
     let heap = heap::open(rt.alloc()).expect(&rt, "memory");
     let mut file = FileData::new(heap);
-    file.write_at(16_000, &[7; 40_000]).expect(&rt, "memory");
+    file.write_at(16_380, b"pqrstuvw").expect(&rt, "memory");
     file.write_at(16_383, b"ab").expect(&rt, "memory");
-    let mut want = [0; 56_000];
-    want[16_000..].fill(7);
-    want[16_383] = b'a';
-    want[16_384] = b'b';
-    assert_holds(&rt, heap, &file, &want);
+    assert_reads(&rt, heap, &file, 16_378, b"\0\0pqrabuvw");
+    file.write_at(32_760, &[7; 20_000]).expect(&rt, "memory");
+    assert_reads(&rt, heap, &file, 32_758, &[0, 0, 7, 7]);
+    assert_reads(&rt, heap, &file, 49_150, &[7; 10]);
+    assert_reads(&rt, heap, &file, 52_758, &[7, 7]);
     file.cut(16_384);
-    file.cut(16_385);
-    want[16_384] = 0;
-    assert_holds(&rt, heap, &file, &want[..16_385]);
+    file.cut(16_386);
+    assert_reads(&rt, heap, &file, 16_378, b"\0\0pqra\0\0");
     drop(file);
 }
 
