@@ -37,6 +37,20 @@ GROWTH = [
 
 LENGTHS = ["transactions of 10 calls", "transactions of 10000 calls"]
 
+FILES = [
+    f"{name}, {size} MiB"
+    for name in (
+        "write 4 KiB at the end",
+        "lseek, write 4 KiB anywhere",
+        "lseek, read 4 KiB anywhere",
+        "ftruncate by one byte",
+        "ftruncate a gap to no byte",
+    )
+    for size in (1, 16, 256, 1024)
+]
+
+BULK = "write 256 MiB by 64 KiB"
+
 THREADS = ["1 thread", "2 threads", "4 threads"]
 
 READING = ["read a script", "read a schedule", "put the steps in order"]
@@ -197,6 +211,47 @@ def print_lengths(best):
     print_table(["", "plain", "call", "to plain", "end, a call", "abort, a call"], rows)
 
 
+def print_files(best):
+    print("Files of many bytes: nanoseconds and requests for memory a line, 100 of each (of the last one)\n")
+    rows = []
+    for row in FILES:
+        plain = nanos_of(best, "plain", row)
+        within = nanos_of(best, "within", row)
+        tmpfs = nanos_of(best, "tmpfs", row)
+        rows.append(
+            [
+                row,
+                count(plain),
+                decimal(requests_of(best, "plain", row)),
+                count(within),
+                decimal(requests_of(best, "within", row)),
+                times(ratio(within, plain)),
+                count(nanos_of(best, "end", row)),
+                count(tmpfs),
+                times(ratio(plain, tmpfs)),
+            ]
+        )
+    print_table(
+        [
+            "",
+            "plain",
+            "requests",
+            "in a transaction",
+            "requests",
+            "to plain",
+            "its end",
+            "tmpfs",
+            "plain to tmpfs",
+        ],
+        rows,
+    )
+    print("A file of 256 MiB, written by 64 KiB: nanoseconds a MiB, and the most memory that the process held, in KiB\n")
+    rows = []
+    for way in ("plain", "within", "end", "tmpfs"):
+        rows.append([way, count(nanos_of(best, way, BULK)), count(nanos_of(best, f"{way} peak", BULK))])
+    print_table(["", "a MiB", "KiB"], rows)
+
+
 def print_lock(best):
     print("The one lock: a stat by so many threads, nanoseconds a call of all, and calls a second against a step's\n")
     step = nanos_of(best, "step", THREADS[0])
@@ -314,7 +369,7 @@ def print_goals(best):
 
 def main():
     best = read(sys.stdin)
-    for part in (print_calls, print_growth, print_lengths, print_lock, print_edges, print_check, print_goals):
+    for part in (print_calls, print_growth, print_lengths, print_files, print_lock, print_edges, print_check, print_goals):
         part(best)
 
 

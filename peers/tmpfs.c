@@ -1,7 +1,7 @@
 /*
  * The machine's own kernel as a peer: the rows of crates/bench by system calls, in a folder that lies on tmpfs.
  *
- * usage: tmpfs FOLDER PART, with PART one of small, large, largest and lines
+ * usage: tmpfs FOLDER PART, with PART one of small, large, largest, files and lines
  *
  * Each line has, with tabs between: "tmpfs", the row's name, a number of calls, their nanoseconds by CLOCK_MONOTONIC,
  * and 0. The folder is empty before and after.
@@ -230,6 +230,123 @@ static void largest(void)
         do_rmdir(scattered(i));
 }
 
+/* What crates/bench/src/files.rt does with a file of many bytes, at the i-th time. */
+#define PIECE 4096
+
+static char piece[1 << 20];
+static int open_file;
+
+static void seek_to(off_t place)
+{
+    must(lseek(open_file, place, SEEK_SET) < 0 ? -1 : 0, "lseek");
+}
+
+static void write_piece(size_t count)
+{
+    if (write(open_file, piece, count) != (ssize_t)count)
+        fail("write");
+}
+
+static uint32_t place_of(uint32_t i, uint32_t size)
+{
+    return i * UINT32_C(2654435761) % (size - PIECE);
+}
+
+typedef void file_work(uint32_t i, uint32_t size);
+
+static void do_append(uint32_t i, uint32_t size)
+{
+    (void)i;
+    (void)size;
+    write_piece(PIECE);
+}
+
+static void do_write_anywhere(uint32_t i, uint32_t size)
+{
+    seek_to(place_of(i, size));
+    write_piece(PIECE);
+}
+
+static void do_read_anywhere(uint32_t i, uint32_t size)
+{
+    char bytes[PIECE];
+    seek_to(place_of(i, size));
+    if (read(open_file, bytes, PIECE) != PIECE)
+        fail("read");
+}
+
+static void do_cut(uint32_t i, uint32_t size)
+{
+    must(ftruncate(open_file, size - (1 - i % 2)), "ftruncate");
+}
+
+static void file_row(const char *name, uint32_t mib, file_work *each)
+{
+    char row[64];
+    snprintf(row, sizeof row, "%s, %u MiB", name, (unsigned)mib);
+    for (int repetition = 0; repetition < 5; repetition++) {
+        int64_t start;
+        must(lseek(open_file, 0, SEEK_END) < 0 ? -1 : 0, "lseek");
+        start = nanos();
+        for (uint32_t i = 0; i < 100; i++)
+            each(i, mib << 20);
+        print_row(row, 100, start);
+        must(ftruncate(open_file, (off_t)mib << 20), "ftruncate");
+    }
+}
+
+static void emptied_row(uint32_t mib)
+{
+    char row[64];
+    must(ftruncate(open_file, 0), "ftruncate");
+    must(ftruncate(open_file, (off_t)mib << 20), "ftruncate");
+    snprintf(row, sizeof row, "ftruncate a gap to no byte, %u MiB", (unsigned)mib);
+    for (int repetition = 0; repetition < 5; repetition++) {
+        int64_t start = nanos();
+        must(ftruncate(open_file, 0), "ftruncate");
+        print_row(row, 1, start);
+        must(ftruncate(open_file, (off_t)mib << 20), "ftruncate");
+    }
+}
+
+static void make_file(void)
+{
+    open_file = open("file", O_RDWR | O_CREAT | O_TRUNC, 0644);
+    must(open_file, "open");
+}
+
+static void drop_file(void)
+{
+    close(open_file);
+    unlink("file");
+}
+
+static void files(void)
+{
+    static const uint32_t sizes[] = { 1, 16, 256, 1024 };
+    memset(piece, 'x', sizeof piece);
+    for (size_t at = 0; at < sizeof sizes / sizeof *sizes; at++) {
+        make_file();
+        for (uint32_t mib = 0; mib < sizes[at]; mib++)
+            write_piece(sizeof piece);
+        file_row("write 4 KiB at the end", sizes[at], do_append);
+        file_row("lseek, write 4 KiB anywhere", sizes[at], do_write_anywhere);
+        file_row("lseek, read 4 KiB anywhere", sizes[at], do_read_anywhere);
+        file_row("ftruncate by one byte", sizes[at], do_cut);
+        emptied_row(sizes[at]);
+        drop_file();
+    }
+    for (int repetition = 0; repetition < 3; repetition++) {
+        int64_t start;
+        make_file();
+        start = nanos();
+        for (uint32_t number = 0; number < 4096; number++)
+            write_piece(65536);
+        print_row("write 256 MiB by 64 KiB", 256, start);
+        drop_file();
+    }
+}
+
 /* The lines of the long transcript of crates/bench/src/edges.rt, by fprintf. */
 static void lines(void)
 {
@@ -285,6 +402,8 @@ int main(int count, char **words)
         large();
     else if (!strcmp(words[2], "largest"))
         largest();
+    else if (!strcmp(words[2], "files"))
+        files();
     else if (!strcmp(words[2], "lines"))
         lines();
     clear();

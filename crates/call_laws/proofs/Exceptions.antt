@@ -4,7 +4,7 @@ use Rattle.std.proofs.Common.{◌≡◌, ◌≢◌, ℕ, ◌<◌, List, [], ◌�
 use Rattle.model.specs.State.{Name, Kernel, A_directory}
 use Rattle.model.specs.Aspects.{Entry, Names, Links}
 use Rattle.model.specs.Calls.{Mkdir, Rmdir, Fork, Own}
-use Rattle.model.specs.Script.{fresh, runs}
+use Rattle.model.specs.Script.{by_default, fresh, runs}
 use Rattle.call_laws.specs.WellFormed.{WellFormed}
 use Rattle.call_laws.specs.CallLaws.{IsReady, changed}
 use Rattle.call_laws.specs.Exceptions.{ReadyCall, ExceptionsAreNeeded}
@@ -15,9 +15,9 @@ use Rattle.call_laws.proofs.Laws.{calls_are_lawful_lem}
 make : IsReady WellFormed fresh 1 (Mkdir (codes "/a")) (1 ∷ [])
 unfolding runs
 make = record {
-  well = calls_are_lawful_lem.well_start 0 (0 ∷ 0 ∷ []);
+  well = calls_are_lawful_lem.well_start 0 (by_default (0 ∷ 0 ∷ []));
   alive = refl;
-  numbers = record { count = refl; unused = (unused_nowhere fresh 1 (calls_are_lawful_lem.well_start 0 (0 ∷ 0 ∷ [])) refl refl, tt); different = (tt, tt) };
+  numbers = record { count = refl; unused = (unused_nowhere fresh 1 (calls_are_lawful_lem.well_start 0 (by_default (0 ∷ 0 ∷ []))) refl refl, tt); different = (tt, tt) };
 }
 
 abbrev made : Kernel
@@ -33,7 +33,7 @@ remove = record {
 
 fork : IsReady WellFormed fresh 1 Fork []
 unfolding runs
-fork = record { well = calls_are_lawful_lem.well_start 0 (0 ∷ 0 ∷ []); alive = refl; numbers = record { count = refl; unused = tt; different = tt } }
+fork = record { well = calls_are_lawful_lem.well_start 0 (by_default (0 ∷ 0 ∷ [])); alive = refl; numbers = record { count = refl; unused = tt; different = tt } }
 
 abbrev making : ReadyCall
 making = record { state = fresh; pid = 1; call = Mkdir (codes "/a"); chosen = 1 ∷ []; ready = make }

@@ -30,14 +30,14 @@ placed made (p ∷ ps) m (suc i) low =
     ap (get (with_processes (suc made) ps (insert m (suc made) (fresh p)))) here ∙ placed (suc made) ps (insert m (suc made) (fresh p)) i (omega arith)
 
 pub first_processes_live : FirstProcessesLive
-first_processes_live root priorities = record {
+first_processes_live root setup = record {
   made = refl;
   alive = λ i low. ap is_some (there i low);
   priority = λ i low. ap (λ o. (or_new o).priority) (there i low);
-  none = λ q out. ap is_some (untouched 0 priorities empty q (elim out [
+  none = λ q out. ap is_some (untouched 0 setup.priorities empty q (elim out [
     | inl zero_th ↦ (let none : q ≡ 0 = zero_th in inl (omega arith))
-    | inr high ↦ (let above : length priorities < q = high in inr (omega arith))
+    | inr high ↦ (let above : length setup.priorities < q = high in inr (omega arith))
   ]) ∙ get-empty nat_cmp q);
 } where
-  there : (i : ℕ) → i < length priorities → get (with_processes 0 priorities empty) (suc i) ≡ Some (fresh (get_or priorities i 0))
-  there i low = (let here : suc i ≡ suc (0 + i) = omega arith in ap (get (with_processes 0 priorities empty)) here ∙ placed 0 priorities empty i low)
+  there : (i : ℕ) → i < length setup.priorities → get (with_processes 0 setup.priorities empty) (suc i) ≡ Some (fresh (get_or setup.priorities i 0))
+  there i low = (let here : suc i ≡ suc (0 + i) = omega arith in ap (get (with_processes 0 setup.priorities empty)) here ∙ placed 0 setup.priorities empty i low)

@@ -5,6 +5,7 @@ mod Numbers
 mod Exceptions
 mod Trees
 mod FirstProcesses
+mod Largest
 mod edits
 mod calls
 mod law

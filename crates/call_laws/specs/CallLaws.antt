@@ -10,7 +10,7 @@ use Rattle.model.specs.Steps.{reads, writes, edits, IsNowhere, CanBeChosen}
 use Rattle.call_laws.specs.Objects.{IsThere, LeavesAlone}
 use Rattle.model.specs.Laws.{GoesTheSame, DependsOnWhatItSaw}
 use Rattle.model.specs.Entries.{is_inside}
-use Rattle.model.specs.Moments.{is_alive, is_in, start}
+use Rattle.model.specs.Moments.{Setup, is_alive, is_in, start}
 
 -- the object that an aspect is of
 abbrev pub object_of : Aspect → ℕ
@@ -99,6 +99,5 @@ pub record CallLaws (Well : Kernel → Type 0) : Type 0 where
   pub tidy_twice : (k : Kernel) → Well k → tidy (tidy k) ≡ tidy k
   pub nowhere_tidy : (k : Kernel) (n : ℕ) → IsNowhere k n → IsNowhere (tidy k) n
   -- the state before any entry
-  pub well_start : (root : ℕ) (priorities : List ℕ) → Well (start root priorities)
-  pub tidy_start : (root : ℕ) (priorities : List ℕ)
-      → tidy (start root priorities) ≡ start root priorities
+  pub well_start : (root : ℕ) (setup : Setup) → Well (start root setup)
+  pub tidy_start : (root : ℕ) (setup : Setup) → tidy (start root setup) ≡ start root setup

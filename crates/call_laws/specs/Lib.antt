@@ -7,3 +7,4 @@ pub mod Trees
 pub mod Fits
 pub mod Processes
 pub mod Untidied
+pub mod Largest

@@ -7,6 +7,7 @@
 
 ghost use Rattle.call_laws.specs.CallLaws.{CallLaws};
 ghost use Rattle.call_laws.specs.Exceptions.{ExceptionsAreNeeded};
+ghost use Rattle.call_laws.specs.Largest.{LargestStays};
 ghost use Rattle.call_laws.specs.Numbers.{UnusedNumbersAreNowhere, EveryCallCanBeMade};
 ghost use Rattle.call_laws.specs.Processes.{FirstProcessesLive};
 ghost use Rattle.call_laws.specs.Trees.{DirectoriesAreATree};
@@ -47,4 +48,9 @@ pub fn exceptions_are_needed()
 /// Proved in `proofs/FirstProcesses.antt`.
 pub fn first_processes_live()
     ensures { FirstProcessesLive }
+{}
+
+/// Nothing changes the most bytes of a file. Proved in `proofs/Largest.antt`.
+pub fn the_largest_file_stays()
+    ensures { LargestStays }
 {}

@@ -3,7 +3,7 @@ use Rattle.std.proofs.Common.{◌≡◌, ℕ, ℤ, pos, negsuc, [], ◌∷◌, B
 use Rattle.model.specs.Plan.{Refuse, EINVAL, refuse_if, ◌>>◌}
 use Rattle.model.specs.Calls.{Slot, New_place}
 use Rattle.model.specs.Changes.{Set_offset}
-use Rattle.model.specs.Plans.{changed, sought, largest}
+use Rattle.model.specs.Plans.{changed, sought}
 use Rattle.calls.specs.Parts.{place_in}
 
 abbrev or_zero : Option ℕ → ℕ
@@ -22,10 +22,10 @@ none_by : (d n : ℕ) (b : Bool) → (if b then None else Some n) ≡ None → (
 none_by d n true h = refl
 none_by d n false h = let e : true ≡ false = ap is_there h in absurd (grind (arith, e))
 
-pub sought_some : (it : Slot) (sum : ℤ) (m : ℕ) → place_in sum ≡ Some m → sought it sum ≡ changed (New_place m) (Set_offset it.description m ∷ [])
-sought_some it (pos n) m h = some_by it.description n m (nat_lt largest n) h
-sought_some it (negsuc n) m h = let e : false ≡ true = ap is_there h in absurd (grind (arith, e))
+pub sought_some : (largest : ℕ) (it : Slot) (sum : ℤ) (m : ℕ) → place_in largest sum ≡ Some m → sought largest it sum ≡ changed (New_place m) (Set_offset it.description m ∷ [])
+sought_some largest it (pos n) m h = some_by it.description n m (nat_lt largest n) h
+sought_some largest it (negsuc n) m h = let e : false ≡ true = ap is_there h in absurd (grind (arith, e))
 
-pub sought_none : (it : Slot) (sum : ℤ) → place_in sum ≡ None → sought it sum ≡ Refuse EINVAL
-sought_none it (pos n) h = none_by it.description n (nat_lt largest n) h
-sought_none it (negsuc n) h = refl
+pub sought_none : (largest : ℕ) (it : Slot) (sum : ℤ) → place_in largest sum ≡ None → sought largest it sum ≡ Refuse EINVAL
+sought_none largest it (pos n) h = none_by it.description n (nat_lt largest n) h
+sought_none largest it (negsuc n) h = refl

@@ -1,6 +1,7 @@
 // The questions that a plan asks, each with what it reads.
 ghost use Rattle.std.specs.Prelude.{◌≡◌, ◌+◌, ◌<◌, ◌≤◌};
 ghost use Rattle.std.specs.Prelude.{◌^◌, IfOk, OnOk, length, map};
+ghost use Rattle.ids.specs.declared.limits.TheConstants.{MOST_MOVED};
 ghost use Rattle.model.specs.Aspects.{Block};
 ghost use Rattle.calls.specs.Parts.{has_no_names};
 ghost use Rattle.model.specs.Plan.{ask, List_names, Measure, Read_file, Count_links, Count_ends};
@@ -95,6 +96,7 @@ pub(crate) fn read_file<L: Look>(
     count: u32,
     reads: &mut Reads,
 ) -> Result<Bytes, Refusal>
+    requires { count ≤ MOST_MOVED }
     ensures value { Comes (L.state look.now)
         (ask (Read_file file place count)) reads.old result reads.new }
     ensures small { IfOk result (λ bytes. place + length bytes < 2 ^ 32) }

@@ -3,14 +3,11 @@ ghost use Rattle.std.specs.Prelude.{◌&&◌, ◌||◌, ◌≡◌, not, nat_lt, 
 ghost use Rattle.std.specs.Prelude.{if◌then◌else◌, IfOk, ◌<◌, length};
 ghost use Rattle.model.specs.Plan.{refuse_if, EINVAL, EEXIST, EISDIR, EAGAIN};
 ghost use Rattle.ids.specs.Flags.{is_reading, is_writing, is_creating, is_exclusive, is_truncating};
-ghost use Rattle.model.specs.Plans.{is_pipe, largest, whole_write};
+ghost use Rattle.model.specs.Plans.{is_pipe, whole_write};
 ghost use Rattle.look.specs.Asked.{Tells};
 
 use crate::steps::refuse_if;
-use ids::{Bytes, Errno, Kind, LARGEST_FILE, OpenFlags, Refusal, WHOLE_WRITE};
-
-/// How many bytes a file has at most.
-pub(crate) const LARGEST: u32 = LARGEST_FILE as u32;
+use ids::{Bytes, Errno, Kind, OpenFlags, Refusal, WHOLE_WRITE};
 
 pub(crate) fn must_read_or_write(flags: OpenFlags) -> Result<(), Refusal>
     ensures { Tells (refuse_if (not (is_reading flags || is_writing flags)) EINVAL) result }

@@ -1,13 +1,13 @@
 // The plans of calls on files and pipes.
 ghost use Rattle.std.specs.Prelude.{◌≡◌, ◌<◌, ◌≤◌, ◌^◌, ◌+◌, [], ◌∷◌, length, take};
-ghost use Rattle.std.specs.Prelude.{IfOk, Some, None, ◌++◌, if◌then◌else◌};
+ghost use Rattle.std.specs.Prelude.{IfOk, Some, None, ◌++◌, min, if◌then◌else◌};
 ghost use Rattle.model.specs.Paths.{is_empty};
 ghost use Rattle.model.specs.Plan.{Give};
 ghost use Rattle.model.specs.Walks.{Last};
 ghost use Rattle.model.specs.Changes.{Set_offset, Put_bytes};
 ghost use Rattle.ids.specs.Flags.{is_truncating};
 ghost use Rattle.model.specs.Plans.{plan, changed, mode, opened, cut_to};
-ghost use Rattle.model.specs.Plans.{read_pipe, place_to_write};
+ghost use Rattle.model.specs.Plans.{read_pipe, place_to_write, room, most_moved};
 ghost use Rattle.model.specs.Calls.{Slot, Count, Open, Read, Write, Ftruncate};
 ghost use Rattle.calls.specs.Parts.{open_path, some_of_pipe, some_of_file, some_to_pipe};
 ghost use Rattle.calls.specs.Parts.{some_to_file};
@@ -16,13 +16,15 @@ ghost use Rattle.look.specs.Asked.{Comes, Tells};
 use crate::asking::{ends, fit, offset, read_file, read_pipe, size};
 use crate::change::{Change, Edits, changed, changed_by, unchanged};
 use crate::checks::{
-    LARGEST, must_be_below, must_be_new, must_create_to_exclude, must_fit, must_not_be_pipe,
+    must_be_below, must_be_new, must_create_to_exclude, must_fit, must_not_be_pipe,
     must_read_or_write, must_write_to_truncate, refusal_of_root,
 };
 use crate::own::{Own, is_pipe, lowest, slot};
 use crate::steps::{must_not_be_directory, parsed, refuse_if};
 use heap::Heap;
-use ids::{Answer, Bytes, Edit, Errno, Fd, Kind, Mode, Num, OpenFlags, Refusal, Slot, Which};
+use ids::{
+    Answer, Bytes, Edit, Errno, Fd, Kind, MOST_MOVED, Mode, Num, OpenFlags, Refusal, Slot, Which,
+};
 use look::Look;
 use path::Path;
 use std::alloc::AllocError;
@@ -156,7 +158,7 @@ pub(crate) fn ftruncate<L: Look>(
     let it = slot(own, fd)?;
     refuse_if(!it.writing, Errno::EBADF)?;
     must_not_be_pipe(it.kind, Errno::EINVAL)?;
-    refuse_if(LARGEST < length, Errno::EFBIG)?;
+    refuse_if(own.largest() < length, Errno::EFBIG)?;
     let cut = cut_to(look, it.inode, length, reads)?;
     changed(Answer::Done, cut)
 }
@@ -216,9 +218,16 @@ fn read_some_file<L: Look>(
         (some_of_file file description count) reads.old result reads.new }
 {
     let offset = offset(look, description, reads)?;
-    let bytes = read_file(look, file, offset, count, reads)?;
+    let bytes = read_file(look, file, offset, at_most_moved(count), reads)?;
     let edits = moved_on(reads.heap(), description, offset, &bytes)?;
     changed(Answer::Bytes(bytes), edits)
+}
+
+// How many of so many bytes one read moves.
+fn at_most_moved(count: u32) -> u32
+    ensures { result ≡ min count most_moved }
+{
+    count.min(MOST_MOVED as u32)
 }
 
 // The offset behind these bytes.
@@ -259,7 +268,7 @@ pub(crate) fn write<L: Look>(
     } else if is_pipe(it.kind) {
         write_pipe(look, it.inode, bytes, reads)
     } else {
-        write_file(look, it, bytes, reads)
+        write_file(look, own.largest(), it, bytes, reads)
     }
 }
 
@@ -293,17 +302,28 @@ fn write_pipe<L: Look>(
 
 fn write_file<L: Look>(
     look: &L,
+    largest: u32,
     it: Slot,
     bytes: &Bytes,
     reads: &mut Reads,
 ) -> Result<Change, Refusal>
-    ensures { Comes (L.state look.now) (some_to_file it bytes.now) reads.old result reads.new }
+    ensures { Comes (L.state look.now)
+        (some_to_file largest it bytes.now) reads.old result reads.new }
 {
     let place = place_to_write(look, &it, reads)?;
-    must_be_below(place, LARGEST, Errno::EFBIG)?;
+    must_be_below(place, largest, Errno::EFBIG)?;
     let size = size(look, it.inode, reads)?;
-    let kept = first_bytes(reads.heap(), bytes, LARGEST - place)?;
+    let kept = first_bytes(reads.heap(), bytes, room(largest, place))?;
     put(reads.heap(), it.inode, it.description, place, kept, size)
+}
+
+// How many bytes one write puts at a place of a file that may have so many.
+fn room(largest: u32, place: u32) -> u32
+    requires { place < largest }
+    ensures is { result ≡ room largest place }
+    ensures within { place + result ≤ largest }
+{
+    (largest - place).min(MOST_MOVED as u32)
 }
 
 fn put(

@@ -12,9 +12,10 @@ use look::Look;
 use std::alloc::AllocError;
 use std::marker::Model;
 
-/// What a process sees of itself without a touch.
+/// What a process sees of itself without a touch, and the most bytes of a file.
 pub(crate) struct Own {
     pub(crate) root: Num,
+    pub(crate) largest: u32,
     pub(crate) pid: Pid,
     pub(crate) table: Vec<(Fd, Slot), Heap>,
     pub(crate) birth: Option<(u32, u8)>,
@@ -25,6 +26,7 @@ impl Drop for Own {
     fn drop(self) {
         let Own {
             root: _,
+            largest: _,
             pid: _,
             table: _,
             birth: _,
@@ -39,6 +41,7 @@ impl Model for Own {
 
     ghost view = { λ o. record {
       root = o.root;
+      largest = o.largest;
       pid = o.pid;
       table = o.table.items;
       birth = o.birth;
@@ -51,6 +54,7 @@ pub(crate) fn own_of<L: Look>(heap: Heap, look: &L, pid: Pid) -> Result<Own, All
 {
     Ok(Own {
         root: look.root(),
+        largest: look.largest(),
         pid,
         table: look.table(heap, pid)?,
         birth: None,
@@ -58,6 +62,13 @@ pub(crate) fn own_of<L: Look>(heap: Heap, look: &L, pid: Pid) -> Result<Own, All
 }
 
 impl Own {
+    // The most bytes of a file.
+    pub(crate) fn largest(&self) -> u32
+        ensures { result ≡ self.now.largest }
+    {
+        self.largest
+    }
+
     // The process.
     pub(crate) fn pid(&self) -> Pid
         ensures { result ≡ self.now.pid }
@@ -215,6 +226,7 @@ pub(crate) fn own_to_fork<L: Look>(heap: Heap, look: &L, pid: Pid) -> Result<Own
     let birth = look.birth(pid)?;
     Ok(Own {
         root: look.root(),
+        largest: look.largest(),
         pid,
         table: look.table(heap, pid)?,
         birth: Some(birth),

@@ -1,5 +1,5 @@
 // The plan of lseek.
-ghost use Rattle.std.specs.Prelude.{◌≡◌, ℤ, pos, ◌+ℤ◌};
+ghost use Rattle.std.specs.Prelude.{◌≡◌, ℕ, ℤ, pos, ◌+ℤ◌};
 ghost use Rattle.model.specs.Plans.{plan, base, sought};
 ghost use Rattle.model.specs.Calls.{Lseek};
 ghost use Rattle.look.specs.Asked.{Comes, Tells};
@@ -10,7 +10,7 @@ use crate::change::{Change, changed_by};
 use crate::checks::must_not_be_pipe;
 use crate::own::{Own, slot};
 use heap::Heap;
-use ids::{Answer, Edit, Errno, Fd, LARGEST_FILE, Refusal, Slot, Whence};
+use ids::{Answer, Edit, Errno, Fd, Refusal, Slot, Whence};
 use look::Look;
 use walk::Reads;
 
@@ -28,7 +28,7 @@ pub(crate) fn lseek<L: Look>(
     let it = slot(own, fd)?;
     must_not_be_pipe(it.kind, Errno::ESPIPE)?;
     let place = base(look, &it, whence, reads)?;
-    sought(reads.heap(), &it, place_of(place, distance))
+    sought(reads.heap(), &it, place_of(own.largest(), place, distance))
 }
 
 // From where it counts.
@@ -44,7 +44,8 @@ fn base<L: Look>(look: &L, it: &Slot, whence: Whence, reads: &mut Reads) -> Resu
 
 // The new place.
 fn sought(heap: Heap, it: &Slot, found: Option<u32>) -> Result<Change, Refusal>
-    ensures { (sum : ℤ) → place_in sum ≡ found → Tells (sought it.now sum) result }
+    ensures { (largest : ℕ) (sum : ℤ) → place_in largest sum ≡ found
+        → Tells (sought largest it.now sum) result }
 {
     match found {
         Some(place) => changed_by(
@@ -57,13 +58,13 @@ fn sought(heap: Heap, it: &Slot, found: Option<u32>) -> Result<Change, Refusal>
 }
 
 // The place that a sum is, if a file may be so long.
-fn place_of(place: u32, distance: i64) -> Option<u32>
-    ensures { result ≡ place_in (pos place +ℤ distance) }
+fn place_of(largest: u32, place: u32, distance: i64) -> Option<u32>
+    ensures { result ≡ place_in largest (pos place +ℤ distance) }
 {
     let sum = i128::from(place) + i128::from(distance);
     if sum < 0 {
         None
-    } else if sum > LARGEST_FILE as i128 {
+    } else if sum > i128::from(largest) {
         None
     } else {
         Some(sum as u32)

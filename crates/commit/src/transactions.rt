@@ -1,5 +1,5 @@
 // The transactions of all processes, and what is committed.
-ghost use Rattle.ids.specs.declared.limits.TheConstants.{MAX_PROCESSES};
+ghost use Rattle.ids.specs.declared.limits.TheConstants.{LARGEST_FILE, MAX_PROCESSES};
 ghost use Rattle.std.specs.Prelude.{◌≡◌, ◌<◌, ◌≤◌, ◌++◌, ◌∷◌, [], ℕ, true, List, length, suc, is_some};
 ghost use Rattle.std.specs.Prelude.{count_by, IfOk, IfSome, OnErr, OnOk};
 ghost use Rattle.model.specs.Changes.{End_process, New_process, all_applied, applied, tidy};
@@ -64,16 +64,22 @@ impl Model for Transactions {
 }
 
 impl Transactions {
-    /// The empty root, and an idle process for each of these priorities, numbered from 1. Refused
-    /// memory gives nothing.
-    pub fn new(heap: Heap, priorities: &[Priority]) -> Result<Transactions, AllocError>
-        requires { length priorities.now ≤ MAX_PROCESSES }
+    /// The empty root, an idle process for each of these priorities, numbered from 1, and files of at
+    /// most so many bytes. Refused memory gives nothing.
+    pub fn new(
+        heap: Heap,
+        priorities: &[Priority],
+        largest: u32,
+    ) -> Result<Transactions, AllocError>
+        requires few { length priorities.now ≤ MAX_PROCESSES }
+        requires small { largest ≤ LARGEST_FILE }
         ensures count { IfOk result (λ t. length t.slots ≡ suc (length priorities.now)) }
         ensures first { IfOk result (λ t. AreFirst t.slots (length priorities.now)) }
-        ensures state { IfOk result (λ t. t.stable.state ≡ start 0 priorities.now) }
+        ensures state { IfOk result (λ t. t.stable.state
+            ≡ start 0 (record { priorities = priorities.now; largest = largest })) }
     {
         let slots = Slots::first(heap, priorities.len())?;
-        let stable = Stable::new(heap, priorities)?;
+        let stable = Stable::new(heap, priorities, largest)?;
         Ok(Transactions {
             heap,
             slots,

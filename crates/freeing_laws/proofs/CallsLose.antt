@@ -1,5 +1,5 @@
 -- Of the edits of one call only the last loses anything.
-use Rattle.std.proofs.Common.{◌≡◌, ℕ, ℤ, pos, negsuc, ◌+ℤ◌, Bool, true, false, not, ◌&&◌, ◌||◌, if◌then◌else◌, List, [], ◌∷◌, ◌++◌, Option, Some, None, Result, Ok, Err, IfOk, nat_lt, nat_le, ◌==◌, length, refl}
+use Rattle.std.proofs.Common.{◌≡◌, ℕ, ℤ, pos, negsuc, ◌+ℤ◌, Bool, true, false, not, ◌&&◌, ◌||◌, if◌then◌else◌, List, [], ◌∷◌, ◌++◌, Option, Some, None, Result, Ok, Err, IfOk, nat_lt, nat_le, ◌==◌, length, min, refl}
 use Rattle.std.specs.Prelude.{⊤}
 use Rattle.model.specs.State.{A_file, A_directory, A_pipe, Kernel, ends}
 use Rattle.model.specs.Plan.{Errno, EAGAIN, EBADF, EBUSY, EEXIST, EFBIG, EINVAL, EISDIR, ENOENT, ENOTDIR, ENOTEMPTY, EPERM, EPIPE, ESPIPE, Plan, Give, given, answer, or_refuse, List_names, Read_file, Count_ends, Find_offset, Read_pipe, Fit, ◌>>=◌, refuse_if}
@@ -8,7 +8,7 @@ use Rattle.model.specs.Walks.{Last, Place, parsed, walk, last_of, is_directory}
 use Rattle.model.specs.Changes.{Edit, Unname_file, Unname_directory, Move, Share_slot, Clear_slot, End_process, Make_directory, Make_file, Name_file, Put_bytes, Cut, Take, Append, Set_offset, Open_inode, Make_pipe, New_process}
 use Rattle.model.specs.Calls.{Call, Open, Close, Read, Write, Lseek, Ftruncate, Stat, Fstat, Link, Unlink, Rename, Mkdir, Rmdir, List_directory, Dup, Dup2, Open_pipe, Fork, Exit, OpenFlags, Slot, Own, own}
 use Rattle.ids.specs.Flags.{is_reading, is_writing, is_creating, is_exclusive, is_truncating}
-use Rattle.model.specs.Plans.{Change, is_pipe, largest, status, slot, opened, cut_to, read_pipe, read_some, place_to_write, write_some, sought, base, replaced_by_name, moved, absent, duplicated, piped, forked, first_of_free, free, plan}
+use Rattle.model.specs.Plans.{Change, is_pipe, most_moved, status, slot, opened, cut_to, read_pipe, read_some, place_to_write, write_some, sought, base, replaced_by_name, moved, absent, duplicated, piped, forked, first_of_free, free, plan}
 use Rattle.model.specs.Steps.{edits, edits_of, outcome}
 use Rattle.call_laws.proofs.Laws.{after_bind, whatever, weaken, either_given}
 use Rattle.freeing_laws.specs.Sweep.{nothing, lost_by, loses}
@@ -70,10 +70,10 @@ module _ (k : Kernel) where
 
   read_fine : (it : Slot) (count : ℕ) → IfOk (given k (read_some it count)) Fine
   read_fine it count = either_given k Fine (is_pipe it.kind) _ _ (λ _. read_pipe_fine it.inode (answer k (Read_pipe it.inode count)))
-      (λ _. at_most_one (is_empty (answer k (Read_file it.inode (answer k (Find_offset it.description)) count))) _)
+      (λ _. at_most_one (is_empty (answer k (Read_file it.inode (answer k (Find_offset it.description)) (min count most_moved)))) _)
 
-  write_fine : (it : Slot) (bytes : List ℕ) → IfOk (given k (write_some it bytes)) Fine
-  write_fine it bytes = either_given k Fine (is_pipe it.kind) _ _
+  write_fine : (largest : ℕ) (it : Slot) (bytes : List ℕ) → IfOk (given k (write_some largest it bytes)) Fine
+  write_fine largest it bytes = either_given k Fine (is_pipe it.kind) _ _
       (λ _. pass (refuse_if ((answer k (Count_ends it.inode)).0 == 0) EPIPE) _ (λ _.
       pass (refuse_if (nat_lt (answer k (Fit it.inode (length bytes))) (length bytes) && nat_le (length bytes) 512) EAGAIN) _ (λ _.
       pass (refuse_if (answer k (Fit it.inode (length bytes)) == 0) EAGAIN) _ (λ _. tt))))
@@ -84,9 +84,9 @@ module _ (k : Kernel) where
   moved_fine from what to (Some old) = either_given k Fine (what.0 == old.0) _ _ (λ _. tt) (λ _.
       pass (refuse_if (not (is_directory what) && is_directory old) EISDIR) _ (λ _. pass (refuse_if (is_directory what && not (is_directory old)) ENOTDIR) _ (λ _. pass (replaced_by_name old.0 (is_directory old)) _ (λ _. tt))))
 
-  sought_fine : (it : Slot) (place : ℤ) → IfOk (given k (sought it place)) Fine
-  sought_fine it (pos place) = pass (refuse_if (nat_lt largest place) EINVAL) _ (λ _. tt)
-  sought_fine it (negsuc place) = tt
+  sought_fine : (largest : ℕ) (it : Slot) (place : ℤ) → IfOk (given k (sought largest it place)) Fine
+  sought_fine largest it (pos place) = pass (refuse_if (nat_lt largest place) EINVAL) _ (λ _. tt)
+  sought_fine largest it (negsuc place) = tt
 
   dup_fine : (me : Own) (it : Slot) (fs : List ℕ) → IfOk (given k (duplicated me it fs)) Fine
   dup_fine me it [] = tt
@@ -107,9 +107,9 @@ module _ (k : Kernel) where
       pass (last_of me.root (if is_creating flags && is_exclusive flags then EEXIST else EISDIR) names) _ (λ at. opened_fine me flags f at at.found))))))
   plan_fine me (Close f) = pass (slot me f) _ (λ _. tt)
   plan_fine me (Read f count) = pass (slot me f) _ (λ it. pass (refuse_if (not it.reading) EBADF) _ (λ _. either_given k Fine (count == 0) _ _ (λ _. tt) (λ _. read_fine it count)))
-  plan_fine me (Write f bytes) = pass (slot me f) _ (λ it. pass (refuse_if (not it.writing) EBADF) _ (λ _. either_given k Fine (is_empty bytes) _ _ (λ _. tt) (λ _. write_fine it bytes)))
-  plan_fine me (Lseek f move whence) = pass (slot me f) _ (λ it. pass (refuse_if (is_pipe it.kind) ESPIPE) _ (λ _. pass (base it whence) _ (λ place. sought_fine it (pos place +ℤ move))))
-  plan_fine me (Ftruncate f len) = pass (slot me f) _ (λ it. pass (refuse_if (not it.writing) EBADF) _ (λ _. pass (refuse_if (is_pipe it.kind) EINVAL) _ (λ _. pass (refuse_if (nat_lt largest len) EFBIG) _ (λ _. tt))))
+  plan_fine me (Write f bytes) = pass (slot me f) _ (λ it. pass (refuse_if (not it.writing) EBADF) _ (λ _. either_given k Fine (is_empty bytes) _ _ (λ _. tt) (λ _. write_fine me.largest it bytes)))
+  plan_fine me (Lseek f move whence) = pass (slot me f) _ (λ it. pass (refuse_if (is_pipe it.kind) ESPIPE) _ (λ _. pass (base it whence) _ (λ place. sought_fine me.largest it (pos place +ℤ move))))
+  plan_fine me (Ftruncate f len) = pass (slot me f) _ (λ it. pass (refuse_if (not it.writing) EBADF) _ (λ _. pass (refuse_if (is_pipe it.kind) EINVAL) _ (λ _. pass (refuse_if (nat_lt me.largest len) EFBIG) _ (λ _. tt))))
   plan_fine me (Stat path) = pass (parsed path) _ (λ names. pass (walk (me.root, Some A_directory) names) _ (λ place. status_fine place))
   plan_fine me (Fstat f) = pass (slot me f) _ (λ it. status_fine (it.inode, it.kind))
   plan_fine me (Link old path) = pass (parsed old) _ (λ from. pass (parsed path) _ (λ to. pass (walk (me.root, Some A_directory) from) _ (λ what. pass (refuse_if (is_directory what) EPERM) _ (λ _. pass (last_of me.root EEXIST to) _ (λ at. pass (absent at.found) _ (λ _. tt))))))

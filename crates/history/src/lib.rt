@@ -4,17 +4,18 @@
 ghost use Rattle.std.specs.Prelude.{◌≡◌, ◌<◌, ◌≤◌, ◌↔◌, ◌+◌, ◌^◌, IfOk, IsErr, IfErr, OnOk, OnErr};
 ghost use Rattle.std.specs.Prelude.{[], ◌∷◌, ◌++◌, length, sum, true, false};
 ghost use Rattle.history.specs.Log.{all_forgotten, kept};
+ghost use Rattle.ids.specs.declared.limits.TheConstants.{DEFAULT_LARGEST_FILE, LARGEST_FILE};
 
 mod past;
 
 use crate::past::Past;
 use heap::Heap;
-use ids::{Entry, Priority};
+use ids::{Entry, Limits, Priority};
 use std::alloc::AllocError;
 use std::marker::Model;
 
-/// The entries so far, the priorities that the first processes have, and how many entries may be
-/// kept. The memory of all places is taken when the history is made, so that an entry that has a
+/// The entries so far, the priorities that the first processes have, how many entries may be
+/// kept, and the most bytes of a file. The memory of all places is taken when the history is made, so that an entry that has a
 /// place needs none. Entries that are forgotten give their memory and their places back; clauses
 /// go on to speak of them.
 pub struct History {
@@ -22,7 +23,7 @@ pub struct History {
     forgotten: u64,
     entries: Vec<Entry, Heap>,
     priorities: Vec<Priority, Heap>,
-    limit: usize,
+    limits: Limits,
 }
 
 // By hand: a derived drop is opened at every place where a value goes, this one is called.
@@ -33,12 +34,13 @@ impl Drop for History {
             forgotten: _,
             entries: _,
             priorities: _,
-            limit: _,
+            limits: _,
         } = self;
     }
 }
 
 impl Model for History {
+    ghost use Rattle.ids.specs.declared.limits.TheConstants.{LARGEST_FILE};
     ghost use Rattle.std.specs.Prelude.{◌≡◌, ◌<◌, ◌≤◌, ◌^◌, ◌++◌, sum, vec_len, vec_capacity};
     ghost use Rattle.history.specs.Log.{Log};
     ghost use Rattle.history.specs.Past.{counts_in, entries_in};
@@ -48,35 +50,56 @@ impl Model for History {
     ghost view = { λ h. record {
       entries = entries_in h.past ++ h.entries.items;
       priorities = h.priorities.items;
-      limit = h.limit;
+      limit = h.limits.entries;
       forgotten = counts_in h.past;
+      largest = h.limits.file_bytes;
     } };
 
-    ghost invariant = { λ h. (vec_len h.entries ≤ h.limit) × (h.limit ≤ vec_capacity h.entries)
-        × (h.forgotten ≡ sum (counts_in h.past)) × (h.forgotten < 2 ^ 63) × (h.limit < 2 ^ 63) };
+    ghost invariant = { λ h. (vec_len h.entries ≤ h.limits.entries) × (h.limits.entries ≤ vec_capacity h.entries)
+        × (h.forgotten ≡ sum (counts_in h.past)) × (h.forgotten < 2 ^ 63) × (h.limits.entries < 2 ^ 63)
+        × (h.limits.file_bytes ≤ LARGEST_FILE) };
 }
 
 // The most entries that are ever forgotten, and the most that can be kept.
 const MOST_FORGOTTEN: u64 = (1 << 63) - 1;
 
 impl History {
-    /// No entries, with the memory of `limit` of them. Refused memory gives nothing.
+    /// No entries, with the memory of `limit` of them, of a kernel with files of at most
+    /// [`ids::DEFAULT_LARGEST_FILE`] bytes. Refused memory gives nothing.
     pub fn new(heap: Heap, priorities: &[Priority], limit: usize) -> Result<History, AllocError>
         ensures empty { IfOk result (λ h. h.entries ≡ []) }
         ensures priorities { IfOk result (λ h. h.priorities ≡ priorities.now) }
         ensures limit { IfOk result (λ h. h.limit ≡ limit) }
         ensures whole { IfOk result (λ h. h.forgotten ≡ []) }
+        ensures largest { IfOk result (λ h. h.largest ≡ DEFAULT_LARGEST_FILE) }
+    {
+        History::with_limits(heap, priorities, Limits::of_entries(limit))
+    }
+
+    /// No entries, with the memory of `limits.entries` of them, of a kernel with these limits.
+    /// Refused memory gives nothing.
+    pub fn with_limits(
+        heap: Heap,
+        priorities: &[Priority],
+        limits: Limits,
+    ) -> Result<History, AllocError>
+        requires { limits.file_bytes ≤ LARGEST_FILE }
+        ensures empty { IfOk result (λ h. h.entries ≡ []) }
+        ensures priorities { IfOk result (λ h. h.priorities ≡ priorities.now) }
+        ensures limit { IfOk result (λ h. h.limit ≡ limits.entries) }
+        ensures whole { IfOk result (λ h. h.forgotten ≡ []) }
+        ensures largest { IfOk result (λ h. h.largest ≡ limits.file_bytes) }
     {
         // Of more entries no allocator has the memory.
-        if limit as u64 > MOST_FORGOTTEN {
+        if limits.entries as u64 > MOST_FORGOTTEN {
             return Err(AllocError);
         }
         Ok(History {
             past: Past::Start,
             forgotten: 0,
-            entries: Vec::with_capacity(heap, limit)?,
+            entries: Vec::with_capacity(heap, limits.entries)?,
             priorities: Vec::from_slice(heap, priorities)?,
-            limit,
+            limits,
         })
     }
 
@@ -89,7 +112,7 @@ impl History {
         ensures returned { IfErr result (λ e. e ≡ entry) }
         ensures unchanged { OnErr result (self.new ≡ self.old) }
     {
-        if self.entries.len() >= self.limit {
+        if self.entries.len() >= self.limits.entries {
             return Err(entry);
         }
         self.entries.push(entry).unwrap();
@@ -157,6 +180,14 @@ impl History {
         ensures value { result ≡ self.now.limit }
         ensures within { length (kept self.now) ≤ result }
     {
-        self.limit
+        self.limits.entries
+    }
+
+    /// The most bytes that a file of the kernel may have.
+    pub fn largest_file(&self) -> u32
+        ensures value { result ≡ self.now.largest }
+        ensures small { result ≤ LARGEST_FILE }
+    {
+        self.limits.file_bytes
     }
 }

@@ -95,10 +95,10 @@ legal_joined limit m (e ∷ es) fs h g = (h.0, h.1, legal_joined limit (next m e
 pub legality_follows : LegalityFollows
 unfolding Legal
 legality_follows = record {
-  moments = λ root priorities es fs. after_append (at_start root priorities) es fs;
-  entries = λ root priorities es. (let count : (after_from (at_start root priorities) es).entries ≡ 0 + length es = entries_after (at_start root priorities) es in omega arith);
-  runs = λ root priorities limit es legal. lists_run limit (at_start root priorities) es legal;
-  nothing = λ root priorities limit q. refl;
-  rest = λ root priorities limit es fs h. legal_rest limit (at_start root priorities) es fs h;
-  joined = λ root priorities limit es fs h g. legal_joined limit (at_start root priorities) es fs h g;
+  moments = λ root setup es fs. after_append (at_start root setup) es fs;
+  entries = λ root setup es. (let count : (after_from (at_start root setup) es).entries ≡ 0 + length es = entries_after (at_start root setup) es in omega arith);
+  runs = λ root setup limit es legal. lists_run limit (at_start root setup) es legal;
+  nothing = λ root setup limit q. refl;
+  rest = λ root setup limit es fs h. legal_rest limit (at_start root setup) es fs h;
+  joined = λ root setup limit es fs h g. legal_joined limit (at_start root setup) es fs h g;
 }

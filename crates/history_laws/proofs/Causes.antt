@@ -206,7 +206,7 @@ told_by m e (Settles s again is_phase holds some left) = nobody_told m e left.al
 told_by m e (Rests some left) = nobody_told m e left.alone
 
 pub doomed_are_told_theirs : DoomedAreToldTheirs
-doomed_are_told_theirs root priorities limit es e legal right = told_by (after root priorities es) e (kind limit (after root priorities es) e right)
+doomed_are_told_theirs root setup limit es e legal right = told_by (after root setup es) e (kind limit (after root setup es) e right)
 
 lowest_passes : (test : ℕ → Bool) (n q : ℕ) → lowest_below test n ≡ Some q → test q ≡ true
 lowest_passes test zero q h = absurd (none_some q h)

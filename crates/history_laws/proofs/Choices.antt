@@ -19,11 +19,11 @@ idle_above laws limit m s q above = elim (cases_Bool (is_alive m.committed q)) [
 ]
 
 pub right_entries_exist : FromCallLaws RightEntriesExist
-right_entries_exist laws root priorities limit es legal pid op free =
-    right_entry limit (after root priorities es) pid (idle_above laws limit (after root priorities es) (what_stands laws root priorities limit es legal)) op free
+right_entries_exist laws root setup limit es legal pid op free =
+    right_entry limit (after root setup es) pid (idle_above laws limit (after root setup es) (what_stands laws root setup limit es legal)) op free
 
 pub ends_find_places : FromCallLaws EndsFindPlaces
-ends_find_places laws root priorities limit es legal pid op none =
-    let m : Moment = after root priorities es in
-    let places : m.entries + reserved m ≤ limit_at limit m.entries = (what_stands laws root priorities limit es legal).places in
-    right_entries_exist laws root priorities limit es legal pid op (omega (arith, none, places))
+ends_find_places laws root setup limit es legal pid op none =
+    let m : Moment = after root setup es in
+    let places : m.entries + reserved m ≤ limit_at limit m.entries = (what_stands laws root setup limit es legal).places in
+    right_entries_exist laws root setup limit es legal pid op (omega (arith, none, places))

@@ -91,6 +91,6 @@ unfolding Legal
 forgetting_is_legal = record {
   rises = limit_rises;
   all = λ limit n h. ap (λ x. limit.capacity + x) (all_forgotten limit.forgotten n h);
-  legal = λ root priorities limit es count all legal. legal_alike limit (forgetting limit count) (at_start root priorities) es
+  legal = λ root setup limit es count all legal. legal_alike limit (forgetting limit count) (at_start root setup) es
       (λ n h. ap (λ x. limit.capacity + x) (sym (forgotten_before limit.forgotten count n (omega (arith, h, all))))) legal;
 }

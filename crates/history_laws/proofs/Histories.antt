@@ -20,22 +20,22 @@ use Rattle.history_laws.proofs.Legality.{steady_start, steady_after, serial_afte
 
 pub legal : FromCallLaws RightEntriesKeepHistoriesLegal
 unfolding Legal
-legal laws root priorities limit es e is right = legal_more WellFormed laws limit (at_start root priorities) es e (steady_start WellFormed laws limit root priorities) is right
+legal laws root setup limit es e is right = legal_more WellFormed laws limit (at_start root setup) es e (steady_start WellFormed laws limit root setup) is right
 
 pub serial_is : FromCallLaws CommittedIsSerial
 unfolding Legal
-serial_is laws root priorities limit es is = serial_after WellFormed laws limit (at_start root priorities) es is (steady_start WellFormed laws limit root priorities)
+serial_is laws root setup limit es is = serial_after WellFormed laws limit (at_start root setup) es is (steady_start WellFormed laws limit root setup)
 
 pub places : FromCallLaws PlacesSuffice
 unfolding Legal
-places laws root priorities limit es is =
-    let steady = steady_after WellFormed laws limit (at_start root priorities) es is (steady_start WellFormed laws limit root priorities) in
-    let count : (after root priorities es).entries ≡ length es = entries_after (at_start root priorities) es ∙ zero-add (length es) in
-    subst (λ n. n + reserved (after root priorities es) ≤ limit_at limit n) count steady.placed
+places laws root setup limit es is =
+    let steady = steady_after WellFormed laws limit (at_start root setup) es is (steady_start WellFormed laws limit root setup) in
+    let count : (after root setup es).entries ≡ length es = entries_after (at_start root setup) es ∙ zero-add (length es) in
+    subst (λ n. n + reserved (after root setup es) ≤ limit_at limit n) count steady.placed
 
 pub beginnings : BeginningsAreLegal
 unfolding Legal
-beginnings root priorities limit es fs before is = legal_before limit (at_start root priorities) es before.0 (subst (LegalFrom limit (at_start root priorities)) before.1 is)
+beginnings root setup limit es fs before is = legal_before limit (at_start root setup) es before.0 (subst (LegalFrom limit (at_start root setup)) before.1 is)
 
 pub own_entries : OwnEntriesGrow
 own_entries pid [] e = at_test (eqb e.pid pid) where
@@ -48,7 +48,7 @@ own_entries pid (d ∷ es) e = at_test (eqb d.pid pid) (own_entries pid es e) wh
   at_test false h = h
 
 pub one_more : AfterOneMore
-one_more root priorities es e = after_more (at_start root priorities) es e
+one_more root setup es e = after_more (at_start root setup) es e
 
 loose_view : (laws : CallLaws WellFormed) (m : Moment) → Sound WellFormed m → (q : ℕ) → MayBeLoose m q
 loose_view laws m sound q = record {
@@ -60,7 +60,7 @@ loose_view laws m sound q = record {
 
 pub views : FromCallLaws ViewsMayBeLoose
 unfolding Legal
-views laws root priorities limit es is q = loose_view laws (after root priorities es) (steady_after WellFormed laws limit (at_start root priorities) es is (steady_start WellFormed laws limit root priorities)).sound q
+views laws root setup limit es is q = loose_view laws (after root setup es) (steady_after WellFormed laws limit (at_start root setup) es is (steady_start WellFormed laws limit root setup)).sound q
 
 abbrev Stays : Moment → ℕ → List Touch → Type 0
 Stays m q ts = AllByRecursion (λ t. IsThere m.committed t.aspect ⊎ (is_in (object_of t.aspect) (numbers (calls_at m q)) ≡ true)) ts
@@ -71,4 +71,4 @@ touched_there laws m sound q = subst (Stays m q) (sym (held_is WellFormed laws m
 
 pub touched : FromCallLaws TouchedObjectsStay
 unfolding Legal
-touched laws root priorities limit es is q = touched_there laws (after root priorities es) (steady_after WellFormed laws limit (at_start root priorities) es is (steady_start WellFormed laws limit root priorities)).sound q
+touched laws root setup limit es is q = touched_there laws (after root setup es) (steady_after WellFormed laws limit (at_start root setup) es is (steady_start WellFormed laws limit root setup)).sound q

@@ -5,7 +5,7 @@ use Rattle.model.specs.State.{Kernel}
 use Rattle.model.specs.Steps.{reply, IsNowhere}
 use Rattle.model.specs.Entries.{Op, Entry, answer_in, is_inside}
 use Rattle.model.specs.Forgetting.{Limit}
-use Rattle.model.specs.Moments.{Status, gone, Moment, is_alive, is_in, status, has_free, numbers, calls_at, seen_by, after}
+use Rattle.model.specs.Moments.{Setup, Status, gone, Moment, is_alive, is_in, status, has_free, numbers, calls_at, seen_by, after}
 use Rattle.model.specs.Legal.{Free, RightAt, Right, Legal}
 use Rattle.model.specs.Replies.{answered}
 use Rattle.model.specs.Calls.{Call}
@@ -18,7 +18,7 @@ use Rattle.history_laws.specs.Entered.{PhasesMove, OwnAndDoomedMove, ReservedPla
 use Rattle.history_laws.specs.Forgetting.{ForgettingIsLegal}
 use Rattle.history_laws.specs.Headline.{IsSerializable, LegalHistoriesAreSerializable}
 use Rattle.history_laws.specs.Histories.{RightEntriesKeepHistoriesLegal, CommittedIsSerial, PlacesSuffice, RepliesAreAFunction, RightEntriesHavePlaces, BeginningsAreLegal, OwnEntriesGrow, AfterOneMore, ViewsMayBeLoose, TouchedObjectsStay}
-use Rattle.history_laws.specs.Limits.{LimitsAreKept}
+use Rattle.history_laws.specs.Limits.{LimitsAreKept, LargestIsGiven}
 use Rattle.history_laws.specs.Marks.{ModesFollowMarks}
 use Rattle.history_laws.specs.Processes.{child_in, ChildrenAreForked, ForksAndExitsMove, UnmadeAreRefused}
 use Rattle.history_laws.specs.Processes.{born as makes}
@@ -29,6 +29,7 @@ use Rattle.history_laws.proofs.Causes as causes
 use Rattle.history_laws.proofs.Choices as choices
 use Rattle.history_laws.proofs.Forgetting as forgetting
 use Rattle.history_laws.proofs.Histories as histories
+use Rattle.history_laws.proofs.Largest as largest
 use Rattle.history_laws.proofs.Limits as limits
 use Rattle.history_laws.proofs.Marks as marks
 use Rattle.history_laws.proofs.Replies as replies
@@ -46,9 +47,9 @@ use Rattle.history_laws.proofs.lists.UntidiedRuns as runs
 use Rattle.call_laws.specs.WellFormed.{WellFormed}
 
 -- the empty history is legal
-pub legal_start : (root : ℕ) (priorities : List ℕ) (limit : Limit) → Legal root priorities limit []
+pub legal_start : (root : ℕ) (setup : Setup) (limit : Limit) → Legal root setup limit []
 unfolding Legal
-legal_start root priorities limit q = refl
+legal_start root setup limit q = refl
 
 -- a history with one entry more comes to the next moment: Legality.antt
 pub after_one_more : AfterOneMore
@@ -138,15 +139,19 @@ pub committed_directories_are_a_tree : CommittedDirectoriesAreATree
 committed_directories_are_a_tree = trees.committed_tree calls_are_lawful_lem
 
 -- the same of a state that is known to be the committed one
-pub serializable_at : (root : ℕ) (priorities : List ℕ) (limit : Limit) (es : List Entry) (state : Kernel) → Legal root priorities limit es → state ≡ (after root priorities es).committed → IsSerializable root priorities limit es state
-serializable_at root priorities limit es state legal is = subst (IsSerializable root priorities limit es) (sym is) (legal_histories_are_serializable root priorities limit es legal)
+pub serializable_at : (root : ℕ) (setup : Setup) (limit : Limit) (es : List Entry) (state : Kernel) → Legal root setup limit es → state ≡ (after root setup es).committed → IsSerializable root setup limit es state
+serializable_at root setup limit es state legal is = subst (IsSerializable root setup limit es) (sym is) (legal_histories_are_serializable root setup limit es legal)
 
-pub tree_at : (root : ℕ) (priorities : List ℕ) (limit : Limit) (es : List Entry) (state : Kernel) → Legal root priorities limit es → state ≡ (after root priorities es).committed → IsATree state
-tree_at root priorities limit es state legal is = subst IsATree (sym is) (committed_directories_are_a_tree root priorities limit es legal)
+pub tree_at : (root : ℕ) (setup : Setup) (limit : Limit) (es : List Entry) (state : Kernel) → Legal root setup limit es → state ≡ (after root setup es).committed → IsATree state
+tree_at root setup limit es state legal is = subst IsATree (sym is) (committed_directories_are_a_tree root setup limit es legal)
 
 -- files, pipes, offsets and the count of processes stay within the limits: Limits.antt
 pub limits_are_kept : LimitsAreKept
 limits_are_kept = limits.limits calls_are_lawful_lem
+
+-- each state has the largest file that was given at the start: Largest.antt
+pub largest_is_given : LargestIsGiven
+largest_is_given = largest.largest_is_given
 
 -- the committed state is the run of the serial list: Legality.antt
 pub the_committed_state_is_serial : CommittedIsSerial
@@ -221,12 +226,12 @@ pub executed_again : (k : Kernel) (pid : ℕ) (call : Call) → answer_in (answe
 executed_again = outcomes.executed_again
 
 -- a number that is nowhere in the committed state and not among those of a process's list is nowhere in what the process sees
-pub nowhere_seen : (root : ℕ) (priorities : List ℕ) (limit : Limit) (es : List Entry) → Legal root priorities limit es → (q n : ℕ) → IsNowhere (after root priorities es).committed n
-    → is_in n (numbers (calls_at (after root priorities es) q)) ≡ false → IsNowhere (seen_by (after root priorities es) q) n
-nowhere_seen root priorities limit es legal q n none out =
-    let m = after root priorities es in
-    let stands = (what_stands root priorities limit es legal).lists q in
-    let seen = (views_may_be_loose root priorities limit es legal q).seen in
+pub nowhere_seen : (root : ℕ) (setup : Setup) (limit : Limit) (es : List Entry) → Legal root setup limit es → (q n : ℕ) → IsNowhere (after root setup es).committed n
+    → is_in n (numbers (calls_at (after root setup es) q)) ≡ false → IsNowhere (seen_by (after root setup es) q) n
+nowhere_seen root setup limit es legal q n none out =
+    let m = after root setup es in
+    let stands = (what_stands root setup limit es legal).lists q in
+    let seen = (views_may_be_loose root setup limit es legal q).seen in
     subst (λ k. IsNowhere k n) (sym seen) (calls_are_lawful_lem.nowhere_tidy _ n (runs.goes_nowhere WellFormed calls_are_lawful_lem q m.committed (calls_at m q) n out none stands.goes))
 
 -- a call that transactions support makes no process

@@ -9,7 +9,7 @@ use Rattle.model.specs.Calls.{Call, Answer}
 use Rattle.model.specs.Steps.{Run, Item}
 use Rattle.model.specs.Entries.{BeginFlags, Op, Do, Begin, End, Abort, Cause, Clash, Unsupported, Reply, Refuses, Begun, Committed, GivenUp, Aborted, Busy, InTransaction, NotInTransaction, NoProcess, Entry, Executed, answer_in, is_inside}
 use Rattle.model.specs.Forgetting.{Limit, limit_at}
-use Rattle.model.specs.Moments.{Status, gone, idle, live, doomed, Moment, status, bound, counted_touches, losing_cause, settled, with_call, own_next, next, holds_place, reserved, count_below, calls_of, run_by, plain_calls, after_from, at_start, after_list}
+use Rattle.model.specs.Moments.{Setup, Status, gone, idle, live, doomed, Moment, status, bound, counted_touches, losing_cause, settled, with_call, own_next, next, holds_place, reserved, count_below, calls_of, run_by, plain_calls, after_from, at_start, after_list}
 use Rattle.model.specs.Legal.{Outcome, lost, restarts, Inside, RightAt, Right, LegalFrom, items, serial_from}
 use Rattle.call_laws.specs.CallLaws.{CallLaws}
 use Rattle.history_laws.proofs.lists.UntidiedRuns.{Goes, tidied_run}
@@ -148,12 +148,12 @@ count_none f zero none = refl
 count_none f (suc n) none = ap (λ b. one b + count_below f n) (none n) ∙ (let rest : count_below f n ≡ 0 = count_none f n none in omega arith)
 
 -- before any entry
-pub steady_start : (Well : Kernel → Type 0) (laws : CallLaws Well) (limit : Limit) (root : ℕ) (priorities : List ℕ) → Steady Well limit (at_start root priorities)
-steady_start Well laws limit root priorities = record {
+pub steady_start : (Well : Kernel → Type 0) (laws : CallLaws Well) (limit : Limit) (root : ℕ) (setup : Setup) → Steady Well limit (at_start root setup)
+steady_start Well laws limit root setup = record {
   sound = record {
     lists = record {
-      well = laws.well_start root priorities;
-      tidied = laws.tidy_start root priorities;
+      well = laws.well_start root setup;
+      tidied = laws.tidy_start root setup;
       goes = λ q. tt;
       inside = λ q. tt;
       fresh = λ q. record { nowhere = λ n h. absurd (false≢true h); distinct = tt };
@@ -162,5 +162,5 @@ steady_start Well laws limit root priorities = record {
     };
   };
   beyond = λ q h. refl;
-  placed = (let none : reserved (at_start root priorities) ≡ 0 = count_none (λ q. holds_place ((at_start root priorities).phase q)) (bound (at_start root priorities)) (λ q. refl) in omega arith);
+  placed = (let none : reserved (at_start root setup) ≡ 0 = count_none (λ q. holds_place ((at_start root setup).phase q)) (bound (at_start root setup)) (λ q. refl) in omega arith);
 }

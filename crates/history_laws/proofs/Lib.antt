@@ -16,4 +16,5 @@ mod Causes
 mod Serializable
 mod Trees
 mod Limits
+mod Largest
 pub mod Laws

@@ -10,10 +10,10 @@ use Rattle.model.specs.Walks.{Place, parsed, walk, is_directory, Last, last_of}
 use Rattle.model.specs.Changes.{Mode, There, Made, Edit, Make_directory, Make_file, Name_file, Unname_file, Unname_directory, Move, Put_bytes, Cut, Take, Append, Set_offset, Open_inode, Make_pipe, Share_slot, Clear_slot, New_process, End_process, number, applied, all_applied, set_inode, clear_name, set_description, set_offset, at_offset, at_start, open_at, to_read, to_write, written, sized, is_held, tidy}
 use Rattle.ids.specs.Flags.{is_reading, is_writing, is_creating, is_exclusive, is_truncating}
 use Rattle.model.specs.Calls.{OpenFlags, Call, Open, Close, Read, Write, Lseek, Ftruncate, Stat, Fstat, Link, Unlink, Rename, Mkdir, Rmdir, List_directory, Dup, Dup2, Open_pipe, Fork, Exit, Answer, Done, Descriptor, Count, New_place, Bytes, Slot, Own, own}
-use Rattle.model.specs.Plans.{Change, changed, unchanged, absent, status, slot, is_pipe, read_pipe, read_some, place_to_write, write_some, largest, base, sought, replaced_by_name, moved, free, first_of_free, duplicated, piped, opened, mode, cut_to}
+use Rattle.model.specs.Plans.{Change, changed, unchanged, absent, status, slot, is_pipe, read_pipe, read_some, place_to_write, write_some, most_moved, room, base, sought, replaced_by_name, moved, free, first_of_free, duplicated, piped, opened, mode, cut_to}
 use Rattle.model.specs.Steps.{outcome, edits, edits_of, Step, Item, Run}
-use Rattle.model.specs.Moments.{start, after}
-use Rattle.call_laws.proofs.Laws.{get_retained, reached, get_tidy, write_pipe, put_at, after_bind, whatever, allowed, either_given}
+use Rattle.model.specs.Moments.{Setup, start, after}
+use Rattle.call_laws.proofs.Laws.{the_largest_file_stays, get_retained, reached, get_tidy, write_pipe, put_at, after_bind, whatever, allowed, either_given}
 use Rattle.model.proofs.Laws.{length-sized, length-written, get_same, get_other}
 use Rattle.history_laws.proofs.FromCallLaws.{FromCallLaws}
 use Rattle.history_laws.specs.Limits.{most_processes, IsWithinLimits, LimitsAreKept}
@@ -21,10 +21,10 @@ use Rattle.history_laws.proofs.Beginnings.{legality_follows}
 use Rattle.history_laws.proofs.Histories.{serial_is}
 
 -- what keeps a state within the limits: new inodes, new descriptions, new processes
-set_within : (k : Kernel) (n : ℕ) (inode : Inode) → length (file_of_inode (Some inode)) ≤ largest → length (pipe_of_inode (Some inode)) ≤ capacity → IsWithinLimits k → IsWithinLimits (set_inode n inode k)
+set_within : (k : Kernel) (n : ℕ) (inode : Inode) → length (file_of_inode (Some inode)) ≤ k.largest → length (pipe_of_inode (Some inode)) ≤ capacity → IsWithinLimits k → IsWithinLimits (set_inode n inode k)
 set_within k n inode file pipe w = record {
   made = w.made;
-  files = λ t. at t (λ o. length (file_of_inode o) ≤ largest) file (w.files t);
+  files = λ t. at t (λ o. length (file_of_inode o) ≤ k.largest) file (w.files t);
   pipes = λ t. at t (λ o. length (pipe_of_inode o) ≤ capacity) pipe (w.pipes t);
   offsets = w.offsets;
 }
@@ -35,14 +35,14 @@ set_within k n inode file pipe w = record {
       | inr away ↦ subst P (sym (get_other k.inodes n t inode away)) old
     ]
 
-describe_within : (k : Kernel) (d : ℕ) (it : Description) → it.offset ≤ largest → IsWithinLimits k → IsWithinLimits (set_description d it k)
+describe_within : (k : Kernel) (d : ℕ) (it : Description) → it.offset ≤ k.largest → IsWithinLimits k → IsWithinLimits (set_description d it k)
 describe_within k d it low w = record {
   made = w.made;
   files = w.files;
   pipes = w.pipes;
   offsets = λ t. elim (cases_eq t d) [
-    | inl same ↦ subst (λ (o : Option Description). offset_in o ≤ largest) (sym (ap (get (insert k.descriptions d it)) same ∙ get_same k.descriptions d it)) low
-    | inr away ↦ subst (λ (o : Option Description). offset_in o ≤ largest) (sym (get_other k.descriptions d t it away)) (w.offsets t)
+    | inl same ↦ subst (λ (o : Option Description). offset_in o ≤ k.largest) (sym (ap (get (insert k.descriptions d it)) same ∙ get_same k.descriptions d it)) low
+    | inr away ↦ subst (λ (o : Option Description). offset_in o ≤ k.largest) (sym (get_other k.descriptions d t it away)) (w.offsets t)
   ];
 }
 
@@ -51,10 +51,10 @@ open_within k d n mode pid f w = let v = describe_within k d (at_start n mode) (
 
 -- what an edit asks, so that it keeps within the limits
 abbrev Within : Kernel → Edit → Type 0
-Within k (Put_bytes n place bytes before) = place + length bytes ≤ largest
-Within k (Cut n before after) = after ≤ largest
+Within k (Put_bytes n place bytes before) = place + length bytes ≤ k.largest
+Within k (Cut n before after) = after ≤ k.largest
 Within k (Append p bytes) = length (pipe_of k p) + length bytes ≤ capacity
-Within k (Set_offset d place) = place ≤ largest
+Within k (Set_offset d place) = place ≤ k.largest
 Within k (New_process child parent pipes) = child ≤ most_processes
 Within k _ = ⊤
 
@@ -62,7 +62,7 @@ abbrev AllWithin : List ℕ → Kernel → List Edit → Type 0
 AllWithin chosen k [] = ⊤
 AllWithin chosen k (e ∷ es) = Within k e × AllWithin chosen (applied chosen e k) es
 
-offset_within : (k : Kernel) (d place : ℕ) (o : Option Description) → place ≤ largest → IsWithinLimits k → IsWithinLimits (set_offset d place o k)
+offset_within : (k : Kernel) (d place : ℕ) (o : Option Description) → place ≤ k.largest → IsWithinLimits k → IsWithinLimits (set_offset d place o k)
 offset_within k d place None low w = w
 offset_within k d place (Some it) low w = describe_within k d (at_offset place it) low w
 
@@ -83,12 +83,12 @@ edit_within chosen k (Unname_directory d x n) w h = names_within k d (remove (na
 edit_within chosen k (Move d x e y n replaced) w h = names_within (clear_name d x k) e (insert (names_of (clear_name d x k) e) y n) (names_within k d (remove (names_of k d) x) w)
 edit_within chosen k (Put_bytes n place bytes before) w h =
     let long : length (written (file_of k n) place bytes) ≡ max (length (file_of k n)) (place + length bytes) = length-written (file_of k n) place bytes in
-    let old : length (file_of k n) ≤ largest = w.files n in
-    let new : place + length bytes ≤ largest = h in
+    let old : length (file_of k n) ≤ k.largest = w.files n in
+    let new : place + length bytes ≤ k.largest = h in
     set_within k n (File (written (file_of k n) place bytes)) (omega arith) (omega arith) w
 edit_within chosen k (Cut n before after) w h =
     let long : length (sized after (file_of k n)) ≡ after = length-sized after (file_of k n) in
-    let low : after ≤ largest = h in
+    let low : after ≤ k.largest = h in
     set_within k n (File (sized after (file_of k n))) (omega arith) (omega arith) w
 edit_within chosen k (Take p count) w h =
     let old : length (pipe_of k p) ≤ capacity = w.pipes p in
@@ -123,12 +123,12 @@ tidy_description k d = get_retained k.descriptions (is_held k) d
 tidied_within : (k : Kernel) → IsWithinLimits k → IsWithinLimits (tidy k)
 tidied_within k w = record {
   made = subst (λ made. made ≤ most_processes) (sym (tidy_made k)) w.made;
-  files = λ n. subst (λ (o : Option Inode). length (file_of_inode o) ≤ largest) (sym (get_tidy k n)) (by_file n (reached k n));
+  files = λ n. subst (λ most. length (file_of (tidy k) n) ≤ most) (sym (the_largest_file_stays.tidied k)) (subst (λ (o : Option Inode). length (file_of_inode o) ≤ k.largest) (sym (get_tidy k n)) (by_file n (reached k n)));
   pipes = λ n. subst (λ (o : Option Inode). length (pipe_of_inode o) ≤ capacity) (sym (get_tidy k n)) (by_pipe n (reached k n));
-  offsets = λ d. subst (λ (o : Option Description). offset_in o ≤ largest) (sym (tidy_description k d)) (by_offset d (is_held k d));
+  offsets = λ d. subst (λ most. offset_of (tidy k) d ≤ most) (sym (the_largest_file_stays.tidied k)) (subst (λ (o : Option Description). offset_in o ≤ k.largest) (sym (tidy_description k d)) (by_offset d (is_held k d)));
 }
   where
-    by_file : (n : ℕ) (b : Bool) → length (file_of_inode (cond b (get k.inodes n) None)) ≤ largest
+    by_file : (n : ℕ) (b : Bool) → length (file_of_inode (cond b (get k.inodes n) None)) ≤ k.largest
     by_file n true = w.files n
     by_file n false = omega arith
 
@@ -136,20 +136,20 @@ tidied_within k w = record {
     by_pipe n true = w.pipes n
     by_pipe n false = omega arith
 
-    by_offset : (d : ℕ) (b : Bool) → offset_in (cond b (get k.descriptions d) None) ≤ largest
+    by_offset : (d : ℕ) (b : Bool) → offset_in (cond b (get k.descriptions d) None) ≤ k.largest
     by_offset d true = w.offsets d
     by_offset d false = omega arith
 
 -- before any entry
-start_within : (root : ℕ) (priorities : List ℕ) → length priorities ≤ most_processes → IsWithinLimits (start root priorities)
-start_within root priorities few = let bare = names_within (record (start root priorities) { inodes = empty }) root empty none in record { made = bare.made; files = bare.files; pipes = bare.pipes; offsets = bare.offsets }
+start_within : (root : ℕ) (setup : Setup) → length setup.priorities ≤ most_processes → IsWithinLimits (start root setup)
+start_within root setup few = let bare = names_within (record (start root setup) { inodes = empty }) root empty none in record { made = bare.made; files = bare.files; pipes = bare.pipes; offsets = bare.offsets }
   where
-    none : IsWithinLimits (record (start root priorities) { inodes = empty })
+    none : IsWithinLimits (record (start root setup) { inodes = empty })
     none = record {
       made = few;
-      files = λ n. subst (λ (o : Option Inode). length (file_of_inode o) ≤ largest) (sym (get-empty nat_cmp n)) (omega arith);
+      files = λ n. subst (λ (o : Option Inode). length (file_of_inode o) ≤ setup.largest) (sym (get-empty nat_cmp n)) (omega arith);
       pipes = λ n. subst (λ (o : Option Inode). length (pipe_of_inode o) ≤ capacity) (sym (get-empty nat_cmp n)) (omega arith);
-      offsets = λ d. subst (λ (o : Option Description). offset_in o ≤ largest) (sym (get-empty nat_cmp d)) (omega arith);
+      offsets = λ d. subst (λ (o : Option Description). offset_in o ≤ setup.largest) (sym (get-empty nat_cmp d)) (omega arith);
     }
 
 -- the edits of each call
@@ -178,11 +178,11 @@ module _ (k : Kernel) (w : IsWithinLimits k) (chosen : List ℕ) where
   read_pipe_within p (b ∷ bytes) = (tt, tt)
 
   -- what was read lies in the file
-  read_to : (s : Slot) (offset : ℕ) (bytes : List ℕ) → (is_empty bytes ≡ false → offset + length bytes ≤ largest) → Fine (record { reply = Bytes bytes; edits = if is_empty bytes then [] else Set_offset s.description (offset + length bytes) ∷ [] })
+  read_to : (s : Slot) (offset : ℕ) (bytes : List ℕ) → (is_empty bytes ≡ false → offset + length bytes ≤ k.largest) → Fine (record { reply = Bytes bytes; edits = if is_empty bytes then [] else Set_offset s.description (offset + length bytes) ∷ [] })
   read_to s offset [] low = tt
   read_to s offset (b ∷ bytes) low = (low refl, tt)
 
-  in_file : (file : List ℕ) (offset count : ℕ) → length file ≤ largest → is_empty (take count (drop offset file)) ≡ false → offset + length (take count (drop offset file)) ≤ largest
+  in_file : (file : List ℕ) (offset count : ℕ) → length file ≤ k.largest → is_empty (take count (drop offset file)) ≡ false → offset + length (take count (drop offset file)) ≤ k.largest
   in_file file offset count low some =
       let taken = length-take count (drop offset file) in
       let dropped = length-drop offset file in
@@ -197,29 +197,30 @@ module _ (k : Kernel) (w : IsWithinLimits k) (chosen : List ℕ) where
   read_within s count =
       either_given k Fine (is_pipe s.kind) _ _
       (λ _. read_pipe_within s.inode (take count (pipe_of k s.inode)))
-      (λ _. read_to s (offset_of k s.description) (take count (drop (offset_of k s.description) (file_of k s.inode))) (in_file (file_of k s.inode) (offset_of k s.description) count (w.files s.inode)))
+      (λ _. read_to s (offset_of k s.description) (take (min count most_moved) (drop (offset_of k s.description) (file_of k s.inode))) (in_file (file_of k s.inode) (offset_of k s.description) (min count most_moved) (w.files s.inode)))
 
   append_within : (p : ℕ) (bytes : List ℕ) → Within k (Append p (take (min (length bytes) (capacity - length (pipe_of k p))) bytes))
   append_within p bytes =
       let old : length (pipe_of k p) ≤ capacity = w.pipes p in
       omega (arith, length-take (min (length bytes) (capacity - length (pipe_of k p))) bytes)
 
-  put_within : (s : Slot) (bytes : List ℕ) (place : ℕ) → IfOk (given k (put_at s bytes place)) Fine
-  put_within s bytes place = allowed k Fine (nat_le largest place) EFBIG _ (λ low.
-      let below : place < largest = leb-false largest place low in
-      let fits : place + length (take (largest - place) bytes) ≤ largest = omega (arith, length-take (largest - place) bytes) in
+  put_within : (s : Slot) (bytes : List ℕ) (place : ℕ) → IfOk (given k (put_at k.largest s bytes place)) Fine
+  unfolding applied
+  put_within s bytes place = allowed k Fine (nat_le k.largest place) EFBIG _ (λ low.
+      let below : place < k.largest = leb-false k.largest place low in
+      let fits : place + length (take (room k.largest place) bytes) ≤ k.largest = omega (arith, length-take (room k.largest place) bytes) in
       (fits, (fits, tt)))
 
-  write_within : (s : Slot) (bytes : List ℕ) → IfOk (given k (write_some s bytes)) Fine
+  write_within : (s : Slot) (bytes : List ℕ) → IfOk (given k (write_some k.largest s bytes)) Fine
   write_within s bytes =
-      either_given k Fine (is_pipe s.kind) (write_pipe s bytes) (place_to_write s s.appending >>= put_at s bytes)
+      either_given k Fine (is_pipe s.kind) (write_pipe s bytes) (place_to_write s s.appending >>= put_at k.largest s bytes)
       (λ _. allowed k Fine ((answer k (Count_ends s.inode)).0 == 0) EPIPE _ (λ _.
       allowed k Fine (nat_lt (answer k (Fit s.inode (length bytes))) (length bytes) && nat_le (length bytes) 512) EAGAIN _ (λ _.
       allowed k Fine (answer k (Fit s.inode (length bytes)) == 0) EAGAIN _ (λ _. (append_within s.inode bytes, tt)))))
-      (λ _. after_bind k Fine (place_to_write s s.appending) (put_at s bytes) (whatever (given k (place_to_write s s.appending)) (put_within s bytes)))
+      (λ _. after_bind k Fine (place_to_write s s.appending) (put_at k.largest s bytes) (whatever (given k (place_to_write s s.appending)) (put_within s bytes)))
 
-  sought_within : (s : Slot) (to : ℤ) → IfOk (given k (sought s to)) Fine
-  sought_within s (pos place) = allowed k Fine (nat_lt largest place) EINVAL (changed (New_place place) (Set_offset s.description place ∷ [])) (λ low. (ltb-false largest place low, tt))
+  sought_within : (s : Slot) (to : ℤ) → IfOk (given k (sought k.largest s to)) Fine
+  sought_within s (pos place) = allowed k Fine (nat_lt k.largest place) EINVAL (changed (New_place place) (Set_offset s.description place ∷ [])) (λ low. (ltb-false k.largest place low, tt))
   sought_within s (negsuc place) = tt
 
   -- a move, whatever it replaces
@@ -262,14 +263,14 @@ module _ (k : Kernel) (w : IsWithinLimits k) (chosen : List ℕ) where
       either_given k Fine (count == 0) (unchanged (Bytes [])) (read_some s count) (λ _. tt) (λ _. read_within s count)))
   call_within pid (Write f bytes) = goes_on (slot (own k pid (Write f bytes)) f) _ (λ s.
       allowed k Fine (not s.writing) EBADF _ (λ _.
-      either_given k Fine (is_empty bytes) (unchanged (Count 0)) (write_some s bytes) (λ _. tt) (λ _. write_within s bytes)))
+      either_given k Fine (is_empty bytes) (unchanged (Count 0)) (write_some k.largest s bytes) (λ _. tt) (λ _. write_within s bytes)))
   call_within pid (Lseek f move whence) = goes_on (slot (own k pid (Lseek f move whence)) f) _ (λ s.
       allowed k Fine (is_pipe s.kind) ESPIPE _ (λ _.
       goes_on (base s whence) _ (λ place. sought_within s (pos place +ℤ move))))
   call_within pid (Ftruncate f len) = goes_on (slot (own k pid (Ftruncate f len)) f) _ (λ s.
       allowed k Fine (not s.writing) EBADF _ (λ _.
       allowed k Fine (is_pipe s.kind) EINVAL _ (λ _.
-      allowed k Fine (nat_lt largest len) EFBIG (cut_to s.inode len >>= (λ cut. changed Done cut)) (λ low. (ltb-false largest len low, tt)))))
+      allowed k Fine (nat_lt k.largest len) EFBIG (cut_to s.inode len >>= (λ cut. changed Done cut)) (λ low. (ltb-false k.largest len low, tt)))))
   call_within pid (Stat path) = goes_on (parsed path) _ (λ names. goes_on (walk (k.root, Some A_directory) names) _ status_within)
   call_within pid (Fstat f) = goes_on (slot (own k pid (Fstat f)) f) _ (λ s. status_within (s.inode, s.kind))
   call_within pid (Link old path) =
@@ -326,9 +327,9 @@ run_within k l [] run w = subst IsWithinLimits (sym run) w
 run_within k l (it ∷ items) run w = run_within run.0 l items run.2 (step_within k it.pid it.call it.answer it.chosen run.0 run.1 w)
 
 pub limits : FromCallLaws LimitsAreKept
-limits laws root priorities limit es legal few =
-    let committed : IsWithinLimits (after root priorities es).committed = run_within (start root priorities) (after root priorities es).committed _ (serial_is laws root priorities limit es legal) (start_within root priorities few) in
+limits laws root setup limit es legal few =
+    let committed : IsWithinLimits (after root setup es).committed = run_within (start root setup) (after root setup es).committed _ (serial_is laws root setup limit es legal) (start_within root setup few) in
     record {
       committed = committed;
-      seen = λ pid. run_within (after root priorities es).committed _ _ (legality_follows.runs root priorities limit es legal pid) committed;
+      seen = λ pid. run_within (after root setup es).committed _ _ (legality_follows.runs root setup limit es legal pid) committed;
     }

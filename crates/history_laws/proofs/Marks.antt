@@ -98,4 +98,4 @@ module _ (d : ℕ) where
       by false false = refl
 
 pub modes_follow_marks : FromCallLaws ModesFollowMarks
-modes_follow_marks laws root priorities limit es legal d = mode_is d (after root priorities es) (sound_legal laws root priorities limit es legal) laws
+modes_follow_marks laws root setup limit es legal d = mode_is d (after root setup es) (sound_legal laws root setup limit es legal) laws

@@ -20,9 +20,9 @@ asked : (limit : Limit) (m : Moment) (e : Entry) (later : List Entry) → LegalF
 asked limit m e later legal = let said = replies_are_a_function limit m e legal.1 in record { reply = said.0; doomed = said.1 }
 
 pub serializable : FromCallLaws LegalHistoriesAreSerializable
-serializable laws root priorities limit es legal = record {
-  run = serial_is laws root priorities limit es legal;
-  strict = λ before later is. ap (serial root priorities) is ∙ serial_more (at_start root priorities) before later;
-  alone = legality_follows.runs root priorities limit es legal;
-  replies = λ before e later is. asked limit (after root priorities before) e later (legality_follows.rest root priorities limit before (e ∷ later) (subst (Legal root priorities limit) is legal));
+serializable laws root setup limit es legal = record {
+  run = serial_is laws root setup limit es legal;
+  strict = λ before later is. ap (serial root setup) is ∙ serial_more (at_start root setup) before later;
+  alone = legality_follows.runs root setup limit es legal;
+  replies = λ before e later is. asked limit (after root setup before) e later (legality_follows.rest root setup limit before (e ∷ later) (subst (Legal root setup limit) is legal));
 }

@@ -6,7 +6,7 @@ use Rattle.model.specs.Steps.{Touch}
 use Rattle.model.specs.Entries.{Entry, Executed, is_inside}
 use Rattle.model.specs.Clashes.{clash, clashes, any_clash}
 use Rattle.model.specs.Forgetting.{Limit}
-use Rattle.model.specs.Moments.{gone, idle, Moment, is_alive, next, after, after_from, at_start, bound, holds_place, calls_at, held_by, loose_touches}
+use Rattle.model.specs.Moments.{Setup, gone, idle, Moment, is_alive, next, after, after_from, at_start, bound, holds_place, calls_at, held_by, loose_touches}
 use Rattle.model.specs.Legal.{Right, LegalFrom, Legal}
 use Rattle.call_laws.specs.WellFormed.{WellFormed}
 use Rattle.call_laws.specs.CallLaws.{CallLaws}
@@ -47,19 +47,19 @@ nothing_aged a h = absurd cc
 idle_gone : idle ≡ gone → ⊥
 idle_gone h = absurd cc
 
-kept_start : (laws : CallLaws WellFormed) (limit : Limit) (root : ℕ) (priorities : List ℕ) → Kept limit (at_start root priorities)
-kept_start laws limit root priorities = record {
-  steady = steady_start WellFormed laws limit root priorities;
+kept_start : (laws : CallLaws WellFormed) (limit : Limit) (root : ℕ) (setup : Setup) → Kept limit (at_start root setup)
+kept_start laws limit root setup = record {
+  steady = steady_start WellFormed laws limit root setup;
   ages = record { placed = λ q a h. nothing_aged a h; differ = λ p q a ne h g. nothing_aged a h };
   here = λ q h. idle_gone h;
 }
 
-kept_legal : (laws : CallLaws WellFormed) (root : ℕ) (priorities : List ℕ) (limit : Limit) (es : List Entry) → Legal root priorities limit es → Kept limit (after root priorities es)
+kept_legal : (laws : CallLaws WellFormed) (root : ℕ) (setup : Setup) (limit : Limit) (es : List Entry) → Legal root setup limit es → Kept limit (after root setup es)
 unfolding Legal
-kept_legal laws root priorities limit es legal = kept_after laws limit (at_start root priorities) es legal (kept_start laws limit root priorities)
+kept_legal laws root setup limit es legal = kept_after laws limit (at_start root setup) es legal (kept_start laws limit root setup)
 
-pub sound_legal : (laws : CallLaws WellFormed) (root : ℕ) (priorities : List ℕ) (limit : Limit) (es : List Entry) → Legal root priorities limit es → Sound WellFormed (after root priorities es)
-sound_legal laws root priorities limit es legal = (kept_legal laws root priorities limit es legal).steady.sound
+pub sound_legal : (laws : CallLaws WellFormed) (root : ℕ) (setup : Setup) (limit : Limit) (es : List Entry) → Legal root setup limit es → Sound WellFormed (after root setup es)
+sound_legal laws root setup limit es legal = (kept_legal laws root setup limit es legal).steady.sound
 
 no_clashes : (t : Touch) (us : List Touch) → ((u : Touch) → In u us → clash t u ≡ false) → clashes t us ≡ false
 no_clashes t [] none = refl
@@ -104,29 +104,29 @@ stands laws limit m k = record {
   below q holds = (let low : q ≤ m.committed.made = laws.alive_counted m.committed k.steady.sound.lists.well q (lives q holds) in omega arith)
 
 pub what_stands : FromCallLaws WhatStands
-what_stands laws root priorities limit es legal = stands laws limit (after root priorities es) (kept_legal laws root priorities limit es legal)
+what_stands laws root setup limit es legal = stands laws limit (after root setup es) (kept_legal laws root setup limit es legal)
 
 pub own_and_doomed_move : OwnAndDoomedMove
-own_and_doomed_move root priorities limit es e legal right = phases_move limit (after root priorities es) e right
+own_and_doomed_move root setup limit es e legal right = phases_move limit (after root setup es) e right
 
 pub reserved_places_move : FromCallLaws ReservedPlacesMove
-reserved_places_move laws root priorities limit es e legal right =
-    let k = kept_legal laws root priorities limit es legal in
-    places_move WellFormed laws limit (after root priorities es) e right k.steady (kept_next laws limit (after root priorities es) e right k).steady
+reserved_places_move laws root setup limit es e legal right =
+    let k = kept_legal laws root setup limit es legal in
+    places_move WellFormed laws limit (after root setup es) e right k.steady (kept_next laws limit (after root setup es) e right k).steady
 
 pub restarts_begin_anew : RestartsBeginAnew
-restarts_begin_anew root priorities limit es e legal right again = begun_anew (after root priorities es) e (kind limit (after root priorities es) e right) again
+restarts_begin_anew root setup limit es e legal right again = begun_anew (after root setup es) e (kind limit (after root setup es) e right) again
 
 pub commits_run_the_list : FromCallLaws CommitsRunTheList
-commits_run_the_list laws root priorities limit es e legal right said =
-    commit_runs WellFormed laws (after root priorities es) e (kept_legal laws root priorities limit es legal).steady.sound (kind limit (after root priorities es) e right) said
+commits_run_the_list laws root setup limit es e legal right said =
+    commit_runs WellFormed laws (after root setup es) e (kept_legal laws root setup limit es legal).steady.sound (kind limit (after root setup es) e right) said
 
 pub calls_go_in : FromCallLaws CallsGoIn
-calls_go_in laws root priorities limit es e legal right call flags age calls answer is_phase is_op is_answer =
-    let k = kept_legal laws root priorities limit es legal in
-    goes_in WellFormed laws (after root priorities es) e k.steady.sound (kept_next laws limit (after root priorities es) e right k).steady.sound call flags age calls answer is_phase is_op is_answer (kind limit (after root priorities es) e right)
+calls_go_in laws root setup limit es e legal right call flags age calls answer is_phase is_op is_answer =
+    let k = kept_legal laws root setup limit es legal in
+    goes_in WellFormed laws (after root setup es) e k.steady.sound (kept_next laws limit (after root setup es) e right k).steady.sound call flags age calls answer is_phase is_op is_answer (kind limit (after root setup es) e right)
 
 pub lists_stay : FromCallLaws ListsStay
-lists_stay laws root priorities limit es e legal right q same =
-    let k = kept_legal laws root priorities limit es legal in
-    stays_after WellFormed laws (after root priorities es) e k.steady.sound (kept_next laws limit (after root priorities es) e right k).steady.sound (kind limit (after root priorities es) e right) q same
+lists_stay laws root setup limit es e legal right q same =
+    let k = kept_legal laws root setup limit es legal in
+    stays_after WellFormed laws (after root setup es) e k.steady.sound (kept_next laws limit (after root setup es) e right k).steady.sound (kind limit (after root setup es) e right) q same

@@ -59,6 +59,6 @@ module _ (k : Kernel) (well : WellFormed k) (tidied : tidy k ≡ k) where
   }
 
 pub committed_tree : FromCallLaws CommittedDirectoriesAreATree
-committed_tree laws root priorities limit es legal =
-    let stands = (what_stands laws root priorities limit es legal).committed in
+committed_tree laws root setup limit es legal =
+    let stands = (what_stands laws root setup limit es legal).committed in
     is_a_tree _ stands.well stands.tidied

@@ -2,7 +2,7 @@
 use Rattle.std.specs.Prelude.{◌≡◌, ℕ, List, [], ◌++◌, ◌⊎◌, length}
 use Rattle.model.specs.Entries.{Entry}
 use Rattle.model.specs.Forgetting.{Limit}
-use Rattle.model.specs.Moments.{after, after_from}
+use Rattle.model.specs.Moments.{Setup, after, after_from}
 use Rattle.model.specs.Legal.{ListsRun, LegalFrom, Legal, mine, IsBefore}
 
 -- Being a beginning is an order, and two beginnings of one history are each other's.
@@ -24,15 +24,15 @@ pub record OwnEntriesFollow : Type 0 where
 -- The moments of a history that goes on, and its legality: it is legal where it was and goes on
 -- rightly from what stood then.
 pub record LegalityFollows : Type 0 where
-  pub moments : (root : ℕ) (priorities : List ℕ) (es fs : List Entry)
-      → after root priorities (es ++ fs) ≡ after_from (after root priorities es) fs
-  pub entries : (root : ℕ) (priorities : List ℕ) (es : List Entry)
-      → (after root priorities es).entries ≡ length es
-  pub runs : (root : ℕ) (priorities : List ℕ) (limit : Limit) (es : List Entry)
-      → Legal root priorities limit es → ListsRun (after root priorities es)
-  pub nothing : (root : ℕ) (priorities : List ℕ) (limit : Limit) → Legal root priorities limit []
-  pub rest : (root : ℕ) (priorities : List ℕ) (limit : Limit) (es fs : List Entry)
-      → Legal root priorities limit (es ++ fs) → LegalFrom limit (after root priorities es) fs
-  pub joined : (root : ℕ) (priorities : List ℕ) (limit : Limit) (es fs : List Entry)
-      → Legal root priorities limit es → LegalFrom limit (after root priorities es) fs
-      → Legal root priorities limit (es ++ fs)
+  pub moments : (root : ℕ) (setup : Setup) (es fs : List Entry)
+      → after root setup (es ++ fs) ≡ after_from (after root setup es) fs
+  pub entries : (root : ℕ) (setup : Setup) (es : List Entry)
+      → (after root setup es).entries ≡ length es
+  pub runs : (root : ℕ) (setup : Setup) (limit : Limit) (es : List Entry)
+      → Legal root setup limit es → ListsRun (after root setup es)
+  pub nothing : (root : ℕ) (setup : Setup) (limit : Limit) → Legal root setup limit []
+  pub rest : (root : ℕ) (setup : Setup) (limit : Limit) (es fs : List Entry)
+      → Legal root setup limit (es ++ fs) → LegalFrom limit (after root setup es) fs
+  pub joined : (root : ℕ) (setup : Setup) (limit : Limit) (es fs : List Entry)
+      → Legal root setup limit es → LegalFrom limit (after root setup es) fs
+      → Legal root setup limit (es ++ fs)

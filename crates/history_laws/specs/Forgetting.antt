@@ -2,6 +2,7 @@
 use Rattle.std.specs.Prelude.{◌≡◌, ℕ, ◌+◌, ◌≤◌, List, [], ◌∷◌, ◌++◌, length, sum}
 use Rattle.model.specs.Entries.{Entry}
 use Rattle.model.specs.Forgetting.{Limit, limit_at}
+use Rattle.model.specs.Moments.{Setup}
 use Rattle.model.specs.Legal.{Legal}
 
 -- some entries more are forgotten
@@ -15,6 +16,6 @@ pub record ForgettingIsLegal : Type 0 where
   pub rises : (limit : Limit) (n : ℕ) → limit_at limit n ≤ limit_at limit (n + 1)
   pub all : (limit : Limit) (n : ℕ) → sum limit.forgotten ≤ n
       → limit_at limit n ≡ limit.capacity + sum limit.forgotten
-  pub legal : (root : ℕ) (priorities : List ℕ) (limit : Limit) (es : List Entry) (count : ℕ)
-      → sum limit.forgotten + count ≡ length es → Legal root priorities limit es
-      → Legal root priorities (forgetting limit count) es
+  pub legal : (root : ℕ) (setup : Setup) (limit : Limit) (es : List Entry) (count : ℕ)
+      → sum limit.forgotten + count ≡ length es → Legal root setup limit es
+      → Legal root setup (forgetting limit count) es

@@ -8,7 +8,7 @@ use Rattle.model.specs.Steps.{Touch, Run}
 use Rattle.model.specs.Laws.{GoesTheSame}
 use Rattle.model.specs.Entries.{Entry}
 use Rattle.model.specs.Forgetting.{Limit, limit_at}
-use Rattle.model.specs.Moments.{Moment, status, is_in, start, next, after, reserved, calls_at}
+use Rattle.model.specs.Moments.{Setup, Moment, status, is_in, start, next, after, reserved, calls_at}
 use Rattle.model.specs.Moments.{seen_by, held_by, numbers, loose, loose_touches}
 use Rattle.model.specs.Legal.{Right, Legal, serial, mine, IsBefore}
 use Rattle.model.specs.Replies.{spoken_at, needed}
@@ -20,20 +20,20 @@ use Rattle.history_laws.specs.Each.{AfterEach}
 -- committed state, with the replies and numbers that they had.
 abbrev pub RightEntriesKeepHistoriesLegal : Type 0
 RightEntriesKeepHistoriesLegal =
-    (root : ℕ) (priorities : List ℕ) (limit : Limit) (es : List Entry) (e : Entry)
-    → Legal root priorities limit es → Right limit (after root priorities es) e
-    → Legal root priorities limit (es ++ e ∷ [])
+    (root : ℕ) (setup : Setup) (limit : Limit) (es : List Entry) (e : Entry)
+    → Legal root setup limit es → Right limit (after root setup es) e
+    → Legal root setup limit (es ++ e ∷ [])
 
 -- The committed state is the plain run of the serial list.
 abbrev pub CommittedIsSerial : Type 0
-CommittedIsSerial = (root : ℕ) (priorities : List ℕ) (limit : Limit) (es : List Entry)
-    → Legal root priorities limit es
-    → Run (start root priorities) (serial root priorities es) (after root priorities es).committed
+CommittedIsSerial = (root : ℕ) (setup : Setup) (limit : Limit) (es : List Entry)
+    → Legal root setup limit es
+    → Run (start root setup) (serial root setup es) (after root setup es).committed
 
 -- Entries and reserved places stay within the limit.
 abbrev pub PlacesSuffice : Type 0
-PlacesSuffice = (root : ℕ) (priorities : List ℕ) (limit : Limit) (es : List Entry)
-    → Legal root priorities limit es → length es + reserved (after root priorities es) ≤ limit_at limit (length es)
+PlacesSuffice = (root : ℕ) (setup : Setup) (limit : Limit) (es : List Entry)
+    → Legal root setup limit es → length es + reserved (after root setup es) ≤ limit_at limit (length es)
 
 -- A right entry's reply and doomed processes are those that are computed from what stood before.
 abbrev pub RepliesAreAFunction : Type 0
@@ -48,8 +48,8 @@ RightEntriesHavePlaces = (limit : Limit) (m : Moment) (e : Entry) → Right limi
 
 -- Each beginning of a legal history is legal.
 abbrev pub BeginningsAreLegal : Type 0
-BeginningsAreLegal = (root : ℕ) (priorities : List ℕ) (limit : Limit) (es fs : List Entry)
-    → IsBefore es fs → Legal root priorities limit fs → Legal root priorities limit es
+BeginningsAreLegal = (root : ℕ) (setup : Setup) (limit : Limit) (es fs : List Entry)
+    → IsBefore es fs → Legal root setup limit fs → Legal root setup limit es
 
 -- One entry more is its process's and no other's.
 abbrev pub OwnEntriesGrow : Type 0
@@ -58,8 +58,8 @@ OwnEntriesGrow = (pid : ℕ) (es : List Entry) (e : Entry)
 
 -- A history with one entry more comes to the next moment.
 abbrev pub AfterOneMore : Type 0
-AfterOneMore = (root : ℕ) (priorities : List ℕ) (es : List Entry) (e : Entry)
-    → after root priorities (es ++ e ∷ []) ≡ next (after root priorities es) e
+AfterOneMore = (root : ℕ) (setup : Setup) (es : List Entry) (e : Entry)
+    → after root setup (es ++ e ∷ []) ≡ next (after root setup es) e
 
 -- What a process sees may be held untidied: tidied it is the state after the list, the list's
 -- touches are the same, and a further call goes the same way.

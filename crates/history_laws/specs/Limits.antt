@@ -1,21 +1,21 @@
 -- The plain kernel's limits are never passed: fork, write, ftruncate and lseek refuse what would
 -- pass them (EAGAIN, EFBIG and EINVAL of POSIX.1-2017, which leaves the numbers to the
 -- implementation).
-use Rattle.std.specs.Prelude.{ℕ, ◌≤◌, List, length}
+use Rattle.std.specs.Prelude.{◌≡◌, ℕ, ◌≤◌, List, length}
 use Rattle.model.specs.State.{Kernel, file_of, pipe_of, offset_of}
-pub use Rattle.model.specs.Limits.{most_processes, capacity, largest}
+pub use Rattle.model.specs.Limits.{most_processes, capacity}
 use Rattle.model.specs.Entries.{Entry}
 use Rattle.model.specs.Forgetting.{Limit}
-use Rattle.model.specs.Moments.{Moment, after, seen_by}
+use Rattle.model.specs.Moments.{Setup, Moment, after, seen_by}
 use Rattle.model.specs.Legal.{Legal}
 
--- At most 4,096 processes were ever made, each file has at most 1,048,576 bytes, each pipe at most
--- 4,096, and no offset is past the largest file.
+-- At most 4,096 processes were ever made, each file has at most the bytes that the kernel lets one
+-- have, each pipe at most 4,096, and no offset is past the largest file.
 pub record IsWithinLimits (k : Kernel) : Type 0 where
   pub made : k.made ≤ most_processes
-  pub files : (n : ℕ) → length (file_of k n) ≤ largest
+  pub files : (n : ℕ) → length (file_of k n) ≤ k.largest
   pub pipes : (p : ℕ) → length (pipe_of k p) ≤ capacity
-  pub offsets : (d : ℕ) → offset_of k d ≤ largest
+  pub offsets : (d : ℕ) → offset_of k d ≤ k.largest
 
 -- what is committed, and what each process sees
 pub record StaysWithinLimits (m : Moment) : Type 0 where
@@ -24,6 +24,14 @@ pub record StaysWithinLimits (m : Moment) : Type 0 where
 
 -- A legal history that starts with no more processes stays within the limits.
 abbrev pub LimitsAreKept : Type 0
-LimitsAreKept = (root : ℕ) (priorities : List ℕ) (limit : Limit) (es : List Entry)
-    → Legal root priorities limit es → length priorities ≤ most_processes
-    → StaysWithinLimits (after root priorities es)
+LimitsAreKept = (root : ℕ) (setup : Setup) (limit : Limit) (es : List Entry)
+    → Legal root setup limit es → length setup.priorities ≤ most_processes
+    → StaysWithinLimits (after root setup es)
+
+-- What is committed and what each process sees have the largest file that was given at the start.
+pub record KeepsItsLargest (root : ℕ) (setup : Setup) (es : List Entry) : Type 0 where
+  pub committed : (after root setup es).committed.largest ≡ setup.largest
+  pub seen : (q : ℕ) → (seen_by (after root setup es) q).largest ≡ setup.largest
+
+abbrev pub LargestIsGiven : Type 0
+LargestIsGiven = (root : ℕ) (setup : Setup) (es : List Entry) → KeepsItsLargest root setup es

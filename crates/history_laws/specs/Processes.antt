@@ -5,7 +5,7 @@ use Rattle.std.specs.List.{AllByRecursion}
 use Rattle.model.specs.Calls.{Call, Exit, Fork, Child}
 use Rattle.model.specs.Entries.{Op, Do, Reply, Answers, NoProcess, Entry}
 use Rattle.model.specs.Forgetting.{Limit}
-use Rattle.model.specs.Moments.{idle, Moment, is_alive, next, after, priority_of}
+use Rattle.model.specs.Moments.{Setup, idle, Moment, is_alive, next, after, priority_of}
 use Rattle.model.specs.Legal.{Legal, mine}
 use Rattle.history_laws.specs.Each.{AtEach}
 
@@ -52,8 +52,8 @@ ForksAndExitsMove = AtEach ProcessesMove
 
 -- The entries of a process that was never made are refused.
 abbrev pub UnmadeAreRefused : Type 0
-UnmadeAreRefused = (root : ℕ) (priorities : List ℕ) (limit : Limit) (es : List Entry)
-    → Legal root priorities limit es → (q : ℕ) → (after root priorities es).committed.made < q
+UnmadeAreRefused = (root : ℕ) (setup : Setup) (limit : Limit) (es : List Entry)
+    → Legal root setup limit es → (q : ℕ) → (after root setup es).committed.made < q
     → AllByRecursion (λ e. e.reply ≡ NoProcess) (mine q es)
 
 -- Among the entries is that of a fork that made the process q. The one who forked was made before;
@@ -70,6 +70,6 @@ pub record IsForked (es : List Entry) (q : ℕ) : Type 0 where
 
 -- Each process that was not there at the start was made by a fork of an earlier one.
 abbrev pub ChildrenAreForked : Type 0
-ChildrenAreForked = (root : ℕ) (priorities : List ℕ) (limit : Limit) (es : List Entry)
-    → Legal root priorities limit es → (q : ℕ) → length priorities < q
-    → q ≤ (after root priorities es).committed.made → IsForked es q
+ChildrenAreForked = (root : ℕ) (setup : Setup) (limit : Limit) (es : List Entry)
+    → Legal root setup limit es → (q : ℕ) → length setup.priorities < q
+    → q ≤ (after root setup es).committed.made → IsForked es q

@@ -25,7 +25,7 @@ ghost use Rattle.history_laws.specs.Histories.{PlacesSuffice, RepliesAreAFunctio
 ghost use Rattle.history_laws.specs.Histories.{RightEntriesHavePlaces, BeginningsAreLegal};
 ghost use Rattle.history_laws.specs.Histories.{OwnEntriesGrow, AfterOneMore, ViewsMayBeLoose};
 ghost use Rattle.history_laws.specs.Histories.{TouchedObjectsStay};
-ghost use Rattle.history_laws.specs.Limits.{LimitsAreKept};
+ghost use Rattle.history_laws.specs.Limits.{LimitsAreKept, LargestIsGiven};
 ghost use Rattle.history_laws.specs.Marks.{ModesFollowMarks};
 ghost use Rattle.history_laws.specs.Processes.{ChildrenAreForked, ForksAndExitsMove};
 ghost use Rattle.history_laws.specs.Processes.{UnmadeAreRefused};
@@ -48,6 +48,12 @@ pub fn committed_directories_are_a_tree()
 /// Proved in `proofs/Limits.antt`.
 pub fn limits_are_kept()
     ensures { LimitsAreKept }
+{}
+
+/// The most bytes of a file stay what they were at the start.
+/// Proved in `proofs/Largest.antt`.
+pub fn largest_is_given()
+    ensures { LargestIsGiven }
 {}
 
 /// After a legal history each right entry gives a legal history.

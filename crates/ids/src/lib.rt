@@ -25,8 +25,8 @@ pub use entry::{Entry, ListMode, Rank};
 pub use errno::{Errno, Refusal};
 pub use flags::{BeginFlags, OpenFlags};
 pub use limits::{
-    BLOCK_LEN, DESCRIPTORS, LARGEST_FILE, MAX_ENTRIES, MAX_PROCESSES, NAME_LIMIT, PATH_LIMIT,
-    PIPE_CAPACITY, WHOLE_WRITE,
+    BLOCK_LEN, DEFAULT_LARGEST_FILE, DESCRIPTORS, LARGEST_FILE, Limits, MAX_ENTRIES, MAX_PROCESSES,
+    MOST_MOVED, NAME_LIMIT, PATH_LIMIT, PIPE_CAPACITY, WHOLE_WRITE,
 };
 pub use lists::{Nums, Pids};
 pub use number::{Age, Fd, Num, Pid, Priority};

@@ -1,5 +1,7 @@
 // The limits of the kernel, each once. The definitions name the same numbers for themselves
 // (`model/specs/Limits.antt`).
+ghost use Rattle.std.specs.Prelude.{◌≡◌};
+ghost use Rattle.ids.specs.declared.limits.TheConstants.{DEFAULT_LARGEST_FILE};
 
 /// The most processes that a kernel ever makes; process numbers go from 1 to this.
 pub const MAX_PROCESSES: u32 = 4096;
@@ -13,8 +15,15 @@ pub const PATH_LIMIT: usize = 1024;
 /// The most bytes that a name may have.
 pub const NAME_LIMIT: usize = 255;
 
-/// The most bytes that a file may have, and so the largest offset.
-pub const LARGEST_FILE: usize = 1_048_576;
+/// The most bytes that a file can have at all, and so the largest offset: what the layers below hold. A
+/// kernel has a number of its own, at most this ([`Limits::file_bytes`]).
+pub const LARGEST_FILE: usize = 2_147_483_647;
+
+/// The most bytes of a file of a kernel for which no number is given.
+pub const DEFAULT_LARGEST_FILE: u32 = 1_048_576;
+
+/// The most bytes that one read or write of a file moves.
+pub const MOST_MOVED: usize = 1_048_576;
 
 /// How many bytes of a file make a block, the unit in which touches speak of its content.
 pub const BLOCK_LEN: usize = 1024;
@@ -27,3 +36,24 @@ pub const WHOLE_WRITE: usize = 512;
 
 /// The most entries that a history may have room for.
 pub const MAX_ENTRIES: usize = 1_048_576;
+
+/// The limits that a kernel is given when it is made.
+#[derive(Debug, Clone, Copy)]
+pub struct Limits {
+    /// How many entries its history keeps at most; at most [`MAX_ENTRIES`].
+    pub entries: usize,
+    /// The most bytes that a file may have, and so the largest offset; at most [`LARGEST_FILE`].
+    pub file_bytes: u32,
+}
+
+impl Limits {
+    /// So many entries, and files of at most [`DEFAULT_LARGEST_FILE`] bytes.
+    pub fn of_entries(entries: usize) -> Limits
+        ensures { result ≡ record { entries = entries; file_bytes = DEFAULT_LARGEST_FILE } }
+    {
+        Limits {
+            entries,
+            file_bytes: DEFAULT_LARGEST_FILE,
+        }
+    }
+}

@@ -1,12 +1,12 @@
 -- Calls: what they touch and edit, and that their entries can be added.
 use Rattle.kernel.proofs.Words.{◌≡◌, ℕ, ◌+◌, List, [], ◌∷◌, ◌++◌, Option, Some, None, Result, Ok, Err, refl, sym, ◌∙◌, ap, ap₂, subst, true, false, Bool, inl}
-use Rattle.kernel.proofs.Words.{inr, length, arith, eq-eqb, if◌then◌else◌, AllByRecursion, Kernel, tidy, all_applied, reply, edits, IsNowhere, BeginFlags, Do}
+use Rattle.kernel.proofs.Words.{◌≤◌, inr, length, arith, eq-eqb, if◌then◌else◌, AllByRecursion, Kernel, tidy, all_applied, reply, edits, IsNowhere, BeginFlags, Do}
 use Rattle.kernel.proofs.Words.{Entry, Executed, is_inside, is_unsupported, Moment, idle, live, own_next, after_one, numbers, calls_at, seen_by}
 use Rattle.kernel.proofs.Words.{counted_touches, clashes_with, losing_cause, all_below, bound, is_in, next, status, held_by, after_list, calls_of, priority_of}
 use Rattle.kernel.proofs.Words.{holds_place, IsApart, Inside, Outcome, Taken, Right, answered, Effect, effects, CallGoesIn, is_ended, calls_go_in}
 use Rattle.kernel.proofs.Words.{executed_again, nowhere_seen, childless, phase_is, plain_calls_run, right_by, views_may_be_loose, what_stands, live_age}
 use Rattle.kernel.proofs.Words.{IsDoomedBy, Doomed, effect, made_by, AreNew, with_change, view_at, changes_in, part_with, state_with, Stands}
-use Rattle.kernel.proofs.Words.{calling, limit_of, moment, Fields, Dooms, CanEnter, IsIn, Moves, part_at, part_of, shown_by, changes_of, doomed_by, is_no_entry, is_some}
+use Rattle.kernel.proofs.Words.{calling, limit_of, setup_of, moment, Fields, Dooms, CanEnter, IsIn, Moves, part_at, part_of, shown_by, changes_of, doomed_by, is_no_entry, is_some}
 use Rattle.kernel.proofs.Words.{Edit, FitsAll, is_alive, sum_by, news, distinct, with_touches, with_touches-append, Make_directory}
 use Rattle.kernel.proofs.Words.{Unname_directory, Touch, touches, counted, counting, all_done, CanEdit, Committed, IsPlan, Plans, Live}
 use Rattle.model.specs.Changes.{Make_file, Name_file, Unname_file, Move, Put_bytes, Cut, Open_inode, Set_offset, Share_slot, Clear_slot, Make_pipe, Take, Append, New_process, End_process}
@@ -22,12 +22,13 @@ use Rattle.std.proofs.lemmas.Bool.{cases_Bool, false≢true, or_left, or_right}
 use Rattle.model.specs.Plan.{Errno}
 use Rattle.model.specs.Calls.{Call, Answer, Fork, Exit, own}
 use Rattle.call_laws.proofs.Laws.{fits, can_be_made}
+use Rattle.model.specs.Limits.{largest_file}
 use Rattle.model.specs.Plans.{pipes_in}
 use Rattle.model.specs.Changes.{process_of}
 use Rattle.kernel.proofs.Words.{Born, Calls, CanChange, IsConsistent, born, contender_at, child_in, ends_process, first_is, idle_slot, makes_process, no_part, part_after, suc, with_born, with_child, ◌⊎◌, ◌≢◌}
 use Rattle.shadow.specs.Claims.{HasParent, HaveParents}
 use Rattle.calls.specs.declared.plan.Plan.{Plan as Planned}
-use Rattle.kernel.proofs.Entries.{Grows, child_is_last, pids, not_both, not_doomed, comes_to, enters_grown, goes, moves, one_more, processes, stay_as_many, stays, slot_changes, slot_views, caller_lives, free_at}
+use Rattle.kernel.proofs.Entries.{Grows, child_is_last, pids, not_both, not_doomed, comes_to, enters_grown, goes, moves, one_more, processes, stay_as_many, stays, seen_low, slot_changes, slot_low, slot_views, caller_lives, free_at}
 
 -- the touches that count
 counts : (m : Moment) (pid : ℕ) (call : Call) (within : Option (BeginFlags × ℕ)) → Stands (calling within) (status m pid) → counting (is_some within) (touches (seen_by m pid) pid call) ≡ counted_touches m pid call
@@ -63,10 +64,10 @@ last_parents v m (Share_slot pid f d pipes) is = tt
 last_parents v m (Clear_slot pid f pipes) is = tt
 last_parents v m e is = absurd is
 
-inside_parents : (v : Committed) (pid : ℕ) (call : Call) → WellFormed v.state → is_alive v.state pid ≡ true → DirectoriesAreKept v → is_inside call ≡ true → HaveParents v.reserves (edits v.state pid call)
-inside_parents v pid call well alive kept inside =
+inside_parents : (v : Committed) (pid : ℕ) (call : Call) → WellFormed v.state → v.state.largest ≤ largest_file → is_alive v.state pid ≡ true → DirectoriesAreKept v → is_inside call ≡ true → HaveParents v.reserves (edits v.state pid call)
+inside_parents v pid call well low alive kept inside =
     let can = can_be_made v.state pid call well alive in
-    by can.0 (edits v.state pid call) (calls_edit v.state pid well call inside) (fits v.state pid call can.0 can.1)
+    by can.0 (edits v.state pid call) (calls_edit v.state pid well low call inside) (fits v.state pid call can.0 can.1)
   where
     by : (chosen : List ℕ) (es : List Edit) → CanEdit es → FitsAll chosen v.state es → HaveParents v.reserves es
     by chosen [] can fit = tt
@@ -74,13 +75,13 @@ inside_parents v pid call well alive kept inside =
     by chosen (e ∷ f ∷ []) can fit = (first_parents v kept chosen e fit.0 (inl can.0), (last_parents v (news e) f can.2, tt))
     by chosen (e ∷ f ∷ g ∷ es) can fit = absurd can
 
-have_parents : (v : Committed) (pid : ℕ) (call : Call) → WellFormed v.state → is_alive v.state pid ≡ true → DirectoriesAreKept v → HaveParents v.reserves (edits v.state pid call)
-have_parents v pid Fork well alive kept = elim (fork_comes v.state pid) [
+have_parents : (v : Committed) (pid : ℕ) (call : Call) → WellFormed v.state → v.state.largest ≤ largest_file → is_alive v.state pid ≡ true → DirectoriesAreKept v → HaveParents v.reserves (edits v.state pid call)
+have_parents v pid Fork well low alive kept = elim (fork_comes v.state pid) [
   | inl refused ↦ subst (HaveParents v.reserves) (sym refused.1) tt
   | inr made ↦ subst (HaveParents v.reserves) (sym made.3) (tt, tt)
 ]
-have_parents v pid Exit well alive kept = (tt, tt)
-have_parents v pid call well alive kept = inside_parents v pid call well alive kept refl
+have_parents v pid Exit well low alive kept = (tt, tt)
+have_parents v pid call well low alive kept = inside_parents v pid call well low alive kept refl
 
 -- a process in no transaction has no changes
 pub unchanged_idle : (f : Fields) → IsConsistent f → (pid : ℕ) → status (moment f.log) pid ≡ idle → view_at f.slots pid ≡ idle_slot
@@ -92,30 +93,30 @@ module _ (f : Fields) (pid : ℕ) (within : Option (BeginFlags × ℕ)) (call : 
   sees = record (f.stable) { state = all_done (changes_in (view_at f.slots pid)) f.stable.state }
 
   seen_well : WellFormed sees.state
-  seen_well = subst WellFormed (sym (slot_views f asks.holds pid)) ((what_stands 0 f.log.priorities (limit_of f.log) f.log.entries asks.holds.legal).lists pid).well
+  seen_well = subst WellFormed (sym (slot_views f asks.holds pid)) ((what_stands 0 (setup_of f.log) (limit_of f.log) f.log.entries asks.holds.legal).lists pid).well
 
   seen_alive : is_alive sees.state pid ≡ true
-  seen_alive = subst (λ k. is_alive k pid ≡ true) (sym (slot_views f asks.holds pid)) (((what_stands 0 f.log.priorities (limit_of f.log) f.log.entries asks.holds.legal).lists pid).alive (caller_lives (moment f.log) pid within asks.stands))
+  seen_alive = subst (λ k. is_alive k pid ≡ true) (sym (slot_views f asks.holds pid)) (((what_stands 0 (setup_of f.log) (limit_of f.log) f.log.entries asks.holds.legal).lists pid).alive (caller_lives (moment f.log) pid within asks.stands))
 
   can_change : (w : Option (BeginFlags × ℕ)) → Stands (calling w) (status (moment f.log) pid) → (is_some w ≡ true → is_inside call ≡ true) → CanChange f.stable.state pid w (edits sees.state pid call)
-  can_change (Some w) is supported = calls_edit sees.state pid seen_well call (supported refl)
+  can_change (Some w) is supported = calls_edit sees.state pid seen_well (slot_low f asks.holds pid) call (supported refl)
   can_change None is supported =
       let none : sees.state ≡ f.stable.state = ap (λ v. all_done (changes_in v) f.stable.state) (unchanged_idle f asks.holds pid is) in
-      subst (λ k. CanChange k pid None (edits sees.state pid call)) none (calls_change sees.state pid seen_well call)
+      subst (λ k. CanChange k pid None (edits sees.state pid call)) none (calls_change sees.state pid seen_well (slot_low f asks.holds pid) call)
 
   -- with the touches that count
   pub plans : (p : Planned) → IsPlan sees.state pid call (is_some within) p → DirectoriesAreKept sees
       → record { answer : p.answer ≡ reply (seen_by (moment f.log) pid) pid call; plans : Plans f pid within call p.touches.items p.edits.items }
   plans p is used =
       let seen = slot_views f asks.holds pid in
-      let goes = (views_may_be_loose 0 f.log.priorities (limit_of f.log) f.log.entries asks.holds.legal pid).goes_on call in
+      let goes = (views_may_be_loose 0 (setup_of f.log) (limit_of f.log) f.log.entries asks.holds.legal pid).goes_on call in
       record {
         answer = is.answer ∙ ap (λ k. reply k pid call) seen ∙ sym goes.reply;
         plans = record {
           touches = is.touches ∙ ap (counting (is_some within)) (ap (λ k. touches k pid call) seen ∙ sym goes.touches) ∙ counts (moment f.log) pid call within asks.stands;
           edits = is.edits ∙ ap (λ k. edits k pid call) seen ∙ sym goes.edits;
           kinds = subst (CanChange f.stable.state pid within) (sym is.edits) (can_change within asks.stands asks.supported);
-          parents = subst (HaveParents f.stable.reserves) (sym is.edits) (have_parents sees pid call seen_well seen_alive used);
+          parents = subst (HaveParents f.stable.reserves) (sym is.edits) (have_parents sees pid call seen_well (slot_low f asks.holds pid) seen_alive used);
         };
       }
 
@@ -158,13 +159,13 @@ steadily k pid call inside =
     let none = childless k pid call inside in
     record { childless = none.0; unborn = none.1; stays = goes_on call (reply k pid call) inside }
 
-inside_fate : (k : Kernel) (pid : ℕ) (call : Call) → WellFormed k → is_inside call ≡ true → Steadily k pid call
-inside_fate k pid call well inside =
+inside_fate : (k : Kernel) (pid : ℕ) (call : Call) → WellFormed k → k.largest ≤ largest_file → is_inside call ≡ true → Steadily k pid call
+inside_fate k pid call well low inside =
     let calm = steadily k pid call inside in
-    record { childless = calm.childless; unborn = calm.unborn; stays = calm.stays; edits = calls_edit k pid well call inside }
+    record { childless = calm.childless; unborn = calm.unborn; stays = calm.stays; edits = calls_edit k pid well low call inside }
 
-fate : (k : Kernel) (pid : ℕ) → WellFormed k → (call : Call) → Steadily k pid call ⊎ (Bears k pid call ⊎ Leaves k pid call)
-fate k pid well Fork = elim (fork_comes k pid) [
+fate : (k : Kernel) (pid : ℕ) → WellFormed k → k.largest ≤ largest_file → (call : Call) → Steadily k pid call ⊎ (Bears k pid call ⊎ Leaves k pid call)
+fate k pid well low Fork = elim (fork_comes k pid) [
   | inl refused ↦
       let says = ap answered refused.0 in
       inl (record { childless = ap child_in says; unborn = ap born says; stays = ap (is_ended (Do Fork)) says; edits = subst CanEdit (sym refused.1) tt })
@@ -172,8 +173,8 @@ fate k pid well Fork = elim (fork_comes k pid) [
       let says = ap answered made.1 in
       inr (inl (record { child = ap child_in says; one = ap born says; stays = ap (is_ended (Do Fork)) says; pipes = made.2; edits = made.3 }))
 ]
-fate k pid well Exit = inr (inr (record { childless = refl; unborn = refl; ends = refl; pipes = pipes_in (own k pid Exit); edits = refl }))
-fate k pid well call = inl (inside_fate k pid call well refl)
+fate k pid well low Exit = inr (inr (record { childless = refl; unborn = refl; ends = refl; pipes = pipes_in (own k pid Exit); edits = refl }))
+fate k pid well low call = inl (inside_fate k pid call well low refl)
 
 -- edits of what is committed and of what a transaction sees make no process and end none
 none_of : (e : Edit) → IsOne e → (makes_process e ≡ false) × (ends_process e ≡ false)
@@ -238,7 +239,7 @@ pub plain_commits : (f : Fields) (pid : ℕ) (call : Call) → Calls f pid None 
 plain_commits f pid call asks es is chosen new =
     let same : es ≡ edits f.stable.state pid call = is ∙ ap (λ k. edits k pid call) (seen_idle (moment f.log) pid asks.stands ∙ sym asks.holds.state) in
     subst (FitsAll chosen f.stable.state) (sym same) (fits f.stable.state pid call chosen (record {
-      well = subst WellFormed (sym asks.holds.state) (what_stands 0 f.log.priorities (limit_of f.log) f.log.entries asks.holds.legal).committed.well;
+      well = subst WellFormed (sym asks.holds.state) (what_stands 0 (setup_of f.log) (limit_of f.log) f.log.entries asks.holds.legal).committed.well;
       alive = subst (λ k. is_alive k pid ≡ true) (sym asks.holds.state) (caller_lives (moment f.log) pid None asks.stands);
       numbers = record { count = new.count ∙ ap (sum_by news) same; unused = new.nowhere; different = new.different };
     }))
@@ -266,7 +267,7 @@ module _ (f : Fields) (pid : ℕ) (within : Option (BeginFlags × ℕ)) (call : 
     chosen = record {
       count = new.count;
       unused = both IsUnmade (IsNowhere f.stable.state) (IsNowhere (seen_by m pid)) chosen
-          (λ n unmade none. nowhere_seen 0 f.log.priorities (limit_of f.log) f.log.entries asks.holds.legal pid n (subst (λ k. IsNowhere k n) asks.holds.state none) (in_no_list pid n unmade)) new.unmade new.nowhere;
+          (λ n unmade none. nowhere_seen 0 (setup_of f.log) (limit_of f.log) f.log.entries asks.holds.legal pid n (subst (λ k. IsNowhere k n) asks.holds.state none) (in_no_list pid n unmade)) new.unmade new.nowhere;
       different = new.different;
     };
     apart = both IsUnmade (IsNowhere f.stable.state) (IsApart m e) chosen
@@ -289,7 +290,7 @@ module _ (f : Fields) (pid : ℕ) (within : Option (BeginFlags × ℕ)) (call : 
 
   -- a process in no transaction makes a child, ends, or does neither
   idle_fate : status m pid ≡ idle → Steadily (seen_by m pid) pid call ⊎ (Bears (seen_by m pid) pid call ⊎ Leaves (seen_by m pid) pid call)
-  idle_fate is = fate (seen_by m pid) pid (subst WellFormed (sym (seen_idle m pid is)) (what_stands 0 f.log.priorities (limit_of f.log) f.log.entries asks.holds.legal).committed.well) call
+  idle_fate is = fate (seen_by m pid) pid (subst WellFormed (sym (seen_idle m pid is)) (what_stands 0 (setup_of f.log) (limit_of f.log) f.log.entries asks.holds.legal).committed.well) (seen_low f asks.holds pid) call
 
   -- the fields with the child that the call makes, if it makes one
   grows_for : (w : Option (BeginFlags × ℕ)) → Stands (calling w) (status m pid) → (is_some w ≡ true → is_inside call ≡ true) → Grows m e f (with_born w pid changed f)
@@ -314,7 +315,7 @@ module _ (f : Fields) (pid : ℕ) (within : Option (BeginFlags × ℕ)) (call : 
   -- those that are doomed have slots
   pub are_in : (g : Fields) → length g.slots ≡ length (with_born within pid changed f).slots → length g.held ≡ length (with_born within pid changed f).held → AllByRecursion (λ d. IsIn g d.pid) ds
   are_in g slots held = members (IsIn g) ds (λ q told.
-      let low = (what_stands 0 f.log.priorities (limit_of f.log) f.log.entries asks.holds.legal).phases.below q (ap holds_place ((moves f.log e asks.holds.legal right).dooms q told).before) in
+      let low = (what_stands 0 (setup_of f.log) (limit_of f.log) f.log.entries asks.holds.legal).phases.below q (ap holds_place ((moves f.log e asks.holds.legal right).dooms q told).before) in
       let made = (processes f.log e asks.holds.legal right).made in
       record { slot = omega (arith, low, made, slots, grows.slot_count); held = omega (arith, low, made, held, grows.held_count) })
 
@@ -322,7 +323,7 @@ module _ (f : Fields) (pid : ℕ) (within : Option (BeginFlags × ℕ)) (call : 
   change = effect chosen changed
 
   goes_in : (w : BeginFlags × ℕ) → Stands (Live w.0 w.1) (status m pid) → CallGoesIn m e call w.0 w.1 answer
-  goes_in w l = calls_go_in 0 f.log.priorities (limit_of f.log) f.log.entries e asks.holds.legal right call w.0 w.1 l.0 answer (phase_is m pid (live w.0 w.1 l.0) l.1 (λ h. absurd cc)) refl
+  goes_in w l = calls_go_in 0 (setup_of f.log) (limit_of f.log) f.log.entries e asks.holds.legal right call w.0 w.1 l.0 answer (phase_is m pid (live w.0 w.1 l.0) l.1 (λ h. absurd cc)) refl
       (executed_again (seen_by m pid) pid call)
 
   idle_phase : status m pid ≡ idle → (next m e).phase pid ≡ m.phase pid
@@ -346,7 +347,7 @@ module _ (f : Fields) (pid : ℕ) (within : Option (BeginFlags × ℕ)) (call : 
     ]
   ]
   part_is (Some w) l supported =
-      let goes = (views_may_be_loose 0 f.log.priorities (limit_of f.log) f.log.entries asks.holds.legal pid).goes_on call in
+      let goes = (views_may_be_loose 0 (setup_of f.log) (limit_of f.log) f.log.entries asks.holds.legal pid).goes_on call in
       let ts = counted_touches m pid call in
       let steady = steadily (seen_by m pid) pid call (supported refl) in
       ap₂ (λ s t. record { slot = with_change change (shown_by s (changes_of m pid)); held = record { priority = priority_of m pid; age = live_age t; touches = with_touches (distinct (held_by m pid)) ts } })
@@ -416,7 +417,7 @@ births_so f g pid call asks es same is made =
     let k = f.stable.state in
     let e = New_process (suc k.made) pid is.1 in
     let priority = (process_of k pid).priority in
-    let stand = (what_stands 0 f.log.priorities (limit_of f.log) f.log.entries asks.holds.legal) in
+    let stand = (what_stands 0 (setup_of f.log) (limit_of f.log) f.log.entries asks.holds.legal) in
     let tidied : IsTidied k = subst IsTidied (sym asks.holds.state) (record { well = stand.committed.well; tidied = stand.committed.tidied }) in
     let low = stand.committed.well.counted pid (caller_lives (moment f.log) pid None asks.stands) in
     let each : (q : ℕ) → part_at g q ≡ part_at (with_child priority f) q = λ q. ap₂ (λ vs hs. record { slot = view_at vs q; held = contender_at hs q }) made.slots made.held in

@@ -1,12 +1,14 @@
--- What each call edits, in a well-formed state.
-use Rattle.std.proofs.Common.{◌≡◌, ℕ, zero, suc, ◌+◌, ◌-◌, ◌<◌, ◌≤◌, ◌⊎◌, ◌==◌, nat_le, nat_lt, not, Bool, true, false, if◌then◌else◌, List, [], ◌∷◌, map, length, take, Option, Some, None, Result, Ok, Err, IfOk, refl, sym, subst, arith, inl, inr, eqb-true}
+-- What each call edits, in a well-formed state whose files the layers can hold.
+use Rattle.std.proofs.Common.{◌≡◌, ℕ, zero, suc, ◌+◌, ◌-◌, ◌<◌, ◌≤◌, ◌⊎◌, ◌==◌, nat_le, nat_lt, not, Bool, true, false, if◌then◌else◌, List, [], ◌∷◌, map, length, take, min, Option, Some, None, Result, Ok, Err, IfOk, refl, sym, subst, arith, inl, inr, eqb-true}
 use Rattle.std.specs.Prelude.{ℤ, pos, negsuc, ◌+ℤ◌, ◌++◌, ◌&&◌, ◌||◌}
+use Rattle.std.proofs.Math.Nat.{min-le_left}
 use Rattle.std.specs.List.{AllByRecursion, list_any}
 use Rattle.std.specs.Map.{lookup}
 use Rattle.std.specs.Cmp.{nat_cmp_total}
 use Rattle.std.proofs.lemmas.Bool.{false≢true}
 use Rattle.model.specs.FiniteMap.{entries, get}
 use Rattle.model.specs.State.{A_file, A_directory, A_pipe, Kernel}
+use Rattle.model.specs.Limits.{largest_file}
 use Rattle.model.specs.Plan.{Errno, Plan, Give, answer as answer_to, given, ◌>>=◌, ◌>>◌, ENOENT, ENOTDIR, ENOTEMPTY, EEXIST, EBUSY, EISDIR, EINVAL, EBADF, EFBIG, EPERM, ESPIPE, EPIPE, EAGAIN, List_names, Measure, refuse_if, or_refuse}
 use Rattle.model.specs.Entries.{is_inside}
 use Rattle.kernel.specs.States.{CanChange}
@@ -14,7 +16,7 @@ use Rattle.model.specs.Calls.{Call, Dup, Dup2, Whence, Open, Close, Read, Write,
 use Rattle.model.specs.Changes.{process_of, There, Made, New_process}
 use Rattle.model.specs.Paths.{is_empty, is_below}
 use Rattle.model.specs.Walks.{Place, Last, parsed, walk, last_of, is_directory}
-use Rattle.model.specs.Plans.{Change, duplicated, plan, status as told_status, absent, slot, slot_at, free, free_from, first_of_free, is_pipe, opened, cut_to, read_some, write_some, read_pipe, piped, pipes_in, whole_write, most_processes, place_to_write, base, sought, moved, replaced_by_name, largest, descriptor_limit}
+use Rattle.model.specs.Plans.{Change, duplicated, plan, status as told_status, absent, slot, slot_at, free, free_from, first_of_free, is_pipe, opened, cut_to, read_some, write_some, read_pipe, piped, pipes_in, whole_write, most_processes, place_to_write, base, sought, moved, replaced_by_name, room, most_moved, descriptor_limit}
 use Rattle.model.specs.Steps.{edits, edits_of, reply, reply_of}
 use Rattle.ids.specs.Flags.{is_reading, is_writing, is_creating, is_exclusive, is_truncating}
 use Rattle.model.proofs.Laws.{all_entries}
@@ -92,7 +94,7 @@ pipe_read_edits k p [] = unless k (nat_lt 0 (answer_to k (Rattle.model.specs.Pla
 pipe_read_edits k p (b ∷ bytes) = inl tt
 
 read_edits : (k : Kernel) (it : Slot) (count : ℕ) → IfOk (given k (read_some it count)) Edits
-read_edits k it count = either_given k Edits (is_pipe it.kind) _ _ (λ pipe. pipe_read_edits k it.inode (answer_to k (Rattle.model.specs.Plan.Read_pipe it.inode count))) (λ _. by_test (is_empty (answer_to k (Rattle.model.specs.Plan.Read_file it.inode (answer_to k (Rattle.model.specs.Plan.Find_offset it.description)) count))) _ _)
+read_edits k it count = either_given k Edits (is_pipe it.kind) _ _ (λ pipe. pipe_read_edits k it.inode (answer_to k (Rattle.model.specs.Plan.Read_pipe it.inode count))) (λ _. by_test (is_empty (answer_to k (Rattle.model.specs.Plan.Read_file it.inode (answer_to k (Rattle.model.specs.Plan.Find_offset it.description)) (min count most_moved)))) _ _)
   where
     by_test : (b : Bool) (d place : ℕ) → CanEdit (if b then [] else Rattle.model.specs.Changes.Set_offset d place ∷ [])
     by_test true d place = tt
@@ -108,25 +110,27 @@ shared_edits : (k : Kernel) (o : Own) (it : Slot) (fs : List ℕ) → AllByRecur
 shared_edits k o it [] low = tt
 shared_edits k o it (f ∷ fs) low = inr low.0
 
-write_edits : (k : Kernel) (it : Slot) (bytes : List ℕ) → IfOk (given k (write_some it bytes)) Edits
-write_edits k it bytes = either_given k Edits (is_pipe it.kind) _ _ (λ pipe. unless k ((answer_to k (Rattle.model.specs.Plan.Count_ends it.inode)).0 == 0) EPIPE _ (
-    let fitting = answer_to k (Rattle.model.specs.Plan.Fit it.inode (length bytes)) in
-    unless k (nat_lt fitting (length bytes) && nat_le (length bytes) whole_write) EAGAIN _ (unless k (fitting == 0) EAGAIN _ (inl tt))))
-    (λ _. after k (place_to_write it it.appending) _ (λ place. allowed k Edits (nat_le largest place) EFBIG _ (λ low. (
-      (let room : place < largest = not_above largest place low in
-          let few : length (take (largest - place) bytes) ≤ largest - place = take_few (largest - place) bytes in omega arith),
-      refl,
-      tt,
-    ))))
+-- what fits at a place ends at the largest file, and so where any file may end
+room_ends : (largest place : ℕ) (bytes : List ℕ) → largest ≤ largest_file → place < largest → place + length (take (room largest place) bytes) ≤ largest_file
+room_ends largest place bytes low below =
+    let few : length (take (room largest place) bytes) ≤ room largest place = take_few (room largest place) bytes in
+    let least : room largest place ≤ largest - place = min-le_left (largest - place) most_moved in
+    omega arith
   where
     take_few : (n : ℕ) (xs : List ℕ) → length (take n xs) ≤ n
     take_few zero xs = omega arith
     take_few (suc n) [] = omega arith
     take_few (suc n) (x ∷ xs) = let rest : length (take n xs) ≤ n = take_few n xs in omega arith
 
-seek_edits : (k : Kernel) (it : Slot) (place : ℤ) → IfOk (given k (sought it place)) Edits
-seek_edits k it (pos place) = unless k (nat_lt largest place) EINVAL _ (inr tt)
-seek_edits k it (negsuc place) = tt
+write_edits : (k : Kernel) (largest : ℕ) → largest ≤ largest_file → (it : Slot) (bytes : List ℕ) → IfOk (given k (write_some largest it bytes)) Edits
+write_edits k largest low it bytes = either_given k Edits (is_pipe it.kind) _ _ (λ pipe. unless k ((answer_to k (Rattle.model.specs.Plan.Count_ends it.inode)).0 == 0) EPIPE _ (
+    let fitting = answer_to k (Rattle.model.specs.Plan.Fit it.inode (length bytes)) in
+    unless k (nat_lt fitting (length bytes) && nat_le (length bytes) whole_write) EAGAIN _ (unless k (fitting == 0) EAGAIN _ (inl tt))))
+    (λ _. after k (place_to_write it it.appending) _ (λ place. allowed k Edits (nat_le largest place) EFBIG _ (λ below. (room_ends largest place bytes low (not_above largest place below), refl, tt))))
+
+seek_edits : (k : Kernel) (largest : ℕ) (it : Slot) (place : ℤ) → IfOk (given k (sought largest it place)) Edits
+seek_edits k largest it (pos place) = unless k (nat_lt largest place) EINVAL _ (inr tt)
+seek_edits k largest it (negsuc place) = tt
 
 move_edits : (k : Kernel) (from : Last) (what : Place) (to : Last) (there : Option Place) → IfOk (given k (moved from what to there)) Edits
 move_edits k from what to None = inl tt
@@ -139,7 +143,7 @@ pair_edits k o [] low = tt
 pair_edits k o (f ∷ []) low = tt
 pair_edits k o (f ∷ g ∷ fs) low = inl (refl, low.0, low.1.0)
 
-module _ (k : Kernel) (pid : ℕ) (well : WellFormed k) where
+module _ (k : Kernel) (pid : ℕ) (well : WellFormed k) (low : k.largest ≤ largest_file) where
   planned : (call : Call) → is_inside call ≡ true → IfOk (given k (plan (own k pid call) call)) Edits
   planned (Open path flags) h =
       unless k (not (is_reading flags || is_writing flags)) EINVAL _ (unless k (is_exclusive flags && not (is_creating flags)) EINVAL _ (unless k (is_truncating flags && not (is_writing flags)) EINVAL _ (
@@ -148,9 +152,9 @@ module _ (k : Kernel) (pid : ℕ) (well : WellFormed k) where
       (λ f low. after k (last_of k.root (if is_creating flags && is_exclusive flags then EEXIST else EISDIR) names) _ (λ at. open_edits k (own k pid (Open path flags)) flags f low at at.found)))))))
   planned (Close f) h = on k pid well (Close f) f _ (λ it opened. inr opened)
   planned (Read f count) h = on k pid well (Read f count) f _ (λ it opened. unless k (not it.reading) EBADF _ (either_given k Edits (count == 0) _ _ (λ _. tt) (λ _. read_edits k it count)))
-  planned (Write f bytes) h = on k pid well (Write f bytes) f _ (λ it opened. unless k (not it.writing) EBADF _ (either_given k Edits (is_empty bytes) _ _ (λ _. tt) (λ _. write_edits k it bytes)))
-  planned (Lseek f move whence) h = on k pid well (Lseek f move whence) f _ (λ it opened. unless k (is_pipe it.kind) ESPIPE _ (after k (base it whence) _ (λ place. seek_edits k it (pos place +ℤ move))))
-  planned (Ftruncate f len) h = on k pid well (Ftruncate f len) f _ (λ it opened. unless k (not it.writing) EBADF _ (unless k (is_pipe it.kind) EINVAL _ (allowed k Edits (nat_lt largest len) EFBIG _ (λ low. inl (not_below largest len low)))))
+  planned (Write f bytes) h = on k pid well (Write f bytes) f _ (λ it opened. unless k (not it.writing) EBADF _ (either_given k Edits (is_empty bytes) _ _ (λ _. tt) (λ _. write_edits k k.largest low it bytes)))
+  planned (Lseek f move whence) h = on k pid well (Lseek f move whence) f _ (λ it opened. unless k (is_pipe it.kind) ESPIPE _ (after k (base it whence) _ (λ place. seek_edits k k.largest it (pos place +ℤ move))))
+  planned (Ftruncate f len) h = on k pid well (Ftruncate f len) f _ (λ it opened. unless k (not it.writing) EBADF _ (unless k (is_pipe it.kind) EINVAL _ (allowed k Edits (nat_lt k.largest len) EFBIG _ (λ fits. inl (let within : len ≤ k.largest = not_below k.largest len fits in omega arith)))))
   planned (Fstat f) h = on k pid well (Fstat f) f _ (λ it opened. tells k (it.inode, it.kind))
   planned (Stat path) h = after k (parsed path) _ (λ names. after k (walk (k.root, Some A_directory) names) _ (tells k))
   planned (Link old path) h =
@@ -192,10 +196,10 @@ fork_comes k pid = by (nat_le most_processes k.made) refl
     by false few = inr (not_above most_processes k.made few, refl, pipes_in (own k pid Fork), refl)
 
 -- what a process edits that is in no transaction can be done
-pub calls_change : (k : Kernel) (pid : ℕ) → WellFormed k → (call : Call) → CanChange k pid None (edits k pid call)
-calls_change k pid well Fork = elim (fork_comes k pid) [
+pub calls_change : (k : Kernel) (pid : ℕ) → WellFormed k → k.largest ≤ largest_file → (call : Call) → CanChange k pid None (edits k pid call)
+calls_change k pid well low Fork = elim (fork_comes k pid) [
   | inl refused ↦ inl (subst CanEdit (sym refused.1) tt)
   | inr made ↦ inr (inl (made.0, made.2, made.3))
 ]
-calls_change k pid well Exit = inr (inr (pipes_in (own k pid Exit), refl))
-calls_change k pid well call = inl (calls_edit k pid well call refl)
+calls_change k pid well low Exit = inr (inr (pipes_in (own k pid Exit), refl))
+calls_change k pid well low call = inl (calls_edit k pid well low call refl)

@@ -12,7 +12,9 @@ use Rattle.kernel.proofs.Words.{subst₂, count_by, distinct, held_by, Process, 
 use Rattle.commit.specs.Views.{SameViews, live_slot, doomed_slot, View, view_at, Shows, changes_in, is_live_slot, is_within, gone_slot, Shown as Transactions}
 use Rattle.history_laws.proofs.Laws.{after_one_more, forks_and_exits_move, legal_push, legality_follows, lists_stay, phases_move, places_suffice}
 use Rattle.history_laws.proofs.Laws.{right_entries_have_places, status_alive, what_stands, right_by, free_from, phase_is, alive_is, lists_are_their_effects}
-use Rattle.history_laws.proofs.Laws.{views_may_be_loose}
+use Rattle.history_laws.proofs.Laws.{views_may_be_loose, largest_is_given}
+use Rattle.call_laws.proofs.Laws.{the_largest_file_stays}
+use Rattle.model.specs.Limits.{largest_file}
 use Rattle.freeing_laws.specs.Sweep.{AllFit}
 use Rattle.shadow.proofs.Laws.{calls_can_be_committed_lem}
 use Rattle.history.specs.Log.{Log, all_forgotten, kept}
@@ -23,7 +25,7 @@ use Rattle.std.proofs.Common.{leb-true, leb-false}
 use Rattle.std.proofs.lemmas.Bool.{lt-leb}
 use Rattle.std.proofs.lemmas.List.{length-drop}
 use Rattle.history_laws.proofs.Laws.{forgetting_is_legal}
-use Rattle.kernel.proofs.Words.{limit_of}
+use Rattle.kernel.proofs.Words.{limit_of, setup_of}
 use Rattle.model.specs.Plan.{ENOTSUP}
 use Rattle.model.specs.Calls.{Call}
 use Rattle.model.specs.Entries.{Refuses}
@@ -123,12 +125,12 @@ IsOther e q = (child_in e.reply ≢ Some q) × ((is_ended e.op e.reply ≡ false
 pub other : (e : Entry) → IsSteady e → (q : ℕ) → IsOther e q
 other e steady q = (λ some. absurd (cc steady.childless), inl steady.goes_on)
 
-module _ (log : Log) (e : Entry) (legal : Legal 0 log.priorities (limit_of log) log.entries) (right : Right (limit_of log) (moment log) e) where
+module _ (log : Log) (e : Entry) (legal : Legal 0 (setup_of log) (limit_of log) log.entries) (right : Right (limit_of log) (moment log) e) where
   abbrev m : Moment
   m = moment log
 
   pub processes : ProcessesMove m e
-  processes = forks_and_exits_move 0 log.priorities (limit_of log) log.entries e legal right
+  processes = forks_and_exits_move 0 (setup_of log) (limit_of log) log.entries e legal right
 
   as_before : (q : ℕ) → IsOther e q → IsAsBefore m e q
   as_before q is = processes.others q is.0 is.1
@@ -142,7 +144,7 @@ module _ (log : Log) (e : Entry) (legal : Legal 0 log.priorities (limit_of log) 
   -- one whose phase stays
   pub stays : (q : ℕ) → IsOther e q → (next m e).phase q ≡ m.phase q → part_of (next m e) q ≡ part_of m q
   stays q is phase =
-      let list = lists_stay 0 log.priorities (limit_of log) log.entries e legal right q (ap calls_of phase) in
+      let list = lists_stay 0 (setup_of log) (limit_of log) log.entries e legal right q (ap calls_of phase) in
       parts_alike _ _ _ _ _ _ _ _ _ _ (as_before q is).alive phase list.effects (as_before q is).priority (ap distinct list.held)
 
   -- a living one, by its new phase
@@ -175,10 +177,10 @@ module _ (log : Log) (e : Entry) (legal : Legal 0 log.priorities (limit_of log) 
 
 -- the entries, and with them the reserved places, are within the limit
 pub entries_count : (log : Log) → (moment log).entries ≡ length log.entries
-entries_count log = legality_follows.entries 0 log.priorities log.entries
+entries_count log = legality_follows.entries 0 (setup_of log) log.entries
 
-pub places : (log : Log) → Legal 0 log.priorities (limit_of log) log.entries → (moment log).entries + reserved (moment log) ≤ limit_at (limit_of log) (moment log).entries
-places log legal = (what_stands 0 log.priorities (limit_of log) log.entries legal).places
+pub places : (log : Log) → Legal 0 (setup_of log) (limit_of log) log.entries → (moment log).entries + reserved (moment log) ≤ limit_at (limit_of log) (moment log).entries
+places log legal = (what_stands 0 (setup_of log) (limit_of log) log.entries legal).places
 
 -- the entries are those that were forgotten and those that are kept
 pub kept_count : (log : Log) → sum log.forgotten ≤ length log.entries → length (kept log) + sum log.forgotten ≡ length log.entries
@@ -210,7 +212,7 @@ module _ (past grown now : Fields) (holds : IsConsistent past) (e : Entry) (righ
   others q differs = elim (cases_Bool (is_in q e.doomed)) [
     | inl told ↦
         let d = (moves past.log e holds.legal right).dooms q told in
-        let alive = (what_stands 0 past.log.priorities (limit_of past.log) past.log.entries holds.legal).phases.alive q (ap holds_place d.before) in
+        let alive = (what_stands 0 (setup_of past.log) (limit_of past.log) past.log.entries holds.legal).phases.alive q (ap holds_place d.before) in
         let older : child_in e.reply ≢ Some q = λ some. false≢true (sym ((processes past.log e holds.legal right).born q some).unmade ∙ alive) in
         moved.others q differs
         ∙ ap (doomed_by ds q) (grows.older q older ∙ holds.parts q ∙ ap (λ s. record { slot = shown_by s (changes_of was q); held = contender_of was q }) (status_alive was q alive ∙ d.before))
@@ -230,18 +232,19 @@ module _ (past grown now : Fields) (holds : IsConsistent past) (e : Entry) (righ
 
   pub enters_grown : CanEnter now e
   enters_grown =
-      let is : moment (with_entry past.log e) ≡ next was e = after_one_more 0 past.log.priorities past.log.entries e in
+      let is : moment (with_entry past.log e) ≡ next was e = after_one_more 0 (setup_of past.log) past.log.entries e in
       subst (λ l. CanEnter (record now { log = l }) e) (sym (moved.log ∙ grows.log)) (record {
         place = le-leb _ _ (right_entries_have_places (limit_of past.log) was e right (places past.log holds.legal));
         answers = answers;
         forgot = holds.forgot;
         holds = record {
-          legal = legal_push 0 past.log.priorities (limit_of past.log) past.log.entries e holds.legal right;
+          legal = legal_push 0 (setup_of past.log) (limit_of past.log) past.log.entries e holds.legal right;
           state = moved.state ∙ sym (ap (λ x. x.committed) is);
           slot_count = moved.slot_count ∙ grows.slot_count ∙ sym (ap bound is);
           held_count = moved.held_count ∙ grows.held_count ∙ sym (ap bound is);
           parts = λ q. each q ∙ sym (ap (λ x. part_of x q) is);
           few = holds.few;
+          low = holds.low;
           forgot = (let more : length (past.log.entries ++ e ∷ []) ≡ length past.log.entries + 1 = length-append past.log.entries (e ∷ []) in omega (arith, holds.forgot));
         };
       })
@@ -305,7 +308,7 @@ enters past now holds e right answers steady = enters_grown past past now holds 
 pub room : (f : Fields) (e : Entry) → CanEnter f e → length (kept f.log) < f.log.limit
 room f e can =
     let after : List Entry = f.log.entries ++ e ∷ [] in
-    let placed = places_suffice 0 f.log.priorities (limit_of f.log) after can.holds.legal in
+    let placed = places_suffice 0 (setup_of f.log) (limit_of f.log) after can.holds.legal in
     let limit : limit_at (limit_of f.log) (length after) ≡ f.log.limit + sum f.log.forgotten = limit_now (with_entry f.log e) can.holds.forgot in
     let count = kept_count f.log can.forgot in
     let more : length (f.log.entries ++ e ∷ []) ≡ length f.log.entries + 1 = length-append f.log.entries (e ∷ []) in
@@ -317,12 +320,13 @@ forgets f holds =
     let count = kept_count f.log holds.forgot in
     let more : sum (f.log.forgotten ++ length (kept f.log) ∷ []) ≡ sum f.log.forgotten + sum (length (kept f.log) ∷ []) = sum_by-append (λ n. n) f.log.forgotten (length (kept f.log) ∷ []) in
     record {
-      legal = forgetting_is_legal.legal 0 f.log.priorities (limit_of f.log) f.log.entries (length (kept f.log)) (omega (arith, count)) holds.legal;
+      legal = forgetting_is_legal.legal 0 (setup_of f.log) (limit_of f.log) f.log.entries (length (kept f.log)) (omega (arith, count)) holds.legal;
       state = holds.state;
       slot_count = holds.slot_count;
       held_count = holds.held_count;
       parts = holds.parts;
       few = holds.few;
+      low = holds.low;
       forgot = omega (arith, count, more);
     }
 
@@ -352,6 +356,7 @@ unchanged f pid held new holds state views kept = record {
     held_count = kept.count ∙ holds.held_count;
     parts = λ q. ap₂ (λ v h. record { slot = v; held = h }) (views.each q) (held_same q) ∙ holds.parts q;
     few = holds.few;
+    low = holds.low;
     forgot = holds.forgot;
   };
   same = ap (λ k. record { log = f.log; state = k }) state;
@@ -384,7 +389,7 @@ within_shown false s ds dead = sym (ap holds_place (dead refl))
 
 module _ (f : Fields) (holds : IsConsistent f) (q : ℕ) where
   dead_is_idle : is_alive (moment f.log).committed q ≡ false → (moment f.log).phase q ≡ idle
-  dead_is_idle = (what_stands 0 f.log.priorities (limit_of f.log) f.log.entries holds.legal).phases.processes q
+  dead_is_idle = (what_stands 0 (setup_of f.log) (limit_of f.log) f.log.entries holds.legal).phases.processes q
 
   -- a slot has the changes of its process's live list
   pub slot_changes : changes_in (view_at f.slots q) ≡ changes_of (moment f.log) q
@@ -395,7 +400,7 @@ module _ (f : Fields) (holds : IsConsistent f) (q : ℕ) where
   pub slot_fits : AllFit (changes_in (view_at f.slots q)) f.stable.state
   slot_fits =
       let m = moment f.log in
-      let lists = (what_stands 0 f.log.priorities (limit_of f.log) f.log.entries holds.legal).lists q in
+      let lists = (what_stands 0 (setup_of f.log) (limit_of f.log) f.log.entries holds.legal).lists q in
       subst (AllFit (changes_in (view_at f.slots q))) (sym holds.state)
       (subst (λ ds. AllFit ds m.committed) (sym slot_changes) (calls_can_be_committed_lem m.committed q (calls_at m q) lists.goes))
 
@@ -405,7 +410,14 @@ module _ (f : Fields) (holds : IsConsistent f) (q : ℕ) where
 
   -- and tidied
   pub slot_sees : tidy (all_done (changes_in (view_at f.slots q)) f.stable.state) ≡ seen_by (moment f.log) q
-  slot_sees = ap tidy slot_views ∙ sym (views_may_be_loose 0 f.log.priorities (limit_of f.log) f.log.entries holds.legal q).seen
+  slot_sees = ap tidy slot_views ∙ sym (views_may_be_loose 0 (setup_of f.log) (limit_of f.log) f.log.entries holds.legal q).seen
+
+  -- in what it sees, tidied or not, a file may have as many bytes as the log says
+  pub seen_low : (seen_by (moment f.log) q).largest ≤ largest_file
+  seen_low = subst (λ n. n ≤ largest_file) (sym ((largest_is_given 0 (setup_of f.log) f.log.entries).seen q)) holds.low
+
+  pub slot_low : (all_done (changes_in (view_at f.slots q)) f.stable.state).largest ≤ largest_file
+  slot_low = subst (λ n. n ≤ largest_file) (sym (ap (λ k. k.largest) slot_sees) ∙ the_largest_file_stays.tidied (all_done (changes_in (view_at f.slots q)) f.stable.state)) seen_low
 
   pub slot_lives : is_live_slot (view_at f.slots q) ≡ is_live (moment f.log) q
   slot_lives = ap (λ p. is_live_slot p.slot) (holds.parts q) ∙ live_shown (is_alive (moment f.log).committed q) ((moment f.log).phase q) (changes_of (moment f.log) q) dead_is_idle
@@ -538,7 +550,7 @@ module _ (f : Fields) (holds : IsConsistent f) (pid : ℕ) (op : Op) (reply : Re
       → Shows f.slots new.slots pid v → new.stable.state ≡ (next found e).committed → CanEndTransaction (record f { transactions = new }) pid op reply again flags age
   closes new v again flags age here own shows state =
       let alive = alive_is found pid s is here in
-      let low = (what_stands 0 f.log.priorities (limit_of f.log) f.log.entries holds.legal).committed.well.counted pid alive in
+      let low = (what_stands 0 (setup_of f.log) (limit_of f.log) f.log.entries holds.legal).committed.well.counted pid alive in
       let phase = (phases_move (limit_of f.log) found e is_right).own ∙ ap (λ x. own_next (found.entries + 1) x op reply []) (phase_is found pid s is here) ∙ own in
       record {
         is_in = record { slot = omega (arith, low, shows.count, holds.slot_count); held = omega (arith, low, holds.held_count) };

@@ -32,6 +32,7 @@ use Rattle.store.specs.contracts.Opened as Opened
 use Rattle.dirlist.specs.contracts.Dir as Dir
 use Rattle.store.specs.contracts.Store as Store
 use Rattle.shadow.specs.contracts.stable.Process as Process
+use Rattle.shadow.specs.contracts.stable.Processes as Processes
 use Rattle.shadow.specs.contracts.stable.Stable as Stable
 use Rattle.ids.specs.contracts.aspect.Touch as Touch
 use Rattle.ids.specs.contracts.aspect.Cause as Cause
@@ -129,8 +130,11 @@ store_sent = search (header_sent, sendable, crosses, over.crosses, frees_by, fre
 process_sent : IsSend Process.the_row
 process_sent = search (table_sent, sendable, crosses, over.crosses) depth 40 fits 30000
 
+processes_sent : IsSend Processes.the_row
+processes_sent = search (process_sent, sendable, crosses, over.crosses, frees_by, frees.frees) depth 40 fits 30000
+
 stable_sent : IsSend Stable.the_row
-stable_sent = search (store_sent, process_sent, sendable, crosses, over.crosses, frees_by, frees.frees) depth 40 fits 30000
+stable_sent = search (store_sent, processes_sent, sendable, crosses, over.crosses, frees_by, frees.frees) depth 40 fits 30000
 
 touch_sent : IsSend Touch.the_row
 touch_sent = search (sendable, crosses, over.crosses, frees_by, frees.frees) depth 40 fits 30000

@@ -39,7 +39,7 @@ pub use Rattle.contention.specs.declared.Doomed.{Doomed}
 pub use Rattle.shadow.specs.Log.{effect}
 pub use Rattle.shadow.specs.Steps.{CanEdit}
 pub use Rattle.shadow.specs.Committed.{Committed}
-pub use Rattle.machine.specs.Shown.{Kept, Shown, is_live, is_live_status, limit_of, moment}
+pub use Rattle.machine.specs.Shown.{Kept, Shown, is_live, is_live_status, limit_of, moment, setup_of}
 pub use Rattle.kernel.specs.States.{Asks, CanEnter, CanEndTransaction, Does, Dooms, Fields, IsConsistent, IsIn, Moves, Part, Plans, Stands, Unchanged, calling}
 pub use Rattle.kernel.specs.States.{changes_of, cleared, doomed_by, fields, part_at, part_of, part_with, plain, settled_as, shown, shown_by, state_with}
 pub use Rattle.kernel.specs.States.{Born, Calls, CanChange, ends_process, first_is, makes_process, no_part, part_after, with_born, with_child}

@@ -2,7 +2,7 @@
 use Rattle.std.specs.Prelude.{◌≡◌, ◌≢◌, ◌<◌, ◌≤◌, ◌==◌, ◌⊎◌, ℕ, suc, Bool, true, false}
 use Rattle.std.specs.Prelude.{List, [], ◌∷◌, ◌++◌, length, sum, Option, None, Some, is_some}
 use Rattle.std.specs.Prelude.{if◌then◌else◌}
-use Rattle.ids.specs.declared.limits.TheConstants.{MAX_PROCESSES}
+use Rattle.ids.specs.declared.limits.TheConstants.{LARGEST_FILE, MAX_PROCESSES}
 use Rattle.history.specs.Log.{Log}
 use Rattle.model.specs.State.{Kernel}
 use Rattle.model.specs.Entries.{Op, Do, Reply, Entry, BeginFlags, Cause, Executed}
@@ -17,7 +17,7 @@ use Rattle.history_laws.specs.Limits.{most_processes}
 use Rattle.commit.specs.Views.{Shown as Transactions}
 use Rattle.commit.specs.Views.{View, view_at, gone_slot, idle_slot, live_slot, doomed_slot}
 use Rattle.kernel.specs.declared.state.State.{State}
-use Rattle.machine.specs.Shown.{Shown, limit_of, moment}
+use Rattle.machine.specs.Shown.{Shown, limit_of, moment, setup_of}
 use Rattle.machine.specs.Steps.{IsStep, entry_of, has_place, is_no_entry, with_entry}
 use Rattle.model.specs.Effects.{Effect, effects, all_done}
 use Rattle.commit.specs.Dooming.{with_doom}
@@ -77,12 +77,13 @@ part_at f q = record { slot = view_at f.slots q; held = contender_at f.held q }
 
 -- The history is legal, and each field shows what it comes to.
 pub record IsConsistent (f : Fields) : Type 0 where
-  pub legal : Legal 0 f.log.priorities (limit_of f.log) f.log.entries
+  pub legal : Legal 0 (setup_of f.log) (limit_of f.log) f.log.entries
   pub state : f.stable.state ≡ (moment f.log).committed
   pub slot_count : length f.slots ≡ bound (moment f.log)
   pub held_count : length f.held ≡ bound (moment f.log)
   pub parts : (q : ℕ) → part_at f q ≡ part_of (moment f.log) q
   pub few : length f.log.priorities ≤ most_processes
+  pub low : f.log.largest ≤ LARGEST_FILE
   pub forgot : sum f.log.forgotten ≤ length f.log.entries
 
 -- such a process has a slot, and its part of the touches

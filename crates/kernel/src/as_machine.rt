@@ -4,7 +4,7 @@ ghost use Rattle.machine.specs.Shown.{Shown};
 use crate::Kernel;
 use heap::Heap;
 use history::History;
-use ids::{Op, Pid, Priority, Reply};
+use ids::{Limits, Op, Pid, Priority, Reply};
 use machine::Machine;
 use std::alloc::AllocError;
 
@@ -13,6 +13,14 @@ impl Machine for Kernel {
 
     fn new(heap: Heap, priorities: &[Priority], limit: usize) -> Result<Kernel, AllocError> {
         Kernel::new(heap, priorities, limit)
+    }
+
+    fn with_limits(
+        heap: Heap,
+        priorities: &[Priority],
+        limits: Limits,
+    ) -> Result<Kernel, AllocError> {
+        Kernel::with_limits(heap, priorities, limits)
     }
 
     fn history(&self) -> &History {

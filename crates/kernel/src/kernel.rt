@@ -1,4 +1,5 @@
 // The kernel, and one step of it.
+ghost use Rattle.ids.specs.declared.limits.TheConstants.{DEFAULT_LARGEST_FILE, LARGEST_FILE};
 ghost use Rattle.ids.specs.declared.limits.TheConstants.{MAX_ENTRIES, MAX_PROCESSES};
 ghost use Rattle.std.specs.Prelude.{◌≡◌, ◌^◌, ◌↔◌, ℕ, ◌<◌, ◌≤◌, [], length, true, false, is_some, IfOk, IfSome, OnErr};
 ghost use Rattle.model.specs.Changes.{tidy};
@@ -10,7 +11,7 @@ ghost use Rattle.history_laws.specs.Headline.{IsSerializable};
 ghost use Rattle.history_laws.specs.Limits.{StaysWithinLimits};
 ghost use Rattle.history_laws.specs.Trees.{IsATree};
 ghost use Rattle.records.specs.Touches.{distinct, touched_by};
-ghost use Rattle.machine.specs.Shown.{Kept, limit_of, moment, is_live};
+ghost use Rattle.machine.specs.Shown.{Kept, limit_of, moment, setup_of, is_live};
 ghost use Rattle.machine.specs.Steps.{forgetting, IsStep, Steps};
 
 use crate::state::State;
@@ -19,7 +20,7 @@ use commit::Transactions;
 use contention::Contenders;
 use heap::Heap;
 use history::History;
-use ids::{ListMode, Num, Op, Pid, Priority, Reply};
+use ids::{Limits, ListMode, Num, Op, Pid, Priority, Reply};
 use records::Records;
 use shadow::{Shadow, Stable, View};
 use std::alloc::AllocError;
@@ -49,8 +50,9 @@ impl Model for Kernel {
 }
 
 impl Kernel {
-    /// A kernel with a process for each of these priorities, no names, and a history that keeps at
-    /// most `limit` entries, whose memory it takes at once. Refused memory gives nothing.
+    /// A kernel with a process for each of these priorities, no names, files of at most
+    /// [`ids::DEFAULT_LARGEST_FILE`] bytes, and a history that keeps at most `limit` entries, whose
+    /// memory it takes at once. Refused memory gives nothing.
     pub fn new(heap: Heap, priorities: &[Priority], limit: usize) -> Result<Kernel, AllocError>
         requires some { 0 < length priorities.now }
         requires not_too_many { length priorities.now ≤ MAX_PROCESSES }
@@ -62,14 +64,39 @@ impl Kernel {
               priorities = priorities.now;
               limit = limit;
               forgotten = [];
+              largest = DEFAULT_LARGEST_FILE;
             }) }
     {
-        let history = History::new(heap, priorities, limit)?;
+        Kernel::with_limits(heap, priorities, Limits::of_entries(limit))
+    }
+
+    /// The same with these limits: files of at most `limits.file_bytes` bytes, and a history that
+    /// keeps at most `limits.entries` entries. Refused memory gives nothing.
+    pub fn with_limits(
+        heap: Heap,
+        priorities: &[Priority],
+        limits: Limits,
+    ) -> Result<Kernel, AllocError>
+        requires some { 0 < length priorities.now }
+        requires not_too_many { length priorities.now ≤ MAX_PROCESSES }
+        requires limited { limits.entries ≤ MAX_ENTRIES }
+        requires files { limits.file_bytes ≤ LARGEST_FILE }
+        ensures kept { IfOk result Kept }
+        ensures log { IfOk result (λ k.
+            k.log ≡ record {
+              entries = [];
+              priorities = priorities.now;
+              limit = limits.entries;
+              forgotten = [];
+              largest = limits.file_bytes;
+            }) }
+    {
+        let history = History::with_limits(heap, priorities, limits)?;
         let Ok(contenders) = Contenders::new(heap, priorities) else {
             drop(history);
             return Err(AllocError);
         };
-        let Ok(transactions) = Transactions::new(heap, priorities) else {
+        let Ok(transactions) = Transactions::new(heap, priorities, limits.file_bytes) else {
             drop(contenders);
             drop(history);
             return Err(AllocError);
@@ -89,7 +116,7 @@ impl Kernel {
     pub fn history(&self) -> &History
         ensures value { result.now ≡ self.now.log }
         ensures kept { Kept self.now }
-        ensures serial { IsSerializable 0 self.now.log.priorities
+        ensures serial { IsSerializable 0 (setup_of self.now.log)
             (limit_of self.now.log) self.now.log.entries self.now.state }
     {
         &self.state.history
@@ -160,7 +187,7 @@ impl Kernel {
     /// that of one new entry.
     pub fn step(&mut self, pid: Pid, op: Op) -> Reply
         ensures kept { Kept self.new }
-        ensures serial { IsSerializable 0 self.new.log.priorities
+        ensures serial { IsSerializable 0 (setup_of self.new.log)
             (limit_of self.new.log) self.new.log.entries self.new.state }
         ensures step { IsStep self.old self.new pid op result }
     {
@@ -171,7 +198,7 @@ impl Kernel {
     /// stands among the replies.
     pub fn run(&mut self, ops: Vec<(Pid, Op), Heap>) -> Result<Vec<Reply, Heap>, AllocError>
         ensures kept { Kept self.new }
-        ensures serial { IsSerializable 0 self.new.log.priorities
+        ensures serial { IsSerializable 0 (setup_of self.new.log)
             (limit_of self.new.log) self.new.log.entries self.new.state }
         ensures steps { IfOk result (λ replies.
             Steps self.old ops.entry.items replies.items self.new) }

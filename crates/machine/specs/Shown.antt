@@ -3,7 +3,8 @@ use Rattle.std.specs.Prelude.{◌≡◌, ◌≤◌, ℕ, Bool, true, false, leng
 use Rattle.history.specs.Log.{Log}
 use Rattle.model.specs.State.{Kernel as State}
 use Rattle.model.specs.Forgetting.{Limit}
-use Rattle.model.specs.Moments.{Status, gone, idle, live, doomed, Moment, after}
+use Rattle.model.specs.Moments.{Status, gone, idle, live, doomed}
+use Rattle.model.specs.Moments.{Moment, Setup, after}
 use Rattle.model.specs.Legal.{Legal}
 
 -- its history, and the committed state
@@ -15,9 +16,13 @@ pub record Shown : Type 0 where
 abbrev pub limit_of : Log → Limit
 limit_of log = record { capacity = log.limit; forgotten = log.forgotten }
 
+-- what the kernel was given when it was made
+abbrev pub setup_of : Log → Setup
+setup_of log = record { priorities = log.priorities; largest = log.largest }
+
 -- What the history comes to: the committed state, and each process's status. The root has number 0.
 abbrev pub moment : Log → Moment
-moment log = after 0 log.priorities log.entries
+moment log = after 0 (setup_of log) log.entries
 
 -- whether a process is in a live transaction
 abbrev pub is_live_status : Status → Bool
@@ -31,6 +36,6 @@ is_live m pid = is_live_status (m.phase pid)
 
 -- The history is legal, the state is what it committed, and what was forgotten are entries of it.
 pub record Kept (v : Shown) : Type 0 where
-  pub legal : Legal 0 v.log.priorities (limit_of v.log) v.log.entries
+  pub legal : Legal 0 (setup_of v.log) (limit_of v.log) v.log.entries
   pub state : v.state ≡ (moment v.log).committed
   pub forgot : sum v.log.forgotten ≤ length v.log.entries

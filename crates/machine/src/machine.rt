@@ -1,14 +1,15 @@
 // What is asked of a kernel.
+ghost use Rattle.ids.specs.declared.limits.TheConstants.{DEFAULT_LARGEST_FILE, LARGEST_FILE};
 ghost use Rattle.ids.specs.declared.limits.TheConstants.{MAX_ENTRIES, MAX_PROCESSES};
 ghost use Rattle.std.specs.Prelude.{◌≡◌, ◌^◌, ◌↔◌, ◌<◌, ◌≤◌, [], length, true, false, IfOk, OnErr};
 ghost use Rattle.model.specs.Moments.{is_alive};
 ghost use Rattle.history_laws.specs.Headline.{IsSerializable};
-ghost use Rattle.machine.specs.Shown.{Shown, Kept, limit_of};
+ghost use Rattle.machine.specs.Shown.{Shown, Kept, limit_of, setup_of};
 ghost use Rattle.machine.specs.Steps.{forgetting, IsStep, Steps};
 
 use heap::Heap;
 use history::History;
-use ids::{Op, Pid, Priority, Reply};
+use ids::{Limits, Op, Pid, Priority, Reply};
 use std::alloc::AllocError;
 
 /// A kernel: its history, what the processes have committed, and what their open transactions hold.
@@ -16,8 +17,9 @@ pub trait Machine: Sized + Drop {
     /// What contracts see of it.
     ghost shown: { Self → Shown };
 
-    /// A kernel with a process for each of these priorities, no names, and a history that keeps at
-    /// most `limit` entries, whose memory it takes at once. Refused memory gives nothing.
+    /// A kernel with a process for each of these priorities, no names, files of at most
+    /// [`ids::DEFAULT_LARGEST_FILE`] bytes, and a history that keeps at most `limit` entries, whose
+    /// memory it takes at once. Refused memory gives nothing.
     fn new(heap: Heap, priorities: &[Priority], limit: usize) -> Result<Self, AllocError>
         requires some { 0 < length priorities.now }
         requires not_too_many { length priorities.now ≤ MAX_PROCESSES }
@@ -28,6 +30,23 @@ pub trait Machine: Sized + Drop {
           priorities = priorities.now;
           limit = limit;
           forgotten = [];
+          largest = DEFAULT_LARGEST_FILE;
+        }) };
+
+    /// The same with these limits: files of at most `limits.file_bytes` bytes, and a history that
+    /// keeps at most `limits.entries` entries. Refused memory gives nothing.
+    fn with_limits(heap: Heap, priorities: &[Priority], limits: Limits) -> Result<Self, AllocError>
+        requires some { 0 < length priorities.now }
+        requires not_too_many { length priorities.now ≤ MAX_PROCESSES }
+        requires limited { limits.entries ≤ MAX_ENTRIES }
+        requires files { limits.file_bytes ≤ LARGEST_FILE }
+        ensures kept { IfOk result (λ k. Kept (shown k)) }
+        ensures log { IfOk result (λ k. (shown k).log ≡ record {
+          entries = [];
+          priorities = priorities.now;
+          limit = limits.entries;
+          forgotten = [];
+          largest = limits.file_bytes;
         }) };
 
     /// The history: all entries ever made, of which those that were not forgotten are kept. It is
@@ -36,7 +55,7 @@ pub trait Machine: Sized + Drop {
         ensures value { result.now ≡ (shown self.now).log }
         ensures kept { Kept (shown self.now) }
         ensures serial { let s = shown self.now in
-            IsSerializable 0 s.log.priorities (limit_of s.log) s.log.entries s.state };
+            IsSerializable 0 (setup_of s.log) (limit_of s.log) s.log.entries s.state };
 
     /// How many processes were ever made: their numbers are 1, 2, and so on.
     fn made(&self) -> usize
@@ -51,7 +70,7 @@ pub trait Machine: Sized + Drop {
     fn step(&mut self, pid: Pid, op: Op) -> Reply
         ensures kept { Kept (shown self.new) }
         ensures serial { let s = shown self.new in
-            IsSerializable 0 s.log.priorities (limit_of s.log) s.log.entries s.state }
+            IsSerializable 0 (setup_of s.log) (limit_of s.log) s.log.entries s.state }
         ensures step { IsStep (shown self.old) (shown self.new) pid op result };
 
     /// Steps in a row. Refused memory for the replies means that nothing has run; a later refusal
@@ -59,7 +78,7 @@ pub trait Machine: Sized + Drop {
     fn run(&mut self, ops: Vec<(Pid, Op), Heap>) -> Result<Vec<Reply, Heap>, AllocError>
         ensures kept { Kept (shown self.new) }
         ensures serial { let s = shown self.new in
-            IsSerializable 0 s.log.priorities (limit_of s.log) s.log.entries s.state }
+            IsSerializable 0 (setup_of s.log) (limit_of s.log) s.log.entries s.state }
         ensures steps { IfOk result (λ replies.
             Steps (shown self.old) ops.entry.items replies.items (shown self.new)) }
         ensures err { OnErr result (shown self.new ≡ shown self.old) };

@@ -11,7 +11,7 @@ use Rattle.model.specs.Entries.{Reply, Refuses, Begun, Committed, GivenUp, Abort
 use Rattle.model.specs.Entries.{InTransaction, NotInTransaction, NoProcess, Entry, Executed}
 use Rattle.model.specs.Entries.{answer_in, is_inside}
 use Rattle.model.specs.Forgetting.{Limit, limit_at}
-use Rattle.model.specs.Moments.{Status, gone, idle, live, doomed, Moment, status, at_start, numbers}
+use Rattle.model.specs.Moments.{Setup, Status, gone, idle, live, doomed, Moment, status, at_start, numbers}
 use Rattle.model.specs.Moments.{calls_at, seen_by, counted_touches, all_below, bound, losing_cause}
 use Rattle.model.specs.Moments.{clashes_with, is_in, run_by, next, reserved, has_free}
 
@@ -107,10 +107,10 @@ abbrev pub LegalFrom : Limit → Moment → List Entry → Type 0
 LegalFrom limit m [] = ListsRun m
 LegalFrom limit m (e ∷ es) = ListsRun m × Right limit m e × LegalFrom limit (next m e) es
 
--- A history of a kernel with this root number, these priorities and this limit is legal. Only the
+-- A history of a kernel with this root number, this setup and this limit is legal. Only the
 -- laws look into it: crates above carry it, and take what it gives from the laws.
-unfoldable pub Legal : ℕ → List ℕ → Limit → List Entry → Type 0
-Legal root priorities limit es = LegalFrom limit (at_start root priorities) es
+unfoldable pub Legal : ℕ → Setup → Limit → List Entry → Type 0
+Legal root setup limit es = LegalFrom limit (at_start root setup) es
 
 -- the serial list: executed plain calls at their entries, and a
 -- transaction's calls together at its committed end
@@ -119,8 +119,8 @@ serial_from m [] = []
 serial_from m (e ∷ es) =
     items e.pid (run_by (status m e.pid) e.op e.reply e.chosen) ++ serial_from (next m e) es
 
-abbrev pub serial : ℕ → List ℕ → List Entry → List Item
-serial root priorities es = serial_from (at_start root priorities) es
+abbrev pub serial : ℕ → Setup → List Entry → List Item
+serial root setup es = serial_from (at_start root setup) es
 
 -- the entries of one process, and beginnings
 abbrev pub mine : ℕ → List Entry → List Entry

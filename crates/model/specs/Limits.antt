@@ -16,9 +16,19 @@ path_limit = 1024
 abbrev pub name_limit : ℕ
 name_limit = 255
 
--- the most bytes of a file, and so the largest offset
-abbrev pub largest : ℕ
-largest = 1048576
+-- the most bytes that a file can have at all, and so the largest offset (FILESIZEBITS, SSIZE_MAX);
+-- each kernel has a number of its own, at most this
+abbrev pub largest_file : ℕ
+largest_file = 2147483647
+
+-- the number of a kernel for which none is given
+abbrev pub default_largest_file : ℕ
+default_largest_file = 1048576
+
+-- the most bytes that one read or write of a file moves: POSIX.1-2017 lets each move fewer than were
+-- asked for (read, write)
+abbrev pub most_moved : ℕ
+most_moved = 1048576
 
 -- how many bytes of a file are one block, the unit in which touches speak of content
 abbrev pub block_length : ℕ

@@ -46,18 +46,25 @@ with_processes made [] m = m
 with_processes made (p ∷ ps) m =
     with_processes (suc made) ps (insert m (suc made) (record { table = empty; priority = p }))
 
-abbrev pub start : ℕ → List ℕ → Kernel
-start root priorities = record {
+-- what a kernel is given when it is made: the priorities of its first processes, and the most bytes
+-- of a file
+pub record Setup : Type 0 where
+  pub priorities : List ℕ
+  pub largest : ℕ
+
+abbrev pub start : ℕ → Setup → Kernel
+start root setup = record {
   root = root;
   inodes = insert empty root (Directory empty);
   descriptions = empty;
-  processes = with_processes 0 priorities empty;
-  made = length priorities;
+  processes = with_processes 0 setup.priorities empty;
+  made = length setup.priorities;
+  largest = setup.largest;
 }
 
-abbrev pub at_start : ℕ → List ℕ → Moment
-at_start root priorities =
-    record { committed = start root priorities; entries = 0; phase = λ pid. idle }
+abbrev pub at_start : ℕ → Setup → Moment
+at_start root setup =
+    record { committed = start root setup; entries = 0; phase = λ pid. idle }
 
 -- the state after one executed call, untidied and tidied
 abbrev pub after_one : ℕ → Executed → Kernel → Kernel
@@ -254,8 +261,8 @@ after_from m [] = m
 after_from m (e ∷ es) = after_from (next m e) es
 
 -- after a whole history
-abbrev pub after : ℕ → List ℕ → List Entry → Moment
-after root priorities es = after_from (at_start root priorities) es
+abbrev pub after : ℕ → Setup → List Entry → Moment
+after root setup es = after_from (at_start root setup) es
 
 -- a live or doomed transaction holds one place
 abbrev pub holds_place : Status → Bool

@@ -2,10 +2,10 @@
 -- (POSIX.1-2017, the function of each name).
 use Rattle.std.specs.Prelude.{ℕ, suc, ◌+◌, ◌-◌, ℤ, pos, negsuc, ◌+ℤ◌, List, [], ◌∷◌, ◌++◌, Bool}
 use Rattle.std.specs.Prelude.{true, false, not, ◌&&◌, ◌||◌, Option, Some, None, ◌==◌, nat_lt}
-use Rattle.std.specs.Prelude.{nat_le, if◌then◌else◌, length, take, ⊤}
+use Rattle.std.specs.Prelude.{nat_le, if◌then◌else◌, length, take, min, ⊤}
 use Rattle.std.specs.List.{flat_map, list_any}
 use Rattle.std.specs.Map.{lookup}
-pub use Rattle.model.specs.Limits.{largest, descriptor_limit, most_processes, whole_write}
+pub use Rattle.model.specs.Limits.{most_moved, descriptor_limit, most_processes, whole_write}
 use Rattle.model.specs.State.{Kind, A_file, A_directory, A_pipe}
 use Rattle.model.specs.Plan.{EAGAIN, EBADF, EBUSY, EEXIST, EFBIG, EINVAL, EISDIR, EMFILE, ENOENT}
 use Rattle.model.specs.Plan.{ENOTDIR, ENOTEMPTY, EPERM, EPIPE, ESPIPE, List_names, Measure}
@@ -124,7 +124,7 @@ read_some it count =
       read_pipe it.inode bytes)
     else (do
       offset ← ask (Find_offset it.description)
-      bytes ← ask (Read_file it.inode offset count)
+      bytes ← ask (Read_file it.inode offset (min count most_moved))
       changed (Bytes bytes)
           (if is_empty bytes then [] else Set_offset it.description (offset + length bytes) ∷ []))
 
@@ -132,8 +132,12 @@ abbrev pub place_to_write : Slot → Bool → Plan ℕ
 place_to_write it true = ask (Measure it.inode)
 place_to_write it false = ask (Find_offset it.description)
 
-abbrev pub write_some : Slot → List ℕ → Plan Change
-write_some it bytes =
+-- how many bytes one write can put at a place of a file that may have so many
+abbrev pub room : ℕ → ℕ → ℕ
+room largest place = min (largest - place) most_moved
+
+abbrev pub write_some : ℕ → Slot → List ℕ → Plan Change
+write_some largest it bytes =
     if is_pipe it.kind then (do
       ends ← ask (Count_ends it.inode)
       refuse_if (ends.0 == 0) EPIPE
@@ -145,15 +149,15 @@ write_some it bytes =
       place ← place_to_write it it.appending
       refuse_if (nat_le largest place) EFBIG
       size ← ask (Measure it.inode)
-      changed (Count (length (take (largest - place) bytes)))
-          (Put_bytes it.inode place (take (largest - place) bytes) size
-          ∷ Set_offset it.description (place + length (take (largest - place) bytes)) ∷ []))
+      changed (Count (length (take (room largest place) bytes)))
+          (Put_bytes it.inode place (take (room largest place) bytes) size
+          ∷ Set_offset it.description (place + length (take (room largest place) bytes)) ∷ []))
 
-abbrev pub sought : Slot → ℤ → Plan Change
-sought it (pos place) = do
+abbrev pub sought : ℕ → Slot → ℤ → Plan Change
+sought largest it (pos place) = do
   refuse_if (nat_lt largest place) EINVAL
   changed (New_place place) (Set_offset it.description place ∷ [])
-sought it (negsuc place) = Refuse EINVAL
+sought largest it (negsuc place) = Refuse EINVAL
 
 abbrev pub base : Slot → Whence → Plan ℕ
 base it From_start = Give 0
@@ -220,17 +224,17 @@ plan own (Read f count) = do
 plan own (Write f bytes) = do
   it ← slot own f
   refuse_if (not it.writing) EBADF
-  if is_empty bytes then unchanged (Count 0) else write_some it bytes
+  if is_empty bytes then unchanged (Count 0) else write_some own.largest it bytes
 plan own (Lseek f move whence) = do
   it ← slot own f
   refuse_if (is_pipe it.kind) ESPIPE
   place ← base it whence
-  sought it (pos place +ℤ move)
+  sought own.largest it (pos place +ℤ move)
 plan own (Ftruncate f len) = do
   it ← slot own f
   refuse_if (not it.writing) EBADF
   refuse_if (is_pipe it.kind) EINVAL
-  refuse_if (nat_lt largest len) EFBIG
+  refuse_if (nat_lt own.largest len) EFBIG
   cut ← cut_to it.inode len
   changed Done cut
 plan own (Stat path) = do

@@ -6,16 +6,25 @@ use Rattle.model.specs.Plan.{Errno}
 use Rattle.model.specs.Changes.{all_applied, applied, tidy, holders, openings}
 use Rattle.model.specs.Calls.{OpenFlags, Call, Answer, Stated}
 use Rattle.model.specs.Steps.{reply, edits}
-use Rattle.model.specs.Moments.{start}
+use Rattle.model.specs.Limits.{default_largest_file}
+use Rattle.model.specs.Moments.{Setup, start}
 
 -- what a run of calls goes through, opened
 unfoldable pub runs : ⊤
 unfolding computes applied tidy links ends holders openings
 runs = tt
 
--- a kernel with two processes and the root alone, whose number is 0
+-- these priorities, and the largest file where none is given
+abbrev pub by_default : List ℕ → Setup
+by_default priorities = record { priorities = priorities; largest = default_largest_file }
+
+-- a kernel with two processes and the root alone, whose number is 0, and with files of at most so
+-- many bytes
+abbrev pub fresh_with : ℕ → Kernel
+fresh_with largest = start 0 (record { priorities = 0 ∷ 0 ∷ []; largest = largest })
+
 abbrev pub fresh : Kernel
-fresh = start 0 (0 ∷ 0 ∷ [])
+fresh = start 0 (by_default (0 ∷ 0 ∷ []))
 
 -- a line: who calls what, and the numbers of the new objects
 abbrev pub Line : Type 0

@@ -39,13 +39,15 @@ pub record Process : Type 0 where
   pub priority : ℕ
 
 -- inodes and descriptions have their numbers from one range;
--- `made` is how many processes were ever made
+-- `made` is how many processes were ever made; `largest` is the most bytes of a file, which
+-- nothing changes (POSIX.1-2017, limits.h: the implementation's maximum file size)
 pub record Kernel : Type 0 where
   pub root : ℕ
   pub inodes : FinMap nat_cmp Inode
   pub descriptions : FinMap nat_cmp Description
   pub processes : FinMap nat_cmp Process
   pub made : ℕ
+  pub largest : ℕ
 
 abbrev pub kind : Inode → Kind
 kind (File bytes) = A_file

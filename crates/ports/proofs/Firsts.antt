@@ -6,10 +6,9 @@ use Rattle.std.proofs.lemmas.Bool.{cases_lt}
 use Rattle.std.proofs.lemmas.Bool.Decides.{nat_tests}
 use Rattle.call_laws.proofs.Laws.{first_processes_live}
 use Rattle.history.specs.Log.{Log}
+use Rattle.ids.specs.declared.limits.Limits.{Limits}
 use Rattle.ids.specs.declared.limits.TheConstants.{MAX_PROCESSES}
-use Rattle.machine.specs.Shown.{Shown, Kept, moment}
-use Rattle.model.specs.Moments.{all_below, is_alive, start}
-use Rattle.model.specs.State.{Kernel as State}
+use Rattle.model.specs.Moments.{Setup, all_below, is_alive, start}
 use Rattle.ports.proofs.Called.{begins_on}
 use Rattle.ports.proofs.Found.{Among, AreWorked, all_among, among_left, among_right, gates, waiting_found, works}
 use Rattle.ports.specs.Runs.{IsRunByThreads}
@@ -32,16 +31,16 @@ below_among test (suc n) q holds low = elim (cases_lt q n) [
 ]
 
 -- each process that is there at the start is one of those that get a pass
-living : (k : State) (priorities : List ℕ) → k ≡ start 0 priorities → length priorities ≤ MAX_PROCESSES
-    → (q : ℕ) → 0 < q → q ≤ length priorities → Among (living_numbers k) q
-living k priorities is few zero positive low = absurd (omega arith)
-living k priorities is few (suc i) positive low =
-    let firsts = first_processes_live 0 priorities in
-    let alive : is_alive k (suc i) ≡ true = ap (λ (s : State). is_alive s (suc i)) is ∙ firsts.alive i (omega arith) in
+living : (setup : Setup) → length setup.priorities ≤ MAX_PROCESSES
+    → (q : ℕ) → 0 < q → q ≤ length setup.priorities → Among (living_numbers (start 0 setup)) q
+living setup few zero positive low = absurd (omega arith)
+living setup few (suc i) positive low =
+    let firsts = first_processes_live 0 setup in
+    let alive : is_alive (start 0 setup) (suc i) ≡ true = firsts.alive i (omega arith) in
     let small : nat_lt (suc i) 4294967296 ≡ true = grind (arith, nat_tests) in
-    let has : has_pass k (suc i) ≡ true = ap (λ (b : Bool). b && is_alive k (suc i)) small ∙ alive in
-    let made : k.made ≡ length priorities = ap (λ (s : State). s.made) is ∙ firsts.made in
-    below_among (has_pass k) (suc k.made) (suc i) has (omega arith)
+    let has : has_pass (start 0 setup) (suc i) ≡ true = ap (λ (b : Bool). b && is_alive (start 0 setup) (suc i)) small ∙ alive in
+    let made : (start 0 setup).made ≡ length setup.priorities = firsts.made in
+    below_among (has_pass (start 0 setup)) (suc (start 0 setup).made) (suc i) has (omega arith)
 
 -- the first passes are those of the living processes
 pub numbers_of : (g : Gate) (qs : List ℕ) → map (λ (p : PassView). p.pid) (map (first_pass g) qs) ≡ qs
@@ -53,33 +52,28 @@ pub firsts_begun : (g : Gate) (qs : List ℕ) → AllByRecursion (λ (p : PassVi
 firsts_begun g [] = tt
 firsts_begun g (q ∷ qs) = (refl, firsts_begun g qs)
 
+-- what the kernel of a run is given
+abbrev pub setup_for : ScriptContents → Limits → Setup
+setup_for script limits = record { priorities = script.priorities; largest = limits.file_bytes }
+
 -- the kernel that a turnstile begins with has no entry
-pub record IsFresh (script : ScriptContents) (limit : ℕ) (g : Gate) (k : State) : Type 0 where
-  pub gate : g.start ≡ record { entries = []; priorities = script.priorities; limit = limit; forgotten = [] }
-  pub state : k ≡ start 0 script.priorities
+pub record IsFresh (script : ScriptContents) (limits : Limits) (g : Gate) : Type 0 where
+  pub gate : g.start ≡ record { entries = []; priorities = script.priorities; limit = limits.entries; forgotten = []; largest = limits.file_bytes }
   pub some : 0 < length script.priorities
   pub few : length script.priorities ≤ MAX_PROCESSES
 
-pub fresh_gate : (script : ScriptContents) (limit : ℕ) (g : Gate) (v : Shown) → Kept v → g.start ≡ v.log
-    → v.log ≡ record { entries = []; priorities = script.priorities; limit = limit; forgotten = [] }
-    → 0 < length script.priorities → length script.priorities ≤ MAX_PROCESSES → IsFresh script limit g v.state
-fresh_gate script limit g v kept gate log some few = record {
-  gate = gate ∙ log;
-  state = kept.state ∙ ap (λ (l : Log). (moment l).committed) log;
-  some = some;
-  few = few;
-}
-
 -- a run whose passes have all come back
-pub has_run : (script : ScriptContents) (limit : ℕ) (g : Gate) (k : State) (passes : List PassView) (log : Log)
-    → IsFresh script limit g k → AreWorked script.lines g (map (λ (p : PassView). p.pid) (first_passes g k)) passes
+pub has_run : (script : ScriptContents) (limits : Limits) (g : Gate) (passes : List PassView) (log : Log)
+    → IsFresh script limits g → AreWorked script.lines g (map (λ (p : PassView). p.pid) (first_passes g (start 0 (setup_for script limits)))) passes
     → AllByRecursion (λ (p : PassView). Begins p.gate.start p.seen) passes → AllByRecursion (KeepsPass log) passes → IsLegal log
-    → IsRunByThreads script limit log
-has_run script limit g k passes log fresh came begun kept legal =
-    let numbers = numbers_of g (living_numbers k) in
-    let worked : AreWorked script.lines g (living_numbers k) passes = subst (λ (w : List ℕ). AreWorked script.lines g w passes) numbers came in
-    let one = waiting_found script.lines g (living_numbers k) passes worked 1 (living k script.priorities fresh.state fresh.few 1 (omega arith) (omega arith)) in
-    let gate : one.pass.gate ≡ g = all_among (λ (p : PassView). p.gate ≡ g) passes one.pass (gates script.lines g (living_numbers k) passes worked) one.among in
+    → IsRunByThreads script limits log
+has_run script limits g passes log fresh came begun kept legal =
+    let setup : Setup = setup_for script limits in
+    let initial : List ℕ = living_numbers (start 0 setup) in
+    let numbers = numbers_of g initial in
+    let worked : AreWorked script.lines g initial passes = subst (λ (w : List ℕ). AreWorked script.lines g w passes) numbers came in
+    let one = waiting_found script.lines g initial passes worked 1 (living setup fresh.few 1 (omega arith) (omega arith)) in
+    let gate : one.pass.gate ≡ g = all_among (λ (p : PassView). p.gate ≡ g) passes one.pass (gates script.lines g initial passes worked) one.among in
     let start_is = ap (λ (h : Gate). h.start) gate ∙ fresh.gate in
     let grown : Begins one.pass.gate.start log =
     begins_on one.pass.gate.start one.pass.seen log
@@ -90,7 +84,8 @@ has_run script limit g k passes log fresh came begun kept legal =
       legal = legal.legal;
       same_priorities = priorities;
       same_limit = grown.limit ∙ ap (λ (l : Log). l.limit) start_is;
+      same_largest = grown.largest ∙ ap (λ (l : Log). l.largest) start_is;
       whole = grown.forgotten ∙ ap (λ (l : Log). l.forgotten) start_is;
-      works = works script.lines g (living_numbers k) passes log worked kept legal.legal
-          (λ q positive low. living k script.priorities fresh.state fresh.few q positive (subst (λ (ps : List ℕ). q ≤ length ps) priorities low));
+      works = works script.lines g initial passes log worked kept legal.legal
+          (λ q positive low. living setup fresh.few q positive (subst (λ (ps : List ℕ). q ≤ length ps) priorities low));
     }

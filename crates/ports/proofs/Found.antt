@@ -10,7 +10,7 @@ use Rattle.history_laws.specs.Processes.{IsForked}
 use Rattle.ids.specs.declared.call.Op.{Op}
 use Rattle.ids.specs.declared.entry.Entry.{Entry}
 use Rattle.ids.specs.declared.reply.Reply.{Reply}
-use Rattle.machine.specs.Shown.{limit_of, moment}
+use Rattle.machine.specs.Shown.{limit_of, setup_of, moment}
 use Rattle.model.specs.Legal.{Legal, mine}
 use Rattle.ports.specs.Ports.{done_by, replied, work_in}
 use Rattle.script.specs.declared.read.Line.{Line}
@@ -100,7 +100,7 @@ forked_among log q f =
     subst (λ (xs : List (Op × Reply)). Among (children xs) q) (sym done) (child_among (map replied (mine pid f.before)) (map replied (mine pid f.later)) q)
 
 module _ (lines : List Line) (h : Gate) (waiting : List ℕ) (passes : List PassView) (log : Log) (worked : AreWorked lines h waiting passes) (kept : AllByRecursion (KeepsPass log) passes)
-    (legal : Legal 0 log.priorities (limit_of log) log.entries) (first : (q : ℕ) → 0 < q → q ≤ length log.priorities → Among waiting q) where
+    (legal : Legal 0 (setup_of log) (limit_of log) log.entries) (first : (q : ℕ) → 0 < q → q ≤ length log.priorities → Among waiting q) where
   -- what a process did that has a pass
   did : (q : ℕ) (f : Found lines passes q) → work_in log q ≡ done_by f.pass
   did q f = ap (work_in log) (sym f.number) ∙ ap (map replied) (all_among (KeepsPass log) passes f.pass kept f.among).own_kept
@@ -110,7 +110,7 @@ module _ (lines : List Line) (h : Gate) (waiting : List ℕ) (passes : List Pass
   found (suc n) q low positive made = elim (cases_lt (length log.priorities) q) [
     | inr initial ↦ waiting_found lines h waiting passes worked q (first q positive initial)
     | inl later ↦ (
-        let f = children_are_forked 0 log.priorities (limit_of log) log.entries legal q later made in
+        let f = children_are_forked 0 (setup_of log) (limit_of log) log.entries legal q later made in
         let earlier : f.fork.pid < q = f.earlier in
         let parent = found n f.fork.pid (omega arith) f.number (omega arith) in
         child_found lines h waiting passes worked parent.pass parent.among q

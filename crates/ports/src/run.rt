@@ -1,5 +1,6 @@
 // A kernel whose processes are worked for by threads.
 ghost use Rattle.std.specs.Prelude.{◌≡◌, ◌≤◌, [], All, IfOk, map};
+ghost use Rattle.ids.specs.declared.limits.TheConstants.{LARGEST_FILE, MAX_ENTRIES};
 ghost use Rattle.ports.specs.Ports.{done_by};
 ghost use Rattle.ports.specs.Runs.{IsRunByThreads};
 ghost use Rattle.turnstile.specs.Histories.{Begins};
@@ -7,7 +8,7 @@ ghost use Rattle.workers.specs.Families.{AreFamilies};
 
 use crate::TurnstilePort;
 use heap::Heap;
-use ids::MAX_ENTRIES;
+use ids::Limits;
 use machine::Machine;
 use script::Script;
 use std::alloc::AllocError;
@@ -77,22 +78,20 @@ fn worked<R: Threads + Wait + Sync, K: Machine + Send>(
     }
 }
 
-/// Runs a script on a fresh kernel with this history limit, with a thread for each process, children
-/// too, and joins them all. Returns the kernel. The fault is that of the lowest process whose worker
+/// Runs a script on a fresh kernel with these limits, with a thread for each process, children too,
+/// and joins them all. Returns the kernel. The fault is that of the lowest process whose worker
 /// was stopped by a refusal, or for which no thread could be started.
 pub fn run_threads<K: Machine + Send, R: Threads + Wait + Sync>(
     rt: &R,
     heap: Heap,
     script: &Script,
-    limit: usize,
+    limits: Limits,
 ) -> Result<K, WorkFault>
-    requires { limit ≤ MAX_ENTRIES }
-    ensures { IfOk result (λ kernel. IsRunByThreads script.now limit (K.shown kernel).log) }
+    requires limited { limits.entries ≤ MAX_ENTRIES }
+    requires files { limits.file_bytes ≤ LARGEST_FILE }
+    ensures { IfOk result (λ kernel. IsRunByThreads script.now limits (K.shown kernel).log) }
 {
-    let Ok(kernel) = K::new(heap, script.priorities(), limit) else {
-        return Err(WorkFault::NoMemory);
-    };
-    let Ok((turnstile, passes)) = Turnstile::new(heap, kernel) else {
+    let Ok((turnstile, passes)) = Turnstile::with_limits(heap, script.priorities(), limits) else {
         return Err(WorkFault::NoMemory);
     };
     let passes = worked(rt, heap, &turnstile, passes, script)?;

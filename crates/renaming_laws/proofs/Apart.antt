@@ -8,7 +8,7 @@ use Rattle.std.proofs.lemmas.Bool.{cases_eq}
 use Rattle.model.specs.FiniteMap.{get, empty, insert, remove, get-empty, get-insert, get-remove}
 use Rattle.model.specs.State.{Name, name_cmp, Kernel, Inode, File, Directory, Pipe, Description, names_of_inode, names_of, file_of, pipe_of}
 use Rattle.model.specs.Changes.{Edit, There, Made, Mode, Make_directory, Make_file, Name_file, Unname_file, Unname_directory, Move, Put_bytes, Cut, Take, Append, Set_offset, Open_inode, Make_pipe, Share_slot, Clear_slot, New_process, End_process, number, sized, written, set_inode, set_name, clear_name, set_offset, set_description, at_start, open_at, to_read, to_write, is_held, applied, all_applied, tidy}
-use Rattle.model.specs.Moments.{start}
+use Rattle.model.specs.Moments.{Setup, start}
 use Rattle.model.proofs.Laws.{get_same, get_other}
 use Rattle.call_laws.proofs.Laws.{empty_gives, get_tidy, reached, retained_some, some_same}
 use Rattle.renaming_laws.specs.Laws.{HasNumbers}
@@ -137,10 +137,10 @@ module _ (root : ℕ) where
     unopened = λ d it is. h.unopened d it (retained_some k.descriptions (is_held k) d it is).1;
   }
 
-  pub apart_at_start : (priorities : List ℕ) → IsApart root (start root priorities)
-  apart_at_start priorities = record {
+  pub apart_at_start : (setup : Setup) → IsApart root (start root setup)
+  apart_at_start setup = record {
     unnamed = λ d x e. elim (cases_eq d root) [
-      | inl same ↦ no_names x (ap (λ o. get (names_of_inode o) x) (sym (ap (get (start root priorities).inodes) same ∙ get_same empty root (Directory empty))) ∙ e)
+      | inl same ↦ no_names x (ap (λ o. get (names_of_inode o) x) (sym (ap (get (start root setup).inodes) same ∙ get_same empty root (Directory empty))) ∙ e)
       | inr away ↦ no_names x (ap (λ o. get (names_of_inode o) x) (sym (get_other empty root d (Directory empty) away ∙ nothing d)) ∙ e)
     ];
     unopened = λ d it is. absurd (empty_gives nat_cmp d it is);

@@ -5,7 +5,7 @@ use Rattle.model.specs.FiniteMap.{get, empty, insert, remove}
 use Rattle.model.specs.State.{Kernel, Inode, File, Directory, Pipe, Description, names_of, file_of, pipe_of}
 use Rattle.model.specs.Changes.{Edit, Make_directory, Make_file, Name_file, Unname_file, Unname_directory, Move, Put_bytes, Cut, Take, Append, Set_offset, Open_inode, Make_pipe, Share_slot, Clear_slot, New_process, End_process, number, Made, sized, written, set_inode, set_name, clear_name, set_offset, applied, all_applied, tidy}
 use Rattle.model.specs.Steps.{edits, IsNowhere, Item, Run}
-use Rattle.model.specs.Moments.{start}
+use Rattle.model.specs.Moments.{Setup, start}
 use Rattle.model.proofs.Laws.{get_same}
 use Rattle.call_laws.proofs.Laws.{all-mapped, get_tidy, not_none, rooted_reached, stays_inserted}
 use Rattle.renaming_laws.specs.Laws.{RootIsNeverChosen}
@@ -74,9 +74,9 @@ module _ (root : ℕ) where
       let mid : HasRoot root run.0 = subst (HasRoot root) (sym step.changed) (tidying_keeps (all_applied it.chosen (edits k it.pid it.call) k) (edits_keep it.chosen k (edits k it.pid it.call) h)) in
       (all-mapped it.chosen (λ n nowhere. away k h n nowhere) step.numbers.unused, never_chosen run.0 mid items after run.2)
 
-pub root_at_start : (root : ℕ) (priorities : List ℕ) → HasRoot root (start root priorities)
-root_at_start root priorities = record { is = refl; there = λ none. not_none (Directory empty) (sym (get_same empty root (Directory empty)) ∙ none) }
+pub root_at_start : (root : ℕ) (setup : Setup) → HasRoot root (start root setup)
+root_at_start root setup = record { is = refl; there = λ none. not_none (Directory empty) (sym (get_same empty root (Directory empty)) ∙ none) }
 
 pub root_is_never_chosen : RootIsNeverChosen
-root_is_never_chosen root priorities items after run =
-    never_chosen root (start root priorities) (root_at_start root priorities) items after run
+root_is_never_chosen root setup items after run =
+    never_chosen root (start root setup) (root_at_start root setup) items after run

@@ -1,5 +1,5 @@
 -- Of all calls only the status of the path `/` tells the root, and no edit gives it to a name or to a description.
-use Rattle.std.proofs.Common.{◌≡◌, ◌≢◌, ◌⊎◌, ℕ, ◌+◌, Bool, true, false, not, ◌&&◌, ◌||◌, nat_lt, nat_le, ◌==◌, if◌then◌else◌, ℤ, pos, negsuc, ◌+ℤ◌, List, [], ◌∷◌, ◌++◌, map, length, Option, Some, None, Result, Ok, Err, IfOk, refl, sym, ap, subst, ◌∙◌, inl, inr, eqb-true}
+use Rattle.std.proofs.Common.{◌≡◌, ◌≢◌, ◌⊎◌, ℕ, ◌+◌, Bool, true, false, not, ◌&&◌, ◌||◌, nat_lt, nat_le, ◌==◌, if◌then◌else◌, ℤ, pos, negsuc, ◌+ℤ◌, List, [], ◌∷◌, ◌++◌, map, length, min, Option, Some, None, Result, Ok, Err, IfOk, refl, sym, ap, subst, ◌∙◌, inl, inr, eqb-true}
 use Rattle.std.specs.List.{AllByRecursion}
 use Rattle.std.specs.Cmp.{nat_cmp_total}
 use Rattle.ids.specs.Flags.{is_reading, is_writing, is_creating, is_exclusive, is_truncating}
@@ -11,7 +11,7 @@ use Rattle.model.specs.Limits.{path_limit, name_limit}
 use Rattle.model.specs.Walks.{told, parsed, look, walk, Last, last, last_of, Place, is_directory}
 use Rattle.model.specs.Changes.{There, Open_inode, Set_offset, process_of}
 use Rattle.model.specs.Calls.{OpenFlags, Call, Open, Close, Read, Write, Lseek, Ftruncate, Stat, Fstat, Link, Unlink, Rename, Mkdir, Rmdir, List_directory, Dup, Dup2, Open_pipe, Fork, Exit, Descriptor, Bytes, Slot, Own, slot_of, own}
-use Rattle.model.specs.Plans.{Change, changed, free, first_of_free, slot, is_pipe, status, mode, cut_to, opened, read_pipe, read_some, place_to_write, write_some, sought, base, moved, replaced_by_name, absent, duplicated, piped, forked, largest, whole_write, most_processes}
+use Rattle.model.specs.Plans.{Change, changed, free, first_of_free, slot, is_pipe, status, mode, cut_to, opened, read_pipe, read_some, place_to_write, write_some, sought, base, moved, replaced_by_name, absent, duplicated, piped, forked, most_moved, whole_write, most_processes}
 use Rattle.model.specs.Steps.{outcome}
 use Rattle.model.proofs.Laws.{all_entries}
 use Rattle.call_laws.proofs.Laws.{after_bind, allowed, either_given, weaken, whatever, not_none, some_same}
@@ -171,18 +171,18 @@ module _ (root : ℕ) (k : Kernel) (apart : IsApart root k) where
     read_fine it count = either (is_pipe it.kind) _ _
         (read_pipe_fine it.inode (answer k (Read_pipe it.inode count)))
         (let offset : ℕ = answer k (Find_offset it.description) in
-        let bytes : List ℕ = answer k (Read_file it.inode offset count) in
+        let bytes : List ℕ = answer k (Read_file it.inode offset (min count most_moved)) in
         offset_fine bytes it.description (offset + length bytes) (is_empty bytes))
 
-    write_fine : (it : Slot) (bytes : List ℕ) → IfOk (given k (write_some it bytes)) Fine
-    write_fine it bytes = either (is_pipe it.kind) _ _
+    write_fine : (largest : ℕ) (it : Slot) (bytes : List ℕ) → IfOk (given k (write_some largest it bytes)) Fine
+    write_fine largest it bytes = either (is_pipe it.kind) _ _
         (let fitting : ℕ = answer k (Fit it.inode (length bytes)) in
         unless ((answer k (Count_ends it.inode)).0 == 0) EPIPE _ (unless (nat_lt fitting (length bytes) && nat_le (length bytes) whole_write) EAGAIN _ (unless (fitting == 0) EAGAIN _ (record { tells = inl tt; gives = (tt, tt) }))))
         (then_whatever (place_to_write it it.appending) _ (λ place. unless (nat_le largest place) EFBIG _ (record { tells = inl tt; gives = (tt, (tt, tt)) })))
 
-    sought_fine : (it : Slot) (z : ℤ) → IfOk (given k (sought it z)) Fine
-    sought_fine it (pos place) = unless (nat_lt largest place) EINVAL _ (record { tells = inl tt; gives = (tt, tt) })
-    sought_fine it (negsuc place) = tt
+    sought_fine : (largest : ℕ) (it : Slot) (z : ℤ) → IfOk (given k (sought largest it z)) Fine
+    sought_fine largest it (pos place) = unless (nat_lt largest place) EINVAL _ (record { tells = inl tt; gives = (tt, tt) })
+    sought_fine largest it (negsuc place) = tt
 
     moved_fine : (from : Last) (what : Place) (to : Last) (o : Option Place) → what.0 ≢ root → IfOk (given k (moved from what to o)) Fine
     moved_fine from what to None other = record { tells = inl tt; gives = (other, tt) }
@@ -225,11 +225,11 @@ module _ (root : ℕ) (k : Kernel) (apart : IsApart root k) where
   call_guarded is slots pid (Read fd count) = then_whatever (Read fd count) (slot (own k pid (Read fd count)) fd) _ (λ it.
       unless (Read fd count) (not it.reading) EBADF _ (either (Read fd count) (count == 0) _ _ (record { tells = inl tt; gives = tt }) (read_fine (Read fd count) it count)))
   call_guarded is slots pid (Write fd bytes) = then_whatever (Write fd bytes) (slot (own k pid (Write fd bytes)) fd) _ (λ it.
-      unless (Write fd bytes) (not it.writing) EBADF _ (either (Write fd bytes) (is_empty bytes) _ _ (record { tells = inl tt; gives = tt }) (write_fine (Write fd bytes) it bytes)))
+      unless (Write fd bytes) (not it.writing) EBADF _ (either (Write fd bytes) (is_empty bytes) _ _ (record { tells = inl tt; gives = tt }) (write_fine (Write fd bytes) k.largest it bytes)))
   call_guarded is slots pid (Lseek fd move whence) = then_whatever (Lseek fd move whence) (slot (own k pid (Lseek fd move whence)) fd) _ (λ it.
-      unless (Lseek fd move whence) (is_pipe it.kind) ESPIPE _ (then_whatever (Lseek fd move whence) (base it whence) _ (λ place. sought_fine (Lseek fd move whence) it (pos place +ℤ move))))
+      unless (Lseek fd move whence) (is_pipe it.kind) ESPIPE _ (then_whatever (Lseek fd move whence) (base it whence) _ (λ place. sought_fine (Lseek fd move whence) k.largest it (pos place +ℤ move))))
   call_guarded is slots pid (Ftruncate fd len) = then_whatever (Ftruncate fd len) (slot (own k pid (Ftruncate fd len)) fd) _ (λ it.
-      unless (Ftruncate fd len) (not it.writing) EBADF _ (unless (Ftruncate fd len) (is_pipe it.kind) EINVAL _ (unless (Ftruncate fd len) (nat_lt largest len) EFBIG _ (record { tells = inl tt; gives = (tt, tt) }))))
+      unless (Ftruncate fd len) (not it.writing) EBADF _ (unless (Ftruncate fd len) (is_pipe it.kind) EINVAL _ (unless (Ftruncate fd len) (nat_lt k.largest len) EFBIG _ (record { tells = inl tt; gives = (tt, tt) }))))
   call_guarded is slots pid (Stat path) = subst (λ n. IfOk (given k (parsed path >>= (λ names. walk (n, Some A_directory) names >>= status))) (IsGuarded root (Stat path))) (sym is) (stat_fine path (path_names path) refl)
   call_guarded is slots pid (Fstat fd) = then_given (Fstat fd) (λ it. it.inode ≢ root) (slot (own k pid (Fstat fd)) fd) _ (slot_other slots pid fd (Fstat fd)) (λ it other. status_fine (Fstat fd) it.inode it.kind other)
   call_guarded is slots pid (Link old path) = then_whatever (Link old path) (parsed old) _ (λ from. then_whatever (Link old path) (parsed path) _ (λ to.

@@ -9,7 +9,7 @@ use Rattle.model.specs.Plan.{Errno}
 use Rattle.model.specs.Calls.{Call, Answer, Stated}
 use Rattle.model.specs.Steps.{Item, Run}
 use Rattle.model.specs.Entries.{BeginFlags, Op, Do, Begin, End, Abort, Cause, Reply, Answers, Refuses, Begun, Committed, GivenUp, Aborted, Busy, InTransaction, NotInTransaction, HistoryFull, NoMemory, NoProcess, Entry, Executed, is_unsupported, answer_in}
-use Rattle.model.specs.Moments.{Status, gone, idle, live, doomed, Moment, is_alive, status, at_start, after_list, settled, with_call, begun, own_next, doom, doom_cause, dooming_touches, is_in, next_phase, plain_calls, run_by, next}
+use Rattle.model.specs.Moments.{Setup, Status, gone, idle, live, doomed, Moment, is_alive, status, at_start, after_list, settled, with_call, begun, own_next, doom, doom_cause, dooming_touches, is_in, next_phase, plain_calls, run_by, next}
 use Rattle.model.proofs.Laws.{all-append}
 use Rattle.model.specs.Legal.{items, serial_from, serial}
 use Rattle.renaming_laws.specs.Renaming.{IsRenaming, swap, renamed, renamed_process}
@@ -242,12 +242,12 @@ module _ (f g : ℕ → ℕ) (r : IsRenaming f) (IsFree : Item → Type 0) (same
         }
 
 -- the first moments
-start_alike : (a b : ℕ) (g : ℕ → ℕ) (priorities : List ℕ) → Alike (swap a b) g (at_start a priorities) (at_start b priorities)
-start_alike a b g priorities = record {
-  committed = sym (start_swapped a b priorities);
+start_alike : (a b : ℕ) (g : ℕ → ℕ) (setup : Setup) → Alike (swap a b) g (at_start a setup) (at_start b setup)
+start_alike a b g setup = record {
+  committed = sym (start_swapped a b setup);
   entries = refl;
   phase = λ q. same_idle;
-  slots = slots_at_start a priorities;
+  slots = slots_at_start a setup;
 }
 
 all_free : (its : List Item) → AllByRecursion (λ it. ⊤) its
@@ -255,9 +255,9 @@ all_free [] = tt
 all_free (it ∷ its) = (tt, all_free its)
 
 pub histories_are_renamed : HistoriesAreRenamed
-histories_are_renamed a b priorities es after run =
+histories_are_renamed a b setup es after run =
     history_renamed (swap a b) (swap a b) (swap_renames a b) (λ it. ⊤) (λ it h. refl) (λ calls others. others ≡ map (renamed_executed (swap a b)) calls) (λ calls. refl)
-    (at_start a priorities) (at_start b priorities) (start_alike a b (swap a b) priorities) es after (all_free (serial a priorities es)) run
+    (at_start a setup) (at_start b setup) (start_alike a b (swap a b) setup) es after (all_free (serial a setup es)) run
 
 -- to rename nothing
 answer_unnamed : (answer : Answer) → renamed_answer (λ n. n) answer ≡ answer
@@ -285,9 +285,9 @@ unnamed : {A : Type 0} (h : A → A) → ((x : A) → h x ≡ x) → (xs : List 
 unnamed h same xs = ap (λ h. map h xs) (λ i x. same x i) ∙ map-id xs
 
 pub root_is_free_in_histories : RootIsFreeInHistories
-root_is_free_in_histories a b priorities es after untold unchosen run =
-    let neither = run_has_neither a b priorities (serial a priorities es) after untold unchosen run in
+root_is_free_in_histories a b setup es after untold unchosen run =
+    let neither = run_has_neither a b setup (serial a setup es) after untold unchosen run in
     let whole = history_renamed (swap a b) (λ n. n) (swap_renames a b) (HasNeither a b) (λ it h. item_stays a b it h ∙ sym (item_unnamed it)) (λ calls others. others ≡ calls) (λ calls. unnamed (renamed_executed (λ n. n)) executed_unnamed calls)
-    (at_start a priorities) (at_start b priorities) (start_alike a b (λ n. n) priorities) es after neither run in
-    subst (λ items. HistoryIsRenamed (swap a b) (λ calls others. others ≡ calls) (at_start a priorities) (at_start b priorities) es es items after) (unnamed (renamed_item (λ n. n)) item_unnamed (serial a priorities es))
-    (subst (λ others. HistoryIsRenamed (swap a b) (λ calls others. others ≡ calls) (at_start a priorities) (at_start b priorities) es others (map (renamed_item (λ n. n)) (serial a priorities es)) after) (unnamed (renamed_entry (λ n. n)) entry_unnamed es) whole)
+    (at_start a setup) (at_start b setup) (start_alike a b (λ n. n) setup) es after neither run in
+    subst (λ items. HistoryIsRenamed (swap a b) (λ calls others. others ≡ calls) (at_start a setup) (at_start b setup) es es items after) (unnamed (renamed_item (λ n. n)) item_unnamed (serial a setup es))
+    (subst (λ others. HistoryIsRenamed (swap a b) (λ calls others. others ≡ calls) (at_start a setup) (at_start b setup) es others (map (renamed_item (λ n. n)) (serial a setup es)) after) (unnamed (renamed_entry (λ n. n)) entry_unnamed es) whole)

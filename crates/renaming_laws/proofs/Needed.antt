@@ -17,6 +17,7 @@ astray = record {
   descriptions = empty;
   processes = insert empty 1 (record { table = insert empty 3 9; priority = 0 });
   made = 1;
+  largest = 1;
 }
 
 before : reply astray 1 (Lseek 3 (pos 0) From_end) ≡ Ok (New_place 1)

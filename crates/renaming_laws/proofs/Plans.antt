@@ -1,5 +1,5 @@
 -- The plan of each call, in a renamed state.
-use Rattle.std.proofs.Common.{◌≡◌, ℕ, ◌+◌, ◌-◌, ℤ, pos, negsuc, ◌+ℤ◌, Bool, true, false, not, ◌&&◌, ◌||◌, nat_lt, nat_le, ◌==◌, if◌then◌else◌, List, [], ◌∷◌, ◌++◌, map, length, take, Option, Some, None, refl, sym, ap, ap₂, subst, ◌∙◌}
+use Rattle.std.proofs.Common.{◌≡◌, ℕ, ◌+◌, ℤ, pos, negsuc, ◌+ℤ◌, Bool, true, false, not, ◌&&◌, ◌||◌, nat_lt, nat_le, ◌==◌, if◌then◌else◌, List, [], ◌∷◌, ◌++◌, map, length, take, min, Option, Some, None, refl, sym, ap, ap₂, subst, ◌∙◌}
 use Rattle.std.proofs.lemmas.List.{map-append}
 use Rattle.ids.specs.Flags.{is_reading, is_writing, is_creating, is_exclusive, is_truncating}
 use Rattle.model.specs.State.{Kind, A_file, A_directory, A_pipe, Kernel, mapped}
@@ -8,7 +8,7 @@ use Rattle.model.specs.Paths.{is_empty, is_below}
 use Rattle.model.specs.Walks.{parsed, walk, Last, last_of, Place, is_directory}
 use Rattle.model.specs.Changes.{Made, There, Edit, Make_directory, Make_file, Name_file, Unname_file, Unname_directory, Move, Put_bytes, Take, Append, Over_nothing, Over_file, Over_directory, Set_offset, Open_inode, Make_pipe, Share_slot, Clear_slot, New_process, End_process}
 use Rattle.model.specs.Calls.{OpenFlags, Whence, From_start, From_offset, From_end, Call, Open, Close, Read, Write, Lseek, Ftruncate, Stat, Fstat, Link, Unlink, Rename, Mkdir, Rmdir, List_directory, Dup, Dup2, Open_pipe, Fork, Exit, Answer, Done, Descriptor, Count, New_place, Bytes, Pair, Stated, Listing, Child, Slot, Own}
-use Rattle.model.specs.Plans.{Change, changed, free, first_of_free, slot_at, slot, is_pipe, pipe_in, pipes_in, status, mode, cut_to, opened, read_pipe, read_some, place_to_write, write_some, sought, base, replaced_by_name, move_onto, moved, absent, duplicated, piped, forked, plan, largest, most_processes, whole_write}
+use Rattle.model.specs.Plans.{Change, changed, free, first_of_free, slot_at, slot, is_pipe, pipe_in, pipes_in, status, mode, cut_to, opened, read_pipe, read_some, place_to_write, room, write_some, sought, base, replaced_by_name, move_onto, moved, absent, duplicated, piped, forked, plan, most_moved, most_processes, whole_write}
 use Rattle.renaming_laws.specs.Renaming.{IsRenaming}
 use Rattle.renaming_laws.specs.Renamed.{renamed_place, renamed_slot, renamed_own, renamed_replaced, renamed_edit, renamed_answer, renamed_change}
 use Rattle.renaming_laws.proofs.States.{same_test}
@@ -67,15 +67,15 @@ module _ (f : ℕ → ℕ) (r : IsRenaming f) (k : Kernel) where
   read_goes it count = goes_either f r k (renamed_change f) (is_pipe it.kind) (is_pipe it.kind) refl _ _ _ _
       (asked (renamed_change f) (ask (Read_pipe it.inode count)) (ask (Read_pipe (f it.inode) count)) _ _ (goes_ask f r k (Read_pipe it.inode count)) (λ bytes. read_pipe_goes it.inode bytes))
       (asked (renamed_change f) (ask (Find_offset it.description)) (ask (Find_offset (f it.description))) _ _ (goes_ask f r k (Find_offset it.description)) (λ offset.
-      asked (renamed_change f) (ask (Read_file it.inode offset count)) (ask (Read_file (f it.inode) offset count)) _ _ (goes_ask f r k (Read_file it.inode offset count)) (λ bytes.
+      asked (renamed_change f) (ask (Read_file it.inode offset (min count most_moved))) (ask (Read_file (f it.inode) offset (min count most_moved))) _ _ (goes_ask f r k (Read_file it.inode offset (min count most_moved))) (λ bytes.
       goes_changed (Bytes bytes) _ _ (offset_moved it.description (offset + length bytes) (is_empty bytes)))))
 
   place_goes : (it : Slot) (b : Bool) → Goes f k (λ place. place) (place_to_write it b) (place_to_write (renamed_slot f it) b)
   place_goes it true = goes_ask f r k (Measure it.inode)
   place_goes it false = goes_ask f r k (Find_offset it.description)
 
-  write_goes : (it : Slot) (bytes : List ℕ) → Goes f k (renamed_change f) (write_some it bytes) (write_some (renamed_slot f it) bytes)
-  write_goes it bytes = goes_either f r k (renamed_change f) (is_pipe it.kind) (is_pipe it.kind) refl _ _ _ _
+  write_goes : (largest : ℕ) (it : Slot) (bytes : List ℕ) → Goes f k (renamed_change f) (write_some largest it bytes) (write_some largest (renamed_slot f it) bytes)
+  write_goes largest it bytes = goes_either f r k (renamed_change f) (is_pipe it.kind) (is_pipe it.kind) refl _ _ _ _
       (asked (renamed_change f) (ask (Count_ends it.inode)) (ask (Count_ends (f it.inode))) _ _ (goes_ask f r k (Count_ends it.inode)) (λ ends.
       unless (ends.0 == 0) EPIPE _ _
       (asked (renamed_change f) (ask (Fit it.inode (length bytes))) (ask (Fit (f it.inode) (length bytes))) _ _ (goes_ask f r k (Fit it.inode (length bytes))) (λ fitting.
@@ -84,11 +84,11 @@ module _ (f : ℕ → ℕ) (r : IsRenaming f) (k : Kernel) where
       (asked (renamed_change f) (place_to_write it it.appending) (place_to_write (renamed_slot f it) it.appending) _ _ (place_goes it it.appending) (λ place.
       unless (nat_le largest place) EFBIG _ _
       (asked (renamed_change f) (ask (Measure it.inode)) (ask (Measure (f it.inode))) _ _ (goes_ask f r k (Measure it.inode)) (λ size.
-      goes_changed (Count (length (take (largest - place) bytes))) (Put_bytes it.inode place (take (largest - place) bytes) size ∷ Set_offset it.description (place + length (take (largest - place) bytes)) ∷ []) _ refl))))
+      goes_changed (Count (length (take (room largest place) bytes))) (Put_bytes it.inode place (take (room largest place) bytes) size ∷ Set_offset it.description (place + length (take (room largest place) bytes)) ∷ []) _ refl))))
 
-  sought_goes : (it : Slot) (z : ℤ) → Goes f k (renamed_change f) (sought it z) (sought (renamed_slot f it) z)
-  sought_goes it (pos place) = unless (nat_lt largest place) EINVAL _ _ (goes_changed (New_place place) (Set_offset it.description place ∷ []) _ refl)
-  sought_goes it (negsuc place) = goes_refuse f r k (renamed_change f) EINVAL
+  sought_goes : (largest : ℕ) (it : Slot) (z : ℤ) → Goes f k (renamed_change f) (sought largest it z) (sought largest (renamed_slot f it) z)
+  sought_goes largest it (pos place) = unless (nat_lt largest place) EINVAL _ _ (goes_changed (New_place place) (Set_offset it.description place ∷ []) _ refl)
+  sought_goes largest it (negsuc place) = goes_refuse f r k (renamed_change f) EINVAL
 
   base_goes : (it : Slot) (whence : Whence) → Goes f k (λ place. place) (base it whence) (base (renamed_slot f it) whence)
   base_goes it From_start = goes_give f r k (λ place. place) 0 0 refl
@@ -169,11 +169,11 @@ module _ (f : ℕ → ℕ) (r : IsRenaming f) (k : Kernel) where
   plan_goes own (Read fd count) = with_slot own fd _ _ (λ it.
       unless (not it.reading) EBADF _ _ (goes_either f r k (renamed_change f) (count == 0) (count == 0) refl _ _ _ _ (goes_changed (Bytes []) [] [] refl) (read_goes it count)))
   plan_goes own (Write fd bytes) = with_slot own fd _ _ (λ it.
-      unless (not it.writing) EBADF _ _ (goes_either f r k (renamed_change f) (is_empty bytes) (is_empty bytes) refl _ _ _ _ (goes_changed (Count 0) [] [] refl) (write_goes it bytes)))
+      unless (not it.writing) EBADF _ _ (goes_either f r k (renamed_change f) (is_empty bytes) (is_empty bytes) refl _ _ _ _ (goes_changed (Count 0) [] [] refl) (write_goes own.largest it bytes)))
   plan_goes own (Lseek fd move whence) = with_slot own fd _ _ (λ it.
-      unless (is_pipe it.kind) ESPIPE _ _ (asked (renamed_change f) (base it whence) (base (renamed_slot f it) whence) _ _ (base_goes it whence) (λ place. sought_goes it (pos place +ℤ move))))
+      unless (is_pipe it.kind) ESPIPE _ _ (asked (renamed_change f) (base it whence) (base (renamed_slot f it) whence) _ _ (base_goes it whence) (λ place. sought_goes own.largest it (pos place +ℤ move))))
   plan_goes own (Ftruncate fd len) = with_slot own fd _ _ (λ it.
-      unless (not it.writing) EBADF _ _ (unless (is_pipe it.kind) EINVAL _ _ (unless (nat_lt largest len) EFBIG _ _
+      unless (not it.writing) EBADF _ _ (unless (is_pipe it.kind) EINVAL _ _ (unless (nat_lt own.largest len) EFBIG _ _
       (goes_on f r k (map (renamed_edit f)) (renamed_change f) (cut_to it.inode len) (cut_to (f it.inode) len) (λ cut. changed Done cut) (λ cut. changed Done cut) (cut_goes it.inode len) (λ cut. goes_changed Done cut (map (renamed_edit f) cut) refl)))))
   plan_goes own (Stat path) = by_path path _ _ (λ names. walked own.root names _ _ (λ place. status_goes place.0 place.1))
   plan_goes own (Fstat fd) = with_slot own fd _ _ (λ it. status_goes it.inode it.kind)

@@ -5,7 +5,7 @@ use Rattle.std.specs.Cmp.Lexicographic.{nat_list_cmp_total}
 use Rattle.model.specs.FiniteMap.{FinMap, empty, insert, nat_cmp-IsAntisymmetric}
 use Rattle.model.specs.State.{Directory, Process}
 use Rattle.model.specs.Steps.{Run}
-use Rattle.model.specs.Moments.{with_processes, start}
+use Rattle.model.specs.Moments.{Setup, with_processes, start}
 use Rattle.model.proofs.Laws.{name_exact}
 use Rattle.renaming_laws.specs.Renaming.{IsRenaming, swap, renamed_map, with_values, renamed_inode, renamed_description, renamed_process, renamed}
 use Rattle.renaming_laws.specs.Renamed.{renamed_item}
@@ -24,24 +24,25 @@ module _ (f : ℕ → ℕ) (r : IsRenaming f) where
       (renamed-insert nat_cmp_total nat_cmp-IsAntisymmetric (λ x. x) (λ x. refl) (renamed_process f) m (suc made) (record { table = empty; priority = p })
       ∙ ap₂ (λ (m : FinMap nat_cmp Process) (process : Process). insert m (suc made) process) same (λ i. record { table = no_slots f r i; priority = p }))
 
-  root_put : (root : ℕ) (priorities : List ℕ) → renamed_map f (renamed_inode f) (start root priorities).inodes ≡ (start (f root) priorities).inodes
-  root_put root priorities =
+  root_put : (root : ℕ) (setup : Setup) → renamed_map f (renamed_inode f) (start root setup).inodes ≡ (start (f root) setup).inodes
+  root_put root setup =
       renamed-insert nat_cmp_total nat_cmp-IsAntisymmetric f r.again (renamed_inode f) empty root (Directory empty)
       ∙ (λ i. insert (renamed-empty nat_cmp_total nat_cmp-IsAntisymmetric f r.again (renamed_inode f) i) (f root) (Directory (renamed-empty nat_list_cmp_total name_exact (λ x. x) (λ x. refl) f i)))
 
-  pub start_renamed : (root : ℕ) (priorities : List ℕ) → renamed f (start root priorities) ≡ start (f root) priorities
-  start_renamed root priorities = λ i. record {
+  pub start_renamed : (root : ℕ) (setup : Setup) → renamed f (start root setup) ≡ start (f root) setup
+  start_renamed root setup = λ i. record {
     root = f root;
-    inodes = root_put root priorities i;
+    inodes = root_put root setup i;
     descriptions = renamed-empty nat_cmp_total nat_cmp-IsAntisymmetric f r.again (renamed_description f) i;
-    processes = processes_stay 0 priorities empty (renamed-empty nat_cmp_total nat_cmp-IsAntisymmetric (λ x. x) (λ x. refl) (renamed_process f)) i;
-    made = (start root priorities).made;
+    processes = processes_stay 0 setup.priorities empty (renamed-empty nat_cmp_total nat_cmp-IsAntisymmetric (λ x. x) (λ x. refl) (renamed_process f)) i;
+    made = (start root setup).made;
+    largest = setup.largest;
   }
 
-pub start_swapped : (a b : ℕ) (priorities : List ℕ) → renamed (swap a b) (start a priorities) ≡ start b priorities
-start_swapped a b priorities = start_renamed (swap a b) (swap_renames a b) a priorities ∙ ap (λ root. start root priorities) (swap_first a b)
+pub start_swapped : (a b : ℕ) (setup : Setup) → renamed (swap a b) (start a setup) ≡ start b setup
+start_swapped a b setup = start_renamed (swap a b) (swap_renames a b) a setup ∙ ap (λ root. start root setup) (swap_first a b)
 
 pub root_is_renamed : RootIsRenamed
-root_is_renamed a b priorities items after run =
-    subst (λ k. Run k (map (renamed_item (swap a b)) items) (renamed (swap a b) after)) (start_swapped a b priorities)
-    ((runs_are_renamed (swap a b) (swap_renames a b)).run (start a priorities) (slots_at_start a priorities) items after run)
+root_is_renamed a b setup items after run =
+    subst (λ k. Run k (map (renamed_item (swap a b)) items) (renamed (swap a b) after)) (start_swapped a b setup)
+    ((runs_are_renamed (swap a b) (swap_renames a b)).run (start a setup) (slots_at_start a setup) items after run)

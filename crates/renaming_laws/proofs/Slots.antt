@@ -5,7 +5,7 @@ use Rattle.std.proofs.lemmas.Bool.{cases_eq}
 use Rattle.model.specs.FiniteMap.{FinMap, get, insert, remove}
 use Rattle.model.specs.State.{Kernel, Inode, Pipe, Description, Process}
 use Rattle.model.specs.Changes.{Edit, Mode, Make_directory, Make_file, Name_file, Unname_file, Unname_directory, Move, Put_bytes, Cut, Take, Append, Set_offset, Open_inode, Make_pipe, Share_slot, Clear_slot, New_process, End_process, number, Made, or_new, process_of, set_inode, set_process, set_description, set_offset, with_slot, without_slot, at_start, open_at, to_read, to_write, is_held, applied, all_applied, tidy}
-use Rattle.model.specs.Moments.{start}
+use Rattle.model.specs.Moments.{Setup, start}
 use Rattle.model.proofs.Laws.{get_same, get_other, removed_same, removed_other}
 use Rattle.call_laws.proofs.Laws.{calls_are_lawful_lem, empty_gives, get_retained, held_by, not_none, some_same, stays_inserted}
 use Rattle.renaming_laws.specs.Laws.{SlotsAreThere}
@@ -121,7 +121,7 @@ tidying_keeps k slots = record {
   there = λ pid fd d is none. slots.there pid fd d is (sym (get_retained k.descriptions (is_held k) d ∙ ap (λ b. cond b (get k.descriptions d) None) (held_by k pid fd d is)) ∙ none);
 }
 
-pub slots_at_start : (root : ℕ) (priorities : List ℕ) → SlotsAreThere (start root priorities)
-slots_at_start root priorities = record {
-  there = λ pid fd d is none. let it = (calls_are_lawful_lem.well_start root priorities).slots pid fd d is in not_none it.0 (sym it.1 ∙ none);
+pub slots_at_start : (root : ℕ) (setup : Setup) → SlotsAreThere (start root setup)
+slots_at_start root setup = record {
+  there = λ pid fd d is none. let it = (calls_are_lawful_lem.well_start root setup).slots pid fd d is in not_none it.0 (sym it.1 ∙ none);
 }

@@ -1,5 +1,5 @@
 -- The edits of a call speak of new numbers that are chosen, and share descriptions that are there.
-use Rattle.std.proofs.Common.{◌≢◌, ℕ, ◌+◌, Bool, true, false, cond, not, ◌&&◌, ◌||◌, nat_lt, nat_le, ◌==◌, if◌then◌else◌, ℤ, pos, negsuc, ◌+ℤ◌, List, [], ◌∷◌, ◌++◌, map, length, Option, Some, None, Result, Ok, Err, IfOk, sum_by, arith}
+use Rattle.std.proofs.Common.{◌≢◌, ℕ, ◌+◌, Bool, true, false, cond, not, ◌&&◌, ◌||◌, nat_lt, nat_le, ◌==◌, if◌then◌else◌, ℤ, pos, negsuc, ◌+ℤ◌, List, [], ◌∷◌, ◌++◌, map, length, min, Option, Some, None, Result, Ok, Err, IfOk, sum_by, arith}
 use Rattle.std.specs.Prelude.{⊤}
 use Rattle.std.specs.List.{AllByRecursion}
 use Rattle.std.specs.Map.{lookup}
@@ -12,7 +12,7 @@ use Rattle.model.specs.Paths.{is_empty, is_below}
 use Rattle.model.specs.Walks.{parsed, walk, Last, last_of, Place, is_directory}
 use Rattle.model.specs.Changes.{There, Edit, Open_inode, Set_offset, Share_slot, news, process_of}
 use Rattle.model.specs.Calls.{OpenFlags, Call, Open, Close, Read, Write, Lseek, Ftruncate, Stat, Fstat, Link, Unlink, Rename, Mkdir, Rmdir, List_directory, Dup, Dup2, Open_pipe, Fork, Exit, Answer, Done, Descriptor, Count, Bytes, Listing, Slot, Own, slot_of, own}
-use Rattle.model.specs.Plans.{Change, changed, free, first_of_free, slot, is_pipe, status, mode, cut_to, opened, read_pipe, read_some, place_to_write, write_some, sought, base, moved, replaced_by_name, absent, duplicated, piped, forked, largest, whole_write, most_processes}
+use Rattle.model.specs.Plans.{Change, changed, free, first_of_free, slot, is_pipe, status, mode, cut_to, opened, read_pipe, read_some, place_to_write, write_some, sought, base, moved, replaced_by_name, absent, duplicated, piped, forked, most_moved, whole_write, most_processes}
 use Rattle.model.specs.Steps.{outcome, edits_of}
 use Rattle.model.proofs.Laws.{all_entries}
 use Rattle.call_laws.proofs.Laws.{after_bind, allowed, either_given, weaken, whatever}
@@ -93,18 +93,18 @@ module _ (k : Kernel) where
   read_sound it count = either (is_pipe it.kind) _ _
       (read_pipe_sound it.inode (answer k (Read_pipe it.inode count)))
       (let offset : ℕ = answer k (Find_offset it.description) in
-      let bytes : List ℕ = answer k (Read_file it.inode offset count) in
+      let bytes : List ℕ = answer k (Read_file it.inode offset (min count most_moved)) in
       offset_sound (Bytes bytes) it.description (offset + length bytes) (is_empty bytes))
 
-  write_sound : (it : Slot) (bytes : List ℕ) → IfOk (given k (write_some it bytes)) (IsSound k)
-  write_sound it bytes = either (is_pipe it.kind) _ _
+  write_sound : (largest : ℕ) (it : Slot) (bytes : List ℕ) → IfOk (given k (write_some largest it bytes)) (IsSound k)
+  write_sound largest it bytes = either (is_pipe it.kind) _ _
       (let fitting : ℕ = answer k (Fit it.inode (length bytes)) in
       unless ((answer k (Count_ends it.inode)).0 == 0) EPIPE _ (unless (nat_lt fitting (length bytes) && nat_le (length bytes) whole_write) EAGAIN _ (unless (fitting == 0) EAGAIN _ (record { numbers = (tt, tt); shares = (tt, tt) }))))
       (then_whatever (place_to_write it it.appending) _ (λ place. unless (nat_le largest place) EFBIG _ (record { numbers = (tt, (tt, tt)); shares = (tt, (tt, tt)) })))
 
-  sought_sound : (it : Slot) (z : ℤ) → IfOk (given k (sought it z)) (IsSound k)
-  sought_sound it (pos place) = unless (nat_lt largest place) EINVAL _ (record { numbers = (tt, tt); shares = (tt, tt) })
-  sought_sound it (negsuc place) = tt
+  sought_sound : (largest : ℕ) (it : Slot) (z : ℤ) → IfOk (given k (sought largest it z)) (IsSound k)
+  sought_sound largest it (pos place) = unless (nat_lt largest place) EINVAL _ (record { numbers = (tt, tt); shares = (tt, tt) })
+  sought_sound largest it (negsuc place) = tt
 
   moved_sound : (from : Last) (what : Place) (to : Last) (o : Option Place) → IfOk (given k (moved from what to o)) (IsSound k)
   moved_sound from what to None = record { numbers = (tt, tt); shares = (tt, tt) }
@@ -132,10 +132,10 @@ module _ (k : Kernel) where
       then_whatever (last_of k.root (if is_creating flags && is_exclusive flags then EEXIST else EISDIR) names) _ (λ at. open_sound (own k pid (Open path flags)) flags fd at at.found))))))
   call_sound slots pid (Close fd) = with_slot slots pid fd (Close fd) _ (λ it there. record { numbers = (tt, tt); shares = (tt, tt) })
   call_sound slots pid (Read fd count) = with_slot slots pid fd (Read fd count) _ (λ it there. unless (not it.reading) EBADF _ (either (count == 0) _ _ (unchanged_sound (Bytes [])) (read_sound it count)))
-  call_sound slots pid (Write fd bytes) = with_slot slots pid fd (Write fd bytes) _ (λ it there. unless (not it.writing) EBADF _ (either (is_empty bytes) _ _ (unchanged_sound (Count 0)) (write_sound it bytes)))
-  call_sound slots pid (Lseek fd move whence) = with_slot slots pid fd (Lseek fd move whence) _ (λ it there. unless (is_pipe it.kind) ESPIPE _ (then_whatever (base it whence) _ (λ place. sought_sound it (pos place +ℤ move))))
+  call_sound slots pid (Write fd bytes) = with_slot slots pid fd (Write fd bytes) _ (λ it there. unless (not it.writing) EBADF _ (either (is_empty bytes) _ _ (unchanged_sound (Count 0)) (write_sound k.largest it bytes)))
+  call_sound slots pid (Lseek fd move whence) = with_slot slots pid fd (Lseek fd move whence) _ (λ it there. unless (is_pipe it.kind) ESPIPE _ (then_whatever (base it whence) _ (λ place. sought_sound k.largest it (pos place +ℤ move))))
   call_sound slots pid (Ftruncate fd len) = with_slot slots pid fd (Ftruncate fd len) _ (λ it there.
-      unless (not it.writing) EBADF _ (unless (is_pipe it.kind) EINVAL _ (unless (nat_lt largest len) EFBIG _ (record { numbers = (tt, tt); shares = (tt, tt) }))))
+      unless (not it.writing) EBADF _ (unless (is_pipe it.kind) EINVAL _ (unless (nat_lt k.largest len) EFBIG _ (record { numbers = (tt, tt); shares = (tt, tt) }))))
   call_sound slots pid (Stat path) = then_whatever (parsed path) _ (λ names. then_whatever (walk (k.root, Some A_directory) names) _ (λ place. status_sound place))
   call_sound slots pid (Fstat fd) = with_slot slots pid fd (Fstat fd) _ (λ it there. status_sound (it.inode, it.kind))
   call_sound slots pid (Link old path) = then_whatever (parsed old) _ (λ from. then_whatever (parsed path) _ (λ to. then_whatever (walk (k.root, Some A_directory) from) _ (λ what.

@@ -7,7 +7,7 @@ use Rattle.model.specs.Changes.{Edit, all_applied, tidy}
 use Rattle.model.specs.Calls.{Call, Stat, Stated}
 use Rattle.model.specs.Plans.{Change}
 use Rattle.model.specs.Steps.{outcome, reply_of, edits_of, edits, reply, Item, Run}
-use Rattle.model.specs.Moments.{start}
+use Rattle.model.specs.Moments.{Setup, start}
 use Rattle.call_laws.proofs.Laws.{all-mapped}
 use Rattle.renaming_laws.specs.Laws.{SlotsAreThere, HasNumbers, TellsNot, TellsRoot, StatTellsTheRoot}
 use Rattle.renaming_laws.proofs.Sound.{call_sound, edits_sound}
@@ -68,9 +68,9 @@ told_by_stats root k h (it ∷ items) after run =
       told_by_stats root run.0 mid items after run.2,
     )
 
-pub stats_tell_the_root : (root : ℕ) (priorities : List ℕ) (items : List Item) (after : Kernel) → Run (start root priorities) items after → AllByRecursion (λ it. it.call ≡ Stat (47 ∷ []) → TellsRoot root it.call it.answer) items
-stats_tell_the_root root priorities items after run = told_by_stats root (start root priorities) (root_at_start root priorities) items after run
+pub stats_tell_the_root : (root : ℕ) (setup : Setup) (items : List Item) (after : Kernel) → Run (start root setup) items after → AllByRecursion (λ it. it.call ≡ Stat (47 ∷ []) → TellsRoot root it.call it.answer) items
+stats_tell_the_root root setup items after run = told_by_stats root (start root setup) (root_at_start root setup) items after run
 
 pub stat_tells_the_root : StatTellsTheRoot
-stat_tells_the_root root priorities items after run =
-    tells root (start root priorities) (record { slots = slots_at_start root priorities; root_there = root_at_start root priorities; apart = apart_at_start root priorities }) items after run
+stat_tells_the_root root setup items after run =
+    tells root (start root setup) (record { slots = slots_at_start root setup; root_there = root_at_start root setup; apart = apart_at_start root setup }) items after run

@@ -8,7 +8,7 @@ use Rattle.model.specs.Plan.{Errno}
 use Rattle.model.specs.Changes.{all_applied, tidy}
 use Rattle.model.specs.Calls.{Answer, Stated}
 use Rattle.model.specs.Steps.{edits, reply, Item, Run}
-use Rattle.model.specs.Moments.{start}
+use Rattle.model.specs.Moments.{Setup, start}
 use Rattle.call_laws.proofs.Laws.{all-mapped}
 use Rattle.renaming_laws.specs.Renaming.{swap, renamed}
 use Rattle.renaming_laws.specs.Renamed.{renamed_answer, mapped_ok}
@@ -72,12 +72,12 @@ module _ (n z : ℕ) (apart : n ≢ z) where
       below_other m low e = omega arith
 
 pub only_chosen_are_told : OnlyChosenAreTold
-only_chosen_are_told root n priorities items after other away run =
+only_chosen_are_told root n setup items after other away run =
     let z : ℕ = 1 + n + root + sum_by numbers_in items in
     let apart : n ≢ z = λ e. omega arith in
     let off : root ≢ z = λ e. omega arith in
-    never_told n z apart (start root priorities) (slots_at_start root priorities)
-    (start_renamed (swap n z) (swap_renames n z) root priorities ∙ ap (λ root. start root priorities) (swap_other n z root (λ e. other (sym e)) off))
+    never_told n z apart (start root setup) (slots_at_start root setup)
+    (start_renamed (swap n z) (swap_renames n z) root setup ∙ ap (λ root. start root setup) (swap_other n z root (λ e. other (sym e)) off))
     items after away (all_below z items (omega arith)) run
 
 -- what has neither number
@@ -86,16 +86,16 @@ all_neither a b [] h g u v = tt
 all_neither a b (it ∷ items) h g u v =
     (record { tells_not_first = h.0; tells_not_second = g.0; chooses_not_first = u.0; chooses_not_second = v.0 }, all_neither a b items h.1 g.1 u.1 v.1)
 
-pub run_has_neither : (a b : ℕ) (priorities : List ℕ) (items : List Item) (after : Kernel) → AllByRecursion (λ it. TellsNot a it.answer) items → AllByRecursion (ChoosesNot b) items → Run (start a priorities) items after → AllByRecursion (HasNeither a b) items
-run_has_neither a b priorities items after untold unchosen run =
+pub run_has_neither : (a b : ℕ) (setup : Setup) (items : List Item) (after : Kernel) → AllByRecursion (λ it. TellsNot a it.answer) items → AllByRecursion (ChoosesNot b) items → Run (start a setup) items after → AllByRecursion (HasNeither a b) items
+run_has_neither a b setup items after untold unchosen run =
     all_neither a b items untold
     (elim (cases_eq b a) [
       | inl same ↦ subst (λ n. AllByRecursion (λ it. TellsNot n it.answer) items) (sym same) untold
-      | inr other ↦ only_chosen_are_told a b priorities items after other unchosen run
+      | inr other ↦ only_chosen_are_told a b setup items after other unchosen run
     ])
-    (root_is_never_chosen a priorities items after run) unchosen
+    (root_is_never_chosen a setup items after run) unchosen
 
 pub root_is_free : RootIsFree
-root_is_free a b priorities items after untold unchosen run =
-    subst (λ items. Run (start b priorities) items (renamed (swap a b) after)) (items_stay a b items (run_has_neither a b priorities items after untold unchosen run))
-    (root_is_renamed a b priorities items after run)
+root_is_free a b setup items after untold unchosen run =
+    subst (λ items. Run (start b setup) items (renamed (swap a b) after)) (items_stay a b items (run_has_neither a b setup items after untold unchosen run))
+    (root_is_renamed a b setup items after run)

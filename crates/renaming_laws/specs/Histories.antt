@@ -4,7 +4,7 @@ use Rattle.std.specs.List.{AllByRecursion}
 use Rattle.model.specs.State.{Kernel}
 use Rattle.model.specs.Steps.{Item, Run}
 use Rattle.model.specs.Entries.{BeginFlags, Cause, Entry, Executed}
-use Rattle.model.specs.Moments.{Status, gone, idle, live, doomed, Moment, status, start, at_start}
+use Rattle.model.specs.Moments.{Setup, Status, gone, idle, live, doomed, Moment, status, start, at_start}
 use Rattle.model.specs.Moments.{next, after_from}
 use Rattle.model.specs.Legal.{serial_from, serial}
 use Rattle.renaming_laws.specs.Renaming.{swap, renamed}
@@ -43,19 +43,19 @@ pub record HistoryIsRenamed (f : ℕ → ℕ) (AreAlike : List Executed → List
 -- With another root a history's renamed entries run.
 abbrev pub HistoriesAreRenamed : Type 0
 HistoriesAreRenamed =
-    (a b : ℕ) (priorities : List ℕ) (es : List Entry) (after : Kernel)
-    → Run (start a priorities) (serial a priorities es) after
+    (a b : ℕ) (setup : Setup) (es : List Entry) (after : Kernel)
+    → Run (start a setup) (serial a setup es) after
     → HistoryIsRenamed (swap a b) (λ calls others. others ≡ map (renamed_executed (swap a b)) calls)
-    (at_start a priorities) (at_start b priorities) es (map (renamed_entry (swap a b)) es)
-    (map (renamed_item (swap a b)) (serial a priorities es)) after
+    (at_start a setup) (at_start b setup) es (map (renamed_entry (swap a b)) es)
+    (map (renamed_item (swap a b)) (serial a setup es)) after
 
 -- Where nothing that is run tells the root a or chooses b, the entries run from the root b as from
 -- the root a. What is not run, as an undone transaction, may tell and choose what it will.
 abbrev pub RootIsFreeInHistories : Type 0
 RootIsFreeInHistories =
-    (a b : ℕ) (priorities : List ℕ) (es : List Entry) (after : Kernel)
-    → AllByRecursion (λ it. TellsNot a it.answer) (serial a priorities es)
-    → AllByRecursion (ChoosesNot b) (serial a priorities es)
-    → Run (start a priorities) (serial a priorities es) after
-    → HistoryIsRenamed (swap a b) (λ calls others. others ≡ calls) (at_start a priorities)
-    (at_start b priorities) es es (serial a priorities es) after
+    (a b : ℕ) (setup : Setup) (es : List Entry) (after : Kernel)
+    → AllByRecursion (λ it. TellsNot a it.answer) (serial a setup es)
+    → AllByRecursion (ChoosesNot b) (serial a setup es)
+    → Run (start a setup) (serial a setup es) after
+    → HistoryIsRenamed (swap a b) (λ calls others. others ≡ calls) (at_start a setup)
+    (at_start b setup) es es (serial a setup es) after

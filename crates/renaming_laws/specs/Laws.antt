@@ -9,7 +9,7 @@ use Rattle.model.specs.Changes.{Which, There, Made, Edit, Make_directory, Make_f
 use Rattle.model.specs.Changes.{Make_pipe, applied, all_applied, tidy, process_of}
 use Rattle.model.specs.Calls.{Call, Stat, Answer, Stated, own}
 use Rattle.model.specs.Steps.{reply, edits, IsNowhere, CanBeChosen, Step, Item, Run}
-use Rattle.model.specs.Moments.{start}
+use Rattle.model.specs.Moments.{Setup, start}
 use Rattle.renaming_laws.specs.Renaming.{IsRenaming, swap, renamed}
 use Rattle.renaming_laws.specs.Renamed.{renamed_question, renamed_shown, renamed_own, renamed_edit}
 use Rattle.renaming_laws.specs.Renamed.{renamed_answer, mapped_ok, renamed_item}
@@ -91,21 +91,21 @@ ChoosesNot n it = AllByRecursion (λ m. m ≢ n) it.chosen
 -- With another root the renamed items run.
 abbrev pub RootIsRenamed : Type 0
 RootIsRenamed =
-    (a b : ℕ) (priorities : List ℕ) (items : List Item) (after : Kernel)
-    → Run (start a priorities) items after
-    → Run (start b priorities) (map (renamed_item (swap a b)) items) (renamed (swap a b) after)
+    (a b : ℕ) (setup : Setup) (items : List Item) (after : Kernel)
+    → Run (start a setup) items after
+    → Run (start b setup) (map (renamed_item (swap a b)) items) (renamed (swap a b) after)
 
 -- A run never chooses its root's number.
 abbrev pub RootIsNeverChosen : Type 0
 RootIsNeverChosen =
-    (root : ℕ) (priorities : List ℕ) (items : List Item) (after : Kernel)
-    → Run (start root priorities) items after → AllByRecursion (ChoosesNot root) items
+    (root : ℕ) (setup : Setup) (items : List Item) (after : Kernel)
+    → Run (start root setup) items after → AllByRecursion (ChoosesNot root) items
 
 -- It tells no number but its root's and those that it chose.
 abbrev pub OnlyChosenAreTold : Type 0
 OnlyChosenAreTold =
-    (root n : ℕ) (priorities : List ℕ) (items : List Item) (after : Kernel) → n ≢ root
-    → AllByRecursion (ChoosesNot n) items → Run (start root priorities) items after
+    (root n : ℕ) (setup : Setup) (items : List Item) (after : Kernel) → n ≢ root
+    → AllByRecursion (ChoosesNot n) items → Run (start root setup) items after
     → AllByRecursion (λ it. TellsNot n it.answer) items
 
 -- Only the status of the path `/` tells the root.
@@ -115,15 +115,15 @@ pub record TellsRoot (root : ℕ) (call : Call) (answer : Result Answer Errno) :
 
 abbrev pub StatTellsTheRoot : Type 0
 StatTellsTheRoot =
-    (root : ℕ) (priorities : List ℕ) (items : List Item) (after : Kernel)
-    → Run (start root priorities) items after
+    (root : ℕ) (setup : Setup) (items : List Item) (after : Kernel)
+    → Run (start root setup) items after
     → AllByRecursion (λ it. TellsNot root it.answer ⊎ TellsRoot root it.call it.answer) items
 
 -- The root's number is free: where no answer tells the root a, and b is not chosen, the items run
 -- from the root b as from the root a.
 abbrev pub RootIsFree : Type 0
 RootIsFree =
-    (a b : ℕ) (priorities : List ℕ) (items : List Item) (after : Kernel)
+    (a b : ℕ) (setup : Setup) (items : List Item) (after : Kernel)
     → AllByRecursion (λ it. TellsNot a it.answer) items → AllByRecursion (ChoosesNot b) items
-    → Run (start a priorities) items after
-    → Run (start b priorities) items (renamed (swap a b) after)
+    → Run (start a setup) items after
+    → Run (start b setup) items (renamed (swap a b) after)

@@ -8,7 +8,7 @@ use Rattle.model.specs.Plan.{Errno}
 use Rattle.model.specs.Calls.{Answer}
 use Rattle.model.specs.Steps.{Run}
 use Rattle.model.specs.Entries.{Op, Do, Begin, End, Abort, Cause, Reply, Answers, Refuses, Begun, Committed, GivenUp, Aborted, Busy, InTransaction, NotInTransaction, HistoryFull, NoMemory, NoProcess, Entry, Executed, answer_in}
-use Rattle.model.specs.Moments.{Status, gone, idle, live, doomed, Moment, status, next, next_phase, after, after_from, after_list, at_start, start, is_alive, is_in, plain_calls, own_next, with_call, begun, settled, doom, doom_cause, dooming_touches, run_by}
+use Rattle.model.specs.Moments.{Setup, Status, gone, idle, live, doomed, Moment, status, next, next_phase, after, after_from, after_list, at_start, start, is_alive, is_in, plain_calls, own_next, with_call, begun, settled, doom, doom_cause, dooming_touches, run_by}
 use Rattle.model.specs.Legal.{items, serial, serial_from}
 use Rattle.call_laws.proofs.Laws.{calls_are_lawful_lem}
 use Rattle.freeing_laws.specs.Sweep.{IsTidied}
@@ -206,43 +206,43 @@ take_more : (es : List Entry) (at : ℕ) (e : Entry) (rest : List Entry) → dro
 take_more es at e rest h = ap (λ n. take n es) (add-one at) ∙ take_next es at e rest h
 
 -- before any entry
-pub follows_none : (root : ℕ) (priorities : List ℕ) (es : List Entry) (k : Kernel) (kept : FinMap nat_cmp Transaction) → k ≡ start root priorities → kept ≡ empty → Follows root priorities es 0 k kept
-follows_none root priorities es k kept is none =
-    let tidied : IsTidied (start root priorities) = record { well = calls_are_lawful_lem.well_start root priorities; tidied = calls_are_lawful_lem.tidy_start root priorities } in
+pub follows_none : (root : ℕ) (setup : Setup) (es : List Entry) (k : Kernel) (kept : FinMap nat_cmp Transaction) → k ≡ start root setup → kept ≡ empty → Follows root setup es 0 k kept
+follows_none root setup es k kept is none =
+    let tidied : IsTidied (start root setup) = record { well = calls_are_lawful_lem.well_start root setup; tidied = calls_are_lawful_lem.tidy_start root setup } in
     record {
       suit = tt;
       run = is;
       tidied = subst IsTidied (sym is) tidied;
       committed = is;
       phases = λ q. subst (λ (t : Option Transaction). IsKept es t idle) (sym (ap (λ m. get m q) none ∙ get-empty nat_cmp q)) tt;
-      places = λ q. subst (λ (t : Option Transaction). AreNext root priorities es q 0 t) (sym (ap (λ m. get m q) none ∙ get-empty nat_cmp q)) tt;
+      places = λ q. subst (λ (t : Option Transaction). AreNext root setup es q 0 t) (sym (ap (λ m. get m q) none ∙ get-empty nat_cmp q)) tt;
     }
 
 -- one entry more
-pub follows_more : (root : ℕ) (priorities : List ℕ) (es : List Entry) (at : ℕ) (k : Kernel) (kept : FinMap nat_cmp Transaction) (e : Entry) (rest : List Entry) (l : Kernel) (next_kept_is : FinMap nat_cmp Transaction)
-    → Follows root priorities es at k kept → drop at es ≡ e ∷ rest → suits_kept (is_alive k e.pid) (get kept e.pid) e.op e.reply ≡ true
+pub follows_more : (root : ℕ) (setup : Setup) (es : List Entry) (at : ℕ) (k : Kernel) (kept : FinMap nat_cmp Transaction) (e : Entry) (rest : List Entry) (l : Kernel) (next_kept_is : FinMap nat_cmp Transaction)
+    → Follows root setup es at k kept → drop at es ≡ e ∷ rest → suits_kept (is_alive k e.pid) (get kept e.pid) e.op e.reply ≡ true
     → Ran k e.pid (run_kept (is_alive k e.pid) (get kept e.pid) es e.op e.reply e.chosen) l
     → ((q : ℕ) → get next_kept_is q ≡ next_kept at e q (get kept q))
-    → Follows root priorities es (at + 1) l next_kept_is
-follows_more root priorities es at k kept e rest l then_kept f here suit ran later =
-    let m : Moment = after root priorities (take at es) in
+    → Follows root setup es (at + 1) l next_kept_is
+follows_more root setup es at k kept e rest l then_kept f here suit ran later =
+    let m : Moment = after root setup (take at es) in
     let more : take (at + 1) es ≡ take at es ++ e ∷ [] = take_more es at e rest here in
-    let now : after root priorities (take at es ++ e ∷ []) ≡ next m e = after_more (at_start root priorities) (take at es) e in
+    let now : after root setup (take at es ++ e ∷ []) ≡ next m e = after_more (at_start root setup) (take at es) e in
     let first : call_first (drop at es) ≡ call_in e.op e.reply e.chosen = ap call_first here in
     let is_status : status m e.pid ≡ (if is_alive k e.pid then m.phase e.pid else gone) = ap (λ x. if is_alive x e.pid then m.phase e.pid else gone) (sym f.committed) in
     let suits_now : suits (status m e.pid) e.op e.reply ≡ true = ap (λ s. suits s e.op e.reply) is_status ∙ suits_is es (is_alive k e.pid) (get kept e.pid) (m.phase e.pid) e.op e.reply (f.phases e.pid) ∙ suit in
     let runs : run_by (status m e.pid) e.op e.reply e.chosen ≡ run_kept (is_alive k e.pid) (get kept e.pid) es e.op e.reply e.chosen =
     ap (λ s. run_by s e.op e.reply e.chosen) is_status ∙ run_is es (is_alive k e.pid) (get kept e.pid) (m.phase e.pid) e.op e.reply e.chosen (f.phases e.pid) suit in
     let ran_now : Run k (items e.pid (run_by (status m e.pid) e.op e.reply e.chosen)) l = subst (λ cs. Run k (items e.pid cs) l) (sym runs) ran.run in
-    let phases : (q : ℕ) → IsKept es (next_kept at e q (get kept q)) ((after root priorities (take (at + 1) es)).phase q) = λ q.
-    subst (λ xs. IsKept es (next_kept at e q (get kept q)) ((after root priorities xs).phase q)) (sym more) (subst (λ (x : Moment). IsKept es (next_kept at e q (get kept q)) (x.phase q)) (sym now) (next_is es m e at q (get kept q) (f.phases q) first)) in
+    let phases : (q : ℕ) → IsKept es (next_kept at e q (get kept q)) ((after root setup (take (at + 1) es)).phase q) = λ q.
+    subst (λ xs. IsKept es (next_kept at e q (get kept q)) ((after root setup xs).phase q)) (sym more) (subst (λ (x : Moment). IsKept es (next_kept at e q (get kept q)) (x.phase q)) (sym now) (next_is es m e at q (get kept q) (f.phases q) first)) in
     record {
-      suit = subst (AllSuit (at_start root priorities)) (sym more) (suit_more (at_start root priorities) (take at es) e f.suit suits_now);
-      run = subst (λ xs. Run (start root priorities) (serial root priorities xs) l) (sym more) (subst (λ is. Run (start root priorities) is l) (sym (serial_more (at_start root priorities) (take at es) e)) (run_append _ k l _ _ f.run ran_now));
+      suit = subst (AllSuit (at_start root setup)) (sym more) (suit_more (at_start root setup) (take at es) e f.suit suits_now);
+      run = subst (λ xs. Run (start root setup) (serial root setup xs) l) (sym more) (subst (λ is. Run (start root setup) is l) (sym (serial_more (at_start root setup) (take at es) e)) (run_append _ k l _ _ f.run ran_now));
       tidied = ran.tidied;
-      committed = run_leads e.pid _ k l ran_now ∙ ap (after_list e.pid (run_by (status m e.pid) e.op e.reply e.chosen)) f.committed ∙ ap (λ (x : Moment). x.committed) (sym now) ∙ ap (λ xs. (after root priorities xs).committed) (sym more);
-      phases = λ q. subst (λ (t : Option Transaction). IsKept es t ((after root priorities (take (at + 1) es)).phase q)) (sym (later q)) (phases q);
-      places = λ q. subst (λ (t : Option Transaction). AreNext root priorities es q (at + 1) t) (sym (later q)) (next_places root priorities es q at (get kept q) e (f.phases q) (f.places q) (phases q));
+      committed = run_leads e.pid _ k l ran_now ∙ ap (after_list e.pid (run_by (status m e.pid) e.op e.reply e.chosen)) f.committed ∙ ap (λ (x : Moment). x.committed) (sym now) ∙ ap (λ xs. (after root setup xs).committed) (sym more);
+      phases = λ q. subst (λ (t : Option Transaction). IsKept es t ((after root setup (take (at + 1) es)).phase q)) (sym (later q)) (phases q);
+      places = λ q. subst (λ (t : Option Transaction). AreNext root setup es q (at + 1) t) (sym (later q)) (next_places root setup es q at (get kept q) e (f.phases q) (f.places q) (phases q));
     }
 
 -- the entry at a place
@@ -283,19 +283,19 @@ ran_more es ps i p d k mid l pid low is before ran =
     (ran_append k mid l pid _ _ before ran)
 
 -- all entries
-pub passes_all : (root : ℕ) (priorities : List ℕ) (es : List Entry) (at : ℕ) (k : Kernel) (kept : FinMap nat_cmp Transaction) → Follows root priorities es at k kept → length es ≤ at → Passes root priorities es
-passes_all root priorities es at k kept f past = record {
-  suit = subst (AllSuit (at_start root priorities)) (take_all at es past) f.suit;
-  exists = record { committed = k; run = subst (λ (xs : List Entry). Run (start root priorities) (serial root priorities xs) k) (take_all at es past) f.run };
+pub passes_all : (root : ℕ) (setup : Setup) (es : List Entry) (at : ℕ) (k : Kernel) (kept : FinMap nat_cmp Transaction) → Follows root setup es at k kept → length es ≤ at → Passes root setup es
+passes_all root setup es at k kept f past = record {
+  suit = subst (AllSuit (at_start root setup)) (take_all at es past) f.suit;
+  exists = record { committed = k; run = subst (λ (xs : List Entry). Run (start root setup) (serial root setup xs) k) (take_all at es past) f.run };
 }
 
 -- what the checker does with one entry: it suits, its calls run, and what is kept is kept
-pub follows_entry : (root : ℕ) (priorities : List ℕ) (es : List Entry) (at : ℕ) (k l : Kernel) (kept then_kept : FinMap nat_cmp Transaction) (d : Entry) (alive : Bool) (t : Option Transaction)
+pub follows_entry : (root : ℕ) (setup : Setup) (es : List Entry) (at : ℕ) (k l : Kernel) (kept then_kept : FinMap nat_cmp Transaction) (d : Entry) (alive : Bool) (t : Option Transaction)
     → at < length es → d ≡ get_or es at d → alive ≡ is_alive k d.pid → t ≡ get kept d.pid → suits_kept alive t d.op d.reply ≡ true → RanAt es at t k l
     → ((q : ℕ) → get then_kept q ≡ next_kept at d q (get kept q))
-    → Follows root priorities es at k kept → Follows root priorities es (at + 1) l then_kept
-follows_entry root priorities es at k l kept then_kept d alive t low is lives was suit ran later f =
-    follows_more root priorities es at k kept d (drop (at + 1) es) l then_kept f (begins es at d low is)
+    → Follows root setup es at k kept → Follows root setup es (at + 1) l then_kept
+follows_entry root setup es at k l kept then_kept d alive t low is lives was suit ran later f =
+    follows_more root setup es at k kept d (drop (at + 1) es) l then_kept f (begins es at d low is)
     (ap (λ o. suits_kept (is_alive k d.pid) o d.op d.reply) (sym was) ∙ ap (λ b. suits_kept b t d.op d.reply) (sym lives) ∙ suit)
     (subst (λ (o : Option Transaction). Ran k d.pid (run_kept (is_alive k d.pid) o es d.op d.reply d.chosen) l) was (ran d (holds_entry es at d low is)))
     later

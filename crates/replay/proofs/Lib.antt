@@ -16,6 +16,7 @@ mod Edited
 mod Empties
 mod Looking
 mod Pieces
+mod Ends
 mod Choosing
 mod Prefixes
 mod Roots

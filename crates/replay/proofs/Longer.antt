@@ -8,7 +8,7 @@ use Rattle.model.specs.Steps.{Run}
 use Rattle.model.specs.Entries.{Entry}
 use Rattle.model.specs.FiniteMap.{FinMap, get}
 use Rattle.model.specs.Legal.{serial}
-use Rattle.model.specs.Moments.{Status, gone, idle, live, doomed, after, at_start, calls_at, start}
+use Rattle.model.specs.Moments.{Setup, Status, gone, idle, live, doomed, after, at_start, calls_at, start}
 use Rattle.model.specs.Suits.{AllSuit}
 use Rattle.replay.specs.Faults.{HoldsEntry, calls_before}
 use Rattle.replay.specs.Ran.{AreNext, Follows, IsNext}
@@ -38,16 +38,16 @@ module _ (xs more : List Entry) where
   pub holds_longer : (p : ℕ) (e : Entry) → HoldsEntry xs p e → p < length xs → HoldsEntry (xs ++ more) p e
   holds_longer p e held low = record { rest = held.rest ++ more; here = drop-append-le p xs more (omega arith) ∙ ap (λ ys. ys ++ more) held.here }
 
-  module _ (root : ℕ) (priorities : List ℕ) where
+  module _ (root : ℕ) (setup : Setup) where
     -- the places that are kept are of the first
-    earlier : (q : ℕ) (flags : _) (places done ps : List ℕ) → AreNext root priorities xs q (length xs) (Some (Live flags places)) → places ≡ done ++ ps → AllByRecursion (λ p. p < length xs) ps
+    earlier : (q : ℕ) (flags : _) (places done ps : List ℕ) → AreNext root setup xs q (length xs) (Some (Live flags places)) → places ≡ done ++ ps → AllByRecursion (λ p. p < length xs) ps
     earlier q flags places done [] next is = tt
     earlier q flags places done (p ∷ ps) next is = ((next done ps p is).earlier, earlier q flags places (done ++ p ∷ []) ps next (is ∙ sym (append_assoc done (p ∷ []) ps)))
 
-    pub all_earlier : (q : ℕ) (flags : _) (places : List ℕ) → AreNext root priorities xs q (length xs) (Some (Live flags places)) → AllByRecursion (λ p. p < length xs) places
+    pub all_earlier : (q : ℕ) (flags : _) (places : List ℕ) → AreNext root setup xs q (length xs) (Some (Live flags places)) → AllByRecursion (λ p. p < length xs) places
     all_earlier q flags places next = earlier q flags places [] places next refl
 
-    kept_longer : (q : ℕ) (t : Option Transaction) (s : Status) → AreNext root priorities xs q (length xs) t → IsKept xs t s → IsKept (xs ++ more) t s
+    kept_longer : (q : ℕ) (t : Option Transaction) (s : Status) → AreNext root setup xs q (length xs) t → IsKept xs t s → IsKept (xs ++ more) t s
     kept_longer q None idle next is = tt
     kept_longer q None gone next is = absurd is
     kept_longer q None (live f a cs) next is = absurd is
@@ -61,36 +61,36 @@ module _ (xs more : List Entry) where
     kept_longer q (Some (Doomed f)) gone next is = absurd is
     kept_longer q (Some (Doomed f)) (live g a cs) next is = absurd is
 
-    before_longer : (q n : ℕ) → n ≤ length xs → calls_before root priorities (xs ++ more) q n ≡ calls_before root priorities xs q n
-    before_longer q n low = ap (λ ys. calls_at (after root priorities ys) q) (take_longer n low)
+    before_longer : (q n : ℕ) → n ≤ length xs → calls_before root setup (xs ++ more) q n ≡ calls_before root setup xs q n
+    before_longer q n low = ap (λ ys. calls_at (after root setup ys) q) (take_longer n low)
 
     first_part : (P : ℕ → Type 0) (ps qs : List ℕ) → AllByRecursion P (ps ++ qs) → AllByRecursion P ps
     first_part P [] qs all = tt
     first_part P (p ∷ ps) qs all = (all.0, first_part P ps qs all.1)
 
-    next_longer : (q : ℕ) (t : Option Transaction) → AreNext root priorities xs q (length xs) t → AreNext root priorities (xs ++ more) q (length xs) t
+    next_longer : (q : ℕ) (t : Option Transaction) → AreNext root setup xs q (length xs) t → AreNext root setup (xs ++ more) q (length xs) t
     next_longer q None next = tt
     next_longer q (Some (Doomed f)) next = tt
     next_longer q (Some (Live f ps)) next = λ first rest place is.
-        let one : IsNext root priorities xs q (length xs) first place = next first rest place is in
+        let one : IsNext root setup xs q (length xs) first place = next first rest place is in
         let low : AllByRecursion (λ p. p < length xs) (first ++ place ∷ rest) = subst (AllByRecursion (λ p. p < length xs)) is (all_earlier q f ps next) in
         let with_it : AllByRecursion (λ p. p < length xs) (first ++ place ∷ []) = first_part (λ p. p < length xs) (first ++ place ∷ []) rest (subst (AllByRecursion (λ p. p < length xs)) (sym (append_assoc first (place ∷ []) rest)) low) in
         record {
           earlier = one.earlier;
           before = (let small = one.earlier in ap length (before_longer q place (omega (arith, small)))) ∙ one.before ∙ sym (ap length (calls_longer first (first_part (λ p. p < length xs) first (place ∷ rest) low)));
           since = λ r behind within.
-              subst (λ n. n ≤ length (calls_before root priorities (xs ++ more) q r)) (sym (ap length (calls_longer (first ++ place ∷ []) with_it)))
+              subst (λ n. n ≤ length (calls_before root setup (xs ++ more) q r)) (sym (ap length (calls_longer (first ++ place ∷ []) with_it)))
               (subst (λ n. length (calls_at_places xs (first ++ place ∷ [])) ≤ n) (sym (ap length (before_longer q r within))) (one.since r behind within));
         }
 
-    pub follows_longer : (k : Kernel) (kept : FinMap nat_cmp Transaction) → Follows root priorities xs (length xs) k kept → Follows root priorities (xs ++ more) (length xs) k kept
+    pub follows_longer : (k : Kernel) (kept : FinMap nat_cmp Transaction) → Follows root setup xs (length xs) k kept → Follows root setup (xs ++ more) (length xs) k kept
     follows_longer k kept f =
         let same : take (length xs) (xs ++ more) ≡ take (length xs) xs = take_longer (length xs) (omega arith) in
         record {
-          suit = subst (AllSuit (at_start root priorities)) (sym same) f.suit;
-          run = subst (λ ys. Run (start root priorities) (serial root priorities ys) k) (sym same) f.run;
+          suit = subst (AllSuit (at_start root setup)) (sym same) f.suit;
+          run = subst (λ ys. Run (start root setup) (serial root setup ys) k) (sym same) f.run;
           tidied = f.tidied;
-          committed = f.committed ∙ sym (ap (λ ys. (after root priorities ys).committed) same);
-          phases = λ q. subst (λ ys. IsKept (xs ++ more) (get kept q) ((after root priorities ys).phase q)) (sym same) (kept_longer q (get kept q) ((after root priorities (take (length xs) xs)).phase q) (f.places q) (f.phases q));
+          committed = f.committed ∙ sym (ap (λ ys. (after root setup ys).committed) same);
+          phases = λ q. subst (λ ys. IsKept (xs ++ more) (get kept q) ((after root setup ys).phase q)) (sym same) (kept_longer q (get kept q) ((after root setup (take (length xs) xs)).phase q) (f.places q) (f.phases q));
           places = λ q. next_longer q (get kept q) (f.places q);
         }

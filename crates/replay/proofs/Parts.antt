@@ -7,6 +7,7 @@ use Rattle.std.specs.FinMap.Entries.{find}
 use Rattle.std.proofs.Math.Seq.{drop-append_seam}
 use Rattle.std.proofs.lemmas.List.{drop_all, length-append}
 use Rattle.model.specs.Entries.{Entry}
+use Rattle.model.specs.Moments.{Setup}
 use Rattle.model.proofs.Laws.{all_entries}
 use Rattle.model.specs.FiniteMap.{FinMap, empty, entries, get, get-entries}
 use Rattle.replay.specs.Checked.{AreHeld, AreThere}
@@ -46,10 +47,10 @@ all_both P Q [] ps qs = tt
 all_both P Q (x ∷ xs) ps qs = ((ps.0, qs.0), all_both P Q xs ps.1 qs.1)
 
 -- at the end each call of a live transaction can be kept
-pub can_keep : (es : List Entry) (root : ℕ) (priorities : List ℕ) (q : ℕ) (w : Window) (t : Option Transaction) → CanSeeEach w t → AreNext root priorities es q (length es) t → CanKeep es w t
-can_keep es root priorities q w None sees next = tt
-can_keep es root priorities q w (Some (Doomed flags)) sees next = tt
-can_keep es root priorities q w (Some (Live flags places)) sees next = all_both (CanSee w) (λ p. p < length es) places sees (all_earlier es [] root priorities q flags places next)
+pub can_keep : (es : List Entry) (root : ℕ) (setup : Setup) (q : ℕ) (w : Window) (t : Option Transaction) → CanSeeEach w t → AreNext root setup es q (length es) t → CanKeep es w t
+can_keep es root setup q w None sees next = tt
+can_keep es root setup q w (Some (Doomed flags)) sees next = tt
+can_keep es root setup q w (Some (Live flags places)) sees next = all_both (CanSee w) (λ p. p < length es) places sees (all_earlier es [] root setup q flags places next)
 
 -- what holds of each entry of a map holds of what a number stands for
 found_in : {X : Type 0} (P : X → Type 0) (q : ℕ) (v : X) (es : List (ℕ × X)) → AllByRecursion (λ e. P e.1) es → find nat_cmp q es ≡ Some v → P v
@@ -63,23 +64,23 @@ all_found : {X : Type 0} (P : X → Type 0) (m : FinMap nat_cmp X) (q : ℕ) (v 
 all_found P m q v all is = found_in P q v (entries m) all (sym (get-entries m q) ∙ is)
 
 -- the whole history up to a part, and with it
-pub first_is : (es more : List Entry) (root : ℕ) (priorities : List ℕ) (count : ℕ) (k : Kernel) (kept : FinMap nat_cmp Transaction) → count ≡ length es → Follows root priorities es (length es) k kept → Follows root priorities (es ++ more) count k kept
-first_is es more root priorities count k kept is f = subst (λ n. Follows root priorities (es ++ more) n k kept) (sym is) (follows_longer es more root priorities k kept f)
+pub first_is : (es more : List Entry) (root : ℕ) (setup : Setup) (count : ℕ) (k : Kernel) (kept : FinMap nat_cmp Transaction) → count ≡ length es → Follows root setup es (length es) k kept → Follows root setup (es ++ more) count k kept
+first_is es more root setup count k kept is f = subst (λ n. Follows root setup (es ++ more) n k kept) (sym is) (follows_longer es more root setup k kept f)
 
-pub last_is : (es more : List Entry) (root : ℕ) (priorities : List ℕ) (count end : ℕ) (k : Kernel) (kept : FinMap nat_cmp Transaction) → count ≡ length es → end ≡ count + length more → Follows root priorities (es ++ more) end k kept
-    → (end ≡ length (es ++ more)) × Follows root priorities (es ++ more) (length (es ++ more)) k kept
-last_is es more root priorities count end k kept is all f =
+pub last_is : (es more : List Entry) (root : ℕ) (setup : Setup) (count end : ℕ) (k : Kernel) (kept : FinMap nat_cmp Transaction) → count ≡ length es → end ≡ count + length more → Follows root setup (es ++ more) end k kept
+    → (end ≡ length (es ++ more)) × Follows root setup (es ++ more) (length (es ++ more)) k kept
+last_is es more root setup count end k kept is all f =
     let both = length-append es more in
     let there : end ≡ length (es ++ more) = omega (arith, is, all, both) in
-    (there, subst (λ n. Follows root priorities (es ++ more) n k kept) there f)
+    (there, subst (λ n. Follows root setup (es ++ more) n k kept) there f)
 
 -- a part begins with what is kept
 pub begins_part : (es more : List Entry) (w : Window) (m : FinMap nat_cmp Transaction) → w.part.now ≡ more → w.offset ≡ length es → AreHeld es w.kept.now → ((q : ℕ) → AreThere w.kept.now (get m q)) → Shows (es ++ more) w × CanSeeAny w m
 begins_part es more w m part offset held there = (shows_more es more w part offset held, λ q. sees_there w (get m q) (there q))
 
 -- and at its end each call of a live transaction can be kept
-pub ends_part : (es : List Entry) (root : ℕ) (priorities : List ℕ) (w : Window) (m : FinMap nat_cmp Transaction) → Shows es w → CanSeeAny w m → ((q : ℕ) → AreNext root priorities es q (length es) (get m q)) → Shows es w × ((q : ℕ) → CanKeep es w (get m q))
-ends_part es root priorities w m shows sees next = (shows, λ q. can_keep es root priorities q w (get m q) (sees q) (next q))
+pub ends_part : (es : List Entry) (root : ℕ) (setup : Setup) (w : Window) (m : FinMap nat_cmp Transaction) → Shows es w → CanSeeAny w m → ((q : ℕ) → AreNext root setup es q (length es) (get m q)) → Shows es w × ((q : ℕ) → CanKeep es w (get m q))
+ends_part es root setup w m shows sees next = (shows, λ q. can_keep es root setup q w (get m q) (sees q) (next q))
 
 pub needs_all : (es : List Entry) (w : Window) (m : FinMap nat_cmp Transaction) (slots : List (ℕ × Transaction)) (kept : FinMap nat_cmp Entry) → Shows es w → slots ≡ entries m → ((q : ℕ) → CanKeep es w (get m q)) → kept ≡ empty
     → Shows es w × (AllByRecursion (λ s. CanKeep es w (Some s.1)) slots × AreHeld es kept)

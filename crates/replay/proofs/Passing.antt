@@ -58,10 +58,10 @@ all_suit limit m (e ∷ es) legal = (suits_at limit m e (status m e.pid) e.op le
 
 pub legal_histories_pass : LegalHistoriesPass
 unfolding Legal
-legal_histories_pass root priorities limit es legal = record {
-  suit = all_suit limit (at_start root priorities) es legal;
+legal_histories_pass root setup limit es legal = record {
+  suit = all_suit limit (at_start root setup) es legal;
   exists = record {
-    committed = (after root priorities es).committed;
-    run = the_committed_state_is_serial root priorities limit es legal;
+    committed = (after root setup es).committed;
+    run = the_committed_state_is_serial root setup limit es legal;
   };
 }

@@ -1,8 +1,7 @@
--- Bytes that are cut, filled up and put together.
-use Rattle.std.proofs.Common.{◌≡◌, ℕ, ◌+◌, ◌-◌, ◌++◌, List, length, take, drop, sym, ap, ◌∙◌, arith, length-drop}
-use Rattle.std.specs.Prelude.{min, replicate}
+-- Parts of bytes.
+use Rattle.std.proofs.Common.{◌≡◌, ℕ, ◌+◌, ◌-◌, List, length, take, drop, sym, ap, ◌∙◌, arith, length-drop}
+use Rattle.std.specs.Prelude.{min}
 use Rattle.std.proofs.lemmas.List.{take_all, take_min, drop_min}
-use Rattle.model.specs.Changes.{sized}
 
 -- a part whose ends are within the list
 pub part_within : {A : Type 0} (xs : List A) (skipped count start more : ℕ) → start ≡ min skipped (length xs) → more ≡ min count (length xs - start) → take ((start + more) - start) (drop start xs) ≡ take count (drop skipped xs)
@@ -17,7 +16,3 @@ pub rest_within : {A : Type 0} (xs : List A) (skipped start : ℕ) → start ≡
 rest_within xs skipped start first =
     let left : length (drop start xs) ≡ length xs - start = length-drop start xs in
     take_all (length xs - start) (drop start xs) (omega arith) ∙ ap (λ n. drop n xs) first ∙ drop_min skipped xs
-
--- a list that is cut or filled up
-pub sized_told : (len n : ℕ) (bytes items : List ℕ) → items ≡ bytes → n ≡ length items → take len items ++ replicate (len - n) 0 ≡ sized len bytes
-sized_told len n bytes items is same = ap (λ n. take len items ++ replicate (len - n) 0) same ∙ ap (sized len) is

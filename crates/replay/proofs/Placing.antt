@@ -3,7 +3,7 @@ use Rattle.std.proofs.Common.{◌≡◌, ◌≢◌, ◌⊎◌, ℕ, ◌+◌, ◌
 use Rattle.std.specs.Prelude.{if◌then◌else◌}
 use Rattle.std.proofs.lemmas.Bool.{cases_eq}
 use Rattle.model.specs.Entries.{BeginFlags, Op, Do, Begin, End, Abort, Reply, Answers, Refuses, Begun, Committed, GivenUp, Aborted, Busy, InTransaction, NotInTransaction, HistoryFull, NoMemory, NoProcess, Entry}
-use Rattle.model.specs.Moments.{Status, gone, idle, live, doomed, after, calls_of, is_in}
+use Rattle.model.specs.Moments.{Setup, Status, gone, idle, live, doomed, after, calls_of, is_in}
 use Rattle.replay.specs.Transactions.{IsKept, call_first, calls_at_places, with_place, begun_kept, begun_anew, settled_kept, own_kept, doomed_kept, next_kept}
 use Rattle.replay.specs.Faults.{calls_before}
 use Rattle.replay.specs.Ran.{IsNext, AreNext}
@@ -44,20 +44,20 @@ snoc_split (x ∷ xs) a (f ∷ first) rest p h =
       | inr more ↦ inr (more.0, ap₂ (λ y ys. y ∷ ys) head more.1)
     ]
 
-module _ (root : ℕ) (priorities : List ℕ) (es : List Entry) (q at : ℕ) where
+module _ (root : ℕ) (setup : Setup) (es : List Entry) (q at : ℕ) where
   -- each place is that of a call before, or the one at which the entries stand now
   abbrev Shape : Option Transaction → Type 0
   Shape (Some (Live flags places)) = (first rest : List ℕ) (place : ℕ) → places ≡ first ++ place ∷ rest
-      → IsNext root priorities es q at first place ⊎ ((place ≡ at) × (length (calls_before root priorities es q at) ≡ length (calls_at_places es first)))
+      → IsNext root setup es q at first place ⊎ ((place ≡ at) × (length (calls_before root setup es q at) ≡ length (calls_at_places es first)))
   Shape (Some (Doomed flags)) = Unit {0}
   Shape None = Unit {0}
 
-  shape_same : (t : Option Transaction) → AreNext root priorities es q at t → Shape t
+  shape_same : (t : Option Transaction) → AreNext root setup es q at t → Shape t
   shape_same (Some (Live flags places)) h = λ first rest place is. inl (h first rest place is)
   shape_same (Some (Doomed flags)) h = tt
   shape_same None h = tt
 
-  shape_with : (t : Option Transaction) → IsKept es t ((after root priorities (take at es)).phase q) → AreNext root priorities es q at t → Shape (with_place at t)
+  shape_with : (t : Option Transaction) → IsKept es t ((after root setup (take at es)).phase q) → AreNext root setup es q at t → Shape (with_place at t)
   shape_with (Some (Live flags places)) kept h = λ first rest place is. elim (snoc_split places at first rest place is) [
     | inl last ↦ inr (last.1, ap length (live_calls es flags places _ kept ∙ ap (calls_at_places es) (sym last.0)))
     | inr more ↦ inl (h first more.0 place more.1)
@@ -65,7 +65,7 @@ module _ (root : ℕ) (priorities : List ℕ) (es : List Entry) (q at : ℕ) whe
   shape_with (Some (Doomed flags)) kept h = tt
   shape_with None kept h = tt
 
-  shape_begun : (t : Option Transaction) (op : Op) → AreNext root priorities es q at t → Shape (begun_kept t op)
+  shape_begun : (t : Option Transaction) (op : Op) → AreNext root setup es q at t → Shape (begun_kept t op)
   shape_begun None (Begin flags) h = λ first rest place is. absurd (none_ahead first rest place is)
   shape_begun None (Do call) h = tt
   shape_begun None End h = tt
@@ -82,7 +82,7 @@ module _ (root : ℕ) (priorities : List ℕ) (es : List Entry) (q at : ℕ) whe
   shape_settled (Some (Live flags places)) again = shape_anew flags again
   shape_settled (Some (Doomed flags)) again = shape_anew flags again
 
-  module _ (t : Option Transaction) (kept : IsKept es t ((after root priorities (take at es)).phase q)) (h : AreNext root priorities es q at t) where
+  module _ (t : Option Transaction) (kept : IsKept es t ((after root setup (take at es)).phase q)) (h : AreNext root setup es q at t) where
     shape_own : (op : Op) (reply : Reply) → Shape (own_kept at t op reply)
     shape_own op (Answers a) = shape_with t kept h
     shape_own op (Refuses e) = shape_with t kept h
@@ -113,13 +113,13 @@ module _ (root : ℕ) (priorities : List ℕ) (es : List Entry) (q at : ℕ) whe
       by b false = own b
 
   -- one entry more
-  later : (x : Option Transaction) → IsKept es x ((after root priorities (take (at + 1) es)).phase q) → Shape x → AreNext root priorities es q (at + 1) x
+  later : (x : Option Transaction) → IsKept es x ((after root setup (take (at + 1) es)).phase q) → Shape x → AreNext root setup es q (at + 1) x
   later (Some (Doomed flags)) kept h = tt
   later None kept h = tt
   later (Some (Live flags places)) kept h = λ first rest place is.
-      let parts : calls_before root priorities es q (at + 1) ≡ calls_at_places es (first ++ place ∷ []) ++ calls_at_places es rest =
+      let parts : calls_before root setup es q (at + 1) ≡ calls_at_places es (first ++ place ∷ []) ++ calls_at_places es rest =
       live_calls es flags places _ kept ∙ ap (calls_at_places es) (is ∙ sym (append_assoc first (place ∷ []) rest)) ∙ calls-append es (first ++ place ∷ []) rest in
-      let long : length (calls_at_places es (first ++ place ∷ [])) ≤ length (calls_before root priorities es q (at + 1)) =
+      let long : length (calls_at_places es (first ++ place ∷ [])) ≤ length (calls_before root setup es q (at + 1)) =
       omega (arith, ap length parts, length-append (calls_at_places es (first ++ place ∷ [])) (calls_at_places es rest)) in
       elim (h first rest place is) [
         | inl old ↦ record {
@@ -129,20 +129,20 @@ module _ (root : ℕ) (priorities : List ℕ) (es : List Entry) (q at : ℕ) whe
         }
         | inr new ↦ record {
           earlier = omega (arith, new.0);
-          before = subst (λ n. length (calls_before root priorities es q n) ≡ length (calls_at_places es first)) (sym new.0) new.1;
+          before = subst (λ n. length (calls_before root setup es q n) ≡ length (calls_at_places es first)) (sym new.0) new.1;
           since = λ n low high. at_end first place n (at + 1) high long (λ less. absurd (omega (arith, new.0)));
         }
       ]
     where
-      at_end : (first : List ℕ) (place n end : ℕ) → n ≤ end → length (calls_at_places es (first ++ place ∷ [])) ≤ length (calls_before root priorities es q end)
-          → (n < end → length (calls_at_places es (first ++ place ∷ [])) ≤ length (calls_before root priorities es q n))
-          → length (calls_at_places es (first ++ place ∷ [])) ≤ length (calls_before root priorities es q n)
+      at_end : (first : List ℕ) (place n end : ℕ) → n ≤ end → length (calls_at_places es (first ++ place ∷ [])) ≤ length (calls_before root setup es q end)
+          → (n < end → length (calls_at_places es (first ++ place ∷ [])) ≤ length (calls_before root setup es q n))
+          → length (calls_at_places es (first ++ place ∷ [])) ≤ length (calls_before root setup es q n)
       at_end first place n end high long less = elim (cases_eq n end) [
-        | inl same ↦ subst (λ m. length (calls_at_places es (first ++ place ∷ [])) ≤ length (calls_before root priorities es q m)) (sym same) long
+        | inl same ↦ subst (λ m. length (calls_at_places es (first ++ place ∷ [])) ≤ length (calls_before root setup es q m)) (sym same) long
         | inr apart ↦ less (strictly n end high apart)
       ]
 
   -- what is kept after an entry
-  pub next_places : (t : Option Transaction) (e : Entry) → IsKept es t ((after root priorities (take at es)).phase q) → AreNext root priorities es q at t
-      → IsKept es (next_kept at e q t) ((after root priorities (take (at + 1) es)).phase q) → AreNext root priorities es q (at + 1) (next_kept at e q t)
+  pub next_places : (t : Option Transaction) (e : Entry) → IsKept es t ((after root setup (take at es)).phase q) → AreNext root setup es q at t
+      → IsKept es (next_kept at e q t) ((after root setup (take (at + 1) es)).phase q) → AreNext root setup es q (at + 1) (next_kept at e q t)
   next_places t e kept h then_kept = later (next_kept at e q t) then_kept (shape_next t kept h e)

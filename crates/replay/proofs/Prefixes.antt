@@ -3,7 +3,7 @@ use Rattle.std.proofs.Common.{◌≡◌, ℕ, zero, suc, ◌≤◌, true, List, 
 use Rattle.model.specs.State.{Kernel}
 use Rattle.model.specs.Steps.{Item, Run}
 use Rattle.model.specs.Entries.{Entry, Executed}
-use Rattle.model.specs.Moments.{Moment, status, next, after, after_from, at_start, start, run_by}
+use Rattle.model.specs.Moments.{Setup, Moment, status, next, after, after_from, at_start, start, run_by}
 use Rattle.model.specs.Legal.{items, serial, serial_from}
 use Rattle.model.specs.Suits.{AllSuit, suits}
 use Rattle.model.specs.Passing.{Passes}
@@ -46,42 +46,42 @@ suit_split : (m : Moment) (xs ys : List Entry) → AllSuit m (xs ++ ys) → AllS
 suit_split m [] ys h = (tt, h)
 suit_split m (x ∷ xs) ys h = let rest = suit_split (next m x) xs ys h.1 in ((h.0, rest.0), rest.1)
 
-module _ (root : ℕ) (priorities : List ℕ) where
+module _ (root : ℕ) (setup : Setup) where
   -- what passes, of two lists
   record Parts (xs ys : List Entry) (l : Kernel) : Type 0 where
-    suit : AllSuit (at_start root priorities) xs × AllSuit (after root priorities xs) ys
-    run : Split (start root priorities) (serial root priorities xs) (serial_from (after root priorities xs) ys) l
+    suit : AllSuit (at_start root setup) xs × AllSuit (after root setup xs) ys
+    run : Split (start root setup) (serial root setup xs) (serial_from (after root setup xs) ys) l
 
-  parts : (xs ys : List Entry) (h : Passes root priorities (xs ++ ys)) → Parts xs ys h.exists.committed
+  parts : (xs ys : List Entry) (h : Passes root setup (xs ++ ys)) → Parts xs ys h.exists.committed
   parts xs ys h = record {
-    suit = suit_split (at_start root priorities) xs ys h.suit;
-    run = run_split (start root priorities) (serial root priorities xs) (serial_from (after root priorities xs) ys) h.exists.committed (subst (λ its. Run (start root priorities) its h.exists.committed) (serial_append (at_start root priorities) xs ys) h.exists.run);
+    suit = suit_split (at_start root setup) xs ys h.suit;
+    run = run_split (start root setup) (serial root setup xs) (serial_from (after root setup xs) ys) h.exists.committed (subst (λ its. Run (start root setup) its h.exists.committed) (serial_append (at_start root setup) xs ys) h.exists.run);
   }
 
   -- a beginning passes too
-  pub passes_before : (xs ys : List Entry) → Passes root priorities (xs ++ ys) → Passes root priorities xs
+  pub passes_before : (xs ys : List Entry) → Passes root setup (xs ++ ys) → Passes root setup xs
   passes_before xs ys h =
       let both = parts xs ys h in
       record { suit = both.suit.0; exists = record { committed = both.run.mid; run = both.run.before } }
 
-  pub same_committed : (xs : List Entry) (h g : Passes root priorities xs) → h.exists.committed ≡ g.exists.committed
-  same_committed xs h g = run_same (start root priorities) h.exists.committed g.exists.committed (serial root priorities xs) h.exists.run g.exists.run
+  pub same_committed : (xs : List Entry) (h g : Passes root setup xs) → h.exists.committed ≡ g.exists.committed
+  same_committed xs h g = run_same (start root setup) h.exists.committed g.exists.committed (serial root setup xs) h.exists.run g.exists.run
 
   -- one entry more passes
   pub record OneMore (xs : List Entry) (e : Entry) (k : Kernel) : Type 0 where
-    pub suit : suits (status (after root priorities xs) e.pid) e.op e.reply ≡ true
+    pub suit : suits (status (after root setup xs) e.pid) e.op e.reply ≡ true
     pub later : Kernel
-    pub run : Run k (items e.pid (run_by (status (after root priorities xs) e.pid) e.op e.reply e.chosen)) later
+    pub run : Run k (items e.pid (run_by (status (after root setup xs) e.pid) e.op e.reply e.chosen)) later
 
-  pub one_more : (xs : List Entry) (e : Entry) (h : Passes root priorities xs) → Passes root priorities (xs ++ e ∷ []) → OneMore xs e h.exists.committed
+  pub one_more : (xs : List Entry) (e : Entry) (h : Passes root setup xs) → Passes root setup (xs ++ e ∷ []) → OneMore xs e h.exists.committed
   one_more xs e h g =
       let both = parts xs (e ∷ []) g in
-      let m : Moment = after root priorities xs in
+      let m : Moment = after root setup xs in
       let its : List Item = items e.pid (run_by (status m e.pid) e.op e.reply e.chosen) in
       record {
         suit = both.suit.1.0;
         later = g.exists.committed;
-        run = subst (λ k. Run k its g.exists.committed) (run_same (start root priorities) both.run.mid h.exists.committed (serial root priorities xs) both.run.before h.exists.run)
+        run = subst (λ k. Run k its g.exists.committed) (run_same (start root setup) both.run.mid h.exists.committed (serial root setup xs) both.run.before h.exists.run)
             (subst (λ is. Run both.run.mid is g.exists.committed) (append-nil its) both.run.behind);
       }
 
@@ -102,7 +102,7 @@ take_begins xs (suc a) zero h = absurd (omega arith)
 take_begins [] (suc a) (suc b) h = record { rest = []; is = refl }
 take_begins (x ∷ xs) (suc a) (suc b) h = let more = take_begins xs a b (omega arith) in record { rest = more.rest; is = ap (λ ys. x ∷ ys) more.is }
 
-pub passes_take : (root : ℕ) (priorities : List ℕ) (es : List Entry) (a b : ℕ) → a ≤ b → Passes root priorities (take b es) → Passes root priorities (take a es)
-passes_take root priorities es a b h g =
+pub passes_take : (root : ℕ) (setup : Setup) (es : List Entry) (a b : ℕ) → a ≤ b → Passes root setup (take b es) → Passes root setup (take a es)
+passes_take root setup es a b h g =
     let more = take_begins es a b h in
-    passes_before root priorities (take a es) more.rest (subst (λ (xs : List Entry). Passes root priorities xs) more.is g)
+    passes_before root setup (take a es) more.rest (subst (λ (xs : List Entry). Passes root setup xs) more.is g)

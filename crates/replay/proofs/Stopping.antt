@@ -8,7 +8,7 @@ use Rattle.model.specs.Plan.{Errno}
 use Rattle.model.specs.Calls.{Call, Answer}
 use Rattle.model.specs.Steps.{Run, CanBeChosen, edits, reply}
 use Rattle.model.specs.Entries.{BeginFlags, Op, Do, Begin, End, Abort, Reply, Answers, Refuses, Begun, Committed, GivenUp, Aborted, Busy, InTransaction, NotInTransaction, HistoryFull, NoMemory, NoProcess, Entry, Executed, answer_in}
-use Rattle.model.specs.Moments.{Status, gone, idle, live, doomed, Moment, status, after, at_start, is_alive, plain_calls, calls_of, run_by}
+use Rattle.model.specs.Moments.{Setup, Status, gone, idle, live, doomed, Moment, status, after, at_start, is_alive, plain_calls, calls_of, run_by}
 use Rattle.model.specs.Legal.{items}
 use Rattle.model.proofs.Laws.{all-append}
 use Rattle.model.specs.Suits.{suits, suits_live}
@@ -72,18 +72,18 @@ end_commits f a cs End HistoryFull h g = absurd cc
 end_commits f a cs End NoMemory h g = absurd cc
 end_commits f a cs End NoProcess h g = absurd cc
 
-module _ (root : ℕ) (priorities : List ℕ) (es : List Entry) (at : ℕ) (k : Kernel) (kept : FinMap nat_cmp Transaction) (f : Follows root priorities es at k kept) (e : Entry) (here : HoldsEntry es at e) where
+module _ (root : ℕ) (setup : Setup) (es : List Entry) (at : ℕ) (k : Kernel) (kept : FinMap nat_cmp Transaction) (f : Follows root setup es at k kept) (e : Entry) (here : HoldsEntry es at e) where
   abbrev m : Moment
-  m = after root priorities (take at es)
+  m = after root setup (take at es)
 
-  abbrev passes_so_far : Passes root priorities (take at es)
+  abbrev passes_so_far : Passes root setup (take at es)
   passes_so_far = record { suit = f.suit; exists = record { committed = k; run = f.run } }
 
   status_is : (b : Bool) → is_alive k e.pid ≡ b → status m e.pid ≡ (if b then m.phase e.pid else gone)
   status_is b alive = ap (λ x. if is_alive x e.pid then m.phase e.pid else gone) (sym f.committed) ∙ ap (λ x. if x then m.phase e.pid else gone) alive
 
   -- an entry that does not suit
-  unsuited : suits_kept (is_alive k e.pid) (get kept e.pid) e.op e.reply ≡ false → FailsAt root priorities es at at
+  unsuited : suits_kept (is_alive k e.pid) (get kept e.pid) e.op e.reply ≡ false → FailsAt root setup es at at
   unsuited h = record {
     entry = e;
     here = here;
@@ -96,7 +96,7 @@ module _ (root : ℕ) (priorities : List ℕ) (es : List Entry) (at : ℕ) (k : 
 
   module _ (alive : is_alive k e.pid ≡ true) (place : ℕ) where
     -- a call outside a transaction
-    idle_stops : (place ≡ at) → CannotRun k e.pid (call_of e) → m.phase e.pid ≡ idle → suits idle e.op e.reply ≡ true → FailsAt root priorities es at place
+    idle_stops : (place ≡ at) → CannotRun k e.pid (call_of e) → m.phase e.pid ≡ idle → suits idle e.op e.reply ≡ true → FailsAt root setup es at place
     idle_stops same fails phase fits =
         let is : status m e.pid ≡ idle = status_is true alive ∙ phase in
         let one : One (call_of e) = the_call k e.pid (call_of e) alive fails (one_call e.op e.reply e.chosen) in
@@ -124,18 +124,18 @@ module _ (root : ℕ) (priorities : List ℕ) (es : List Entry) (at : ℕ) (k : 
       is_live : status m e.pid ≡ live same age calls
       is_live = status_is true alive ∙ phase
 
-      mine : calls_before root priorities es e.pid at ≡ calls_at_places es places
+      mine : calls_before root setup es e.pid at ≡ calls_at_places es places
       mine = ap calls_of phase ∙ alike.1
 
-      live_stops : AreNext root priorities es e.pid at (Some (Live flags places)) → is_end e.op ≡ true → suits_live flags e.op e.reply ≡ true → StopsIn k e.pid es places place → FailsAt root priorities es at place
+      live_stops : AreNext root setup es e.pid at (Some (Live flags places)) → is_end e.op ≡ true → suits_live flags e.op e.reply ≡ true → StopsIn k e.pid es places place → FailsAt root setup es at place
       live_stops next ends fits s =
           let first : List Executed = calls_at_places es s.first in
-          let parts : calls_before root priorities es e.pid at ≡ first ++ (call_first (drop place es) ++ calls_at_places es s.rest) = mine ∙ ap (calls_at_places es) s.is ∙ calls-append es s.first (place ∷ s.rest) in
-          let inside : AreInside (calls_before root priorities es e.pid at) = after_inside (at_start root priorities) (take at es) f.suit (λ q. tt) e.pid in
+          let parts : calls_before root setup es e.pid at ≡ first ++ (call_first (drop place es) ++ calls_at_places es s.rest) = mine ∙ ap (calls_at_places es) s.is ∙ calls-append es s.first (place ∷ s.rest) in
+          let inside : AreInside (calls_before root setup es e.pid at) = after_inside (at_start root setup) (take at es) f.suit (λ q. tt) e.pid in
           let lives : is_alive s.mid e.pid ≡ true = alive_through e.pid first k s.mid f.tidied.well alive (all-append IsInside first _ (subst AreInside parts inside)).0 s.ran.run in
           let one : One (call_first (drop place es)) = the_call s.mid e.pid (call_first (drop place es)) lives s.fails (one_first (drop place es)) in
-          let whole : calls_before root priorities es e.pid at ≡ first ++ one.call ∷ calls_at_places es s.rest = parts ∙ ap (λ cs. first ++ (cs ++ calls_at_places es s.rest)) one.is in
-          let front : take (length first) (calls_before root priorities es e.pid at) ≡ first = ap (take (length first)) whole ∙ take_front first one.call (calls_at_places es s.rest) in
+          let whole : calls_before root setup es e.pid at ≡ first ++ one.call ∷ calls_at_places es s.rest = parts ∙ ap (λ cs. first ++ (cs ++ calls_at_places es s.rest)) one.is in
+          let front : take (length first) (calls_before root setup es e.pid at) ≡ first = ap (take (length first)) whole ∙ take_front first one.call (calls_at_places es s.rest) in
           let placed = next s.first s.rest place s.is in
           let longer : length (calls_at_places es (s.first ++ place ∷ [])) ≡ length first + 1 = ap length (calls-more es s.first place ∙ ap (λ cs. first ++ cs) one.is) ∙ length-append first (one.call ∷ []) in
           record {
@@ -157,14 +157,14 @@ module _ (root : ℕ) (priorities : List ℕ) (es : List Entry) (at : ℕ) (k : 
                 mid = s.mid;
                 runs = subst (λ cs. Run k (items e.pid cs) s.mid) (sym front) s.ran.run;
                 fails = λ l run.
-                    let both = run_calls_split k e.pid first (one.call ∷ []) l (subst (λ cs. Run k (items e.pid (cs ++ one.call ∷ [])) l) {x = take (length first) (calls_before root priorities es e.pid at)} {y = first} front run) in
+                    let both = run_calls_split k e.pid first (one.call ∷ []) l (subst (λ cs. Run k (items e.pid (cs ++ one.call ∷ [])) l) {x = take (length first) (calls_before root setup es e.pid at)} {y = first} front run) in
                     s.fails lives l (subst (λ cs. Run s.mid (items e.pid cs) l) (sym one.is) (subst (λ x. Run x (items e.pid (one.call ∷ [])) l) {x = both.mid} {y = s.mid} (run_same k both.mid s.mid (items e.pid first) both.before s.ran.run) both.behind));
               };
             }));
           }
 
     -- by what is kept
-    by_kept : (t : Option Transaction) (s : Status) → m.phase e.pid ≡ s → IsKept es t s → AreNext root priorities es e.pid at t → suits_kept true t e.op e.reply ≡ true → StopsHere k t es at e place → FailsAt root priorities es at place
+    by_kept : (t : Option Transaction) (s : Status) → m.phase e.pid ≡ s → IsKept es t s → AreNext root setup es e.pid at t → suits_kept true t e.op e.reply ≡ true → StopsHere k t es at e place → FailsAt root setup es at place
     by_kept None idle phase alike next fits stops = idle_stops stops.0 stops.1 phase fits
     by_kept None gone phase alike next fits stops = absurd alike
     by_kept None (live flags age calls) phase alike next fits stops = absurd alike
@@ -176,16 +176,16 @@ module _ (root : ℕ) (priorities : List ℕ) (es : List Entry) (at : ℕ) (k : 
     by_kept (Some (Doomed flags)) s phase alike next fits stops = absurd stops
 
 -- what the checker finds of the entry at a place
-module _ (root : ℕ) (priorities : List ℕ) (es : List Entry) (at : ℕ) (k : Kernel) (kept : FinMap nat_cmp Transaction) (d : Entry) (alive : Bool) (t : Option Transaction) (low : at < length es) (is : d ≡ get_or es at d) (lives : alive ≡ is_alive k d.pid) (was : t ≡ get kept d.pid) where
-  pub fails_unsuited : suits_kept alive t d.op d.reply ≡ false → Follows root priorities es at k kept → FailsAt root priorities es at at
-  fails_unsuited h f = unsuited root priorities es at k kept f d (holds_entry es at d low is)
+module _ (root : ℕ) (setup : Setup) (es : List Entry) (at : ℕ) (k : Kernel) (kept : FinMap nat_cmp Transaction) (d : Entry) (alive : Bool) (t : Option Transaction) (low : at < length es) (is : d ≡ get_or es at d) (lives : alive ≡ is_alive k d.pid) (was : t ≡ get kept d.pid) where
+  pub fails_unsuited : suits_kept alive t d.op d.reply ≡ false → Follows root setup es at k kept → FailsAt root setup es at at
+  fails_unsuited h f = unsuited root setup es at k kept f d (holds_entry es at d low is)
       (ap (λ o. suits_kept (is_alive k d.pid) o d.op d.reply) (sym was) ∙ ap (λ b. suits_kept b t d.op d.reply) (sym lives) ∙ h)
 
-  pub fails_stopped : suits_kept alive t d.op d.reply ≡ true → (place : ℕ) → StopsNow es at t k place → Follows root priorities es at k kept → FailsAt root priorities es at place
+  pub fails_stopped : suits_kept alive t d.op d.reply ≡ true → (place : ℕ) → StopsNow es at t k place → Follows root setup es at k kept → FailsAt root setup es at place
   fails_stopped h place stops f =
       let here : HoldsEntry es at d = holds_entry es at d low is in
       let now = stops d here in
-      by_kept root priorities es at k kept f d here now.0 place (get kept d.pid) ((after root priorities (take at es)).phase d.pid) refl (f.phases d.pid) (f.places d.pid)
+      by_kept root setup es at k kept f d here now.0 place (get kept d.pid) ((after root setup (take at es)).phase d.pid) refl (f.phases d.pid) (f.places d.pid)
       (ap (λ o. suits_kept true o d.op d.reply) (sym was) ∙ ap (λ b. suits_kept b t d.op d.reply) (sym (lives ∙ now.0)) ∙ h)
       (subst (λ o. StopsHere k o es at d place) was now.1)
 

@@ -4,6 +4,7 @@ use Rattle.std.specs.List.{AllByRecursion}
 use Rattle.std.specs.Ordering.{nat_cmp}
 use Rattle.model.specs.Entries.{Entry}
 use Rattle.model.specs.FiniteMap.{FinMap, get}
+use Rattle.model.specs.Moments.{Setup}
 use Rattle.replay.specs.Failing.{FailsAt}
 use Rattle.replay.specs.Faults.{HoldsEntry}
 use Rattle.replay.specs.Ran.{Follows}
@@ -28,7 +29,7 @@ AreHeld es kept = (place : ℕ) (e : Entry) → get kept place ≡ Some e → Ho
 -- each live transaction the entries of its calls.
 pub record HasChecked (reached : Reached) (so_far : Checked) : Type 0 where
   pub count : reached.count ≡ length so_far.entries
-  pub follows : Follows so_far.root so_far.priorities so_far.entries (length so_far.entries)
+  pub follows : Follows so_far.root so_far.setup so_far.entries (length so_far.entries)
       reached.audit.kernel reached.audit.transactions
   pub held : AreHeld so_far.entries reached.kept
   pub there : (q : ℕ) → AreThere reached.kept (get reached.audit.transactions q)
@@ -38,7 +39,7 @@ abbrev pub Grows : FinMap nat_cmp Entry → FinMap nat_cmp Entry → Type 0
 Grows old new = (place : ℕ) → get old place ≢ None → get new place ≢ None
 
 -- What a fault says of a history for one root. Where memory was refused it says nothing.
-abbrev pub IsFaultFor : ℕ → List ℕ → List Entry → CheckFault → Type 0
-IsFaultFor root priorities es (fault.Wrong place) =
-    (at before : ℕ) × (place ≡ suc before) × FailsAt root priorities es at before
-IsFaultFor root priorities es fault.NoMemory = ⊤
+abbrev pub IsFaultFor : ℕ → Setup → List Entry → CheckFault → Type 0
+IsFaultFor root setup es (fault.Wrong place) =
+    (at before : ℕ) × (place ≡ suc before) × FailsAt root setup es at before
+IsFaultFor root setup es fault.NoMemory = ⊤

@@ -5,6 +5,6 @@ use Rattle.replay.specs.declared.inode.Content.TheVariants.{File as Bytes_of, Di
 use Rattle.replay.specs.declared.inode.Content.TheVariants.{Pipe as Waiting}
 
 abbrev pub inode_of : Content → Inode
-inode_of (Bytes_of bytes) = File bytes
+inode_of (Bytes_of stored) = File stored.bytes
 inode_of (Names_of names) = Directory names
 inode_of (Waiting bytes) = Pipe bytes

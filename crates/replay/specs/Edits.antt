@@ -1,7 +1,8 @@
 -- Edits by what they change.
-use Rattle.std.specs.Prelude.{Bool, true, false}
+use Rattle.std.specs.Prelude.{Bool, true, false, ◌+◌, ◌≤◌, length, ⊤}
+use Rattle.model.specs.Limits.{largest_file}
 use Rattle.model.specs.Changes.{Edit, Set_offset, Open_inode, Make_pipe, Share_slot, Clear_slot}
-use Rattle.model.specs.Changes.{New_process, End_process}
+use Rattle.model.specs.Changes.{New_process, End_process, Put_bytes, Cut}
 
 -- whether an edit is of descriptions or of processes
 abbrev pub is_of_processes : Edit → Bool
@@ -13,3 +14,9 @@ is_of_processes (Clear_slot pid f pipes) = true
 is_of_processes (New_process child parent pipes) = true
 is_of_processes (End_process pid pipes) = true
 is_of_processes _ = false
+
+-- a write ends where a file can end, and a cut leaves no more than that
+abbrev pub EndsWithin : Edit → Type 0
+EndsWithin (Put_bytes n place bytes before) = place + length bytes ≤ largest_file
+EndsWithin (Cut n before after) = after ≤ largest_file
+EndsWithin _ = ⊤

@@ -4,7 +4,7 @@ use Rattle.std.specs.Prelude.{◌≡◌, ◌≢◌, ◌⊎◌, ℕ, suc, true, f
 use Rattle.model.specs.State.{Kernel}
 use Rattle.model.specs.Steps.{Run}
 use Rattle.model.specs.Entries.{Entry, Executed}
-use Rattle.model.specs.Moments.{run_by, status, after}
+use Rattle.model.specs.Moments.{Setup, run_by, status, after}
 use Rattle.model.specs.Legal.{items}
 use Rattle.renaming_laws.specs.Laws.{TellsRoot}
 use Rattle.model.specs.Suits.{suits}
@@ -22,42 +22,42 @@ pub record StopsAt (k : Kernel) (pid : ℕ) (es : List Entry) (place : ℕ) (fir
   pub runs : Run k (items pid first) mid
   pub fails : (after : Kernel) → Run k (items pid (first ++ call ∷ [])) after → ⊥
 
-module _ (root : ℕ) (priorities : List ℕ) (es : List Entry) (at place : ℕ) (e : Entry)
-    (passes : Passes root priorities (take at es)) where
+module _ (root : ℕ) (setup : Setup) (es : List Entry) (at place : ℕ) (e : Entry)
+    (passes : Passes root setup (take at es)) where
   -- an entry that does not suit
   pub record IsUnsuited : Type 0 where
     pub same : place ≡ at
-    pub unsuited : suits (status (after root priorities (take at es)) e.pid) e.op e.reply ≡ false
+    pub unsuited : suits (status (after root setup (take at es)) e.pid) e.op e.reply ≡ false
 
   -- one that suits, and is a call that cannot be run
   pub record IsWrongCall : Type 0 where
     pub same : place ≡ at
-    pub suits : suits (status (after root priorities (take at es)) e.pid) e.op e.reply ≡ true
-    pub commits_not : commits (after root priorities (take at es)) e ≡ false
+    pub suits : suits (status (after root setup (take at es)) e.pid) e.op e.reply ≡ true
+    pub commits_not : commits (after root setup (take at es)) e ≡ false
     pub call : Executed
-    pub only : run_by (status (after root priorities (take at es)) e.pid) e.op e.reply e.chosen
+    pub only : run_by (status (after root setup (take at es)) e.pid) e.op e.reply e.chosen
         ≡ call ∷ []
     pub stops : StopsAt passes.exists.committed e.pid es place [] call
 
   -- one that commits a transaction, of which a call cannot be run
   pub record IsWrongCommit : Type 0 where
-    pub commits : commits (after root priorities (take at es)) e ≡ true
+    pub commits : commits (after root setup (take at es)) e ≡ true
     pub number : ℕ
-    pub is_call : IsCall root priorities es e.pid at number place
+    pub is_call : IsCall root setup es e.pid at number place
     pub call : Executed
-    pub with_it : take (suc number) (calls_before root priorities es e.pid at)
-        ≡ take number (calls_before root priorities es e.pid at) ++ call ∷ []
+    pub with_it : take (suc number) (calls_before root setup es e.pid at)
+        ≡ take number (calls_before root setup es e.pid at) ++ call ∷ []
     pub stops : StopsAt passes.exists.committed e.pid es place
-        (take number (calls_before root priorities es e.pid at)) call
+        (take number (calls_before root setup es e.pid at)) call
 
 -- The entries before a place pass for a root, but with that one they do not.
-pub record FailsAt (root : ℕ) (priorities : List ℕ) (es : List Entry) (at place : ℕ) : Type 0 where
+pub record FailsAt (root : ℕ) (setup : Setup) (es : List Entry) (at place : ℕ) : Type 0 where
   pub entry : Entry
   pub here : HoldsEntry es at entry
-  pub passes : Passes root priorities (take at es)
-  pub how : IsUnsuited root priorities es at place entry passes
-      ⊎ (IsWrongCall root priorities es at place entry passes
-      ⊎ IsWrongCommit root priorities es at place entry passes)
+  pub passes : Passes root setup (take at es)
+  pub how : IsUnsuited root setup es at place entry passes
+      ⊎ (IsWrongCall root setup es at place entry passes
+      ⊎ IsWrongCommit root setup es at place entry passes)
 
 -- the call at a place tells this root
 pub record TellsAt (root : ℕ) (es : List Entry) (place : ℕ) : Type 0 where
@@ -70,13 +70,13 @@ abbrev pub IsUnchosen : ℕ → List Entry → Type 0
 IsUnchosen n es = AllByRecursion (λ e. AllByRecursion (λ m. m ≢ n) e.chosen) es
 
 -- A number fails there that no entry chose, and if the call there tells a root, it is this one.
-pub record IsTold (priorities : List ℕ) (es : List Entry) (root at place : ℕ) : Type 0 where
+pub record IsTold (setup : Setup) (es : List Entry) (root at place : ℕ) : Type 0 where
   pub guess : ℕ
   pub unchosen : IsUnchosen guess es
-  pub fails : FailsAt guess priorities es at place
+  pub fails : FailsAt guess setup es at place
   pub told : (r : ℕ) → TellsAt r es place → r ≡ root
 
 -- what a stop of the checker says for one root
-abbrev pub IsStop : ℕ → List ℕ → List Entry → Stop → Type 0
-IsStop root priorities es (Wrong at place) = FailsAt root priorities es at place
-IsStop root priorities es NoMemory = ⊤
+abbrev pub IsStop : ℕ → Setup → List Entry → Stop → Type 0
+IsStop root setup es (Wrong at place) = FailsAt root setup es at place
+IsStop root setup es NoMemory = ⊤

@@ -5,7 +5,7 @@ use Rattle.std.specs.Prelude.{drop, take, length, ⊤}
 use Rattle.model.specs.State.{Kernel}
 use Rattle.model.specs.Steps.{Run}
 use Rattle.model.specs.Entries.{Op, End, Reply, Committed, Entry, Executed}
-use Rattle.model.specs.Moments.{Status, live, Moment, status, after, calls_at}
+use Rattle.model.specs.Moments.{Setup, Status, live, Moment, status, after, calls_at}
 use Rattle.model.specs.Legal.{Legal, items}
 use Rattle.model.specs.Passing.{Passes, PassesForSome}
 use Rattle.replay.specs.declared.checking.CheckFault.{CheckFault}
@@ -17,26 +17,26 @@ pub record HoldsEntry (es : List Entry) (at : ℕ) (e : Entry) : Type 0 where
   pub here : drop at es ≡ e ∷ rest
 
 -- the calls that a process has made in its transaction before the entry at a place
-abbrev pub calls_before : ℕ → List ℕ → List Entry → ℕ → ℕ → List Executed
-calls_before root priorities es pid at = calls_at (after root priorities (take at es)) pid
+abbrev pub calls_before : ℕ → Setup → List Entry → ℕ → ℕ → List Executed
+calls_before root setup es pid at = calls_at (after root setup (take at es)) pid
 
 -- At a place stands the call of this number, from 0, of the transaction that a process is in at the
 -- entry `at`: before that place the transaction had so many calls, and from then on it has more.
-pub record IsCall (root : ℕ) (priorities : List ℕ) (es : List Entry) (pid at number place : ℕ)
+pub record IsCall (root : ℕ) (setup : Setup) (es : List Entry) (pid at number place : ℕ)
     : Type 0 where
   pub earlier : place < at
-  pub before : length (calls_before root priorities es pid place) ≡ number
+  pub before : length (calls_before root setup es pid place) ≡ number
   pub since : (later : ℕ) → place < later → later ≤ at
-      → number < length (calls_before root priorities es pid later)
+      → number < length (calls_before root setup es pid later)
 
 -- The entries before a place pass for a root, and in the state that they commit the first calls of
 -- the transaction that a process is in there can be run, so many of them.
-pub record RunsOn (root : ℕ) (priorities : List ℕ) (es : List Entry) (pid at count : ℕ)
+pub record RunsOn (root : ℕ) (setup : Setup) (es : List Entry) (pid at count : ℕ)
     : Type 0 where
-  pub passes : Passes root priorities (take at es)
+  pub passes : Passes root setup (take at es)
   pub after : Kernel
   pub run : Run passes.exists.committed
-      (items pid (take count (calls_before root priorities es pid at))) after
+      (items pid (take count (calls_before root setup es pid at))) after
 
 -- whether an entry commits a transaction: the End of a live one, answered so
 abbrev pub commits_from : Status → Op → Reply → Bool
@@ -48,42 +48,42 @@ commits m e = commits_from (status m e.pid) e.op e.reply
 
 -- The call at a place is the first of the transaction that an entry commits up to which it cannot be
 -- run, whatever the root: the calls before it can be for some root, with it they can be for none.
-pub record IsFirstWrongCall (priorities : List ℕ) (es : List Entry) (e : Entry) (at place : ℕ)
+pub record IsFirstWrongCall (setup : Setup) (es : List Entry) (e : Entry) (at place : ℕ)
     : Type 0 where
   pub root : ℕ
-  pub passes : Passes root priorities (take at es)
-  pub commits : commits (after root priorities (take at es)) e ≡ true
+  pub passes : Passes root setup (take at es)
+  pub commits : commits (after root setup (take at es)) e ≡ true
   pub number : ℕ
-  pub call : IsCall root priorities es e.pid at number place
-  pub runs : (some : ℕ) × RunsOn some priorities es e.pid at number
-  pub fails : (each : ℕ) → RunsOn each priorities es e.pid at (suc number) → ⊥
+  pub call : IsCall root setup es e.pid at number place
+  pub runs : (some : ℕ) × RunsOn some setup es e.pid at number
+  pub fails : (each : ℕ) → RunsOn each setup es e.pid at (suc number) → ⊥
 
 -- The place is the entry's own, and it commits nothing, for no root for which those before it pass.
-pub record IsItself (priorities : List ℕ) (es : List Entry) (e : Entry) (at place : ℕ)
+pub record IsItself (setup : Setup) (es : List Entry) (e : Entry) (at place : ℕ)
     : Type 0 where
   pub same : place ≡ at
-  pub commits_not : (root : ℕ) → Passes root priorities (take at es)
-      → commits (after root priorities (take at es)) e ≡ false
+  pub commits_not : (root : ℕ) → Passes root setup (take at es)
+      → commits (after root setup (take at es)) e ≡ false
 
 -- The place at which a history is wrong: up to some entry, and no earlier one, it passes for no root.
 -- The place is that entry's, or, where the entry commits a transaction, that of the first call that
 -- cannot be run.
-pub record IsFirstWrong (priorities : List ℕ) (es : List Entry) (place : ℕ) : Type 0 where
+pub record IsFirstWrong (setup : Setup) (es : List Entry) (place : ℕ) : Type 0 where
   pub at : ℕ
   pub entry : Entry
   pub here : HoldsEntry es at entry
-  pub before : PassesForSome priorities (take at es)
-  pub fails : PassesForSome priorities (take (suc at) es) → ⊥
-  pub is : IsItself priorities es entry at place ⊎ IsFirstWrongCall priorities es entry at place
+  pub before : PassesForSome setup (take at es)
+  pub fails : PassesForSome setup (take (suc at) es) → ⊥
+  pub is : IsItself setup es entry at place ⊎ IsFirstWrongCall setup es entry at place
 
 -- What a fault says of a history. It counts the place from 1. Where memory was refused it says nothing.
-abbrev pub IsFault : List ℕ → List Entry → CheckFault → Type 0
-IsFault priorities es (Wrong place) =
-    (before : ℕ) × (place ≡ suc before) × IsFirstWrong priorities es before
-IsFault priorities es NoMemory = ⊤
+abbrev pub IsFault : Setup → List Entry → CheckFault → Type 0
+IsFault setup es (Wrong place) =
+    (before : ℕ) × (place ≡ suc before) × IsFirstWrong setup es before
+IsFault setup es NoMemory = ⊤
 
 -- A legal history has no fault: of a kernel's own history the checker never says that it is wrong.
 abbrev pub LegalHistoriesHaveNoFault : Type 0
 LegalHistoriesHaveNoFault =
-    (root : ℕ) (priorities : List ℕ) (limit : Limit) (es : List Entry) → Legal root priorities limit es
-    → (place : ℕ) → IsFault priorities es (Wrong place) → ⊥
+    (root : ℕ) (setup : Setup) (limit : Limit) (es : List Entry) → Legal root setup limit es
+    → (place : ℕ) → IsFault setup es (Wrong place) → ⊥

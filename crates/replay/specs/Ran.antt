@@ -6,7 +6,7 @@ use Rattle.model.specs.FiniteMap.{FinMap, get}
 use Rattle.model.specs.State.{Kernel}
 use Rattle.model.specs.Steps.{Run}
 use Rattle.model.specs.Entries.{Entry, Executed}
-use Rattle.model.specs.Moments.{after, at_start, is_alive, start}
+use Rattle.model.specs.Moments.{Setup, after, at_start, is_alive, start}
 use Rattle.model.specs.Legal.{items, serial}
 use Rattle.freeing_laws.specs.Sweep.{IsTidied}
 use Rattle.model.specs.Suits.{AllSuit}
@@ -28,31 +28,31 @@ CannotRun before pid es = is_alive before pid ≡ true → (after : Kernel) → 
 -- At a place kept of a transaction, behind those of other calls, stands its next call, if one was
 -- executed there: before it the transaction had the calls of the other places, and from then on
 -- that one too.
-pub record IsNext (root : ℕ) (priorities : List ℕ) (es : List Entry) (pid at : ℕ) (first : List ℕ)
+pub record IsNext (root : ℕ) (setup : Setup) (es : List Entry) (pid at : ℕ) (first : List ℕ)
     (place : ℕ) : Type 0 where
   pub earlier : place < at
-  pub before : length (calls_before root priorities es pid place) ≡ length (calls_at_places es first)
+  pub before : length (calls_before root setup es pid place) ≡ length (calls_at_places es first)
   pub since : (q : ℕ) → place < q → q ≤ at → length (calls_at_places es (first ++ place ∷ []))
-      ≤ length (calls_before root priorities es pid q)
+      ≤ length (calls_before root setup es pid q)
 
 -- so it is with each place that is kept
-abbrev pub AreNext : ℕ → List ℕ → List Entry → ℕ → ℕ → Option Transaction → Type 0
-AreNext root priorities es pid at (Some (Live flags places)) =
+abbrev pub AreNext : ℕ → Setup → List Entry → ℕ → ℕ → Option Transaction → Type 0
+AreNext root setup es pid at (Some (Live flags places)) =
     (first rest : List ℕ) (place : ℕ) → places ≡ first ++ place ∷ rest
-    → IsNext root priorities es pid at first place
-AreNext root priorities es pid at (Some (Doomed flags)) = ⊤
-AreNext root priorities es pid at None = ⊤
+    → IsNext root setup es pid at first place
+AreNext root setup es pid at (Some (Doomed flags)) = ⊤
+AreNext root setup es pid at None = ⊤
 
 -- The first entries pass for a root: the state is the committed one, and of each process is kept
 -- what its status is.
-pub record Follows (root : ℕ) (priorities : List ℕ) (es : List Entry) (at : ℕ) (state : Kernel)
+pub record Follows (root : ℕ) (setup : Setup) (es : List Entry) (at : ℕ) (state : Kernel)
     (kept : FinMap nat_cmp Transaction) : Type 0 where
-  pub suit : AllSuit (at_start root priorities) (take at es)
-  pub run : Run (start root priorities) (serial root priorities (take at es)) state
+  pub suit : AllSuit (at_start root setup) (take at es)
+  pub run : Run (start root setup) (serial root setup (take at es)) state
   pub tidied : IsTidied state
-  pub committed : state ≡ (after root priorities (take at es)).committed
-  pub phases : (q : ℕ) → IsKept es (get kept q) ((after root priorities (take at es)).phase q)
-  pub places : (q : ℕ) → AreNext root priorities es q at (get kept q)
+  pub committed : state ≡ (after root setup (take at es)).committed
+  pub phases : (q : ℕ) → IsKept es (get kept q) ((after root setup (take at es)).phase q)
+  pub places : (q : ℕ) → AreNext root setup es q at (get kept q)
 
 -- what the entry at a place runs has run
 abbrev pub RanAt : List Entry → ℕ → Option Transaction → Kernel → Kernel → Type 0

@@ -1,15 +1,15 @@
 // What a checker was given, as clauses see it: nothing of it is stored.
 ghost use Rattle.std.specs.Prelude.{◌≡◌, ◌++◌, []};
-ghost use Rattle.replay.specs.Added.{entries_in, priorities_in};
+ghost use Rattle.replay.specs.Added.{entries_in, setup_in};
 
+use crate::beginning::Beginning;
 use ids::{Entry as Listed, Priority};
 use std::snapshot::Snapshot;
 
-/// The processes that a kernel began with, and entries, in order. It takes one byte, however many
-/// there were.
+/// What a kernel began with, and entries, in order. It takes one byte, however many there were.
 pub(crate) enum Added {
-    /// None.
-    Start,
+    /// No process and no entry, where files have at most so many bytes.
+    Start(Snapshot<u32>),
     /// One more process, with its priority.
     Process(Snapshot<Added>, Snapshot<Priority>),
     /// One more entry.
@@ -20,7 +20,7 @@ pub(crate) enum Added {
 impl Drop for Added {
     fn drop(self) {
         match self {
-            Added::Start => {}
+            Added::Start(_) => {}
             Added::Process(_, _) => {}
             Added::Entry(_, _) => {}
         }
@@ -28,13 +28,13 @@ impl Drop for Added {
 }
 
 impl Added {
-    /// Processes with these priorities, and no entry.
-    pub(crate) fn of(priorities: &[Priority]) -> Added
-        ensures priorities { priorities_in result ≡ priorities.now }
+    /// This beginning, and no entry.
+    pub(crate) fn of(beginning: &Beginning<'_>) -> Added
+        ensures setup { setup_in result ≡ beginning.now }
         ensures entries { entries_in result ≡ [] }
     {
-        let mut added = Added::Start;
-        for priority in priorities {
+        let mut added = Added::Start(Snapshot::of(&beginning.largest));
+        for priority in beginning.priorities {
             let before = Snapshot::of(&added);
             added = Added::Process(before, Snapshot::of(priority));
         }
@@ -44,7 +44,7 @@ impl Added {
     /// These entries more. It takes no memory.
     pub(crate) fn add(&mut self, entries: &[Listed])
         ensures entries { entries_in self.new ≡ entries_in self.old ++ entries.now }
-        ensures priorities { priorities_in self.new ≡ priorities_in self.old }
+        ensures setup { setup_in self.new ≡ setup_in self.old }
     {
         for entry in entries {
             let before = Snapshot::of(&*self);

@@ -1,15 +1,17 @@
 // What each edit makes of a plain kernel.
 ghost use Rattle.std.specs.Prelude.{◌≡◌, ◌++◌, IfOk, OnOk, Some, [], get_or, true, drop, option_copied};
+ghost use Rattle.std.specs.Prelude.{◌+◌, ◌≤◌, length};
 ghost use Rattle.model.specs.FiniteMap.{empty, get, insert, remove};
+ghost use Rattle.model.specs.Limits.{largest_file};
 ghost use Rattle.model.specs.State.{File as A_file, Pipe as A_pipe};
 ghost use Rattle.model.specs.State.{file_of, names_of_inode, pipe_of};
 ghost use Rattle.model.specs.Changes.{applied, at_start, clear_name, number, open_at};
 ghost use Rattle.model.specs.Changes.{or_new, process_of, set_description, set_inode, set_name};
 ghost use Rattle.model.specs.Changes.{set_offset, set_process, sized, with_slot, without_slot};
 ghost use Rattle.model.specs.Changes.{written, to_read, to_write};
-ghost use Rattle.replay.specs.Edits.{is_of_processes};
+ghost use Rattle.replay.specs.Edits.{EndsWithin, is_of_processes};
 
-use crate::bytes::{appended, no_bytes, rest, sized, written};
+use crate::bytes::{appended, no_bytes, rest};
 use crate::inode::{Inode, file_out, pipe_out};
 use crate::inodes::Inodes;
 use crate::names::Names;
@@ -17,6 +19,7 @@ use crate::plain::{Description, PlainKernel, Process, place_of};
 use crate::table::Table;
 use heap::Heap;
 use ids::{Bytes, Edit, Fd, Mode, Name, Num, Pid, Which};
+use objects::FileData;
 use std::alloc::AllocError;
 use std::mem::replace;
 
@@ -56,7 +59,7 @@ impl PlainKernel {
         ensures left { OnOk result (self.new ≡ set_inode num (A_file []) self.old) }
         ensures taken { IfOk result (λ inode. inode ≡ get self.old.inodes num) }
     {
-        self.inodes.insert(num, Inode::file(no_bytes(heap)))
+        self.inodes.insert(num, Inode::file(FileData::new(heap)))
     }
 
     // A name gives a number.
@@ -96,24 +99,28 @@ impl PlainKernel {
         self.set_name(heap, dir, name, num)
     }
 
-    // Bytes of a file from a place on.
+    // Bytes of a file from a place on. It costs what it writes, however long the file is.
     fn put(&mut self, heap: Heap, file: Num, place: usize, bytes: &[u8]) -> Result<(), AllocError>
+        requires { place + length bytes.now ≤ largest_file }
         ensures { OnOk result (self.new
             ≡ set_inode file (A_file (written (file_of self.old file) place bytes.now)) self.old) }
     {
         let inode = self.take_inode(heap, file)?;
-        let all = written(file_out(heap, inode), place, bytes)?;
-        self.set_inode(file, Inode::file(all))
+        let mut stored = file_out(heap, inode);
+        stored.write_at(place, bytes)?;
+        self.set_inode(file, Inode::file(stored))
     }
 
     // A file's length.
     fn cut(&mut self, heap: Heap, file: Num, len: usize) -> Result<(), AllocError>
+        requires { len ≤ largest_file }
         ensures { OnOk result (self.new
             ≡ set_inode file (A_file (sized len (file_of self.old file))) self.old) }
     {
         let inode = self.take_inode(heap, file)?;
-        let all = sized(file_out(heap, inode), len)?;
-        self.set_inode(file, Inode::file(all))
+        let mut stored = file_out(heap, inode);
+        stored.cut(len);
+        self.set_inode(file, Inode::file(stored))
     }
 
     // Bytes leave the front of a pipe.
@@ -304,6 +311,7 @@ impl PlainKernel {
         edit: &Edit,
         chosen: &[Num],
     ) -> Result<(), AllocError>
+        requires { EndsWithin edit.now }
         ensures { OnOk result (self.new ≡ applied chosen.now edit.now self.old) }
     {
         match edit {
@@ -312,7 +320,7 @@ impl PlainKernel {
                 self.make(heap, *dir, name, made(chosen, *place as usize), inode)
             }
             Edit::MakeFile(dir, name, place) => {
-                let inode = Inode::file(no_bytes(heap));
+                let inode = Inode::file(FileData::new(heap));
                 self.make(heap, *dir, name, made(chosen, *place as usize), inode)
             }
             Edit::NameFile(dir, name, num) => self.set_name(heap, *dir, name, *num),

@@ -2,14 +2,16 @@
 ghost use Rattle.std.specs.Prelude.{◌≡◌, ◌<◌, ◌+◌, ◌^◌, ◌==◌, ℕ, List, [], length, drop};
 ghost use Rattle.std.specs.Prelude.{IfOk, MatchBool, MatchOption, MatchResult, OnOk, true, false};
 ghost use Rattle.std.specs.Prelude.{if◌then◌else◌, get_or, option_copied};
+ghost use Rattle.std.specs.List.{AllByRecursion};
 ghost use Rattle.model.specs.FiniteMap.{empty, get, insert};
 ghost use Rattle.model.specs.State.{Directory as A_directory};
 ghost use Rattle.calls.specs.Planned.{IsPlan};
 ghost use Rattle.model.specs.Calls.{Call as Made};
 ghost use Rattle.model.specs.Entries.{Do, Entry as Listed};
-ghost use Rattle.model.specs.Moments.{is_in, start, with_processes};
+ghost use Rattle.model.specs.Moments.{Setup, is_in, start, with_processes};
 ghost use Rattle.freeing_laws.specs.Sweep.{IsTidied};
 ghost use Rattle.model.specs.Passing.{Passes};
+ghost use Rattle.replay.specs.Edits.{EndsWithin};
 ghost use Rattle.replay.specs.Failing.{IsStop};
 ghost use Rattle.replay.specs.Ran.{CannotRun, Follows, Ran, RanAt, StopsHere, StopsIn};
 ghost use Rattle.replay.specs.Ran.{StopsNow};
@@ -20,6 +22,7 @@ ghost use Rattle.replay.specs.Windows.{CanSee, CanSeeAll, CanSeeAny, CanSeeEach,
 ghost use Rattle.replay.specs.declared.audit.Stop.TheVariants.{NoMemory};
 
 use crate::answers::is_reply;
+use crate::beginning::Beginning;
 use crate::inode::Inode;
 use crate::inodes::Inodes;
 use crate::names::Names;
@@ -66,6 +69,8 @@ impl PlainKernel {
             (Ran self.old pid (call_in (Do call.now) reply.now chosen.now) self.new)
             (CannotRun self.old pid (call_in (Do call.now) reply.now chosen.now))) }
     {
+        // For the proof: the largest file of a state is one that can be.
+        let _largest = self.largest;
         let plan = plan_of(heap, self, pid, call, false)?;
         let right = self.step_by(heap, pid, &plan, reply, chosen);
         drop(plan);
@@ -83,6 +88,7 @@ impl PlainKernel {
     ) -> Result<bool, AllocError>
         requires tidied { IsTidied self.old }
         requires executed { is_executed reply.now ≡ true }
+        requires within { AllByRecursion EndsWithin plan.now.edits.items }
         ensures { (call : Made) → IsPlan self.old pid call false plan.now
             → IfOk result (λ right. MatchBool right
             (Ran self.old pid (call_in (Do call) reply.now chosen.now) self.new)
@@ -371,12 +377,12 @@ fn first_inodes(heap: Heap, root: Num) -> Result<Inodes, AllocError>
 
 impl Audit {
     // The empty root, and the first processes, none in a transaction.
-    pub(crate) fn new(heap: Heap, root: Num, priorities: &[Priority]) -> Result<Audit, AllocError>
-        ensures kernel { IfOk result (λ r. r.kernel ≡ start root priorities.now) }
+    pub(crate) fn new(heap: Heap, root: Num, beginning: &Beginning<'_>) -> Result<Audit, AllocError>
+        ensures kernel { IfOk result (λ r. r.kernel ≡ start root beginning.now) }
         ensures transactions { IfOk result (λ r. r.transactions ≡ empty) }
     {
-        let made = small(priorities.len())?;
-        let processes = first_processes(heap, priorities)?;
+        let made = small(beginning.priorities.len())?;
+        let processes = first_processes(heap, beginning.priorities)?;
         match first_inodes(heap, root) {
             Ok(inodes) => Ok(Audit {
                 kernel: PlainKernel {
@@ -385,6 +391,7 @@ impl Audit {
                     descriptions: Table::new(heap),
                     processes,
                     made,
+                    largest: beginning.largest,
                 },
                 transactions: Table::new(heap),
             }),
@@ -409,10 +416,10 @@ impl Audit {
         requires tidied { IsTidied self.old.kernel }
         requires shows { Shows es window.now }
         requires sees { CanSeeAny window.now self.old.transactions }
-        ensures follows { (root : ℕ) (priorities : List ℕ)
-            → Follows root priorities es at self.old.kernel self.old.transactions
-            → MatchResult result (λ _. Follows root priorities es (at + 1)
-            self.new.kernel self.new.transactions) (IsStop root priorities es) }
+        ensures follows { (root : ℕ) (setup : Setup)
+            → Follows root setup es at self.old.kernel self.old.transactions
+            → MatchResult result (λ _. Follows root setup es (at + 1)
+            self.new.kernel self.new.transactions) (IsStop root setup es) }
         ensures sees { OnOk result (CanSeeAny window.now self.new.transactions) }
         ensures tidied { OnOk result (IsTidied self.new.kernel) }
     {
@@ -438,12 +445,12 @@ impl Audit {
         requires tidied { IsTidied self.old.kernel }
         requires shows { Shows es window.now }
         requires sees { CanSeeAny window.now self.old.transactions }
-        ensures follows { (root : ℕ) (priorities : List ℕ)
-            → Follows root priorities es window.now.offset
+        ensures follows { (root : ℕ) (setup : Setup)
+            → Follows root setup es window.now.offset
             self.old.kernel self.old.transactions
             → MatchResult result (λ end. (end ≡ window.now.offset + length window.now.part.now)
-            × Follows root priorities es end self.new.kernel self.new.transactions)
-            (IsStop root priorities es) }
+            × Follows root setup es end self.new.kernel self.new.transactions)
+            (IsStop root setup es) }
         ensures sees { OnOk result (CanSeeAny window.now self.new.transactions) }
     {
         let mut at = window.offset;
@@ -459,13 +466,13 @@ impl Audit {
 pub(crate) fn passes(
     heap: Heap,
     root: Num,
-    priorities: &[Priority],
+    beginning: &Beginning<'_>,
     entries: &[Entry],
 ) -> Result<(), Stop>
-    ensures { MatchResult result (λ _. Passes root priorities.now entries.now)
-        (IsStop root priorities.now entries.now) }
+    ensures { MatchResult result (λ _. Passes root beginning.now entries.now)
+        (IsStop root beginning.now entries.now) }
 {
-    let mut audit = Audit::new(heap, root, priorities)?;
+    let mut audit = Audit::new(heap, root, beginning)?;
     let kept = Tree::new(heap);
     let window = Window {
         part: entries,

@@ -1,8 +1,10 @@
 // The check of a history that comes in parts.
-ghost use Rattle.std.specs.Prelude.{◌≡◌, ◌≢◌, ◌<◌, ◌++◌, ℕ, List, [], length, None, Some, IfOk, IfErr, OnOk};
+ghost use Rattle.std.specs.Prelude.{◌≡◌, ◌≢◌, ◌<◌, ◌≤◌, ◌++◌, ℕ, List, [], length, None, Some, IfOk, IfErr, OnOk};
 ghost use Rattle.std.specs.List.{AllByRecursion};
 ghost use Rattle.model.specs.Entries.{Entry as Listed};
+ghost use Rattle.ids.specs.declared.limits.TheConstants.{DEFAULT_LARGEST_FILE, LARGEST_FILE};
 ghost use Rattle.model.specs.FiniteMap.{get};
+ghost use Rattle.model.specs.Moments.{Setup};
 ghost use Rattle.model.specs.Passing.{Passes};
 ghost use Rattle.replay.specs.Added.{so_far};
 ghost use Rattle.replay.specs.Checked.{AreHeld, AreThere, Grows, HasChecked, IsFaultFor};
@@ -12,13 +14,14 @@ ghost use Rattle.replay.specs.Windows.{CanKeep, CanKeepAll, CanSee, Shows};
 
 use crate::added::Added;
 use crate::audit::{Audit, Stop};
+use crate::beginning::Beginning;
 use crate::checking::CheckFault;
 use crate::table::Table;
 use crate::transaction::Transaction;
 use crate::tree::Tree;
 use crate::window::Window;
 use heap::Heap;
-use ids::{Entry, Num, Priority};
+use ids::{DEFAULT_LARGEST_FILE, Entry, Num, Priority};
 use std::alloc::AllocError;
 use std::marker::Model;
 
@@ -74,17 +77,42 @@ impl Model for Checker {
 }
 
 impl Checker {
-    /// No entry so far, of a kernel whose root has this number and whose first processes have these
-    /// priorities. Refused memory gives nothing.
+    /// No entry so far, of a kernel whose root has this number, whose first processes have these
+    /// priorities, and whose files have at most [`ids::DEFAULT_LARGEST_FILE`] bytes. Refused memory
+    /// gives nothing.
     pub fn new(heap: Heap, root: Num, priorities: &[Priority]) -> Result<Checker, AllocError>
-        ensures { IfOk result (λ checker.
-            checker ≡ record { root = root; priorities = priorities.now; entries = [] }) }
+        ensures { IfOk result (λ checker. checker ≡ record {
+          root = root;
+          setup = record { priorities = priorities.now; largest = DEFAULT_LARGEST_FILE };
+          entries = [];
+        }) }
     {
-        let audit = Audit::new(heap, root, priorities)?;
+        Checker::with_largest_file(heap, root, priorities, DEFAULT_LARGEST_FILE)
+    }
+
+    /// The same of a kernel whose files have at most `largest` bytes.
+    pub fn with_largest_file(
+        heap: Heap,
+        root: Num,
+        priorities: &[Priority],
+        largest: u32,
+    ) -> Result<Checker, AllocError>
+        requires { largest ≤ LARGEST_FILE }
+        ensures { IfOk result (λ checker. checker ≡ record {
+          root = root;
+          setup = record { priorities = priorities.now; largest = largest };
+          entries = [];
+        }) }
+    {
+        let beginning = Beginning {
+            priorities,
+            largest,
+        };
+        let audit = Audit::new(heap, root, &beginning)?;
         Ok(Checker {
             heap,
             root,
-            added: Added::of(priorities),
+            added: Added::of(&beginning),
             reached: Reached {
                 count: 0,
                 audit,
@@ -99,9 +127,9 @@ impl Checker {
     pub fn add(self, entries: &[Entry]) -> Result<Checker, CheckFault>
         ensures ok { IfOk result (λ checker. checker ≡ with_more self entries.now) }
         ensures passes { OnOk result (Passes
-            self.root self.priorities (self.entries ++ entries.now)) }
+            self.root self.setup (self.entries ++ entries.now)) }
         ensures wrong { IfErr result (IsFaultFor
-            self.root self.priorities (self.entries ++ entries.now)) }
+            self.root self.setup (self.entries ++ entries.now)) }
     {
         let Checker {
             heap,
@@ -126,9 +154,9 @@ fn follow_and_note(
     requires checked { HasChecked reached before }
     ensures ok { IfOk result (λ checker. checker ≡ with_more before entries.now) }
     ensures passes { OnOk result (Passes
-        before.root before.priorities (before.entries ++ entries.now)) }
+        before.root before.setup (before.entries ++ entries.now)) }
     ensures wrong { IfErr result (IsFaultFor
-        before.root before.priorities (before.entries ++ entries.now)) }
+        before.root before.setup (before.entries ++ entries.now)) }
 {
     let reached = reached.follow(heap, entries)?;
     added.add(entries);
@@ -147,9 +175,9 @@ impl Reached {
         requires { HasChecked self before }
         ensures ok { IfOk result (λ reached. HasChecked reached (with_more before entries.now)) }
         ensures passes { OnOk result (Passes
-            before.root before.priorities (before.entries ++ entries.now)) }
+            before.root before.setup (before.entries ++ entries.now)) }
         ensures wrong { IfErr result (IsFaultFor
-            before.root before.priorities (before.entries ++ entries.now)) }
+            before.root before.setup (before.entries ++ entries.now)) }
     {
         let Reached { count, audit, kept } = self;
         let later = follow_part(heap, count, audit, &kept, entries);
@@ -170,9 +198,9 @@ fn follow_part(
     requires { HasChecked (record { count = count; audit = audit; kept = kept.now }) before }
     ensures ok { IfOk result (λ reached. HasChecked reached (with_more before entries.now)) }
     ensures passes { OnOk result (Passes
-        before.root before.priorities (before.entries ++ entries.now)) }
+        before.root before.setup (before.entries ++ entries.now)) }
     ensures wrong { IfErr result (IsFaultFor
-        before.root before.priorities (before.entries ++ entries.now)) }
+        before.root before.setup (before.entries ++ entries.now)) }
 {
     let window = Window {
         part: entries,
@@ -200,8 +228,8 @@ fn follow_part(
 
 // What a stop is for the caller, who counts places from 1.
 fn fault_of(stop: Stop) -> CheckFault
-    ensures { (root : ℕ) (priorities : List ℕ) (es : List Listed)
-        → IsStop root priorities es stop → IsFaultFor root priorities es result }
+    ensures { (root : ℕ) (setup : Setup) (es : List Listed)
+        → IsStop root setup es stop → IsFaultFor root setup es result }
 {
     match stop {
         Stop::Wrong(_, place) => match place.checked_add(1) {

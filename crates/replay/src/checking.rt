@@ -6,10 +6,11 @@ ghost use Rattle.replay.specs.Failing.{IsTold, IsUnchosen};
 ghost use Rattle.replay.specs.Faults.{IsFault};
 
 use crate::audit::{Stop, passes};
+use crate::beginning::Beginning;
 use crate::root::{first_unchosen, told_root};
 use heap::Heap;
 use history::History;
-use ids::{Entry, Num, Priority};
+use ids::{Entry, Num};
 
 /// Why a history does not pass, or is not decided.
 #[derive(Clone, Copy, Debug, PartialEq, Eq)]
@@ -28,13 +29,20 @@ pub enum CheckFault {
 /// place of the first entry up to which the history passes for no root, or, where that entry commits
 /// a transaction, of its first call up to which it cannot be run.
 pub fn check(heap: Heap, history: &History) -> Result<(), CheckFault>
-    ensures ok { OnOk result (PassesForSome history.now.priorities (kept history.now)) }
-    ensures wrong { IfErr result (IsFault history.now.priorities (kept history.now)) }
+    ensures ok { OnOk result (PassesForSome
+        (record { priorities = history.now.priorities; largest = history.now.largest })
+        (kept history.now)) }
+    ensures wrong { IfErr result (IsFault
+        (record { priorities = history.now.priorities; largest = history.now.largest })
+        (kept history.now)) }
 {
     let entries = history.entries();
-    let priorities = history.priorities();
+    let beginning = Beginning {
+        priorities: history.priorities(),
+        largest: history.largest_file(),
+    };
     match first_unchosen(heap, entries) {
-        Ok(guess) => check_from(heap, guess, priorities, entries),
+        Ok(guess) => check_from(heap, guess, &beginning, entries),
         Err(_) => Err(CheckFault::NoMemory),
     }
 }
@@ -43,17 +51,17 @@ pub fn check(heap: Heap, history: &History) -> Result<(), CheckFault>
 fn check_from(
     heap: Heap,
     guess: Num,
-    priorities: &[Priority],
+    beginning: &Beginning<'_>,
     entries: &[Entry],
 ) -> Result<(), CheckFault>
     requires { IsUnchosen guess entries.now }
-    ensures ok { OnOk result (PassesForSome priorities.now entries.now) }
-    ensures wrong { IfErr result (IsFault priorities.now entries.now) }
+    ensures ok { OnOk result (PassesForSome beginning.now entries.now) }
+    ensures wrong { IfErr result (IsFault beginning.now entries.now) }
 {
-    match passes(heap, guess, priorities, entries) {
+    match passes(heap, guess, beginning, entries) {
         Ok(()) => Ok(()),
         Err(Stop::Wrong(entry, place)) => match told_root(entries, place) {
-            Some(root) => check_told(heap, root, priorities, entries, (entry, place)),
+            Some(root) => check_told(heap, root, beginning, entries, (entry, place)),
             None => Err(CheckFault::Wrong(place + 1)),
         },
         Err(Stop::NoMemory) => Err(CheckFault::NoMemory),
@@ -64,15 +72,15 @@ fn check_from(
 fn check_told(
     heap: Heap,
     root: Num,
-    priorities: &[Priority],
+    beginning: &Beginning<'_>,
     entries: &[Entry],
     first: (usize, usize),
 ) -> Result<(), CheckFault>
-    requires { IsTold priorities.now entries.now root first.0 first.1 }
-    ensures ok { OnOk result (PassesForSome priorities.now entries.now) }
-    ensures wrong { IfErr result (IsFault priorities.now entries.now) }
+    requires { IsTold beginning.now entries.now root first.0 first.1 }
+    ensures ok { OnOk result (PassesForSome beginning.now entries.now) }
+    ensures wrong { IfErr result (IsFault beginning.now entries.now) }
 {
-    match passes(heap, root, priorities, entries) {
+    match passes(heap, root, beginning, entries) {
         Ok(()) => Ok(()),
         Err(Stop::Wrong(entry, place)) => {
             let later = (entry, place).max(first);

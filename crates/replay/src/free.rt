@@ -1,10 +1,12 @@
 // What a call's edits let go is freed at once.
 ghost use Rattle.std.specs.Prelude.{◌≡◌, ◌++◌, IfOk, OnOk, map, option_copied};
+ghost use Rattle.std.specs.List.{AllByRecursion};
 ghost use Rattle.model.specs.FiniteMap.{get, remove, values};
 ghost use Rattle.model.specs.Changes.{inode_replaced, or_new, process_of};
 ghost use Rattle.freeing_laws.specs.Counts.{free_description, free_inode, let_go, listed, unnamed};
 ghost use Rattle.freeing_laws.specs.Sweep.{all_freed, freed, free_descriptions, free_inodes};
 ghost use Rattle.freeing_laws.specs.Sweep.{inodes_of, inode_in};
+ghost use Rattle.replay.specs.Edits.{EndsWithin};
 
 use crate::plain::{Description, PlainKernel, Process, place_of};
 use heap::Heap;
@@ -87,6 +89,7 @@ impl PlainKernel {
 
     // One edit, and what it lets go is freed.
     fn edit(&mut self, heap: Heap, edit: &Edit, chosen: &[Num]) -> Result<(), AllocError>
+        requires { EndsWithin edit.now }
         ensures { OnOk result (self.new ≡ freed chosen.now edit.now self.old) }
     {
         let gone = self.let_go(heap, edit)?;
@@ -103,7 +106,8 @@ impl PlainKernel {
         chosen: &[Num],
         gone: &[Num],
     ) -> Result<(), AllocError>
-        requires { gone.now ≡ let_go self.old edit.now }
+        requires gone { gone.now ≡ let_go self.old edit.now }
+        requires within { EndsWithin edit.now }
         ensures { OnOk result (self.new ≡ freed chosen.now edit.now self.old) }
     {
         let inodes = self.with_inodes_of(unnamed(heap, edit)?, gone)?;
@@ -128,6 +132,7 @@ impl PlainKernel {
         edits: &[Edit],
         chosen: &[Num],
     ) -> Result<(), AllocError>
+        requires { AllByRecursion EndsWithin edits.now }
         ensures { OnOk result (self.new ≡ all_freed chosen.now edits.now self.old) }
     {
         for edit in edits {

@@ -1,5 +1,7 @@
 // An inode of the plain kernel.
-ghost use Rattle.std.specs.Prelude.{◌≡◌, ℕ, ◌-◌, option_copied, IfOk};
+ghost use Rattle.std.specs.Prelude.{◌≡◌, ℕ, ◌+◌, ◌-◌, ◌<◌, ◌≤◌, ◌^◌, option_copied, IfOk};
+ghost use Rattle.std.specs.Prelude.{drop, length, take};
+ghost use Rattle.objects.specs.declared.run.TheConstants.{LARGEST_RUN};
 ghost use Rattle.model.specs.FiniteMap.{get, keys};
 ghost use Rattle.model.specs.Paths.{is_empty};
 ghost use Rattle.model.specs.State.{Inode, File as A_file, Directory as A_directory, mapped};
@@ -12,14 +14,15 @@ use crate::names::Names;
 use crate::tree::Tree;
 use heap::Heap;
 use ids::{Bytes, Kind, Name, NameList, Num};
+use objects::FileData;
 use std::alloc::AllocError;
 use std::marker::Model;
 
 /// What stands in an inode.
 #[derive(Drop)]
 pub(crate) enum Content {
-    /// A file's bytes.
-    File(Bytes),
+    /// A file's bytes, in pieces.
+    File(FileData),
     /// A directory's names.
     Directory(Names),
     /// A pipe's bytes, oldest first.
@@ -44,11 +47,11 @@ impl Model for Inode {
 
 impl Inode {
     // A file of these bytes.
-    pub(crate) fn file(bytes: Bytes) -> Inode
-        ensures { result ≡ A_file bytes }
+    pub(crate) fn file(stored: FileData) -> Inode
+        ensures { result ≡ A_file stored.bytes }
     {
         Inode {
-            content: Content::File(bytes),
+            content: Content::File(stored),
         }
     }
 
@@ -125,18 +128,51 @@ pub(crate) fn is_empty_in(inode: Option<&Inode>) -> bool
     }
 }
 
-// The bytes of a file.
-pub(crate) fn file_in(inode: Option<&Inode>) -> &[u8]
-    ensures { result.now ≡ file_of_inode (option_copied inode.entry) }
+// How many bytes a file has.
+pub(crate) fn size_in(inode: Option<&Inode>) -> u32
+    ensures { result ≡ length (file_of_inode (option_copied inode.entry)) }
 {
     match inode {
         Some(inode) => match &inode.content {
-            Content::File(bytes) => bytes.as_slice(),
-            Content::Directory(_) => &[],
-            Content::Pipe(_) => &[],
+            Content::File(stored) => stored.len() as u32,
+            Content::Directory(_) => 0,
+            Content::Pipe(_) => 0,
         },
-        None => &[],
+        None => 0,
     }
+}
+
+// At most `count` bytes of a file, behind the first `skipped` ones. They end below 2^32.
+pub(crate) fn read_in(
+    heap: Heap,
+    inode: Option<&Inode>,
+    skipped: u32,
+    count: u32,
+) -> Result<Bytes, AllocError>
+    requires { count ≤ LARGEST_RUN }
+    ensures value { IfOk result
+        (λ bytes. bytes ≡ take count (drop skipped (file_of_inode (option_copied inode.entry)))) }
+    ensures small { IfOk result (λ bytes. skipped + length bytes < 2 ^ 32) }
+{
+    match inode {
+        Some(inode) => match &inode.content {
+            Content::File(stored) => read(heap, stored, skipped, count),
+            Content::Directory(_) => Ok(no_bytes(heap)),
+            Content::Pipe(_) => Ok(no_bytes(heap)),
+        },
+        None => Ok(no_bytes(heap)),
+    }
+}
+
+// The same of what a file has.
+fn read(heap: Heap, stored: &FileData, skipped: u32, count: u32) -> Result<Bytes, AllocError>
+    requires { count ≤ LARGEST_RUN }
+    ensures value { IfOk result (λ bytes. bytes ≡ take count (drop skipped stored.now.bytes)) }
+    ensures small { IfOk result (λ bytes. skipped + length bytes < 2 ^ 32) }
+{
+    // For the proof: the file ends below 2^32.
+    let _len = stored.len();
+    stored.read_at(heap, skipped as usize, count as usize)
 }
 
 // The bytes of a pipe.
@@ -168,16 +204,16 @@ pub(crate) fn names_out(heap: Heap, inode: Option<Inode>) -> Names
 }
 
 // The bytes of a file, as its own.
-pub(crate) fn file_out(heap: Heap, inode: Option<Inode>) -> Bytes
-    ensures { result ≡ file_of_inode inode }
+pub(crate) fn file_out(heap: Heap, inode: Option<Inode>) -> FileData
+    ensures { result.bytes ≡ file_of_inode inode }
 {
     match inode {
         Some(Inode { content }) => match content {
-            Content::File(bytes) => bytes,
-            Content::Directory(_) => no_bytes(heap),
-            Content::Pipe(_) => no_bytes(heap),
+            Content::File(stored) => stored,
+            Content::Directory(_) => FileData::new(heap),
+            Content::Pipe(_) => FileData::new(heap),
         },
-        None => no_bytes(heap),
+        None => FileData::new(heap),
     }
 }
 

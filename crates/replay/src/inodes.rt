@@ -6,13 +6,13 @@ ghost use Rattle.model.specs.FiniteMap as map;
 ghost use Rattle.model.specs.State.{File as A_file, Directory as A_directory, names_of_inode};
 ghost use Rattle.replay.specs.Counts.{count_at, given_by_all, given_once};
 
-use crate::bytes::no_bytes;
 use crate::inode::{Inode, lose_all, names_out};
 use crate::names::Names;
 use crate::plain::counted;
 use crate::tree::Tree;
 use heap::Heap;
 use ids::{Name, Num};
+use objects::FileData;
 use std::alloc::AllocError;
 use std::marker::Model;
 
@@ -152,7 +152,7 @@ fn names_taken(each: &mut Tree<Inode>, heap: Heap, dir: Num) -> Result<Names, Al
     ensures left { OnOk result (each.new ≡ map.insert each.old dir (A_file [])) }
     ensures taken { IfOk result (λ names. names ≡ names_of_inode (map.get each.old dir)) }
 {
-    let inode = each.insert(dir, Inode::file(no_bytes(heap)))?;
+    let inode = each.insert(dir, Inode::file(FileData::new(heap)))?;
     Ok(names_out(heap, inode))
 }
 

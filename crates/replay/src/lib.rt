@@ -9,6 +9,7 @@ mod added;
 mod answers;
 mod apply;
 mod audit;
+mod beginning;
 mod bytes;
 mod checker;
 mod checking;

@@ -10,7 +10,7 @@ ghost use Rattle.model.specs.Moments.{is_alive};
 ghost use Rattle.replay.specs.Counts.{given_by, held_by, is_open, ended_by};
 
 use crate::bytes::part;
-use crate::inode::{file_in, given_in, is_empty_in, kind_in, names_in, pipe_in};
+use crate::inode::{given_in, is_empty_in, kind_in, names_in, pipe_in, read_in, size_in};
 use crate::inodes::Inodes;
 use crate::table::Table;
 use heap::Heap;
@@ -85,6 +85,7 @@ pub(crate) struct PlainKernel {
     pub(crate) descriptions: Table<Description>,
     pub(crate) processes: Table<Process>,
     pub(crate) made: u32,
+    pub(crate) largest: u32,
 }
 
 // By hand: a derived drop is opened at every place where a value goes, this one is called.
@@ -96,11 +97,14 @@ impl Drop for PlainKernel {
             descriptions: _,
             processes: _,
             made: _,
+            largest: _,
         } = self;
     }
 }
 
 impl Model for PlainKernel {
+    ghost use Rattle.std.specs.Prelude.{◌≤◌};
+    ghost use Rattle.ids.specs.declared.limits.TheConstants.{LARGEST_FILE};
     ghost use Rattle.model.specs.State.{Kernel};
 
     ghost Value = { Kernel };
@@ -111,7 +115,10 @@ impl Model for PlainKernel {
       descriptions = k.descriptions;
       processes = k.processes;
       made = k.made;
+      largest = k.largest;
     } };
+
+    ghost invariant = { λ k. k.largest ≤ LARGEST_FILE };
 }
 
 // A process has the place of its number.
@@ -282,6 +289,10 @@ impl Look for PlainKernel {
         self.root
     }
 
+    fn largest(&self) -> u32 {
+        self.largest
+    }
+
     fn find(&self, dir: Num, name: &Name) -> Option<(Num, Option<Kind>)> {
         match given_in(self.inodes.get(dir), name) {
             Some(num) => Some((num, kind_in(self.inodes.get(num)))),
@@ -298,7 +309,7 @@ impl Look for PlainKernel {
     }
 
     fn size(&self, file: Num) -> Result<u32, AllocError> {
-        small(file_in(self.inodes.get(file)).len())
+        Ok(size_in(self.inodes.get(file)))
     }
 
     fn read_file(
@@ -308,9 +319,7 @@ impl Look for PlainKernel {
         place: u32,
         count: u32,
     ) -> Result<Bytes, AllocError> {
-        let bytes = file_in(self.inodes.get(file));
-        small(bytes.len())?;
-        Bytes::copy(heap, part(bytes, place as usize, count as usize))
+        read_in(heap, self.inodes.get(file), place, count)
     }
 
     fn links(&self, file: Num) -> Result<u32, AllocError> {

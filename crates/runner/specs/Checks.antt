@@ -4,6 +4,7 @@ use Rattle.std.specs.Prelude.{◌≡◌, ℕ, Bool, true, false, List, Option, c
 use Rattle.std.specs.Io.KnownBytes.{append_known}
 use Rattle.device.specs.Device.{IsPart}
 use Rattle.history.specs.Log.{Log}
+use Rattle.machine.specs.Shown.{setup_of}
 use Rattle.model.specs.Passing.{PassesForSome}
 use Rattle.replay.specs.Faults.{IsFault}
 use Rattle.replay.specs.declared.checking.CheckFault.TheVariants.{Wrong}
@@ -18,14 +19,14 @@ passed = codes "check: ok\n"
 abbrev pub IsChecked : Bool → Log → (old new : Option (List ℕ)) → Type 0
 IsChecked false log old new = new ≡ old
 IsChecked true log old new =
-    PassesForSome log.priorities log.entries × (new ≡ append_known old passed)
+    PassesForSome (setup_of log) log.entries × (new ≡ append_known old passed)
 
 -- Why a check did not end so: an entry is wrong, memory was refused, or the sink has failed while
 -- it was told that the history passes.
 abbrev pub NotChecked : Log → (old new : Option (List ℕ)) (failed : Type 0) → RunFault → Type 0
 NotChecked log old new failed (Check place) =
-    IsFault log.priorities log.entries (Wrong place) × (new ≡ old)
+    IsFault (setup_of log) log.entries (Wrong place) × (new ≡ old)
 NotChecked log old new failed NoMemory = new ≡ old
 NotChecked log old new failed Write =
-    PassesForSome log.priorities log.entries × IsPart old new passed × failed
+    PassesForSome (setup_of log) log.entries × IsPart old new passed × failed
 NotChecked log old new failed _ = ⊥

@@ -1,6 +1,7 @@
 -- How the program's job ends. `given` and `left` are what the source has to give before and after,
 -- `old` and `new` what the sink holds.
 use Rattle.std.specs.Prelude.{◌≡◌, ◌⊎◌, ℕ, true, List, Option, string_bytes}
+use Rattle.ids.specs.declared.limits.Limits.{Limits}
 use Rattle.machine.specs.Shown.{Shown}
 use Rattle.words.specs.declared.Job.{Job}
 use Rattle.words.specs.declared.Way.{Way}
@@ -12,19 +13,23 @@ use Rattle.runner.specs.Threads.{RanByThreads, EndedByThreads}
 use Rattle.runner.specs.declared.fault.RunFault.{RunFault}
 use Rattle.runner.specs.declared.fault.RunFault.TheVariants.{Read, Write, Check}
 
+-- the limits that a job gives its kernel
+abbrev pub limits_for : Job → Limits
+limits_for job = record { entries = job.limit; file_bytes = job.file_limit }
+
 -- The script was run in this way, and its transcript is written behind what stood there before.
-abbrev pub HasRun : Way → ℕ → (given left old new : Option (List ℕ)) → Shown → Type 0
-HasRun (way.Schedule list) limit given left old new kernel =
-    Ran (string_bytes list) limit given left old new kernel
-HasRun way.Threads limit given left old new kernel =
-    RanByThreads limit given left old new kernel
+abbrev pub HasRun : Way → Limits → (given left old new : Option (List ℕ)) → Shown → Type 0
+HasRun (way.Schedule list) limits given left old new kernel =
+    Ran (string_bytes list) limits given left old new kernel
+HasRun way.Threads limits given left old new kernel =
+    RanByThreads limits given left old new kernel
 
 -- A fault has ended the run in this way.
-abbrev pub HasEnded : Way → ℕ → (given left old new : Option (List ℕ)) → RunFault → Type 0
-HasEnded (way.Schedule list) limit given left old new fault =
-    Ended (string_bytes list) limit given left old new fault
-HasEnded way.Threads limit given left old new fault =
-    EndedByThreads limit given left old new fault
+abbrev pub HasEnded : Way → Limits → (given left old new : Option (List ℕ)) → RunFault → Type 0
+HasEnded (way.Schedule list) limits given left old new fault =
+    Ended (string_bytes list) limits given left old new fault
+HasEnded way.Threads limits given left old new fault =
+    EndedByThreads limits given left old new fault
 
 -- The run was done, with its transcript in `mid`. Behind it stands that the history passes the
 -- check, if one was to be made. The status is 0.
@@ -33,7 +38,7 @@ pub record IsDone
     : Type 0 where
   pub kernel : Shown
   pub mid : Option (List ℕ)
-  pub ran : HasRun job.way job.limit given left old mid kernel
+  pub ran : HasRun job.way (limits_for job) given left old mid kernel
   pub checked : IsChecked job.check kernel.log mid new
   pub success : status ≡ 0
 
@@ -44,7 +49,7 @@ pub record CheckEnded
     : Type 0 where
   pub kernel : Shown
   pub mid : Option (List ℕ)
-  pub ran : HasRun job.way job.limit given left old mid kernel
+  pub ran : HasRun job.way (limits_for job) given left old mid kernel
   pub wanted : job.check ≡ true
   pub fails : NotChecked kernel.log mid new write_failed fault
   pub passes : (place : ℕ) → fault ≡ Check place → ⊥
@@ -56,7 +61,7 @@ pub record IsFaulted
     (status : ℕ)
     : Type 0 where
   pub fault : RunFault
-  pub ended : HasEnded job.way job.limit given left old new fault
+  pub ended : HasEnded job.way (limits_for job) given left old new fault
       ⊎ CheckEnded job given left old new write_failed fault
   pub read : fault ≡ Read → read_failed
   pub write : fault ≡ Write → write_failed

@@ -2,6 +2,7 @@
 -- before and after, `old` and `new` what the sink holds.
 use Rattle.std.specs.Prelude.{◌≡◌, ℕ, List, Option, Ok, Err, ◌⊎◌}
 use Rattle.std.specs.Io.KnownBytes.{append_known}
+use Rattle.ids.specs.declared.limits.Limits.{Limits}
 use Rattle.machine.specs.Shown.{Shown}
 use Rattle.script.specs.Schedules.{schedule_of}
 use Rattle.script.specs.Contents.{ScriptContents}
@@ -32,32 +33,32 @@ pub record GivesBoth
 
 -- All steps are done, and their transcript is written behind what stood there before.
 pub record Ran
-    (list : List ℕ) (limit : ℕ) (given left old new : Option (List ℕ)) (kernel : Shown)
+    (list : List ℕ) (limits : Limits) (given left old new : Option (List ℕ)) (kernel : Shown)
     : Type 0 where
   pub script : ScriptContents
   pub pids : List ℕ
   pub read : GivesBoth given left list script pids
-  pub done : HasDone script.priorities limit (steps script.lines pids) kernel
+  pub done : HasDone script.priorities limits (steps script.lines pids) kernel
   pub written : new ≡ append_known old (transcript kernel.log.entries)
 
 -- The fault has come in the steps.
 pub record RanTo
-    (fault : RunFault) (list : List ℕ) (limit : ℕ) (given left old new : Option (List ℕ))
+    (fault : RunFault) (list : List ℕ) (limits : Limits) (given left old new : Option (List ℕ))
     : Type 0 where
   pub script : ScriptContents
   pub pids : List ℕ
   pub read : GivesBoth given left list script pids
-  pub stops : Stops fault script.priorities limit (steps script.lines pids) old new
+  pub stops : Stops fault script.priorities limits (steps script.lines pids) old new
 
 -- What was read and written where a fault has come. Memory may be refused before any step too, and
 -- then nothing was written. A run does not check its history.
-abbrev pub Ended : List ℕ → ℕ → (given left old new : Option (List ℕ)) → RunFault → Type 0
-Ended list limit given left old new (Script fault) = GivesFault given left fault × (new ≡ old)
-Ended list limit given left old new (Schedule fault) =
+abbrev pub Ended : List ℕ → Limits → (given left old new : Option (List ℕ)) → RunFault → Type 0
+Ended list limits given left old new (Script fault) = GivesFault given left fault × (new ≡ old)
+Ended list limits given left old new (Schedule fault) =
     GivesNoSchedule given left list fault × (new ≡ old)
-Ended list limit given left old new Read = new ≡ old
-Ended list limit given left old new Write = RanTo Write list limit given left old new
-Ended list limit given left old new HistoryFull = RanTo HistoryFull list limit given left old new
-Ended list limit given left old new NoMemory =
-    (new ≡ old) ⊎ RanTo NoMemory list limit given left old new
-Ended list limit given left old new (Check place) = ⊥
+Ended list limits given left old new Read = new ≡ old
+Ended list limits given left old new Write = RanTo Write list limits given left old new
+Ended list limits given left old new HistoryFull = RanTo HistoryFull list limits given left old new
+Ended list limits given left old new NoMemory =
+    (new ≡ old) ⊎ RanTo NoMemory list limits given left old new
+Ended list limits given left old new (Check place) = ⊥

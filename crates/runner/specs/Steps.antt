@@ -5,6 +5,7 @@ use Rattle.std.specs.Io.KnownBytes.{append_known}
 use Rattle.device.specs.Device.{IsPart}
 use Rattle.ids.specs.declared.call.Op.{Op}
 use Rattle.ids.specs.declared.entry.Entry.{Entry}
+use Rattle.ids.specs.declared.limits.Limits.{Limits}
 use Rattle.machine.specs.Shown.{Shown, Kept, moment}
 use Rattle.history.specs.Log.{Log}
 use Rattle.machine.specs.Steps.{Added, has_place}
@@ -21,14 +22,19 @@ use Rattle.runner.specs.declared.fault.RunFault.TheVariants.{Write, HistoryFull,
 abbrev pub operations : List Entry → List (ℕ × Op)
 operations entries = map (λ e. (e.pid, e.op)) entries
 
--- A kernel with these priorities and this limit has a legal history, of which nothing was
+-- the limits of a history's kernel
+abbrev pub limits_of : Log → Limits
+limits_of log = record { entries = log.limit; file_bytes = log.largest }
+
+-- A kernel with these priorities and these limits has a legal history, of which nothing was
 -- forgotten, and its operations are these steps.
 pub record HasDone
-    (priorities : List ℕ) (limit : ℕ) (steps : List (ℕ × Op)) (kernel : Shown)
+    (priorities : List ℕ) (limits : Limits) (steps : List (ℕ × Op)) (kernel : Shown)
     : Type 0 where
   pub kept : Kept kernel
   pub same_priorities : kernel.log.priorities ≡ priorities
-  pub same_limit : kernel.log.limit ≡ limit
+  pub same_limit : kernel.log.limit ≡ limits.entries
+  pub same_largest : kernel.log.largest ≡ limits.file_bytes
   pub whole : kernel.log.forgotten ≡ []
   pub done : operations kernel.log.entries ≡ steps
 
@@ -46,10 +52,10 @@ Refused log pid op refusal.NoMemory =
 
 -- The first `count` steps are done, and the next one was refused.
 pub record Halted
-    (refusal : Refusal) (priorities : List ℕ) (limit : ℕ) (steps : List (ℕ × Op)) (kernel : Shown)
+    (refusal : Refusal) (priorities : List ℕ) (limits : Limits) (steps : List (ℕ × Op)) (kernel : Shown)
     : Type 0 where
   pub count : ℕ
-  pub done : HasDone priorities limit (take count steps) kernel
+  pub done : HasDone priorities limits (take count steps) kernel
   pub pid : ℕ
   pub op : Op
   pub next : slice_get steps count ≡ Some (pid, op)
@@ -58,28 +64,28 @@ pub record Halted
 -- A step was refused, and the transcript of those before it is written behind what stood there
 -- before.
 pub record StopsBefore
-    (refusal : Refusal) (priorities : List ℕ) (limit : ℕ) (steps : List (ℕ × Op))
+    (refusal : Refusal) (priorities : List ℕ) (limits : Limits) (steps : List (ℕ × Op))
     (old new : Option (List ℕ))
     : Type 0 where
   pub kernel : Shown
-  pub halted : Halted refusal priorities limit steps kernel
+  pub halted : Halted refusal priorities limits steps kernel
   pub written : new ≡ append_known old (transcript kernel.log.entries)
 
 -- The first `count` steps are done, and of their transcript a beginning is written.
 pub record StopsWriting
-    (priorities : List ℕ) (limit : ℕ) (steps : List (ℕ × Op)) (old new : Option (List ℕ))
+    (priorities : List ℕ) (limits : Limits) (steps : List (ℕ × Op)) (old new : Option (List ℕ))
     : Type 0 where
   pub count : ℕ
   pub kernel : Shown
-  pub done : HasDone priorities limit (take count steps) kernel
+  pub done : HasDone priorities limits (take count steps) kernel
   pub part : IsPart old new (transcript kernel.log.entries)
 
 -- how far the steps have come where a fault stops them
 abbrev pub Stops :
-    RunFault → List ℕ → ℕ → List (ℕ × Op) → (old new : Option (List ℕ)) → Type 0
-Stops Write priorities limit steps old new = StopsWriting priorities limit steps old new
-Stops HistoryFull priorities limit steps old new =
-    StopsBefore refusal.HistoryFull priorities limit steps old new
-Stops NoMemory priorities limit steps old new =
-    StopsBefore refusal.NoMemory priorities limit steps old new
-Stops _ priorities limit steps old new = ⊥
+    RunFault → List ℕ → Limits → List (ℕ × Op) → (old new : Option (List ℕ)) → Type 0
+Stops Write priorities limits steps old new = StopsWriting priorities limits steps old new
+Stops HistoryFull priorities limits steps old new =
+    StopsBefore refusal.HistoryFull priorities limits steps old new
+Stops NoMemory priorities limits steps old new =
+    StopsBefore refusal.NoMemory priorities limits steps old new
+Stops _ priorities limits steps old new = ⊥

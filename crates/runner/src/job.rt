@@ -2,7 +2,7 @@
 ghost use Rattle.std.specs.Prelude.{◌≡◌, ◌≢◌, ◌⊎◌, ◌<◌, ◌≤◌, IfErr, IfOk, OnOk};
 ghost use Rattle.device.specs.Device.{CanCount};
 ghost use Rattle.runner.specs.Faults.{status_of};
-ghost use Rattle.runner.specs.Jobs.{HasEnded, HasRun, IsDone, IsFaulted};
+ghost use Rattle.runner.specs.Jobs.{HasEnded, HasRun, IsDone, IsFaulted, limits_for};
 
 use crate::RunFault;
 use crate::checking::check_if;
@@ -11,11 +11,12 @@ use crate::run::run_schedule;
 use crate::threads::run_script_by_threads;
 use device::{Sink, Source};
 use heap::Heap;
+use ids::Limits;
 use machine::Machine;
 use replay::legal_histories_have_no_fault;
 use std::sync::Wait;
 use std::thread::Threads;
-use words::{Job, MAX_LIMIT, Way};
+use words::{Job, MAX_FILE_LIMIT, MAX_LIMIT, Way};
 
 // Runs the script of a job in its way.
 fn run_script<K: Machine + Send, R: Threads + Wait + Sync, I: Source, O: Sink>(
@@ -28,10 +29,11 @@ fn run_script<K: Machine + Send, R: Threads + Wait + Sync, I: Source, O: Sink>(
     requires reads { CanCount (I.failures source.old) }
     requires writes { CanCount (O.failures out.old) }
     requires limited { job.now.limit ≤ MAX_LIMIT }
-    ensures ok { IfOk result (λ kernel. HasRun job.now.way job.now.limit
+    requires files { job.now.file_limit ≤ MAX_FILE_LIMIT }
+    ensures ok { IfOk result (λ kernel. HasRun job.now.way (limits_for job.now)
         (I.remaining source.old) (I.remaining source.new)
         (O.written out.old) (O.written out.new) (K.shown kernel)) }
-    ensures fault { IfErr result (HasEnded job.now.way job.now.limit
+    ensures fault { IfErr result (HasEnded job.now.way (limits_for job.now)
         (I.remaining source.old) (I.remaining source.new)
         (O.written out.old) (O.written out.new)) }
     ensures read { result ≡ Err RunFault.Read → I.failures source.old < I.failures source.new }
@@ -39,9 +41,13 @@ fn run_script<K: Machine + Send, R: Threads + Wait + Sync, I: Source, O: Sink>(
     ensures no_write_failure { result ≢ Err RunFault.Write
         → O.failures out.new ≡ O.failures out.old }
 {
+    let limits = Limits {
+        entries: job.limit as usize,
+        file_bytes: job.file_limit,
+    };
     match &job.way {
-        Way::Schedule(list) => run_schedule(heap, source, list.as_str(), job.limit as usize, out),
-        Way::Threads => run_script_by_threads(rt, heap, source, job.limit as usize, out),
+        Way::Schedule(list) => run_schedule(heap, source, list.as_str(), limits, out),
+        Way::Threads => run_script_by_threads(rt, heap, source, limits, out),
     }
 }
 
@@ -56,6 +62,7 @@ fn do_job<K: Machine + Send, R: Threads + Wait + Sync, I: Source, O: Sink>(
     requires reads { CanCount (I.failures source.old) }
     requires writes { CanCount (O.failures out.old) }
     requires limited { job.now.limit ≤ MAX_LIMIT }
+    requires files { job.now.file_limit ≤ MAX_FILE_LIMIT }
     ensures done { OnOk result (IsDone job.now
         (I.remaining source.old) (I.remaining source.new)
         (O.written out.old) (O.written out.new) 0) }
@@ -93,6 +100,7 @@ pub fn run_job<K: Machine + Send, R: Threads + Wait + Sync, I: Source, O: Sink, 
     requires writes { CanCount (O.failures out.old) }
     requires reports { CanCount (E.failures err.old) }
     requires limited { job.now.limit ≤ MAX_LIMIT }
+    requires files { job.now.file_limit ≤ MAX_FILE_LIMIT }
     ensures { IsDone job.now
         (I.remaining source.old) (I.remaining source.new)
         (O.written out.old) (O.written out.new) result

@@ -8,12 +8,13 @@ use crate::reading::script_in;
 use crate::steps::do_steps;
 use device::{Sink, Source};
 use heap::Heap;
+use ids::Limits;
 use machine::Machine;
 use script::{read_schedule, steps_of};
-use words::MAX_LIMIT;
+use words::{MAX_FILE_LIMIT, MAX_LIMIT};
 
 /// Reads a script from `source`, checks `list`, a schedule of it, and executes its steps on a fresh
-/// kernel with this history limit. The transcript is written to `sink` behind the last step. Returns
+/// kernel with these limits. The transcript is written to `sink` behind the last step. Returns
 /// the kernel.
 ///
 /// A `Script` or `Schedule` fault comes before any step, and then nothing was written. `Read` and
@@ -24,16 +25,17 @@ pub fn run_schedule<K: Machine, I: Source, O: Sink>(
     heap: Heap,
     source: &mut I,
     list: &str,
-    limit: usize,
+    limits: Limits,
     sink: &mut O,
 ) -> Result<K, RunFault>
     requires reads { CanCount (I.failures source.old) }
     requires writes { CanCount (O.failures sink.old) }
-    requires limited { limit ≤ MAX_LIMIT }
-    ensures ok { IfOk result (λ kernel. Ran list.now limit
+    requires limited { limits.entries ≤ MAX_LIMIT }
+    requires files { limits.file_bytes ≤ MAX_FILE_LIMIT }
+    ensures ok { IfOk result (λ kernel. Ran list.now limits
         (I.remaining source.old) (I.remaining source.new)
         (O.written sink.old) (O.written sink.new) (K.shown kernel)) }
-    ensures fault { IfErr result (Ended list.now limit
+    ensures fault { IfErr result (Ended list.now limits
         (I.remaining source.old) (I.remaining source.new)
         (O.written sink.old) (O.written sink.new)) }
     ensures read { result ≡ Err RunFault.Read → I.failures source.old < I.failures source.new }
@@ -48,7 +50,7 @@ pub fn run_schedule<K: Machine, I: Source, O: Sink>(
         Ok(pids) => pids,
         Err(fault) => return Err(RunFault::of_schedule(fault)),
     };
-    let Ok(mut kernel) = K::new(heap, script.priorities(), limit) else {
+    let Ok(mut kernel) = K::with_limits(heap, script.priorities(), limits) else {
         return Err(RunFault::NoMemory);
     };
     let Ok(steps) = steps_of(heap, script, &pids) else {

@@ -4,7 +4,7 @@ ghost use Rattle.std.specs.Io.KnownBytes.{append_known};
 ghost use Rattle.device.specs.Device.{CanCount};
 ghost use Rattle.machine.specs.Shown.{Kept};
 ghost use Rattle.transcript.specs.Line.{transcript};
-ghost use Rattle.runner.specs.Steps.{Halted, HasDone, Refused, Stops, Took};
+ghost use Rattle.runner.specs.Steps.{Halted, HasDone, Refused, Stops, Took, limits_of};
 
 use crate::RunFault;
 use crate::printing::print_whole;
@@ -44,10 +44,10 @@ fn make_steps<K: Machine>(kernel: &mut K, steps: Vec<(Pid, Op), Heap>) -> Result
     requires fresh { (K.shown kernel.old).log.entries ≡ [] }
     requires whole { (K.shown kernel.old).log.forgotten ≡ [] }
     ensures done { OnOk result (HasDone
-        (K.shown kernel.old).log.priorities (K.shown kernel.old).log.limit steps.entry.items
+        (K.shown kernel.old).log.priorities (limits_of (K.shown kernel.old).log) steps.entry.items
         (K.shown kernel.new)) }
     ensures refused { IfErr result (λ refusal. Halted refusal
-        (K.shown kernel.old).log.priorities (K.shown kernel.old).log.limit steps.entry.items
+        (K.shown kernel.old).log.priorities (limits_of (K.shown kernel.old).log) steps.entry.items
         (K.shown kernel.new)) }
 {
     for (pid, op) in steps {
@@ -68,12 +68,12 @@ pub(crate) fn do_steps<K: Machine, S: Sink>(
     requires whole { (K.shown kernel.old).log.forgotten ≡ [] }
     requires device { CanCount (S.failures sink.old) }
     ensures done { OnOk result (HasDone
-        (K.shown kernel.old).log.priorities (K.shown kernel.old).log.limit steps.entry.items
+        (K.shown kernel.old).log.priorities (limits_of (K.shown kernel.old).log) steps.entry.items
         (K.shown kernel.new)) }
     ensures written { OnOk result (S.written sink.new
         ≡ append_known (S.written sink.old) (transcript (K.shown kernel.new).log.entries)) }
     ensures fault { IfErr result (λ fault. Stops fault
-        (K.shown kernel.old).log.priorities (K.shown kernel.old).log.limit steps.entry.items
+        (K.shown kernel.old).log.priorities (limits_of (K.shown kernel.old).log) steps.entry.items
         (S.written sink.old) (S.written sink.new)) }
     ensures write { result ≡ Err RunFault.Write → S.failures sink.old < S.failures sink.new }
     ensures no_failure { result ≢ Err RunFault.Write → S.failures sink.new ≡ S.failures sink.old }

@@ -8,13 +8,14 @@ use crate::printing::print_whole;
 use crate::reading::script_in;
 use device::{Sink, Source};
 use heap::Heap;
+use ids::Limits;
 use machine::Machine;
 use ports::run_threads;
 use std::sync::Wait;
 use std::thread::Threads;
-use words::MAX_LIMIT;
+use words::{MAX_FILE_LIMIT, MAX_LIMIT};
 
-/// Reads a script from `source`, and runs it on a fresh kernel with this history limit, with a
+/// Reads a script from `source`, and runs it on a fresh kernel with these limits, with a
 /// thread for each process, children too. After all threads have ended the transcript is written to
 /// `sink`. Returns the kernel.
 ///
@@ -25,16 +26,17 @@ pub fn run_script_by_threads<K: Machine + Send, R: Threads + Wait + Sync, I: Sou
     rt: &R,
     heap: Heap,
     source: &mut I,
-    limit: usize,
+    limits: Limits,
     sink: &mut O,
 ) -> Result<K, RunFault>
     requires reads { CanCount (I.failures source.old) }
     requires writes { CanCount (O.failures sink.old) }
-    requires limited { limit ≤ MAX_LIMIT }
-    ensures ok { IfOk result (λ kernel. RanByThreads limit
+    requires limited { limits.entries ≤ MAX_LIMIT }
+    requires files { limits.file_bytes ≤ MAX_FILE_LIMIT }
+    ensures ok { IfOk result (λ kernel. RanByThreads limits
         (I.remaining source.old) (I.remaining source.new)
         (O.written sink.old) (O.written sink.new) (K.shown kernel)) }
-    ensures fault { IfErr result (EndedByThreads limit
+    ensures fault { IfErr result (EndedByThreads limits
         (I.remaining source.old) (I.remaining source.new)
         (O.written sink.old) (O.written sink.new)) }
     ensures read { result ≡ Err RunFault.Read → I.failures source.old < I.failures source.new }
@@ -45,7 +47,7 @@ pub fn run_script_by_threads<K: Machine + Send, R: Threads + Wait + Sync, I: Sou
         → O.failures sink.new ≡ O.failures sink.old }
 {
     let script = script_in(heap, source)?;
-    let kernel: K = match run_threads(rt, heap, &script, limit) {
+    let kernel: K = match run_threads(rt, heap, &script, limits) {
         Ok(kernel) => kernel,
         Err(fault) => return Err(RunFault::of_work(fault)),
     };

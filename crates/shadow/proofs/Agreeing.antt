@@ -1,10 +1,10 @@
 -- What a transaction keeps agrees with its changes, and still does after one call more.
-use Rattle.std.proofs.Common.{◌≡◌, ◌↔◌, ℕ, ◌+◌, ◌==◌, ◌≤◌, max, Bool, true, cond, Contains, length, sum_by, List, [], ◌∷◌, ◌++◌, append_assoc, append-nil, Option, None, is_some, refl, sym, ap, ap₂, subst, ◌∙◌, arith, inl, inr, ◌⊎◌}
+use Rattle.std.proofs.Common.{◌≡◌, ◌↔◌, ℕ, ◌+◌, ◌==◌, ◌≤◌, Bool, true, cond, Contains, length, sum_by, List, [], ◌∷◌, ◌++◌, append_assoc, append-nil, Option, None, is_some, refl, sym, ap, ap₂, subst, ◌∙◌, arith, inl, inr, ◌⊎◌}
 use Rattle.std.specs.List.{AllByRecursion, flat_map}
 use Rattle.std.proofs.lemmas.List.Elements.{Contains-append_cases, Contains-append_left, Contains-append_right}
 use Rattle.std.proofs.lemmas.List.Sums.{sum_by-append, sum_by_push}
 use Rattle.model.specs.FiniteMap.{get}
-use Rattle.model.specs.State.{Kernel, file_of, kind_of}
+use Rattle.model.specs.State.{Kernel, kind_of}
 use Rattle.model.specs.Changes.{Edit, all_applied, news}
 use Rattle.model.specs.Effects.{Effect, all_done}
 use Rattle.model.specs.Moments.{is_in}
@@ -29,6 +29,7 @@ pub agrees_none : Agrees [] (record { inodes = []; openings = []; slots = []; lo
 agrees_none = record {
   root = λ k. refl;
   count = λ k. refl;
+  largest = λ k. refl;
   inodes = λ k n fit. refl;
   descriptions = λ k d. refl;
   processes = λ k pid. refl;
@@ -85,6 +86,7 @@ along_of : (ds : List Effect) (p : Patches) → Agrees ds p → AlongAll ds p
 along_of ds p a = record {
   root = a.root;
   count = a.count;
+  largest = a.largest;
   inodes = a.inodes;
   descriptions = a.descriptions;
   processes = a.processes;
@@ -106,6 +108,7 @@ of_along : (ds : List Effect) (p : Patches) → ((c : Claim) → claimed c ds �
 of_along ds p claims a = record {
   root = a.root;
   count = a.count;
+  largest = a.largest;
   inodes = a.inodes;
   descriptions = a.descriptions;
   processes = a.processes;
@@ -168,6 +171,7 @@ pub agrees_same : (ds : List Effect) (p q : Patches) → SamePatches p q → Agr
 agrees_same ds p q s a = record {
   root = a.root;
   count = a.count;
+  largest = a.largest;
   inodes = λ k n fit. a.inodes k n fit ∙ ap (λ c. patched c (get k.inodes n)) (sym (contents n));
   descriptions = λ k d. a.descriptions k d ∙ ap (λ o. reopened o (get k.descriptions d)) (sym (s.openings d));
   processes = λ k pid. a.processes k pid ∙ sym (s.processes pid (get k.processes pid));

@@ -1,10 +1,10 @@
 -- What a transaction keeps agrees with its edits, and still does after one edit more.
-use Rattle.std.proofs.Common.{◌≡◌, ◌≢◌, ◌↔◌, ℕ, ◌+◌, ◌<◌, ◌≤◌, max, ◌==◌, true, cond, Contains, length, is_some, List, [], ◌∷◌, ◌++◌, append_assoc, append-nil, Option, Some, None, refl, sym, ap, subst, ◌∙◌, arith, inl, inr, ◌⊎◌}
+use Rattle.std.proofs.Common.{◌≡◌, ◌≢◌, ◌↔◌, ℕ, ◌+◌, ◌<◌, ◌≤◌, ◌==◌, true, cond, Contains, length, is_some, List, [], ◌∷◌, ◌++◌, append_assoc, append-nil, Option, Some, None, refl, sym, ap, subst, ◌∙◌, arith, inl, inr, ◌⊎◌}
 use Rattle.std.specs.List.{AllByRecursion, flat_map}
 use Rattle.std.proofs.lemmas.List.Elements.{Contains-append_cases, Contains-append_left, Contains-append_right}
 use Rattle.std.proofs.lemmas.List.Sums.{sum_by-append}
 use Rattle.model.specs.FiniteMap.{get}
-use Rattle.model.specs.State.{A_pipe, pipe_of_inode, Kernel, Inode, file_of, file_of_inode, kind, kind_of, mapped}
+use Rattle.model.specs.State.{A_pipe, pipe_of_inode, Kernel, Inode, kind, kind_of, mapped}
 use Rattle.model.specs.Changes.{Append, Edit, Make_pipe, Take, all_applied, applied}
 use Rattle.model.specs.Moments.{is_alive, is_in}
 use Rattle.call_laws.specs.Fits.{Fits, FitsAll}
@@ -28,6 +28,7 @@ use Rattle.shadow.proofs.OpeningsAfter.{moved_there, moved_over, lives_before, a
 pub record Along (done : Kernel → Kernel) (Fit : Kernel → Type 0) (given : ℕ → ℕ) (gone : List ℕ) (Wrote : ℕ → ℕ → Type 0) (p : Patches) : Type 0 where
   pub root : (k : Kernel) → (done k).root ≡ k.root
   pub count : (k : Kernel) → (done k).made ≡ k.made
+  pub largest : (k : Kernel) → (done k).largest ≡ k.largest
   pub inodes : (k : Kernel) (n : ℕ) → Fit k → get (done k).inodes n ≡ patched (net_at p.inodes n).contents (get k.inodes n)
   pub descriptions : (k : Kernel) (d : ℕ) → get (done k).descriptions d ≡ reopened (opening_at p.openings d) (get k.descriptions d)
   pub processes : (k : Kernel) (pid : ℕ) → get (done k).processes pid ≡ reslotted (kept_at p.slots pid) (get k.processes pid)
@@ -79,6 +80,7 @@ pub along_step : (done : Kernel → Kernel) (Fit : Kernel → Type 0) (given : �
 along_step done Fit given gone Wrote p q chosen e one apart t a = record {
   root = λ k. (step k).root ∙ a.root k;
   count = λ k. (step k).made ∙ a.count k;
+  largest = λ k. (step k).largest ∙ a.largest k;
   inodes = λ k n fit. (step k).inodes n ∙ ap (inode_after chosen e n) (a.inodes k n fit.0) ∙ sym (t.inodes n (get k.inodes n) (passes k n fit));
   reach = λ k n fit. t.reach n (get k.inodes n) (passes k n fit) (a.reach k n fit.0);
   well = λ k fit well. well_stays chosen (done k) e (a.well k fit.0 well) fit.1;
@@ -147,6 +149,7 @@ pub along_same : (done other : Kernel → Kernel) (Fit Fits' : Kernel → Type 0
 along_same done other Fit Fits' given given' gone gone' Wrote Wrote' p same fits is left wrote a = record {
   root = λ k. ap (λ (k : Kernel). k.root) (same k) ∙ a.root k;
   count = λ k. ap (λ (k : Kernel). k.made) (same k) ∙ a.count k;
+  largest = λ k. ap (λ (k : Kernel). k.largest) (same k) ∙ a.largest k;
   inodes = λ k n fit. ap (λ (k : Kernel). get k.inodes n) (same k) ∙ a.inodes k n (fits k fit);
   descriptions = λ k d. ap (λ (k : Kernel). get k.descriptions d) (same k) ∙ a.descriptions k d;
   processes = λ k pid. ap (λ (k : Kernel). get k.processes pid) (same k) ∙ a.processes k pid;

@@ -133,6 +133,7 @@ offset_applies : (chosen : List ℕ) (d place : ℕ) (k : Kernel) (o : Option De
 offset_applies chosen d place k None is = record {
   root = refl;
   made = refl;
+  largest = refl;
   inodes = λ n. refl;
   descriptions = same;
   processes = λ pid. refl;
@@ -146,6 +147,7 @@ offset_applies chosen d place k None is = record {
 offset_applies chosen d place k (Some old) is = record {
   root = refl;
   made = refl;
+  largest = refl;
   inodes = λ n. refl;
   descriptions = moved;
   processes = λ pid. refl;
@@ -182,6 +184,7 @@ applies chosen e one k = by_one (λ e. Applies chosen e k (applied chosen e k))
     (λ d x i. record {
       root = refl;
       made = refl;
+      largest = refl;
       inodes = made_applies Dir_made d x (new_in chosen i) k;
       descriptions = λ d. refl;
       processes = λ pid. refl;
@@ -189,6 +192,7 @@ applies chosen e one k = by_one (λ e. Applies chosen e k (applied chosen e k))
     (λ d x i. record {
       root = refl;
       made = refl;
+      largest = refl;
       inodes = made_applies File_made d x (new_in chosen i) k;
       descriptions = λ d. refl;
       processes = λ pid. refl;
@@ -196,6 +200,7 @@ applies chosen e one k = by_one (λ e. Applies chosen e k (applied chosen e k))
     (λ d x n. record {
       root = refl;
       made = refl;
+      largest = refl;
       inodes = λ q. changed_at k.inodes d q (λ o. Directory (remove (names_of_inode o) x));
       descriptions = λ d. refl;
       processes = λ pid. refl;
@@ -203,6 +208,7 @@ applies chosen e one k = by_one (λ e. Applies chosen e k (applied chosen e k))
     (λ d x n. record {
       root = refl;
       made = refl;
+      largest = refl;
       inodes = λ q. changed_at k.inodes d q (λ o. Directory (insert (names_of_inode o) x n));
       descriptions = λ d. refl;
       processes = λ pid. refl;
@@ -210,6 +216,7 @@ applies chosen e one k = by_one (λ e. Applies chosen e k (applied chosen e k))
     (λ d x n. record {
       root = refl;
       made = refl;
+      largest = refl;
       inodes = λ q. changed_at k.inodes d q (λ o. Directory (remove (names_of_inode o) x));
       descriptions = λ d. refl;
       processes = λ pid. refl;
@@ -217,6 +224,7 @@ applies chosen e one k = by_one (λ e. Applies chosen e k (applied chosen e k))
     (λ d x e y n replaced. record {
       root = refl;
       made = refl;
+      largest = refl;
       inodes = moved_applies d x e y n k;
       descriptions = λ d. refl;
       processes = λ pid. refl;
@@ -224,6 +232,7 @@ applies chosen e one k = by_one (λ e. Applies chosen e k (applied chosen e k))
     (λ n place bytes before. record {
       root = refl;
       made = refl;
+      largest = refl;
       inodes = λ q. changed_at k.inodes n q (λ o. File (written (file_of_inode o) place bytes));
       descriptions = λ d. refl;
       processes = λ pid. refl;
@@ -231,6 +240,7 @@ applies chosen e one k = by_one (λ e. Applies chosen e k (applied chosen e k))
     (λ n before after. record {
       root = refl;
       made = refl;
+      largest = refl;
       inodes = λ q. changed_at k.inodes n q (λ o. File (sized after (file_of_inode o)));
       descriptions = λ d. refl;
       processes = λ pid. refl;
@@ -238,6 +248,7 @@ applies chosen e one k = by_one (λ e. Applies chosen e k (applied chosen e k))
     (λ i inode mode pid f. record {
       root = refl;
       made = refl;
+      largest = refl;
       inodes = λ n. refl;
       descriptions = λ d. put_at k.descriptions (new_in chosen i) d (at_start (number chosen inode) mode);
       processes = λ q. changed_at k.processes pid q (λ o. with_slot f (new_in chosen i) (or_new o));
@@ -246,6 +257,7 @@ applies chosen e one k = by_one (λ e. Applies chosen e k (applied chosen e k))
     (λ pid f pipes. record {
       root = refl;
       made = refl;
+      largest = refl;
       inodes = λ n. refl;
       descriptions = λ d. refl;
       processes = λ q. changed_at k.processes pid q (λ o. without_slot f (or_new o));
@@ -253,6 +265,7 @@ applies chosen e one k = by_one (λ e. Applies chosen e k (applied chosen e k))
     (λ pid f d pipes. record {
       root = refl;
       made = refl;
+      largest = refl;
       inodes = λ n. refl;
       descriptions = λ e. refl;
       processes = λ q. changed_at k.processes pid q (λ o. with_slot f d (or_new o));
@@ -260,6 +273,7 @@ applies chosen e one k = by_one (λ e. Applies chosen e k (applied chosen e k))
     (λ p count. record {
       root = refl;
       made = refl;
+      largest = refl;
       inodes = λ q. changed_at k.inodes p q (λ o. Pipe (drop count (pipe_of_inode o)));
       descriptions = λ d. refl;
       processes = λ pid. refl;
@@ -267,6 +281,7 @@ applies chosen e one k = by_one (λ e. Applies chosen e k (applied chosen e k))
     (λ p bytes. record {
       root = refl;
       made = refl;
+      largest = refl;
       inodes = λ q. changed_at k.inodes p q (λ o. Pipe (pipe_of_inode o ++ bytes));
       descriptions = λ d. refl;
       processes = λ pid. refl;
@@ -274,6 +289,7 @@ applies chosen e one k = by_one (λ e. Applies chosen e k (applied chosen e k))
     (λ i pid f g. record {
       root = refl;
       made = refl;
+      largest = refl;
       inodes = λ q. put_at k.inodes (new_in chosen i) q (Pipe []);
       descriptions = λ d. two_described k.descriptions (new_in chosen (i + 1)) (new_in chosen (i + 2)) d (at_start (new_in chosen i) to_read) (at_start (new_in chosen i) to_write);
       processes = two_slotted k.processes pid f g (new_in chosen (i + 1)) (new_in chosen (i + 2));

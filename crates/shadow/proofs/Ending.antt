@@ -1,5 +1,5 @@
 -- A process ends: its slots give nothing, its place is empty, and what they gave is closed.
-use Rattle.std.proofs.Common.{◌≡◌, ◌≢◌, ℕ, ◌-◌, ◌<◌, ◌≤◌, ◌⊎◌, true, List, [], length, set, Option, Some}
+use Rattle.std.proofs.Common.{◌≡◌, ◌≢◌, ℕ, ◌<◌, ◌≤◌, ◌⊎◌, true, List, [], length, Option, Some}
 use Rattle.std.proofs.Common.{None, nat_cmp, refl, sym, ap, ◌∙◌, arith, inl, inr}
 use Rattle.std.specs.List.{flat_map}
 use Rattle.std.specs.Cmp.{nat_cmp_total}
@@ -23,6 +23,7 @@ use Rattle.store.specs.Shown.{descriptions, inodes}
 use Rattle.shadow.specs.Claims.{Claim, number_of}
 use Rattle.shadow.specs.Laid.{Frees, Holds, IsReslotted, SlotsStay, given_by, kept_in, table_in}
 use Rattle.shadow.specs.Stored.{AreCounted, Processes, Sound, numbered, state_of, stored}
+use Rattle.shadow.specs.Stored.{with_process}
 use Rattle.shadow.proofs.Edited.{tidied_of}
 use Rattle.shadow.proofs.Emptied.{counted_same, same_holders}
 use Rattle.shadow.proofs.Forking.{is_there}
@@ -58,9 +59,9 @@ module _ (ps qs : Processes) (s t : Numbers) (pid : ℕ) (pipes : List ℕ) (sou
 
   -- the place is left empty
   abbrev pub left : Processes
-  left = set qs (pid - 1) None
+  left = with_process pid None qs
 
-  there : now ≢ None
+  pub there : now ≢ None
   there none = still_there (Some patch) (get (numbered ps) pid) fits.alive (sym laid.here ∙ none)
 
   pub place : IsProcess qs pid
@@ -111,7 +112,7 @@ module _ (ps qs : Processes) (s t : Numbers) (pid : ℕ) (pipes : List ℕ) (sou
         ∙ sym (removed_other (numbered ps) pid q away)
   ])
 
-  left_count : length left ≡ length ps
+  left_count : length left.list ≡ length ps.list
   left_count = same_count qs pid None place.some place.low ∙ laid.stay.count
 
   -- whatever is said of pipes
@@ -126,6 +127,7 @@ module _ (ps qs : Processes) (s t : Numbers) (pid : ℕ) (pipes : List ℕ) (sou
         descriptions = descriptions s;
         processes = left_processes i;
         made = left_count i;
+        largest = laid.stay.largest i;
       })
 
   left_counted : AreCounted left t

@@ -95,13 +95,15 @@ unheld_new {ps} {s} {ds} {p} can d new =
 
 -- states with the same parts
 same_kernel : (k l : Kernel) → k.root ≡ l.root → k.inodes ≡ l.inodes
-    → k.descriptions ≡ l.descriptions → k.processes ≡ l.processes → k.made ≡ l.made → k ≡ l
-same_kernel k l root inodes descriptions processes made = λ i. record {
+    → k.descriptions ≡ l.descriptions → k.processes ≡ l.processes → k.made ≡ l.made
+    → k.largest ≡ l.largest → k ≡ l
+same_kernel k l root inodes descriptions processes made largest = λ i. record {
   root = root i;
   inodes = inodes i;
   descriptions = descriptions i;
   processes = processes i;
   made = made i;
+  largest = largest i;
 }
 
 -- a description is of no directory, so none opens one
@@ -209,6 +211,7 @@ module _ {ps qs : Processes} {s mid after last : Numbers} {ds : List Effect} {p 
       (same_map nat_cmp_total nat_cmp-IsAntisymmetric _ _ description)
       (same_map nat_cmp_total nat_cmp-IsAntisymmetric _ _ process)
       (slotted.stay.count ∙ sym (can.agrees.count (state_of ps s)))
+      (slotted.stay.largest ∙ sym (can.agrees.largest (state_of ps s)))
 
   well : WellFormed (state_of qs last)
   well =

@@ -1,5 +1,5 @@
 -- A process more in the committed state, which then has its parent's descriptors.
-use Rattle.std.proofs.Common.{◌≡◌, ◌≢◌, ℕ, suc, ◌+◌, ◌-◌, ◌<◌, ◌≤◌, ◌++◌, List, [], ◌∷◌, length, get_or}
+use Rattle.std.proofs.Common.{◌≡◌, ◌≢◌, ℕ, suc, ◌+◌, ◌-◌, ◌<◌, ◌≤◌, List, [], ◌∷◌, length, get_or}
 use Rattle.std.proofs.Common.{Option, Some, None, nat_cmp, refl, sym, ap, ◌∙◌, arith, inl, inr}
 use Rattle.std.specs.Cmp.{nat_cmp_total}
 use Rattle.std.proofs.lemmas.Bool.{cases_eq, cases_lt}
@@ -19,6 +19,7 @@ use Rattle.store.specs.Shown.{descriptions, inodes}
 use Rattle.shadow.specs.Laid.{AreLow, IsReslotted, table_in}
 use Rattle.shadow.specs.Patches.{reslotted}
 use Rattle.shadow.specs.Stored.{AreCounted, Processes, Sound, numbered, state_of, stored}
+use Rattle.shadow.specs.Stored.{with_one_more}
 use Rattle.shadow.proofs.Edited.{sound_after, tidy_after}
 use Rattle.shadow.proofs.Emptied.{counted_same, same_holders}
 use Rattle.shadow.proofs.Living.{no_process, process_of_number}
@@ -34,33 +35,33 @@ is_there (Some it) there = refl
 -- a process behind the others
 module _ (ps : Processes) (new : Process) where
   abbrev pub grown : Processes
-  grown = ps ++ Some new ∷ []
+  grown = with_one_more new ps
 
   abbrev child : ℕ
-  child = suc (length ps)
+  child = suc (length ps.list)
 
-  pub grown_count : length grown ≡ suc (length ps)
+  pub grown_count : length grown.list ≡ suc (length ps.list)
   grown_count =
-      let sum : length grown ≡ length ps + 1 = length-append ps (Some new ∷ []) in
+      let sum : length grown.list ≡ length ps.list + 1 = length-append ps.list (Some new ∷ []) in
       omega arith
 
   pub grown_here : get (numbered grown) child ≡ Some new
   grown_here =
-      let place : child - 1 ≡ length ps = omega arith in
-      process_of_number grown child (omega arith) ∙ ap (λ i. get_or grown i None) place
-      ∙ get_or-append_seam ps (Some new) [] None
+      let place : child - 1 ≡ length ps.list = omega arith in
+      process_of_number grown child (omega arith) ∙ ap (λ i. get_or grown.list i None) place
+      ∙ get_or-append_seam ps.list (Some new) [] None
 
   pub grown_others : (q : ℕ) → q ≢ child → get (numbered grown) q ≡ get (numbered ps) q
   grown_others q away = elim (cases_eq q 0) [
     | inl none ↦ no_process grown q (inl none) ∙ sym (no_process ps q (inl none))
-    | inr more ↦ elim (cases_lt (length ps) q) [
+    | inr more ↦ elim (cases_lt (length ps.list) q) [
       | inl high ↦
-          (let count : length grown ≡ suc (length ps) = grown_count in
-          let above : length grown < q = omega (arith, count, high, away) in
+          (let count : length grown.list ≡ suc (length ps.list) = grown_count in
+          let above : length grown.list < q = omega (arith, count, high, away) in
           no_process grown q (inr above) ∙ sym (no_process ps q (inr high)))
       | inr low ↦
           process_of_number grown q (omega (arith, more))
-          ∙ get_or_append_left ps (Some new ∷ []) None (q - 1) (omega (arith, low, more))
+          ∙ get_or_append_left ps.list (Some new ∷ []) None (q - 1) (omega (arith, low, more))
           ∙ sym (process_of_number ps q (omega (arith, more)))
     ]
   ]
@@ -95,14 +96,14 @@ given_or (Some d) = refl
 
 -- its descriptors are its parent's then
 module _ (ps qs : Processes) (s t : Numbers) (parent : ℕ) (pipes : List ℕ) (sound : Sound ps s)
-    (fits : Fits [] (state_of ps s) (New_process (suc (length ps)) parent pipes))
+    (fits : Fits [] (state_of ps s) (New_process (suc (length ps.list)) parent pipes))
     (new : Process) (none : new.table ≡ empty)
     (alike : new.priority ≡ (process_of (state_of ps s) parent).priority)
     (patch former : Given)
     (noted : (f : ℕ) → f < DESCRIPTORS
     → get patch f ≡ mapped Some (get (process_of (state_of ps s) parent).table f))
     (low : (f : ℕ) → get patch f ≢ None → f < DESCRIPTORS)
-    (laid : IsReslotted (suc (length ps)) patch former (grown ps new) qs s t) where
+    (laid : IsReslotted (suc (length ps.list)) patch former (grown ps new) qs s t) where
   abbrev k : Kernel
   k = state_of ps s
 
@@ -110,7 +111,7 @@ module _ (ps qs : Processes) (s t : Numbers) (parent : ℕ) (pipes : List ℕ) (
   it = process_of k parent
 
   abbrev now : Option Process
-  now = get (numbered qs) (suc (length ps))
+  now = get (numbered qs) (suc (length ps.list))
 
   low_table : (f d : ℕ) → get it.table f ≡ Some d → f < DESCRIPTORS
   low_table f d gives = sound_low ps s sound parent f d gives
@@ -154,22 +155,22 @@ module _ (ps qs : Processes) (s t : Numbers) (parent : ℕ) (pipes : List ℕ) (
           ∙ ap (λ (p : Process). p.priority) (new_of (entries patch) (Some new))
           ∙ alike
 
-  processes_now : numbered qs ≡ insert (numbered ps) (suc (length ps)) it
+  processes_now : numbered qs ≡ insert (numbered ps) (suc (length ps.list)) it
   processes_now = same_map nat_cmp_total nat_cmp-IsAntisymmetric _ _
-      (λ q. elim (cases_eq q (suc (length ps))) [
+      (λ q. elim (cases_eq q (suc (length ps.list))) [
         | inl same ↦ ap (get (numbered qs)) same ∙ child_now
-            ∙ sym (ap (get (insert (numbered ps) (suc (length ps)) it)) same
-            ∙ get_same (numbered ps) (suc (length ps)) it)
+            ∙ sym (ap (get (insert (numbered ps) (suc (length ps.list)) it)) same
+            ∙ get_same (numbered ps) (suc (length ps.list)) it)
         | inr away ↦ laid.others q away ∙ grown_others ps new q away
-            ∙ sym (get_other (numbered ps) (suc (length ps)) q it away)
+            ∙ sym (get_other (numbered ps) (suc (length ps.list)) q it away)
       ])
 
-  count_now : length qs ≡ suc (length ps)
+  count_now : length qs.list ≡ suc (length ps.list)
   count_now = laid.stay.count ∙ grown_count ps new
 
   -- whatever is said of pipes
   pub forked : (said : List ℕ)
-      → state_of qs t ≡ applied [] (New_process (suc (length ps)) parent said) k
+      → state_of qs t ≡ applied [] (New_process (suc (length ps.list)) parent said) k
   unfolding applied
   forked said =
       ap (λ m. stored qs m (descriptions t)) laid.stay.same.inodes
@@ -180,11 +181,12 @@ module _ (ps qs : Processes) (s t : Numbers) (parent : ℕ) (pipes : List ℕ) (
         descriptions = descriptions s;
         processes = processes_now i;
         made = count_now i;
+        largest = laid.stay.largest i;
       })
 
   pub forked_sound : Sound qs t
-  forked_sound = sound_after ps qs s t [] (New_process (suc (length ps)) parent pipes) sound fits
-      (forked pipes ∙ sym (tidy_after ps s [] (New_process (suc (length ps)) parent pipes) sound fits refl))
+  forked_sound = sound_after ps qs s t [] (New_process (suc (length ps.list)) parent pipes) sound fits
+      (forked pipes ∙ sym (tidy_after ps s [] (New_process (suc (length ps.list)) parent pipes) sound fits refl))
       laid.stay.same.root (laid.stay.same.staged sound.staged)
       (laid.stay.counted (grown_low ps new none (sound_low ps s sound))
       (grown_counted ps new none s sound.counted))

@@ -13,33 +13,33 @@ use Rattle.shadow.specs.Stored.{Processes, numbered}
 use Rattle.shadow.proofs.Places.{find_placed, none_before}
 
 -- a number stands for the process at its place
-pub process_of_number : (ps : Processes) (q : ℕ) → 0 < q → get (numbered ps) q ≡ get_or ps (q - 1) None
-process_of_number ps q some = get-from_entries nat_cmp_total (placed 1 ps) q ∙ find_placed 1 ps q (omega arith)
+pub process_of_number : (ps : Processes) (q : ℕ) → 0 < q → get (numbered ps) q ≡ get_or ps.list (q - 1) None
+process_of_number ps q some = get-from_entries nat_cmp_total (placed 1 ps.list) q ∙ find_placed 1 ps.list q (omega arith)
 
-pub no_process : (ps : Processes) (q : ℕ) → (q ≡ 0) ⊎ (length ps < q) → get (numbered ps) q ≡ None
-no_process ps q (inl none) = get-from_entries nat_cmp_total (placed 1 ps) q ∙ none_before 1 ps q (omega arith)
-no_process ps q (inr high) = process_of_number ps q (omega arith) ∙ get_or_past ps (q - 1) None (omega arith)
+pub no_process : (ps : Processes) (q : ℕ) → (q ≡ 0) ⊎ (length ps.list < q) → get (numbered ps) q ≡ None
+no_process ps q (inl none) = get-from_entries nat_cmp_total (placed 1 ps.list) q ∙ none_before 1 ps.list q (omega arith)
+no_process ps q (inr high) = process_of_number ps q (omega arith) ∙ get_or_past ps.list (q - 1) None (omega arith)
 
 -- the place of a process that is there
 pub record IsProcess (ps : Processes) (q : ℕ) : Type 0 where
   pub some : 0 < q
-  pub low : q ≤ length ps
+  pub low : q ≤ length ps.list
 
 pub is_process : (ps : Processes) (q : ℕ) → get (numbered ps) q ≢ None → IsProcess ps q
 is_process ps q there = elim (cases_eq q 0) [
   | inl none ↦ absurd (there (no_process ps q (inl none)))
-  | inr more ↦ elim (cases_lt (length ps) q) [
+  | inr more ↦ elim (cases_lt (length ps.list) q) [
     | inl high ↦ absurd (there (no_process ps q (inr high)))
     | inr low ↦ record { some = omega (arith, more); low = omega (arith, low) }
   ]
 ]
 
 -- what is read at its place
-pub read_there : (ps : Processes) (q : ℕ) (o : Option Process) → IsProcess ps q → o ≡ get_or ps (q - 1) o → o ≡ get (numbered ps) q
+pub read_there : (ps : Processes) (q : ℕ) (o : Option Process) → IsProcess ps q → o ≡ get_or ps.list (q - 1) o → o ≡ get (numbered ps) q
 read_there ps q o is read =
     let some : 0 < q = is.some in
-    let low : q ≤ length ps = is.low in
-    get_or_read ps (q - 1) o (omega arith) read None ∙ sym (process_of_number ps q some)
+    let low : q ≤ length ps.list = is.low in
+    get_or_read ps.list (q - 1) o (omega arith) read None ∙ sym (process_of_number ps q some)
 
 -- a process that has just begun
 abbrev pub fresh : ℕ → Option Process
@@ -66,7 +66,7 @@ or_none : (o : Option Process) → or_else o None ≡ o
 or_none None = refl
 or_none (Some p) = refl
 
-pub begun : (ps : List ℕ) → with_processes 0 ps empty ≡ numbered (map fresh ps)
-begun ps = same_map nat_cmp_total nat_cmp-IsAntisymmetric _ _ (λ q.
+pub begun : (ps : List ℕ) (largest : ℕ) → with_processes 0 ps empty ≡ numbered (record { list = map fresh ps; largest = largest })
+begun ps largest = same_map nat_cmp_total nat_cmp-IsAntisymmetric _ _ (λ q.
     get_begun 0 ps empty q ∙ ap (or_else (find nat_cmp q (placed 1 (map fresh ps)))) (get-empty nat_cmp q) ∙ or_none (find nat_cmp q (placed 1 (map fresh ps)))
     ∙ sym (get-from_entries nat_cmp_total (placed 1 (map fresh ps)) q))

@@ -1,11 +1,10 @@
 -- The bytes of a file are laid over those that stand there.
-use Rattle.std.proofs.Common.{◌≡◌, ◌≢◌, ℕ, List, [], ◌∷◌, Option, Some, Result, Ok, Err, IsOk, OnOk, length, ◌-◌, arith, replicate, refl, sym, ap, subst, ◌∙◌}
+use Rattle.std.proofs.Common.{◌≡◌, ◌≢◌, ℕ, List, [], Option, Some, refl, sym, ap, subst, ◌∙◌}
 use Rattle.std.specs.Prelude.{IsSome}
 use Rattle.std.specs.Option.{option_and_then, option_map}
 use Rattle.model.specs.FiniteMap.{get}
-use Rattle.model.specs.Changes.{sized}
 use Rattle.model.proofs.Laws.{get_other, get_same}
-use Rattle.call_laws.proofs.Laws.{some_same, true_is_false}
+use Rattle.call_laws.proofs.Laws.{some_same}
 use Rattle.file_shadow.specs.View.{FileChanges, view_over}
 use Rattle.objects.specs.Pieces.{FileContent}
 use Rattle.store.specs.Numbers.{Numbers, coming, held, object_at, present}

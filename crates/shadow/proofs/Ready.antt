@@ -1,22 +1,20 @@
 -- Where changes can be committed, each of them can be made: those of inodes, of slots and of
 -- descriptions.
-use Rattle.std.proofs.Common.{◌≡◌, ◌≢◌, ℕ, ◌+◌, ◌<◌, ◌≤◌, max, Bool, true, false, List, [], length}
+use Rattle.std.proofs.Common.{◌≡◌, ◌≢◌, ℕ, ◌+◌, ◌<◌, ◌≤◌, Bool, true, false, List, [], length}
 use Rattle.std.proofs.Common.{Option, Some, None, is_some, IfSome, refl, sym, ap, subst, ◌∙◌, arith}
 use Rattle.std.specs.List.{AllByRecursion}
 use Rattle.std.specs.Option.{option_and_then, option_map}
 use Rattle.model.specs.FiniteMap.{entries, get}
-use Rattle.model.specs.State.{A_directory, A_file, A_pipe, pipe_of_inode, File, Inode, Kernel, Kind, Name, Process}
-use Rattle.model.specs.State.{file_of_inode, file_of, kind, mapped, names_of, names_of_inode}
+use Rattle.model.specs.State.{A_directory, A_file, A_pipe, pipe_of_inode, Inode, Kernel, Kind, Name, Process}
+use Rattle.model.specs.State.{file_of_inode, kind, mapped, names_of, names_of_inode}
 use Rattle.model.specs.Effects.{Effect, all_done}
 use Rattle.model.proofs.Laws.{all_entries}
 use Rattle.dirlist.specs.Listing.{Listing}
 use Rattle.dirlist.specs.Patches.{Notes, or_before}
 use Rattle.dirlist.proofs.Laws.{name_total}
-use Rattle.file_shadow.specs.View.{FileChanges, len_on, view_over}
-use Rattle.file_shadow.proofs.Views.{length-view_over}
+use Rattle.file_shadow.specs.View.{FileChanges}
 use Rattle.ids.specs.declared.limits.TheConstants.{PIPE_CAPACITY}
 use Rattle.pipe_shadow.specs.View.{PipeChanges, view_over as pipe_over}
-use Rattle.objects.specs.Pieces.{FileContent}
 use Rattle.call_laws.specs.WellFormed.{CanBeNamed, WellFormed}
 use Rattle.call_laws.proofs.Laws.{not_none, true_is_false}
 use Rattle.freeing_laws.specs.Sweep.{AllFit}
@@ -41,7 +39,7 @@ use Rattle.shadow.specs.Claims.{is_file_made, or_zero, reserved, room_of}
 use Rattle.shadow.specs.Committed.{Committed, Reserve}
 use Rattle.shadow.specs.Laid.{AreReady, IsCarried, IsCarriedBy, IsReadyContents}
 use Rattle.shadow.specs.Laid.{IsReadyDirectory, IsReadyFile, IsReadyPipe, reserves_of, shown_if}
-use Rattle.shadow.specs.Patches.{Net, Patches, added_by, bytes_before, form_of, is_new, kept_at}
+use Rattle.shadow.specs.Patches.{Net, Patches, added_by, form_of, is_new, kept_at}
 use Rattle.shadow.specs.Patches.{names_before, net_at, net_of, no_change, of_bytes, of_names, of_pipe}
 use Rattle.shadow.specs.Patches.{opening_at, patched, pipe_before, slots_in}
 use Rattle.shadow.specs.Stored.{IsStaged, Processes, Sound, committed_of, numbered, reserve_in}

@@ -1,5 +1,5 @@
 -- One slot of the committed state changes.
-use Rattle.std.proofs.Common.{◌≡◌, ℕ, ◌-◌, ◌<◌, ◌≤◌, ◌^◌, List, [], length, set, Option, Some, None}
+use Rattle.std.proofs.Common.{◌≡◌, ℕ, ◌<◌, ◌≤◌, ◌^◌, List, [], length, Option, Some, None}
 use Rattle.std.proofs.Common.{refl, sym, ap, subst, ◌∙◌, inl, inr}
 use Rattle.std.specs.Cmp.{nat_cmp_total}
 use Rattle.std.proofs.lemmas.Bool.{cases_eq}
@@ -23,6 +23,7 @@ use Rattle.shadow.specs.Laid.{reserves_of, table_in}
 use Rattle.shadow.specs.Openings.{slot_noted}
 use Rattle.shadow.specs.Steps.{slotting}
 use Rattle.shadow.specs.Stored.{Processes, Sound, committed_of, numbered, state_of, stored}
+use Rattle.shadow.specs.Stored.{with_process}
 use Rattle.shadow.proofs.Edited.{state_is, tidied_of}
 use Rattle.shadow.proofs.Freed.{IsMade, freed_sound, freed_state, made_holds}
 use Rattle.shadow.proofs.Slotting.{slotted}
@@ -39,14 +40,14 @@ noted_is f None o = refl
 
 -- a slot of the process at a place gives this from now on
 pub slotted_by : (ps : Processes) (pid f : ℕ) (given former : Option ℕ) (now : Option Process)
-    (s t u : Numbers) → 0 < pid → pid ≤ length ps → f < DESCRIPTORS → length ps < 2 ^ 64
+    (s t u : Numbers) → 0 < pid → pid ≤ length ps.list → f < DESCRIPTORS → length ps.list < 2 ^ 64
     → former ≡ get (table_in (get (numbered ps) pid)) f
     → now ≡ slot_noted f given (get (numbered ps) pid)
     → AreHeld (IsOneMore given) s t → AreHeld (IsOneLess former) t u
-    → IsSlotted pid f given ps (set ps (pid - 1) now) s u
+    → IsSlotted pid f given ps (with_process pid now ps) s u
 slotted_by ps pid f given former now s t u some low fits few was gives more less =
     let o : Option Process = get (numbered ps) pid in
-    subst (λ (now : Option Process). IsSlotted pid f given ps (set ps (pid - 1) now) s u)
+    subst (λ (now : Option Process). IsSlotted pid f given ps (with_process pid now ps) s u)
     (sym (gives ∙ noted_is f given o))
     (slotted ps pid f given former (noted f given (or_new o)) s t u some low fits few was
     (sym (noted_is f given o)) more less)
@@ -86,23 +87,14 @@ module _ (ps qs : Processes) (s t : Numbers) (pid f : ℕ) (given : Option ℕ)
   slotted_state =
       ap (λ m. stored qs m (descriptions t)) laid.stay.same.inodes
       ∙ ap (stored qs (inodes s)) laid.stay.descriptions
-      ∙ ap (λ m. record {
+      ∙ (λ i. record {
         root = 0;
         inodes = inodes s;
         descriptions = descriptions s;
-        processes =
-            m;
-        made = length qs;
-      }) processes_are
-      ∙ ap (λ made. record {
-        root = 0;
-        inodes = inodes s;
-        descriptions = descriptions s;
-        processes =
-            insert (numbered ps) pid (noted f given (process_of k pid));
-        made = made;
+        processes = processes_are i;
+        made = laid.stay.count i;
+        largest = laid.stay.largest i;
       })
-      laid.stay.count
 
   pub slotted_keeps : (c : Claim) → kept_in t c ≡ kept_in s c
   slotted_keeps c = kept_met t c ∙ ap (met_by c) (laid.stay.reserves (number_of c))

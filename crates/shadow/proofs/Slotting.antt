@@ -1,5 +1,5 @@
 -- One slot of a process gives another description: the processes, and how often each is held.
-use Rattle.std.proofs.Common.{◌≡◌, ◌≢◌, ℕ, zero, suc, ◌+◌, ◌*◌, ◌-◌, ◌<◌, ◌≤◌, ◌^◌, Bool, true, false, cond, List, [], ◌∷◌, length, set, Option, Some, None, nat_cmp, refl, sym, ap, subst, ◌∙◌, arith, inl, inr}
+use Rattle.std.proofs.Common.{◌≡◌, ◌≢◌, ℕ, zero, suc, ◌+◌, ◌*◌, ◌-◌, ◌<◌, ◌≤◌, ◌^◌, Bool, true, false, cond, List, [], ◌∷◌, length, Option, Some, None, nat_cmp, refl, sym, ap, subst, ◌∙◌, arith, inl, inr}
 use Rattle.std.specs.List.{AllByRecursion}
 use Rattle.std.specs.Cmp.{nat_cmp_total}
 use Rattle.std.proofs.lemmas.Bool.{cases_eq, cases_lt}
@@ -15,7 +15,7 @@ use Rattle.freeing_laws.proofs.Left.{left_is_tidy_lem}
 use Rattle.freeing_laws.proofs.Openings.{openings_change_lem}
 use Rattle.store.specs.Numbers.{Numbers}
 use Rattle.store.specs.declared.Opened.{Opened}
-use Rattle.shadow.specs.Stored.{AreCounted, Processes, numbered, state_of}
+use Rattle.shadow.specs.Stored.{AreCounted, Processes, numbered, state_of, with_process}
 use Rattle.shadow.specs.Openings.{slot_noted}
 use Rattle.shadow.specs.Laid.{AreHeld, AreLow, IsOneLess, IsOneMore, IsSlotted, SameStore, WasHeld, table_in}
 use Rattle.shadow.proofs.Living.{no_process, process_of_number}
@@ -52,44 +52,44 @@ module _ {X : Type 0} where
       ]
 
 -- a number of a process that is there
-process_there : (ps : Processes) (q : ℕ) (p : Process) → get (numbered ps) q ≡ Some p → q < suc (length ps)
-process_there ps q p is = elim (cases_lt q (suc (length ps))) [
+process_there : (ps : Processes) (q : ℕ) (p : Process) → get (numbered ps) q ≡ Some p → q < suc (length ps.list)
+process_there ps q p is = elim (cases_lt q (suc (length ps.list))) [
   | inl low ↦ low
   | inr high ↦ absurd (not_none p (sym is ∙ no_process ps q (inr (omega (arith, high)))))
 ]
 
 -- there are few holders of a description
-pub few_holders : (ps : Processes) (s : Numbers) (d : ℕ) → AreLow ps → length ps < 2 ^ 64 → holders (state_of ps s) d + 1 < 2 ^ 128
+pub few_holders : (ps : Processes) (s : Numbers) (d : ℕ) → AreLow ps → length ps.list < 2 ^ 64 → holders (state_of ps s) d + 1 < 2 ^ 128
 few_holders ps s d low few =
     let most : holders (state_of ps s) d ≤ DESCRIPTORS * len (numbered ps) = openings_change_lem.most_holders (state_of ps s) d (λ pid it is. few_keys DESCRIPTORS it.table (λ f e gives. low pid f e (ap (λ o. get (table_in o) f) is ∙ gives))) in
-    let all : len (numbered ps) ≤ suc (length ps) = few_keys (suc (length ps)) (numbered ps) (process_there ps) in
+    let all : len (numbered ps) ≤ suc (length ps.list) = few_keys (suc (length ps.list)) (numbered ps) (process_there ps) in
     omega arith
 
 -- one place changes
-module _ (ps : Processes) (pid : ℕ) (new : Option Process) (some : 0 < pid) (low : pid ≤ length ps) where
+module _ (ps : Processes) (pid : ℕ) (new : Option Process) (some : 0 < pid) (low : pid ≤ length ps.list) where
   abbrev after : Processes
-  after = set ps (pid - 1) new
+  after = with_process pid new ps
 
-  pub same_count : length after ≡ length ps
-  same_count = length-set ps (pid - 1) new
+  pub same_count : length after.list ≡ length ps.list
+  same_count = length-set ps.list (pid - 1) new
 
   pub numbered_here : get (numbered after) pid ≡ new
-  numbered_here = process_of_number after pid some ∙ get_or-set_same ps (pid - 1) new None (omega arith)
+  numbered_here = process_of_number after pid some ∙ get_or-set_same ps.list (pid - 1) new None (omega arith)
 
   pub numbered_others : (q : ℕ) → q ≢ pid → get (numbered after) q ≡ get (numbered ps) q
   numbered_others q away = elim (cases_eq q 0) [
     | inl none ↦ no_process after q (inl none) ∙ sym (no_process ps q (inl none))
     | inr more ↦
         process_of_number after q (omega (arith, more))
-        ∙ get_or-set_other ps (pid - 1) (q - 1) new None (λ same. away (omega (arith, same, more)))
+        ∙ get_or-set_other ps.list (pid - 1) (q - 1) new None (λ same. away (omega (arith, same, more)))
         ∙ sym (process_of_number ps q (omega (arith, more)))
   ]
 
 -- a process changes
-module _ (ps : Processes) (pid : ℕ) (new : Process) (some : 0 < pid) (low : pid ≤ length ps) where
-  pub numbered_set : numbered (set ps (pid - 1) (Some new)) ≡ insert (numbered ps) pid new
+module _ (ps : Processes) (pid : ℕ) (new : Process) (some : 0 < pid) (low : pid ≤ length ps.list) where
+  pub numbered_set : numbered (with_process pid (Some new) ps) ≡ insert (numbered ps) pid new
   numbered_set = same_map nat_cmp_total nat_cmp-IsAntisymmetric _ _ (λ q. elim (cases_eq q pid) [
-    | inl same ↦ ap (get (numbered (set ps (pid - 1) (Some new)))) same ∙ numbered_here ps pid (Some new) some low ∙ sym (ap (get (insert (numbered ps) pid new)) same ∙ get_same (numbered ps) pid new)
+    | inl same ↦ ap (get (numbered (with_process pid (Some new) ps))) same ∙ numbered_here ps pid (Some new) some low ∙ sym (ap (get (insert (numbered ps) pid new)) same ∙ get_same (numbered ps) pid new)
     | inr away ↦ numbered_others ps pid (Some new) some low q away ∙ sym (get_other (numbered ps) pid q new away)
   ])
 
@@ -124,11 +124,11 @@ same_store_same s t u first later = record {
   staged = λ h. later.staged (first.staged h);
 }
 
-module _ (ps : Processes) (pid f : ℕ) (given former : Option ℕ) (new : Process) (s t u : Numbers) (some : 0 < pid) (low : pid ≤ length ps) (fits : f < DESCRIPTORS) (few : length ps < 2 ^ 64)
+module _ (ps : Processes) (pid f : ℕ) (given former : Option ℕ) (new : Process) (s t u : Numbers) (some : 0 < pid) (low : pid ≤ length ps.list) (fits : f < DESCRIPTORS) (few : length ps.list < 2 ^ 64)
     (was : former ≡ get (table_in (get (numbered ps) pid)) f) (gives : Some new ≡ slot_noted f given (get (numbered ps) pid))
     (more : AreHeld (IsOneMore given) s t) (less : AreHeld (IsOneLess former) t u) where
   abbrev qs : Processes
-  qs = set ps (pid - 1) (Some new)
+  qs = with_process pid (Some new) ps
 
   holders_now : (e : ℕ) → holders (state_of qs u) e + times e (listed former) ≡ holders (state_of ps s) e + times e (listed given)
   holders_now e =
@@ -169,6 +169,7 @@ module _ (ps : Processes) (pid f : ℕ) (given former : Option ℕ) (new : Proce
       descriptions = less.descriptions ∙ more.descriptions;
       reserves = λ n. less.reserves n ∙ more.reserves n;
       count = same_count ps pid (Some new) some low;
+      largest = refl;
       low = low_now;
       counted = counted_now;
     };

@@ -1,5 +1,5 @@
 -- Changes of the store that are not seen in the state: numbers are reserved and given back, and promises come and go.
-use Rattle.std.proofs.Common.{◌≡◌, ◌≢◌, ℕ, ◌+◌, Bool, true, false, cond, not, List, Option, Some, None, refl, sym, ap, ap₂, subst, ◌∙◌, arith, lt-ltb, inl, inr}
+use Rattle.std.proofs.Common.{◌≡◌, ◌≢◌, ℕ, ◌+◌, Bool, true, false, cond, not, Option, Some, None, refl, sym, ap, ap₂, subst, ◌∙◌, arith, lt-ltb, inl, inr}
 use Rattle.std.specs.Prelude.{⊤}
 use Rattle.std.specs.Option.{option_map, option_and_then}
 use Rattle.std.proofs.lemmas.Bool.{cases_eq}
@@ -7,7 +7,7 @@ use Rattle.std.specs.Ordering.{nat_cmp}
 use Rattle.model.specs.FiniteMap.{FinMap, get, insert, remove, empty, get-empty}
 use Rattle.model.specs.State.{Kernel, name_cmp, kind, mapped, names_of_inode, links}
 use Rattle.model.specs.Changes.{holders, openings, tidy}
-use Rattle.model.specs.Moments.{start}
+use Rattle.model.specs.Moments.{Setup, start}
 use Rattle.model.specs.Steps.{IsNowhere}
 use Rattle.model.proofs.Laws.{get_same, get_other}
 use Rattle.call_laws.specs.CallLaws.{CallLaws}
@@ -267,11 +267,11 @@ pub unused_nowhere : UnusedNumbersAreNowhere → (ps : Processes) (s : Numbers) 
 unused_nowhere law ps s n sound none = law (state_of ps s) n sound.well (get_chosen inode_in s.places n ∙ ap (option_and_then inode_in) none) (get_chosen description_in s.places n ∙ ap (option_and_then description_in) none)
 
 -- the first form
-pub first_sound : CallLaws WellFormed → (ps : Processes) (priorities : List ℕ) (s : Numbers) → state_of ps s ≡ start 0 priorities → s.root ≡ 0 → IsFirstRoot s → Sound ps s
-first_sound laws ps priorities s is root first = record {
+pub first_sound : CallLaws WellFormed → (ps : Processes) (setup : Setup) (s : Numbers) → state_of ps s ≡ start 0 setup → s.root ≡ 0 → IsFirstRoot s → Sound ps s
+first_sound laws ps setup s is root first = record {
   root = root;
-  well = subst WellFormed (sym is) (laws.well_start 0 priorities);
-  tidied = subst (λ (k : Kernel). tidy k ≡ k) (sym is) (laws.tidy_start 0 priorities);
+  well = subst WellFormed (sym is) (laws.well_start 0 setup);
+  tidied = subst (λ (k : Kernel). tidy k ≡ k) (sym is) (laws.tidy_start 0 setup);
   staged = staged;
   counted = record {
     openings = λ n file there. absurd (only n (Kept_file file) refl there);

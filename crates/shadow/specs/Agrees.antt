@@ -1,9 +1,9 @@
 -- What a transaction keeps of its changes agrees with them.
-use Rattle.std.specs.Prelude.{◌≡◌, ◌≢◌, ◌↔◌, ℕ, ◌≤◌, max, Bool, true, false, List, []}
-use Rattle.std.specs.Prelude.{Contains, length, Option, Some, None, is_some, ⊤}
+use Rattle.std.specs.Prelude.{◌≡◌, ◌≢◌, ◌↔◌, ℕ, ◌≤◌, Bool, true, false, List, []}
+use Rattle.std.specs.Prelude.{Contains, Option, Some, None, is_some, ⊤}
 use Rattle.std.specs.List.{flat_map}
 use Rattle.model.specs.FiniteMap.{get}
-use Rattle.model.specs.State.{Kind, A_file, A_directory, A_pipe, Kernel, kind_of, file_of}
+use Rattle.model.specs.State.{Kind, A_file, A_directory, A_pipe, Kernel, kind_of}
 use Rattle.model.specs.Moments.{is_alive}
 use Rattle.model.specs.Effects.{Effect, all_done}
 use Rattle.call_laws.specs.WellFormed.{WellFormed}
@@ -46,6 +46,7 @@ pub record Agrees (ds : List Effect) (p : Patches) : Type 0 where
   -- is a state that they fit
   pub root : (k : Kernel) → (all_done ds k).root ≡ k.root
   pub count : (k : Kernel) → (all_done ds k).made ≡ k.made
+  pub largest : (k : Kernel) → (all_done ds k).largest ≡ k.largest
   pub inodes : (k : Kernel) (n : ℕ) → AllFit ds k
       → get (all_done ds k).inodes n ≡ patched (net_at p.inodes n).contents (get k.inodes n)
   pub descriptions : (k : Kernel) (d : ℕ)

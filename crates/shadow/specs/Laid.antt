@@ -1,5 +1,5 @@
 -- What a commit makes of the places and of the processes, part by part.
-use Rattle.std.specs.Prelude.{◌≡◌, ◌≢◌, ℕ, ◌<◌, ◌≤◌, ◌+◌, ◌-◌, ◌^◌, max, Bool, true, false, List, [], ◌∷◌}
+use Rattle.std.specs.Prelude.{◌≡◌, ◌≢◌, ℕ, ◌<◌, ◌≤◌, ◌+◌, ◌-◌, ◌^◌, Bool, true, false, List, [], ◌∷◌}
 use Rattle.std.specs.Prelude.{length, Option, Some, None, IfSome, is_some, option_map, count_by}
 use Rattle.ids.specs.declared.limits.TheConstants.{DESCRIPTORS, PIPE_CAPACITY}
 use Rattle.std.specs.Prelude.{if◌then◌else◌}
@@ -36,7 +36,7 @@ use Rattle.shadow.specs.Claims.{Claim, reserved}
 use Rattle.shadow.specs.Committed.{Reserve}
 use Rattle.shadow.specs.Openings.{slot_noted}
 use Rattle.shadow.specs.Patches.{is_new, kept_at, opening_at, reopened, reslotted}
-use Rattle.shadow.specs.Stored.{AreCounted, IsEndHere, IsStaged, Processes, committed_of, numbered, reserve_in, state_of}
+use Rattle.shadow.specs.Stored.{AreCounted, IsEndHere, IsStaged, Processes, committed_of, no_processes, numbered, reserve_in, state_of}
 
 -- what is kept for transactions
 abbrev pub reserves_of : Numbers → FinMap nat_cmp Reserve
@@ -169,7 +169,8 @@ pub record SlotsStay (ps qs : Processes) (old new : Numbers) : Type 0 where
   pub same : SameStore old new
   pub descriptions : descriptions new ≡ descriptions old
   pub reserves : (n : ℕ) → get (reserves_of new) n ≡ get (reserves_of old) n
-  pub count : length qs ≡ length ps
+  pub count : length qs.list ≡ length ps.list
+  pub largest : qs.largest ≡ ps.largest
   pub low : AreLow ps → AreLow qs
   pub counted : AreLow ps → AreCounted ps old → AreCounted qs new
 
@@ -256,7 +257,7 @@ pub record IsReslotted (pid : ℕ) (given former : Given) (ps qs : Processes) (o
 
 -- how often a claim can be met
 abbrev pub kept_in : Numbers → Claim → ℕ
-kept_in s c = reserved (committed_of [] s) c
+kept_in s c = reserved (committed_of no_processes s) c
 
 -- Objects go as f says, and what is kept for transactions is kept as before.
 pub record Frees (f : Kernel → Kernel) (ps : Processes) (old new : Numbers) : Type 0 where

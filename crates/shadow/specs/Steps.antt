@@ -1,6 +1,6 @@
 -- One edit of a call with the call's new numbers, and what it makes of each object.
 use Rattle.std.specs.Prelude.{◌≡◌, ◌≢◌, ◌↔◌, Contains}
-use Rattle.std.specs.Prelude.{ℕ, ◌+◌, ◌<◌, ◌≤◌, ◌==◌, ◌||◌, ◌⊎◌, nat_lt, Bool, true, false, ⊤, drop}
+use Rattle.std.specs.Prelude.{ℕ, ◌+◌, ◌<◌, ◌≤◌, ◌==◌, ◌||◌, ◌⊎◌, Bool, true, false, ⊤, drop}
 use Rattle.std.specs.Prelude.{List, [], ◌∷◌, ◌++◌, map, length, Option, Some, None, if◌then◌else◌}
 use Rattle.std.specs.List.{flat_map}
 use Rattle.model.specs.FiniteMap.{get, empty}
@@ -14,7 +14,7 @@ use Rattle.model.specs.Changes.{Append, Make_pipe, Set_offset, Take, to_read, to
 use Rattle.model.specs.Changes.{Open_inode, Share_slot, Clear_slot, applied, sized, written, at_start, at_offset}
 use Rattle.model.specs.Changes.{with_slot, without_slot, or_new}
 use Rattle.model.specs.Effects.{Effect}
-use Rattle.model.specs.Limits.{largest, descriptor_limit}
+use Rattle.model.specs.Limits.{largest_file, descriptor_limit}
 use Rattle.model.specs.Plan.{blocks}
 use Rattle.call_laws.specs.Fits.{Fits}
 use Rattle.freeing_laws.specs.Counts.{named, times, unnamed}
@@ -54,7 +54,7 @@ abbrev pub new_in : List ℕ → ℕ → ℕ
 new_in chosen i = number chosen (Made i)
 
 -- What a call of a transaction may change: first a name, or bytes of a file or of a pipe, or a new
--- pipe, and then a description or a slot. Writes and cuts end within the largest file, and
+-- pipe, and then a description or a slot. Writes and cuts end where a file can end at all, and
 -- descriptors are below the limit.
 abbrev pub IsFirst : Edit → Type 0
 IsFirst (Make_directory d x i) = i ≡ 0
@@ -63,8 +63,8 @@ IsFirst (Name_file d x n) = ⊤
 IsFirst (Unname_file d x n) = ⊤
 IsFirst (Unname_directory d x n) = ⊤
 IsFirst (Move d x e y n replaced) = ⊤
-IsFirst (Put_bytes n place bytes before) = place + length bytes ≤ largest
-IsFirst (Cut n before after) = after ≤ largest
+IsFirst (Put_bytes n place bytes before) = place + length bytes ≤ largest_file
+IsFirst (Cut n before after) = after ≤ largest_file
 IsFirst (Take p count) = ⊤
 IsFirst (Append p bytes) = ⊤
 IsFirst (Make_pipe i pid f g) = (i ≡ 0) × (f < descriptor_limit) × (g < descriptor_limit)
@@ -166,6 +166,7 @@ process_after chosen _ pid o = o
 pub record Applies (chosen : List ℕ) (e : Edit) (k after : Kernel) : Type 0 where
   pub root : after.root ≡ k.root
   pub made : after.made ≡ k.made
+  pub largest : after.largest ≡ k.largest
   pub inodes : (n : ℕ) → get after.inodes n ≡ inode_after chosen e n (get k.inodes n)
   pub descriptions : (d : ℕ)
       → get after.descriptions d ≡ description_after chosen e d (get k.descriptions d)

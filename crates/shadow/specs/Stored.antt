@@ -1,6 +1,7 @@
 -- How the committed state is stored: the processes in the order of their numbers, and the objects
 -- under theirs.
-use Rattle.std.specs.Prelude.{◌≡◌, ℕ, ◌≢◌, ◌⊎◌, true, List, length, Option, Some, None, ⊤}
+use Rattle.std.specs.Prelude.{◌≡◌, ℕ, ◌-◌, ◌≢◌, ◌⊎◌, true, List, [], ◌∷◌, ◌++◌, length, set}
+use Rattle.std.specs.Prelude.{Option, Some, None, ⊤}
 use Rattle.std.specs.Ordering.{nat_cmp}
 use Rattle.model.specs.FiniteMap.{FinMap, empty, from_entries, get}
 use Rattle.model.specs.Places.{placed}
@@ -22,12 +23,24 @@ use Rattle.store.specs.declared.Stage.{Stage}
 use Rattle.store.specs.declared.Stage.TheVariants.{Coming, Held, Lost}
 use Rattle.shadow.specs.Committed.{Committed, Reserve}
 
--- the processes from number 1 on; one that has ended leaves its place empty
-abbrev pub Processes : Type 0
-Processes = List (Option Process)
+-- the processes from number 1 on, of which one that has ended leaves its place empty; and beside
+-- them the most bytes of a file
+pub record Processes : Type 0 where
+  pub list : List (Option Process)
+  pub largest : ℕ
+
+abbrev pub no_processes : Processes
+no_processes = record { list = []; largest = 0 }
+
+-- with another at this number, and with one more behind
+abbrev pub with_process : ℕ → Option Process → Processes → Processes
+with_process pid new processes = record processes { list = set processes.list (pid - 1) new }
+
+abbrev pub with_one_more : Process → Processes → Processes
+with_one_more new processes = record processes { list = processes.list ++ Some new ∷ [] }
 
 abbrev pub numbered : Processes → FinMap nat_cmp Process
-numbered processes = from_entries (placed 1 processes)
+numbered processes = from_entries (placed 1 processes.list)
 
 -- the state of a plain kernel whose root is number 0
 abbrev pub stored : Processes → FinMap nat_cmp Inode → FinMap nat_cmp Description → Kernel
@@ -36,7 +49,8 @@ stored processes inodes descriptions = record {
   inodes = inodes;
   descriptions = descriptions;
   processes = numbered processes;
-  made = length processes;
+  made = length processes.list;
+  largest = processes.largest;
 }
 
 abbrev pub state_of : Processes → Numbers → Kernel

@@ -32,7 +32,7 @@ impl Stable {
         let priority = self.priority_of(parent);
         let child = Pid(self.made() as u32 + 1);
         let table = FdTable::new();
-        self.processes.push(Some(Process { table, priority }))?;
+        self.processes.push(Process { table, priority })?;
         let _none = lay_table(&mut self.store, &mut self.processes, child, &opened);
         Ok(child)
     }
@@ -46,7 +46,7 @@ impl Stable {
         ensures kept { KeepsSame self.old self.new }
     {
         let former = lay_table(&mut self.store, &mut self.processes, pid, &all_closed());
-        self.processes[pid.0 as usize - 1] = None;
+        self.processes.remove(pid);
         close_given(&mut self.store, &former);
     }
 }

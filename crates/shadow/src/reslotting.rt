@@ -1,45 +1,36 @@
 // The changes of slots, made of the processes.
-ghost use Rattle.std.specs.Prelude.{◌≡◌, ◌≢◌, ◌<◌, [], ℕ, None, Some};
+ghost use Rattle.std.specs.Prelude.{◌≡◌, ◌≢◌, ◌<◌, ◌^◌, [], ℕ, None, Some, length};
 ghost use Rattle.ids.specs.declared.limits.TheConstants.{DESCRIPTORS};
 ghost use Rattle.model.specs.FiniteMap.{entries, get};
 ghost use Rattle.shadow.specs.Laid.{AreHeld, AreReslotted, IsOneLess, IsOneMore, IsReslotted};
 ghost use Rattle.shadow.specs.Laid.{IsSlotted, table_in};
 ghost use Rattle.shadow.specs.Openings.{AreOnce, slot_noted};
-ghost use Rattle.shadow.specs.Stored.{numbered};
+ghost use Rattle.shadow.specs.Stored.{numbered, with_process};
 ghost use Rattle.shadow.specs.Patches.{kept_at, slots_in};
 
 use crate::slots::Slots;
-use crate::stable::Process;
+use crate::stable::{Process, Processes};
 use fdtable::Patch;
-use heap::Heap;
 use ids::{DESCRIPTORS, Fd, Num, Pid};
 use store::Store;
 
 /// Makes what is changed of slots; what these gave before stands in the place of the changes. It
 /// takes no memory.
-pub(crate) fn lay_slots(
-    store: &mut Store,
-    processes: &mut Vec<Option<Process>, Heap>,
-    slots: &mut Slots,
-)
+pub(crate) fn lay_slots(store: &mut Store, processes: &mut Processes, slots: &mut Slots)
     requires { (pid : ℕ) → slots_in (kept_at slots.old pid) ≢ []
-        → get (numbered processes.old.items) pid ≢ None }
-    ensures { AreReslotted slots.old slots.new processes.old.items processes.new.items
+        → get (numbered processes.old) pid ≢ None }
+    ensures { AreReslotted slots.old slots.new processes.old processes.new
         store.old store.new }
 {
     lay_each(store, processes, slots.each.as_mut_slice());
 }
 
 // Makes what is changed of each process's slots, and puts what they gave before in its place.
-fn lay_each(
-    store: &mut Store,
-    processes: &mut Vec<Option<Process>, Heap>,
-    each: &mut [(Pid, Patch)],
-)
+fn lay_each(store: &mut Store, processes: &mut Processes, each: &mut [(Pid, Patch)])
     requires once { AreOnce each.old }
     requires living { (pid : ℕ) → slots_in (kept_at each.old pid) ≢ []
-        → get (numbered processes.old.items) pid ≢ None }
-    ensures laid { AreReslotted each.old each.new processes.old.items processes.new.items
+        → get (numbered processes.old) pid ≢ None }
+    ensures laid { AreReslotted each.old each.new processes.old processes.new
         store.old store.new }
     ensures once { AreOnce each.new }
 {
@@ -54,12 +45,12 @@ fn lay_each(
 /// memory.
 pub(crate) fn lay_table(
     store: &mut Store,
-    processes: &mut Vec<Option<Process>, Heap>,
+    processes: &mut Processes,
     pid: Pid,
     patch: &Patch,
 ) -> Patch
-    requires { entries patch.now ≢ [] → get (numbered processes.old.items) pid ≢ None }
-    ensures { IsReslotted pid patch.now result processes.old.items processes.new.items
+    requires { entries patch.now ≢ [] → get (numbered processes.old) pid ≢ None }
+    ensures { IsReslotted pid patch.now result processes.old processes.new
         store.old store.new }
 {
     let mut former = Patch::new();
@@ -76,23 +67,38 @@ pub(crate) fn lay_table(
 /// One slot gives this from now on; what it gave is answered. It takes no memory.
 pub(crate) fn lay_slot(
     store: &mut Store,
-    processes: &mut Vec<Option<Process>, Heap>,
+    processes: &mut Processes,
     pid: Pid,
     fd: Fd,
     given: Option<Num>,
 ) -> Option<Num>
-    requires pid { get (numbered processes.old.items) pid ≢ None }
+    requires pid { get (numbered processes.old) pid ≢ None }
     requires fd { fd < DESCRIPTORS }
-    ensures former { result ≡ get (table_in (get (numbered processes.old.items) pid)) fd }
-    ensures laid { IsSlotted pid fd given processes.old.items processes.new.items
+    ensures former { result ≡ get (table_in (get (numbered processes.old) pid)) fd }
+    ensures laid { IsSlotted pid fd given processes.old processes.new
         store.old store.new }
 {
-    let index = pid.0 as usize - 1;
-    let former = slot_of(&processes[index], fd);
-    give(&mut processes[index], fd, given);
+    let former = processes.reslot(pid, fd, given);
     count_more(store, &given);
     count_less(store, &former);
     former
+}
+
+impl Processes {
+    // One slot of a process gives this from now on; what it gave is answered.
+    fn reslot(&mut self, pid: Pid, fd: Fd, given: Option<Num>) -> Option<Num>
+        requires pid { get (numbered self.old) pid ≢ None }
+        requires fd { fd < DESCRIPTORS }
+        ensures former { result ≡ get (table_in (get (numbered self.old) pid)) fd }
+        ensures slot { self.new
+            ≡ with_process pid (slot_noted fd given (get (numbered self.old) pid)) self.old }
+        ensures few { length self.old.list < 2 ^ 64 }
+    {
+        let place = pid.0 as usize - 1;
+        let former = slot_of(&self.list[place], fd);
+        give(&mut self.list[place], fd, given);
+        former
+    }
 }
 
 // What a slot of a process gives.

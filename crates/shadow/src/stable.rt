@@ -1,6 +1,7 @@
 // The committed state.
 ghost use Rattle.std.specs.Prelude.{ℕ, ◌≡◌, ◌≢◌, ◌≤◌, ◌<◌, ◌+◌, ◌∷◌, [], List, None, Some, true, IfOk, OnErr};
 ghost use Rattle.std.specs.Prelude.{OnOk, IfSome, option_copied, length, map, if◌then◌else◌};
+ghost use Rattle.ids.specs.declared.limits.TheConstants.{LARGEST_FILE};
 ghost use Rattle.std.specs.List.{AllByRecursion};
 ghost use Rattle.model.specs.FiniteMap.{empty, get};
 ghost use Rattle.model.specs.State.{file_of, kind_of, links, mapped, names_of, File as A_file};
@@ -18,7 +19,7 @@ ghost use Rattle.shadow.specs.Claims.{reserved, room_in};
 ghost use Rattle.shadow.specs.Log.{effect};
 ghost use Rattle.shadow.specs.Looks.{DirectoriesAreKept, birth_of};
 ghost use Rattle.shadow.specs.Steps.{CanEdit};
-ghost use Rattle.shadow.specs.Stored.{numbered};
+ghost use Rattle.shadow.specs.Stored.{numbered, with_one_more, with_process};
 
 use crate::shadow::Shadow;
 use dirlist::Dir;
@@ -60,11 +61,39 @@ impl Model for Process {
     } };
 }
 
+/// The processes, and the most bytes of a file, which never changes.
+pub(crate) struct Processes {
+    /// Each place has the process of the next number; one that has ended leaves its place empty.
+    pub(crate) list: Vec<Option<Process>, Heap>,
+    largest: u32,
+}
+
+// By hand: a derived drop is opened at every place where a value goes, this one is called.
+impl Drop for Processes {
+    fn drop(self) {
+        let Processes {
+            list: _,
+            largest: _,
+        } = self;
+    }
+}
+
+impl Model for Processes {
+    ghost use Rattle.std.specs.Prelude.{◌≤◌};
+    ghost use Rattle.ids.specs.declared.limits.TheConstants.{LARGEST_FILE};
+    ghost use Rattle.shadow.specs.Stored.{Processes};
+
+    ghost Value = { Processes };
+
+    ghost view = { λ p. record { list = p.list.items; largest = p.largest } };
+
+    ghost invariant = { λ p. p.largest ≤ LARGEST_FILE };
+}
+
 /// The committed state: the objects, the processes with their descriptors and priorities, and what
 /// is kept for transactions that may commit.
 pub struct Stable {
-    /// Each place has the process of the next number; one that has ended leaves its place empty.
-    pub(crate) processes: Vec<Option<Process>, Heap>,
+    pub(crate) processes: Processes,
     pub(crate) store: Store,
 }
 
@@ -84,9 +113,9 @@ impl Model for Stable {
 
     ghost Value = { Committed };
 
-    ghost view = { λ s. committed_of s.processes.items s.store };
+    ghost view = { λ s. committed_of s.processes s.store };
 
-    ghost invariant = { λ s. Sound s.processes.items s.store };
+    ghost invariant = { λ s. Sound s.processes s.store };
 }
 
 // A process without open descriptors for each of these priorities.
@@ -107,42 +136,101 @@ fn first_processes(
     Ok(processes)
 }
 
-// The process of a number, if it is there.
-fn process_in(processes: &[Option<Process>], pid: Pid) -> Option<&Process>
-    ensures { option_copied result ≡ get (numbered processes.now) pid }
-{
-    let number = pid.0 as usize;
-    if 0 < number && number <= processes.len() {
-        processes[number - 1].as_ref()
-    } else {
-        None
+impl Processes {
+    // A process without open descriptors for each of these priorities, and files of so many bytes.
+    fn first(heap: Heap, priorities: &[Priority], largest: u32) -> Result<Processes, AllocError>
+        requires { largest ≤ LARGEST_FILE }
+        ensures { IfOk result (λ ps. ps ≡ record {
+          list = map (λ p. Some (record { table = empty; priority = p })) priorities.now;
+          largest = largest;
+        }) }
+    {
+        Ok(Processes {
+            list: first_processes(heap, priorities)?,
+            largest,
+        })
+    }
+
+    // How many were ever made.
+    fn count(&self) -> usize
+        ensures { result ≡ length self.now.list }
+    {
+        self.list.len()
+    }
+
+    // The most bytes of a file.
+    fn largest(&self) -> u32
+        ensures value { result ≡ self.now.largest }
+        ensures small { result ≤ LARGEST_FILE }
+    {
+        self.largest
+    }
+
+    // The process of a number, if it is there.
+    fn process(&self, pid: Pid) -> Option<&Process>
+        ensures { option_copied result ≡ get (numbered self.now) pid }
+    {
+        let number = pid.0 as usize;
+        if 0 < number && number <= self.list.len() {
+            self.list[number - 1].as_ref()
+        } else {
+            None
+        }
+    }
+
+    /// One more. Refused memory changes nothing.
+    pub(crate) fn push(&mut self, process: Process) -> Result<(), AllocError>
+        ensures ok { OnOk result (self.new ≡ with_one_more process self.old) }
+        ensures err { OnErr result (self.new ≡ self.old) }
+    {
+        self.list.push(Some(process))?;
+        Ok(())
+    }
+
+    /// A process is gone. It takes no memory.
+    pub(crate) fn remove(&mut self, pid: Pid)
+        requires { get (numbered self.old) pid ≢ None }
+        ensures { self.new ≡ with_process pid None self.old }
+    {
+        self.list[pid.0 as usize - 1] = None;
     }
 }
 
 impl Stable {
-    /// The empty root, and a process for each of these priorities. Refused memory gives nothing.
-    pub fn new(heap: Heap, priorities: &[Priority]) -> Result<Stable, AllocError>
-        ensures state { IfOk result (λ s. s.state ≡ start 0 priorities.now) }
+    /// The empty root, a process for each of these priorities, and files of at most so many bytes.
+    /// Refused memory gives nothing.
+    pub fn new(heap: Heap, priorities: &[Priority], largest: u32) -> Result<Stable, AllocError>
+        requires { largest ≤ LARGEST_FILE }
+        ensures state { IfOk result (λ s. s.state
+            ≡ start 0 (record { priorities = priorities.now; largest = largest })) }
         ensures kept { IfOk result KeepsNothing }
     {
         Ok(Stable {
-            processes: first_processes(heap, priorities)?,
+            processes: Processes::first(heap, priorities, largest)?,
             store: Store::new(heap)?,
         })
+    }
+
+    /// The most bytes of a file.
+    pub fn largest(&self) -> u32
+        ensures value { result ≡ self.now.state.largest }
+        ensures small { result ≤ LARGEST_FILE }
+    {
+        self.processes.largest()
     }
 
     /// How many processes were ever made.
     pub fn made(&self) -> usize
         ensures { result ≡ self.now.state.made }
     {
-        self.processes.len()
+        self.processes.count()
     }
 
     /// Whether there is such a process.
     pub fn is_living(&self, pid: Pid) -> bool
         ensures { result ≡ is_alive self.now.state pid }
     {
-        process_in(self.processes.as_slice(), pid).is_some()
+        self.processes.process(pid).is_some()
     }
 
     /// A process's priority.
@@ -150,7 +238,7 @@ impl Stable {
         requires { is_alive self.now.state pid ≡ true }
         ensures { result ≡ (process_of self.now.state pid).priority }
     {
-        match process_in(self.processes.as_slice(), pid) {
+        match self.processes.process(pid) {
             Some(process) => process.priority,
             None => unreachable!(),
         }
@@ -183,7 +271,7 @@ impl Stable {
     pub(crate) fn table(&self, pid: Pid) -> FdTable
         ensures { result ≡ (process_of self.now.state pid).table }
     {
-        match process_in(self.processes.as_slice(), pid) {
+        match self.processes.process(pid) {
             Some(process) => process.table.copy(),
             None => FdTable::new(),
         }
@@ -280,6 +368,6 @@ impl Stable {
 
     /// Where its memory comes from.
     pub(crate) fn heap(&self) -> Heap {
-        *self.processes.allocator()
+        *self.processes.list.allocator()
     }
 }

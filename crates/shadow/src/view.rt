@@ -1,5 +1,5 @@
 // What a process sees.
-ghost use Rattle.std.specs.Prelude.{ℕ, ◌≡◌, ◌+◌, ◌-◌, [], IfOk, Option, drop, length};
+ghost use Rattle.std.specs.Prelude.{ℕ, ◌≡◌, ◌+◌, ◌-◌, ◌≤◌, [], IfOk, Option, drop, length};
 ghost use Rattle.std.specs.Prelude.{option_copied, option_map, take};
 ghost use Rattle.model.specs.FiniteMap.{get, keys};
 ghost use Rattle.model.specs.Paths.{is_empty};
@@ -9,6 +9,7 @@ ghost use Rattle.model.specs.Changes.{process_of};
 ghost use Rattle.model.specs.Calls.{slot_of};
 ghost use Rattle.model.specs.Effects.{all_done};
 ghost use Rattle.freeing_laws.specs.Sweep.{AllFit};
+ghost use Rattle.objects.specs.declared.run.TheConstants.{LARGEST_RUN};
 ghost use Rattle.shadow.specs.Claims.{Covers};
 ghost use Rattle.shadow.specs.Looks.{DirectoriesAreKept, IsNet, KeepsRest, changes_of};
 ghost use Rattle.shadow.specs.Patches.{net_of, patched};
@@ -62,7 +63,7 @@ pub(crate) fn change<'a>(shadow: Option<&'a Shadow>, num: Num) -> Option<&'a Cha
     }
 }
 
-// No change changes the root, how many processes were made, or a priority.
+// No change changes the root, the largest file, how many processes were made, or a priority.
 fn keeps_rest(shadow: Option<&Shadow>)
     ensures { KeepsRest (changes_of (option_map (λ s. s.now) shadow.entry)) }
 {
@@ -157,6 +158,7 @@ impl<'a> View<'a> {
 
     // Bytes of a file from a place on.
     fn bytes(&self, heap: Heap, file: Num, place: usize, count: usize) -> Result<Bytes, AllocError>
+        requires { count ≤ LARGEST_RUN }
         ensures { IfOk result
             (λ bytes. bytes ≡ take count (drop place (file_of self.now.state file))) }
     {
@@ -164,7 +166,7 @@ impl<'a> View<'a> {
         let stored = self.stable.file(file, &none);
         match change(self.shadow, file) {
             Some(change) => bytes_over(heap, &change.contents, stored, place, count),
-            None => stored.read_at(heap, place, count.min(stored.len())),
+            None => stored.read_at(heap, place, count),
         }
     }
 
@@ -284,11 +286,12 @@ fn bytes_over(
     place: usize,
     count: usize,
 ) -> Result<Bytes, AllocError>
+    requires { count ≤ LARGEST_RUN }
     ensures { IfOk result (λ bytes. (o : Option Inode) → file_of_inode o ≡ stored.now.bytes
         → bytes ≡ take count (drop place (file_of_inode (patched contents.now o)))) }
 {
     match contents {
-        Contents::Same => stored.read_at(heap, place, count.min(stored.len())),
+        Contents::Same => stored.read_at(heap, place, count),
         Contents::Names(_, _) => Ok(Bytes::new(Vec::new(heap))),
         Contents::Pipe(_, _) => Ok(Bytes::new(Vec::new(heap))),
         Contents::Bytes(true, bytes) => bytes.read(heap, &FileData::new(heap), place, count),
@@ -322,6 +325,11 @@ impl<'a> Look for View<'a> {
     fn root(&self) -> Num {
         keeps_rest(self.shadow);
         self.stable.root()
+    }
+
+    fn largest(&self) -> u32 {
+        keeps_rest(self.shadow);
+        self.stable.largest()
     }
 
     fn find(&self, dir: Num, name: &Name) -> Option<(Num, Option<Kind>)> {

@@ -3,7 +3,7 @@ use Rattle.std.proofs.Common.{◌≡◌, ℕ, suc, ◌+◌, arith, Bool, true, f
 use Rattle.atomic_table.specs.Table.{Me, rest}
 use Rattle.atomic_table.specs.Seated.{TableId}
 use Rattle.history.specs.Log.{Log}
-use Rattle.machine.specs.Shown.{limit_of, Shown, moment}
+use Rattle.machine.specs.Shown.{limit_of, setup_of, Shown, moment}
 use Rattle.machine.specs.Steps.{is_no_entry, has_place, Added, IsStep}
 use Rattle.model.specs.Calls.{Child}
 use Rattle.model.specs.Entries.{Op, Reply, Answers, Entry}
@@ -43,12 +43,12 @@ log_is old new e = ap (λ (k : Shown). k.log) e
 module _ (old new : Log) (pid : ℕ) (op : Op) (reply : Reply) (was : IsLegal old) (is : IsLegal new) (added : Added old new pid op reply) where
   moves : ProcessesMove (moment old) (last old new pid op reply added)
   moves = let e : Entry = last old new pid op reply added in
-      let legal : Legal 0 old.priorities (limit_of old) (old.entries ++ e ∷ []) = subst (λ (l : Log). Legal 0 l.priorities (limit_of l) l.entries) added.is is.legal in
-      forks_and_exits_move 0 old.priorities (limit_of old) old.entries e was.legal (legality_follows.rest 0 old.priorities (limit_of old) old.entries (e ∷ []) legal).1
+      let legal : Legal 0 (setup_of old) (limit_of old) (old.entries ++ e ∷ []) = subst (λ (l : Log). Legal 0 (setup_of l) (limit_of l) l.entries) added.is is.legal in
+      forks_and_exits_move 0 (setup_of old) (limit_of old) old.entries e was.legal (legality_follows.rest 0 (setup_of old) (limit_of old) old.entries (e ∷ []) legal).1
 
   pub made_moves : made_of new ≡ made_of old + born reply
   unfolding made_of
-  made_moves = ap (λ (l : Log). (moment l).committed.made) added.is ∙ (ap (λ (m : Moment). m.committed.made) (after_one_more 0 old.priorities old.entries (last old new pid op reply added)) ∙ moves.made)
+  made_moves = ap (λ (l : Log). (moment l).committed.made) added.is ∙ (ap (λ (m : Moment). m.committed.made) (after_one_more 0 (setup_of old) old.entries (last old new pid op reply added)) ∙ moves.made)
 
   pub child_is_next : (n : ℕ) → reply ≡ Answers (Child n) → n ≡ suc (made_of old)
   unfolding made_of

@@ -10,43 +10,51 @@ use Rattle.std.proofs.lemmas.List.Sums.{sum_by-append}
 use Rattle.history_laws.proofs.Laws.{legal_start, serializable_at}
 use Rattle.history_laws.specs.Headline.{IsSerializable}
 use Rattle.ids.specs.declared.call.Op.{Op}
-use Rattle.machine.specs.Shown.{limit_of, Kept, Shown}
+use Rattle.machine.specs.Shown.{limit_of, setup_of, Kept, Shown}
 use Rattle.machine.specs.Steps.{IsStep, has_place}
 use Rattle.model.specs.Entries.{Do, Begin, End, Abort, HistoryFull}
 use Rattle.model.specs.Legal.{Legal}
-use Rattle.model.specs.Moments.{gone, idle, after, is_alive, start}
+use Rattle.model.specs.Moments.{gone, idle, Setup, after, is_alive, start}
 use Rattle.model.specs.Replies.{needed}
 
 abbrev pub full : Log → Shown
-full l = record { log = l; state = start 0 l.priorities }
+full l = record { log = l; state = start 0 (setup_of l) }
 
 pub holds : (l : Log) → l.entries ≡ [] → sum l.forgotten ≡ 0 → Kept (full l)
 holds l none whole = record {
-  legal = subst (λ es. Legal 0 l.priorities (limit_of l) es) (sym none) (legal_start 0 l.priorities (limit_of l));
-  state = ap (λ es. (after 0 l.priorities es).committed) (sym none);
+  legal = subst (λ es. Legal 0 (setup_of l) (limit_of l) es) (sym none) (legal_start 0 (setup_of l) (limit_of l));
+  state = ap (λ es. (after 0 (setup_of l) es).committed) (sym none);
   forgot = omega (arith, whole);
 }
 
 pub kept : (l : Log) (v : Shown) → full l ≡ v → l.entries ≡ [] → sum l.forgotten ≡ 0 → Kept v
 kept l v is none whole = subst Kept is (holds l none whole)
 
-pub serial : (l : Log) (v : Shown) → full l ≡ v → l.entries ≡ [] → sum l.forgotten ≡ 0 → IsSerializable 0 v.log.priorities (limit_of v.log) v.log.entries v.state
+pub serial : (l : Log) (v : Shown) → full l ≡ v → l.entries ≡ [] → sum l.forgotten ≡ 0 → IsSerializable 0 (setup_of v.log) (limit_of v.log) v.log.entries v.state
 serial l v is none whole = let k = kept l v is none whole in serializable_at 0 _ _ _ _ k.legal k.state
 
-pub made : (priorities : List ℕ) → length priorities ≡ (start 0 priorities).made
-made priorities = sym (first_processes_live 0 priorities).made
+-- a setup by its parts
+abbrev with_parts : List ℕ → ℕ → Setup
+with_parts priorities largest = record { priorities = priorities; largest = largest }
+
+pub made : (priorities : List ℕ) (largest : ℕ) → length priorities ≡ (start 0 (with_parts priorities largest)).made
+made priorities largest = sym (first_processes_live 0 (with_parts priorities largest)).made
 
 -- who lives at the start
 pub nobody : (l : Log) (v : Shown) (pid : ℕ) → full l ≡ v → pid ≡ 0 → false ≡ is_alive v.state pid
 nobody l v pid is zeroth =
-    sym ((first_processes_live 0 l.priorities).none 0 (inl refl)) ∙ ap (λ (s : Shown). is_alive s.state 0) is ∙ ap (is_alive v.state) (sym zeroth)
+    sym ((first_processes_live 0 (setup_of l)).none 0 (inl refl)) ∙ ap (λ (s : Shown). is_alive s.state 0) is ∙ ap (is_alive v.state) (sym zeroth)
 
-pub living : (priorities : List ℕ) (q : ℕ) → 0 < q → nat_le q (length priorities) ≡ is_alive (start 0 priorities) q
-living priorities zero some = absurd (omega arith)
-living priorities (suc i) some = elim (nat_le (suc i) (length priorities)) as (λ b. nat_le (suc i) (length priorities) ≡ b → b ≡ is_alive (start 0 priorities) (suc i)) [
-  | true ↦ (λ e. let low : i < length priorities = grind (arith, nat_tests) in sym ((first_processes_live 0 priorities).alive i low))
-  | false ↦ (λ e. let above : length priorities < suc i = grind (arith, nat_tests) in sym ((first_processes_live 0 priorities).none (suc i) (inr above)))
+living : (priorities : List ℕ) (largest q : ℕ) → 0 < q → nat_le q (length priorities) ≡ is_alive (start 0 (with_parts priorities largest)) q
+living priorities largest zero some = absurd (omega arith)
+living priorities largest (suc i) some = elim (nat_le (suc i) (length priorities)) as (λ b. nat_le (suc i) (length priorities) ≡ b → b ≡ is_alive (start 0 (with_parts priorities largest)) (suc i)) [
+  | true ↦ (λ e. let low : i < length priorities = grind (arith, nat_tests) in sym ((first_processes_live 0 (with_parts priorities largest)).alive i low))
+  | false ↦ (λ e. let above : length priorities < suc i = grind (arith, nat_tests) in sym ((first_processes_live 0 (with_parts priorities largest)).none (suc i) (inr above)))
 ] refl
+
+pub lives : (l : Log) (v : Shown) (ps : List ℕ) (q pid : ℕ) → full l ≡ v → ps ≡ l.priorities → q ≡ pid → 0 < q → nat_le q (length ps) ≡ is_alive v.state pid
+lives l v ps q pid is same number some =
+    ap (λ (xs : List ℕ). nat_le q (length xs)) same ∙ living l.priorities l.largest q some ∙ ap (λ (s : Shown). is_alive s.state q) is ∙ ap (is_alive v.state) number
 
 needs_a_place : (b : Bool) (op : Op) → 1 ≤ needed (if b then idle else gone) op
 needs_a_place true (Begin flags) = omega arith
@@ -55,18 +63,18 @@ needs_a_place true End = omega arith
 needs_a_place true (Abort no_restart) = omega arith
 needs_a_place false op = omega arith
 
-no_place : (priorities counts : List ℕ) → sum counts ≡ 0 → (pid : ℕ) (op : Op) → has_place (record { entries = []; priorities = priorities; limit = 0; forgotten = counts }) pid op ≡ false
-no_place priorities counts none pid op =
-    let some = needs_a_place (is_alive (start 0 priorities) pid) op in
-    let all = forgetting_is_legal.all (record { capacity = 0; forgotten = counts }) (after 0 priorities []).entries (omega (arith, none)) in
+no_place : (priorities counts : List ℕ) (largest : ℕ) → sum counts ≡ 0 → (pid : ℕ) (op : Op) → has_place (record { entries = []; priorities = priorities; limit = 0; forgotten = counts; largest = largest }) pid op ≡ false
+no_place priorities counts largest none pid op =
+    let some = needs_a_place (is_alive (start 0 (with_parts priorities largest)) pid) op in
+    let all = forgetting_is_legal.all (record { capacity = 0; forgotten = counts }) (after 0 (with_parts priorities largest) []).entries (omega (arith, none)) in
     grind (arith, nat_tests, none, all)
 
 holds_step : (l : Log) → l.entries ≡ [] → l.limit ≡ 0 → sum l.forgotten ≡ 0 → (pid : ℕ) (op : Op) → IsStep (full l) (full l) pid op HistoryFull
 holds_step l none limit whole pid op =
-    let log : l ≡ record { entries = []; priorities = l.priorities; limit = 0; forgotten = l.forgotten } = search rules in
+    let log : l ≡ record { entries = []; priorities = l.priorities; limit = 0; forgotten = l.forgotten; largest = l.largest } = search rules in
     record {
       entry = refl;
-      full = ((λ e. ap (λ (l : Log). has_place l pid op) log ∙ no_place l.priorities l.forgotten whole pid op), λ e. refl);
+      full = ((λ e. ap (λ (l : Log). has_place l pid op) log ∙ no_place l.priorities l.forgotten l.largest whole pid op), λ e. refl);
       memory = λ e same. cc same;
     }
 

@@ -3,17 +3,18 @@ use Rattle.std.specs.Prelude.{◌≡◌, ℕ, List}
 use Rattle.history.specs.Log.{Log}
 use Rattle.model.specs.Entries.{Entry}
 use Rattle.model.specs.Legal.{Legal, IsBefore, mine}
-use Rattle.machine.specs.Shown.{limit_of, Shown, moment}
+use Rattle.machine.specs.Shown.{limit_of, setup_of, Shown, moment}
 
 -- the root is number 0
 pub record IsLegal (log : Log) : Type 0 where
-  pub legal : Legal 0 log.priorities (limit_of log) log.entries
+  pub legal : Legal 0 (setup_of log) (limit_of log) log.entries
 
 -- the second history begins with the first
 pub record Begins (first whole : Log) : Type 0 where
   pub priorities : whole.priorities ≡ first.priorities
   pub limit : whole.limit ≡ first.limit
   pub forgotten : whole.forgotten ≡ first.forgotten
+  pub largest : whole.largest ≡ first.largest
   pub entries : IsBefore first.entries whole.entries
 
 -- the entries of one process, in order

@@ -21,7 +21,7 @@ abbrev pub gate_of : TableId → Log → Gate
 gate_of z start = record { table = z; start = start }
 
 abbrev pub no_log : Log
-no_log = record { entries = []; priorities = []; limit = 0; forgotten = [] }
+no_log = record { entries = []; priorities = []; limit = 0; forgotten = []; largest = 0 }
 
 abbrev pub no_pass : PassState
 no_pass = record { pid = 0; seen = no_log; start = no_log }

@@ -5,7 +5,7 @@ ghost use Rattle.std.specs.Prelude.{◌≡◌, All};
 use super::*;
 use heap::Heap;
 use history::History;
-use ids::{Op, Pid, Priority, Reply};
+use ids::{Limits, Op, Pid, Priority, Reply};
 use machine::Machine;
 use std::alloc::AllocError;
 use std::marker::Model;
@@ -19,12 +19,12 @@ struct Full {
 
 impl Model for Full {
     ghost use Rattle.std.specs.Prelude.{◌≡◌, [], sum};
-    ghost use Rattle.machine.specs.Shown.{Shown};
+    ghost use Rattle.machine.specs.Shown.{Shown, setup_of};
     ghost use Rattle.model.specs.Moments.{start};
 
     ghost Value = { Shown };
 
-    ghost view = { λ f. record { log = f.history; state = start 0 f.history.priorities } };
+    ghost view = { λ f. record { log = f.history; state = start 0 (setup_of f.history) } };
 
     ghost invariant = { λ f. (f.history.entries ≡ []) × (f.history.limit ≡ 0)
         × (sum f.history.forgotten ≡ 0) };
@@ -34,10 +34,18 @@ impl Machine for Full {
     ghost shown = { λ f. f };
 
     fn new(heap: Heap, priorities: &[Priority], limit: usize) -> Result<Full, AllocError> {
-        if limit > 0 {
+        Full::with_limits(heap, priorities, Limits::of_entries(limit))
+    }
+
+    fn with_limits(
+        heap: Heap,
+        priorities: &[Priority],
+        limits: Limits,
+    ) -> Result<Full, AllocError> {
+        if limits.entries > 0 {
             return Err(AllocError);
         }
-        let history = History::new(heap, priorities, 0)?;
+        let history = History::with_limits(heap, priorities, limits)?;
         Ok(Full { history })
     }
 
@@ -50,7 +58,6 @@ impl Machine for Full {
         self.history.priorities().len()
     }
 
-    #[tactic(auto, using(crate::proofs::Full::nobody, crate::proofs::Full::living))]
     fn is_living(&self, pid: Pid) -> bool {
         let made = self.history.priorities().len();
         if pid.0 == 0 {

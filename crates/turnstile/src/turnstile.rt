@@ -1,10 +1,12 @@
 // The turnstile, and the calls through it.
-ghost use Rattle.std.specs.Prelude.{◌≡◌, ◌≢◌, ◌<◌, ℕ, suc, true, [], length, map, All, vec_capacity};
+ghost use Rattle.ids.specs.declared.limits.TheConstants.{LARGEST_FILE, MAX_ENTRIES, MAX_PROCESSES};
+ghost use Rattle.std.specs.Prelude.{◌≡◌, ◌≢◌, ◌<◌, ◌≤◌, ℕ, suc, true, [], length, map, All};
+ghost use Rattle.std.specs.Prelude.{vec_capacity};
 ghost use Rattle.std.specs.Prelude.{IfOk, IfErr, IfSome, IfNone};
 ghost use Rattle.history_laws.specs.Processes.{child_in};
 ghost use Rattle.model.specs.Calls.{Child, Fork};
 ghost use Rattle.model.specs.Entries.{Answers, Do};
-ghost use Rattle.model.specs.Moments.{all_below};
+ghost use Rattle.model.specs.Moments.{all_below, start};
 ghost use Rattle.turnstile.specs.Histories.{IsLegal, made_of};
 ghost use Rattle.turnstile.specs.Calls.{Called, Forked, IsSamePass, KeepsPass, Met};
 ghost use Rattle.turnstile.specs.Calls.{has_pass, first_pass, first_passes};
@@ -22,7 +24,7 @@ use crate::rule::{
 use atomic_table::{Refused, Seat, Table};
 use heap::Heap;
 use history::History;
-use ids::{Answer, Call, Op, Pid, Reply};
+use ids::{Answer, Call, Limits, Op, Pid, Priority, Reply};
 use machine::Machine;
 use std::alloc::AllocError;
 use std::hint::spin_loop;
@@ -216,6 +218,35 @@ impl<K: Machine> Turnstile<K> {
         let (table, dealer) = table_of(heap, kernel, slots)?;
         let passes = deal(&table, dealer, passes, living.as_slice());
         Ok((Turnstile { table }, passes))
+    }
+
+    /// The turnstile of a fresh kernel with a process for each of these priorities and with these
+    /// limits, and a pass for each process, rising. Refused memory gives nothing.
+    pub fn with_limits(
+        heap: Heap,
+        priorities: &[Priority],
+        limits: Limits,
+    ) -> Result<(Turnstile<K>, Vec<Pass<K>, Heap>), AllocError>
+        requires some { 0 < length priorities.now }
+        requires not_too_many { length priorities.now ≤ MAX_PROCESSES }
+        requires limited { limits.entries ≤ MAX_ENTRIES }
+        requires files { limits.file_bytes ≤ LARGEST_FILE }
+        ensures start { IfOk result (λ t. (t.0.start ≡ record {
+          entries = [];
+          priorities = priorities.now;
+          limit = limits.entries;
+          forgotten = [];
+          largest = limits.file_bytes;
+        }) × IsLegal t.0.start) }
+        ensures passes { IfOk result (λ t. t.1.items ≡ first_passes t.0
+            (start 0 (record { priorities = priorities.now; largest = limits.file_bytes }))) }
+        ensures gates { IfOk result (λ t. All (λ p. p.gate ≡ t.0) t.1.items) }
+    {
+        let kernel = K::with_limits(heap, priorities, limits)?;
+        match Turnstile::new(heap, kernel) {
+            Ok(made) => Ok(made),
+            Err(_) => Err(AllocError),
+        }
     }
 
     /// The kernel, once no thread shares the turnstile. Its history begins with what each of these

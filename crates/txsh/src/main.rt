@@ -14,7 +14,7 @@ use std::process::ExitCode;
 use std::sync::Wait;
 use std::thread::Threads;
 use std::{env, io};
-use words::{CommandLineFault, Job, MAX_LIMIT};
+use words::{CommandLineFault, Job, MAX_FILE_LIMIT, MAX_LIMIT};
 
 fn main(rt: HostRuntime) -> ExitCode {
     ExitCode::from(status(&rt, &rt))
@@ -42,7 +42,8 @@ fn status<R: Threads + Wait + Sync>(rt: &HostRuntime, threads: &R) -> u8 {
 
 /// The job that the command line gives.
 fn job_in(rt: &HostRuntime, heap: Heap) -> Result<Job, CommandLineFault>
-    ensures { IfOk result (λ job. job.limit ≤ MAX_LIMIT) }
+    ensures limited { IfOk result (λ job. job.limit ≤ MAX_LIMIT) }
+    ensures files { IfOk result (λ job. job.file_limit ≤ MAX_FILE_LIMIT) }
 {
     let global = rt.alloc();
     let texts = words_of(rt, global)?;

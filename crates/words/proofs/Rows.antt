@@ -25,6 +25,31 @@ no_number : found_in (codes "--schedule=1" ∷ codes "--limit=x" ∷ codes "run.
 unfolding clap_on_literals
 no_number = refl
 
+most_file_limit : found_in (codes "--schedule=1" ∷ codes "--file-limit" ∷ codes "2147483647" ∷ codes "run.tx" ∷ []) ≡ []
+unfolding clap_on_literals
+most_file_limit = refl
+
+least_file_limit : found_in (codes "--file-limit=1" ∷ codes "--threads" ∷ codes "run.tx" ∷ []) ≡ []
+unfolding clap_on_literals
+least_file_limit = refl
+
+large_file_limit : found_in (codes "--schedule=1" ∷ codes "--file-limit" ∷ codes "2147483648" ∷ codes "run.tx" ∷ []) ≡ ValueValidation ∷ []
+unfolding clap_on_literals
+large_file_limit = refl
+
+no_bytes : found_in (codes "--schedule=1" ∷ codes "--file-limit=0" ∷ codes "run.tx" ∷ []) ≡ ValueValidation ∷ []
+unfolding clap_on_literals
+no_bytes = refl
+
+no_number_of_bytes : found_in (codes "--schedule=1" ∷ codes "--file-limit=x" ∷ codes "run.tx" ∷ []) ≡ ValueValidation ∷ []
+unfolding clap_on_literals
+no_number_of_bytes = refl
+
+-- each of the two limits has its own text
+limits_apart : number_in (codes "txsh" ∷ codes "--limit=7" ∷ codes "--file-limit=9" ∷ codes "run.tx" ∷ []) (codes "file_limit") ≡ Some (codes "9")
+unfolding clap_on_literals
+limits_apart = refl
+
 no_file : found_in (codes "--schedule=1" ∷ []) ≡ MissingRequiredArgument ∷ []
 unfolding clap_on_literals
 no_file = refl

@@ -11,7 +11,8 @@ use Rattle.clap.specs.declared.builder.ArgAction.TheVariants.{Set, SetTrue}
 use Rattle.clap.specs.declared.builder.value_parser.ValueParser.TheVariants.{Signed}
 use Rattle.clap.specs.declared.error.Error.{Error}
 use Rattle.clap.specs.declared.error.kind.ErrorKind.TheVariants.{DisplayHelp, OutOfMemory}
-use Rattle.words.specs.declared.TheConstants.{DEFAULT_LIMIT, MAX_LIMIT}
+use Rattle.words.specs.declared.TheConstants.{DEFAULT_FILE_LIMIT, DEFAULT_LIMIT}
+use Rattle.words.specs.declared.TheConstants.{MAX_FILE_LIMIT, MAX_LIMIT}
 use Rattle.words.specs.declared.Way.{Way}
 use Rattle.words.specs.declared.Way.TheVariants.{Schedule, Threads}
 use Rattle.words.specs.declared.Job.{Job}
@@ -40,6 +41,14 @@ limit_rule = record (new_rule (codes "limit")) {
   value_names = 1;
 }
 
+abbrev pub file_limit_rule : Rule
+file_limit_rule = record (new_rule (codes "file_limit")) {
+  long = Some (codes "file-limit");
+  action = Some Set;
+  parser = Some (Signed (pos 1) (pos MAX_FILE_LIMIT));
+  value_names = 1;
+}
+
 abbrev pub check_rule : Rule
 check_rule = record (new_rule (codes "check")) {
   long = Some (codes "check");
@@ -49,12 +58,13 @@ check_rule = record (new_rule (codes "check")) {
 abbrev pub file_rule : Rule
 file_rule = record (new_rule (codes "file")) { action = Some Set; required = true; value_names = 1 }
 
--- `txsh [--schedule LIST] [--threads] [--limit N] [--check] FILE`: that exactly one of the two ways
--- is given is the program's own rule, below
+-- `txsh [--schedule LIST] [--threads] [--limit N] [--file-limit N] [--check] FILE`: that exactly one
+-- of the two ways is given is the program's own rule, below
 abbrev pub txsh : App
 txsh =
     let ways = with_rule (with_rule (new_app (codes "txsh")) schedule_rule) threads_rule in
-    with_rule (with_rule (with_rule ways limit_rule) check_rule) file_rule
+    let limits = with_rule (with_rule ways limit_rule) file_limit_rule in
+    with_rule (with_rule limits check_rule) file_rule
 
 -- a flag is set, by clap's text for it: `true` where the words have it, else `false`
 abbrev pub IsSet : Option Text → Type 0
@@ -78,18 +88,20 @@ HasNotOneWay value number =
     ((value (codes "schedule") ≢ None) × IsSet (number (codes "threads")))
     ⊎ ((value (codes "schedule") ≡ None) × (IsSet (number (codes "threads")) → ⊥))
 
--- the number that the text reads as, at most the largest limit; the default where there is none
-abbrev pub IsLimit : Option Text → ℕ → Type 0
-IsLimit None limit = limit ≡ DEFAULT_LIMIT
-IsLimit (Some text) limit =
+-- the number that the text reads as, at most `most`; the default where there is none
+abbrev pub IsLimit : (default most : ℕ) → Option Text → ℕ → Type 0
+IsLimit default most None limit = limit ≡ default
+IsLimit default most (Some text) limit =
     (read : Result ℕ ParseIntError)
     × ParsesUnsigned 32 10 text read
-    × (limit ≡ min (result_unwrap_or read DEFAULT_LIMIT) MAX_LIMIT)
+    × (limit ≡ min (result_unwrap_or read default) most)
 
 -- the job that the options' values give
 pub record IsJob (value number : Text → Option Text) (job : Job) : Type 0 where
   pub way : IsWay value number job.way
-  pub limit : IsLimit (number (codes "limit")) job.limit
+  pub limit : IsLimit DEFAULT_LIMIT MAX_LIMIT (number (codes "limit")) job.limit
+  pub file_limit :
+      IsLimit DEFAULT_FILE_LIMIT MAX_FILE_LIMIT (number (codes "file_limit")) job.file_limit
   pub check : IsFlag (number (codes "check")) job.check
   pub file : string_bytes job.file ≡ unwrap_or (value (codes "file")) []
 

@@ -1,12 +1,13 @@
-//! The command line of `txsh`: `txsh (--schedule LIST | --threads) [--limit N] [--check] FILE`.
+//! The command line of `txsh`:
+//! `txsh (--schedule LIST | --threads) [--limit N] [--file-limit N] [--check] FILE`.
 #![tactic(auto)]
 
 ghost use Rattle.std.specs.Prelude.{◌≡◌, ◌≤◌, [], false, IfOk, IfErr, codes, string_bytes};
 ghost use Rattle.clap.specs.Words.{app_of, fault_of, first_value, found_of, one_text, rule_of};
 ghost use Rattle.words.specs.Txsh.{IsFaultOf, IsFlag, IsJob, IsJobFault, IsLimit, IsParseFault};
-ghost use Rattle.words.specs.Txsh.{IsReportedAs, IsWay, SameMatches, check_rule, file_rule};
-ghost use Rattle.words.specs.Txsh.{limit_rule, number_in, schedule_rule, status_of, texts};
-ghost use Rattle.words.specs.Txsh.{threads_rule, txsh, value_in};
+ghost use Rattle.words.specs.Txsh.{IsReportedAs, IsWay, SameMatches, check_rule, file_limit_rule};
+ghost use Rattle.words.specs.Txsh.{file_rule, limit_rule, number_in, schedule_rule, status_of};
+ghost use Rattle.words.specs.Txsh.{texts, threads_rule, txsh, value_in};
 
 use clap::error::ErrorKind;
 use clap::{Arg, ArgAction, ArgMatches, Command, Error};
@@ -19,6 +20,12 @@ pub const MAX_LIMIT: u32 = 1_048_576;
 
 /// How many entries a history has room for where `--limit` is not given.
 pub const DEFAULT_LIMIT: u32 = 65_536;
+
+/// The most bytes that a file may be given room for: the largest value of `--file-limit`.
+pub const MAX_FILE_LIMIT: u32 = 2_147_483_647;
+
+/// How many bytes a file may have where `--file-limit` is not given.
+pub const DEFAULT_FILE_LIMIT: u32 = 1_048_576;
 
 /// How a script is run.
 #[derive(Debug)]
@@ -46,6 +53,8 @@ pub struct Job {
     pub way: Way,
     /// How many entries the history may have, at most [`MAX_LIMIT`].
     pub limit: u32,
+    /// How many bytes a file may have, at most [`MAX_FILE_LIMIT`].
+    pub file_limit: u32,
     /// Whether the history is checked at the end.
     pub check: bool,
     /// The script's file.
@@ -58,6 +67,7 @@ impl Drop for Job {
         let Job {
             way: _,
             limit: _,
+            file_limit: _,
             check: _,
             file: _,
         } = self;
@@ -99,7 +109,8 @@ impl CommandLineFault {
 
 // The program itself sees to it that one way to run is given, so clap's own usage line would call
 // `--schedule` and `--threads` options.
-const USAGE: &str = "txsh (--schedule <LIST> | --threads) [--limit <N>] [--check] <FILE>";
+const USAGE: &str =
+    "txsh (--schedule <LIST> | --threads) [--limit <N>] [--file-limit <N>] [--check] <FILE>";
 
 const ABOUT: &str =
     "Runs the operations of a script on a kernel with transactions, and prints the reply to each.";
@@ -144,6 +155,19 @@ fn limit_arg<'a>(alloc: Global) -> Arg<'a>
         .value_parser(clap::value_parser!(u32).range(0..=MAX_LIMIT as i64))
 }
 
+// `--file-limit N`
+fn file_limit_arg<'a>(alloc: Global) -> Arg<'a>
+    ensures rule { rule_of result ≡ file_limit_rule }
+    ensures local { result.global ≡ false }
+{
+    Arg::new(alloc, "file_limit")
+        .long("file-limit")
+        .value_name("N")
+        .help("The most bytes of a file, at most 2147483647; 1048576 where it is not given")
+        .action(ArgAction::Set)
+        .value_parser(clap::value_parser!(u32).range(1..=MAX_FILE_LIMIT as i64))
+}
+
 // `--check`
 fn check_arg<'a>(alloc: Global) -> Arg<'a>
     ensures rule { rule_of result ≡ check_rule }
@@ -174,7 +198,8 @@ fn command<'a>(alloc: Global) -> Result<Command<'a>, AllocError>
     let with_schedule = Command::new(alloc, "txsh").arg(schedule_arg(alloc))?;
     let with_threads = with_schedule.arg(threads_arg(alloc))?;
     let with_limit = with_threads.arg(limit_arg(alloc))?;
-    let with_check = with_limit.arg(check_arg(alloc))?;
+    let with_file_limit = with_limit.arg(file_limit_arg(alloc))?;
+    let with_check = with_file_limit.arg(check_arg(alloc))?;
     let with_file = with_check.arg(file_arg(alloc))?;
     Ok(
         with_file
@@ -213,15 +238,16 @@ fn matches_for<'a>(alloc: Global, words: &'a [&'a str]) -> Result<ArgMatches<'a>
     }
 }
 
-// The history limit that the matches give. The command has refused a number above `MAX_LIMIT` and
-// a text that is no number, so `min` only shows the bound to the proof.
-fn limit_of(matches: &ArgMatches) -> u32
-    ensures value { IsLimit (one_text (found_of matches.now) (codes "limit")) result }
-    ensures small { result ≤ MAX_LIMIT }
+// The number that the matches give for an id, or the default. The command has refused a number above
+// the most and a text that is no number, so `min` only shows the bound to the proof.
+fn limit_of(matches: &ArgMatches, id: &str, default: u32, most: u32) -> u32
+    requires { default ≤ most }
+    ensures value { IsLimit default most (one_text (found_of matches.now) id.now) result }
+    ensures small { result ≤ most }
 {
-    match matches.get_one::<u32>("limit") {
-        Some(limit) => limit.min(MAX_LIMIT),
-        None => DEFAULT_LIMIT,
+    match matches.get_one::<u32>(id) {
+        Some(limit) => limit.min(most),
+        None => default,
     }
 }
 
@@ -254,10 +280,12 @@ fn job_of(heap: Heap, matches: &ArgMatches) -> Result<Job, CommandLineFault>
     ensures err { IfErr result
         (IsJobFault (first_value (found_of matches.now)) (one_text (found_of matches.now))) }
     ensures small { IfOk result (λ job. job.limit ≤ MAX_LIMIT) }
+    ensures small_files { IfOk result (λ job. job.file_limit ≤ MAX_FILE_LIMIT) }
 {
     Ok(Job {
         way: way_of(heap, matches)?,
-        limit: limit_of(matches),
+        limit: limit_of(matches, "limit", DEFAULT_LIMIT, MAX_LIMIT),
+        file_limit: limit_of(matches, "file_limit", DEFAULT_FILE_LIMIT, MAX_FILE_LIMIT),
         check: flag_of(matches, "check"),
         file: owned_text(heap, matches.get_str("file").unwrap_or(""))?,
     })
@@ -290,6 +318,7 @@ pub fn read_words<'a>(
     ensures fits { IfOk result (λ _. fault_of txsh (texts words.entry.now) ≡ []) }
     ensures fault { IfErr result (IsFaultOf (texts words.entry.now)) }
     ensures small { IfOk result (λ job. job.limit ≤ MAX_LIMIT) }
+    ensures small_files { IfOk result (λ job. job.file_limit ≤ MAX_FILE_LIMIT) }
 {
     let matches = matches_for(alloc, words)?;
     job_of(heap, &matches)

@@ -8,7 +8,7 @@ use Rattle.model.specs.Aspects.{Size, Block, Offset}
 use Rattle.model.specs.Plan.{Plan, given, ◌>>=◌, ◌>>◌, ask, answer, blocks, Measure, Count_ends, Fit, refuse_if, EINVAL, EAGAIN, EPIPE, EFBIG}
 use Rattle.model.specs.Changes.{Put_bytes, Cut, Append, Set_offset, marks, applied}
 use Rattle.model.specs.Calls.{Answer, Done, Count, New_place, Bytes, Slot}
-use Rattle.model.specs.Plans.{Change, changed, unchanged, is_pipe, read_pipe, read_some, place_to_write, write_some, largest, sought, cut_to}
+use Rattle.model.specs.Plans.{Change, changed, unchanged, is_pipe, read_pipe, read_some, place_to_write, write_some, room, sought, cut_to}
 use Rattle.model.proofs.Laws.{append-all}
 use Rattle.call_laws.specs.Objects.{IsThere}
 use Rattle.call_laws.specs.WellFormed.{WellFormed}
@@ -28,11 +28,11 @@ write_pipe it bytes = do
   refuse_if (fitting == 0) EAGAIN
   changed (Count fitting) (Append it.inode (take fitting bytes) ∷ [])
 
-abbrev pub put_at : Slot → List ℕ → ℕ → Plan Change
-put_at it bytes place = do
+abbrev pub put_at : ℕ → Slot → List ℕ → ℕ → Plan Change
+put_at largest it bytes place = do
   refuse_if (nat_le largest place) EFBIG
   size ← ask (Measure it.inode)
-  changed (Count (length (take (largest - place) bytes))) (Put_bytes it.inode place (take (largest - place) bytes) size ∷ Set_offset it.description (place + length (take (largest - place) bytes)) ∷ [])
+  changed (Count (length (take (room largest place) bytes))) (Put_bytes it.inode place (take (room largest place) bytes) size ∷ Set_offset it.description (place + length (take (room largest place) bytes)) ∷ [])
 
 -- what is appended fits where anything does
 appended_fits : (long count : ℕ) (bytes : List ℕ) → (min count (capacity - long) == 0) ≡ false → long + length (take (min count (capacity - long)) bytes) ≤ capacity
@@ -74,30 +74,30 @@ module _ (k : Kernel) (well : WellFormed k) (pid : ℕ) (alive : IsAlive k pid) 
   size_there n is true = (is, tt)
   size_there n is false = tt
 
-  put_fits : (s : Slot) (bytes : List ℕ) → IsOpen k s → kind_of k s.inode ≡ Some A_file → (place : ℕ) → IfOk (given k (put_at s bytes place)) Fine
+  put_fits : (s : Slot) (bytes : List ℕ) → IsOpen k s → kind_of k s.inode ≡ Some A_file → (place : ℕ) → IfOk (given k (put_at k.largest s bytes place)) Fine
   unfolding applied
-  put_fits s bytes held is place = by_test (nat_le largest place)
+  put_fits s bytes held is place = by_test (nat_le k.largest place)
     where
-      by_test : (b : Bool) → IfOk (given k (refuse_if b EFBIG >> (ask (Measure s.inode) >>= (λ size. changed (Count (length (take (largest - place) bytes))) (Put_bytes s.inode place (take (largest - place) bytes) size ∷ Set_offset s.description (place + length (take (largest - place) bytes)) ∷ []))))) Fine
+      by_test : (b : Bool) → IfOk (given k (refuse_if b EFBIG >> (ask (Measure s.inode) >>= (λ size. changed (Count (length (take (room k.largest place) bytes))) (Put_bytes s.inode place (take (room k.largest place) bytes) size ∷ Set_offset s.description (place + length (take (room k.largest place) bytes)) ∷ []))))) Fine
       by_test true = tt
       by_test false = record {
         fits = λ can. ((is, refl), ((held.it, held.there), tt));
         by = (tt, (tt, tt));
-        there = append-all (IsThere k) ((if nat_lt (answer k (Measure s.inode)) (place + length (take (largest - place) bytes)) then Size s.inode ∷ [] else []) ++ map (Block s.inode) (blocks place (length (take (largest - place) bytes)))) (Offset s.description ∷ [])
-            (append-all (IsThere k) (if nat_lt (answer k (Measure s.inode)) (place + length (take (largest - place) bytes)) then Size s.inode ∷ [] else []) (map (Block s.inode) (blocks place (length (take (largest - place) bytes))))
+        there = append-all (IsThere k) ((if nat_lt (answer k (Measure s.inode)) (place + length (take (room k.largest place) bytes)) then Size s.inode ∷ [] else []) ++ map (Block s.inode) (blocks place (length (take (room k.largest place) bytes)))) (Offset s.description ∷ [])
+            (append-all (IsThere k) (if nat_lt (answer k (Measure s.inode)) (place + length (take (room k.largest place) bytes)) then Size s.inode ∷ [] else []) (map (Block s.inode) (blocks place (length (take (room k.largest place) bytes))))
             (size_there s.inode is _) (blocks_there k s.inode is _))
             (described s held, tt);
       }
 
-  pub write_at : (s : Slot) (bytes : List ℕ) → IsOpen k s → IfOk (given k (write_some s bytes)) Fine
+  pub write_at : (s : Slot) (bytes : List ℕ) → IsOpen k s → IfOk (given k (write_some k.largest s bytes)) Fine
   write_at s bytes held =
-      either_given k Fine (is_pipe s.kind) (write_pipe s bytes) (place_to_write s s.appending >>= put_at s bytes)
+      either_given k Fine (is_pipe s.kind) (write_pipe s bytes) (place_to_write s s.appending >>= put_at k.largest s bytes)
       (λ pipe. write_pipe_at s bytes (sym held.kind ∙ kind_of_pipe s.kind pipe) ((answer k (Count_ends s.inode)).0 == 0))
-      (λ file. after_bind k Fine (place_to_write s s.appending) (put_at s bytes) (whatever (given k (place_to_write s s.appending)) (λ place.
+      (λ file. after_bind k Fine (place_to_write s s.appending) (put_at k.largest s bytes) (whatever (given k (place_to_write s s.appending)) (λ place.
       put_fits s bytes held (sym held.kind ∙ kind_of_file s.kind held.can_be_opened file) place)))
 
-  pub seek_at : (s : Slot) (to : ℤ) → IsOpen k s → IfOk (given k (sought s to)) Fine
-  seek_at s (pos place) held = allowed k Fine (nat_lt largest place) EINVAL (changed (New_place place) (Set_offset s.description place ∷ [])) (λ _. record { fits = λ can. ((held.it, held.there), tt); by = (tt, tt); there = (described s held, tt) })
+  pub seek_at : (s : Slot) (to : ℤ) → IsOpen k s → IfOk (given k (sought k.largest s to)) Fine
+  seek_at s (pos place) held = allowed k Fine (nat_lt k.largest place) EINVAL (changed (New_place place) (Set_offset s.description place ∷ [])) (λ _. record { fits = λ can. ((held.it, held.there), tt); by = (tt, tt); there = (described s held, tt) })
   seek_at s (negsuc place) held = tt
 
   length_there : (n : ℕ) → kind_of k n ≡ Some A_file → (b : Bool) → AllByRecursion (IsThere k) (if b then [] else Size n ∷ [])

@@ -6,7 +6,7 @@ use Rattle.model.specs.Paths.{is_empty}
 use Rattle.model.specs.Walks.{parsed, walk, is_directory, last_of}
 use Rattle.ids.specs.Flags.{is_reading, is_writing, is_creating, is_exclusive, is_truncating}
 use Rattle.model.specs.Calls.{Call, Open, Close, Read, Write, Lseek, Ftruncate, Stat, Fstat, Link, Unlink, Rename, Mkdir, Rmdir, List_directory, Dup, Dup2, Open_pipe, Fork, Exit, Count, Bytes, own}
-use Rattle.model.specs.Plans.{unchanged, is_pipe, read_some, write_some, largest, base, free, first_of_free}
+use Rattle.model.specs.Plans.{unchanged, is_pipe, read_some, write_some, base, free, first_of_free}
 use Rattle.model.specs.Steps.{outcome}
 use Rattle.model.specs.Entries.{is_inside}
 use Rattle.call_laws.specs.WellFormed.{WellFormed}
@@ -39,14 +39,14 @@ call_fits k pid (Read f count) chosen well alive = with_slot k pid (Read f count
     either_given k (WillFit k pid true chosen) (count == 0) (unchanged (Bytes [])) (read_some s count) (λ _. unchanged_fits k pid true chosen (Bytes [])) (λ _. read_at k well pid alive true chosen s count (is_open k well pid f s held))))
 call_fits k pid (Write f bytes) chosen well alive = with_slot k pid (Write f bytes) f (WillFit k pid true chosen) _ (λ s held.
     allowed k (WillFit k pid true chosen) (not s.writing) EBADF _ (λ _.
-    either_given k (WillFit k pid true chosen) (is_empty bytes) (unchanged (Count 0)) (write_some s bytes) (λ _. unchanged_fits k pid true chosen (Count 0)) (λ _. write_at k well pid alive true chosen s bytes (is_open k well pid f s held))))
+    either_given k (WillFit k pid true chosen) (is_empty bytes) (unchanged (Count 0)) (write_some k.largest s bytes) (λ _. unchanged_fits k pid true chosen (Count 0)) (λ _. write_at k well pid alive true chosen s bytes (is_open k well pid f s held))))
 call_fits k pid (Lseek f move whence) chosen well alive = with_slot k pid (Lseek f move whence) f (WillFit k pid true chosen) _ (λ s held.
     allowed k (WillFit k pid true chosen) (is_pipe s.kind) ESPIPE _ (λ _.
     after_bind k (WillFit k pid true chosen) (base s whence) _ (whatever (given k (base s whence)) (λ place. seek_at k well pid alive true chosen s (pos place +ℤ move) (is_open k well pid f s held)))))
 call_fits k pid (Ftruncate f len) chosen well alive = with_slot k pid (Ftruncate f len) f (WillFit k pid true chosen) _ (λ s held.
     allowed k (WillFit k pid true chosen) (not s.writing) EBADF _ (λ _.
     allowed k (WillFit k pid true chosen) (is_pipe s.kind) EINVAL _ (λ file.
-    allowed k (WillFit k pid true chosen) (nat_lt largest len) EFBIG _ (λ _. truncated k well pid alive true chosen s len (is_open k well pid f s held) file))))
+    allowed k (WillFit k pid true chosen) (nat_lt k.largest len) EFBIG _ (λ _. truncated k well pid alive true chosen s len (is_open k well pid f s held) file))))
 call_fits k pid (Stat path) chosen well alive =
     after_bind k (WillFit k pid true chosen) (parsed path) _ (whatever (given k (parsed path)) (λ names.
     after_bind k (WillFit k pid true chosen) (walk (k.root, Some A_directory) names) _ (whatever (given k (walk (k.root, Some A_directory) names)) (λ place. status_fits k well pid alive true chosen place))))

@@ -1,5 +1,5 @@
 -- What a call reads is there, and is left by tidying.
-use Rattle.std.proofs.Common.{◌≡◌, ◌≢◌, ℕ, ◌+◌, Bool, true, false, not, ◌&&◌, ◌||◌, ℤ, pos, negsuc, ◌+ℤ◌, List, [], ◌∷◌, ◌++◌, map, length, take, Option, Some, None, Result, Ok, Err, IfOk, refl, sym, ◌∙◌, ◌==◌, nat_lt, nat_le, if◌then◌else◌}
+use Rattle.std.proofs.Common.{◌≡◌, ◌≢◌, ℕ, ◌+◌, Bool, true, false, not, ◌&&◌, ◌||◌, ℤ, pos, negsuc, ◌+ℤ◌, List, [], ◌∷◌, ◌++◌, map, length, take, min, Option, Some, None, Result, Ok, Err, IfOk, refl, sym, ◌∙◌, ◌==◌, nat_lt, nat_le, if◌then◌else◌}
 use Rattle.std.specs.List.{AllByRecursion}
 use Rattle.model.specs.FiniteMap.{get, keys}
 use Rattle.model.specs.State.{Name, Kind, A_file, A_directory, A_pipe, Kernel, names_of, kind_of, entry_of}
@@ -10,7 +10,7 @@ use Rattle.model.specs.Walks.{Place, told, parsed, is_directory, walk, last, las
 use Rattle.model.specs.Changes.{Mode, There, Move, Set_offset, Append, Open_inode, is_held, Replaced, Over_directory}
 use Rattle.ids.specs.Flags.{is_reading, is_writing, is_creating, is_exclusive, is_truncating}
 use Rattle.model.specs.Calls.{OpenFlags, Whence, From_start, From_offset, From_end, Call, Open, Close, Read, Write, Lseek, Ftruncate, Stat, Fstat, Link, Unlink, Rename, Mkdir, Rmdir, List_directory, Dup, Dup2, Open_pipe, Fork, Exit, Done, Descriptor, Count, New_place, Bytes, Slot, own}
-use Rattle.model.specs.Plans.{Change, absent, status, changed, unchanged, slot, slot_at, is_pipe, read_pipe, read_some, place_to_write, write_some, largest, base, sought, replaced_by_name, moved, cut_to, opened, mode, free, first_of_free, duplicated, piped}
+use Rattle.model.specs.Plans.{Change, absent, status, changed, unchanged, slot, slot_at, is_pipe, read_pipe, read_some, place_to_write, write_some, most_moved, base, sought, replaced_by_name, moved, cut_to, opened, mode, free, first_of_free, duplicated, piped}
 use Rattle.model.specs.Steps.{reads}
 use Rattle.model.proofs.Laws.{all-append, append-all}
 use Rattle.call_laws.specs.Objects.{IsThere}
@@ -192,13 +192,13 @@ module _ (k : Kernel) (well : WellFormed k) where
 
   read_seen : (s : Slot) (count : ℕ) → IsOpen k s → AllLeft k (seen k (read_some s count))
   read_seen s count held = either k (is_pipe s.kind) (ask (Read_pipe s.inode count) >>= read_pipe s.inode)
-      (ask (Find_offset s.description) >>= (λ offset. ask (Read_file s.inode offset count) >>= (λ bytes. changed (Bytes bytes) (if is_empty bytes then [] else Set_offset s.description (offset + length bytes) ∷ []))))
+      (ask (Find_offset s.description) >>= (λ offset. ask (Read_file s.inode offset (min count most_moved)) >>= (λ bytes. changed (Bytes bytes) (if is_empty bytes then [] else Set_offset s.description (offset + length bytes) ∷ []))))
       (λ pipe.
       let p : Stays k s.inode A_pipe = pipe_stays s held pipe in
       append-all (IsLeft k) (shown (Read_pipe s.inode count) (answer k (Read_pipe s.inode count))) (seen k (read_pipe s.inode (answer k (Read_pipe s.inode count)))) (p, maybe _ (Back s.inode) p) (read_pipe_seen s.inode p (answer k (Read_pipe s.inode count))))
       (λ file.
       let n : Stays k s.inode A_file = open_stays s held file in
-      (place_stays s held, append-all (IsLeft k) (shown (Read_file s.inode (answer k (Find_offset s.description)) count) (answer k (Read_file s.inode (answer k (Find_offset s.description)) count))) [] (n, each_block s.inode n _) tt))
+      (place_stays s held, append-all (IsLeft k) (shown (Read_file s.inode (answer k (Find_offset s.description)) (min count most_moved)) (answer k (Read_file s.inode (answer k (Find_offset s.description)) (min count most_moved)))) [] (n, each_block s.inode n _) tt))
 
   place_seen : (s : Slot) → IsOpen k s → Stays k s.inode A_file → (b : Bool) → AllLeft k (seen k (place_to_write s b))
   place_seen s held n true = (n, tt)
@@ -215,20 +215,20 @@ module _ (k : Kernel) (well : WellFormed k) where
       fitting : ℕ
       fitting = answer k (Fit s.inode (length bytes))
 
-  put_seen : (s : Slot) (bytes : List ℕ) (place : ℕ) → Stays k s.inode A_file → AllLeft k (seen k (put_at s bytes place))
-  put_seen s bytes place n = refusal k (nat_le largest place) EFBIG _ (λ _. (n, tt))
+  put_seen : (s : Slot) (bytes : List ℕ) (place : ℕ) → Stays k s.inode A_file → AllLeft k (seen k (put_at k.largest s bytes place))
+  put_seen s bytes place n = refusal k (nat_le k.largest place) EFBIG _ (λ _. (n, tt))
 
-  write_seen : (s : Slot) (bytes : List ℕ) → IsOpen k s → AllLeft k (seen k (write_some s bytes))
-  write_seen s bytes held = either k (is_pipe s.kind) (write_pipe s bytes) (place_to_write s s.appending >>= put_at s bytes) (λ pipe. pipe_written_seen s bytes (pipe_stays s held pipe))
-      (λ file. seen_bind k (place_to_write s s.appending) (put_at s bytes) (place_seen s held (open_stays s held file) s.appending) (whatever (given k (place_to_write s s.appending)) (λ place. put_seen s bytes place (open_stays s held file))))
+  write_seen : (s : Slot) (bytes : List ℕ) → IsOpen k s → AllLeft k (seen k (write_some k.largest s bytes))
+  write_seen s bytes held = either k (is_pipe s.kind) (write_pipe s bytes) (place_to_write s s.appending >>= put_at k.largest s bytes) (λ pipe. pipe_written_seen s bytes (pipe_stays s held pipe))
+      (λ file. seen_bind k (place_to_write s s.appending) (put_at k.largest s bytes) (place_seen s held (open_stays s held file) s.appending) (whatever (given k (place_to_write s s.appending)) (λ place. put_seen s bytes place (open_stays s held file))))
 
   base_seen : (s : Slot) (whence : Whence) → IsOpen k s → is_pipe s.kind ≡ false → AllLeft k (seen k (base s whence))
   base_seen s From_start held file = tt
   base_seen s From_offset held file = (place_stays s held, tt)
   base_seen s From_end held file = (open_stays s held file, tt)
 
-  sought_seen : (s : Slot) (to : ℤ) → AllLeft k (seen k (sought s to))
-  sought_seen s (pos place) = refusal k (nat_lt largest place) EINVAL (changed (New_place place) (Set_offset s.description place ∷ [])) (λ _. tt)
+  sought_seen : (s : Slot) (to : ℤ) → AllLeft k (seen k (sought k.largest s to))
+  sought_seen s (pos place) = refusal k (nat_lt k.largest place) EINVAL (changed (New_place place) (Set_offset s.description place ∷ [])) (λ _. tt)
   sought_seen s (negsuc place) = tt
 
   -- what asks nothing
@@ -264,10 +264,10 @@ calls_see k pid (Open path flags) well =
     with_last k well (if is_creating flags && is_exclusive flags then EEXIST else EISDIR) names _ (λ at last. opened_seen k well pid (Open path flags) flags f at last at.found refl)))))))
 calls_see k pid (Close f) well = with_slot k well pid (Close f) f _ (λ s held. tt)
 calls_see k pid (Read f count) well = with_slot k well pid (Read f count) f _ (λ s held. refusal k (not s.reading) EBADF _ (λ _. either k (count == 0) (unchanged (Bytes [])) (read_some s count) (λ _. tt) (λ _. read_seen k well s count held)))
-calls_see k pid (Write f bytes) well = with_slot k well pid (Write f bytes) f _ (λ s held. refusal k (not s.writing) EBADF _ (λ _. either k (is_empty bytes) (unchanged (Count 0)) (write_some s bytes) (λ _. tt) (λ _. write_seen k well s bytes held)))
+calls_see k pid (Write f bytes) well = with_slot k well pid (Write f bytes) f _ (λ s held. refusal k (not s.writing) EBADF _ (λ _. either k (is_empty bytes) (unchanged (Count 0)) (write_some k.largest s bytes) (λ _. tt) (λ _. write_seen k well s bytes held)))
 calls_see k pid (Lseek f move whence) well = with_slot k well pid (Lseek f move whence) f _ (λ s held. refusal k (is_pipe s.kind) ESPIPE _ (λ file.
     seen_bind k (base s whence) _ (base_seen k well s whence held file) (whatever (given k (base s whence)) (λ place. sought_seen k well s (pos place +ℤ move)))))
-calls_see k pid (Ftruncate f len) well = with_slot k well pid (Ftruncate f len) f _ (λ s held. refusal k (not s.writing) EBADF _ (λ _. refusal k (is_pipe s.kind) EINVAL _ (λ file. refusal k (nat_lt largest len) EFBIG _ (λ _. (open_stays k well s held file, tt)))))
+calls_see k pid (Ftruncate f len) well = with_slot k well pid (Ftruncate f len) f _ (λ s held. refusal k (not s.writing) EBADF _ (λ _. refusal k (is_pipe s.kind) EINVAL _ (λ file. refusal k (nat_lt k.largest len) EFBIG _ (λ _. (open_stays k well s held file, tt)))))
 calls_see k pid (Stat path) well = with_path k path _ (λ names. with_walk k well names _ (λ place r. status_seen k well place r.right (rooted_reached k place.0 r.rooted)))
 calls_see k pid (Fstat f) well = with_slot k well pid (Fstat f) f _ (λ s held. status_seen k well (s.inode, s.kind) held.kind held.reached)
 calls_see k pid (Link old path) well = with_path k old _ (λ from. with_path k path _ (λ to. with_walk k well from _ (λ what r. refusal k (is_directory what) EPERM _ (λ _.

@@ -5,7 +5,7 @@ use Rattle.std.proofs.lemmas.Bool.{cases_eq, false≢true}
 use Rattle.model.specs.FiniteMap.{FinMap, get, empty, insert, retain_keys, get-empty, same_map, nat_cmp-IsAntisymmetric}
 use Rattle.model.specs.State.{Name, name_cmp, Kernel, Directory, Process, kind, mapped, names_of, names_of_inode, links}
 use Rattle.model.specs.Changes.{is_held, tidy}
-use Rattle.model.specs.Moments.{with_processes, start}
+use Rattle.model.specs.Moments.{Setup, with_processes, start}
 use Rattle.model.proofs.Laws.{get_same, get_other}
 use Rattle.call_laws.specs.WellFormed.{WellFormed}
 use Rattle.call_laws.proofs.Maps.{empty_gives, get_retained}
@@ -35,49 +35,49 @@ all_new (p ∷ ps) made m h =
     let rest : AreNew (with_processes (suc made) ps (insert m (suc made) new)) (suc made + length ps) = all_new ps (suc made) (insert m (suc made) new) next in
     record { empty = rest.empty; counted = λ pid alive. let low : pid ≤ suc made + length ps = rest.counted pid alive in omega arith }
 
-start_new : (root : ℕ) (priorities : List ℕ) → AreNew (start root priorities).processes (length priorities)
-start_new root priorities =
-    let all : AreNew (with_processes 0 priorities empty) (0 + length priorities) = all_new priorities 0 empty (record {
+start_new : (root : ℕ) (setup : Setup) → AreNew (start root setup).processes (length setup.priorities)
+start_new root setup =
+    let all : AreNew (with_processes 0 setup.priorities empty) (0 + length setup.priorities) = all_new setup.priorities 0 empty (record {
       empty = λ pid f d is. empty_gives nat_cmp f d (ap (λ x. get (table_in x) f) (sym (get-empty nat_cmp pid)) ∙ is);
       counted = λ pid alive. absurd (false≢true (ap is_some (sym (get-empty nat_cmp pid)) ∙ alive));
     }) in
-    record { empty = all.empty; counted = λ pid alive. let low : pid ≤ 0 + length priorities = all.counted pid alive in omega arith }
+    record { empty = all.empty; counted = λ pid alive. let low : pid ≤ 0 + length setup.priorities = all.counted pid alive in omega arith }
 
 -- no name is there
-start_unnamed : (root : ℕ) (priorities : List ℕ) (d : ℕ) (x : Name) (n : ℕ) → get (names_of (start root priorities) d) x ≢ Some n
-start_unnamed root priorities d x n is = elim (cases_eq d root) [
+start_unnamed : (root : ℕ) (setup : Setup) (d : ℕ) (x : Name) (n : ℕ) → get (names_of (start root setup) d) x ≢ Some n
+start_unnamed root setup d x n is = elim (cases_eq d root) [
   | inl same ↦ empty_gives name_cmp x n (ap (λ o. get (names_of_inode o) x) (sym (ap (get (insert empty root (Directory empty))) same ∙ get_same empty root (Directory empty))) ∙ is)
   | inr away ↦ empty_gives name_cmp x n (ap (λ o. get (names_of_inode o) x) (sym (get_other empty root d (Directory empty) away ∙ get-empty nat_cmp d)) ∙ is)
 ]
 
-pub well_start : (root : ℕ) (priorities : List ℕ) → WellFormed (start root priorities)
-well_start root priorities = record {
+pub well_start : (root : ℕ) (setup : Setup) → WellFormed (start root setup)
+well_start root setup = record {
   root = ap (mapped kind) (get_same empty root (Directory empty));
   root_unnamed = unlinked root;
-  names = λ d x n is. absurd (start_unnamed root priorities d x n is);
-  one_name = λ d is. let none : links (start root priorities) d ≡ 0 = unlinked d in omega arith;
-  parents = λ d x n is none. absurd (start_unnamed root priorities d x n is);
+  names = λ d x n is. absurd (start_unnamed root setup d x n is);
+  one_name = λ d is. let none : links (start root setup) d ≡ 0 = unlinked d in omega arith;
+  parents = λ d x n is none. absurd (start_unnamed root setup d x n is);
   leads = λ d r. ([], sym (r.rooted (unlinked d)));
-  slots = λ pid f d is. absurd ((start_new root priorities).empty pid f d is);
-  low = λ pid f d is. absurd ((start_new root priorities).empty pid f d is);
+  slots = λ pid f d is. absurd ((start_new root setup).empty pid f d is);
+  low = λ pid f d is. absurd ((start_new root setup).empty pid f d is);
   descriptions = λ d it is. absurd (empty_gives nat_cmp d it is);
-  counted = (start_new root priorities).counted;
+  counted = (start_new root setup).counted;
 }
   where
-    unlinked : (d : ℕ) → links (start root priorities) d ≡ 0
-    unlinked d = none_count (start root priorities) d (λ e x. start_unnamed root priorities e x d)
+    unlinked : (d : ℕ) → links (start root setup) d ≡ 0
+    unlinked d = none_count (start root setup) d (λ e x. start_unnamed root setup e x d)
 
 none_or : {X : Type 0} (b : Bool) (x : Option X) → x ≡ None → cond b x None ≡ x
 none_or true x e = refl
 none_or false x e = sym e
 
-pub tidy_start : (root : ℕ) (priorities : List ℕ) → tidy (start root priorities) ≡ start root priorities
+pub tidy_start : (root : ℕ) (setup : Setup) → tidy (start root setup) ≡ start root setup
 unfolding tidy
-tidy_start root priorities =
-    let k : Kernel = start root priorities in
+tidy_start root setup =
+    let k : Kernel = start root setup in
     let descriptions : retain_keys k.descriptions (is_held k) ≡ k.descriptions = same_map nat_cmp_total nat_cmp-IsAntisymmetric _ _ (λ d. get_retained k.descriptions (is_held k) d ∙ none_or (is_held k d) (get k.descriptions d) (get-empty nat_cmp d)) in
     let inodes : retain_keys k.inodes (reached k) ≡ k.inodes = same_map nat_cmp_total nat_cmp-IsAntisymmetric _ _ (λ n. get_retained k.inodes (reached k) n ∙ elim (cases_eq n root) [
       | inl same ↦ ap (λ b. cond b (get k.inodes n) None) (ap (reached k) same ∙ root_reached k)
       | inr away ↦ none_or (reached k n) (get k.inodes n) (get_other empty root n (Directory empty) away ∙ get-empty nat_cmp n)
     ]) in
-    λ i. record { root = root; inodes = inodes i; descriptions = descriptions i; processes = k.processes; made = k.made }
+    λ i. record { root = root; inodes = inodes i; descriptions = descriptions i; processes = k.processes; made = k.made; largest = k.largest }

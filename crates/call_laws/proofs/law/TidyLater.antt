@@ -30,6 +30,7 @@ retained_alike {X} m n p q tests values = same_map nat_cmp_total nat_cmp-IsAntis
 -- two states that are alike in all that something leads to
 pub record Alike (a b : Kernel) : Type 0 where
   pub root : b.root ≡ a.root
+  pub largest : b.largest ≡ a.largest
   pub processes : b.processes ≡ a.processes
   pub made : b.made ≡ a.made
   pub held : (d : ℕ) → is_held a d ≡ true → get b.descriptions d ≡ get a.descriptions d
@@ -45,12 +46,13 @@ alike_tidied a b al =
     let tests : (n : ℕ) → reached b n ≡ reached a n = λ n.
     ap₂ (λ (x : Bool) (y : Bool). x || y) (ap (λ r. n == r) al.root) (ap₂ (λ (x : Bool) (y : Bool). x || y) (ap (nat_lt 0) (al.links n)) (ap (λ (ds : FinMap nat_cmp Description). nat_lt 0 (count_by (λ d. d.inode == n) (values ds))) descriptions)) in
     let kept : retain_keys b.inodes (reached b) ≡ retain_keys a.inodes (reached a) = retained_alike a.inodes b.inodes (reached a) (reached b) tests al.inodes in
-    λ i. record { root = al.root i; inodes = kept i; descriptions = descriptions i; processes = al.processes i; made = al.made i }
+    λ i. record { root = al.root i; inodes = kept i; descriptions = descriptions i; processes = al.processes i; made = al.made i; largest = al.largest i }
 
 pub tidied_alike : (k : Kernel) → WellFormed k → Alike k (tidy k)
 unfolding tidy
 tidied_alike k well = record {
   root = refl;
+  largest = refl;
   processes = refl;
   made = refl;
   held = held_stays k;
@@ -78,6 +80,7 @@ set_alike : (a b : Kernel) (n : ℕ) (new other : Inode) → Alike a b → ((m :
 unfolding holders
 set_alike a b n new other al named here there = record {
   root = al.root;
+  largest = al.largest;
   processes = al.processes;
   made = al.made;
   held = al.held;
@@ -188,6 +191,7 @@ offset_alike : (a b : Kernel) (d place : ℕ) (it is : Description) → Alike a 
 unfolding links holders
 offset_alike a b d place it is al e f = record {
   root = al.root;
+  largest = al.largest;
   processes = al.processes;
   made = al.made;
   held = λ t h. elim (cases_eq t d) [
@@ -238,6 +242,7 @@ tables_alike : (a b : Kernel) (ds es : FinMap nat_cmp Description) (ps qs : FinM
 unfolding links openings
 tables_alike a b ds es ps qs m n al processes made held opened = record {
   root = al.root;
+  largest = al.largest;
   processes = processes;
   made = made;
   held = held;

@@ -12,7 +12,7 @@ use Rattle.model.specs.Walks.{told, parsed, Place, is_directory, look, walk, Las
 use Rattle.model.specs.Changes.{Edit, Replaced, Open_inode, Make_pipe, Share_slot, Clear_slot, New_process, End_process}
 use Rattle.ids.specs.Flags.{is_reading, is_writing, is_creating, is_exclusive, is_truncating}
 use Rattle.model.specs.Calls.{own, Call, Open, Close, Read, Write, Lseek, Ftruncate, Stat, Fstat, Link, Unlink, Rename, Mkdir, Rmdir, List_directory, Dup, Dup2, Open_pipe, Fork, Exit, Whence, From_start, From_offset, From_end, OpenFlags, Answer, Child, Slot, Own}
-use Rattle.model.specs.Plans.{Change, plan, largest, is_pipe, status, cut_to, opened, read_pipe, read_some, place_to_write, write_some, sought, base, replaced_by_name, move_onto, moved, absent, duplicated, piped, forked, first_of_free, slot, slot_at, free}
+use Rattle.model.specs.Plans.{Change, plan, is_pipe, status, cut_to, opened, read_pipe, read_some, place_to_write, write_some, sought, base, replaced_by_name, move_onto, moved, absent, duplicated, piped, forked, first_of_free, slot, slot_at, free}
 use Rattle.model.specs.Entries.{is_unsupported, is_inside, answer_in}
 use Rattle.model.specs.Replies.{answered}
 use Rattle.model.specs.Steps.{outcome, reply, reply_of}
@@ -156,8 +156,8 @@ place_any : (it : Slot) (b : Bool) → Ends Any (place_to_write it b)
 place_any it true = λ a. tt
 place_any it false = λ a. tt
 
-tame_write : (pid : ℕ) (it : Slot) (bytes : List ℕ) → Ends (Tame pid) (write_some it bytes)
-tame_write pid it bytes = either (Tame pid) (is_pipe it.kind) _ _
+tame_write : (pid largest : ℕ) (it : Slot) (bytes : List ℕ) → Ends (Tame pid) (write_some largest it bytes)
+tame_write pid largest it bytes = either (Tame pid) (is_pipe it.kind) _ _
     (λ ends.
     then_any (Tame pid) (refuse_if (ends.0 == 0) EPIPE) _ (tested _ EPIPE refl) (λ _ fitting.
     then_any (Tame pid) (refuse_if (nat_lt fitting (length bytes) && nat_le (length bytes) 512) EAGAIN) _ (tested _ EAGAIN refl) (λ _.
@@ -165,9 +165,9 @@ tame_write pid it bytes = either (Tame pid) (is_pipe it.kind) _ _
     (then_any (Tame pid) (place_to_write it it.appending) _ (place_any it it.appending) (λ place.
     then_any (Tame pid) (refuse_if (nat_le largest place) EFBIG) _ (tested _ EFBIG refl) (λ _ size. record { edits = (tt, (tt, tt)); childless = refl })))
 
-tame_sought : (pid : ℕ) (it : Slot) (z : ℤ) → Ends (Tame pid) (sought it z)
-tame_sought pid it (pos place) = then_any (Tame pid) (refuse_if (nat_lt largest place) EINVAL) _ (tested _ EINVAL refl) (λ _. record { edits = (tt, tt); childless = refl })
-tame_sought pid it (negsuc place) = refl
+tame_sought : (pid largest : ℕ) (it : Slot) (z : ℤ) → Ends (Tame pid) (sought largest it z)
+tame_sought pid largest it (pos place) = then_any (Tame pid) (refuse_if (nat_lt largest place) EINVAL) _ (tested _ EINVAL refl) (λ _. record { edits = (tt, tt); childless = refl })
+tame_sought pid largest it (negsuc place) = refl
 
 base_any : (it : Slot) (w : Whence) → Ends Any (base it w)
 base_any it From_start = tt
@@ -226,14 +226,14 @@ tame_plan own (Close f) is = then_any (Tame own.pid) (slot own f) _ (slot_any ow
 tame_plan own (Read f count) is = then_any (Tame own.pid) (slot own f) _ (slot_any own f) (λ it.
     then_any (Tame own.pid) (refuse_if (not it.reading) EBADF) _ (tested _ EBADF refl) (λ _. either (Tame own.pid) (count == 0) _ _ (record { edits = tt; childless = refl }) (tame_read own.pid it count)))
 tame_plan own (Write f bytes) is = then_any (Tame own.pid) (slot own f) _ (slot_any own f) (λ it.
-    then_any (Tame own.pid) (refuse_if (not it.writing) EBADF) _ (tested _ EBADF refl) (λ _. either (Tame own.pid) (is_empty bytes) _ _ (record { edits = tt; childless = refl }) (tame_write own.pid it bytes)))
+    then_any (Tame own.pid) (refuse_if (not it.writing) EBADF) _ (tested _ EBADF refl) (λ _. either (Tame own.pid) (is_empty bytes) _ _ (record { edits = tt; childless = refl }) (tame_write own.pid own.largest it bytes)))
 tame_plan own (Lseek f move whence) is = then_any (Tame own.pid) (slot own f) _ (slot_any own f) (λ it.
     then_any (Tame own.pid) (refuse_if (is_pipe it.kind) ESPIPE) _ (tested _ ESPIPE refl) (λ _.
-    then_any (Tame own.pid) (base it whence) _ (base_any it whence) (λ place. tame_sought own.pid it (pos place +ℤ move))))
+    then_any (Tame own.pid) (base it whence) _ (base_any it whence) (λ place. tame_sought own.pid own.largest it (pos place +ℤ move))))
 tame_plan own (Ftruncate f len) is = then_any (Tame own.pid) (slot own f) _ (slot_any own f) (λ it.
     then_any (Tame own.pid) (refuse_if (not it.writing) EBADF) _ (tested _ EBADF refl) (λ _.
     then_any (Tame own.pid) (refuse_if (is_pipe it.kind) EINVAL) _ (tested _ EINVAL refl) (λ _.
-    then_any (Tame own.pid) (refuse_if (nat_lt largest len) EFBIG) _ (tested _ EFBIG refl) (λ _ size. record { edits = (tt, tt); childless = refl }))))
+    then_any (Tame own.pid) (refuse_if (nat_lt own.largest len) EFBIG) _ (tested _ EFBIG refl) (λ _ size. record { edits = (tt, tt); childless = refl }))))
 tame_plan own (Stat path) is = then_any (Tame own.pid) (parsed path) _ (parsed_any path) (λ names.
     then_any (Tame own.pid) (walk (own.root, Some A_directory) names) _ (walk_any _ names) (λ place. tame_status own.pid place))
 tame_plan own (Fstat f) is = then_any (Tame own.pid) (slot own f) _ (slot_any own f) (λ it. tame_status own.pid (it.inode, it.kind))

@@ -134,5 +134,5 @@ module _ (laws : CallLaws WellFormed) (limit : Limit) where
 
 pub children_are_forked : FromCallLaws ChildrenAreForked
 unfolding Legal
-children_are_forked laws root priorities limit es legal q high low =
-    forked_from laws limit (at_start root priorities) es legal (steady_start WellFormed laws limit root priorities) ((first_processes_live root priorities).none 0 (inl refl)) q high low
+children_are_forked laws root setup limit es legal q high low =
+    forked_from laws limit (at_start root setup) es legal (steady_start WellFormed laws limit root setup) ((first_processes_live root setup).none 0 (inl refl)) q high low

@@ -160,8 +160,8 @@ module _ (limit : Limit) (m : Moment) (e : Entry) (right : Right limit m e) (s :
 
 pub forks_and_exits_move : FromCallLaws ForksAndExitsMove
 unfolding Legal
-forks_and_exits_move laws root priorities limit es e legal right =
-    processes_move limit (after root priorities es) e right (steady_after WellFormed laws limit (at_start root priorities) es legal (steady_start WellFormed laws limit root priorities)) laws
+forks_and_exits_move laws root setup limit es e legal right =
+    processes_move limit (after root setup es) e right (steady_after WellFormed laws limit (at_start root setup) es legal (steady_start WellFormed laws limit root setup)) laws
 
 -- the count of processes made never falls
 made_grows : (laws : CallLaws WellFormed) (limit : Limit) (m : Moment) (es : List Entry) → LegalFrom limit m es → Steady WellFormed limit m → m.committed.made ≤ (after_from m es).committed.made
@@ -194,4 +194,4 @@ refused_from laws limit m (e ∷ es) legal s q high = by (eqb e.pid q) refl (ref
 
 pub unmade_are_refused : FromCallLaws UnmadeAreRefused
 unfolding Legal
-unmade_are_refused laws root priorities limit es legal q high = refused_from laws limit (at_start root priorities) es legal (steady_start WellFormed laws limit root priorities) q high
+unmade_are_refused laws root setup limit es legal q high = refused_from laws limit (at_start root setup) es legal (steady_start WellFormed laws limit root setup) q high

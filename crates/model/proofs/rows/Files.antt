@@ -5,7 +5,7 @@ use Rattle.model.specs.FiniteMap.{keys}
 use Rattle.model.specs.Plan.{EBADF, EFBIG, EINVAL, EISDIR, EMFILE, ENOENT, EEXIST, rising}
 use Rattle.model.specs.Calls.{From_start, From_offset, From_end, Open, Close, Read, Write, Lseek, Ftruncate, Stat, Fstat, Unlink, Dup, Dup2, Done, Bytes, Descriptor, Count, New_place}
 use Rattle.model.specs.Steps.{reply}
-use Rattle.model.specs.Script.{runs, Line, fresh, script_replies, last_state, flags, rdwr_creat, wronly_creat, rdwr, rdonly, a_file}
+use Rattle.model.specs.Script.{runs, Line, fresh, fresh_with, script_replies, last_state, flags, rdwr_creat, wronly_creat, rdwr, rdonly, a_file}
 
 -- an empty file made by the first process, at its descriptor 0
 abbrev made_a : List Line
@@ -44,6 +44,12 @@ places_out_of_range = refl
 last_byte : reply (last_state fresh (made_a ++ (1, Lseek 0 (pos 1048575) From_start, []) ∷ [])) 1 (Write 0 (codes "xy")) ≡ Ok (Count 1)
 unfolding runs
 last_byte = refl
+
+-- the same for a kernel with files of at most 5 bytes
+cut_at_five : script_replies (fresh_with 5) (made_a ++ (1, Write 0 (codes "abcdefg"), []) ∷ (1, Write 0 (codes "h"), []) ∷ (1, Lseek 0 (pos 5) From_start, []) ∷ (1, Lseek 0 (pos 6) From_start, []) ∷ (1, Ftruncate 0 5, []) ∷ (1, Ftruncate 0 6, []) ∷ (1, Fstat 0, []) ∷ [])
+    ≡ Ok (Descriptor 0) ∷ Ok (Count 5) ∷ Err EFBIG ∷ Ok (New_place 5) ∷ Err EINVAL ∷ Ok Done ∷ Err EFBIG ∷ Ok (a_file 1 5 1) ∷ []
+unfolding runs
+cut_at_five = refl
 
 written_past_the_end : script_replies fresh (made_a ++ (1, Lseek 0 (pos 65535) From_start, []) ∷ (1, Write 0 (codes "xy"), []) ∷ (1, Fstat 0, []) ∷ [])
     ≡ Ok (Descriptor 0) ∷ Ok (New_place 65535) ∷ Ok (Count 2) ∷ Ok (a_file 1 65537 1) ∷ []

@@ -5,7 +5,7 @@ use Rattle.model.specs.FiniteMap.{keys}
 use Rattle.model.specs.Plan.{EAGAIN, EINVAL, EPIPE, ESPIPE}
 use Rattle.model.specs.Calls.{From_start, Close, Read, Write, Lseek, Ftruncate, Fstat, Dup2, Open_pipe, Fork, Exit, Done, Bytes, Pair, Child, Count}
 use Rattle.model.specs.Moments.{start}
-use Rattle.model.specs.Script.{runs, Line, fresh, script_replies, last_state, a_pipe}
+use Rattle.model.specs.Script.{by_default, runs, Line, fresh, script_replies, last_state, a_pipe}
 
 abbrev made_pipe : List Line
 made_pipe = (1, Open_pipe, 1 ∷ 2 ∷ 3 ∷ []) ∷ []
@@ -19,13 +19,13 @@ capacity_of_a_pipe : script_replies fresh (made_pipe ++ (1, Write 1 (replicate 3
 unfolding runs
 capacity_of_a_pipe = refl
 
-read_by_a_child : script_replies (start 0 (0 ∷ [])) (shared_pipe ++ (2, Read 0 10, []) ∷ (1, Write 1 (codes "abc"), []) ∷ (2, Read 0 10, []) ∷ [])
+read_by_a_child : script_replies (start 0 (by_default (0 ∷ []))) (shared_pipe ++ (2, Read 0 10, []) ∷ (1, Write 1 (codes "abc"), []) ∷ (2, Read 0 10, []) ∷ [])
     ≡ Ok (Pair 0 1) ∷ Ok (Child 2) ∷ Err EAGAIN ∷ Ok (Count 3) ∷ Ok (Bytes (codes "abc")) ∷ []
 unfolding runs
 read_by_a_child = refl
 
 -- no bytes where no write end is open, the child's included
-end_of_a_pipe : script_replies (start 0 (0 ∷ [])) (shared_pipe ++ (1, Close 1, []) ∷ (2, Read 0 1, []) ∷ (2, Close 1, []) ∷ (2, Read 0 1, []) ∷ [])
+end_of_a_pipe : script_replies (start 0 (by_default (0 ∷ []))) (shared_pipe ++ (1, Close 1, []) ∷ (2, Read 0 1, []) ∷ (2, Close 1, []) ∷ (2, Read 0 1, []) ∷ [])
     ≡ Ok (Pair 0 1) ∷ Ok (Child 2) ∷ Ok Done ∷ Err EAGAIN ∷ Ok Done ∷ Ok (Bytes []) ∷ []
 unfolding runs
 end_of_a_pipe = refl
@@ -35,16 +35,16 @@ not_for_pipes : script_replies fresh (made_pipe ++ (1, Close 0, []) ∷ (1, Writ
 unfolding runs
 not_for_pipes = refl
 
-taken_and_added : script_replies (start 0 (0 ∷ [])) (shared_pipe ++ (1, Write 1 (codes "abcde"), []) ∷ (1, Read 0 3, []) ∷ (2, Write 1 (codes "xy"), []) ∷ (1, Read 0 9, []) ∷ [])
+taken_and_added : script_replies (start 0 (by_default (0 ∷ []))) (shared_pipe ++ (1, Write 1 (codes "abcde"), []) ∷ (1, Read 0 3, []) ∷ (2, Write 1 (codes "xy"), []) ∷ (1, Read 0 9, []) ∷ [])
     ≡ Ok (Pair 0 1) ∷ Ok (Child 2) ∷ Ok (Count 5) ∷ Ok (Bytes (codes "abc")) ∷ Ok (Count 2) ∷ Ok (Bytes (codes "dexy")) ∷ []
 unfolding runs
 taken_and_added = refl
 
 -- the pipe goes with its last descriptor, and so do its descriptions
-pipe_gone : keys (last_state (start 0 (0 ∷ [])) (shared_pipe ++ (1, Exit, []) ∷ (2, Close 0, []) ∷ (2, Dup2 1 0, []) ∷ (2, Exit, []) ∷ [])).inodes ≡ 0 ∷ []
+pipe_gone : keys (last_state (start 0 (by_default (0 ∷ []))) (shared_pipe ++ (1, Exit, []) ∷ (2, Close 0, []) ∷ (2, Dup2 1 0, []) ∷ (2, Exit, []) ∷ [])).inodes ≡ 0 ∷ []
 unfolding runs
 pipe_gone = refl
 
-processes_gone : keys (last_state (start 0 (0 ∷ [])) (shared_pipe ++ (1, Exit, []) ∷ [])).processes ≡ 2 ∷ []
+processes_gone : keys (last_state (start 0 (by_default (0 ∷ []))) (shared_pipe ++ (1, Exit, []) ∷ [])).processes ≡ 2 ∷ []
 unfolding runs
 processes_gone = refl

@@ -9,7 +9,7 @@ use Rattle.model.specs.Forgetting.{whole}
 use Rattle.model.specs.Moments.{live, Moment, at_start, reserved}
 use Rattle.model.specs.Modes.{mode_of, Write as Write_mode}
 use Rattle.model.specs.Replies.{Spoken, alone, Asked, all_said, moment_for}
-use Rattle.model.specs.Script.{runs, rdwr, rdwr_creat, wronly_creat, a_file, a_directory}
+use Rattle.model.specs.Script.{by_default, runs, rdwr, rdwr_creat, wronly_creat, a_file, a_directory}
 
 abbrev plain : BeginFlags
 plain = record { 0 = 0 }
@@ -57,7 +57,7 @@ abbrev y : List ℕ
 y = codes "/y"
 
 abbrev two : Moment
-two = at_start 0 (0 ∷ 0 ∷ [])
+two = at_start 0 (by_default (0 ∷ 0 ∷ []))
 
 -- a directory that is made in a transaction is seen by others after the commit
 first_run : all_said (whole 65536) two (by 1 (Begin plain) ∷ making 1 (Mkdir a) (7 ∷ []) ∷ by 2 (Do (Stat a)) ∷ by 1 End ∷ by 2 (Do (Stat a)) ∷ [])
@@ -84,7 +84,7 @@ unfolding runs
 doomed_reader = refl
 
 -- a plain call is put off by a transaction of higher priority
-put_off : all_said (whole 100) (at_start 0 (1 ∷ 0 ∷ [])) (by 1 (Begin plain) ∷ by 1 (Do (Stat a)) ∷ by 2 (Do (Mkdir a)) ∷ by 1 End ∷ making 2 (Mkdir a) (7 ∷ []) ∷ [])
+put_off : all_said (whole 100) (at_start 0 (by_default (1 ∷ 0 ∷ []))) (by 1 (Begin plain) ∷ by 1 (Do (Stat a)) ∷ by 2 (Do (Mkdir a)) ∷ by 1 End ∷ making 2 (Mkdir a) (7 ∷ []) ∷ [])
     ≡ alone Begun ∷ alone (Refuses ENOENT) ∷ alone (Busy (entry_a true 1)) ∷ alone Committed ∷ alone (Answers Done) ∷ []
 unfolding runs
 put_off = refl
@@ -118,13 +118,13 @@ unfolding runs
 kept_age = refl
 
 -- fork and exit in a transaction
-unsupported_inside : all_said (whole 100) (at_start 0 (0 ∷ [])) (by 1 (Begin plain) ∷ by 1 (Do Fork) ∷ by 1 End ∷ by 1 (Begin strict) ∷ by 1 (Do Exit) ∷ by 1 End ∷ by 1 (Do Exit) ∷ by 1 (Do (Stat (47 ∷ []))) ∷ [])
+unsupported_inside : all_said (whole 100) (at_start 0 (by_default (0 ∷ []))) (by 1 (Begin plain) ∷ by 1 (Do Fork) ∷ by 1 End ∷ by 1 (Begin strict) ∷ by 1 (Do Exit) ∷ by 1 End ∷ by 1 (Do Exit) ∷ by 1 (Do (Stat (47 ∷ []))) ∷ [])
     ≡ alone Begun ∷ alone (Refuses ENOTSUP) ∷ alone Committed ∷ alone Begun ∷ alone (Aborted Unsupported false) ∷ alone NotInTransaction ∷ alone (Answers Done) ∷ alone NoProcess ∷ []
 unfolding runs
 unsupported_inside = refl
 
 -- who loses against one dooms nobody
-loses_and_dooms_nobody : all_said (whole 100) (at_start 0 (0 ∷ 2 ∷ 1 ∷ [])) (by 1 (Begin plain) ∷ by 1 (Do (Stat a)) ∷ by 2 (Begin plain) ∷ by 2 (Do (Stat a)) ∷ by 3 (Do (Mkdir a)) ∷ by 1 End ∷ by 2 End ∷ [])
+loses_and_dooms_nobody : all_said (whole 100) (at_start 0 (by_default (0 ∷ 2 ∷ 1 ∷ []))) (by 1 (Begin plain) ∷ by 1 (Do (Stat a)) ∷ by 2 (Begin plain) ∷ by 2 (Do (Stat a)) ∷ by 3 (Do (Mkdir a)) ∷ by 1 End ∷ by 2 End ∷ [])
     ≡ alone Begun ∷ alone (Refuses ENOENT) ∷ alone Begun ∷ alone (Refuses ENOENT) ∷ alone (Busy (entry_a true 2)) ∷ alone Committed ∷ alone Committed ∷ []
 unfolding runs
 loses_and_dooms_nobody = refl
@@ -198,7 +198,7 @@ unfolding runs
 no_loop = refl
 
 -- what a transaction writes into a pipe comes out after its commit
-pipe_after_commit : all_said (whole 100) (at_start 0 (0 ∷ [])) (making 1 Open_pipe (7 ∷ 8 ∷ 9 ∷ []) ∷ by 1 (Do Fork) ∷ by 1 (Begin plain) ∷ by 1 (Do (Write 1 (97 ∷ 98 ∷ 99 ∷ []))) ∷ by 2 (Do (Read 0 10)) ∷ by 1 End ∷ by 2 (Do (Read 0 10)) ∷ [])
+pipe_after_commit : all_said (whole 100) (at_start 0 (by_default (0 ∷ []))) (making 1 Open_pipe (7 ∷ 8 ∷ 9 ∷ []) ∷ by 1 (Do Fork) ∷ by 1 (Begin plain) ∷ by 1 (Do (Write 1 (97 ∷ 98 ∷ 99 ∷ []))) ∷ by 2 (Do (Read 0 10)) ∷ by 1 End ∷ by 2 (Do (Read 0 10)) ∷ [])
     ≡ alone (Answers (Pair 0 1)) ∷ alone (Answers (Child 2)) ∷ alone Begun ∷ alone (Answers (Count 3)) ∷ alone (Refuses EAGAIN) ∷ alone Committed ∷ alone (Answers (Bytes (97 ∷ 98 ∷ 99 ∷ []))) ∷ []
 unfolding runs
 pipe_after_commit = refl

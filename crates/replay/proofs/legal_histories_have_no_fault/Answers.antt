@@ -6,11 +6,11 @@ use Rattle.replay.proofs.Prefixes.{passes_take}
 use Rattle.replay.proofs.legal_histories_have_no_fault.Goals as goal
 
 pub returns : goal.returns
-returns c = λ root priorities limit es legal place fault.
+returns c = λ root setup limit es legal place fault.
     let wrong = fault.2 in
     let most = suc wrong.at + length es in
     wrong.fails (
       root,
-      passes_take root priorities es (suc wrong.at) most (omega arith)
-          (subst (Passes root priorities) (sym (take_all most es (omega arith))) (legal_histories_pass root priorities limit es legal)),
+      passes_take root setup es (suc wrong.at) most (omega arith)
+          (subst (Passes root setup) (sym (take_all most es (omega arith))) (legal_histories_pass root setup limit es legal)),
     )

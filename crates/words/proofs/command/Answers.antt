@@ -8,6 +8,7 @@ returns c =
     let first = c.in_ok-with_schedule.ensures.shape c.schedule_arg.ensures.local ∙ ap₂ with_rule c.new.ensures.app c.schedule_arg.ensures.rule in
     let second = c.in_ok-with_threads.ensures.shape c.threads_arg.ensures.local ∙ ap₂ with_rule first c.threads_arg.ensures.rule in
     let third = c.in_ok-with_limit.ensures.shape c.limit_arg.ensures.local ∙ ap₂ with_rule second c.limit_arg.ensures.rule in
-    let fourth = c.in_ok-with_check.ensures.shape c.check_arg.ensures.local ∙ ap₂ with_rule third c.check_arg.ensures.rule in
-    let fifth = c.in_ok-with_file.ensures.shape c.file_arg.ensures.local ∙ ap₂ with_rule fourth c.file_arg.ensures.rule in
-    ap app_of_fields c.after_help.ensures ∙ ap app_of_fields c.about.ensures ∙ ap app_of_fields c.override_usage.ensures ∙ fifth
+    let fourth = c.in_ok-with_file_limit.ensures.shape c.file_limit_arg.ensures.local ∙ ap₂ with_rule third c.file_limit_arg.ensures.rule in
+    let fifth = c.in_ok-with_check.ensures.shape c.check_arg.ensures.local ∙ ap₂ with_rule fourth c.check_arg.ensures.rule in
+    let sixth = c.in_ok-with_file.ensures.shape c.file_arg.ensures.local ∙ ap₂ with_rule fifth c.file_arg.ensures.rule in
+    ap app_of_fields c.after_help.ensures ∙ ap app_of_fields c.about.ensures ∙ ap app_of_fields c.override_usage.ensures ∙ sixth

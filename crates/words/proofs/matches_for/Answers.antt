@@ -1,9 +1,14 @@
-use Rattle.std.proofs.Common.{◌≡◌, ◌∙◌, ap, refl, List, true}
-use Rattle.clap.specs.Words.{App, HasMatchesOf, Row, Text, first_of, first_value, found_of, is_simple, matches_of, one_of, one_text}
+use Rattle.std.proofs.Common.{◌≡◌, ◌≢◌, ◌∙◌, ap, refl, List, true, subst, sym, inl, inr}
+use Rattle.clap.specs.Words.{App, HasKind, HasMatchesOf, IsAmong, Kinds, Row, Text, fault_of, first_of, first_value, found_of, is_simple, is_simple_and_free, kind_of, matches_of, one_of, one_text}
+use Rattle.clap.specs.declared.error.Error.{Error}
+use Rattle.clap.specs.declared.error.kind.ErrorKind.{ErrorKind}
+use Rattle.clap.specs.declared.error.kind.ErrorKind.TheVariants.{DisplayHelp, OutOfMemory}
 use Rattle.clap.specs.declared.parser.matches.ArgMatches.{ArgMatches}
 use Rattle.clap.proofs.OnLiterals.{clap_on_literals}
 use Rattle.clap.proofs.WalkLemmas.{first_value-rows, one_text-rows}
-use Rattle.words.specs.Txsh.{number_in, txsh, value_in}
+use Rattle.words.specs.Txsh.{IsParseFault, IsReportedAs, number_in, texts, txsh, value_in}
+use Rattle.words.specs.declared.CommandLineFault.{CommandLineFault}
+use Rattle.words.specs.declared.CommandLineFault.TheVariants.{OneWay, NotUtf8, Help, Usage, NoMemory}
 use Rattle.words.proofs.matches_for.Goals as goal
 
 simple : is_simple txsh ≡ true
@@ -27,3 +32,40 @@ returns-in-Ok-try_get_matches_from-clause-values c = value_is _ _ _ c.in-Ok.ensu
 
 pub returns-in-Ok-try_get_matches_from-clause-numbers : goal.returns-in-Ok-try_get_matches_from-clause-numbers
 returns-in-Ok-try_get_matches_from-clause-numbers c = number_is _ _ _ c.in-Ok.ensures c.in-Ok-try_get_matches_from.ensures.matches
+
+simple_and_free : is_simple_and_free txsh ≡ true
+unfolding clap_on_literals
+simple_and_free = refl
+
+-- a kind that is not want of memory is among the kinds that may come
+among : (kinds : Kinds) (error other : Error) → other ≡ error → kind_of error ≢ OutOfMemory → HasKind kinds error → IsAmong (kind_of other) kinds
+among kinds error other same not_memory (inl memory) = absurd (not_memory memory)
+among kinds error other same not_memory (inr is) =
+    subst (λ (k : ErrorKind). IsAmong k kinds) (sym (ap (λ (e : Error). kind_of e) same)) is
+
+help_is : (kinds : Kinds) (error text : Error) → text ≡ error → kind_of error ≡ DisplayHelp → HasKind kinds error → (kind_of text ≡ DisplayHelp) × IsAmong DisplayHelp kinds
+help_is kinds error text same help has =
+    let kind : kind_of text ≡ DisplayHelp = ap (λ (e : Error). kind_of e) same ∙ help in
+    let other : kind_of error ≢ OutOfMemory = λ memory. cc (sym help ∙ memory) in
+    (kind, subst (λ (k : ErrorKind). IsAmong k kinds) kind (among kinds error text same other has))
+
+usage_is : (kinds : Kinds) (error other : Error) → other ≡ error → kind_of error ≢ DisplayHelp → kind_of error ≢ OutOfMemory → HasKind kinds error → (kind_of other ≢ DisplayHelp) × (kind_of other ≢ OutOfMemory) × IsAmong (kind_of other) kinds
+usage_is kinds error other same not_help not_memory has =
+    let kind : kind_of error ≡ kind_of other = sym (ap (λ (e : Error). kind_of e) same) in
+    (λ help. not_help (kind ∙ help), λ memory. not_memory (kind ∙ memory), among kinds error other same not_memory has)
+
+reported : (words : List Text) (error : Error) (fault : CommandLineFault) → HasKind (fault_of txsh words) error → IsReportedAs error fault → IsParseFault words fault
+reported words error OneWay has is = is
+reported words error NotUtf8 has is = is
+reported words error (Help text) has is = help_is (fault_of txsh words) error text is.0 is.1 has
+reported words error (Usage other) has is =
+    usage_is (fault_of txsh words) error other is.0 is.1 is.2 has
+reported words error NoMemory has is = tt
+
+has_kind : (a : App) (words : List Text) (error : Error) → a ≡ txsh → (is_simple_and_free a ≡ true → HasKind (fault_of a words) error) → HasKind (fault_of txsh words) error
+has_kind a words error is kinds = subst (λ (b : App). HasKind (fault_of b words) error) is (kinds (ap is_simple_and_free is ∙ simple_and_free))
+
+pub returns-in-Err-clause-err : goal.returns-in-Err-clause-err
+returns-in-Err-clause-err c =
+    let words = texts c.args.words.now in
+    reported words c.in-Err.error c.reported_fault.result (has_kind _ words c.in-Err.error c.in-Ok.ensures c.in-Err.ensures.kinds) c.reported_fault.ensures

@@ -1,5 +1,5 @@
 use Rattle.std.proofs.Common.{sym}
-use Rattle.std.proofs.Common.{[], ◌∷◌, ◌+◌, length, ap}
+use Rattle.std.proofs.Common.{[], ◌∷◌, ◌+◌, length, take, ap, ◌∙◌}
 use Rattle.model.specs.Plans.{changed}
 use Rattle.model.specs.Calls.{Count}
 use Rattle.model.specs.Changes.{Put_bytes, Set_offset}
@@ -16,4 +16,4 @@ pub returns-in_err-size : goal.returns-in_err-size
 returns-in_err-size g c = goes _ c.in_ok-place.ensures (goes _ (c.in_ok-must_be_below.ensures.value _ _) (stops _ c.from_residual-in_err-size.ensures.1 c.in_err-size.ensures))
 
 pub returns : goal.returns
-returns g c = goes _ c.in_ok-place.ensures (goes _ (c.in_ok-must_be_below.ensures.value _ _) (goes _ c.in_ok-size.ensures (via (ap (λ kept. changed (Count (length kept)) (Put_bytes c.args.it.inode c.in_ok-place.place kept c.in_ok-size.size ∷ Set_offset c.args.it.description (c.in_ok-place.place + length kept) ∷ [])) (sym c.in_ok-kept.ensures)) (c.put.ensures _ _))))
+returns g c = goes _ c.in_ok-place.ensures (goes _ (c.in_ok-must_be_below.ensures.value _ _) (goes _ c.in_ok-size.ensures (via (ap (λ kept. changed (Count (length kept)) (Put_bytes c.args.it.inode c.in_ok-place.place kept c.in_ok-size.size ∷ Set_offset c.args.it.description (c.in_ok-place.place + length kept) ∷ [])) (ap (λ n. take n c.args.bytes.now) (sym c.room.ensures.is) ∙ sym c.in_ok-kept.ensures)) (c.put.ensures _ _))))

@@ -1,7 +1,7 @@
 use Rattle.std.proofs.Common.{sym, pos, ◌+ℤ◌}
 use Rattle.std.proofs.lemmas.Int.{to_z-of_z}
 use Rattle.calls.specs.Parts.{place_in}
-use Rattle.std.proofs.Common.{ap, ◌∙◌}
+use Rattle.std.proofs.Common.{◌∙◌}
 use Rattle.walk.proofs.Laws.{goes, stops}
 use Rattle.calls.proofs.seek.lseek.Goals as goal
 
@@ -15,4 +15,4 @@ pub returns-in_err-place : goal.returns-in_err-place
 returns-in_err-place g c = goes _ (c.in_ok-it.ensures _ _) (goes _ (c.in_ok-must_not_be_pipe.ensures _ _) (stops _ c.from_residual-in_err-place.ensures.1 c.in_err-place.ensures))
 
 pub returns : goal.returns
-returns g c = goes _ (c.in_ok-it.ensures _ _) (goes _ (c.in_ok-must_not_be_pipe.ensures _ _) (goes _ c.in_ok-place.ensures (c.sought.ensures (pos c.in_ok-place.place +ℤ c.args.distance) (ap (λ d. place_in (pos c.in_ok-place.place +ℤ d)) (sym (to_z-of_z _ _ c.ranges.distance)) ∙ sym c.place_of.ensures) _ _)))
+returns g c = goes _ (c.in_ok-it.ensures _ _) (goes _ (c.in_ok-must_not_be_pipe.ensures _ _) (goes _ c.in_ok-place.ensures (c.sought.ensures c.args.own.now.largest (pos c.in_ok-place.place +ℤ c.args.distance) ((λ i. place_in (sym c.largest.ensures i) (pos c.in_ok-place.place +ℤ sym (to_z-of_z _ _ c.ranges.distance) i)) ∙ sym c.place_of.ensures) _ _)))

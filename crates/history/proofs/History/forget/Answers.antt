@@ -12,7 +12,7 @@ pub returns-clause-yes : goal.returns-clause-yes
 returns-clause-yes c done =
     let past = c.self.inside.past in
     let es : List Entry = c.self.inside.entries.items in
-    let log : List Entry → List ℕ → Log = λ entries forgotten. record { entries = entries; priorities = c.self.inside.priorities.items; limit = c.self.inside.limit; forgotten = forgotten } in
+    let log : List Entry → List ℕ → Log = λ entries forgotten. record { entries = entries; priorities = c.self.inside.priorities.items; limit = c.self.inside.limits.entries; forgotten = forgotten; largest = c.self.inside.limits.file_bytes } in
     let entries : entries_in c.add.new.self ++ c.clear.new.self.items ≡ entries_in past ++ es =
     ap (λ x. x ++ c.clear.new.self.items) c.add.ensures.entries ∙ ap (λ x. (entries_in past ++ es) ++ x) c.clear.ensures.items ∙ append-nil (entries_in past ++ es) in
     let counts : counts_in c.add.new.self ≡ counts_in past ++ length (kept (log (entries_in past ++ es) (counts_in past))) ∷ [] =

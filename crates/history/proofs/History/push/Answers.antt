@@ -8,7 +8,7 @@ pub returns-then-len-self-clause-exactly : goal.returns-then-len-self-clause-exa
 returns-then-len-self-clause-exactly c =
     let count : vec_len c.self.inside.entries ≡ length c.self.inside.entries.items = c.self.inside.entries.ok.0 in (
       λ full. subst (λ log. log.limit ≤ length (kept log)) c.self.view_is
-          (subst (λ es. c.self.inside.limit ≤ length es) (sym (kept_are c.self.inside.past c.self.inside.entries.items)) (omega (arith, count))),
+          (subst (λ es. c.self.inside.limits.entries ≤ length es) (sym (kept_are c.self.inside.past c.self.inside.entries.items)) (omega (arith, count))),
       λ full. refl,
     )
 
@@ -17,7 +17,7 @@ returns-clause-exactly c =
     let count : vec_len c.self.inside.entries ≡ length c.self.inside.entries.items = c.self.inside.entries.ok.0 in (
       λ h. absurd (false≢true h),
       λ full.
-          let here : c.self.inside.limit ≤ length c.self.inside.entries.items = subst (λ es. c.self.inside.limit ≤ length es) (kept_are c.self.inside.past c.self.inside.entries.items)
+          let here : c.self.inside.limits.entries ≤ length c.self.inside.entries.items = subst (λ es. c.self.inside.limits.entries ≤ length es) (kept_are c.self.inside.past c.self.inside.entries.items)
           (subst (λ log. log.limit ≤ length (kept log)) (sym c.self.view_is) full) in
           absurd (omega (arith, count)),
     )

@@ -1,4 +1,4 @@
-use Rattle.kernel.proofs.Words.{limit_of, false, refl, sym, ap, ◌∙◌, tidy, live, fields, commits_run_the_list}
+use Rattle.kernel.proofs.Words.{limit_of, setup_of, false, refl, sym, ap, ◌∙◌, tidy, live, fields, commits_run_the_list}
 use Rattle.kernel.proofs.Words.{plain}
 use Rattle.model.specs.Entries.{End, Committed}
 use Rattle.kernel.proofs.Entries.{slot_fits, slot_views, closes, is_right, none_else}
@@ -16,7 +16,7 @@ end_transaction-requires-clause-can c =
     let s = live c.args.flags c.args.age l.0 in
     closes f holds pid End Committed s l.1 (refl, none_else pid End Committed) refl refl
     _ _ false c.args.flags c.args.age (λ h. absurd cc) refl c.end.ensures.slots
-    (c.end.ensures.state ∙ ap tidy (slot_views f holds pid) ∙ sym (commits_run_the_list 0 f.log.priorities (limit_of f.log) f.log.entries (plain pid End Committed) holds.legal
+    (c.end.ensures.state ∙ ap tidy (slot_views f holds pid) ∙ sym (commits_run_the_list 0 (setup_of f.log) (limit_of f.log) f.log.entries (plain pid End Committed) holds.legal
     (is_right f holds pid End Committed s l.1 (refl, none_else pid End Committed) refl refl) refl))
 
 pub returns : goal.returns

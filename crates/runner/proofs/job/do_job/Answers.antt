@@ -1,5 +1,5 @@
 use Rattle.std.proofs.Common.{◌≡◌, ◌<◌, inr, refl, rules, subst}
-use Rattle.machine.specs.Shown.{limit_of}
+use Rattle.machine.specs.Shown.{limit_of, setup_of}
 use Rattle.runner.specs.Checks.{IsChecked, NotChecked}
 use Rattle.runner.proofs.Ending.{on_ok, if_err}
 use Rattle.runner.proofs.job.do_job.Goals as goal
@@ -31,7 +31,7 @@ returns-in-Ok-clause-fault g c =
         ran = search rules;
         wanted = wanted;
         fails = fails;
-        passes = λ place e. c.legal_histories_have_no_fault.ensures 0 (g.K.Machine.shown c.in-Ok.kernel).log.priorities (limit_of (g.K.Machine.shown c.in-Ok.kernel).log) (g.K.Machine.shown c.in-Ok.kernel).log.entries c.history.ensures.kept.legal place (subst (NotChecked (g.K.Machine.shown c.in-Ok.kernel).log mid new (g.O.Sink.failures c.args.out.now < last)) e fails).0;
+        passes = λ place e. c.legal_histories_have_no_fault.ensures 0 (setup_of (g.K.Machine.shown c.in-Ok.kernel).log) (limit_of (g.K.Machine.shown c.in-Ok.kernel).log) (g.K.Machine.shown c.in-Ok.kernel).log.entries c.history.ensures.kept.legal place (subst (NotChecked (g.K.Machine.shown c.in-Ok.kernel).log mid new (g.O.Sink.failures c.args.out.now < last)) e fails).0;
       });
       read = λ e. absurd (subst (NotChecked (g.K.Machine.shown c.in-Ok.kernel).log mid new (g.O.Sink.failures c.args.out.now < last)) e fails);
       write = λ e. (subst (NotChecked (g.K.Machine.shown c.in-Ok.kernel).log mid new (g.O.Sink.failures c.args.out.now < last)) e fails).2;

@@ -10,7 +10,7 @@ use Rattle.shadow.proofs.Slots_over.{Entries}
 use Rattle.shadow.proofs.reslotting.lay_each.Goals as goal
 
 pub loop-i-init : goal.loop-i-init
-loop-i-init c = lays_nothing c.args.each.now c.args.processes.now.items c.args.store.now c.requires.once
+loop-i-init c = lays_nothing c.args.each.now c.args.processes.now c.args.store.now c.requires.once
 
 -- what was read at the place is what stands there
 read : (es : Entries) (i : ℕ) (it : ℕ × Given) → i < length es → it ≡ get_or es i it → get_or es i it ≡ get_or es i (0, empty)
@@ -23,18 +23,18 @@ lay_table-former-requires c =
     let low : i < length now = omega (arith, c.loop-i-test.true, c.loop-i.auto.each) in
     let one : get_or now i c.index-each-i.result ≡ get_or now i (0, empty) = read now i c.index-each-i.result low c.index-each-i.is in
     let two : get_or now i c.index-each-i-in-loop-i.result ≡ get_or now i (0, empty) = read now i c.index-each-i-in-loop-i.result low c.index-each-i-in-loop-i.is in
-    subst (λ (e : ℕ × Given). entries (get_or now i c.index-each-i-in-loop-i.result).1 ≢ [] → get (numbered c.loop-i.processes.items) e.0 ≢ None) (sym one)
-    (subst (λ (e : ℕ × Given). entries e.1 ≢ [] → get (numbered c.loop-i.processes.items) (key_at now i) ≢ None) (sym two)
-    (next_there i c.args.each.now now c.args.processes.now.items c.loop-i.processes.items c.args.store.now c.loop-i.store c.requires.once c.loop-i-test.true c.loop-i.invariant c.requires.living))
+    subst (λ (e : ℕ × Given). entries (get_or now i c.index-each-i-in-loop-i.result).1 ≢ [] → get (numbered c.loop-i.processes) e.0 ≢ None) (sym one)
+    (subst (λ (e : ℕ × Given). entries e.1 ≢ [] → get (numbered c.loop-i.processes) (key_at now i) ≢ None) (sym two)
+    (next_there i c.args.each.now now c.args.processes.now c.loop-i.processes c.args.store.now c.loop-i.store c.requires.once c.loop-i-test.true c.loop-i.invariant c.requires.living))
 
 pub loop-i-preserved : goal.loop-i-preserved
 loop-i-preserved c =
     let es : Entries = c.args.each.now in
     let now : Entries = c.loop-i.each in
     let i : ℕ = c.loop-i.i in
-    let ps = c.args.processes.now.items in
-    let qs = c.loop-i.processes.items in
-    let rs = c.lay_table-former.new.processes.items in
+    let ps = c.args.processes.now in
+    let qs = c.loop-i.processes in
+    let rs = c.lay_table-former.new.processes in
     let s = c.args.store.now in
     let t = c.loop-i.store in
     let u = c.lay_table-former.new.store in
@@ -52,7 +52,7 @@ loop-i-preserved c =
 
 pub returns-clause-laid : goal.returns-clause-laid
 returns-clause-laid c =
-    lays_all c.loop-i.i c.args.each.now c.loop-i.each c.args.processes.now.items c.loop-i.processes.items c.args.store.now c.loop-i.store
+    lays_all c.loop-i.i c.args.each.now c.loop-i.each c.args.processes.now c.loop-i.processes c.args.store.now c.loop-i.store
     (omega (arith, c.loop-i-test.false)) c.loop-i.invariant
 
 pub returns-clause-once : goal.returns-clause-once

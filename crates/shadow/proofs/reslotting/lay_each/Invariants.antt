@@ -3,4 +3,4 @@ use Rattle.shadow.proofs.Each_laid.{Lays}
 use Rattle.shadow.proofs.reslotting.lay_each.Given as goal
 
 abbrev pub invariant-loop-i : goal.invariant-loop-i
-invariant-loop-i l = Lays l.i l.fn.each l.each l.fn.processes.items l.processes.items l.fn.store l.store
+invariant-loop-i l = Lays l.i l.fn.each l.each l.fn.processes l.processes l.fn.store l.store

@@ -3,4 +3,4 @@ use Rattle.shadow.proofs.Tabling.{Reslots}
 use Rattle.shadow.proofs.reslotting.lay_table.Given as goal
 
 abbrev pub invariant-loop-number : goal.invariant-loop-number
-invariant-loop-number l = Reslots l.pid l.number l.patch l.former l.fn.processes.items l.processes.items l.fn.store l.store
+invariant-loop-number l = Reslots l.pid l.number l.patch l.former l.fn.processes l.processes l.fn.store l.store

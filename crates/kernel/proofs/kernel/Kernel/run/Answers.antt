@@ -1,5 +1,5 @@
 use Rattle.kernel.proofs.Words.{rules, ◌≡◌, ◌≤◌, ◌+◌, [], ◌∷◌, ◌++◌, length, refl, sym, ap, subst, ◌∙◌, append_assoc, append-nil, nil_from_length}
-use Rattle.kernel.proofs.Words.{into_iter_items, limit_of, serializable_at, Steps}
+use Rattle.kernel.proofs.Words.{into_iter_items, limit_of, setup_of, serializable_at, Steps}
 use Rattle.history_laws.specs.Headline.{IsSerializable}
 use Rattle.std.specs.Vec.{vec_capacity}
 use Rattle.kernel.proofs.kernel.Kernel.run.Goals as goal
@@ -32,4 +32,4 @@ pub returns-clause-serial : goal.returns-clause-serial
 returns-clause-serial c = serializable_at 0 _ _ _ _ c.loop-pid.invariant.kept.legal c.loop-pid.invariant.kept.state
 
 pub returns-in_default-clause-serial : goal.returns-in_default-clause-serial
-returns-in_default-clause-serial c = subst (λ v. IsSerializable 0 v.log.priorities (limit_of v.log) v.log.entries v.state) c.self.view_is (serializable_at 0 _ _ _ _ c.self.invariant.legal c.self.invariant.state)
+returns-in_default-clause-serial c = subst (λ v. IsSerializable 0 (setup_of v.log) (limit_of v.log) v.log.entries v.state) c.self.view_is (serializable_at 0 _ _ _ _ c.self.invariant.legal c.self.invariant.state)

@@ -24,10 +24,10 @@ run-requires g c =
     )
 
 pub returns-in_ok-keep_all-in-None-clause-follows : goal.returns-in_ok-keep_all-in-None-clause-follows
-returns-in_ok-keep_all-in-None-clause-follows g c = λ root priorities f.
+returns-in_ok-keep_all-in-None-clause-follows g c = λ root setup f.
     let w = c.args.window.now in
     let shows = c.requires.1.1.1.0 in
-    follows_entry root priorities g.es c.args.at _ _ _ _ _ _ _
+    follows_entry root setup g.es c.args.at _ _ _ _ _ _ _
     (part_within g.es w.part.now w.offset c.args.index shows.part shows.within c.requires.0 c.args.at c.requires.1.0)
     (part_read g.es w.part.now w.offset c.args.index c.args.at _ shows.part c.requires.0 c.requires.1.0) c.is_living-living.ensures
     (c.get-kept.ensures ∙ ap (get c.args.self.now.transactions) c.place_of.ensures) (sym c.suits.ensures ∙ c.if-not-suits.false) (match_none _ _ c.in_ok-wrong.wrong c.in-None.is c.in_ok-wrong.ensures) c.in_ok-keep_all-in-None.ensures f
@@ -38,19 +38,19 @@ returns-in_ok-keep_all-in-None-clause-sees g c =
     sees_next c.args.window.now c.args.at (omega (arith, place)) (get_or c.args.window.now.part.now c.args.index c.index-window-index.result) c.args.self.now.transactions c.keep_all.new.transactions c.requires.1.1.1.1 c.in_ok-keep_all-in-None.ensures
 
 pub returns-then-not-suits-clause-follows : goal.returns-then-not-suits-clause-follows
-returns-then-not-suits-clause-follows g c = λ root priorities f.
+returns-then-not-suits-clause-follows g c = λ root setup f.
     let w = c.args.window.now in
     let shows = c.requires.1.1.1.0 in
-    fails_unsuited root priorities g.es c.args.at _ _ _ _ _
+    fails_unsuited root setup g.es c.args.at _ _ _ _ _
     (part_within g.es w.part.now w.offset c.args.index shows.part shows.within c.requires.0 c.args.at c.requires.1.0)
     (part_read g.es w.part.now w.offset c.args.index c.args.at _ shows.part c.requires.0 c.requires.1.0) c.is_living-living.ensures
     (c.get-kept.ensures ∙ ap (get c.args.self.now.transactions) c.place_of.ensures) (sym c.suits.ensures ∙ c.if-not-suits.true) f
 
 pub returns-in-Some-clause-follows : goal.returns-in-Some-clause-follows
-returns-in-Some-clause-follows g c = λ root priorities f.
+returns-in-Some-clause-follows g c = λ root setup f.
     let w = c.args.window.now in
     let shows = c.requires.1.1.1.0 in
-    fails_stopped root priorities g.es c.args.at _ _ _ _ _
+    fails_stopped root setup g.es c.args.at _ _ _ _ _
     (part_within g.es w.part.now w.offset c.args.index shows.part shows.within c.requires.0 c.args.at c.requires.1.0)
     (part_read g.es w.part.now w.offset c.args.index c.args.at _ shows.part c.requires.0 c.requires.1.0) c.is_living-living.ensures
     (c.get-kept.ensures ∙ ap (get c.args.self.now.transactions) c.place_of.ensures) (sym c.suits.ensures ∙ c.if-not-suits.false) c.in-Some.place (match_place _ _ c.in_ok-wrong.wrong c.in-Some.place c.in-Some.is c.in_ok-wrong.ensures) f

@@ -1,4 +1,5 @@
-use Rattle.std.proofs.Common.{◌≡◌, ◌+◌, ℕ, List}
+use Rattle.std.proofs.Common.{◌≡◌, ◌+◌, ℕ}
+use Rattle.model.specs.Moments.{Setup}
 use Rattle.freeing_laws.specs.Sweep.{IsTidied}
 use Rattle.replay.specs.Ran.{Follows}
 use Rattle.replay.specs.Windows.{CanSeeAny}
@@ -10,5 +11,5 @@ ghost-follow g a = g.es
 abbrev pub invariant-loop-index : goal.invariant-loop-index
 invariant-loop-index g l =
     (l.at ≡ l.window.offset + l.index) × IsTidied l.self.kernel × CanSeeAny l.window l.self.transactions
-    × ((root : ℕ) (priorities : List ℕ) → Follows root priorities g.es l.window.offset l.fn.self.kernel l.fn.self.transactions
-    → Follows root priorities g.es l.at l.self.kernel l.self.transactions)
+    × ((root : ℕ) (setup : Setup) → Follows root setup g.es l.window.offset l.fn.self.kernel l.fn.self.transactions
+    → Follows root setup g.es l.at l.self.kernel l.self.transactions)

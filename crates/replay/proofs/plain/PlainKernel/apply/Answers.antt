@@ -1,6 +1,7 @@
 use Rattle.std.proofs.Common.{ap, ◌∙◌}
 use Rattle.model.specs.Changes.{set_name}
 use Rattle.replay.proofs.Edited.{appends, cuts, edited, makes_directory, makes_file, moves, names_file, puts, takes, unnames_directory, unnames_file}
+use Rattle.replay.proofs.Ends.{cut_ends, put_ends}
 use Rattle.replay.proofs.Setting.{if_ok}
 use Rattle.replay.proofs.plain.PlainKernel.apply.Goals as goal
 
@@ -8,7 +9,7 @@ pub returns-in-MakeDirectory : goal.returns-in-MakeDirectory
 returns-in-MakeDirectory c = if_ok c.make.result c.make.ensures (λ h. edited _ _ _ _ _ c.in-MakeDirectory.is (makes_directory _ _ _ _ _ _ _ _ _ c.made.ensures c.directory-inode.ensures c.new.ensures h))
 
 pub returns-in-MakeFile : goal.returns-in-MakeFile
-returns-in-MakeFile c = if_ok c.make-in-MakeFile.result c.make-in-MakeFile.ensures (λ h. edited _ _ _ _ _ c.in-MakeFile.is (makes_file _ _ _ _ _ _ _ _ _ c.made-in-MakeFile.ensures c.file-inode.ensures c.no_bytes.ensures h))
+returns-in-MakeFile c = if_ok c.make-in-MakeFile.result c.make-in-MakeFile.ensures (λ h. edited _ _ _ _ _ c.in-MakeFile.is (makes_file _ _ _ _ _ _ _ _ _ c.made-in-MakeFile.ensures c.file-inode.ensures c.new-in-MakeFile.ensures h))
 
 pub returns-in-NameFile : goal.returns-in-NameFile
 returns-in-NameFile c = if_ok c.set_name.result c.set_name.ensures (λ h. edited _ _ _ _ _ c.in-NameFile.is (names_file _ _ _ _ _ _ h))
@@ -34,3 +35,9 @@ returns-in-Take c = if_ok c.take.result c.take.ensures (λ h. edited _ _ _ _ _ c
 
 pub returns-in-Append : goal.returns-in-Append
 returns-in-Append c = if_ok c.append.result c.append.ensures (λ h. edited _ _ _ _ _ c.in-Append.is (appends _ _ _ _ _ _ c.as_slice-in-Append.ensures h))
+
+pub put-requires : goal.put-requires
+put-requires c = put_ends _ _ _ _ _ _ c.in-PutBytes.is c.as_slice.ensures c.requires
+
+pub cut-requires : goal.cut-requires
+cut-requires c = cut_ends _ _ _ _ c.in-Cut.is c.requires

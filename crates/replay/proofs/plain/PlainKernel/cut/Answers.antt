@@ -6,5 +6,5 @@ use Rattle.replay.proofs.plain.PlainKernel.cut.Goals as goal
 
 pub returns : goal.returns
 returns c = if_ok c.set_inode.result c.set_inode.ensures (λ h. inode_replaced _ _ _ _ _ _ c.in_ok-inode.ensures.left h
-    (c.file.ensures ∙ ap File (c.in_ok-all.ensures
-    ∙ ap (sized c.args.len) (c.file_out.ensures ∙ ap file_of_inode c.in_ok-inode.ensures.taken))))
+    (c.file.ensures ∙ ap File (c.cut.ensures
+    ∙ ap (sized c.args.len) (c.file_out-stored.ensures ∙ ap file_of_inode c.in_ok-inode.ensures.taken))))

@@ -24,7 +24,7 @@ lay_slots-requires c =
 
 pub close_former-requires : goal.close_former-requires
 close_former-requires c = (
-  c.lay_slots.new.processes.items,
+  c.lay_slots.new.processes,
   (has_all
       (can_commit c.stable.invariant c.stable.view_is c.self.invariant c.self.view_is
       c.patches.view_is c.requires.fits c.requires.covers)
@@ -34,7 +34,7 @@ close_former-requires c = (
 
 pub close_new-requires : goal.close_new-requires
 close_new-requires c = (
-  c.lay_slots.new.processes.items,
+  c.lay_slots.new.processes,
   holds_first
       (can_commit c.stable.invariant c.stable.view_is c.self.invariant c.self.view_is
       c.patches.view_is c.requires.fits c.requires.covers)
@@ -44,7 +44,7 @@ close_new-requires c = (
 
 pub free_all-requires : goal.free_all-requires
 free_all-requires c = (
-  c.lay_slots.new.processes.items,
+  c.lay_slots.new.processes,
   holds_second
       (can_commit c.stable.invariant c.stable.view_is c.self.invariant c.self.view_is
       c.patches.view_is c.requires.fits c.requires.covers)

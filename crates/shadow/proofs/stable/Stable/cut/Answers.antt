@@ -18,7 +18,7 @@ swap_file-data-requires c = file_there c.self.inside.store c.args.file (ap (λ (
 pub swap_file-empty-requires : goal.swap_file-empty-requires
 swap_file-empty-requires c = file_still c.self.inside.store c.swap_file-data.new.self c.args.file c.new-empty.result.bytes c.swap_file-data.ensures.shown
 
-abbrev is_file : (c : goal.After-drop-empty) → kind_of (state_of c.self.inside.processes.items c.self.inside.store) c.args.file ≡ Some A_file
+abbrev is_file : (c : goal.After-drop-empty) → kind_of (state_of c.self.inside.processes c.self.inside.store) c.args.file ≡ Some A_file
 is_file c = ap (λ (v : Committed). kind_of v.state c.args.file) c.self.view_is ∙ c.requires.file
 
 was : (c : goal.After-drop-empty) → get (inodes c.self.inside.store) c.args.file ≡ Some (File c.swap_file-data.result.bytes)
@@ -27,21 +27,21 @@ was c = former_is c.self.inside.store c.args.file c.swap_file-data.result (file_
 now : (c : goal.After-drop-empty) → c.swap_file-empty.new.self ≡ swapped c.cut.new.self c.self.inside.store c.args.file
 now c = swapped_twice c.new-empty.result c.cut.new.self c.self.inside.store c.swap_file-data.new.self c.swap_file-empty.new.self c.args.file c.swap_file-data.ensures.swapped c.swap_file-empty.ensures.swapped
 
-changed : (c : goal.After-drop-empty) → c.cut.new.self.bytes ≡ sized c.args.after (file_of (state_of c.self.inside.processes.items c.self.inside.store) c.args.file)
+changed : (c : goal.After-drop-empty) → c.cut.new.self.bytes ≡ sized c.args.after (file_of (state_of c.self.inside.processes c.self.inside.store) c.args.file)
 changed c = c.cut.ensures ∙ ap (λ (o : Rattle.std.proofs.Common.Option Inode). sized c.args.after (file_of_inode o)) (sym (was c))
 
 pub invariant_of-self : goal.invariant_of-self
 invariant_of-self c =
-    subst (Sound c.self.inside.processes.items) (sym (now c))
-    (cut_sound c.self.inside.processes.items c.self.inside.store c.args.file c.cut.new.self c.self.invariant (is_file c) c.args.after (changed c))
+    subst (Sound c.self.inside.processes) (sym (now c))
+    (cut_sound c.self.inside.processes c.self.inside.store c.args.file c.cut.new.self c.self.invariant (is_file c) c.args.after (changed c))
 
 pub returns-clause-state : goal.returns-clause-state
 returns-clause-state c before =
-    let ps = c.self.inside.processes.items in let s = c.self.inside.store in let n = c.args.file in
+    let ps = c.self.inside.processes in let s = c.self.inside.store in let n = c.args.file in
     state_is ps ps s c.args.self.now c.self.view_is (state_of ps c.swap_file-empty.new.self) (applied [] (Cut n before c.args.after))
     (ap (state_of ps) (now c) ∙ cut_state ps s n c.cut.new.self c.self.invariant (is_file c) before c.args.after (changed c))
 
 pub returns-clause-kept : goal.returns-clause-kept
 returns-clause-kept c =
-    let ps = c.self.inside.processes.items in let s = c.self.inside.store in let b = c.cut.new.self in
+    let ps = c.self.inside.processes in let s = c.self.inside.store in let b = c.cut.new.self in
     subst (λ t. KeepsSame c.args.self.now (committed_of ps t)) (sym (now c)) (same_of ps ps s c.args.self.now c.self.view_is (swapped b s c.args.file) (file_keeps (with_bytes b) s c.args.file))

@@ -4,4 +4,4 @@ use Rattle.shadow.proofs.Plugs.{directories_kept}
 use Rattle.shadow.proofs.stable.Stable.directories_are_kept.Goals as goal
 
 pub returns : goal.returns
-returns c = subst DirectoriesAreKept c.self.view_is (directories_kept c.self.inside.processes.items c.self.inside.store)
+returns c = subst DirectoriesAreKept c.self.view_is (directories_kept c.self.inside.processes c.self.inside.store)

@@ -1,4 +1,4 @@
-use Rattle.std.proofs.Common.{◌≡◌, ◌<◌, ◌≤◌, ◌-◌, ◌∙◌, ℕ, [], None, length, set, sym, ap, subst, arith, vec_len}
+use Rattle.std.proofs.Common.{◌≡◌, ◌∙◌, [], None, sym, ap, subst}
 use Rattle.model.specs.Changes.{End_process, applied, tidy}
 use Rattle.call_laws.specs.Fits.{Fits}
 use Rattle.freeing_laws.specs.Sweep.{all_closed}
@@ -6,48 +6,33 @@ use Rattle.store.specs.Numbers.{Numbers}
 use Rattle.shadow.specs.Claims.{KeepsSame}
 use Rattle.shadow.specs.Committed.{Committed}
 use Rattle.shadow.specs.Laid.{Frees, Holds}
-use Rattle.shadow.specs.Stored.{Processes, Sound, committed_of, state_of}
+use Rattle.shadow.specs.Stored.{Processes, Sound, committed_of, state_of, with_process}
 use Rattle.shadow.proofs.Edited.{same_of, state_is}
-use Rattle.shadow.proofs.Ending.{ending_holds, ending_sound, ending_tidy, given_of, place}
+use Rattle.shadow.proofs.Ending.{ending_holds, ending_sound, ending_tidy, given_of, there}
 use Rattle.shadow.proofs.Ending.{slots_keep}
-use Rattle.shadow.proofs.Living.{IsProcess}
 use Rattle.shadow.proofs.stable.Stable.exit.Goals as goal
 
 -- the edit fits what is stored
-fits : (c : goal.After-struct_known-1)
-    → Fits [] (state_of c.self.inside.processes.items c.self.inside.store)
+fits : (c : goal.After-remove-arg-1)
+    → Fits [] (state_of c.self.inside.processes c.self.inside.store)
     (End_process c.args.pid c.requires.0)
 fits c = subst (λ (v : Committed). Fits [] v.state (End_process c.args.pid c.requires.0))
     (sym c.self.view_is) c.requires.1
 
--- the place of the process
-there : (c : goal.After-struct_known-1)
-    → IsProcess c.lay_table-former.new.processes.items c.pid.inside.0
-there c = subst (IsProcess c.lay_table-former.new.processes.items) (sym c.pid.view_is)
-    (place c.self.inside.processes.items c.lay_table-former.new.processes.items c.self.inside.store
+pub remove-requires : goal.remove-requires
+remove-requires c =
+    there c.self.inside.processes c.lay_table-former.new.processes c.self.inside.store
     c.lay_table-former.new.store c.args.pid c.requires.0 c.self.invariant (fits c)
     c.all_closed.result c.lay_table-former.result c.all_closed.ensures.given
-    c.all_closed.ensures.low c.lay_table-former.ensures)
-
-pub overflow_sub-pid-inside : goal.overflow_sub-pid-inside
-overflow_sub-pid-inside c = (there c).some
-
-pub index_mut-requires : goal.index_mut-requires
-index_mut-requires c =
-    let qs : Processes = c.lay_table-former.new.processes.items in
-    let some : 0 < c.pid.inside.0 = (there c).some in
-    let low : c.pid.inside.0 ≤ length qs = (there c).low in
-    let count : vec_len c.lay_table-former.new.processes ≡ length qs
-    = c.lay_table-former.new.processes.ok.0 in
-    omega (arith, some, low, count)
+    c.all_closed.ensures.low c.lay_table-former.ensures
 
 -- the processes, of which this one is gone
 abbrev after : goal.After-former-1 → Processes
-after c = set c.lay_table-former.new.processes.items (c.args.pid - 1) None
+after c = with_process c.args.pid None c.lay_table-former.new.processes
 
 holds : (c : goal.After-former-1) → Holds (after c) c.lay_table-former.new.store
 holds c =
-    ending_holds c.self.inside.processes.items c.lay_table-former.new.processes.items
+    ending_holds c.self.inside.processes c.lay_table-former.new.processes
     c.self.inside.store c.lay_table-former.new.store c.args.pid c.requires.0 c.self.invariant
     (subst (λ (v : Committed). Fits [] v.state (End_process c.args.pid c.requires.0))
     (sym c.self.view_is) c.requires.1)
@@ -62,16 +47,14 @@ freed : (c : goal.After-close_given)
     c.lay_table-former.new.store c.close_given.new.store
 freed c = c.close_given.ensures (after c.before) (holds c.before)
 
--- said of the place that the code writes
-at_place : (c : goal.After-close_given) → after c.before
-    ≡ set c.lay_table-former.new.processes.items (c.pid.inside.0 - 1) None
-at_place c = ap (λ (q : ℕ). set c.lay_table-former.new.processes.items (q - 1) None)
-    (sym c.pid.view_is)
+-- they are what is left
+at_place : (c : goal.After-close_given) → after c.before ≡ c.remove.new.self
+at_place c = sym c.remove.ensures
 
 pub invariant_of-self : goal.invariant_of-self
 invariant_of-self c =
     subst (λ (rs : Processes). Sound rs c.close_given.new.store) (at_place c)
-    (ending_sound c.self.inside.processes.items c.lay_table-former.new.processes.items
+    (ending_sound c.self.inside.processes c.lay_table-former.new.processes
     c.self.inside.store c.lay_table-former.new.store c.args.pid c.requires.0 c.self.invariant
     (subst (λ (v : Committed). Fits [] v.state (End_process c.args.pid c.requires.0))
     (sym c.self.view_is) c.requires.1)
@@ -80,8 +63,8 @@ invariant_of-self c =
 
 pub returns-clause-state : goal.returns-clause-state
 returns-clause-state c = λ pipes.
-    let ps : Processes = c.self.inside.processes.items in
-    let qs : Processes = c.lay_table-former.new.processes.items in
+    let ps : Processes = c.self.inside.processes in
+    let qs : Processes = c.lay_table-former.new.processes in
     let s : Numbers = c.self.inside.store in
     let t : Numbers = c.lay_table-former.new.store in
     let last : Numbers = c.close_given.new.store in
@@ -96,8 +79,8 @@ returns-clause-state c = λ pipes.
 
 pub returns-clause-kept : goal.returns-clause-kept
 returns-clause-kept c =
-    let ps : Processes = c.self.inside.processes.items in
-    let qs : Processes = c.lay_table-former.new.processes.items in
+    let ps : Processes = c.self.inside.processes in
+    let qs : Processes = c.lay_table-former.new.processes in
     let s : Numbers = c.self.inside.store in
     let t : Numbers = c.lay_table-former.new.store in
     subst (λ (rs : Processes). KeepsSame c.args.self.now (committed_of rs c.close_given.new.store))

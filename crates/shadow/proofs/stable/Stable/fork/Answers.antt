@@ -15,13 +15,13 @@ use Rattle.shadow.proofs.stable.Stable.fork.Goals as goal
 
 -- the next number
 next : (ps : Processes) (s : Numbers) (v : Committed) (made : ℕ) → committed_of ps s ≡ v
-    → made ≡ v.state.made → made + 1 ≡ suc (length ps)
+    → made ≡ v.state.made → made + 1 ≡ suc (length ps.list)
 next ps s v made is e =
-    let same : made ≡ length ps = e ∙ ap (λ (v : Committed). v.state.made) (sym is) in omega arith
+    let same : made ≡ length ps.list = e ∙ ap (λ (v : Committed). v.state.made) (sym is) in omega arith
 
 pub lay_table-none-requires : goal.lay_table-none-requires
 lay_table-none-requires c = λ some none.
-    let ps : Processes = c.self.inside.processes.items in
+    let ps : Processes = c.self.inside.processes in
     let new : Process = record {
       table = c.new-table.result;
       priority = c.priority_of-priority.result;
@@ -30,57 +30,57 @@ lay_table-none-requires c = λ some none.
     ∙ ap (get (numbered (grown ps new)))
     (sym (next ps c.self.inside.store c.args.self.now c.made.result c.self.view_is c.made.ensures))
     ∙ ap (λ (qs : Processes). get (numbered qs) (c.made.result + 1))
-    (sym c.in_ok-push.ensures.items) ∙ none)
+    (sym c.in_ok-push.ensures.ok) ∙ none)
 
 -- the child, before it has descriptors
 abbrev new : goal.After-lay_table-none → Process
 new c = record { table = c.new-table.result; priority = c.priority_of-priority.result }
 
 laid : (c : goal.After-lay_table-none)
-    → IsReslotted (suc (length c.self.inside.processes.items)) c.all_opened-opened.result
-    c.lay_table-none.result (grown c.self.inside.processes.items (new c))
-    c.lay_table-none.new.processes.items c.self.inside.store c.lay_table-none.new.store
+    → IsReslotted (suc (length c.self.inside.processes.list)) c.all_opened-opened.result
+    c.lay_table-none.result (grown c.self.inside.processes (new c))
+    c.lay_table-none.new.processes c.self.inside.store c.lay_table-none.new.store
 laid c =
-    let ps : Processes = c.self.inside.processes.items in
+    let ps : Processes = c.self.inside.processes in
     let s : Numbers = c.self.inside.store in
-    let qs : Processes = c.lay_table-none.new.processes.items in
+    let qs : Processes = c.lay_table-none.new.processes in
     let t : Numbers = c.lay_table-none.new.store in
     subst (λ (n : ℕ). IsReslotted n c.all_opened-opened.result c.lay_table-none.result
     (grown ps (new c)) qs s t)
     (next ps s c.args.self.now c.made.result c.self.view_is c.made.ensures)
     (subst (λ (rs : Processes). IsReslotted (c.made.result + 1) c.all_opened-opened.result
-    c.lay_table-none.result rs qs s t) c.in_ok-push.ensures.items c.lay_table-none.ensures)
+    c.lay_table-none.result rs qs s t) c.in_ok-push.ensures.ok c.lay_table-none.ensures)
 
 fits : (c : goal.After-lay_table-none)
-    → Fits [] (state_of c.self.inside.processes.items c.self.inside.store)
-    (New_process (suc (length c.self.inside.processes.items)) c.args.parent c.requires.fits.0)
+    → Fits [] (state_of c.self.inside.processes c.self.inside.store)
+    (New_process (suc (length c.self.inside.processes.list)) c.args.parent c.requires.fits.0)
 fits c = subst (λ (v : Committed).
     Fits [] v.state (New_process (suc v.state.made) c.args.parent c.requires.fits.0))
     (sym c.self.view_is) c.requires.fits.1
 
 alike : (c : goal.After-lay_table-none) → c.priority_of-priority.result
-    ≡ (process_of (state_of c.self.inside.processes.items c.self.inside.store) c.args.parent).priority
+    ≡ (process_of (state_of c.self.inside.processes c.self.inside.store) c.args.parent).priority
 alike c = c.priority_of-priority.ensures
     ∙ ap (λ (v : Committed). (process_of v.state c.args.parent).priority) (sym c.self.view_is)
 
 noted : (c : goal.After-lay_table-none) (f : ℕ) → f < DESCRIPTORS
     → get c.all_opened-opened.result f ≡ mapped Some (get (process_of
-    (state_of c.self.inside.processes.items c.self.inside.store) c.args.parent).table f)
+    (state_of c.self.inside.processes c.self.inside.store) c.args.parent).table f)
 noted c f low = c.all_opened-opened.ensures.given f low
     ∙ ap (λ m. mapped Some (get m f)) (c.table.ensures
     ∙ ap (λ (v : Committed). (process_of v.state c.args.parent).table) (sym c.self.view_is))
 
 pub invariant_of-self-2 : goal.invariant_of-self-2
 invariant_of-self-2 c =
-    forked_sound c.self.inside.processes.items c.lay_table-none.new.processes.items
+    forked_sound c.self.inside.processes c.lay_table-none.new.processes
     c.self.inside.store c.lay_table-none.new.store c.args.parent c.requires.fits.0 c.self.invariant
     (fits c) (new c) c.new-table.ensures (alike c) c.all_opened-opened.result c.lay_table-none.result
     (noted c) c.all_opened-opened.ensures.low (laid c)
 
 pub returns-clause-state : goal.returns-clause-state
 returns-clause-state c = λ pipes.
-    let ps : Processes = c.self.inside.processes.items in
-    let qs : Processes = c.lay_table-none.new.processes.items in
+    let ps : Processes = c.self.inside.processes in
+    let qs : Processes = c.lay_table-none.new.processes in
     let s : Numbers = c.self.inside.store in
     let t : Numbers = c.lay_table-none.new.store in
     state_is ps qs s c.args.self.now c.self.view_is (state_of qs t)

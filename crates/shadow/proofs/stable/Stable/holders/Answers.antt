@@ -6,5 +6,5 @@ use Rattle.shadow.proofs.stable.Stable.holders.Goals as goal
 
 pub returns : goal.returns
 returns c =
-    c.holders.ensures ∙ stored_holders c.self.inside.processes.items c.self.inside.store c.self.invariant c.args.num
+    c.holders.ensures ∙ stored_holders c.self.inside.processes c.self.inside.store c.self.invariant c.args.num
     ∙ ap (λ (v : Committed). holders v.state c.args.num) c.self.view_is

@@ -6,4 +6,4 @@ use Rattle.shadow.proofs.Unshown.{links_links_in}
 use Rattle.shadow.proofs.stable.Stable.links.Goals as goal
 
 pub returns : goal.returns
-returns c = c.links.ensures ∙ sym (links_links_in (state_of c.self.inside.processes.items c.self.inside.store) c.args.num) ∙ ap (λ (v : Committed). links v.state c.args.num) c.self.view_is
+returns c = c.links.ensures ∙ sym (links_links_in (state_of c.self.inside.processes c.self.inside.store) c.args.num) ∙ ap (λ (v : Committed). links v.state c.args.num) c.self.view_is

@@ -10,11 +10,11 @@ use Rattle.shadow.proofs.Edited.{less_of, state_is}
 use Rattle.shadow.proofs.stable.Stable.make_directory.Goals as goal
 
 -- before the name is there, and after it
-makes : (c : goal.After-add_name-arg-1) → Makes c.self.inside.processes.items c.self.inside.store (altered installed c.self.inside.store c.args.num) c.args.parent c.args.name c.args.num (Make_directory c.args.parent c.args.name 0)
-makes c = makes_directory c.self.inside.processes.items c.self.inside.store c.args.self.now c.self.view_is c.args.parent c.args.name c.args.num c.self.invariant c.requires.fits c.requires.covers
+makes : (c : goal.After-add_name-arg-1) → Makes c.self.inside.processes c.self.inside.store (altered installed c.self.inside.store c.args.num) c.args.parent c.args.name c.args.num (Make_directory c.args.parent c.args.name 0)
+makes c = makes_directory c.self.inside.processes c.self.inside.store c.args.self.now c.self.view_is c.args.parent c.args.name c.args.num c.self.invariant c.requires.fits c.requires.covers
 
-made : (c : goal.After-add_name) → Makes c.self.inside.processes.items c.self.inside.store (altered installed c.self.inside.store c.args.num) c.args.parent c.args.name c.args.num (Make_directory c.args.parent c.args.name 0)
-made c = makes_directory c.self.inside.processes.items c.self.inside.store c.args.self.now c.self.view_is c.args.parent c.args.name c.args.num c.self.invariant c.requires.fits c.requires.covers
+made : (c : goal.After-add_name) → Makes c.self.inside.processes c.self.inside.store (altered installed c.self.inside.store c.args.num) c.args.parent c.args.name c.args.num (Make_directory c.args.parent c.args.name 0)
+made c = makes_directory c.self.inside.processes c.self.inside.store c.args.self.now c.self.view_is c.args.parent c.args.name c.args.num c.self.invariant c.requires.fits c.requires.covers
 
 now : (c : goal.After-add_name) → c.add_name.new.self ≡ named_in (altered installed c.self.inside.store c.args.num) c.args.parent c.args.name c.args.num
 now c = c.add_name.ensures.added ∙ ap (λ t. named_in t c.args.parent c.args.name c.args.num) c.install.ensures.installed
@@ -29,15 +29,15 @@ pub add_name-requires-clause-num : goal.add_name-requires-clause-num
 add_name-requires-clause-num c = ap (λ (t : Numbers). may_be_named (get t.places c.args.num)) c.install.ensures.installed ∙ (makes c).num
 
 pub invariant_of-self : goal.invariant_of-self
-invariant_of-self c = subst (Sound c.self.inside.processes.items) (sym (now c)) (made c).sound
+invariant_of-self c = subst (Sound c.self.inside.processes) (sym (now c)) (made c).sound
 
 pub returns-clause-state : goal.returns-clause-state
 returns-clause-state c =
-    let ps = c.self.inside.processes.items in
+    let ps = c.self.inside.processes in
     state_is ps ps c.self.inside.store c.args.self.now c.self.view_is (state_of ps c.add_name.new.self) (λ k. tidy (applied (c.args.num ∷ []) (Make_directory c.args.parent c.args.name 0) k)) (ap (state_of ps) (now c) ∙ (made c).state)
 
 pub returns-clause-kept : goal.returns-clause-kept
 returns-clause-kept c =
-    let ps = c.self.inside.processes.items in let less : Claim → ℕ = λ claim. claimed_by_one claim (c.args.num ∷ []) (Make_directory c.args.parent c.args.name 0) in
+    let ps = c.self.inside.processes in let less : Claim → ℕ = λ claim. claimed_by_one claim (c.args.num ∷ []) (Make_directory c.args.parent c.args.name 0) in
     subst (λ t. KeepsMore (committed_of ps t) c.args.self.now less) (sym (now c))
     (less_of ps ps c.self.inside.store c.args.self.now c.self.view_is (named_in (altered installed c.self.inside.store c.args.num) c.args.parent c.args.name c.args.num) less (made c).kept)

@@ -10,13 +10,13 @@ use Rattle.shadow.proofs.OpeningMade.{opening_to_come}
 use Rattle.shadow.proofs.stable.Stable.open_inode.Goals as goal
 
 pub open-requires : goal.open-requires
-open-requires c = opening_to_come c.self.inside.processes.items c.self.inside.store c.args.self.now
+open-requires c = opening_to_come c.self.inside.processes c.self.inside.store c.args.self.now
     c.self.view_is c.args.num c.args.inode c.args.mode c.args.pid c.args.fd c.self.invariant
     c.requires.fits c.requires.covers
 
 pub lay_slot-none-requires-clause-pid : goal.lay_slot-none-requires-clause-pid
 lay_slot-none-requires-clause-pid c =
-    opening_process c.self.inside.processes.items c.self.inside.store c.args.self.now c.self.view_is
+    opening_process c.self.inside.processes c.self.inside.store c.args.self.now c.self.view_is
     c.args.num c.args.inode c.args.mode c.args.pid c.args.fd c.self.invariant c.requires.fits
     c.requires.covers
 
@@ -28,28 +28,28 @@ opened c = subst (λ (it : Description).
     c.open.ensures
 
 pub invariant_of-self : goal.invariant_of-self
-invariant_of-self c = opening_sound c.self.inside.processes.items c.self.inside.store
+invariant_of-self c = opening_sound c.self.inside.processes c.self.inside.store
     c.args.self.now c.self.view_is c.args.num c.args.inode c.args.mode c.args.pid c.args.fd
     c.self.invariant c.requires.fits c.requires.covers
-    c.lay_slot-none.new.processes.items c.open.new.store c.lay_slot-none.new.store (opened c)
+    c.lay_slot-none.new.processes c.open.new.store c.lay_slot-none.new.store (opened c)
     c.lay_slot-none.ensures.laid
 
 pub returns-clause-state : goal.returns-clause-state
 returns-clause-state c =
-    opening_state c.self.inside.processes.items c.self.inside.store c.args.self.now c.self.view_is
+    opening_state c.self.inside.processes c.self.inside.store c.args.self.now c.self.view_is
     c.args.num c.args.inode c.args.mode c.args.pid c.args.fd c.self.invariant c.requires.fits
     c.requires.covers
-    c.lay_slot-none.new.processes.items c.open.new.store c.lay_slot-none.new.store (opened c)
+    c.lay_slot-none.new.processes c.open.new.store c.lay_slot-none.new.store (opened c)
     c.lay_slot-none.ensures.laid
 
 pub returns-clause-kept : goal.returns-clause-kept
 returns-clause-kept c =
-    less_of c.self.inside.processes.items c.lay_slot-none.new.processes.items c.self.inside.store
+    less_of c.self.inside.processes c.lay_slot-none.new.processes c.self.inside.store
     c.args.self.now c.self.view_is c.lay_slot-none.new.store
     (λ claim. claimed_by_one claim (c.args.num ∷ [])
     (Open_inode 0 (There c.args.inode) c.args.mode c.args.pid c.args.fd))
-    (opening_kept c.self.inside.processes.items c.self.inside.store c.args.self.now c.self.view_is
+    (opening_kept c.self.inside.processes c.self.inside.store c.args.self.now c.self.view_is
     c.args.num c.args.inode c.args.mode c.args.pid c.args.fd c.self.invariant c.requires.fits
     c.requires.covers
-    c.lay_slot-none.new.processes.items c.open.new.store c.lay_slot-none.new.store (opened c)
+    c.lay_slot-none.new.processes c.open.new.store c.lay_slot-none.new.store (opened c)
     c.lay_slot-none.ensures.laid)

@@ -12,7 +12,7 @@ use Rattle.shadow.proofs.SameEdit.{same_slotting, same_opening}
 use Rattle.shadow.proofs.stable.Stable.perform_last.Goals as goal
 
 pub invariant_of-self : goal.invariant_of-self
-invariant_of-self c = moving_sound c.self.inside.processes.items c.self.inside.store c.args.self.now
+invariant_of-self c = moving_sound c.self.inside.processes c.self.inside.store c.args.self.now
     c.self.view_is c.args.chosen.now c.in-SetOffset.description c.in-SetOffset.place
     c.self.invariant
     (subst (Fits c.args.chosen.now c.args.self.now.state) c.in-SetOffset.is c.requires.fits)
@@ -20,7 +20,7 @@ invariant_of-self c = moving_sound c.self.inside.processes.items c.self.inside.s
 
 pub returns-in-SetOffset-clause-state : goal.returns-in-SetOffset-clause-state
 returns-in-SetOffset-clause-state c =
-    moving_state c.self.inside.processes.items c.self.inside.store c.args.self.now c.self.view_is
+    moving_state c.self.inside.processes c.self.inside.store c.args.self.now c.self.view_is
     c.args.chosen.now c.in-SetOffset.description c.in-SetOffset.place c.self.invariant
     (subst (Fits c.args.chosen.now c.args.self.now.state) c.in-SetOffset.is c.requires.fits)
     c.set_offset.new.self c.set_offset.ensures.moved
@@ -29,7 +29,7 @@ returns-in-SetOffset-clause-state c =
 
 pub returns-in-SetOffset-clause-kept : goal.returns-in-SetOffset-clause-kept
 returns-in-SetOffset-clause-kept c =
-    let ps = c.self.inside.processes.items in
+    let ps = c.self.inside.processes in
     subst (λ (e : Edit). KeepsMore (committed_of ps c.set_offset.new.self) c.args.self.now
     (λ claim. claimed_by_one claim c.args.chosen.now e)) (sym c.in-SetOffset.is)
     (less_of ps ps c.self.inside.store c.args.self.now c.self.view_is c.set_offset.new.self

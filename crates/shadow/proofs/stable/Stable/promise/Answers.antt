@@ -18,12 +18,12 @@ either_way (Err e) f g h k = g k
 
 pub invariant_of-self : goal.invariant_of-self
 invariant_of-self c =
-    let ps = c.self.inside.processes.items in let s = c.self.inside.store in
+    let ps = c.self.inside.processes in let s = c.self.inside.store in
     either_way c.promise.result (λ e. promised_sound ps s c.promise.new.self c.args.dir c.self.invariant e c.promise.ensures.shown c.promise.ensures.open) (λ e. subst (Sound ps) (sym e) c.self.invariant) c.promise.ensures.ok c.promise.ensures.err
 
 pub returns-clause-kept : goal.returns-clause-kept
 returns-clause-kept c =
-    let ps = c.self.inside.processes.items in let s = c.self.inside.store in
+    let ps = c.self.inside.processes in let s = c.self.inside.store in
     on_ok_by c.promise.result (λ e. subst (λ t. KeepsMore c.args.self.now (committed_of ps t) (room_in c.args.dir)) (sym e)
     (more_of ps s c.args.self.now c.self.view_is (altered (with_listing more_room) s c.args.dir) (room_in c.args.dir)
     (gives_one s c.args.dir (listed_in ps s c.args.self.now c.self.view_is c.args.dir c.requires)))) c.promise.ensures.ok

@@ -14,16 +14,16 @@ use Rattle.shadow.proofs.stable.Stable.rename.Goals as goal
 
 pub add_name-requires-clause-room : goal.add_name-requires-clause-room
 add_name-requires-clause-room c l at =
-    moving_room c.self.inside.processes.items c.self.inside.store c.args.from c.args.old.now c.args.to c.args.new c.args.num c.args.replaced c.self.invariant (move_fits c.self.inside.processes.items c.self.inside.store c.args.self.now c.self.view_is c.self.invariant c.args.from c.args.old.now c.args.to c.args.new c.args.num c.args.replaced c.requires.fits c.requires.covers) (move_room c.self.inside.processes.items c.self.inside.store c.args.self.now c.self.view_is c.self.invariant c.args.from c.args.old.now c.args.to c.args.new c.args.num c.args.replaced c.requires.fits c.requires.covers) l
+    moving_room c.self.inside.processes c.self.inside.store c.args.from c.args.old.now c.args.to c.args.new c.args.num c.args.replaced c.self.invariant (move_fits c.self.inside.processes c.self.inside.store c.args.self.now c.self.view_is c.self.invariant c.args.from c.args.old.now c.args.to c.args.new c.args.num c.args.replaced c.requires.fits c.requires.covers) (move_room c.self.inside.processes c.self.inside.store c.args.self.now c.self.view_is c.self.invariant c.args.from c.args.old.now c.args.to c.args.new c.args.num c.args.replaced c.requires.fits c.requires.covers) l
     (ap (λ (t : Numbers). listing_at t c.args.to) (sym c.remove_name.ensures.removed) ∙ at)
 
 pub add_name-requires-clause-dir : goal.add_name-requires-clause-dir
 add_name-requires-clause-dir c = ap (λ (t : Numbers). is_coming (get t.places c.args.to)) c.remove_name.ensures.removed
-    ∙ moving_dir c.self.inside.processes.items c.self.inside.store c.args.from c.args.old.now c.args.to c.args.new c.args.num c.args.replaced c.self.invariant (move_fits c.self.inside.processes.items c.self.inside.store c.args.self.now c.self.view_is c.self.invariant c.args.from c.args.old.now c.args.to c.args.new c.args.num c.args.replaced c.requires.fits c.requires.covers) (move_room c.self.inside.processes.items c.self.inside.store c.args.self.now c.self.view_is c.self.invariant c.args.from c.args.old.now c.args.to c.args.new c.args.num c.args.replaced c.requires.fits c.requires.covers)
+    ∙ moving_dir c.self.inside.processes c.self.inside.store c.args.from c.args.old.now c.args.to c.args.new c.args.num c.args.replaced c.self.invariant (move_fits c.self.inside.processes c.self.inside.store c.args.self.now c.self.view_is c.self.invariant c.args.from c.args.old.now c.args.to c.args.new c.args.num c.args.replaced c.requires.fits c.requires.covers) (move_room c.self.inside.processes c.self.inside.store c.args.self.now c.self.view_is c.self.invariant c.args.from c.args.old.now c.args.to c.args.new c.args.num c.args.replaced c.requires.fits c.requires.covers)
 
 pub add_name-requires-clause-num : goal.add_name-requires-clause-num
 add_name-requires-clause-num c = ap (λ (t : Numbers). may_be_named (get t.places c.args.num)) c.remove_name.ensures.removed
-    ∙ moving_num c.self.inside.processes.items c.self.inside.store c.args.from c.args.old.now c.args.to c.args.new c.args.num c.args.replaced c.self.invariant (move_fits c.self.inside.processes.items c.self.inside.store c.args.self.now c.self.view_is c.self.invariant c.args.from c.args.old.now c.args.to c.args.new c.args.num c.args.replaced c.requires.fits c.requires.covers)
+    ∙ moving_num c.self.inside.processes c.self.inside.store c.args.from c.args.old.now c.args.to c.args.new c.args.num c.args.replaced c.self.invariant (move_fits c.self.inside.processes c.self.inside.store c.args.self.now c.self.view_is c.self.invariant c.args.from c.args.old.now c.args.to c.args.new c.args.num c.args.replaced c.requires.fits c.requires.covers)
 
 -- the store with the name moved
 over : (c : goal.After-free-arg-1) → c.add_name.new.self ≡ named_in (altered (with_listing (without_name c.args.old.now)) c.self.inside.store c.args.from) c.args.to c.args.new c.args.num
@@ -33,41 +33,41 @@ alone : (c : goal.In_default) → c.add_name.new.self ≡ named_in (altered (wit
 alone c = c.add_name.ensures.added ∙ ap (λ (t : Numbers). named_in t c.args.to c.args.new c.args.num) c.remove_name.ensures.removed
 
 pub free-requires : goal.free-requires
-free-requires c = (c.self.inside.processes.items, moved_holds c.self.inside.processes.items c.self.inside.store c.args.self.now c.self.view_is c.self.invariant c.args.from c.args.old.now c.args.to c.args.new c.args.num c.args.replaced c.requires.fits c.requires.covers c.add_name.new.self (over c))
+free-requires c = (c.self.inside.processes, moved_holds c.self.inside.processes c.self.inside.store c.args.self.now c.self.view_is c.self.invariant c.args.from c.args.old.now c.args.to c.args.new c.args.num c.args.replaced c.requires.fits c.requires.covers c.add_name.new.self (over c))
 
-freed : (c : goal.After-free) → Frees (free_inode c.in-Some.lost) c.self.inside.processes.items c.add_name.new.self c.free.new.store
-freed c = c.free.ensures c.self.inside.processes.items (moved_holds c.self.inside.processes.items c.self.inside.store c.args.self.now c.self.view_is c.self.invariant c.args.from c.args.old.now c.args.to c.args.new c.args.num c.args.replaced c.requires.fits c.requires.covers c.add_name.new.self (over c.before))
+freed : (c : goal.After-free) → Frees (free_inode c.in-Some.lost) c.self.inside.processes c.add_name.new.self c.free.new.store
+freed c = c.free.ensures c.self.inside.processes (moved_holds c.self.inside.processes c.self.inside.store c.args.self.now c.self.view_is c.self.invariant c.args.from c.args.old.now c.args.to c.args.new c.args.num c.args.replaced c.requires.fits c.requires.covers c.add_name.new.self (over c.before))
 
 pub invariant_of-self : goal.invariant_of-self
-invariant_of-self c = over_sound c.self.inside.processes.items c.self.inside.store c.args.self.now c.self.view_is c.self.invariant c.args.from c.args.old.now c.args.to c.args.new c.args.num c.args.replaced c.requires.fits c.requires.covers c.add_name.new.self (over c.before) c.in-Some.lost (sym c.in-Some.ensures) c.free.new.store (freed c)
+invariant_of-self c = over_sound c.self.inside.processes c.self.inside.store c.args.self.now c.self.view_is c.self.invariant c.args.from c.args.old.now c.args.to c.args.new c.args.num c.args.replaced c.requires.fits c.requires.covers c.add_name.new.self (over c.before) c.in-Some.lost (sym c.in-Some.ensures) c.free.new.store (freed c)
 
 pub invariant_of-self-in_default : goal.invariant_of-self-in_default
-invariant_of-self-in_default c = moved_sound c.self.inside.processes.items c.self.inside.store c.args.self.now c.self.view_is c.self.invariant c.args.from c.args.old.now c.args.to c.args.new c.args.num c.args.replaced c.requires.fits c.requires.covers c.add_name.new.self (alone c) (sym c.in_default.ensures)
+invariant_of-self-in_default c = moved_sound c.self.inside.processes c.self.inside.store c.args.self.now c.self.view_is c.self.invariant c.args.from c.args.old.now c.args.to c.args.new c.args.num c.args.replaced c.requires.fits c.requires.covers c.add_name.new.self (alone c) (sym c.in_default.ensures)
 
 pub returns-in-Some-clause-state : goal.returns-in-Some-clause-state
 returns-in-Some-clause-state c =
-    let ps = c.self.inside.processes.items in
+    let ps = c.self.inside.processes in
     state_is ps ps c.self.inside.store c.args.self.now c.self.view_is (state_of ps c.free.new.store)
     (λ k. tidy (applied [] (Move c.args.from c.args.old.now c.args.to c.args.new c.args.num c.args.replaced) k))
-    (over_tidy c.self.inside.processes.items c.self.inside.store c.args.self.now c.self.view_is c.self.invariant c.args.from c.args.old.now c.args.to c.args.new c.args.num c.args.replaced c.requires.fits c.requires.covers c.add_name.new.self (over c.before) c.in-Some.lost (sym c.in-Some.ensures) c.free.new.store (freed c))
+    (over_tidy c.self.inside.processes c.self.inside.store c.args.self.now c.self.view_is c.self.invariant c.args.from c.args.old.now c.args.to c.args.new c.args.num c.args.replaced c.requires.fits c.requires.covers c.add_name.new.self (over c.before) c.in-Some.lost (sym c.in-Some.ensures) c.free.new.store (freed c))
 
 pub returns-in-Some-clause-kept : goal.returns-in-Some-clause-kept
 returns-in-Some-clause-kept c =
-    let ps = c.self.inside.processes.items in
+    let ps = c.self.inside.processes in
     less_of ps ps c.self.inside.store c.args.self.now c.self.view_is c.free.new.store
     (λ claim. claimed_by_one claim [] (Move c.args.from c.args.old.now c.args.to c.args.new c.args.num c.args.replaced))
-    (over_kept c.self.inside.processes.items c.self.inside.store c.args.self.now c.self.view_is c.self.invariant c.args.from c.args.old.now c.args.to c.args.new c.args.num c.args.replaced c.requires.fits c.requires.covers c.add_name.new.self (over c.before) c.in-Some.lost (sym c.in-Some.ensures) c.free.new.store (freed c))
+    (over_kept c.self.inside.processes c.self.inside.store c.args.self.now c.self.view_is c.self.invariant c.args.from c.args.old.now c.args.to c.args.new c.args.num c.args.replaced c.requires.fits c.requires.covers c.add_name.new.self (over c.before) c.in-Some.lost (sym c.in-Some.ensures) c.free.new.store (freed c))
 
 pub returns-in_default-clause-state : goal.returns-in_default-clause-state
 returns-in_default-clause-state c =
-    let ps = c.self.inside.processes.items in
+    let ps = c.self.inside.processes in
     state_is ps ps c.self.inside.store c.args.self.now c.self.view_is (state_of ps c.add_name.new.self)
     (λ k. tidy (applied [] (Move c.args.from c.args.old.now c.args.to c.args.new c.args.num c.args.replaced) k))
-    (moved_tidy c.self.inside.processes.items c.self.inside.store c.args.self.now c.self.view_is c.self.invariant c.args.from c.args.old.now c.args.to c.args.new c.args.num c.args.replaced c.requires.fits c.requires.covers c.add_name.new.self (alone c) (sym c.in_default.ensures))
+    (moved_tidy c.self.inside.processes c.self.inside.store c.args.self.now c.self.view_is c.self.invariant c.args.from c.args.old.now c.args.to c.args.new c.args.num c.args.replaced c.requires.fits c.requires.covers c.add_name.new.self (alone c) (sym c.in_default.ensures))
 
 pub returns-in_default-clause-kept : goal.returns-in_default-clause-kept
 returns-in_default-clause-kept c =
-    let ps = c.self.inside.processes.items in
+    let ps = c.self.inside.processes in
     less_of ps ps c.self.inside.store c.args.self.now c.self.view_is c.add_name.new.self
     (λ claim. claimed_by_one claim [] (Move c.args.from c.args.old.now c.args.to c.args.new c.args.num c.args.replaced))
-    (moved_kept c.self.inside.processes.items c.self.inside.store c.args.self.now c.self.view_is c.self.invariant c.args.from c.args.old.now c.args.to c.args.new c.args.num c.args.replaced c.requires.fits c.requires.covers c.add_name.new.self (alone c))
+    (moved_kept c.self.inside.processes c.self.inside.store c.args.self.now c.self.view_is c.self.invariant c.args.from c.args.old.now c.args.to c.args.new c.args.num c.args.replaced c.requires.fits c.requires.covers c.add_name.new.self (alone c))

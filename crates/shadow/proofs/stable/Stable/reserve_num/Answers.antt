@@ -18,7 +18,7 @@ reserve_num-requires c = bare_names c.args.object c.requires
 
 pub invariant_of-self-2 : goal.invariant_of-self-2
 invariant_of-self-2 c =
-    reserved_sound c.self.inside.processes.items c.self.inside.store c.reserve_num.new.self c.in_ok-num.num c.args.object c.self.invariant c.requires c.in_ok-num.ensures.reserved c.in_ok-num.ensures.shown c.in_ok-num.ensures.open
+    reserved_sound c.self.inside.processes c.self.inside.store c.reserve_num.new.self c.in_ok-num.num c.args.object c.self.invariant c.requires c.in_ok-num.ensures.reserved c.in_ok-num.ensures.shown c.in_ok-num.ensures.open
 
 pub returns-clause-unused : goal.returns-clause-unused
 returns-clause-unused c =
@@ -28,18 +28,18 @@ returns-clause-unused c =
 pub returns-clause-nowhere : goal.returns-clause-nowhere
 returns-clause-nowhere c =
     subst (λ (v : Committed). IsNowhere v.state c.in_ok-num.num) c.self.view_is
-    (unused_nowhere c.unused_numbers_are_nowhere.ensures c.self.inside.processes.items c.self.inside.store c.in_ok-num.num c.self.invariant c.in_ok-num.ensures.unused)
+    (unused_nowhere c.unused_numbers_are_nowhere.ensures c.self.inside.processes c.self.inside.store c.in_ok-num.num c.self.invariant c.in_ok-num.ensures.unused)
 
 pub returns-clause-kept : goal.returns-clause-kept
 returns-clause-kept c =
-    let ps = c.self.inside.processes.items in let s = c.self.inside.store in let n = c.in_ok-num.num in
+    let ps = c.self.inside.processes in let s = c.self.inside.store in let n = c.in_ok-num.num in
     subst (λ t. KeepsMore c.args.self.now (committed_of ps t) (number_as (is_some (listing_of c.args.object)) n)) (sym c.in_ok-num.ensures.reserved)
     (more_of ps s c.args.self.now c.self.view_is (with_place s n (coming c.args.object)) (number_as (is_some (listing_of c.args.object)) n) (reserves s n c.args.object c.in_ok-num.ensures.unused c.requires))
 
 pub returns-clause-used : goal.returns-clause-used
-returns-clause-used c = now_used c.self.inside.processes.items c.reserve_num.new.self c.in_ok-num.num (coming c.args.object) c.in_ok-num.ensures.ready
+returns-clause-used c = now_used c.self.inside.processes c.reserve_num.new.self c.in_ok-num.num (coming c.args.object) c.in_ok-num.ensures.ready
 
 pub returns-clause-stays : goal.returns-clause-stays
 returns-clause-stays c =
-    let ps = c.self.inside.processes.items in let s = c.self.inside.store in let n = c.in_ok-num.num in
+    let ps = c.self.inside.processes in let s = c.self.inside.store in let n = c.in_ok-num.num in
     subst (λ t. Stays c.args.self.now (committed_of ps t)) (sym c.in_ok-num.ensures.reserved) (stays_with ps s c.args.self.now c.self.view_is n c.args.object c.in_ok-num.ensures.unused)

@@ -19,7 +19,7 @@ lay_slot-former-requires-clause-fd c = c.requires.low
 
 pub close-requires : goal.close-requires
 close-requires c =
-    let ps = c.self.inside.processes.items in let qs = c.lay_slot-former.new.processes.items
+    let ps = c.self.inside.processes in let qs = c.lay_slot-former.new.processes
     in let s = c.self.inside.store in let t = c.lay_slot-former.new.store in (
       qs,
       slotted_holds ps qs s t c.args.pid c.args.fd c.args.given c.requires.fits.0 c.self.invariant
@@ -29,10 +29,10 @@ close-requires c =
 
 -- what the slot gave goes
 closes : (c : goal.After-close)
-    → Frees (closed c.in-Some.description) c.lay_slot-former.new.processes.items
+    → Frees (closed c.in-Some.description) c.lay_slot-former.new.processes
     c.lay_slot-former.new.store c.close.new.store
 closes c =
-    let ps = c.self.inside.processes.items in let qs = c.lay_slot-former.new.processes.items
+    let ps = c.self.inside.processes in let qs = c.lay_slot-former.new.processes
     in let s = c.self.inside.store in let t = c.lay_slot-former.new.store in
     c.close.ensures qs (slotted_holds ps qs s t c.args.pid c.args.fd c.args.given c.requires.fits.0
     c.self.invariant c.lay_slot-former.ensures.laid c.args.self.now c.self.view_is
@@ -41,7 +41,7 @@ closes c =
 
 pub invariant_of-self : goal.invariant_of-self
 invariant_of-self c =
-    let ps = c.self.inside.processes.items in let qs = c.lay_slot-former.new.processes.items
+    let ps = c.self.inside.processes in let qs = c.lay_slot-former.new.processes
     in let s = c.self.inside.store in let t = c.lay_slot-former.new.store in
     slotted_sound ps qs s t c.args.pid c.args.fd c.args.given c.requires.fits.0 c.self.invariant
     c.lay_slot-former.ensures.laid c.args.self.now c.self.view_is c.requires.fits.1
@@ -50,7 +50,7 @@ invariant_of-self c =
 
 pub invariant_of-self-in_default : goal.invariant_of-self-in_default
 invariant_of-self-in_default c =
-    let ps = c.self.inside.processes.items in let qs = c.lay_slot-former.new.processes.items
+    let ps = c.self.inside.processes in let qs = c.lay_slot-former.new.processes
     in let s = c.self.inside.store in let t = c.lay_slot-former.new.store in
     slotted_sound ps qs s t c.args.pid c.args.fd c.args.given c.requires.fits.0 c.self.invariant
     c.lay_slot-former.ensures.laid c.args.self.now c.self.view_is c.requires.fits.1
@@ -62,7 +62,7 @@ invariant_of-self-in_default c =
 
 pub returns-in-Some-clause-state : goal.returns-in-Some-clause-state
 returns-in-Some-clause-state c = λ pipes fits.
-    let ps = c.self.inside.processes.items in let qs = c.lay_slot-former.new.processes.items
+    let ps = c.self.inside.processes in let qs = c.lay_slot-former.new.processes
     in let s = c.self.inside.store in let t = c.lay_slot-former.new.store in
     slotted_tidy ps qs s t c.args.pid c.args.fd c.args.given pipes c.self.invariant
     c.lay_slot-former.ensures.laid c.args.self.now c.self.view_is fits
@@ -71,7 +71,7 @@ returns-in-Some-clause-state c = λ pipes fits.
 
 pub returns-in-Some-clause-kept : goal.returns-in-Some-clause-kept
 returns-in-Some-clause-kept c =
-    let ps = c.self.inside.processes.items in let qs = c.lay_slot-former.new.processes.items
+    let ps = c.self.inside.processes in let qs = c.lay_slot-former.new.processes
     in let s = c.self.inside.store in
     same_of ps qs s c.args.self.now c.self.view_is c.close.new.store
     (λ claim. (closes c).kept claim
@@ -80,7 +80,7 @@ returns-in-Some-clause-kept c =
 
 pub returns-in_default-clause-state : goal.returns-in_default-clause-state
 returns-in_default-clause-state c = λ pipes fits.
-    let ps = c.self.inside.processes.items in let qs = c.lay_slot-former.new.processes.items
+    let ps = c.self.inside.processes in let qs = c.lay_slot-former.new.processes
     in let s = c.self.inside.store in let t = c.lay_slot-former.new.store in
     slotted_tidy ps qs s t c.args.pid c.args.fd c.args.given pipes c.self.invariant
     c.lay_slot-former.ensures.laid c.args.self.now c.self.view_is fits
@@ -91,7 +91,7 @@ returns-in_default-clause-state c = λ pipes fits.
 
 pub returns-in_default-clause-kept : goal.returns-in_default-clause-kept
 returns-in_default-clause-kept c =
-    let ps = c.self.inside.processes.items in let qs = c.lay_slot-former.new.processes.items
+    let ps = c.self.inside.processes in let qs = c.lay_slot-former.new.processes
     in let s = c.self.inside.store in let t = c.lay_slot-former.new.store in
     same_of ps qs s c.args.self.now c.self.view_is t
     (slotted_keeps ps qs s t c.args.pid c.args.fd c.args.given c.lay_slot-former.ensures.laid)

@@ -19,7 +19,7 @@ swap_file-data-requires c = file_there c.self.inside.store c.args.file (ap (λ (
 pub swap_file-empty-requires : goal.swap_file-empty-requires
 swap_file-empty-requires c = file_still c.self.inside.store c.swap_file-data.new.self c.args.file c.new-empty.result.bytes c.swap_file-data.ensures.shown
 
-abbrev is_file : (c : goal.After-drop-empty) → kind_of (state_of c.self.inside.processes.items c.self.inside.store) c.args.file ≡ Some A_file
+abbrev is_file : (c : goal.After-drop-empty) → kind_of (state_of c.self.inside.processes c.self.inside.store) c.args.file ≡ Some A_file
 is_file c = ap (λ (v : Committed). kind_of v.state c.args.file) c.self.view_is ∙ c.requires.file
 
 was : (c : goal.After-drop-empty) → get (inodes c.self.inside.store) c.args.file ≡ Some (File c.swap_file-data.result.bytes)
@@ -32,29 +32,29 @@ same : (c : goal.After-drop-empty) → c.write_at-written.new.self.bytes ≡ c.s
 same c is = was c ∙ ap (λ bs. Some (File bs)) (sym is)
 
 changed : (c : goal.After-drop-empty) → c.write_at-written.new.self.bytes ≡ written c.swap_file-data.result.bytes c.args.place c.args.bytes.now
-    → c.write_at-written.new.self.bytes ≡ written (file_of (state_of c.self.inside.processes.items c.self.inside.store) c.args.file) c.args.place c.args.bytes.now
+    → c.write_at-written.new.self.bytes ≡ written (file_of (state_of c.self.inside.processes c.self.inside.store) c.args.file) c.args.place c.args.bytes.now
 changed c is = is ∙ ap (λ (o : Rattle.std.proofs.Common.Option Inode). written (file_of_inode o) c.args.place c.args.bytes.now) (sym (was c))
 
 pub invariant_of-self : goal.invariant_of-self
 invariant_of-self c =
-    let ps = c.self.inside.processes.items in let s = c.self.inside.store in let n = c.args.file in let b = c.write_at-written.new.self in
+    let ps = c.self.inside.processes in let s = c.self.inside.store in let n = c.args.file in let b = c.write_at-written.new.self in
     subst (Sound ps) (sym (now c)) (either_way c.write_at-written.result c.write_at-written.ensures.ok c.write_at-written.ensures.err
     (λ h. written_sound ps s n b c.self.invariant (is_file c) c.args.place c.args.bytes.now (changed c h))
     (λ h. unswapped_sound ps s n b c.self.invariant (is_file c) (same c h)))
 
 pub returns-clause-state : goal.returns-clause-state
 returns-clause-state c =
-    let ps = c.self.inside.processes.items in let s = c.self.inside.store in let n = c.args.file in let b = c.write_at-written.new.self in
+    let ps = c.self.inside.processes in let s = c.self.inside.store in let n = c.args.file in let b = c.write_at-written.new.self in
     ok_so c.write_at-written.result (λ h before. state_is ps ps s c.args.self.now c.self.view_is (state_of ps c.swap_file-empty.new.self) (applied [] (Put_bytes n c.args.place c.args.bytes.now before))
     (ap (state_of ps) (now c) ∙ written_state ps s n b c.self.invariant (is_file c) c.args.place c.args.bytes.now before (changed c h))) c.write_at-written.ensures.ok
 
 pub returns-clause-kept : goal.returns-clause-kept
 returns-clause-kept c =
-    let ps = c.self.inside.processes.items in let s = c.self.inside.store in let b = c.write_at-written.new.self in
+    let ps = c.self.inside.processes in let s = c.self.inside.store in let b = c.write_at-written.new.self in
     subst (λ t. KeepsSame c.args.self.now (committed_of ps t)) (sym (now c)) (same_of ps ps s c.args.self.now c.self.view_is (swapped b s c.args.file) (file_keeps (with_bytes b) s c.args.file))
 
 pub returns-clause-err : goal.returns-clause-err
 returns-clause-err c =
-    let ps = c.self.inside.processes.items in let s = c.self.inside.store in let n = c.args.file in let b = c.write_at-written.new.self in
+    let ps = c.self.inside.processes in let s = c.self.inside.store in let n = c.args.file in let b = c.write_at-written.new.self in
     err_so c.write_at-written.result (λ h. state_is ps ps s c.args.self.now c.self.view_is (state_of ps c.swap_file-empty.new.self) (λ k. k)
     (ap (state_of ps) (now c) ∙ unswapped_state ps s n b c.self.invariant (is_file c) (same c h))) c.write_at-written.ensures.err

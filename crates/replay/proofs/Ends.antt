@@ -1,0 +1,143 @@
+-- What a call writes or cuts ends where a file can end.
+use Rattle.std.proofs.Common.{◌≡◌, ℕ, zero, suc, ◌+◌, ◌-◌, ◌<◌, ◌≤◌, ◌==◌, nat_le, nat_lt, not, Bool, true, false, if◌then◌else◌, List, [], ◌∷◌, length, take, min, Option, Some, None, Result, Ok, Err, IfOk, sym, subst, arith}
+use Rattle.std.specs.Prelude.{ℤ, pos, negsuc, ◌+ℤ◌, ◌++◌, ◌&&◌, ◌||◌}
+use Rattle.std.proofs.Math.Nat.{min-le_left}
+use Rattle.std.specs.List.{AllByRecursion}
+use Rattle.model.specs.State.{A_file, A_directory, A_pipe, Kernel}
+use Rattle.model.specs.Limits.{largest_file}
+use Rattle.model.specs.Plan.{Errno, Plan, Give, answer as answer_to, given, ◌>>=◌, ◌>>◌, ENOENT, ENOTDIR, ENOTEMPTY, EEXIST, EBUSY, EISDIR, EINVAL, EBADF, EFBIG, EPERM, ESPIPE, EPIPE, EAGAIN, List_names, Count_ends, Find_offset, Read_pipe, Read_file, Fit, refuse_if, or_refuse}
+use Rattle.model.specs.Calls.{Call, Dup, Dup2, Open, Close, Read, Write, Lseek, Ftruncate, Stat, Fstat, Link, Unlink, Rename, Mkdir, Rmdir, List_directory, Open_pipe, Fork, Exit, Descriptor, OpenFlags, Own, Slot, own}
+use Rattle.model.specs.Changes.{Edit, There, Open_inode, Set_offset, Put_bytes, Cut}
+use Rattle.model.specs.Paths.{is_empty, is_below}
+use Rattle.model.specs.Walks.{Place, Last, parsed, walk, last_of, is_directory}
+use Rattle.model.specs.Plans.{Change, changed, duplicated, plan, status as told_status, absent, slot, free, first_of_free, is_pipe, mode, opened, cut_to, read_some, write_some, read_pipe, piped, forked, whole_write, most_processes, place_to_write, base, sought, moved, replaced_by_name, room, most_moved}
+use Rattle.model.specs.Steps.{edits, edits_of}
+use Rattle.ids.specs.Flags.{is_reading, is_writing, is_creating, is_exclusive, is_truncating}
+use Rattle.call_laws.proofs.Laws.{after_bind, allowed, either_given, whatever}
+use Rattle.replay.specs.Edits.{EndsWithin}
+
+-- a write or a cut among edits that end so
+pub put_ends : (e : Edit) (n place : ℕ) (bytes old : List ℕ) (before : ℕ) → e ≡ Put_bytes n place bytes before → old ≡ bytes → EndsWithin e → place + length old ≤ largest_file
+put_ends e n place bytes old before is same h = subst (λ (bs : List ℕ). place + length bs ≤ largest_file) (sym same) (subst EndsWithin is h)
+
+pub cut_ends : (e : Edit) (n before len : ℕ) → e ≡ Cut n before len → EndsWithin e → len ≤ largest_file
+cut_ends e n before len is h = subst EndsWithin is h
+
+-- the edits of what a plan gives end so
+abbrev Within : Change → Type 0
+Within change = AllByRecursion EndsWithin change.edits
+
+after : {A : Type 0} (k : Kernel) (m : Plan A) (f : A → Plan Change) → ((x : A) → IfOk (given k (f x)) Within) → IfOk (given k (m >>= f)) Within
+after k m f h = after_bind k Within m f (whatever (given k m) h)
+
+unless : (k : Kernel) (refused : Bool) (e : Errno) (m : Plan Change) → IfOk (given k m) Within → IfOk (given k (refuse_if refused e >> m)) Within
+unless k refused e m h = allowed k Within refused e m (λ _. h)
+
+tells : (k : Kernel) (place : Place) → IfOk (given k (told_status place)) Within
+tells k (n, Some A_file) = tt
+tells k (n, Some A_directory) = tt
+tells k (n, Some A_pipe) = tt
+tells k (n, None) = tt
+
+opens : (k : Kernel) (o : Own) (flags : OpenFlags) (f : ℕ) (at : Last) (there : Option Place) → IfOk (given k (opened o flags f at there)) Within
+opens k o flags f at None = unless k (not (is_creating flags)) ENOENT _ (tt, (tt, tt))
+opens k o flags f at (Some place) =
+    unless k (is_creating flags && is_exclusive flags) EEXIST _ (unless k (is_directory place) EISDIR _ (by_test (is_truncating flags)))
+  where
+    by_test : (b : Bool) → IfOk (given k ((if b then cut_to place.0 0 else Give []) >>= (λ es. changed (Descriptor f) (es ++ Open_inode 0 (There place.0) (mode flags) o.pid f ∷ [])))) Within
+    by_test true = (omega arith, (tt, tt))
+    by_test false = (tt, tt)
+
+reads_pipe : (k : Kernel) (p : ℕ) (bytes : List ℕ) → IfOk (given k (read_pipe p bytes)) Within
+reads_pipe k p [] = unless k (nat_lt 0 (answer_to k (Count_ends p)).1) EAGAIN _ tt
+reads_pipe k p (b ∷ bytes) = (tt, tt)
+
+reads : (k : Kernel) (it : Slot) (count : ℕ) → IfOk (given k (read_some it count)) Within
+reads k it count = either_given k Within (is_pipe it.kind) _ _ (λ _. reads_pipe k it.inode (answer_to k (Read_pipe it.inode count))) (λ _. by_test (is_empty (answer_to k (Read_file it.inode (answer_to k (Find_offset it.description)) (min count most_moved)))) _ _)
+  where
+    by_test : (b : Bool) (d place : ℕ) → AllByRecursion EndsWithin (if b then [] else Set_offset d place ∷ [])
+    by_test true d place = tt
+    by_test false d place = (tt, tt)
+
+shares : (k : Kernel) (o : Own) (it : Slot) (fs : List ℕ) → IfOk (given k (duplicated o it fs)) Within
+shares k o it [] = tt
+shares k o it (f ∷ fs) = (tt, tt)
+
+pairs : (k : Kernel) (o : Own) (fs : List ℕ) → IfOk (given k (piped o fs)) Within
+pairs k o [] = tt
+pairs k o (f ∷ []) = tt
+pairs k o (f ∷ g ∷ fs) = (tt, tt)
+
+forks : (k : Kernel) (o : Own) (birth : Option (ℕ × ℕ)) → IfOk (given k (forked o birth)) Within
+forks k o None = tt
+forks k o (Some (made, priority)) = unless k (nat_le most_processes made) EAGAIN _ (tt, tt)
+
+-- what fits at a place ends at the largest file, and so where any file can end
+room_ends : (largest place : ℕ) (bytes : List ℕ) → largest ≤ largest_file → nat_le largest place ≡ false → place + length (take (room largest place) bytes) ≤ largest_file
+room_ends largest place bytes low above =
+    let below : place < largest = search (arith, above) in
+    let few : length (take (room largest place) bytes) ≤ room largest place = take_few (room largest place) bytes in
+    let least : room largest place ≤ largest - place = min-le_left (largest - place) most_moved in
+    omega arith
+  where
+    take_few : (n : ℕ) (xs : List ℕ) → length (take n xs) ≤ n
+    take_few zero xs = omega arith
+    take_few (suc n) [] = omega arith
+    take_few (suc n) (x ∷ xs) = let rest : length (take n xs) ≤ n = take_few n xs in omega arith
+
+writes : (k : Kernel) (largest : ℕ) → largest ≤ largest_file → (it : Slot) (bytes : List ℕ) → IfOk (given k (write_some largest it bytes)) Within
+writes k largest low it bytes = either_given k Within (is_pipe it.kind) _ _ (λ _. unless k ((answer_to k (Count_ends it.inode)).0 == 0) EPIPE _ (
+    let fitting = answer_to k (Fit it.inode (length bytes)) in
+    unless k (nat_lt fitting (length bytes) && nat_le (length bytes) whole_write) EAGAIN _ (unless k (fitting == 0) EAGAIN _ (tt, tt))))
+    (λ _. after k (place_to_write it it.appending) _ (λ place. allowed k Within (nat_le largest place) EFBIG _ (λ above. (room_ends largest place bytes low above, (tt, tt)))))
+
+seeks : (k : Kernel) (largest : ℕ) (it : Slot) (place : ℤ) → IfOk (given k (sought largest it place)) Within
+seeks k largest it (pos place) = unless k (nat_lt largest place) EINVAL _ (tt, tt)
+seeks k largest it (negsuc place) = tt
+
+len_ends : (largest len : ℕ) → largest ≤ largest_file → nat_lt largest len ≡ false → len ≤ largest_file
+len_ends largest len low above = let within : len ≤ largest = search (arith, above) in omega arith
+
+moves : (k : Kernel) (from : Last) (what : Place) (to : Last) (there : Option Place) → IfOk (given k (moved from what to there)) Within
+moves k from what to None = (tt, tt)
+moves k from what to (Some old) = either_given k Within (what.0 == old.0) _ _ (λ _. tt) (λ _.
+    unless k (not (is_directory what) && is_directory old) EISDIR _ (unless k (is_directory what && not (is_directory old)) ENOTDIR _ (
+    after k (replaced_by_name old.0 (is_directory old)) _ (λ replaced. (tt, tt)))))
+
+planned : (k : Kernel) (pid : ℕ) → k.largest ≤ largest_file → (call : Call) → IfOk (given k (plan (own k pid call) call)) Within
+planned k pid low (Open path flags) =
+    unless k (not (is_reading flags || is_writing flags)) EINVAL _ (unless k (is_exclusive flags && not (is_creating flags)) EINVAL _ (unless k (is_truncating flags && not (is_writing flags)) EINVAL _ (
+    after k (parsed path) _ (λ names. after k (first_of_free (free (own k pid (Open path flags)))) _ (λ f. after k (last_of k.root (if is_creating flags && is_exclusive flags then EEXIST else EISDIR) names) _ (λ at. opens k (own k pid (Open path flags)) flags f at at.found))))))
+planned k pid low (Close f) = after k (slot (own k pid (Close f)) f) _ (λ it. (tt, tt))
+planned k pid low (Read f count) = after k (slot (own k pid (Read f count)) f) _ (λ it. unless k (not it.reading) EBADF _ (either_given k Within (count == 0) _ _ (λ _. tt) (λ _. reads k it count)))
+planned k pid low (Write f bytes) = after k (slot (own k pid (Write f bytes)) f) _ (λ it. unless k (not it.writing) EBADF _ (either_given k Within (is_empty bytes) _ _ (λ _. tt) (λ _. writes k k.largest low it bytes)))
+planned k pid low (Lseek f move whence) = after k (slot (own k pid (Lseek f move whence)) f) _ (λ it. unless k (is_pipe it.kind) ESPIPE _ (after k (base it whence) _ (λ place. seeks k k.largest it (pos place +ℤ move))))
+planned k pid low (Ftruncate f len) = after k (slot (own k pid (Ftruncate f len)) f) _ (λ it. unless k (not it.writing) EBADF _ (unless k (is_pipe it.kind) EINVAL _ (allowed k Within (nat_lt k.largest len) EFBIG _ (λ above. (len_ends k.largest len low above, tt)))))
+planned k pid low (Fstat f) = after k (slot (own k pid (Fstat f)) f) _ (λ it. tells k (it.inode, it.kind))
+planned k pid low (Stat path) = after k (parsed path) _ (λ names. after k (walk (k.root, Some A_directory) names) _ (tells k))
+planned k pid low (Link old path) =
+    after k (parsed old) _ (λ from. after k (parsed path) _ (λ to. after k (walk (k.root, Some A_directory) from) _ (λ what. unless k (is_directory what) EPERM _ (
+    after k (last_of k.root EEXIST to) _ (λ at. after k (absent at.found) _ (λ _. (tt, tt)))))))
+planned k pid low (Unlink path) =
+    after k (parsed path) _ (λ names. after k (last_of k.root EPERM names) _ (λ at. after k (or_refuse ENOENT at.found) _ (λ what. unless k (is_directory what) EPERM _ (tt, tt))))
+planned k pid low (Rename old path) =
+    after k (parsed old) _ (λ from. after k (parsed path) _ (λ to. unless k (is_empty from || is_empty to) EBUSY _ (
+    after k (last_of k.root EBUSY from) _ (λ at. after k (or_refuse ENOENT at.found) _ (λ what. unless k (is_directory what && is_below from to) EINVAL _ (
+    after k (last_of k.root EBUSY to) _ (λ onto. moves k at what onto onto.found)))))))
+planned k pid low (Mkdir path) = after k (parsed path) _ (λ names. after k (last_of k.root EEXIST names) _ (λ at. after k (absent at.found) _ (λ _. (tt, tt))))
+planned k pid low (Rmdir path) =
+    after k (parsed path) _ (λ names. after k (last_of k.root EBUSY names) _ (λ at. after k (or_refuse ENOENT at.found) _ (λ what. unless k (not (is_directory what)) ENOTDIR _ (unless k (not (is_empty (answer_to k (List_names what.0)))) ENOTEMPTY _ (tt, tt)))))
+planned k pid low (List_directory path) = after k (parsed path) _ (λ names. after k (walk (k.root, Some A_directory) names) _ (λ place. unless k (not (is_directory place)) ENOTDIR _ tt))
+planned k pid low (Dup f) = after k (slot (own k pid (Dup f)) f) _ (λ it. shares k (own k pid (Dup f)) it (free (own k pid (Dup f))))
+planned k pid low (Dup2 f g) = after k (slot (own k pid (Dup2 f g)) f) _ (λ it. unless k (nat_lt 63 g) EBADF _ (either_given k Within (f == g) _ _ (λ _. tt) (λ _. (tt, tt))))
+planned k pid low Open_pipe = pairs k (own k pid Open_pipe) (free (own k pid Open_pipe))
+planned k pid low Fork = forks k (own k pid Fork) (own k pid Fork).birth
+planned k pid low Exit = (tt, tt)
+
+-- what a call edits ends within a file that can be
+pub edits_end : (k : Kernel) (pid : ℕ) → k.largest ≤ largest_file → (call : Call) → AllByRecursion EndsWithin (edits k pid call)
+edits_end k pid low call = by (given k (plan (own k pid call) call)) (planned k pid low call)
+  where
+    by : (r : Result Change Errno) → IfOk r Within → AllByRecursion EndsWithin (edits_of r)
+    by (Ok change) is = is
+    by (Err e) is = tt

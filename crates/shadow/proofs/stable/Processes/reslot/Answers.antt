@@ -1,0 +1,66 @@
+use Rattle.std.proofs.Common.{◌≡◌, ◌≢◌, ◌≤◌, ◌∙◌, ◌<◌, ℕ, Option, None, ◌-◌, length, get_or, sym, ap, arith, vec_len}
+use Rattle.model.specs.FiniteMap.{get}
+use Rattle.model.specs.State.{Process}
+use Rattle.shadow.specs.Openings.{slot_noted}
+use Rattle.shadow.specs.Stored.{Processes, numbered, with_process}
+use Rattle.shadow.specs.Laid.{table_in}
+use Rattle.shadow.proofs.Living.{IsProcess, is_process, read_there}
+use Rattle.shadow.proofs.stable.Processes.reslot.Goals as goal
+
+-- of a value and of what it shows: the process is there, and is what is read at its place
+module _ (ps qs : Processes) (given pid : ℕ) (shown : ps ≡ qs) (same : given ≡ pid) (living : get (numbered qs) pid ≢ None) where
+  shows : get (numbered ps) given ≡ get (numbered qs) pid
+  shows = ap (get (numbered ps)) same ∙ ap (λ (ps : Processes). get (numbered ps) pid) shown
+
+  there : IsProcess ps given
+  there = is_process ps given (λ none. living (sym shows ∙ none))
+
+  reads : (o : Option Process) → o ≡ get_or ps.list (given - 1) o → o ≡ get (numbered qs) pid
+  reads o is = read_there ps given o there is ∙ shows
+
+pub overflow_sub-place : goal.overflow_sub-place
+overflow_sub-place c =
+    let is : IsProcess c.args.self.now c.args.pid = is_process c.args.self.now c.args.pid c.requires.pid in
+    let some : 0 < c.args.pid = is.some in
+    let same : c.pid.inside.0 ≡ c.args.pid = c.pid.view_is in
+    omega (arith, some, same)
+
+pub index-requires : goal.index-requires
+index-requires c =
+    let ps : Processes = record { list = c.self.inside.list.items; largest = c.self.inside.largest } in
+    let is : IsProcess ps c.pid.inside.0 = there ps c.args.self.now c.pid.inside.0 c.args.pid c.self.view_is c.pid.view_is c.requires.pid in
+    let some : 0 < c.pid.inside.0 = is.some in
+    let low : c.pid.inside.0 ≤ length ps.list = is.low in
+    let count : vec_len c.self.inside.list ≡ length ps.list = c.self.inside.list.ok.0 in
+    omega (arith, some, low, count)
+
+pub index_mut-requires : goal.index_mut-requires
+index_mut-requires c =
+    let ps : Processes = record { list = c.self.inside.list.items; largest = c.self.inside.largest } in
+    let is : IsProcess ps c.pid.inside.0 = there ps c.args.self.now c.pid.inside.0 c.args.pid c.self.view_is c.pid.view_is c.requires.pid in
+    let some : 0 < c.pid.inside.0 = is.some in
+    let low : c.pid.inside.0 ≤ length ps.list = is.low in
+    let count : vec_len c.self.inside.list ≡ length ps.list = c.self.inside.list.ok.0 in
+    omega (arith, some, low, count)
+
+pub give-requires-clause-there : goal.give-requires-clause-there
+give-requires-clause-there c = λ none.
+    let ps : Processes = record { list = c.self.inside.list.items; largest = c.self.inside.largest } in
+    c.requires.pid (sym (reads ps c.args.self.now c.pid.inside.0 c.args.pid c.self.view_is c.pid.view_is c.requires.pid c.index_mut.result.now c.index_mut.ensures.value) ∙ none)
+
+pub returns-clause-former : goal.returns-clause-former
+returns-clause-former c =
+    let ps : Processes = record { list = c.self.inside.list.items; largest = c.self.inside.largest } in
+    c.slot_of-former.ensures
+    ∙ ap (λ o. get (table_in o) c.args.fd)
+    (reads ps c.args.self.now c.pid.inside.0 c.args.pid c.self.view_is c.pid.view_is c.requires.pid c.index.result.now c.index.ensures)
+
+pub returns-clause-slot : goal.returns-clause-slot
+returns-clause-slot c =
+    let ps : Processes = record { list = c.self.inside.list.items; largest = c.self.inside.largest } in
+    let new : Option Process = slot_noted c.args.fd c.args.given (get (numbered c.args.self.now) c.args.pid) in
+    ap (λ (now : Option Process). with_process c.pid.inside.0 now ps)
+    (c.give.ensures ∙ ap (slot_noted c.args.fd c.args.given)
+    (reads ps c.args.self.now c.pid.inside.0 c.args.pid c.self.view_is c.pid.view_is c.requires.pid c.index_mut.result.now c.index_mut.ensures.value))
+    ∙ ap (λ (qs : Processes). with_process c.pid.inside.0 new qs) c.self.view_is
+    ∙ ap (λ q. with_process q new c.args.self.now) c.pid.view_is
