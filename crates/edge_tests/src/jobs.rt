@@ -9,7 +9,7 @@ use runner::run_job;
 use std::alloc::AllocError;
 use std::sync::Wait;
 use std::thread::Threads;
-use words::{Job, MAX_LIMIT, Way};
+use words::{DEFAULT_FILE_LIMIT, Job, MAX_FILE_LIMIT, MAX_LIMIT, Way};
 
 // A schedule, or none for a run by threads, the limit, how many bytes the standard output takes, and
 // what is expected of the program: its status, and what it writes on standard output and on standard
@@ -31,11 +31,13 @@ fn way_of(heap: Heap, list: Option<&str>) -> Result<Way, AllocError> {
 }
 
 pub(crate) fn job_of(heap: Heap, expected: &Expected, check: bool) -> Result<Job, AllocError>
-    ensures { IfOk result (λ job. job.limit ≤ MAX_LIMIT) }
+    ensures limited { IfOk result (λ job. job.limit ≤ MAX_LIMIT) }
+    ensures files { IfOk result (λ job. job.file_limit ≤ MAX_FILE_LIMIT) }
 {
     Ok(Job {
         way: way_of(heap, expected.list)?,
         limit: expected.limit.min(100),
+        file_limit: DEFAULT_FILE_LIMIT,
         check,
         file: String::new(heap),
     })
@@ -50,7 +52,8 @@ pub(crate) fn is_as_expected<R: Threads + Wait + Sync>(
     text: &str,
     expected: &Expected,
 ) -> bool
-    requires { job.now.limit ≤ MAX_LIMIT }
+    requires limited { job.now.limit ≤ MAX_LIMIT }
+    requires files { job.now.file_limit ≤ MAX_FILE_LIMIT }
 {
     let mut source = Portions {
         bytes: text.as_bytes(),

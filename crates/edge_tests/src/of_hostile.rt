@@ -5,7 +5,7 @@ ghost use Rattle.std.specs.Prelude.{◌≡◌};
 use crate::halting::halting;
 use device::{Failing, Portions, Trickling};
 use heap::Heap;
-use ids::Pid;
+use ids::{Limits, Pid};
 use kernel::Kernel;
 use machine::Machine;
 use runner::{RunFault, run_schedule};
@@ -25,8 +25,8 @@ fn end_of<K: Machine>(
         most: 5000,
     };
     let mut sink = halting(heap, 10_000);
-    let limit = limit.min(100) as usize;
-    let fault = run_schedule::<K, _, _>(heap, &mut source, list, limit, &mut sink).err();
+    let limits = Limits::of_entries(limit.min(100) as usize);
+    let fault = run_schedule::<K, _, _>(heap, &mut source, list, limits, &mut sink).err();
     (fault, sink.bytes)
 }
 
@@ -360,7 +360,14 @@ fn is_cut<K: Machine>(heap: Heap, room: usize, fault: Option<RunFault>) -> bool 
         most: 1,
     };
     let mut sink = halting(heap, room);
-    let found = run_schedule::<K, _, _>(heap, &mut source, FIRST_LIST, 100, &mut sink).err();
+    let found = run_schedule::<K, _, _>(
+        heap,
+        &mut source,
+        FIRST_LIST,
+        Limits::of_entries(100),
+        &mut sink,
+    )
+    .err();
     let bytes = FIRST_LINES.as_bytes();
     found == fault
         && sink.bytes.as_slice() == &bytes[..room.min(bytes.len())]
@@ -377,7 +384,14 @@ fn is_trickled<K: Machine>(heap: Heap) -> bool {
         bytes: Vec::new(heap),
         failures: 0,
     };
-    let fault = run_schedule::<K, _, _>(heap, &mut source, FIRST_LIST, 100, &mut sink).err();
+    let fault = run_schedule::<K, _, _>(
+        heap,
+        &mut source,
+        FIRST_LIST,
+        Limits::of_entries(100),
+        &mut sink,
+    )
+    .err();
     fault.is_none() && sink.bytes.as_slice() == FIRST_LINES.as_bytes() && sink.failures == 0
 }
 
@@ -410,7 +424,14 @@ fn failures_of<K: Machine>(
         failures: 0,
     };
     let mut sink = halting(heap, 1000);
-    let found = run_schedule::<K, _, _>(heap, &mut source, FIRST_LIST, 100, &mut sink).err();
+    let found = run_schedule::<K, _, _>(
+        heap,
+        &mut source,
+        FIRST_LIST,
+        Limits::of_entries(100),
+        &mut sink,
+    )
+    .err();
     let right = found == fault && sink.bytes.as_slice() == out.as_bytes() && sink.failures == 0;
     (source.failures, right)
 }
@@ -474,7 +495,14 @@ fn refused<K: Machine>(heap: Heap, sinks: Heap, number: u64) -> (Option<RunFault
     };
     let mut sink = halting(sinks, 1000);
     heap.refuse(number);
-    let fault = run_schedule::<K, _, _>(heap, &mut source, FIRST_LIST, 100, &mut sink).err();
+    let fault = run_schedule::<K, _, _>(
+        heap,
+        &mut source,
+        FIRST_LIST,
+        Limits::of_entries(100),
+        &mut sink,
+    )
+    .err();
     let written = sink.bytes.as_slice();
     let whole = written.is_empty() || written.ends_with(b"\n");
     (

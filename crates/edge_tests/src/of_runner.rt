@@ -3,6 +3,7 @@ use crate::halting::halting;
 use crate::jobs::{Expected, is_as_expected, is_run, job_of};
 use device::{Failing, Portions};
 use heap::Heap;
+use ids::Limits;
 use kernel::Kernel;
 use machine::Machine;
 use runner::{RunFault, print, report_fault, run_schedule};
@@ -352,7 +353,13 @@ fn is_faulted<K: Machine>(heap: Heap, left: usize, fault: Option<RunFault>, out:
         failures: 0,
     };
     let mut sink = halting(heap, 1000);
-    let run: Result<K, RunFault> = run_schedule(heap, &mut source, FIRST_LIST, 100, &mut sink);
+    let run: Result<K, RunFault> = run_schedule(
+        heap,
+        &mut source,
+        FIRST_LIST,
+        Limits::of_entries(100),
+        &mut sink,
+    );
     run.err() == fault && sink.bytes.as_slice() == out.as_bytes()
 }
 
@@ -363,7 +370,13 @@ fn first_kernel<K: Machine>(heap: Heap) -> Result<K, RunFault> {
         most: 7,
     };
     let mut sink = halting(heap, 1000);
-    run_schedule(heap, &mut source, FIRST_LIST, 100, &mut sink)
+    run_schedule(
+        heap,
+        &mut source,
+        FIRST_LIST,
+        Limits::of_entries(100),
+        &mut sink,
+    )
 }
 
 // Whether writing its history to a sink that takes so many bytes has this result, and the sink then

@@ -5,13 +5,14 @@ use crate::halting::halting;
 use crate::jobs::{Expected, is_as_expected, is_run, job_of};
 use device::{Failing, Portions};
 use heap::Heap;
+use ids::Limits;
 use kernel::Kernel;
 use machine::Machine;
 use runner::{RunFault, run_job, run_script_by_threads};
 use std::sync::Wait;
 use std::test::Fail;
 use std::thread::Threads;
-use words::{Job, MAX_LIMIT, Way};
+use words::{DEFAULT_FILE_LIMIT, Job, MAX_FILE_LIMIT, MAX_LIMIT, Way};
 
 static FAMILY: &str = "priorities 0\n1 mkdir /a\n1 fork\n2 stat /a\n";
 
@@ -181,7 +182,13 @@ fn is_faulted<K: Machine + Send, R: Threads + Wait + Sync>(
         failures: 0,
     };
     let mut sink = halting(heap, 1000);
-    let run: Result<K, RunFault> = run_script_by_threads(rt, heap, &mut source, 100, &mut sink);
+    let run: Result<K, RunFault> = run_script_by_threads(
+        rt,
+        heap,
+        &mut source,
+        Limits::of_entries(100),
+        &mut sink,
+    );
     run.err() == fault && sink.bytes.as_slice() == out.as_bytes()
 }
 
@@ -234,11 +241,13 @@ const RUNS_OF_EACH: u32 = 1000;
 
 // A checked job by threads.
 fn checked_job(heap: Heap) -> Job
-    ensures { result.limit ≤ MAX_LIMIT }
+    ensures limited { result.limit ≤ MAX_LIMIT }
+    ensures files { result.file_limit ≤ MAX_FILE_LIMIT }
 {
     Job {
         way: Way::Threads,
         limit: 10_000,
+        file_limit: DEFAULT_FILE_LIMIT,
         check: true,
         file: String::new(heap),
     }

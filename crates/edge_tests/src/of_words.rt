@@ -21,12 +21,12 @@ fn is_as_expected(alloc: Global, heap: Heap, line: &str, status: u8, expected: &
 
 // Command lines, each with its status and job, or how the text of its fault begins. Before each the
 // request of memory that is refused: one is made for a schedule, and one for the file.
-static LINES: [(u64, &str, u8, &str); 20] = [
+static LINES: [(u64, &str, u8, &str); 35] = [
     (
         0,
         "txsh --schedule 1,1,2,1,2 run.tx",
         0,
-        "Job { way: Schedule(\"1,1,2,1,2\"), limit: 65536, check: false, file: \"run.tx\" }",
+        "Job { way: Schedule(\"1,1,2,1,2\"), limit: 65536, file_limit: 1048576, check: false, file: \"run.tx\" }",
     ),
     (1, "txsh --schedule 1,1,2,1,2 run.tx", 3, "no memory"),
     (2, "txsh --schedule 1,1,2,1,2 run.tx", 3, "no memory"),
@@ -34,19 +34,19 @@ static LINES: [(u64, &str, u8, &str); 20] = [
         3,
         "txsh --schedule 1,1,2,1,2 run.tx",
         0,
-        "Job { way: Schedule(\"1,1,2,1,2\"), limit: 65536, check: false, file: \"run.tx\" }",
+        "Job { way: Schedule(\"1,1,2,1,2\"), limit: 65536, file_limit: 1048576, check: false, file: \"run.tx\" }",
     ),
     (
         0,
         "txsh --limit 1048576 --schedule  run.tx",
         0,
-        "Job { way: Schedule(\"\"), limit: 1048576, check: false, file: \"run.tx\" }",
+        "Job { way: Schedule(\"\"), limit: 1048576, file_limit: 1048576, check: false, file: \"run.tx\" }",
     ),
     (
         0,
         "txsh --schedule=1 --limit=0 run.tx",
         0,
-        "Job { way: Schedule(\"1\"), limit: 0, check: false, file: \"run.tx\" }",
+        "Job { way: Schedule(\"1\"), limit: 0, file_limit: 1048576, check: false, file: \"run.tx\" }",
     ),
     (
         0,
@@ -66,27 +66,27 @@ static LINES: [(u64, &str, u8, &str); 20] = [
         0,
         "txsh --schedule=1 --check run.tx",
         0,
-        "Job { way: Schedule(\"1\"), limit: 65536, check: true, file: \"run.tx\" }",
+        "Job { way: Schedule(\"1\"), limit: 65536, file_limit: 1048576, check: true, file: \"run.tx\" }",
     ),
     (0, "txsh --schedule=1 --check=yes run.tx", 2, "error: "),
     (
         0,
         "txsh --threads run.tx",
         0,
-        "Job { way: Threads, limit: 65536, check: false, file: \"run.tx\" }",
+        "Job { way: Threads, limit: 65536, file_limit: 1048576, check: false, file: \"run.tx\" }",
     ),
     (1, "txsh --threads run.tx", 3, "no memory"),
     (
         2,
         "txsh --threads run.tx",
         0,
-        "Job { way: Threads, limit: 65536, check: false, file: \"run.tx\" }",
+        "Job { way: Threads, limit: 65536, file_limit: 1048576, check: false, file: \"run.tx\" }",
     ),
     (
         0,
         "txsh --check --limit=7 --threads run.tx",
         0,
-        "Job { way: Threads, limit: 7, check: true, file: \"run.tx\" }",
+        "Job { way: Threads, limit: 7, file_limit: 1048576, check: true, file: \"run.tx\" }",
     ),
     (
         0,
@@ -97,6 +97,77 @@ static LINES: [(u64, &str, u8, &str); 20] = [
     (0, "txsh --threads=2 run.tx", 2, "error: "),
     (0, "txsh --threads --threads run.tx", 2, "error: "),
     (0, "txsh --threads", 2, "error: "),
+    // The most bytes of a file, in each form.
+    (
+        0,
+        "txsh --schedule=1 --file-limit 5 run.tx",
+        0,
+        "Job { way: Schedule(\"1\"), limit: 65536, file_limit: 5, check: false, file: \"run.tx\" }",
+    ),
+    (
+        0,
+        "txsh --file-limit=1 --threads run.tx",
+        0,
+        "Job { way: Threads, limit: 65536, file_limit: 1, check: false, file: \"run.tx\" }",
+    ),
+    (
+        0,
+        "txsh --threads run.tx --file-limit 2147483647",
+        0,
+        "Job { way: Threads, limit: 65536, file_limit: 2147483647, check: false, file: \"run.tx\" }",
+    ),
+    (
+        0,
+        "txsh --check --limit 9 --schedule 1,1 --file-limit 007 run.tx",
+        0,
+        "Job { way: Schedule(\"1,1\"), limit: 9, file_limit: 7, check: true, file: \"run.tx\" }",
+    ),
+    (
+        0,
+        "txsh --schedule=1 --file-limit 0 run.tx",
+        2,
+        "error: invalid value '0'",
+    ),
+    (
+        0,
+        "txsh --threads --file-limit=2147483648 run.tx",
+        2,
+        "error: invalid value '2147483648'",
+    ),
+    (
+        0,
+        "txsh --threads --file-limit=18446744073709551617 run.tx",
+        2,
+        "error: invalid value '18446744073709551617'",
+    ),
+    (
+        0,
+        "txsh --threads --file-limit=-1 run.tx",
+        2,
+        "error: invalid value '-1'",
+    ),
+    (
+        0,
+        "txsh --threads --file-limit 1k run.tx",
+        2,
+        "error: invalid value '1k'",
+    ),
+    (0, "txsh --threads --file-limit= run.tx", 2, "error: "),
+    (0, "txsh --threads run.tx --file-limit", 2, "error: "),
+    (
+        0,
+        "txsh --threads --file-limit 5 --file-limit 5 run.tx",
+        2,
+        "error: ",
+    ),
+    (0, "txsh --threads --file_limit 5 run.tx", 2, "error: "),
+    (0, "txsh --file-limit 5", 2, "error: "),
+    (
+        0,
+        "txsh --file-limit 5 run.tx",
+        2,
+        "exactly one of --schedule and --threads",
+    ),
 ];
 
 #[test]

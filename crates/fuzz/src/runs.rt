@@ -9,7 +9,7 @@ use crate::trials::Trials;
 use device::{Halting, Portions};
 use heap::Heap;
 use history::History;
-use ids::{Entry, MAX_PROCESSES, Op, Pid, Priority, Reply};
+use ids::{Entry, Limits, MAX_PROCESSES, Op, Pid, Priority, Reply};
 use machine::Machine;
 use replay::check;
 use runner::{RunFault, print, run_schedule};
@@ -55,7 +55,7 @@ fn run_into<K: Machine>(heap: Heap, case: &Case, sink: &mut Halting) -> Result<(
         most: 4096,
     };
     let list = text_of(case.list.as_slice());
-    match run_schedule::<K, _, _>(heap, &mut source, list, AMPLE, sink) {
+    match run_schedule::<K, _, _>(heap, &mut source, list, Limits::of_entries(AMPLE), sink) {
         Ok(kernel) => {
             let checked = check_history(heap, kernel.history());
             drop(kernel);

@@ -1,9 +1,12 @@
 // Histories that are written by hand.
+ghost use Rattle.ids.specs.declared.limits.TheConstants.{LARGEST_FILE};
+ghost use Rattle.std.specs.Prelude.{◌≤◌};
+
 use heap::Heap;
 use history::History;
 use ids::{
-    Answer, Aspect, BeginFlags, Bytes, Call, Cause, Entry, Fd, Kind, Name, Num, Nums, Op,
-    OpenFlags, Pid, Pids, Priority, Reply, Stat, Touch, Whence, Why,
+    Answer, Aspect, BeginFlags, Bytes, Call, Cause, DEFAULT_LARGEST_FILE, Entry, Fd, Kind, Limits,
+    Name, Num, Nums, Op, OpenFlags, Pid, Pids, Priority, Reply, Stat, Touch, Whence, Why,
 };
 use std::process::Abort;
 
@@ -107,8 +110,19 @@ pub(crate) fn aborted(rt: &impl Abort, heap: Heap, other: u32) -> Reply {
 
 // Two processes of priority 0.
 pub(crate) fn empty(rt: &impl Abort, heap: Heap) -> History {
+    limited(rt, heap, DEFAULT_LARGEST_FILE)
+}
+
+// The same, and files of at most so many bytes.
+pub(crate) fn limited(rt: &impl Abort, heap: Heap, file_bytes: u32) -> History
+    requires { file_bytes ≤ LARGEST_FILE }
+{
     let zero = Priority::new(0).unwrap();
-    History::new(heap, &[zero, zero], 16).expect(rt, "memory")
+    let limits = Limits {
+        entries: 16,
+        file_bytes,
+    };
+    History::with_limits(heap, &[zero, zero], limits).expect(rt, "memory")
 }
 
 // Whether a thing was done. What comes back otherwise goes here.

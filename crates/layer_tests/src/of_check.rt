@@ -1,7 +1,10 @@
 // What the checker says of histories that were changed.
+ghost use Rattle.ids.specs.declared.limits.TheConstants.{LARGEST_FILE};
+ghost use Rattle.std.specs.Prelude.{◌≤◌};
+
 use crate::histories::{
-    aborted, add, begin, directory, empty, mkdir, mkdir_op, open_new, plain, read, rewind, stat,
-    write,
+    aborted, add, begin, directory, empty, limited, mkdir, mkdir_op, open_new, plain, read, rewind,
+    stat, write,
 };
 use heap::Heap;
 use history::History;
@@ -79,6 +82,25 @@ fn what_was_written_has_to_be_read(rt: HostRuntime) {
     assert_eq!(rt; checked(heap, write_and_read(&rt, heap, b"hi")), Ok(()));
     let wrong = Err(CheckFault::Wrong(4));
     assert_eq!(rt; checked(heap, write_and_read(&rt, heap, b"ho")), wrong);
+}
+
+// Of two bytes both are written to a file that may have so many.
+fn written(rt: &impl Abort, heap: Heap, file_bytes: u32) -> History
+    requires { file_bytes ≤ LARGEST_FILE }
+{
+    let mut history = limited(rt, heap, file_bytes);
+    add(rt, &mut history, open_new(rt, heap));
+    add(rt, &mut history, write(rt, heap));
+    history
+}
+
+#[test]
+fn no_more_is_written_than_a_file_may_have(rt: HostRuntime) {
+    let heap = heap::open(rt.alloc()).expect(&rt, "memory");
+    let wrong = Err(CheckFault::Wrong(2));
+    assert_eq!(rt; checked(heap, written(&rt, heap, 2)), Ok(()));
+    assert_eq!(rt; checked(heap, written(&rt, heap, 1)), wrong);
+    assert!(rt; is_told_apart(heap, written(&rt, heap, 1), wrong));
 }
 
 // A transaction with a wrong reply is given up.
@@ -191,7 +213,8 @@ fn checked_in_parts(
     first: &[Entry],
     second: &[Entry],
 ) -> Result<(), CheckFault> {
-    let Ok(checker) = Checker::new(heap, Num(0), history.priorities()) else {
+    let largest = history.largest_file();
+    let Ok(checker) = Checker::with_largest_file(heap, Num(0), history.priorities(), largest) else {
         return Err(CheckFault::NoMemory);
     };
     let checker = checker.add(first)?;

@@ -67,3 +67,25 @@ fn a_cut_takes_no_memory_and_a_refused_read_changes_nothing(rt: HostRuntime) {
     assert!(rt; refused);
     assert_eq!(rt; [before, after], [20_000; 2]);
 }
+
+#[test]
+fn the_last_byte_of_the_largest_file_is_committed(rt: HostRuntime) {
+    let heap = heap::open(rt.alloc()).expect(&rt, "memory");
+    let mut file = FileData::new(heap);
+    let mut shadow = FileShadow::new(heap);
+    shadow.write(2_147_483_646, b"z").expect(&rt, "memory");
+    let seen = shadow
+        .read(heap, &file, 2_147_483_643, 1_048_576)
+        .expect(&rt, "memory");
+    heap.refuse(1);
+    shadow.commit_into(&mut file);
+    let told = [heap.made(), file.len() as u64];
+    heap.refuse(0);
+    let left = file
+        .read_at(heap, 2_147_483_643, 1_048_576)
+        .expect(&rt, "memory");
+    drop(file);
+    assert_eq!(rt; seen.as_slice(), b"\0\0\0z".as_slice());
+    assert_eq!(rt; left.as_slice(), b"\0\0\0z".as_slice());
+    assert_eq!(rt; told, [0, 2_147_483_647]);
+}

@@ -6,8 +6,9 @@ use heap::Heap;
 use objects::{FileData, PipeData};
 use std::process::Abort;
 
-fn assert_holds(rt: &impl Abort, heap: Heap, file: &FileData, want: &[u8]) {
-    let bytes = file.read_at(heap, 0, 100_000).expect(rt, "memory");
+// All that stands in a file from a place on.
+fn assert_ends(rt: &impl Abort, heap: Heap, file: &FileData, place: usize, want: &[u8]) {
+    let bytes = file.read_at(heap, place, 100_000).expect(rt, "memory");
     assert_eq!(rt; bytes.as_slice(), want);
 }
 
@@ -38,13 +39,12 @@ fn a_gap_takes_no_memory(rt: HostRuntime) {
     let heap = heap::open(rt.alloc()).expect(&rt, "memory");
     let mut file = FileData::new(heap);
     heap.refuse(1);
-    file.cut(1_048_576);
+    file.cut(2_147_483_647);
     let told = [heap.made(), file.len() as u64];
     heap.refuse(0);
-    file.cut(3);
-    assert_holds(&rt, heap, &file, &[0; 3]);
+    assert_ends(&rt, heap, &file, 2_147_483_644, &[0; 3]);
     drop(file);
-    assert_eq!(rt; told, [0, 1_048_576]);
+    assert_eq!(rt; told, [0, 2_147_483_647]);
 }
 
 #[test]
@@ -65,6 +65,56 @@ fn a_write_goes_over_the_borders_of_pieces(rt: HostRuntime) {
 }
 
 #[test]
+fn the_largest_file_keeps_its_last_bytes(rt: HostRuntime) {
+    let heap = heap::open(rt.alloc()).expect(&rt, "memory");
+    let mut file = FileData::new(heap);
+    file.cut(2_147_483_647);
+    heap.refuse(0);
+    file.write_at(2_147_483_644, b"xyz").expect(&rt, "memory");
+    // Those for the bytes of one piece, and those by which the two lists above it grow.
+    let made = heap.made();
+    assert_reads(&rt, heap, &file, 0, &[0; 4]);
+    assert_reads(&rt, heap, &file, 2_147_483_642, b"\0\0xy");
+    assert_ends(&rt, heap, &file, 2_147_483_643, b"\0xyz");
+    assert_ends(&rt, heap, &file, 2_147_483_647, b"");
+    drop(file);
+    assert!(rt; made < 30, "{made} requests");
+}
+
+// A group of pieces has 4,194,304 bytes.
+#[test]
+fn a_write_goes_over_the_border_of_groups(rt: HostRuntime) {
+    let heap = heap::open(rt.alloc()).expect(&rt, "memory");
+    let mut file = FileData::new(heap);
+    file.write_at(8_388_604, &[7; 20_000]).expect(&rt, "memory");
+    file.write_at(4_194_300, b"pqrstuvw").expect(&rt, "memory");
+    file.write_at(4_194_303, b"ab").expect(&rt, "memory");
+    assert_reads(&rt, heap, &file, 4_194_298, b"\0\0pqrabuvw\0\0");
+    assert_reads(&rt, heap, &file, 8_388_602, &[0, 0, 7, 7, 7, 7]);
+    assert_ends(&rt, heap, &file, 8_408_602, &[7, 7]);
+    drop(file);
+}
+
+#[test]
+fn a_cut_gives_back_what_stood_behind_it(rt: HostRuntime) {
+    let heap = heap::open(rt.alloc()).expect(&rt, "memory");
+    let mut file = FileData::new(heap);
+    file.write_at(2_147_483_644, b"xyz").expect(&rt, "memory");
+    file.write_at(4_194_300, b"pqrstuvw").expect(&rt, "memory");
+    file.write_at(4_177_919, b"opqr").expect(&rt, "memory");
+    file.cut(4_177_921);
+    file.cut(2_147_483_647);
+    heap.refuse(1);
+    let refused = is_refused(file.write_at(2_147_483_644, b"x"));
+    heap.refuse(0);
+    assert_reads(&rt, heap, &file, 4_177_918, b"\0op\0\0");
+    assert_reads(&rt, heap, &file, 4_194_298, &[0; 12]);
+    assert_ends(&rt, heap, &file, 2_147_483_642, &[0; 5]);
+    drop(file);
+    assert!(rt; refused);
+}
+
+#[test]
 fn a_refused_file_stays(rt: HostRuntime) {
     let heap = heap::open(rt.alloc()).expect(&rt, "memory");
     let mut file = FileData::new(heap);
@@ -76,7 +126,7 @@ fn a_refused_file_stays(rt: HostRuntime) {
     heap.refuse(1);
     let promised = is_refused(file.promise(0, 5000));
     heap.refuse(0);
-    assert_holds(&rt, heap, &file, b"abc");
+    assert_ends(&rt, heap, &file, 0, b"abc");
     file.write_at(5000, b"z").expect(&rt, "memory");
     let len = file.len();
     drop(file);

@@ -96,7 +96,7 @@ static MOVED: [Moved; 5] = [
 ];
 
 // How many bytes a step has moved.
-fn count_of(reply: &Reply) -> usize {
+pub(crate) fn count_of(reply: &Reply) -> usize {
     match reply {
         Reply::Answer(Answer::Count(count)) => *count as usize,
         Reply::Answer(Answer::Bytes(bytes)) => bytes.as_slice().len(),

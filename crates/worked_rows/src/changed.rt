@@ -3,7 +3,7 @@ use crate::row::{Row, do_script, kernel_of};
 use crate::rows::{KINDS, rows_of};
 use heap::Heap;
 use history::History;
-use ids::{Answer, Entry, Errno, Pid, Reply};
+use ids::{Answer, Entry, Errno, Limits, Pid, Reply};
 use kernel::Kernel;
 use machine::Machine;
 use replay::{CheckFault, check};
@@ -61,7 +61,11 @@ fn add_all(history: &mut History, entries: &[Entry], changed: usize) -> Result<(
 // What the check says of a history whose entry at this place has another reply.
 fn check_changed(heap: Heap, history: &History, at: usize) -> Result<Result<(), CheckFault>, Fail> {
     let entries = history.entries();
-    let mut copy = History::new(heap, history.priorities(), entries.len())?;
+    let limits = Limits {
+        entries: entries.len(),
+        file_bytes: history.largest_file(),
+    };
+    let mut copy = History::with_limits(heap, history.priorities(), limits)?;
     let added = add_all(&mut copy, entries, at);
     let told = check(heap, &copy);
     drop(copy);
@@ -125,7 +129,11 @@ fn first_missed(heap: Heap, history: &History) -> Result<Option<usize>, Fail> {
 }
 
 // Does the row's steps, and tells that place.
-fn missed_on<K: Machine>(kernel: &mut K, heap: Heap, row: &Row) -> Result<Option<usize>, Fail> {
+pub(crate) fn missed_on<K: Machine>(
+    kernel: &mut K,
+    heap: Heap,
+    row: &Row,
+) -> Result<Option<usize>, Fail> {
     do_script(kernel, heap, row.script, row.schedule)?;
     first_missed(heap, kernel.history())
 }

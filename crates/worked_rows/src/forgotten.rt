@@ -3,10 +3,12 @@
 use crate::row::{Row, do_steps, kernel_of, lines_of, steps_in, transcript_of};
 use crate::transactions::TRANSACTIONS;
 use heap::Heap;
-use ids::{Num, Op, Pid};
+use history::History;
+use ids::{LARGEST_FILE, Num, Op, Pid};
 use kernel::Kernel;
 use machine::Machine;
 use replay::Checker;
+use std::alloc::AllocError;
 use std::test::Fail;
 
 // What was done is printed and checked, and then it is forgotten.
@@ -42,14 +44,20 @@ fn put_and_forget<K: Machine>(
     }
 }
 
+// A checker of the entries that a kernel will make.
+fn checker_of(heap: Heap, history: &History) -> Result<Checker, AllocError> {
+    let largest = history.largest_file().min(LARGEST_FILE as u32);
+    Checker::with_largest_file(heap, Num(0), history.priorities(), largest)
+}
+
 // The lines of steps behind each of which all is forgotten.
-fn told_one_by_one<K: Machine>(
+pub(crate) fn told_one_by_one<K: Machine>(
     heap: Heap,
     kernel: &mut K,
     steps: &[(Pid, Op)],
     lines: &mut Vec<u8, Heap>,
 ) -> Result<(), Fail> {
-    let mut checker = Checker::new(heap, Num(0), kernel.history().priorities())?;
+    let mut checker = checker_of(heap, kernel.history())?;
     for (pid, op) in steps {
         let op = op.try_clone();
         checker = match op {

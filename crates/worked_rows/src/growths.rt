@@ -101,7 +101,11 @@ pub(crate) fn grow_script(
 }
 
 // Those of a row. Answers how many requests were refused, and the transcript.
-fn grow_on(kernel: &mut Kernel, heap: Heap, row: &Row) -> Result<(u64, Vec<u8, Heap>), Fail> {
+pub(crate) fn grow_on(
+    kernel: &mut Kernel,
+    heap: Heap,
+    row: &Row,
+) -> Result<(u64, Vec<u8, Heap>), Fail> {
     let refused = grow_script(kernel, heap, row.script, row.schedule)?;
     Ok((refused, transcript_of(heap, kernel)?))
 }

@@ -16,11 +16,15 @@ mod given_up;
 #[cfg(test)]
 mod growths;
 #[cfg(test)]
+mod large;
+#[cfg(test)]
 mod limits;
 #[cfg(test)]
 mod links;
 #[cfg(test)]
 mod modes;
+#[cfg(test)]
+mod moved;
 #[cfg(test)]
 mod paths;
 #[cfg(test)]

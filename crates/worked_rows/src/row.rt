@@ -2,7 +2,7 @@
 use device::Halting;
 use heap::Heap;
 use history::History;
-use ids::{Answer, Bytes, Call, Op, Pid, Reply};
+use ids::{Answer, Bytes, Call, LARGEST_FILE, Limits, Op, Pid, Reply};
 use machine::Machine;
 use replay::check;
 use runner::print;
@@ -26,8 +26,17 @@ fn script_of(heap: Heap, text: &str) -> Result<Script, Fail> {
 
 // A kernel with the processes of a script.
 pub(crate) fn kernel_of<K: Machine>(heap: Heap, text: &str, limit: usize) -> Result<K, Fail> {
+    kernel_with(heap, text, Limits::of_entries(limit))
+}
+
+// The same with these limits.
+pub(crate) fn kernel_with<K: Machine>(heap: Heap, text: &str, limits: Limits) -> Result<K, Fail> {
     let script = script_of(heap, text)?;
-    Ok(K::new(heap, script.priorities(), limit.min(1000))?)
+    let limits = Limits {
+        entries: limits.entries.min(1000),
+        file_bytes: limits.file_bytes.min(LARGEST_FILE as u32),
+    };
+    Ok(K::with_limits(heap, script.priorities(), limits)?)
 }
 
 // The steps of a script by a schedule.

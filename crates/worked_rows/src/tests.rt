@@ -8,13 +8,21 @@ use machine::Machine;
 use std::test::Fail;
 
 // Does the row's steps on its kernel, one by one, and tells the transcript.
-fn step_by_step<K: Machine>(kernel: &mut K, heap: Heap, row: &Row) -> Result<Vec<u8, Heap>, Fail> {
+pub(crate) fn step_by_step<K: Machine>(
+    kernel: &mut K,
+    heap: Heap,
+    row: &Row,
+) -> Result<Vec<u8, Heap>, Fail> {
     do_script(kernel, heap, row.script, row.schedule)?;
     transcript_of(heap, kernel)
 }
 
 // The same in one run.
-fn at_once<K: Machine>(kernel: &mut K, heap: Heap, row: &Row) -> Result<Vec<u8, Heap>, Fail> {
+pub(crate) fn at_once<K: Machine>(
+    kernel: &mut K,
+    heap: Heap,
+    row: &Row,
+) -> Result<Vec<u8, Heap>, Fail> {
     drop(kernel.run(steps_in(heap, row.script, row.schedule)?)?);
     transcript_of(heap, kernel)
 }

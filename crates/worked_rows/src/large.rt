@@ -1,0 +1,760 @@
+// Rows under other limits of a file's bytes than that of the other rows: very few, and the most that
+// there can be.
+use crate::changed::missed_on;
+use crate::forgotten::told_one_by_one;
+use crate::growths::grow_on;
+use crate::row::{Row, kernel_with, steps_in};
+use crate::tests::{at_once, step_by_step};
+use heap::Heap;
+use ids::Limits;
+use kernel::Kernel;
+use machine::Machine;
+use std::test::Fail;
+
+// A row, and the most bytes of a file of its kernel.
+struct Large {
+    file_bytes: u32,
+    row: Row,
+}
+
+static LARGE: [Large; 13] = [
+    // Files of at most five bytes: a write is cut at their end, and none begins there.
+    Large {
+        file_bytes: 5,
+        row: Row {
+            script: "priorities 0 0
+1 open /a RDWR,CREAT
+1 write 0 abc
+1 write 0 defg
+1 write 0 h
+1 write 0 \\e
+1 fstat 0
+1 lseek 0 0 CUR
+1 lseek 0 6 SET
+1 lseek 0 1 CUR
+1 lseek 0 1 END
+1 lseek 0 -6 END
+1 lseek 0 -5 END
+1 read 0 9
+1 lseek 0 5 SET
+1 read 0 9
+1 ftruncate 0 6
+1 ftruncate 0 4294967295
+1 ftruncate 0 5
+1 ftruncate 0 3
+1 ftruncate 0 5
+1 lseek 0 -3 CUR
+1 read 0 9
+1 lseek 0 4 SET
+1 write 0 xy
+1 write 0 z
+2 open /a RDONLY
+2 lseek 0 1 SET
+2 read 0 9
+",
+            schedule: "1,1,1,1,1,1,1,1,1,1,1,1,1,1,1,1,1,1,1,1,1,1,1,1,1,2,2,2",
+            limit: 100,
+            transcript: "1 P1 open /a RDWR,CREAT -> 0
+2 P1 write 0 abc -> 3
+3 P1 write 0 defg -> 2
+4 P1 write 0 h -> EFBIG
+5 P1 write 0 \\e -> 0
+6 P1 fstat 0 -> file size 5 links 1
+7 P1 lseek 0 0 CUR -> 5
+8 P1 lseek 0 6 SET -> EINVAL
+9 P1 lseek 0 1 CUR -> EINVAL
+10 P1 lseek 0 1 END -> EINVAL
+11 P1 lseek 0 -6 END -> EINVAL
+12 P1 lseek 0 -5 END -> 0
+13 P1 read 0 9 -> 5 abcde
+14 P1 lseek 0 5 SET -> 5
+15 P1 read 0 9 -> 0 \\e
+16 P1 ftruncate 0 6 -> EFBIG
+17 P1 ftruncate 0 4294967295 -> EFBIG
+18 P1 ftruncate 0 5 -> ok
+19 P1 ftruncate 0 3 -> ok
+20 P1 ftruncate 0 5 -> ok
+21 P1 lseek 0 -3 CUR -> 2
+22 P1 read 0 9 -> 3 c\\x00\\x00
+23 P1 lseek 0 4 SET -> 4
+24 P1 write 0 xy -> 1
+25 P1 write 0 z -> EFBIG
+26 P2 open /a RDONLY -> 0
+27 P2 lseek 0 1 SET -> 1
+28 P2 read 0 9 -> 4 bc\\x00x
+",
+        },
+    },
+    // The same in a transaction.
+    Large {
+        file_bytes: 5,
+        row: Row {
+            script: "priorities 0 0
+1 open /a RDWR,CREAT
+1 begin
+1 write 0 abc
+1 write 0 defg
+1 write 0 h
+1 write 0 \\e
+1 fstat 0
+1 lseek 0 0 CUR
+1 lseek 0 6 SET
+1 lseek 0 1 CUR
+1 lseek 0 1 END
+1 lseek 0 -6 END
+1 lseek 0 -5 END
+1 read 0 9
+1 lseek 0 5 SET
+1 read 0 9
+1 ftruncate 0 6
+1 ftruncate 0 4294967295
+1 ftruncate 0 5
+1 ftruncate 0 3
+1 ftruncate 0 5
+1 lseek 0 -3 CUR
+1 read 0 9
+1 lseek 0 4 SET
+1 write 0 xy
+1 write 0 z
+2 stat /a
+1 end
+2 open /a RDONLY
+2 lseek 0 1 SET
+2 read 0 9
+",
+            schedule: "1,1,1,1,1,1,1,1,1,1,1,1,1,1,1,1,1,1,1,1,1,1,1,1,1,1,2,1,2,2,2",
+            limit: 100,
+            transcript: "1 P1 open /a RDWR,CREAT -> 0
+2 P1 begin -> begun
+3 P1 write 0 abc -> 3
+4 P1 write 0 defg -> 2
+5 P1 write 0 h -> EFBIG
+6 P1 write 0 \\e -> 0
+7 P1 fstat 0 -> file size 5 links 1
+8 P1 lseek 0 0 CUR -> 5
+9 P1 lseek 0 6 SET -> EINVAL
+10 P1 lseek 0 1 CUR -> EINVAL
+11 P1 lseek 0 1 END -> EINVAL
+12 P1 lseek 0 -6 END -> EINVAL
+13 P1 lseek 0 -5 END -> 0
+14 P1 read 0 9 -> 5 abcde
+15 P1 lseek 0 5 SET -> 5
+16 P1 read 0 9 -> 0 \\e
+17 P1 ftruncate 0 6 -> EFBIG
+18 P1 ftruncate 0 4294967295 -> EFBIG
+19 P1 ftruncate 0 5 -> ok
+20 P1 ftruncate 0 3 -> ok
+21 P1 ftruncate 0 5 -> ok
+22 P1 lseek 0 -3 CUR -> 2
+23 P1 read 0 9 -> 3 c\\x00\\x00
+24 P1 lseek 0 4 SET -> 4
+25 P1 write 0 xy -> 1
+26 P1 write 0 z -> EFBIG
+27 P2 stat /a -> file size 0 links 1
+28 P1 end -> committed
+29 P2 open /a RDONLY -> 0
+30 P2 lseek 0 1 SET -> 1
+31 P2 read 0 9 -> 4 bc\\x00x
+",
+        },
+    },
+    // An append is cut at the same place, wherever the offset is.
+    Large {
+        file_bytes: 5,
+        row: Row {
+            script: "priorities 0 0
+1 open /a WRONLY,CREAT,APPEND
+1 write 0 abc
+2 open /a RDWR
+2 lseek 0 4 SET
+2 write 0 x
+1 write 0 z
+1 lseek 0 0 SET
+1 write 0 z
+2 ftruncate 0 4
+1 write 0 yz
+1 lseek 0 0 CUR
+2 lseek 0 0 SET
+2 read 0 9
+",
+            schedule: "1,1,2,2,2,1,1,1,2,1,1,2,2",
+            limit: 100,
+            transcript: "1 P1 open /a WRONLY,CREAT,APPEND -> 0
+2 P1 write 0 abc -> 3
+3 P2 open /a RDWR -> 0
+4 P2 lseek 0 4 SET -> 4
+5 P2 write 0 x -> 1
+6 P1 write 0 z -> EFBIG
+7 P1 lseek 0 0 SET -> 0
+8 P1 write 0 z -> EFBIG
+9 P2 ftruncate 0 4 -> ok
+10 P1 write 0 yz -> 1
+11 P1 lseek 0 0 CUR -> 5
+12 P2 lseek 0 0 SET -> 0
+13 P2 read 0 9 -> 5 abc\\x00y
+",
+        },
+    },
+    // The same in a transaction, where another's descriptor stands behind the end.
+    Large {
+        file_bytes: 5,
+        row: Row {
+            script: "priorities 0 0
+1 open /a RDWR,CREAT,APPEND
+1 write 0 abc
+2 open /a RDWR
+2 lseek 0 5 SET
+1 begin
+1 write 0 xyz
+1 write 0 z
+1 lseek 0 0 SET
+1 read 0 9
+2 write 0 q
+2 fstat 0
+1 ftruncate 0 1
+1 write 0 pq
+1 end
+2 lseek 0 0 SET
+2 read 0 9
+",
+            schedule: "1,1,2,2,1,1,1,1,1,2,2,1,1,1,2,2",
+            limit: 100,
+            transcript: "1 P1 open /a RDWR,CREAT,APPEND -> 0
+2 P1 write 0 abc -> 3
+3 P2 open /a RDWR -> 0
+4 P2 lseek 0 5 SET -> 5
+5 P1 begin -> begun
+6 P1 write 0 xyz -> 2
+7 P1 write 0 z -> EFBIG
+8 P1 lseek 0 0 SET -> 0
+9 P1 read 0 9 -> 5 abcxy
+10 P2 write 0 q -> EFBIG
+11 P2 fstat 0 -> file size 3 links 1
+12 P1 ftruncate 0 1 -> ok
+13 P1 write 0 pq -> 2
+14 P1 end -> committed
+15 P2 lseek 0 0 SET -> 0
+16 P2 read 0 9 -> 3 apq
+",
+        },
+    },
+    // Who appends at the end has read the length, and loses against who changes it.
+    Large {
+        file_bytes: 5,
+        row: Row {
+            script: "priorities 0 0
+1 open /a WRONLY,CREAT,APPEND
+1 write 0 abcde
+2 open /a RDWR
+1 begin
+1 write 0 f
+2 ftruncate 0 4
+1 end
+1 write 0 f
+",
+            schedule: "1,1,2,1,1,2,1,1",
+            limit: 100,
+            transcript: "1 P1 open /a WRONLY,CREAT,APPEND -> 0
+2 P1 write 0 abcde -> 5
+3 P2 open /a RDWR -> 0
+4 P1 begin -> begun
+5 P1 write 0 f -> EFBIG
+6 P2 ftruncate 0 4 -> ok dooms P1
+7 P1 end -> aborted size read by P2
+8 P1 write 0 f -> 1
+",
+        },
+    },
+    // Who writes at the last offset has not.
+    Large {
+        file_bytes: 5,
+        row: Row {
+            script: "priorities 0 0
+1 open /a WRONLY,CREAT
+1 write 0 abcde
+2 open /a RDWR
+1 begin
+1 write 0 f
+2 ftruncate 0 4
+1 end
+1 write 0 f
+2 fstat 0
+",
+            schedule: "1,1,2,1,1,2,1,1,2",
+            limit: 100,
+            transcript: "1 P1 open /a WRONLY,CREAT -> 0
+2 P1 write 0 abcde -> 5
+3 P2 open /a RDWR -> 0
+4 P1 begin -> begun
+5 P1 write 0 f -> EFBIG
+6 P2 ftruncate 0 4 -> ok
+7 P1 end -> committed
+8 P1 write 0 f -> EFBIG
+9 P2 fstat 0 -> file size 4 links 1
+",
+        },
+    },
+    // A pipe takes more bytes than a file may have.
+    Large {
+        file_bytes: 5,
+        row: Row {
+            script: "priorities 0
+1 pipe
+1 write 1 abcdefgh
+1 read 0 9
+1 open /a RDWR,CREAT
+1 write 2 abcdefgh
+",
+            schedule: "1,1,1,1,1",
+            limit: 100,
+            transcript: "1 P1 pipe -> 0 1
+2 P1 write 1 abcdefgh -> 8
+3 P1 read 0 9 -> 8 abcdefgh
+4 P1 open /a RDWR,CREAT -> 2
+5 P1 write 2 abcdefgh -> 5
+",
+        },
+    },
+    // Files of no byte.
+    Large {
+        file_bytes: 0,
+        row: Row {
+            script: "priorities 0
+1 open /a RDWR,CREAT
+1 write 0 x
+1 write 0 \\e
+1 lseek 0 0 END
+1 lseek 0 1 SET
+1 ftruncate 0 1
+1 begin
+1 ftruncate 0 0
+1 write 0 x
+1 read 0 1
+1 end
+1 fstat 0
+",
+            schedule: "1,1,1,1,1,1,1,1,1,1,1,1",
+            limit: 100,
+            transcript: "1 P1 open /a RDWR,CREAT -> 0
+2 P1 write 0 x -> EFBIG
+3 P1 write 0 \\e -> 0
+4 P1 lseek 0 0 END -> 0
+5 P1 lseek 0 1 SET -> EINVAL
+6 P1 ftruncate 0 1 -> EFBIG
+7 P1 begin -> begun
+8 P1 ftruncate 0 0 -> ok
+9 P1 write 0 x -> EFBIG
+10 P1 read 0 1 -> 0 \\e
+11 P1 end -> committed
+12 P1 fstat 0 -> file size 0 links 1
+",
+        },
+    },
+    // The last byte of a file stands alone in its block.
+    Large {
+        file_bytes: 1025,
+        row: Row {
+            script: "priorities 0 0
+1 open /a RDWR,CREAT
+1 lseek 0 1023 SET
+1 write 0 abc
+2 open /a RDWR
+1 begin
+1 ftruncate 0 1024
+1 write 0 d
+1 lseek 0 -1 END
+1 write 0 xyz
+2 lseek 0 1023 SET
+2 read 0 9
+1 end
+2 lseek 0 1022 SET
+2 read 0 9
+",
+            schedule: "1,1,1,2,1,1,1,1,1,2,2,1,2,2",
+            limit: 100,
+            transcript: "1 P1 open /a RDWR,CREAT -> 0
+2 P1 lseek 0 1023 SET -> 1023
+3 P1 write 0 abc -> 2
+4 P2 open /a RDWR -> 0
+5 P1 begin -> begun
+6 P1 ftruncate 0 1024 -> ok
+7 P1 write 0 d -> EFBIG
+8 P1 lseek 0 -1 END -> 1023
+9 P1 write 0 xyz -> 2
+10 P2 lseek 0 1023 SET -> 1023
+11 P2 read 0 9 -> 2 ab
+12 P1 end -> committed
+13 P2 lseek 0 1022 SET -> 1022
+14 P2 read 0 9 -> 3 \\x00xy
+",
+        },
+    },
+    // The most that a file can have: nearly all of it is a gap, which reads as zeros.
+    Large {
+        file_bytes: 2_147_483_647,
+        row: Row {
+            script: "priorities 0 0
+1 open /a RDWR,CREAT
+1 lseek 0 2147483648 SET
+1 lseek 0 2147483646 SET
+1 write 0 xy
+1 write 0 z
+1 fstat 0
+1 lseek 0 1 CUR
+1 lseek 0 1 END
+1 lseek 0 -3 END
+1 read 0 9
+1 read 0 9
+1 lseek 0 1073741823 SET
+1 read 0 4
+1 lseek 0 2147221505 SET
+1 write 0 mid
+1 lseek 0 -5 CUR
+1 read 0 7
+1 ftruncate 0 2147483648
+1 ftruncate 0 4294967295
+1 ftruncate 0 2147483647
+1 ftruncate 0 2147221507
+1 fstat 0
+1 ftruncate 0 2147483647
+1 lseek 0 2147221504 SET
+1 read 0 5
+1 lseek 0 -1 END
+1 read 0 2
+2 stat /a
+",
+            schedule: "1,1,1,1,1,1,1,1,1,1,1,1,1,1,1,1,1,1,1,1,1,1,1,1,1,1,1,2",
+            limit: 100,
+            transcript: "1 P1 open /a RDWR,CREAT -> 0
+2 P1 lseek 0 2147483648 SET -> EINVAL
+3 P1 lseek 0 2147483646 SET -> 2147483646
+4 P1 write 0 xy -> 1
+5 P1 write 0 z -> EFBIG
+6 P1 fstat 0 -> file size 2147483647 links 1
+7 P1 lseek 0 1 CUR -> EINVAL
+8 P1 lseek 0 1 END -> EINVAL
+9 P1 lseek 0 -3 END -> 2147483644
+10 P1 read 0 9 -> 3 \\x00\\x00x
+11 P1 read 0 9 -> 0 \\e
+12 P1 lseek 0 1073741823 SET -> 1073741823
+13 P1 read 0 4 -> 4 \\x00\\x00\\x00\\x00
+14 P1 lseek 0 2147221505 SET -> 2147221505
+15 P1 write 0 mid -> 3
+16 P1 lseek 0 -5 CUR -> 2147221503
+17 P1 read 0 7 -> 7 \\x00\\x00mid\\x00\\x00
+18 P1 ftruncate 0 2147483648 -> EFBIG
+19 P1 ftruncate 0 4294967295 -> EFBIG
+20 P1 ftruncate 0 2147483647 -> ok
+21 P1 ftruncate 0 2147221507 -> ok
+22 P1 fstat 0 -> file size 2147221507 links 1
+23 P1 ftruncate 0 2147483647 -> ok
+24 P1 lseek 0 2147221504 SET -> 2147221504
+25 P1 read 0 5 -> 5 \\x00mi\\x00\\x00
+26 P1 lseek 0 -1 END -> 2147483646
+27 P1 read 0 2 -> 1 \\x00
+28 P2 stat /a -> file size 2147483647 links 1
+",
+        },
+    },
+    // The same in a transaction.
+    Large {
+        file_bytes: 2_147_483_647,
+        row: Row {
+            script: "priorities 0 0
+1 open /a RDWR,CREAT
+1 begin
+1 lseek 0 2147483648 SET
+1 lseek 0 2147483646 SET
+1 write 0 xy
+1 write 0 z
+1 fstat 0
+1 lseek 0 1 CUR
+1 lseek 0 -3 END
+1 read 0 9
+1 read 0 9
+1 lseek 0 2147221505 SET
+1 write 0 mid
+1 lseek 0 -5 CUR
+1 read 0 7
+1 ftruncate 0 2147483648
+1 ftruncate 0 2147221507
+1 ftruncate 0 2147483647
+1 lseek 0 -1 END
+1 read 0 2
+2 stat /a
+1 end
+2 open /a RDONLY
+2 lseek 0 2147221504 SET
+2 read 0 5
+2 lseek 0 -2 END
+2 read 0 9
+",
+            schedule: "1,1,1,1,1,1,1,1,1,1,1,1,1,1,1,1,1,1,1,1,2,1,2,2,2,2,2",
+            limit: 100,
+            transcript: "1 P1 open /a RDWR,CREAT -> 0
+2 P1 begin -> begun
+3 P1 lseek 0 2147483648 SET -> EINVAL
+4 P1 lseek 0 2147483646 SET -> 2147483646
+5 P1 write 0 xy -> 1
+6 P1 write 0 z -> EFBIG
+7 P1 fstat 0 -> file size 2147483647 links 1
+8 P1 lseek 0 1 CUR -> EINVAL
+9 P1 lseek 0 -3 END -> 2147483644
+10 P1 read 0 9 -> 3 \\x00\\x00x
+11 P1 read 0 9 -> 0 \\e
+12 P1 lseek 0 2147221505 SET -> 2147221505
+13 P1 write 0 mid -> 3
+14 P1 lseek 0 -5 CUR -> 2147221503
+15 P1 read 0 7 -> 7 \\x00\\x00mid\\x00\\x00
+16 P1 ftruncate 0 2147483648 -> EFBIG
+17 P1 ftruncate 0 2147221507 -> ok
+18 P1 ftruncate 0 2147483647 -> ok
+19 P1 lseek 0 -1 END -> 2147483646
+20 P1 read 0 2 -> 1 \\x00
+21 P2 stat /a -> file size 0 links 1
+22 P1 end -> committed
+23 P2 open /a RDONLY -> 0
+24 P2 lseek 0 2147221504 SET -> 2147221504
+25 P2 read 0 5 -> 5 \\x00mi\\x00\\x00
+26 P2 lseek 0 -2 END -> 2147483645
+27 P2 read 0 9 -> 2 \\x00\\x00
+",
+        },
+    },
+    // Who gives up a cut leaves the last byte as it was.
+    Large {
+        file_bytes: 2_147_483_647,
+        row: Row {
+            script: "priorities 0 0
+1 open /a RDWR,CREAT
+1 lseek 0 2147483646 SET
+1 write 0 x
+1 begin
+1 ftruncate 0 2147221504
+1 ftruncate 0 2147483647
+1 lseek 0 -1 END
+1 read 0 2
+1 abort
+1 lseek 0 2147483646 SET
+1 read 0 2
+2 stat /a
+",
+            schedule: "1,1,1,1,1,1,1,1,1,1,1,2",
+            limit: 100,
+            transcript: "1 P1 open /a RDWR,CREAT -> 0
+2 P1 lseek 0 2147483646 SET -> 2147483646
+3 P1 write 0 x -> 1
+4 P1 begin -> begun
+5 P1 ftruncate 0 2147221504 -> ok
+6 P1 ftruncate 0 2147483647 -> ok
+7 P1 lseek 0 -1 END -> 2147483646
+8 P1 read 0 2 -> 1 \\x00
+9 P1 abort -> given up
+10 P1 lseek 0 2147483646 SET -> 2147483646
+11 P1 read 0 2 -> 1 x
+12 P2 stat /a -> file size 2147483647 links 1
+",
+        },
+    },
+    // Two write into one gap, a block apart.
+    Large {
+        file_bytes: 2_147_483_647,
+        row: Row {
+            script: "priorities 0 0
+1 open /a RDWR,CREAT
+1 ftruncate 0 2147483647
+2 open /a RDWR
+1 lseek 0 2147483647 SET
+1 begin
+2 begin
+1 write 0 o
+1 lseek 0 2147482623 SET
+1 write 0 p
+2 lseek 0 2147482624 SET
+2 write 0 q
+2 end
+1 end
+1 lseek 0 2147482622 SET
+1 read 0 4
+1 fstat 0
+",
+            schedule: "1,1,2,1,1,2,1,1,1,2,2,2,1,1,1,1",
+            limit: 100,
+            transcript: "1 P1 open /a RDWR,CREAT -> 0
+2 P1 ftruncate 0 2147483647 -> ok
+3 P2 open /a RDWR -> 0
+4 P1 lseek 0 2147483647 SET -> 2147483647
+5 P1 begin -> begun
+6 P2 begin -> begun
+7 P1 write 0 o -> EFBIG
+8 P1 lseek 0 2147482623 SET -> 2147482623
+9 P1 write 0 p -> 1
+10 P2 lseek 0 2147482624 SET -> 2147482624
+11 P2 write 0 q -> 1
+12 P2 end -> committed
+13 P1 end -> committed
+14 P1 lseek 0 2147482622 SET -> 2147482622
+15 P1 read 0 4 -> 4 \\x00pq\\x00
+16 P1 fstat 0 -> file size 2147483647 links 1
+",
+        },
+    },
+];
+
+// A kernel of a row, with a history of so many entries.
+fn kernel_for<K: Machine>(heap: Heap, large: &Large, entries: usize) -> Result<K, Fail> {
+    let limits = Limits {
+        entries,
+        file_bytes: large.file_bytes,
+    };
+    kernel_with(heap, large.row.script, limits)
+}
+
+fn transcript_by_steps<K: Machine>(heap: Heap, large: &Large) -> Result<Vec<u8, Heap>, Fail> {
+    let mut kernel: K = kernel_for(heap, large, large.row.limit)?;
+    step_by_step(&mut kernel, heap, &large.row)
+}
+
+fn transcript_at_once<K: Machine>(heap: Heap, large: &Large) -> Result<Vec<u8, Heap>, Fail> {
+    let mut kernel: K = kernel_for(heap, large, large.row.limit)?;
+    at_once(&mut kernel, heap, &large.row)
+}
+
+// The lines of a kernel that forgets each step.
+fn transcript_forgotten<K: Machine>(heap: Heap, large: &Large) -> Result<Vec<u8, Heap>, Fail> {
+    let steps = steps_in(heap, large.row.script, large.row.schedule)?;
+    let mut lines = Vec::new(heap);
+    let mut kernel: K = kernel_for(heap, large, 4)?;
+    told_one_by_one(heap, &mut kernel, steps.as_slice(), &mut lines)?;
+    Ok(lines)
+}
+
+#[test]
+fn steps_leave_the_transcript_of_the_large_row(rt: HostRuntime) -> Result<(), Fail> {
+    let heap = heap::open(rt.alloc())?;
+    for large in &LARGE {
+        let told = transcript_by_steps::<Kernel>(heap, large)?;
+        assert!(rt;
+            told.as_slice() == large.row.transcript.as_bytes(),
+            "{}",
+            large.row.script
+        );
+    }
+    Ok(())
+}
+
+#[test]
+fn a_run_leaves_the_transcript_of_the_large_row(rt: HostRuntime) -> Result<(), Fail> {
+    let heap = heap::open(rt.alloc())?;
+    for large in &LARGE {
+        let told = transcript_at_once::<Kernel>(heap, large)?;
+        assert!(rt;
+            told.as_slice() == large.row.transcript.as_bytes(),
+            "{}",
+            large.row.script
+        );
+    }
+    Ok(())
+}
+
+#[test]
+fn forgetting_leaves_the_transcript_of_the_large_row(rt: HostRuntime) -> Result<(), Fail> {
+    let heap = heap::open(rt.alloc())?;
+    for large in &LARGE {
+        let told = transcript_forgotten::<Kernel>(heap, large)?;
+        assert!(rt;
+            told.as_slice() == large.row.transcript.as_bytes(),
+            "{}",
+            large.row.script
+        );
+    }
+    Ok(())
+}
+
+fn missed_in<K: Machine>(heap: Heap, large: &Large) -> Result<Option<usize>, Fail> {
+    let mut kernel: K = kernel_for(heap, large, large.row.limit)?;
+    missed_on(&mut kernel, heap, &large.row)
+}
+
+#[test]
+fn changed_replies_of_large_rows_are_found(rt: HostRuntime) -> Result<(), Fail> {
+    let heap = heap::open(rt.alloc())?;
+    for large in &LARGE {
+        assert!(rt;
+            missed_in::<Kernel>(heap, large)?.is_none(),
+            "{}",
+            large.row.script
+        );
+    }
+    Ok(())
+}
+
+// How many requests for memory were refused, one in each run of a step, and the transcript.
+fn grow_large(heap: Heap, large: &Large) -> Result<(u64, Vec<u8, Heap>), Fail> {
+    let mut kernel: Kernel = kernel_for(heap, large, large.row.limit)?;
+    let grown = grow_on(&mut kernel, heap, &large.row);
+    drop(kernel);
+    grown
+}
+
+#[test]
+fn refuse_each_growth_of_large_rows(rt: HostRuntime) -> Result<(), Fail> {
+    let heap = heap::open(rt.alloc())?;
+    for large in &LARGE {
+        let (count, told) = grow_large(heap, large)?;
+        assert!(rt; count > 0);
+        assert!(rt;
+            told.as_slice() == large.row.transcript.as_bytes(),
+            "{}",
+            large.row.script
+        );
+    }
+    Ok(())
+}
+
+// A cut writes each block that it takes. These two take 65,536 each, so they are done once.
+static MANY: Large = Large {
+    file_bytes: 2_147_483_647,
+    row: Row {
+        script: "priorities 0 0
+1 open /a RDWR,CREAT
+1 lseek 0 2147483646 SET
+1 write 0 x
+1 ftruncate 0 2080374785
+1 ftruncate 0 2147483647
+1 lseek 0 -1 END
+1 read 0 2
+1 begin
+1 ftruncate 0 2080374784
+1 fstat 0
+1 ftruncate 0 2147483647
+2 stat /a
+1 end
+2 stat /a
+",
+        schedule: "1,1,1,1,1,1,1,1,1,1,1,2,1,2",
+        limit: 100,
+        transcript: "1 P1 open /a RDWR,CREAT -> 0
+2 P1 lseek 0 2147483646 SET -> 2147483646
+3 P1 write 0 x -> 1
+4 P1 ftruncate 0 2080374785 -> ok
+5 P1 ftruncate 0 2147483647 -> ok
+6 P1 lseek 0 -1 END -> 2147483646
+7 P1 read 0 2 -> 1 \\x00
+8 P1 begin -> begun
+9 P1 ftruncate 0 2080374784 -> ok
+10 P1 fstat 0 -> file size 2080374784 links 1
+11 P1 ftruncate 0 2147483647 -> ok
+12 P2 stat /a -> file size 2147483647 links 1
+13 P1 end -> committed
+14 P2 stat /a -> file size 2147483647 links 1
+",
+    },
+};
+
+#[test]
+fn many_blocks_are_cut(rt: HostRuntime) -> Result<(), Fail> {
+    let told = transcript_by_steps::<Kernel>(heap::open(rt.alloc())?, &MANY)?;
+    assert!(rt; told.as_slice() == MANY.row.transcript.as_bytes());
+    Ok(())
+}
