@@ -1,21 +1,24 @@
 //! `bench`: prints what calls of the kernel cost. The script `bench/calls` puts its
 //! lines beside those of the peers, in one table.
 //!
-//! usage: bench PART | bench edges FILE | bench ENDLESS MESSAGES [SHARE]
+//! usage: bench PART | bench edges FILE | bench bulk WAY | bench ENDLESS MESSAGES [SHARE]
 //!
-//! PART is one of `small`, `large`, `largest`, `lengths`, `growth`, `lock` and `check`; `edges`
-//! writes transcripts to FILE. Each line has, with tabs between: how it was measured, a row's name,
-//! a number of calls, their nanoseconds, and their requests for memory. A row comes as often as it
-//! was measured. ENDLESS is one of `forever`, which delivers so many MESSAGES, or SHARE hundredths
-//! of them, to a spool that empties itself, on a kernel that forgets what was done; `followed`,
-//! which checks the history besides, part by part; and both with `-times` behind them, which tell
-//! what the others print as 0: the nanoseconds and the requests of each twentieth of the run. This
-//! is a measure and no test: with no words it only prints how it is used.
+//! PART is one of `small`, `large`, `largest`, `lengths`, `growth`, `files`, `lock` and `check`;
+//! `edges` writes transcripts to FILE; `bulk` writes a long file, and WAY is `plain` or `within`.
+//! Each line has, with tabs between: how it was measured, a row's name, a number of calls, their
+//! nanoseconds, and their requests for memory. A row comes as often as it was measured. ENDLESS is
+//! one of `forever`, which delivers so many MESSAGES, or SHARE hundredths of them, to a spool that
+//! empties itself, on a kernel that forgets what was done; `followed`, which checks the history
+//! besides, part by part; and both with `-times` behind them, which tell what the others print as
+//! 0: the nanoseconds and the requests of each twentieth of the run. This is a measure and no test:
+//! with no words it only prints how it is used.
 #![tactic(auto)]
 
+mod bulk;
 mod checked;
 mod clock;
 mod edges;
+mod files;
 mod forever;
 mod growth;
 mod lengths;
@@ -34,6 +37,9 @@ use std::alloc::Global;
 use std::env;
 use std::sync::Wait;
 use std::thread::Threads;
+
+static USAGE: &str =
+    "usage: bench PART | bench edges FILE | bench bulk WAY | bench ENDLESS MESSAGES [SHARE]";
 
 fn main(rt: HostRuntime) -> Result<()> {
     run::<_, Kernel>(&rt, &rt, rt.alloc())
@@ -71,7 +77,7 @@ fn print_as_told<R: Threads + Wait + Sync, K: Machine + Send>(
             print_endless::<K>(rt, heap, part.as_str(), messages.as_str(), share.as_str())
         }
         _ => {
-            println!(rt; "usage: bench PART | bench edges FILE | bench ENDLESS MESSAGES [SHARE]")?;
+            println!(rt; "{USAGE}")?;
             Ok(())
         }
     }
@@ -89,6 +95,7 @@ fn print_part<R: Threads + Wait + Sync, K: Machine + Send>(
         "largest" => rows::print_largest::<K>(rt, heap),
         "lengths" => lengths::print_lengths::<K>(rt, heap),
         "growth" => growth::print_growth::<K>(rt, heap),
+        "files" => files::print_files::<K>(rt, heap),
         "lock" => lock::print_lock::<_, K>(rt, threads, heap),
         "check" => checked::print_check::<K>(rt, heap),
         _ => bail!("{part} is no part"),
@@ -98,6 +105,7 @@ fn print_part<R: Threads + Wait + Sync, K: Machine + Send>(
 fn print_with<K: Machine>(rt: &HostRuntime, heap: Heap, part: &str, word: &str) -> Result<()> {
     match part {
         "edges" => edges::print_edges::<K>(rt, heap, word),
+        "bulk" => bulk::print_bulk::<K>(rt, heap, word),
         _ => print_endless::<K>(rt, heap, part, word, "100"),
     }
 }
