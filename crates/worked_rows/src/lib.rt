@@ -12,6 +12,8 @@ mod forgotten;
 #[cfg(test)]
 mod freed;
 #[cfg(test)]
+mod freeing;
+#[cfg(test)]
 mod given_up;
 #[cfg(test)]
 mod growths;
