@@ -1,0 +1,5 @@
+pub mod Forgotten
+pub mod Lengths
+pub mod Messages
+pub mod Reading
+pub mod Spelled

@@ -1,0 +1,9 @@
+use Rattle.std.proofs.Common.{◌≡◌, ◌++◌, take}
+use Rattle.std.specs.List.{flat_map}
+use Rattle.fuse.specs.Numbers.{u32_bytes}
+use Rattle.fuse.proofs.put.put_u32s.Given as goal
+
+-- as many numbers are put as the loop has passed
+abbrev pub invariant-loop-number : goal.invariant-loop-number
+invariant-loop-number l =
+    l.out.items ≡ l.fn.out.items ++ flat_map u32_bytes (take l.number-index l.numbers)

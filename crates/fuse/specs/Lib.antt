@@ -1,0 +1,9 @@
+pub mod Numbers
+pub mod Names
+pub mod Faults
+pub mod Bodies
+pub mod Operations
+pub mod Requests
+pub mod Listed
+pub mod Listings
+pub mod Replies

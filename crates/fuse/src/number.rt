@@ -1,0 +1,23 @@
+// Numbers in bytes, the lowest byte first.
+ghost use Rattle.std.specs.Prelude.{◌≡◌, ◌+◌, ◌≤◌, length};
+ghost use Rattle.fuse.specs.Numbers.{u32_at, u64_at};
+
+use byteorder::{ByteOrder, LittleEndian};
+
+// The number in the four bytes from a place on.
+#[tactic(auto, unfolding(crate::specs::Numbers::u32_at))]
+pub(crate) fn u32_at(bytes: &[u8], place: usize) -> u32
+    requires { place + 4 ≤ length bytes.now }
+    ensures { result ≡ u32_at bytes.now place }
+{
+    LittleEndian::read_u32(&bytes[place..])
+}
+
+// The number in the eight bytes from a place on.
+#[tactic(auto, unfolding(crate::specs::Numbers::u64_at))]
+pub(crate) fn u64_at(bytes: &[u8], place: usize) -> u64
+    requires { place + 8 ≤ length bytes.now }
+    ensures { result ≡ u64_at bytes.now place }
+{
+    LittleEndian::read_u64(&bytes[place..])
+}
