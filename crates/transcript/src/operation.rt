@@ -48,6 +48,16 @@ fn put_numbers<S: Sink>(out: &mut Printer<'_, S>, word: &[u8], first: u32, secon
     out.put_number(b" ", second);
 }
 
+// An offset behind what it belongs to.
+fn put_offset<S: Sink>(out: &mut Printer<'_, S>, offset: i64)
+    requires { CanPrint S.failures out.old }
+    ensures { Prints S.written S.failures out.old out.new
+        (codes " " ++ signed_decimal offset) }
+{
+    out.put(b" ");
+    out.put_signed(offset);
+}
+
 fn put_open<S: Sink>(out: &mut Printer<'_, S>, path: &Bytes, flags: OpenFlags)
     requires { CanPrint S.failures out.old }
     ensures { Prints S.written S.failures out.old out.new
@@ -56,6 +66,15 @@ fn put_open<S: Sink>(out: &mut Printer<'_, S>, path: &Bytes, flags: OpenFlags)
     put_path(out, b"open ", path);
     out.put(b" ");
     put_flags(out, flags);
+}
+
+fn put_pread<S: Sink>(out: &mut Printer<'_, S>, fd: u32, count: u32, offset: i64)
+    requires { CanPrint S.failures out.old }
+    ensures { Prints S.written S.failures out.old out.new
+        (numbers_text (codes "pread ") fd count ++ codes " " ++ signed_decimal offset) }
+{
+    put_numbers(out, b"pread ", fd, count);
+    put_offset(out, offset);
 }
 
 fn put_write<S: Sink>(out: &mut Printer<'_, S>, fd: u32, bytes: &Bytes)
@@ -67,6 +86,17 @@ fn put_write<S: Sink>(out: &mut Printer<'_, S>, fd: u32, bytes: &Bytes)
     put_path(out, b" ", bytes);
 }
 
+fn put_pwrite<S: Sink>(out: &mut Printer<'_, S>, fd: u32, bytes: &Bytes, offset: i64)
+    requires { CanPrint S.failures out.old }
+    ensures { Prints S.written S.failures out.old out.new
+        (codes "pwrite " ++ decimal fd ++ codes " " ++ text_of bytes.now ++ codes " "
+        ++ signed_decimal offset) }
+{
+    out.put_number(b"pwrite ", fd);
+    put_path(out, b" ", bytes);
+    put_offset(out, offset);
+}
+
 fn put_lseek<S: Sink>(out: &mut Printer<'_, S>, fd: u32, offset: i64, whence: Whence)
     requires { CanPrint S.failures out.old }
     ensures { Prints S.written S.failures out.old out.new
@@ -74,10 +104,18 @@ fn put_lseek<S: Sink>(out: &mut Printer<'_, S>, fd: u32, offset: i64, whence: Wh
         ++ whence_text whence) }
 {
     out.put_number(b"lseek ", fd);
-    out.put(b" ");
-    out.put_signed(offset);
+    put_offset(out, offset);
     out.put(b" ");
     out.put(whence_text(whence));
+}
+
+fn put_truncate<S: Sink>(out: &mut Printer<'_, S>, path: &Bytes, size: u32)
+    requires { CanPrint S.failures out.old }
+    ensures { Prints S.written S.failures out.old out.new
+        (codes "truncate " ++ text_of path.now ++ codes " " ++ decimal size) }
+{
+    put_path(out, b"truncate ", path);
+    out.put_number(b" ", size);
 }
 
 fn put_call<S: Sink>(out: &mut Printer<'_, S>, call: &Call)
@@ -88,9 +126,12 @@ fn put_call<S: Sink>(out: &mut Printer<'_, S>, call: &Call)
         Call::Open(path, flags) => put_open(out, path, *flags),
         Call::Close(fd) => out.put_number(b"close ", fd.0),
         Call::Read(fd, count) => put_numbers(out, b"read ", fd.0, *count),
+        Call::Pread(fd, count, offset) => put_pread(out, fd.0, *count, *offset),
         Call::Write(fd, bytes) => put_write(out, fd.0, bytes),
+        Call::Pwrite(fd, bytes, offset) => put_pwrite(out, fd.0, bytes, *offset),
         Call::Lseek(fd, offset, whence) => put_lseek(out, fd.0, *offset, *whence),
         Call::Ftruncate(fd, size) => put_numbers(out, b"ftruncate ", fd.0, *size),
+        Call::Truncate(path, size) => put_truncate(out, path, *size),
         Call::Stat(path) => put_path(out, b"stat ", path),
         Call::Fstat(fd) => out.put_number(b"fstat ", fd.0),
         Call::Link(old, new) => put_paths(out, b"link ", old, new),
