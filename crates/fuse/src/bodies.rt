@@ -9,12 +9,12 @@ ghost use Rattle.fuse.specs.Bodies.{whence_of, where_set, write_in};
 ghost use Rattle.fuse.specs.Faults.{Reads};
 ghost use Rattle.fuse.specs.Numbers.{u32_at, u64_at};
 
-use crate::bytes::Bytes;
 use crate::fault::BodyFault;
 use crate::forgets::forgets_in;
 use crate::number::{u32_at, u64_at};
 use crate::request::{Changes, Operation, Time, TimeChange, Whence};
 use heap::Heap;
+use ids::Bytes;
 
 // ---- open files
 

@@ -6,7 +6,6 @@
 #![tactic(auto)]
 
 mod bodies;
-mod bytes;
 mod errno;
 mod fault;
 mod forgets;
@@ -22,10 +21,10 @@ mod reader;
 mod reply;
 mod request;
 
-pub use bytes::Bytes;
 pub use errno::{EINVAL, EIO, ENOMEM, ENOSYS, Errno};
 pub use fault::ParseFault;
 pub use forgets::{Forget, Forgets};
+pub use ids::Bytes;
 pub use laws::{bodies_have_their_lengths, length_is_told, names_are_told};
 pub use listing::{DirectoryEntry, Kind, Listing};
 pub use message::put_reply;

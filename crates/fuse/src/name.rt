@@ -5,9 +5,9 @@ ghost use Rattle.fuse.specs.Bodies.{behind};
 ghost use Rattle.fuse.specs.Faults.{Reads};
 ghost use Rattle.fuse.specs.Names.{first_name_in, is_name, name_in, names_in};
 
-use crate::bytes::Bytes;
 use crate::fault::BodyFault;
 use heap::Heap;
+use ids::Bytes;
 
 // Where the first zero byte stands.
 fn first_zero(bytes: &[u8]) -> Option<usize>

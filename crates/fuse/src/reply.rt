@@ -1,8 +1,8 @@
 // What is answered.
-use crate::bytes::Bytes;
 use crate::errno::Errno;
 use crate::listing::Listing;
 use crate::request::Time;
+use ids::Bytes;
 
 /// The version of the protocol before the point.
 pub const MAJOR: u32 = 7;

@@ -1,6 +1,6 @@
 // What a request asks.
-use crate::bytes::Bytes;
 use crate::forgets::Forgets;
+use ids::Bytes;
 
 /// A time.
 #[derive(Clone, Copy, Debug)]
