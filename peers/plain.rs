@@ -29,6 +29,7 @@ enum Errno {
     NotEmpty,
     NoEntry,
     NoProcess,
+    NoSeek,
     TooManyDescriptors,
     TooManyProcesses,
 }
@@ -42,8 +43,11 @@ enum Op {
     List(Vec<u8>),
     Open { path: Vec<u8>, creates: bool },
     Write(usize, Vec<u8>),
+    Pwrite(usize, Vec<u8>, usize),
     Read(usize, usize),
+    Pread(usize, usize, usize),
     Close(usize),
+    Truncate(Vec<u8>, usize),
     Rename(Vec<u8>, Vec<u8>),
     Unlink(Vec<u8>),
     Pipe,
@@ -114,6 +118,25 @@ fn first_name(rest: &[u8]) -> (&[u8], Option<&[u8]>) {
     }
 }
 
+/// Lays bytes into a file's, from a place on, and gives the place behind them.
+fn lay(bytes: &mut Vec<u8>, place: usize, added: &[u8]) -> Result<usize, Errno> {
+    let end = place + added.len();
+    if end > LARGEST_FILE {
+        return Err(Errno::FileTooBig);
+    }
+    if bytes.len() < end {
+        bytes.resize(end, 0);
+    }
+    bytes[place..end].copy_from_slice(added);
+    Ok(end)
+}
+
+/// So many of a file's bytes from a place on, or as many as there are.
+fn part(bytes: &[u8], place: usize, count: usize) -> &[u8] {
+    let start = place.min(bytes.len());
+    &bytes[start..(start + count).min(bytes.len())]
+}
+
 impl Kernel {
     fn new() -> Kernel {
         Kernel {
@@ -145,8 +168,13 @@ impl Kernel {
             Op::List(path) => self.list(path),
             Op::Open { path, creates } => self.open(process, path, *creates),
             Op::Write(descriptor, bytes) => self.write(process, *descriptor, bytes),
+            Op::Pwrite(descriptor, bytes, place) => {
+                self.pwrite(process, *descriptor, bytes, *place)
+            }
             Op::Read(descriptor, count) => self.read(process, *descriptor, *count),
+            Op::Pread(descriptor, count, place) => self.pread(process, *descriptor, *count, *place),
             Op::Close(descriptor) => self.close(process, *descriptor),
+            Op::Truncate(path, length) => self.truncate(path, *length),
             Op::Rename(old, new) => self.rename(old, new),
             Op::Unlink(path) => self.unlink(path),
             Op::Pipe => self.pipe(process),
@@ -316,15 +344,7 @@ impl Kernel {
         }
         match &mut self.inodes[description.inode] {
             Inode::File { bytes, .. } => {
-                let end = description.offset + added.len();
-                if end > LARGEST_FILE {
-                    return Err(Errno::FileTooBig);
-                }
-                if bytes.len() < end {
-                    bytes.resize(end, 0);
-                }
-                bytes[description.offset..end].copy_from_slice(added);
-                description.offset = end;
+                description.offset = lay(bytes, description.offset, added)?;
             }
             Inode::Pipe { bytes, readers, .. } => {
                 if *readers == 0 {
@@ -340,15 +360,30 @@ impl Kernel {
         Ok(Reply::Count(added.len()))
     }
 
+    fn pwrite(&mut self, process: usize, descriptor: usize, added: &[u8], place: usize) -> Answer {
+        let number = self.description(process, descriptor)?;
+        let description = &self.descriptions[number];
+        if !description.writes {
+            return Err(Errno::BadDescriptor);
+        }
+        match &mut self.inodes[description.inode] {
+            Inode::File { bytes, .. } => {
+                lay(bytes, place, added)?;
+                Ok(Reply::Count(added.len()))
+            }
+            Inode::Pipe { .. } => Err(Errno::NoSeek),
+            _ => Err(Errno::BadDescriptor),
+        }
+    }
+
     fn read(&mut self, process: usize, descriptor: usize, count: usize) -> Answer {
         let number = self.description(process, descriptor)?;
         let description = &mut self.descriptions[number];
         match &mut self.inodes[description.inode] {
             Inode::File { bytes, .. } => {
-                let start = description.offset.min(bytes.len());
-                let end = (start + count).min(bytes.len());
-                description.offset = end;
-                Ok(Reply::Bytes(bytes[start..end].to_vec()))
+                let found = part(bytes, description.offset, count);
+                description.offset += found.len();
+                Ok(Reply::Bytes(found.to_vec()))
             }
             Inode::Pipe { bytes, writers, .. } => {
                 if bytes.is_empty() && *writers > 0 {
@@ -359,6 +394,27 @@ impl Kernel {
             }
             _ => Err(Errno::BadDescriptor),
         }
+    }
+
+    fn pread(&mut self, process: usize, descriptor: usize, count: usize, place: usize) -> Answer {
+        let number = self.description(process, descriptor)?;
+        match &self.inodes[self.descriptions[number].inode] {
+            Inode::File { bytes, .. } => Ok(Reply::Bytes(part(bytes, place, count).to_vec())),
+            Inode::Pipe { .. } => Err(Errno::NoSeek),
+            _ => Err(Errno::BadDescriptor),
+        }
+    }
+
+    fn truncate(&mut self, path: &[u8], length: usize) -> Answer {
+        let number = self.find(path)?;
+        let Inode::File { bytes, .. } = &mut self.inodes[number] else {
+            return Err(Errno::IsDirectory);
+        };
+        if length > LARGEST_FILE {
+            return Err(Errno::FileTooBig);
+        }
+        bytes.resize(length, 0);
+        Ok(Reply::Done)
     }
 
     /// One descriptor less stands for the description.
@@ -537,6 +593,11 @@ fn read(kernel: &mut Kernel, number: u64) {
     step(kernel, 1, Op::Close(2));
 }
 
+/// Where the call of this number begins in the open file of 64 KiB.
+fn place_of(number: u64) -> usize {
+    number as usize % 1024 * 64
+}
+
 fn pass(kernel: &mut Kernel) {
     step(kernel, 1, Op::Write(1, vec![b'x'; 64]));
     step(kernel, 1, Op::Read(0, 64));
@@ -581,6 +642,20 @@ fn prepared() -> Kernel {
     kernel
 }
 
+/// The rows of one open file, which has 64 KiB.
+fn print_opened(kernel: &mut Kernel) {
+    step(kernel, 1, Op::Open { path: b"/o".to_vec(), creates: true });
+    step(kernel, 1, Op::Write(2, vec![b'x'; 65_536]));
+    old_names(kernel, "pwrite 64 bytes anywhere", 1000, |kernel, number| {
+        step(kernel, 1, Op::Pwrite(2, vec![b'x'; 64], place_of(number)));
+    });
+    old_names(kernel, "pread 64 bytes anywhere", 1000, |kernel, number| {
+        step(kernel, 1, Op::Pread(2, 64, place_of(number)));
+    });
+    step(kernel, 1, Op::Close(2));
+    step(kernel, 1, Op::Unlink(b"/o".to_vec()));
+}
+
 fn print_small() {
     let kernel = &mut prepared();
     for _ in 0..8 {
@@ -599,6 +674,9 @@ fn print_small() {
         });
         new_names(kernel, "create, write 64 bytes, close", 1000, create);
         old_names(kernel, "open, read 64 bytes, close", 1000, read);
+        old_names(kernel, "truncate of one file of 1000", 1000, |kernel, number| {
+            step(kernel, 1, Op::Truncate(path(b'f', number), 32));
+        });
         old_names(kernel, "rename", 1000, |kernel, number| {
             step(kernel, 1, Op::Rename(path(b'f', number), path(b'g', number)));
         });
@@ -607,6 +685,7 @@ fn print_small() {
         });
         old_names(kernel, "pipe, write and read 64 bytes", 1000, |kernel, _| pass(kernel));
         old_names(kernel, "fork and exit", 400, |kernel, _| fork(kernel));
+        print_opened(kernel);
     }
 }
 

@@ -24,6 +24,9 @@ CALLS = [
     "unlink",
     "create, write 64 bytes, close",
     "open, read 64 bytes, close",
+    "pwrite 64 bytes anywhere",
+    "pread 64 bytes anywhere",
+    "truncate of one file of 1000",
     "pipe, write and read 64 bytes",
     "fork and exit",
 ]
@@ -42,8 +45,11 @@ FILES = [
     for name in (
         "write 4 KiB at the end",
         "lseek, write 4 KiB anywhere",
+        "pwrite 4 KiB anywhere",
         "lseek, read 4 KiB anywhere",
+        "pread 4 KiB anywhere",
         "ftruncate by one byte",
+        "truncate by one byte",
         "ftruncate a gap to no byte",
     )
     for size in (1, 16, 256, 1024)

@@ -22,6 +22,7 @@
 
 static char content[64];
 static int pipe_ends[2];
+static int open_file;
 
 static void fail(const char *what)
 {
@@ -136,6 +137,30 @@ static void do_read(uint64_t number)
     close(file);
 }
 
+/* Where the call of this number begins in the open file of 64 KiB. */
+static off_t small_place_of(uint64_t number)
+{
+    return number % 1024 * sizeof content;
+}
+
+static void do_pwrite(uint64_t number)
+{
+    must(pwrite(open_file, content, sizeof content, small_place_of(number)), "pwrite");
+}
+
+static void do_pread(uint64_t number)
+{
+    char bytes[64];
+    must(pread(open_file, bytes, sizeof bytes, small_place_of(number)), "pread");
+}
+
+static void do_truncate(uint64_t number)
+{
+    char path[16];
+    set_path(path, 'f', number);
+    must(truncate(path, 32), "truncate");
+}
+
 static void do_rename(uint64_t number)
 {
     char old[16], new[16];
@@ -193,6 +218,29 @@ static void old_names(const char *row, uint64_t count, work *each)
     print_row(row, count, start);
 }
 
+static void make_file(void)
+{
+    open_file = open("file", O_RDWR | O_CREAT | O_TRUNC, 0644);
+    must(open_file, "open");
+}
+
+static void drop_file(void)
+{
+    close(open_file);
+    unlink("file");
+}
+
+/* The rows of one open file, which has 64 KiB. */
+static void opened(void)
+{
+    make_file();
+    for (int place = 0; place < 1024; place++)
+        must(write(open_file, content, sizeof content), "write");
+    old_names("pwrite 64 bytes anywhere", 1000, do_pwrite);
+    old_names("pread 64 bytes anywhere", 1000, do_pread);
+    drop_file();
+}
+
 static void small(void)
 {
     for (int repetition = 0; repetition < 8; repetition++) {
@@ -203,10 +251,12 @@ static void small(void)
         old_names("rmdir of 1000 names", 1000, do_rmdir);
         new_names("create, write 64 bytes, close", 1000, do_create);
         old_names("open, read 64 bytes, close", 1000, do_read);
+        old_names("truncate of one file of 1000", 1000, do_truncate);
         old_names("rename", 1000, do_rename);
         old_names("unlink", 1000, do_unlink);
         old_names("pipe, write and read 64 bytes", 1000, do_pipe);
         old_names("fork and exit", 100, do_fork);
+        opened();
     }
 }
 
@@ -234,7 +284,6 @@ static void largest(void)
 #define PIECE 4096
 
 static char piece[1 << 20];
-static int open_file;
 
 static void seek_to(off_t place)
 {
@@ -267,6 +316,12 @@ static void do_write_anywhere(uint32_t i, uint32_t size)
     write_piece(PIECE);
 }
 
+static void do_pwrite_anywhere(uint32_t i, uint32_t size)
+{
+    if (pwrite(open_file, piece, PIECE, place_of(i, size)) != PIECE)
+        fail("pwrite");
+}
+
 static void do_read_anywhere(uint32_t i, uint32_t size)
 {
     char bytes[PIECE];
@@ -275,9 +330,21 @@ static void do_read_anywhere(uint32_t i, uint32_t size)
         fail("read");
 }
 
+static void do_pread_anywhere(uint32_t i, uint32_t size)
+{
+    char bytes[PIECE];
+    if (pread(open_file, bytes, PIECE, place_of(i, size)) != PIECE)
+        fail("pread");
+}
+
 static void do_cut(uint32_t i, uint32_t size)
 {
     must(ftruncate(open_file, size - (1 - i % 2)), "ftruncate");
+}
+
+static void do_cut_by_path(uint32_t i, uint32_t size)
+{
+    must(truncate("file", size - (1 - i % 2)), "truncate");
 }
 
 static void file_row(const char *name, uint32_t mib, file_work *each)
@@ -309,18 +376,6 @@ static void emptied_row(uint32_t mib)
     }
 }
 
-static void make_file(void)
-{
-    open_file = open("file", O_RDWR | O_CREAT | O_TRUNC, 0644);
-    must(open_file, "open");
-}
-
-static void drop_file(void)
-{
-    close(open_file);
-    unlink("file");
-}
-
 static void files(void)
 {
     static const uint32_t sizes[] = { 1, 16, 256, 1024 };
@@ -331,8 +386,11 @@ static void files(void)
             write_piece(sizeof piece);
         file_row("write 4 KiB at the end", sizes[at], do_append);
         file_row("lseek, write 4 KiB anywhere", sizes[at], do_write_anywhere);
+        file_row("pwrite 4 KiB anywhere", sizes[at], do_pwrite_anywhere);
         file_row("lseek, read 4 KiB anywhere", sizes[at], do_read_anywhere);
+        file_row("pread 4 KiB anywhere", sizes[at], do_pread_anywhere);
         file_row("ftruncate by one byte", sizes[at], do_cut);
+        file_row("truncate by one byte", sizes[at], do_cut_by_path);
         emptied_row(sizes[at]);
         drop_file();
     }

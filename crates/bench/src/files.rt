@@ -6,8 +6,10 @@ use heap::Heap;
 use ids::{Bytes, Call, Fd, LARGEST_FILE, Limits, Op, OpenFlags, Priority, Whence};
 use machine::Machine;
 
-// The one open file.
+// The one open file, and its path.
 const FILE: Fd = Fd(0);
+
+static PATH: &str = "/f";
 
 // How many bytes a call moves.
 const PIECE: u32 = 4096;
@@ -27,17 +29,26 @@ enum Work {
     Append,
     // Goes anywhere and writes: two calls.
     Write,
+    // Writes anywhere: one call.
+    Pwrite,
     // Goes anywhere and reads: two calls.
     Read,
+    // Reads from anywhere: one call.
+    Pread,
     // Takes a byte at the end away, or adds one, by turns.
     Cut,
+    // Does the same by the file's path.
+    Truncate,
 }
 
-static WORKS: [(&str, Work); 4] = [
+static WORKS: [(&str, Work); 7] = [
     ("write 4 KiB at the end", Work::Append),
     ("lseek, write 4 KiB anywhere", Work::Write),
+    ("pwrite 4 KiB anywhere", Work::Pwrite),
     ("lseek, read 4 KiB anywhere", Work::Read),
+    ("pread 4 KiB anywhere", Work::Pread),
     ("ftruncate by one byte", Work::Cut),
+    ("truncate by one byte", Work::Truncate),
 ];
 
 fn call<K: Machine>(kernel: &mut K, call: Call) -> Result<()> {
@@ -52,6 +63,11 @@ fn seek<K: Machine>(kernel: &mut K, place: u32, whence: Whence) -> Result<()> {
 pub(crate) fn write<K: Machine>(kernel: &mut K, heap: Heap, count: u32) -> Result<()> {
     let bytes = Vec::from_elem(heap, b'x', count as usize)?;
     call(kernel, Call::Write(FILE, Bytes::new(bytes)))
+}
+
+fn pwrite<K: Machine>(kernel: &mut K, heap: Heap, place: u32) -> Result<()> {
+    let bytes = Bytes::new(Vec::from_elem(heap, b'x', PIECE as usize)?);
+    call(kernel, Call::Pwrite(FILE, bytes, i64::from(place)))
 }
 
 /// What was done is forgotten, so that no history grows.
@@ -69,6 +85,11 @@ fn place_of(i: u32, size: u32) -> u32 {
         .unwrap_or(0)
 }
 
+// How many bytes the i-th cut leaves of so many: all but one, or all, by turns.
+fn len_of(i: u32, size: u32) -> u32 {
+    size.saturating_sub(1 - i % 2)
+}
+
 // Does the work for the i-th time, on a file of so many bytes.
 fn do_work<K: Machine>(kernel: &mut K, heap: Heap, work: Work, i: u32, size: u32) -> Result<()> {
     match work {
@@ -77,13 +98,19 @@ fn do_work<K: Machine>(kernel: &mut K, heap: Heap, work: Work, i: u32, size: u32
             seek(kernel, place_of(i, size), Whence::Set)?;
             write(kernel, heap, PIECE)
         }
+        Work::Pwrite => pwrite(kernel, heap, place_of(i, size)),
         Work::Read => {
             seek(kernel, place_of(i, size), Whence::Set)?;
             call(kernel, Call::Read(FILE, PIECE))
         }
-        Work::Cut => {
-            let len = size.saturating_sub(1 - i % 2);
-            call(kernel, Call::Ftruncate(FILE, len))
+        Work::Pread => {
+            let place = i64::from(place_of(i, size));
+            call(kernel, Call::Pread(FILE, PIECE, place))
+        }
+        Work::Cut => call(kernel, Call::Ftruncate(FILE, len_of(i, size))),
+        Work::Truncate => {
+            let path = Bytes::copy(heap, PATH.as_bytes())?;
+            call(kernel, Call::Truncate(path, len_of(i, size)))
         }
     }
 }
@@ -219,7 +246,8 @@ fn open<K: Machine>(kernel: &mut K, heap: Heap) -> Result<()> {
     let flags = OpenFlags::READ
         .with(OpenFlags::WRITE)
         .with(OpenFlags::CREAT);
-    call(kernel, Call::Open(Bytes::copy(heap, b"/f")?, flags))
+    let path = Bytes::copy(heap, PATH.as_bytes())?;
+    call(kernel, Call::Open(path, flags))
 }
 
 // Fills the file.

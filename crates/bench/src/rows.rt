@@ -1,7 +1,7 @@
 // The rows of single calls, plain and in a transaction.
 use crate::clock::{Cost, Lap, print_cost};
 use crate::steps::{begin, end, kernel_of, prepare};
-use crate::work::{Work, do_often, make_between};
+use crate::work::{Work, close_file, do_often, make_between, open_file};
 use anyhow::Result;
 use heap::Heap;
 use machine::Machine;
@@ -14,7 +14,7 @@ struct Row {
 }
 
 // The rows of a directory with 1,000 names, in the order in which they are done.
-static ROWS: [Row; 10] = [
+static ROWS: [Row; 11] = [
     Row {
         name: "mkdir of 1000 names",
         work: Work::Mkdir,
@@ -51,6 +51,11 @@ static ROWS: [Row; 10] = [
         count: 1000,
     },
     Row {
+        name: "truncate of one file of 1000",
+        work: Work::Truncate,
+        count: 1000,
+    },
+    Row {
         name: "rename",
         work: Work::Rename,
         count: 1000,
@@ -73,6 +78,21 @@ static FORKS: [Row; 1] = [Row {
     work: Work::Fork,
     count: 400,
 }];
+
+// The rows of one file, which is opened before them and closed behind them, so that all other rows
+// have the pipe's two descriptors alone.
+static OPENED: [Row; 2] = [
+    Row {
+        name: "pwrite 64 bytes anywhere",
+        work: Work::Pwrite,
+        count: 1000,
+    },
+    Row {
+        name: "pread 64 bytes anywhere",
+        work: Work::Pread,
+        count: 1000,
+    },
+];
 
 // The rows of a directory with 100,000 names.
 static LARGE: [Row; 3] = [
@@ -139,6 +159,13 @@ fn print_within<K: Machine>(
     Ok(())
 }
 
+fn print_opened<K: Machine>(rt: &HostRuntime, kernel: &mut K, heap: Heap) -> Result<()> {
+    open_file(kernel, heap)?;
+    print_plain(rt, kernel, heap, &OPENED)?;
+    print_within(rt, kernel, heap, &OPENED)?;
+    close_file(kernel, heap)
+}
+
 // How often the rows of 1,000 names are done on one kernel.
 const REPETITIONS: u64 = 8;
 
@@ -148,6 +175,7 @@ fn print_small_on<K: Machine>(rt: &HostRuntime, kernel: &mut K, heap: Heap) -> R
         print_plain(rt, kernel, heap, &ROWS)?;
         print_plain(rt, kernel, heap, &FORKS)?;
         print_within(rt, kernel, heap, &ROWS)?;
+        print_opened(rt, kernel, heap)?;
     }
     Ok(())
 }

@@ -25,6 +25,12 @@ pub(crate) enum Work {
     Create,
     /// Opens a file, reads 64 bytes from it and closes it: three calls.
     Read,
+    /// Writes 64 bytes anywhere to the open file.
+    Pwrite,
+    /// Reads 64 bytes from anywhere in it.
+    Pread,
+    /// Cuts a file of 64 bytes to 32, by its path.
+    Truncate,
     /// Gives a file another name.
     Rename,
     /// Takes a file's name away.
@@ -41,6 +47,12 @@ const READER: Fd = Fd(0);
 const WRITER: Fd = Fd(1);
 
 const FILE: Fd = Fd(2);
+
+// How many places of 64 bytes the open file has.
+const PLACES: u64 = 1024;
+
+// To how many bytes a file of 64 is cut.
+const SHORTER: u32 = 32;
 
 fn call<K: Machine>(kernel: &mut K, call: Call) -> Result<()> {
     step(kernel, 1, Op::Call(call))
@@ -65,6 +77,16 @@ fn read<K: Machine>(kernel: &mut K, heap: Heap, number: u64) -> Result<()> {
     )?;
     call(kernel, Call::Read(FILE, 64))?;
     call(kernel, Call::Close(FILE))
+}
+
+// Where the call of this number begins in the open file.
+fn place_of(number: u64) -> i64 {
+    (number % PLACES) as i64 * 64
+}
+
+fn pwrite<K: Machine>(kernel: &mut K, heap: Heap, number: u64) -> Result<()> {
+    let bytes = Bytes::copy(heap, &[b'x'; 64])?;
+    call(kernel, Call::Pwrite(FILE, bytes, place_of(number)))
 }
 
 fn rename<K: Machine>(kernel: &mut K, heap: Heap, number: u64) -> Result<()> {
@@ -94,6 +116,9 @@ fn do_work<K: Machine>(kernel: &mut K, heap: Heap, work: Work, number: u64) -> R
         Work::List => call(kernel, Call::List(Bytes::copy(heap, b"/d")?)),
         Work::Create => create(kernel, heap, number),
         Work::Read => read(kernel, heap, number),
+        Work::Pwrite => pwrite(kernel, heap, number),
+        Work::Pread => call(kernel, Call::Pread(FILE, 64, place_of(number))),
+        Work::Truncate => call(kernel, Call::Truncate(path(heap, b'f', number)?, SHORTER)),
         Work::Rename => rename(kernel, heap, number),
         Work::Unlink => call(kernel, Call::Unlink(path(heap, b'g', number)?)),
         Work::Pipe => pass(kernel, heap),
@@ -120,6 +145,22 @@ pub(crate) fn do_often<K: Machine>(
         do_work(kernel, heap, work, number_of(work, i, count))?;
     }
     Ok(())
+}
+
+/// Makes the open file, `/o`, and writes 64 KiB to it.
+pub(crate) fn open_file<K: Machine>(kernel: &mut K, heap: Heap) -> Result<()> {
+    let flags = OpenFlags::READ
+        .with(OpenFlags::WRITE)
+        .with(OpenFlags::CREAT);
+    call(kernel, Call::Open(Bytes::copy(heap, b"/o")?, flags))?;
+    let bytes = Vec::from_elem(heap, b'x', 65_536)?;
+    call(kernel, Call::Write(FILE, Bytes::new(bytes)))
+}
+
+/// Closes the open file, and takes its name away.
+pub(crate) fn close_file<K: Machine>(kernel: &mut K, heap: Heap) -> Result<()> {
+    call(kernel, Call::Close(FILE))?;
+    call(kernel, Call::Unlink(Bytes::copy(heap, b"/o")?))
 }
 
 /// Makes the directories of the new names from one place up to another.

@@ -2,7 +2,7 @@
 //!
 //! `specs/WellFormed.antt` says which states a kernel can come to, `specs/CallLaws.antt` what
 //! holds of each call in them. This crate has no code: each function has an empty body, and its
-//! contract is a law, for all nineteen calls.
+//! contract is a law, for all calls.
 #![tactic(auto)]
 
 ghost use Rattle.call_laws.specs.CallLaws.{CallLaws};

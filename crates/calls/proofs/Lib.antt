@@ -3,4 +3,5 @@ pub mod Frees
 pub mod Blocks
 pub mod Ends
 pub mod Seeks
+pub mod Offsets
 pub mod Binds

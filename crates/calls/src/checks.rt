@@ -64,6 +64,18 @@ pub(crate) fn must_be_below(place: u32, bound: u32, errno: Errno) -> Result<(), 
     }
 }
 
+// The same of an offset that a call names.
+pub(crate) fn offset_must_be_below(offset: u64, bound: u32, errno: Errno) -> Result<(), Refusal>
+    ensures value { Tells (refuse_if (nat_le bound offset) errno) result }
+    ensures within { IfOk result (λ _. offset < bound) }
+{
+    if bound as u64 <= offset {
+        Err(Refusal::Errno(errno))
+    } else {
+        Ok(())
+    }
+}
+
 // A short text goes into a pipe whole.
 pub(crate) fn must_fit(fitting: u32, bytes: &Bytes) -> Result<(), Refusal>
     ensures { Tells

@@ -137,7 +137,12 @@ fn cut_if<L: Look>(
 }
 
 // A file's new length.
-fn cut_to<L: Look>(look: &L, file: Num, length: u32, reads: &mut Reads) -> Result<Edits, Refusal>
+pub(crate) fn cut_to<L: Look>(
+    look: &L,
+    file: Num,
+    length: u32,
+    reads: &mut Reads,
+) -> Result<Edits, Refusal>
     ensures { Comes (L.state look.now) (cut_to file length) reads.old result reads.new }
 {
     let size = size(look, file, reads)?;
@@ -184,7 +189,7 @@ pub(crate) fn read<L: Look>(
     }
 }
 
-fn no_bytes(reads: &Reads) -> Bytes
+pub(crate) fn no_bytes(reads: &Reads) -> Bytes
     ensures { result ≡ [] }
 {
     Bytes::new(Vec::new(reads.heap()))
@@ -224,7 +229,7 @@ fn read_some_file<L: Look>(
 }
 
 // How many of so many bytes one read moves.
-fn at_most_moved(count: u32) -> u32
+pub(crate) fn at_most_moved(count: u32) -> u32
     ensures { result ≡ min count most_moved }
 {
     count.min(MOST_MOVED as u32)
@@ -272,7 +277,7 @@ pub(crate) fn write<L: Look>(
     }
 }
 
-fn is_empty(bytes: &Bytes) -> bool
+pub(crate) fn is_empty(bytes: &Bytes) -> bool
     ensures { result ≡ is_empty bytes.now }
 {
     bytes.as_slice().is_empty()
@@ -318,7 +323,7 @@ fn write_file<L: Look>(
 }
 
 // How many bytes one write puts at a place of a file that may have so many.
-fn room(largest: u32, place: u32) -> u32
+pub(crate) fn room(largest: u32, place: u32) -> u32
     requires { place < largest }
     ensures is { result ≡ room largest place }
     ensures within { place + result ≤ largest }
@@ -346,7 +351,7 @@ fn put(
 }
 
 // The first bytes, so many at most.
-fn first_bytes(heap: Heap, bytes: &Bytes, count: u32) -> Result<Bytes, AllocError>
+pub(crate) fn first_bytes(heap: Heap, bytes: &Bytes, count: u32) -> Result<Bytes, AllocError>
     ensures { IfOk result (λ kept. kept ≡ take count bytes.now) }
 {
     let bytes = bytes.as_slice();

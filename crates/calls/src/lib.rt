@@ -6,6 +6,7 @@
 #![tactic(auto)]
 
 mod asking;
+mod at_offset;
 mod change;
 mod checks;
 mod descriptors;

@@ -5,12 +5,13 @@ ghost use Rattle.calls.specs.Parts.{file_named, link_paths, rename_paths, move_t
 ghost use Rattle.calls.specs.Parts.{gives, replaced};
 ghost use Rattle.model.specs.Changes.{Move};
 ghost use Rattle.model.specs.Plans.{plan, changed, unchanged, status, moved};
-ghost use Rattle.model.specs.Calls.{own, Done, Stated, Stat as Stat_path, Mkdir, Rmdir};
+ghost use Rattle.model.specs.Calls.{own, Done, Stated, Truncate, Stat as Stat_path, Mkdir, Rmdir};
 ghost use Rattle.model.specs.Calls.{List_directory, Link, Unlink, Rename};
 ghost use Rattle.look.specs.Asked.{Comes, Tells};
 
 use crate::asking::{has_no_names, links, names, size};
-use crate::change::{Change, changed_by, unchanged};
+use crate::change::{Change, changed, changed_by, unchanged};
+use crate::files::cut_to;
 use crate::steps::{
     absent, is_directory, is_same, must_be_directory_for, must_be_no_directory_for,
     must_not_be_directory, must_not_be_root, must_not_go_below, parsed, refuse_if,
@@ -97,6 +98,23 @@ fn last_at<L: Look>(
 {
     let path = parsed(reads.heap(), path)?;
     walk_to_last(look, of_root, &path, reads)
+}
+
+pub(crate) fn truncate<L: Look>(
+    look: &L,
+    path: &Bytes,
+    length: u32,
+    reads: &mut Reads,
+) -> Result<Change, Refusal>
+    ensures { (pid : ℕ) → Comes (L.state look.now)
+        (plan (own (L.state look.now) pid (Truncate path.now length)) (Truncate path.now length))
+        reads.old result reads.new }
+{
+    let place = place_at(look, path, reads)?;
+    must_not_be_directory(&place, Errno::EISDIR)?;
+    refuse_if(look.largest() < length, Errno::EFBIG)?;
+    let cut = cut_to(look, place.0, length, reads)?;
+    changed(Answer::Done, cut)
 }
 
 pub(crate) fn stat<L: Look>(look: &L, path: &Bytes, reads: &mut Reads) -> Result<Change, Refusal>

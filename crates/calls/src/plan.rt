@@ -6,12 +6,13 @@ ghost use Rattle.look.specs.Asked.{Comes};
 ghost use Rattle.calls.specs.Operations.{is_on_descriptors};
 ghost use Rattle.calls.specs.Planned.{IsPlan};
 
+use crate::at_offset::{pread, pwrite};
 use crate::change::Change;
 use crate::descriptors::{close, dup, dup2, exit, fork, fstat, pipe};
 use crate::files::{ftruncate, open, read, write};
 use crate::marks::mark_all;
 use crate::own::{Own, own_of, own_to_fork};
-use crate::paths::{link, list, mkdir, rename, rmdir, stat, unlink};
+use crate::paths::{link, list, mkdir, rename, rmdir, stat, truncate, unlink};
 use crate::seek::lseek;
 use heap::Heap;
 use ids::{Answer, Call, Edit, Errno, Pid, Refusal, Touch};
@@ -71,7 +72,9 @@ fn is_on_descriptors(call: &Call) -> bool
         Call::Open(_, _)
             | Call::Close(_)
             | Call::Read(_, _)
+            | Call::Pread(_, _, _)
             | Call::Write(_, _)
+            | Call::Pwrite(_, _, _)
             | Call::Lseek(_, _, _)
             | Call::Ftruncate(_, _)
             | Call::Fstat(_)
@@ -117,7 +120,9 @@ fn change_by_descriptors<L: Look>(
         Call::Open(path, flags) => open(look, own, path, *flags, reads),
         Call::Close(fd) => close(heap, own, *fd),
         Call::Read(fd, count) => read(look, own, *fd, *count, reads),
+        Call::Pread(fd, count, offset) => pread(look, own, *fd, *count, *offset, reads),
         Call::Write(fd, bytes) => write(look, own, *fd, bytes, reads),
+        Call::Pwrite(fd, bytes, offset) => pwrite(look, own, *fd, bytes, *offset, reads),
         Call::Lseek(fd, by, whence) => lseek(look, own, *fd, *by, *whence, reads),
         Call::Ftruncate(fd, length) => ftruncate(look, own, *fd, *length, reads),
         Call::Fstat(fd) => fstat(look, own, *fd, reads),
@@ -142,6 +147,7 @@ fn change_by_paths<L: Look>(
         (plan (own (L.state look.now) pid call.now) call.now) reads.old result reads.new }
 {
     match call {
+        Call::Truncate(path, length) => truncate(look, path, *length, reads),
         Call::Stat(path) => stat(look, path, reads),
         Call::Link(old, new) => link(look, old, new, reads),
         Call::Unlink(path) => unlink(look, path, reads),

@@ -6,16 +6,17 @@ use std::test::Fail;
 use std::thread::Threads;
 
 static SCRIPT: &str = "priorities 0\n1 open /a RDWR,CREAT\n1 write 0 sixsix\n1 write 0 x\n\
-    1 ftruncate 0 6\n";
+    1 ftruncate 0 6\n1 truncate /a 6\n1 pwrite 0 xyz 3\n1 pwrite 0 x 5\n";
 
 static JOBS: [Expected; 2] = [
     Expected {
-        list: Some("1,1,1,1"),
+        list: Some("1,1,1,1,1,1,1"),
         limit: 100,
         room: 1000,
         status: 0,
         out: "1 P1 open /a RDWR,CREAT -> 0\n2 P1 write 0 sixsix -> 5\n3 P1 write 0 x -> EFBIG\n\
-            4 P1 ftruncate 0 6 -> EFBIG\ncheck: ok\n",
+            4 P1 ftruncate 0 6 -> EFBIG\n5 P1 truncate /a 6 -> EFBIG\n\
+            6 P1 pwrite 0 xyz 3 -> 2\n7 P1 pwrite 0 x 5 -> EFBIG\ncheck: ok\n",
         err: "",
     },
     Expected {
@@ -24,7 +25,8 @@ static JOBS: [Expected; 2] = [
         room: 1000,
         status: 0,
         out: "1 P1 open /a RDWR,CREAT -> 0\n2 P1 write 0 sixsix -> 5\n3 P1 write 0 x -> EFBIG\n\
-            4 P1 ftruncate 0 6 -> EFBIG\ncheck: ok\n",
+            4 P1 ftruncate 0 6 -> EFBIG\n5 P1 truncate /a 6 -> EFBIG\n\
+            6 P1 pwrite 0 xyz 3 -> 2\n7 P1 pwrite 0 x 5 -> EFBIG\ncheck: ok\n",
         err: "",
     },
 ];

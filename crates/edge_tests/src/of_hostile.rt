@@ -78,7 +78,7 @@ static HEADS: [(&[u8], ScriptFault); 31] = [
 ];
 
 // Second lines of texts that are no scripts.
-static LINES: [(&[u8], ScriptFault); 60] = [
+static LINES: [(&[u8], ScriptFault); 80] = [
     (b" ", ScriptFault::ProcessExpected(2)),
     (b"0", ScriptFault::ProcessExpected(2)),
     (b"0 stat /", ScriptFault::ProcessExpected(2)),
@@ -142,6 +142,35 @@ static LINES: [(&[u8], ScriptFault); 60] = [
     (b"1 open /a", ScriptFault::BadArguments(2)),
     (b"1 fill 0 1 0", ScriptFault::BadArguments(2)),
     (b"1 fill 0 1048577 00", ScriptFault::BadArguments(2)),
+    (b"1 pread 0 1", ScriptFault::BadArguments(2)),
+    (b"1 pread 0 1 ", ScriptFault::BadArguments(2)),
+    (b"1 pread 0 1 +1", ScriptFault::BadArguments(2)),
+    (b"1 pread 0 1048577 0", ScriptFault::BadArguments(2)),
+    (
+        b"1 pread 0 1 9223372036854775808",
+        ScriptFault::BadArguments(2),
+    ),
+    (b"1 pwrite 0 x", ScriptFault::BadArguments(2)),
+    (b"1 pwrite 0 x --1", ScriptFault::BadArguments(2)),
+    (
+        b"1 pwrite 0 x -9223372036854775809",
+        ScriptFault::BadArguments(2),
+    ),
+    (b"1 pwrite 0 x\\ 0", ScriptFault::BadArguments(2)),
+    (b"1 pwrite 0 x 0x0", ScriptFault::BadArguments(2)),
+    (b"1 pfill 0 1 00", ScriptFault::BadArguments(2)),
+    (b"1 pfill 0 1 0 0", ScriptFault::BadArguments(2)),
+    (b"1 pfill 0 1 00 -", ScriptFault::BadArguments(2)),
+    (b"1 pfill 0 1048577 00 0", ScriptFault::BadArguments(2)),
+    (
+        b"1 pfill 0 1 00 18446744073709551616",
+        ScriptFault::BadArguments(2),
+    ),
+    (b"1 truncate /a", ScriptFault::BadArguments(2)),
+    (b"1 truncate /a ", ScriptFault::BadArguments(2)),
+    (b"1 truncate /a -1", ScriptFault::BadArguments(2)),
+    (b"1 truncate /a 4294967296", ScriptFault::BadArguments(2)),
+    (b"1 truncate /a\\ 0", ScriptFault::BadArguments(2)),
 ];
 
 // A text whose second line is this.
@@ -195,10 +224,14 @@ static ALL: &str = "priorities 0 7
 1 open /a RDWR,CREAT,EXCL,TRUNC,APPEND
 1 close 0
 1 read 0 10
+1 pread 0 10 -1
 1 write 0 a\\x00\\x5c
+1 pwrite 0 a\\x00\\x5c 9223372036854775807
 1 fill 0 3 7a
+1 pfill 0 3 7a 1024
 1 lseek 0 -1 END
 1 ftruncate 0 5
+1 truncate /a 5
 1 stat /
 1 fstat 0
 1 link /a /b

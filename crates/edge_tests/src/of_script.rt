@@ -114,7 +114,7 @@ fn is_op(alloc: Global, heap: Heap, words: &str, op: &str) -> bool {
     }
 }
 
-static OPERATIONS: [(&str, &str); 29] = [
+static OPERATIONS: [(&str, &str); 36] = [
     (
         "open /a -",
         "Call(Open(Bytes { bytes: [47, 97] }, OpenFlags(0)))",
@@ -125,11 +125,35 @@ static OPERATIONS: [(&str, &str); 29] = [
     ),
     ("close 4294967295", "Call(Close(Fd(4294967295)))"),
     ("read 0 1048576", "Call(Read(Fd(0), 1048576))"),
+    (
+        "pread 4294967295 1048576 -9223372036854775808",
+        "Call(Pread(Fd(4294967295), 1048576, -9223372036854775808))",
+    ),
+    (
+        "pread 0 0 9223372036854775807",
+        "Call(Pread(Fd(0), 0, 9223372036854775807))",
+    ),
     ("write 0 \\x0a", "Call(Write(Fd(0), Bytes { bytes: [10] }))"),
+    (
+        "pwrite 4294967295 \\x0a -9223372036854775808",
+        "Call(Pwrite(Fd(4294967295), Bytes { bytes: [10] }, -9223372036854775808))",
+    ),
+    (
+        "pwrite 0 \\e 9223372036854775807",
+        "Call(Pwrite(Fd(0), Bytes { bytes: [] }, 9223372036854775807))",
+    ),
     ("fill 0 0 00", "Call(Write(Fd(0), Bytes { bytes: [] }))"),
     (
         "fill 0 3 7a",
         "Call(Write(Fd(0), Bytes { bytes: [122, 122, 122] }))",
+    ),
+    (
+        "pfill 4294967295 0 00 -9223372036854775808",
+        "Call(Pwrite(Fd(4294967295), Bytes { bytes: [] }, -9223372036854775808))",
+    ),
+    (
+        "pfill 0 3 7a 9223372036854775807",
+        "Call(Pwrite(Fd(0), Bytes { bytes: [122, 122, 122] }, 9223372036854775807))",
     ),
     (
         "lseek 0 -9223372036854775808 SET",
@@ -144,6 +168,10 @@ static OPERATIONS: [(&str, &str); 29] = [
     (
         "ftruncate 0 4294967295",
         "Call(Ftruncate(Fd(0), 4294967295))",
+    ),
+    (
+        "truncate /a 4294967295",
+        "Call(Truncate(Bytes { bytes: [47, 97] }, 4294967295))",
     ),
     ("stat /", "Call(Stat(Bytes { bytes: [47] }))"),
     ("fstat 0", "Call(Fstat(Fd(0)))"),
@@ -171,11 +199,27 @@ static OPERATIONS: [(&str, &str); 29] = [
 ];
 
 // Operations with arguments that they do not take.
-static REFUSED: [&str; 25] = [
+static REFUSED: [&str; 53] = [
     "read 0 1048577",
     "read 00 1",
     "read +0 1",
     "read 4294967296 1",
+    "pread 4294967296 1 0",
+    "pread 0 1048577 0",
+    "pread 0 1 9223372036854775808",
+    "pread 0 1 -9223372036854775809",
+    "pread 0 1 -0",
+    "pread 0 -1 0",
+    "pread 0 1",
+    "pread 0 1 0 0",
+    "pwrite 4294967296 x 0",
+    "pwrite 0 x 9223372036854775808",
+    "pwrite 0 x -9223372036854775809",
+    "pwrite 0 x -0",
+    "pwrite 0 a\\x0 0",
+    "pwrite 0  0",
+    "pwrite 0 x",
+    "pwrite 0 x 0 0",
     "lseek 0 -0 SET",
     "lseek 0 9223372036854775808 SET",
     "lseek 0 -9223372036854775809 SET",
@@ -187,7 +231,19 @@ static REFUSED: [&str; 25] = [
     "fill 0 3 FF",
     "fill 0 3 f",
     "fill 0 1048577 ff",
+    "pfill 4294967296 3 7a 0",
+    "pfill 0 1048577 7a 0",
+    "pfill 0 3 FF 0",
+    "pfill 0 3 f 0",
+    "pfill 0 3 7a 9223372036854775808",
+    "pfill 0 3 7a -9223372036854775809",
+    "pfill 0 3 7a -0",
+    "pfill 0 3 7a",
+    "pfill 0 3 7a 0 0",
     "ftruncate 0 4294967296",
+    "truncate /a 4294967296",
+    "truncate /a",
+    "truncate /a 0 0",
     "dup2 0",
     "link /a",
     "link /a /b /c",

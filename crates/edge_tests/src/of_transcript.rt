@@ -36,11 +36,21 @@ static SCRIPT: &str = "priorities 0
 3 fork
 3 exit
 3 fstat 2
+3 truncate /\\x20 4294967295
+3 pread 4294967295 1048576 -9223372036854775808
+3 pwrite 1 a\\x0a -17
+3 pfill 0 3 7a 1024
+3 ftruncate 5 0
+3 close 63
+3 unlink /a
+3 rename /a /
+3 rmdir /a
+3 dup 4
 3 end
 3 end
 3 end
 3 read 0 5
-3 read 0 5
+3 pread 0 5 9223372036854775807
 3 list /a
 4096 end
 ";
@@ -68,13 +78,23 @@ static TRANSCRIPT: &str = "1 P1 begin -> begun
 20 P3 fork -> child 4
 21 P3 exit -> NotInTransaction
 22 P3 fstat 2 -> pipe size 7 links 0
-23 P3 end -> busy names read by P9
-24 P3 end -> busy front write by P9
-25 P3 end -> aborted block 1023 read by P9 restarted
-26 P3 read 0 5 -> 2 a\\x0a
-27 P3 read 0 5 -> 0 \\e
-28 P3 list /a -> names 2 a b\\x20c
-29 P4096 end -> busy entry a write by P9 dooms P1,P4096
+23 P3 truncate /\\x20 4294967295 -> EISDIR
+24 P3 pread 4294967295 1048576 -9223372036854775808 -> EBADF
+25 P3 pwrite 1 a\\x0a -17 -> EINVAL
+26 P3 pwrite 0 zzz 1024 -> 3
+27 P3 ftruncate 5 0 -> EBADF
+28 P3 close 63 -> ok
+29 P3 unlink /a -> EPERM
+30 P3 rename /a / -> EBUSY
+31 P3 rmdir /a -> ENOTEMPTY
+32 P3 dup 4 -> 6
+33 P3 end -> busy names read by P9
+34 P3 end -> busy front write by P9
+35 P3 end -> aborted block 1023 read by P9 restarted
+36 P3 read 0 5 -> 2 a\\x0a
+37 P3 pread 0 5 9223372036854775807 -> 0 \\e
+38 P3 list /a -> names 2 a b\\x20c
+39 P4096 end -> busy entry a write by P9 dooms P1,P4096
 ";
 
 fn stat(kind: Kind, size: u32, links: u32) -> Reply {
@@ -94,7 +114,7 @@ fn cause(aspect: Aspect, write: bool) -> Cause {
 }
 
 // The replies that hold no memory.
-fn plain_replies() -> [Reply; 25] {
+fn plain_replies() -> [Reply; 35] {
     [
         Reply::Begun,
         Reply::Answer(Answer::Done),
@@ -121,6 +141,16 @@ fn plain_replies() -> [Reply; 25] {
         Reply::Answer(Answer::Child(Pid(4))),
         Reply::NotInTransaction,
         stat(Kind::Pipe, 7, 0),
+        Reply::Errno(Errno::EISDIR),
+        Reply::Errno(Errno::EBADF),
+        Reply::Errno(Errno::EINVAL),
+        Reply::Answer(Answer::Count(3)),
+        Reply::Errno(Errno::EBADF),
+        Reply::Answer(Answer::Done),
+        Reply::Errno(Errno::EPERM),
+        Reply::Errno(Errno::EBUSY),
+        Reply::Errno(Errno::ENOTEMPTY),
+        Reply::Answer(Answer::Fd(Fd(6))),
         Reply::Busy(cause(Aspect::Names(Num(1)), false)),
         Reply::Busy(cause(Aspect::Front(Num(1)), true)),
         Reply::Aborted {

@@ -6,9 +6,9 @@ use Rattle.model.specs.Plan.{Errno, EAGAIN, EBADF, EBUSY, EEXIST, EFBIG, EINVAL,
 use Rattle.model.specs.Paths.{is_empty, is_below}
 use Rattle.model.specs.Walks.{Last, Place, parsed, walk, last_of, is_directory}
 use Rattle.model.specs.Changes.{Edit, Unname_file, Unname_directory, Move, Share_slot, Clear_slot, End_process, Make_directory, Make_file, Name_file, Put_bytes, Cut, Take, Append, Set_offset, Open_inode, Make_pipe, New_process}
-use Rattle.model.specs.Calls.{Call, Open, Close, Read, Write, Lseek, Ftruncate, Stat, Fstat, Link, Unlink, Rename, Mkdir, Rmdir, List_directory, Dup, Dup2, Open_pipe, Fork, Exit, OpenFlags, Slot, Own, own}
+use Rattle.model.specs.Calls.{Call, Open, Close, Read, Pread, Write, Pwrite, Lseek, Ftruncate, Truncate, Stat, Fstat, Link, Unlink, Rename, Mkdir, Rmdir, List_directory, Dup, Dup2, Open_pipe, Fork, Exit, OpenFlags, Slot, Own, own}
 use Rattle.ids.specs.Flags.{is_reading, is_writing, is_creating, is_exclusive, is_truncating}
-use Rattle.model.specs.Plans.{Change, is_pipe, most_moved, status, slot, opened, cut_to, read_pipe, read_some, place_to_write, write_some, sought, base, replaced_by_name, moved, absent, duplicated, piped, forked, first_of_free, free, plan}
+use Rattle.model.specs.Plans.{Change, is_pipe, most_moved, status, slot, opened, cut_to, read_pipe, read_some, place_to_write, write_some, offset_named, sought, base, replaced_by_name, moved, absent, duplicated, piped, forked, first_of_free, free, plan}
 use Rattle.model.specs.Steps.{edits, edits_of, outcome}
 use Rattle.call_laws.proofs.Laws.{after_bind, whatever, weaken, either_given}
 use Rattle.freeing_laws.specs.Sweep.{nothing, lost_by, loses}
@@ -107,9 +107,13 @@ module _ (k : Kernel) where
       pass (last_of me.root (if is_creating flags && is_exclusive flags then EEXIST else EISDIR) names) _ (λ at. opened_fine me flags f at at.found))))))
   plan_fine me (Close f) = pass (slot me f) _ (λ _. tt)
   plan_fine me (Read f count) = pass (slot me f) _ (λ it. pass (refuse_if (not it.reading) EBADF) _ (λ _. either_given k Fine (count == 0) _ _ (λ _. tt) (λ _. read_fine it count)))
+  plan_fine me (Pread f count offset) = pass (slot me f) _ (λ it. pass (refuse_if (not it.reading) EBADF) _ (λ _. pass (refuse_if (is_pipe it.kind) ESPIPE) _ (λ _. pass (or_refuse EINVAL (offset_named offset)) _ (λ at. either_given k Fine (count == 0) _ _ (λ _. tt) (λ _. tt)))))
   plan_fine me (Write f bytes) = pass (slot me f) _ (λ it. pass (refuse_if (not it.writing) EBADF) _ (λ _. either_given k Fine (is_empty bytes) _ _ (λ _. tt) (λ _. write_fine me.largest it bytes)))
+  plan_fine me (Pwrite f bytes offset) = pass (slot me f) _ (λ it. pass (refuse_if (not it.writing) EBADF) _ (λ _. pass (refuse_if (is_pipe it.kind) ESPIPE) _ (λ _. pass (or_refuse EINVAL (offset_named offset)) _ (λ at. either_given k Fine (is_empty bytes) _ _ (λ _. tt) (λ _.
+      pass (refuse_if (nat_le me.largest at) EFBIG) _ (λ _. tt))))))
   plan_fine me (Lseek f move whence) = pass (slot me f) _ (λ it. pass (refuse_if (is_pipe it.kind) ESPIPE) _ (λ _. pass (base it whence) _ (λ place. sought_fine me.largest it (pos place +ℤ move))))
   plan_fine me (Ftruncate f len) = pass (slot me f) _ (λ it. pass (refuse_if (not it.writing) EBADF) _ (λ _. pass (refuse_if (is_pipe it.kind) EINVAL) _ (λ _. pass (refuse_if (nat_lt me.largest len) EFBIG) _ (λ _. tt))))
+  plan_fine me (Truncate path len) = pass (parsed path) _ (λ names. pass (walk (me.root, Some A_directory) names) _ (λ place. pass (refuse_if (is_directory place) EISDIR) _ (λ _. pass (refuse_if (nat_lt me.largest len) EFBIG) _ (λ _. tt))))
   plan_fine me (Stat path) = pass (parsed path) _ (λ names. pass (walk (me.root, Some A_directory) names) _ (λ place. status_fine place))
   plan_fine me (Fstat f) = pass (slot me f) _ (λ it. status_fine (it.inode, it.kind))
   plan_fine me (Link old path) = pass (parsed old) _ (λ from. pass (parsed path) _ (λ to. pass (walk (me.root, Some A_directory) from) _ (λ what. pass (refuse_if (is_directory what) EPERM) _ (λ _. pass (last_of me.root EEXIST to) _ (λ at. pass (absent at.found) _ (λ _. tt))))))

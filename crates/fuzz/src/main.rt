@@ -4,12 +4,13 @@
 //!
 //! COUNT scripts are made from the seed, of 1 to 6 processes whose operations are all that there
 //! are, over few names, each with a schedule of its lines. Each of them is run as the program runs
-//! it, and its history has to pass the check; it is run under a limit, and each step has to find
-//! its place just where one is left; each request for memory of each of its steps is refused, and
-//! what gets through has to come to what it comes to where nothing is refused. Then it is changed a
-//! little, and has to run and pass the check, or to have a fault, and that the first. Of one script
-//! each beginning is tried. Where something is not so, the script is printed, and the status is 1.
-//! How often memory was refused goes to standard error.
+//! it, and its history has to pass the check; its transcript, read back as a script, has to come to
+//! itself; it is run under a limit, and each step has to find its place just where one is left;
+//! each request for memory of each of its steps is refused, and what gets through has to come to
+//! what it comes to where nothing is refused. Then it is changed a little, and has to run and pass
+//! the check, or to have a fault, and that the first. Of one script each beginning is tried. Where
+//! something is not so, the script is printed, and the status is 1. It is 1 too where 1,000 scripts
+//! or more never got an answer of some call. How often memory was refused goes to standard error.
 #![tactic(auto)]
 
 mod cases;
@@ -22,6 +23,7 @@ mod refused;
 mod report;
 mod runs;
 mod tally;
+mod told;
 mod trials;
 
 use crate::cases::{Case, case_of};
@@ -38,6 +40,9 @@ use machine::Machine;
 use std::alloc::AllocError;
 use std::process::ExitCode;
 use std::{env, io};
+
+// From so many scripts on, each call has to be answered at least once.
+const ENOUGH: u64 = 1000;
 
 fn main(rt: HostRuntime) -> ExitCode {
     match run::<Kernel>(&rt) {
@@ -81,6 +86,10 @@ fn try_all<K: Machine>(rt: &HostRuntime, seed: u64, count: u64) -> io::Result<bo
         }
     }
     print_tally(rt, &trials.tally, count)?;
+    if count >= ENOUGH && !trials.tally.has_each_call() {
+        println!(rt; "There is a call that was never answered.")?;
+        return Ok(false);
+    }
     Ok(true)
 }
 

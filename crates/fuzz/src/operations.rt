@@ -23,7 +23,7 @@ enum Kind {
 // them.
 type Form = (u64, &'static str, &'static [Kind]);
 
-static FORMS: [Form; 27] = [
+static FORMS: [Form; 31] = [
     (3, "begin", &[]),
     (3, "begin RESTART", &[]),
     (1, "begin ABORT_UNSUPPORTED", &[]),
@@ -34,10 +34,18 @@ static FORMS: [Form; 27] = [
     (6, "open", &[Kind::Path, Kind::Flags]),
     (2, "close", &[Kind::Descriptor]),
     (4, "read", &[Kind::Descriptor, Kind::Count]),
+    (3, "pread", &[Kind::Descriptor, Kind::Count, Kind::Offset]),
     (4, "write", &[Kind::Descriptor, Kind::Text]),
+    (3, "pwrite", &[Kind::Descriptor, Kind::Text, Kind::Offset]),
     (2, "fill", &[Kind::Descriptor, Kind::FillCount, Kind::Byte]),
+    (
+        1,
+        "pfill",
+        &[Kind::Descriptor, Kind::FillCount, Kind::Byte, Kind::Offset],
+    ),
     (3, "lseek", &[Kind::Descriptor, Kind::Offset, Kind::Whence]),
     (2, "ftruncate", &[Kind::Descriptor, Kind::Length]),
+    (2, "truncate", &[Kind::Path, Kind::Length]),
     (3, "stat", &[Kind::Path]),
     (2, "fstat", &[Kind::Descriptor]),
     (3, "link", &[Kind::Path, Kind::Path]),
@@ -54,7 +62,7 @@ static FORMS: [Form; 27] = [
 ];
 
 // The sum of the shares.
-const SHARES: u64 = 73;
+const SHARES: u64 = 82;
 
 static PATHS: [&str; 32] = [
     "/", "/a", "/a", "/a", "/a", "/a", "/a", "/b", "/b", "/b", "/b", "/b", "/f", "/f", "/f", "/f",
@@ -101,11 +109,13 @@ static TEXTS: [&str; 7] = ["x", "hi", "abcde", "\\e", "pq\\x00r", "\\xff", "z"];
 
 static BYTES: [&str; 3] = ["78", "00", "ff"];
 
-static OFFSETS: [&str; 16] = [
+static OFFSETS: [&str; 22] = [
     "0",
     "0",
     "0",
     "0",
+    "0",
+    "1",
     "1",
     "2",
     "3",
@@ -114,9 +124,13 @@ static OFFSETS: [&str; 16] = [
     "511",
     "1023",
     "1024",
+    "1025",
     "2047",
     "1048575",
+    "1048576",
     "1048577",
+    "4294967296",
+    "9223372036854775807",
     "-9223372036854775808",
 ];
 

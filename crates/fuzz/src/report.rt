@@ -2,7 +2,7 @@
 use crate::cases::Case;
 use crate::difference::Difference;
 use crate::runs::text_of;
-use crate::tally::{FAULTS, REPLIES, Tally};
+use crate::tally::{CALLS, FAULTS, REPLIES, Tally};
 use device::{Counted, write_all};
 use std::io;
 
@@ -19,6 +19,8 @@ pub(crate) fn print_tally(rt: &HostRuntime, tally: &Tally, count: u64) -> io::Re
     let steps = tally.steps;
     println!(rt; "{count} scripts pass the check. Under a limit, of {steps} replies:")?;
     print_counts(rt, &REPLIES, &tally.replies)?;
+    println!(rt; "The answers, by their calls:")?;
+    print_counts(rt, &CALLS, &tally.calls)?;
     let dooms = tally.dooms;
     let restarts = tally.restarts;
     println!(rt; "{dooms} transactions were doomed, and {restarts} begun anew")?;

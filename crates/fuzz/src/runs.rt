@@ -5,6 +5,7 @@ use crate::cases::Case;
 use crate::difference::{Difference, require};
 use crate::places::{Expected, Places, is_marked, restarted};
 use crate::tally::Tally;
+use crate::told::try_told;
 use crate::trials::Trials;
 use device::{Halting, Portions};
 use heap::Heap;
@@ -185,9 +186,15 @@ fn count(tally: &mut Tally, entries: &[Entry], reply: &Reply) {
     if restarted(reply) == Some(true) {
         tally.restarts = tally.restarts.wrapping_add(1);
     }
-    if let Some(entry) = entries.last() {
+    // A step that has found no place has left no entry: the last one is of a step before.
+    if !matches!(reply, Reply::HistoryFull)
+        && let Some(entry) = entries.last()
+    {
         let doomed = entry.doomed.as_slice().len() as u64;
         tally.dooms = tally.dooms.wrapping_add(doomed);
+        if let (Op::Call(call), Reply::Answer(_)) = (&entry.op, reply) {
+            tally.add_answered(call);
+        }
     }
 }
 
@@ -279,7 +286,8 @@ pub(crate) fn is_same(one: &[u8], other: &[u8]) -> Result<(), Difference> {
     require(one == other, Difference::Transcript)
 }
 
-// A script ends well as the program runs it, and its transcript is that of its steps.
+// A script ends well as the program runs it, and its transcript is that of its steps, and tells
+// them as a script does.
 pub(crate) fn try_whole<K: Machine>(
     heap: Heap,
     case: &Case,
@@ -290,7 +298,8 @@ pub(crate) fn try_whole<K: Machine>(
     };
     let steps = copy_of(heap, plan.steps.as_slice())?;
     let other = run_at_once::<K>(heap, plan.priorities.as_slice(), AMPLE, steps)?;
-    is_same(whole.as_slice(), other.as_slice())
+    is_same(whole.as_slice(), other.as_slice())?;
+    try_told::<K>(heap, case, whole.as_slice())
 }
 
 // Under a limit each step finds its place just where one is left, one by one and at once.

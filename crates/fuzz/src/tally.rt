@@ -1,5 +1,7 @@
 // What has come up in all runs.
-use ids::Reply;
+ghost use Rattle.std.specs.Prelude.{◌<◌};
+
+use ids::{Call, Reply};
 use script::{ScheduleFault, ScriptFault};
 
 // The kinds of replies, the refusals first in the order of their numbers.
@@ -53,6 +55,65 @@ fn kind_of(reply: &Reply) -> usize {
     }
 }
 
+// How many calls there are.
+const CALL_COUNT: usize = 22;
+
+// The calls, in the order of their places.
+pub(crate) static CALLS: [&str; CALL_COUNT] = [
+    "open",
+    "close",
+    "read",
+    "pread",
+    "write",
+    "pwrite",
+    "lseek",
+    "ftruncate",
+    "truncate",
+    "stat",
+    "fstat",
+    "link",
+    "unlink",
+    "rename",
+    "mkdir",
+    "rmdir",
+    "list",
+    "dup",
+    "dup2",
+    "pipe",
+    "fork",
+    "exit",
+];
+
+// The place of a call. Each has one, so that a call that no script makes is noticed.
+fn place_of(call: &Call) -> usize
+    ensures { result < CALL_COUNT }
+{
+    match call {
+        Call::Open(_, _) => 0,
+        Call::Close(_) => 1,
+        Call::Read(_, _) => 2,
+        Call::Pread(_, _, _) => 3,
+        Call::Write(_, _) => 4,
+        Call::Pwrite(_, _, _) => 5,
+        Call::Lseek(_, _, _) => 6,
+        Call::Ftruncate(_, _) => 7,
+        Call::Truncate(_, _) => 8,
+        Call::Stat(_) => 9,
+        Call::Fstat(_) => 10,
+        Call::Link(_, _) => 11,
+        Call::Unlink(_) => 12,
+        Call::Rename(_, _) => 13,
+        Call::Mkdir(_) => 14,
+        Call::Rmdir(_) => 15,
+        Call::List(_) => 16,
+        Call::Dup(_) => 17,
+        Call::Dup2(_, _) => 18,
+        Call::Pipe => 19,
+        Call::Fork => 20,
+        Call::Exit => 21,
+    }
+}
+
 // The kinds of faults that a text or a list can have.
 pub(crate) static FAULTS: [&str; 8] = [
     "script too long",
@@ -76,6 +137,8 @@ pub(crate) struct Tally {
     pub(crate) left_out: u64,
     pub(crate) read: u64,
     pub(crate) replies: [u64; 27],
+    // How often each call was answered, by its place.
+    pub(crate) calls: [u64; CALL_COUNT],
     pub(crate) faults: [u64; 8],
 }
 
@@ -96,6 +159,7 @@ impl Tally {
             left_out: 0,
             read: 0,
             replies: [0; 27],
+            calls: [0; CALL_COUNT],
             faults: [0; 8],
         }
     }
@@ -103,6 +167,16 @@ impl Tally {
     pub(crate) fn add_reply(&mut self, reply: &Reply) {
         self.steps = self.steps.wrapping_add(1);
         count_one(self.replies.as_mut_slice(), kind_of(reply));
+    }
+
+    // Counts a call that was answered.
+    pub(crate) fn add_answered(&mut self, call: &Call) {
+        count_one(self.calls.as_mut_slice(), place_of(call));
+    }
+
+    // Whether each call was answered at least once.
+    pub(crate) fn has_each_call(&self) -> bool {
+        !self.calls.as_slice().contains(&0)
     }
 
     pub(crate) fn add_script_fault(&mut self, fault: ScriptFault) {

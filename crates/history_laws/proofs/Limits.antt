@@ -9,8 +9,8 @@ use Rattle.model.specs.Paths.{is_empty, is_below}
 use Rattle.model.specs.Walks.{Place, parsed, walk, is_directory, Last, last_of}
 use Rattle.model.specs.Changes.{Mode, There, Made, Edit, Make_directory, Make_file, Name_file, Unname_file, Unname_directory, Move, Put_bytes, Cut, Take, Append, Set_offset, Open_inode, Make_pipe, Share_slot, Clear_slot, New_process, End_process, number, applied, all_applied, set_inode, clear_name, set_description, set_offset, at_offset, at_start, open_at, to_read, to_write, written, sized, is_held, tidy}
 use Rattle.ids.specs.Flags.{is_reading, is_writing, is_creating, is_exclusive, is_truncating}
-use Rattle.model.specs.Calls.{OpenFlags, Call, Open, Close, Read, Write, Lseek, Ftruncate, Stat, Fstat, Link, Unlink, Rename, Mkdir, Rmdir, List_directory, Dup, Dup2, Open_pipe, Fork, Exit, Answer, Done, Descriptor, Count, New_place, Bytes, Slot, Own, own}
-use Rattle.model.specs.Plans.{Change, changed, unchanged, absent, status, slot, is_pipe, read_pipe, read_some, place_to_write, write_some, most_moved, room, base, sought, replaced_by_name, moved, free, first_of_free, duplicated, piped, opened, mode, cut_to}
+use Rattle.model.specs.Calls.{OpenFlags, Call, Open, Close, Read, Pread, Write, Pwrite, Lseek, Ftruncate, Truncate, Stat, Fstat, Link, Unlink, Rename, Mkdir, Rmdir, List_directory, Dup, Dup2, Open_pipe, Fork, Exit, Answer, Done, Descriptor, Count, New_place, Bytes, Slot, Own, own}
+use Rattle.model.specs.Plans.{Change, changed, unchanged, absent, status, slot, is_pipe, read_pipe, read_some, place_to_write, write_some, most_moved, room, offset_named, read_from, write_from, base, sought, replaced_by_name, moved, free, first_of_free, duplicated, piped, opened, mode, cut_to}
 use Rattle.model.specs.Steps.{outcome, edits, edits_of, Step, Item, Run}
 use Rattle.model.specs.Moments.{Setup, start, after}
 use Rattle.call_laws.proofs.Laws.{the_largest_file_stays, get_retained, reached, get_tidy, write_pipe, put_at, after_bind, whatever, allowed, either_given}
@@ -219,6 +219,13 @@ module _ (k : Kernel) (w : IsWithinLimits k) (chosen : List ℕ) where
       allowed k Fine (answer k (Fit s.inode (length bytes)) == 0) EAGAIN _ (λ _. (append_within s.inode bytes, tt)))))
       (λ _. after_bind k Fine (place_to_write s s.appending) (put_at k.largest s bytes) (whatever (given k (place_to_write s s.appending)) (put_within s bytes)))
 
+  write_from_within : (n offset : ℕ) (bytes : List ℕ) → IfOk (given k (write_from k.largest n offset bytes)) Fine
+  unfolding applied
+  write_from_within n offset bytes = allowed k Fine (nat_le k.largest offset) EFBIG _ (λ low.
+      let below : offset < k.largest = leb-false k.largest offset low in
+      let fits : offset + length (take (room k.largest offset) bytes) ≤ k.largest = omega (arith, length-take (room k.largest offset) bytes) in
+      (fits, tt))
+
   sought_within : (s : Slot) (to : ℤ) → IfOk (given k (sought k.largest s to)) Fine
   sought_within s (pos place) = allowed k Fine (nat_lt k.largest place) EINVAL (changed (New_place place) (Set_offset s.description place ∷ [])) (λ low. (ltb-false k.largest place low, tt))
   sought_within s (negsuc place) = tt
@@ -261,9 +268,19 @@ module _ (k : Kernel) (w : IsWithinLimits k) (chosen : List ℕ) where
   call_within pid (Read f count) = goes_on (slot (own k pid (Read f count)) f) _ (λ s.
       allowed k Fine (not s.reading) EBADF _ (λ _.
       either_given k Fine (count == 0) (unchanged (Bytes [])) (read_some s count) (λ _. tt) (λ _. read_within s count)))
+  call_within pid (Pread f count offset) = goes_on (slot (own k pid (Pread f count offset)) f) _ (λ s.
+      allowed k Fine (not s.reading) EBADF _ (λ _.
+      allowed k Fine (is_pipe s.kind) ESPIPE _ (λ _.
+      goes_on (or_refuse EINVAL (offset_named offset)) _ (λ at.
+      either_given k Fine (count == 0) (unchanged (Bytes [])) (read_from s.inode at count) (λ _. tt) (λ _. tt)))))
   call_within pid (Write f bytes) = goes_on (slot (own k pid (Write f bytes)) f) _ (λ s.
       allowed k Fine (not s.writing) EBADF _ (λ _.
       either_given k Fine (is_empty bytes) (unchanged (Count 0)) (write_some k.largest s bytes) (λ _. tt) (λ _. write_within s bytes)))
+  call_within pid (Pwrite f bytes offset) = goes_on (slot (own k pid (Pwrite f bytes offset)) f) _ (λ s.
+      allowed k Fine (not s.writing) EBADF _ (λ _.
+      allowed k Fine (is_pipe s.kind) ESPIPE _ (λ _.
+      goes_on (or_refuse EINVAL (offset_named offset)) _ (λ at.
+      either_given k Fine (is_empty bytes) (unchanged (Count 0)) (write_from k.largest s.inode at bytes) (λ _. tt) (λ _. write_from_within s.inode at bytes)))))
   call_within pid (Lseek f move whence) = goes_on (slot (own k pid (Lseek f move whence)) f) _ (λ s.
       allowed k Fine (is_pipe s.kind) ESPIPE _ (λ _.
       goes_on (base s whence) _ (λ place. sought_within s (pos place +ℤ move))))
@@ -271,6 +288,11 @@ module _ (k : Kernel) (w : IsWithinLimits k) (chosen : List ℕ) where
       allowed k Fine (not s.writing) EBADF _ (λ _.
       allowed k Fine (is_pipe s.kind) EINVAL _ (λ _.
       allowed k Fine (nat_lt k.largest len) EFBIG (cut_to s.inode len >>= (λ cut. changed Done cut)) (λ low. (ltb-false k.largest len low, tt)))))
+  call_within pid (Truncate path len) =
+      goes_on (parsed path) _ (λ names.
+      goes_on (walk (k.root, Some A_directory) names) _ (λ place.
+      allowed k Fine (is_directory place) EISDIR _ (λ _.
+      allowed k Fine (nat_lt k.largest len) EFBIG (cut_to place.0 len >>= (λ cut. changed Done cut)) (λ low. (ltb-false k.largest len low, tt)))))
   call_within pid (Stat path) = goes_on (parsed path) _ (λ names. goes_on (walk (k.root, Some A_directory) names) _ status_within)
   call_within pid (Fstat f) = goes_on (slot (own k pid (Fstat f)) f) _ (λ s. status_within (s.inode, s.kind))
   call_within pid (Link old path) =

@@ -26,12 +26,18 @@ pub enum Call {
     Close(Fd),
     /// Reads up to so many bytes.
     Read(Fd, u32),
+    /// Reads up to so many bytes from an offset on. The description's own stays.
+    Pread(Fd, u32, i64),
     /// Writes these bytes.
     Write(Fd, Bytes),
+    /// Writes these bytes from an offset on. The description's own stays.
+    Pwrite(Fd, Bytes, i64),
     /// Moves the offset.
     Lseek(Fd, i64, Whence),
     /// Cuts or grows a file to a length.
     Ftruncate(Fd, u32),
+    /// Cuts or grows the file of a path to a length.
+    Truncate(Bytes, u32),
     /// Tells about the object of a path.
     Stat(Bytes),
     /// Tells about the object of a descriptor.
@@ -67,9 +73,12 @@ impl Drop for Call {
             Call::Open(_, _) => {}
             Call::Close(_) => {}
             Call::Read(_, _) => {}
+            Call::Pread(_, _, _) => {}
             Call::Write(_, _) => {}
+            Call::Pwrite(_, _, _) => {}
             Call::Lseek(_, _, _) => {}
             Call::Ftruncate(_, _) => {}
+            Call::Truncate(_, _) => {}
             Call::Stat(_) => {}
             Call::Fstat(_) => {}
             Call::Link(_, _) => {}
@@ -96,9 +105,12 @@ impl Call {
             Call::Open(path, flags) => Ok(Call::Open(path.try_clone()?, *flags)),
             Call::Close(fd) => Ok(Call::Close(*fd)),
             Call::Read(fd, count) => Ok(Call::Read(*fd, *count)),
+            Call::Pread(fd, count, offset) => Ok(Call::Pread(*fd, *count, *offset)),
             Call::Write(fd, bytes) => Ok(Call::Write(*fd, bytes.try_clone()?)),
+            Call::Pwrite(fd, bytes, offset) => Ok(Call::Pwrite(*fd, bytes.try_clone()?, *offset)),
             Call::Lseek(fd, offset, whence) => Ok(Call::Lseek(*fd, *offset, *whence)),
             Call::Ftruncate(fd, length) => Ok(Call::Ftruncate(*fd, *length)),
+            Call::Truncate(path, length) => Ok(Call::Truncate(path.try_clone()?, *length)),
             Call::Stat(path) => Ok(Call::Stat(path.try_clone()?)),
             Call::Fstat(fd) => Ok(Call::Fstat(*fd)),
             Call::Link(old, new) => {

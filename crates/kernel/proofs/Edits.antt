@@ -12,11 +12,11 @@ use Rattle.model.specs.Limits.{largest_file}
 use Rattle.model.specs.Plan.{Errno, Plan, Give, answer as answer_to, given, ◌>>=◌, ◌>>◌, ENOENT, ENOTDIR, ENOTEMPTY, EEXIST, EBUSY, EISDIR, EINVAL, EBADF, EFBIG, EPERM, ESPIPE, EPIPE, EAGAIN, List_names, Measure, refuse_if, or_refuse}
 use Rattle.model.specs.Entries.{is_inside}
 use Rattle.kernel.specs.States.{CanChange}
-use Rattle.model.specs.Calls.{Call, Dup, Dup2, Whence, Open, Close, Read, Write, Lseek, Ftruncate, Stat, Fstat, Link, Unlink, Rename, Mkdir, Rmdir, List_directory, Open_pipe, Fork, Exit, Child, OpenFlags, Own, Slot, slot_of, own}
+use Rattle.model.specs.Calls.{Call, Dup, Dup2, Whence, Open, Close, Read, Pread, Write, Pwrite, Lseek, Ftruncate, Truncate, Stat, Fstat, Link, Unlink, Rename, Mkdir, Rmdir, List_directory, Open_pipe, Fork, Exit, Child, OpenFlags, Own, Slot, slot_of, own}
 use Rattle.model.specs.Changes.{process_of, There, Made, New_process}
 use Rattle.model.specs.Paths.{is_empty, is_below}
 use Rattle.model.specs.Walks.{Place, Last, parsed, walk, last_of, is_directory}
-use Rattle.model.specs.Plans.{Change, duplicated, plan, status as told_status, absent, slot, slot_at, free, free_from, first_of_free, is_pipe, opened, cut_to, read_some, write_some, read_pipe, piped, pipes_in, whole_write, most_processes, place_to_write, base, sought, moved, replaced_by_name, room, most_moved, descriptor_limit}
+use Rattle.model.specs.Plans.{Change, duplicated, plan, status as told_status, absent, slot, slot_at, free, free_from, first_of_free, is_pipe, opened, cut_to, read_some, write_some, offset_named, write_from, read_pipe, piped, pipes_in, whole_write, most_processes, place_to_write, base, sought, moved, replaced_by_name, room, most_moved, descriptor_limit}
 use Rattle.model.specs.Steps.{edits, edits_of, reply, reply_of}
 use Rattle.ids.specs.Flags.{is_reading, is_writing, is_creating, is_exclusive, is_truncating}
 use Rattle.model.proofs.Laws.{all_entries}
@@ -128,6 +128,9 @@ write_edits k largest low it bytes = either_given k Edits (is_pipe it.kind) _ _ 
     unless k (nat_lt fitting (length bytes) && nat_le (length bytes) whole_write) EAGAIN _ (unless k (fitting == 0) EAGAIN _ (inl tt))))
     (λ _. after k (place_to_write it it.appending) _ (λ place. allowed k Edits (nat_le largest place) EFBIG _ (λ below. (room_ends largest place bytes low (not_above largest place below), refl, tt))))
 
+put_edits : (k : Kernel) (largest : ℕ) → largest ≤ largest_file → (n offset : ℕ) (bytes : List ℕ) → IfOk (given k (write_from largest n offset bytes)) Edits
+put_edits k largest low n offset bytes = allowed k Edits (nat_le largest offset) EFBIG _ (λ below. inl (room_ends largest offset bytes low (not_above largest offset below)))
+
 seek_edits : (k : Kernel) (largest : ℕ) (it : Slot) (place : ℤ) → IfOk (given k (sought largest it place)) Edits
 seek_edits k largest it (pos place) = unless k (nat_lt largest place) EINVAL _ (inr tt)
 seek_edits k largest it (negsuc place) = tt
@@ -152,9 +155,12 @@ module _ (k : Kernel) (pid : ℕ) (well : WellFormed k) (low : k.largest ≤ lar
       (λ f low. after k (last_of k.root (if is_creating flags && is_exclusive flags then EEXIST else EISDIR) names) _ (λ at. open_edits k (own k pid (Open path flags)) flags f low at at.found)))))))
   planned (Close f) h = on k pid well (Close f) f _ (λ it opened. inr opened)
   planned (Read f count) h = on k pid well (Read f count) f _ (λ it opened. unless k (not it.reading) EBADF _ (either_given k Edits (count == 0) _ _ (λ _. tt) (λ _. read_edits k it count)))
+  planned (Pread f count offset) h = on k pid well (Pread f count offset) f _ (λ it opened. unless k (not it.reading) EBADF _ (unless k (is_pipe it.kind) ESPIPE _ (after k (or_refuse EINVAL (offset_named offset)) _ (λ at. either_given k Edits (count == 0) _ _ (λ _. tt) (λ _. tt)))))
   planned (Write f bytes) h = on k pid well (Write f bytes) f _ (λ it opened. unless k (not it.writing) EBADF _ (either_given k Edits (is_empty bytes) _ _ (λ _. tt) (λ _. write_edits k k.largest low it bytes)))
+  planned (Pwrite f bytes offset) h = on k pid well (Pwrite f bytes offset) f _ (λ it opened. unless k (not it.writing) EBADF _ (unless k (is_pipe it.kind) ESPIPE _ (after k (or_refuse EINVAL (offset_named offset)) _ (λ at. either_given k Edits (is_empty bytes) _ _ (λ _. tt) (λ _. put_edits k k.largest low it.inode at bytes)))))
   planned (Lseek f move whence) h = on k pid well (Lseek f move whence) f _ (λ it opened. unless k (is_pipe it.kind) ESPIPE _ (after k (base it whence) _ (λ place. seek_edits k k.largest it (pos place +ℤ move))))
   planned (Ftruncate f len) h = on k pid well (Ftruncate f len) f _ (λ it opened. unless k (not it.writing) EBADF _ (unless k (is_pipe it.kind) EINVAL _ (allowed k Edits (nat_lt k.largest len) EFBIG _ (λ fits. inl (let within : len ≤ k.largest = not_below k.largest len fits in omega arith)))))
+  planned (Truncate path len) h = after k (parsed path) _ (λ names. after k (walk (k.root, Some A_directory) names) _ (λ place. unless k (is_directory place) EISDIR _ (allowed k Edits (nat_lt k.largest len) EFBIG _ (λ fits. inl (let within : len ≤ k.largest = not_below k.largest len fits in omega arith)))))
   planned (Fstat f) h = on k pid well (Fstat f) f _ (λ it opened. tells k (it.inode, it.kind))
   planned (Stat path) h = after k (parsed path) _ (λ names. after k (walk (k.root, Some A_directory) names) _ (tells k))
   planned (Link old path) h =

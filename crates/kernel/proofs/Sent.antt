@@ -175,8 +175,11 @@ ranks_sent = search (sendable, crosses, over.crosses, frees_by, frees.frees) dep
 contenders_sent : IsSend Contenders.the_row
 contenders_sent = search (ranks_sent, marked_records_sent, sendable, crosses, over.crosses, frees_by, frees.frees) depth 40 fits 30000
 
+text_sent : IsSend Bytes.the_row
+text_sent = search (sendable, crosses, over.crosses, frees_by, frees.frees) depth 40 fits 30000
+
 call_sent : IsSend (Call.the_field).row
-call_sent = search (sendable, crosses, over.crosses, frees_by, frees.frees) depth 40 fits 30000
+call_sent = search (text_sent, sendable, crosses, over.crosses, frees_by, frees.frees) depth 40 fits 30000
 
 op_sent : IsSend (Op.the_field).row
 op_sent = search (call_sent, sendable, crosses, over.crosses, frees_by, frees.frees) depth 40 fits 30000
@@ -186,9 +189,6 @@ name_sent = search (sendable, crosses, over.crosses, frees_by, frees.frees) dept
 
 names_sent : IsSend NameList.the_row
 names_sent = search (name_sent, sendable, crosses, over.crosses, frees_by, frees.frees) depth 40 fits 30000
-
-text_sent : IsSend Bytes.the_row
-text_sent = search (sendable, crosses, over.crosses, frees_by, frees.frees) depth 40 fits 30000
 
 answer_sent : IsSend (Answer.the_field).row
 answer_sent = search (names_sent, text_sent, sendable, crosses, over.crosses, frees_by, frees.frees) depth 40 fits 30000

@@ -21,10 +21,10 @@ use Rattle.model.specs.Changes.{New_process, End_process}
 use Rattle.ids.specs.Flags.{is_reading, is_writing, is_creating, is_exclusive, is_truncating}
 use Rattle.ids.specs.Flags.{is_appending}
 use Rattle.model.specs.Calls.{OpenFlags, Whence, From_start, From_offset, From_end, Call, Open}
-use Rattle.model.specs.Calls.{Close, Read, Write, Lseek, Ftruncate, Stat, Fstat, Link, Unlink}
-use Rattle.model.specs.Calls.{Rename, Mkdir, Rmdir, List_directory, Dup, Dup2, Open_pipe, Fork}
-use Rattle.model.specs.Calls.{Exit, Answer, Done, Descriptor, Count, New_place, Bytes, Pair, Stated}
-use Rattle.model.specs.Calls.{Listing, Child, Slot, Own}
+use Rattle.model.specs.Calls.{Close, Read, Pread, Write, Pwrite, Lseek, Ftruncate, Truncate, Stat}
+use Rattle.model.specs.Calls.{Fstat, Link, Unlink, Rename, Mkdir, Rmdir, List_directory, Dup, Dup2}
+use Rattle.model.specs.Calls.{Open_pipe, Fork, Exit, Answer, Done, Descriptor, Count, New_place}
+use Rattle.model.specs.Calls.{Bytes, Pair, Stated, Listing, Child, Slot, Own}
 
 -- what a call answers and changes
 pub record Change : Type 0 where
@@ -153,6 +153,24 @@ write_some largest it bytes =
           (Put_bytes it.inode place (take (room largest place) bytes) size
           ∷ Set_offset it.description (place + length (take (room largest place) bytes)) ∷ []))
 
+-- an offset that a call names: there is none before the first byte
+abbrev pub offset_named : ℤ → Option ℕ
+offset_named (pos offset) = Some offset
+offset_named (negsuc offset) = None
+
+-- a read and a write from an offset on, on a file alone: no description's offset is seen or moved
+abbrev pub read_from : ℕ → ℕ → ℕ → Plan Change
+read_from n offset count = do
+  bytes ← ask (Read_file n offset (min count most_moved))
+  unchanged (Bytes bytes)
+
+abbrev pub write_from : ℕ → ℕ → ℕ → List ℕ → Plan Change
+write_from largest n offset bytes = do
+  refuse_if (nat_le largest offset) EFBIG
+  size ← ask (Measure n)
+  changed (Count (length (take (room largest offset) bytes)))
+      (Put_bytes n offset (take (room largest offset) bytes) size ∷ [])
+
 abbrev pub sought : ℕ → Slot → ℤ → Plan Change
 sought largest it (pos place) = do
   refuse_if (nat_lt largest place) EINVAL
@@ -221,10 +239,22 @@ plan own (Read f count) = do
   it ← slot own f
   refuse_if (not it.reading) EBADF
   if count == 0 then unchanged (Bytes []) else read_some it count
+plan own (Pread f count offset) = do
+  it ← slot own f
+  refuse_if (not it.reading) EBADF
+  refuse_if (is_pipe it.kind) ESPIPE
+  at ← or_refuse EINVAL (offset_named offset)
+  if count == 0 then unchanged (Bytes []) else read_from it.inode at count
 plan own (Write f bytes) = do
   it ← slot own f
   refuse_if (not it.writing) EBADF
   if is_empty bytes then unchanged (Count 0) else write_some own.largest it bytes
+plan own (Pwrite f bytes offset) = do
+  it ← slot own f
+  refuse_if (not it.writing) EBADF
+  refuse_if (is_pipe it.kind) ESPIPE
+  at ← or_refuse EINVAL (offset_named offset)
+  if is_empty bytes then unchanged (Count 0) else write_from own.largest it.inode at bytes
 plan own (Lseek f move whence) = do
   it ← slot own f
   refuse_if (is_pipe it.kind) ESPIPE
@@ -236,6 +266,13 @@ plan own (Ftruncate f len) = do
   refuse_if (is_pipe it.kind) EINVAL
   refuse_if (nat_lt own.largest len) EFBIG
   cut ← cut_to it.inode len
+  changed Done cut
+plan own (Truncate path len) = do
+  names ← parsed path
+  place ← walk (own.root, Some A_directory) names
+  refuse_if (is_directory place) EISDIR
+  refuse_if (nat_lt own.largest len) EFBIG
+  cut ← cut_to place.0 len
   changed Done cut
 plan own (Stat path) = do
   names ← parsed path

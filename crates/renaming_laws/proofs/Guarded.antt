@@ -10,8 +10,8 @@ use Rattle.model.specs.Paths.{is_empty, is_below, is_no_name, in_front, pieces, 
 use Rattle.model.specs.Limits.{path_limit, name_limit}
 use Rattle.model.specs.Walks.{told, parsed, look, walk, Last, last, last_of, Place, is_directory}
 use Rattle.model.specs.Changes.{There, Open_inode, Set_offset, process_of}
-use Rattle.model.specs.Calls.{OpenFlags, Call, Open, Close, Read, Write, Lseek, Ftruncate, Stat, Fstat, Link, Unlink, Rename, Mkdir, Rmdir, List_directory, Dup, Dup2, Open_pipe, Fork, Exit, Descriptor, Bytes, Slot, Own, slot_of, own}
-use Rattle.model.specs.Plans.{Change, changed, free, first_of_free, slot, is_pipe, status, mode, cut_to, opened, read_pipe, read_some, place_to_write, write_some, sought, base, moved, replaced_by_name, absent, duplicated, piped, forked, most_moved, whole_write, most_processes}
+use Rattle.model.specs.Calls.{OpenFlags, Call, Open, Close, Read, Pread, Write, Pwrite, Lseek, Ftruncate, Truncate, Stat, Fstat, Link, Unlink, Rename, Mkdir, Rmdir, List_directory, Dup, Dup2, Open_pipe, Fork, Exit, Descriptor, Bytes, Slot, Own, slot_of, own}
+use Rattle.model.specs.Plans.{Change, changed, free, first_of_free, slot, is_pipe, status, mode, cut_to, opened, read_pipe, read_some, place_to_write, write_some, offset_named, sought, base, moved, replaced_by_name, absent, duplicated, piped, forked, most_moved, whole_write, most_processes}
 use Rattle.model.specs.Steps.{outcome}
 use Rattle.model.proofs.Laws.{all_entries}
 use Rattle.call_laws.proofs.Laws.{after_bind, allowed, either_given, weaken, whatever, not_none, some_same}
@@ -224,12 +224,20 @@ module _ (root : ℕ) (k : Kernel) (apart : IsApart root k) where
   call_guarded is slots pid (Close fd) = then_whatever (Close fd) (slot (own k pid (Close fd)) fd) _ (λ it. record { tells = inl tt; gives = (tt, tt) })
   call_guarded is slots pid (Read fd count) = then_whatever (Read fd count) (slot (own k pid (Read fd count)) fd) _ (λ it.
       unless (Read fd count) (not it.reading) EBADF _ (either (Read fd count) (count == 0) _ _ (record { tells = inl tt; gives = tt }) (read_fine (Read fd count) it count)))
+  call_guarded is slots pid (Pread fd count offset) = then_whatever (Pread fd count offset) (slot (own k pid (Pread fd count offset)) fd) _ (λ it.
+      unless (Pread fd count offset) (not it.reading) EBADF _ (unless (Pread fd count offset) (is_pipe it.kind) ESPIPE _ (then_whatever (Pread fd count offset) (or_refuse EINVAL (offset_named offset)) _ (λ at.
+      either (Pread fd count offset) (count == 0) _ _ (record { tells = inl tt; gives = tt }) (record { tells = inl tt; gives = tt })))))
   call_guarded is slots pid (Write fd bytes) = then_whatever (Write fd bytes) (slot (own k pid (Write fd bytes)) fd) _ (λ it.
       unless (Write fd bytes) (not it.writing) EBADF _ (either (Write fd bytes) (is_empty bytes) _ _ (record { tells = inl tt; gives = tt }) (write_fine (Write fd bytes) k.largest it bytes)))
+  call_guarded is slots pid (Pwrite fd bytes offset) = then_whatever (Pwrite fd bytes offset) (slot (own k pid (Pwrite fd bytes offset)) fd) _ (λ it.
+      unless (Pwrite fd bytes offset) (not it.writing) EBADF _ (unless (Pwrite fd bytes offset) (is_pipe it.kind) ESPIPE _ (then_whatever (Pwrite fd bytes offset) (or_refuse EINVAL (offset_named offset)) _ (λ at.
+      either (Pwrite fd bytes offset) (is_empty bytes) _ _ (record { tells = inl tt; gives = tt }) (unless (Pwrite fd bytes offset) (nat_le k.largest at) EFBIG _ (record { tells = inl tt; gives = (tt, tt) }))))))
   call_guarded is slots pid (Lseek fd move whence) = then_whatever (Lseek fd move whence) (slot (own k pid (Lseek fd move whence)) fd) _ (λ it.
       unless (Lseek fd move whence) (is_pipe it.kind) ESPIPE _ (then_whatever (Lseek fd move whence) (base it whence) _ (λ place. sought_fine (Lseek fd move whence) k.largest it (pos place +ℤ move))))
   call_guarded is slots pid (Ftruncate fd len) = then_whatever (Ftruncate fd len) (slot (own k pid (Ftruncate fd len)) fd) _ (λ it.
       unless (Ftruncate fd len) (not it.writing) EBADF _ (unless (Ftruncate fd len) (is_pipe it.kind) EINVAL _ (unless (Ftruncate fd len) (nat_lt k.largest len) EFBIG _ (record { tells = inl tt; gives = (tt, tt) }))))
+  call_guarded is slots pid (Truncate path len) = then_whatever (Truncate path len) (parsed path) _ (λ names. then_whatever (Truncate path len) (walk (k.root, Some A_directory) names) _ (λ place.
+      unless (Truncate path len) (is_directory place) EISDIR _ (unless (Truncate path len) (nat_lt k.largest len) EFBIG _ (record { tells = inl tt; gives = (tt, tt) }))))
   call_guarded is slots pid (Stat path) = subst (λ n. IfOk (given k (parsed path >>= (λ names. walk (n, Some A_directory) names >>= status))) (IsGuarded root (Stat path))) (sym is) (stat_fine path (path_names path) refl)
   call_guarded is slots pid (Fstat fd) = then_given (Fstat fd) (λ it. it.inode ≢ root) (slot (own k pid (Fstat fd)) fd) _ (slot_other slots pid fd (Fstat fd)) (λ it other. status_fine (Fstat fd) it.inode it.kind other)
   call_guarded is slots pid (Link old path) = then_whatever (Link old path) (parsed old) _ (λ from. then_whatever (Link old path) (parsed path) _ (λ to.

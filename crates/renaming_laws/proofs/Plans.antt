@@ -7,8 +7,8 @@ use Rattle.model.specs.Plan.{Errno, EAGAIN, EBADF, EBUSY, EEXIST, EFBIG, EINVAL,
 use Rattle.model.specs.Paths.{is_empty, is_below}
 use Rattle.model.specs.Walks.{parsed, walk, Last, last_of, Place, is_directory}
 use Rattle.model.specs.Changes.{Made, There, Edit, Make_directory, Make_file, Name_file, Unname_file, Unname_directory, Move, Put_bytes, Take, Append, Over_nothing, Over_file, Over_directory, Set_offset, Open_inode, Make_pipe, Share_slot, Clear_slot, New_process, End_process}
-use Rattle.model.specs.Calls.{OpenFlags, Whence, From_start, From_offset, From_end, Call, Open, Close, Read, Write, Lseek, Ftruncate, Stat, Fstat, Link, Unlink, Rename, Mkdir, Rmdir, List_directory, Dup, Dup2, Open_pipe, Fork, Exit, Answer, Done, Descriptor, Count, New_place, Bytes, Pair, Stated, Listing, Child, Slot, Own}
-use Rattle.model.specs.Plans.{Change, changed, free, first_of_free, slot_at, slot, is_pipe, pipe_in, pipes_in, status, mode, cut_to, opened, read_pipe, read_some, place_to_write, room, write_some, sought, base, replaced_by_name, move_onto, moved, absent, duplicated, piped, forked, plan, most_moved, most_processes, whole_write}
+use Rattle.model.specs.Calls.{OpenFlags, Whence, From_start, From_offset, From_end, Call, Open, Close, Read, Pread, Write, Pwrite, Lseek, Ftruncate, Truncate, Stat, Fstat, Link, Unlink, Rename, Mkdir, Rmdir, List_directory, Dup, Dup2, Open_pipe, Fork, Exit, Answer, Done, Descriptor, Count, New_place, Bytes, Pair, Stated, Listing, Child, Slot, Own}
+use Rattle.model.specs.Plans.{Change, changed, free, first_of_free, slot_at, slot, is_pipe, pipe_in, pipes_in, status, mode, cut_to, opened, read_pipe, read_some, place_to_write, room, write_some, offset_named, read_from, write_from, sought, base, replaced_by_name, move_onto, moved, absent, duplicated, piped, forked, plan, most_moved, most_processes, whole_write}
 use Rattle.renaming_laws.specs.Renaming.{IsRenaming}
 use Rattle.renaming_laws.specs.Renamed.{renamed_place, renamed_slot, renamed_own, renamed_replaced, renamed_edit, renamed_answer, renamed_change}
 use Rattle.renaming_laws.proofs.States.{same_test}
@@ -85,6 +85,19 @@ module _ (f : ℕ → ℕ) (r : IsRenaming f) (k : Kernel) where
       unless (nat_le largest place) EFBIG _ _
       (asked (renamed_change f) (ask (Measure it.inode)) (ask (Measure (f it.inode))) _ _ (goes_ask f r k (Measure it.inode)) (λ size.
       goes_changed (Count (length (take (room largest place) bytes))) (Put_bytes it.inode place (take (room largest place) bytes) size ∷ Set_offset it.description (place + length (take (room largest place) bytes)) ∷ []) _ refl))))
+
+  -- an offset that a call names tells no number
+  named_goes : (offset : ℤ) (p q : ℕ → Plan Change) → ((at : ℕ) → Goes f k (renamed_change f) (p at) (q at)) → Goes f k (renamed_change f) (or_refuse EINVAL (offset_named offset) >>= p) (or_refuse EINVAL (offset_named offset) >>= q)
+  named_goes (pos at) p q rest = rest at
+  named_goes (negsuc n) p q rest = goes_refuse f r k (renamed_change f) EINVAL
+
+  read_from_goes : (n offset count : ℕ) → Goes f k (renamed_change f) (read_from n offset count) (read_from (f n) offset count)
+  read_from_goes n offset count = asked (renamed_change f) (ask (Read_file n offset (min count most_moved))) (ask (Read_file (f n) offset (min count most_moved))) _ _ (goes_ask f r k (Read_file n offset (min count most_moved))) (λ bytes. goes_changed (Bytes bytes) [] [] refl)
+
+  write_from_goes : (largest n offset : ℕ) (bytes : List ℕ) → Goes f k (renamed_change f) (write_from largest n offset bytes) (write_from largest (f n) offset bytes)
+  write_from_goes largest n offset bytes = unless (nat_le largest offset) EFBIG _ _
+      (asked (renamed_change f) (ask (Measure n)) (ask (Measure (f n))) _ _ (goes_ask f r k (Measure n)) (λ size.
+      goes_changed (Count (length (take (room largest offset) bytes))) (Put_bytes n offset (take (room largest offset) bytes) size ∷ []) _ refl))
 
   sought_goes : (largest : ℕ) (it : Slot) (z : ℤ) → Goes f k (renamed_change f) (sought largest it z) (sought largest (renamed_slot f it) z)
   sought_goes largest it (pos place) = unless (nat_lt largest place) EINVAL _ _ (goes_changed (New_place place) (Set_offset it.description place ∷ []) _ refl)
@@ -168,13 +181,22 @@ module _ (f : ℕ → ℕ) (r : IsRenaming f) (k : Kernel) where
   plan_goes own (Close fd) = with_slot own fd _ _ (λ it. goes_changed Done (Clear_slot own.pid fd (pipe_in (Some it)) ∷ []) _ (ap (λ pipes. Clear_slot own.pid fd pipes ∷ []) (pipe_renamed f r (Some it))))
   plan_goes own (Read fd count) = with_slot own fd _ _ (λ it.
       unless (not it.reading) EBADF _ _ (goes_either f r k (renamed_change f) (count == 0) (count == 0) refl _ _ _ _ (goes_changed (Bytes []) [] [] refl) (read_goes it count)))
+  plan_goes own (Pread fd count offset) = with_slot own fd _ _ (λ it.
+      unless (not it.reading) EBADF _ _ (unless (is_pipe it.kind) ESPIPE _ _ (named_goes offset _ _ (λ at.
+      goes_either f r k (renamed_change f) (count == 0) (count == 0) refl _ _ _ _ (goes_changed (Bytes []) [] [] refl) (read_from_goes it.inode at count)))))
   plan_goes own (Write fd bytes) = with_slot own fd _ _ (λ it.
       unless (not it.writing) EBADF _ _ (goes_either f r k (renamed_change f) (is_empty bytes) (is_empty bytes) refl _ _ _ _ (goes_changed (Count 0) [] [] refl) (write_goes own.largest it bytes)))
+  plan_goes own (Pwrite fd bytes offset) = with_slot own fd _ _ (λ it.
+      unless (not it.writing) EBADF _ _ (unless (is_pipe it.kind) ESPIPE _ _ (named_goes offset _ _ (λ at.
+      goes_either f r k (renamed_change f) (is_empty bytes) (is_empty bytes) refl _ _ _ _ (goes_changed (Count 0) [] [] refl) (write_from_goes own.largest it.inode at bytes)))))
   plan_goes own (Lseek fd move whence) = with_slot own fd _ _ (λ it.
       unless (is_pipe it.kind) ESPIPE _ _ (asked (renamed_change f) (base it whence) (base (renamed_slot f it) whence) _ _ (base_goes it whence) (λ place. sought_goes own.largest it (pos place +ℤ move))))
   plan_goes own (Ftruncate fd len) = with_slot own fd _ _ (λ it.
       unless (not it.writing) EBADF _ _ (unless (is_pipe it.kind) EINVAL _ _ (unless (nat_lt own.largest len) EFBIG _ _
       (goes_on f r k (map (renamed_edit f)) (renamed_change f) (cut_to it.inode len) (cut_to (f it.inode) len) (λ cut. changed Done cut) (λ cut. changed Done cut) (cut_goes it.inode len) (λ cut. goes_changed Done cut (map (renamed_edit f) cut) refl)))))
+  plan_goes own (Truncate path len) = by_path path _ _ (λ names. walked own.root names _ _ (λ place.
+      of_kind (λ b. b) place EISDIR _ _ (unless (nat_lt own.largest len) EFBIG _ _
+      (goes_on f r k (map (renamed_edit f)) (renamed_change f) (cut_to place.0 len) (cut_to (f place.0) len) (λ cut. changed Done cut) (λ cut. changed Done cut) (cut_goes place.0 len) (λ cut. goes_changed Done cut (map (renamed_edit f) cut) refl)))))
   plan_goes own (Stat path) = by_path path _ _ (λ names. walked own.root names _ _ (λ place. status_goes place.0 place.1))
   plan_goes own (Fstat fd) = with_slot own fd _ _ (λ it. status_goes it.inode it.kind)
   plan_goes own (Link old path) = by_path old _ _ (λ from. by_path path _ _ (λ to. walked own.root from _ _ (λ what.

@@ -11,8 +11,8 @@ use Rattle.model.specs.Plan.{Errno, EAGAIN, EBADF, EBUSY, EEXIST, EFBIG, EINVAL,
 use Rattle.model.specs.Paths.{is_empty, is_below}
 use Rattle.model.specs.Walks.{parsed, walk, Last, last_of, Place, is_directory}
 use Rattle.model.specs.Changes.{There, Edit, Open_inode, Set_offset, Share_slot, news, process_of}
-use Rattle.model.specs.Calls.{OpenFlags, Call, Open, Close, Read, Write, Lseek, Ftruncate, Stat, Fstat, Link, Unlink, Rename, Mkdir, Rmdir, List_directory, Dup, Dup2, Open_pipe, Fork, Exit, Answer, Done, Descriptor, Count, Bytes, Listing, Slot, Own, slot_of, own}
-use Rattle.model.specs.Plans.{Change, changed, free, first_of_free, slot, is_pipe, status, mode, cut_to, opened, read_pipe, read_some, place_to_write, write_some, sought, base, moved, replaced_by_name, absent, duplicated, piped, forked, most_moved, whole_write, most_processes}
+use Rattle.model.specs.Calls.{OpenFlags, Call, Open, Close, Read, Pread, Write, Pwrite, Lseek, Ftruncate, Truncate, Stat, Fstat, Link, Unlink, Rename, Mkdir, Rmdir, List_directory, Dup, Dup2, Open_pipe, Fork, Exit, Answer, Done, Descriptor, Count, Bytes, Listing, Slot, Own, slot_of, own}
+use Rattle.model.specs.Plans.{Change, changed, free, first_of_free, slot, is_pipe, status, mode, cut_to, opened, read_pipe, read_some, place_to_write, write_some, offset_named, sought, base, moved, replaced_by_name, absent, duplicated, piped, forked, most_moved, whole_write, most_processes}
 use Rattle.model.specs.Steps.{outcome, edits_of}
 use Rattle.model.proofs.Laws.{all_entries}
 use Rattle.call_laws.proofs.Laws.{after_bind, allowed, either_given, weaken, whatever}
@@ -132,10 +132,16 @@ module _ (k : Kernel) where
       then_whatever (last_of k.root (if is_creating flags && is_exclusive flags then EEXIST else EISDIR) names) _ (λ at. open_sound (own k pid (Open path flags)) flags fd at at.found))))))
   call_sound slots pid (Close fd) = with_slot slots pid fd (Close fd) _ (λ it there. record { numbers = (tt, tt); shares = (tt, tt) })
   call_sound slots pid (Read fd count) = with_slot slots pid fd (Read fd count) _ (λ it there. unless (not it.reading) EBADF _ (either (count == 0) _ _ (unchanged_sound (Bytes [])) (read_sound it count)))
+  call_sound slots pid (Pread fd count offset) = with_slot slots pid fd (Pread fd count offset) _ (λ it there. unless (not it.reading) EBADF _ (unless (is_pipe it.kind) ESPIPE _ (then_whatever (or_refuse EINVAL (offset_named offset)) _ (λ at.
+      either (count == 0) _ _ (unchanged_sound (Bytes [])) (unchanged_sound (Bytes (answer k (Read_file it.inode at (min count most_moved)))))))))
   call_sound slots pid (Write fd bytes) = with_slot slots pid fd (Write fd bytes) _ (λ it there. unless (not it.writing) EBADF _ (either (is_empty bytes) _ _ (unchanged_sound (Count 0)) (write_sound k.largest it bytes)))
+  call_sound slots pid (Pwrite fd bytes offset) = with_slot slots pid fd (Pwrite fd bytes offset) _ (λ it there. unless (not it.writing) EBADF _ (unless (is_pipe it.kind) ESPIPE _ (then_whatever (or_refuse EINVAL (offset_named offset)) _ (λ at.
+      either (is_empty bytes) _ _ (unchanged_sound (Count 0)) (unless (nat_le k.largest at) EFBIG _ (record { numbers = (tt, tt); shares = (tt, tt) }))))))
   call_sound slots pid (Lseek fd move whence) = with_slot slots pid fd (Lseek fd move whence) _ (λ it there. unless (is_pipe it.kind) ESPIPE _ (then_whatever (base it whence) _ (λ place. sought_sound k.largest it (pos place +ℤ move))))
   call_sound slots pid (Ftruncate fd len) = with_slot slots pid fd (Ftruncate fd len) _ (λ it there.
       unless (not it.writing) EBADF _ (unless (is_pipe it.kind) EINVAL _ (unless (nat_lt k.largest len) EFBIG _ (record { numbers = (tt, tt); shares = (tt, tt) }))))
+  call_sound slots pid (Truncate path len) = then_whatever (parsed path) _ (λ names. then_whatever (walk (k.root, Some A_directory) names) _ (λ place.
+      unless (is_directory place) EISDIR _ (unless (nat_lt k.largest len) EFBIG _ (record { numbers = (tt, tt); shares = (tt, tt) }))))
   call_sound slots pid (Stat path) = then_whatever (parsed path) _ (λ names. then_whatever (walk (k.root, Some A_directory) names) _ (λ place. status_sound place))
   call_sound slots pid (Fstat fd) = with_slot slots pid fd (Fstat fd) _ (λ it there. status_sound (it.inode, it.kind))
   call_sound slots pid (Link old path) = then_whatever (parsed old) _ (λ from. then_whatever (parsed path) _ (λ to. then_whatever (walk (k.root, Some A_directory) from) _ (λ what.

@@ -6,11 +6,11 @@ use Rattle.std.specs.List.{AllByRecursion}
 use Rattle.model.specs.State.{A_file, A_directory, A_pipe, Kernel}
 use Rattle.model.specs.Limits.{largest_file}
 use Rattle.model.specs.Plan.{Errno, Plan, Give, answer as answer_to, given, ◌>>=◌, ◌>>◌, ENOENT, ENOTDIR, ENOTEMPTY, EEXIST, EBUSY, EISDIR, EINVAL, EBADF, EFBIG, EPERM, ESPIPE, EPIPE, EAGAIN, List_names, Count_ends, Find_offset, Read_pipe, Read_file, Fit, refuse_if, or_refuse}
-use Rattle.model.specs.Calls.{Call, Dup, Dup2, Open, Close, Read, Write, Lseek, Ftruncate, Stat, Fstat, Link, Unlink, Rename, Mkdir, Rmdir, List_directory, Open_pipe, Fork, Exit, Descriptor, OpenFlags, Own, Slot, own}
+use Rattle.model.specs.Calls.{Call, Dup, Dup2, Open, Close, Read, Pread, Write, Pwrite, Lseek, Ftruncate, Truncate, Stat, Fstat, Link, Unlink, Rename, Mkdir, Rmdir, List_directory, Open_pipe, Fork, Exit, Descriptor, OpenFlags, Own, Slot, own}
 use Rattle.model.specs.Changes.{Edit, There, Open_inode, Set_offset, Put_bytes, Cut}
 use Rattle.model.specs.Paths.{is_empty, is_below}
 use Rattle.model.specs.Walks.{Place, Last, parsed, walk, last_of, is_directory}
-use Rattle.model.specs.Plans.{Change, changed, duplicated, plan, status as told_status, absent, slot, free, first_of_free, is_pipe, mode, opened, cut_to, read_some, write_some, read_pipe, piped, forked, whole_write, most_processes, place_to_write, base, sought, moved, replaced_by_name, room, most_moved}
+use Rattle.model.specs.Plans.{Change, changed, duplicated, plan, status as told_status, absent, slot, free, first_of_free, is_pipe, mode, opened, cut_to, read_some, write_some, offset_named, write_from, read_pipe, piped, forked, whole_write, most_processes, place_to_write, base, sought, moved, replaced_by_name, room, most_moved}
 use Rattle.model.specs.Steps.{edits, edits_of}
 use Rattle.ids.specs.Flags.{is_reading, is_writing, is_creating, is_exclusive, is_truncating}
 use Rattle.call_laws.proofs.Laws.{after_bind, allowed, either_given, whatever}
@@ -91,6 +91,9 @@ writes k largest low it bytes = either_given k Within (is_pipe it.kind) _ _ (λ 
     unless k (nat_lt fitting (length bytes) && nat_le (length bytes) whole_write) EAGAIN _ (unless k (fitting == 0) EAGAIN _ (tt, tt))))
     (λ _. after k (place_to_write it it.appending) _ (λ place. allowed k Within (nat_le largest place) EFBIG _ (λ above. (room_ends largest place bytes low above, (tt, tt)))))
 
+puts : (k : Kernel) (largest : ℕ) → largest ≤ largest_file → (n offset : ℕ) (bytes : List ℕ) → IfOk (given k (write_from largest n offset bytes)) Within
+puts k largest low n offset bytes = allowed k Within (nat_le largest offset) EFBIG _ (λ above. (room_ends largest offset bytes low above, tt))
+
 seeks : (k : Kernel) (largest : ℕ) (it : Slot) (place : ℤ) → IfOk (given k (sought largest it place)) Within
 seeks k largest it (pos place) = unless k (nat_lt largest place) EINVAL _ (tt, tt)
 seeks k largest it (negsuc place) = tt
@@ -110,9 +113,12 @@ planned k pid low (Open path flags) =
     after k (parsed path) _ (λ names. after k (first_of_free (free (own k pid (Open path flags)))) _ (λ f. after k (last_of k.root (if is_creating flags && is_exclusive flags then EEXIST else EISDIR) names) _ (λ at. opens k (own k pid (Open path flags)) flags f at at.found))))))
 planned k pid low (Close f) = after k (slot (own k pid (Close f)) f) _ (λ it. (tt, tt))
 planned k pid low (Read f count) = after k (slot (own k pid (Read f count)) f) _ (λ it. unless k (not it.reading) EBADF _ (either_given k Within (count == 0) _ _ (λ _. tt) (λ _. reads k it count)))
+planned k pid low (Pread f count offset) = after k (slot (own k pid (Pread f count offset)) f) _ (λ it. unless k (not it.reading) EBADF _ (unless k (is_pipe it.kind) ESPIPE _ (after k (or_refuse EINVAL (offset_named offset)) _ (λ at. either_given k Within (count == 0) _ _ (λ _. tt) (λ _. tt)))))
 planned k pid low (Write f bytes) = after k (slot (own k pid (Write f bytes)) f) _ (λ it. unless k (not it.writing) EBADF _ (either_given k Within (is_empty bytes) _ _ (λ _. tt) (λ _. writes k k.largest low it bytes)))
+planned k pid low (Pwrite f bytes offset) = after k (slot (own k pid (Pwrite f bytes offset)) f) _ (λ it. unless k (not it.writing) EBADF _ (unless k (is_pipe it.kind) ESPIPE _ (after k (or_refuse EINVAL (offset_named offset)) _ (λ at. either_given k Within (is_empty bytes) _ _ (λ _. tt) (λ _. puts k k.largest low it.inode at bytes)))))
 planned k pid low (Lseek f move whence) = after k (slot (own k pid (Lseek f move whence)) f) _ (λ it. unless k (is_pipe it.kind) ESPIPE _ (after k (base it whence) _ (λ place. seeks k k.largest it (pos place +ℤ move))))
 planned k pid low (Ftruncate f len) = after k (slot (own k pid (Ftruncate f len)) f) _ (λ it. unless k (not it.writing) EBADF _ (unless k (is_pipe it.kind) EINVAL _ (allowed k Within (nat_lt k.largest len) EFBIG _ (λ above. (len_ends k.largest len low above, tt)))))
+planned k pid low (Truncate path len) = after k (parsed path) _ (λ names. after k (walk (k.root, Some A_directory) names) _ (λ place. unless k (is_directory place) EISDIR _ (allowed k Within (nat_lt k.largest len) EFBIG _ (λ above. (len_ends k.largest len low above, tt)))))
 planned k pid low (Fstat f) = after k (slot (own k pid (Fstat f)) f) _ (λ it. tells k (it.inode, it.kind))
 planned k pid low (Stat path) = after k (parsed path) _ (λ names. after k (walk (k.root, Some A_directory) names) _ (tells k))
 planned k pid low (Link old path) =

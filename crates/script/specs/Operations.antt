@@ -3,7 +3,7 @@ use Rattle.std.specs.Prelude.{ℕ, ◌-◌, ◌^◌, List, [], ◌∷◌, Bool, 
 use Rattle.std.specs.Prelude.{Option, Some, None, codes, replicate, option_map, if◌then◌else◌}
 use Rattle.std.specs.Option.{option_and_then}
 use Rattle.std.specs.Str.{bytes_eq}
-use Rattle.script.specs.Pieces.{one_of, two_of, three_of}
+use Rattle.script.specs.Pieces.{one_of, two_of, three_of, four_of}
 use Rattle.script.specs.Numbers.{decimal_in, offset_in, byte_in}
 use Rattle.script.specs.Texts.{text_in}
 use Rattle.script.specs.Flags.{flags_in, begin_flags, begin_flags_in, whence_in}
@@ -35,7 +35,15 @@ triple (Some a) (Some b) None = None
 triple (Some a) None _ = None
 triple None _ _ = None
 
--- the values of exactly one argument, two or three, each read in its own way
+abbrev pub quadruple : {A B C D : Type 0}
+    → Option A → Option B → Option C → Option D → Option (A × B × C × D)
+quadruple (Some a) (Some b) (Some c) (Some d) = Some (a, b, c, d)
+quadruple (Some a) (Some b) (Some c) None = None
+quadruple (Some a) (Some b) None _ = None
+quadruple (Some a) None _ _ = None
+quadruple None _ _ _ = None
+
+-- the values of exactly one argument, two, three or four, each read in its own way
 abbrev pub one : {A : Type 0} → (List ℕ → Option A) → List (List ℕ) → Option A
 one f args = option_and_then f (one_of args)
 
@@ -47,6 +55,12 @@ abbrev pub three : {A B C : Type 0}
     → (List ℕ → Option A) → (List ℕ → Option B) → (List ℕ → Option C)
     → List (List ℕ) → Option (A × B × C)
 three f g h args = option_and_then (λ p. triple (f p.0) (g p.1) (h p.2)) (three_of args)
+
+abbrev pub four : {A B C D : Type 0}
+    → (List ℕ → Option A) → (List ℕ → Option B) → (List ℕ → Option C) → (List ℕ → Option D)
+    → List (List ℕ) → Option (A × B × C × D)
+four f g h i args =
+    option_and_then (λ p. quadruple (f p.0) (g p.1) (h p.2) (i p.3)) (four_of args)
 
 -- a number of 32 bits
 abbrev pub number_in : List ℕ → Option ℕ
@@ -76,6 +90,9 @@ fd_arguments fd_verb.Fstat args = option_map (λ fd. op.Call (call.Fstat fd)) (o
 fd_arguments fd_verb.Dup args = option_map (λ fd. op.Call (call.Dup fd)) (one fd_in args)
 fd_arguments fd_verb.Read args =
     option_map (λ p. op.Call (call.Read p.0 p.1)) (two fd_in (decimal_in TRANSFER_LIMIT) args)
+fd_arguments fd_verb.Pread args =
+    option_map (λ p. op.Call (call.Pread p.0 p.1 p.2))
+    (three fd_in (decimal_in TRANSFER_LIMIT) offset_in args)
 fd_arguments fd_verb.Lseek args =
     option_map (λ p. op.Call (call.Lseek p.0 p.1 p.2)) (three fd_in offset_in whence_in args)
 fd_arguments fd_verb.Ftruncate args =
@@ -111,9 +128,16 @@ bare_arguments bare_verb.Abort args = option_map (λ no_restart. op.Abort no_res
 abbrev pub arguments : Verb → List (List ℕ) → Option Op
 arguments verb.Open args = option_map (λ p. op.Call (call.Open p.0 p.1)) (two text_in flags_in args)
 arguments verb.Write args = option_map (λ p. op.Call (call.Write p.0 p.1)) (two fd_in text_in args)
+arguments verb.Pwrite args =
+    option_map (λ p. op.Call (call.Pwrite p.0 p.1 p.2)) (three fd_in text_in offset_in args)
 arguments verb.Fill args =
     option_map (λ p. op.Call (call.Write p.0 (replicate p.1 p.2)))
     (three fd_in (decimal_in TRANSFER_LIMIT) byte_in args)
+arguments verb.Pfill args =
+    option_map (λ p. op.Call (call.Pwrite p.0 (replicate p.1 p.2) p.3))
+    (four fd_in (decimal_in TRANSFER_LIMIT) byte_in offset_in args)
+arguments verb.Truncate args =
+    option_map (λ p. op.Call (call.Truncate p.0 p.1)) (two text_in number_in args)
 arguments (verb.OnFd v) args = fd_arguments v args
 arguments (verb.OnPath v) args = path_arguments v args
 arguments (verb.OnPaths v) args = paths_arguments v args

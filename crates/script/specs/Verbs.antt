@@ -36,8 +36,12 @@ verb_in word =
     else if bytes_eq word (codes "fstat") then Some (verb.OnFd fd.Fstat)
     else if bytes_eq word (codes "dup") then Some (verb.OnFd fd.Dup)
     else if bytes_eq word (codes "read") then Some (verb.OnFd fd.Read)
+    else if bytes_eq word (codes "pread") then Some (verb.OnFd fd.Pread)
     else if bytes_eq word (codes "write") then Some verb.Write
+    else if bytes_eq word (codes "pwrite") then Some verb.Pwrite
     else if bytes_eq word (codes "fill") then Some verb.Fill
+    else if bytes_eq word (codes "pfill") then Some verb.Pfill
     else if bytes_eq word (codes "lseek") then Some (verb.OnFd fd.Lseek)
     else if bytes_eq word (codes "ftruncate") then Some (verb.OnFd fd.Ftruncate)
+    else if bytes_eq word (codes "truncate") then Some verb.Truncate
     else if bytes_eq word (codes "dup2") then Some (verb.OnFd fd.Dup2) else path_verb_in word

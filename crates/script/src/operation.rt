@@ -1,7 +1,7 @@
 // Operations in their spelling.
-ghost use Rattle.std.specs.Prelude.{◌≡◌};
+ghost use Rattle.std.specs.Prelude.{◌≡◌, Some, replicate};
 ghost use Rattle.script.specs.Operations.{abort_of, arguments, bare_arguments};
-ghost use Rattle.script.specs.Operations.{begin_of, fd_arguments, fd_in, on_path};
+ghost use Rattle.script.specs.Operations.{begin_of, fd_arguments, fd_in, four, on_path};
 ghost use Rattle.script.specs.Operations.{one, path_arguments, paths_arguments, three, two};
 ghost use Rattle.script.specs.Numbers.{byte_in, decimal_in, offset_in};
 ghost use Rattle.script.specs.Texts.{text_in};
@@ -62,6 +62,18 @@ fn fd_and_number(args: &mut Pieces<'_>, most: u32) -> Option<(Fd, u32)>
     Some((fd_in(fd)?, number_in(n, most)?))
 }
 
+// A descriptor, a count and an offset.
+fn pread_of(args: &mut Pieces<'_>) -> Option<(Fd, u32, i64)>
+    ensures { result ≡ three fd_in (decimal_in TRANSFER_LIMIT) offset_in args.old }
+{
+    let (fd, count, offset) = args.three()?;
+    Some((
+        fd_in(fd)?,
+        number_in(count, TRANSFER_LIMIT)?,
+        offset_in(offset)?,
+    ))
+}
+
 // A descriptor, a count and a byte.
 fn fill_of(args: &mut Pieces<'_>) -> Option<(Fd, u32, u8)>
     ensures { result ≡ three fd_in (decimal_in TRANSFER_LIMIT) byte_in args.old }
@@ -71,6 +83,19 @@ fn fill_of(args: &mut Pieces<'_>) -> Option<(Fd, u32, u8)>
         fd_in(fd)?,
         number_in(count, TRANSFER_LIMIT)?,
         byte_in(byte)?,
+    ))
+}
+
+// A descriptor, a count, a byte and an offset.
+fn pfill_of(args: &mut Pieces<'_>) -> Option<(Fd, u32, u8, i64)>
+    ensures { result ≡ four fd_in (decimal_in TRANSFER_LIMIT) byte_in offset_in args.old }
+{
+    let (fd, count, byte, offset) = args.four()?;
+    Some((
+        fd_in(fd)?,
+        number_in(count, TRANSFER_LIMIT)?,
+        byte_in(byte)?,
+        offset_in(offset)?,
     ))
 }
 
@@ -118,6 +143,10 @@ fn fd_arguments(verb: FdVerb, args: &mut Pieces<'_>) -> Option<Op>
         FdVerb::Read => {
             let (fd, count) = fd_and_number(args, TRANSFER_LIMIT)?;
             Call::Read(fd, count)
+        }
+        FdVerb::Pread => {
+            let (fd, count, offset) = pread_of(args)?;
+            Call::Pread(fd, count, offset)
         }
         FdVerb::Lseek => {
             let (fd, offset, whence) = lseek_of(args)?;
@@ -209,6 +238,32 @@ fn write_arguments(heap: Heap, args: &mut Pieces<'_>) -> Result<Op, WordFault>
     Ok(Op::Call(Call::Write(fd, text_in(heap, bytes)?)))
 }
 
+// The descriptor, the bytes and the offset of a pwrite.
+fn pwrite_arguments(heap: Heap, args: &mut Pieces<'_>) -> Result<Op, WordFault>
+    ensures { Reads (arguments Verb.Pwrite args.old) result }
+{
+    let Some((fd, bytes, offset)) = args.three() else {
+        return Err(WordFault::Malformed);
+    };
+    let Some(fd) = fd_in(fd) else {
+        return Err(WordFault::Malformed);
+    };
+    let Some(offset) = offset_in(offset) else {
+        return Err(WordFault::Malformed);
+    };
+    Ok(Op::Call(Call::Pwrite(fd, text_in(heap, bytes)?, offset)))
+}
+
+// So many of one byte.
+fn filled(heap: Heap, count: u32, byte: u8) -> Result<Bytes, WordFault>
+    ensures { Reads (Some (replicate count byte)) result }
+{
+    match Vec::from_elem(heap, byte, count as usize) {
+        Ok(bytes) => Ok(Bytes::new(bytes)),
+        Err(_) => Err(WordFault::NoMemory),
+    }
+}
+
 // A write of many of one byte.
 fn fill_arguments(heap: Heap, args: &mut Pieces<'_>) -> Result<Op, WordFault>
     ensures { Reads (arguments Verb.Fill args.old) result }
@@ -216,10 +271,30 @@ fn fill_arguments(heap: Heap, args: &mut Pieces<'_>) -> Result<Op, WordFault>
     let Some((fd, count, byte)) = fill_of(args) else {
         return Err(WordFault::Malformed);
     };
-    let Ok(bytes) = Vec::from_elem(heap, byte, count as usize) else {
-        return Err(WordFault::NoMemory);
+    Ok(Op::Call(Call::Write(fd, filled(heap, count, byte)?)))
+}
+
+// A pwrite of many of one byte.
+fn pfill_arguments(heap: Heap, args: &mut Pieces<'_>) -> Result<Op, WordFault>
+    ensures { Reads (arguments Verb.Pfill args.old) result }
+{
+    let Some((fd, count, byte, offset)) = pfill_of(args) else {
+        return Err(WordFault::Malformed);
     };
-    Ok(Op::Call(Call::Write(fd, Bytes::new(bytes))))
+    Ok(Op::Call(Call::Pwrite(fd, filled(heap, count, byte)?, offset)))
+}
+
+// The path and the length of a truncate.
+fn truncate_arguments(heap: Heap, args: &mut Pieces<'_>) -> Result<Op, WordFault>
+    ensures { Reads (arguments Verb.Truncate args.old) result }
+{
+    let Some((path, length)) = args.two() else {
+        return Err(WordFault::Malformed);
+    };
+    let Some(length) = number_in(length, u32::MAX) else {
+        return Err(WordFault::Malformed);
+    };
+    Ok(Op::Call(Call::Truncate(text_in(heap, path)?, length)))
 }
 
 // The operation of a word with these arguments.
@@ -229,7 +304,10 @@ pub(crate) fn arguments(heap: Heap, verb: Verb, args: &mut Pieces<'_>) -> Result
     match verb {
         Verb::Open => open_arguments(heap, args),
         Verb::Write => write_arguments(heap, args),
+        Verb::Pwrite => pwrite_arguments(heap, args),
         Verb::Fill => fill_arguments(heap, args),
+        Verb::Pfill => pfill_arguments(heap, args),
+        Verb::Truncate => truncate_arguments(heap, args),
         Verb::OnFd(verb) => op_spelled(fd_arguments(verb, args)),
         Verb::OnPath(verb) => path_arguments(heap, verb, args),
         Verb::OnPaths(verb) => paths_arguments(heap, verb, args),

@@ -2,7 +2,7 @@
 ghost use Rattle.std.specs.Prelude.{◌≡◌, ◌==◌, ◌<◌, ◌++◌, ◌+◌, [], length, eqb};
 ghost use Rattle.std.specs.Prelude.{IfSome, IfNone, option_map, option_to_list, is_none};
 ghost use Rattle.std.specs.List.{slice_split};
-ghost use Rattle.script.specs.Pieces.{behind, one_of, three_of, two_of, up_to};
+ghost use Rattle.script.specs.Pieces.{behind, four_of, one_of, three_of, two_of, up_to};
 
 use std::marker::Model;
 
@@ -111,5 +111,15 @@ impl<'a> Pieces<'a> {
         let first = self.next()?;
         let (second, third) = self.two()?;
         Some((first, second, third))
+    }
+
+    // The pieces, where there are exactly four.
+    pub(crate) fn four(&mut self) -> Option<(&'a [u8], &'a [u8], &'a [u8], &'a [u8])>
+        ensures { option_map (λ p. (p.0.now, p.1.now, p.2.now, p.3.now)) result
+            ≡ four_of self.old }
+    {
+        let first = self.next()?;
+        let (second, third, fourth) = self.three()?;
+        Some((first, second, third, fourth))
     }
 }

@@ -9,7 +9,10 @@ use crate::table::lookup;
 pub(crate) enum Verb {
     Open,
     Write,
+    Pwrite,
     Fill,
+    Pfill,
+    Truncate,
     OnFd(FdVerb),
     OnPath(PathVerb),
     OnPaths(PathsVerb),
@@ -23,6 +26,7 @@ pub(crate) enum FdVerb {
     Fstat,
     Dup,
     Read,
+    Pread,
     Lseek,
     Ftruncate,
     Dup2,
@@ -57,16 +61,20 @@ pub(crate) enum BareVerb {
 }
 
 // The words, and what each names.
-static VERBS: [(&str, Verb); 23] = [
+static VERBS: [(&str, Verb); 27] = [
     ("open", Verb::Open),
     ("close", Verb::OnFd(FdVerb::Close)),
     ("fstat", Verb::OnFd(FdVerb::Fstat)),
     ("dup", Verb::OnFd(FdVerb::Dup)),
     ("read", Verb::OnFd(FdVerb::Read)),
+    ("pread", Verb::OnFd(FdVerb::Pread)),
     ("write", Verb::Write),
+    ("pwrite", Verb::Pwrite),
     ("fill", Verb::Fill),
+    ("pfill", Verb::Pfill),
     ("lseek", Verb::OnFd(FdVerb::Lseek)),
     ("ftruncate", Verb::OnFd(FdVerb::Ftruncate)),
+    ("truncate", Verb::Truncate),
     ("dup2", Verb::OnFd(FdVerb::Dup2)),
     ("stat", Verb::OnPath(PathVerb::Stat)),
     ("unlink", Verb::OnPath(PathVerb::Unlink)),

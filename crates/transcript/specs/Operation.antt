@@ -28,15 +28,23 @@ number_text word n = word ++ decimal n
 abbrev pub numbers_text : List ℕ → ℕ → ℕ → List ℕ
 numbers_text word first second = word ++ decimal first ++ codes " " ++ decimal second
 
+abbrev pub bytes_text : List ℕ → ℕ → List ℕ → List ℕ
+bytes_text word fd bytes = word ++ decimal fd ++ codes " " ++ text_of bytes
+
 abbrev pub call_text : Call → List ℕ
 call_text (call.Open path flags) = codes "open " ++ text_of path ++ codes " " ++ flags_text flags
 call_text (call.Close fd) = number_text (codes "close ") fd
 call_text (call.Read fd count) = numbers_text (codes "read ") fd count
-call_text (call.Write fd bytes) = codes "write " ++ decimal fd ++ codes " " ++ text_of bytes
+call_text (call.Pread fd count offset) =
+    numbers_text (codes "pread ") fd count ++ codes " " ++ signed_decimal offset
+call_text (call.Write fd bytes) = bytes_text (codes "write ") fd bytes
+call_text (call.Pwrite fd bytes offset) =
+    bytes_text (codes "pwrite ") fd bytes ++ codes " " ++ signed_decimal offset
 call_text (call.Lseek fd offset from) =
     codes "lseek " ++ decimal fd ++ codes " " ++ signed_decimal offset ++ codes " "
     ++ whence_text from
 call_text (call.Ftruncate fd size) = numbers_text (codes "ftruncate ") fd size
+call_text (call.Truncate path size) = codes "truncate " ++ text_of path ++ codes " " ++ decimal size
 call_text (call.Stat path) = path_text (codes "stat ") path
 call_text (call.Fstat fd) = number_text (codes "fstat ") fd
 call_text (call.Link old new) = paths_text (codes "link ") old new

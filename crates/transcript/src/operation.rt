@@ -2,7 +2,7 @@
 ghost use Rattle.std.specs.Prelude.{◌≡◌, ◌++◌, codes, decimal};
 ghost use Rattle.std.specs.Fmt.{signed_decimal};
 ghost use Rattle.transcript.specs.Flags.{begin_flags_text, flags_text};
-ghost use Rattle.transcript.specs.Operation.{call_text, numbers_text, op_text};
+ghost use Rattle.transcript.specs.Operation.{bytes_text, call_text, numbers_text, op_text};
 ghost use Rattle.transcript.specs.Operation.{path_text, paths_text, whence_text};
 ghost use Rattle.transcript.specs.Printer.{CanPrint, Prints};
 ghost use Rattle.transcript.specs.Text.{text_of};
@@ -58,13 +58,32 @@ fn put_open<S: Sink>(out: &mut Printer<'_, S>, path: &Bytes, flags: OpenFlags)
     put_flags(out, flags);
 }
 
-fn put_write<S: Sink>(out: &mut Printer<'_, S>, fd: u32, bytes: &Bytes)
+fn put_pread<S: Sink>(out: &mut Printer<'_, S>, fd: u32, count: u32, offset: i64)
     requires { CanPrint S.failures out.old }
     ensures { Prints S.written S.failures out.old out.new
-        (codes "write " ++ decimal fd ++ codes " " ++ text_of bytes.now) }
+        (numbers_text (codes "pread ") fd count ++ codes " " ++ signed_decimal offset) }
 {
-    out.put_number(b"write ", fd);
+    put_numbers(out, b"pread ", fd, count);
+    out.put(b" ");
+    out.put_signed(offset);
+}
+
+fn put_bytes<S: Sink>(out: &mut Printer<'_, S>, word: &[u8], fd: u32, bytes: &Bytes)
+    requires { CanPrint S.failures out.old }
+    ensures { Prints S.written S.failures out.old out.new (bytes_text word.now fd bytes.now) }
+{
+    out.put_number(word, fd);
     put_path(out, b" ", bytes);
+}
+
+fn put_pwrite<S: Sink>(out: &mut Printer<'_, S>, fd: u32, bytes: &Bytes, offset: i64)
+    requires { CanPrint S.failures out.old }
+    ensures { Prints S.written S.failures out.old out.new
+        (bytes_text (codes "pwrite ") fd bytes.now ++ codes " " ++ signed_decimal offset) }
+{
+    put_bytes(out, b"pwrite ", fd, bytes);
+    out.put(b" ");
+    out.put_signed(offset);
 }
 
 fn put_lseek<S: Sink>(out: &mut Printer<'_, S>, fd: u32, offset: i64, whence: Whence)
@@ -80,6 +99,15 @@ fn put_lseek<S: Sink>(out: &mut Printer<'_, S>, fd: u32, offset: i64, whence: Wh
     out.put(whence_text(whence));
 }
 
+fn put_truncate<S: Sink>(out: &mut Printer<'_, S>, path: &Bytes, size: u32)
+    requires { CanPrint S.failures out.old }
+    ensures { Prints S.written S.failures out.old out.new
+        (codes "truncate " ++ text_of path.now ++ codes " " ++ decimal size) }
+{
+    put_path(out, b"truncate ", path);
+    out.put_number(b" ", size);
+}
+
 fn put_call<S: Sink>(out: &mut Printer<'_, S>, call: &Call)
     requires { CanPrint S.failures out.old }
     ensures { Prints S.written S.failures out.old out.new (call_text call.now) }
@@ -88,9 +116,12 @@ fn put_call<S: Sink>(out: &mut Printer<'_, S>, call: &Call)
         Call::Open(path, flags) => put_open(out, path, *flags),
         Call::Close(fd) => out.put_number(b"close ", fd.0),
         Call::Read(fd, count) => put_numbers(out, b"read ", fd.0, *count),
-        Call::Write(fd, bytes) => put_write(out, fd.0, bytes),
+        Call::Pread(fd, count, offset) => put_pread(out, fd.0, *count, *offset),
+        Call::Write(fd, bytes) => put_bytes(out, b"write ", fd.0, bytes),
+        Call::Pwrite(fd, bytes, offset) => put_pwrite(out, fd.0, bytes, *offset),
         Call::Lseek(fd, offset, whence) => put_lseek(out, fd.0, *offset, *whence),
         Call::Ftruncate(fd, size) => put_numbers(out, b"ftruncate ", fd.0, *size),
+        Call::Truncate(path, size) => put_truncate(out, path, *size),
         Call::Stat(path) => put_path(out, b"stat ", path),
         Call::Fstat(fd) => out.put_number(b"fstat ", fd.0),
         Call::Link(old, new) => put_paths(out, b"link ", old, new),

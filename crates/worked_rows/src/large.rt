@@ -1,23 +1,14 @@
 // Rows under other limits of a file's bytes than that of the other rows: very few, and the most that
 // there can be.
-use crate::changed::missed_on;
-use crate::forgotten::told_one_by_one;
-use crate::growths::grow_on;
-use crate::row::{Row, kernel_with, steps_in};
-use crate::tests::{at_once, step_by_step};
-use heap::Heap;
-use ids::Limits;
-use kernel::Kernel;
-use machine::Machine;
-use std::test::Fail;
+use crate::row::Row;
 
 // A row, and the most bytes of a file of its kernel.
-struct Large {
-    file_bytes: u32,
-    row: Row,
+pub(crate) struct Large {
+    pub(crate) file_bytes: u32,
+    pub(crate) row: Row,
 }
 
-static LARGE: [Large; 13] = [
+pub(crate) static LARGE: [Large; 13] = [
     // Files of at most five bytes: a write is cut at their end, and none begins there.
     Large {
         file_bytes: 5,
@@ -601,119 +592,8 @@ static LARGE: [Large; 13] = [
     },
 ];
 
-// A kernel of a row, with a history of so many entries.
-fn kernel_for<K: Machine>(heap: Heap, large: &Large, entries: usize) -> Result<K, Fail> {
-    let limits = Limits {
-        entries,
-        file_bytes: large.file_bytes,
-    };
-    kernel_with(heap, large.row.script, limits)
-}
-
-fn transcript_by_steps<K: Machine>(heap: Heap, large: &Large) -> Result<Vec<u8, Heap>, Fail> {
-    let mut kernel: K = kernel_for(heap, large, large.row.limit)?;
-    step_by_step(&mut kernel, heap, &large.row)
-}
-
-fn transcript_at_once<K: Machine>(heap: Heap, large: &Large) -> Result<Vec<u8, Heap>, Fail> {
-    let mut kernel: K = kernel_for(heap, large, large.row.limit)?;
-    at_once(&mut kernel, heap, &large.row)
-}
-
-// The lines of a kernel that forgets each step.
-fn transcript_forgotten<K: Machine>(heap: Heap, large: &Large) -> Result<Vec<u8, Heap>, Fail> {
-    let steps = steps_in(heap, large.row.script, large.row.schedule)?;
-    let mut lines = Vec::new(heap);
-    let mut kernel: K = kernel_for(heap, large, 4)?;
-    told_one_by_one(heap, &mut kernel, steps.as_slice(), &mut lines)?;
-    Ok(lines)
-}
-
-#[test]
-fn steps_leave_the_transcript_of_the_large_row(rt: HostRuntime) -> Result<(), Fail> {
-    let heap = heap::open(rt.alloc())?;
-    for large in &LARGE {
-        let told = transcript_by_steps::<Kernel>(heap, large)?;
-        assert!(rt;
-            told.as_slice() == large.row.transcript.as_bytes(),
-            "{}",
-            large.row.script
-        );
-    }
-    Ok(())
-}
-
-#[test]
-fn a_run_leaves_the_transcript_of_the_large_row(rt: HostRuntime) -> Result<(), Fail> {
-    let heap = heap::open(rt.alloc())?;
-    for large in &LARGE {
-        let told = transcript_at_once::<Kernel>(heap, large)?;
-        assert!(rt;
-            told.as_slice() == large.row.transcript.as_bytes(),
-            "{}",
-            large.row.script
-        );
-    }
-    Ok(())
-}
-
-#[test]
-fn forgetting_leaves_the_transcript_of_the_large_row(rt: HostRuntime) -> Result<(), Fail> {
-    let heap = heap::open(rt.alloc())?;
-    for large in &LARGE {
-        let told = transcript_forgotten::<Kernel>(heap, large)?;
-        assert!(rt;
-            told.as_slice() == large.row.transcript.as_bytes(),
-            "{}",
-            large.row.script
-        );
-    }
-    Ok(())
-}
-
-fn missed_in<K: Machine>(heap: Heap, large: &Large) -> Result<Option<usize>, Fail> {
-    let mut kernel: K = kernel_for(heap, large, large.row.limit)?;
-    missed_on(&mut kernel, heap, &large.row)
-}
-
-#[test]
-fn changed_replies_of_large_rows_are_found(rt: HostRuntime) -> Result<(), Fail> {
-    let heap = heap::open(rt.alloc())?;
-    for large in &LARGE {
-        assert!(rt;
-            missed_in::<Kernel>(heap, large)?.is_none(),
-            "{}",
-            large.row.script
-        );
-    }
-    Ok(())
-}
-
-// How many requests for memory were refused, one in each run of a step, and the transcript.
-fn grow_large(heap: Heap, large: &Large) -> Result<(u64, Vec<u8, Heap>), Fail> {
-    let mut kernel: Kernel = kernel_for(heap, large, large.row.limit)?;
-    let grown = grow_on(&mut kernel, heap, &large.row);
-    drop(kernel);
-    grown
-}
-
-#[test]
-fn refuse_each_growth_of_large_rows(rt: HostRuntime) -> Result<(), Fail> {
-    let heap = heap::open(rt.alloc())?;
-    for large in &LARGE {
-        let (count, told) = grow_large(heap, large)?;
-        assert!(rt; count > 0);
-        assert!(rt;
-            told.as_slice() == large.row.transcript.as_bytes(),
-            "{}",
-            large.row.script
-        );
-    }
-    Ok(())
-}
-
 // A cut writes each block that it takes. These two take 65,536 each, so they are done once.
-static MANY: Large = Large {
+pub(crate) static MANY: Large = Large {
     file_bytes: 2_147_483_647,
     row: Row {
         script: "priorities 0 0
@@ -751,10 +631,3 @@ static MANY: Large = Large {
 ",
     },
 };
-
-#[test]
-fn many_blocks_are_cut(rt: HostRuntime) -> Result<(), Fail> {
-    let told = transcript_by_steps::<Kernel>(heap::open(rt.alloc())?, &MANY)?;
-    assert!(rt; told.as_slice() == MANY.row.transcript.as_bytes());
-    Ok(())
-}

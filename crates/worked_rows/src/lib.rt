@@ -2,6 +2,10 @@
 #![tactic(auto)]
 
 #[cfg(test)]
+mod at_offsets;
+#[cfg(test)]
+mod beside_offsets;
+#[cfg(test)]
 mod capacity;
 #[cfg(test)]
 mod changed;
@@ -19,6 +23,8 @@ mod given_up;
 mod growths;
 #[cfg(test)]
 mod large;
+#[cfg(test)]
+mod large_tests;
 #[cfg(test)]
 mod limits;
 #[cfg(test)]
@@ -40,6 +46,8 @@ mod refused_files;
 #[cfg(test)]
 mod refused_names;
 #[cfg(test)]
+mod refused_offsets;
+#[cfg(test)]
 mod refused_pipes;
 #[cfg(test)]
 mod renames;
@@ -57,5 +65,7 @@ mod tests;
 mod transactions;
 #[cfg(test)]
 mod trees;
+#[cfg(test)]
+mod truncates;
 #[cfg(test)]
 mod views;

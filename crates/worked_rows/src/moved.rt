@@ -25,6 +25,15 @@ fn read(count: u32) -> Op {
     Op::Call(Call::Read(Fd(0), count))
 }
 
+fn pwrite(heap: Heap, count: usize, place: i64) -> Result<Op, Fail> {
+    let bytes = Vec::from_elem(heap, b'y', count)?;
+    Ok(Op::Call(Call::Pwrite(Fd(0), Bytes::new(bytes), place)))
+}
+
+fn pread(count: u32, place: i64) -> Op {
+    Op::Call(Call::Pread(Fd(0), count, place))
+}
+
 // How many bytes a step moves.
 fn moved<K: Machine>(kernel: &mut K, op: Op) -> usize {
     let reply = kernel.step(Pid(1), op);
@@ -45,16 +54,28 @@ fn each_moved<K: Machine>(heap: Heap, kernel: &mut K) -> Result<[usize; 5], Fail
 
 const MOVED: [usize; 5] = [1_048_576, 1_048_576, 1_048_576, 1_048_576, 0];
 
+// How many a write and two reads at places move, which find 2,097,152 there.
+fn each_moved_at_offsets<K: Machine>(heap: Heap, kernel: &mut K) -> Result<[usize; 3], Fail> {
+    let one = moved(kernel, pwrite(heap, 1_048_577, 1)?);
+    let two = moved(kernel, pread(u32::MAX, 0));
+    Ok([one, two, moved(kernel, pread(u32::MAX, 2_000_000))])
+}
+
+const MOVED_AT_OFFSETS: [usize; 3] = [1_048_576, 1_048_576, 97_152];
+
 // Whether so many are moved, plain and in a transaction, and the history passes the check.
 fn is_moved<K: Machine>(heap: Heap, kernel: &mut K) -> Result<bool, Fail> {
     do_script(kernel, heap, OPENED, "1")?;
     let plain = each_moved(heap, kernel)?;
+    let at_offsets = each_moved_at_offsets(heap, kernel)?;
     do_script(kernel, heap, BACK, "1")?;
     do_script(kernel, heap, BEGUN, "1")?;
     let within = each_moved(heap, kernel)?;
+    let at_offsets_within = each_moved_at_offsets(heap, kernel)?;
     do_script(kernel, heap, ENDED, "1")?;
     pass(heap, kernel.history())?;
-    Ok(plain == MOVED && within == MOVED)
+    let right = plain == MOVED && at_offsets == MOVED_AT_OFFSETS;
+    Ok(right && within == MOVED && at_offsets_within == MOVED_AT_OFFSETS)
 }
 
 fn is_moved_anew<K: Machine>(heap: Heap) -> Result<bool, Fail> {

@@ -21,12 +21,19 @@ fn long_path(heap: Heap, names: &[usize]) -> Result<Bytes, AllocError> {
     Ok(Bytes::new(bytes))
 }
 
-// The error of a stat of this path.
-fn error_of<K: Machine>(kernel: &mut K, path: Bytes) -> Option<Errno> {
-    let reply = kernel.step(Pid(1), Op::Call(Call::Stat(path)));
+// The error of a call.
+fn error_of<K: Machine>(kernel: &mut K, call: Call) -> Option<Errno> {
+    let reply = kernel.step(Pid(1), Op::Call(call));
     let errno = errno_in(&reply);
     drop(reply);
     errno
+}
+
+// The errors of a stat of this path, and of a cut to a length that no file has.
+fn errors_of<K: Machine>(kernel: &mut K, path: &Bytes) -> Result<[Option<Errno>; 2], AllocError> {
+    let stat = error_of(kernel, Call::Stat(path.try_clone()?));
+    let truncate = error_of(kernel, Call::Truncate(path.try_clone()?, u32::MAX));
+    Ok([stat, truncate])
 }
 
 fn errno_in(reply: &Reply) -> Option<Errno> {
@@ -56,13 +63,13 @@ static FORMS: [(&str, Option<Errno>); 8] = [
 
 fn assert_errors<K: Machine>(rt: &impl Abort, heap: Heap, kernel: &mut K) -> Result<(), Fail> {
     for (names, errno) in &LONG {
-        assert_eq!(rt; error_of(kernel, long_path(heap, names)?), Some(*errno));
+        let path = long_path(heap, names)?;
+        assert_eq!(rt; errors_of(kernel, &path)?, [Some(*errno), Some(*errno)]);
     }
     for (path, errno) in &FORMS {
-        assert_eq!(rt;
-            error_of(kernel, Bytes::copy(heap, path.as_bytes())?),
-            *errno
-        );
+        let path = Bytes::copy(heap, path.as_bytes())?;
+        let cut = errno.unwrap_or(Errno::EISDIR);
+        assert_eq!(rt; errors_of(kernel, &path)?, [*errno, Some(cut)]);
     }
     Ok(())
 }

@@ -3,7 +3,7 @@ use crate::refused::{Part, Refused, assert_right};
 use kernel::Kernel;
 use std::test::Fail;
 
-static FILES: [Refused; 12] = [
+static FILES: [Refused; 16] = [
     // A call that dooms a reader.
     Refused {
         before: Part {
@@ -355,6 +355,140 @@ static FILES: [Refused; 12] = [
 3 P1 close 0 -> ok
 4 P1 end -> committed
 5 P1 fstat 0 -> EBADF
+",
+        requests: 2,
+    },
+    // A plain call cuts a file by its name, and dooms who has asked for its length.
+    Refused {
+        before: Part {
+            script: "priorities 0 0
+1 open /a RDWR,CREAT
+1 write 0 hi
+1 begin
+1 stat /a
+",
+            schedule: "1,1,1,1",
+        },
+        step: Part {
+            script: "priorities 0 0
+2 truncate /a 1
+",
+            schedule: "2",
+        },
+        after: Part {
+            script: "priorities 0 0
+1 end
+2 stat /a
+",
+            schedule: "1,2",
+        },
+        transcript: "1 P1 open /a RDWR,CREAT -> 0
+2 P1 write 0 hi -> 2
+3 P1 begin -> begun
+4 P1 stat /a -> file size 2 links 1
+5 P2 truncate /a 1 -> ok dooms P1
+6 P1 end -> aborted size read by P2
+7 P2 stat /a -> file size 1 links 1
+",
+        requests: 2,
+    },
+    // A transaction cuts one so.
+    Refused {
+        before: Part {
+            script: "priorities 0 0
+1 open /a RDWR,CREAT
+1 write 0 hi
+1 begin
+",
+            schedule: "1,1,1",
+        },
+        step: Part {
+            script: "priorities 0 0
+1 truncate /a 1
+",
+            schedule: "1",
+        },
+        after: Part {
+            script: "priorities 0 0
+1 fstat 0
+2 stat /a
+1 end
+2 stat /a
+",
+            schedule: "1,2,1,2",
+        },
+        transcript: "1 P1 open /a RDWR,CREAT -> 0
+2 P1 write 0 hi -> 2
+3 P1 begin -> begun
+4 P1 truncate /a 1 -> ok
+5 P1 fstat 0 -> file size 1 links 1
+6 P2 stat /a -> file size 2 links 1
+7 P1 end -> committed
+8 P2 stat /a -> file size 1 links 1
+",
+        requests: 2,
+    },
+    // And lengthens it again.
+    Refused {
+        before: Part {
+            script: "priorities 0 0
+1 open /a RDWR,CREAT
+1 write 0 hi
+1 begin
+1 truncate /a 1
+",
+            schedule: "1,1,1,1",
+        },
+        step: Part {
+            script: "priorities 0 0
+1 truncate /a 3
+",
+            schedule: "1",
+        },
+        after: Part {
+            script: "priorities 0 0
+1 end
+1 lseek 0 0 SET
+1 read 0 5
+",
+            schedule: "1,1,1",
+        },
+        transcript: "1 P1 open /a RDWR,CREAT -> 0
+2 P1 write 0 hi -> 2
+3 P1 begin -> begun
+4 P1 truncate /a 1 -> ok
+5 P1 truncate /a 3 -> ok
+6 P1 end -> committed
+7 P1 lseek 0 0 SET -> 0
+8 P1 read 0 5 -> 3 h\\x00\\x00
+",
+        requests: 2,
+    },
+    // A name that is not there is noted.
+    Refused {
+        before: Part {
+            script: "priorities 0 0
+1 begin
+",
+            schedule: "1",
+        },
+        step: Part {
+            script: "priorities 0 0
+1 truncate /a 0
+",
+            schedule: "1",
+        },
+        after: Part {
+            script: "priorities 0 0
+2 open /a WRONLY,CREAT
+1 end
+",
+            schedule: "2,1",
+        },
+        transcript: "1 P1 begin -> begun
+2 P1 truncate /a 0 -> ENOENT
+3 P2 open /a WRONLY,CREAT -> 0 dooms P1
+4 P1 end -> aborted entry a read by P2
 ",
         requests: 2,
     },

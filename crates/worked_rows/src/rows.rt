@@ -1,4 +1,6 @@
 // All rows.
+use crate::at_offsets::AT_OFFSETS;
+use crate::beside_offsets::BESIDE_OFFSETS;
 use crate::files::FILES;
 use crate::freed::FREED;
 use crate::links::LINKS;
@@ -9,9 +11,10 @@ use crate::row::Row;
 use crate::shared::SHARED;
 use crate::transactions::TRANSACTIONS;
 use crate::trees::TREES;
+use crate::truncates::TRUNCATES;
 
 // How many kinds of rows there are.
-pub(crate) const KINDS: usize = 11;
+pub(crate) const KINDS: usize = 14;
 
 // The rows of a kind, whose number is below `KINDS`. The functions that go over all of them do so in
 // a loop, since the proof of a call for each kind is long.
@@ -27,6 +30,9 @@ pub(crate) fn rows_of(kind: usize) -> &'static [Row] {
         7 => &PIPES,
         8 => &HALVES,
         9 => &PROCESSES,
-        _ => &ENDED,
+        10 => &ENDED,
+        11 => &TRUNCATES,
+        12 => &AT_OFFSETS,
+        _ => &BESIDE_OFFSETS,
     }
 }

@@ -1,4 +1,4 @@
--- The edits of calls on contents fit: read, write, lseek and ftruncate.
+-- The edits of calls on contents fit: read, pread, write, pwrite, lseek, ftruncate and truncate.
 use Rattle.std.proofs.Common.{◌≢◌, min, eq-eqb, ◌≡◌, ℕ, ◌+◌, ◌-◌, ◌≤◌, ℤ, pos, negsuc, Bool, true, false, ◌&&◌, List, [], ◌∷◌, ◌++◌, map, length, take, if◌then◌else◌, Some, IfOk, refl, sym, ◌∙◌, arith, ◌==◌, nat_lt, nat_le, length-take}
 use Rattle.std.specs.List.{AllByRecursion}
 use Rattle.std.proofs.lemmas.Bool.{false≢true}
@@ -8,7 +8,7 @@ use Rattle.model.specs.Aspects.{Size, Block, Offset}
 use Rattle.model.specs.Plan.{Plan, given, ◌>>=◌, ◌>>◌, ask, answer, blocks, Measure, Count_ends, Fit, refuse_if, EINVAL, EAGAIN, EPIPE, EFBIG}
 use Rattle.model.specs.Changes.{Put_bytes, Cut, Append, Set_offset, marks, applied}
 use Rattle.model.specs.Calls.{Answer, Done, Count, New_place, Bytes, Slot}
-use Rattle.model.specs.Plans.{Change, changed, unchanged, is_pipe, read_pipe, read_some, place_to_write, write_some, room, sought, cut_to}
+use Rattle.model.specs.Plans.{Change, changed, unchanged, is_pipe, read_pipe, read_some, place_to_write, write_some, room, write_from, sought, cut_to}
 use Rattle.model.proofs.Laws.{append-all}
 use Rattle.call_laws.specs.Objects.{IsThere}
 use Rattle.call_laws.specs.WellFormed.{WellFormed}
@@ -96,6 +96,19 @@ module _ (k : Kernel) (well : WellFormed k) (pid : ℕ) (alive : IsAlive k pid) 
       (λ file. after_bind k Fine (place_to_write s s.appending) (put_at k.largest s bytes) (whatever (given k (place_to_write s s.appending)) (λ place.
       put_fits s bytes held (sym held.kind ∙ kind_of_file s.kind held.can_be_opened file) place)))
 
+  pub put_from : (s : Slot) (bytes : List ℕ) → IsOpen k s → is_pipe s.kind ≡ false → (offset : ℕ) → IfOk (given k (write_from k.largest s.inode offset bytes)) Fine
+  unfolding applied
+  put_from s bytes held file offset =
+      let is : kind_of k s.inode ≡ Some A_file = sym held.kind ∙ kind_of_file s.kind held.can_be_opened file in
+      allowed k Fine (nat_le k.largest offset) EFBIG (ask (Measure s.inode) >>= (λ size. changed (Count (length (take (room k.largest offset) bytes))) (Put_bytes s.inode offset (take (room k.largest offset) bytes) size ∷ []))) (λ _. record {
+        fits = λ can. ((is, refl), tt);
+        by = (tt, tt);
+        there = append-all (IsThere k) ((if nat_lt (answer k (Measure s.inode)) (offset + length (take (room k.largest offset) bytes)) then Size s.inode ∷ [] else []) ++ map (Block s.inode) (blocks offset (length (take (room k.largest offset) bytes)))) []
+            (append-all (IsThere k) (if nat_lt (answer k (Measure s.inode)) (offset + length (take (room k.largest offset) bytes)) then Size s.inode ∷ [] else []) (map (Block s.inode) (blocks offset (length (take (room k.largest offset) bytes))))
+            (size_there s.inode is _) (blocks_there k s.inode is _))
+            tt;
+      })
+
   pub seek_at : (s : Slot) (to : ℤ) → IsOpen k s → IfOk (given k (sought k.largest s to)) Fine
   seek_at s (pos place) held = allowed k Fine (nat_lt k.largest place) EINVAL (changed (New_place place) (Set_offset s.description place ∷ [])) (λ _. record { fits = λ can. ((held.it, held.there), tt); by = (tt, tt); there = (described s held, tt) })
   seek_at s (negsuc place) held = tt
@@ -107,7 +120,9 @@ module _ (k : Kernel) (well : WellFormed k) (pid : ℕ) (alive : IsAlive k pid) 
   pub cut_there : (n before after : ℕ) → kind_of k n ≡ Some A_file → AllByRecursion (IsThere k) (marks (Cut n before after))
   cut_there n before after is = append-all (IsThere k) (if before == after then [] else Size n ∷ []) (map (Block n) (blocks after (before - after))) (length_there n is (before == after)) (blocks_there k n is _)
 
+  pub cut_fits : (n len : ℕ) → kind_of k n ≡ Some A_file → IfOk (given k (cut_to n len >>= (λ cut. changed Done cut))) Fine
+  cut_fits n len is =
+      record { fits = λ can. ((is, refl), tt); by = (tt, tt); there = append-all (IsThere k) (marks (Cut n (answer k (Measure n)) len)) [] (cut_there n (answer k (Measure n)) len is) tt }
+
   pub truncated : (s : Slot) (len : ℕ) → IsOpen k s → is_pipe s.kind ≡ false → IfOk (given k (cut_to s.inode len >>= (λ cut. changed Done cut))) Fine
-  truncated s len held file =
-      let is : kind_of k s.inode ≡ Some A_file = sym held.kind ∙ kind_of_file s.kind held.can_be_opened file in
-      record { fits = λ can. ((is, refl), tt); by = (tt, tt); there = append-all (IsThere k) (marks (Cut s.inode (answer k (Measure s.inode)) len)) [] (cut_there s.inode (answer k (Measure s.inode)) len is) tt }
+  truncated s len held file = cut_fits s.inode len (sym held.kind ∙ kind_of_file s.kind held.can_be_opened file)

@@ -1,12 +1,12 @@
 -- The edits of each call fit a well-formed state, are the caller's own, and mark objects that are there.
 use Rattle.std.proofs.Common.{ℕ, pos, ◌+ℤ◌, true, false, not, ◌&&◌, ◌||◌, List, [], if◌then◌else◌, Some, IfOk, refl, sym, ◌==◌, nat_lt}
 use Rattle.model.specs.State.{A_directory, Kernel}
-use Rattle.model.specs.Plan.{given, ENOTDIR, EEXIST, EBUSY, EPERM, EINVAL, EISDIR, EBADF, EFBIG, ESPIPE}
+use Rattle.model.specs.Plan.{given, ENOTDIR, EEXIST, EBUSY, EPERM, EINVAL, EISDIR, EBADF, EFBIG, ESPIPE, or_refuse}
 use Rattle.model.specs.Paths.{is_empty}
 use Rattle.model.specs.Walks.{parsed, walk, is_directory, last_of}
 use Rattle.ids.specs.Flags.{is_reading, is_writing, is_creating, is_exclusive, is_truncating}
-use Rattle.model.specs.Calls.{Call, Open, Close, Read, Write, Lseek, Ftruncate, Stat, Fstat, Link, Unlink, Rename, Mkdir, Rmdir, List_directory, Dup, Dup2, Open_pipe, Fork, Exit, Count, Bytes, own}
-use Rattle.model.specs.Plans.{unchanged, is_pipe, read_some, write_some, base, free, first_of_free}
+use Rattle.model.specs.Calls.{Call, Open, Close, Read, Pread, Write, Pwrite, Lseek, Ftruncate, Truncate, Stat, Fstat, Link, Unlink, Rename, Mkdir, Rmdir, List_directory, Dup, Dup2, Open_pipe, Fork, Exit, Count, Bytes, own}
+use Rattle.model.specs.Plans.{unchanged, is_pipe, read_some, write_some, offset_named, read_from, write_from, base, free, first_of_free}
 use Rattle.model.specs.Steps.{outcome}
 use Rattle.model.specs.Entries.{is_inside}
 use Rattle.call_laws.specs.WellFormed.{WellFormed}
@@ -18,7 +18,7 @@ use Rattle.call_laws.proofs.calls.OwnSlots.{IsFreeIn, all_free, free_different}
 use Rattle.call_laws.proofs.calls.OpenSlots.{is_open, with_slot}
 use Rattle.call_laws.proofs.calls.WillFit.{WillFit, both_ok, unchanged_fits}
 use Rattle.call_laws.proofs.calls.NamesFit.{mkdir_at, rmdir_at, status_fits, not_directory, link_at, unlink_at, rename_at}
-use Rattle.call_laws.proofs.calls.ContentsFit.{read_at, write_at, seek_at, truncated}
+use Rattle.call_laws.proofs.calls.ContentsFit.{read_at, write_at, put_from, seek_at, truncated, cut_fits}
 use Rattle.call_laws.proofs.calls.SlotsFit.{close_at, dup_with, dup2_at, pipe_with, fork_at, exit_at, open_at_last, first_free}
 
 -- the plan's change fits, whatever call it is
@@ -37,9 +37,19 @@ call_fits k pid (Close f) chosen well alive = with_slot k pid (Close f) f (WillF
 call_fits k pid (Read f count) chosen well alive = with_slot k pid (Read f count) f (WillFit k pid true chosen) _ (λ s held.
     allowed k (WillFit k pid true chosen) (not s.reading) EBADF _ (λ _.
     either_given k (WillFit k pid true chosen) (count == 0) (unchanged (Bytes [])) (read_some s count) (λ _. unchanged_fits k pid true chosen (Bytes [])) (λ _. read_at k well pid alive true chosen s count (is_open k well pid f s held))))
+call_fits k pid (Pread f count offset) chosen well alive = with_slot k pid (Pread f count offset) f (WillFit k pid true chosen) _ (λ s held.
+    allowed k (WillFit k pid true chosen) (not s.reading) EBADF _ (λ _.
+    allowed k (WillFit k pid true chosen) (is_pipe s.kind) ESPIPE _ (λ _.
+    after_bind k (WillFit k pid true chosen) (or_refuse EINVAL (offset_named offset)) _ (whatever (given k (or_refuse EINVAL (offset_named offset))) (λ at.
+    either_given k (WillFit k pid true chosen) (count == 0) (unchanged (Bytes [])) (read_from s.inode at count) (λ _. unchanged_fits k pid true chosen (Bytes [])) (λ _. unchanged_fits k pid true chosen _))))))
 call_fits k pid (Write f bytes) chosen well alive = with_slot k pid (Write f bytes) f (WillFit k pid true chosen) _ (λ s held.
     allowed k (WillFit k pid true chosen) (not s.writing) EBADF _ (λ _.
     either_given k (WillFit k pid true chosen) (is_empty bytes) (unchanged (Count 0)) (write_some k.largest s bytes) (λ _. unchanged_fits k pid true chosen (Count 0)) (λ _. write_at k well pid alive true chosen s bytes (is_open k well pid f s held))))
+call_fits k pid (Pwrite f bytes offset) chosen well alive = with_slot k pid (Pwrite f bytes offset) f (WillFit k pid true chosen) _ (λ s held.
+    allowed k (WillFit k pid true chosen) (not s.writing) EBADF _ (λ _.
+    allowed k (WillFit k pid true chosen) (is_pipe s.kind) ESPIPE _ (λ file.
+    after_bind k (WillFit k pid true chosen) (or_refuse EINVAL (offset_named offset)) _ (whatever (given k (or_refuse EINVAL (offset_named offset))) (λ at.
+    either_given k (WillFit k pid true chosen) (is_empty bytes) (unchanged (Count 0)) (write_from k.largest s.inode at bytes) (λ _. unchanged_fits k pid true chosen (Count 0)) (λ _. put_from k well pid alive true chosen s bytes (is_open k well pid f s held) file at))))))
 call_fits k pid (Lseek f move whence) chosen well alive = with_slot k pid (Lseek f move whence) f (WillFit k pid true chosen) _ (λ s held.
     allowed k (WillFit k pid true chosen) (is_pipe s.kind) ESPIPE _ (λ _.
     after_bind k (WillFit k pid true chosen) (base s whence) _ (whatever (given k (base s whence)) (λ place. seek_at k well pid alive true chosen s (pos place +ℤ move) (is_open k well pid f s held)))))
@@ -47,6 +57,11 @@ call_fits k pid (Ftruncate f len) chosen well alive = with_slot k pid (Ftruncate
     allowed k (WillFit k pid true chosen) (not s.writing) EBADF _ (λ _.
     allowed k (WillFit k pid true chosen) (is_pipe s.kind) EINVAL _ (λ file.
     allowed k (WillFit k pid true chosen) (nat_lt k.largest len) EFBIG _ (λ _. truncated k well pid alive true chosen s len (is_open k well pid f s held) file))))
+call_fits k pid (Truncate path len) chosen well alive =
+    after_bind k (WillFit k pid true chosen) (parsed path) _ (whatever (given k (parsed path)) (λ names.
+    after_bind k (WillFit k pid true chosen) (walk (k.root, Some A_directory) names) _ (weaken (given k (walk (k.root, Some A_directory) names)) (walk_right k well k.root (Some A_directory) names (root_place k well)) (λ place right.
+    not_directory k well pid alive true chosen (WillFit k pid true chosen) place EISDIR _ right (λ file.
+    allowed k (WillFit k pid true chosen) (nat_lt k.largest len) EFBIG _ (λ _. cut_fits k well pid alive true chosen place.0 len file))))))
 call_fits k pid (Stat path) chosen well alive =
     after_bind k (WillFit k pid true chosen) (parsed path) _ (whatever (given k (parsed path)) (λ names.
     after_bind k (WillFit k pid true chosen) (walk (k.root, Some A_directory) names) _ (whatever (given k (walk (k.root, Some A_directory) names)) (λ place. status_fits k well pid alive true chosen place))))

@@ -9,8 +9,8 @@ use Rattle.model.specs.Paths.{is_empty, is_below, path_names}
 use Rattle.model.specs.Walks.{Place, told, parsed, is_directory, walk, last, last_of, Last}
 use Rattle.model.specs.Changes.{Mode, There, Move, Set_offset, Append, Open_inode, is_held, Replaced, Over_directory}
 use Rattle.ids.specs.Flags.{is_reading, is_writing, is_creating, is_exclusive, is_truncating}
-use Rattle.model.specs.Calls.{OpenFlags, Whence, From_start, From_offset, From_end, Call, Open, Close, Read, Write, Lseek, Ftruncate, Stat, Fstat, Link, Unlink, Rename, Mkdir, Rmdir, List_directory, Dup, Dup2, Open_pipe, Fork, Exit, Done, Descriptor, Count, New_place, Bytes, Slot, own}
-use Rattle.model.specs.Plans.{Change, absent, status, changed, unchanged, slot, slot_at, is_pipe, read_pipe, read_some, place_to_write, write_some, most_moved, base, sought, replaced_by_name, moved, cut_to, opened, mode, free, first_of_free, duplicated, piped}
+use Rattle.model.specs.Calls.{OpenFlags, Whence, From_start, From_offset, From_end, Call, Open, Close, Read, Pread, Write, Pwrite, Lseek, Ftruncate, Truncate, Stat, Fstat, Link, Unlink, Rename, Mkdir, Rmdir, List_directory, Dup, Dup2, Open_pipe, Fork, Exit, Done, Descriptor, Count, New_place, Bytes, Slot, own}
+use Rattle.model.specs.Plans.{Change, absent, status, changed, unchanged, slot, slot_at, is_pipe, read_pipe, read_some, place_to_write, write_some, most_moved, offset_named, read_from, write_from, base, sought, replaced_by_name, moved, cut_to, opened, mode, free, first_of_free, duplicated, piped}
 use Rattle.model.specs.Steps.{reads}
 use Rattle.model.proofs.Laws.{all-append, append-all}
 use Rattle.call_laws.specs.Objects.{IsThere}
@@ -222,6 +222,18 @@ module _ (k : Kernel) (well : WellFormed k) where
   write_seen s bytes held = either k (is_pipe s.kind) (write_pipe s bytes) (place_to_write s s.appending >>= put_at k.largest s bytes) (λ pipe. pipe_written_seen s bytes (pipe_stays s held pipe))
       (λ file. seen_bind k (place_to_write s s.appending) (put_at k.largest s bytes) (place_seen s held (open_stays s held file) s.appending) (whatever (given k (place_to_write s s.appending)) (λ place. put_seen s bytes place (open_stays s held file))))
 
+  read_from_seen : (n offset count : ℕ) → Stays k n A_file → AllLeft k (seen k (read_from n offset count))
+  read_from_seen n offset count stays =
+      append-all (IsLeft k) (shown (Read_file n offset (min count most_moved)) (answer k (Read_file n offset (min count most_moved)))) [] (stays, each_block n stays _) tt
+
+  write_from_seen : (n offset : ℕ) (bytes : List ℕ) → Stays k n A_file → AllLeft k (seen k (write_from k.largest n offset bytes))
+  write_from_seen n offset bytes stays = refusal k (nat_le k.largest offset) EFBIG _ (λ _. (stays, tt))
+
+  -- an offset that a call names asks nothing
+  named_seen : {A : Type 0} (offset : ℤ) (f : ℕ → Plan A) → ((at : ℕ) → AllLeft k (seen k (f at))) → AllLeft k (seen k (or_refuse EINVAL (offset_named offset) >>= f))
+  named_seen (pos at) f h = h at
+  named_seen (negsuc n) f h = tt
+
   base_seen : (s : Slot) (whence : Whence) → IsOpen k s → is_pipe s.kind ≡ false → AllLeft k (seen k (base s whence))
   base_seen s From_start held file = tt
   base_seen s From_offset held file = (place_stays s held, tt)
@@ -264,10 +276,15 @@ calls_see k pid (Open path flags) well =
     with_last k well (if is_creating flags && is_exclusive flags then EEXIST else EISDIR) names _ (λ at last. opened_seen k well pid (Open path flags) flags f at last at.found refl)))))))
 calls_see k pid (Close f) well = with_slot k well pid (Close f) f _ (λ s held. tt)
 calls_see k pid (Read f count) well = with_slot k well pid (Read f count) f _ (λ s held. refusal k (not s.reading) EBADF _ (λ _. either k (count == 0) (unchanged (Bytes [])) (read_some s count) (λ _. tt) (λ _. read_seen k well s count held)))
+calls_see k pid (Pread f count offset) well = with_slot k well pid (Pread f count offset) f _ (λ s held. refusal k (not s.reading) EBADF _ (λ _. refusal k (is_pipe s.kind) ESPIPE _ (λ file. named_seen k well offset _ (λ at.
+    either k (count == 0) (unchanged (Bytes [])) (read_from s.inode at count) (λ _. tt) (λ _. read_from_seen k well s.inode at count (open_stays k well s held file))))))
 calls_see k pid (Write f bytes) well = with_slot k well pid (Write f bytes) f _ (λ s held. refusal k (not s.writing) EBADF _ (λ _. either k (is_empty bytes) (unchanged (Count 0)) (write_some k.largest s bytes) (λ _. tt) (λ _. write_seen k well s bytes held)))
+calls_see k pid (Pwrite f bytes offset) well = with_slot k well pid (Pwrite f bytes offset) f _ (λ s held. refusal k (not s.writing) EBADF _ (λ _. refusal k (is_pipe s.kind) ESPIPE _ (λ file. named_seen k well offset _ (λ at.
+    either k (is_empty bytes) (unchanged (Count 0)) (write_from k.largest s.inode at bytes) (λ _. tt) (λ _. write_from_seen k well s.inode at bytes (open_stays k well s held file))))))
 calls_see k pid (Lseek f move whence) well = with_slot k well pid (Lseek f move whence) f _ (λ s held. refusal k (is_pipe s.kind) ESPIPE _ (λ file.
     seen_bind k (base s whence) _ (base_seen k well s whence held file) (whatever (given k (base s whence)) (λ place. sought_seen k well s (pos place +ℤ move)))))
 calls_see k pid (Ftruncate f len) well = with_slot k well pid (Ftruncate f len) f _ (λ s held. refusal k (not s.writing) EBADF _ (λ _. refusal k (is_pipe s.kind) EINVAL _ (λ file. refusal k (nat_lt k.largest len) EFBIG _ (λ _. (open_stays k well s held file, tt)))))
+calls_see k pid (Truncate path len) well = with_path k path _ (λ names. with_walk k well names _ (λ place r. refusal k (is_directory place) EISDIR _ (λ file. refusal k (nat_lt k.largest len) EFBIG _ (λ _. (file_stays k well place r file, tt)))))
 calls_see k pid (Stat path) well = with_path k path _ (λ names. with_walk k well names _ (λ place r. status_seen k well place r.right (rooted_reached k place.0 r.rooted)))
 calls_see k pid (Fstat f) well = with_slot k well pid (Fstat f) f _ (λ s held. status_seen k well (s.inode, s.kind) held.kind held.reached)
 calls_see k pid (Link old path) well = with_path k old _ (λ from. with_path k path _ (λ to. with_walk k well from _ (λ what r. refusal k (is_directory what) EPERM _ (λ _.

@@ -11,8 +11,8 @@ use Rattle.model.specs.Paths.{is_empty, is_below, is_no_name, with_first, names_
 use Rattle.model.specs.Walks.{told, parsed, Place, is_directory, look, walk, Last, last, last_of}
 use Rattle.model.specs.Changes.{Edit, Replaced, Open_inode, Make_pipe, Share_slot, Clear_slot, New_process, End_process}
 use Rattle.ids.specs.Flags.{is_reading, is_writing, is_creating, is_exclusive, is_truncating}
-use Rattle.model.specs.Calls.{own, Call, Open, Close, Read, Write, Lseek, Ftruncate, Stat, Fstat, Link, Unlink, Rename, Mkdir, Rmdir, List_directory, Dup, Dup2, Open_pipe, Fork, Exit, Whence, From_start, From_offset, From_end, OpenFlags, Answer, Child, Slot, Own}
-use Rattle.model.specs.Plans.{Change, plan, is_pipe, status, cut_to, opened, read_pipe, read_some, place_to_write, write_some, sought, base, replaced_by_name, move_onto, moved, absent, duplicated, piped, forked, first_of_free, slot, slot_at, free}
+use Rattle.model.specs.Calls.{own, Call, Open, Close, Read, Pread, Write, Pwrite, Lseek, Ftruncate, Truncate, Stat, Fstat, Link, Unlink, Rename, Mkdir, Rmdir, List_directory, Dup, Dup2, Open_pipe, Fork, Exit, Whence, From_start, From_offset, From_end, OpenFlags, Answer, Child, Slot, Own}
+use Rattle.model.specs.Plans.{Change, plan, is_pipe, status, cut_to, opened, read_pipe, read_some, place_to_write, write_some, offset_named, write_from, sought, base, replaced_by_name, move_onto, moved, absent, duplicated, piped, forked, first_of_free, slot, slot_at, free}
 use Rattle.model.specs.Entries.{is_unsupported, is_inside, answer_in}
 use Rattle.model.specs.Replies.{answered}
 use Rattle.model.specs.Steps.{outcome, reply, reply_of}
@@ -165,6 +165,9 @@ tame_write pid largest it bytes = either (Tame pid) (is_pipe it.kind) _ _
     (then_any (Tame pid) (place_to_write it it.appending) _ (place_any it it.appending) (λ place.
     then_any (Tame pid) (refuse_if (nat_le largest place) EFBIG) _ (tested _ EFBIG refl) (λ _ size. record { edits = (tt, (tt, tt)); childless = refl })))
 
+tame_write_from : (pid largest n offset : ℕ) (bytes : List ℕ) → Ends (Tame pid) (write_from largest n offset bytes)
+tame_write_from pid largest n offset bytes = then_any (Tame pid) (refuse_if (nat_le largest offset) EFBIG) _ (tested _ EFBIG refl) (λ _ size. record { edits = (tt, tt); childless = refl })
+
 tame_sought : (pid largest : ℕ) (it : Slot) (z : ℤ) → Ends (Tame pid) (sought largest it z)
 tame_sought pid largest it (pos place) = then_any (Tame pid) (refuse_if (nat_lt largest place) EINVAL) _ (tested _ EINVAL refl) (λ _. record { edits = (tt, tt); childless = refl })
 tame_sought pid largest it (negsuc place) = refl
@@ -225,14 +228,28 @@ tame_plan own (Open path flags) is =
 tame_plan own (Close f) is = then_any (Tame own.pid) (slot own f) _ (slot_any own f) (λ it. record { edits = (refl, tt); childless = refl })
 tame_plan own (Read f count) is = then_any (Tame own.pid) (slot own f) _ (slot_any own f) (λ it.
     then_any (Tame own.pid) (refuse_if (not it.reading) EBADF) _ (tested _ EBADF refl) (λ _. either (Tame own.pid) (count == 0) _ _ (record { edits = tt; childless = refl }) (tame_read own.pid it count)))
+tame_plan own (Pread f count offset) is = then_any (Tame own.pid) (slot own f) _ (slot_any own f) (λ it.
+    then_any (Tame own.pid) (refuse_if (not it.reading) EBADF) _ (tested _ EBADF refl) (λ _.
+    then_any (Tame own.pid) (refuse_if (is_pipe it.kind) ESPIPE) _ (tested _ ESPIPE refl) (λ _.
+    then_any (Tame own.pid) (or_refuse EINVAL (offset_named offset)) _ (found EINVAL (offset_named offset) refl) (λ at.
+    either (Tame own.pid) (count == 0) _ _ (record { edits = tt; childless = refl }) (λ bytes. record { edits = tt; childless = refl })))))
 tame_plan own (Write f bytes) is = then_any (Tame own.pid) (slot own f) _ (slot_any own f) (λ it.
     then_any (Tame own.pid) (refuse_if (not it.writing) EBADF) _ (tested _ EBADF refl) (λ _. either (Tame own.pid) (is_empty bytes) _ _ (record { edits = tt; childless = refl }) (tame_write own.pid own.largest it bytes)))
+tame_plan own (Pwrite f bytes offset) is = then_any (Tame own.pid) (slot own f) _ (slot_any own f) (λ it.
+    then_any (Tame own.pid) (refuse_if (not it.writing) EBADF) _ (tested _ EBADF refl) (λ _.
+    then_any (Tame own.pid) (refuse_if (is_pipe it.kind) ESPIPE) _ (tested _ ESPIPE refl) (λ _.
+    then_any (Tame own.pid) (or_refuse EINVAL (offset_named offset)) _ (found EINVAL (offset_named offset) refl) (λ at.
+    either (Tame own.pid) (is_empty bytes) _ _ (record { edits = tt; childless = refl }) (tame_write_from own.pid own.largest it.inode at bytes)))))
 tame_plan own (Lseek f move whence) is = then_any (Tame own.pid) (slot own f) _ (slot_any own f) (λ it.
     then_any (Tame own.pid) (refuse_if (is_pipe it.kind) ESPIPE) _ (tested _ ESPIPE refl) (λ _.
     then_any (Tame own.pid) (base it whence) _ (base_any it whence) (λ place. tame_sought own.pid own.largest it (pos place +ℤ move))))
 tame_plan own (Ftruncate f len) is = then_any (Tame own.pid) (slot own f) _ (slot_any own f) (λ it.
     then_any (Tame own.pid) (refuse_if (not it.writing) EBADF) _ (tested _ EBADF refl) (λ _.
     then_any (Tame own.pid) (refuse_if (is_pipe it.kind) EINVAL) _ (tested _ EINVAL refl) (λ _.
+    then_any (Tame own.pid) (refuse_if (nat_lt own.largest len) EFBIG) _ (tested _ EFBIG refl) (λ _ size. record { edits = (tt, tt); childless = refl }))))
+tame_plan own (Truncate path len) is = then_any (Tame own.pid) (parsed path) _ (parsed_any path) (λ names.
+    then_any (Tame own.pid) (walk (own.root, Some A_directory) names) _ (walk_any _ names) (λ place.
+    then_any (Tame own.pid) (refuse_if (is_directory place) EISDIR) _ (tested _ EISDIR refl) (λ _.
     then_any (Tame own.pid) (refuse_if (nat_lt own.largest len) EFBIG) _ (tested _ EFBIG refl) (λ _ size. record { edits = (tt, tt); childless = refl }))))
 tame_plan own (Stat path) is = then_any (Tame own.pid) (parsed path) _ (parsed_any path) (λ names.
     then_any (Tame own.pid) (walk (own.root, Some A_directory) names) _ (walk_any _ names) (λ place. tame_status own.pid place))

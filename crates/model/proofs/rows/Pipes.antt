@@ -1,9 +1,9 @@
 -- Worked rows of pipes, children and ends of processes.
-use Rattle.std.proofs.Common.{◌≡◌, pos, List, [], ◌∷◌, ◌++◌, Ok, Err, refl, replicate}
+use Rattle.std.proofs.Common.{◌≡◌, pos, negsuc, List, [], ◌∷◌, ◌++◌, Ok, Err, refl, replicate}
 use Rattle.std.specs.Prelude.{codes}
 use Rattle.model.specs.FiniteMap.{keys}
-use Rattle.model.specs.Plan.{EAGAIN, EINVAL, EPIPE, ESPIPE}
-use Rattle.model.specs.Calls.{From_start, Close, Read, Write, Lseek, Ftruncate, Fstat, Dup2, Open_pipe, Fork, Exit, Done, Bytes, Pair, Child, Count}
+use Rattle.model.specs.Plan.{EAGAIN, EBADF, EINVAL, EPIPE, ESPIPE}
+use Rattle.model.specs.Calls.{From_start, Close, Read, Pread, Write, Pwrite, Lseek, Ftruncate, Fstat, Dup2, Open_pipe, Fork, Exit, Done, Bytes, Pair, Child, Count}
 use Rattle.model.specs.Moments.{start}
 use Rattle.model.specs.Script.{by_default, runs, Line, fresh, script_replies, last_state, a_pipe}
 
@@ -29,6 +29,11 @@ end_of_a_pipe : script_replies (start 0 (by_default (0 ∷ []))) (shared_pipe ++
     ≡ Ok (Pair 0 1) ∷ Ok (Child 2) ∷ Ok Done ∷ Err EAGAIN ∷ Ok Done ∷ Ok (Bytes []) ∷ []
 unfolding runs
 end_of_a_pipe = refl
+
+no_offsets_in_pipes : script_replies fresh (made_pipe ++ (1, Pread 1 1 (negsuc 0), []) ∷ (1, Pread 0 1 (negsuc 0), []) ∷ (1, Pwrite 0 (codes "x") (negsuc 0), []) ∷ (1, Pwrite 1 (codes "x") (negsuc 0), []) ∷ [])
+    ≡ Ok (Pair 0 1) ∷ Err EBADF ∷ Err ESPIPE ∷ Err EBADF ∷ Err ESPIPE ∷ []
+unfolding runs
+no_offsets_in_pipes = refl
 
 not_for_pipes : script_replies fresh (made_pipe ++ (1, Close 0, []) ∷ (1, Write 1 (codes "x"), []) ∷ (1, Lseek 1 (pos 0) From_start, []) ∷ (1, Fstat 1, []) ∷ (1, Ftruncate 1 0, []) ∷ [])
     ≡ Ok (Pair 0 1) ∷ Ok Done ∷ Err EPIPE ∷ Err ESPIPE ∷ Ok (a_pipe 1) ∷ Err EINVAL ∷ []

@@ -3,7 +3,7 @@ use Rattle.std.proofs.Common.{◌≡◌, List, [], ◌∷◌, ◌++◌, map, pos
 use Rattle.std.specs.Prelude.{codes}
 use Rattle.model.specs.Aspects.{Entry, Names, Size, Block, Links, Ends, Offset, Front, Back}
 use Rattle.model.specs.Plan.{rising}
-use Rattle.model.specs.Calls.{From_start, Open, Close, Read, Write, Lseek, Ftruncate, Stat, Fstat, Link, Unlink, Rename, Mkdir, Rmdir, List_directory, Dup, Dup2, Open_pipe, Fork, Exit}
+use Rattle.model.specs.Calls.{From_start, Open, Close, Read, Pread, Write, Pwrite, Lseek, Ftruncate, Truncate, Stat, Fstat, Link, Unlink, Rename, Mkdir, Rmdir, List_directory, Dup, Dup2, Open_pipe, Fork, Exit}
 use Rattle.model.specs.Steps.{reads, writes}
 use Rattle.model.specs.Script.{runs, Line, fresh, last_state, flags, rdwr_creat, rdonly}
 
@@ -54,9 +54,42 @@ over_two_blocks : reads (last_state fresh (made_a ++ (1, Write 0 (replicate 1025
 unfolding runs
 over_two_blocks = refl
 
+-- a read and a write from an offset on see and move no offset
+read_from_an_offset : reads (last_state fresh (made_a ++ (1, Write 0 (replicate 1025 120), []) ∷ [])) 1 (Pread 0 2000 (pos 1000)) ≡ Size 1 ∷ Block 1 0 ∷ Block 1 1 ∷ []
+unfolding runs
+read_from_an_offset = refl
+
+read_from_the_end : reads (last_state fresh (made_a ++ (1, Write 0 (replicate 1025 120), []) ∷ [])) 1 (Pread 0 5 (pos 1025)) ≡ Size 1 ∷ []
+unfolding runs
+read_from_the_end = refl
+
+written_from_an_offset_reads : reads (last_state fresh (made_a ++ (1, Write 0 (replicate 1025 120), []) ∷ [])) 1 (Pwrite 0 (codes "p") (pos 1024)) ≡ Size 1 ∷ []
+unfolding runs
+written_from_an_offset_reads = refl
+
+written_inside : writes (last_state fresh (made_a ++ (1, Write 0 (replicate 1025 120), []) ∷ [])) 1 (Pwrite 0 (codes "p") (pos 1024)) ≡ Block 1 1 ∷ []
+unfolding runs
+written_inside = refl
+
+written_over_the_end : writes (last_state fresh (made_a ++ (1, Write 0 (replicate 1025 120), []) ∷ [])) 1 (Pwrite 0 (codes "pq") (pos 1024)) ≡ Size 1 ∷ Block 1 1 ∷ []
+unfolding runs
+written_over_the_end = refl
+
+written_behind_a_gap : writes (last_state fresh (made_a ++ (1, Write 0 (replicate 1025 120), []) ∷ [])) 1 (Pwrite 0 (codes "p") (pos 3000)) ≡ Size 1 ∷ Block 1 2 ∷ []
+unfolding runs
+written_behind_a_gap = refl
+
 cut_from_the_middle : writes (last_state fresh (made_a ++ (1, Write 0 (replicate 3000 120), []) ∷ [])) 1 (Ftruncate 0 1030) ≡ Size 1 ∷ Block 1 1 ∷ Block 1 2 ∷ []
 unfolding runs
 cut_from_the_middle = refl
+
+truncated_by_name_reads : reads (last_state fresh (made_a ++ (1, Write 0 (replicate 3000 120), []) ∷ [])) 2 (Truncate (codes "/a") 1030) ≡ Entry 0 (codes "a") ∷ Size 1 ∷ []
+unfolding runs
+truncated_by_name_reads = refl
+
+truncated_by_name_writes : writes (last_state fresh (made_a ++ (1, Write 0 (replicate 3000 120), []) ∷ [])) 2 (Truncate (codes "/a") 1030) ≡ Size 1 ∷ Block 1 1 ∷ Block 1 2 ∷ []
+unfolding runs
+truncated_by_name_writes = refl
 
 emptied_when_opened : writes (last_state fresh (made_a ++ (1, Write 0 (codes "xy"), []) ∷ [])) 1 (Open (codes "/a") (flags 18)) ≡ Size 1 ∷ Block 1 0 ∷ []
 unfolding runs

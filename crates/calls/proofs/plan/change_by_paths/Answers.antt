@@ -4,6 +4,9 @@ use Rattle.model.specs.Plans.{plan}
 use Rattle.model.specs.Calls.{own}
 use Rattle.calls.proofs.plan.change_by_paths.Goals as goal
 
+pub returns-in-Truncate : goal.returns-in-Truncate
+returns-in-Truncate g c = via (ap (λ call. plan (own (g.L.Look.state c.args.look.now) c.args.pid call) call) c.in-Truncate.is) (c.truncate.ensures c.args.pid)
+
 pub returns-in-Stat : goal.returns-in-Stat
 returns-in-Stat g c = via (ap (λ call. plan (own (g.L.Look.state c.args.look.now) c.args.pid call) call) c.in-Stat.is) (c.stat.ensures c.args.pid)
 

@@ -11,14 +11,23 @@ returns-in-Close g c = Prints-as c.put_number.ensures (search rules)
 pub returns-in-Read : goal.returns-in-Read
 returns-in-Read g c = Prints-as c.put_numbers.ensures (search rules)
 
+pub returns-in-Pread : goal.returns-in-Pread
+returns-in-Pread g c = Prints-as c.put_pread.ensures (search rules)
+
 pub returns-in-Write : goal.returns-in-Write
-returns-in-Write g c = Prints-as c.put_write.ensures (search rules)
+returns-in-Write g c = Prints-as c.put_bytes.ensures (search rules)
+
+pub returns-in-Pwrite : goal.returns-in-Pwrite
+returns-in-Pwrite g c = Prints-as c.put_pwrite.ensures (search rules)
 
 pub returns-in-Lseek : goal.returns-in-Lseek
 returns-in-Lseek g c = Prints-as c.put_lseek.ensures (search rules)
 
 pub returns-in-Ftruncate : goal.returns-in-Ftruncate
 returns-in-Ftruncate g c = Prints-as c.put_numbers-in-Ftruncate.ensures (search rules)
+
+pub returns-in-Truncate : goal.returns-in-Truncate
+returns-in-Truncate g c = Prints-as c.put_truncate.ensures (search rules)
 
 pub returns-in-Stat : goal.returns-in-Stat
 returns-in-Stat g c = Prints-as c.put_path.ensures (search rules)

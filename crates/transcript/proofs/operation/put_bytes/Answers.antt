@@ -1,6 +1,6 @@
 use Rattle.std.proofs.Common.{rules, codes}
 use Rattle.transcript.proofs.Printing.{Prints-as, Prints-on}
-use Rattle.transcript.proofs.operation.put_write.Goals as goal
+use Rattle.transcript.proofs.operation.put_bytes.Goals as goal
 
 pub returns : goal.returns
 returns g c = Prints-as (Prints-on _ (codes " ") _ c.put_number.ensures c.put_path.ensures) (search rules)

@@ -1,0 +1,125 @@
+// The plans of pread and pwrite, which name an offset of their own.
+ghost use Rattle.std.specs.Prelude.{◌≡◌, ◌+◌, ◌-◌, ◌<◌, ◌^◌, [], ◌∷◌, length, min};
+ghost use Rattle.model.specs.Changes.{Put_bytes};
+ghost use Rattle.model.specs.Plans.{plan, changed, offset_named, read_from, write_from};
+ghost use Rattle.model.specs.Calls.{Count, Pread, Pwrite};
+ghost use Rattle.look.specs.Asked.{Comes, Tells};
+
+use crate::asking::{read_file, size};
+use crate::change::{Change, changed_by, unchanged};
+use crate::checks::{must_not_be_pipe, offset_must_be_below};
+use crate::files::{at_most_moved, first_bytes, is_empty, no_bytes, room};
+use crate::own::{Own, slot};
+use crate::steps::refuse_if;
+use heap::Heap;
+use ids::{Answer, Bytes, Edit, Errno, Fd, Num, Refusal, Slot};
+use look::Look;
+use walk::{Reads, or_refuse};
+
+pub(crate) fn pread<L: Look>(
+    look: &L,
+    own: &Own,
+    fd: Fd,
+    count: u32,
+    offset: i64,
+    reads: &mut Reads,
+) -> Result<Change, Refusal>
+    ensures { Comes (L.state look.now)
+        (plan own.now (Pread fd count offset)) reads.old result reads.new }
+{
+    let it = slot(own, fd)?;
+    refuse_if(!it.reading, Errno::EBADF)?;
+    must_not_be_pipe(it.kind, Errno::ESPIPE)?;
+    let offset = or_refuse(Errno::EINVAL, offset_named(offset))?;
+    if count == 0 {
+        unchanged(reads.heap(), Answer::Bytes(no_bytes(reads)))
+    } else {
+        read_from(look, it.inode, offset, count, reads)
+    }
+}
+
+// The offset that a call names: there is none below 0.
+fn offset_named(offset: i64) -> Option<u64>
+    ensures { result ≡ offset_named offset }
+{
+    if offset < 0 {
+        None
+    } else {
+        Some(offset as u64)
+    }
+}
+
+// Bytes of a file from an offset on, so many at most.
+fn read_from<L: Look>(
+    look: &L,
+    file: Num,
+    offset: u64,
+    count: u32,
+    reads: &mut Reads,
+) -> Result<Change, Refusal>
+    ensures { Comes (L.state look.now) (read_from file offset count) reads.old result reads.new }
+{
+    let bytes = read_file(look, file, bounded(offset), at_most_moved(count), reads)?;
+    unchanged(reads.heap(), Answer::Bytes(bytes))
+}
+
+// The offset in 32 bits. No file has a byte at the last of these, nor further on.
+fn bounded(offset: u64) -> u32
+    ensures { result ≡ min offset (2 ^ 32 - 1) }
+{
+    offset.min(u32::MAX as u64) as u32
+}
+
+pub(crate) fn pwrite<L: Look>(
+    look: &L,
+    own: &Own,
+    fd: Fd,
+    bytes: &Bytes,
+    offset: i64,
+    reads: &mut Reads,
+) -> Result<Change, Refusal>
+    ensures { Comes (L.state look.now)
+        (plan own.now (Pwrite fd bytes.now offset)) reads.old result reads.new }
+{
+    let it = slot(own, fd)?;
+    refuse_if(!it.writing, Errno::EBADF)?;
+    must_not_be_pipe(it.kind, Errno::ESPIPE)?;
+    let offset = or_refuse(Errno::EINVAL, offset_named(offset))?;
+    if is_empty(bytes) {
+        unchanged(reads.heap(), Answer::Count(0))
+    } else {
+        write_from(look, own.largest(), it, offset, bytes, reads)
+    }
+}
+
+// Bytes that a file gets from an offset on, whether its description appends or not.
+fn write_from<L: Look>(
+    look: &L,
+    largest: u32,
+    it: Slot,
+    offset: u64,
+    bytes: &Bytes,
+    reads: &mut Reads,
+) -> Result<Change, Refusal>
+    ensures { Comes (L.state look.now)
+        (write_from largest it.inode offset bytes.now) reads.old result reads.new }
+{
+    offset_must_be_below(offset, largest, Errno::EFBIG)?;
+    let offset = offset as u32;
+    let size = size(look, it.inode, reads)?;
+    let kept = first_bytes(reads.heap(), bytes, room(largest, offset))?;
+    put(reads.heap(), it.inode, offset, kept, size)
+}
+
+// The bytes alone: no description's offset moves.
+fn put(heap: Heap, file: Num, offset: u32, kept: Bytes, size: u32) -> Result<Change, Refusal>
+    requires { offset + length kept < 2 ^ 32 }
+    ensures { Tells (changed (Count (length kept)) (Put_bytes file offset kept size ∷ [])) result }
+{
+    let count = kept.as_slice().len() as u32;
+    changed_by(
+        heap,
+        Answer::Count(count),
+        Edit::PutBytes(file, offset, kept, size),
+    )
+}
