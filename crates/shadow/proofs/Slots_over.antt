@@ -145,7 +145,7 @@ laid_slots kept m stored after is laid o of =
 pub given_slots : (kept : Option Given) (m : Given) (f : ℕ) (noted : Option (Option ℕ)) (stored : Option ℕ) → Some m ≡ kept → noted ≡ get m f → (o : Option Process) → get (or_new o).table f ≡ stored → or_before noted stored ≡ get (or_new (reslotted kept o)).table f
 given_slots kept m f noted stored is look o of =
     ap (λ n. or_before n stored) look ∙ ap (or_before (get m f)) (sym of) ∙ sym (map_over m (or_new o).table f)
-    ∙ sym (ap (λ p. get p.table f) (new_of (entries m) o)) ∙ ap (λ k. get (or_new (reslotted k o)).table f) is
+    ∙ sym (ap (λ (p : Process). get p.table f) (new_of (entries m) o)) ∙ ap (λ k. get (or_new (reslotted k o)).table f) is
 
 -- no notes change nothing
 pub none_over : (o : Option Process) → reslotted (Some empty) o ≡ o
