@@ -34,6 +34,8 @@ mod modes;
 #[cfg(test)]
 mod moved;
 #[cfg(test)]
+mod open_descriptors;
+#[cfg(test)]
 mod paths;
 #[cfg(test)]
 mod pipes;

@@ -3,7 +3,7 @@ use Rattle.model.specs.FiniteMap.{get}
 use Rattle.model.specs.State.{Description, kind, kind_of, mapped}
 use Rattle.model.specs.Calls.{slot_of}
 use Rattle.replay.proofs.Looking.{slot_told}
-use Rattle.replay.proofs.plain.PlainKernel.slot.Goals as goal
+use Rattle.replay.proofs.plain.PlainKernel.described.Goals as goal
 
 pub returns-in-Some : goal.returns-in-Some
 returns-in-Some c =
