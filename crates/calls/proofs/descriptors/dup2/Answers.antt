@@ -17,4 +17,4 @@ pub returns-then-eq : goal.returns-then-eq
 returns-then-eq g c before = goes _ (c.in_ok-it.ensures _) (goes _ (via (ap (λ n. refuse_if (nat_lt 63 n) EBADF) (sym c.new.view_is)) (c.in_ok-refuse_if.ensures _ _)) (via (ap (λ b. if b then unchanged (Descriptor c.args.old) else changed (Descriptor c.args.new) (Share_slot c.args.pid c.args.new c.in_ok-it.it.description (pipe_in (Some c.in_ok-it.it) ++ pipe_in (slot_at (own_in (g.L.Look.state c.args.look.now) c.args.pid) c.args.new)) ∷ [])) (sym c.eq.ensures ∙ c.if-eq.true)) (c.unchanged.ensures _ _)))
 
 pub returns-in_ok-pipes : goal.returns-in_ok-pipes
-returns-in_ok-pipes g c before = goes _ (c.in_ok-it.ensures _) (goes _ (via (ap (λ n. refuse_if (nat_lt 63 n) EBADF) (sym c.new.view_is)) (c.in_ok-refuse_if.ensures _ _)) (via (ap (λ b. if b then unchanged (Descriptor c.args.old) else changed (Descriptor c.args.new) (Share_slot c.args.pid c.args.new c.in_ok-it.it.description (pipe_in (Some c.in_ok-it.it) ++ pipe_in (slot_at (own_in (g.L.Look.state c.args.look.now) c.args.pid) c.args.new)) ∷ [])) (sym c.eq.ensures ∙ c.if-eq.false)) (via (λ i. changed (Descriptor c.args.new) (Share_slot c.args.pid c.args.new c.in_ok-it.it.description ((ap (λ s. pipe_in (Some c.in_ok-it.it) ++ pipe_in s) (sym c.slot.ensures) ∙ sym c.in_ok-pipes.ensures) i) ∷ [])) (c.changed_by.ensures _ _))))
+returns-in_ok-pipes g c before = goes _ (c.in_ok-it.ensures _) (goes _ (via (ap (λ n. refuse_if (nat_lt 63 n) EBADF) (sym c.new.view_is)) (c.in_ok-refuse_if.ensures _ _)) (via (ap (λ b. if b then unchanged (Descriptor c.args.old) else changed (Descriptor c.args.new) (Share_slot c.args.pid c.args.new c.in_ok-it.it.description (pipe_in (Some c.in_ok-it.it) ++ pipe_in (slot_at (own_in (g.L.Look.state c.args.look.now) c.args.pid) c.args.new)) ∷ [])) (sym c.eq.ensures ∙ c.if-eq.false)) (via (λ i. changed (Descriptor c.args.new) (Share_slot c.args.pid c.args.new c.in_ok-it.it.description ((ap (λ s. pipe_in (Some c.in_ok-it.it) ++ pipe_in s) (sym c.slot-else-eq.ensures) ∙ sym c.in_ok-pipes.ensures) i) ∷ [])) (c.changed_by.ensures _ _))))
