@@ -1,0 +1,9 @@
+mod Answering
+mod Ending
+mod Fields
+mod Hearing
+mod Kept
+mod Lines
+mod Parting
+mod Settling
+mod Texts

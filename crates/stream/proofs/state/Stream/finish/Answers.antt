@@ -1,0 +1,33 @@
+use Rattle.std.proofs.Common.{append-nil, rules}
+use Rattle.transcript.proofs.Laws.{Finished-by, Prints-as, Prints-then}
+use Rattle.stream.proofs.state.Stream.finish.Goals as goal
+
+pub returns-in-Ok-clause-written : goal.returns-in-Ok-clause-written
+returns-in-Ok-clause-written g c =
+    let all = Prints-as (Prints-then _ _ c.put_end.ensures c.finish.ensures.prints) (append-nil _) in
+    let finished = Finished-by c.finish.result all c.new-out.ensures.failed c.new-out.ensures.pending c.finish.ensures.pending c.finish.ensures.ok c.finish.ensures.failed in
+    search (rules, finished.ok)
+
+pub returns-in-Ok-clause-part : goal.returns-in-Ok-clause-part
+returns-in-Ok-clause-part g c =
+    let all = Prints-as (Prints-then _ _ c.put_end.ensures c.finish.ensures.prints) (append-nil _) in
+    let finished = Finished-by c.finish.result all c.new-out.ensures.failed c.new-out.ensures.pending c.finish.ensures.pending c.finish.ensures.ok c.finish.ensures.failed in
+    search (rules, finished.part)
+
+pub returns-in-Ok-clause-no_failure : goal.returns-in-Ok-clause-no_failure
+returns-in-Ok-clause-no_failure g c =
+    let all = Prints-as (Prints-then _ _ c.put_end.ensures c.finish.ensures.prints) (append-nil _) in
+    let finished = Finished-by c.finish.result all c.new-out.ensures.failed c.new-out.ensures.pending c.finish.ensures.pending c.finish.ensures.ok c.finish.ensures.failed in
+    search (rules, finished.no_failure)
+
+pub returns-in-Err-clause-part : goal.returns-in-Err-clause-part
+returns-in-Err-clause-part g c =
+    let all = Prints-as (Prints-then _ _ c.put_end.ensures c.finish.ensures.prints) (append-nil _) in
+    let finished = Finished-by c.finish.result all c.new-out.ensures.failed c.new-out.ensures.pending c.finish.ensures.pending c.finish.ensures.ok c.finish.ensures.failed in
+    search (rules, finished.part)
+
+pub returns-in-Err-clause-write : goal.returns-in-Err-clause-write
+returns-in-Err-clause-write g c =
+    let all = Prints-as (Prints-then _ _ c.put_end.ensures c.finish.ensures.prints) (append-nil _) in
+    let finished = Finished-by c.finish.result all c.new-out.ensures.failed c.new-out.ensures.pending c.finish.ensures.pending c.finish.ensures.ok c.finish.ensures.failed in
+    search (rules, finished.failure)
