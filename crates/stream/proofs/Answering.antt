@@ -1,20 +1,19 @@
 -- Answers that grow by that to one line.
-use Rattle.std.proofs.Common.{◌≡◌, ℕ, ◌+◌, ◌&&◌, List, [], ◌∷◌, ◌++◌, Bool, true, false, not, Option, Some, None, Result, Ok, Err, map, length, refl, ap, ap₂, sym, ◌∙◌, subst, append_assoc, append-nil, arith}
+use Rattle.std.proofs.Common.{◌≡◌, ℕ, ◌+◌, ◌&&◌, List, [], ◌∷◌, ◌++◌, false, not, Option, Some, None, Result, Ok, Err, length, refl, ap, ap₂, sym, ◌∙◌, subst, append_assoc, append-nil, arith}
 use Rattle.std.proofs.lemmas.List.{map_push}
 use Rattle.ids.specs.declared.call.Op.{Op}
 use Rattle.ids.specs.declared.entry.Entry.{Entry}
 use Rattle.ids.specs.declared.limits.Limits.{Limits}
 use Rattle.machine.specs.Shown.{Shown}
-use Rattle.script.specs.Lines.{first_line_of, further_line_of}
-use Rattle.script.specs.declared.read.Line.{Line}
 use Rattle.script.specs.declared.faults.ScriptFault.{ScriptFault}
 use Rattle.transcript.specs.Line.{line_of}
 use Rattle.stream.specs.Answers.{AreAnswers, IsKernelOf, IsMade, ask_of, entries_in, entries_of, fault_line, is_good, text_from}
 use Rattle.stream.specs.Asked.{Stand, behind_first, behind_further, behind_line, with_asked, with_nothing, with_priorities}
-use Rattle.stream.specs.Heard.{Comes, DoesLine, HasGrown, IsTold, MakesKernel, is_fault}
+use Rattle.stream.specs.Heard.{Comes, HasGrown, IsTold, is_fault}
 use Rattle.stream.specs.States.{StaysAlike}
 use Rattle.stream.specs.declared.heard.Heard.{Heard}
 use Rattle.stream.specs.declared.heard.Heard.TheVariants as heard
+use Rattle.stream.proofs.Forgotten.{grown_none}
 use Rattle.stream.proofs.Kept.{and_true, good-asked}
 
 pub entries_in-append : (xs ys : List (Result Entry ScriptFault)) → entries_in (xs ++ ys) ≡ entries_in xs ++ entries_in ys
@@ -69,6 +68,12 @@ answers_alike limits stand old new answers a alike = record {
   asked = a.asked;
   entries = a.entries ∙ entries_alike old new alike;
 }
+
+-- a kernel that is as it was
+pub alike_same : (priorities : Option (List ℕ)) (limits : Limits) (kernel : Option Shown) → IsMade priorities limits kernel → StaysAlike kernel kernel
+alike_same priorities limits None made = tt
+alike_same None limits (Some kernel) made = absurd made
+alike_same (Some priorities) limits (Some kernel) made = grown_none kernel made.kept
 
 -- what the answer to one line is
 pub record Answered

@@ -1,6 +1,6 @@
 -- A whole stream: where it begins, one part more, its end, and where it stops.
-use Rattle.std.proofs.Common.{◌≡◌, ℕ, ◌+◌, ◌<◌, ◌&&◌, ◌==◌, List, [], ◌∷◌, ◌++◌, Bool, true, false, Option, Some, None, Result, Ok, Err, length, take, refl, ap, ap₂, sym, ◌∙◌, subst, append_assoc, append-nil, arith, inl, inr}
-use Rattle.std.specs.Prelude.{option_map, flat_map, IfSome, MatchResult}
+use Rattle.std.proofs.Common.{◌≡◌, ℕ, ◌+◌, ◌&&◌, ◌==◌, List, [], ◌∷◌, ◌++◌, Bool, Option, Some, None, Result, Ok, Err, OnOk, OnErr, IfOk, IfErr, length, take, refl, ap, sym, ◌∙◌, subst, append_assoc, append-nil, arith, inl, inr}
+use Rattle.std.specs.Prelude.{option_map, IfSome}
 use Rattle.std.specs.Io.KnownBytes.{append_known, prepend_known, IsAtEnd}
 use Rattle.std.proofs.lemmas.Bool.{ne_eqb}
 use Rattle.device.specs.Device.{IsPart}
@@ -14,8 +14,7 @@ use Rattle.script.specs.declared.limits.TheConstants.{SCRIPT_LIMIT}
 use Rattle.stream.specs.Answers.{AreAnswers, IsMade, entries_in, fault_line, is_good, text_from, text_of}
 use Rattle.stream.specs.Asked.{Stand, at_end, stand_of, unended_fault}
 use Rattle.stream.specs.Heard.{IsFollowed, StopsAt}
-use Rattle.stream.specs.Input.{AreLines, BeginsWith, ended}
-use Rattle.stream.specs.Parts.{HasCome, IsAt, IsStopped, IsTaken, IsUnwritten, NotTaken, Seen, Stops, Takes, TakesUpTo, input_of, place_of}
+use Rattle.stream.specs.Parts.{HasCome, IsStopped, IsTaken, IsUnwritten, NotTaken, Seen, TakesUpTo, input_of, place_of}
 use Rattle.stream.specs.States.{IsFresh}
 use Rattle.stream.specs.Streams.{AreAnswered, AreFirstAnswered, HasEnded, HasStopped, IsWhole, StopsBefore, StopsInPart, rest_text, verdict}
 use Rattle.stream.specs.declared.fault.StreamFault.{StreamFault}
@@ -80,7 +79,7 @@ come_more shown setting mid new given between left old was now_holds part come g
           ∙ ap (λ (xs : List ℕ). prepend_known xs left) (sym takes.input);
       written =
           written_more come.seen takes.more taken.text old was now_holds come.written taken.written takes.told
-          ∙ ap (λ (as : List (Result Entry ScriptFault)). append_known old (text_of as)) (sym takes.answers);
+          ∙ ap (λ (all : List (Result Entry ScriptFault)). append_known old (text_of all)) (sym takes.answers);
     }
 
 -- all that has come is answered
@@ -315,3 +314,34 @@ come_still shown setting stream given left later old new come e = record {
       ∙ ap (λ (xs : List ℕ). prepend_known xs later) (append-nil (input_of come.seen));
   written = come.written;
 }
+
+-- what is answered at the end of the input, whatever the sink does
+pub ended_ok : {K : Type 0} (shown : K → Shown) (setting : Setting) (stream : Stream K) (given left old was now_holds : Option (List ℕ)) (r : Result Bool StreamFault)
+    → LegalHistoriesPass → HasCome shown setting stream given left old was → IsAtEnd left
+    → IfOk r (λ good. good ≡ (stream.good && (length stream.line.items == 0)))
+    → OnOk r (now_holds ≡ append_known was (rest_text stream.number stream.line.items ++ verdict setting.check))
+    → IfOk r (HasEnded setting.limits setting.check given left old now_holds)
+ended_ok shown setting stream given left old was now_holds (Ok good) law come over is_good_now written =
+    come_ended shown setting stream given left old was now_holds good law come over is_good_now written
+ended_ok shown setting stream given left old was now_holds (Err why) law come over is_good_now written = tt
+
+pub ended_err : {K : Type 0} (shown : K → Shown) (setting : Setting) (stream : Stream K) (given left old was now_holds : Option (List ℕ)) (r : Result Bool StreamFault)
+    → HasCome shown setting stream given left old was → IsAtEnd left
+    → IsPart was now_holds (rest_text stream.number stream.line.items ++ verdict setting.check) → OnErr r (r ≡ Err Write)
+    → IfErr r (HasStopped setting.limits setting.check given left old now_holds)
+ended_err shown setting stream given left old was now_holds (Ok good) come over part only = tt
+ended_err shown setting stream given left old was now_holds (Err why) come over part only =
+    subst (λ (z : Result Bool StreamFault). IfErr z (HasStopped setting.limits setting.check given left old now_holds)) (sym only)
+    (come_ended_in_part shown setting stream given left old was now_holds come over part)
+
+-- what holds of a result whose only error is Write
+pub only_write : {A P : Type 0} (r : Result A StreamFault) → OnErr r (r ≡ Err Write) → OnOk r P → (r ≡ Err Write → ⊥) → P
+only_write (Ok x) only holds no = holds
+only_write (Err why) only holds no = absurd (no only)
+
+pub at_write : {A P : Type 0} (r : Result A StreamFault) → OnErr r P → r ≡ Err Write → P
+at_write {A} {P} r holds e = subst (λ (z : Result A StreamFault). OnErr z P) e holds
+
+pub no_read_of : {A : Type 0} (r : Result A StreamFault) → OnErr r (r ≡ Err Write) → r ≡ Err Read → ⊥
+no_read_of (Ok x) only e = cc e
+no_read_of (Err why) only e = cc (sym e ∙ only)

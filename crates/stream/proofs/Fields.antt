@@ -1,5 +1,5 @@
 -- From what is said of a kernel and its checker to what is said of the stream that has them.
-use Rattle.std.proofs.Common.{◌≡◌, ℕ, List, [], ◌∷◌, ◌++◌, Bool, true, false, Option, Some, None, Result, Ok, Err, refl, sym, ◌∙◌, ap, subst, take, append-nil, IfErr, IfOk, OnErr, OnOk}
+use Rattle.std.proofs.Common.{◌≡◌, ℕ, List, [], Option, Some, None, Result, Ok, Err, refl, sym, ◌∙◌, ap, subst, take, IfErr, IfOk, OnErr, OnOk}
 use Rattle.std.specs.Prelude.{is_some, option_map, sum}
 use Rattle.history.specs.Log.{Log}
 use Rattle.machine.specs.Shown.{Shown, Kept, setup_of}
@@ -7,14 +7,17 @@ use Rattle.machine.specs.Steps.{forgetting}
 use Rattle.replay.specs.SoFar.{Checked}
 use Rattle.script.specs.Lines.{first_line_of, further_line_of}
 use Rattle.stream.specs.Answers.{IsKernelOf}
-use Rattle.stream.specs.Heard.{CannotForget, Comes, ComesFirst, ComesFurther, Follows, HasGrown, IsFollowed, StopsAt, StopsFurther}
+use Rattle.stream.specs.Heard.{CannotForget, Comes, ComesFirst, ComesFurther, Follows, HasGrown, IsFollowed, StopsAt, StopsFurther, fault_of_refusal}
 use Rattle.stream.specs.States.{CannotSettle, HasBegun, IsCheckerOf, IsHeard, IsNotHeard, IsNotSettled, IsSameLine, IsSettled, StaysAlike}
 use Rattle.stream.specs.declared.fault.StreamFault.{StreamFault}
 use Rattle.stream.specs.declared.fault.StreamFault.TheVariants.{NoMemory}
 use Rattle.stream.specs.declared.heard.Heard.{Heard}
 use Rattle.stream.specs.declared.heard.Heard.TheVariants as heard
+use Rattle.stream.specs.declared.refusal.Refusal.{Refusal}
+use Rattle.stream.specs.declared.refusal.Refusal.TheVariants as refusal
 use Rattle.stream.specs.declared.state.Setting.{Setting}
 use Rattle.stream.specs.declared.state.Stream.{Stream}
+use Rattle.stream.proofs.Forgotten.{grown_forgetting, grown_same}
 
 pub same_line : {K : Type 0} (stream : Stream K) → IsSameLine stream stream
 same_line stream = record { line = refl; number = refl; good = refl }
@@ -118,6 +121,12 @@ not_heard_first {K} shown setting old new was is = record {
       subst (λ (k : Option K). StopsAt old.number old.line.items (option_map shown k) NoMemory) (sym is) there;
 }
 
+pub not_heard_first_by : {K : Type 0} (shown : K → Shown) (setting : Setting) (old new : Stream K) (refused : Refusal) (why : StreamFault)
+    → old.kernel ≡ None → new ≡ old → refused ≡ refusal.NoMemory → why ≡ fault_of_refusal refused → IsNotHeard shown setting old new why
+not_heard_first_by {K} shown setting old new refused why was same none is =
+    subst (λ (w : StreamFault). IsNotHeard shown setting old new w) (sym (is ∙ ap fault_of_refusal none))
+    (not_heard_first shown setting old new was (ap (λ (s : Stream K). s.kernel) same ∙ was))
+
 -- what was kept is forgotten
 pub settled_by : {K : Type 0} (shown : K → Shown) (old new : Stream K) (before after : K)
     → old.kernel ≡ Some before → new.kernel ≡ Some after → HasGrown (shown before) (shown after) []
@@ -150,11 +159,37 @@ not_settled {K} shown old new before after why was is grown cannot = record {
       subst (λ (k : Option K). CannotSettle (option_map shown k) why) (sym is) there;
 }
 
--- what holds of a value where two things hold and one holds of it
-pub ok_with : {A E S T : Type 0} {P Q : A → Type 0} (r : Result A E) → ((x : A) → S → T → P x → Q x) → OnOk r S → OnOk r T → IfOk r P → IfOk r Q
-ok_with (Ok x) f s t p = f x s t p
-ok_with (Err e) f s t p = tt
+-- a further line, whatever it has come to
+pub heard_further_all : {K : Type 0} (shown : K → Shown) (setting : Setting) (old new : Stream K) (before after : K) (line : List ℕ) (r : Result Heard StreamFault)
+    → old.kernel ≡ Some before → new.kernel ≡ Some after → line ≡ old.line.items → IfOk r (ComesFurther (further_line_of old.number line) (shown before) (shown after))
+    → OnOk r (Follows old.checker (shown before).log → Follows new.checker (shown after).log) → OnOk r (is_some new.checker ≡ is_some old.checker) → IsSameLine old new
+    → IfOk r (IsHeard shown setting old new)
+heard_further_all shown setting old new before after line (Ok what) was is e comes follows same lines =
+    heard_further shown setting old new before after what was is
+    (subst (λ (l : List ℕ). ComesFurther (further_line_of old.number l) (shown before) (shown after) what) e comes) follows same lines
+heard_further_all shown setting old new before after line (Err why) was is e comes follows same lines = tt
 
-pub err_with : {A E S : Type 0} {P Q : E → Type 0} (r : Result A E) → ((e : E) → S → P e → Q e) → OnErr r S → IfErr r P → IfErr r Q
-err_with (Ok x) f s p = tt
-err_with (Err e) f s p = f e s p
+pub not_heard_further_all : {K : Type 0} (shown : K → Shown) (setting : Setting) (old new : Stream K) (before after : K) (line : List ℕ) (r : Result Heard StreamFault)
+    → old.kernel ≡ Some before → new.kernel ≡ Some after → line ≡ old.line.items → OnErr r (HasGrown (shown before) (shown after) [])
+    → IfErr r (λ why. Follows old.checker (shown before).log → StopsFurther (further_line_of old.number line) (shown after) why)
+    → IfErr r (IsNotHeard shown setting old new)
+not_heard_further_all shown setting old new before after line (Ok what) was is e grown stops = tt
+not_heard_further_all shown setting old new before after line (Err why) was is e grown stops =
+    not_heard_further shown setting old new before after why was is grown
+    (λ f. subst (λ (l : List ℕ). StopsFurther (further_line_of old.number l) (shown after) why) e (stops f))
+
+-- whether what was kept is forgotten, by what the kernel and its checker did
+pub settled_all : {K : Type 0} (shown : K → Shown) (old new : Stream K) (before after : K) (r : Result (Unit {0}) StreamFault)
+    → old.kernel ≡ Some before → new.kernel ≡ Some after → Kept (shown after) → OnOk r (shown after ≡ forgetting (shown before))
+    → OnOk r (Follows old.checker (shown before).log → Follows new.checker (shown after).log) → OnOk r (is_some new.checker ≡ is_some old.checker) → IsSameLine old new
+    → OnOk r (IsSettled shown old new)
+settled_all shown old new before after (Ok u) was is sound forgets follows same line =
+    settled_by shown old new before after was is (grown_forgetting (shown before) (shown after) sound forgets) follows same line
+settled_all shown old new before after (Err why) was is sound forgets follows same line = tt
+
+pub not_settled_all : {K : Type 0} (shown : K → Shown) (old new : Stream K) (before after : K) (r : Result (Unit {0}) StreamFault)
+    → old.kernel ≡ Some before → new.kernel ≡ Some after → Kept (shown after) → OnErr r (shown after ≡ shown before)
+    → IfErr r (λ why. Follows old.checker (shown before).log → CannotForget (shown after) why) → IfErr r (IsNotSettled shown old new)
+not_settled_all shown old new before after (Ok u) was is sound unchanged fault = tt
+not_settled_all shown old new before after (Err why) was is sound unchanged fault =
+    not_settled shown old new before after why was is (grown_same (shown before) (shown after) sound unchanged) fault

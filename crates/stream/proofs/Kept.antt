@@ -1,7 +1,6 @@
 -- What is kept of a line tells what the line asks, and a list of lines that grows by one.
-use Rattle.std.proofs.Common.{◌≡◌, ℕ, ◌+◌, ◌&&◌, List, [], ◌∷◌, ◌++◌, Bool, true, false, not, cond, Option, Some, None, Result, Ok, Err, take, refl, ap, sym, ◌∙◌, subst}
-use Rattle.std.specs.Prelude.{is_ok, nat_lt, length}
-use Rattle.std.specs.List.{list_all}
+use Rattle.std.proofs.Common.{◌≡◌, ℕ, ◌+◌, ◌&&◌, List, [], ◌∷◌, ◌++◌, Bool, true, false, cond, Option, Some, None, Result, Ok, Err, is_ok, length, ◌==◌, true≢false, take, refl, ap, ◌∙◌, subst, arith}
+use Rattle.std.proofs.lemmas.Bool.{eqb-true}
 use Rattle.std.proofs.lemmas.List.Folds.{list_all-append}
 use Rattle.ids.specs.declared.call.Op.{Op}
 use Rattle.ids.specs.declared.limits.Limits.{Limits}
@@ -12,9 +11,10 @@ use Rattle.script.specs.declared.limits.TheConstants.{SCRIPT_LIMIT}
 use Rattle.script.specs.declared.read.Line.{Line}
 use Rattle.script.specs.declared.faults.ScriptFault.{ScriptFault}
 use Rattle.script.specs.declared.faults.ScriptFault.TheVariants.{LineTooLong, NotEnded}
-use Rattle.stream.specs.Answers.{is_good}
+use Rattle.stream.specs.Answers.{fault_line, is_good}
 use Rattle.stream.specs.Asked.{Stand, behind_first, behind_further, behind_in, behind_line, next_number, stand_from, unended_fault}
 use Rattle.stream.specs.Heard.{Comes, ComesFirst, ComesFurther, StopsAt, StopsFurther}
+use Rattle.stream.specs.Streams.{rest_text}
 use Rattle.stream.specs.declared.fault.StreamFault.{StreamFault}
 use Rattle.stream.specs.declared.heard.Heard.{Heard}
 use Rattle.stream.proofs.Lines.{long_line}
@@ -94,3 +94,12 @@ pub good-asked : (asked : List (Result (ℕ × Op) ScriptFault)) (ask : Result (
 good-asked asked ask =
     list_all-append (λ (a : Result (ℕ × Op) ScriptFault). is_ok a) asked (ask ∷ [])
     ∙ ap (λ (b : Bool). is_good asked && b) (and_true (is_ok ask))
+
+-- the answer to what is kept of a line that has not ended
+pub some_rest : (number : ℕ) (rest : List ℕ) (why : ScriptFault) → (length rest == 0) ≡ false → why ≡ unended_fault number rest → fault_line why ≡ rest_text number rest
+some_rest number [] why some is = absurd (true≢false some)
+some_rest number (b ∷ bs) why some is = ap fault_line is
+
+pub no_rest : (number : ℕ) (rest : List ℕ) → (length rest == 0) ≡ true → [] ≡ rest_text number rest
+no_rest number [] none = refl
+no_rest number (b ∷ bs) none = absurd (omega (arith, eqb-true (length (b ∷ bs)) 0 none))

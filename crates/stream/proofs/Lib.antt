@@ -1,9 +1,9 @@
 mod Answering
+mod Coming
 mod Ending
 mod Fields
-mod Hearing
+mod Forgotten
 mod Kept
 mod Lines
 mod Parting
-mod Settling
 mod Texts

@@ -1,8 +1,9 @@
 -- A part of an input, byte by byte.
-use Rattle.std.proofs.Common.{◌≡◌, ℕ, ◌+◌, ◌<◌, ◌≤◌, ◌==◌, ◌&&◌, List, [], ◌∷◌, ◌++◌, Bool, true, false, not, Option, Some, None, Result, Ok, Err, length, take, refl, ap, ap₂, sym, ◌∙◌, subst, append_assoc, append-nil, arith}
+use Rattle.std.proofs.Common.{◌≡◌, ℕ, ◌+◌, ◌<◌, ◌≤◌, ◌==◌, ◌&&◌, List, [], ◌∷◌, ◌++◌, Bool, false, not, Option, Some, None, Result, Ok, Err, length, take, refl, ap, ap₂, sym, ◌∙◌, subst, append_assoc, append-nil, arith}
 use Rattle.std.specs.Prelude.{option_map, flat_map, IfErr, OnOk, MatchResult}
 use Rattle.std.specs.Io.KnownBytes.{append_known}
 use Rattle.device.specs.Device.{IsPart}
+use Rattle.std.proofs.lemmas.Bool.{ne_eqb}
 use Rattle.std.proofs.lemmas.List.{length-append}
 use Rattle.ids.specs.declared.entry.Entry.{Entry}
 use Rattle.machine.specs.Shown.{Shown}
@@ -11,10 +12,10 @@ use Rattle.script.specs.Characters.{newline}
 use Rattle.script.specs.declared.faults.ScriptFault.{ScriptFault}
 use Rattle.script.specs.declared.limits.TheConstants.{SCRIPT_LIMIT}
 use Rattle.stream.specs.Answers.{AreAnswers, entries_in, is_good, text_from}
-use Rattle.stream.specs.Asked.{Stand, behind_line, next_number, stand_from, stand_of, beginning}
+use Rattle.stream.specs.Asked.{Stand, behind_line, next_number, stand_of, beginning}
 use Rattle.stream.specs.Heard.{IsFollowed, IsOfLine, IsTold, StopsAt, is_fault}
 use Rattle.script.specs.Lines.{further_line_of}
-use Rattle.stream.specs.Input.{BeginsWith, ended, is_one_line}
+use Rattle.stream.specs.Input.{BeginsWith, ended}
 use Rattle.stream.specs.Parts.{ComesOf, IsAt, IsStopped, IsTaken, IsUnwritten, NotTaken, Seen, Stops, Takes, TakesUpTo, input_of, place_of}
 use Rattle.stream.specs.States.{CannotSettle, IsHeard, IsNotHeard, IsNotSettled, IsSettled, StaysAlike}
 use Rattle.stream.specs.declared.fault.StreamFault.{StreamFault}
@@ -22,10 +23,10 @@ use Rattle.stream.specs.declared.fault.StreamFault.TheVariants.{Read, Write, His
 use Rattle.stream.specs.declared.heard.Heard.{Heard}
 use Rattle.stream.specs.declared.state.Setting.{Setting}
 use Rattle.stream.specs.declared.state.Stream.{Stream}
-use Rattle.stream.proofs.Answering.{answered, answers_alike, answers_none, entries_in-append, text_from-append}
-use Rattle.stream.proofs.Hearing.{stops_settling}
+use Rattle.stream.proofs.Answering.{alike_same, answered, answers_alike, answers_none, entries_in-append, text_from-append}
+use Rattle.stream.proofs.Coming.{stops_settling}
 use Rattle.stream.proofs.Kept.{comes_as, number-line, stand-line, stops_as}
-use Rattle.stream.proofs.Lines.{each-line, input-byte, input-ended, one_line-byte}
+use Rattle.stream.proofs.Lines.{each-line, input-byte, input-ended, kept-byte, kept-full, one_line-byte}
 
 -- nothing more
 pub Takes-none : {K : Type 0} (shown : K → Shown) (setting : Setting) (seen : Seen) (stream : Stream K)
@@ -59,7 +60,7 @@ Takes-then shown setting seen xs ys s t mid new first second = record {
   more = first.more ++ second.more;
   at = second.at;
   input = second.input ∙ ap (λ (bs : List ℕ). bs ++ ys) first.input ∙ append_assoc (input_of seen) xs ys;
-  answers = second.answers ∙ ap (λ (as : List (Result Entry ScriptFault)). as ++ second.more) first.answers ∙ append_assoc seen.answers first.more second.more;
+  answers = second.answers ∙ ap (λ (all : List (Result Entry ScriptFault)). all ++ second.more) first.answers ∙ append_assoc seen.answers first.more second.more;
   told = texts_join seen first.after first.more second.more s t first.answers first.told second.told;
 }
 
@@ -90,8 +91,8 @@ Stops-then shown setting seen xs ys zs s t mid new why first second =
         more = first.more ++ taken.more;
         begins = begins_then (input_of seen) (input_of first.after) xs ys zs second.next taken.lines first.input taken.begins;
         number_is = taken.number_is;
-        answered = subst (λ (as : List (Result Entry ScriptFault)). AreAnswers setting.limits (stand_of taken.lines) (option_map shown new.kernel) as)
-            (ap (λ (as : List (Result Entry ScriptFault)). as ++ taken.more) first.answers ∙ append_assoc seen.answers first.more taken.more) taken.answered;
+        answered = subst (λ (all : List (Result Entry ScriptFault)). AreAnswers setting.limits (stand_of taken.lines) (option_map shown new.kernel) all)
+            (ap (λ (all : List (Result Entry ScriptFault)). all ++ taken.more) first.answers ∙ append_assoc seen.answers first.more taken.more) taken.answered;
         told = texts_join seen first.after first.more taken.more s t first.answers first.told taken.told;
       };
       why = second.why;
@@ -208,9 +209,33 @@ Stops-line shown setting seen old new why at heard =
 
 -- a byte for which memory is refused
 pub Stops-byte : {K : Type 0} (shown : K → Shown) (setting : Setting) (seen : Seen) (b : ℕ) (old new : Stream K)
-    → IsAt shown setting seen old → StaysAlike (option_map shown old.kernel) (option_map shown new.kernel) → Stops shown setting seen (b ∷ []) [] new NoMemory
-Stops-byte shown setting seen b old new at alike =
+    → IsAt shown setting seen old → new.kernel ≡ old.kernel → Stops shown setting seen (b ∷ []) [] new NoMemory
+Stops-byte {K} shown setting seen b old new at same =
+    let alike : StaysAlike (option_map shown old.kernel) (option_map shown new.kernel) =
+    subst (λ (k : Option K). StaysAlike (option_map shown old.kernel) (option_map shown k)) (sym same)
+    (alike_same (stand_of seen.lines).priorities setting.limits (option_map shown old.kernel) at.answered.made) in
     Stops-here shown setting seen (b ∷ []) old new NoMemory at alike (memory_stops old.number old.line.items (option_map shown new.kernel))
+
+-- a byte of a line of which enough is kept
+pub Takes-full : {K : Type 0} (shown : K → Shown) (setting : Setting) (seen : Seen) (b : ℕ) (stream : Stream K)
+    → IsAt shown setting seen stream → (b ≡ newline → ⊥) → SCRIPT_LIMIT < length stream.line.items → Takes shown setting seen (b ∷ []) [] stream
+Takes-full shown setting seen b stream at other full =
+    Takes-byte shown setting seen b stream stream at (record { kernel = refl; checker = refl; number = refl; good = refl }) (ne_eqb b newline other)
+    (kept-full stream.line.items seen.rest b (SCRIPT_LIMIT + 1) at.line (omega arith))
+
+-- a byte that is kept
+pub Takes-kept : {K : Type 0} (shown : K → Shown) (setting : Setting) (seen : Seen) (b : ℕ) (old new : Stream K)
+    → IsAt shown setting seen old → SameBut old new → (b ≡ newline → ⊥) → length old.line.items ≤ SCRIPT_LIMIT → new.line.items ≡ old.line.items ++ b ∷ []
+    → Takes shown setting seen (b ∷ []) [] new
+Takes-kept shown setting seen b old new at same other short line =
+    Takes-byte shown setting seen b old new at same (ne_eqb b newline other)
+    (line ∙ kept-byte old.line.items seen.rest b (SCRIPT_LIMIT + 1) at.line (omega arith))
+
+-- what comes of a line feed comes of this byte
+pub Comes-feed : {K : Type 0} (shown : K → Shown) (setting : Setting) (b : ℕ) (text : List ℕ) (old new : Stream K) (r : Result (Unit {0}) StreamFault)
+    → b ≡ newline → ComesOf shown setting (newline ∷ []) text old new r → ComesOf shown setting (b ∷ []) text old new r
+Comes-feed {K} shown setting b text old new r is comes =
+    subst (λ (x : ℕ). ComesOf {K = K} shown setting (x ∷ []) text old new r) (sym is) comes
 
 -- the same part and the same text, said in another way
 pub Takes-as : {K : Type 0} (shown : K → Shown) (setting : Setting) (seen : Seen) (xs ys text : List ℕ) (new : Stream K)
@@ -273,7 +298,7 @@ stops_settled shown setting seen part text mid new why first stays =
           last = first.at.last;
         };
         number_is = refl;
-        answered = subst (λ (as : List (Result Entry ScriptFault)). AreAnswers setting.limits (stand_of lines) (option_map shown new.kernel) as) first.answers
+        answered = subst (λ (all : List (Result Entry ScriptFault)). AreAnswers setting.limits (stand_of lines) (option_map shown new.kernel) all) first.answers
             (answers_alike setting.limits (stand_of lines) (option_map shown mid.kernel) (option_map shown new.kernel) after.answers first.at.answered stays.alike);
         told = first.told;
       };
@@ -297,6 +322,17 @@ taken_unsettled shown setting part old mid new was now_holds why fine taken stay
   written = taken.written;
   stops = λ seen at. stops_settled shown setting seen part taken.text mid new why (taken.takes seen at) stays;
 })
+
+-- a part that is taken and written, and what was done behind it
+pub answered_ok : {K : Type 0} (shown : K → Shown) (setting : Setting) (part : List ℕ) (old mid new : Stream K) (was now_holds : Option (List ℕ)) (r : Result (Unit {0}) StreamFault)
+    → IsTaken shown setting part old mid was now_holds → OnOk r (IsSettled shown mid new) → OnOk r (IsTaken shown setting part old new was now_holds)
+answered_ok shown setting part old mid new was now_holds (Ok u) taken settled = taken_settled shown setting part old mid new was now_holds taken settled
+answered_ok shown setting part old mid new was now_holds (Err why) taken settled = tt
+
+pub answered_err : {K : Type 0} (shown : K → Shown) (setting : Setting) (part : List ℕ) (old mid new : Stream K) (was now_holds : Option (List ℕ)) (r : Result (Unit {0}) StreamFault)
+    → IsTaken shown setting part old mid was now_holds → IfErr r IsOfLine → IfErr r (IsNotSettled shown mid new) → IfErr r (NotTaken shown setting part old new was now_holds)
+answered_err shown setting part old mid new was now_holds (Ok u) taken fine stays = tt
+answered_err shown setting part old mid new was now_holds (Err why) taken fine stays = taken_unsettled shown setting part old mid new was now_holds why fine taken stays
 
 -- what comes of a part whose answers are written
 pub told_ok : {K : Type 0} (shown : K → Shown) (setting : Setting) (part text : List ℕ) (old new : Stream K) (was now_holds : Option (List ℕ)) (r : Result (Unit {0}) StreamFault)
@@ -322,7 +358,7 @@ takes_upto shown setting seen part text new first = record {
     last = first.at.last;
   };
   number_is = refl;
-  answered = subst (λ (as : List (Result Entry ScriptFault)). AreAnswers setting.limits (stand_of first.after.lines) (option_map shown new.kernel) as) first.answers first.at.answered;
+  answered = subst (λ (all : List (Result Entry ScriptFault)). AreAnswers setting.limits (stand_of first.after.lines) (option_map shown new.kernel) all) first.answers first.at.answered;
   told = first.told;
 }
 

@@ -1,6 +1,5 @@
 -- The texts of answers, beside those of transcripts.
-use Rattle.std.proofs.Common.{◌≡◌, ℕ, ◌+◌, ◌<◌, ◌≤◌, ◌^◌, List, [], ◌∷◌, ◌++◌, true, Result, Ok, Err, map, length, get_or, refl, ap, sym, ◌∙◌, arith, decimal, codes}
-use Rattle.std.proofs.lemmas.Bool.{and_parts}
+use Rattle.std.proofs.Common.{◌≡◌, ℕ, ◌+◌, ◌<◌, ◌≤◌, ◌^◌, List, [], ◌∷◌, ◌++◌, true, true≢false, Result, Ok, Err, map, length, get_or, refl, ap, sym, ◌∙◌, arith, decimal, codes}
 use Rattle.std.proofs.lemmas.Fmt.{decimal_is_IsNumeral, decimal_nonempty}
 use Rattle.std.proofs.lemmas.List.{append_assoc, get_or_append_left}
 use Rattle.std.proofs.lemmas.Str.Parse.{digit_at}
@@ -9,13 +8,13 @@ use Rattle.script.specs.declared.faults.ScriptFault.{ScriptFault}
 use Rattle.transcript.specs.Line.{dooms_text, line_of, lines_from}
 use Rattle.transcript.specs.Operation.{op_text}
 use Rattle.transcript.specs.Reply.{reply_text}
-use Rattle.stream.specs.Answers.{FaultLinesAreNoEntries, GoodAnswersAreTranscripts, ask_of, entries_in, fault_line, fault_text, is_good, text_from}
+use Rattle.stream.specs.Answers.{FaultLinesAreNoEntries, GoodAnswersAreTranscripts, ask_of, entries_in, fault_line, is_good, text_from}
 
 good_from : (place : ℕ) (answers : List (Result Entry ScriptFault)) → is_good (map ask_of answers) ≡ true → text_from place answers ≡ lines_from place (entries_in answers)
 good_from place [] h = refl
 good_from place (Ok e ∷ answers) h =
-    ap (λ (t : List ℕ). line_of place e ++ t) (good_from (place + 1) answers (and_parts true (is_good (map ask_of answers)) h).1)
-good_from place (Err why ∷ answers) h = cc h
+    ap (λ (t : List ℕ). line_of place e ++ t) (good_from (place + 1) answers h)
+good_from place (Err why ∷ answers) h = absurd (true≢false (sym h))
 
 pub good_answers : GoodAnswersAreTranscripts
 good_answers answers h = good_from 1 answers h

@@ -1,5 +1,5 @@
 // What one line has come to.
-ghost use Rattle.std.specs.Prelude.{◌≡◌};
+ghost use Rattle.std.specs.Prelude.{◌≡◌, ◌&&◌, not};
 ghost use Rattle.stream.specs.Heard.{is_fault};
 
 use script::ScriptFault;
@@ -16,10 +16,13 @@ pub(crate) enum Heard {
 }
 
 impl Heard {
-    // Whether the line was a fault.
-    pub(crate) fn is_fault(self) -> bool
-        ensures { result ≡ is_fault self }
+    // Whether no line so far was a fault, where it was so before this one.
+    pub(crate) fn stays_good(self, good: bool) -> bool
+        ensures { result ≡ (good && not (is_fault self)) }
     {
-        matches!(self, Heard::Fault(_))
+        match self {
+            Heard::Nothing | Heard::Operation => good,
+            Heard::Fault(_) => false,
+        }
     }
 }

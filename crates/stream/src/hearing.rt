@@ -1,6 +1,7 @@
 // One line of a stream, as it is done.
-ghost use Rattle.std.specs.Prelude.{◌≡◌, ◌≢◌, Ok, Some, is_some, IfErr, IfOk, OnErr, OnOk};
+ghost use Rattle.std.specs.Prelude.{◌≡◌, ◌≢◌, [], is_some, IfErr, IfOk, OnErr, OnOk, Option};
 ghost use Rattle.machine.specs.Shown.{Kept};
+ghost use Rattle.replay.specs.SoFar.{Checked};
 ghost use Rattle.script.specs.Lines.{further_line_of};
 ghost use Rattle.stream.specs.Heard.{ComesFurther, Follows, HasDone, HasGrown, IsOfLine};
 ghost use Rattle.stream.specs.Heard.{Refused, Refuses, StopsFurther, Took};
@@ -48,6 +49,8 @@ fn do_line<K: Machine>(kernel: &mut K, line: Line) -> Result<Heard, Refusal>
         (HasDone line.pid line.op (K.shown kernel.old) (K.shown kernel.new)) }
     ensures unchanged { OnErr result (K.shown kernel.new ≡ K.shown kernel.old) }
     ensures refused { IfErr result (Refused (K.shown kernel.old).log line.pid line.op) }
+    ensures followed { (checker : Option Checked)
+        → Follows checker (K.shown kernel.old).log → Follows checker (K.shown kernel.new).log }
 {
     let Line { pid, op, number: _ } = line;
     match do_step(kernel, pid, op) {
@@ -82,6 +85,8 @@ fn try_line<K: Machine>(
     ensures unchanged { OnErr result (K.shown kernel.new ≡ K.shown kernel.old) }
     ensures refused { IfErr result
         (Refuses (further_line_of number line.now) (K.shown kernel.new)) }
+    ensures followed { (checker : Option Checked)
+        → Follows checker (K.shown kernel.old).log → Follows checker (K.shown kernel.new).log }
 {
     // For the proof: the kernel's history is legal.
     let _history = kernel.history();
@@ -111,10 +116,12 @@ fn hear_again<K: Machine>(
         → StopsFurther (further_line_of number line.now) (K.shown kernel.new) why) }
     ensures of_line { IfErr result IsOfLine }
 {
-    settle(kernel, checker)?;
-    match try_line(heap, number, line, kernel) {
-        Ok(heard) => Ok(heard),
-        Err(refusal) => Err(StreamFault::of_refusal(refusal)),
+    match settle(kernel, checker) {
+        Ok(()) => match try_line(heap, number, line, kernel) {
+            Ok(heard) => Ok(heard),
+            Err(refusal) => Err(StreamFault::of_refusal(refusal)),
+        },
+        Err(fault) => Err(fault),
     }
 }
 

@@ -60,7 +60,10 @@ pub fn run_stream<K: Machine, I: Source, O: Sink>(
             legal_histories_pass();
             return stream.finish(check, sink);
         }
-        stream.answer(setting, &buffer[..count], sink)?;
+        match stream.answer(setting, &buffer[..count], sink) {
+            Ok(()) => {}
+            Err(fault) => return Err(fault),
+        }
     }
     Err(StreamFault::Spent)
 }

@@ -1,5 +1,5 @@
 // What was done is checked, if that is wanted, and forgotten.
-ghost use Rattle.std.specs.Prelude.{◌≡◌, is_some, IfErr, OnErr, OnOk};
+ghost use Rattle.std.specs.Prelude.{◌≡◌, is_some, IfErr, IfOk, OnErr, OnOk};
 ghost use Rattle.machine.specs.Shown.{Kept};
 ghost use Rattle.machine.specs.Steps.{forgetting};
 ghost use Rattle.stream.specs.Heard.{CannotForget, Follows, HasFollowed, IsOfLine};
@@ -7,6 +7,20 @@ ghost use Rattle.stream.specs.Heard.{CannotForget, Follows, HasFollowed, IsOfLin
 use crate::fault::StreamFault;
 use machine::Machine;
 use replay::Checker;
+
+// The checker, once it has checked the entries that are kept too. At a fault it is gone.
+fn check_kept<K: Machine>(kernel: &K, former: Checker) -> Result<Checker, StreamFault>
+    ensures followed { IfOk result (λ behind. Follows (Some former) (K.shown kernel.now).log
+        → HasFollowed (Some behind) (K.shown kernel.now).log) }
+    ensures fault { IfErr result (λ why. Follows (Some former) (K.shown kernel.now).log
+        → CannotForget (K.shown kernel.now) why) }
+    ensures of_line { IfErr result IsOfLine }
+{
+    match former.add(kernel.history().entries()) {
+        Ok(behind) => Ok(behind),
+        Err(fault) => Err(StreamFault::of_check(fault)),
+    }
+}
 
 // Has the checker, if there is one, check the entries that are kept. At a fault it is gone.
 fn follow<K: Machine>(kernel: &K, checker: &mut Option<Checker>) -> Result<(), StreamFault>
@@ -17,15 +31,15 @@ fn follow<K: Machine>(kernel: &K, checker: &mut Option<Checker>) -> Result<(), S
         → CannotForget (K.shown kernel.now) why) }
     ensures of_line { IfErr result IsOfLine }
 {
-    let Some(former) = checker.take() else {
-        return Ok(());
-    };
-    match former.add(kernel.history().entries()) {
-        Ok(behind) => {
-            *checker = Some(behind);
-            Ok(())
-        }
-        Err(fault) => Err(StreamFault::of_check(fault)),
+    match checker.take() {
+        None => Ok(()),
+        Some(former) => match check_kept(kernel, former) {
+            Ok(behind) => {
+                *checker = Some(behind);
+                Ok(())
+            }
+            Err(fault) => Err(fault),
+        },
     }
 }
 
@@ -47,7 +61,10 @@ pub(crate) fn settle<K: Machine>(
 {
     // For the proof: what was forgotten are entries of the history.
     let _history = kernel.history();
-    follow(kernel, checker)?;
+    match follow(kernel, checker) {
+        Ok(()) => {}
+        Err(fault) => return Err(fault),
+    }
     if kernel.forget() {
         Ok(())
     } else {

@@ -18,7 +18,7 @@ use crate::heard::Heard;
 use crate::hearing::{hear_further, heard_fault};
 use crate::refusal::Refusal;
 use crate::settling::settle;
-use crate::telling::{put_fault_line, tell};
+use crate::telling::{put_fault_line, put_verdict, tell};
 use device::Sink;
 use heap::Heap;
 use ids::{Limits, Num, Priority};
@@ -169,7 +169,7 @@ impl<K: Machine> Stream<K> {
         match self.hear(setting) {
             Ok(heard) => {
                 tell(out, &self.kernel, heard);
-                self.good = self.good && !heard.is_fault();
+                self.good = heard.stays_good(self.good);
                 self.line.clear();
                 self.number = self.number.saturating_add(1);
                 Ok(())
@@ -194,10 +194,13 @@ impl<K: Machine> Stream<K> {
         if byte == b'\n' {
             return self.end_line(setting, out);
         }
-        if self.line.len() <= SCRIPT_LIMIT && self.line.push(byte).is_err() {
-            return Err(StreamFault::NoMemory);
+        if self.line.len() > SCRIPT_LIMIT {
+            return Ok(());
         }
-        Ok(())
+        match self.line.push(byte) {
+            Ok(()) => Ok(()),
+            Err(_) => Err(StreamFault::NoMemory),
+        }
     }
 
     // Takes a part more of the input, up to the line at which a fault comes.
@@ -280,8 +283,21 @@ impl<K: Machine> Stream<K> {
         ensures no_failure { result ≢ Err StreamFault.Write
             → S.failures sink.new ≡ S.failures sink.old }
     {
-        self.write_part(setting, part, sink)?;
-        self.settle_all()
+        match self.write_part(setting, part, sink) {
+            Ok(()) => self.settle_all(),
+            Err(fault) => Err(fault),
+        }
+    }
+
+    // Prints what is answered to the line that has not ended, if there is one.
+    fn put_rest<S: Sink>(&self, out: &mut Printer<'_, S>)
+        requires { CanPrint S.failures out.old }
+        ensures { Prints S.written S.failures out.old out.new
+            (rest_text self.now.number self.now.line.items) }
+    {
+        if !self.line.is_empty() {
+            put_fault_line(out, unended_fault(self.number, self.line.len()));
+        }
     }
 
     // Prints what is answered at the end of the input: the line that has not ended, if there is
@@ -291,12 +307,8 @@ impl<K: Machine> Stream<K> {
         ensures { Prints S.written S.failures out.old out.new
             (rest_text self.now.number self.now.line.items ++ verdict check) }
     {
-        if !self.line.is_empty() {
-            put_fault_line(out, unended_fault(self.number, self.line.len()));
-        }
-        if check {
-            out.put(b"check: ok\n");
-        }
+        self.put_rest(out);
+        put_verdict(out, check);
     }
 
     // Answers the end of the input. Returns whether no line was a fault. Its only fault is Write.

@@ -1,8 +1,9 @@
 // Answers, as they are printed.
-ghost use Rattle.std.specs.Prelude.{◌≡◌, ◌++◌, ℕ, List, option_map, codes, decimal};
+ghost use Rattle.std.specs.Prelude.{◌++◌, ℕ, List, option_map, codes, decimal};
 ghost use Rattle.transcript.specs.Printer.{CanPrint, Prints};
 ghost use Rattle.stream.specs.Answers.{fault_line, fault_text};
 ghost use Rattle.stream.specs.Heard.{IsLastLine, IsTold};
+ghost use Rattle.stream.specs.Streams.{verdict};
 
 use crate::heard::Heard;
 use device::Sink;
@@ -52,6 +53,16 @@ pub(crate) fn put_fault_line<S: Sink>(out: &mut Printer<'_, S>, fault: ScriptFau
     out.put(b"? ");
     put_fault(out, fault);
     out.put(b"\n");
+}
+
+// Prints that the history passes, if it was checked.
+pub(crate) fn put_verdict<S: Sink>(out: &mut Printer<'_, S>, check: bool)
+    requires { CanPrint S.failures out.old }
+    ensures { Prints S.written S.failures out.old out.new (verdict check) }
+{
+    if check {
+        out.put(b"check: ok\n");
+    }
 }
 
 // Prints the line of the last entry, where that is kept.

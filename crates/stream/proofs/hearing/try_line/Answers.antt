@@ -1,6 +1,6 @@
 use Rattle.std.proofs.Common.{rules, refl}
-use Rattle.stream.proofs.Hearing.{comes_done, comes_fault, refuses_line, refuses_memory}
-use Rattle.stream.proofs.Settling.{grown_none}
+use Rattle.stream.proofs.Coming.{comes_done, comes_fault, refuses_line, refuses_memory}
+use Rattle.stream.proofs.Forgotten.{grown_none}
 use Rattle.stream.proofs.hearing.try_line.Goals as goal
 
 pub returns-in-Ok-None-clause-comes : goal.returns-in-Ok-None-clause-comes

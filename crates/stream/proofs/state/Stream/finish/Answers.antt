@@ -1,6 +1,9 @@
 use Rattle.std.proofs.Common.{append-nil, rules}
-use Rattle.transcript.proofs.Laws.{Finished-by, Prints-as, Prints-then}
+use Rattle.transcript.proofs.Laws.{CanPrint-after, Finished-by, Prints-as, Prints-then}
 use Rattle.stream.proofs.state.Stream.finish.Goals as goal
+
+pub finish-requires : goal.finish-requires
+finish-requires g c = CanPrint-after c.put_end.ensures (search rules)
 
 pub returns-in-Ok-clause-written : goal.returns-in-Ok-clause-written
 returns-in-Ok-clause-written g c =

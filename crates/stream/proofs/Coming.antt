@@ -1,16 +1,15 @@
 -- What a line has come to, by what was read and what the kernel did.
-use Rattle.std.proofs.Common.{◌≡◌, ℕ, ◌≢◌, List, [], Bool, false, Option, Some, None, Result, Ok, Err, refl, sym, ◌∙◌, ap, subst, IfErr, IfOk, OnOk, OnErr}
-use Rattle.std.specs.Prelude.{is_some, option_map}
-use Rattle.history.specs.Log.{Log, kept}
-use Rattle.ids.specs.declared.call.Op.{Op}
+use Rattle.std.proofs.Common.{◌≡◌, ◌≢◌, ℕ, List, [], Option, Some, None, Result, Ok, Err, sym, subst, IfErr, IfOk, OnOk}
+use Rattle.history.specs.Log.{kept}
 use Rattle.ids.specs.declared.limits.Limits.{Limits}
-use Rattle.machine.specs.Shown.{Shown, Kept}
-use Rattle.replay.specs.SoFar.{Checked}
+use Rattle.machine.specs.Shown.{Shown}
+use Rattle.replay.specs.declared.checking.CheckFault.{CheckFault}
+use Rattle.replay.specs.declared.checking.CheckFault.TheVariants as check
 use Rattle.script.specs.Scripts.{IsFault}
 use Rattle.script.specs.declared.read.Line.{Line}
 use Rattle.script.specs.declared.faults.ScriptFault.{ScriptFault}
 use Rattle.script.specs.declared.faults.ScriptFault.TheVariants as fault
-use Rattle.stream.specs.Heard.{CannotForget, Comes, ComesFirst, ComesFurther, DoesLine, Follows, HasDone, HasGrown, IsFollowed, Refused, Refuses, StopsAt, StopsFurther, fault_of_refusal}
+use Rattle.stream.specs.Heard.{CannotForget, ComesFirst, ComesFurther, DoesLine, HasDone, HasGrown, IsOfLine, Refused, Refuses, StopsFurther, fault_of_check, fault_of_refusal}
 use Rattle.stream.specs.declared.fault.StreamFault.{StreamFault}
 use Rattle.stream.specs.declared.fault.StreamFault.TheVariants as stop
 use Rattle.stream.specs.declared.heard.Heard.{Heard}
@@ -71,3 +70,15 @@ stops_settling stop.Spent said kernel cannot = tt
 stops_settling stop.Read said kernel cannot = absurd cannot
 stops_settling stop.Write said kernel cannot = absurd cannot
 stops_settling stop.HistoryFull said kernel cannot = absurd cannot
+
+-- a fault that comes of a line is none of a device
+pub check_of_line : (why : CheckFault) → IsOfLine (fault_of_check why)
+check_of_line check.NoMemory = tt
+check_of_line (check.Wrong place) = tt
+
+pub refusal_of_line : (why : Refusal) → IsOfLine (fault_of_refusal why)
+refusal_of_line refusal.HistoryFull = tt
+refusal_of_line refusal.NoMemory = tt
+
+pub no_write : {A : Type 0} (r : Result A StreamFault) → IfErr r IsOfLine → r ≡ Err stop.Write → ⊥
+no_write {A} r fine e = subst (λ (z : Result A StreamFault). IfErr z IsOfLine) e fine
