@@ -1,5 +1,5 @@
 -- What a line has come to, by what was read and what the kernel did.
-use Rattle.std.proofs.Common.{◌≡◌, ◌≢◌, ℕ, List, [], Option, Some, None, Result, Ok, Err, sym, subst, IfErr, IfOk, OnOk}
+use Rattle.std.proofs.Common.{◌≡◌, ◌≢◌, ℕ, List, [], Option, Some, None, Result, Ok, Err, sym, subst, IfErr, IfOk, OnErr, OnOk}
 use Rattle.history.specs.Log.{kept}
 use Rattle.ids.specs.declared.limits.Limits.{Limits}
 use Rattle.machine.specs.Shown.{Shown}
@@ -30,7 +30,7 @@ comes_done (Ok what) said old new line e is done = does_line said old new line w
 comes_done (Err why) said old new line e is done = tt
 
 pub refuses_line : (r : Result Heard Refusal) (said : Result (Option Line) ScriptFault) (old new : Shown) (line : Line)
-    → said ≡ Ok (Some line) → new ≡ old → IfErr r (Refused old.log line.pid line.op) → IfErr r (Refuses said new)
+    → said ≡ Ok (Some line) → OnErr r (new ≡ old) → IfErr r (Refused old.log line.pid line.op) → IfErr r (Refuses said new)
 refuses_line (Ok what) said old new line e same refused = tt
 refuses_line (Err refusal.HistoryFull) said old new line e same refused =
     subst (λ (k : Shown). Refuses said k refusal.HistoryFull) (sym same) (record { line = line; asks = e; full = refused })
