@@ -182,6 +182,14 @@ come_stopped shown setting mid new given between left old was now_holds part (Ch
 come_stopped shown setting mid new given between left old was now_holds part Spent come gave not =
     inr (stops_before shown setting mid new given between left old was now_holds part Spent come gave not)
 
+-- no part is stopped at by a read
+pub taken_no_read : {K : Type 0} (shown : K → Shown) (setting : Setting) (mid new : Stream K) (given left old was now_holds : Option (List ℕ)) (part : List ℕ) (why : StreamFault)
+    → HasCome shown setting mid given left old was → NotTaken shown setting part mid new was now_holds why → why ≡ Read → ⊥
+taken_no_read {K} shown setting mid new given left old was now_holds part why come not is =
+    let stopped : IsStopped shown setting part mid new was now_holds Read = subst (λ (w : StreamFault). NotTaken shown setting part mid new was now_holds w) is not in
+    let stops = stopped.stops come.seen come.at in
+    no_read stops.number stops.next (option_map shown new.kernel) stops.why
+
 -- what is answered at the end of the input
 record AnsweredAtEnd
     (limits : Limits) (stand : Stand) (rest kept : List ℕ) (kernel : Option Shown) (answers : List (Result Entry ScriptFault))
