@@ -1,5 +1,5 @@
 -- What is forgotten, and what a checker has checked.
-use Rattle.std.proofs.Common.{◌≡◌, ℕ, ◌+◌, ◌-◌, ◌<◌, ◌≤◌, List, [], ◌∷◌, ◌++◌, Option, Some, None, Result, length, take, drop, get_or, refl, ap, ap₂, sym, ◌∙◌, subst, arith, append-nil, slice_get}
+use Rattle.std.proofs.Common.{◌≡◌, ℕ, ◌+◌, ◌-◌, ◌<◌, ◌≤◌, List, [], ◌∷◌, ◌++◌, Option, Some, None, Result, length, take, get_or, refl, ap, ap₂, sym, ◌∙◌, subst, arith, append-nil, slice_get}
 use Rattle.std.specs.Prelude.{sum}
 use Rattle.std.proofs.lemmas.List.{drop_all, length-append, length-drop, take-append-drop, take-append-le, take_all, get_or-drop, get_or_at}
 use Rattle.std.proofs.lemmas.List.Sums.{sum_by-append}

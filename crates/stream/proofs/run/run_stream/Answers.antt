@@ -1,5 +1,4 @@
-use Rattle.std.proofs.Common.{◌≡◌, ◌∙◌, ◌<◌, List, [], take, inl, refl, sym, ap, rules, arith, length}
-use Rattle.std.specs.Io.KnownBytes.{prepend_known}
+use Rattle.std.proofs.Common.{◌∙◌, inl, refl, rules, arith}
 use Rattle.stream.proofs.Ending.{at_write, come_answered, come_more, come_none, come_still, come_stopped, ended_err, ended_ok, no_read_of, only_write, taken_no_read}
 use Rattle.stream.proofs.run.run_stream.Goals as goal
 

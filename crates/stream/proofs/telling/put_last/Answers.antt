@@ -1,5 +1,5 @@
-use Rattle.std.proofs.Common.{◌≡◌, ℕ, ◌+◌, List, ◌∷◌, ◌++◌, [], length, Option, Some, None, ap, ap₂, sym, ◌∙◌, subst, arith, rules}
-use Rattle.std.specs.Prelude.{slice_get, option_copied}
+use Rattle.std.proofs.Common.{◌≡◌, ◌-◌, List, [], length, Some, None, ap, ◌∙◌, subst, rules}
+use Rattle.std.specs.Prelude.{slice_get}
 use Rattle.history.specs.Log.{Log, kept}
 use Rattle.ids.specs.declared.entry.Entry.{Entry}
 use Rattle.transcript.specs.Line.{line_of}

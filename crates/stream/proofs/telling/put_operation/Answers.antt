@@ -1,4 +1,4 @@
-use Rattle.std.proofs.Common.{[], Option, sym, subst}
+use Rattle.std.proofs.Common.{[], sym, subst}
 use Rattle.std.specs.Prelude.{option_map}
 use Rattle.transcript.proofs.Laws.{Prints-none}
 use Rattle.stream.specs.Heard.{IsTold}

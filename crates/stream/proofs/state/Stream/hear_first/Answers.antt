@@ -1,4 +1,4 @@
-use Rattle.std.proofs.Common.{◌≡◌, ℕ, List, Option, Some, None, Ok, ap, sym, ◌∙◌, subst, rules}
+use Rattle.std.proofs.Common.{ℕ, List, subst, rules}
 use Rattle.script.specs.Lines.{first_line_of}
 use Rattle.script.specs.Scripts.{IsFault}
 use Rattle.stream.specs.declared.heard.Heard.TheVariants as heard

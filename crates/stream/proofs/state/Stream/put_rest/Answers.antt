@@ -1,4 +1,4 @@
-use Rattle.std.proofs.Common.{◌≡◌, ◌==◌, false, true, length, rules, arith}
+use Rattle.std.proofs.Common.{rules}
 use Rattle.transcript.proofs.Laws.{Prints-as, Prints-none}
 use Rattle.stream.proofs.Kept.{no_rest, some_rest}
 use Rattle.stream.proofs.state.Stream.put_rest.Goals as goal

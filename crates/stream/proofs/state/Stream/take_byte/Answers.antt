@@ -1,4 +1,4 @@
-use Rattle.std.proofs.Common.{◌≡◌, ◌≤◌, ◌<◌, ◌∷◌, ◌++◌, [], length, refl, arith, rules}
+use Rattle.std.proofs.Common.{◌≤◌, ◌<◌, [], length, refl, arith, rules}
 use Rattle.script.specs.declared.limits.TheConstants.{SCRIPT_LIMIT}
 use Rattle.transcript.proofs.Laws.{Prints-none}
 use Rattle.stream.proofs.Parting.{Comes-feed, Stops-byte, Takes-full, Takes-kept}
