@@ -287,7 +287,10 @@ static THREE: &[u8] = b"priorities 0\n1 end\n1 frob\n1 end\n";
 static ANSWERS: [(usize, &str); 4] = [
     (12, ""),
     (18, "1 P1 end -> NotInTransaction\n"),
-    (25, "1 P1 end -> NotInTransaction\n? line 3: unknown operation\n"),
+    (
+        25,
+        "1 P1 end -> NotInTransaction\n? line 3: unknown operation\n",
+    ),
     (
         31,
         "1 P1 end -> NotInTransaction\n? line 3: unknown operation\n2 P1 end -> NotInTransaction\n",

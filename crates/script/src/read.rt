@@ -158,7 +158,11 @@ pub(crate) fn priorities_of(
 
 // A further line, which has this number.
 #[tactic(auto, unfolding(crate::specs::Scripts::line_of))]
-pub(crate) fn line_of(heap: Heap, number: usize, words: &mut Pieces<'_>) -> Result<Line, ScriptFault>
+pub(crate) fn line_of(
+    heap: Heap,
+    number: usize,
+    words: &mut Pieces<'_>,
+) -> Result<Line, ScriptFault>
     ensures line { IfOk result (λ line. line_of number words.old ≡ Ok line) }
     ensures fault { IfErr result (IsFault (line_of number words.old)) }
 {

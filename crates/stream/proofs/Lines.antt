@@ -53,9 +53,9 @@ pub long_line : {A : Type 0} (f : List ℕ → A) (e : A) (m : ℕ) (rest : List
     → cond (nat_lt m (length (take (m + 1) rest))) e (f (take (m + 1) rest)) ≡ cond (nat_lt m (length rest)) e (f rest)
 long_line {A} f e m rest = elim (cases_lt m (length rest)) [
   | inl h ↦
-    let cut = length-take (m + 1) rest in
-    let more : m < length (take (m + 1) rest) = omega arith in
-    cond-true _ e (f (take (m + 1) rest)) (lt-ltb m (length (take (m + 1) rest)) more)
-    ∙ sym (cond-true _ e (f rest) (lt-ltb m (length rest) h))
+      let cut = length-take (m + 1) rest in
+      let more : m < length (take (m + 1) rest) = omega arith in
+      cond-true _ e (f (take (m + 1) rest)) (lt-ltb m (length (take (m + 1) rest)) more)
+      ∙ sym (cond-true _ e (f rest) (lt-ltb m (length rest) h))
   | inr h ↦ ap (λ (xs : List ℕ). cond (nat_lt m (length xs)) e (f xs)) (take_all (m + 1) rest (omega arith))
 ]

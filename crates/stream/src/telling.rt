@@ -89,11 +89,7 @@ fn put_operation<K: Machine, S: Sink>(out: &mut Printer<'_, S>, kernel: &Option<
 }
 
 // Answers a line by what it has come to.
-pub(crate) fn tell<K: Machine, S: Sink>(
-    out: &mut Printer<'_, S>,
-    kernel: &Option<K>,
-    heard: Heard,
-)
+pub(crate) fn tell<K: Machine, S: Sink>(out: &mut Printer<'_, S>, kernel: &Option<K>, heard: Heard)
     requires { CanPrint S.failures out.old }
     ensures { (text : List ℕ) × Prints S.written S.failures out.old out.new text
         × IsTold heard (option_map K.shown kernel.now) text }

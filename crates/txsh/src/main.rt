@@ -39,12 +39,7 @@ fn status<R: Threads + Wait + Sync>(rt: &HostRuntime, threads: &R) -> u8 {
 }
 
 /// Runs the script in a job's file.
-fn run_file<R: Threads + Wait + Sync>(
-    rt: &HostRuntime,
-    threads: &R,
-    heap: Heap,
-    job: &Job,
-) -> u8
+fn run_file<R: Threads + Wait + Sync>(rt: &HostRuntime, threads: &R, heap: Heap, job: &Job) -> u8
     requires limited { job.now.limit ≤ MAX_LIMIT }
     requires files { job.now.file_limit ≤ MAX_FILE_LIMIT }
 {

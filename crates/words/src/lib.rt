@@ -326,12 +326,7 @@ fn way_of(heap: Heap, matches: &ArgMatches) -> Result<Option<Way>, CommandLineFa
 }
 
 // The job of a script that is run in this way, whose file has this name.
-fn job_of(
-    heap: Heap,
-    matches: &ArgMatches,
-    way: Way,
-    file: &str,
-) -> Result<Job, CommandLineFault>
+fn job_of(heap: Heap, matches: &ArgMatches, way: Way, file: &str) -> Result<Job, CommandLineFault>
     ensures way { IfOk result (λ job. job.way ≡ way.entry) }
     ensures limits { IfOk result (λ job.
         HasLimits (one_text (found_of matches.now)) job.limit job.file_limit job.check) }
@@ -361,8 +356,7 @@ fn job_of(
 
 // What is asked of a stream.
 fn stream_job_of(matches: &ArgMatches) -> StreamJob
-    ensures limits {
-        HasLimits (one_text (found_of matches.now)) result.limit result.file_limit result.check }
+    ensures limits { HasLimits (one_text (found_of matches.now)) result.limit result.file_limit result.check }
     ensures small { result.limit ≤ MAX_LIMIT }
     ensures small_files { result.file_limit ≤ MAX_FILE_LIMIT }
 {

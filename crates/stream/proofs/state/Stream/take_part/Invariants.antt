@@ -10,4 +10,4 @@ invariant-loop-byte g l =
     × ((text : List ℕ)
     × Prints g.S.Sink.written g.S.Sink.failures l.fn.out l.out text
     × ((seen : Seen) → IsAt g.K.Machine.shown l.setting seen l.fn.self
-        → Takes g.K.Machine.shown l.setting seen (take l.byte-index l.part) text l.self))
+    → Takes g.K.Machine.shown l.setting seen (take l.byte-index l.part) text l.self))
