@@ -122,22 +122,25 @@ operation_answers limits stand old new answers entry pid op a g made p o = recor
 good_as : (asked : List (Result (ℕ × Op) ScriptFault)) → is_good asked ≡ (is_good asked && not false)
 good_as asked = sym (and_true (is_good asked))
 
+abbrev stand_with : ℕ → Option (List ℕ) → List (Result (ℕ × Op) ScriptFault) → Stand
+stand_with number priorities asked = record { number = number; priorities = priorities; asked = asked }
+
 -- the answer to a line before there are priorities
 first_answered : (limits : Limits) (number : ℕ) (asked : List (Result (ℕ × Op) ScriptFault)) (line : List ℕ) (new : Option Shown)
     (answers : List (Result Entry ScriptFault)) (what : Heard) (text : List ℕ)
-    → let stand : Stand = record { number = number; priorities = None; asked = asked } in
-    AreAnswers limits stand None answers → Comes number line limits None new what → IsTold what new text → Answered limits stand line new answers what text
+    → AreAnswers limits (stand_with number None asked) None answers → Comes number line limits None new what → IsTold what new text
+    → Answered limits (stand_with number None asked) line new answers what text
 first_answered limits number asked line None answers heard.Nothing text a comes told =
-    let stand : Stand = record { number = number; priorities = None; asked = asked } in
+    let stand : Stand = stand_with number None asked in
     by_stand limits stand (with_nothing stand) line None answers [] heard.Nothing text (ap (behind_first stand) comes)
     (answers_none limits (with_nothing stand) None answers (record { made = tt; asked = a.asked; entries = a.entries })) told (good_as asked)
 first_answered limits number asked line None answers heard.Operation text a comes told = absurd comes
 first_answered limits number asked line None answers (heard.Fault why) text a comes told =
-    let stand : Stand = record { number = number; priorities = None; asked = asked } in
+    let stand : Stand = stand_with number None asked in
     by_stand limits stand (with_asked stand (Err why)) line None answers (Err why ∷ []) (heard.Fault why) text (ap (behind_first stand) comes)
     (fault_answers limits stand None answers why a) (told ∙ sym (append-nil (fault_line why))) (good-asked asked (Err why))
 first_answered limits number asked line (Some kernel) answers heard.Nothing text a comes told =
-    let stand : Stand = record { number = number; priorities = None; asked = asked } in
+    let stand : Stand = stand_with number None asked in
     let next : Stand = with_priorities stand comes.priorities in
     by_stand limits stand next line (Some kernel) answers [] heard.Nothing text (ap (behind_first stand) comes.gives)
     (answers_none limits next (Some kernel) answers (record { made = comes.made; asked = a.asked; entries = a.entries ∙ sym comes.fresh })) told (good_as asked)
@@ -147,20 +150,20 @@ first_answered limits number asked line (Some kernel) answers (heard.Fault why) 
 -- the answer to a further line
 further_answered : (limits : Limits) (number : ℕ) (priorities : List ℕ) (asked : List (Result (ℕ × Op) ScriptFault)) (line : List ℕ) (old new : Shown)
     (answers : List (Result Entry ScriptFault)) (what : Heard) (text : List ℕ)
-    → let stand : Stand = record { number = number; priorities = Some priorities; asked = asked } in
-    AreAnswers limits stand (Some old) answers → Comes number line limits (Some old) (Some new) what → IsTold what (Some new) text → Answered limits stand line (Some new) answers what text
+    → AreAnswers limits (stand_with number (Some priorities) asked) (Some old) answers → Comes number line limits (Some old) (Some new) what → IsTold what (Some new) text
+    → Answered limits (stand_with number (Some priorities) asked) line (Some new) answers what text
 further_answered limits number priorities asked line old new answers heard.Nothing text a comes told =
-    let stand : Stand = record { number = number; priorities = Some priorities; asked = asked } in
+    let stand : Stand = stand_with number (Some priorities) asked in
     let same : AreAnswers limits stand (Some new) answers = answers_alike limits stand (Some old) (Some new) answers a comes.1 in
     by_stand limits stand (with_nothing stand) line (Some new) answers [] heard.Nothing text (ap (behind_further stand) comes.0)
     (answers_none limits (with_nothing stand) (Some new) answers (record { made = same.made; asked = same.asked; entries = same.entries })) told (good_as asked)
 further_answered limits number priorities asked line old new answers (heard.Fault why) text a comes told =
-    let stand : Stand = record { number = number; priorities = Some priorities; asked = asked } in
+    let stand : Stand = stand_with number (Some priorities) asked in
     by_stand limits stand (with_asked stand (Err why)) line (Some new) answers (Err why ∷ []) (heard.Fault why) text (ap (behind_further stand) comes.0)
     (fault_answers limits stand (Some new) answers why (answers_alike limits stand (Some old) (Some new) answers a comes.1))
     (told ∙ sym (append-nil (fault_line why))) (good-asked asked (Err why))
 further_answered limits number priorities asked line old new answers heard.Operation text a comes told =
-    let stand : Stand = record { number = number; priorities = Some priorities; asked = asked } in
+    let stand : Stand = stand_with number (Some priorities) asked in
     let done = comes.done in
     let entry : Entry = done.entry in
     let ask : Result (ℕ × Op) ScriptFault = Ok (comes.line.pid, comes.line.op) in
@@ -175,8 +178,8 @@ further_answered limits number priorities asked line old new answers heard.Opera
 
 answered_in : (limits : Limits) (number : ℕ) (priorities : Option (List ℕ)) (asked : List (Result (ℕ × Op) ScriptFault)) (line : List ℕ) (old new : Option Shown)
     (answers : List (Result Entry ScriptFault)) (what : Heard) (text : List ℕ)
-    → let stand : Stand = record { number = number; priorities = priorities; asked = asked } in
-    AreAnswers limits stand old answers → Comes number line limits old new what → IsTold what new text → Answered limits stand line new answers what text
+    → AreAnswers limits (stand_with number priorities asked) old answers → Comes number line limits old new what → IsTold what new text
+    → Answered limits (stand_with number priorities asked) line new answers what text
 answered_in limits number None asked line None new answers what text a comes told = first_answered limits number asked line new answers what text a comes told
 answered_in limits number None asked line (Some old) new answers what text a comes told = absurd a.made
 answered_in limits number (Some priorities) asked line None new answers what text a comes told = absurd a.made
