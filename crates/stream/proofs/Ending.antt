@@ -344,8 +344,8 @@ ended_err shown setting stream given left old was now_holds (Err why) come over 
 
 -- what holds of a result whose only error is Write
 pub only_write : {A P : Type 0} (r : Result A StreamFault) → OnErr r (r ≡ Err Write) → OnOk r P → (r ≡ Err Write → ⊥) → P
-only_write (Ok x) only holds no = holds
-only_write (Err why) only holds no = absurd (no only)
+only_write (Ok x) only holds other = holds
+only_write (Err why) only holds other = absurd (other only)
 
 pub at_write : {A P : Type 0} (r : Result A StreamFault) → OnErr r P → r ≡ Err Write → P
 at_write {A} {P} r holds e = subst (λ (z : Result A StreamFault). OnErr z P) e holds

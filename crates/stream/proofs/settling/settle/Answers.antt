@@ -9,4 +9,4 @@ returns-then-forget-clause-followed g c = λ h.
     let log = (g.K.Machine.shown c.args.kernel.now).log in
     let checker = c.follow.new.checker in
     subst (λ (v : Shown). Follows checker v.log) (sym (c.forget.ensures.yes c.if-forget.true))
-    (follows-forgetting checker log c.history-_history.ensures.kept.forgot (c.in-Ok.ensures.followed h))
+    (follows-forgetting checker log c.history-history.ensures.kept.forgot (c.in-Ok.ensures.followed h))

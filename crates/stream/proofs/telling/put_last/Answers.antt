@@ -1,5 +1,5 @@
-use Rattle.std.proofs.Common.{◌≡◌, ◌-◌, List, [], length, Some, None, ap, ◌∙◌, subst, rules}
-use Rattle.std.specs.Prelude.{slice_get}
+use Rattle.std.proofs.Common.{◌≡◌, ◌-◌, List, [], length, Some, None, Option, Bor, ap, sym, ◌∙◌, subst, rules}
+use Rattle.std.specs.Prelude.{slice_get, option_copied}
 use Rattle.history.specs.Log.{Log, kept}
 use Rattle.ids.specs.declared.entry.Entry.{Entry}
 use Rattle.transcript.specs.Line.{line_of}
@@ -16,10 +16,11 @@ returns-in-Some g c =
     let count : c.count.result ≡ length log.entries = c.count.ensures.value ∙ ap (λ (l : Log). length l.entries) c.history-history.ensures.value in
     (line_of c.count.result c.in-Some.entry.now, c.put_line.ensures, last_line log c.in-Some.entry.now c.count.result count here)
 
-pub returns : goal.returns
-returns g c =
+pub returns-in_default : goal.returns-in_default
+returns-in_default g c =
     let log = (g.K.Machine.shown c.args.kernel.now).log in
     let same : c.entries.result.now ≡ kept log = c.entries.ensures.kept ∙ ap kept c.history-history.ensures.value in
+    let none : c.last.result ≡ None = search rules in
     let here : None ≡ slice_get (kept log) (length (kept log) - 1) =
-    subst (λ (es : List Entry). None ≡ slice_get es (length es - 1)) same (search rules) in
+    subst (λ (es : List Entry). None ≡ slice_get es (length es - 1)) same (ap (λ (o : Option (Bor Entry)). option_copied o) (sym none) ∙ c.last.ensures.value) in
     ([], Prints-none _ _ _, λ before entry e some. absurd (no_last log entry some here))

@@ -1,4 +1,4 @@
-use Rattle.std.proofs.Common.{[], sym, subst}
+use Rattle.std.proofs.Common.{◌≡◌, [], None, sym, subst, rules}
 use Rattle.std.specs.Prelude.{option_map}
 use Rattle.transcript.proofs.Laws.{Prints-none}
 use Rattle.stream.specs.Heard.{IsTold}
@@ -10,5 +10,7 @@ returns-in-Some g c =
     let told = c.put_last.ensures in
     (told.0, told.1, subst (λ o. IsTold heard.Operation (option_map g.K.Machine.shown o) told.0) (sym c.in-Some.is) told.2)
 
-pub returns : goal.returns
-returns g c = ([], Prints-none _ _ _, subst (λ o. IsTold heard.Operation (option_map g.K.Machine.shown o) []) (sym c.in-None.is) tt)
+pub returns-in_default : goal.returns-in_default
+returns-in_default g c =
+    let none : c.args.kernel.now ≡ None = search rules in
+    ([], Prints-none _ _ _, subst (λ o. IsTold heard.Operation (option_map g.K.Machine.shown o) []) (sym none) tt)

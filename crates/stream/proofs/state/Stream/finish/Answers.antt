@@ -5,23 +5,17 @@ use Rattle.stream.proofs.state.Stream.finish.Goals as goal
 pub finish-requires : goal.finish-requires
 finish-requires g c = CanPrint-after c.put_end.ensures (search rules)
 
-pub returns-in-Ok-clause-written : goal.returns-in-Ok-clause-written
-returns-in-Ok-clause-written g c =
-    let all = Prints-as (Prints-then _ _ c.put_end.ensures c.finish.ensures.prints) (append-nil _) in
-    let finished = Finished-by c.finish.result all c.new-out.ensures.failed c.new-out.ensures.pending c.finish.ensures.pending c.finish.ensures.ok c.finish.ensures.failed in
-    search (rules, finished.ok)
-
-pub returns-in-Ok-clause-part : goal.returns-in-Ok-clause-part
-returns-in-Ok-clause-part g c =
+pub returns-then-self-clause-part : goal.returns-then-self-clause-part
+returns-then-self-clause-part g c =
     let all = Prints-as (Prints-then _ _ c.put_end.ensures c.finish.ensures.prints) (append-nil _) in
     let finished = Finished-by c.finish.result all c.new-out.ensures.failed c.new-out.ensures.pending c.finish.ensures.pending c.finish.ensures.ok c.finish.ensures.failed in
     search (rules, finished.part)
 
-pub returns-in-Ok-clause-no_failure : goal.returns-in-Ok-clause-no_failure
-returns-in-Ok-clause-no_failure g c =
+pub returns-else-self-clause-part : goal.returns-else-self-clause-part
+returns-else-self-clause-part g c =
     let all = Prints-as (Prints-then _ _ c.put_end.ensures c.finish.ensures.prints) (append-nil _) in
     let finished = Finished-by c.finish.result all c.new-out.ensures.failed c.new-out.ensures.pending c.finish.ensures.pending c.finish.ensures.ok c.finish.ensures.failed in
-    search (rules, finished.no_failure)
+    search (rules, finished.part)
 
 pub returns-in-Err-clause-part : goal.returns-in-Err-clause-part
 returns-in-Err-clause-part g c =

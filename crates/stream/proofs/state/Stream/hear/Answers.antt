@@ -8,13 +8,13 @@ use Rattle.stream.proofs.state.Stream.hear.Goals as goal
 pub returns-in-Some-clause-ok : goal.returns-in-Some-clause-ok
 returns-in-Some-clause-ok g c =
     let further = c.hear_further.ensures in
-    heard_further_all g.K.Machine.shown c.args.setting c.args.self.now _ c.in-Some.kernel.now c.hear_further.new.kernel c.as_slice.result.now c.hear_further.result
+    heard_further_all g.K.Machine.shown c.args.setting c.args.self.now _ c.in-Some.kernel c.hear_further.new.kernel c.as_slice.result.now c.hear_further.result
     c.in-Some.is refl c.as_slice.ensures.value further.comes further.followed further.same (record { line = refl; number = refl; good = refl })
 
 pub returns-in-Some-clause-err : goal.returns-in-Some-clause-err
 returns-in-Some-clause-err g c =
     let further = c.hear_further.ensures in
-    not_heard_further_all g.K.Machine.shown c.args.setting c.args.self.now _ c.in-Some.kernel.now c.hear_further.new.kernel c.as_slice.result.now c.hear_further.result
+    not_heard_further_all g.K.Machine.shown c.args.setting c.args.self.now _ c.in-Some.kernel c.hear_further.new.kernel c.as_slice.result.now c.hear_further.result
     c.in-Some.is refl c.as_slice.ensures.value further.grown further.stops
 
 pub returns-in-Err-clause-err : goal.returns-in-Err-clause-err
