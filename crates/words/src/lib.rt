@@ -327,7 +327,7 @@ fn way_of(heap: Heap, matches: &ArgMatches) -> Result<Option<Way>, CommandLineFa
 
 // The job of a script that is run in this way, whose file has this name.
 fn job_of(heap: Heap, matches: &ArgMatches, way: Way, file: &str) -> Result<Job, CommandLineFault>
-    ensures way { IfOk result (λ job. job.way ≡ way.entry) }
+    ensures way { IfOk result (λ job. job.way ≡ way) }
     ensures limits { IfOk result (λ job.
         HasLimits (one_text (found_of matches.now)) job.limit job.file_limit job.check) }
     ensures file { IfOk result (λ job. string_bytes job.file ≡ file.now) }
