@@ -192,8 +192,8 @@ def _whence(whence):
 # ValueError or IndexError.
 
 
-def _decimal(word):
-    if not word.isdigit():
+def _decimal(word, most=2**32 - 1):
+    if not word.isdigit() or int(word) > most:
         raise ValueError("no number")
     return int(word)
 
@@ -321,7 +321,7 @@ _PRINTED = {b"fill": b"write", b"pfill": b"pwrite"}
 def _read_entry(words):
     """Returns the Answer that a transcript's line is. Where the reply begins follows from the operation alone: a path, a name
     or a text may be `->`, too."""
-    place, pid, operation = _decimal(words[0]), _process(words[1]), words[2]
+    place, pid, operation = _decimal(words[0], 2**64 - 1), _process(words[1]), words[2]
     count, read = _OPERATIONS[operation]
     if operation in (b"begin", b"abort") and words[3] != b"->":
         count = 1

@@ -481,6 +481,7 @@ class HostileAnswers(TestCase):
         b"1 P1 read 0 9 -> 1 \\x4",
         b"1 P1 read 0 9 -> 1 \\xAA",
         b"1 P1 open /a RDONLY -> -1",
+        b"1 P1 open /a RDONLY -> 4294967296",
         b"1 P1 stat /a -> file size 1 links",
         b"1 P1 stat /a -> link size 1 links 1",
         b"1 P1 list / -> names 2 a",
@@ -494,6 +495,7 @@ class HostileAnswers(TestCase):
         b"1 P1 end -> aborted block a read by P2",
         b"1 P1 end -> busy names seen by P2",
         b"1 P1 end -> aborted unsupported restarted restarted",
+        b"99999999999999999999 P1 end -> committed",
     )
 
     def over(self, text):

@@ -550,9 +550,8 @@ impl Kernel {
             command.arg("--check");
         }
         let mut child = command.spawn()?;
-        let (Some(reader), Some(writer)) = (child.stdout.take(), child.stdin.take()) else {
-            return Err(ErrorKind::BrokenPipe.into());
-        };
+        let missing = || io::Error::from(ErrorKind::BrokenPipe);
+        let (reader, writer) = (child.stdout.take().ok_or_else(missing)?, child.stdin.take().ok_or_else(missing)?);
         let kernel = Kernel::over(Box::new(reader), Box::new(writer), options)?;
         kernel.state().child = Some(child);
         Ok(kernel)

@@ -330,10 +330,7 @@ const HOSTILE: [&str; 40] = [
 ];
 
 fn main() {
-    let Some(program) = std::env::args().nth(1) else {
-        eprintln!("usage: test_kagzuvis PROGRAM");
-        std::process::exit(2);
-    };
+    let program = std::env::args().nth(1).expect("usage: test_kagzuvis PROGRAM");
     let tests = Tests { program };
     let all = [
         Tests::calls_of_a_file,
