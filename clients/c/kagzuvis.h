@@ -60,7 +60,7 @@ enum kagzuvis_error {
     KAGZUVIS_STREAM_ENDED,
     /* A function was called where it may not be; nothing was sent. */
     KAGZUVIS_MISUSED,
-    /* A function of the system has failed, or memory is short: errno says why. */
+    /* A function of the system has failed, or memory is short: errno says why. Whether the operation was done is not known. */
     KAGZUVIS_SYSTEM
 };
 
@@ -150,7 +150,7 @@ struct kagzuvis_names {
  * there is one process of priority 0. */
 kagzuvis *kagzuvis_start(const char *program, const struct kagzuvis_options *options);
 
-/* Returns a kernel that answers on `reader` what is written to `writer`, or NULL with errno set, and then neither is closed.
+/* Returns a kernel that answers on `reader` what is written to `writer`, both of which kagzuvis_stop closes, or NULL with errno set.
  * Where no priorities are given another program has sent them. Of the options only these and the trace count. */
 kagzuvis *kagzuvis_over(int reader, int writer, const struct kagzuvis_options *options);
 

@@ -155,15 +155,15 @@ static int receive_some(struct pipes *pipes)
 }
 
 /* Writes or reads something, whichever can be done. So neither waits for the other: a kernel that waits until its answers are read
- * never waits for ever. Of one line alone, which nothing stands before, the kernel reads all before it answers. */
+ * never waits for ever. Where there is one short line alone, which nothing stands before, nothing comes before it is sent. */
 static int move(struct pipes *pipes, int is_alone)
 {
     int ready[2];
 
     if (length_of(&pipes->going) == 0)
         return receive_some(pipes);
-    if (is_alone)
-        return send_some(pipes, SIZE_MAX);
+    if (is_alone && length_of(&pipes->going) <= PIPE_BUF)
+        return send_some(pipes, PIPE_BUF);
     if (wait_for(pipes->reader, pipes->writer, ready) != 0)
         return -1;
     if (ready[0] && receive_some(pipes) != 0)

@@ -31,6 +31,7 @@ pub const LINE_LIMIT: usize = 1_048_576;
 
 /// What stands in a line beside a text that is written has fewer bytes than this.
 pub const BESIDE: usize = 64;
+const SHORT: usize = 4096; // What a pipe takes at once in which nothing is.
 
 macro_rules! refusals {
     ($($name:ident)*) => {
@@ -477,7 +478,7 @@ impl State {
             // A kernel that has gone does not read; what it has answered can still be read.
             let mut send = || drop(writer.write_all(text).and_then(|()| writer.flush()));
             thread::scope(|threads| {
-                if count > 1 {
+                if count > 1 || text.len() > SHORT {
                     threads.spawn(send);
                 } else {
                     send();
