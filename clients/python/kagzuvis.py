@@ -109,6 +109,7 @@ _PLAIN = bytes(byte for byte in range(33, 127) if byte != 92)
 _SPELLED = [bytes([byte]) if byte in _PLAIN else b"\\x%02x" % byte for byte in range(256)]
 _ESCAPE = re.compile(rb"\\x([0-9a-f]{2})")
 _ESCAPED = {b"%02x" % byte: bytes([byte]) for byte in range(256)}
+_WHENCES = {os.SEEK_SET: b"SET", os.SEEK_CUR: b"CUR", os.SEEK_END: b"END"}
 
 
 def spell(data):
@@ -184,10 +185,6 @@ def _begin_words(restart, abort_unsupported):
     return [b",".join(names)] if names else []
 
 
-def _whence(whence):
-    return {os.SEEK_SET: b"SET", os.SEEK_CUR: b"CUR", os.SEEK_END: b"END"}[whence]
-
-
 # Answers. Each of these reads a reply's words, and returns what they say and how many they are; words that say nothing raise
 # ValueError or IndexError.
 
@@ -215,14 +212,6 @@ def _reader_of(word):
         return None, 1
 
     return read
-
-
-def _read_number(words):
-    return _decimal(words[0]), 1
-
-
-def _read_pair(words):
-    return (_decimal(words[0]), _decimal(words[1])), 2
 
 
 def _read_bytes(words):
@@ -301,11 +290,11 @@ def _read_dooms(words):
 # How an operation's answer is read, and how many words stand behind each operation's. (A begin and an abort may have one more.)
 _READERS = (
     (_reader_of(b"ok"), b"close 1 ftruncate 2 truncate 2 link 2 unlink 1 rename 2 mkdir 1 rmdir 1 exit 0"),
-    (_read_number, b"open 2 write 2 pwrite 3 lseek 3 dup 1 dup2 2"),
+    (lambda words: (_decimal(words[0]), 1), b"open 2 write 2 pwrite 3 lseek 3 dup 1 dup2 2"),
     (_read_bytes, b"read 2 pread 3"),
     (_read_stat, b"stat 1 fstat 1"),
     (_read_names, b"list 1"),
-    (_read_pair, b"pipe 0"),
+    (lambda words: ((_decimal(words[0]), _decimal(words[1])), 2), b"pipe 0"),
     (_read_child, b"fork 0"),
     (_reader_of(b"begun"), b"begin 0"),
     (_reader_of(b"committed"), b"end 0"),
@@ -327,10 +316,10 @@ def _read_entry(words):
         count = 1
     reply = words[4 + count :]
     _exactly(words[3 + count :], b"->")
+    if b"" in words:
+        raise ValueError("no word")
     error, length = _read_failure(reply)
-    value = None
-    if error is None:
-        value, length = read(reply)
+    value, length = read(reply) if error is None else (None, length)
     answer = Answer(place, pid, operation.decode(), value, error, _read_dooms(reply[length:]))
     if error is not None:
         error.answer = answer
@@ -540,7 +529,7 @@ class Kernel:
             answer = later._set(parse(line))
             process = self._processes.get(answer.pid)
             if process is not None and process._block is not None and isinstance(answer.error, Aborted):
-                process._block._note(answer.error)
+                process._block._aborted = process._block._aborted or answer.error
         elif line == b"check: ok":
             self.checked = True
         else:
@@ -592,7 +581,7 @@ class _Calls:
     # A fill writes so many of one byte, a number from 0 to 255.
     def fill(self, fd, count, byte): return self._ask(b"fill", _number(fd), _count(count), _byte(byte))
     def pfill(self, fd, count, byte, offset): return self._ask(b"pfill", _number(fd), _count(count), _byte(byte), _offset(offset))
-    def lseek(self, fd, offset, whence=os.SEEK_SET): return self._ask(b"lseek", _number(fd), _offset(offset), _whence(whence))
+    def lseek(self, fd, offset, whence=os.SEEK_SET): return self._ask(b"lseek", _number(fd), _offset(offset), _WHENCES[whence])
     def ftruncate(self, fd, length): return self._ask(b"ftruncate", _number(fd), _number(length))
     def truncate(self, path, length): return self._ask(b"truncate", _path(path), _number(length))
     def stat(self, path): return self._ask(b"stat", _path(path))
@@ -644,7 +633,7 @@ class Ahead(_Calls):
 
 
 class Process(_Calls):
-    """A process of a kernel."""
+    """A process of a kernel. At the end of a `with` block it exits, as in `with parent.fork() as child:`."""
 
     def __init__(self, kernel, pid):
         self.kernel, self.pid = kernel, pid
@@ -652,6 +641,21 @@ class Process(_Calls):
         self.last = None
         # The block of the transaction that is open, and whether one was aborted that is to be tried again.
         self._block, self._left = None, False
+
+    def __enter__(self):
+        return self
+
+    def __exit__(self, kind, error, trace):
+        try:
+            try:
+                self.exit()
+            except (Refused, Aborted):
+                # A transaction is open, in which no process exits.
+                self._give_up()
+                self.exit()
+        except (NoProcess if error is None else Error):
+            # It has ended before, or the block's own exception goes on.
+            pass
 
     def ahead(self):
         return Ahead(self)
@@ -741,9 +745,6 @@ class Transaction:
         """Ends the transaction here; the block may make no further call."""
         self._process._ask(b"end")
         self._has_ended = True
-
-    def _note(self, aborted):
-        self._aborted = self._aborted or aborted
 
     def _check(self):
         """Refuses a call behind the transaction: it would take effect by itself."""

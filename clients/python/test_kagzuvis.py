@@ -83,6 +83,24 @@ class Calls(TestCase):
         with self.assertRaises(NoProcess):
             child.stat("/")
 
+    def test_a_process_ends_with_its_block(self):
+        parent = self.kernel().processes[0]
+        parent.pipe()
+        with parent.fork() as child:
+            child.close(0)
+        with parent.fork() as other:
+            other.begin(restart=True)
+            other.mkdir("/d")
+        with self.assertRaises(KeyError):
+            with parent.fork() as third:
+                third.exit()
+                raise KeyError
+        for process in (child, other, third):
+            self.assertRaises(NoProcess, process.stat, "/")
+        self.assertEqual(parent.list("/"), [])
+        parent.close(1)
+        self.assertEqual(parent.read(0, 1), b"")
+
     def test_refusals(self):
         process = self.kernel().processes[0]
         process.mkdir("/d")
@@ -472,6 +490,7 @@ class HostileAnswers(TestCase):
         b"1 P1 mkdir /a -> ok dooms P",
         b"1 P1 mkdir /a -> ok dooms P2,",
         b"1 P1 mkdir /a /b -> ok",
+        b"1 P1 mkdir  -> ok",
         b"1 1 mkdir /a -> ok",
         b"x P1 mkdir /a -> ok",
         b"1 P1 frob /a -> ok",

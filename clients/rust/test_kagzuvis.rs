@@ -316,10 +316,10 @@ fn add(process: &Process<'_>, other: Process<'_>, tries: u32, work: Work) -> kag
     if work.gives_up { Err(Error::GivenUp) } else { Ok(number) }
 }
 
-const HOSTILE: [&str; 40] = [
+const HOSTILE: [&str; 41] = [
     "", " ", "?", "1", "1 P1", "1 P1 mkdir", "1 P1 mkdir /a", "1 P1 mkdir /a ->", "1 P1 mkdir /a -> ", "1 P1 mkdir /a -> okay",
     "1 P1 mkdir /a -> ok ", "1 P1 mkdir /a -> ok dooms", "1 P1 mkdir /a -> ok dooms P", "1 P1 mkdir /a -> ok dooms P2,",
-    "1 P1 mkdir /a /b -> ok", "1 1 mkdir /a -> ok", "x P1 mkdir /a -> ok", "1 P1 frob /a -> ok", "1 P1 read 0 9 -> 2 a",
+    "1 P1 mkdir /a /b -> ok", "1 P1 mkdir  -> ok", "1 1 mkdir /a -> ok", "x P1 mkdir /a -> ok", "1 P1 frob /a -> ok", "1 P1 read 0 9 -> 2 a",
     "1 P1 read 0 9 -> 1", "1 P1 read 0 9 -> 1 \\", "1 P1 read 0 9 -> 1 \\x4", "1 P1 read 0 9 -> 1 \\xAA",
     "1 P1 open /a RDONLY -> -1", "1 P1 open /a RDONLY -> 4294967296", "1 P1 stat /a -> file size 1 links",
     "1 P1 stat /a -> link size 1 links 1", "1 P1 list / -> names 2 a", "1 P1 list / -> names 4294967295 a",
