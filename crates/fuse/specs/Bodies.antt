@@ -135,12 +135,14 @@ releasedir_in body = of_length 24 body (op.ReleaseDir (u64_at body 0))
 unfoldable pub getattr_in : List ℕ → Option Operation
 getattr_in body = of_length 16 body (op.GetAttr (where_set (u32_at body 0) 1 (u64_at body 8)))
 
--- a time that is set, where one bit is set, and set to now, where the other is set too
+-- A time that is set, where one bit is set, and set to now, where the other is set too. The kernel
+-- fills the time in both ways: its own clock's, where it is set to now.
 abbrev pub time_change : ℕ → ℕ → ℕ → ℕ → ℕ → Option TimeChange
 time_change mask bit now seconds nanoseconds =
     if bit_and mask bit == 0 then None
     else if bit_and mask now == 0 then
-    Some (time.At (record { seconds = seconds; nanoseconds = nanoseconds })) else Some time.Now
+    Some (time.At (record { seconds = seconds; nanoseconds = nanoseconds }))
+    else Some (time.Now (record { seconds = seconds; nanoseconds = nanoseconds }))
 
 -- The mask is the first number. Its bits: mode 1, uid 2, gid 4, size 8, time of access 16, time of
 -- modification 32, handle 64, access now 128, modification now 256. The time of the change of

@@ -9,6 +9,7 @@ use Rattle.fuse.specs.Numbers.{u32s, u64s}
 
 -- the kinds as `readdir` numbers them
 abbrev pub kind_number : Kind → ℕ
+kind_number kind.Unknown = 0
 kind_number kind.Pipe = 1
 kind_number kind.Directory = 4
 kind_number kind.File = 8

@@ -208,6 +208,7 @@ pub(crate) fn getattr_in(body: &[u8]) -> Option<Operation>
 }
 
 // What a time is set to, where the one bit of the mask is set: to now, where the other is set too.
+// The kernel fills the time in both ways.
 fn time_change(mask: u32, bit: u32, now_bit: u32, time: Time) -> Option<TimeChange>
     ensures { result ≡ time_change mask bit now_bit time.seconds time.nanoseconds }
 {
@@ -216,7 +217,7 @@ fn time_change(mask: u32, bit: u32, now_bit: u32, time: Time) -> Option<TimeChan
     } else if mask & now_bit == 0 {
         Some(TimeChange::At(time))
     } else {
-        Some(TimeChange::Now)
+        Some(TimeChange::Now(time))
     }
 }
 

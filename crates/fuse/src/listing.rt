@@ -12,6 +12,8 @@ use std::marker::Model;
 /// What an entry of a directory is.
 #[derive(Clone, Copy, Debug)]
 pub enum Kind {
+    /// It is not told: who wants to know looks the name up.
+    Unknown,
     /// A pipe with a name.
     Pipe,
     /// A directory.
@@ -55,6 +57,7 @@ fn kind_number(kind: Kind) -> u32
     ensures { result ≡ kind_number kind }
 {
     match kind {
+        Kind::Unknown => 0,
         Kind::Pipe => 1,
         Kind::Directory => 4,
         Kind::File => 8,

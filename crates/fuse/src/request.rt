@@ -14,8 +14,8 @@ pub struct Time {
 /// What a time is set to.
 #[derive(Clone, Copy, Debug)]
 pub enum TimeChange {
-    /// To the time at which the request is served.
-    Now,
+    /// To the time at which the request is served. The kernel tells what its own clock says.
+    Now(Time),
     /// To this one.
     At(Time),
 }

@@ -19,7 +19,7 @@ fn body_of(opcode: u8) -> &'static [u8] {
         2 | 36 => b"\x03\0\0\0\0\0\0\x01",
         3 => b"\x01\0\0\0\0\0\0\0\x07\0\0\0\0\0\0\x01",
         4 => b"\xb9\0\0\0\0\0\0\0\0\0\0\0\0\0\0\0\x10\0\0\0\0\0\0\x01\0\0\0\0\0\0\0\0\
-            \0\0\0\0\0\0\0\0\x05\0\0\0\0\0\0\x01\0\0\0\0\0\0\0\0\0\0\0\0\x06\0\0\0\0\0\0\0\
+            \x04\0\0\0\0\0\0\x01\x05\0\0\0\0\0\0\x01\0\0\0\0\0\0\0\0\x07\0\0\0\x06\0\0\0\0\0\0\0\
             \xa4\x81\0\0\0\0\0\0\0\0\0\0\0\0\0\0\0\0\0\0",
         8 => b"\xa4\x81\0\0\0\0\0\0\x12\0\0\0\0\0\0\0name\0",
         9 => b"\xed\x01\0\0\x12\0\0\0name\0",
@@ -71,7 +71,13 @@ fn are_forgets(forgets: &Forgets) -> bool {
 fn are_changes(changes: &Changes) -> bool {
     changes.handle.is_none()
         && changes.size == Some(0x0100_0000_0000_0010)
-        && matches!(changes.accessed, Some(TimeChange::Now))
+        && matches!(
+            changes.accessed,
+            Some(TimeChange::Now(Time {
+                seconds: 0x0100_0000_0000_0004,
+                nanoseconds: 7
+            }))
+        )
         && matches!(
             changes.modified,
             Some(TimeChange::At(Time {

@@ -1,0 +1,4 @@
+pub mod Places
+pub mod Tables
+pub mod Parts
+pub mod Paths

@@ -1,0 +1,41 @@
+-- What contracts see of the two tables, and of both together.
+use Rattle.std.specs.Prelude.{ℕ, nat_lt, min, refl, if◌then◌else◌}
+use Rattle.std.specs.Coded.{Coded, code_by, coded×, coded_ℕ}
+use Rattle.std.specs.Ordering.{nat_cmp}
+use Rattle.model.specs.FiniteMap as map
+use Rattle.nodes.specs.Places.{place_cmp, coded_place}
+use Rattle.nodes.specs.Tables.{Table, coded_node, table_code}
+use Rattle.nodes.specs.declared.node.Node.{Node}
+
+-- the index, and for how many more places there is room
+pub record Numbered : Type 0 where
+  pub numbers : map.FinMap place_cmp ℕ
+  pub room : ℕ
+
+abbrev pub numbered_code : Coded Numbered
+numbered_code = code_by (map.FinMap place_cmp ℕ × ℕ)
+    (coded× (map.code coded_place coded_ℕ) coded_ℕ)
+    (λ i. (i.numbers, i.room)) (λ q. record { numbers = q.0; room = q.1 }) (λ _. refl)
+
+-- the nodes, and for how many more there is room
+pub record Listed : Type 0 where
+  pub nodes : map.FinMap nat_cmp Node
+  pub room : ℕ
+
+abbrev pub listed_code : Coded Listed
+listed_code = code_by (map.FinMap nat_cmp Node × ℕ)
+    (coded× (map.code coded_ℕ coded_node) coded_ℕ)
+    (λ l. (l.nodes, l.room)) (λ q. record { nodes = q.0; room = q.1 }) (λ _. refl)
+
+-- the table, and for how many more nodes there is room
+pub record Stored : Type 0 where
+  pub table : Table
+  pub room : ℕ
+
+abbrev pub stored_code : Coded Stored
+stored_code = code_by (Table × ℕ) (coded× table_code coded_ℕ)
+    (λ s. (s.table, s.room)) (λ q. record { table = q.0; room = q.1 }) (λ _. refl)
+
+-- how many more nodes both tables can take, and none where no number is left
+abbrev pub room_of : ℕ → ℕ → ℕ → ℕ → ℕ
+room_of last next listed numbered = if nat_lt next last then min listed numbered else 0

@@ -1,0 +1,54 @@
+// What one number stands for.
+ghost use Rattle.std.specs.Prelude.{◌≡◌, ◌-◌};
+ghost use Rattle.nodes.specs.Tables.{more};
+
+use crate::place::Place;
+use ids::Num;
+
+/// What the number of a node stands for.
+#[derive(Debug)]
+pub struct Node {
+    /// Where it was looked up.
+    pub place: Place,
+    /// The node of the root below which that is.
+    pub root: u64,
+    /// The object.
+    pub inode: Num,
+    /// How many look-ups are not forgotten.
+    pub lookups: u64,
+}
+
+// By hand: a derived drop is opened at every place where a value goes, this one is called.
+impl Drop for Node {
+    fn drop(self) {
+        let Node {
+            place: _,
+            root: _,
+            inode: _,
+            lookups: _,
+        } = self;
+    }
+}
+
+impl Node {
+    // It is looked up once more. The count stands still at its largest number.
+    pub(crate) fn count(&mut self)
+        ensures { self.new ≡ record self.old { lookups = more self.old.lookups } }
+    {
+        self.lookups = self.lookups.saturating_add(1);
+    }
+
+    // So many look-ups are forgotten, of which it has as many.
+    pub(crate) fn forget(&mut self, count: u64)
+        ensures { self.new ≡ record self.old { lookups = self.old.lookups - count } }
+    {
+        self.lookups = self.lookups.saturating_sub(count);
+    }
+
+    // It has moved.
+    pub(crate) fn put(&mut self, place: Place)
+        ensures { self.new ≡ record self.old { place = place } }
+    {
+        self.place = place;
+    }
+}

@@ -1,0 +1,321 @@
+// All nodes of a mount.
+ghost use Rattle.std.specs.Prelude.{◌≡◌, ◌<◌, IfOk, IsOk, OnErr, OnOk, option_copied, option_map};
+ghost use Rattle.model.specs.FiniteMap as map;
+ghost use Rattle.nodes.specs.Tables.{added, detached, forgotten, if_of, is_this, known, looked_up};
+ghost use Rattle.nodes.specs.Tables.{moved, number_for, root_by, root_of, unlinked, without};
+ghost use Rattle.nodes.specs.Parts.{room_of};
+ghost use Rattle.nodes.specs.Paths.{IsAdded, path_of, way_to};
+
+use crate::index::Index;
+use crate::list::NodeList;
+use crate::node::Node;
+use crate::place::{Place, Spot};
+use heap::Heap;
+use ids::{Bytes, Num, PATH_LIMIT};
+use std::alloc::AllocError;
+use std::marker::Model;
+
+/// The first number that a node gets. Those below are for roots.
+pub const FIRST_NUMBER: u64 = 16;
+
+/// No node has this number or a higher one.
+pub const LAST_NUMBER: u64 = 1 << 62;
+
+/// The most names of a path, and one step more for the root.
+pub const NAMES_LIMIT: u32 = 513;
+
+/// What the numbers of nodes stand for. A number that is none of a node is a root's.
+pub struct Nodes {
+    list: NodeList,
+    index: Index,
+    next: u64,
+}
+
+// By hand: a derived drop is opened at every place where a value goes, this one is called.
+impl Drop for Nodes {
+    fn drop(self) {
+        let Nodes {
+            list: _,
+            index: _,
+            next: _,
+        } = self;
+    }
+}
+
+impl Model for Nodes {
+    ghost use Rattle.nodes.specs.declared.nodes.TheConstants.{LAST_NUMBER};
+    ghost use Rattle.std.specs.Prelude.{◌≤◌};
+    ghost use Rattle.nodes.specs.Parts.{Stored, stored_code, room_of};
+
+    ghost Value = { Stored };
+
+    ghost coded = { stored_code };
+
+    ghost view = { λ n. record {
+      table = record { nodes = n.list.nodes; numbers = n.index.numbers; next = n.next };
+      room = room_of LAST_NUMBER n.next n.list.room n.index.room;
+    } };
+
+    ghost invariant = { λ n. n.next ≤ LAST_NUMBER };
+}
+
+// The root below which a node is, or the number itself where it is a root's.
+fn root_in(list: &NodeList, number: u64) -> u64
+    ensures { result ≡ root_by number (map.get list.now.nodes number) }
+{
+    match list.get(number) {
+        Some(node) => node.root,
+        None => number,
+    }
+}
+
+// How many look-ups of a node are not forgotten.
+fn lookups_of(list: &NodeList, number: u64) -> Option<u64>
+    ensures { result ≡ option_map (λ n. n.lookups) (map.get list.now.nodes number) }
+{
+    match list.get(number) {
+        Some(node) => Some(node.lookups),
+        None => None,
+    }
+}
+
+// The number, where its node stands for this object.
+fn if_of(list: &NodeList, number: u64, inode: Num) -> Option<u64>
+    ensures { result ≡ if_of inode number (map.get list.now.nodes number) }
+{
+    let node = list.get(number)?;
+    if node.inode == inode {
+        Some(number)
+    } else {
+        None
+    }
+}
+
+// Whether a place leads to this number.
+fn leads_to(index: &Index, number: u64, place: &Place) -> bool
+    ensures { result ≡ is_this number (map.get index.now.numbers place.now) }
+{
+    match index.get(place) {
+        Some(found) => found == number,
+        None => false,
+    }
+}
+
+// Makes room in both tables for one node more. It is refused also where no number is left.
+fn reserve_both(next: u64, list: &mut NodeList, index: &mut Index) -> Result<(), AllocError>
+    ensures nodes { list.new.nodes ≡ list.old.nodes }
+    ensures numbers { index.new.numbers ≡ index.old.numbers }
+    ensures left { OnOk result (next < LAST_NUMBER) }
+    ensures listed { OnOk result (0 < list.new.room) }
+    ensures indexed { OnOk result (0 < index.new.room) }
+    ensures succeeds { 0 < room_of LAST_NUMBER next list.old.room index.old.room → IsOk result }
+{
+    if next >= LAST_NUMBER {
+        return Err(AllocError);
+    }
+    list.reserve()?;
+    index.reserve()
+}
+
+// A place leads nowhere any more, where it leads to this number.
+fn unlink(index: &mut Index, number: u64, place: &Place)
+    ensures { index.new.numbers ≡ without number place.now index.old.numbers }
+{
+    if leads_to(index, number, place) {
+        index.remove(place);
+    }
+}
+
+// A node goes, and its place leads nowhere then, if it led to it.
+fn drop_node(list: &mut NodeList, index: &mut Index, number: u64)
+    ensures nodes { list.new.nodes ≡ map.remove list.old.nodes number }
+    ensures numbers { index.new.numbers
+        ≡ unlinked number (map.get list.old.nodes number) index.old.numbers }
+{
+    if let Some(node) = list.remove(number) {
+        unlink(index, number, &node.place);
+        drop(node);
+    }
+}
+
+impl Nodes {
+    /// No node. It takes no memory.
+    pub fn new(heap: Heap) -> Nodes
+        ensures nodes { result.table.nodes ≡ map.empty }
+        ensures numbers { result.table.numbers ≡ map.empty }
+        ensures next { result.table.next ≡ 16 }
+    {
+        Nodes {
+            list: NodeList::new(heap),
+            index: Index::new(heap),
+            next: FIRST_NUMBER,
+        }
+    }
+
+    /// The node of a number.
+    pub fn get(&self, number: u64) -> Option<&Node>
+        ensures { option_copied result ≡ map.get self.now.table.nodes number }
+    {
+        self.list.get(number)
+    }
+
+    /// The number to which a place leads.
+    pub fn number_at(&self, place: &Place) -> Option<u64>
+        ensures { result ≡ map.get self.now.table.numbers place.now }
+    {
+        self.index.get(place)
+    }
+
+    /// The root below which a node is, or the number itself where it is a root's.
+    pub fn root_of(&self, number: u64) -> u64
+        ensures { result ≡ root_of self.now.table number }
+    {
+        root_in(&self.list, number)
+    }
+
+    /// Makes room for one node more, so that the next look-up or move takes no memory. It is refused
+    /// also where no number is left. Nothing changes.
+    pub fn reserve(&mut self) -> Result<(), AllocError>
+        ensures table { self.new.table ≡ self.old.table }
+        ensures ok { OnOk result (0 < self.new.room) }
+        ensures succeeds { 0 < self.old.room → IsOk result }
+    {
+        reserve_both(self.next, &mut self.list, &mut self.index)
+    }
+
+    // The number to which a place leads, where that stands for this object.
+    fn known(&self, place: &Place, inode: Num) -> Option<u64>
+        ensures { result ≡ known self.now.table place.now inode }
+    {
+        let number = self.index.get(place)?;
+        if_of(&self.list, number, inode)
+    }
+
+    // A place leads to a new node.
+    fn add(&mut self, spot: Spot, inode: Num) -> Result<u64, AllocError>
+        ensures ok { OnOk result (self.new.table ≡ added self.old.table spot inode) }
+        ensures number { IfOk result (λ number. number ≡ self.old.table.next) }
+        ensures err { OnErr result (self.new.table ≡ self.old.table) }
+        ensures succeeds { 0 < self.old.room → IsOk result }
+    {
+        reserve_both(self.next, &mut self.list, &mut self.index)?;
+        let number = self.next;
+        let root = root_in(&self.list, spot.place().parent);
+        let (place, copy) = spot.into_both();
+        let node = Node {
+            place,
+            root,
+            inode,
+            lookups: 1,
+        };
+        let listed: Result<_, _> = self.list.insert(number, node);
+        listed.unwrap();
+        let indexed: Result<_, _> = self.index.insert(copy, number);
+        indexed.unwrap();
+        self.next = number + 1;
+        Ok(number)
+    }
+
+    /// A name was looked up and gave this object. It gives the number of its node: the one to which
+    /// the place leads, where that stands for this object, and else a new one, to which it leads from
+    /// now on. Refused memory changes nothing.
+    pub fn look_up(&mut self, spot: Spot, inode: Num) -> Result<u64, AllocError>
+        ensures ok { OnOk result (self.new.table ≡ looked_up self.old.table spot inode) }
+        ensures number { IfOk result (λ number. number ≡ number_for self.old.table spot inode) }
+        ensures err { OnErr result (self.new.table ≡ self.old.table) }
+        ensures succeeds { 0 < self.old.room → IsOk result }
+    {
+        match self.known(spot.place(), inode) {
+            Some(number) => {
+                self.list.count(number);
+                Ok(number)
+            }
+            None => self.add(spot, inode),
+        }
+    }
+
+    /// So many look-ups of a node are forgotten. With the last one it goes. It takes no memory.
+    pub fn forget(&mut self, number: u64, count: u64)
+        ensures { self.new.table ≡ forgotten self.old.table number count }
+    {
+        let Some(lookups) = lookups_of(&self.list, number) else {
+            return;
+        };
+        if lookups > count {
+            self.list.lessen(number, count);
+        } else {
+            drop_node(&mut self.list, &mut self.index, number);
+        }
+    }
+
+    /// A name was taken away: its place leads nowhere any more. It takes no memory.
+    pub fn detach(&mut self, place: &Place)
+        ensures { self.new.table ≡ detached self.old.table place.now }
+    {
+        self.index.remove(place);
+    }
+
+    /// A name was moved: what the first place led to is at the second. What that led to before is
+    /// attached no more. Refused memory changes nothing.
+    pub fn move_place(&mut self, from: &Place, to: Spot) -> Result<(), AllocError>
+        ensures ok { OnOk result (self.new.table ≡ moved self.old.table from.now to) }
+        ensures err { OnErr result (self.new.table ≡ self.old.table) }
+        ensures succeeds { 0 < self.old.room → IsOk result }
+    {
+        let Some(number) = self.index.get(from) else {
+            self.index.remove(to.place());
+            return Ok(());
+        };
+        self.index.reserve()?;
+        let (place, copy) = to.into_both();
+        self.index.remove(from);
+        let indexed: Result<_, _> = self.index.insert(copy, number);
+        indexed.unwrap();
+        self.list.put(number, place);
+        Ok(())
+    }
+
+    // Puts the names from a root down to a node behind the bytes, each after a slash, through at most
+    // so many names, and gives the root. There is no way through a node that is not attached.
+    fn put_way(
+        &self,
+        most: u32,
+        number: u64,
+        out: &mut Vec<u8, Heap>,
+    ) -> Result<Option<u64>, AllocError>
+        ensures { IfOk result (λ root.
+            IsAdded (way_to self.now.table most number) out.old.items root out.new.items) }
+    {
+        if most == 0 {
+            return Ok(None);
+        }
+        let Some(node) = self.list.get(number) else {
+            return Ok(Some(number));
+        };
+        if !leads_to(&self.index, number, &node.place) {
+            return Ok(None);
+        }
+        let Some(root) = self.put_way(most - 1, node.place.parent, out)? else {
+            return Ok(None);
+        };
+        out.push(b'/')?;
+        out.extend_from_slice(node.place.name.as_slice())?;
+        Ok(Some(root))
+    }
+
+    /// The root below which a node is, and its path from there, which begins with a slash, or is
+    /// empty for the root itself. None where a node on the way is not attached, or the path has more
+    /// than 1,024 bytes.
+    pub fn path(&self, heap: Heap, number: u64) -> Result<Option<(u64, Bytes)>, AllocError>
+        ensures { IfOk result (λ path. path ≡ path_of self.now.table number) }
+    {
+        let mut bytes = Vec::new(heap);
+        let Some(root) = self.put_way(NAMES_LIMIT, number, &mut bytes)? else {
+            return Ok(None);
+        };
+        if bytes.len() > PATH_LIMIT {
+            return Ok(None);
+        }
+        Ok(Some((root, Bytes::new(bytes))))
+    }
+}
