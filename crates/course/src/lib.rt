@@ -1,0 +1,18 @@
+//! What requests do to a kernel, once their paths and descriptors are known: the steps of one
+//! process, each by the replies to those before, and what comes of them.
+//!
+//! A course is written as a definition (`specs/`), and each function here runs one. Where the history
+//! is full its entries are forgotten, and the step is made again.
+#![tactic(auto)]
+
+mod fault;
+mod files;
+mod names;
+mod step;
+mod transactions;
+
+pub use fault::Fault;
+pub use files::{Made, append, close, create, open_this, set_length, write};
+pub use names::{link, list, make_directory, move_name, remove_directory, stat, unlink};
+pub use step::{call, take_step};
+pub use transactions::{begin, end, fork, give_up, look_nowhere};
