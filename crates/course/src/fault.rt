@@ -107,8 +107,8 @@ pub(crate) fn fd_in(reply: &Reply) -> Result<Fd, Fault>
     }
 }
 
-// What a call tells of an object.
-pub(crate) fn stat_in(reply: &Reply) -> Result<Stat, Fault>
+/// What a call tells of an object.
+pub fn stat_in(reply: &Reply) -> Result<Stat, Fault>
     ensures { result ≡ stat_in reply.now }
 {
     match reply {

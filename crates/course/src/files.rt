@@ -8,7 +8,7 @@ ghost use Rattle.course.specs.Courses.{fresh, if_there, opening, opening_this, s
 ghost use Rattle.course.specs.Faults.{is_there, unless_aborted};
 
 use crate::fault::{Fault, count_in, fd_in};
-use crate::step::{call, do_call, stat_call};
+use crate::step::{ask, do_call, stat_call};
 use fuse::{EEXIST, ESTALE};
 use ids::{Bytes, Call, Fd, Num, OpenFlags, Pid, Stat};
 use machine::Machine;
@@ -30,7 +30,7 @@ fn open<K: Machine>(kernel: &mut K, pid: Pid, path: Bytes, flags: OpenFlags) -> 
     ensures ran { Ran (K.shown kernel.old)
         (opening pid path flags) result (K.shown kernel.new) }
 {
-    let reply = call(kernel, pid, Call::Open(path, flags));
+    let reply = ask(kernel, pid, Call::Open(path, flags));
     fd_in(&reply)
 }
 
@@ -184,6 +184,20 @@ pub fn set_length<K: Machine>(kernel: &mut K, pid: Pid, fd: Fd, length: u32) -> 
     do_call(kernel, pid, Call::Ftruncate(fd, length))
 }
 
+/// Cuts or grows the file of a path.
+pub fn set_length_at<K: Machine>(
+    kernel: &mut K,
+    pid: Pid,
+    path: Bytes,
+    length: u32,
+) -> Result<(), Fault>
+    ensures kept { Kept (K.shown kernel.new) }
+    ensures ran { Ran (K.shown kernel.old)
+        (doing pid (asked.Truncate path length)) result (K.shown kernel.new) }
+{
+    do_call(kernel, pid, Call::Truncate(path, length))
+}
+
 /// Puts bytes into the file of a descriptor from an offset on. It gives how many.
 pub fn write<K: Machine>(
     kernel: &mut K,
@@ -196,7 +210,7 @@ pub fn write<K: Machine>(
     ensures ran { Ran (K.shown kernel.old)
         (writing pid fd bytes offset) result (K.shown kernel.new) }
 {
-    let reply = call(kernel, pid, Call::Pwrite(fd, bytes, offset));
+    let reply = ask(kernel, pid, Call::Pwrite(fd, bytes, offset));
     count_in(&reply)
 }
 

@@ -11,8 +11,8 @@ mod names;
 mod step;
 mod transactions;
 
-pub use fault::Fault;
-pub use files::{Made, append, close, create, open_this, set_length, write};
-pub use names::{link, list, make_directory, move_name, remove_directory, stat, unlink};
-pub use step::{call, take_step};
+pub use fault::{Fault, stat_in};
+pub use files::{Made, append, close, create, open_this, set_length, set_length_at, write};
+pub use names::{link, list, make_directory, move_name, remove_directory, stat_path, unlink};
+pub use step::{ask, take_step};
 pub use transactions::{begin, end, fork, give_up, look_nowhere};

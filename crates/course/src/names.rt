@@ -7,13 +7,13 @@ ghost use Rattle.course.specs.Courses.{calling, doing, making, moving, stating};
 ghost use Rattle.course.specs.Faults.{is_missing};
 
 use crate::fault::Fault;
-use crate::step::{call, do_call, stat_call};
+use crate::step::{ask, do_call, stat_call};
 use fuse::{EEXIST, ENOENT};
 use ids::{Bytes, Call, Pid, Reply, Stat};
 use machine::Machine;
 
 /// What a path gives.
-pub fn stat<K: Machine>(kernel: &mut K, pid: Pid, path: Bytes) -> Result<Stat, Fault>
+pub fn stat_path<K: Machine>(kernel: &mut K, pid: Pid, path: Bytes) -> Result<Stat, Fault>
     ensures kept { Kept (K.shown kernel.new) }
     ensures ran { Ran (K.shown kernel.old)
         (stating pid (asked.Stat path)) result (K.shown kernel.new) }
@@ -27,7 +27,7 @@ pub fn list<K: Machine>(kernel: &mut K, pid: Pid, path: Bytes) -> Reply
     ensures ran { Ran (K.shown kernel.old)
         (calling pid (asked.List path)) result (K.shown kernel.new) }
 {
-    call(kernel, pid, Call::List(path))
+    ask(kernel, pid, Call::List(path))
 }
 
 /// Makes a directory, and tells about it. The two paths are the same.
@@ -42,7 +42,7 @@ pub fn make_directory<K: Machine>(
         (making pid (asked.Mkdir path) again) result (K.shown kernel.new) }
 {
     do_call(kernel, pid, Call::Mkdir(path))?;
-    stat(kernel, pid, again)
+    stat_path(kernel, pid, again)
 }
 
 /// Gives the file of the first path the second path too, and tells about it. The last path is the
@@ -59,7 +59,7 @@ pub fn link<K: Machine>(
         (making pid (asked.Link path new_path) again) result (K.shown kernel.new) }
 {
     do_call(kernel, pid, Call::Link(path, new_path))?;
-    stat(kernel, pid, again)
+    stat_path(kernel, pid, again)
 }
 
 /// Takes a name of a file away.
@@ -103,7 +103,7 @@ fn move_if_absent<K: Machine>(
     ensures ran { Ran (K.shown kernel.old)
         (moving pid from to true) result (K.shown kernel.new) }
 {
-    match stat(kernel, pid, again) {
+    match stat_path(kernel, pid, again) {
         Ok(_) => Err(Fault::Errno(EEXIST)),
         Err(fault) => {
             if is_missing(fault) {

@@ -37,7 +37,7 @@ pub fn take_step<K: Machine>(kernel: &mut K, pid: Pid, op: &Op) -> Reply
 }
 
 /// One call.
-pub fn call<K: Machine>(kernel: &mut K, pid: Pid, call: Call) -> Reply
+pub fn ask<K: Machine>(kernel: &mut K, pid: Pid, call: Call) -> Reply
     ensures kept { Kept (K.shown kernel.new) }
     ensures ran { Ran (K.shown kernel.old) (calling pid call) result (K.shown kernel.new) }
 {
@@ -50,7 +50,7 @@ pub(crate) fn do_call<K: Machine>(kernel: &mut K, pid: Pid, asked: Call) -> Resu
     ensures kept { Kept (K.shown kernel.new) }
     ensures ran { Ran (K.shown kernel.old) (doing pid asked) result (K.shown kernel.new) }
 {
-    let reply = call(kernel, pid, asked);
+    let reply = ask(kernel, pid, asked);
     done_in(&reply)
 }
 
@@ -59,6 +59,6 @@ pub(crate) fn stat_call<K: Machine>(kernel: &mut K, pid: Pid, asked: Call) -> Re
     ensures kept { Kept (K.shown kernel.new) }
     ensures ran { Ran (K.shown kernel.old) (stating pid asked) result (K.shown kernel.new) }
 {
-    let reply = call(kernel, pid, asked);
+    let reply = ask(kernel, pid, asked);
     stat_in(&reply)
 }

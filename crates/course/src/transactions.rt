@@ -6,7 +6,7 @@ ghost use Rattle.course.specs.Course.{Ran};
 ghost use Rattle.course.specs.Courses.{beginning, calling, ending, forking, giving_up};
 
 use crate::fault::{Fault, begun_in, child_in, committed_in, given_up_in};
-use crate::step::{call, take_step};
+use crate::step::{ask, take_step};
 use ids::{BeginFlags, Call, DESCRIPTORS, Fd, Op, Pid, Reply};
 use machine::Machine;
 
@@ -15,7 +15,7 @@ pub fn fork<K: Machine>(kernel: &mut K, pid: Pid) -> Result<Pid, Fault>
     ensures kept { Kept (K.shown kernel.new) }
     ensures ran { Ran (K.shown kernel.old) (forking pid) result (K.shown kernel.new) }
 {
-    let reply = call(kernel, pid, Call::Fork);
+    let reply = ask(kernel, pid, Call::Fork);
     child_in(&reply)
 }
 
@@ -53,5 +53,5 @@ pub fn look_nowhere<K: Machine>(kernel: &mut K, pid: Pid) -> Reply
     ensures ran { Ran (K.shown kernel.old)
         (calling pid (asked.Fstat DESCRIPTORS)) result (K.shown kernel.new) }
 {
-    call(kernel, pid, Call::Fstat(Fd(DESCRIPTORS as u32)))
+    ask(kernel, pid, Call::Fstat(Fd(DESCRIPTORS as u32)))
 }
