@@ -174,12 +174,9 @@ fn serve_all<K: Machine, R: Read, W: Write>(
 }
 
 // The number behind an option.
-fn number_in(text: Option<&String>, most: usize) -> Result<usize, Ending>
+fn number_in(word: &String, most: usize) -> Result<usize, Ending>
     ensures { IfOk result (λ n. n ≤ most) }
 {
-    let Some(word) = text else {
-        return Err(Ending::Usage);
-    };
     match word.as_str().parse::<usize>() {
         Ok(number) => {
             if number <= most {
@@ -192,27 +189,47 @@ fn number_in(text: Option<&String>, most: usize) -> Result<usize, Ending>
     }
 }
 
-// The limits that the words ask for. The first word is the program's name.
-fn limits_in(words: &[String]) -> Result<Limits, Ending>
-    ensures entries { IfOk result (λ limits. limits.entries ≤ MAX_ENTRIES) }
-    ensures files { IfOk result (λ limits. limits.file_bytes ≤ LARGEST_FILE) }
+// The limits with one option more.
+fn with_option(limits: Limits, name: &String, value: &String) -> Result<Limits, Ending>
+    requires entries { limits.entries ≤ MAX_ENTRIES }
+    requires files { limits.file_bytes ≤ LARGEST_FILE }
+    ensures entries { IfOk result (λ l. l.entries ≤ MAX_ENTRIES) }
+    ensures files { IfOk result (λ l. l.file_bytes ≤ LARGEST_FILE) }
 {
-    let mut limits = Limits {
+    let mut changed = limits;
+    if name.as_str() == "--limit" {
+        changed.entries = number_in(value, MAX_ENTRIES)?;
+        Ok(changed)
+    } else if name.as_str() == "--file-limit" {
+        changed.file_bytes = number_in(value, LARGEST_FILE)? as u32;
+        Ok(changed)
+    } else {
+        Err(Ending::Usage)
+    }
+}
+
+// The limits where no option is given.
+fn first_limits() -> Limits
+    ensures entries { result.entries ≤ MAX_ENTRIES }
+    ensures files { result.file_bytes ≤ LARGEST_FILE }
+{
+    Limits {
         entries: ENTRIES,
         file_bytes: LARGEST_FILE as u32,
-    };
+    }
+}
+
+// The limits that the words ask for. The first word is the program's name.
+fn limits_in(words: &[String]) -> Result<Limits, Ending>
+    ensures entries { IfOk result (λ l. l.entries ≤ MAX_ENTRIES) }
+    ensures files { IfOk result (λ l. l.file_bytes ≤ LARGEST_FILE) }
+{
     match words {
-        [_] | [] => Ok(limits),
-        [_, name, value] => {
-            if name.as_str() == "--limit" {
-                limits.entries = number_in(Some(value), MAX_ENTRIES)?;
-                Ok(limits)
-            } else if name.as_str() == "--file-limit" {
-                limits.file_bytes = number_in(Some(value), LARGEST_FILE)? as u32;
-                Ok(limits)
-            } else {
-                Err(Ending::Usage)
-            }
+        [] | [_] => Ok(first_limits()),
+        [_, name, value] => with_option(first_limits(), name, value),
+        [_, name, value, second, behind] => {
+            let limits = with_option(first_limits(), name, value)?;
+            with_option(limits, second, behind)
         }
         _ => Err(Ending::Usage),
     }
@@ -232,14 +249,20 @@ fn words_of(rt: &HostRuntime) -> Result<Vec<String>, Ending> {
     Ok(texts)
 }
 
-// A mounted tree with no names.
-fn server_for(heap: Heap, limits: Limits) -> Result<Server<Kernel>, Ending>
+// Makes a mounted tree, and serves the session.
+fn serve<K: Machine, R: Read, W: Write>(
+    heap: Heap,
+    limits: Limits,
+    input: &mut R,
+    out: &mut W,
+) -> Ending
     requires entries { limits.entries ≤ MAX_ENTRIES }
     requires files { limits.file_bytes ≤ LARGEST_FILE }
 {
-    match Server::new(heap, limits) {
-        Ok(server) => Ok(server),
-        Err(_) => Err(Ending::NoMemory),
+    let made: Result<Server<K>, _> = Server::new(heap, limits);
+    match made {
+        Ok(mut server) => serve_all(heap, &mut server, input, out),
+        Err(_) => Ending::NoMemory,
     }
 }
 
@@ -256,8 +279,5 @@ fn run(rt: &HostRuntime) -> Ending {
     let Ok(heap) = heap::open(rt.alloc()) else {
         return Ending::NoMemory;
     };
-    match server_for(heap, limits) {
-        Ok(mut server) => serve_all(heap, &mut server, &mut rt.stdin(), &mut rt.stdout()),
-        Err(ending) => ending,
-    }
+    serve::<Kernel, _, _>(heap, limits, &mut rt.stdin(), &mut rt.stdout())
 }
