@@ -7,12 +7,13 @@
 
 mod fault;
 mod files;
+mod hand;
 mod names;
 mod step;
 mod transactions;
 
 pub use fault::{Fault, stat_in};
-pub use files::{Made, append, close, create, open_this, set_length, set_length_at, write};
+pub use files::{Made, append, close, close_for, create, open_this, set_length, set_length_at, write};
+pub use hand::Hand;
 pub use names::{link, list, make_directory, move_name, remove_directory, stat_path, unlink};
-pub use step::{ask, take_step};
 pub use transactions::{begin, end, fork, give_up, look_nowhere};

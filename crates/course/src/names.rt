@@ -1,83 +1,81 @@
 // Requests on paths.
 ghost use Rattle.std.specs.Prelude.{◌≡◌, IfSome, is_some, true};
 ghost use Rattle.ids.specs.declared.call.Call.TheVariants as asked;
-ghost use Rattle.machine.specs.Shown.{Kept};
+ghost use Rattle.course.specs.Hands.{bound};
 ghost use Rattle.course.specs.Course.{Ran};
 ghost use Rattle.course.specs.Courses.{calling, doing, making, moving, stating};
 ghost use Rattle.course.specs.Faults.{is_missing};
 
 use crate::fault::Fault;
-use crate::step::{ask, do_call, stat_call};
+use crate::hand::Hand;
 use fuse::{EEXIST, ENOENT};
-use ids::{Bytes, Call, Pid, Reply, Stat};
+use ids::{Bytes, Call, Reply, Stat};
 use machine::Machine;
 
 /// What a path gives.
-pub fn stat_path<K: Machine>(kernel: &mut K, pid: Pid, path: Bytes) -> Result<Stat, Fault>
-    ensures kept { Kept (K.shown kernel.new) }
-    ensures ran { Ran (K.shown kernel.old)
-        (stating pid (asked.Stat path)) result (K.shown kernel.new) }
+pub fn stat_path<K: Machine>(hand: &mut Hand<K>, path: Bytes) -> Result<Stat, Fault>
+    ensures bound { bound hand.new ≡ bound hand.old }
+    ensures ran { Ran hand.old.shown
+        (stating hand.old.pid (asked.Stat path)) result hand.new.shown }
 {
-    stat_call(kernel, pid, Call::Stat(path))
+    hand.stat_call(Call::Stat(path))
 }
 
 /// The names of a directory: they stand in the reply, if that is an answer.
-pub fn list<K: Machine>(kernel: &mut K, pid: Pid, path: Bytes) -> Reply
-    ensures kept { Kept (K.shown kernel.new) }
-    ensures ran { Ran (K.shown kernel.old)
-        (calling pid (asked.List path)) result (K.shown kernel.new) }
+pub fn list<K: Machine>(hand: &mut Hand<K>, path: Bytes) -> Reply
+    ensures bound { bound hand.new ≡ bound hand.old }
+    ensures ran { Ran hand.old.shown
+        (calling hand.old.pid (asked.List path)) result hand.new.shown }
 {
-    ask(kernel, pid, Call::List(path))
+    hand.ask(Call::List(path))
 }
 
 /// Makes a directory, and tells about it. The two paths are the same.
 pub fn make_directory<K: Machine>(
-    kernel: &mut K,
-    pid: Pid,
+    hand: &mut Hand<K>,
     path: Bytes,
     again: Bytes,
 ) -> Result<Stat, Fault>
-    ensures kept { Kept (K.shown kernel.new) }
-    ensures ran { Ran (K.shown kernel.old)
-        (making pid (asked.Mkdir path) again) result (K.shown kernel.new) }
+    ensures bound { bound hand.new ≡ bound hand.old }
+    ensures ran { Ran hand.old.shown
+        (making hand.old.pid (asked.Mkdir path) again) result hand.new.shown }
 {
-    do_call(kernel, pid, Call::Mkdir(path))?;
-    stat_path(kernel, pid, again)
+    hand.do_call(Call::Mkdir(path))?;
+    stat_path(hand, again)
 }
 
 /// Gives the file of the first path the second path too, and tells about it. The last path is the
 /// second one once more.
 pub fn link<K: Machine>(
-    kernel: &mut K,
-    pid: Pid,
+    hand: &mut Hand<K>,
     path: Bytes,
     new_path: Bytes,
     again: Bytes,
 ) -> Result<Stat, Fault>
-    ensures kept { Kept (K.shown kernel.new) }
-    ensures ran { Ran (K.shown kernel.old)
-        (making pid (asked.Link path new_path) again) result (K.shown kernel.new) }
+    ensures bound { bound hand.new ≡ bound hand.old }
+    ensures ran { Ran hand.old.shown
+        (making hand.old.pid (asked.Link path new_path) again) result hand.new.shown }
 {
-    do_call(kernel, pid, Call::Link(path, new_path))?;
-    stat_path(kernel, pid, again)
+    hand.do_call(Call::Link(path, new_path))?;
+    stat_path(hand, again)
 }
 
 /// Takes a name of a file away.
-pub fn unlink<K: Machine>(kernel: &mut K, pid: Pid, path: Bytes) -> Result<(), Fault>
-    ensures kept { Kept (K.shown kernel.new) }
-    ensures ran { Ran (K.shown kernel.old)
-        (doing pid (asked.Unlink path)) result (K.shown kernel.new) }
+pub fn unlink<K: Machine>(hand: &mut Hand<K>, path: Bytes) -> Result<(), Fault>
+    ensures bound { bound hand.new ≡ bound hand.old }
+    ensures ran { Ran hand.old.shown
+        (doing hand.old.pid (asked.Unlink path)) result hand.new.shown }
 {
-    do_call(kernel, pid, Call::Unlink(path))
+    hand.do_call(Call::Unlink(path))
 }
 
 /// Removes an empty directory.
-pub fn remove_directory<K: Machine>(kernel: &mut K, pid: Pid, path: Bytes) -> Result<(), Fault>
-    ensures kept { Kept (K.shown kernel.new) }
-    ensures ran { Ran (K.shown kernel.old)
-        (doing pid (asked.Rmdir path)) result (K.shown kernel.new) }
+pub fn remove_directory<K: Machine>(hand: &mut Hand<K>, path: Bytes) -> Result<(), Fault>
+    ensures bound { bound hand.new ≡ bound hand.old }
+    ensures ran { Ran hand.old.shown
+        (doing hand.old.pid (asked.Rmdir path)) result hand.new.shown }
 {
-    do_call(kernel, pid, Call::Rmdir(path))
+    hand.do_call(Call::Rmdir(path))
 }
 
 // Whether an error says that a name is not there.
@@ -92,22 +90,21 @@ fn is_missing(fault: Fault) -> bool
 
 // Moves a name where nothing stands at the other path, which is told twice.
 fn move_if_absent<K: Machine>(
-    kernel: &mut K,
-    pid: Pid,
+    hand: &mut Hand<K>,
     from: Bytes,
     to: Bytes,
     again: Bytes,
 ) -> Result<(), Fault>
     requires { again ≡ to }
-    ensures kept { Kept (K.shown kernel.new) }
-    ensures ran { Ran (K.shown kernel.old)
-        (moving pid from to true) result (K.shown kernel.new) }
+    ensures bound { bound hand.new ≡ bound hand.old }
+    ensures ran { Ran hand.old.shown
+        (moving hand.old.pid from to true) result hand.new.shown }
 {
-    match stat_path(kernel, pid, again) {
+    match stat_path(hand, again) {
         Ok(_) => Err(Fault::Errno(EEXIST)),
         Err(fault) => {
             if is_missing(fault) {
-                do_call(kernel, pid, Call::Rename(from, to))
+                hand.do_call(Call::Rename(from, to))
             } else {
                 Err(fault)
             }
@@ -118,19 +115,18 @@ fn move_if_absent<K: Machine>(
 /// Moves what the first path gives to the second one. The last path is the second one once more:
 /// where it is given, nothing may stand there.
 pub fn move_name<K: Machine>(
-    kernel: &mut K,
-    pid: Pid,
+    hand: &mut Hand<K>,
     from: Bytes,
     to: Bytes,
     absent: Option<Bytes>,
 ) -> Result<(), Fault>
     requires { IfSome absent (λ again. again ≡ to) }
-    ensures kept { Kept (K.shown kernel.new) }
-    ensures ran { Ran (K.shown kernel.old)
-        (moving pid from to (is_some absent)) result (K.shown kernel.new) }
+    ensures bound { bound hand.new ≡ bound hand.old }
+    ensures ran { Ran hand.old.shown
+        (moving hand.old.pid from to (is_some absent)) result hand.new.shown }
 {
     match absent {
-        Some(again) => move_if_absent(kernel, pid, from, to, again),
-        None => do_call(kernel, pid, Call::Rename(from, to)),
+        Some(again) => move_if_absent(hand, from, to, again),
+        None => hand.do_call(Call::Rename(from, to)),
     }
 }

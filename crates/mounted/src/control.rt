@@ -1,6 +1,7 @@
 // Requests about the file by which a transaction is ended.
 use crate::numbers::control_node;
 use crate::server::Server;
+use crate::tables::Tables;
 use crate::views::{Standing, State};
 use course::{Fault, end, give_up, look_nowhere};
 use fuse::{ECANCELED, EINVAL, ENOENT, ENOSYS, ENOTDIR, EPERM, Opened, Operation, Reply};
@@ -48,7 +49,7 @@ fn part_of(text: &[u8], offset: u64, size: u32) -> &[u8] {
     }
 }
 
-impl<K: Machine> Server<K> {
+impl Tables {
     // How a view stands.
     fn standing(&self, view: u64) -> Result<Standing, Fault> {
         match self.views.standing(view) {
@@ -57,11 +58,39 @@ impl<K: Machine> Server<K> {
         }
     }
 
+    // What the file tells.
+    fn text_of(&self, view: u64) -> Result<Vec<u8, Heap>, AllocError> {
+        match self.views.get(view) {
+            Some(view) => match view.state {
+                State::Live => Vec::from_slice(self.heap, b"live\n"),
+                State::Aborted => Vec::from_slice(self.heap, view.cause.as_slice()),
+                State::Committed => Vec::from_slice(self.heap, b"committed\n"),
+                State::GivenUp => Vec::from_slice(self.heap, b"given up\n"),
+            },
+            None => Ok(Vec::new(self.heap)),
+        }
+    }
+
+    // The bytes of the file from an offset on.
+    fn part_of_control(&self, view: u64, offset: u64, size: u32) -> Result<Reply, Fault> {
+        let text = self.text_of(view)?;
+        let part = part_of(text.as_slice(), offset, size);
+        Ok(Reply::Data(Bytes::copy(self.heap, part)?))
+    }
+
+    // The attributes of the file.
+    fn attr_of_control(&self, view: u64) -> Reply {
+        Reply::Attr(self.attributes.attr_of_node(control_node(view), false))
+    }
+}
+
+impl<K: Machine> Server<K> {
     // A process whose transaction was doomed learns of it, and its view with it.
     fn learn(&mut self, view: u64) -> Result<(), Fault> {
-        let standing = self.standing(view)?;
+        let standing = self.tables.standing(view)?;
         if standing.state == State::Live {
-            let reply = look_nowhere(&mut self.kernel, standing.pid);
+            self.hand.bind(standing.pid);
+            let reply = look_nowhere(&mut self.hand);
             if let ids::Reply::Aborted {
                 why: _,
                 restarted: _,
@@ -73,37 +102,23 @@ impl<K: Machine> Server<K> {
         Ok(())
     }
 
-    // What the file tells.
-    fn text_of(&self, heap: Heap, view: u64) -> Result<Vec<u8, Heap>, AllocError> {
-        match self.views.get(view) {
-            Some(view) => match view.state {
-                State::Live => Vec::from_slice(heap, b"live\n"),
-                State::Aborted => Vec::from_slice(heap, view.cause.as_slice()),
-                State::Committed => Vec::from_slice(heap, b"committed\n"),
-                State::GivenUp => Vec::from_slice(heap, b"given up\n"),
-            },
-            None => Ok(Vec::new(heap)),
-        }
-    }
-
     // Reads the file.
     fn read_control(&mut self, view: u64, offset: u64, size: u32) -> Result<Reply, Fault> {
         self.learn(view)?;
-        let text = self.text_of(self.heap, view)?;
-        let part = part_of(text.as_slice(), offset, size);
-        Ok(Reply::Data(Bytes::copy(self.heap, part)?))
+        self.tables.part_of_control(view, offset, size)
     }
 
     // Ends the transaction.
     fn obey(&mut self, standing: Standing, order: Order) -> Result<(), Fault> {
+        self.hand.bind(standing.pid);
         match order {
             Order::End => {
-                end(&mut self.kernel, standing.pid)?;
-                self.views.close(standing.number, State::Committed);
+                end(&mut self.hand)?;
+                self.tables.views.close(standing.number, State::Committed);
             }
             Order::Abort => {
-                give_up(&mut self.kernel, standing.pid)?;
-                self.views.close(standing.number, State::GivenUp);
+                give_up(&mut self.hand)?;
+                self.tables.views.close(standing.number, State::GivenUp);
             }
         }
         Ok(())
@@ -111,7 +126,7 @@ impl<K: Machine> Server<K> {
 
     // Writes the file.
     fn write_control(&mut self, view: u64, bytes: &Bytes) -> Result<Reply, Fault> {
-        let standing = self.standing(view)?;
+        let standing = self.tables.standing(view)?;
         match standing.state {
             State::Live => {}
             State::Aborted => return Err(Fault::Errno(ECANCELED)),
@@ -125,19 +140,14 @@ impl<K: Machine> Server<K> {
         Ok(Reply::Written { size })
     }
 
-    // The attributes of the file.
-    fn attr_of_control(&self, view: u64) -> Reply {
-        Reply::Attr(self.attributes.attr_of_node(control_node(view), false))
-    }
-
     // Requests about the file.
     pub(crate) fn in_control(&mut self, view: u64, operation: Operation) -> Result<Reply, Fault> {
         match operation {
             Operation::Lookup { name: _ } => Err(Fault::Errno(ENOTDIR)),
-            Operation::GetAttr { handle: _ } => Ok(self.attr_of_control(view)),
+            Operation::GetAttr { handle: _ } => Ok(self.tables.attr_of_control(view)),
             Operation::SetAttr { changes } => {
-                self.attributes.hear_changes(&changes);
-                Ok(self.attr_of_control(view))
+                self.tables.attributes.hear_changes(&changes);
+                Ok(self.tables.attr_of_control(view))
             }
             Operation::Open { flags: _ } => Ok(Reply::Opened(Opened {
                 handle: 0,
@@ -156,13 +166,7 @@ impl<K: Machine> Server<K> {
                 open_flags: _,
                 bytes,
             } => self.write_control(view, &bytes),
-            Operation::Flush { handle: _ }
-            | Operation::Fsync { handle: _ }
-            | Operation::Release {
-                handle: _,
-                flags: _,
-            }
-            | Operation::Access { mask: _ } => Ok(Reply::Empty),
+            Operation::Access { mask: _ } => Ok(Reply::Empty),
             Operation::Other { opcode: _ } => Err(Fault::Errno(ENOSYS)),
             _ => Err(Fault::Errno(EPERM)),
         }

@@ -1,9 +1,10 @@
 // Requests on open files.
-use crate::numbers::PLAIN;
+ghost use Rattle.std.specs.Prelude.{◌≡◌};
+ghost use Rattle.course.specs.Hands.{bound};
+
 use crate::open_files::OpenFile;
-use crate::server::Server;
-use crate::views::State;
-use course::{Fault, append, ask, close, write};
+use crate::tables::Tables;
+use course::{Fault, Hand, append, write};
 use fuse::{EINVAL, ENXIO, Reply, Whence};
 use ids::{Answer, Bytes, Call, Kind, MOST_MOVED};
 use machine::Machine;
@@ -42,14 +43,22 @@ fn sought(offset: u64, whence: Whence, size: u64) -> Result<u64, Fault> {
     }
 }
 
-impl<K: Machine> Server<K> {
+impl Tables {
     // Bytes of an open file.
-    pub(crate) fn read(&mut self, handle: u64, offset: u64, size: u32) -> Result<Reply, Fault> {
-        let file = self.open_file(handle)?;
+    pub(crate) fn read<K: Machine>(
+        &mut self,
+        hand: &mut Hand<K>,
+        handle: u64,
+        offset: u64,
+        size: u32,
+    ) -> Result<Reply, Fault>
+        ensures { bound hand.new ≡ bound hand.old }
+    {
+        let file = self.open_file(handle, hand.pid())?;
         let offset = signed(offset)?;
         let count = size.min(MOST_MOVED as u32);
         let asked = Call::Pread(file.fd, count, offset);
-        let reply = ask(&mut self.kernel, file.pid, asked);
+        let reply = hand.ask(asked);
         match &reply {
             ids::Reply::Answer(Answer::Bytes(bytes)) => Ok(Reply::Data(bytes.try_clone()?)),
             _ => Err(Fault::of_reply(&reply)),
@@ -57,81 +66,55 @@ impl<K: Machine> Server<K> {
     }
 
     // Puts bytes into an open file, at an offset or at the end.
-    fn put(
+    fn put<K: Machine>(
         &mut self,
+        hand: &mut Hand<K>,
         file: &OpenFile,
         offset: u64,
         appends: bool,
         bytes: Bytes,
-    ) -> Result<u32, Fault> {
+    ) -> Result<u32, Fault>
+        ensures { bound hand.new ≡ bound hand.old }
+    {
         if appends {
-            append(&mut self.kernel, file.pid, file.fd, bytes)
+            append(hand, file.fd, bytes)
         } else {
             let offset = signed(offset)?;
-            write(&mut self.kernel, file.pid, file.fd, bytes, offset)
+            write(hand, file.fd, bytes, offset)
         }
     }
 
     // Puts bytes into an open file.
-    pub(crate) fn write(
+    pub(crate) fn write<K: Machine>(
         &mut self,
+        hand: &mut Hand<K>,
         handle: u64,
         offset: u64,
         open_flags: u32,
         bytes: Bytes,
-    ) -> Result<Reply, Fault> {
-        let file = self.open_file(handle)?;
-        let size = self.put(&file, offset, open_flags & APPEND != 0, bytes)?;
+    ) -> Result<Reply, Fault>
+        ensures { bound hand.new ≡ bound hand.old }
+    {
+        let file = self.open_file(handle, hand.pid())?;
+        let size = self.put(hand, &file, offset, open_flags & APPEND != 0, bytes)?;
         self.attributes.modify(file.inode, Kind::File);
         Ok(Reply::Written { size })
     }
 
     // Finds an offset of an open file.
-    pub(crate) fn seek(
+    pub(crate) fn seek<K: Machine>(
         &mut self,
+        hand: &mut Hand<K>,
         handle: u64,
         offset: u64,
         whence: Whence,
-    ) -> Result<Reply, Fault> {
-        let file = self.open_file(handle)?;
-        let reply = ask(&mut self.kernel, file.pid, Call::Fstat(file.fd));
+    ) -> Result<Reply, Fault>
+        ensures { bound hand.new ≡ bound hand.old }
+    {
+        let file = self.open_file(handle, hand.pid())?;
+        let reply = hand.ask(Call::Fstat(file.fd));
         let stat = course::stat_in(&reply)?;
         let offset = sought(offset, whence, u64::from(stat.size))?;
         Ok(Reply::Lseek { offset })
-    }
-
-    // Whether the process of a view has something open still. After an abort all of it is gone, and a
-    // step would be a plain one.
-    fn has_open(&self, view: u64) -> bool {
-        if view == PLAIN {
-            return true;
-        }
-        match self.views.standing(view) {
-            Some(standing) => match standing.state {
-                State::Live | State::Committed => true,
-                State::Aborted | State::GivenUp => false,
-            },
-            None => false,
-        }
-    }
-
-    // The descriptor of a file that is not open any more is closed.
-    pub(crate) fn close_file(&mut self, file: &OpenFile) -> Result<(), Fault> {
-        if !self.has_open(file.view) {
-            return Ok(());
-        }
-        close(&mut self.kernel, file.pid, file.fd)?;
-        if file.view == PLAIN {
-            self.pool.release(file.pid);
-        }
-        Ok(())
-    }
-
-    // A file is open once less.
-    pub(crate) fn release(&mut self, handle: u64) -> Result<Reply, Fault> {
-        if let Some(file) = self.files.release(handle) {
-            self.close_file(&file)?;
-        }
-        Ok(Reply::Empty)
     }
 }

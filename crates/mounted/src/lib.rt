@@ -22,6 +22,7 @@ mod removing;
 mod server;
 mod serving;
 mod starting;
+mod tables;
 mod transactions;
 mod views;
 

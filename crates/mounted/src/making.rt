@@ -1,9 +1,12 @@
 // Requests that make names.
+ghost use Rattle.std.specs.Prelude.{◌≡◌};
+ghost use Rattle.course.specs.Hands.{bound};
+
 use crate::attributes::Owner;
 use crate::numbers::is_reserved;
-use crate::server::{Located, Server};
 use crate::serving::Caller;
-use course::{Fault, Made, close};
+use crate::tables::{Located, Tables};
+use course::{Fault, Hand, Made, close};
 use fuse::{EOPNOTSUPP, EPERM, EXDEV, Reply};
 use ids::{Bytes, Kind, Stat};
 use machine::Machine;
@@ -14,7 +17,7 @@ const KINDS: u32 = 0o170_000;
 
 const FILE: u32 = 0o100_000;
 
-impl<K: Machine> Server<K> {
+impl Tables {
     // Where a name is to be made. The name of the directory of transactions is not for others.
     pub(crate) fn locate_new(&self, node: u64, name: &Bytes) -> Result<Located, Fault> {
         if is_reserved(node, name.as_slice()) {
@@ -36,64 +39,74 @@ impl<K: Machine> Server<K> {
     }
 
     // Makes a directory.
-    pub(crate) fn make_directory(
+    pub(crate) fn make_directory<K: Machine>(
         &mut self,
+        hand: &mut Hand<K>,
         caller: Caller,
         name: &Bytes,
         mode: u32,
-    ) -> Result<Reply, Fault> {
+    ) -> Result<Reply, Fault>
+        ensures { bound hand.new ≡ bound hand.old }
+    {
         let place = self.locate_new(caller.node, name)?;
         let path = place.path_of(self.heap, name)?;
         let again = path.try_clone()?;
         let spot = Spot::new(self.heap, caller.node, name.as_slice())?;
         self.nodes.reserve()?;
-        let stat = course::make_directory(&mut self.kernel, place.pid, path, again)?;
+        let stat = course::make_directory(hand, path, again)?;
         drop(place);
         self.note_made(caller.node, &stat, mode, caller.owner);
         Ok(Reply::Entry(self.entry(spot, &stat)?))
     }
 
-    // Makes a file, by a process that has a descriptor free, or opens the one that is there.
-    pub(crate) fn open_new(
+    // Makes a file, or opens the one that is there. It gives the view too.
+    pub(crate) fn open_new<K: Machine>(
         &mut self,
+        hand: &mut Hand<K>,
         node: u64,
         name: &Bytes,
         exclusive: bool,
-    ) -> Result<(Located, Made), Fault> {
-        let mut place = self.locate_new(node, name)?;
+    ) -> Result<(u64, Made), Fault>
+        ensures { bound hand.new ≡ bound hand.old }
+    {
+        let place = self.locate_new(node, name)?;
         let path = place.path_of(self.heap, name)?;
         let again = path.try_clone()?;
-        place.pid = self.opener(place.view, place.pid)?;
-        let made = course::create(&mut self.kernel, place.pid, path, again, exclusive)?;
-        Ok((place, made))
+        let made = course::create(hand, path, again, exclusive)?;
+        Ok((place.view, made))
     }
 
     // Makes a plain file that is not opened.
-    pub(crate) fn make_file(
+    pub(crate) fn make_file<K: Machine>(
         &mut self,
+        hand: &mut Hand<K>,
         caller: Caller,
         name: &Bytes,
         mode: u32,
-    ) -> Result<Reply, Fault> {
+    ) -> Result<Reply, Fault>
+        ensures { bound hand.new ≡ bound hand.old }
+    {
         if mode & KINDS != FILE && mode & KINDS != 0 {
             return Err(Fault::Errno(EOPNOTSUPP));
         }
         let spot = Spot::new(self.heap, caller.node, name.as_slice())?;
         self.nodes.reserve()?;
-        let (place, made) = self.open_new(caller.node, name, true)?;
+        let (_, made) = self.open_new(hand, caller.node, name, true)?;
         self.note_made(caller.node, &made.stat, mode, caller.owner);
-        close(&mut self.kernel, place.pid, made.fd)?;
-        drop(place);
+        close(hand, made.fd)?;
         Ok(Reply::Entry(self.entry(spot, &made.stat)?))
     }
 
     // Gives a file a further name, in the same view.
-    pub(crate) fn link(
+    pub(crate) fn link<K: Machine>(
         &mut self,
+        hand: &mut Hand<K>,
         parent: u64,
         node: u64,
         new_name: &Bytes,
-    ) -> Result<Reply, Fault> {
+    ) -> Result<Reply, Fault>
+        ensures { bound hand.new ≡ bound hand.old }
+    {
         let place = self.locate_new(parent, new_name)?;
         let from = self.locate(node)?;
         if from.view != place.view {
@@ -104,7 +117,7 @@ impl<K: Machine> Server<K> {
         let again = new_path.try_clone()?;
         let spot = Spot::new(self.heap, parent, new_name.as_slice())?;
         self.nodes.reserve()?;
-        let stat = course::link(&mut self.kernel, place.pid, path, new_path, again)?;
+        let stat = course::link(hand, path, new_path, again)?;
         self.note_names(parent);
         Ok(Reply::Entry(self.entry(spot, &stat)?))
     }

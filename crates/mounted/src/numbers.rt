@@ -1,4 +1,7 @@
 // The numbers of nodes that stand for no object of the kernel, and which view a root is of.
+ghost use Rattle.std.specs.Prelude.{◌≡◌};
+ghost use Rattle.mounted.specs.Numbers.{class_of, view_of};
+
 use nodes::LAST_NUMBER;
 
 // The root of the plain tree.
@@ -22,7 +25,9 @@ pub(crate) enum Class {
 }
 
 // The class of a node.
-pub(crate) fn class_of(node: u64) -> Class {
+pub(crate) fn class_of(node: u64) -> Class
+    ensures { result ≡ class_of node }
+{
     if node == TRANSACTIONS {
         Class::Transactions
     } else if node > LAST_NUMBER && node % 2 == 1 {
@@ -47,7 +52,9 @@ pub(crate) fn control_node(view: u64) -> u64 {
 }
 
 // The view whose root a node is.
-pub(crate) fn view_of(root: u64) -> Option<u64> {
+pub(crate) fn view_of(root: u64) -> Option<u64>
+    ensures { result ≡ view_of root }
+{
     if root == ROOT {
         Some(PLAIN)
     } else if root > LAST_NUMBER && root % 2 == 0 {

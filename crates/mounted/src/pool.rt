@@ -1,10 +1,9 @@
 // The processes by which requests step.
 ghost use Rattle.std.specs.Prelude.{◌<◌, length, IfSome};
 
-use course::{Fault, fork};
 use heap::Heap;
 use ids::{DESCRIPTORS, Pid};
-use machine::Machine;
+use std::alloc::AllocError;
 
 // A process that waits for a transaction.
 #[derive(Clone, Copy, Debug)]
@@ -57,12 +56,10 @@ impl Pool {
         }
     }
 
-    // A process of this priority without descriptors.
-    pub(crate) fn take<K: Machine>(&mut self, kernel: &mut K, level: u8) -> Result<Pid, Fault> {
-        match place_of(self.idle.as_slice(), level) {
-            Some(place) => Ok(self.idle.swap_remove(place).pid),
-            None => fork(kernel, first_process(level)),
-        }
+    // A process of this priority without descriptors that waits, if there is one.
+    pub(crate) fn take(&mut self, level: u8) -> Option<Pid> {
+        let place = place_of(self.idle.as_slice(), level)?;
+        Some(self.idle.swap_remove(place).pid)
     }
 
     // A process without descriptors is not needed any more. Without memory it is not used again.
@@ -70,8 +67,8 @@ impl Pool {
         let _kept = self.idle.push(Idle { pid, level });
     }
 
-    // A process of the plain tree that has a descriptor free.
-    fn free_holder(&self) -> Option<Pid> {
+    // A process of the plain tree that has a descriptor free, if there is one.
+    pub(crate) fn free_holder(&self) -> Option<Pid> {
         let holder = self
             .holders
             .iter()
@@ -79,15 +76,10 @@ impl Pool {
         Some(holder.pid)
     }
 
-    // The same, or a new one.
-    pub(crate) fn holder<K: Machine>(&mut self, kernel: &mut K) -> Result<Pid, Fault> {
-        if let Some(pid) = self.free_holder() {
-            return Ok(pid);
-        }
-        self.holders.reserve(1)?;
-        let pid = self.take(kernel, 0)?;
+    // One process more may have open files of the plain tree.
+    pub(crate) fn add_holder(&mut self, pid: Pid) -> Result<(), AllocError> {
         self.holders.push(Holder { pid, used: 0 })?;
-        Ok(pid)
+        Ok(())
     }
 
     // A process of the plain tree has one descriptor more.

@@ -1,8 +1,11 @@
 // Requests on open directories.
+ghost use Rattle.std.specs.Prelude.{◌≡◌};
+ghost use Rattle.course.specs.Hands.{bound};
+
 use crate::folders::Folder;
-use crate::numbers::{TRANSACTIONS, is_reserved};
-use crate::server::Server;
-use course::{Fault, ask};
+use crate::numbers::is_reserved;
+use crate::tables::Tables;
+use course::{Fault, Hand};
 use fuse::{DirectoryEntry, EBADF, Entry, Kind, Listing, Opened, Reply};
 use heap::Heap;
 use ids::{Answer, Bytes, Call, Name, NameList};
@@ -70,15 +73,18 @@ fn list_from(heap: Heap, folder: &Folder, offset: u64, size: u32) -> Result<List
     Ok(list)
 }
 
-impl<K: Machine> Server<K> {
+impl Tables {
     // The names of a directory, as they are now.
-    fn names_of(&mut self, node: u64) -> Result<Vec<Name, Heap>, Fault> {
-        if node == TRANSACTIONS {
-            return Ok(self.names_of_transactions()?);
-        }
+    fn names_of<K: Machine>(
+        &mut self,
+        hand: &mut Hand<K>,
+        node: u64,
+    ) -> Result<Vec<Name, Heap>, Fault>
+        ensures { bound hand.new ≡ bound hand.old }
+    {
         let place = self.locate(node)?;
         let path = place.own_path(self.heap)?;
-        let reply = ask(&mut self.kernel, place.pid, Call::List(path));
+        let reply = hand.ask(Call::List(path));
         match &reply {
             ids::Reply::Answer(Answer::Names(list)) => Ok(shown_names(self.heap, node, list)?),
             _ => Err(Fault::of_reply(&reply)),
@@ -86,16 +92,29 @@ impl<K: Machine> Server<K> {
     }
 
     // Opens a directory, and takes its names.
-    pub(crate) fn open_folder(&mut self, node: u64) -> Result<Reply, Fault> {
-        let names = self.names_of(node)?;
+    pub(crate) fn open_folder<K: Machine>(
+        &mut self,
+        hand: &mut Hand<K>,
+        node: u64,
+    ) -> Result<Reply, Fault>
+        ensures { bound hand.new ≡ bound hand.old }
+    {
+        let names = self.names_of(hand, node)?;
         let handle = self.folders.add(node, names)?;
         Ok(Reply::Opened(Opened { handle, flags: 0 }))
     }
 
     // Takes the names of an open directory anew, where they are read from the start again.
-    fn refresh(&mut self, handle: u64, offset: u64) -> Result<(), Fault> {
+    fn refresh<K: Machine>(
+        &mut self,
+        hand: &mut Hand<K>,
+        handle: u64,
+        offset: u64,
+    ) -> Result<(), Fault>
+        ensures { bound hand.new ≡ bound hand.old }
+    {
         if let Some(node) = self.folders.stale(handle, offset) {
-            let names = self.names_of(node)?;
+            let names = self.names_of(hand, node)?;
             self.folders.renew(handle, names);
         }
         self.folders.mark(handle);
@@ -103,13 +122,21 @@ impl<K: Machine> Server<K> {
     }
 
     // Lists names of an open directory.
-    pub(crate) fn read_folder(
+    pub(crate) fn read_folder<K: Machine>(
         &mut self,
+        hand: &mut Hand<K>,
         handle: u64,
         offset: u64,
         size: u32,
-    ) -> Result<Reply, Fault> {
-        self.refresh(handle, offset)?;
+    ) -> Result<Reply, Fault>
+        ensures { bound hand.new ≡ bound hand.old }
+    {
+        self.refresh(hand, handle, offset)?;
+        self.list(handle, offset, size)
+    }
+
+    // Lists the names that are kept of an open directory.
+    pub(crate) fn list(&self, handle: u64, offset: u64, size: u32) -> Result<Reply, Fault> {
         match self.folders.get(handle) {
             Some(folder) => Ok(Reply::Directory(list_from(self.heap, folder, offset, size)?)),
             None => Err(Fault::Errno(EBADF)),
@@ -129,7 +156,15 @@ impl<K: Machine> Server<K> {
 
     // What a name of a directory gives, for a list: nothing where it went meanwhile, and no look-up is
     // counted for the two names that each directory has.
-    fn child_of(&mut self, node: u64, index: usize, name: &Bytes) -> Result<Option<Entry>, Fault> {
+    fn child_of<K: Machine>(
+        &mut self,
+        hand: &mut Hand<K>,
+        node: u64,
+        index: usize,
+        name: &Bytes,
+    ) -> Result<Option<Entry>, Fault>
+        ensures { bound hand.new ≡ bound hand.old }
+    {
         if index < 2 {
             return Ok(Some(Entry {
                 node: 0,
@@ -141,7 +176,7 @@ impl<K: Machine> Server<K> {
         let path = place.path_of(self.heap, name)?;
         let spot = Spot::new(self.heap, node, name.as_slice())?;
         self.nodes.reserve()?;
-        match course::stat_path(&mut self.kernel, place.pid, path) {
+        match course::stat_path(hand, path) {
             Ok(stat) => Ok(Some(self.entry(spot, &stat)?)),
             Err(Fault::Aborted) => Err(Fault::Aborted),
             Err(Fault::Errno(_)) => Ok(None),
@@ -174,28 +209,39 @@ impl<K: Machine> Server<K> {
     }
 
     // Adds the entry of this index. False at the end, and where it does not fit.
-    fn add_at(&mut self, handle: u64, list: &mut Listing, index: usize) -> Result<bool, Fault> {
+    fn add_at<K: Machine>(
+        &mut self,
+        hand: &mut Hand<K>,
+        handle: u64,
+        list: &mut Listing,
+        index: usize,
+    ) -> Result<bool, Fault>
+        ensures { bound hand.new ≡ bound hand.old }
+    {
         let Some((node, name)) = self.named_in(handle, index)? else {
             return Ok(false);
         };
-        match self.child_of(node, index, &name)? {
+        match self.child_of(hand, node, index, &name)? {
             Some(child) => self.add_child(list, index, name.as_slice(), &child),
             None => Ok(true),
         }
     }
 
     // Lists names of an open directory, and looks each of them up.
-    pub(crate) fn read_folder_plus(
+    pub(crate) fn read_folder_plus<K: Machine>(
         &mut self,
+        hand: &mut Hand<K>,
         handle: u64,
         offset: u64,
         size: u32,
-    ) -> Result<Reply, Fault> {
-        self.refresh(handle, offset)?;
+    ) -> Result<Reply, Fault>
+        ensures { bound hand.new ≡ bound hand.old }
+    {
+        self.refresh(hand, handle, offset)?;
         let mut list = Listing::new(self.heap, size.min(MOST_LISTED));
         let first = usize::try_from(offset).unwrap_or(usize::MAX);
         for index in first..usize::MAX {
-            if !self.add_at(handle, &mut list, index)? {
+            if !self.add_at(hand, handle, &mut list, index)? {
                 break;
             }
         }
@@ -203,8 +249,8 @@ impl<K: Machine> Server<K> {
     }
 
     // Closes a directory.
-    pub(crate) fn close_folder(&mut self, handle: u64) -> Result<Reply, Fault> {
+    pub(crate) fn close_folder(&mut self, handle: u64) -> Reply {
         self.folders.remove(handle);
-        Ok(Reply::Empty)
+        Reply::Empty
     }
 }

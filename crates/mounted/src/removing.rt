@@ -1,9 +1,10 @@
 // Requests that take names away, or move them.
 ghost use Rattle.std.specs.Prelude.{◌≡◌, IfOk, IfSome};
+ghost use Rattle.course.specs.Hands.{bound};
 
 use crate::numbers::is_reserved;
-use crate::server::Server;
-use course::Fault;
+use crate::tables::Tables;
+use course::{Fault, Hand};
 use fuse::{EBUSY, EINVAL, EXDEV, Reply};
 use heap::Heap;
 use ids::Bytes;
@@ -30,7 +31,7 @@ fn place_of(heap: Heap, node: u64, name: &Bytes) -> Result<Place, AllocError> {
     Place::new(heap, node, name.as_slice())
 }
 
-impl<K: Machine> Server<K> {
+impl Tables {
     // A name was taken away.
     fn note_removed(&mut self, node: u64, place: &Place) {
         self.nodes.detach(place);
@@ -38,39 +39,56 @@ impl<K: Machine> Server<K> {
     }
 
     // Takes a name of a file away.
-    pub(crate) fn unlink(&mut self, node: u64, name: &Bytes) -> Result<Reply, Fault> {
+    pub(crate) fn unlink<K: Machine>(
+        &mut self,
+        hand: &mut Hand<K>,
+        node: u64,
+        name: &Bytes,
+    ) -> Result<Reply, Fault>
+        ensures { bound hand.new ≡ bound hand.old }
+    {
         let place = self.locate_new(node, name)?;
         let path = place.path_of(self.heap, name)?;
         let spot = place_of(self.heap, node, name)?;
-        course::unlink(&mut self.kernel, place.pid, path)?;
+        course::unlink(hand, path)?;
         drop(place);
         self.note_removed(node, &spot);
         Ok(Reply::Empty)
     }
 
     // Removes an empty directory.
-    pub(crate) fn remove_directory(&mut self, node: u64, name: &Bytes) -> Result<Reply, Fault> {
+    pub(crate) fn remove_directory<K: Machine>(
+        &mut self,
+        hand: &mut Hand<K>,
+        node: u64,
+        name: &Bytes,
+    ) -> Result<Reply, Fault>
+        ensures { bound hand.new ≡ bound hand.old }
+    {
         if is_reserved(node, name.as_slice()) {
             return Err(Fault::Errno(EBUSY));
         }
         let place = self.locate(node)?;
         let path = place.path_of(self.heap, name)?;
         let spot = place_of(self.heap, node, name)?;
-        course::remove_directory(&mut self.kernel, place.pid, path)?;
+        course::remove_directory(hand, path)?;
         drop(place);
         self.note_removed(node, &spot);
         Ok(Reply::Empty)
     }
 
     // Moves what a name gives to another name, in the same view.
-    pub(crate) fn move_name(
+    pub(crate) fn move_name<K: Machine>(
         &mut self,
+        hand: &mut Hand<K>,
         node: u64,
         name: &Bytes,
         new_node: u64,
         new_name: &Bytes,
         flags: u32,
-    ) -> Result<Reply, Fault> {
+    ) -> Result<Reply, Fault>
+        ensures { bound hand.new ≡ bound hand.old }
+    {
         if flags & !NO_REPLACE != 0 {
             return Err(Fault::Errno(EINVAL));
         }
@@ -85,7 +103,7 @@ impl<K: Machine> Server<K> {
         let from = place_of(self.heap, node, name)?;
         let to = Spot::new(self.heap, new_node, new_name.as_slice())?;
         self.nodes.reserve()?;
-        course::move_name(&mut self.kernel, place.pid, path, new_path, absent)?;
+        course::move_name(hand, path, new_path, absent)?;
         self.nodes.move_place(&from, to)?;
         self.note_names(node);
         self.note_names(new_node);

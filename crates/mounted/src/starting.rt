@@ -23,7 +23,7 @@ const BLOCKS: u64 = 1 << 28;
 const NAME_LENGTH: u32 = 255;
 
 // The session begins.
-pub(crate) fn begin(max_readahead: u32, flags: u32) -> Reply {
+pub(crate) fn start(max_readahead: u32, flags: u32) -> Reply {
     Reply::Init(Init {
         max_readahead,
         flags: flags & WANTED,

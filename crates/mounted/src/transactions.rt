@@ -1,10 +1,10 @@
 // Requests about the directory of transactions.
 use crate::numbers::{TRANSACTIONS, control_node, root_node};
 use crate::server::Server;
-use crate::serving::Caller;
+use crate::tables::Tables;
 use crate::views::{Standing, State, View};
 use course::{Fault, begin, give_up};
-use fuse::{EEXIST, EINVAL, ENAMETOOLONG, ENOENT, EPERM, Operation, Reply};
+use fuse::{EEXIST, EINVAL, ENAMETOOLONG, ENOENT, ENOSYS, EPERM, Opened, Operation, Reply};
 use heap::Heap;
 use ids::{Bytes, NAME_LIMIT, Name, Pid};
 use machine::Machine;
@@ -36,7 +36,7 @@ fn name_of_control(heap: Heap, view: &View) -> Result<Name, AllocError> {
     Name::copy(heap, bytes.as_slice())
 }
 
-impl<K: Machine> Server<K> {
+impl Tables {
     // The names of all transactions, and of the files by which they are ended.
     pub(crate) fn names_of_transactions(&self) -> Result<Vec<Name, Heap>, AllocError> {
         let mut names = Vec::new(self.heap);
@@ -74,13 +74,59 @@ impl<K: Machine> Server<K> {
         Ok(())
     }
 
+    // Requests about the directory that change no transaction.
+    fn about_transactions(&mut self, operation: Operation) -> Result<Reply, Fault> {
+        match operation {
+            Operation::Lookup { name } => self.look_up_transaction(&name),
+            Operation::GetAttr { handle: _ } => Ok(self.attr_of_transactions()),
+            Operation::SetAttr { changes } => {
+                self.attributes.hear_changes(&changes);
+                Ok(self.attr_of_transactions())
+            }
+            Operation::Access { mask: _ } => Ok(Reply::Empty),
+            Operation::OpenDir => self.open_transactions(),
+            Operation::ReadDir {
+                handle,
+                offset,
+                size,
+            } => self.list_transactions(handle, offset, size),
+            Operation::Other { opcode: _ } => Err(Fault::Errno(ENOSYS)),
+            _ => Err(Fault::Errno(EPERM)),
+        }
+    }
+
+    // The attributes of the directory of transactions.
+    fn attr_of_transactions(&self) -> Reply {
+        Reply::Attr(self.attributes.attr_of_node(TRANSACTIONS, true))
+    }
+
+    // Opens the directory.
+    fn open_transactions(&mut self) -> Result<Reply, Fault> {
+        let names = self.names_of_transactions()?;
+        let handle = self.folders.add(TRANSACTIONS, names)?;
+        Ok(Reply::Opened(Opened { handle, flags: 0 }))
+    }
+
+    // Lists it.
+    fn list_transactions(&mut self, handle: u64, offset: u64, size: u32) -> Result<Reply, Fault> {
+        if self.folders.stale(handle, offset).is_some() {
+            let names = self.names_of_transactions()?;
+            self.folders.renew(handle, names);
+        }
+        self.folders.mark(handle);
+        self.list(handle, offset, size)
+    }
+}
+
+impl<K: Machine> Server<K> {
     // A process begins a transaction, and the view has this name.
     fn begin_by(&mut self, pid: Pid, level: u8, name: Name) -> Result<u64, Fault> {
-        begin(&mut self.kernel, pid)?;
-        match self.views.add(name, pid, level) {
+        self.hand.bind(pid);
+        begin(&mut self.hand)?;
+        match self.tables.views.add(name, pid, level) {
             Ok(view) => Ok(view),
             Err(refused) => {
-                let _given_up = give_up(&mut self.kernel, pid);
+                let _given_up = give_up(&mut self.hand);
                 Err(Fault::from(refused))
             }
         }
@@ -88,14 +134,14 @@ impl<K: Machine> Server<K> {
 
     // Begins a transaction.
     fn begin_transaction(&mut self, name: &Bytes) -> Result<Reply, Fault> {
-        self.check_name(name.as_slice())?;
-        let own_name = Name::copy(self.heap, name.as_slice())?;
+        self.tables.check_name(name.as_slice())?;
+        let own_name = Name::copy(self.tables.heap, name.as_slice())?;
         let level = level_of(name.as_slice());
-        let pid = self.pool.take(&mut self.kernel, level)?;
+        let pid = self.take_process(level)?;
         match self.begin_by(pid, level, own_name) {
-            Ok(view) => Ok(self.entry_of_node(root_node(view), true)),
+            Ok(view) => Ok(self.tables.entry_of_node(root_node(view), true)),
             Err(fault) => {
-                self.pool.give_back(pid, level);
+                self.tables.pool.give_back(pid, level);
                 Err(fault)
             }
         }
@@ -104,8 +150,8 @@ impl<K: Machine> Server<K> {
     // Closes all that the process of a view has open. Whether nothing is left.
     fn close_all(&mut self, view: u64) -> bool {
         let mut all = true;
-        for _ in 0..self.files.len() {
-            let Some(file) = self.files.take_in(view) else {
+        for _ in 0..self.tables.files.len() {
+            let Some(file) = self.tables.files.take_in(view) else {
                 break;
             };
             if self.close_file(&file).is_err() {
@@ -118,19 +164,20 @@ impl<K: Machine> Server<K> {
     // Takes a view away. A transaction that goes on is given up, and the process is used again.
     fn remove_view(&mut self, standing: Standing) {
         if standing.state == State::Live {
-            let _given_up = give_up(&mut self.kernel, standing.pid);
-            self.views.close(standing.number, State::GivenUp);
+            self.hand.bind(standing.pid);
+            let _given_up = give_up(&mut self.hand);
+            self.tables.views.close(standing.number, State::GivenUp);
         }
         let is_closed = self.close_all(standing.number);
-        self.views.remove(standing.number);
+        self.tables.views.remove(standing.number);
         if is_closed {
-            self.pool.give_back(standing.pid, standing.level);
+            self.tables.pool.give_back(standing.pid, standing.level);
         }
     }
 
     // Takes the view of a name away.
     fn remove_transaction(&mut self, name: &Bytes) -> Result<Reply, Fault> {
-        match self.views.named(name.as_slice()) {
+        match self.tables.views.named(name.as_slice()) {
             Some(standing) => {
                 self.remove_view(standing);
                 Ok(Reply::Empty)
@@ -140,34 +187,11 @@ impl<K: Machine> Server<K> {
     }
 
     // Requests about the directory of transactions.
-    pub(crate) fn in_transactions(
-        &mut self,
-        _caller: Caller,
-        operation: Operation,
-    ) -> Result<Reply, Fault> {
+    pub(crate) fn in_transactions(&mut self, operation: Operation) -> Result<Reply, Fault> {
         match operation {
-            Operation::Lookup { name } => self.look_up_transaction(&name),
             Operation::MkDir { name, mode: _ } => self.begin_transaction(&name),
             Operation::RmDir { name } => self.remove_transaction(&name),
-            Operation::GetAttr { handle: _ } => Ok(self.attr_of_transactions()),
-            Operation::SetAttr { changes } => {
-                self.attributes.hear_changes(&changes);
-                Ok(self.attr_of_transactions())
-            }
-            Operation::Access { mask: _ } => Ok(Reply::Empty),
-            Operation::OpenDir => self.open_folder(TRANSACTIONS),
-            Operation::ReadDir {
-                handle,
-                offset,
-                size,
-            } => self.read_folder(handle, offset, size),
-            Operation::ReleaseDir { handle } => self.close_folder(handle),
-            _ => Err(Fault::Errno(EPERM)),
+            operation => self.tables.about_transactions(operation),
         }
-    }
-
-    // The attributes of the directory of transactions.
-    fn attr_of_transactions(&self) -> Reply {
-        Reply::Attr(self.attributes.attr_of_node(TRANSACTIONS, true))
     }
 }
