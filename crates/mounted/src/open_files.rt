@@ -112,9 +112,13 @@ impl OpenFiles {
 
     // How often a file is open, once less than before.
     fn lessen(&mut self, handle: u64) -> Option<u64> {
-        let file = self.each.get_mut(&handle)?;
-        file.opens = file.opens.saturating_sub(1);
-        Some(file.opens)
+        match self.each.get_mut(&handle) {
+            Some(file) => {
+                file.opens = file.opens.saturating_sub(1);
+                Some(file.opens)
+            }
+            None => None,
+        }
     }
 
     // An open file goes.
@@ -134,8 +138,12 @@ impl OpenFiles {
 
     // The number of a file that is open in a view.
     fn some_in(&self, view: u64) -> Option<u64> {
-        let (handle, _) = self.each.iter().find(|(_, file)| file.view == view)?;
-        Some(*handle)
+        for (handle, file) in &self.each {
+            if file.view == view {
+                return Some(*handle);
+            }
+        }
+        None
     }
 
     // One of the files that are open in a view, which goes.

@@ -66,6 +66,20 @@ fn keeps_open(state: State) -> bool {
     }
 }
 
+// The process that has a file of the plain tree open, and else the one that has none.
+fn process_of(file: Option<OpenFile>) -> Pid {
+    match file {
+        Some(file) => {
+            if file.view == PLAIN {
+                file.pid
+            } else {
+                first_process(0)
+            }
+        }
+        None => first_process(0),
+    }
+}
+
 impl<K: Machine> Server<K> {
     /// A mounted tree with no names, on a kernel with these limits. Refused memory gives nothing.
     pub fn new(heap: Heap, limits: Limits) -> Result<Server<K>, AllocError>
@@ -102,20 +116,6 @@ impl<K: Machine> Server<K> {
         }
     }
 
-    // The process that has a file of the plain tree open, or else the one that has none.
-    fn process_of(file: Option<OpenFile>) -> Pid {
-        match file {
-            Some(file) => {
-                if file.view == PLAIN {
-                    file.pid
-                } else {
-                    first_process(0)
-                }
-            }
-            None => first_process(0),
-        }
-    }
-
     // The process that serves an open of the plain tree.
     fn opener(&mut self, node: u64) -> Result<Pid, Fault> {
         let inode = self.tables.inode_of(node);
@@ -137,9 +137,9 @@ impl<K: Machine> Server<K> {
             | Operation::MkNod { name: _, mode: _ } => self.holder(),
             Operation::GetAttr { handle: _ } | Operation::SetAttr { changes: _ } => {
                 let inode = self.tables.inode_of(node);
-                Ok(Server::<K>::process_of(self.tables.files.of(PLAIN, inode)))
+                Ok(process_of(self.tables.files.of(PLAIN, inode)))
             }
-            _ => Ok(Server::<K>::process_of(self.tables.file_named(operation))),
+            _ => Ok(process_of(self.tables.file_named(operation))),
         }
     }
 

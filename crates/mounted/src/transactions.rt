@@ -22,7 +22,7 @@ fn control_name(name: &[u8]) -> Option<&[u8]> {
 fn level_of(name: &[u8]) -> u8 {
     match name {
         [.., b'.', b'p', digit] => match *digit {
-            b'0'..=b'7' => digit.wrapping_sub(b'0').min(7),
+            b'0'..=b'7' => (*digit).wrapping_sub(b'0').min(7),
             _ => 0,
         },
         _ => 0,

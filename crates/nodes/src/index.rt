@@ -74,7 +74,7 @@ impl Index {
         ensures room { self.old.room ≤ self.new.room + 1 }
         ensures succeeds { 0 < self.old.room → IsOk result }
     {
-        let _former = self.numbers.insert(place, number)?;
+        self.numbers.insert(place, number)?;
         Ok(())
     }
 
@@ -83,6 +83,6 @@ impl Index {
         ensures numbers { self.new.numbers ≡ map.remove self.old.numbers place.now }
         ensures room { self.old.room ≤ self.new.room }
     {
-        let _former = self.numbers.remove(place);
+        self.numbers.remove(place);
     }
 }

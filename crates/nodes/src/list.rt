@@ -76,8 +76,7 @@ impl NodeList {
         ensures room { self.old.room ≤ self.new.room + 1 }
         ensures succeeds { 0 < self.old.room → IsOk result }
     {
-        let former = self.nodes.insert(number, node)?;
-        drop(former);
+        self.nodes.insert(number, node)?;
         Ok(())
     }
 
