@@ -1,0 +1,13 @@
+use Rattle.std.proofs.Common.{refl, sym, ap, ◌∙◌}
+use Rattle.std.specs.Ordering.{eq_by_cmp}
+use Rattle.model.specs.FiniteMap as finite
+use Rattle.nodes.specs.Parts.{Numbered}
+use Rattle.nodes.specs.Places.{place_cmp, place_cmp_total, place_exact}
+use Rattle.nodes.proofs.Entries.{get_at}
+use Rattle.nodes.proofs.index.Index.get.Goals as goal
+
+pub returns : goal.returns
+returns c =
+    c.copied.ensures ∙ c.get.ensures.value
+    ∙ sym (get_at place_cmp_total place_exact (eq_by_cmp place_cmp) (λ x y. refl) c.self.inside.numbers.entries c.args.place.now)
+    ∙ ap (λ (i : Numbered). finite.get i.numbers c.args.place.now) c.self.view_is
