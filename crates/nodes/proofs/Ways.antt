@@ -47,10 +47,11 @@ lost_above t most number node some is on none = on_way t most number node some i
 -- one name further
 pub further : (t : Table) (most number root : ℕ) (node : Node) (before mid after : List ℕ) → (most ≡ 0 → ⊥) → map.get t.nodes number ≡ Some node → is_attached t number node ≡ true
     → IsAdded (way_to t (most - 1) node.place.parent) before (Some root) mid → after ≡ (mid ++ 47 ∷ []) ++ node.place.name → IsAdded (way_to t most number) before (Some root) after
-further t most number root node before mid after some is on above put =
-    (above.0 ++ 47 ∷ node.place.name,
-    on_way t most number node some is on ∙ ap (option_map (with_name node.place.name)) above.1,
-    put ∙ append_assoc mid (47 ∷ []) node.place.name ∙ ap (λ (bytes : List ℕ). bytes ++ 47 ∷ node.place.name) above.2 ∙ append_assoc before above.0 (47 ∷ node.place.name))
+further t most number root node before mid after some is on above put = (
+  above.0 ++ 47 ∷ node.place.name,
+  on_way t most number node some is on ∙ ap (option_map (with_name node.place.name)) above.1,
+  put ∙ append_assoc mid (47 ∷ []) node.place.name ∙ ap (λ (bytes : List ℕ). bytes ++ 47 ∷ node.place.name) above.2 ∙ append_assoc before above.0 (47 ∷ node.place.name),
+)
 
 -- no path
 pub no_path : (t : Table) (number : ℕ) → way_to t 513 number ≡ None → path_of t number ≡ None

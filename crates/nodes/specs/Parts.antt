@@ -1,6 +1,7 @@
 -- What contracts see of the two tables, and of both together.
 use Rattle.std.specs.Prelude.{ℕ, nat_lt, min, refl, if◌then◌else◌}
 use Rattle.std.specs.Coded.{Coded, code_by, coded×, coded_ℕ}
+use Rattle.std.specs.HashMap.{HashMap}
 use Rattle.std.specs.Ordering.{nat_cmp}
 use Rattle.model.specs.FiniteMap as map
 use Rattle.nodes.specs.Places.{place_cmp, coded_place}
@@ -16,6 +17,10 @@ abbrev pub numbered_code : Coded Numbered
 numbered_code = code_by (map.FinMap place_cmp ℕ × ℕ)
     (coded× (map.code coded_place coded_ℕ) coded_ℕ)
     (λ i. (i.numbers, i.room)) (λ q. record { numbers = q.0; room = q.1 }) (λ _. refl)
+
+-- the nodes of a table
+abbrev pub nodes_in : {S : Type 0} → HashMap ℕ Node S → map.FinMap nat_cmp Node
+nodes_in table = map.from_entries {R = nat_cmp} table.entries
 
 -- the nodes, and for how many more there is room
 pub record Listed : Type 0 where

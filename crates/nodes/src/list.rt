@@ -1,6 +1,8 @@
 // The node that each number stands for.
 ghost use Rattle.std.specs.Prelude.{◌≡◌, ◌+◌, ◌≤◌, ◌<◌, IsOk, OnErr, OnOk, option_copied};
 ghost use Rattle.model.specs.FiniteMap as map;
+ghost use Rattle.std.specs.HashMap.{spare};
+ghost use Rattle.nodes.specs.Parts.{nodes_in};
 ghost use Rattle.nodes.specs.Tables.{counted, lessened, placed};
 
 use crate::node::Node;
@@ -28,18 +30,49 @@ impl Drop for NodeList {
 
 impl Model for NodeList {
     ghost use Rattle.std.specs.HashMap.{spare};
-    ghost use Rattle.std.specs.Ordering.{nat_cmp};
-    ghost use Rattle.model.specs.FiniteMap as map;
-    ghost use Rattle.nodes.specs.Parts.{Listed, listed_code};
+    ghost use Rattle.nodes.specs.Parts.{Listed, listed_code, nodes_in};
 
     ghost Value = { Listed };
 
     ghost coded = { listed_code };
 
     ghost view = { λ l. record {
-      nodes = map.from_entries {R = nat_cmp} l.nodes.entries;
+      nodes = nodes_in l.nodes;
       room = spare l.nodes;
     } };
+}
+
+// A node is looked up once more.
+fn count_in(nodes: &mut ByNumber, number: u64)
+    ensures nodes { nodes_in nodes.new ≡ counted number (map.get (nodes_in nodes.old) number) (nodes_in nodes.old) }
+    ensures room { spare nodes.new ≡ spare nodes.old }
+{
+    match nodes.get_mut(&number) {
+        Some(node) => node.count(),
+        None => {}
+    }
+}
+
+// So many look-ups of a node are forgotten.
+fn lessen_in(nodes: &mut ByNumber, number: u64, count: u64)
+    ensures nodes { nodes_in nodes.new ≡ lessened number count (map.get (nodes_in nodes.old) number) (nodes_in nodes.old) }
+    ensures room { spare nodes.new ≡ spare nodes.old }
+{
+    match nodes.get_mut(&number) {
+        Some(node) => node.forget(count),
+        None => {}
+    }
+}
+
+// A node has another place.
+fn put_in(nodes: &mut ByNumber, number: u64, place: Place)
+    ensures nodes { nodes_in nodes.new ≡ placed number place (map.get (nodes_in nodes.old) number) (nodes_in nodes.old) }
+    ensures room { spare nodes.new ≡ spare nodes.old }
+{
+    match nodes.get_mut(&number) {
+        Some(node) => node.put(place),
+        None => {}
+    }
 }
 
 impl NodeList {
@@ -86,9 +119,7 @@ impl NodeList {
             ≡ counted number (map.get self.old.nodes number) self.old.nodes }
         ensures room { self.new.room ≡ self.old.room }
     {
-        if let Some(node) = self.nodes.get_mut(&number) {
-            node.count();
-        }
+        count_in(&mut self.nodes, number);
     }
 
     // So many look-ups of a node are forgotten. It takes no memory.
@@ -97,9 +128,7 @@ impl NodeList {
             ≡ lessened number count (map.get self.old.nodes number) self.old.nodes }
         ensures room { self.new.room ≡ self.old.room }
     {
-        if let Some(node) = self.nodes.get_mut(&number) {
-            node.forget(count);
-        }
+        lessen_in(&mut self.nodes, number, count);
     }
 
     // A node has another place. It takes no memory.
@@ -108,9 +137,7 @@ impl NodeList {
             ≡ placed number place (map.get self.old.nodes number) self.old.nodes }
         ensures room { self.new.room ≡ self.old.room }
     {
-        if let Some(node) = self.nodes.get_mut(&number) {
-            node.put(place);
-        }
+        put_in(&mut self.nodes, number, place);
     }
 
     // A number stands for nothing any more. It gives the node. It takes no memory.
