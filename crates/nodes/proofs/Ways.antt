@@ -1,6 +1,7 @@
 -- The way to a node, one name at a time.
-use Rattle.std.proofs.Common.{◌≡◌, ℕ, zero, suc, ◌-◌, ◌++◌, ◌<◌, ◌≤◌, Bool, true, false, List, [], ◌∷◌, length, Option, Some, None, refl, sym, ap, ◌∙◌, append_assoc, arith}
+use Rattle.std.proofs.Common.{◌≡◌, ℕ, zero, suc, ◌-◌, ◌++◌, ◌<◌, ◌≤◌, Bool, true, false, leb, List, [], ◌∷◌, length, Option, Some, None, refl, sym, ap, ◌∙◌, append_assoc, arith}
 use Rattle.std.specs.Prelude.{nat_le, option_map, option_and_then, if◌then◌else◌}
+use Rattle.std.proofs.lemmas.Bool.{le-leb, lt-leb}
 use Rattle.std.proofs.lemmas.List.{append-nil}
 use Rattle.model.specs.FiniteMap as map
 use Rattle.nodes.specs.Tables.{Table, is_attached}
@@ -62,3 +63,10 @@ no_path t number none = ap (option_and_then if_short) none
 pub path_at : (t : Table) (number root : ℕ) (bytes : List ℕ) → IsAdded (way_to t 513 number) [] (Some root) bytes → path_of t number ≡ if_short (root, bytes)
 unfolding path_of
 path_at t number root bytes added = ap (option_and_then if_short) added.1 ∙ ap (λ (b : List ℕ). if_short (root, b)) (sym added.2)
+
+-- a path that is too long, and one that is not
+pub too_long : (t : Table) (number root : ℕ) (bytes : List ℕ) → 1024 < length bytes → IsAdded (way_to t 513 number) [] (Some root) bytes → path_of t number ≡ None
+too_long t number root bytes long added = let e : leb (length bytes) 1024 ≡ false = lt-leb (length bytes) 1024 long in path_at t number root bytes added ∙ ap (λ (b : Bool). if b then Some (root, bytes) else None) e
+
+pub short : (t : Table) (number root : ℕ) (bytes : List ℕ) → length bytes ≤ 1024 → IsAdded (way_to t 513 number) [] (Some root) bytes → path_of t number ≡ Some (root, bytes)
+short t number root bytes long added = let e : leb (length bytes) 1024 ≡ true = le-leb (length bytes) 1024 long in path_at t number root bytes added ∙ ap (λ (b : Bool). if b then Some (root, bytes) else None) e

@@ -313,7 +313,8 @@ impl Nodes {
         let Some(root) = self.put_way(NAMES_LIMIT, number, &mut bytes)? else {
             return Ok(None);
         };
-        if bytes.len() > PATH_LIMIT {
+        let length = bytes.as_slice().len();
+        if length > PATH_LIMIT {
             return Ok(None);
         }
         Ok(Some((root, Bytes::new(bytes))))
