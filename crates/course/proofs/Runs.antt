@@ -1,7 +1,10 @@
 -- Courses that are run.
-use Rattle.std.proofs.Common.{◌≡◌, ℕ, refl, sym, subst, ap, ◌∙◌}
+use Rattle.std.proofs.Common.{◌≡◌, ℕ, refl, subst, ap}
+use Rattle.std.specs.Prelude.{Result, Ok, Err, IsErrAnd}
 use Rattle.model.specs.Entries.{Op, Reply}
 use Rattle.machine.specs.Shown.{Shown}
+use Rattle.course.specs.Courses.{on_ok}
+use Rattle.course.specs.declared.fault.Fault.{Fault}
 use Rattle.course.specs.Course.{Course, Give, Step, ◌>>=◌, IsTaken, Ran, step}
 
 -- one step
@@ -20,3 +23,12 @@ gives m g h e = goes m (λ y. Give (g y)) h (e, refl)
 -- a course of a process that goes by another name too
 pub by_pid : {A : Type 0} (c : ℕ → Course A) {p q : ℕ} {old new : Shown} {outcome : A} → p ≡ q → Ran old (c p) outcome new → Ran old (c q) outcome new
 by_pid c {old = old} {new = new} {outcome = outcome} e h = subst (λ n. Ran old (c n) outcome new) e h
+
+-- a course that fails, where what comes behind it needs its success
+pub stops : {A B : Type 0} (m : Course (Result A Fault)) (f : A → Course (Result B Fault)) {old new : Shown} {e : Fault} (r : Result B Fault) → IsErrAnd r (λ y. y ≡ e) → Ran old m (Err e) new → Ran old (m >>= on_ok f) r new
+stops m f (Err y) is h = goes m (on_ok f) h (ap Err is, refl)
+stops m f (Ok y) is h = absurd is
+
+-- a course that succeeds, and what comes behind it
+pub goes_on : {A B : Type 0} (m : Course (Result A Fault)) (f : A → Course (Result B Fault)) {old mid new : Shown} {x : A} {r : Result B Fault} → Ran old m (Ok x) mid → Ran mid (f x) r new → Ran old (m >>= on_ok f) r new
+goes_on m f h k = goes m (on_ok f) h k
