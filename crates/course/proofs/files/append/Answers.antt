@@ -1,0 +1,12 @@
+use Rattle.std.proofs.Common.{ℕ, ap}
+use Rattle.ids.specs.declared.call.Call.TheVariants as call
+use Rattle.machine.specs.Shown.{Shown}
+use Rattle.course.specs.Courses.{stating, writing}
+use Rattle.course.proofs.Runs.{by_pid, goes_on, stops}
+use Rattle.course.proofs.files.append.Goals as goal
+
+pub returns-in_err-stat-clause-ran : goal.returns-in_err-stat-clause-ran
+returns-in_err-stat-clause-ran g c = stops (stating c.args.hand.now.pid (call.Fstat c.args.fd)) _ _ c.from_residual.ensures.1 c.in_err-stat.ensures.ran
+
+pub returns-clause-ran : goal.returns-clause-ran
+returns-clause-ran g c = ?
