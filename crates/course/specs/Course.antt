@@ -29,12 +29,16 @@ abbrev pub IsTaken : Shown → Shown → ℕ → Op → Reply → Type 0
 IsTaken old new pid op reply =
     IsTried old new pid op reply ⊎ IsTried (forgetting old) new pid op reply
 
--- a course was run: from one state of the kernel to another, with this outcome
-abbrev pub Ran : {A : Type 0} → Shown → Course A → A → Shown → Type 0
-Ran old (Give x) outcome new = (outcome ≡ x) × (new ≡ old)
-Ran old (Step pid op next) outcome new =
+-- the steps that a course takes from one state of the kernel to another, and its outcome
+abbrev pub HasRun : {A : Type 0} → Shown → Course A → A → Shown → Type 0
+HasRun old (Give x) outcome new = (outcome ≡ x) × (new ≡ old)
+HasRun old (Step pid op next) outcome new =
     (reply : Reply) × (mid : Shown) × IsTaken old mid pid op reply
-    × Ran mid (next reply) outcome new
+    × HasRun mid (next reply) outcome new
+
+-- a course was run: from one state of the kernel to another, with this outcome
+pub record Ran {A : Type 0} (old : Shown) (c : Course A) (outcome : A) (new : Shown) : Type 0 where
+  pub is : HasRun old c outcome new
 
 -- all steps of a course are of one process
 abbrev pub IsBy : {A : Type 0} → ℕ → Course A → Type 0

@@ -1,4 +1,5 @@
 use Rattle.std.proofs.Common.{ℕ, ap}
+use Rattle.std.specs.Prelude.{pos}
 use Rattle.ids.specs.declared.call.Call.TheVariants as call
 use Rattle.machine.specs.Shown.{Shown}
 use Rattle.course.specs.Courses.{stating, writing}
@@ -9,4 +10,6 @@ pub returns-in_err-stat-clause-ran : goal.returns-in_err-stat-clause-ran
 returns-in_err-stat-clause-ran g c = stops (stating c.args.hand.now.pid (call.Fstat c.args.fd)) _ _ c.from_residual.ensures.1 c.in_err-stat.ensures.ran
 
 pub returns-clause-ran : goal.returns-clause-ran
-returns-clause-ran g c = ?
+returns-clause-ran g c =
+    let h = rw c.from.ensures at c.write.ensures.ran in
+    goes_on (stating c.args.hand.now.pid (call.Fstat c.args.fd)) (λ stat. writing c.args.hand.now.pid c.args.fd c.args.bytes (pos stat.size)) c.in_ok-stat.ensures.ran (by_pid (λ p. writing p c.args.fd c.args.bytes (pos c.in_ok-stat.stat.size)) (ap (λ (b : ℕ × Shown). b.0) c.in_ok-stat.ensures.bound) h)

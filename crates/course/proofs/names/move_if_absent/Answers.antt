@@ -2,13 +2,13 @@ use Rattle.std.proofs.Common.{ℕ, refl, sym, ap, ◌∙◌}
 use Rattle.ids.specs.declared.call.Call.TheVariants as call
 use Rattle.machine.specs.Shown.{Shown}
 use Rattle.course.specs.Courses.{doing, if_absent, stating}
-use Rattle.course.proofs.Runs.{by_pid, failing, goes, missing}
+use Rattle.course.proofs.Runs.{by_pid, done, failing, goes, missing}
 use Rattle.course.proofs.names.move_if_absent.Goals as goal
 
 pub returns-in-Ok-clause-ran : goal.returns-in-Ok-clause-ran
 returns-in-Ok-clause-ran g c =
     let h = rw c.requires at c.in-Ok.ensures.ran in
-    goes (stating c.args.hand.now.pid (call.Stat c.args.to)) (if_absent c.args.hand.now.pid c.args.from c.args.to) h (refl, refl)
+    goes (stating c.args.hand.now.pid (call.Stat c.args.to)) (if_absent c.args.hand.now.pid c.args.from c.args.to) h done
 
 pub returns-then-is_missing-clause-ran : goal.returns-then-is_missing-clause-ran
 returns-then-is_missing-clause-ran g c =
