@@ -47,8 +47,8 @@ goes_on m f h k = goes m (on_ok f) h k
 
 -- a descriptor is closed, for an error that is no abort
 pub closed : {A : Type 0} (pid fd : ℕ) (e : Fault) {old new : Shown} {r : Result (Unit {0}) Fault} {outcome : Result A Fault} → (e ≡ Aborted → ⊥) → Ran old (doing pid (call.Close fd)) r new → outcome ≡ Err (unless_aborted e r) → Ran old (closing pid fd e) outcome new
-closed pid fd Aborted no h is = absurd (no refl)
-closed pid fd (Errno n) no h is = gives (doing pid (call.Close fd)) (λ r. Err (unless_aborted (Errno n) r)) h is
+closed pid fd Aborted other h is = absurd (other refl)
+closed pid fd (Errno n) other h is = gives (doing pid (call.Close fd)) (λ r. Err (unless_aborted (Errno n) r)) h is
 
 -- the file is the one that was asked for, or another
 pub same_file : (pid fd inode : ℕ) (stat : Stat) {v : Shown} → (stat.num == inode) ≡ true → Ran v (if_same pid fd inode (Ok stat)) (Ok fd) v

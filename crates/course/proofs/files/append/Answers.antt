@@ -1,4 +1,5 @@
 use Rattle.std.proofs.Common.{ℕ, ap}
+use Rattle.std.proofs.lemmas.Int.{to_z-of_z}
 use Rattle.std.specs.Prelude.{pos}
 use Rattle.ids.specs.declared.call.Call.TheVariants as call
 use Rattle.machine.specs.Shown.{Shown}
@@ -11,5 +12,6 @@ returns-in_err-stat-clause-ran g c = stops (stating c.args.hand.now.pid (call.Fs
 
 pub returns-clause-ran : goal.returns-clause-ran
 returns-clause-ran g c =
-    let h = rw c.from.ensures at c.write.ensures.ran in
+    let w = rw (to_z-of_z _ _ c.from.type_inv) at c.write.ensures.ran in
+    let h = rw c.from.ensures at w in
     goes_on (stating c.args.hand.now.pid (call.Fstat c.args.fd)) (λ stat. writing c.args.hand.now.pid c.args.fd c.args.bytes (pos stat.size)) c.in_ok-stat.ensures.ran (by_pid (λ p. writing p c.args.fd c.args.bytes (pos c.in_ok-stat.stat.size)) (ap (λ (b : ℕ × Shown). b.0) c.in_ok-stat.ensures.bound) h)
