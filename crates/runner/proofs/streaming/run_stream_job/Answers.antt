@@ -15,5 +15,5 @@ returns-in-Err g c = inr (record {
   stopped = c.in-Err.ensures.fault;
   read = λ e. c.in-Err.ensures.read (ap (λ (f : StreamFault). let r : Result Bool StreamFault = Err f in r) e);
   write = λ e. c.in-Err.ensures.write (ap (λ (f : StreamFault). let r : Result Bool StreamFault = Err f in r) e);
-  reported = c.status.ensures ∙ ap status_of c.of_stream-fault.ensures;
+  reported = c.status.ensures ∙ ap status_of c.of_stream.ensures;
 })
