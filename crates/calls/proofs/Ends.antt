@@ -1,18 +1,17 @@
 -- A call's plan with what its changes write is the call.
-use Rattle.std.proofs.Common.{◌≡◌, ℕ, List, [], ◌∷◌, ◌++◌, Option, Some, None, unwrap_or, Result, Ok, Err, Bool, true, false, filter, if◌then◌else◌, refl, sym, ap, arith, ◌∙◌}
+use Rattle.std.proofs.Common.{◌≡◌, ℕ, List, [], ◌∷◌, ◌++◌, Option, Some, None, unwrap_or, Result, Ok, Err, Bool, true, false, filter, if◌then◌else◌, refl, sym, ap, ◌∙◌}
 use Rattle.std.proofs.lemmas.List.{append-nil}
 use Rattle.std.specs.List.{flat_map}
 use Rattle.model.specs.State.{Kernel}
 use Rattle.model.specs.Aspects.{Aspect}
 use Rattle.model.specs.Plan.{Errno as Refused, given, seen}
 use Rattle.model.specs.Plans.{Change, plan}
-use Rattle.model.specs.Calls.{Call, Fork, Exit, own}
+use Rattle.model.specs.Calls.{Call, own}
 use Rattle.model.specs.Changes.{marks}
 use Rattle.model.specs.Steps.{Touch, reply_of, edits_of}
 use Rattle.look.specs.Asked.{asked, reading, writing, noting}
 use Rattle.calls.specs.declared.plan.Plan.{Plan}
 use Rattle.calls.specs.Planned.{counting, IsPlan}
-use Rattle.calls.specs.Operations.{is_on_descriptors}
 use Rattle.walk.proofs.Laws.{asked-is}
 
 -- what is read and then what is written, where reads count or do not
@@ -52,8 +51,3 @@ module _ (k : Kernel) (pid : ℕ) (call : Call) (b : Bool) (p : Plan) (start mid
         ∙ counted b (seen k (plan (own k pid call) call)) (flat_map marks (edits_of (given k (plan (own k pid call) call))));
     edits = edits ∙ sym (ap edits_of (outcome (Err e) h));
   }
-
--- a call on descriptors sees no more of the process than an exit
-pub own_same : (k : Kernel) (pid : ℕ) (call : Call) → is_on_descriptors call ≡ true → own k pid call ≡ own k pid Exit
-own_same k pid Fork is = let e : false ≡ true = is in absurd (grind (arith, e))
-own_same k pid _ is = refl

@@ -4,30 +4,31 @@ ghost use Rattle.model.specs.Changes.{Put_bytes};
 ghost use Rattle.model.specs.Plans.{plan, changed, offset_named, read_from, write_from};
 ghost use Rattle.model.specs.Calls.{Count, Pread, Pwrite};
 ghost use Rattle.look.specs.Asked.{Comes, Tells};
+ghost use Rattle.look.specs.Shown.{own_in};
 
 use crate::asking::{read_file, size};
 use crate::change::{Change, changed_by, unchanged};
 use crate::checks::{must_not_be_pipe, offset_must_be_below};
 use crate::files::{at_most_moved, first_bytes, is_empty, no_bytes, room};
-use crate::own::{Own, slot};
+use crate::own::slot;
 use crate::steps::refuse_if;
 use heap::Heap;
-use ids::{Answer, Bytes, Edit, Errno, Fd, Num, Refusal, Slot};
+use ids::{Answer, Bytes, Edit, Errno, Fd, Num, Pid, Refusal, Slot};
 use look::Look;
 use walk::{Reads, or_refuse};
 
 pub(crate) fn pread<L: Look>(
     look: &L,
-    own: &Own,
+    pid: Pid,
     fd: Fd,
     count: u32,
     offset: i64,
     reads: &mut Reads,
 ) -> Result<Change, Refusal>
     ensures { Comes (L.state look.now)
-        (plan own.now (Pread fd count offset)) reads.old result reads.new }
+        (plan (own_in (L.state look.now) pid) (Pread fd count offset)) reads.old result reads.new }
 {
-    let it = slot(own, fd)?;
+    let it = slot(look, pid, fd)?;
     refuse_if(!it.reading, Errno::EBADF)?;
     must_not_be_pipe(it.kind, Errno::ESPIPE)?;
     let offset = or_refuse(Errno::EINVAL, offset_named(offset))?;
@@ -72,23 +73,23 @@ fn bounded(offset: u64) -> u32
 
 pub(crate) fn pwrite<L: Look>(
     look: &L,
-    own: &Own,
+    pid: Pid,
     fd: Fd,
     bytes: &Bytes,
     offset: i64,
     reads: &mut Reads,
 ) -> Result<Change, Refusal>
     ensures { Comes (L.state look.now)
-        (plan own.now (Pwrite fd bytes.now offset)) reads.old result reads.new }
+        (plan (own_in (L.state look.now) pid) (Pwrite fd bytes.now offset)) reads.old result reads.new }
 {
-    let it = slot(own, fd)?;
+    let it = slot(look, pid, fd)?;
     refuse_if(!it.writing, Errno::EBADF)?;
     must_not_be_pipe(it.kind, Errno::ESPIPE)?;
     let offset = or_refuse(Errno::EINVAL, offset_named(offset))?;
     if is_empty(bytes) {
         unchanged(reads.heap(), Answer::Count(0))
     } else {
-        write_from(look, own.largest(), it, offset, bytes, reads)
+        write_from(look, look.largest(), it, offset, bytes, reads)
     }
 }
 

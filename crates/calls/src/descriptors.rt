@@ -1,11 +1,12 @@
 // The plans of calls on descriptors and processes.
 ghost use Rattle.model.specs.Plans.{plan};
-ghost use Rattle.model.specs.Calls.{Close, Fstat, Dup, Dup2, Open_pipe, Fork, Exit};
-ghost use Rattle.look.specs.Asked.{Comes, Tells};
+ghost use Rattle.model.specs.Calls.{own, Close, Fstat, Dup, Dup2, Open_pipe, Fork, Exit};
+ghost use Rattle.look.specs.Asked.{Comes, TellsIn};
+ghost use Rattle.look.specs.Shown.{own_in};
 
 use crate::change::{Change, changed_by, unchanged};
 use crate::checks::must_be_below;
-use crate::own::{Own, pipe_in, slot, two_of};
+use crate::own::{free_from, pipe_in, pipes, slot, two_of};
 use crate::paths::status;
 use crate::steps::refuse_if;
 use heap::Heap;
@@ -13,95 +14,94 @@ use ids::{Answer, Edit, Errno, Fd, MAX_PROCESSES, Pid, Refusal};
 use look::Look;
 use walk::Reads;
 
-pub(crate) fn close(heap: Heap, own: &Own, fd: Fd) -> Result<Change, Refusal>
-    ensures { Tells (plan own.now (Close fd)) result }
+pub(crate) fn close<L: Look>(heap: Heap, look: &L, pid: Pid, fd: Fd) -> Result<Change, Refusal>
+    ensures { TellsIn (L.state look.now) (plan (own_in (L.state look.now) pid) (Close fd)) result }
 {
-    let it = slot(own, fd)?;
+    let it = slot(look, pid, fd)?;
     let pipes = pipe_in(heap, &it)?;
-    changed_by(heap, Answer::Done, Edit::ClearSlot(own.pid(), fd, pipes))
+    changed_by(heap, Answer::Done, Edit::ClearSlot(pid, fd, pipes))
 }
 
 pub(crate) fn fstat<L: Look>(
     look: &L,
-    own: &Own,
+    pid: Pid,
     fd: Fd,
     reads: &mut Reads,
 ) -> Result<Change, Refusal>
-    ensures { Comes (L.state look.now) (plan own.now (Fstat fd)) reads.old result reads.new }
+    ensures { Comes (L.state look.now)
+        (plan (own_in (L.state look.now) pid) (Fstat fd)) reads.old result reads.new }
 {
-    let it = slot(own, fd)?;
+    let it = slot(look, pid, fd)?;
     status(look, it.inode, it.kind, reads)
 }
 
-pub(crate) fn dup(heap: Heap, own: &Own, fd: Fd) -> Result<Change, Refusal>
-    ensures { Tells (plan own.now (Dup fd)) result }
+pub(crate) fn dup<L: Look>(heap: Heap, look: &L, pid: Pid, fd: Fd) -> Result<Change, Refusal>
+    ensures { TellsIn (L.state look.now) (plan (own_in (L.state look.now) pid) (Dup fd)) result }
 {
-    let it = slot(own, fd)?;
-    let free = own.free(heap)?;
-    match free.as_slice() {
-        [fd, ..] => {
-            let pipes = pipe_in(heap, &it)?;
-            changed_by(
-                heap,
-                Answer::Fd(*fd),
-                Edit::ShareSlot(own.pid(), *fd, it.description, pipes),
-            )
-        }
-        [] => Err(Refusal::Errno(Errno::EMFILE)),
-    }
+    let it = slot(look, pid, fd)?;
+    let free = free_from(look, pid, Fd(0))?;
+    let pipes = pipe_in(heap, &it)?;
+    changed_by(
+        heap,
+        Answer::Fd(free),
+        Edit::ShareSlot(pid, free, it.description, pipes),
+    )
 }
 
-pub(crate) fn dup2(heap: Heap, own: &Own, old: Fd, new: Fd) -> Result<Change, Refusal>
-    ensures { Tells (plan own.now (Dup2 old new)) result }
+pub(crate) fn dup2<L: Look>(
+    heap: Heap,
+    look: &L,
+    pid: Pid,
+    old: Fd,
+    new: Fd,
+) -> Result<Change, Refusal>
+    ensures { TellsIn (L.state look.now)
+        (plan (own_in (L.state look.now) pid) (Dup2 old new)) result }
 {
-    let it = slot(own, old)?;
+    let it = slot(look, pid, old)?;
     // A descriptor is one of 0 to 63.
     refuse_if(63 < new.0, Errno::EBADF)?;
     if old == new {
         unchanged(heap, Answer::Fd(old))
     } else {
         // It shares the description, whatever it was open on.
-        let pipes = two_of(heap, &it, &own.slot_at(new))?;
+        let pipes = two_of(heap, &it, &look.slot(pid, new))?;
         changed_by(
             heap,
             Answer::Fd(new),
-            Edit::ShareSlot(own.pid(), new, it.description, pipes),
+            Edit::ShareSlot(pid, new, it.description, pipes),
         )
     }
 }
 
-pub(crate) fn pipe(heap: Heap, own: &Own) -> Result<Change, Refusal>
-    ensures { Tells (plan own.now Open_pipe) result }
+pub(crate) fn pipe<L: Look>(heap: Heap, look: &L, pid: Pid) -> Result<Change, Refusal>
+    ensures { TellsIn (L.state look.now) (plan (own_in (L.state look.now) pid) Open_pipe) result }
 {
-    let free = own.free(heap)?;
-    match free.as_slice() {
-        [reader, writer, ..] => changed_by(
-            heap,
-            Answer::Pair(*reader, *writer),
-            Edit::MakePipe(0, own.pid(), *reader, *writer),
-        ),
-        _ => Err(Refusal::Errno(Errno::EMFILE)),
-    }
-}
-
-pub(crate) fn fork(heap: Heap, own: &Own) -> Result<Change, Refusal>
-    ensures { Tells (plan own.now Fork) result }
-{
-    let Some(birth) = own.birth() else {
-        return Err(Refusal::Errno(Errno::EAGAIN));
-    };
-    must_be_below(birth.0, MAX_PROCESSES, Errno::EAGAIN)?;
-    let pipes = own.pipes(heap)?;
+    let reader = free_from(look, pid, Fd(0))?;
+    let writer = free_from(look, pid, Fd(reader.0 + 1))?;
     changed_by(
         heap,
-        Answer::Child(Pid(birth.0 + 1)),
-        Edit::NewProcess(Pid(birth.0 + 1), own.pid(), pipes),
+        Answer::Pair(reader, writer),
+        Edit::MakePipe(0, pid, reader, writer),
     )
 }
 
-pub(crate) fn exit(heap: Heap, own: &Own) -> Result<Change, Refusal>
-    ensures { Tells (plan own.now Exit) result }
+pub(crate) fn fork<L: Look>(heap: Heap, look: &L, pid: Pid) -> Result<Change, Refusal>
+    ensures { TellsIn (L.state look.now) (plan (own (L.state look.now) pid Fork) Fork) result }
 {
-    let pipes = own.pipes(heap)?;
-    changed_by(heap, Answer::Done, Edit::EndProcess(own.pid(), pipes))
+    let birth = look.birth(pid)?;
+    must_be_below(birth.0, MAX_PROCESSES, Errno::EAGAIN)?;
+    let pipes = pipes(heap, look, pid)?;
+    changed_by(
+        heap,
+        Answer::Child(Pid(birth.0 + 1)),
+        Edit::NewProcess(Pid(birth.0 + 1), pid, pipes),
+    )
+}
+
+pub(crate) fn exit<L: Look>(heap: Heap, look: &L, pid: Pid) -> Result<Change, Refusal>
+    ensures { TellsIn (L.state look.now) (plan (own_in (L.state look.now) pid) Exit) result }
+{
+    let pipes = pipes(heap, look, pid)?;
+    changed_by(heap, Answer::Done, Edit::EndProcess(pid, pipes))
 }

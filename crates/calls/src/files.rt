@@ -2,6 +2,7 @@
 ghost use Rattle.std.specs.Prelude.{◌≡◌, ◌<◌, ◌≤◌, ◌^◌, ◌+◌, [], ◌∷◌, length, take};
 ghost use Rattle.std.specs.Prelude.{IfOk, Some, None, ◌++◌, min, if◌then◌else◌};
 ghost use Rattle.model.specs.Paths.{is_empty};
+ghost use Rattle.model.specs.State.{Kernel};
 ghost use Rattle.model.specs.Plan.{Give};
 ghost use Rattle.model.specs.Walks.{Last};
 ghost use Rattle.model.specs.Changes.{Set_offset, Put_bytes};
@@ -11,7 +12,8 @@ ghost use Rattle.model.specs.Plans.{read_pipe, place_to_write, room, most_moved}
 ghost use Rattle.model.specs.Calls.{Slot, Count, Open, Read, Write, Ftruncate};
 ghost use Rattle.calls.specs.Parts.{open_path, some_of_pipe, some_of_file, some_to_pipe};
 ghost use Rattle.calls.specs.Parts.{some_to_file};
-ghost use Rattle.look.specs.Asked.{Comes, Tells};
+ghost use Rattle.look.specs.Asked.{Comes, Tells, TellsIn};
+ghost use Rattle.look.specs.Shown.{own_in};
 
 use crate::asking::{ends, fit, offset, read_file, read_pipe, size};
 use crate::change::{Change, Edits, changed, changed_by, unchanged};
@@ -19,11 +21,12 @@ use crate::checks::{
     must_be_below, must_be_new, must_create_to_exclude, must_fit, must_not_be_pipe,
     must_read_or_write, must_write_to_truncate, refusal_of_root,
 };
-use crate::own::{Own, is_pipe, lowest, slot};
+use crate::own::{free_from, is_pipe, slot};
 use crate::steps::{must_not_be_directory, parsed, refuse_if};
 use heap::Heap;
 use ids::{
-    Answer, Bytes, Edit, Errno, Fd, Kind, MOST_MOVED, Mode, Num, OpenFlags, Refusal, Slot, Which,
+    Answer, Bytes, Edit, Errno, Fd, Kind, MOST_MOVED, Mode, Num, OpenFlags, Pid, Refusal, Slot,
+    Which,
 };
 use look::Look;
 use path::Path;
@@ -32,41 +35,39 @@ use walk::{Last, Reads, walk_to_last};
 
 pub(crate) fn open<L: Look>(
     look: &L,
-    own: &Own,
+    pid: Pid,
     path: &Bytes,
     flags: OpenFlags,
     reads: &mut Reads,
 ) -> Result<Change, Refusal>
-    requires { own.now.root ≡ (L.state look.now).root }
     ensures { Comes (L.state look.now)
-        (plan own.now (Open path.now flags)) reads.old result reads.new }
+        (plan (own_in (L.state look.now) pid) (Open path.now flags)) reads.old result reads.new }
 {
     must_read_or_write(flags)?;
     must_create_to_exclude(flags)?;
     must_write_to_truncate(flags)?;
     let path = parsed(reads.heap(), path)?;
-    let change = open_path(look, own, flags, &path, reads);
+    let change = open_path(look, pid, flags, &path, reads);
     drop(path);
     change
 }
 
 fn open_path<L: Look>(
     look: &L,
-    own: &Own,
+    pid: Pid,
     flags: OpenFlags,
     path: &Path,
     reads: &mut Reads,
 ) -> Result<Change, Refusal>
-    requires { own.now.root ≡ (L.state look.now).root }
     ensures { Comes (L.state look.now)
-        (open_path own.now flags path.now) reads.old result reads.new }
+        (open_path (own_in (L.state look.now) pid) flags path.now) reads.old result reads.new }
 {
-    let fd = lowest(reads.heap(), own)?;
+    let fd = free_from(look, pid, Fd(0))?;
     let last = walk_to_last(look, refusal_of_root(flags), path, reads)?;
     match last.found() {
-        None => opened_new(reads.heap(), own, flags, fd, last),
+        None => opened_new(reads.heap(), pid, flags, fd, last),
         Some(place) => {
-            let change = opened_old(look, own, flags, fd, place, reads);
+            let change = opened_old(look, pid, flags, fd, place, reads);
             drop(last);
             change
         }
@@ -74,37 +75,31 @@ fn open_path<L: Look>(
 }
 
 // A file that is made.
-fn opened_new(
-    heap: Heap,
-    own: &Own,
-    flags: OpenFlags,
-    fd: Fd,
-    last: Last,
-) -> Result<Change, Refusal>
-    ensures { Tells (opened own.now flags fd last None) result }
+fn opened_new(heap: Heap, pid: Pid, flags: OpenFlags, fd: Fd, last: Last) -> Result<Change, Refusal>
+    ensures { (k : Kernel) → TellsIn k (opened (own_in k pid) flags fd last None) result }
 {
     refuse_if(!flags.creates(), Errno::ENOENT)?;
     let made = Edits::new(heap).with(Edit::MakeFile(last.parent, last.name, 0))?;
-    let edits = made.with(Edit::OpenInode(1, Which::Made(0), mode(flags), own.pid(), fd))?;
+    let edits = made.with(Edit::OpenInode(1, Which::Made(0), mode(flags), pid, fd))?;
     changed(Answer::Fd(fd), edits)
 }
 
 // A file that is there.
 fn opened_old<L: Look>(
     look: &L,
-    own: &Own,
+    pid: Pid,
     flags: OpenFlags,
     fd: Fd,
     place: (Num, Option<Kind>),
     reads: &mut Reads,
 ) -> Result<Change, Refusal>
     ensures { (at : Last) → Comes (L.state look.now)
-        (opened own.now flags fd at (Some place)) reads.old result reads.new }
+        (opened (own_in (L.state look.now) pid) flags fd at (Some place)) reads.old result reads.new }
 {
     must_be_new(flags)?;
     must_not_be_directory(&place, Errno::EISDIR)?;
     let cut = cut_if(look, flags, place.0, reads)?;
-    let edits = cut.with(Edit::OpenInode(0, Which::There(place.0), mode(flags), own.pid(), fd))?;
+    let edits = cut.with(Edit::OpenInode(0, Which::There(place.0), mode(flags), pid, fd))?;
     changed(Answer::Fd(fd), edits)
 }
 
@@ -152,33 +147,33 @@ pub(crate) fn cut_to<L: Look>(
 
 pub(crate) fn ftruncate<L: Look>(
     look: &L,
-    own: &Own,
+    pid: Pid,
     fd: Fd,
     length: u32,
     reads: &mut Reads,
 ) -> Result<Change, Refusal>
     ensures { Comes (L.state look.now)
-        (plan own.now (Ftruncate fd length)) reads.old result reads.new }
+        (plan (own_in (L.state look.now) pid) (Ftruncate fd length)) reads.old result reads.new }
 {
-    let it = slot(own, fd)?;
+    let it = slot(look, pid, fd)?;
     refuse_if(!it.writing, Errno::EBADF)?;
     must_not_be_pipe(it.kind, Errno::EINVAL)?;
-    refuse_if(own.largest() < length, Errno::EFBIG)?;
+    refuse_if(look.largest() < length, Errno::EFBIG)?;
     let cut = cut_to(look, it.inode, length, reads)?;
     changed(Answer::Done, cut)
 }
 
 pub(crate) fn read<L: Look>(
     look: &L,
-    own: &Own,
+    pid: Pid,
     fd: Fd,
     count: u32,
     reads: &mut Reads,
 ) -> Result<Change, Refusal>
     ensures { Comes (L.state look.now)
-        (plan own.now (Read fd count)) reads.old result reads.new }
+        (plan (own_in (L.state look.now) pid) (Read fd count)) reads.old result reads.new }
 {
-    let it = slot(own, fd)?;
+    let it = slot(look, pid, fd)?;
     refuse_if(!it.reading, Errno::EBADF)?;
     if count == 0 {
         unchanged(reads.heap(), Answer::Bytes(no_bytes(reads)))
@@ -258,22 +253,22 @@ fn nothing_from_pipe<L: Look>(look: &L, pipe: Num, reads: &mut Reads) -> Result<
 
 pub(crate) fn write<L: Look>(
     look: &L,
-    own: &Own,
+    pid: Pid,
     fd: Fd,
     bytes: &Bytes,
     reads: &mut Reads,
 ) -> Result<Change, Refusal>
     ensures { Comes (L.state look.now)
-        (plan own.now (Write fd bytes.now)) reads.old result reads.new }
+        (plan (own_in (L.state look.now) pid) (Write fd bytes.now)) reads.old result reads.new }
 {
-    let it = slot(own, fd)?;
+    let it = slot(look, pid, fd)?;
     refuse_if(!it.writing, Errno::EBADF)?;
     if is_empty(bytes) {
         unchanged(reads.heap(), Answer::Count(0))
     } else if is_pipe(it.kind) {
         write_pipe(look, it.inode, bytes, reads)
     } else {
-        write_file(look, own.largest(), it, bytes, reads)
+        write_file(look, look.largest(), it, bytes, reads)
     }
 }
 

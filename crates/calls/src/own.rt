@@ -1,142 +1,58 @@
-// What a process sees of itself without a touch.
-ghost use Rattle.std.specs.Prelude.{◌≡◌, ◌==◌, ◌++◌, ◌∷◌, [], Some, IfOk, OnOk, if◌then◌else◌};
-ghost use Rattle.std.specs.List.{list_any};
-ghost use Rattle.model.specs.Plans.{slot, slot_at, free};
-ghost use Rattle.model.specs.Plans.{pipes_in, first_of_free, pipe_in, is_pipe};
-ghost use Rattle.model.specs.Calls.{own, Exit, Fork};
-ghost use Rattle.look.specs.Asked.{Tells};
+// What a process sees of its own descriptors without a touch.
+ghost use Rattle.std.specs.Prelude.{◌≡◌, ◌==◌, ◌<◌, ◌++◌, ◌∷◌, [], Some, IfOk, OnOk, if◌then◌else◌};
+ghost use Rattle.std.specs.List.{flat_map, list_any};
+ghost use Rattle.ids.specs.declared.limits.TheConstants.{DESCRIPTORS};
+ghost use Rattle.model.specs.Plan.{or_refuse, EMFILE};
+ghost use Rattle.model.specs.Plans.{slot, each_once, pipes_in, pipe_in, is_pipe};
+ghost use Rattle.look.specs.Asked.{TellsIn};
+ghost use Rattle.look.specs.Shown.{first_free, own_in};
 
 use heap::Heap;
-use ids::{DESCRIPTORS, Errno, Fd, Kind, Num, Nums, Pid, Refusal, Slot};
+use ids::{Errno, Fd, Kind, Num, Nums, Pid, Refusal, Slot};
 use look::Look;
 use std::alloc::AllocError;
-use std::marker::Model;
 
-/// What a process sees of itself without a touch, and the most bytes of a file.
-pub(crate) struct Own {
-    pub(crate) root: Num,
-    pub(crate) largest: u32,
-    pub(crate) pid: Pid,
-    pub(crate) table: Vec<(Fd, Slot), Heap>,
-    pub(crate) birth: Option<(u32, u8)>,
-}
-
-// By hand: a derived drop is opened at every place where a value goes, this one is called.
-impl Drop for Own {
-    fn drop(self) {
-        let Own {
-            root: _,
-            largest: _,
-            pid: _,
-            table: _,
-            birth: _,
-        } = self;
-    }
-}
-
-impl Model for Own {
-    ghost use Rattle.model.specs.Calls.{Own};
-
-    ghost Value = { Own };
-
-    ghost view = { λ o. record {
-      root = o.root;
-      largest = o.largest;
-      pid = o.pid;
-      table = o.table.items;
-      birth = o.birth;
-    } };
-}
-
-// What a process sees of itself in every call but fork.
-pub(crate) fn own_of<L: Look>(heap: Heap, look: &L, pid: Pid) -> Result<Own, AllocError>
-    ensures { IfOk result (λ o. o ≡ own (L.state look.now) pid Exit) }
+// What a descriptor of a process is open on, which it has to be.
+pub(crate) fn slot<L: Look>(look: &L, pid: Pid, fd: Fd) -> Result<Slot, Refusal>
+    ensures { TellsIn (L.state look.now) (slot (own_in (L.state look.now) pid) fd) result }
 {
-    Ok(Own {
-        root: look.root(),
-        largest: look.largest(),
-        pid,
-        table: look.table(heap, pid)?,
-        birth: None,
-    })
-}
-
-impl Own {
-    // The most bytes of a file.
-    pub(crate) fn largest(&self) -> u32
-        ensures { result ≡ self.now.largest }
-    {
-        self.largest
-    }
-
-    // The process.
-    pub(crate) fn pid(&self) -> Pid
-        ensures { result ≡ self.now.pid }
-    {
-        self.pid
-    }
-
-    // How many processes were made, and its priority, where it forks.
-    pub(crate) fn birth(&self) -> Option<(u32, u8)>
-        ensures { result ≡ self.now.birth }
-    {
-        self.birth
-    }
-
-    // What a descriptor is open on.
-    pub(crate) fn slot_at(&self, fd: Fd) -> Option<Slot>
-        ensures { result ≡ slot_at self.now fd }
-    {
-        let table = self.table.as_slice();
-        for entry in table {
-            if entry.0 == fd {
-                return Some(entry.1);
-            }
-        }
-        None
-    }
-
-    // The descriptors that are free.
-    pub(crate) fn free(&self, heap: Heap) -> Result<Vec<Fd, Heap>, AllocError>
-        ensures { IfOk result (λ fds. fds.items ≡ free self.now) }
-    {
-        let table = self.table.as_slice();
-        let mut fds = Vec::new(heap);
-        for number in 0..DESCRIPTORS as u32 {
-            add_if_free(&mut fds, table, Fd(number))?;
-        }
-        Ok(fds)
-    }
-
-    // The pipes of the descriptors, each once.
-    pub(crate) fn pipes(&self, heap: Heap) -> Result<Nums, AllocError>
-        ensures { IfOk result (λ pipes. pipes ≡ pipes_in self.now) }
-    {
-        let table = self.table.as_slice();
-        let mut pipes = Nums::new(heap);
-        for entry in table {
-            add_pipe(&mut pipes, entry.1.kind, entry.1.inode)?;
-        }
-        Ok(pipes)
+    match look.slot(pid, fd) {
+        Some(slot) => Ok(slot),
+        None => Err(Refusal::Errno(Errno::EBADF)),
     }
 }
 
-fn has(table: &[(Fd, Slot)], fd: Fd) -> bool
-    ensures { result ≡ list_any (λ e. e.0 == fd) table.now }
+// The lowest free descriptor of a process from this one on, which there has to be.
+pub(crate) fn free_from<L: Look>(look: &L, pid: Pid, first: Fd) -> Result<Fd, Refusal>
+    ensures value { TellsIn (L.state look.now)
+        (or_refuse EMFILE (first_free (L.state look.now) pid first)) result }
+    ensures small { IfOk result (λ fd. fd < DESCRIPTORS) }
 {
-    table.iter().any(|entry| entry.0 == fd)
+    match look.free_from(pid, first) {
+        Some(fd) => Ok(fd),
+        None => Err(Refusal::Errno(Errno::EMFILE)),
+    }
 }
 
-fn add_if_free(fds: &mut Vec<Fd, Heap>, table: &[(Fd, Slot)], fd: Fd) -> Result<(), AllocError>
-    ensures { OnOk result
-        (fds.new.items ≡ (if list_any (λ e. e.0 == fd) table.now then fds.old.items
-        else fds.old.items ++ fd ∷ [])) }
+// The pipes of a process's descriptors, each once.
+pub(crate) fn pipes<L: Look>(heap: Heap, look: &L, pid: Pid) -> Result<Nums, AllocError>
+    ensures { IfOk result (λ pipes. pipes ≡ pipes_in (own_in (L.state look.now) pid)) }
 {
-    if has(table, fd) {
-        return Ok(());
+    let table = look.table(heap, pid)?;
+    let pipes = pipes_of(heap, table.as_slice());
+    drop(table);
+    pipes
+}
+
+fn pipes_of(heap: Heap, table: &[(Fd, Slot)]) -> Result<Nums, AllocError>
+    ensures { IfOk result (λ pipes. pipes
+        ≡ each_once [] (flat_map (λ e. pipe_in (Some e.1)) table.now)) }
+{
+    let mut pipes = Nums::new(heap);
+    for entry in table {
+        add_pipe(&mut pipes, entry.1.kind, entry.1.inode)?;
     }
-    fds.push(fd)?;
-    Ok(())
+    Ok(pipes)
 }
 
 fn has_num(nums: &[Num], num: Num) -> bool
@@ -158,33 +74,6 @@ fn add_pipe(pipes: &mut Nums, kind: Option<Kind>, inode: Num) -> Result<(), Allo
         }
     } else {
         Ok(())
-    }
-}
-
-// What a descriptor is open on, which it has to be.
-pub(crate) fn slot(own: &Own, fd: Fd) -> Result<Slot, Refusal>
-    ensures { Tells (slot own.now fd) result }
-{
-    match own.slot_at(fd) {
-        Some(slot) => Ok(slot),
-        None => Err(Refusal::Errno(Errno::EBADF)),
-    }
-}
-
-// The lowest free descriptor, which there has to be.
-pub(crate) fn lowest(heap: Heap, own: &Own) -> Result<Fd, Refusal>
-    ensures { Tells (first_of_free (free own.now)) result }
-{
-    let free = own.free(heap)?;
-    first_of(free.as_slice())
-}
-
-fn first_of(free: &[Fd]) -> Result<Fd, Refusal>
-    ensures { Tells (first_of_free free.now) result }
-{
-    match free {
-        [fd, ..] => Ok(*fd),
-        [] => Err(Refusal::Errno(Errno::EMFILE)),
     }
 }
 
@@ -217,18 +106,4 @@ pub(crate) fn two_of(heap: Heap, first: &Slot, second: &Option<Slot>) -> Result<
         }
     }
     Ok(pipes)
-}
-
-// What a process sees of itself where it forks.
-pub(crate) fn own_to_fork<L: Look>(heap: Heap, look: &L, pid: Pid) -> Result<Own, AllocError>
-    ensures { IfOk result (λ o. o ≡ own (L.state look.now) pid Fork) }
-{
-    let birth = look.birth(pid)?;
-    Ok(Own {
-        root: look.root(),
-        largest: look.largest(),
-        pid,
-        table: look.table(heap, pid)?,
-        birth: Some(birth),
-    })
 }

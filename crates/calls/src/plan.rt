@@ -1,9 +1,8 @@
 // What a call comes to.
-ghost use Rattle.std.specs.Prelude.{◌≡◌, IfOk, true, false};
+ghost use Rattle.std.specs.Prelude.{IfOk};
 ghost use Rattle.model.specs.Calls.{own};
 ghost use Rattle.model.specs.Plans.{plan};
 ghost use Rattle.look.specs.Asked.{Comes};
-ghost use Rattle.calls.specs.Operations.{is_on_descriptors};
 ghost use Rattle.calls.specs.Planned.{IsPlan};
 
 use crate::at_offset::{pread, pwrite};
@@ -11,7 +10,6 @@ use crate::change::Change;
 use crate::descriptors::{close, dup, dup2, exit, fork, fstat, pipe};
 use crate::files::{ftruncate, open, read, write};
 use crate::marks::mark_all;
-use crate::own::{Own, own_of, own_to_fork};
 use crate::paths::{link, list, mkdir, rename, rmdir, stat, truncate, unlink};
 use crate::seek::lseek;
 use heap::Heap;
@@ -63,28 +61,6 @@ pub fn plan_of<L: Look>(
     }
 }
 
-// Whether a call's plan reads the process's open descriptors.
-fn is_on_descriptors(call: &Call) -> bool
-    ensures { result ≡ is_on_descriptors call.now }
-{
-    matches!(
-        call,
-        Call::Open(_, _)
-            | Call::Close(_)
-            | Call::Read(_, _)
-            | Call::Pread(_, _, _)
-            | Call::Write(_, _)
-            | Call::Pwrite(_, _, _)
-            | Call::Lseek(_, _, _)
-            | Call::Ftruncate(_, _)
-            | Call::Fstat(_)
-            | Call::Dup(_)
-            | Call::Dup2(_, _)
-            | Call::Pipe
-            | Call::Exit
-    )
-}
-
 // Its answer and its changes, with what it read.
 fn change_of<L: Look>(
     heap: Heap,
@@ -96,69 +72,28 @@ fn change_of<L: Look>(
     ensures { Comes (L.state look.now)
         (plan (own (L.state look.now) pid call.now) call.now) reads.old result reads.new }
 {
-    if is_on_descriptors(call) {
-        let own = own_of(heap, look, pid)?;
-        change_by_descriptors(heap, look, &own, call, reads)
-    } else {
-        change_by_paths(heap, look, pid, call, reads)
-    }
-}
-
-// Of a call on open descriptors.
-fn change_by_descriptors<L: Look>(
-    heap: Heap,
-    look: &L,
-    own: &Own,
-    call: &Call,
-    reads: &mut Reads,
-) -> Result<Change, Refusal>
-    requires own { own.now.root ≡ (L.state look.now).root }
-    requires call { is_on_descriptors call.now ≡ true }
-    ensures { Comes (L.state look.now) (plan own.now call.now) reads.old result reads.new }
-{
     match call {
-        Call::Open(path, flags) => open(look, own, path, *flags, reads),
-        Call::Close(fd) => close(heap, own, *fd),
-        Call::Read(fd, count) => read(look, own, *fd, *count, reads),
-        Call::Pread(fd, count, offset) => pread(look, own, *fd, *count, *offset, reads),
-        Call::Write(fd, bytes) => write(look, own, *fd, bytes, reads),
-        Call::Pwrite(fd, bytes, offset) => pwrite(look, own, *fd, bytes, *offset, reads),
-        Call::Lseek(fd, by, whence) => lseek(look, own, *fd, *by, *whence, reads),
-        Call::Ftruncate(fd, length) => ftruncate(look, own, *fd, *length, reads),
-        Call::Fstat(fd) => fstat(look, own, *fd, reads),
-        Call::Dup(fd) => dup(heap, own, *fd),
-        Call::Dup2(old, new) => dup2(heap, own, *old, *new),
-        Call::Pipe => pipe(heap, own),
-        Call::Exit => exit(heap, own),
-        _ => unreachable!(),
-    }
-}
-
-// Of a call on paths, or a fork.
-fn change_by_paths<L: Look>(
-    heap: Heap,
-    look: &L,
-    pid: Pid,
-    call: &Call,
-    reads: &mut Reads,
-) -> Result<Change, Refusal>
-    requires { is_on_descriptors call.now ≡ false }
-    ensures { Comes (L.state look.now)
-        (plan (own (L.state look.now) pid call.now) call.now) reads.old result reads.new }
-{
-    match call {
+        Call::Open(path, flags) => open(look, pid, path, *flags, reads),
+        Call::Close(fd) => close(heap, look, pid, *fd),
+        Call::Read(fd, count) => read(look, pid, *fd, *count, reads),
+        Call::Pread(fd, count, offset) => pread(look, pid, *fd, *count, *offset, reads),
+        Call::Write(fd, bytes) => write(look, pid, *fd, bytes, reads),
+        Call::Pwrite(fd, bytes, offset) => pwrite(look, pid, *fd, bytes, *offset, reads),
+        Call::Lseek(fd, by, whence) => lseek(look, pid, *fd, *by, *whence, reads),
+        Call::Ftruncate(fd, length) => ftruncate(look, pid, *fd, *length, reads),
         Call::Truncate(path, length) => truncate(look, path, *length, reads),
         Call::Stat(path) => stat(look, path, reads),
+        Call::Fstat(fd) => fstat(look, pid, *fd, reads),
         Call::Link(old, new) => link(look, old, new, reads),
         Call::Unlink(path) => unlink(look, path, reads),
         Call::Rename(old, new) => rename(look, old, new, reads),
         Call::Mkdir(path) => mkdir(look, path, reads),
         Call::Rmdir(path) => rmdir(look, path, reads),
         Call::List(path) => list(look, path, reads),
-        Call::Fork => {
-            let own = own_to_fork(heap, look, pid)?;
-            fork(heap, &own)
-        }
-        _ => unreachable!(),
+        Call::Dup(fd) => dup(heap, look, pid, *fd),
+        Call::Dup2(old, new) => dup2(heap, look, pid, *old, *new),
+        Call::Pipe => pipe(heap, look, pid),
+        Call::Fork => fork(heap, look, pid),
+        Call::Exit => exit(heap, look, pid),
     }
 }

@@ -3,32 +3,33 @@ ghost use Rattle.std.specs.Prelude.{◌≡◌, ℕ, ℤ, pos, ◌+ℤ◌};
 ghost use Rattle.model.specs.Plans.{plan, base, sought};
 ghost use Rattle.model.specs.Calls.{Lseek};
 ghost use Rattle.look.specs.Asked.{Comes, Tells};
+ghost use Rattle.look.specs.Shown.{own_in};
 ghost use Rattle.calls.specs.Parts.{place_in};
 
 use crate::asking::{offset, size};
 use crate::change::{Change, changed_by};
 use crate::checks::must_not_be_pipe;
-use crate::own::{Own, slot};
+use crate::own::slot;
 use heap::Heap;
-use ids::{Answer, Edit, Errno, Fd, Refusal, Slot, Whence};
+use ids::{Answer, Edit, Errno, Fd, Pid, Refusal, Slot, Whence};
 use look::Look;
 use walk::Reads;
 
 pub(crate) fn lseek<L: Look>(
     look: &L,
-    own: &Own,
+    pid: Pid,
     fd: Fd,
     distance: i64,
     whence: Whence,
     reads: &mut Reads,
 ) -> Result<Change, Refusal>
     ensures { Comes (L.state look.now)
-        (plan own.now (Lseek fd distance whence)) reads.old result reads.new }
+        (plan (own_in (L.state look.now) pid) (Lseek fd distance whence)) reads.old result reads.new }
 {
-    let it = slot(own, fd)?;
+    let it = slot(look, pid, fd)?;
     must_not_be_pipe(it.kind, Errno::ESPIPE)?;
     let place = base(look, &it, whence, reads)?;
-    sought(reads.heap(), &it, place_of(own.largest(), place, distance))
+    sought(reads.heap(), &it, place_of(look.largest(), place, distance))
 }
 
 // From where it counts.

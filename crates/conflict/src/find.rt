@@ -39,7 +39,7 @@ fn in_order(
     Ok(set)
 }
 
-/// Adds the clashes of one touch.
+/// Adds the clashes of one touch. Where there are none, nothing is put in order.
 fn add_clashes_of(
     heap: Heap,
     records: &Records,
@@ -51,6 +51,9 @@ fn add_clashes_of(
         × AreClashesOf records.now caller touch.now own) }
 {
     let marks = records.holders(caller, touch)?;
+    if marks.is_empty() {
+        return Ok(found);
+    }
     let set = in_order(heap, touch, marks)?;
     let mut all = found;
     for clash in set {

@@ -1,5 +1,5 @@
 -- The first clash with a process has the touch that the process is told.
-use Rattle.std.proofs.Common.{◌≡◌, ◌∙◌, sym, refl, ap, subst, ℕ, ◌≤◌, Bool, true, false, not, ◌&&◌, ◌||◌, ◌==◌, nat_lt, List, [], ◌∷◌, Option, Some, None, is_some, if◌then◌else◌, ◌⊎◌, inl, inr, arith}
+use Rattle.std.proofs.Common.{◌≡◌, ◌∙◌, sym, refl, ap, subst, ℕ, ◌≤◌, Bool, true, false, not, ◌&&◌, ◌||◌, ◌==◌, nat_lt, List, [], ◌∷◌, ◌++◌, map, zero, suc, Option, Some, None, is_some, if◌then◌else◌, ◌⊎◌, inl, inr, arith}
 use Rattle.std.specs.List.{AllByRecursion}
 use Rattle.std.specs.Option.{option_or}
 use Rattle.std.proofs.lemmas.Bool.{false≢true, eqb-true, eq-eqb, and_parts, and_from, cases_Bool, or_cases, or_left, or_right, both_ways, ltb-true}
@@ -11,7 +11,9 @@ use Rattle.model.specs.Clashes.{same_aspect, names_against, clash, clashes, any_
 use Rattle.records.specs.Touches.{touched_by}
 use Rattle.conflict.specs.declared.found.Clash.{Clash}
 use Rattle.conflict.specs.Clashing.{rank_of, name_of, is_before, AreInOrder, is_found, AreClashesOf, AreClashes}
-use Rattle.contention.specs.Losses.{is_with, first_touch, touch_or_none}
+use Rattle.ids.specs.declared.entry.Rank.{Rank}
+use Rattle.model.specs.Moments.{all_below}
+use Rattle.contention.specs.Losses.{is_with, first_touch, touch_or_none, cause_of_loss, told, told_below}
 use Rattle.contention.proofs.Alike.{touch_on, alike, alike_itself, alike_is, aspect_itself, aspect_is, has_passes, or_none, iff, witness}
 use Rattle.contention.proofs.Firsts.{first_touch-append, some_first}
 use Rattle.contention.proofs.Least.{lt_itself, lt_turned, least_is, least_one, IsLeast}
@@ -275,3 +277,15 @@ all_found all pid (t ∷ ts) found q are =
     ∙ ap (λ b. b || is_with q are.1) (pids_found all pid t are.0 are.3 q)
     ∙ ap (λ b. (not (q == pid) && clashes t (touched_by all q)) || b) (all_found all pid ts are.1 q are.4)
     ∙ or_split (not (q == pid)) (clashes t (touched_by all q)) (any_clash ts (touched_by all q))
+
+-- without clashes nobody is told
+
+nobody_below : (test : ℕ → Bool) (n : ℕ) → ((q : ℕ) → test q ≡ false) → all_below test n ≡ []
+nobody_below test zero none = refl
+nobody_below test (suc n) none = ap (λ b. if b then all_below test n ++ n ∷ [] else all_below test n) (none n) ∙ nobody_below test n none
+
+pub nobody_told : (caller n : ℕ) (cs : List Clash) → cs ≡ [] → [] ≡ told_below caller cs n
+nobody_told caller n cs none = sym (ap (λ cs. told_below caller cs n) none ∙ ap (map (told caller [])) (nobody_below (λ q. is_with q []) n (λ q. refl)))
+
+pub loses_to_nobody : (own : Rank) (ranks : List Rank) (cs : List Clash) → cs ≡ [] → cause_of_loss own ranks cs ≡ None
+loses_to_nobody own ranks cs none = ap (cause_of_loss own ranks) none

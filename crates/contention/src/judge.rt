@@ -110,6 +110,9 @@ pub fn verdict(
     requires { All (λ c. c.other < length ranks.now) clashes.now }
     ensures { IfOk result (IsVerdictOf caller rank ranks.now clashes.now) }
 {
+    if clashes.is_empty() {
+        return Ok(Verdict::Go(Vec::new(heap)));
+    }
     match cause_of_loss(rank, clashes, ranks)? {
         Some(entry) => {
             let reply = entry.try_clone()?;

@@ -18,7 +18,7 @@ use Rattle.std.specs.declared.cmp.Ordering.TheVariants.{Less, Equal, Greater}
 use Rattle.model.specs.FiniteMap.{FinMap, contains_key-keys, entries, entries_sorted, from_entries, get, get_tied, keys, len, len-entries}
 use Rattle.dirlist.specs.Patches.{IsLaid, Notes, or_before}
 use Rattle.model.specs.State.{Name, name_cmp}
-use Rattle.dirlist.proofs.Entries.{get_at}
+use Rattle.model.proofs.Laws.{get_at}
 use Rattle.dirlist.proofs.Names.{name_exact, name_total}
 use Rattle.dirlist.proofs.Ordered.{distinct-append, keys_rise, sorted_keys}
 

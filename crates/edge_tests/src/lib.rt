@@ -1,5 +1,5 @@
 //! Tests of the edges: scripts, transcripts, command lines, devices, whole runs by schedules and by
-//! threads, workers, and the one lock.
+//! threads, workers, streams of lines, and the one lock.
 //! They stand here so that no edge is proved a second time for its tests.
 #![tactic(auto)]
 
@@ -19,6 +19,8 @@ mod of_passes;
 mod of_runner;
 #[cfg(test)]
 mod of_script;
+#[cfg(test)]
+mod of_stream;
 #[cfg(test)]
 mod of_threads;
 #[cfg(test)]

@@ -3,17 +3,18 @@ use crate::texts::{has_debug_text, has_text, text_begins};
 use heap::Heap;
 use std::alloc::Global;
 use std::test::Fail;
-use words::{CommandLineFault, read_words};
+use words::{CommandLineFault, Task, read_words};
 
-// Whether a line's words give this job, or a fault with this status and text. A text of clap's need
-// only begin with it.
+// Whether a line's words give this job, of a script or of a stream, or a fault with this status and
+// text. A text of clap's need only begin with it.
 fn is_as_expected(alloc: Global, heap: Heap, line: &str, status: u8, expected: &str) -> bool {
     let words: Vec<&str> = match line.split(' ').collect(alloc) {
         Ok(words) => words,
         Err(_) => return false,
     };
     match read_words(alloc, heap, words.as_slice()) {
-        Ok(job) => status == 0 && has_debug_text(alloc, &job, expected),
+        Ok(Task::Script(job)) => status == 0 && has_debug_text(alloc, &job, expected),
+        Ok(Task::Stream(job)) => status == 0 && has_debug_text(alloc, &job, expected),
         Err(CommandLineFault::Usage(fault)) => status == 2 && text_begins(alloc, &fault, expected),
         Err(fault) => status == fault.status() && has_text(alloc, &fault, expected),
     }
@@ -21,7 +22,7 @@ fn is_as_expected(alloc: Global, heap: Heap, line: &str, status: u8, expected: &
 
 // Command lines, each with its status and job, or how the text of its fault begins. Before each the
 // request of memory that is refused: one is made for a schedule, and one for the file.
-static LINES: [(u64, &str, u8, &str); 35] = [
+static LINES: [(u64, &str, u8, &str); 43] = [
     (
         0,
         "txsh --schedule 1,1,2,1,2 run.tx",
@@ -52,7 +53,7 @@ static LINES: [(u64, &str, u8, &str); 35] = [
         0,
         "txsh run.tx",
         2,
-        "exactly one of --schedule and --threads",
+        "exactly one of --schedule, --threads and --stream",
     ),
     (
         0,
@@ -61,7 +62,7 @@ static LINES: [(u64, &str, u8, &str); 35] = [
         "error: invalid value '1048577'",
     ),
     (0, "txsh --schedule=1 --limit x run.tx", 2, "error: "),
-    (0, "txsh --schedule=1", 2, "error: "),
+    (0, "txsh --schedule=1", 2, "no FILE is named"),
     (
         0,
         "txsh --schedule=1 --check run.tx",
@@ -92,11 +93,11 @@ static LINES: [(u64, &str, u8, &str); 35] = [
         0,
         "txsh --threads --schedule 1 run.tx",
         2,
-        "exactly one of --schedule and --threads",
+        "exactly one of --schedule, --threads and --stream",
     ),
     (0, "txsh --threads=2 run.tx", 2, "error: "),
     (0, "txsh --threads --threads run.tx", 2, "error: "),
-    (0, "txsh --threads", 2, "error: "),
+    (0, "txsh --threads", 2, "no FILE is named"),
     // The most bytes of a file, in each form.
     (
         0,
@@ -161,12 +162,51 @@ static LINES: [(u64, &str, u8, &str); 35] = [
         "error: ",
     ),
     (0, "txsh --threads --file_limit 5 run.tx", 2, "error: "),
-    (0, "txsh --file-limit 5", 2, "error: "),
+    (
+        0,
+        "txsh --file-limit 5",
+        2,
+        "exactly one of --schedule, --threads and --stream",
+    ),
+    // Lines as they come take no memory for a name.
+    (
+        1,
+        "txsh --stream",
+        0,
+        "StreamJob { limit: 65536, file_limit: 1048576, check: false }",
+    ),
+    (
+        0,
+        "txsh --check --file-limit 5 --stream --limit=0",
+        0,
+        "StreamJob { limit: 0, file_limit: 5, check: true }",
+    ),
+    (0, "txsh --stream run.tx", 2, "no FILE goes with --stream"),
+    (0, "txsh --stream=1", 2, "error: "),
+    (0, "txsh --stream --stream", 2, "error: "),
+    (
+        0,
+        "txsh --stream --threads",
+        2,
+        "exactly one of --schedule, --threads and --stream",
+    ),
+    (
+        0,
+        "txsh --stream --schedule 1 run.tx",
+        2,
+        "exactly one of --schedule, --threads and --stream",
+    ),
+    (
+        0,
+        "txsh --stream --threads --schedule 1 run.tx",
+        2,
+        "exactly one of --schedule, --threads and --stream",
+    ),
     (
         0,
         "txsh --file-limit 5 run.tx",
         2,
-        "exactly one of --schedule and --threads",
+        "exactly one of --schedule, --threads and --stream",
     ),
 ];
 

@@ -132,7 +132,8 @@ fn line_of(fault: ScriptFault) -> usize {
         | ScriptFault::PrioritiesExpected(number)
         | ScriptFault::ProcessExpected(number)
         | ScriptFault::UnknownOperation(number)
-        | ScriptFault::BadArguments(number) => number,
+        | ScriptFault::BadArguments(number)
+        | ScriptFault::LineTooLong(number) => number,
         ScriptFault::TooLong | ScriptFault::NoMemory => 0,
     }
 }

@@ -181,7 +181,7 @@ impl Tally {
 
     pub(crate) fn add_script_fault(&mut self, fault: ScriptFault) {
         let kind = match fault {
-            ScriptFault::TooLong => 0,
+            ScriptFault::TooLong | ScriptFault::LineTooLong(_) => 0,
             ScriptFault::NotEnded(_) => 1,
             ScriptFault::PrioritiesExpected(_) => 2,
             ScriptFault::ProcessExpected(_) => 3,

@@ -51,16 +51,16 @@ fn a_gap_takes_no_memory(rt: HostRuntime) {
 fn a_write_goes_over_the_borders_of_pieces(rt: HostRuntime) {
     let heap = heap::open(rt.alloc()).expect(&rt, "memory");
     let mut file = FileData::new(heap);
-    file.write_at(16_380, b"pqrstuvw").expect(&rt, "memory");
-    file.write_at(16_383, b"ab").expect(&rt, "memory");
-    assert_reads(&rt, heap, &file, 16_378, b"\0\0pqrabuvw");
-    file.write_at(32_760, &[7; 20_000]).expect(&rt, "memory");
-    assert_reads(&rt, heap, &file, 32_758, &[0, 0, 7, 7]);
-    assert_reads(&rt, heap, &file, 49_150, &[7; 10]);
-    assert_reads(&rt, heap, &file, 52_758, &[7, 7]);
-    file.cut(16_384);
-    file.cut(16_386);
-    assert_reads(&rt, heap, &file, 16_378, b"\0\0pqra\0\0");
+    file.write_at(15_356, b"pqrstuvw").expect(&rt, "memory");
+    file.write_at(15_359, b"ab").expect(&rt, "memory");
+    assert_reads(&rt, heap, &file, 15_354, b"\0\0pqrabuvw");
+    file.write_at(30_712, &[7; 20_000]).expect(&rt, "memory");
+    assert_reads(&rt, heap, &file, 30_710, &[0, 0, 7, 7]);
+    assert_reads(&rt, heap, &file, 46_078, &[7; 10]);
+    assert_reads(&rt, heap, &file, 50_710, &[7, 7]);
+    file.cut(15_360);
+    file.cut(15_362);
+    assert_reads(&rt, heap, &file, 15_354, b"\0\0pqra\0\0");
     drop(file);
 }
 
@@ -81,17 +81,17 @@ fn the_largest_file_keeps_its_last_bytes(rt: HostRuntime) {
     assert!(rt; made < 30, "{made} requests");
 }
 
-// A group of pieces has 4,194,304 bytes.
+// A group of pieces has 3,932,160 bytes.
 #[test]
 fn a_write_goes_over_the_border_of_groups(rt: HostRuntime) {
     let heap = heap::open(rt.alloc()).expect(&rt, "memory");
     let mut file = FileData::new(heap);
-    file.write_at(8_388_604, &[7; 20_000]).expect(&rt, "memory");
-    file.write_at(4_194_300, b"pqrstuvw").expect(&rt, "memory");
-    file.write_at(4_194_303, b"ab").expect(&rt, "memory");
-    assert_reads(&rt, heap, &file, 4_194_298, b"\0\0pqrabuvw\0\0");
-    assert_reads(&rt, heap, &file, 8_388_602, &[0, 0, 7, 7, 7, 7]);
-    assert_ends(&rt, heap, &file, 8_408_602, &[7, 7]);
+    file.write_at(7_864_316, &[7; 20_000]).expect(&rt, "memory");
+    file.write_at(3_932_156, b"pqrstuvw").expect(&rt, "memory");
+    file.write_at(3_932_159, b"ab").expect(&rt, "memory");
+    assert_reads(&rt, heap, &file, 3_932_154, b"\0\0pqrabuvw\0\0");
+    assert_reads(&rt, heap, &file, 7_864_314, &[0, 0, 7, 7, 7, 7]);
+    assert_ends(&rt, heap, &file, 7_884_314, &[7, 7]);
     drop(file);
 }
 
@@ -100,15 +100,15 @@ fn a_cut_gives_back_what_stood_behind_it(rt: HostRuntime) {
     let heap = heap::open(rt.alloc()).expect(&rt, "memory");
     let mut file = FileData::new(heap);
     file.write_at(2_147_483_644, b"xyz").expect(&rt, "memory");
-    file.write_at(4_194_300, b"pqrstuvw").expect(&rt, "memory");
-    file.write_at(4_177_919, b"opqr").expect(&rt, "memory");
-    file.cut(4_177_921);
+    file.write_at(3_932_156, b"pqrstuvw").expect(&rt, "memory");
+    file.write_at(3_916_799, b"opqr").expect(&rt, "memory");
+    file.cut(3_916_801);
     file.cut(2_147_483_647);
     heap.refuse(1);
     let refused = is_refused(file.write_at(2_147_483_644, b"x"));
     heap.refuse(0);
-    assert_reads(&rt, heap, &file, 4_177_918, b"\0op\0\0");
-    assert_reads(&rt, heap, &file, 4_194_298, &[0; 12]);
+    assert_reads(&rt, heap, &file, 3_916_798, b"\0op\0\0");
+    assert_reads(&rt, heap, &file, 3_932_154, &[0; 12]);
     assert_ends(&rt, heap, &file, 2_147_483_642, &[0; 5]);
     drop(file);
     assert!(rt; refused);

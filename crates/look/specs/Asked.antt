@@ -45,3 +45,7 @@ pub record Comes {A : Type 0} (k : Kernel) (m : Plan A)
 -- The same of a function that asks nothing.
 abbrev pub Tells : {A : Type 0} → Plan A → Result A Refusal → Type 0
 Tells m result = (k : Kernel) (before : Option (List Touch)) → Comes k m before result before
+
+-- The same of a function that looks at one state, for what is no touch.
+abbrev pub TellsIn : {A : Type 0} → Kernel → Plan A → Result A Refusal → Type 0
+TellsIn k m result = (before : Option (List Touch)) → Comes k m before result before

@@ -5,3 +5,4 @@ pub use Rattle.model.proofs.Law.{depends_on_what_it_saw}
 pub use Rattle.model.proofs.Lists.{all-append, all-map, append-all, in_blocks, nothing_left, same_by_ends}
 pub use Rattle.model.proofs.Places.{get-placed, insert-placed, remove-placed, removed_other, removed_same, tied, untied}
 pub use Rattle.model.proofs.Sums.{all_entries, keys-insert, keys-remove, sum-insert, sum-remove, sum-retain_keys, weight}
+pub use Rattle.model.proofs.Tables.{get_at, inserted, removed, same_made}

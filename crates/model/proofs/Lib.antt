@@ -5,5 +5,6 @@ mod Sums
 mod Inodes
 mod Contents
 mod Places
+mod Tables
 mod rows
 pub mod Laws

@@ -1,3 +1,2 @@
-mod Entries
 mod Written
 mod Ways

@@ -11,8 +11,11 @@ use heap::Heap;
 use std::alloc::AllocError;
 use std::marker::Model;
 
-/// How many bytes a piece has at most.
-pub(crate) const PIECE_LEN: usize = 16_384;
+/// How many bytes a piece has at most: fifteen blocks. What is written comes in buffers whose lengths
+/// are mostly powers of two, and pieces are made where such buffers lay before. With what an allocator
+/// keeps beside each, pieces of a power of two would leave up to half of such a place empty, and these
+/// leave one part in fifteen.
+pub(crate) const PIECE_LEN: usize = 15_360;
 
 /// How many pieces a group has at most.
 pub(crate) const GROUP_LEN: usize = 256;
@@ -78,13 +81,14 @@ impl Group {
 
     /// Makes room for so many bytes of a piece. Refused memory changes no byte.
     pub(crate) fn promise(&mut self, index: usize, len: usize) -> Result<(), AllocError>
-        requires { index < GROUP_LEN }
+        requires within { index < GROUP_LEN }
+        requires small { len ≤ PIECE_LEN }
         ensures ok { OnOk result (len ≤ (piece_in self.new index).room) }
         ensures bytes { (i : ℕ) → (piece_in self.new i).bytes ≡ (piece_in self.old i).bytes }
         ensures room { (i : ℕ) → (piece_in self.old i).room ≤ (piece_in self.new i).room }
     {
         self.reach(index)?;
-        self.pieces[index].promise(len)
+        self.pieces[index].promise_within(len, PIECE_LEN)
     }
 
     /// Writes bytes into a piece from a place on, and fills a gap before them with zero bytes. It

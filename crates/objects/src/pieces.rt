@@ -72,6 +72,7 @@ impl Pieces {
 
     /// Makes room for so many bytes of a piece. Refused memory changes no byte.
     pub(crate) fn promise(&mut self, number: usize, len: usize) -> Result<(), AllocError>
+        requires { len ≤ PIECE_LEN }
         ensures ok { OnOk result (len ≤ (piece_of self.new number).room) }
         ensures bytes { (n : ℕ) → (piece_of self.new n).bytes ≡ (piece_of self.old n).bytes }
         ensures room { (n : ℕ) → (piece_of self.old n).room ≤ (piece_of self.new n).room }

@@ -108,6 +108,25 @@ impl Run {
         Ok(())
     }
 
+    /// Makes room for so many bytes in all, and for twice as many as before where that is more, but
+    /// for no more than `most`. Refused memory changes nothing.
+    pub(crate) fn promise_within(&mut self, len: usize, most: usize) -> Result<(), AllocError>
+        requires { len ≤ most }
+        ensures ok { OnOk result (len ≤ self.new.room) }
+        ensures most { self.old.room ≤ most → self.new.room ≤ most }
+        ensures bytes { self.new.bytes ≡ self.old.bytes }
+        ensures room { self.old.room ≤ self.new.room }
+        ensures promised { len ≤ self.old.room → IsOk result }
+        ensures err { OnErr result (self.new ≡ self.old) }
+    {
+        let room = self.bytes.capacity();
+        if room < len {
+            let wanted = room.saturating_mul(2).min(most).max(len);
+            self.bytes.reserve_exact(wanted - self.bytes.len())?;
+        }
+        Ok(())
+    }
+
     /// Writes bytes from a place on, and fills a gap before them with zero bytes. Where there is
     /// room it takes no memory. Refused memory changes nothing.
     pub fn write_at(&mut self, place: usize, bytes: &[u8]) -> Result<(), AllocError>

@@ -14,8 +14,8 @@ use ids::{Edit, Fd, Num, Pid, Replaced};
 use std::alloc::AllocError;
 
 impl PlainKernel {
-    // The description that a descriptor gives.
-    fn given(&self, pid: Pid, fd: Fd) -> Option<Num>
+    // The description that a descriptor of a process gives. Both are found by halving.
+    pub(crate) fn given(&self, pid: Pid, fd: Fd) -> Option<Num>
         ensures { result ≡ get (process_of self.now pid).table fd }
     {
         match self.processes.get(place_of(pid)) {

@@ -14,7 +14,7 @@ use crate::inode::{given_in, is_empty_in, kind_in, names_in, pipe_in, read_in, s
 use crate::inodes::Inodes;
 use crate::table::Table;
 use heap::Heap;
-use ids::{Bytes, Fd, Kind, Name, NameList, Num, PIPE_CAPACITY, Pid, Slot};
+use ids::{Bytes, DESCRIPTORS, Fd, Kind, Name, NameList, Num, PIPE_CAPACITY, Pid, Slot};
 use look::Look;
 use std::alloc::AllocError;
 use std::marker::Model;
@@ -137,7 +137,7 @@ impl PlainKernel {
     }
 
     // What never changes of a description, with its inode's kind.
-    fn slot(&self, num: Num) -> Slot
+    fn described(&self, num: Num) -> Slot
         ensures { result ≡ slot_of self.now num (get self.now.descriptions num) }
     {
         match self.descriptions.get(num) {
@@ -351,6 +351,23 @@ impl Look for PlainKernel {
         Ok(count.min(room) as u32)
     }
 
+    fn slot(&self, pid: Pid, fd: Fd) -> Option<Slot> {
+        match self.given(pid, fd) {
+            Some(description) => Some(self.described(description)),
+            None => None,
+        }
+    }
+
+    // It looks for one descriptor after the other, from the first to the answer: for 64 at most.
+    fn free_from(&self, pid: Pid, first: Fd) -> Option<Fd> {
+        for number in first.0..DESCRIPTORS as u32 {
+            if self.given(pid, Fd(number)).is_none() {
+                return Some(Fd(number));
+            }
+        }
+        None
+    }
+
     fn table(&self, heap: Heap, pid: Pid) -> Result<Vec<(Fd, Slot), Heap>, AllocError> {
         match self.processes.get(place_of(pid)) {
             Some(process) => self.slots_of(heap, process.table.as_slice()),
@@ -378,7 +395,7 @@ impl PlainKernel {
     {
         let mut all = Vec::with_capacity(heap, slots.len())?;
         for (fd, description) in slots {
-            all.push((Fd(small(fd.0)?), self.slot(*description)))?;
+            all.push((Fd(small(fd.0)?), self.described(*description)))?;
         }
         Ok(all)
     }

@@ -6,4 +6,5 @@ pub mod Printed
 pub mod Reading
 pub mod Runs
 pub mod Steps
+pub mod Streaming
 pub mod Threads

@@ -2,10 +2,12 @@
 ghost use Rattle.std.specs.Prelude.{◌≡◌};
 ghost use Rattle.runner.specs.Faults.{fault_of_check, fault_of_refusal, fault_of_schedule};
 ghost use Rattle.runner.specs.Faults.{fault_of_script, fault_of_work, status_of};
+ghost use Rattle.runner.specs.Streaming.{fault_of_stream};
 
 use crate::refusal::Refusal;
 use replay::CheckFault;
 use script::{ScheduleFault, ScriptFault};
+use stream::StreamFault;
 use thiserror::Error;
 use workers::WorkFault;
 
@@ -73,6 +75,20 @@ impl RunFault {
         match fault {
             WorkFault::HistoryFull => RunFault::HistoryFull,
             WorkFault::NoMemory => RunFault::NoMemory,
+        }
+    }
+
+    /// The run's fault where a stream has stopped. One that has counted to its end counts as a full
+    /// history.
+    pub fn of_stream(fault: StreamFault) -> RunFault
+        ensures { result ≡ fault_of_stream fault }
+    {
+        match fault {
+            StreamFault::Read => RunFault::Read,
+            StreamFault::Write => RunFault::Write,
+            StreamFault::HistoryFull | StreamFault::Spent => RunFault::HistoryFull,
+            StreamFault::NoMemory => RunFault::NoMemory,
+            StreamFault::Check(place) => RunFault::Check(place),
         }
     }
 

@@ -1,6 +1,6 @@
 //! Runs: a script is read and executed on a fresh kernel, step by step by a schedule or with a thread
-//! for each process, and the transcript is written. The history may be checked at the end. Faults
-//! are reported as lines and exit statuses.
+//! for each process, and the transcript is written; or lines are done and answered as they come. The
+//! history may be checked. Faults are reported as lines and exit statuses.
 #![tactic(auto)]
 
 mod checking;
@@ -12,6 +12,7 @@ mod refusal;
 mod reporting;
 mod run;
 mod steps;
+mod streaming;
 mod threads;
 
 pub use fault::RunFault;
@@ -21,6 +22,8 @@ pub use printing::print;
 pub use reporting::{report_command_line, report_fault};
 pub use run::run_schedule;
 pub use script::{read_schedule, read_script};
+pub use stream::{StreamFault, run_stream};
+pub use streaming::run_stream_job;
 pub use threads::run_script_by_threads;
 pub use words::read_words;
 pub use workers::{Port, run_workers};

@@ -1,6 +1,7 @@
 pub mod Characters
 pub mod Contents
 pub mod Flags
+pub mod Lines
 pub mod Numbers
 pub mod Operations
 pub mod Pieces

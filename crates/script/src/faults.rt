@@ -8,6 +8,9 @@ pub enum ScriptFault {
     /// The text has more than 1,048,576 bytes.
     #[error("script too long")]
     TooLong,
+    /// The line came by itself, and has more bytes than a script may have.
+    #[error("line {0}: too long")]
+    LineTooLong(usize),
     /// The last line has no line feed.
     #[error("line {0}: not ended")]
     NotEnded(usize),

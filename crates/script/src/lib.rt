@@ -9,6 +9,7 @@
 mod faults;
 mod flags;
 mod limits;
+mod lines;
 mod number;
 mod operation;
 mod pieces;
@@ -23,6 +24,7 @@ mod word;
 pub use faults::{ScheduleFault, ScriptFault};
 pub use ids::MAX_PROCESSES;
 pub use limits::{PROCESS_NUMBERS_END, SCRIPT_LIMIT, TOP_PRIORITY, TRANSFER_LIMIT};
+pub use lines::{read_first_line, read_further_line};
 pub use read::{Line, Script, read_script};
 pub use schedule::read_schedule;
 pub use steps::steps_of;

@@ -132,7 +132,7 @@ fn read_priorities(
 }
 
 // The priorities of the first line, which has this number.
-fn priorities_of(
+pub(crate) fn priorities_of(
     heap: Heap,
     number: usize,
     words: &mut Pieces<'_>,
@@ -158,7 +158,11 @@ fn priorities_of(
 
 // A further line, which has this number.
 #[tactic(auto, unfolding(crate::specs::Scripts::line_of))]
-fn line_of(heap: Heap, number: usize, words: &mut Pieces<'_>) -> Result<Line, ScriptFault>
+pub(crate) fn line_of(
+    heap: Heap,
+    number: usize,
+    words: &mut Pieces<'_>,
+) -> Result<Line, ScriptFault>
     ensures line { IfOk result (λ line. line_of number words.old ≡ Ok line) }
     ensures fault { IfErr result (IsFault (line_of number words.old)) }
 {
@@ -181,7 +185,8 @@ fn line_of(heap: Heap, number: usize, words: &mut Pieces<'_>) -> Result<Line, Sc
     }
 }
 
-fn is_skipped(line: &[u8]) -> bool
+// Whether a line is empty or a comment.
+pub(crate) fn is_skipped(line: &[u8]) -> bool
     ensures { result ≡ is_skipped line.now }
 {
     match line {

@@ -141,6 +141,12 @@ pub laid_slots : (kept : Option Given) (m : Given) (stored after : FinMap nat_cm
 laid_slots kept m stored after is laid o of =
     over_is m stored after laid ∙ ap (slots_over (entries m)) (sym of) ∙ sym (ap (λ p. p.table) (new_of (entries m) o)) ∙ ap (λ k. (or_new (reslotted k o)).table) is
 
+-- a descriptor of the process gives what is noted of it, or else what it gave
+pub given_slots : (kept : Option Given) (m : Given) (f : ℕ) (noted : Option (Option ℕ)) (stored : Option ℕ) → Some m ≡ kept → noted ≡ get m f → (o : Option Process) → get (or_new o).table f ≡ stored → or_before noted stored ≡ get (or_new (reslotted kept o)).table f
+given_slots kept m f noted stored is look o of =
+    ap (λ n. or_before n stored) look ∙ ap (or_before (get m f)) (sym of) ∙ sym (map_over m (or_new o).table f)
+    ∙ sym (ap (λ (p : Process). get p.table f) (new_of (entries m) o)) ∙ ap (λ k. get (or_new (reslotted k o)).table f) is
+
 -- no notes change nothing
 pub none_over : (o : Option Process) → reslotted (Some empty) o ≡ o
 none_over o = ap (λ gs. reslotted_by gs o) (entries-empty nat_cmp)

@@ -70,6 +70,13 @@ IsFirst (Append p bytes) = ⊤
 IsFirst (Make_pipe i pid f g) = (i ≡ 0) × (f < descriptor_limit) × (g < descriptor_limit)
 IsFirst _ = ⊥
 
+-- Of these, the edits that take no memory in the committed state: not bytes that are put into a
+-- file, and not a new pipe.
+abbrev pub TakesNoMemory : Edit → Type 0
+TakesNoMemory (Put_bytes n place bytes before) = ⊥
+TakesNoMemory (Make_pipe i pid f g) = ⊥
+TakesNoMemory e = IsFirst e
+
 abbrev pub IsBelow : ℕ → Which → Type 0
 IsBelow m (There n) = ⊤
 IsBelow m (Made j) = j < m

@@ -11,7 +11,7 @@ ghost use Rattle.call_laws.specs.Fits.{Fits, FitsAll};
 ghost use Rattle.shadow.specs.Claims.{AreUnused, Claim, Covers, HaveParents, KeepsMore, KeepsSame};
 ghost use Rattle.shadow.specs.Claims.{claimed_by, claimed_by_one, reserved};
 ghost use Rattle.shadow.specs.Log.{effect};
-ghost use Rattle.shadow.specs.Steps.{CanEdit, IsFirst, IsLast, slotting, unnaming};
+ghost use Rattle.shadow.specs.Steps.{CanEdit, IsFirst, IsLast, TakesNoMemory, slotting, unnaming};
 ghost use Rattle.shadow.specs.declared.change.Made.{Made as What};
 
 use crate::claiming::parent_of;
@@ -120,7 +120,7 @@ impl Stable {
         Ok(())
     }
 
-    // An edit of a name or of a file's bytes. Refused memory changes nothing.
+    // An edit of a name or of bytes, or a new pipe. Refused memory changes nothing.
     fn perform_first(&mut self, chosen: &[Num], edit: Edit) -> Result<(), AllocError>
         requires first { IsFirst edit }
         requires count { news edit ≤ length chosen.now }
@@ -134,53 +134,54 @@ impl Stable {
     {
         self.state_is_tidied();
         match edit {
-            Edit::MakeDirectory(parent, name, _place) => {
-                self.make_directory(parent, name, chosen[0]);
-                Ok(())
-            }
-            Edit::MakeFile(parent, name, _place) => {
-                self.make_file(parent, name, chosen[0]);
-                Ok(())
-            }
-            Edit::NameFile(parent, name, file) => {
-                self.link(parent, name, file);
-                Ok(())
-            }
-            Edit::UnnameFile(parent, name, num) => {
-                self.unname(parent, &name, num);
-                drop(name);
-                Ok(())
-            }
-            Edit::UnnameDirectory(parent, name, num) => {
-                self.unname(parent, &name, num);
-                drop(name);
-                Ok(())
-            }
-            Edit::Move(from, old, to, new, num, replaced) => {
-                self.rename(from, &old, to, new, num, replaced);
-                drop(old);
-                Ok(())
-            }
             Edit::PutBytes(file, place, bytes, _before) => {
                 let written = self.write(file, place as usize, bytes.as_slice());
                 drop(bytes);
                 written
             }
-            Edit::Cut(file, _before, after) => {
-                self.cut(file, after as usize);
+            Edit::MakePipe(_place, pid, reading, writing) => {
+                self.make_pipe(chosen[0], pid, (reading, chosen[1]), (writing, chosen[2]))
+            }
+            other => {
+                self.perform_without_memory(chosen, other);
                 Ok(())
             }
-            Edit::Take(pipe, count) => {
-                self.take(pipe, count as usize);
-                Ok(())
+        }
+    }
+
+    // An edit of a name, of a file's length or of a pipe's bytes. It takes no memory.
+    fn perform_without_memory(&mut self, chosen: &[Num], edit: Edit)
+        requires first { TakesNoMemory edit }
+        requires count { news edit ≤ length chosen.now }
+        requires fits { Fits chosen.now self.old.state edit }
+        requires covers { (c : Claim) → claimed_by_one c chosen.now edit ≤ reserved self.old c }
+        ensures state { self.new.state ≡ tidy (applied chosen.now edit self.old.state) }
+        ensures kept { KeepsMore self.new self.old (λ c. claimed_by_one c chosen.now edit) }
+    {
+        self.state_is_tidied();
+        match edit {
+            Edit::MakeDirectory(parent, name, _place) => {
+                self.make_directory(parent, name, chosen[0]);
             }
+            Edit::MakeFile(parent, name, _place) => self.make_file(parent, name, chosen[0]),
+            Edit::NameFile(parent, name, file) => self.link(parent, name, file),
+            Edit::UnnameFile(parent, name, num) => {
+                self.unname(parent, &name, num);
+                drop(name);
+            }
+            Edit::UnnameDirectory(parent, name, num) => {
+                self.unname(parent, &name, num);
+                drop(name);
+            }
+            Edit::Move(from, old, to, new, num, replaced) => {
+                self.rename(from, &old, to, new, num, replaced);
+                drop(old);
+            }
+            Edit::Cut(file, _before, after) => self.cut(file, after as usize),
+            Edit::Take(pipe, count) => self.take(pipe, count as usize),
             Edit::Append(pipe, bytes) => {
                 self.append(pipe, bytes.as_slice());
                 drop(bytes);
-                Ok(())
-            }
-            Edit::MakePipe(_place, pid, reading, writing) => {
-                self.make_pipe(chosen[0], pid, (reading, chosen[1]), (writing, chosen[2]))
             }
             _ => unreachable!(),
         }

@@ -6,6 +6,7 @@ ghost use Rattle.model.specs.FiniteMap.{get, insert};
 ghost use Rattle.ids.specs.declared.limits.TheConstants.{DESCRIPTORS};
 ghost use Rattle.model.specs.State.{Kernel, Process};
 ghost use Rattle.model.specs.Changes.{holders, or_new};
+ghost use Rattle.fdtable.specs.Patches.{or_before};
 ghost use Rattle.shadow.specs.Patches.{kept_at, reslotted};
 ghost use Rattle.shadow.specs.Openings.{AreOnce, AtSlots, SameSlots};
 
@@ -69,6 +70,18 @@ impl Slots {
         }
     }
 
+    /// The description that a descriptor of a process gives now, by the one in the committed state.
+    /// It takes no memory, and no longer where more is open or changed.
+    pub(crate) fn given(&self, pid: Pid, fd: Fd, stored: Option<Num>) -> Option<Num>
+        ensures { (o : Option Process) → get (or_new o).table fd ≡ stored
+            → result ≡ get (or_new (reslotted (kept_at self.now pid) o)).table fd }
+    {
+        match self.get(pid) {
+            Some(patch) => or_before(patch.get(fd), stored),
+            None => stored,
+        }
+    }
+
     /// How many of the changed processes' descriptors are open on a description now, and how many
     /// were. It takes no memory.
     pub(crate) fn turnover(&self, stable: &Stable, description: Num) -> (u128, u128)
@@ -109,6 +122,16 @@ impl Slots {
         ensures { AtSlots pid fd given self.old self.new }
     {
         note_in(self.each.as_mut_slice(), pid, fd, given);
+    }
+}
+
+// What a descriptor gives by what is noted of it, or else as before.
+fn or_before(noted: Option<Option<Num>>, stored: Option<Num>) -> Option<Num>
+    ensures { result ≡ or_before noted stored }
+{
+    match noted {
+        Some(given) => given,
+        None => stored,
     }
 }
 

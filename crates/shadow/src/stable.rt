@@ -277,6 +277,16 @@ impl Stable {
         }
     }
 
+    /// The description that a descriptor of a process gives; none where there is no such process.
+    pub(crate) fn given(&self, pid: Pid, fd: Fd) -> Option<Num>
+        ensures { result ≡ get (process_of self.now.state pid).table fd }
+    {
+        match self.processes.process(pid) {
+            Some(process) => process.table.get(fd),
+            None => None,
+        }
+    }
+
     /// The number of the root.
     pub(crate) fn root(&self) -> Num
         ensures { result ≡ self.now.state.root }

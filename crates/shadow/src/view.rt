@@ -21,7 +21,7 @@ use dirlist::Dir;
 use fdtable::FdTable;
 use freeing_laws::left_is_tidy;
 use heap::Heap;
-use ids::{Bytes, Fd, Kind, Name, NameList, Num, PIPE_CAPACITY, Pid, Slot};
+use ids::{Bytes, DESCRIPTORS, Fd, Kind, Name, NameList, Num, PIPE_CAPACITY, Pid, Slot};
 use look::Look;
 use objects::{Description, FileData};
 use std::alloc::AllocError;
@@ -171,7 +171,7 @@ impl<'a> View<'a> {
     }
 
     // What never changes of a description, with its inode's kind.
-    fn slot(&self, num: Num) -> Slot
+    fn described(&self, num: Num) -> Slot
         ensures { result ≡ slot_of self.now.state num (get self.now.state.descriptions num) }
     {
         match self.description(num) {
@@ -191,6 +191,17 @@ impl<'a> View<'a> {
                 writing: false,
                 appending: false,
             },
+        }
+    }
+
+    // The description that a descriptor of a process gives.
+    fn given(&self, pid: Pid, fd: Fd) -> Option<Num>
+        ensures { result ≡ get (process_of self.now.state pid).table fd }
+    {
+        let stored = self.stable.given(pid, fd);
+        match self.shadow {
+            Some(shadow) => shadow.patches.slots.given(pid, fd, stored),
+            None => stored,
         }
     }
 
@@ -409,11 +420,30 @@ impl<'a> Look for View<'a> {
         Ok(count.min(room) as u32)
     }
 
+    fn slot(&self, pid: Pid, fd: Fd) -> Option<Slot> {
+        match self.given(pid, fd) {
+            Some(description) => Some(self.described(description)),
+            None => None,
+        }
+    }
+
+    // It looks at one place after the other, from the first to the answer, and at no other: 64 at
+    // most. A set of bits beside the places would tell it in one step, but each table and each patch
+    // would have to keep one.
+    fn free_from(&self, pid: Pid, first: Fd) -> Option<Fd> {
+        for number in first.0..DESCRIPTORS as u32 {
+            if self.given(pid, Fd(number)).is_none() {
+                return Some(Fd(number));
+            }
+        }
+        None
+    }
+
     fn table(&self, heap: Heap, pid: Pid) -> Result<Vec<(Fd, Slot), Heap>, AllocError> {
         let entries = self.own_table(pid).entries(heap)?;
         let mut slots = Vec::with_capacity(heap, entries.len())?;
         for (fd, description) in &entries {
-            slots.push((*fd, self.slot(*description)))?;
+            slots.push((*fd, self.described(*description)))?;
         }
         Ok(slots)
     }

@@ -1,6 +1,7 @@
 //! The transcript of a history, printed to a sink: a line for each entry. Printing takes no memory.
 //!
-//! A line is gathered in a buffer on the stack, so that the device is called about once a line.
+//! What is printed is gathered in a buffer on the stack, so that the device is called about once for
+//! 8 KiB. Other lines can stand between those of entries: they go through one [`Printer`].
 #![tactic(auto)]
 
 mod flags;
@@ -12,4 +13,5 @@ mod reply;
 mod spelling;
 mod text;
 
-pub use line::{print, print_line};
+pub use line::{print, print_line, put_line};
+pub use printer::Printer;

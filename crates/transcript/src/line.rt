@@ -31,8 +31,10 @@ fn put_dooms<S: Sink>(out: &mut Printer<'_, S>, doomed: &[Pid])
     }
 }
 
+/// Prints the line of one entry behind what was printed before. `place` is its number in its
+/// history, from 1.
 #[tactic(auto, unfolding(crate::specs::Line::line_of))]
-fn put_line<S: Sink>(out: &mut Printer<'_, S>, place: usize, entry: &Entry)
+pub fn put_line<S: Sink>(out: &mut Printer<'_, S>, place: usize, entry: &Entry)
     requires { CanPrint S.failures out.old }
     ensures { Prints S.written S.failures out.old out.new (line_of place entry.now) }
 {

@@ -8,9 +8,10 @@ use crate::pending::{PORTION, Pending};
 use device::{DeviceFailed, Sink, write_all};
 use itoa::Buffer;
 
-// Prints to a sink until the sink fails, and then no more.
+/// Prints to a sink until the sink fails, and then no more. What is printed is gathered, up to 8
+/// KiB, before it is written: all of it is written once [`Printer::finish`] returns Ok.
 #[derive(Drop)]
-pub(crate) struct Printer<'a, S: Sink> {
+pub struct Printer<'a, S: Sink> {
     sink: &'a mut S,
     failed: bool,
     pending: Pending,
@@ -20,7 +21,8 @@ impl<'a, S: Sink> Printer<'a, S> {
     ghost use Rattle.transcript.specs.Text.{byte_text};
     ghost use Rattle.transcript.specs.Printer.{CanPrint, Prints};
 
-    pub(crate) fn new(sink: &'a mut S) -> Self
+    /// A printer that has printed nothing yet.
+    pub fn new(sink: &'a mut S) -> Self
         requires { CanCount (S.failures sink.old) }
         ensures same_sink { result.sink.ghost_name ≡ sink.entry.ghost_name }
         ensures sink { result.sink.now ≡ sink.old }
@@ -46,8 +48,8 @@ impl<'a, S: Sink> Printer<'a, S> {
         self.pending.clear();
     }
 
-    // Writes the rest. The error says that the sink has failed, now or before.
-    pub(crate) fn finish(&mut self) -> Result<(), DeviceFailed>
+    /// Writes the rest. The error says that the sink has failed, now or before.
+    pub fn finish(&mut self) -> Result<(), DeviceFailed>
         requires { CanPrint S.failures self.old }
         ensures prints { Prints S.written S.failures self.old self.new [] }
         ensures pending { self.new.pending ≡ [] }
@@ -87,8 +89,8 @@ impl<'a, S: Sink> Printer<'a, S> {
         }
     }
 
-    // Prints bytes as they are.
-    pub(crate) fn put(&mut self, text: &[u8])
+    /// Prints bytes as they are.
+    pub fn put(&mut self, text: &[u8])
         requires { CanPrint S.failures self.old }
         ensures { Prints S.written S.failures self.old self.new text.now }
     {
@@ -123,8 +125,8 @@ impl<'a, S: Sink> Printer<'a, S> {
         }
     }
 
-    // Prints a number in decimal.
-    pub(crate) fn put_decimal(&mut self, n: u64)
+    /// Prints a number in decimal.
+    pub fn put_decimal(&mut self, n: u64)
         requires { CanPrint S.failures self.old }
         ensures { Prints S.written S.failures self.old self.new (decimal n) }
     {

@@ -3,47 +3,70 @@
 #![tactic(auto)]
 
 ghost use Rattle.std.specs.Prelude.{◌≤◌, IfOk};
+ghost use Rattle.words.specs.Txsh.{IsSmall};
 
 use device::Counted;
 use heap::Heap;
 use kernel::Kernel;
-use runner::{RunFault, read_words, report_command_line, report_fault, run_job};
+use runner::{RunFault, read_words, report_command_line, report_fault, run_job, run_stream_job};
 use std::alloc::Global;
 use std::fs::File;
 use std::process::ExitCode;
 use std::sync::Wait;
 use std::thread::Threads;
 use std::{env, io};
-use words::{CommandLineFault, Job, MAX_FILE_LIMIT, MAX_LIMIT};
+use words::{CommandLineFault, Job, MAX_FILE_LIMIT, MAX_LIMIT, StreamJob, Task};
 
 fn main(rt: HostRuntime) -> ExitCode {
     ExitCode::from(status(&rt, &rt))
 }
 
-/// Reads the command line and does its job. Returns the exit status. Only `main` may give the host's
-/// threads to others, so they come as a handle of their own.
+/// Reads the command line and does its task. Returns the exit status. Only `main` may give the
+/// host's threads to others, so they come as a handle of their own.
 fn status<R: Threads + Wait + Sync>(rt: &HostRuntime, threads: &R) -> u8 {
-    let mut out = Counted::new(rt.stdout());
-    let mut err = Counted::new(rt.stderr());
     let Ok(heap) = heap::open(rt.alloc()) else {
         return RunFault::NoMemory.status();
     };
-    let job = match job_in(rt, heap) {
-        Ok(job) => job,
-        Err(fault) => return report_command_line(heap, &fault, &mut out, &mut err),
-    };
+    match task_in(rt, heap) {
+        Ok(Task::Script(job)) => run_file(rt, threads, heap, &job),
+        Ok(Task::Stream(job)) => run_input(rt, heap, job),
+        Err(fault) => {
+            let mut out = Counted::new(rt.stdout());
+            let mut err = Counted::new(rt.stderr());
+            report_command_line(heap, &fault, &mut out, &mut err)
+        }
+    }
+}
+
+/// Runs the script in a job's file.
+fn run_file<R: Threads + Wait + Sync>(rt: &HostRuntime, threads: &R, heap: Heap, job: &Job) -> u8
+    requires limited { job.now.limit ≤ MAX_LIMIT }
+    requires files { job.now.file_limit ≤ MAX_FILE_LIMIT }
+{
+    let mut out = Counted::new(rt.stdout());
+    let mut err = Counted::new(rt.stderr());
     let Ok(file) = File::open(rt, job.file.as_str()) else {
         report_fault(heap, &RunFault::Read, &mut err);
         return RunFault::Read.status();
     };
     let mut source = Counted::new(file);
-    run_job::<Kernel, _, _, _, _>(threads, heap, &job, &mut source, &mut out, &mut err)
+    run_job::<Kernel, _, _, _, _>(threads, heap, job, &mut source, &mut out, &mut err)
 }
 
-/// The job that the command line gives.
-fn job_in(rt: &HostRuntime, heap: Heap) -> Result<Job, CommandLineFault>
-    ensures limited { IfOk result (λ job. job.limit ≤ MAX_LIMIT) }
-    ensures files { IfOk result (λ job. job.file_limit ≤ MAX_FILE_LIMIT) }
+/// Does the lines of standard input as they come.
+fn run_input(rt: &HostRuntime, heap: Heap, job: StreamJob) -> u8
+    requires limited { job.limit ≤ MAX_LIMIT }
+    requires files { job.file_limit ≤ MAX_FILE_LIMIT }
+{
+    let mut source = Counted::new(rt.stdin());
+    let mut out = Counted::new(rt.stdout());
+    let mut err = Counted::new(rt.stderr());
+    run_stream_job::<Kernel, _, _, _>(heap, job, &mut source, &mut out, &mut err)
+}
+
+/// The task that the command line gives.
+fn task_in(rt: &HostRuntime, heap: Heap) -> Result<Task, CommandLineFault>
+    ensures { IfOk result IsSmall }
 {
     let global = rt.alloc();
     let texts = words_of(rt, global)?;

@@ -1,2 +1,3 @@
 pub mod Limits
 mod Rows
+mod Same

@@ -1,7 +1,7 @@
 -- Faults of command lines that are written out, computed.
 use Rattle.std.proofs.Common.{◌≡◌, refl, codes, List, [], ◌∷◌, Option, Some, None}
 use Rattle.clap.specs.Words.{Kinds, Text, fault_of}
-use Rattle.clap.specs.declared.error.kind.ErrorKind.TheVariants.{ArgumentConflict, DisplayHelp, MissingRequiredArgument, TooManyValues, UnknownArgument, ValueValidation}
+use Rattle.clap.specs.declared.error.kind.ErrorKind.TheVariants.{ArgumentConflict, DisplayHelp, TooManyValues, UnknownArgument, ValueValidation}
 use Rattle.clap.proofs.OnLiterals.{clap_on_literals}
 use Rattle.words.specs.Txsh.{txsh, number_in, value_in}
 
@@ -50,9 +50,26 @@ limits_apart : number_in (codes "txsh" ∷ codes "--limit=7" ∷ codes "--file-l
 unfolding clap_on_literals
 limits_apart = refl
 
-no_file : found_in (codes "--schedule=1" ∷ []) ≡ MissingRequiredArgument ∷ []
+-- no fault of clap's: the program itself asks for a file with a script, and for none with a stream
+no_file : found_in (codes "--schedule=1" ∷ []) ≡ []
 unfolding clap_on_literals
 no_file = refl
+
+file_missing : value_in (codes "txsh" ∷ codes "--schedule=1" ∷ []) (codes "file") ≡ None
+unfolding clap_on_literals
+file_missing = refl
+
+stream_fits : found_in (codes "--stream" ∷ codes "--check" ∷ codes "--limit=7" ∷ []) ≡ []
+unfolding clap_on_literals
+stream_fits = refl
+
+stream_with_file : found_in (codes "--stream" ∷ codes "run.tx" ∷ []) ≡ []
+unfolding clap_on_literals
+stream_with_file = refl
+
+stream_takes_no_value : found_in (codes "--stream=2" ∷ []) ≡ TooManyValues ∷ []
+unfolding clap_on_literals
+stream_takes_no_value = refl
 
 two_files : found_in (codes "--schedule=1" ∷ codes "run.tx" ∷ codes "run.tx" ∷ []) ≡ UnknownArgument ∷ []
 unfolding clap_on_literals
@@ -77,6 +94,14 @@ check_fits = refl
 check_twice : found_in (codes "--check" ∷ codes "--check" ∷ codes "--schedule=1" ∷ codes "run.tx" ∷ []) ≡ ArgumentConflict ∷ []
 unfolding clap_on_literals
 check_twice = refl
+
+stream_given : flag_in (codes "stream") (codes "--stream" ∷ []) ≡ Some (codes "true")
+unfolding clap_on_literals
+stream_given = refl
+
+stream_not_given : flag_in (codes "stream") (codes "--threads" ∷ codes "run.tx" ∷ []) ≡ Some (codes "false")
+unfolding clap_on_literals
+stream_not_given = refl
 
 threads_fit : found_in (codes "--threads" ∷ codes "run.tx" ∷ []) ≡ []
 unfolding clap_on_literals

@@ -1,6 +1,6 @@
 -- The command line, as clap reads it.
-use Rattle.std.specs.Prelude.{◌≡◌, ◌≢◌, ◌⊎◌, ◌↔◌, ℕ, pos, min, List, Option, Some, None}
-use Rattle.std.specs.Prelude.{Bool, Result, true, codes, map, string_bytes, unwrap_or, []}
+use Rattle.std.specs.Prelude.{◌≡◌, ◌≢◌, ◌≤◌, ◌⊎◌, ◌↔◌, ℕ, pos, min, List, Option, Some, None}
+use Rattle.std.specs.Prelude.{Bool, Result, true, codes, map, string_bytes, []}
 use Rattle.std.specs.Borrow.{Bor}
 use Rattle.std.specs.Result.{result_unwrap_or}
 use Rattle.std.specs.Str.Parse.{ParsesUnsigned}
@@ -16,8 +16,12 @@ use Rattle.words.specs.declared.TheConstants.{MAX_FILE_LIMIT, MAX_LIMIT}
 use Rattle.words.specs.declared.Way.{Way}
 use Rattle.words.specs.declared.Way.TheVariants.{Schedule, Threads}
 use Rattle.words.specs.declared.Job.{Job}
+use Rattle.words.specs.declared.StreamJob.{StreamJob}
+use Rattle.words.specs.declared.Task.{Task}
+use Rattle.words.specs.declared.Task.TheVariants.{Script, Stream}
 use Rattle.words.specs.declared.CommandLineFault.{CommandLineFault}
-use Rattle.words.specs.declared.CommandLineFault.TheVariants.{OneWay, NotUtf8}
+use Rattle.words.specs.declared.CommandLineFault.TheVariants.{OneWay, FileMissing, FileGiven}
+use Rattle.words.specs.declared.CommandLineFault.TheVariants.{NotUtf8}
 use Rattle.words.specs.declared.CommandLineFault.TheVariants.{Help, Usage, NoMemory}
 
 abbrev pub schedule_rule : Rule
@@ -30,6 +34,12 @@ schedule_rule = record (new_rule (codes "schedule")) {
 abbrev pub threads_rule : Rule
 threads_rule = record (new_rule (codes "threads")) {
   long = Some (codes "threads");
+  action = Some SetTrue;
+}
+
+abbrev pub stream_rule : Rule
+stream_rule = record (new_rule (codes "stream")) {
+  long = Some (codes "stream");
   action = Some SetTrue;
 }
 
@@ -56,13 +66,15 @@ check_rule = record (new_rule (codes "check")) {
 }
 
 abbrev pub file_rule : Rule
-file_rule = record (new_rule (codes "file")) { action = Some Set; required = true; value_names = 1 }
+file_rule = record (new_rule (codes "file")) { action = Some Set; value_names = 1 }
 
--- `txsh [--schedule LIST] [--threads] [--limit N] [--file-limit N] [--check] FILE`: that exactly one
--- of the two ways is given is the program's own rule, below
+-- `txsh [--schedule LIST] [--threads] [--stream] [--limit N] [--file-limit N] [--check] [FILE]`:
+-- that exactly one of the three ways is given, and FILE with the first two alone, is the program's
+-- own rule, below
 abbrev pub txsh : App
 txsh =
-    let ways = with_rule (with_rule (new_app (codes "txsh")) schedule_rule) threads_rule in
+    let scripts = with_rule (with_rule (new_app (codes "txsh")) schedule_rule) threads_rule in
+    let ways = with_rule scripts stream_rule in
     let limits = with_rule (with_rule ways limit_rule) file_limit_rule in
     with_rule (with_rule limits check_rule) file_rule
 
@@ -74,19 +86,39 @@ IsSet text = text ≡ Some (codes "true")
 abbrev pub IsFlag : Option Text → Bool → Type 0
 IsFlag text flag = (flag ≡ true) ↔ IsSet text
 
--- a schedule is given and threads are not asked for, or the other way round. `value` gives the
+-- a schedule is given and neither of the others is asked for, or threads alone. `value` gives the
 -- options' values, `number` the texts that numbers and flags are read from.
 abbrev pub IsWay : (Text → Option Text) → (Text → Option Text) → Way → Type 0
 IsWay value number (Schedule list) =
-    (value (codes "schedule") ≡ Some (string_bytes list)) × (IsSet (number (codes "threads")) → ⊥)
+    (value (codes "schedule") ≡ Some (string_bytes list))
+    × (IsSet (number (codes "threads")) → ⊥)
+    × (IsSet (number (codes "stream")) → ⊥)
 IsWay value number Threads =
-    (value (codes "schedule") ≡ None) × IsSet (number (codes "threads"))
+    (value (codes "schedule") ≡ None)
+    × IsSet (number (codes "threads"))
+    × (IsSet (number (codes "stream")) → ⊥)
 
--- both ways are given, or neither
+-- lines as they come are asked for, and neither of the others
+abbrev pub IsStream : (Text → Option Text) → (Text → Option Text) → Type 0
+IsStream value number =
+    (value (codes "schedule") ≡ None)
+    × (IsSet (number (codes "threads")) → ⊥)
+    × IsSet (number (codes "stream"))
+
+-- a way to run a script, or none, and then lines as they come
+abbrev pub IsWayOrNone : (Text → Option Text) → (Text → Option Text) → Option Way → Type 0
+IsWayOrNone value number None = IsStream value number
+IsWayOrNone value number (Some way) = IsWay value number way
+
+-- two of the three ways are given, or none
 abbrev pub HasNotOneWay : (Text → Option Text) → (Text → Option Text) → Type 0
 HasNotOneWay value number =
     ((value (codes "schedule") ≢ None) × IsSet (number (codes "threads")))
-    ⊎ ((value (codes "schedule") ≡ None) × (IsSet (number (codes "threads")) → ⊥))
+    ⊎ (((value (codes "schedule") ≢ None) × IsSet (number (codes "stream")))
+    ⊎ ((IsSet (number (codes "threads")) × IsSet (number (codes "stream")))
+    ⊎ ((value (codes "schedule") ≡ None)
+    × (IsSet (number (codes "threads")) → ⊥)
+    × (IsSet (number (codes "stream")) → ⊥))))
 
 -- the number that the text reads as, at most `most`; the default where there is none
 abbrev pub IsLimit : (default most : ℕ) → Option Text → ℕ → Type 0
@@ -96,14 +128,35 @@ IsLimit default most (Some text) limit =
     × ParsesUnsigned 32 10 text read
     × (limit ≡ min (result_unwrap_or read default) most)
 
--- the job that the options' values give
+-- the limits, and whether to check, that the options' values give
+pub record HasLimits
+    (number : Text → Option Text) (most_entries most_bytes : ℕ) (is_checked : Bool)
+    : Type 0 where
+  pub limit : IsLimit DEFAULT_LIMIT MAX_LIMIT (number (codes "limit")) most_entries
+  pub file_limit :
+      IsLimit DEFAULT_FILE_LIMIT MAX_FILE_LIMIT (number (codes "file_limit")) most_bytes
+  pub check : IsFlag (number (codes "check")) is_checked
+
+-- the job of a script that the options' values give
 pub record IsJob (value number : Text → Option Text) (job : Job) : Type 0 where
   pub way : IsWay value number job.way
-  pub limit : IsLimit DEFAULT_LIMIT MAX_LIMIT (number (codes "limit")) job.limit
-  pub file_limit :
-      IsLimit DEFAULT_FILE_LIMIT MAX_FILE_LIMIT (number (codes "file_limit")) job.file_limit
-  pub check : IsFlag (number (codes "check")) job.check
-  pub file : string_bytes job.file ≡ unwrap_or (value (codes "file")) []
+  pub limits : HasLimits number job.limit job.file_limit job.check
+  pub file : value (codes "file") ≡ Some (string_bytes job.file)
+
+-- what the options' values ask of a stream
+pub record IsStreamJob (value number : Text → Option Text) (job : StreamJob) : Type 0 where
+  pub way : IsStream value number
+  pub limits : HasLimits number job.limit job.file_limit job.check
+  pub no_file : value (codes "file") ≡ None
+
+abbrev pub IsTask : (Text → Option Text) → (Text → Option Text) → Task → Type 0
+IsTask value number (Script job) = IsJob value number job
+IsTask value number (Stream job) = IsStreamJob value number job
+
+-- a task's limits are within the bounds
+abbrev pub IsSmall : Task → Type 0
+IsSmall (Script job) = (job.limit ≤ MAX_LIMIT) × (job.file_limit ≤ MAX_FILE_LIMIT)
+IsSmall (Stream job) = (job.limit ≤ MAX_LIMIT) × (job.file_limit ≤ MAX_FILE_LIMIT)
 
 -- the texts of borrowed words
 abbrev pub texts : List (Bor Text) → List Text
@@ -124,6 +177,8 @@ SameMatches f g = (id : Text) → f id ≡ g id
 -- the program's exit status
 abbrev pub status_of : CommandLineFault → ℕ
 status_of OneWay = 2
+status_of FileMissing = 2
+status_of FileGiven = 2
 status_of NotUtf8 = 2
 status_of (Help text) = 0
 status_of (Usage error) = 2
@@ -132,6 +187,8 @@ status_of NoMemory = 3
 -- the fault that clap's error is reported as: its own want of memory is refused memory
 abbrev pub IsReportedAs : Error → CommandLineFault → Type 0
 IsReportedAs error OneWay = ⊥
+IsReportedAs error FileMissing = ⊥
+IsReportedAs error FileGiven = ⊥
 IsReportedAs error NotUtf8 = ⊥
 IsReportedAs error (Help text) = (text ≡ error) × (kind_of error ≡ DisplayHelp)
 IsReportedAs error (Usage other) =
@@ -142,6 +199,8 @@ IsReportedAs error NoMemory = kind_of error ≡ OutOfMemory
 -- whatever they are
 abbrev pub IsParseFault : List Text → CommandLineFault → Type 0
 IsParseFault words OneWay = ⊥
+IsParseFault words FileMissing = ⊥
+IsParseFault words FileGiven = ⊥
 IsParseFault words NotUtf8 = ⊥
 IsParseFault words (Help text) =
     (kind_of text ≡ DisplayHelp) × IsAmong DisplayHelp (fault_of txsh words)
@@ -151,15 +210,31 @@ IsParseFault words (Usage error) =
     × IsAmong (kind_of error) (fault_of txsh words)
 IsParseFault words NoMemory = Unit {0}
 
--- why the values give no job
-abbrev pub IsJobFault : (Text → Option Text) → (Text → Option Text) → CommandLineFault → Type 0
-IsJobFault value number OneWay = HasNotOneWay value number
-IsJobFault value number NoMemory = Unit {0}
-IsJobFault value number _ = ⊥
+-- a script is to be run, and no file is named
+abbrev pub HasNoFile : (Text → Option Text) → (Text → Option Text) → Type 0
+HasNoFile value number =
+    ((way : Way) × IsWay value number way) × (value (codes "file") ≡ None)
 
--- why the words give no job: clap finds no fault in them and not exactly one way is given, or no
--- matches
+-- lines are to be done as they come, and a file is named
+abbrev pub HasFileToo : (Text → Option Text) → (Text → Option Text) → Type 0
+HasFileToo value number = IsStream value number × (value (codes "file") ≢ None)
+
+-- why the values give no task
+abbrev pub IsTaskFault :
+    (Text → Option Text) → (Text → Option Text) → CommandLineFault → Type 0
+IsTaskFault value number OneWay = HasNotOneWay value number
+IsTaskFault value number FileMissing = HasNoFile value number
+IsTaskFault value number FileGiven = HasFileToo value number
+IsTaskFault value number NoMemory = Unit {0}
+IsTaskFault value number _ = ⊥
+
+-- why the words give no task: clap finds no fault in them and the ways and the file that they name
+-- do not go together, or no matches
 abbrev pub IsFaultOf : List Text → CommandLineFault → Type 0
 IsFaultOf words OneWay =
     (fault_of txsh words ≡ []) × HasNotOneWay (value_in words) (number_in words)
+IsFaultOf words FileMissing =
+    (fault_of txsh words ≡ []) × HasNoFile (value_in words) (number_in words)
+IsFaultOf words FileGiven =
+    (fault_of txsh words ≡ []) × HasFileToo (value_in words) (number_in words)
 IsFaultOf words other = IsParseFault words other

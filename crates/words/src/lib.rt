@@ -1,13 +1,15 @@
 //! The command line of `txsh`:
-//! `txsh (--schedule LIST | --threads) [--limit N] [--file-limit N] [--check] FILE`.
+//! `txsh (--schedule LIST | --threads) [--limit N] [--file-limit N] [--check] FILE`, or
+//! `txsh --stream [--limit N] [--file-limit N] [--check]`.
 #![tactic(auto)]
 
 ghost use Rattle.std.specs.Prelude.{◌≡◌, ◌≤◌, [], false, IfOk, IfErr, codes, string_bytes};
 ghost use Rattle.clap.specs.Words.{app_of, fault_of, first_value, found_of, one_text, rule_of};
-ghost use Rattle.words.specs.Txsh.{IsFaultOf, IsFlag, IsJob, IsJobFault, IsLimit, IsParseFault};
-ghost use Rattle.words.specs.Txsh.{IsReportedAs, IsWay, SameMatches, check_rule, file_limit_rule};
-ghost use Rattle.words.specs.Txsh.{file_rule, limit_rule, number_in, schedule_rule, status_of};
-ghost use Rattle.words.specs.Txsh.{texts, threads_rule, txsh, value_in};
+ghost use Rattle.words.specs.Txsh.{HasLimits, IsFaultOf, IsFlag, IsLimit, IsParseFault};
+ghost use Rattle.words.specs.Txsh.{IsReportedAs, IsSmall, IsTask, IsTaskFault, IsWayOrNone};
+ghost use Rattle.words.specs.Txsh.{SameMatches, check_rule, file_limit_rule, file_rule, limit_rule};
+ghost use Rattle.words.specs.Txsh.{number_in, schedule_rule, status_of, stream_rule, texts};
+ghost use Rattle.words.specs.Txsh.{threads_rule, txsh, value_in};
 
 use clap::error::ErrorKind;
 use clap::{Arg, ArgAction, ArgMatches, Command, Error};
@@ -46,7 +48,27 @@ impl Drop for Way {
     }
 }
 
-/// What the command line asks for.
+/// What the command line asks for: a script that is run, or lines that are done as they come.
+#[derive(Debug, Drop)]
+pub enum Task {
+    /// A script is run in one of two ways.
+    Script(Job),
+    /// Each line of standard input is done and answered as it comes.
+    Stream(StreamJob),
+}
+
+/// What is asked of a stream.
+#[derive(Clone, Copy, Debug)]
+pub struct StreamJob {
+    /// How many entries are kept between two answers, at most [`MAX_LIMIT`].
+    pub limit: u32,
+    /// How many bytes a file may have, at most [`MAX_FILE_LIMIT`].
+    pub file_limit: u32,
+    /// Whether the history is checked as it grows.
+    pub check: bool,
+}
+
+/// What is asked of a script.
 #[derive(Debug)]
 pub struct Job {
     /// How the script is run.
@@ -77,9 +99,15 @@ impl Drop for Job {
 /// Why a command line gives no job.
 #[derive(Debug, Drop, Fault)]
 pub enum CommandLineFault {
-    /// Not exactly one of the two ways to run a script is given.
-    #[error("exactly one of --schedule and --threads")]
+    /// Not exactly one of the three ways to give and run operations is given.
+    #[error("exactly one of --schedule, --threads and --stream")]
     OneWay,
+    /// A script is to be run, and no file is named.
+    #[error("no FILE is named")]
+    FileMissing,
+    /// The operations come on standard input, and a file is named.
+    #[error("no FILE goes with --stream")]
+    FileGiven,
     /// A word is not UTF-8.
     #[error("an argument is not UTF-8")]
     NotUtf8,
@@ -101,23 +129,33 @@ impl CommandLineFault {
     {
         match self {
             CommandLineFault::Help(_) => 0,
-            CommandLineFault::OneWay | CommandLineFault::NotUtf8 | CommandLineFault::Usage(_) => 2,
+            CommandLineFault::OneWay
+            | CommandLineFault::FileMissing
+            | CommandLineFault::FileGiven
+            | CommandLineFault::NotUtf8
+            | CommandLineFault::Usage(_) => 2,
             CommandLineFault::NoMemory => 3,
         }
     }
 }
 
-// The program itself sees to it that one way to run is given, so clap's own usage line would call
-// `--schedule` and `--threads` options.
+// The program itself sees to it that one way to run is given, and a file with two of them, so
+// clap's own usage line would call `--schedule`, `--threads`, `--stream` and the file options.
 const USAGE: &str =
-    "txsh (--schedule <LIST> | --threads) [--limit <N>] [--file-limit <N>] [--check] <FILE>";
+    "txsh (--schedule <LIST> | --threads) [--limit <N>] [--file-limit <N>] [--check] <FILE>
+       txsh --stream [--limit <N>] [--file-limit <N>] [--check]";
 
 const ABOUT: &str =
     "Runs the operations of a script on a kernel with transactions, and prints the reply to each.";
 
 const EXAMPLES: &str = "Examples:
   txsh --schedule 1,1,2,1,2 examples/first-run.tx
-  txsh --threads examples/first-run.tx";
+  txsh --threads examples/first-run.tx
+  txsh --stream <examples/first-run.tx
+
+With --stream each line of standard input, a file, a pipe or a terminal, is done as it comes. An
+operation is answered by its line, and a line that asks none by one that begins with a question
+mark. All lines that have come are answered before the program waits for more.";
 
 // `--schedule LIST`
 fn schedule_arg<'a>(alloc: Global) -> Arg<'a>
@@ -142,6 +180,17 @@ fn threads_arg<'a>(alloc: Global) -> Arg<'a>
         .action(ArgAction::SetTrue)
 }
 
+// `--stream`
+fn stream_arg<'a>(alloc: Global) -> Arg<'a>
+    ensures rule { rule_of result ≡ stream_rule }
+    ensures local { result.global ≡ false }
+{
+    Arg::new(alloc, "stream")
+        .long("stream")
+        .help("Each line of standard input is done and answered as it comes")
+        .action(ArgAction::SetTrue)
+}
+
 // `--limit N`
 fn limit_arg<'a>(alloc: Global) -> Arg<'a>
     ensures rule { rule_of result ≡ limit_rule }
@@ -150,7 +199,7 @@ fn limit_arg<'a>(alloc: Global) -> Arg<'a>
     Arg::new(alloc, "limit")
         .long("limit")
         .value_name("N")
-        .help("How many entries the history may have, at most 1048576; 65536 where it is not given")
+        .help("How many entries the history may keep, at most 1048576; 65536 where it is not given")
         .action(ArgAction::Set)
         .value_parser(clap::value_parser!(u32).range(0..=MAX_LIMIT as i64))
 }
@@ -175,7 +224,7 @@ fn check_arg<'a>(alloc: Global) -> Arg<'a>
 {
     Arg::new(alloc, "check")
         .long("check")
-        .help("Checks the history at the end by a plain kernel, and says so")
+        .help("Checks the history by a plain kernel, and says so at the end")
         .action(ArgAction::SetTrue)
 }
 
@@ -187,7 +236,6 @@ fn file_arg<'a>(alloc: Global) -> Arg<'a>
     Arg::new(alloc, "file")
         .value_name("FILE")
         .help("The script: the processes' priorities, then a line for each operation")
-        .required(true)
         .action(ArgAction::Set)
 }
 
@@ -197,7 +245,8 @@ fn command<'a>(alloc: Global) -> Result<Command<'a>, AllocError>
 {
     let with_schedule = Command::new(alloc, "txsh").arg(schedule_arg(alloc))?;
     let with_threads = with_schedule.arg(threads_arg(alloc))?;
-    let with_limit = with_threads.arg(limit_arg(alloc))?;
+    let with_stream = with_threads.arg(stream_arg(alloc))?;
+    let with_limit = with_stream.arg(limit_arg(alloc))?;
     let with_file_limit = with_limit.arg(file_limit_arg(alloc))?;
     let with_check = with_file_limit.arg(check_arg(alloc))?;
     let with_file = with_check.arg(file_arg(alloc))?;
@@ -259,36 +308,82 @@ fn flag_of(matches: &ArgMatches, id: &str) -> bool
     matches.get_one::<bool>(id).unwrap_or(false)
 }
 
-// The way to run, where exactly one is given.
-fn way_of(heap: Heap, matches: &ArgMatches) -> Result<Way, CommandLineFault>
-    ensures ok { IfOk result
-        (IsWay (first_value (found_of matches.now)) (one_text (found_of matches.now))) }
+// The way to run a script, or none for lines as they come, where exactly one of the three is given.
+fn way_of(heap: Heap, matches: &ArgMatches) -> Result<Option<Way>, CommandLineFault>
+    ensures ok { IfOk result (IsWayOrNone
+        (first_value (found_of matches.now)) (one_text (found_of matches.now))) }
     ensures err { IfErr result
-        (IsJobFault (first_value (found_of matches.now)) (one_text (found_of matches.now))) }
+        (IsTaskFault (first_value (found_of matches.now)) (one_text (found_of matches.now))) }
 {
-    match (matches.get_str("schedule"), flag_of(matches, "threads")) {
-        (Some(list), false) => Ok(Way::Schedule(owned_text(heap, list)?)),
-        (None, true) => Ok(Way::Threads),
+    let threads = flag_of(matches, "threads");
+    let stream = flag_of(matches, "stream");
+    match (matches.get_str("schedule"), threads, stream) {
+        (Some(list), false, false) => Ok(Some(Way::Schedule(owned_text(heap, list)?))),
+        (None, true, false) => Ok(Some(Way::Threads)),
+        (None, false, true) => Ok(None),
         _ => Err(CommandLineFault::OneWay),
     }
 }
 
-// The job that the matches give. The command requires a file, so one is named.
-fn job_of(heap: Heap, matches: &ArgMatches) -> Result<Job, CommandLineFault>
-    ensures ok { IfOk result
-        (IsJob (first_value (found_of matches.now)) (one_text (found_of matches.now))) }
-    ensures err { IfErr result
-        (IsJobFault (first_value (found_of matches.now)) (one_text (found_of matches.now))) }
+// The job of a script that is run in this way, whose file has this name.
+fn job_of(heap: Heap, matches: &ArgMatches, way: Way, file: &str) -> Result<Job, CommandLineFault>
+    ensures way { IfOk result (λ job. job.way ≡ way) }
+    ensures limits { IfOk result (λ job.
+        HasLimits (one_text (found_of matches.now)) job.limit job.file_limit job.check) }
+    ensures file { IfOk result (λ job. string_bytes job.file ≡ file.now) }
+    ensures err { IfErr result (λ e. e ≡ CommandLineFault.NoMemory) }
     ensures small { IfOk result (λ job. job.limit ≤ MAX_LIMIT) }
     ensures small_files { IfOk result (λ job. job.file_limit ≤ MAX_FILE_LIMIT) }
 {
+    let Ok(file) = owned_text(heap, file) else {
+        drop(way);
+        return Err(CommandLineFault::NoMemory);
+    };
+    // A script has the same options.
+    let StreamJob {
+        limit,
+        file_limit,
+        check,
+    } = stream_job_of(matches);
     Ok(Job {
-        way: way_of(heap, matches)?,
+        way,
+        limit,
+        file_limit,
+        check,
+        file,
+    })
+}
+
+// What is asked of a stream.
+fn stream_job_of(matches: &ArgMatches) -> StreamJob
+    ensures limits { HasLimits (one_text (found_of matches.now)) result.limit result.file_limit result.check }
+    ensures small { result.limit ≤ MAX_LIMIT }
+    ensures small_files { result.file_limit ≤ MAX_FILE_LIMIT }
+{
+    StreamJob {
         limit: limit_of(matches, "limit", DEFAULT_LIMIT, MAX_LIMIT),
         file_limit: limit_of(matches, "file_limit", DEFAULT_FILE_LIMIT, MAX_FILE_LIMIT),
         check: flag_of(matches, "check"),
-        file: owned_text(heap, matches.get_str("file").unwrap_or(""))?,
-    })
+    }
+}
+
+// The task that the matches give. A script has a file, and a stream has none.
+fn task_of(heap: Heap, matches: &ArgMatches) -> Result<Task, CommandLineFault>
+    ensures ok { IfOk result
+        (IsTask (first_value (found_of matches.now)) (one_text (found_of matches.now))) }
+    ensures err { IfErr result
+        (IsTaskFault (first_value (found_of matches.now)) (one_text (found_of matches.now))) }
+    ensures small { IfOk result IsSmall }
+{
+    match (way_of(heap, matches)?, matches.get_str("file")) {
+        (Some(way), Some(file)) => Ok(Task::Script(job_of(heap, matches, way, file)?)),
+        (None, None) => Ok(Task::Stream(stream_job_of(matches))),
+        (Some(way), None) => {
+            drop(way);
+            Err(CommandLineFault::FileMissing)
+        }
+        (None, Some(_)) => Err(CommandLineFault::FileGiven),
+    }
 }
 
 fn owned_text(heap: Heap, text: &str) -> Result<String<Heap>, CommandLineFault>
@@ -301,25 +396,25 @@ fn owned_text(heap: Heap, text: &str) -> Result<String<Heap>, CommandLineFault>
     }
 }
 
-/// The job that a command line gives. The first word is the program's name. clap takes its memory
-/// from `alloc`, and the job's is from `heap`.
+/// The task that a command line gives. The first word is the program's name. clap takes its memory
+/// from `alloc`, and the task's is from `heap`.
 ///
-/// Words that fit the command's usage give a job where exactly one way to run is among them, else
-/// `OneWay`. Other words give `Help`, where help is asked for first, or else `Usage`, in clap's own
-/// words. `NoMemory` may come in place of each, where memory was refused. `NotUtf8` never comes,
-/// since the words are UTF-8 here.
+/// Words that fit the command's usage give a task where exactly one of the three ways is among
+/// them, else `OneWay`, and where a file is named for a script and none for a stream, else
+/// `FileMissing` or `FileGiven`. Other words give `Help`, where help is asked for first, or else
+/// `Usage`, in clap's own words. `NoMemory` may come in place of each, where memory was refused.
+/// `NotUtf8` never comes, since the words are UTF-8 here.
 pub fn read_words<'a>(
     alloc: Global,
     heap: Heap,
     words: &'a [&'a str],
-) -> Result<Job, CommandLineFault>
+) -> Result<Task, CommandLineFault>
     ensures ok { IfOk result
-        (IsJob (value_in (texts words.entry.now)) (number_in (texts words.entry.now))) }
+        (IsTask (value_in (texts words.entry.now)) (number_in (texts words.entry.now))) }
     ensures fits { IfOk result (λ _. fault_of txsh (texts words.entry.now) ≡ []) }
     ensures fault { IfErr result (IsFaultOf (texts words.entry.now)) }
-    ensures small { IfOk result (λ job. job.limit ≤ MAX_LIMIT) }
-    ensures small_files { IfOk result (λ job. job.file_limit ≤ MAX_FILE_LIMIT) }
+    ensures small { IfOk result IsSmall }
 {
     let matches = matches_for(alloc, words)?;
-    job_of(heap, &matches)
+    task_of(heap, &matches)
 }

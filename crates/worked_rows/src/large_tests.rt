@@ -1,13 +1,15 @@
 // Each row under another limit of a file's bytes is run step by step, as one run, and on a kernel
 // that forgets; its replies are changed; and its requests for memory are refused.
-use crate::at_offsets::LIMITED_OFFSETS;
 use crate::changed::missed_on;
 use crate::forgotten::told_one_by_one;
 use crate::growths::grow_on;
-use crate::large::{LARGE, Large, MANY};
-use crate::row::{kernel_with, steps_in};
+use crate::largest_files::{LARGEST_FILES, MANY};
+use crate::limited_appends::LIMITED_APPENDS;
+use crate::limited_offsets::LIMITED_OFFSETS;
+use crate::limited_truncates::LIMITED_TRUNCATES;
+use crate::limited_writes::LIMITED_WRITES;
+use crate::row::{Large, kernel_with, steps_in};
 use crate::tests::{at_once, step_by_step};
-use crate::truncates::LIMITED_TRUNCATES;
 use heap::Heap;
 use ids::Limits;
 use kernel::Kernel;
@@ -15,13 +17,15 @@ use machine::Machine;
 use std::test::Fail;
 
 // How many lists of rows there are.
-const LISTS: usize = 3;
+const LISTS: usize = 5;
 
 // The rows of a list, whose number is below `LISTS`.
 fn large_of(list: usize) -> &'static [Large] {
     match list {
-        0 => &LARGE,
-        1 => &LIMITED_TRUNCATES,
+        0 => &LIMITED_WRITES,
+        1 => &LIMITED_APPENDS,
+        2 => &LARGEST_FILES,
+        3 => &LIMITED_TRUNCATES,
         _ => &LIMITED_OFFSETS,
     }
 }

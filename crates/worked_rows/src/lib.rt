@@ -2,13 +2,21 @@
 #![tactic(auto)]
 
 #[cfg(test)]
-mod at_offsets;
-#[cfg(test)]
 mod beside_offsets;
+#[cfg(test)]
+mod beside_truncates;
+#[cfg(test)]
+mod bytes_at_offsets;
+#[cfg(test)]
+mod bytes_of_truncates;
 #[cfg(test)]
 mod capacity;
 #[cfg(test)]
 mod changed;
+#[cfg(test)]
+mod errors_at_offsets;
+#[cfg(test)]
+mod errors_of_truncates;
 #[cfg(test)]
 mod files;
 #[cfg(test)]
@@ -22,9 +30,17 @@ mod given_up;
 #[cfg(test)]
 mod growths;
 #[cfg(test)]
-mod large;
-#[cfg(test)]
 mod large_tests;
+#[cfg(test)]
+mod largest_files;
+#[cfg(test)]
+mod limited_appends;
+#[cfg(test)]
+mod limited_offsets;
+#[cfg(test)]
+mod limited_truncates;
+#[cfg(test)]
+mod limited_writes;
 #[cfg(test)]
 mod limits;
 #[cfg(test)]
@@ -33,6 +49,12 @@ mod links;
 mod modes;
 #[cfg(test)]
 mod moved;
+#[cfg(test)]
+mod names_of_truncates;
+#[cfg(test)]
+mod open_descriptors;
+#[cfg(test)]
+mod openings;
 #[cfg(test)]
 mod paths;
 #[cfg(test)]
@@ -65,7 +87,5 @@ mod tests;
 mod transactions;
 #[cfg(test)]
 mod trees;
-#[cfg(test)]
-mod truncates;
 #[cfg(test)]
 mod views;

@@ -30,7 +30,7 @@ static FILES: [Refused; 16] = [
 3 P2 mkdir /a -> ok dooms P1
 4 P1 end -> aborted entry a read by P2
 ",
-        requests: 5,
+        requests: 12,
     },
     // A call of a transaction.
     Refused {
@@ -58,7 +58,7 @@ static FILES: [Refused; 16] = [
 3 P1 end -> committed
 4 P2 stat /a -> dir size 0 links 1
 ",
-        requests: 5,
+        requests: 16,
     },
     // A call in a directory that the same transaction has made.
     Refused {
@@ -88,7 +88,7 @@ static FILES: [Refused; 16] = [
 4 P1 end -> committed
 5 P2 list /a -> names 1 b
 ",
-        requests: 5,
+        requests: 7,
     },
     // A directory is removed by a plain call.
     Refused {
@@ -146,7 +146,7 @@ static FILES: [Refused; 16] = [
 5 P1 end -> committed
 6 P2 list / -> names 0
 ",
-        requests: 5,
+        requests: 13,
     },
     // Two names are listed.
     Refused {
@@ -200,7 +200,7 @@ static FILES: [Refused; 16] = [
         transcript: "1 P1 open /a RDWR,CREAT -> 0
 2 P1 fstat 0 -> file size 0 links 1
 ",
-        requests: 5,
+        requests: 6,
     },
     // So does a transaction.
     Refused {
@@ -228,7 +228,7 @@ static FILES: [Refused; 16] = [
 3 P1 end -> committed
 4 P1 fstat 0 -> file size 0 links 1
 ",
-        requests: 5,
+        requests: 18,
     },
     // A plain call writes into a file.
     Refused {
@@ -256,7 +256,7 @@ static FILES: [Refused; 16] = [
 3 P1 lseek 0 0 SET -> 0
 4 P1 read 0 5 -> 2 hi
 ",
-        requests: 3,
+        requests: 6,
     },
     // So does a transaction.
     Refused {
@@ -290,7 +290,7 @@ static FILES: [Refused; 16] = [
 6 P1 lseek 0 0 SET -> 0
 7 P1 read 0 5 -> 3 hi!
 ",
-        requests: 5,
+        requests: 18,
     },
     // A transaction lengthens a file that it has cut.
     Refused {
@@ -390,7 +390,7 @@ static FILES: [Refused; 16] = [
 6 P1 end -> aborted size read by P2
 7 P2 stat /a -> file size 1 links 1
 ",
-        requests: 2,
+        requests: 8,
     },
     // A transaction cuts one so.
     Refused {
@@ -426,7 +426,7 @@ static FILES: [Refused; 16] = [
 7 P1 end -> committed
 8 P2 stat /a -> file size 1 links 1
 ",
-        requests: 2,
+        requests: 8,
     },
     // And lengthens it again.
     Refused {
@@ -490,7 +490,7 @@ static FILES: [Refused; 16] = [
 3 P2 open /a WRONLY,CREAT -> 0 dooms P1
 4 P1 end -> aborted entry a read by P2
 ",
-        requests: 2,
+        requests: 6,
     },
 ];
 

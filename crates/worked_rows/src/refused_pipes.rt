@@ -32,7 +32,7 @@ static PIPES: [Refused; 9] = [
 4 P1 read 0 9 -> 2 ab
 5 P1 fstat 1 -> pipe size 0 links 0
 ",
-        requests: 5,
+        requests: 3,
     },
     // A pipe of a transaction.
     Refused {
@@ -90,7 +90,7 @@ static PIPES: [Refused; 9] = [
 3 P1 write 1 cd -> 2
 4 P1 read 0 9 -> 4 abcd
 ",
-        requests: 4,
+        requests: 3,
     },
     // And by a transaction.
     Refused {
@@ -126,7 +126,7 @@ static PIPES: [Refused; 9] = [
 7 P1 end -> committed
 8 P2 read 0 9 -> 2 cd
 ",
-        requests: 5,
+        requests: 10,
     },
     // A read from a pipe, which dooms another reader.
     Refused {
@@ -162,7 +162,7 @@ static PIPES: [Refused; 9] = [
 7 P1 end -> aborted front write by P2
 8 P1 read 0 9 -> 1 c
 ",
-        requests: 5,
+        requests: 10,
     },
     // And by a transaction, which has written itself.
     Refused {
@@ -196,7 +196,7 @@ static PIPES: [Refused; 9] = [
 6 P1 end -> committed
 7 P1 read 0 9 -> 1 d
 ",
-        requests: 5,
+        requests: 6,
     },
     // A fork, which dooms a reader.
     Refused {
@@ -236,7 +236,7 @@ static PIPES: [Refused; 9] = [
 9 P2 read 1 9 -> 2 ab
 10 P3 fork -> child 4
 ",
-        requests: 5,
+        requests: 11,
     },
     // An exit, which closes the last end for writing.
     Refused {
@@ -276,7 +276,7 @@ static PIPES: [Refused; 9] = [
 9 P2 stat / -> NoProcess
 10 P1 list / -> names 0
 ",
-        requests: 3,
+        requests: 4,
     },
     // An end of a pipe that a transaction shares and closes.
     Refused {
@@ -310,7 +310,7 @@ static PIPES: [Refused; 9] = [
 6 P1 end -> committed
 7 P1 read 5 9 -> 0 \\e
 ",
-        requests: 3,
+        requests: 2,
     },
 ];
 

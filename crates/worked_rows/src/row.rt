@@ -17,6 +17,12 @@ pub(crate) struct Row {
     pub(crate) transcript: &'static str,
 }
 
+// A row, and the most bytes of a file of its kernel.
+pub(crate) struct Large {
+    pub(crate) file_bytes: u32,
+    pub(crate) row: Row,
+}
+
 fn script_of(heap: Heap, text: &str) -> Result<Script, Fail> {
     match read_script(heap, text.as_bytes()) {
         Ok(script) => Ok(script),

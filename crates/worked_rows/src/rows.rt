@@ -1,9 +1,14 @@
 // All rows.
-use crate::at_offsets::AT_OFFSETS;
 use crate::beside_offsets::BESIDE_OFFSETS;
+use crate::beside_truncates::BESIDE_TRUNCATES;
+use crate::bytes_at_offsets::BYTES_AT_OFFSETS;
+use crate::bytes_of_truncates::BYTES_OF_TRUNCATES;
+use crate::errors_at_offsets::ERRORS_AT_OFFSETS;
+use crate::errors_of_truncates::ERRORS_OF_TRUNCATES;
 use crate::files::FILES;
 use crate::freed::FREED;
 use crate::links::LINKS;
+use crate::names_of_truncates::NAMES_OF_TRUNCATES;
 use crate::pipes::{HALVES, PIPES};
 use crate::processes::{ENDED, PROCESSES};
 use crate::renames::RENAMES;
@@ -11,10 +16,9 @@ use crate::row::Row;
 use crate::shared::SHARED;
 use crate::transactions::TRANSACTIONS;
 use crate::trees::TREES;
-use crate::truncates::TRUNCATES;
 
 // How many kinds of rows there are.
-pub(crate) const KINDS: usize = 14;
+pub(crate) const KINDS: usize = 18;
 
 // The rows of a kind, whose number is below `KINDS`. The functions that go over all of them do so in
 // a loop, since the proof of a call for each kind is long.
@@ -31,8 +35,12 @@ pub(crate) fn rows_of(kind: usize) -> &'static [Row] {
         8 => &HALVES,
         9 => &PROCESSES,
         10 => &ENDED,
-        11 => &TRUNCATES,
-        12 => &AT_OFFSETS,
+        11 => &ERRORS_OF_TRUNCATES,
+        12 => &BYTES_OF_TRUNCATES,
+        13 => &NAMES_OF_TRUNCATES,
+        14 => &BESIDE_TRUNCATES,
+        15 => &ERRORS_AT_OFFSETS,
+        16 => &BYTES_AT_OFFSETS,
         _ => &BESIDE_OFFSETS,
     }
 }

@@ -7,7 +7,8 @@ pub returns : goal.returns
 returns c =
     let first = c.in_ok-with_schedule.ensures.shape c.schedule_arg.ensures.local ∙ ap₂ with_rule c.new.ensures.app c.schedule_arg.ensures.rule in
     let second = c.in_ok-with_threads.ensures.shape c.threads_arg.ensures.local ∙ ap₂ with_rule first c.threads_arg.ensures.rule in
-    let third = c.in_ok-with_limit.ensures.shape c.limit_arg.ensures.local ∙ ap₂ with_rule second c.limit_arg.ensures.rule in
+    let ways = c.in_ok-with_stream.ensures.shape c.stream_arg.ensures.local ∙ ap₂ with_rule second c.stream_arg.ensures.rule in
+    let third = c.in_ok-with_limit.ensures.shape c.limit_arg.ensures.local ∙ ap₂ with_rule ways c.limit_arg.ensures.rule in
     let fourth = c.in_ok-with_file_limit.ensures.shape c.file_limit_arg.ensures.local ∙ ap₂ with_rule third c.file_limit_arg.ensures.rule in
     let fifth = c.in_ok-with_check.ensures.shape c.check_arg.ensures.local ∙ ap₂ with_rule fourth c.check_arg.ensures.rule in
     let sixth = c.in_ok-with_file.ensures.shape c.file_arg.ensures.local ∙ ap₂ with_rule fifth c.file_arg.ensures.rule in

@@ -8,7 +8,7 @@ use Rattle.clap.proofs.OnLiterals.{clap_on_literals}
 use Rattle.clap.proofs.WalkLemmas.{first_value-rows, one_text-rows}
 use Rattle.words.specs.Txsh.{IsParseFault, IsReportedAs, number_in, texts, txsh, value_in}
 use Rattle.words.specs.declared.CommandLineFault.{CommandLineFault}
-use Rattle.words.specs.declared.CommandLineFault.TheVariants.{OneWay, NotUtf8, Help, Usage, NoMemory}
+use Rattle.words.specs.declared.CommandLineFault.TheVariants.{OneWay, FileMissing, FileGiven, NotUtf8, Help, Usage, NoMemory}
 use Rattle.words.proofs.matches_for.Goals as goal
 
 simple : is_simple txsh ≡ true
@@ -56,6 +56,8 @@ usage_is kinds error other same not_help not_memory has =
 
 reported : (words : List Text) (error : Error) (fault : CommandLineFault) → HasKind (fault_of txsh words) error → IsReportedAs error fault → IsParseFault words fault
 reported words error OneWay has is = is
+reported words error FileMissing has is = is
+reported words error FileGiven has is = is
 reported words error NotUtf8 has is = is
 reported words error (Help text) has is = help_is (fault_of txsh words) error text is.0 is.1 has
 reported words error (Usage other) has is =

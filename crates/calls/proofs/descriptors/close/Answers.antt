@@ -1,5 +1,4 @@
-use Rattle.std.proofs.Common.{sym}
-use Rattle.std.proofs.Common.{[], ◌∷◌}
+use Rattle.std.proofs.Common.{[], ◌∷◌, sym}
 use Rattle.model.specs.Plans.{changed}
 use Rattle.model.specs.Calls.{Done}
 use Rattle.model.specs.Changes.{Clear_slot}
@@ -7,7 +6,7 @@ use Rattle.walk.proofs.Laws.{goes, stops, via}
 use Rattle.calls.proofs.descriptors.close.Goals as goal
 
 pub returns-in_err-it : goal.returns-in_err-it
-returns-in_err-it c k before = stops _ c.from_residual.ensures.1 (c.in_err-it.ensures _ _)
+returns-in_err-it g c before = stops _ c.from_residual.ensures.1 (c.in_err-it.ensures _)
 
 pub returns : goal.returns
-returns c k before = goes _ (c.in_ok-it.ensures _ _) (via (λ i. changed Done (Clear_slot (sym c.pid.ensures i) c.args.fd (sym c.in_ok-pipes.ensures i) ∷ [])) (c.changed_by.ensures _ _))
+returns g c before = goes _ (c.in_ok-it.ensures _) (via (λ i. changed Done (Clear_slot c.args.pid c.args.fd (sym c.in_ok-pipes.ensures i) ∷ [])) (c.changed_by.ensures _ _))

@@ -1,13 +1,15 @@
-use Rattle.std.proofs.Common.{[], ◌∷◌, refl, sym, ap, ◌∙◌}
-use Rattle.model.specs.Plans.{changed, piped}
-use Rattle.model.specs.Calls.{Pair}
-use Rattle.model.specs.Changes.{Make_pipe}
-use Rattle.walk.proofs.Laws.{via}
-use Rattle.calls.proofs.Frees.{piped_short, two_first}
+use Rattle.std.proofs.Common.{ℕ, ◌+◌, sym, ap}
+use Rattle.model.specs.Plan.{EMFILE, ◌>>=◌, or_refuse}
+use Rattle.walk.proofs.Laws.{goes, stops, via}
+use Rattle.look.specs.Shown.{first_free}
+use Rattle.calls.proofs.Frees.{paired, pipe_by}
 use Rattle.calls.proofs.descriptors.pipe.Goals as goal
 
-pub returns-in-len2-up : goal.returns-in-len2-up
-returns-in-len2-up c k before = via (ap (piped c.args.own.now) (sym c.in_ok-free.ensures ∙ sym c.as_slice.ensures.value ∙ two_first _ _ _ c.in-len2-up.len_at_least c.reader-item.is c.writer-item.is)) (via (ap (λ pid. changed (Pair c.reader-item.result c.writer-item.result) (Make_pipe 0 pid c.reader-item.result c.writer-item.result ∷ [])) (sym c.pid.ensures)) (c.changed_by.ensures _ _))
+pub returns-in_err-reader : goal.returns-in_err-reader
+returns-in_err-reader g c before = via (pipe_by (g.L.Look.state c.args.look.now) c.args.pid) (stops _ c.from_residual.ensures.1 (c.in_err-reader.ensures.value _))
+
+pub returns-in_err-writer : goal.returns-in_err-writer
+returns-in_err-writer g c before = via (pipe_by (g.L.Look.state c.args.look.now) c.args.pid) (goes _ (c.in_ok-reader.ensures.value _) (via (ap (λ (f : ℕ). or_refuse EMFILE (first_free (g.L.Look.state c.args.look.now) c.args.pid (f + 1)) >>= paired c.args.pid c.in_ok-reader.reader) (sym c.reader.view_is)) (stops _ c.from_residual-in_err-writer.ensures.1 (c.in_err-writer.ensures.value _))))
 
 pub returns : goal.returns
-returns c k before = via (ap (piped c.args.own.now) (sym c.in_ok-free.ensures ∙ sym c.as_slice.ensures.value) ∙ piped_short c.args.own.now _ c.in_default.len_below) (record { is = refl })
+returns g c before = via (pipe_by (g.L.Look.state c.args.look.now) c.args.pid) (goes _ (c.in_ok-reader.ensures.value _) (via (ap (λ (f : ℕ). or_refuse EMFILE (first_free (g.L.Look.state c.args.look.now) c.args.pid (f + 1)) >>= paired c.args.pid c.in_ok-reader.reader) (sym c.reader.view_is)) (goes _ (c.in_ok-writer.ensures.value _) (c.changed_by.ensures _ _))))

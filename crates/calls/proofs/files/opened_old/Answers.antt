@@ -7,13 +7,13 @@ use Rattle.walk.proofs.Laws.{goes, stops, via}
 use Rattle.calls.proofs.files.opened_old.Goals as goal
 
 pub returns-in_err-must_be_new : goal.returns-in_err-must_be_new
-returns-in_err-must_be_new g c pid = stops _ c.from_residual.ensures.1 (c.in_err-must_be_new.ensures _ _)
+returns-in_err-must_be_new g c at = stops _ c.from_residual.ensures.1 (c.in_err-must_be_new.ensures _ _)
 
 pub returns-in_err-must_not_be_directory : goal.returns-in_err-must_not_be_directory
-returns-in_err-must_not_be_directory g c pid = goes _ (c.in_ok-must_be_new.ensures _ _) (stops _ c.from_residual-in_err-must_not_be_directory.ensures.1 (c.in_err-must_not_be_directory.ensures _ _))
+returns-in_err-must_not_be_directory g c at = goes _ (c.in_ok-must_be_new.ensures _ _) (stops _ c.from_residual-in_err-must_not_be_directory.ensures.1 (c.in_err-must_not_be_directory.ensures _ _))
 
 pub returns-in_err-cut : goal.returns-in_err-cut
-returns-in_err-cut g c pid = goes _ (c.in_ok-must_be_new.ensures _ _) (goes _ (c.in_ok-must_not_be_directory.ensures _ _) (stops _ c.from_residual-in_err-cut.ensures.1 c.in_err-cut.ensures))
+returns-in_err-cut g c at = goes _ (c.in_ok-must_be_new.ensures _ _) (goes _ (c.in_ok-must_not_be_directory.ensures _ _) (stops _ c.from_residual-in_err-cut.ensures.1 c.in_err-cut.ensures))
 
 pub returns : goal.returns
-returns g c pid = goes _ (c.in_ok-must_be_new.ensures _ _) (goes _ (c.in_ok-must_not_be_directory.ensures _ _) (goes _ c.in_ok-cut.ensures (via (ap (changed (Descriptor c.args.fd)) ((λ i. c.in_ok-cut.cut ++ Open_inode 0 (There c.args.place.0) (sym c.mode.ensures i) (sym c.pid.ensures i) c.args.fd ∷ []) ∙ sym c.in_ok-edits.ensures)) (c.changed.ensures _ _))))
+returns g c at = goes _ (c.in_ok-must_be_new.ensures _ _) (goes _ (c.in_ok-must_not_be_directory.ensures _ _) (goes _ c.in_ok-cut.ensures (via (ap (changed (Descriptor c.args.fd)) ((λ i. c.in_ok-cut.cut ++ Open_inode 0 (There c.args.place.0) (sym c.mode.ensures i) c.args.pid c.args.fd ∷ []) ∙ sym c.in_ok-edits.ensures)) (c.changed.ensures _ _))))

@@ -6,13 +6,13 @@ use Rattle.walk.proofs.Laws.{goes, stops}
 use Rattle.calls.proofs.seek.lseek.Goals as goal
 
 pub returns-in_err-it : goal.returns-in_err-it
-returns-in_err-it g c = stops _ c.from_residual.ensures.1 (c.in_err-it.ensures _ _)
+returns-in_err-it g c = stops _ c.from_residual.ensures.1 (c.in_err-it.ensures _)
 
 pub returns-in_err-must_not_be_pipe : goal.returns-in_err-must_not_be_pipe
-returns-in_err-must_not_be_pipe g c = goes _ (c.in_ok-it.ensures _ _) (stops _ c.from_residual-in_err-must_not_be_pipe.ensures.1 (c.in_err-must_not_be_pipe.ensures _ _))
+returns-in_err-must_not_be_pipe g c = goes _ (c.in_ok-it.ensures _) (stops _ c.from_residual-in_err-must_not_be_pipe.ensures.1 (c.in_err-must_not_be_pipe.ensures _ _))
 
 pub returns-in_err-place : goal.returns-in_err-place
-returns-in_err-place g c = goes _ (c.in_ok-it.ensures _ _) (goes _ (c.in_ok-must_not_be_pipe.ensures _ _) (stops _ c.from_residual-in_err-place.ensures.1 c.in_err-place.ensures))
+returns-in_err-place g c = goes _ (c.in_ok-it.ensures _) (goes _ (c.in_ok-must_not_be_pipe.ensures _ _) (stops _ c.from_residual-in_err-place.ensures.1 c.in_err-place.ensures))
 
 pub returns : goal.returns
-returns g c = goes _ (c.in_ok-it.ensures _ _) (goes _ (c.in_ok-must_not_be_pipe.ensures _ _) (goes _ c.in_ok-place.ensures (c.sought.ensures c.args.own.now.largest (pos c.in_ok-place.place +ℤ c.args.distance) ((λ i. place_in (sym c.largest.ensures i) (pos c.in_ok-place.place +ℤ sym (to_z-of_z _ _ c.ranges.distance) i)) ∙ sym c.place_of.ensures) _ _)))
+returns g c = goes _ (c.in_ok-it.ensures _) (goes _ (c.in_ok-must_not_be_pipe.ensures _ _) (goes _ c.in_ok-place.ensures (c.sought.ensures (g.L.Look.state c.args.look.now).largest (pos c.in_ok-place.place +ℤ c.args.distance) ((λ i. place_in (sym c.largest.ensures i) (pos c.in_ok-place.place +ℤ sym (to_z-of_z _ _ c.ranges.distance) i)) ∙ sym c.place_of.ensures) _ _)))

@@ -3,7 +3,7 @@ use Rattle.std.specs.Cmp.Lexicographic.{pointwise, texts_ties}
 use Rattle.model.specs.FiniteMap as finite
 use Rattle.dirlist.specs.Listing.{Listing}
 use Rattle.dirlist.proofs.Names.{name_exact, name_total}
-use Rattle.dirlist.proofs.Entries.{inserted}
+use Rattle.model.proofs.Laws.{inserted}
 use Rattle.dirlist.proofs.Dir.insert_promised.Goals as goal
 
 pub returns-clause-names : goal.returns-clause-names

@@ -4,7 +4,7 @@ use Rattle.model.specs.FiniteMap as finite
 use Rattle.model.specs.State.{name_cmp}
 use Rattle.dirlist.specs.Listing.{Listing}
 use Rattle.dirlist.proofs.Names.{name_exact, name_total}
-use Rattle.dirlist.proofs.Entries.{same_made}
+use Rattle.model.proofs.Laws.{same_made}
 use Rattle.dirlist.proofs.Dir.promise.Goals as goal
 
 abbrev with_names : ℕ → finite.FinMap name_cmp ℕ → Listing

@@ -4,7 +4,7 @@ use Rattle.model.specs.FiniteMap as finite
 use Rattle.model.specs.State.{name_cmp}
 use Rattle.dirlist.specs.Listing.{Listing}
 use Rattle.dirlist.proofs.Names.{name_exact, name_total}
-use Rattle.dirlist.proofs.Entries.{get_at, removed}
+use Rattle.model.proofs.Laws.{get_at, removed}
 use Rattle.dirlist.proofs.Dir.remove.Goals as goal
 
 abbrev with_names : ℕ → finite.FinMap name_cmp ℕ → Listing

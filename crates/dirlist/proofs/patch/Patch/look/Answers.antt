@@ -2,7 +2,7 @@ use Rattle.std.proofs.Common.{refl, sym, ap, ◌∙◌}
 use Rattle.model.specs.FiniteMap as finite
 use Rattle.dirlist.specs.Patches.{Notes}
 use Rattle.dirlist.proofs.Names.{name_exact, name_total}
-use Rattle.dirlist.proofs.Entries.{get_at}
+use Rattle.model.proofs.Laws.{get_at}
 use Rattle.dirlist.proofs.Laid.{same}
 use Rattle.dirlist.proofs.patch.Patch.look.Goals as goal
 

@@ -2,7 +2,7 @@ use Rattle.std.proofs.Common.{refl, ap, ◌∙◌}
 use Rattle.model.specs.FiniteMap as finite
 use Rattle.dirlist.specs.Patches.{Notes}
 use Rattle.dirlist.proofs.Names.{name_exact, name_total}
-use Rattle.dirlist.proofs.Entries.{inserted}
+use Rattle.model.proofs.Laws.{inserted}
 use Rattle.dirlist.proofs.Laid.{same}
 use Rattle.dirlist.proofs.patch.Patch.note.Goals as goal
 

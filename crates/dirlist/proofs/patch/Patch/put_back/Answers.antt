@@ -4,7 +4,7 @@ use Rattle.model.specs.FiniteMap as finite
 use Rattle.model.specs.State.{Name, name_cmp}
 use Rattle.dirlist.specs.Patches.{Notes, noted_back}
 use Rattle.dirlist.proofs.Names.{name_exact, name_total}
-use Rattle.dirlist.proofs.Entries.{get_at, inserted, removed}
+use Rattle.model.proofs.Laws.{get_at, inserted, removed}
 use Rattle.dirlist.proofs.Laid.{same}
 use Rattle.dirlist.proofs.Noted.{back_given, back_gone, back_unnoted}
 use Rattle.dirlist.proofs.patch.Patch.put_back.Goals as goal

@@ -25,7 +25,7 @@ lay-requires-clause-room c =
     let within : i < length ns = omega (arith, c.loop-i-test.true, c.first_from-last.ensures.within, ap length value) in
     let n : ℕ = get_or c.as_slice-numbers.result.now i 0 in
     let there : Contains ns n = subst (λ (x : List ℕ). Contains ns (get_or x i 0)) (sym value) (Contains-get_or ns i 0 within) in
-    let room = c.loop-i.invariant.room n there (n * BLOCK_LEN / 16384) (omega arith) (omega arith) in
+    let room = c.loop-i.invariant.room n there (n * BLOCK_LEN / 15360) (omega arith) (omega arith) in
     let long = c.part.ensures.len in
     let high = c.min-high.ensures in
     omega (arith, room, long, high)

@@ -3,7 +3,7 @@ use Rattle.std.specs.Ordering.{eq_by_cmp}
 use Rattle.model.specs.FiniteMap as finite
 use Rattle.nodes.specs.Parts.{Numbered}
 use Rattle.nodes.specs.Places.{place_cmp, place_cmp_total, place_exact}
-use Rattle.nodes.proofs.Entries.{get_at}
+use Rattle.model.proofs.Laws.{get_at}
 use Rattle.nodes.proofs.index.Index.get.Goals as goal
 
 pub returns : goal.returns

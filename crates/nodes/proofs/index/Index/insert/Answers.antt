@@ -3,7 +3,7 @@ use Rattle.std.specs.Ordering.{eq_by_cmp}
 use Rattle.model.specs.FiniteMap as finite
 use Rattle.nodes.specs.Parts.{Numbered}
 use Rattle.nodes.specs.Places.{place_cmp, place_cmp_total, place_exact}
-use Rattle.nodes.proofs.Entries.{inserted}
+use Rattle.model.proofs.Laws.{inserted}
 use Rattle.nodes.proofs.index.Index.insert.Goals as goal
 
 pub returns-clause-ok : goal.returns-clause-ok

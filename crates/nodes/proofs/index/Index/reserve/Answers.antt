@@ -2,7 +2,7 @@ use Rattle.std.proofs.Common.{refl, ap, ◌∙◌, arith}
 use Rattle.std.specs.Ordering.{eq_by_cmp}
 use Rattle.nodes.specs.Parts.{Numbered}
 use Rattle.nodes.specs.Places.{place_cmp, place_cmp_total, place_exact}
-use Rattle.nodes.proofs.Entries.{same_made}
+use Rattle.model.proofs.Laws.{same_made}
 use Rattle.nodes.proofs.index.Index.reserve.Goals as goal
 
 pub returns-clause-numbers : goal.returns-clause-numbers

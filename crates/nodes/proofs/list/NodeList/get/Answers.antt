@@ -2,7 +2,7 @@ use Rattle.std.proofs.Common.{nat_eq, sym, ap, ◌∙◌}
 use Rattle.std.specs.Cmp.{nat_cmp_total, unsigned_ties}
 use Rattle.model.specs.FiniteMap as finite
 use Rattle.nodes.specs.Parts.{Listed}
-use Rattle.nodes.proofs.Entries.{get_at}
+use Rattle.model.proofs.Laws.{get_at}
 use Rattle.nodes.proofs.list.NodeList.get.Goals as goal
 
 pub returns : goal.returns

@@ -2,7 +2,7 @@ use Rattle.std.proofs.Common.{nat_eq, ap, ◌∙◌}
 use Rattle.std.specs.Cmp.{nat_cmp_total, unsigned_ties}
 use Rattle.model.specs.FiniteMap as finite
 use Rattle.nodes.specs.Parts.{Listed}
-use Rattle.nodes.proofs.Entries.{inserted}
+use Rattle.model.proofs.Laws.{inserted}
 use Rattle.nodes.proofs.list.NodeList.insert.Goals as goal
 
 pub returns-clause-ok : goal.returns-clause-ok

@@ -2,7 +2,7 @@ use Rattle.std.proofs.Common.{nat_eq, ap, ◌∙◌, arith}
 use Rattle.std.specs.Cmp.{nat_cmp_total, unsigned_ties}
 use Rattle.model.specs.FiniteMap as finite
 use Rattle.nodes.specs.Parts.{Listed}
-use Rattle.nodes.proofs.Entries.{same_made}
+use Rattle.model.proofs.Laws.{same_made}
 use Rattle.nodes.proofs.list.NodeList.reserve.Goals as goal
 
 pub returns-clause-nodes : goal.returns-clause-nodes

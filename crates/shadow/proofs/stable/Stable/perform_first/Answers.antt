@@ -1,85 +1,12 @@
 use Rattle.std.proofs.Common.{◌≡◌, ◌<◌, ◌≤◌, ◌+◌, ℕ, List, [], length, arith, refl, sym, subst, ap, ◌∙◌}
 use Rattle.std.proofs.lemmas.List.{get_or_read}
 use Rattle.model.specs.State.{Kernel}
-use Rattle.model.specs.Changes.{Append, Cut, Edit, Put_bytes, Take, applied, news, tidy}
+use Rattle.model.specs.Changes.{Edit, Put_bytes, applied, news, tidy}
 use Rattle.call_laws.specs.Fits.{Fits}
 use Rattle.shadow.specs.Steps.{IsFirst, new_in}
 use Rattle.shadow.proofs.Outcomes.{ok_so}
-use Rattle.shadow.proofs.SameEdit.{none_goes, same_append, same_bytes_put, same_cut}
-use Rattle.shadow.proofs.SameEdit.{same_directory, same_file, same_linking, same_moving, same_pipe}
-use Rattle.shadow.proofs.SameEdit.{same_take, same_unnaming}
-use Rattle.shadow.specs.declared.change.Made.TheVariants.{Directory as A_directory, File as A_file}
+use Rattle.shadow.proofs.SameEdit.{none_goes, same_bytes_put, same_pipe}
 use Rattle.shadow.proofs.stable.Stable.perform_first.Goals as goal
-
-pub returns-in-MakeDirectory-clause-state : goal.returns-in-MakeDirectory-clause-state
-returns-in-MakeDirectory-clause-state c =
-    let chosen : List ℕ = c.args.chosen.now in
-    let count = subst (λ (e : Edit). news e ≤ length chosen) c.in-MakeDirectory.is c.requires.count
-    in
-    let low : 0 < length chosen = omega (arith, count) in
-    let at : c.index-chosen-0.result ≡ new_in chosen 0 =
-    get_or_read chosen 0 c.index-chosen-0.result low c.index-chosen-0.is 0 in
-    c.make_directory.ensures.state
-    ∙ ap (λ (k : Kernel). tidy k)
-    (same_directory chosen c.in-MakeDirectory.parent c.in-MakeDirectory.name
-    c.index-chosen-0.result c.in-MakeDirectory._place
-    (subst IsFirst c.in-MakeDirectory.is c.requires.first) at c.args.self.now.state)
-    ∙ ap (λ (e : Edit). tidy (applied chosen e c.args.self.now.state)) (sym c.in-MakeDirectory.is)
-
-pub returns-in-MakeFile-clause-state : goal.returns-in-MakeFile-clause-state
-returns-in-MakeFile-clause-state c =
-    let chosen : List ℕ = c.args.chosen.now in
-    let count = subst (λ (e : Edit). news e ≤ length chosen) c.in-MakeFile.is c.requires.count in
-    let low : 0 < length chosen = omega (arith, count) in
-    let at : c.index-chosen-0-in-MakeFile.result ≡ new_in chosen 0 =
-    get_or_read chosen 0 c.index-chosen-0-in-MakeFile.result low c.index-chosen-0-in-MakeFile.is
-    0 in
-    c.make_file.ensures.state
-    ∙ ap (λ (k : Kernel). tidy k)
-    (same_file chosen c.in-MakeFile.parent c.in-MakeFile.name
-    c.index-chosen-0-in-MakeFile.result c.in-MakeFile._place
-    (subst IsFirst c.in-MakeFile.is c.requires.first) at c.args.self.now.state)
-    ∙ ap (λ (e : Edit). tidy (applied chosen e c.args.self.now.state)) (sym c.in-MakeFile.is)
-
-pub returns-in-NameFile-clause-state : goal.returns-in-NameFile-clause-state
-returns-in-NameFile-clause-state c =
-    c.link.ensures.state
-    ∙ ap (λ (k : Kernel). tidy k)
-    (same_linking c.args.chosen.now c.args.self.now.state c.in-NameFile.parent c.in-NameFile.name
-    c.in-NameFile.file)
-    ∙ ap (λ (e : Edit). tidy (applied c.args.chosen.now e c.args.self.now.state))
-    (sym c.in-NameFile.is)
-
-pub unname-requires : goal.unname-requires
-unname-requires c = (A_file, subst (λ (e : Edit). Fits c.args.chosen.now c.args.self.now.state e) c.in-UnnameFile.is c.requires.fits)
-
-pub returns-in-UnnameFile-clause-state : goal.returns-in-UnnameFile-clause-state
-returns-in-UnnameFile-clause-state c =
-    c.unname.ensures.state A_file (subst (λ (e : Edit). Fits c.args.chosen.now c.args.self.now.state e) c.in-UnnameFile.is c.requires.fits)
-    ∙ ap (λ (k : Kernel). tidy k)
-    (same_unnaming c.args.chosen.now c.args.self.now.state A_file c.in-UnnameFile.parent c.in-UnnameFile.name
-    c.in-UnnameFile.num)
-    ∙ ap (λ (e : Edit). tidy (applied c.args.chosen.now e c.args.self.now.state)) (sym c.in-UnnameFile.is)
-
-pub unname-requires-in-UnnameDirectory : goal.unname-requires-in-UnnameDirectory
-unname-requires-in-UnnameDirectory c = (A_directory, subst (λ (e : Edit). Fits c.args.chosen.now c.args.self.now.state e) c.in-UnnameDirectory.is c.requires.fits)
-
-pub returns-in-UnnameDirectory-clause-state : goal.returns-in-UnnameDirectory-clause-state
-returns-in-UnnameDirectory-clause-state c =
-    c.unname-in-UnnameDirectory.ensures.state A_directory (subst (λ (e : Edit). Fits c.args.chosen.now c.args.self.now.state e) c.in-UnnameDirectory.is c.requires.fits)
-    ∙ ap (λ (k : Kernel). tidy k)
-    (same_unnaming c.args.chosen.now c.args.self.now.state A_directory c.in-UnnameDirectory.parent c.in-UnnameDirectory.name
-    c.in-UnnameDirectory.num)
-    ∙ ap (λ (e : Edit). tidy (applied c.args.chosen.now e c.args.self.now.state)) (sym c.in-UnnameDirectory.is)
-
-pub returns-in-Move-clause-state : goal.returns-in-Move-clause-state
-returns-in-Move-clause-state c =
-    c.rename.ensures.state
-    ∙ ap (λ (k : Kernel). tidy k)
-    (same_moving c.args.chosen.now c.args.self.now.state c.in-Move.from c.in-Move.old c.in-Move.to
-    c.in-Move.new c.in-Move.num c.in-Move.replaced)
-    ∙ ap (λ (e : Edit). tidy (applied c.args.chosen.now e c.args.self.now.state))
-    (sym c.in-Move.is)
 
 pub returns-in-PutBytes-clause-state : goal.returns-in-PutBytes-clause-state
 returns-in-PutBytes-clause-state c =
@@ -96,35 +23,6 @@ returns-in-PutBytes-clause-state c =
     (subst (Fits chosen k) c.in-PutBytes.is c.requires.fits) refl
     ∙ ap (λ (e : Edit). tidy (applied chosen e k)) (sym c.in-PutBytes.is)) c.write-written.ensures.state
 
-pub returns-in-Cut-clause-state : goal.returns-in-Cut-clause-state
-returns-in-Cut-clause-state c =
-    let chosen : List ℕ = c.args.chosen.now in let k : Kernel = c.args.self.now.state in
-    let e : Edit = Cut c.in-Cut.file c.in-Cut._before c.in-Cut.after in
-    c.cut.ensures.state c.in-Cut._before
-    ∙ same_cut chosen k c.in-Cut.file c.in-Cut._before c.in-Cut.after
-    ∙ none_goes chosen k e c.state_is_tidied.ensures
-    (subst (Fits chosen k) c.in-Cut.is c.requires.fits) refl
-    ∙ ap (λ (e : Edit). tidy (applied chosen e k)) (sym c.in-Cut.is)
-
-pub returns-in-Take-clause-state : goal.returns-in-Take-clause-state
-returns-in-Take-clause-state c =
-    let chosen : List ℕ = c.args.chosen.now in let k : Kernel = c.args.self.now.state in
-    c.take.ensures.state
-    ∙ same_take chosen k c.in-Take.pipe c.in-Take.count
-    ∙ none_goes chosen k (Take c.in-Take.pipe c.in-Take.count) c.state_is_tidied.ensures
-    (subst (Fits chosen k) c.in-Take.is c.requires.fits) refl
-    ∙ ap (λ (e : Edit). tidy (applied chosen e k)) (sym c.in-Take.is)
-
-pub returns-in-Append-clause-state : goal.returns-in-Append-clause-state
-returns-in-Append-clause-state c =
-    let chosen : List ℕ = c.args.chosen.now in let k : Kernel = c.args.self.now.state in
-    c.append.ensures.state
-    ∙ ap (λ bytes. applied [] (Append c.in-Append.pipe bytes) k) c.as_slice-in-Append.ensures
-    ∙ same_append chosen k c.in-Append.pipe c.in-Append.bytes
-    ∙ none_goes chosen k (Append c.in-Append.pipe c.in-Append.bytes) c.state_is_tidied.ensures
-    (subst (Fits chosen k) c.in-Append.is c.requires.fits) refl
-    ∙ ap (λ (e : Edit). tidy (applied chosen e k)) (sym c.in-Append.is)
-
 pub returns-in-MakePipe-clause-state : goal.returns-in-MakePipe-clause-state
 returns-in-MakePipe-clause-state c =
     let chosen : List ℕ = c.args.chosen.now in let k : Kernel = c.args.self.now.state in
@@ -132,9 +30,9 @@ returns-in-MakePipe-clause-state c =
     let low : 2 < length chosen = omega (arith, count) in
     let first = subst IsFirst c.in-MakePipe.is c.requires.first in
     let place : c.in-MakePipe._place ≡ 0 = first.0 in
-    let pipe : c.index-chosen-0-in-MakePipe.result ≡ new_in chosen 0 =
-    get_or_read chosen 0 c.index-chosen-0-in-MakePipe.result (omega (arith, low))
-    c.index-chosen-0-in-MakePipe.is 0 in
+    let pipe : c.index-chosen-0.result ≡ new_in chosen 0 =
+    get_or_read chosen 0 c.index-chosen-0.result (omega (arith, low))
+    c.index-chosen-0.is 0 in
     let reader : c.index-chosen-1.result ≡ new_in chosen 1 =
     get_or_read chosen 1 c.index-chosen-1.result (omega (arith, low)) c.index-chosen-1.is 0 in
     let writer : c.index-chosen-2.result ≡ new_in chosen 2 =
@@ -142,7 +40,7 @@ returns-in-MakePipe-clause-state c =
     ok_so c.make_pipe.result (λ h. h
     ∙ ap (λ (k : Kernel). tidy k)
     (same_pipe chosen c.in-MakePipe._place c.in-MakePipe.pid c.in-MakePipe.reading
-    c.in-MakePipe.writing c.index-chosen-0-in-MakePipe.result c.index-chosen-1.result
+    c.in-MakePipe.writing c.index-chosen-0.result c.index-chosen-1.result
     c.index-chosen-2.result (pipe ∙ sym (ap (new_in chosen) place))
     (reader ∙ sym (ap (λ i. new_in chosen (i + 1)) place))
     (writer ∙ sym (ap (λ i. new_in chosen (i + 2)) place)) k)

@@ -7,7 +7,7 @@ use Rattle.shadow.proofs.view.ViewLook.table.Goals as goal
 pub loop-fd-preserved : goal.loop-fd-preserved
 loop-fd-preserved c =
     c.in_ok-push.ensures.items
-    ∙ slots_more c.args.self.now.state c.loop-fd.slots.items c.deref-fd-items.result.now c.loop-fd.fd-index c.loop-fd-item.result c.slot.result c.loop-fd-test.true c.loop-fd-item.is c.loop-fd.invariant c.slot.ensures
+    ∙ slots_more c.args.self.now.state c.loop-fd.slots.items c.deref-fd-items.result.now c.loop-fd.fd-index c.loop-fd-item.result c.described.result c.loop-fd-test.true c.loop-fd-item.is c.loop-fd.invariant c.described.ensures
 
 pub returns : goal.returns
 returns c =

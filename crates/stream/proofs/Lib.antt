@@ -1,0 +1,9 @@
+mod Answering
+mod Coming
+mod Ending
+mod Fields
+mod Forgotten
+mod Kept
+mod Lines
+mod Parting
+mod Texts

@@ -1,0 +1,12 @@
+use Rattle.std.proofs.Common.{◌≡◌}
+use Rattle.stream.specs.Parts.{HasCome}
+use Rattle.stream.proofs.run.run_stream.Given as goal
+
+-- all whole lines that have come are answered, and no device has failed
+abbrev pub invariant-parts : goal.invariant-parts
+invariant-parts g l =
+    HasCome g.K.Machine.shown l.setting l.stream
+    (g.I.Source.remaining l.fn.source) (g.I.Source.remaining l.source)
+    (g.O.Sink.written l.fn.sink) (g.O.Sink.written l.sink)
+    × (g.I.Source.failures l.source ≡ g.I.Source.failures l.fn.source)
+    × (g.O.Sink.failures l.sink ≡ g.O.Sink.failures l.fn.sink)

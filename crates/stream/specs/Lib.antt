@@ -1,0 +1,7 @@
+pub mod Answers
+pub mod Asked
+pub mod Heard
+pub mod Input
+pub mod Parts
+pub mod States
+pub mod Streams

@@ -1,0 +1,45 @@
+// Why a stream has stopped before the end of its input.
+ghost use Rattle.std.specs.Prelude.{◌≡◌};
+ghost use Rattle.stream.specs.Heard.{fault_of_check, fault_of_refusal};
+
+use crate::refusal::Refusal;
+use replay::CheckFault;
+
+/// Why a stream has stopped before the end of its input.
+#[derive(Clone, Copy, Debug, PartialEq, Eq)]
+pub enum StreamFault {
+    /// The source has failed.
+    Read,
+    /// The sink has failed.
+    Write,
+    /// The places that an operation needs are not free, though no entry is kept.
+    HistoryFull,
+    /// Memory was refused.
+    NoMemory,
+    /// The check says that the entry of this place, counted from 1, is wrong.
+    Check(usize),
+    /// 2^64 - 1 reads or 2^63 entries were made. No more can be counted.
+    Spent,
+}
+
+impl StreamFault {
+    // The fault where an operation is refused and nothing more can be forgotten.
+    pub(crate) fn of_refusal(refusal: Refusal) -> StreamFault
+        ensures { result ≡ fault_of_refusal refusal }
+    {
+        match refusal {
+            Refusal::HistoryFull => StreamFault::HistoryFull,
+            Refusal::NoMemory => StreamFault::NoMemory,
+        }
+    }
+
+    // The fault where the check of the history has one. Refused memory stays refused memory.
+    pub(crate) fn of_check(fault: CheckFault) -> StreamFault
+        ensures { result ≡ fault_of_check fault }
+    {
+        match fault {
+            CheckFault::Wrong(place) => StreamFault::Check(place),
+            CheckFault::NoMemory => StreamFault::NoMemory,
+        }
+    }
+}

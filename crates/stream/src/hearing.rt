@@ -1,0 +1,152 @@
+// One line of a stream, as it is done.
+ghost use Rattle.std.specs.Prelude.{◌≡◌, ◌≢◌, [], is_some, IfErr, IfOk, OnErr, OnOk, Option};
+ghost use Rattle.machine.specs.Shown.{Kept};
+ghost use Rattle.replay.specs.SoFar.{Checked};
+ghost use Rattle.script.specs.Lines.{further_line_of};
+ghost use Rattle.stream.specs.Heard.{ComesFurther, Follows, HasDone, HasGrown, IsOfLine};
+ghost use Rattle.stream.specs.Heard.{Refused, Refuses, StopsFurther, Took};
+
+use crate::fault::StreamFault;
+use crate::heard::Heard;
+use crate::refusal::Refusal;
+use crate::settling::settle;
+use heap::Heap;
+use ids::{Op, Pid, Reply};
+use machine::Machine;
+use replay::Checker;
+use script::{Line, ScriptFault, read_further_line};
+
+// Executes one operation. Where it is refused nothing has changed.
+fn do_step<K: Machine>(kernel: &mut K, pid: Pid, op: Op) -> Result<(), Refusal>
+    ensures kept { Kept (K.shown kernel.new) }
+    ensures ok { OnOk result (Took (K.shown kernel.old).log (K.shown kernel.new).log pid op) }
+    ensures unchanged { OnErr result (K.shown kernel.new ≡ K.shown kernel.old) }
+    ensures refused { IfErr result (Refused (K.shown kernel.old).log pid op) }
+{
+    let reply = kernel.step(pid, op);
+    match &reply {
+        Reply::HistoryFull => {
+            drop(reply);
+            Err(Refusal::HistoryFull)
+        }
+        Reply::NoMemory => {
+            drop(reply);
+            Err(Refusal::NoMemory)
+        }
+        _ => {
+            drop(reply);
+            Ok(())
+        }
+    }
+}
+
+// Executes the operation of a line.
+fn do_line<K: Machine>(kernel: &mut K, line: Line) -> Result<Heard, Refusal>
+    requires { Kept (K.shown kernel.old) }
+    ensures kept { Kept (K.shown kernel.new) }
+    ensures heard { IfOk result (λ heard. heard ≡ Heard.Operation) }
+    ensures done { OnOk result
+        (HasDone line.pid line.op (K.shown kernel.old) (K.shown kernel.new)) }
+    ensures unchanged { OnErr result (K.shown kernel.new ≡ K.shown kernel.old) }
+    ensures refused { IfErr result (Refused (K.shown kernel.old).log line.pid line.op) }
+    ensures followed { (checker : Option Checked)
+        → Follows checker (K.shown kernel.old).log → Follows checker (K.shown kernel.new).log }
+{
+    let Line { pid, op, number: _ } = line;
+    match do_step(kernel, pid, op) {
+        Ok(()) => Ok(Heard::Operation),
+        Err(refusal) => Err(refusal),
+    }
+}
+
+// A fault of a line is heard, but for refused memory, which says nothing of the line.
+pub(crate) fn heard_fault(fault: ScriptFault) -> Result<Heard, Refusal>
+    ensures heard { IfOk result (λ heard. heard ≡ Heard.Fault fault) }
+    ensures no_memory { OnOk result (fault ≢ ScriptFault.NoMemory) }
+    ensures refused { IfErr result (λ refusal. refusal ≡ Refusal.NoMemory) }
+{
+    match fault {
+        ScriptFault::NoMemory => Err(Refusal::NoMemory),
+        _ => Ok(Heard::Fault(fault)),
+    }
+}
+
+// Does a line behind the priorities, which has this number. Where it is refused nothing has
+// changed.
+fn try_line<K: Machine>(
+    heap: Heap,
+    number: usize,
+    line: &[u8],
+    kernel: &mut K,
+) -> Result<Heard, Refusal>
+    ensures kept { Kept (K.shown kernel.new) }
+    ensures comes { IfOk result (ComesFurther
+        (further_line_of number line.now) (K.shown kernel.old) (K.shown kernel.new)) }
+    ensures unchanged { OnErr result (K.shown kernel.new ≡ K.shown kernel.old) }
+    ensures refused { IfErr result
+        (Refuses (further_line_of number line.now) (K.shown kernel.new)) }
+    ensures followed { (checker : Option Checked)
+        → Follows checker (K.shown kernel.old).log → Follows checker (K.shown kernel.new).log }
+{
+    // For the proof: the kernel's history is legal.
+    let _history = kernel.history();
+    match read_further_line(heap, number, line) {
+        Ok(None) => Ok(Heard::Nothing),
+        Ok(Some(spoken)) => do_line(kernel, spoken),
+        Err(fault) => heard_fault(fault),
+    }
+}
+
+// Does a line for which the places were not free: once what is kept is forgotten. The operation was
+// given away, so the line is read again.
+fn hear_again<K: Machine>(
+    heap: Heap,
+    number: usize,
+    line: &[u8],
+    kernel: &mut K,
+    checker: &mut Option<Checker>,
+) -> Result<Heard, StreamFault>
+    ensures comes { IfOk result (ComesFurther
+        (further_line_of number line.now) (K.shown kernel.old) (K.shown kernel.new)) }
+    ensures followed { OnOk result (Follows checker.old (K.shown kernel.old).log
+        → Follows checker.new (K.shown kernel.new).log) }
+    ensures same { OnOk result (is_some checker.new ≡ is_some checker.old) }
+    ensures grown { OnErr result (HasGrown (K.shown kernel.old) (K.shown kernel.new) []) }
+    ensures stops { IfErr result (λ why. Follows checker.old (K.shown kernel.old).log
+        → StopsFurther (further_line_of number line.now) (K.shown kernel.new) why) }
+    ensures of_line { IfErr result IsOfLine }
+{
+    match settle(kernel, checker) {
+        Ok(()) => match try_line(heap, number, line, kernel) {
+            Ok(heard) => Ok(heard),
+            Err(refusal) => Err(StreamFault::of_refusal(refusal)),
+        },
+        Err(fault) => Err(fault),
+    }
+}
+
+// Does a line behind the priorities, which has this number. Where no place is free, what was done
+// is checked and forgotten first. So the history is full only where nothing is kept in it.
+pub(crate) fn hear_further<K: Machine>(
+    heap: Heap,
+    number: usize,
+    line: &[u8],
+    kernel: &mut K,
+    checker: &mut Option<Checker>,
+) -> Result<Heard, StreamFault>
+    ensures comes { IfOk result (ComesFurther
+        (further_line_of number line.now) (K.shown kernel.old) (K.shown kernel.new)) }
+    ensures followed { OnOk result (Follows checker.old (K.shown kernel.old).log
+        → Follows checker.new (K.shown kernel.new).log) }
+    ensures same { OnOk result (is_some checker.new ≡ is_some checker.old) }
+    ensures grown { OnErr result (HasGrown (K.shown kernel.old) (K.shown kernel.new) []) }
+    ensures stops { IfErr result (λ why. Follows checker.old (K.shown kernel.old).log
+        → StopsFurther (further_line_of number line.now) (K.shown kernel.new) why) }
+    ensures of_line { IfErr result IsOfLine }
+{
+    match try_line(heap, number, line, kernel) {
+        Ok(heard) => Ok(heard),
+        Err(Refusal::HistoryFull) => hear_again(heap, number, line, kernel, checker),
+        Err(Refusal::NoMemory) => Err(StreamFault::NoMemory),
+    }
+}

@@ -1,0 +1,8 @@
+// Why an operation was refused.
+#[derive(Clone, Copy)]
+pub(crate) enum Refusal {
+    // Its places in the history are not free.
+    HistoryFull,
+    // Memory was refused.
+    NoMemory,
+}
