@@ -35,6 +35,3 @@ pub use message::put_reply;
 pub use reader::parse;
 pub use reply::{Attr, Entry, Init, MAJOR, MINOR, Opened, Reply, StatFs};
 pub use request::{Changes, Operation, Request, Time, TimeChange, Whence};
-
-#[cfg(test)]
-mod tests;

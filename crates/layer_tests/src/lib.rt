@@ -1,9 +1,12 @@
 //! Tests of the layers below the kernel: what refused memory leaves, what takes none, and little
-//! else; and of the checker, on histories that are written by hand. What a call does where it
+//! else; of the checker, on histories that are written by hand; and of a mount, on bytes of requests
+//! and replies that are written by hand, and on the numbers of its nodes. What a call does where it
 //! succeeds its contract tells, and the worked rows of the kernel go through all layers. They stand
 //! here so that no layer is proved a second time for its tests.
 #![tactic(auto)]
 
+#[cfg(test)]
+mod fuse_bodies;
 #[cfg(test)]
 mod histories;
 #[cfg(test)]
@@ -21,11 +24,21 @@ mod of_fdtable;
 #[cfg(test)]
 mod of_file_shadow;
 #[cfg(test)]
+mod of_fuse;
+#[cfg(test)]
+mod of_fuse_replies;
+#[cfg(test)]
 mod of_heap;
 #[cfg(test)]
 mod of_history;
 #[cfg(test)]
 mod of_ids;
+#[cfg(test)]
+mod of_node_paths;
+#[cfg(test)]
+mod of_nodes;
+#[cfg(test)]
+mod of_nodes_refused;
 #[cfg(test)]
 mod of_objects;
 #[cfg(test)]
@@ -44,3 +57,5 @@ mod of_store;
 mod pipes;
 #[cfg(test)]
 mod refused;
+#[cfg(test)]
+mod trees;

@@ -1,0 +1,2 @@
+mod Since
+mod Runs

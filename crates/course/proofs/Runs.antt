@@ -1,0 +1,69 @@
+-- Courses that are run.
+use Rattle.std.proofs.Common.{◌≡◌, ℕ, List, Bool, true, false, not, ◌||◌, ◌==◌, refl, sym, subst, ap}
+use Rattle.std.specs.Prelude.{Result, Ok, Err, IsErrAnd, if◌then◌else◌}
+use Rattle.ids.specs.declared.call.Call.TheVariants as call
+use Rattle.ids.specs.declared.reply.Stat.{Stat}
+use Rattle.model.specs.Entries.{Op, Reply}
+use Rattle.machine.specs.Shown.{Shown}
+use Rattle.course.specs.declared.fault.Fault.{Fault}
+use Rattle.course.specs.declared.fault.Fault.TheVariants.{Aborted, Errno}
+use Rattle.course.specs.declared.files.Made.{Made}
+use Rattle.course.specs.Course.{Course, Give, Step, ◌>>=◌, HasRun, IsTaken, Ran, step}
+use Rattle.course.specs.Courses.{both, closing, doing, if_absent, if_same, if_there, on_ok, opening, seeing}
+use Rattle.course.specs.Faults.{error, is_missing, is_there, unless_aborted}
+
+-- nothing is done
+pub done : {A : Type 0} {v : Shown} {x : A} → Ran v (Give x) x v
+done = record { is = (refl, refl) }
+
+-- one step
+pub one : {old new : Shown} (pid : ℕ) (op : Op) {reply : Reply} → IsTaken old new pid op reply → Ran old (step pid op) reply new
+one {old} {new} pid op {reply} taken = record { is = (reply, new, taken, (refl, refl)) }
+
+-- a course, and what comes behind it
+all : {A B : Type 0} (m : Course A) (f : A → Course B) (old mid new : Shown) (x : A) (outcome : B) → HasRun old m x mid → HasRun mid (f x) outcome new → HasRun old (m >>= f) outcome new
+all (Give y) f old mid new x outcome h k = subst (λ v. HasRun v (f y) outcome new) h.1 (subst (λ z. HasRun mid (f z) outcome new) h.0 k)
+all (Step pid op next) f old mid new x outcome h k = (h.0, h.1, h.2, all (next h.0) f h.1 mid new x outcome h.3 k)
+
+pub goes : {A B : Type 0} (m : Course A) (f : A → Course B) {old mid new : Shown} {x : A} {outcome : B} → Ran old m x mid → Ran mid (f x) outcome new → Ran old (m >>= f) outcome new
+goes m f {old} {mid} {new} {x} {outcome} h k = record { is = all m f old mid new x outcome h.is k.is }
+
+-- a course, and what its outcome comes to
+pub gives : {A B : Type 0} (m : Course A) (g : A → B) {old new : Shown} {x : A} {outcome : B} → Ran old m x new → outcome ≡ g x → Ran old (m >>= (λ y. Give (g y))) outcome new
+gives m g h e = goes m (λ y. Give (g y)) h (record { is = (e, refl) })
+
+-- a course of a process that goes by another name too
+pub by_pid : {A : Type 0} (c : ℕ → Course A) {p q : ℕ} {old new : Shown} {outcome : A} → p ≡ q → Ran old (c p) outcome new → Ran old (c q) outcome new
+by_pid c {old = old} {new = new} {outcome = outcome} e h = subst (λ n. Ran old (c n) outcome new) e h
+
+-- a course that fails, where what comes behind it needs its success
+pub stops : {A B : Type 0} (m : Course (Result A Fault)) (f : A → Course (Result B Fault)) {old new : Shown} {e : Fault} (r : Result B Fault) → IsErrAnd r (λ y. y ≡ e) → Ran old m (Err e) new → Ran old (m >>= on_ok f) r new
+stops m f (Err y) is h = goes m (on_ok f) h (record { is = (ap Err is, refl) })
+stops m f (Ok y) is h = absurd is
+
+-- a course that succeeds, and what comes behind it
+pub goes_on : {A B : Type 0} (m : Course (Result A Fault)) (f : A → Course (Result B Fault)) {old mid new : Shown} {x : A} {r : Result B Fault} → Ran old m (Ok x) mid → Ran mid (f x) r new → Ran old (m >>= on_ok f) r new
+goes_on m f h k = goes m (on_ok f) h k
+
+-- a descriptor is closed, for an error that is no abort
+pub closed : {A : Type 0} (pid fd : ℕ) (e : Fault) {old new : Shown} {r : Result (Unit {0}) Fault} {outcome : Result A Fault} → (e ≡ Aborted → ⊥) → Ran old (doing pid (call.Close fd)) r new → outcome ≡ Err (unless_aborted e r) → Ran old (closing pid fd e) outcome new
+closed pid fd Aborted other h is = absurd (other refl)
+closed pid fd (Errno n) other h is = gives (doing pid (call.Close fd)) (λ r. Err (unless_aborted (Errno n) r)) h is
+
+-- the file is the one that was asked for, or another
+pub same_file : (pid fd inode : ℕ) (stat : Stat) {v : Shown} → (stat.num == inode) ≡ true → Ran v (if_same pid fd inode (Ok stat)) (Ok fd) v
+same_file pid fd inode stat {v} e = subst (λ (b : Bool). Ran v (if b then Give (Ok fd) else closing pid fd (error 116)) (Ok fd) v) (sym e) done
+
+pub other_file : (pid fd inode : ℕ) (stat : Stat) {old new : Shown} {r : Result ℕ Fault} → (stat.num == inode) ≡ false → Ran old (closing pid fd (error 116)) r new → Ran old (if_same pid fd inode (Ok stat)) r new
+other_file pid fd inode stat {old} {new} {r} e h = subst (λ (b : Bool). Ran old (if b then Give (Ok fd) else closing pid fd (error 116)) r new) (sym e) h
+
+-- the name is there, and may be
+pub there : (pid : ℕ) (path : List ℕ) (exclusive : Bool) (e : Fault) (opened : Result ℕ Fault) {old new : Shown} {r : Result Made Fault} → opened ≡ Err e → exclusive ≡ false → is_there e ≡ true → Ran old (opening pid path both >>= on_ok (seeing pid false)) r new → Ran old (if_there pid path exclusive opened) r new
+there pid path exclusive e opened {old} {new} {r} o x y h = subst (λ (z : Result ℕ Fault). Ran old (if_there pid path exclusive z) r new) (sym o) (subst (λ (b : Bool). Ran old (if b || not (is_there e) then Give (Err e) else (opening pid path both >>= on_ok (seeing pid false))) r new) (sym x) (subst (λ (b : Bool). Ran old (if false || not b then Give (Err e) else (opening pid path both >>= on_ok (seeing pid false))) r new) (sym y) h))
+
+-- a name is missing, and another error
+pub missing : (pid : ℕ) (from to : List ℕ) (e : Fault) {old new : Shown} {r : Result (Unit {0}) Fault} → is_missing e ≡ true → Ran old (doing pid (call.Rename from to)) r new → Ran old (if_absent pid from to (Err e)) r new
+missing pid from to e {old} {new} {r} x h = subst (λ (b : Bool). Ran old (if b then doing pid (call.Rename from to) else Give (Err e)) r new) (sym x) h
+
+pub failing : (pid : ℕ) (from to : List ℕ) (e : Fault) {v : Shown} → is_missing e ≡ false → Ran v (if_absent pid from to (Err e)) (Err e) v
+failing pid from to e {v} x = subst (λ (b : Bool). Ran v (if b then doing pid (call.Rename from to) else Give (Err e)) (Err e) v) (sym x) done

@@ -1,0 +1,7 @@
+use Rattle.course.specs.Courses.{calling}
+use Rattle.course.specs.Faults.{done_in}
+use Rattle.course.proofs.Runs.{gives}
+use Rattle.course.proofs.hand.Hand.do_call.Goals as goal
+
+pub returns-clause-ran : goal.returns-clause-ran
+returns-clause-ran g c = gives (calling c.args.self.now.pid c.args.call) done_in c.ask-reply.ensures.ran c.done_in.ensures

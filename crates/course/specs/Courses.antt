@@ -1,0 +1,126 @@
+-- The course of each kind of request, below the tables of a mount: paths and descriptors are known.
+use Rattle.std.specs.Prelude.{◌≡◌, ℕ, ◌==◌, ◌||◌, not, List, Bool, true, false, ℤ, pos, Result, Ok, Err}
+use Rattle.std.specs.Prelude.{if◌then◌else◌}
+use Rattle.ids.specs.declared.call.Call.TheVariants as call
+use Rattle.ids.specs.declared.call.Op.{Op}
+use Rattle.ids.specs.declared.call.Op.TheVariants as op
+use Rattle.ids.specs.declared.flags.BeginFlags.{BeginFlags}
+use Rattle.ids.specs.declared.flags.OpenFlags.{OpenFlags}
+use Rattle.ids.specs.declared.call.Call.{Call}
+use Rattle.ids.specs.declared.reply.Reply.{Reply}
+use Rattle.ids.specs.declared.reply.Stat.{Stat}
+use Rattle.course.specs.declared.fault.Fault.{Fault}
+use Rattle.course.specs.declared.fault.Fault.TheVariants as fault
+use Rattle.course.specs.declared.files.Made.{Made}
+use Rattle.course.specs.Course.{Course, Give, ◌>>=◌, step}
+use Rattle.course.specs.Faults.{begun_in, child_in, committed_in, count_in, done_in, error}
+use Rattle.course.specs.Faults.{fd_in, given_up_in, is_missing, is_there, stat_in, unless_aborted}
+
+-- a call of a process
+abbrev pub calling : ℕ → Call → Course Reply
+calling pid c = step pid (op.Call c)
+
+-- for reading and writing, and to make a file besides
+abbrev pub both : OpenFlags
+both = record { 0 = 3 }
+
+abbrev pub fresh : OpenFlags
+fresh = record { 0 = 15 }
+
+-- begun without flags
+abbrev pub plainly : BeginFlags
+plainly = record { 0 = 0 }
+
+-- ---- one step each
+
+abbrev pub doing : ℕ → Call → Course (Result (Unit {0}) Fault)
+doing pid c = calling pid c >>= (λ r. Give (done_in r))
+
+abbrev pub stating : ℕ → Call → Course (Result Stat Fault)
+stating pid c = calling pid c >>= (λ r. Give (stat_in r))
+
+abbrev pub opening : ℕ → List ℕ → OpenFlags → Course (Result ℕ Fault)
+opening pid path flags = calling pid (call.Open path flags) >>= (λ r. Give (fd_in r))
+
+abbrev pub forking : ℕ → Course (Result ℕ Fault)
+forking pid = calling pid call.Fork >>= (λ r. Give (child_in r))
+
+abbrev pub beginning : ℕ → Course (Result (Unit {0}) Fault)
+beginning pid = step pid (op.Begin plainly) >>= (λ r. Give (begun_in r))
+
+abbrev pub ending : ℕ → Course (Result (Unit {0}) Fault)
+ending pid = step pid op.End >>= (λ r. Give (committed_in r))
+
+abbrev pub giving_up : ℕ → Course (Result (Unit {0}) Fault)
+giving_up pid = step pid (op.Abort true) >>= (λ r. Give (given_up_in r))
+
+-- ---- two steps and more
+
+-- what comes behind a course that has succeeded
+abbrev pub on_ok : {A B : Type 0} → (A → Course (Result B Fault)) → Result A Fault → Course (Result B Fault)
+on_ok f (Ok x) = f x
+on_ok f (Err e) = Give (Err e)
+
+-- a call, and then what its path gives
+abbrev pub making : ℕ → Call → List ℕ → Course (Result Stat Fault)
+making pid c path = doing pid c >>= on_ok (λ done. stating pid (call.Stat path))
+
+-- A move that replaces nothing: nothing may stand at the new name.
+abbrev pub if_absent : ℕ → List ℕ → List ℕ → Result Stat Fault → Course (Result (Unit {0}) Fault)
+if_absent pid from to (Ok stat) = Give (Err (error 17))
+if_absent pid from to (Err e) =
+    if is_missing e then doing pid (call.Rename from to) else Give (Err e)
+
+abbrev pub moving : ℕ → List ℕ → List ℕ → Bool → Course (Result (Unit {0}) Fault)
+moving pid from to false = doing pid (call.Rename from to)
+moving pid from to true = stating pid (call.Stat to) >>= if_absent pid from to
+
+-- Bytes are put at the end as it is now.
+abbrev pub writing : ℕ → ℕ → List ℕ → ℤ → Course (Result ℕ Fault)
+writing pid fd bytes offset =
+    calling pid (call.Pwrite fd bytes offset) >>= (λ r. Give (count_in r))
+
+-- a length as an offset
+abbrev pub IsOffset : ℤ → ℕ → Type 0
+IsOffset offset length = offset ≡ pos length
+
+abbrev pub appending : ℕ → ℕ → List ℕ → Course (Result ℕ Fault)
+appending pid fd bytes =
+    stating pid (call.Fstat fd) >>= on_ok (λ stat. writing pid fd bytes (pos stat.size))
+
+-- A descriptor is closed, for this error. After an abort there is nothing to close: what a
+-- transaction opened is gone with it.
+abbrev pub closing : {A : Type 0} → ℕ → ℕ → Fault → Course (Result A Fault)
+closing pid fd fault.Aborted = Give (Err fault.Aborted)
+closing pid fd (fault.Errno e) =
+    doing pid (call.Close fd) >>= (λ r. Give (Err (unless_aborted (fault.Errno e) r)))
+
+-- A file is opened, and it has to be this one: else it is closed again, and the path is stale.
+abbrev pub if_same : ℕ → ℕ → ℕ → Result Stat Fault → Course (Result ℕ Fault)
+if_same pid fd inode (Ok stat) =
+    if stat.num == inode then Give (Ok fd) else closing pid fd (error 116)
+if_same pid fd inode (Err e) = closing pid fd e
+
+abbrev pub checking : ℕ → ℕ → ℕ → Course (Result ℕ Fault)
+checking pid fd inode = stating pid (call.Fstat fd) >>= if_same pid fd inode
+
+abbrev pub opening_this : ℕ → List ℕ → ℕ → Course (Result ℕ Fault)
+opening_this pid path inode = opening pid path both >>= on_ok (λ fd. checking pid fd inode)
+
+-- A file is opened and looked at. Where the look fails it is closed again.
+abbrev pub if_seen : ℕ → ℕ → Bool → Result Stat Fault → Course (Result Made Fault)
+if_seen pid fd is_new (Ok stat) = Give (Ok (record { fd = fd; stat = stat; is_new = is_new }))
+if_seen pid fd is_new (Err e) = closing pid fd e
+
+abbrev pub seeing : ℕ → Bool → ℕ → Course (Result Made Fault)
+seeing pid is_new fd = stating pid (call.Fstat fd) >>= if_seen pid fd is_new
+
+-- A file is made and opened, and where its name is there already, that file is opened, if it may.
+abbrev pub if_there : ℕ → List ℕ → Bool → Result ℕ Fault → Course (Result Made Fault)
+if_there pid path exclusive (Ok fd) = seeing pid true fd
+if_there pid path exclusive (Err e) =
+    if exclusive || not (is_there e) then Give (Err e)
+    else opening pid path both >>= on_ok (seeing pid false)
+
+abbrev pub creating : ℕ → List ℕ → List ℕ → Bool → Course (Result Made Fault)
+creating pid path again exclusive = opening pid path fresh >>= if_there pid again exclusive

@@ -1,0 +1,4 @@
+pub mod Course
+pub mod Hands
+pub mod Faults
+pub mod Courses

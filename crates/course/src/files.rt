@@ -1,0 +1,223 @@
+// Requests on files.
+ghost use Rattle.std.specs.Prelude.{◌≡◌};
+ghost use Rattle.ids.specs.declared.call.Call.TheVariants as asked;
+ghost use Rattle.course.specs.Hands.{bound};
+ghost use Rattle.course.specs.Course.{Ran};
+ghost use Rattle.course.specs.Courses.{appending, both, checking, closing, creating, doing};
+ghost use Rattle.course.specs.Courses.{IsOffset, fresh, if_there, opening, opening_this, seeing, writing};
+ghost use Rattle.course.specs.Faults.{is_there, unless_aborted};
+
+use crate::fault::{Fault, count_in, fd_in};
+use crate::hand::Hand;
+use fuse::{EEXIST, ESTALE};
+use ids::{Bytes, Call, Fd, Num, OpenFlags, Stat};
+use machine::Machine;
+
+/// A file that was opened.
+#[derive(Clone, Copy, Debug)]
+pub struct Made {
+    /// The descriptor.
+    pub fd: Fd,
+    /// What the file is like.
+    pub stat: Stat,
+    /// Whether it was made.
+    pub is_new: bool,
+}
+
+// Opens the file of a path.
+fn open<K: Machine>(hand: &mut Hand<K>, path: Bytes, flags: OpenFlags) -> Result<Fd, Fault>
+    ensures bound { bound hand.new ≡ bound hand.old }
+    ensures ran { Ran hand.old.shown
+        (opening hand.old.pid path flags) result hand.new.shown }
+{
+    let reply = hand.ask(Call::Open(path, flags));
+    fd_in(&reply)
+}
+
+/// Closes a descriptor.
+pub fn close<K: Machine>(hand: &mut Hand<K>, fd: Fd) -> Result<(), Fault>
+    ensures bound { bound hand.new ≡ bound hand.old }
+    ensures ran { Ran hand.old.shown
+        (doing hand.old.pid (asked.Close fd)) result hand.new.shown }
+{
+    hand.do_call(Call::Close(fd))
+}
+
+// The error that is told behind a last step, which may be the one that aborted.
+fn unless_aborted(fault: Fault, last: Result<(), Fault>) -> Fault
+    ensures { result ≡ unless_aborted fault last }
+{
+    match last {
+        Err(Fault::Aborted) => Fault::Aborted,
+        _ => fault,
+    }
+}
+
+/// Closes a descriptor for this error. After an abort there is nothing to close: what a transaction
+/// opened is gone with it, and a step would be a plain one.
+pub fn close_for<T, K: Machine>(hand: &mut Hand<K>, fd: Fd, fault: Fault) -> Result<T, Fault>
+    ensures bound { bound hand.new ≡ bound hand.old }
+    ensures ran { Ran hand.old.shown
+        (closing hand.old.pid fd fault) result hand.new.shown }
+{
+    if let Fault::Aborted = fault {
+        return Err(fault);
+    }
+    let closed = close(hand, fd);
+    Err(unless_aborted(fault, closed))
+}
+
+// For reading and writing.
+fn both() -> OpenFlags
+    ensures { result ≡ both }
+{
+    OpenFlags::READ.with(OpenFlags::WRITE)
+}
+
+// To make a file besides.
+fn fresh() -> OpenFlags
+    ensures { result ≡ fresh }
+{
+    both().with(OpenFlags::CREAT).with(OpenFlags::EXCL)
+}
+
+// Looks whether a descriptor is open on this object, and closes it where it is not.
+fn check_open<K: Machine>(hand: &mut Hand<K>, fd: Fd, inode: Num) -> Result<Fd, Fault>
+    ensures bound { bound hand.new ≡ bound hand.old }
+    ensures ran { Ran hand.old.shown
+        (checking hand.old.pid fd inode) result hand.new.shown }
+{
+    match hand.stat_call(Call::Fstat(fd)) {
+        Ok(stat) => {
+            if stat.num == inode {
+                Ok(fd)
+            } else {
+                close_for(hand, fd, Fault::Errno(ESTALE))
+            }
+        }
+        Err(fault) => close_for(hand, fd, fault),
+    }
+}
+
+/// Opens the file of a path for reading and writing, where it is this object. Where it is another one
+/// the path is stale.
+pub fn open_this<K: Machine>(hand: &mut Hand<K>, path: Bytes, inode: Num) -> Result<Fd, Fault>
+    ensures bound { bound hand.new ≡ bound hand.old }
+    ensures ran { Ran hand.old.shown
+        (opening_this hand.old.pid path inode) result hand.new.shown }
+{
+    let fd = open(hand, path, both())?;
+    check_open(hand, fd, inode)
+}
+
+// Tells about the file of a descriptor, and closes that where it cannot.
+fn see<K: Machine>(hand: &mut Hand<K>, fd: Fd, is_new: bool) -> Result<Made, Fault>
+    ensures bound { bound hand.new ≡ bound hand.old }
+    ensures ran { Ran hand.old.shown
+        (seeing hand.old.pid is_new fd) result hand.new.shown }
+{
+    match hand.stat_call(Call::Fstat(fd)) {
+        Ok(stat) => Ok(Made { fd, stat, is_new }),
+        Err(fault) => close_for(hand, fd, fault),
+    }
+}
+
+// Whether an error says that the name is there.
+fn is_there(fault: Fault) -> bool
+    ensures { result ≡ is_there fault }
+{
+    match fault {
+        Fault::Errno(errno) => errno.0 == EEXIST.0,
+        Fault::Aborted => false,
+    }
+}
+
+// What comes behind the opening of a new file: where its name is there already, that file is opened,
+// unless `exclusive` is true.
+fn go_on<K: Machine>(
+    hand: &mut Hand<K>,
+    path: Bytes,
+    exclusive: bool,
+    opened: Result<Fd, Fault>,
+) -> Result<Made, Fault>
+    ensures bound { bound hand.new ≡ bound hand.old }
+    ensures ran { Ran hand.old.shown
+        (if_there hand.old.pid path exclusive opened) result hand.new.shown }
+{
+    match opened {
+        Ok(fd) => see(hand, fd, true),
+        Err(fault) => {
+            if exclusive || !is_there(fault) {
+                return Err(fault);
+            }
+            let fd = open(hand, path, both())?;
+            see(hand, fd, false)
+        }
+    }
+}
+
+/// Makes a file and opens it for reading and writing. Where the name is there already the file of
+/// that name is opened, unless `exclusive` is true. The two paths are the same.
+pub fn create<K: Machine>(
+    hand: &mut Hand<K>,
+    path: Bytes,
+    again: Bytes,
+    exclusive: bool,
+) -> Result<Made, Fault>
+    ensures bound { bound hand.new ≡ bound hand.old }
+    ensures ran { Ran hand.old.shown
+        (creating hand.old.pid path again exclusive) result hand.new.shown }
+{
+    let opened = open(hand, path, fresh());
+    go_on(hand, again, exclusive, opened)
+}
+
+/// Cuts or grows the file of a descriptor.
+pub fn set_length<K: Machine>(hand: &mut Hand<K>, fd: Fd, length: u32) -> Result<(), Fault>
+    ensures bound { bound hand.new ≡ bound hand.old }
+    ensures ran { Ran hand.old.shown
+        (doing hand.old.pid (asked.Ftruncate fd length)) result hand.new.shown }
+{
+    hand.do_call(Call::Ftruncate(fd, length))
+}
+
+/// Cuts or grows the file of a path.
+pub fn set_length_at<K: Machine>(hand: &mut Hand<K>, path: Bytes, length: u32) -> Result<(), Fault>
+    ensures bound { bound hand.new ≡ bound hand.old }
+    ensures ran { Ran hand.old.shown
+        (doing hand.old.pid (asked.Truncate path length)) result hand.new.shown }
+{
+    hand.do_call(Call::Truncate(path, length))
+}
+
+/// Puts bytes into the file of a descriptor from an offset on. It gives how many.
+pub fn write<K: Machine>(
+    hand: &mut Hand<K>,
+    fd: Fd,
+    bytes: Bytes,
+    offset: i64,
+) -> Result<u32, Fault>
+    ensures bound { bound hand.new ≡ bound hand.old }
+    ensures ran { Ran hand.old.shown
+        (writing hand.old.pid fd bytes offset) result hand.new.shown }
+{
+    let reply = hand.ask(Call::Pwrite(fd, bytes, offset));
+    count_in(&reply)
+}
+
+// A length as an offset.
+fn offset_of(size: u32) -> i64
+    ensures { IsOffset result size }
+{
+    i64::from(size)
+}
+
+/// Puts bytes at the end of the file of a descriptor. It gives how many.
+pub fn append<K: Machine>(hand: &mut Hand<K>, fd: Fd, bytes: Bytes) -> Result<u32, Fault>
+    ensures bound { bound hand.new ≡ bound hand.old }
+    ensures ran { Ran hand.old.shown
+        (appending hand.old.pid fd bytes) result hand.new.shown }
+{
+    let stat = hand.stat_call(Call::Fstat(fd))?;
+    write(hand, fd, bytes, offset_of(stat.size))
+}

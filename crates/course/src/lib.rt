@@ -1,0 +1,21 @@
+//! What requests do to a kernel, once their paths and descriptors are known: the steps of one
+//! process, each by the replies to those before, and what comes of them.
+//!
+//! A course is written as a definition (`specs/`), and each function here runs one. Where the history
+//! is full its entries are forgotten, and the step is made again.
+#![tactic(auto)]
+
+mod fault;
+mod files;
+mod hand;
+mod names;
+mod step;
+mod transactions;
+
+pub use fault::{Fault, stat_in};
+pub use files::{
+    Made, append, close, close_for, create, open_this, set_length, set_length_at, write,
+};
+pub use hand::Hand;
+pub use names::{link, list, make_directory, move_name, remove_directory, stat_path, unlink};
+pub use transactions::{begin, end, fork, give_up, look_nowhere};

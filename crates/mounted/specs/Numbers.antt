@@ -1,0 +1,20 @@
+-- What nodes are by their numbers.
+use Rattle.std.specs.Prelude.{ℕ, ◌-◌, ◌/◌, ◌%◌, ◌==◌, ◌&&◌, nat_lt, Option, Some, None}
+use Rattle.std.specs.Prelude.{if◌then◌else◌}
+use Rattle.nodes.specs.declared.nodes.TheConstants.{LAST_NUMBER}
+use Rattle.mounted.specs.declared.numbers.Class.{Class}
+use Rattle.mounted.specs.declared.numbers.Class.TheVariants.{Tree, Transactions, Control}
+
+-- 2 is the directory of transactions, and the odd ones above those of all nodes end transactions
+abbrev pub class_of : ℕ → Class
+class_of node =
+    if node == 2 then Transactions
+    else if nat_lt LAST_NUMBER node && node % 2 == 1 then Control ((node - LAST_NUMBER) / 2)
+    else Tree
+
+-- 1 is the root of the plain tree, and the even ones above are those of transactions
+abbrev pub view_of : ℕ → Option ℕ
+view_of root =
+    if root == 1 then Some 0
+    else if nat_lt LAST_NUMBER root && root % 2 == 0 then Some ((root - LAST_NUMBER) / 2)
+    else None

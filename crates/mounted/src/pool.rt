@@ -1,0 +1,102 @@
+// The processes by which requests step.
+ghost use Rattle.std.specs.Prelude.{◌<◌, length, IfSome};
+
+use heap::Heap;
+use ids::{DESCRIPTORS, Pid};
+use std::alloc::AllocError;
+
+// A process that waits for a transaction.
+#[derive(Clone, Copy, Debug)]
+struct Idle {
+    pid: Pid,
+    level: u8,
+}
+
+// A process that has open files of the plain tree, and how many.
+#[derive(Clone, Copy, Debug)]
+struct Holder {
+    pid: Pid,
+    used: usize,
+}
+
+// Processes that are used again, since a kernel makes only so many.
+pub(crate) struct Pool {
+    idle: Vec<Idle, Heap>,
+    holders: Vec<Holder, Heap>,
+}
+
+// By hand: a derived drop is opened at every place where a value goes, this one is called.
+impl Drop for Pool {
+    fn drop(self) {
+        let Pool {
+            idle: _,
+            holders: _,
+        } = self;
+    }
+}
+
+// The process of a priority that was made at the start. It never has a descriptor: others are forked
+// from it, and the one of priority 0 makes the plain calls on paths.
+pub(crate) fn first_process(level: u8) -> Pid {
+    Pid(u32::from(level) + 1)
+}
+
+// Where a process of this priority waits.
+fn place_of(idle: &[Idle], level: u8) -> Option<usize>
+    ensures within { IfSome result (λ i. i < length idle.now) }
+{
+    idle.iter().position(|waiting| waiting.level == level)
+}
+
+impl Pool {
+    pub(crate) fn new(heap: Heap) -> Pool {
+        Pool {
+            idle: Vec::new(heap),
+            holders: Vec::new(heap),
+        }
+    }
+
+    // A process of this priority without descriptors that waits, if there is one.
+    pub(crate) fn take(&mut self, level: u8) -> Option<Pid> {
+        let place = place_of(self.idle.as_slice(), level)?;
+        Some(self.idle.swap_remove(place).pid)
+    }
+
+    // A process without descriptors is not needed any more. Without memory it is not used again.
+    pub(crate) fn give_back(&mut self, pid: Pid, level: u8) {
+        let _kept = self.idle.push(Idle { pid, level });
+    }
+
+    // A process of the plain tree that has a descriptor free, if there is one.
+    pub(crate) fn free_holder(&self) -> Option<Pid> {
+        let holder = self
+            .holders
+            .iter()
+            .find(|holder| holder.used < DESCRIPTORS)?;
+        Some(holder.pid)
+    }
+
+    // One process more may have open files of the plain tree.
+    pub(crate) fn add_holder(&mut self, pid: Pid) -> Result<(), AllocError> {
+        self.holders.push(Holder { pid, used: 0 })?;
+        Ok(())
+    }
+
+    // A process of the plain tree has one descriptor more.
+    pub(crate) fn hold(&mut self, pid: Pid) {
+        for holder in self.holders.iter_mut() {
+            if holder.pid == pid {
+                holder.used = holder.used.saturating_add(1);
+            }
+        }
+    }
+
+    // Or one less.
+    pub(crate) fn release(&mut self, pid: Pid) {
+        for holder in self.holders.iter_mut() {
+            if holder.pid == pid {
+                holder.used = holder.used.saturating_sub(1);
+            }
+        }
+    }
+}

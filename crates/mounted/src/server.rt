@@ -1,0 +1,173 @@
+// A mounted tree, and which process serves a request.
+ghost use Rattle.std.specs.Prelude.{◌≤◌, IfOk};
+ghost use Rattle.machine.specs.Shown.{Kept};
+ghost use Rattle.ids.specs.declared.limits.TheConstants.{LARGEST_FILE, MAX_ENTRIES};
+
+use crate::numbers::PLAIN;
+use crate::open_files::OpenFile;
+use crate::pool::first_process;
+use crate::tables::Tables;
+use crate::views::State;
+use course::{Fault, Hand, close, fork};
+use fuse::{Operation, Reply};
+use heap::Heap;
+use ids::{Limits, Pid, Priority};
+use machine::Machine;
+use std::alloc::AllocError;
+
+/// A mounted tree: a kernel, and what is known of its nodes, transactions and open files.
+pub struct Server<K: Machine> {
+    pub(crate) hand: Hand<K>,
+    pub(crate) tables: Tables,
+}
+
+// By hand: a derived drop is opened at every place where a value goes, this one is called.
+impl<K: Machine> Drop for Server<K> {
+    fn drop(self) {
+        let Server { hand: _, tables: _ } = self;
+    }
+}
+
+// A priority that there is.
+fn priority(level: u8) -> Priority
+    requires { level ≤ 7 }
+{
+    match Priority::new(level) {
+        Some(priority) => priority,
+        None => unreachable!(),
+    }
+}
+
+// A kernel with a process of each priority.
+fn kernel_with<K: Machine>(heap: Heap, limits: Limits) -> Result<K, AllocError>
+    requires limited { limits.entries ≤ MAX_ENTRIES }
+    requires files { limits.file_bytes ≤ LARGEST_FILE }
+    ensures { IfOk result (λ kernel. Kept (K.shown kernel)) }
+{
+    let priorities = [
+        priority(0),
+        priority(1),
+        priority(2),
+        priority(3),
+        priority(4),
+        priority(5),
+        priority(6),
+        priority(7),
+    ];
+    K::with_limits(heap, &priorities, limits)
+}
+
+// Whether a process has open still what was opened in its transaction. After an abort all of it is
+// gone, and a step would be a plain one.
+fn keeps_open(state: State) -> bool {
+    match state {
+        State::Live | State::Committed => true,
+        State::Aborted | State::GivenUp => false,
+    }
+}
+
+// The process that has a file of the plain tree open, and else the one that has none.
+fn process_of(file: Option<OpenFile>) -> Pid {
+    match file {
+        Some(file) => {
+            if file.view == PLAIN {
+                file.pid
+            } else {
+                first_process(0)
+            }
+        }
+        None => first_process(0),
+    }
+}
+
+impl<K: Machine> Server<K> {
+    /// A mounted tree with no names, on a kernel with these limits. Refused memory gives nothing.
+    pub fn new(heap: Heap, limits: Limits) -> Result<Server<K>, AllocError>
+        requires limited { limits.entries ≤ MAX_ENTRIES }
+        requires files { limits.file_bytes ≤ LARGEST_FILE }
+    {
+        let kernel = kernel_with(heap, limits)?;
+        Ok(Server {
+            hand: Hand::new(kernel, first_process(0)),
+            tables: Tables::new(heap),
+        })
+    }
+
+    // A process of this priority without descriptors: one that waits, or a new one.
+    pub(crate) fn take_process(&mut self, level: u8) -> Result<Pid, Fault> {
+        match self.tables.pool.take(level) {
+            Some(pid) => Ok(pid),
+            None => {
+                self.hand.bind(first_process(level));
+                fork(&mut self.hand)
+            }
+        }
+    }
+
+    // A process of the plain tree that has a descriptor free.
+    fn holder(&mut self) -> Result<Pid, Fault> {
+        match self.tables.pool.free_holder() {
+            Some(pid) => Ok(pid),
+            None => {
+                let pid = self.take_process(0)?;
+                self.tables.pool.add_holder(pid)?;
+                Ok(pid)
+            }
+        }
+    }
+
+    // The process that serves an open of the plain tree.
+    fn opener(&mut self, node: u64) -> Result<Pid, Fault> {
+        let inode = self.tables.inode_of(node);
+        match self.tables.files.of(PLAIN, inode) {
+            Some(file) => Ok(file.pid),
+            None => self.holder(),
+        }
+    }
+
+    // The process that serves a request of the plain tree.
+    pub(crate) fn choose_plain(&mut self, node: u64, operation: &Operation) -> Result<Pid, Fault> {
+        match operation {
+            Operation::Open { flags: _ } => self.opener(node),
+            Operation::Create {
+                name: _,
+                flags: _,
+                mode: _,
+            }
+            | Operation::MkNod { name: _, mode: _ } => self.holder(),
+            Operation::GetAttr { handle: _ } | Operation::SetAttr { changes: _ } => {
+                let inode = self.tables.inode_of(node);
+                Ok(process_of(self.tables.files.of(PLAIN, inode)))
+            }
+            _ => Ok(process_of(self.tables.file_named(operation))),
+        }
+    }
+
+    // The descriptor of a file that is not open any more is closed.
+    pub(crate) fn close_file(&mut self, file: &OpenFile) -> Result<(), Fault> {
+        if file.view == PLAIN {
+            self.hand.bind(file.pid);
+            close(&mut self.hand, file.fd)?;
+            self.tables.pool.release(file.pid);
+            return Ok(());
+        }
+        match self.tables.views.standing(file.view) {
+            Some(standing) => {
+                if keeps_open(standing.state) && standing.pid == file.pid {
+                    self.hand.bind(file.pid);
+                    close(&mut self.hand, file.fd)?;
+                }
+                Ok(())
+            }
+            None => Ok(()),
+        }
+    }
+
+    // A file is open once less.
+    pub(crate) fn release(&mut self, handle: u64) -> Result<Reply, Fault> {
+        if let Some(file) = self.tables.files.release(handle) {
+            self.close_file(&file)?;
+        }
+        Ok(Reply::Empty)
+    }
+}
