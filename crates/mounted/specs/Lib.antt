@@ -1,2 +1,3 @@
+pub mod First
 pub mod Numbers
 pub mod Steppers

@@ -1,6 +1,7 @@
 // A mounted tree, and which process serves a request.
 ghost use Rattle.std.specs.Prelude.{◌≤◌, IfOk};
 ghost use Rattle.machine.specs.Shown.{Kept};
+ghost use Rattle.mounted.specs.First.{IsFirst};
 ghost use Rattle.ids.specs.declared.limits.TheConstants.{LARGEST_FILE, MAX_ENTRIES};
 
 use crate::numbers::PLAIN;
@@ -42,7 +43,8 @@ fn priority(level: u8) -> Priority
 fn kernel_with<K: Machine>(heap: Heap, limits: Limits) -> Result<K, AllocError>
     requires limited { limits.entries ≤ MAX_ENTRIES }
     requires files { limits.file_bytes ≤ LARGEST_FILE }
-    ensures { IfOk result (λ kernel. Kept (K.shown kernel)) }
+    ensures kept { IfOk result (λ kernel. Kept (K.shown kernel)) }
+    ensures first { IfOk result (λ kernel. IsFirst limits (K.shown kernel)) }
 {
     let priorities = [
         priority(0),
@@ -81,10 +83,13 @@ fn process_of(file: Option<OpenFile>) -> Pid {
 }
 
 impl<K: Machine> Server<K> {
-    /// A mounted tree with no names, on a kernel with these limits. Refused memory gives nothing.
+    /// A mounted tree with no names, on a kernel with these limits, of which nothing was asked yet.
+    /// Refused memory gives nothing.
     pub fn new(heap: Heap, limits: Limits) -> Result<Server<K>, AllocError>
         requires limited { limits.entries ≤ MAX_ENTRIES }
         requires files { limits.file_bytes ≤ LARGEST_FILE }
+        ensures kept { IfOk result (λ s. Kept s.hand.shown) }
+        ensures first { IfOk result (λ s. IsFirst limits s.hand.shown) }
     {
         let kernel = kernel_with(heap, limits)?;
         Ok(Server {
