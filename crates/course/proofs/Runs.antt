@@ -1,16 +1,18 @@
 -- Courses that are run.
 use Rattle.std.proofs.Common.{◌≡◌, ℕ, List, Bool, true, false, not, ◌||◌, ◌==◌, refl, sym, subst, ap}
-use Rattle.std.specs.Prelude.{Result, Ok, Err, IsErrAnd, if◌then◌else◌}
+use Rattle.std.proofs.Common.{inl, inr}
+use Rattle.std.specs.Prelude.{Option, Some, Result, Ok, Err, IsErrAnd, if◌then◌else◌}
 use Rattle.ids.specs.declared.call.Call.TheVariants as call
 use Rattle.ids.specs.declared.reply.Stat.{Stat}
 use Rattle.model.specs.Entries.{Op, Reply}
 use Rattle.machine.specs.Shown.{Shown}
+use Rattle.fuse.specs.declared.errno.Errno.TheVariants.{ESTALE}
 use Rattle.course.specs.declared.fault.Fault.{Fault}
 use Rattle.course.specs.declared.fault.Fault.TheVariants.{Aborted, Errno}
 use Rattle.course.specs.declared.files.Made.{Made}
 use Rattle.course.specs.Course.{Course, Give, Step, ◌>>=◌, HasRun, IsTaken, Ran, step}
-use Rattle.course.specs.Courses.{both, closing, doing, if_absent, if_same, if_there, on_ok, opening, seeing}
-use Rattle.course.specs.Faults.{error, is_missing, is_there, unless_aborted}
+use Rattle.course.specs.Courses.{RanUnlessRefused, both, closing, closing_spare, doing, done_with, finding_at, if_absent, if_found, if_same, if_there, on_ok, opening, seeing, stating}
+use Rattle.course.specs.Faults.{IsUnlessRefused, error, is_missing, is_there, unless_aborted}
 
 -- nothing is done
 pub done : {A : Type 0} {v : Shown} {x : A} → Ran v (Give x) x v
@@ -52,10 +54,10 @@ closed pid fd (Errno n) other h is = gives (doing pid (call.Close fd)) (λ r. Er
 
 -- the file is the one that was asked for, or another
 pub same_file : (pid fd inode : ℕ) (stat : Stat) {v : Shown} → (stat.num == inode) ≡ true → Ran v (if_same pid fd inode (Ok stat)) (Ok fd) v
-same_file pid fd inode stat {v} e = subst (λ (b : Bool). Ran v (if b then Give (Ok fd) else closing pid fd (error 116)) (Ok fd) v) (sym e) done
+same_file pid fd inode stat {v} e = subst (λ (b : Bool). Ran v (if b then Give (Ok fd) else closing pid fd (error ESTALE)) (Ok fd) v) (sym e) done
 
-pub other_file : (pid fd inode : ℕ) (stat : Stat) {old new : Shown} {r : Result ℕ Fault} → (stat.num == inode) ≡ false → Ran old (closing pid fd (error 116)) r new → Ran old (if_same pid fd inode (Ok stat)) r new
-other_file pid fd inode stat {old} {new} {r} e h = subst (λ (b : Bool). Ran old (if b then Give (Ok fd) else closing pid fd (error 116)) r new) (sym e) h
+pub other_file : (pid fd inode : ℕ) (stat : Stat) {old new : Shown} {r : Result ℕ Fault} → (stat.num == inode) ≡ false → Ran old (closing pid fd (error ESTALE)) r new → Ran old (if_same pid fd inode (Ok stat)) r new
+other_file pid fd inode stat {old} {new} {r} e h = subst (λ (b : Bool). Ran old (if b then Give (Ok fd) else closing pid fd (error ESTALE)) r new) (sym e) h
 
 -- the name is there, and may be
 pub there : (pid : ℕ) (path : List ℕ) (exclusive : Bool) (e : Fault) (opened : Result ℕ Fault) {old new : Shown} {r : Result Made Fault} → opened ≡ Err e → exclusive ≡ false → is_there e ≡ true → Ran old (opening pid path both >>= on_ok (seeing pid false)) r new → Ran old (if_there pid path exclusive opened) r new
@@ -67,3 +69,16 @@ missing pid from to e {old} {new} {r} x h = subst (λ (b : Bool). Ran old (if b 
 
 pub failing : (pid : ℕ) (from to : List ℕ) (e : Fault) {v : Shown} → is_missing e ≡ false → Ran v (if_absent pid from to (Err e)) (Err e) v
 failing pid from to e {v} x = subst (λ (b : Bool). Ran v (if b then doing pid (call.Rename from to) else Give (Err e)) (Err e) v) (sym x) done
+
+-- a course, and what its outcome comes to, or memory was refused for that
+pub gives_or_not : {A B : Type 0} (m : Course A) (g : A → Result B Fault) {old new : Shown} {x : A} {outcome : Result B Fault} → Ran old m x new → IsUnlessRefused (g x) outcome → RanUnlessRefused old (m >>= (λ y. Give (g y))) outcome new
+gives_or_not m g h (inl e) = inl (gives m g h e)
+gives_or_not m g h (inr e) = inr e
+
+-- a file was open already
+pub spare_closed : (pid : ℕ) (is_open : Bool) (made : Made) {old new : Shown} {r : Result Made Fault} → is_open ≡ true → Ran old (done_with pid made.fd made) r new → Ran old (closing_spare pid is_open made) r new
+spare_closed pid is_open made {old} {new} {r} e h = subst (λ (b : Bool). Ran old (closing_spare pid b made) r new) (sym e) h
+
+-- an object that is looked for by its path first
+pub by_path : (pid inode : ℕ) (fd : Option ℕ) (o : Option (List ℕ)) (path : List ℕ) {old new : Shown} {r : Result Stat Fault} → o ≡ Some path → Ran old (stating pid (call.Stat path) >>= if_found pid inode fd) r new → Ran old (finding_at pid inode fd o) r new
+by_path pid inode fd o path {old} {new} {r} e h = subst (λ (z : Option (List ℕ)). Ran old (finding_at pid inode fd z) r new) (sym e) h

@@ -1,7 +1,7 @@
 -- What a request does to a kernel: steps of processes, each by the replies to those before, and then
 -- an outcome.
 use Rattle.std.specs.Prelude.{◌≡◌, ◌⊎◌, ℕ}
-use Rattle.model.specs.Entries.{Op, Reply, HistoryFull, NoMemory}
+use Rattle.model.specs.Entries.{Op, Reply, NoMemory}
 use Rattle.machine.specs.Shown.{Shown}
 use Rattle.machine.specs.Steps.{IsStep, forgetting}
 

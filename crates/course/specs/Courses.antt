@@ -1,20 +1,29 @@
 -- The course of each kind of request, below the tables of a mount: paths and descriptors are known.
-use Rattle.std.specs.Prelude.{◌≡◌, ℕ, ◌==◌, ◌||◌, not, List, Bool, true, false, ℤ, pos, Result, Ok, Err}
+use Rattle.std.specs.Prelude.{◌≡◌, ◌⊎◌, ℕ, ◌==◌, ◌&&◌, ◌||◌, not, List, Bool, true, false, ℤ, pos}
+use Rattle.std.specs.Prelude.{Option, Some, None, Result, Ok, Err}
 use Rattle.std.specs.Prelude.{if◌then◌else◌}
 use Rattle.ids.specs.declared.call.Call.TheVariants as call
-use Rattle.ids.specs.declared.call.Op.{Op}
 use Rattle.ids.specs.declared.call.Op.TheVariants as op
 use Rattle.ids.specs.declared.flags.BeginFlags.{BeginFlags}
 use Rattle.ids.specs.declared.flags.OpenFlags.{OpenFlags}
 use Rattle.ids.specs.declared.call.Call.{Call}
 use Rattle.ids.specs.declared.reply.Reply.{Reply}
 use Rattle.ids.specs.declared.reply.Stat.{Stat}
+use Rattle.fuse.specs.declared.errno.Errno.TheVariants as errno
 use Rattle.course.specs.declared.fault.Fault.{Fault}
 use Rattle.course.specs.declared.fault.Fault.TheVariants as fault
 use Rattle.course.specs.declared.files.Made.{Made}
-use Rattle.course.specs.Course.{Course, Give, ◌>>=◌, step}
-use Rattle.course.specs.Faults.{begun_in, child_in, committed_in, count_in, done_in, error}
-use Rattle.course.specs.Faults.{fd_in, given_up_in, is_missing, is_there, stat_in, unless_aborted}
+use Rattle.course.specs.declared.objects.Object.{Object}
+use Rattle.machine.specs.Shown.{Shown}
+use Rattle.course.specs.Course.{Course, Give, Ran, ◌>>=◌, step}
+use Rattle.course.specs.Faults.{begun_in, bytes_in, child_in, committed_in, count_in, done_in, error}
+use Rattle.course.specs.Faults.{fd_in, given_up_in, is_missing, is_there, names_in, stat_in}
+use Rattle.course.specs.Faults.{unless_aborted}
+
+-- a course was run, or memory was refused for its outcome
+abbrev pub RanUnlessRefused : {A : Type 0} → Shown → Course (Result A Fault) → Result A Fault
+    → Shown → Type 0
+RanUnlessRefused old c outcome new = Ran old c outcome new ⊎ (outcome ≡ Err (error errno.ENOMEM))
 
 -- a call of a process
 abbrev pub calling : ℕ → Call → Course Reply
@@ -42,6 +51,13 @@ stating pid c = calling pid c >>= (λ r. Give (stat_in r))
 abbrev pub opening : ℕ → List ℕ → OpenFlags → Course (Result ℕ Fault)
 opening pid path flags = calling pid (call.Open path flags) >>= (λ r. Give (fd_in r))
 
+abbrev pub reading : ℕ → ℕ → ℕ → ℤ → Course (Result (List ℕ) Fault)
+reading pid fd count offset =
+    calling pid (call.Pread fd count offset) >>= (λ r. Give (bytes_in r))
+
+abbrev pub listing : ℕ → List ℕ → Course (Result (List (List ℕ)) Fault)
+listing pid path = calling pid (call.List path) >>= (λ r. Give (names_in r))
+
 abbrev pub forking : ℕ → Course (Result ℕ Fault)
 forking pid = calling pid call.Fork >>= (λ r. Give (child_in r))
 
@@ -67,7 +83,7 @@ making pid c path = doing pid c >>= on_ok (λ done. stating pid (call.Stat path)
 
 -- A move that replaces nothing: nothing may stand at the new name.
 abbrev pub if_absent : ℕ → List ℕ → List ℕ → Result Stat Fault → Course (Result (Unit {0}) Fault)
-if_absent pid from to (Ok stat) = Give (Err (error 17))
+if_absent pid from to (Ok stat) = Give (Err (error errno.EEXIST))
 if_absent pid from to (Err e) =
     if is_missing e then doing pid (call.Rename from to) else Give (Err e)
 
@@ -98,7 +114,7 @@ closing pid fd (fault.Errno e) =
 -- A file is opened, and it has to be this one: else it is closed again, and the path is stale.
 abbrev pub if_same : ℕ → ℕ → ℕ → Result Stat Fault → Course (Result ℕ Fault)
 if_same pid fd inode (Ok stat) =
-    if stat.num == inode then Give (Ok fd) else closing pid fd (error 116)
+    if stat.num == inode then Give (Ok fd) else closing pid fd (error errno.ESTALE)
 if_same pid fd inode (Err e) = closing pid fd e
 
 abbrev pub checking : ℕ → ℕ → ℕ → Course (Result ℕ Fault)
@@ -124,3 +140,72 @@ if_there pid path exclusive (Err e) =
 
 abbrev pub creating : ℕ → List ℕ → List ℕ → Bool → Course (Result Made Fault)
 creating pid path again exclusive = opening pid path fresh >>= if_there pid again exclusive
+
+-- A file is cut to nothing, where that is wanted.
+abbrev pub cutting : ℕ → ℕ → Bool → Course (Result (Unit {0}) Fault)
+cutting pid fd true = doing pid (call.Ftruncate fd 0)
+cutting pid fd false = Give (Ok tt)
+
+-- Where a file that was opened cannot be cut it is closed again.
+abbrev pub if_cut : {A : Type 0} → ℕ → ℕ → A → Result (Unit {0}) Fault → Course (Result A Fault)
+if_cut pid fd x (Ok done) = Give (Ok x)
+if_cut pid fd x (Err e) = closing pid fd e
+
+abbrev pub cut_opened : ℕ → Bool → ℕ → Course (Result ℕ Fault)
+cut_opened pid cut fd = cutting pid fd cut >>= if_cut pid fd fd
+
+abbrev pub opening_cut : ℕ → List ℕ → ℕ → Bool → Course (Result ℕ Fault)
+opening_cut pid path inode cut = opening_this pid path inode >>= on_ok (cut_opened pid cut)
+
+-- A file that was there is cut, where that is wanted; a new one is empty.
+abbrev pub cut_made : ℕ → Bool → Made → Course (Result Made Fault)
+cut_made pid cut made =
+    cutting pid made.fd (cut && not made.is_new) >>= if_cut pid made.fd made
+
+abbrev pub creating_cut : ℕ → List ℕ → List ℕ → Bool → Bool → Course (Result Made Fault)
+creating_cut pid path again exclusive cut =
+    creating pid path again exclusive >>= on_ok (cut_made pid cut)
+
+-- the descriptor of a file that was made is closed, and something else is given
+abbrev pub done_with : {A : Type 0} → ℕ → ℕ → A → Course (Result A Fault)
+done_with pid fd x = doing pid (call.Close fd) >>= on_ok (λ done. Give (Ok x))
+
+-- a file is made, and not left open
+abbrev pub making_file : ℕ → List ℕ → List ℕ → Course (Result Stat Fault)
+making_file pid path again =
+    creating pid path again true >>= on_ok (λ made. done_with pid made.fd made.stat)
+
+-- A file that was made was open already: the new descriptor is closed.
+abbrev pub closing_spare : ℕ → Bool → Made → Course (Result Made Fault)
+closing_spare pid true made = done_with pid made.fd made
+closing_spare pid false made = Give (Ok made)
+
+-- ---- objects, by their paths or their descriptors
+
+-- what the descriptor of an object tells, if it has one
+abbrev pub by_descriptor : ℕ → Option ℕ → Course (Result Stat Fault)
+by_descriptor pid (Some fd) = stating pid (call.Fstat fd)
+by_descriptor pid None = Give (Err (error errno.ESTALE))
+
+-- The path is to give this object. Where it gives another one or none, the descriptor tells.
+abbrev pub if_found : ℕ → ℕ → Option ℕ → Result Stat Fault → Course (Result Stat Fault)
+if_found pid inode fd (Ok stat) =
+    if stat.num == inode then Give (Ok stat) else by_descriptor pid fd
+if_found pid inode fd (Err fault.Aborted) = Give (Err fault.Aborted)
+if_found pid inode fd (Err (fault.Errno e)) = by_descriptor pid fd
+
+abbrev pub finding_at : ℕ → ℕ → Option ℕ → Option (List ℕ) → Course (Result Stat Fault)
+finding_at pid inode fd (Some path) = stating pid (call.Stat path) >>= if_found pid inode fd
+finding_at pid inode fd None = by_descriptor pid fd
+
+abbrev pub finding : ℕ → Object → Course (Result Stat Fault)
+finding pid o = finding_at pid o.inode o.fd o.path
+
+-- The length is set by the descriptor, if there is one, else by the path.
+abbrev pub sizing : ℕ → Option ℕ → Option (List ℕ) → ℕ → Course (Result (Unit {0}) Fault)
+sizing pid (Some fd) path length = doing pid (call.Ftruncate fd length)
+sizing pid None (Some path) length = doing pid (call.Truncate path length)
+sizing pid None None length = Give (Err (error errno.ESTALE))
+
+abbrev pub resizing : ℕ → Object → Option (List ℕ) → ℕ → Course (Result Stat Fault)
+resizing pid o path length = sizing pid o.fd path length >>= on_ok (λ done. finding pid o)

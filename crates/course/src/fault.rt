@@ -1,13 +1,11 @@
 // What replies come to.
 ghost use Rattle.std.specs.Prelude.{◌≡◌};
-ghost use Rattle.course.specs.Faults.{begun_in, child_in, committed_in, count_in, done_in, error};
-ghost use Rattle.course.specs.Faults.{fault_in, fd_in, given_up_in, number_of, stat_in};
+ghost use Rattle.course.specs.Faults.{IsUnlessRefused, begun_in, bytes_in, child_in, committed_in, count_in, done_in};
+ghost use Rattle.course.specs.Faults.{errno_of, error, fault_in, fd_in, given_up_in, names_in, stat_in};
+ghost use Rattle.fuse.specs.declared.errno.Errno.TheVariants.{ENOMEM};
 
-use fuse::{
-    EAGAIN, EBADF, EBUSY, EEXIST, EFBIG, EINVAL, EIO, EISDIR, EMFILE, ENAMETOOLONG, ENOENT, ENOMEM,
-    ENOTDIR, ENOTEMPTY, EOPNOTSUPP, EPERM, EPIPE, ESPIPE, Errno,
-};
-use ids::{Answer, Fd, Pid, Reply, Stat};
+use fuse::Errno;
+use ids::{Answer, Bytes, Fd, NameList, Pid, Reply, Stat};
 use std::alloc::{AllocError, AllocFailed};
 
 /// Why a request fails.
@@ -30,42 +28,42 @@ impl From<Errno> for Fault {
 }
 
 impl From<AllocError> for Fault {
-    ghost from_gives = { λ _ f. f ≡ error 12 };
+    ghost from_gives = { λ _ f. f ≡ error ENOMEM };
 
     fn from(_e: AllocError) -> Fault {
-        Fault::Errno(ENOMEM)
+        Fault::Errno(Errno::ENOMEM)
     }
 }
 
 impl<T: Drop> From<AllocFailed<T>> for Fault {
-    ghost from_gives = { λ _ f. f ≡ error 12 };
+    ghost from_gives = { λ _ f. f ≡ error ENOMEM };
 
     fn from(_e: AllocFailed<T>) -> Fault {
-        Fault::Errno(ENOMEM)
+        Fault::Errno(Errno::ENOMEM)
     }
 }
 
-// The number of a refusal in Linux.
+// What Linux has for a refusal.
 fn errno_of(refused: ids::Errno) -> Errno
-    ensures { result.0 ≡ number_of refused }
+    ensures { result ≡ errno_of refused }
 {
     match refused {
-        ids::Errno::EAGAIN => EAGAIN,
-        ids::Errno::EBADF => EBADF,
-        ids::Errno::EBUSY => EBUSY,
-        ids::Errno::EEXIST => EEXIST,
-        ids::Errno::EFBIG => EFBIG,
-        ids::Errno::EINVAL => EINVAL,
-        ids::Errno::EISDIR => EISDIR,
-        ids::Errno::EMFILE => EMFILE,
-        ids::Errno::ENAMETOOLONG => ENAMETOOLONG,
-        ids::Errno::ENOENT => ENOENT,
-        ids::Errno::ENOTDIR => ENOTDIR,
-        ids::Errno::ENOTEMPTY => ENOTEMPTY,
-        ids::Errno::ENOTSUP => EOPNOTSUPP,
-        ids::Errno::EPERM => EPERM,
-        ids::Errno::EPIPE => EPIPE,
-        ids::Errno::ESPIPE => ESPIPE,
+        ids::Errno::EAGAIN => Errno::EAGAIN,
+        ids::Errno::EBADF => Errno::EBADF,
+        ids::Errno::EBUSY => Errno::EBUSY,
+        ids::Errno::EEXIST => Errno::EEXIST,
+        ids::Errno::EFBIG => Errno::EFBIG,
+        ids::Errno::EINVAL => Errno::EINVAL,
+        ids::Errno::EISDIR => Errno::EISDIR,
+        ids::Errno::EMFILE => Errno::EMFILE,
+        ids::Errno::ENAMETOOLONG => Errno::ENAMETOOLONG,
+        ids::Errno::ENOENT => Errno::ENOENT,
+        ids::Errno::ENOTDIR => Errno::ENOTDIR,
+        ids::Errno::ENOTEMPTY => Errno::ENOTEMPTY,
+        ids::Errno::ENOTSUP => Errno::EOPNOTSUPP,
+        ids::Errno::EPERM => Errno::EPERM,
+        ids::Errno::EPIPE => Errno::EPIPE,
+        ids::Errno::ESPIPE => Errno::ESPIPE,
     }
 }
 
@@ -80,9 +78,9 @@ impl Fault {
                 why: _,
                 restarted: _,
             } => Fault::Aborted,
-            Reply::Busy(_) => Fault::Errno(EBUSY),
-            Reply::NoMemory | Reply::HistoryFull => Fault::Errno(ENOMEM),
-            _ => Fault::Errno(EIO),
+            Reply::Busy(_) => Fault::Errno(Errno::EBUSY),
+            Reply::NoMemory | Reply::HistoryFull => Fault::Errno(Errno::ENOMEM),
+            _ => Fault::Errno(Errno::EIO),
         }
     }
 }
@@ -107,8 +105,8 @@ pub(crate) fn fd_in(reply: &Reply) -> Result<Fd, Fault>
     }
 }
 
-/// What a call tells of an object.
-pub fn stat_in(reply: &Reply) -> Result<Stat, Fault>
+// What a call tells of an object.
+pub(crate) fn stat_in(reply: &Reply) -> Result<Stat, Fault>
     ensures { result ≡ stat_in reply.now }
 {
     match reply {
@@ -123,6 +121,26 @@ pub(crate) fn count_in(reply: &Reply) -> Result<u32, Fault>
 {
     match reply {
         Reply::Answer(Answer::Count(count)) => Ok(*count),
+        _ => Err(Fault::of_reply(reply)),
+    }
+}
+
+// The bytes that were read, copied.
+pub(crate) fn bytes_in(reply: &Reply) -> Result<Bytes, Fault>
+    ensures { IsUnlessRefused (bytes_in reply.now) result }
+{
+    match reply {
+        Reply::Answer(Answer::Bytes(bytes)) => Ok(bytes.try_clone()?),
+        _ => Err(Fault::of_reply(reply)),
+    }
+}
+
+// The names of a directory, copied.
+pub(crate) fn names_in(reply: &Reply) -> Result<NameList, Fault>
+    ensures { IsUnlessRefused (names_in reply.now) result }
+{
+    match reply {
+        Reply::Answer(Answer::Names(names)) => Ok(names.try_clone()?),
         _ => Err(Fault::of_reply(reply)),
     }
 }

@@ -4,12 +4,13 @@ ghost use Rattle.ids.specs.declared.call.Call.TheVariants as asked;
 ghost use Rattle.course.specs.Hands.{bound};
 ghost use Rattle.course.specs.Course.{Ran};
 ghost use Rattle.course.specs.Courses.{appending, both, checking, closing, creating, doing};
-ghost use Rattle.course.specs.Courses.{IsOffset, fresh, if_there, opening, opening_this, seeing, writing};
+ghost use Rattle.course.specs.Courses.{IsOffset, fresh, if_there, opening, opening_this, reading, seeing};
+ghost use Rattle.course.specs.Courses.{RanUnlessRefused, stating, writing};
 ghost use Rattle.course.specs.Faults.{is_there, unless_aborted};
 
-use crate::fault::{Fault, count_in, fd_in};
+use crate::fault::{Fault, bytes_in, count_in, fd_in};
 use crate::hand::Hand;
-use fuse::{EEXIST, ESTALE};
+use fuse::Errno;
 use ids::{Bytes, Call, Fd, Num, OpenFlags, Stat};
 use machine::Machine;
 
@@ -92,16 +93,20 @@ fn check_open<K: Machine>(hand: &mut Hand<K>, fd: Fd, inode: Num) -> Result<Fd, 
             if stat.num == inode {
                 Ok(fd)
             } else {
-                close_for(hand, fd, Fault::Errno(ESTALE))
+                close_for(hand, fd, Fault::Errno(Errno::ESTALE))
             }
         }
         Err(fault) => close_for(hand, fd, fault),
     }
 }
 
-/// Opens the file of a path for reading and writing, where it is this object. Where it is another one
-/// the path is stale.
-pub fn open_this<K: Machine>(hand: &mut Hand<K>, path: Bytes, inode: Num) -> Result<Fd, Fault>
+// Opens the file of a path for reading and writing, where it is this object. Where it is another one
+// the path is stale.
+pub(crate) fn open_this<K: Machine>(
+    hand: &mut Hand<K>,
+    path: Bytes,
+    inode: Num,
+) -> Result<Fd, Fault>
     ensures bound { bound hand.new ≡ bound hand.old }
     ensures ran { Ran hand.old.shown
         (opening_this hand.old.pid path inode) result hand.new.shown }
@@ -127,7 +132,7 @@ fn is_there(fault: Fault) -> bool
     ensures { result ≡ is_there fault }
 {
     match fault {
-        Fault::Errno(errno) => errno.0 == EEXIST.0,
+        Fault::Errno(errno) => errno == Errno::EEXIST,
         Fault::Aborted => false,
     }
 }
@@ -156,9 +161,9 @@ fn go_on<K: Machine>(
     }
 }
 
-/// Makes a file and opens it for reading and writing. Where the name is there already the file of
-/// that name is opened, unless `exclusive` is true. The two paths are the same.
-pub fn create<K: Machine>(
+// Makes a file and opens it for reading and writing. Where the name is there already the file of
+// that name is opened, unless `exclusive` is true. The two paths are the same.
+pub(crate) fn create<K: Machine>(
     hand: &mut Hand<K>,
     path: Bytes,
     again: Bytes,
@@ -172,8 +177,8 @@ pub fn create<K: Machine>(
     go_on(hand, again, exclusive, opened)
 }
 
-/// Cuts or grows the file of a descriptor.
-pub fn set_length<K: Machine>(hand: &mut Hand<K>, fd: Fd, length: u32) -> Result<(), Fault>
+// Cuts or grows the file of a descriptor.
+pub(crate) fn set_length<K: Machine>(hand: &mut Hand<K>, fd: Fd, length: u32) -> Result<(), Fault>
     ensures bound { bound hand.new ≡ bound hand.old }
     ensures ran { Ran hand.old.shown
         (doing hand.old.pid (asked.Ftruncate fd length)) result hand.new.shown }
@@ -181,13 +186,36 @@ pub fn set_length<K: Machine>(hand: &mut Hand<K>, fd: Fd, length: u32) -> Result
     hand.do_call(Call::Ftruncate(fd, length))
 }
 
-/// Cuts or grows the file of a path.
-pub fn set_length_at<K: Machine>(hand: &mut Hand<K>, path: Bytes, length: u32) -> Result<(), Fault>
+// Cuts or grows the file of a path.
+pub(crate) fn set_length_at<K: Machine>(
+    hand: &mut Hand<K>,
+    path: Bytes,
+    length: u32,
+) -> Result<(), Fault>
     ensures bound { bound hand.new ≡ bound hand.old }
     ensures ran { Ran hand.old.shown
         (doing hand.old.pid (asked.Truncate path length)) result hand.new.shown }
 {
     hand.do_call(Call::Truncate(path, length))
+}
+
+/// So many bytes of the file of a descriptor, from an offset on, or those that there are.
+pub fn read<K: Machine>(hand: &mut Hand<K>, fd: Fd, count: u32, offset: i64) -> Result<Bytes, Fault>
+    ensures bound { bound hand.new ≡ bound hand.old }
+    ensures ran { RanUnlessRefused hand.old.shown
+        (reading hand.old.pid fd count offset) result hand.new.shown }
+{
+    let reply = hand.ask(Call::Pread(fd, count, offset));
+    bytes_in(&reply)
+}
+
+/// What the file of a descriptor is like.
+pub fn stat_file<K: Machine>(hand: &mut Hand<K>, fd: Fd) -> Result<Stat, Fault>
+    ensures bound { bound hand.new ≡ bound hand.old }
+    ensures ran { Ran hand.old.shown
+        (stating hand.old.pid (asked.Fstat fd)) result hand.new.shown }
+{
+    hand.stat_call(Call::Fstat(fd))
 }
 
 /// Puts bytes into the file of a descriptor from an offset on. It gives how many.

@@ -8,14 +8,16 @@
 mod fault;
 mod files;
 mod hand;
+mod made;
 mod names;
+mod objects;
 mod step;
 mod transactions;
 
-pub use fault::{Fault, stat_in};
-pub use files::{
-    Made, append, close, close_for, create, open_this, set_length, set_length_at, write,
-};
+pub use fault::Fault;
+pub use files::{Made, append, close, close_for, read, stat_file, write};
 pub use hand::Hand;
+pub use made::{close_spare, create_cut, cut_if, make_file, open_cut};
 pub use names::{link, list, make_directory, move_name, remove_directory, stat_path, unlink};
+pub use objects::{Object, find, resize};
 pub use transactions::{begin, end, fork, give_up, look_nowhere};

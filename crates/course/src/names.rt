@@ -3,13 +3,13 @@ ghost use Rattle.std.specs.Prelude.{◌≡◌, IfSome, is_some, true};
 ghost use Rattle.ids.specs.declared.call.Call.TheVariants as asked;
 ghost use Rattle.course.specs.Hands.{bound};
 ghost use Rattle.course.specs.Course.{Ran};
-ghost use Rattle.course.specs.Courses.{calling, doing, making, moving, stating};
+ghost use Rattle.course.specs.Courses.{RanUnlessRefused, doing, listing, making, moving, stating};
 ghost use Rattle.course.specs.Faults.{is_missing};
 
-use crate::fault::Fault;
+use crate::fault::{Fault, names_in};
 use crate::hand::Hand;
-use fuse::{EEXIST, ENOENT};
-use ids::{Bytes, Call, Reply, Stat};
+use fuse::Errno;
+use ids::{Bytes, Call, NameList, Stat};
 use machine::Machine;
 
 /// What a path gives.
@@ -21,13 +21,14 @@ pub fn stat_path<K: Machine>(hand: &mut Hand<K>, path: Bytes) -> Result<Stat, Fa
     hand.stat_call(Call::Stat(path))
 }
 
-/// The names of a directory: they stand in the reply, if that is an answer.
-pub fn list<K: Machine>(hand: &mut Hand<K>, path: Bytes) -> Reply
+/// The names of a directory.
+pub fn list<K: Machine>(hand: &mut Hand<K>, path: Bytes) -> Result<NameList, Fault>
     ensures bound { bound hand.new ≡ bound hand.old }
-    ensures ran { Ran hand.old.shown
-        (calling hand.old.pid (asked.List path)) result hand.new.shown }
+    ensures ran { RanUnlessRefused hand.old.shown
+        (listing hand.old.pid path) result hand.new.shown }
 {
-    hand.ask(Call::List(path))
+    let reply = hand.ask(Call::List(path));
+    names_in(&reply)
 }
 
 /// Makes a directory, and tells about it. The two paths are the same.
@@ -83,7 +84,7 @@ fn is_missing(fault: Fault) -> bool
     ensures { result ≡ is_missing fault }
 {
     match fault {
-        Fault::Errno(errno) => errno.0 == ENOENT.0,
+        Fault::Errno(errno) => errno == Errno::ENOENT,
         Fault::Aborted => false,
     }
 }
@@ -101,7 +102,7 @@ fn move_if_absent<K: Machine>(
         (moving hand.old.pid from to true) result hand.new.shown }
 {
     match stat_path(hand, again) {
-        Ok(_) => Err(Fault::Errno(EEXIST)),
+        Ok(_) => Err(Fault::Errno(Errno::EEXIST)),
         Err(fault) => {
             if is_missing(fault) {
                 hand.do_call(Call::Rename(from, to))

@@ -7,3 +7,4 @@ pub mod Requests
 pub mod Listed
 pub mod Listings
 pub mod Replies
+pub mod Errors

@@ -9,6 +9,7 @@ use Rattle.fuse.specs.declared.reply.Reply.{Reply}
 use Rattle.fuse.specs.declared.reply.Reply.TheVariants as reply
 use Rattle.fuse.specs.declared.reply.StatFs.{StatFs}
 use Rattle.fuse.specs.declared.listing.DirectoryEntry.{DirectoryEntry}
+use Rattle.fuse.specs.Errors.{number_of}
 use Rattle.fuse.specs.Listings.{directory_entry_bytes}
 use Rattle.fuse.specs.Numbers.{u16s, u32_bytes, u32s, u64_bytes, u64s}
 
@@ -77,7 +78,7 @@ IsShort _ = Unit {0}
 
 -- the error below zero, as two's complement in 32 bits, or 0
 abbrev pub error_of : Reply → ℕ
-error_of (reply.Error errno) = (2 ^ 32 - errno.0) % 2 ^ 32
+error_of (reply.Error errno) = (2 ^ 32 - number_of errno) % 2 ^ 32
 error_of _ = 0
 
 -- a header with this error and number, and a body

@@ -2,7 +2,7 @@
 ghost use Rattle.std.specs.Prelude.{◌≡◌};
 ghost use Rattle.fuse.specs.Faults.{Reads, answer_to};
 
-use crate::errno::{EINVAL, EIO, ENOMEM, Errno};
+use crate::errno::Errno;
 use crate::request::Operation;
 
 /// Why bytes are no request, and which request is to be answered: the first fault from the left.
@@ -35,9 +35,9 @@ impl ParseFault {
     {
         match self {
             ParseFault::NoHeader => None,
-            ParseFault::WrongLength { unique } => Some((unique, EIO)),
-            ParseFault::Malformed { unique } => Some((unique, EINVAL)),
-            ParseFault::NoMemory { unique } => Some((unique, ENOMEM)),
+            ParseFault::WrongLength { unique } => Some((unique, Errno::EIO)),
+            ParseFault::Malformed { unique } => Some((unique, Errno::EINVAL)),
+            ParseFault::NoMemory { unique } => Some((unique, Errno::ENOMEM)),
         }
     }
 }

@@ -21,11 +21,7 @@ mod reader;
 mod reply;
 mod request;
 
-pub use errno::{
-    EAGAIN, EBADF, EBUSY, ECANCELED, EEXIST, EFBIG, EINVAL, EIO, EISDIR, EMFILE, ENAMETOOLONG,
-    ENOENT, ENOMEM, ENOSYS, ENOTDIR, ENOTEMPTY, ENXIO, EOPNOTSUPP, EPERM, EPIPE, ESPIPE, ESTALE,
-    EXDEV, Errno,
-};
+pub use errno::Errno;
 pub use fault::ParseFault;
 pub use forgets::{Forget, Forgets};
 pub use ids::Bytes;

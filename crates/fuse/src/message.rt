@@ -17,7 +17,7 @@ fn error_of(reply: &Reply) -> u32
     ensures { result ≡ error_of reply.now }
 {
     match reply {
-        Reply::Error(errno) => 0u32.wrapping_sub(u32::from(errno.0)),
+        Reply::Error(errno) => 0u32.wrapping_sub(errno.number()),
         _ => 0,
     }
 }

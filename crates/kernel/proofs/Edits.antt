@@ -9,14 +9,14 @@ use Rattle.std.proofs.lemmas.Bool.{false≢true}
 use Rattle.model.specs.FiniteMap.{entries, get}
 use Rattle.model.specs.State.{A_file, A_directory, A_pipe, Kernel}
 use Rattle.model.specs.Limits.{largest_file}
-use Rattle.model.specs.Plan.{Errno, Plan, Give, answer as answer_to, given, ◌>>=◌, ◌>>◌, ENOENT, ENOTDIR, ENOTEMPTY, EEXIST, EBUSY, EISDIR, EINVAL, EBADF, EFBIG, EPERM, ESPIPE, EPIPE, EAGAIN, List_names, Measure, refuse_if, or_refuse}
+use Rattle.model.specs.Plan.{Errno, Plan, Give, answer as answer_to, given, ◌>>=◌, ◌>>◌, ENOENT, ENOTDIR, ENOTEMPTY, EEXIST, EBUSY, EISDIR, EINVAL, EBADF, EFBIG, EPERM, ESPIPE, EPIPE, EAGAIN, List_names, refuse_if, or_refuse}
 use Rattle.model.specs.Entries.{is_inside}
 use Rattle.kernel.specs.States.{CanChange}
-use Rattle.model.specs.Calls.{Call, Dup, Dup2, Whence, Open, Close, Read, Pread, Write, Pwrite, Lseek, Ftruncate, Truncate, Stat, Fstat, Link, Unlink, Rename, Mkdir, Rmdir, List_directory, Open_pipe, Fork, Exit, Child, OpenFlags, Own, Slot, slot_of, own}
-use Rattle.model.specs.Changes.{process_of, There, Made, New_process}
+use Rattle.model.specs.Calls.{Call, Dup, Dup2, Open, Close, Read, Pread, Write, Pwrite, Lseek, Ftruncate, Truncate, Stat, Fstat, Link, Unlink, Rename, Mkdir, Rmdir, List_directory, Open_pipe, Fork, Exit, Child, OpenFlags, Own, Slot, slot_of, own}
+use Rattle.model.specs.Changes.{process_of, There, New_process}
 use Rattle.model.specs.Paths.{is_empty, is_below}
 use Rattle.model.specs.Walks.{Place, Last, parsed, walk, last_of, is_directory}
-use Rattle.model.specs.Plans.{Change, duplicated, plan, status as told_status, absent, slot, slot_at, free, free_from, first_of_free, is_pipe, opened, cut_to, read_some, write_some, offset_named, write_from, read_pipe, piped, pipes_in, whole_write, most_processes, place_to_write, base, sought, moved, replaced_by_name, room, most_moved, descriptor_limit}
+use Rattle.model.specs.Plans.{Change, duplicated, plan, status as told_status, absent, slot, free, free_from, first_of_free, is_pipe, opened, cut_to, read_some, write_some, offset_named, write_from, read_pipe, piped, pipes_in, whole_write, most_processes, place_to_write, base, sought, moved, replaced_by_name, room, most_moved, descriptor_limit}
 use Rattle.model.specs.Steps.{edits, edits_of, reply, reply_of}
 use Rattle.ids.specs.Flags.{is_reading, is_writing, is_creating, is_exclusive, is_truncating}
 use Rattle.model.proofs.Laws.{all_entries}

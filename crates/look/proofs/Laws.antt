@@ -1,5 +1,5 @@
 -- What a process's list of open descriptors tells of one of them, by the process's table.
-use Rattle.std.proofs.Common.{◌≡◌, ℕ, suc, ◌+◌, ◌-◌, ◌<◌, ◌≤◌, List, [], ◌∷◌, map, Bool, true, false, cond, ◌||◌, if◌then◌else◌, Option, Some, None, refl, sym, ap, ◌∙◌, arith, ◌==◌, eq-eqb, ne_eqb, nat_cmp, inl, inr, add-one}
+use Rattle.std.proofs.Common.{◌≡◌, ℕ, suc, ◌+◌, ◌-◌, ◌<◌, ◌≤◌, List, [], ◌∷◌, map, true, false, cond, ◌||◌, if◌then◌else◌, Some, None, refl, sym, ap, ◌∙◌, arith, ◌==◌, eq-eqb, ne_eqb, nat_cmp, inl, inr, add-one}
 use Rattle.std.specs.Ordering.{eq_by_cmp, is_eq}
 use Rattle.std.specs.Option.{is_some}
 use Rattle.std.specs.Cmp.{nat_cmp_total, tied_itself}

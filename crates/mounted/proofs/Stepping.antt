@@ -1,5 +1,5 @@
 -- The process of a view whose transaction goes on.
-use Rattle.std.proofs.Common.{◌≡◌, ℕ, List, Option, Some, None, sym, ap, ◌∙◌}
+use Rattle.std.proofs.Common.{◌≡◌, ℕ, List, Option, Some, None, sym, ◌∙◌}
 use Rattle.std.specs.Prelude.{option_map}
 use Rattle.mounted.specs.Steppers.{IsStepper, numbered}
 use Rattle.mounted.specs.declared.views.State.{State}

@@ -4,7 +4,7 @@ use crate::server::Server;
 use crate::tables::Tables;
 use crate::views::{Standing, State};
 use course::{Fault, end, give_up, look_nowhere};
-use fuse::{ECANCELED, EINVAL, ENOENT, ENOSYS, ENOTDIR, EPERM, Opened, Operation, Reply};
+use fuse::{Errno, Opened, Operation, Reply};
 use heap::Heap;
 use ids::Bytes;
 use machine::Machine;
@@ -54,7 +54,7 @@ impl Tables {
     fn standing(&self, view: u64) -> Result<Standing, Fault> {
         match self.views.standing(view) {
             Some(standing) => Ok(standing),
-            None => Err(Fault::Errno(ENOENT)),
+            None => Err(Fault::Errno(Errno::ENOENT)),
         }
     }
 
@@ -129,11 +129,11 @@ impl<K: Machine> Server<K> {
         let standing = self.tables.standing(view)?;
         match standing.state {
             State::Live => {}
-            State::Aborted => return Err(Fault::Errno(ECANCELED)),
-            State::Committed | State::GivenUp => return Err(Fault::Errno(ENOENT)),
+            State::Aborted => return Err(Fault::Errno(Errno::ECANCELED)),
+            State::Committed | State::GivenUp => return Err(Fault::Errno(Errno::ENOENT)),
         }
         let Some(order) = order_in(bytes.as_slice()) else {
-            return Err(Fault::Errno(EINVAL));
+            return Err(Fault::Errno(Errno::EINVAL));
         };
         self.obey(standing, order)?;
         let size = u32::try_from(bytes.as_slice().len()).unwrap_or(u32::MAX);
@@ -143,7 +143,7 @@ impl<K: Machine> Server<K> {
     // Requests about the file.
     pub(crate) fn in_control(&mut self, view: u64, operation: Operation) -> Result<Reply, Fault> {
         match operation {
-            Operation::Lookup { name: _ } => Err(Fault::Errno(ENOTDIR)),
+            Operation::Lookup { name: _ } => Err(Fault::Errno(Errno::ENOTDIR)),
             Operation::GetAttr { handle: _ } => Ok(self.tables.attr_of_control(view)),
             Operation::SetAttr { changes } => {
                 self.tables.attributes.hear_changes(&changes);
@@ -167,8 +167,8 @@ impl<K: Machine> Server<K> {
                 bytes,
             } => self.write_control(view, &bytes),
             Operation::Access { mask: _ } => Ok(Reply::Empty),
-            Operation::Other { opcode: _ } => Err(Fault::Errno(ENOSYS)),
-            _ => Err(Fault::Errno(EPERM)),
+            Operation::Other { opcode: _ } => Err(Fault::Errno(Errno::ENOSYS)),
+            _ => Err(Fault::Errno(Errno::EPERM)),
         }
     }
 }

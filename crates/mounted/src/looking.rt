@@ -1,18 +1,27 @@
 // Requests that look at nodes.
-ghost use Rattle.std.specs.Prelude.{◌≡◌};
+ghost use Rattle.std.specs.Prelude.{◌≡◌, IfErr, IfOk};
+ghost use Rattle.fuse.specs.declared.errno.Errno.TheVariants.{ENOMEM};
+ghost use Rattle.course.specs.Faults.{error};
 ghost use Rattle.course.specs.Hands.{bound};
+ghost use Rattle.mounted.specs.Requests.{AnswersGetAttr, AnswersLookUp, AnswersName, IsReserved};
+ghost use Rattle.mounted.specs.Told.{IsEntry};
 
 use crate::numbers::{ROOT, TRANSACTIONS, is_reserved};
-use crate::tables::{Located, Stepper, Tables};
-use course::{Fault, Hand, stat_path};
-use fuse::{ENOENT, ESTALE, Entry, Reply};
-use ids::{Bytes, Call, Num, Stat};
+use crate::planning::Located;
+use crate::tables::Tables;
+use course::{Fault, Hand, find, stat_path};
+use fuse::{Entry, Errno, Reply};
+use ids::{Bytes, Stat};
 use machine::Machine;
 use nodes::Spot;
 
 impl Tables {
     // What is told of a node that was looked up, or made, under this name: its look-up is counted.
-    pub(crate) fn entry(&mut self, spot: Spot, stat: &Stat) -> Result<Entry, Fault> {
+    pub(crate) fn entry(&mut self, spot: Spot, stat: &Stat) -> Result<Entry, Fault>
+        ensures ok { IfOk result (λ entry. IsEntry self.old.nodes.table spot stat.now entry) }
+        ensures err { IfErr result (λ e. e ≡ error ENOMEM) }
+        ensures files { self.new.files ≡ self.old.files }
+    {
         let node = self.nodes.look_up(spot, stat.num)?;
         Ok(Entry {
             node,
@@ -22,12 +31,43 @@ impl Tables {
     }
 
     // What is told of a node that is no object of the kernel.
-    pub(crate) fn entry_of_node(&self, node: u64, is_directory: bool) -> Reply {
-        Reply::Entry(Entry {
+    pub(crate) fn entry_of_node(&self, node: u64, is_directory: bool) -> Entry
+        ensures { result.node ≡ node }
+    {
+        Entry {
             node,
             generation: 0,
             attr: self.attributes.attr_of_node(node, is_directory),
-        })
+        }
+    }
+
+    // The directory of transactions, in the root of the plain tree alone.
+    fn look_up_reserved(&self, node: u64) -> Result<Reply, Fault>
+        ensures { IsReserved node result }
+    {
+        if node == ROOT {
+            Ok(Reply::Entry(self.entry_of_node(TRANSACTIONS, true)))
+        } else {
+            Err(Fault::Errno(Errno::ENOENT))
+        }
+    }
+
+    // What another name gives.
+    fn look_up_name<K: Machine>(
+        &mut self,
+        hand: &mut Hand<K>,
+        node: u64,
+        name: &Bytes,
+    ) -> Result<Reply, Fault>
+        ensures bound { bound hand.new ≡ bound hand.old }
+        ensures answers { AnswersName self.old hand.old.pid node name.now
+            hand.old.shown hand.new.shown result }
+    {
+        let Located { view: _, path } = self.locate_child(node, name)?;
+        let spot = self.spot_for(node, name)?;
+        let stat = stat_path(hand, path)?;
+        let entry = self.entry(spot, &stat)?;
+        Ok(Reply::Entry(entry))
     }
 
     // What a name of a directory gives.
@@ -37,72 +77,14 @@ impl Tables {
         node: u64,
         name: &Bytes,
     ) -> Result<Reply, Fault>
-        ensures { bound hand.new ≡ bound hand.old }
+        ensures bound { bound hand.new ≡ bound hand.old }
+        ensures answers { AnswersLookUp self.old hand.old.pid node name.now
+            hand.old.shown hand.new.shown result }
     {
         if is_reserved(node, name.as_slice()) {
-            return if node == ROOT {
-                Ok(self.entry_of_node(TRANSACTIONS, true))
-            } else {
-                Err(Fault::Errno(ENOENT))
-            };
+            return self.look_up_reserved(node);
         }
-        let place = self.locate(node)?;
-        let path = place.path_of(self.heap, name)?;
-        let spot = Spot::new(self.heap, node, name.as_slice())?;
-        self.nodes.reserve()?;
-        let stat = stat_path(hand, path)?;
-        drop(place);
-        Ok(Reply::Entry(self.entry(spot, &stat)?))
-    }
-
-    // What the path of a node gives, where that is still its object.
-    fn stat_by_path<K: Machine>(
-        &mut self,
-        hand: &mut Hand<K>,
-        node: u64,
-        place: &Located,
-    ) -> Result<Option<Stat>, Fault>
-        ensures { bound hand.new ≡ bound hand.old }
-    {
-        let path = place.own_path(self.heap)?;
-        let inode = self.inode_of(node);
-        match stat_path(hand, path) {
-            Ok(stat) => Ok(if stat.num == inode { Some(stat) } else { None }),
-            Err(Fault::Aborted) => Err(Fault::Aborted),
-            Err(Fault::Errno(_)) => Ok(None),
-        }
-    }
-
-    // What the descriptor of an object gives, where it is open in a view.
-    fn stat_by_descriptor<K: Machine>(
-        &mut self,
-        hand: &mut Hand<K>,
-        view: u64,
-        inode: Num,
-    ) -> Result<Stat, Fault>
-        ensures { bound hand.new ≡ bound hand.old }
-    {
-        let Some(file) = self.open_as(view, inode, hand.pid()) else {
-            return Err(Fault::Errno(ESTALE));
-        };
-        let reply = hand.ask(Call::Fstat(file.fd));
-        course::stat_in(&reply)
-    }
-
-    // What a node is like: by its path, where it is attached and its object is still there, else by
-    // its descriptor.
-    pub(crate) fn stat<K: Machine>(&mut self, hand: &mut Hand<K>, node: u64) -> Result<Stat, Fault>
-        ensures { bound hand.new ≡ bound hand.old }
-    {
-        let Stepper { view, pid: _ } = self.stepper_at(node)?;
-        if let Some(path) = self.path_to(node)? {
-            let place = Located { view, path };
-            if let Some(stat) = self.stat_by_path(hand, node, &place)? {
-                return Ok(stat);
-            }
-        }
-        let inode = self.inode_of(node);
-        self.stat_by_descriptor(hand, view, inode)
+        self.look_up_name(hand, node, name)
     }
 
     // The attributes of a node.
@@ -111,9 +93,12 @@ impl Tables {
         hand: &mut Hand<K>,
         node: u64,
     ) -> Result<Reply, Fault>
-        ensures { bound hand.new ≡ bound hand.old }
+        ensures bound { bound hand.new ≡ bound hand.old }
+        ensures answers { AnswersGetAttr self.old hand.old.pid node
+            hand.old.shown hand.new.shown result }
     {
-        let stat = self.stat(hand, node)?;
+        let object = self.find_object(hand.pid(), node)?;
+        let stat = find(hand, object)?;
         Ok(Reply::Attr(self.attributes.attr(&stat)))
     }
 }

@@ -1,41 +1,72 @@
 // Requests that make names.
-ghost use Rattle.std.specs.Prelude.{◌≡◌};
+ghost use Rattle.std.specs.Prelude.{◌≡◌, IfErr, IfOk};
+ghost use Rattle.fuse.specs.declared.errno.Errno.TheVariants.{ENOMEM};
+ghost use Rattle.course.specs.Faults.{error};
 ghost use Rattle.course.specs.Hands.{bound};
+ghost use Rattle.mounted.specs.Answers.{IsPlanned};
+ghost use Rattle.mounted.specs.Requests.{AnswersLink, AnswersMkDir, AnswersMkNod, in_one_view};
+ghost use Rattle.mounted.specs.Requests.{linking, plain_kind, planned_file};
+ghost use Rattle.mounted.specs.Told.{IsEntry};
 
 use crate::attributes::Owner;
-use crate::numbers::is_reserved;
+use crate::planning::{Located, Pair};
 use crate::serving::Caller;
-use crate::tables::{Located, Tables};
-use course::{Fault, Hand, Made, close};
-use fuse::{EOPNOTSUPP, EPERM, EXDEV, Reply};
+use crate::tables::Tables;
+use course::{Fault, Hand};
+use fuse::{Entry, Errno, Reply};
 use ids::{Bytes, Kind, Stat};
 use machine::Machine;
 use nodes::Spot;
 
-// The bits of a mode that tell a kind, and those of a plain file.
-const KINDS: u32 = 0o170_000;
+// Only plain files are made, and a mode that tells no kind means them.
+fn plain_kind(mode: u32) -> Result<(), Fault>
+    ensures { result ≡ plain_kind mode }
+{
+    let kind = mode / 0o10000 % 0o20;
+    if kind == 0o10 || kind == 0 {
+        Ok(())
+    } else {
+        Err(Fault::Errno(Errno::EOPNOTSUPP))
+    }
+}
 
-const FILE: u32 = 0o100_000;
+// Two paths in one view.
+pub(crate) fn in_one_view(from: Located, to: Located) -> Result<Pair, Fault>
+    ensures { result ≡ in_one_view from to }
+{
+    if from.view != to.view {
+        return Err(Fault::Errno(Errno::EXDEV));
+    }
+    let Located { view: _, path: from } = from;
+    let Located { view: _, path: to } = to;
+    Ok(Pair { from, to })
+}
 
 impl Tables {
-    // Where a name is to be made. The name of the directory of transactions is not for others.
-    pub(crate) fn locate_new(&self, node: u64, name: &Bytes) -> Result<Located, Fault> {
-        if is_reserved(node, name.as_slice()) {
-            return Err(Fault::Errno(EPERM));
-        }
-        self.locate(node)
-    }
-
-    // What is kept of an object that was made in a directory.
-    pub(crate) fn note_made(&mut self, node: u64, stat: &Stat, mode: u32, owner: Owner) {
-        self.attributes.create(stat.num, mode, owner);
-        self.note_names(node);
-    }
-
     // The names of a directory were changed.
-    pub(crate) fn note_names(&mut self, node: u64) {
+    pub(crate) fn note_names(&mut self, node: u64)
+        ensures nodes { self.new.nodes ≡ self.old.nodes }
+        ensures files { self.new.files ≡ self.old.files }
+    {
         let parent = self.inode_of(node);
         self.attributes.modify(parent, Kind::Dir);
+    }
+
+    // What is kept and told of an object that was made.
+    pub(crate) fn entry_made(
+        &mut self,
+        spot: Spot,
+        stat: &Stat,
+        mode: u32,
+        owner: Owner,
+    ) -> Result<Entry, Fault>
+        ensures ok { IfOk result (λ entry. IsEntry self.old.nodes.table spot stat.now entry) }
+        ensures err { IfErr result (λ e. e ≡ error ENOMEM) }
+        ensures files { self.new.files ≡ self.old.files }
+    {
+        self.attributes.create(stat.num, mode, owner);
+        self.note_names(spot.place().parent);
+        self.entry(spot, stat)
     }
 
     // Makes a directory.
@@ -46,34 +77,24 @@ impl Tables {
         name: &Bytes,
         mode: u32,
     ) -> Result<Reply, Fault>
-        ensures { bound hand.new ≡ bound hand.old }
+        ensures bound { bound hand.new ≡ bound hand.old }
+        ensures answers { AnswersMkDir self.old hand.old.pid caller.node name.now
+            hand.old.shown hand.new.shown result }
     {
-        let place = self.locate_new(caller.node, name)?;
-        let path = place.path_of(self.heap, name)?;
+        let Located { view: _, path } = self.locate_new(caller.node, name)?;
         let again = path.try_clone()?;
-        let spot = Spot::new(self.heap, caller.node, name.as_slice())?;
-        self.nodes.reserve()?;
+        let spot = self.spot_for(caller.node, name)?;
         let stat = course::make_directory(hand, path, again)?;
-        drop(place);
-        self.note_made(caller.node, &stat, mode, caller.owner);
-        Ok(Reply::Entry(self.entry(spot, &stat)?))
+        let entry = self.entry_made(spot, &stat, mode, caller.owner)?;
+        Ok(Reply::Entry(entry))
     }
 
-    // Makes a file, or opens the one that is there. It gives the view too.
-    pub(crate) fn open_new<K: Machine>(
-        &mut self,
-        hand: &mut Hand<K>,
-        node: u64,
-        name: &Bytes,
-        exclusive: bool,
-    ) -> Result<(u64, Made), Fault>
-        ensures { bound hand.new ≡ bound hand.old }
+    // Where a plain file is to be made.
+    fn plan_file(&self, node: u64, name: &Bytes, mode: u32) -> Result<Located, Fault>
+        ensures { IsPlanned (planned_file self.now node name.now mode) result }
     {
-        let place = self.locate_new(node, name)?;
-        let path = place.path_of(self.heap, name)?;
-        let again = path.try_clone()?;
-        let made = course::create(hand, path, again, exclusive)?;
-        Ok((place.view, made))
+        plain_kind(mode)?;
+        self.locate_new(node, name)
     }
 
     // Makes a plain file that is not opened.
@@ -84,17 +105,25 @@ impl Tables {
         name: &Bytes,
         mode: u32,
     ) -> Result<Reply, Fault>
-        ensures { bound hand.new ≡ bound hand.old }
+        ensures bound { bound hand.new ≡ bound hand.old }
+        ensures answers { AnswersMkNod self.old hand.old.pid caller.node name.now mode
+            hand.old.shown hand.new.shown result }
     {
-        if mode & KINDS != FILE && mode & KINDS != 0 {
-            return Err(Fault::Errno(EOPNOTSUPP));
-        }
-        let spot = Spot::new(self.heap, caller.node, name.as_slice())?;
-        self.nodes.reserve()?;
-        let (_, made) = self.open_new(hand, caller.node, name, true)?;
-        self.note_made(caller.node, &made.stat, mode, caller.owner);
-        close(hand, made.fd)?;
-        Ok(Reply::Entry(self.entry(spot, &made.stat)?))
+        let Located { view: _, path } = self.plan_file(caller.node, name, mode)?;
+        let again = path.try_clone()?;
+        let spot = self.spot_for(caller.node, name)?;
+        let stat = course::make_file(hand, path, again)?;
+        let entry = self.entry_made(spot, &stat, mode, caller.owner)?;
+        Ok(Reply::Entry(entry))
+    }
+
+    // The paths of a file and of its further name, which are in one view.
+    fn plan_link(&self, parent: u64, node: u64, name: &Bytes) -> Result<Pair, Fault>
+        ensures { IsPlanned (linking self.now parent node name.now) result }
+    {
+        let to = self.locate_new(parent, name)?;
+        let from = self.locate_own(node)?;
+        in_one_view(from, to)
     }
 
     // Gives a file a further name, in the same view.
@@ -103,22 +132,18 @@ impl Tables {
         hand: &mut Hand<K>,
         parent: u64,
         node: u64,
-        new_name: &Bytes,
+        name: &Bytes,
     ) -> Result<Reply, Fault>
-        ensures { bound hand.new ≡ bound hand.old }
+        ensures bound { bound hand.new ≡ bound hand.old }
+        ensures answers { AnswersLink self.old hand.old.pid parent node name.now
+            hand.old.shown hand.new.shown result }
     {
-        let place = self.locate_new(parent, new_name)?;
-        let from = self.locate(node)?;
-        if from.view != place.view {
-            return Err(Fault::Errno(EXDEV));
-        }
-        let path = from.own_path(self.heap)?;
-        let new_path = place.path_of(self.heap, new_name)?;
-        let again = new_path.try_clone()?;
-        let spot = Spot::new(self.heap, parent, new_name.as_slice())?;
-        self.nodes.reserve()?;
-        let stat = course::link(hand, path, new_path, again)?;
+        let Pair { from, to } = self.plan_link(parent, node, name)?;
+        let again = to.try_clone()?;
+        let spot = self.spot_for(parent, name)?;
+        let stat = course::link(hand, from, to, again)?;
         self.note_names(parent);
-        Ok(Reply::Entry(self.entry(spot, &stat)?))
+        let entry = self.entry(spot, &stat)?;
+        Ok(Reply::Entry(entry))
     }
 }

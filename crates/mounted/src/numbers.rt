@@ -1,5 +1,6 @@
 // The numbers of nodes that stand for no object of the kernel, and which view a root is of.
 ghost use Rattle.std.specs.Prelude.{◌≡◌};
+ghost use Rattle.mounted.specs.Found.{is_reserved};
 ghost use Rattle.mounted.specs.Numbers.{class_of, view_of};
 
 use nodes::LAST_NUMBER;
@@ -65,6 +66,8 @@ pub(crate) fn view_of(root: u64) -> Option<u64>
 }
 
 // The name of the directory of transactions, in a root.
-pub(crate) fn is_reserved(node: u64, name: &[u8]) -> bool {
+pub(crate) fn is_reserved(node: u64, name: &[u8]) -> bool
+    ensures { result ≡ is_reserved node name.now }
+{
     view_of(node).is_some() && name == b".tx".as_slice()
 }

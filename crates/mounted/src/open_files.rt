@@ -1,4 +1,9 @@
 // The files that are open: all opens of one file in one view share a descriptor.
+ghost use Rattle.std.specs.Prelude.{◌≡◌, IfOk};
+ghost use Rattle.std.specs.BTreeMap.{get};
+ghost use Rattle.std.specs.Ordering.{nat_cmp};
+ghost use Rattle.mounted.specs.Found.{IsAt, key_cmp};
+
 use heap::Heap;
 use ids::{Fd, Num, Pid};
 use std::alloc::AllocError;
@@ -17,12 +22,8 @@ pub(crate) struct OpenFile {
     opens: u64,
 }
 
-// Under which number a file is open.
-#[derive(Clone, Copy, Debug, PartialEq, Eq, PartialOrd, Ord)]
-struct FileKey {
-    view: u64,
-    inode: usize,
-}
+// A view and an object, under which the number of an open file is found.
+type FileKey = (u64, Num);
 
 // All of them, under the numbers that requests name them by. Numbers are not used again.
 pub(crate) struct OpenFiles {
@@ -42,11 +43,10 @@ impl Drop for OpenFiles {
     }
 }
 
-fn key_of(file: &OpenFile) -> FileKey {
-    FileKey {
-        view: file.view,
-        inode: file.inode.0,
-    }
+fn key_of(file: &OpenFile) -> FileKey
+    ensures { result ≡ (file.now.view, file.now.inode) }
+{
+    (file.view, file.inode)
 }
 
 impl OpenFiles {
@@ -59,17 +59,17 @@ impl OpenFiles {
     }
 
     // The open file of this number.
-    pub(crate) fn get(&self, handle: u64) -> Option<OpenFile> {
+    pub(crate) fn get(&self, handle: u64) -> Option<OpenFile>
+        ensures { result ≡ get nat_cmp self.now.each handle }
+    {
         self.each.get(&handle).copied()
     }
 
     // Under which number an object is open in a view.
-    pub(crate) fn handle_of(&self, view: u64, inode: Num) -> Option<u64> {
-        let key = FileKey {
-            view,
-            inode: inode.0,
-        };
-        self.handles.get(&key).copied()
+    pub(crate) fn handle_of(&self, view: u64, inode: Num) -> Option<u64>
+        ensures { result ≡ get key_cmp self.now.handles (view, inode) }
+    {
+        self.handles.get(&(view, inode)).copied()
     }
 
     // The open file of an object in a view.
@@ -85,7 +85,10 @@ impl OpenFiles {
         inode: Num,
         pid: Pid,
         fd: Fd,
-    ) -> Result<u64, AllocError> {
+    ) -> Result<u64, AllocError>
+        ensures { IfOk result (λ handle.
+            IsAt (get nat_cmp self.new.each handle) view inode pid fd) }
+    {
         let handle = self.next;
         let file = OpenFile {
             view,

@@ -1,15 +1,22 @@
 // Requests that open files.
-ghost use Rattle.std.specs.Prelude.{◌≡◌};
+ghost use Rattle.std.specs.Prelude.{◌≡◌, IfErr, IfOk, Ok};
+ghost use Rattle.course.specs.Course.{Ran};
 ghost use Rattle.course.specs.Hands.{bound};
+ghost use Rattle.mounted.specs.Answers.{IsPlanned, IsRefusal};
+ghost use Rattle.mounted.specs.Found.{IsAt, file_at, handle_of};
+ghost use Rattle.mounted.specs.Requests.{AnswersCreate, AnswersOpen, OpensAs, cuts, is_exclusive};
+ghost use Rattle.mounted.specs.Requests.{making_open, opening, opening_by};
+ghost use Rattle.mounted.specs.Told.{IfNew};
+ghost use Rattle.mounted.specs.declared.opening.Opening.TheVariants.{Again, First};
 
 use crate::numbers::PLAIN;
+use crate::planning::Located;
 use crate::serving::Caller;
 use crate::tables::{Stepper, Tables};
-use course::{Fault, Hand, Made, close, close_for, open_this, set_length};
-use fuse::{EISDIR, ENOMEM, Entry, Opened, Reply};
-use ids::{Bytes, Fd, Num};
+use course::{Fault, Hand, Made, close_for, close_spare, create_cut, cut_if, open_cut};
+use fuse::{Errno, Opened, Reply};
+use ids::{Bytes, Fd, Kind, Num, Pid};
 use machine::Machine;
-use nodes::Spot;
 
 // The flags of an open that cuts the file, and of one that has to make it.
 const TRUNCATE: u32 = 0o1000;
@@ -19,16 +26,70 @@ const EXCLUSIVE: u32 = 0o200;
 // Reads and writes go past the cache.
 const DIRECT: u32 = 1;
 
+// How a file is opened.
+#[derive(Drop)]
+pub(crate) enum Opening {
+    // It is open in the view already, and is opened once more.
+    Again {
+        inode: Num,
+        handle: u64,
+        fd: Fd,
+    },
+    // By its path, where that gives this object.
+    First {
+        view: u64,
+        path: Bytes,
+        inode: Num,
+    },
+}
+
 // An open file as it is told.
-fn opened(handle: u64) -> Opened {
+fn opened(handle: u64) -> Opened
+    ensures { result.handle ≡ handle }
+{
     Opened {
         handle,
         flags: DIRECT,
     }
 }
 
+// Whether the file is cut to nothing.
+fn cuts(flags: u32) -> bool
+    ensures { result ≡ cuts flags }
+{
+    flags & TRUNCATE != 0
+}
+
+// Whether it has to be a new one.
+fn is_exclusive(flags: u32) -> bool
+    ensures { result ≡ is_exclusive flags }
+{
+    flags & EXCLUSIVE != 0
+}
+
 impl Tables {
-    // Keeps a descriptor that was opened. It gives the number of the open file.
+    // The bytes of an object went, where it was cut.
+    fn note_cut(&mut self, inode: Num, cut: bool)
+        ensures nodes { self.new.nodes ≡ self.old.nodes }
+        ensures files { self.new.files ≡ self.old.files }
+    {
+        if cut {
+            self.attributes.modify(inode, Kind::File);
+        }
+    }
+
+    // A process of the plain tree has one descriptor more.
+    fn note_held(&mut self, view: u64, pid: Pid)
+        ensures nodes { self.new.nodes ≡ self.old.nodes }
+        ensures files { self.new.files ≡ self.old.files }
+    {
+        if view == PLAIN {
+            self.pool.hold(pid);
+        }
+    }
+
+    // Keeps a descriptor that was opened, and gives the number of the open file. Without memory the
+    // descriptor is closed again.
     fn keep_open<K: Machine>(
         &mut self,
         hand: &mut Hand<K>,
@@ -36,28 +97,20 @@ impl Tables {
         inode: Num,
         fd: Fd,
     ) -> Result<u64, Fault>
-        ensures { bound hand.new ≡ bound hand.old }
+        ensures bound { bound hand.new ≡ bound hand.old }
+        ensures file { IfOk result (λ handle.
+            IsAt (file_at self.new handle) view inode hand.old.pid fd) }
+        ensures shown { IfOk result (λ _. hand.new.shown ≡ hand.old.shown) }
+        ensures err { IfErr result (λ e. IsRefusal e) }
+        ensures nodes { self.new.nodes ≡ self.old.nodes }
     {
         let pid = hand.pid();
         match self.files.add(view, inode, pid, fd) {
             Ok(handle) => {
-                if view == PLAIN {
-                    self.pool.hold(pid);
-                }
+                self.note_held(view, pid);
                 Ok(handle)
             }
-            Err(_) => close_for(hand, fd, Fault::Errno(ENOMEM)),
-        }
-    }
-
-    // Cuts the file of a descriptor to nothing, where that is wanted.
-    fn cut_if<K: Machine>(&mut self, hand: &mut Hand<K>, flags: u32, fd: Fd) -> Result<(), Fault>
-        ensures { bound hand.new ≡ bound hand.old }
-    {
-        if flags & TRUNCATE == 0 {
-            Ok(())
-        } else {
-            set_length(hand, fd, 0)
+            Err(_) => close_for(hand, fd, Fault::Errno(Errno::ENOMEM)),
         }
     }
 
@@ -65,33 +118,94 @@ impl Tables {
     fn open_again<K: Machine>(
         &mut self,
         hand: &mut Hand<K>,
+        inode: Num,
         handle: u64,
-        flags: u32,
-    ) -> Result<u64, Fault>
-        ensures { bound hand.new ≡ bound hand.old }
+        fd: Fd,
+        cut: bool,
+    ) -> Result<Reply, Fault>
+        ensures bound { bound hand.new ≡ bound hand.old }
+        ensures answers { OpensAs self.new hand.old.pid cut (Again inode handle fd)
+            hand.old.shown hand.new.shown result }
     {
-        let file = self.open_file(handle, hand.pid())?;
-        self.cut_if(hand, flags, file.fd)?;
+        cut_if(hand, fd, cut)?;
+        self.note_cut(inode, cut);
         self.files.count(handle);
-        Ok(handle)
+        Ok(Reply::Opened(opened(handle)))
     }
 
     // A file is opened by its path.
     fn open_first<K: Machine>(
         &mut self,
         hand: &mut Hand<K>,
-        node: u64,
+        place: Located,
         inode: Num,
-        flags: u32,
-    ) -> Result<u64, Fault>
-        ensures { bound hand.new ≡ bound hand.old }
+        cut: bool,
+    ) -> Result<Reply, Fault>
+        ensures bound { bound hand.new ≡ bound hand.old }
+        ensures answers { OpensAs self.new hand.old.pid cut (First place.view place.path inode)
+            hand.old.shown hand.new.shown result }
     {
-        let place = self.locate(node)?;
-        let path = place.own_path(self.heap)?;
-        let fd = open_this(hand, path, inode)?;
-        let handle = self.keep_open(hand, place.view, inode, fd)?;
-        self.cut_if(hand, flags, fd)?;
-        Ok(handle)
+        let Located { view, path } = place;
+        let fd = open_cut(hand, path, inode, cut)?;
+        self.note_cut(inode, cut);
+        let handle = self.keep_open(hand, view, inode, fd)?;
+        Ok(Reply::Opened(opened(handle)))
+    }
+
+    fn open_as<K: Machine>(
+        &mut self,
+        hand: &mut Hand<K>,
+        opening: Opening,
+        cut: bool,
+    ) -> Result<Reply, Fault>
+        ensures bound { bound hand.new ≡ bound hand.old }
+        ensures answers { OpensAs self.new hand.old.pid cut opening
+            hand.old.shown hand.new.shown result }
+    {
+        match opening {
+            Opening::Again { inode, handle, fd } => self.open_again(hand, inode, handle, fd, cut),
+            Opening::First { view, path, inode } => {
+                self.open_first(hand, Located { view, path }, inode, cut)
+            }
+        }
+    }
+
+    // How the object of a node is opened, where it is open under this number, or not.
+    fn plan_opening_by(
+        &self,
+        pid: Pid,
+        node: u64,
+        handle: Option<u64>,
+    ) -> Result<Opening, Fault>
+        ensures { IsPlanned (opening_by self.now pid node handle) result }
+    {
+        let inode = self.inode_of(node);
+        match handle {
+            Some(handle) => {
+                let file = self.open_file(handle, pid)?;
+                Ok(Opening::Again {
+                    inode,
+                    handle,
+                    fd: file.fd,
+                })
+            }
+            None => {
+                let Located { view, path } = self.locate_own(node)?;
+                Ok(Opening::First { view, path, inode })
+            }
+        }
+    }
+
+    // How the file of a node is opened.
+    fn plan_opening(&self, pid: Pid, node: u64) -> Result<Opening, Fault>
+        ensures { IsPlanned (opening self.now pid node) result }
+    {
+        let Stepper { view, pid: _ } = self.stepper_at(node)?;
+        if self.nodes.get(node).is_none() {
+            return Err(Fault::Errno(Errno::EISDIR));
+        }
+        let handle = self.handle_of(view, self.inode_of(node));
+        self.plan_opening_by(pid, node, handle)
     }
 
     // Opens the file of a node.
@@ -101,59 +215,69 @@ impl Tables {
         node: u64,
         flags: u32,
     ) -> Result<Reply, Fault>
-        ensures { bound hand.new ≡ bound hand.old }
+        ensures bound { bound hand.new ≡ bound hand.old }
+        ensures answers { AnswersOpen self.old self.new hand.old.pid node flags
+            hand.old.shown hand.new.shown result }
     {
-        let Stepper { view, pid: _ } = self.stepper_at(node)?;
-        if self.nodes.get(node).is_none() {
-            return Err(Fault::Errno(EISDIR));
-        }
-        let inode = self.inode_of(node);
-        let handle = match self.files.handle_of(view, inode) {
-            Some(handle) => self.open_again(hand, handle, flags)?,
-            None => self.open_first(hand, node, inode, flags)?,
-        };
-        if flags & TRUNCATE != 0 {
-            self.attributes.modify(inode, ids::Kind::File);
-        }
-        Ok(Reply::Opened(opened(handle)))
+        let opening = self.plan_opening(hand.pid(), node)?;
+        self.open_as(hand, opening, cuts(flags))
     }
 
-    // Keeps a file that was opened by its name. Where it is open already the new descriptor is closed.
+    // Makes a file and opens it, or opens the one that is there. Where that is open in the view
+    // already the new descriptor is closed.
+    fn make_open<K: Machine>(
+        &self,
+        hand: &mut Hand<K>,
+        place: Located,
+        again: Bytes,
+        flags: u32,
+    ) -> Result<Made, Fault>
+        requires { again ≡ place.path }
+        ensures bound { bound hand.new ≡ bound hand.old }
+        ensures ran { Ran hand.old.shown
+            (making_open self.now hand.old.pid flags place) result hand.new.shown }
+    {
+        let Located { view, path } = place;
+        let made = create_cut(hand, path, again, is_exclusive(flags), cuts(flags))?;
+        let is_open = self.handle_of(view, made.stat.num).is_some();
+        close_spare(hand, is_open, made)
+    }
+
+    // Keeps a file that was opened by its name, and gives the number of the open file.
     fn keep_made<K: Machine>(
         &mut self,
         hand: &mut Hand<K>,
         view: u64,
-        made: Made,
+        made: &Made,
     ) -> Result<u64, Fault>
-        ensures { bound hand.new ≡ bound hand.old }
+        ensures bound { bound hand.new ≡ bound hand.old }
+        ensures kept { IfOk result (λ handle.
+            IfNew (handle_of self.old view made.now.stat.num)
+            (IsAt (file_at self.new handle) view made.now.stat.num hand.old.pid made.now.fd)
+            handle) }
+        ensures shown { IfOk result (λ _. hand.new.shown ≡ hand.old.shown) }
+        ensures err { IfErr result (λ e. IsRefusal e) }
+        ensures nodes { self.new.nodes ≡ self.old.nodes }
     {
-        let stat = made.stat;
-        match self.files.handle_of(view, stat.num) {
+        match self.handle_of(view, made.stat.num) {
             Some(handle) => {
-                close(hand, made.fd)?;
                 self.files.count(handle);
                 Ok(handle)
             }
-            None => self.keep_open(hand, view, stat.num, made.fd),
+            None => self.keep_open(hand, view, made.stat.num, made.fd),
         }
     }
 
-    // What is kept of a file that was made; one that was there is cut, where that is wanted.
-    fn begin_made<K: Machine>(
-        &mut self,
-        hand: &mut Hand<K>,
-        caller: Caller,
-        made: &Made,
-        flags: u32,
-        mode: u32,
-    ) -> Result<(), Fault>
-        ensures { bound hand.new ≡ bound hand.old }
+    // What is kept of a file that was made, or of one that was there and may be cut.
+    fn note_opened(&mut self, caller: Caller, made: &Made, mode: u32, cut: bool)
+        ensures nodes { self.new.nodes ≡ self.old.nodes }
+        ensures files { self.new.files ≡ self.old.files }
     {
         if made.is_new {
-            self.note_made(caller.node, &made.stat, mode, caller.owner);
-            Ok(())
+            self.attributes.create(made.stat.num, mode, caller.owner);
+            self.note_names(caller.node);
         } else {
-            self.cut_if(hand, flags, made.fd)
+            self.note_cut(made.stat.num, cut);
         }
     }
 
@@ -166,14 +290,18 @@ impl Tables {
         flags: u32,
         mode: u32,
     ) -> Result<Reply, Fault>
-        ensures { bound hand.new ≡ bound hand.old }
+        ensures bound { bound hand.new ≡ bound hand.old }
+        ensures answers { AnswersCreate self.old self.new hand.old.pid caller.node name.now flags
+            hand.old.shown hand.new.shown result }
     {
-        let spot = Spot::new(self.heap, caller.node, name.as_slice())?;
-        self.nodes.reserve()?;
-        let (view, made) = self.open_new(hand, caller.node, name, flags & EXCLUSIVE != 0)?;
-        self.begin_made(hand, caller, &made, flags, mode)?;
-        let handle = self.keep_made(hand, view, made)?;
-        let entry: Entry = self.entry(spot, &made.stat)?;
+        let place = self.locate_new(caller.node, name)?;
+        let view = place.view;
+        let again = place.path.try_clone()?;
+        let spot = self.spot_for(caller.node, name)?;
+        let made = self.make_open(hand, place, again, flags)?;
+        self.note_opened(caller, &made, mode, cuts(flags));
+        let handle = self.keep_made(hand, view, &made)?;
+        let entry = self.entry(spot, &made.stat)?;
         Ok(Reply::Created {
             entry,
             opened: opened(handle),

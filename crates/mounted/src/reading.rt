@@ -6,7 +6,7 @@ use crate::folders::Folder;
 use crate::numbers::is_reserved;
 use crate::tables::Tables;
 use course::{Fault, Hand};
-use fuse::{DirectoryEntry, EBADF, Entry, Kind, Listing, Opened, Reply};
+use fuse::{DirectoryEntry, Entry, Errno, Kind, Listing, Opened, Reply};
 use heap::Heap;
 use ids::{Answer, Bytes, Call, Name, NameList};
 use machine::Machine;
@@ -139,14 +139,14 @@ impl Tables {
     pub(crate) fn list(&self, handle: u64, offset: u64, size: u32) -> Result<Reply, Fault> {
         match self.folders.get(handle) {
             Some(folder) => Ok(Reply::Directory(list_from(self.heap, folder, offset, size)?)),
-            None => Err(Fault::Errno(EBADF)),
+            None => Err(Fault::Errno(Errno::EBADF)),
         }
     }
 
     // The node of an open directory, and a copy of one of its names.
     fn named_in(&self, handle: u64, index: usize) -> Result<Option<(u64, Bytes)>, Fault> {
         let Some(folder) = self.folders.get(handle) else {
-            return Err(Fault::Errno(EBADF));
+            return Err(Fault::Errno(Errno::EBADF));
         };
         match name_at(folder, index) {
             Some(name) => Ok(Some((folder.node, Bytes::copy(self.heap, name)?))),

@@ -1,23 +1,38 @@
 // Requests that take names away, or move them.
-ghost use Rattle.std.specs.Prelude.{◌≡◌, IfOk, IfSome};
+ghost use Rattle.std.specs.Prelude.{◌≡◌, is_some, IfOk, IfSome};
 ghost use Rattle.course.specs.Hands.{bound};
+ghost use Rattle.mounted.specs.Answers.{IsPlanned};
+ghost use Rattle.mounted.specs.Requests.{AnswersRename, AnswersRmDir, AnswersUnlink, absent_in};
+ghost use Rattle.mounted.specs.Requests.{moved, removing};
+ghost use Rattle.mounted.specs.Told.{place};
 
+use crate::making::in_one_view;
 use crate::numbers::is_reserved;
+use crate::planning::{Located, Pair};
 use crate::tables::Tables;
 use course::{Fault, Hand};
-use fuse::{EBUSY, EINVAL, EXDEV, Reply};
-use heap::Heap;
+use fuse::{Errno, Reply};
 use ids::Bytes;
 use machine::Machine;
-use nodes::{Place, Spot};
+use nodes::Place;
 use std::alloc::AllocError;
 
 // The flag of a move that replaces nothing.
 const NO_REPLACE: u32 = 1;
 
+// A move, by its request.
+#[derive(Clone, Copy)]
+pub(crate) struct Move<'a> {
+    pub(crate) name: &'a Bytes,
+    pub(crate) new_parent: u64,
+    pub(crate) new_name: &'a Bytes,
+    pub(crate) flags: u32,
+}
+
 // A copy, where it is wanted.
 fn copy_if(wanted: bool, bytes: &Bytes) -> Result<Option<Bytes>, AllocError>
-    ensures { IfOk result (λ copy. IfSome copy (λ b. b ≡ bytes.now)) }
+    ensures same { IfOk result (λ copy. IfSome copy (λ b. b ≡ bytes.now)) }
+    ensures wanted { IfOk result (λ copy. is_some copy ≡ wanted) }
 {
     if wanted {
         Ok(Some(bytes.try_clone()?))
@@ -26,12 +41,23 @@ fn copy_if(wanted: bool, bytes: &Bytes) -> Result<Option<Bytes>, AllocError>
     }
 }
 
-// Where a name stands.
-fn place_of(heap: Heap, node: u64, name: &Bytes) -> Result<Place, AllocError> {
-    Place::new(heap, node, name.as_slice())
+// Whether a move may replace nothing. There is no other flag.
+fn absent_in(flags: u32) -> Result<bool, Fault>
+    ensures { result ≡ absent_in flags }
+{
+    if flags > NO_REPLACE {
+        Err(Fault::Errno(Errno::EINVAL))
+    } else {
+        Ok(flags == NO_REPLACE)
+    }
 }
 
 impl Tables {
+    // The place of a name.
+    fn place_of(&self, node: u64, name: &Bytes) -> Result<Place, AllocError> {
+        Place::new(self.heap, node, name.as_slice())
+    }
+
     // A name was taken away.
     fn note_removed(&mut self, node: u64, place: &Place) {
         self.nodes.detach(place);
@@ -45,15 +71,25 @@ impl Tables {
         node: u64,
         name: &Bytes,
     ) -> Result<Reply, Fault>
-        ensures { bound hand.new ≡ bound hand.old }
+        ensures bound { bound hand.new ≡ bound hand.old }
+        ensures answers { AnswersUnlink self.old hand.old.pid node name.now
+            hand.old.shown hand.new.shown result }
     {
-        let place = self.locate_new(node, name)?;
-        let path = place.path_of(self.heap, name)?;
-        let spot = place_of(self.heap, node, name)?;
+        let Located { view: _, path } = self.locate_new(node, name)?;
+        let place = self.place_of(node, name)?;
         course::unlink(hand, path)?;
-        drop(place);
-        self.note_removed(node, &spot);
+        self.note_removed(node, &place);
         Ok(Reply::Empty)
+    }
+
+    // Where a directory is that is to be removed. That of transactions stays.
+    fn plan_removal(&self, node: u64, name: &Bytes) -> Result<Located, Fault>
+        ensures { IsPlanned (removing self.now node name.now) result }
+    {
+        if is_reserved(node, name.as_slice()) {
+            return Err(Fault::Errno(Errno::EBUSY));
+        }
+        self.locate_child(node, name)
     }
 
     // Removes an empty directory.
@@ -63,18 +99,27 @@ impl Tables {
         node: u64,
         name: &Bytes,
     ) -> Result<Reply, Fault>
-        ensures { bound hand.new ≡ bound hand.old }
+        ensures bound { bound hand.new ≡ bound hand.old }
+        ensures answers { AnswersRmDir self.old hand.old.pid node name.now
+            hand.old.shown hand.new.shown result }
     {
-        if is_reserved(node, name.as_slice()) {
-            return Err(Fault::Errno(EBUSY));
-        }
-        let place = self.locate(node)?;
-        let path = place.path_of(self.heap, name)?;
-        let spot = place_of(self.heap, node, name)?;
+        let Located { view: _, path } = self.plan_removal(node, name)?;
+        let place = self.place_of(node, name)?;
         course::remove_directory(hand, path)?;
-        drop(place);
-        self.note_removed(node, &spot);
+        self.note_removed(node, &place);
         Ok(Reply::Empty)
+    }
+
+    // The paths of a move, in one view, and whether it may replace nothing.
+    fn plan_move(&self, node: u64, wanted: Move<'_>) -> Result<(Pair, bool), Fault>
+        ensures { IsPlanned (moved self.now node wanted.name.now wanted.new_parent
+            wanted.new_name.now wanted.flags) result }
+    {
+        let absent = absent_in(wanted.flags)?;
+        let from = self.locate_new(node, wanted.name)?;
+        let to = self.locate_new(wanted.new_parent, wanted.new_name)?;
+        let paths = in_one_view(from, to)?;
+        Ok((paths, absent))
     }
 
     // Moves what a name gives to another name, in the same view.
@@ -82,31 +127,21 @@ impl Tables {
         &mut self,
         hand: &mut Hand<K>,
         node: u64,
-        name: &Bytes,
-        new_node: u64,
-        new_name: &Bytes,
-        flags: u32,
+        wanted: Move<'_>,
     ) -> Result<Reply, Fault>
-        ensures { bound hand.new ≡ bound hand.old }
+        ensures bound { bound hand.new ≡ bound hand.old }
+        ensures answers { AnswersRename self.old hand.old.pid node wanted.name.now
+            wanted.new_parent wanted.new_name.now wanted.flags
+            hand.old.shown hand.new.shown result }
     {
-        if flags & !NO_REPLACE != 0 {
-            return Err(Fault::Errno(EINVAL));
-        }
-        let place = self.locate_new(node, name)?;
-        let new_place = self.locate_new(new_node, new_name)?;
-        if place.view != new_place.view {
-            return Err(Fault::Errno(EXDEV));
-        }
-        let path = place.path_of(self.heap, name)?;
-        let new_path = new_place.path_of(self.heap, new_name)?;
-        let absent = copy_if(flags == NO_REPLACE, &new_path)?;
-        let from = place_of(self.heap, node, name)?;
-        let to = Spot::new(self.heap, new_node, new_name.as_slice())?;
-        self.nodes.reserve()?;
-        course::move_name(hand, path, new_path, absent)?;
-        self.nodes.move_place(&from, to)?;
+        let (Pair { from, to }, absent) = self.plan_move(node, wanted)?;
+        let again = copy_if(absent, &to)?;
+        let former = self.place_of(node, wanted.name)?;
+        let spot = self.spot_for(wanted.new_parent, wanted.new_name)?;
+        course::move_name(hand, from, to, again)?;
+        self.nodes.move_place(&former, spot)?;
         self.note_names(node);
-        self.note_names(new_node);
+        self.note_names(wanted.new_parent);
         Ok(Reply::Empty)
     }
 }

@@ -12,7 +12,7 @@ use crate::starting::{start, status};
 use crate::tables::{Stepper, Tables};
 use course::{Fault, Hand};
 use device::Halting;
-use fuse::{ECANCELED, ENOSYS, Forgets, Operation, Reply, Request};
+use fuse::{Errno, Forgets, Operation, Reply, Request};
 use heap::Heap;
 use ids::{Entry, Pid};
 use machine::Machine;
@@ -120,7 +120,7 @@ impl<K: Machine> Server<K> {
             Err(Fault::Errno(errno)) => Reply::Error(errno),
             Err(Fault::Aborted) => {
                 self.note_abort();
-                Reply::Error(ECANCELED)
+                Reply::Error(Errno::ECANCELED)
             }
         }
     }
@@ -291,7 +291,7 @@ impl Tables {
                 offset,
                 whence,
             } => self.seek(hand, handle, offset, whence),
-            _ => Err(Fault::Errno(ENOSYS)),
+            _ => Err(Fault::Errno(Errno::ENOSYS)),
         }
     }
 }

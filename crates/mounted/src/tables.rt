@@ -1,8 +1,7 @@
 // What is known of a mounted tree beside its kernel, and where its nodes are.
-ghost use Rattle.std.specs.Prelude.{◌≡◌, ◌≢◌, Some, IfOk};
-ghost use Rattle.nodes.specs.Tables.{root_of};
-ghost use Rattle.mounted.specs.Numbers.{view_of};
-ghost use Rattle.mounted.specs.Steppers.{IsStepper};
+ghost use Rattle.std.specs.Prelude.{◌≡◌, IfOk};
+ghost use Rattle.mounted.specs.Found.{fd_of, file_by, handle_of, inode_of, path_to, stepper_at};
+ghost use Rattle.mounted.specs.Found.{stepper_by, stepper_in};
 
 use crate::attributes::AttributeTable;
 use crate::folders::Folders;
@@ -11,9 +10,9 @@ use crate::open_files::{OpenFile, OpenFiles};
 use crate::pool::{Pool, first_process};
 use crate::views::{State, Views};
 use course::Fault;
-use fuse::{EBADF, ECANCELED, ENOENT, ESTALE, Operation};
+use fuse::{Errno, Operation};
 use heap::Heap;
-use ids::{Bytes, Num, Pid};
+use ids::{Bytes, Fd, Num, Pid};
 use nodes::Nodes;
 use std::alloc::AllocError;
 
@@ -50,59 +49,31 @@ pub(crate) struct Stepper {
     pub(crate) pid: Pid,
 }
 
-// Where a node is: its view, and the path, which is empty at a root.
-pub(crate) struct Located {
-    pub(crate) view: u64,
-    pub(crate) path: Bytes,
-}
-
-// By hand: a derived drop is opened at every place where a value goes, this one is called.
-impl Drop for Located {
-    fn drop(self) {
-        let Located { view: _, path: _ } = self;
+// What the process of a view may do: nothing after an abort, and nothing where the transaction is
+// over.
+fn stepper_by(view: u64, pid: Pid, state: State) -> Result<Stepper, Fault>
+    ensures { result ≡ stepper_by view pid state }
+{
+    match state {
+        State::Live => Ok(Stepper { view, pid }),
+        State::Aborted => Err(Fault::Errno(Errno::ECANCELED)),
+        State::Committed | State::GivenUp => Err(Fault::Errno(Errno::ENOENT)),
     }
 }
 
-impl Located {
-    // The path as the kernel takes it.
-    pub(crate) fn own_path(&self, heap: Heap) -> Result<Bytes, AllocError> {
-        if self.path.as_slice().is_empty() {
-            Bytes::copy(heap, b"/")
-        } else {
-            self.path.try_clone()
-        }
-    }
-
-    // The path of a name in it.
-    pub(crate) fn path_of(&self, heap: Heap, name: &Bytes) -> Result<Bytes, AllocError> {
-        let mut bytes = Vec::from_slice(heap, self.path.as_slice())?;
-        bytes.push(b'/')?;
-        bytes.extend_from_slice(name.as_slice())?;
-        Ok(Bytes::new(bytes))
-    }
-}
-
-// What a view's process may do: nothing after an abort, and nothing where the transaction is over.
+// The process of a view, or the first one for the plain tree.
 fn stepper_in(views: &Views, view: u64) -> Result<Stepper, Fault>
-    ensures view { IfOk result (λ s. s.view ≡ view) }
-    ensures pid { IfOk result (λ s. view ≢ 0 → IsStepper views.now.each.items view s.pid) }
+    ensures { result ≡ stepper_in views.now.each.items view }
 {
     if view == PLAIN {
         return Ok(Stepper {
-            view,
+            view: PLAIN,
             pid: first_process(0),
         });
     }
-    match views.standing(view) {
-        Some(standing) => match standing.state {
-            State::Live => Ok(Stepper {
-                view,
-                pid: standing.pid,
-            }),
-            State::Aborted => Err(Fault::Errno(ECANCELED)),
-            State::Committed | State::GivenUp => Err(Fault::Errno(ENOENT)),
-        },
-        None => Err(Fault::Errno(ENOENT)),
+    match views.get(view) {
+        Some(found) => stepper_by(view, found.pid, found.state),
+        None => Err(Fault::Errno(Errno::ENOENT)),
     }
 }
 
@@ -121,19 +92,19 @@ impl Tables {
 
     // The view in which a node is, and the process that steps there.
     pub(crate) fn stepper_at(&self, node: u64) -> Result<Stepper, Fault>
-        ensures view { IfOk result (λ s. view_of (root_of self.now.nodes.table node) ≡ Some s.view) }
-        ensures pid { IfOk result (λ s. s.view ≢ 0
-            → IsStepper self.now.views.each.items s.view s.pid) }
+        ensures { result ≡ stepper_at self.now node }
     {
         match view_of(self.nodes.root_of(node)) {
             Some(view) => stepper_in(&self.views, view),
-            None => Err(Fault::Errno(ESTALE)),
+            None => Err(Fault::Errno(Errno::ESTALE)),
         }
     }
 
     // The path of a node from its root. A node that is not attached has none, nor has one below a
     // directory that was forgotten.
-    pub(crate) fn path_to(&self, node: u64) -> Result<Option<Bytes>, AllocError> {
+    pub(crate) fn path_to(&self, node: u64) -> Result<Option<Bytes>, AllocError>
+        ensures { IfOk result (λ path. path ≡ path_to self.now node) }
+    {
         match self.nodes.path(self.heap, node)? {
             Some((root, path)) => Ok(if root == self.nodes.root_of(node) {
                 Some(path)
@@ -144,41 +115,46 @@ impl Tables {
         }
     }
 
-    // Where a node is. A node that has no path is nowhere.
-    pub(crate) fn locate(&self, node: u64) -> Result<Located, Fault> {
-        let Stepper { view, pid: _ } = self.stepper_at(node)?;
-        match self.path_to(node)? {
-            Some(path) => Ok(Located { view, path }),
-            None => Err(Fault::Errno(ESTALE)),
-        }
-    }
-
     // The object of a node. That of a root is the first of all.
-    pub(crate) fn inode_of(&self, node: u64) -> Num {
+    pub(crate) fn inode_of(&self, node: u64) -> Num
+        ensures { result ≡ inode_of self.now node }
+    {
         match self.nodes.get(node) {
             Some(found) => found.inode,
             None => Num(0),
         }
     }
 
+    // The number under which an object is open in a view.
+    pub(crate) fn handle_of(&self, view: u64, inode: Num) -> Option<u64>
+        ensures { result ≡ handle_of self.now view inode }
+    {
+        self.files.handle_of(view, inode)
+    }
+
     // The open file of this number, where this process has it open.
-    pub(crate) fn open_file(&self, handle: u64, pid: Pid) -> Result<OpenFile, Fault> {
+    pub(crate) fn open_file(&self, handle: u64, pid: Pid) -> Result<OpenFile, Fault>
+        ensures { result ≡ file_by self.now pid handle }
+    {
         match self.files.get(handle) {
             Some(file) => {
                 if file.pid == pid {
                     Ok(file)
                 } else {
-                    Err(Fault::Errno(EBADF))
+                    Err(Fault::Errno(Errno::EBADF))
                 }
             }
-            None => Err(Fault::Errno(EBADF)),
+            None => Err(Fault::Errno(Errno::EBADF)),
         }
     }
 
-    // The open file of an object in a view, where this process has it open.
-    pub(crate) fn open_as(&self, view: u64, inode: Num, pid: Pid) -> Option<OpenFile> {
-        let file = self.files.of(view, inode)?;
-        if file.pid == pid { Some(file) } else { None }
+    // The descriptor of an object in a view, where this process has it open.
+    pub(crate) fn fd_of(&self, pid: Pid, view: u64, inode: Num) -> Option<Fd>
+        ensures { result ≡ fd_of self.now pid view inode }
+    {
+        let handle = self.files.handle_of(view, inode)?;
+        let file = self.files.get(handle)?;
+        if file.pid == pid { Some(file.fd) } else { None }
     }
 
     // The open file that a request names.

@@ -4,7 +4,7 @@ use crate::server::Server;
 use crate::tables::Tables;
 use crate::views::{Standing, State, View};
 use course::{Fault, begin, give_up};
-use fuse::{EEXIST, EINVAL, ENAMETOOLONG, ENOENT, ENOSYS, EPERM, Opened, Operation, Reply};
+use fuse::{Errno, Opened, Operation, Reply};
 use heap::Heap;
 use ids::{Bytes, NAME_LIMIT, Name, Pid};
 use machine::Machine;
@@ -57,19 +57,19 @@ impl Tables {
                 return Ok(self.entry_of_node(control_node(standing.number), false));
             }
         }
-        Err(Fault::Errno(ENOENT))
+        Err(Fault::Errno(Errno::ENOENT))
     }
 
     // Whether a transaction may have this name.
     fn check_name(&self, name: &[u8]) -> Result<(), Fault> {
         if name.len() > NAME_LIMIT - 4 {
-            return Err(Fault::Errno(ENAMETOOLONG));
+            return Err(Fault::Errno(Errno::ENAMETOOLONG));
         }
         if control_name(name).is_some() {
-            return Err(Fault::Errno(EINVAL));
+            return Err(Fault::Errno(Errno::EINVAL));
         }
         if self.views.named(name).is_some() {
-            return Err(Fault::Errno(EEXIST));
+            return Err(Fault::Errno(Errno::EEXIST));
         }
         Ok(())
     }
@@ -90,8 +90,8 @@ impl Tables {
                 offset,
                 size,
             } => self.list_transactions(handle, offset, size),
-            Operation::Other { opcode: _ } => Err(Fault::Errno(ENOSYS)),
-            _ => Err(Fault::Errno(EPERM)),
+            Operation::Other { opcode: _ } => Err(Fault::Errno(Errno::ENOSYS)),
+            _ => Err(Fault::Errno(Errno::EPERM)),
         }
     }
 
@@ -182,7 +182,7 @@ impl<K: Machine> Server<K> {
                 self.remove_view(standing);
                 Ok(Reply::Empty)
             }
-            None => Err(Fault::Errno(ENOENT)),
+            None => Err(Fault::Errno(Errno::ENOENT)),
         }
     }
 

@@ -1,6 +1,6 @@
 // The transactions that are mounted.
-ghost use Rattle.std.specs.Prelude.{◌≡◌, ◌<◌, length, IfSome, option_copied, option_map};
-ghost use Rattle.mounted.specs.Steppers.{numbered};
+ghost use Rattle.std.specs.Prelude.{◌≡◌, ◌<◌, length, IfSome, option_copied};
+ghost use Rattle.mounted.specs.Found.{numbered};
 
 use heap::Heap;
 use ids::{Name, Pid};
@@ -80,11 +80,7 @@ fn place_of(views: &[View], number: u64) -> Option<usize>
     views.iter().position(|view| view.number == number)
 }
 
-fn standing_of(view: &View) -> Standing
-    ensures number { result.number ≡ view.now.number }
-    ensures pid { result.pid ≡ view.now.pid }
-    ensures state { result.state ≡ view.now.state }
-{
+fn standing_of(view: &View) -> Standing {
     Standing {
         number: view.number,
         pid: view.pid,
@@ -115,12 +111,7 @@ impl Views {
     }
 
     // How the view of a number stands.
-    pub(crate) fn standing(&self, number: u64) -> Option<Standing>
-        ensures pid { option_map (λ s. s.pid) result
-            ≡ option_map (λ v. v.pid) (numbered self.now.each.items number) }
-        ensures state { option_map (λ s. s.state) result
-            ≡ option_map (λ v. v.state) (numbered self.now.each.items number) }
-    {
+    pub(crate) fn standing(&self, number: u64) -> Option<Standing> {
         match self.get(number) {
             Some(view) => Some(standing_of(view)),
             None => None,

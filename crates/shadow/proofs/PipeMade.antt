@@ -6,7 +6,7 @@ use Rattle.std.specs.Option.{option_and_then}
 use Rattle.std.proofs.lemmas.Bool.{cases_eq}
 use Rattle.std.proofs.lemmas.List.Sums.{sum_by-cons}
 use Rattle.model.specs.FiniteMap.{get, insert, nat_cmp-IsAntisymmetric, same_map}
-use Rattle.model.specs.State.{Description, Kernel, Pipe, kind_of, mapped}
+use Rattle.model.specs.State.{Description, Kernel, Pipe, mapped}
 use Rattle.model.specs.Changes.{Edit, Make_pipe, applied, at_start, holders, open_at, or_new, process_of, set_description, set_inode, set_process, tidy, to_read, to_write, with_slot}
 use Rattle.model.proofs.Laws.{get_other, get_same}
 use Rattle.call_laws.specs.Fits.{Fits}

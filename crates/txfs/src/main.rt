@@ -8,7 +8,7 @@ ghost use Rattle.std.specs.Prelude.{◌≡◌, ◌≤◌, ◌+◌, ◌<◌, ◌^
 ghost use Rattle.ids.specs.declared.limits.TheConstants.{LARGEST_FILE, MAX_ENTRIES};
 ghost use Rattle.fuse.specs.Replies.{IsShort};
 
-use fuse::{EIO, Errno, Reply, parse, put_reply};
+use fuse::{Errno, Reply, parse, put_reply};
 use heap::Heap;
 use ids::{LARGEST_FILE, Limits, MAX_ENTRIES};
 use kernel::Kernel;
@@ -87,7 +87,7 @@ fn message(heap: Heap, unique: u64, reply: &Reply) -> Result<Vec<u8, Heap>, Allo
     if is_short(reply) {
         put_reply(&mut out, unique, reply)?;
     } else {
-        put_reply(&mut out, unique, &Reply::Error(EIO))?;
+        put_reply(&mut out, unique, &Reply::Error(Errno::EIO))?;
     }
     Ok(out)
 }

@@ -1,7 +1,7 @@
 -- What is said of options' values that are looked up in one way is said of those looked up in another.
-use Rattle.std.proofs.Common.{◌≡◌, ◌≢◌, ℕ, List, [], Option, Some, None, Result, Ok, Err, Bool, sym, ◌∙◌, subst, inl, inr, codes, IfErr, IfOk}
+use Rattle.std.proofs.Common.{◌≡◌, ℕ, List, [], Option, Result, Ok, Err, Bool, sym, ◌∙◌, subst, inl, inr, codes, IfErr, IfOk}
 use Rattle.clap.specs.Words.{Text, fault_of}
-use Rattle.words.specs.Txsh.{HasFileToo, HasLimits, HasNoFile, HasNotOneWay, IsFaultOf, IsFlag, IsJob, IsLimit, IsStream, IsStreamJob, IsTask, IsTaskFault, IsWay, SameMatches, number_in, txsh, value_in}
+use Rattle.words.specs.Txsh.{HasFileToo, HasLimits, HasNoFile, HasNotOneWay, IsFaultOf, IsFlag, IsLimit, IsStream, IsTask, IsTaskFault, IsWay, SameMatches, number_in, txsh, value_in}
 use Rattle.words.specs.declared.CommandLineFault.{CommandLineFault}
 use Rattle.words.specs.declared.CommandLineFault.TheVariants.{OneWay, FileMissing, FileGiven, NotUtf8, Help, Usage, NoMemory}
 use Rattle.words.specs.declared.Task.{Task}

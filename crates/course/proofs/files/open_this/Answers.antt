@@ -1,9 +1,6 @@
-use Rattle.std.proofs.Common.{ℕ, ap, subst}
+use Rattle.std.proofs.Common.{ℕ, ap}
 use Rattle.ids.specs.declared.call.Call.TheVariants as call
-use Rattle.ids.specs.declared.flags.OpenFlags.{OpenFlags}
 use Rattle.machine.specs.Shown.{Shown}
-use Rattle.std.specs.Prelude.{Ok, Err}
-use Rattle.course.specs.Course.{Ran}
 use Rattle.course.specs.Courses.{both, checking, opening}
 use Rattle.course.proofs.Runs.{by_pid, goes_on, stops}
 use Rattle.course.proofs.files.open_this.Goals as goal

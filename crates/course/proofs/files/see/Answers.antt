@@ -1,4 +1,4 @@
-use Rattle.std.proofs.Common.{ℕ, refl, ap}
+use Rattle.std.proofs.Common.{ℕ, ap}
 use Rattle.ids.specs.declared.call.Call.TheVariants as call
 use Rattle.machine.specs.Shown.{Shown}
 use Rattle.course.specs.Courses.{closing, if_seen, stating}

@@ -1,4 +1,4 @@
-use Rattle.std.proofs.Common.{ℕ, refl, sym, ap, ◌∙◌}
+use Rattle.std.proofs.Common.{ℕ, sym, ap, ◌∙◌}
 use Rattle.ids.specs.declared.call.Call.TheVariants as call
 use Rattle.machine.specs.Shown.{Shown}
 use Rattle.course.specs.Courses.{doing, if_absent, stating}

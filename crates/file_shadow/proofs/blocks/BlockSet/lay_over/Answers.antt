@@ -4,7 +4,7 @@ use Rattle.objects.specs.Contents.{Overlaid}
 use Rattle.ids.specs.declared.limits.TheConstants.{BLOCK_LEN}
 use Rattle.file_shadow.specs.View.{lookup, in_block}
 use Rattle.file_shadow.specs.Steps.{IsFirstFrom, end_block}
-use Rattle.file_shadow.proofs.Ends.{ends, begins, reaches}
+use Rattle.file_shadow.proofs.Ends.{ends, reaches}
 use Rattle.file_shadow.proofs.Clears.{first_le}
 use Rattle.file_shadow.proofs.Views.{laid_more, laid_first, laid_last}
 use Rattle.std.proofs.lemmas.List.Elements.{Contains-get_or}

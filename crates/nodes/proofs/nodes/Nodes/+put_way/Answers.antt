@@ -1,8 +1,7 @@
-use Rattle.std.proofs.Common.{◌≡◌, ◌-◌, ◌++◌, ℕ, [], ◌∷◌, Bool, true, false, Option, Some, None, sym, ap, ◌∙◌}
+use Rattle.std.proofs.Common.{◌≡◌, ◌-◌, ◌++◌, [], ◌∷◌, true, false, Some, None, sym, ap, ◌∙◌}
 use Rattle.std.specs.Option.{option_copied}
 use Rattle.model.specs.FiniteMap as map
 use Rattle.nodes.specs.Parts.{Stored}
-use Rattle.nodes.specs.Paths.{IsAdded, way_to}
 use Rattle.nodes.specs.Tables.{is_attached, is_this}
 use Rattle.nodes.proofs.Ways.{at_root, further, lost, lost_above, no_step}
 use Rattle.nodes.proofs.nodes.Nodes.+put_way.Goals as goal

@@ -1,5 +1,4 @@
-use Rattle.std.proofs.Common.{◌≡◌, ◌<◌, ◌≤◌, ℕ, List, [], Some, None, length, sym, ap, subst, ◌∙◌, arith}
-use Rattle.nodes.specs.Paths.{IsAdded, path_of, way_to}
+use Rattle.std.proofs.Common.{◌<◌, ◌≤◌, ℕ, List, Some, length, sym, ap, ◌∙◌, arith}
 use Rattle.nodes.proofs.Ways.{no_path, short, too_long}
 use Rattle.nodes.proofs.nodes.Nodes.path.Goals as goal
 

@@ -1,9 +1,6 @@
-use Rattle.std.proofs.Common.{ℕ, List, subst, rules}
-use Rattle.script.specs.Lines.{first_line_of}
-use Rattle.script.specs.Scripts.{IsFault}
+use Rattle.std.proofs.Common.{rules}
 use Rattle.stream.specs.declared.heard.Heard.TheVariants as heard
-use Rattle.stream.proofs.Coming.{first_fault}
-use Rattle.stream.proofs.Fields.{heard_begin, heard_first, heard_first_all}
+use Rattle.stream.proofs.Fields.{heard_begin, heard_first}
 use Rattle.stream.proofs.state.Stream.hear_first.Goals as goal
 
 pub returns-in-Ok-None-clause-ok : goal.returns-in-Ok-None-clause-ok
