@@ -1,0 +1,29 @@
+# What the scripts at the top, in tools/ and in bench/ have in common. A script sets `top` to the repository and sources this file.
+
+# Ends the script of this name where the kit's command is missing.
+need_rt() {
+    command -v rt >/dev/null && return
+    echo "$1: rt, the kit's command, is not on the PATH" >&2
+    exit 127
+}
+
+# Makes the folder $room, which is removed when the script ends.
+make_room() {
+    room=$(readlink -f "$(mktemp -d)")
+    trap 'rm -rf "$room"' EXIT
+    trap 'exit 130' INT
+}
+
+# Copies these folders and files of the repository into $room, without what was built and without the edits that have to be refused.
+copy_into_room() {
+    (cd "$top" && tar -cf - --exclude='crates/*/out' --exclude='crates/*/must-fail' --exclude='crates/*/more-edits' "$@") |
+        tar -xf - -C "$room"
+}
+
+# Whether the proved program of a crate is built and no source is newer. Folders count as well, since theirs is the time of a file
+# that was moved or removed.
+is_built() {
+    local program=$top/crates/$1/out/$1
+    [ -x "$program" ] &&
+        [ -z "$(find "$top"/crates/*/{src,specs,proofs} "$top/crates.txt" -newer "$program" -print -quit 2>/dev/null)" ]
+}
