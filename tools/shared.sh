@@ -7,11 +7,23 @@ need_rt() {
     exit 127
 }
 
-# Makes the folder $room, which is removed when the script ends.
+# Makes the folder $room, which is removed when the script ends; in the folder of this name, or where temporary files stand.
 make_room() {
-    room=$(readlink -f "$(mktemp -d)")
+    room=$(readlink -f "$(mktemp -d "${1:-${TMPDIR:-/tmp}}/room.XXXXXX")")
     trap 'rm -rf "$room"' EXIT
     trap 'exit 130' INT
+}
+
+# Makes it in memory, where this machine has such a folder.
+make_room_in_memory() {
+    if [ -d /dev/shm ] && [ -w /dev/shm ]; then make_room /dev/shm; else make_room; fi
+}
+
+# Says on what machine a script has measured.
+say_machine() {
+    local model
+    model=$(sed -n 's/^model name[[:space:]]*: //p' /proc/cpuinfo | head -n 1)
+    echo "Measured on $(nproc) processors, ${model:-of an unknown model}, with a load of $(cut -d ' ' -f 1 /proc/loadavg) at the end."
 }
 
 # Copies these folders and files of the repository into $room, without what was built and without the edits that have to be refused.
