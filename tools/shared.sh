@@ -1,5 +1,8 @@
 # What the scripts at the top, in tools/ and in bench/ have in common. A script sets `top` to the repository and sources this file.
 
+# How long ./build takes from nothing.
+build_takes="some 22 minutes on four processors, 33 on two"
+
 # Ends the script of this name where the kit's command is missing.
 need_rt() {
     command -v rt >/dev/null && return
