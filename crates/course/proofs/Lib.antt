@@ -1,2 +1,2 @@
 mod Since
-mod Runs
+pub mod Runs

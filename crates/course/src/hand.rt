@@ -1,5 +1,5 @@
 // A process of a kernel, with which a request steps.
-ghost use Rattle.std.specs.Prelude.{◌≡◌};
+ghost use Rattle.std.specs.Prelude.{◌≡◌, true, false};
 ghost use Rattle.machine.specs.Shown.{Kept, limit_of, setup_of};
 ghost use Rattle.machine.specs.Steps.{forgetting};
 ghost use Rattle.history_laws.specs.Headline.{IsSerializable};
@@ -95,6 +95,8 @@ impl<K: Machine> Hand<K> {
     pub fn forget(&mut self) -> bool
         ensures bound { bound self.new ≡ bound self.old }
         ensures entries { self.new.shown.log.entries ≡ self.old.shown.log.entries }
+        ensures yes { result ≡ true → self.new.shown ≡ forgetting self.old.shown }
+        ensures no { result ≡ false → self.new.shown ≡ self.old.shown }
     {
         self.kernel.forget()
     }

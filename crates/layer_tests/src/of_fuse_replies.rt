@@ -2,7 +2,7 @@
 // linux/fuse.h, and what refused memory leaves of them.
 ghost use Rattle.fuse.specs.Replies.{IsShort};
 
-use fuse::{Attr, Bytes, DirectoryEntry, ENOSYS, Kind, Listing, Reply, Time, put_reply};
+use fuse::{Attr, Bytes, DirectoryEntry, Errno, Kind, Listing, Reply, Time, put_reply};
 use heap::Heap;
 use std::alloc::AllocError;
 use std::test::Fail;
@@ -55,7 +55,7 @@ fn replies(rt: HostRuntime) -> Result<(), Fail> {
             b"#\x10\0\0\0\0\0\0\0\x09\0\0\0\0\0\0\0"
         )?
     );
-    let refused = Reply::Error(ENOSYS);
+    let refused = Reply::Error(Errno::ENOSYS);
     assert!(rt;
         is_put(
             heap,

@@ -1,1 +1,4 @@
 mod Stepping
+mod First
+mod Answering
+mod Telling

@@ -1,20 +1,107 @@
--- The process of a view whose transaction goes on.
-use Rattle.std.proofs.Common.{◌≡◌, ℕ, List, Option, Some, None, sym, ◌∙◌}
-use Rattle.std.specs.Prelude.{option_map}
-use Rattle.mounted.specs.Steppers.{IsStepper, numbered}
+-- Who steps for a request, by the view of its node.
+use Rattle.std.proofs.Common.{◌≡◌, ◌≢◌, ◌==◌, ℕ, Bool, true, false, List, Option, Some, None, inl, inr, refl, sym, ap, subst, ◌∙◌, ne_eqb}
+use Rattle.std.specs.Prelude.{if◌then◌else◌}
+use Rattle.std.specs.Prelude.{Result, Ok, Err, IfErr, IfOk, IsErrAnd}
+use Rattle.ids.specs.declared.entry.Entry.{Entry}
+use Rattle.fuse.specs.declared.errno.Errno.TheVariants.{ESTALE}
+use Rattle.fuse.specs.declared.reply.Reply.{Reply}
+use Rattle.fuse.specs.declared.request.Operation.{Operation}
+use Rattle.machine.specs.Shown.{Shown}
+use Rattle.nodes.specs.Tables.{root_of}
+use Rattle.course.specs.Course.{Ran}
+use Rattle.course.specs.Courses.{forking}
+use Rattle.course.specs.Faults.{error}
+use Rattle.course.specs.Hands.{IsSince}
+use Rattle.course.specs.declared.fault.Fault.{Fault}
+use Rattle.mounted.specs.Found.{and_then, found_or, numbered, stepper_at, stepper_by, stepper_in, stepper_of}
+use Rattle.mounted.specs.Numbers.{view_of}
+use Rattle.mounted.specs.Requests.{IsAnswered}
+use Rattle.mounted.specs.Served.{IsChosen, IsLacking, IsLackingBy, IsReady, IsReadyBy, Lacking, Ready, ServesBy, ServesIn, ServesPlain, ServesTree, chosen}
+use Rattle.mounted.specs.Steppers.{IsStepper, StaysInView}
+use Rattle.mounted.specs.declared.tables.Stepper.{Stepper}
+use Rattle.mounted.specs.declared.tables.Tables.{Tables}
 use Rattle.mounted.specs.declared.views.State.{State}
-use Rattle.mounted.specs.declared.views.State.TheVariants.{Live}
+use Rattle.mounted.specs.declared.views.State.TheVariants.{Live, Aborted, Committed, GivenUp}
 use Rattle.mounted.specs.declared.views.View.{View}
+use Rattle.mounted.proofs.Answering.{answered_as, is_err}
 
-same_in : {A : Type 0} (x y : A) → Some x ≡ Some y → x ≡ y
-same_in x y h = cc
+same_ok : {A : Type 0} (r : Result A Fault) {x y : A} → r ≡ Ok x → r ≡ Ok y → x ≡ y
+same_ok r a b = cc
 
--- what is told of a view's process and state, where that is live
-pub steps : (views : List View) (view process : ℕ) (state : State) (o : Option View) → numbered views view ≡ o → Some process ≡ option_map (λ (v : View). v.pid) o → Some state ≡ option_map (λ (v : View). v.state) o → state ≡ Live → IsStepper views view process
-steps views view process state None is pid told live = absurd cc
-steps views view process state (Some v) is pid told live = record {
-  found = v;
-  is = is;
-  live = sym (same_in state v.state told) ∙ live;
-  pid = sym (same_in process v.pid pid);
+no_error : {A : Type 0} (r : Result A Fault) {x : A} {e : Fault} → r ≡ Ok x → r ≡ Err e → ⊥
+no_error r a b = cc
+
+-- a process that steps in this view
+pub record Steps (views : List View) (view : ℕ) (s : Stepper) : Type 0 where
+  pub here : s.view ≡ view
+  pub steps : IsStepper views view s.pid
+
+live : (views : List View) (view : ℕ) (v : View) (state : State) (s : Stepper) → numbered views view ≡ Some v → v.state ≡ state → Ok s ≡ stepper_by view v.pid state → Steps views view s
+live views view v Live s is state h = record {
+  here = ap (λ (z : Stepper). z.view) (same_ok _ refl h);
+  steps = record { found = v; is = is; live = state; pid = sym (ap (λ (z : Stepper). z.pid) (same_ok _ refl h)) };
 }
+live views view v Aborted s is state h = absurd (no_error _ refl h)
+live views view v Committed s is state h = absurd (no_error _ refl h)
+live views view v GivenUp s is state h = absurd (no_error _ refl h)
+
+of_view : (views : List View) (view : ℕ) (o : Option View) (s : Stepper) → numbered views view ≡ o → Ok s ≡ stepper_of view o → Steps views view s
+of_view views view (Some v) s is h = live views view v v.state s is refl h
+of_view views view None s is h = absurd (no_error _ refl h)
+
+-- the process of another view than that of the plain tree
+other : (views : List View) (view : ℕ) (s : Stepper) (b : Bool) → (view == 0) ≡ b → b ≡ false → Ok s ≡ stepper_in views view → Steps views view s
+other views view s true is apart h = absurd cc
+other views view s false is apart h = of_view views view (numbered views view) s refl (h ∙ ap (λ (b : Bool). if b then Ok (record { view = 0; pid = 1 }) else stepper_of view (numbered views view)) is)
+
+-- what is told of a node below this view
+told : (t : Tables) (node view : ℕ) (s : Stepper) → view_of (root_of t.nodes.table node) ≡ Some view → view ≢ 0 → Ok s ≡ stepper_at t node → Steps t.views.each.items view s
+told t node view s is apart h =
+    other t.views.each.items view s (view == 0) refl (ne_eqb view 0 apart)
+    (h ∙ ap (λ (o : Option ℕ). and_then (found_or (error ESTALE) o) (stepper_in t.views.each.items)) is)
+
+-- nobody steps
+pub nobody : (t : Tables) (node : ℕ) {old new : List Entry} → new ≡ old → StaysInView t.nodes.table t.views.each.items node old new
+nobody t node same tree view is apart = inl same
+
+-- the process of the view's transaction steps
+pub in_view : (t : Tables) (node : ℕ) (s : Stepper) {old new : List Entry} → Ok s ≡ stepper_at t node → IsSince s.pid old new → StaysInView t.nodes.table t.views.each.items node old new
+in_view t node s h since tree view is apart = inr (s.pid, (told t node view s is apart h).steps, since)
+
+-- the node is in the plain tree
+pub in_plain : (t : Tables) (node : ℕ) (s : Stepper) {old new : List Entry} → Ok s ≡ stepper_at t node → s.view ≡ 0 → StaysInView t.nodes.table t.views.each.items node old new
+in_plain t node s h zero tree view is apart = absurd (apart (sym (told t node view s is apart h).here ∙ zero))
+
+-- ---- how a request is served then
+
+pub refuses : (t later : Tables) (node : ℕ) (operation : Operation) {e : Fault} (old new : Shown) (r : Result Reply Fault) → Err e ≡ stepper_at t node → new ≡ old → r ≡ Err e → ServesTree t later node operation old new r
+refuses t later node operation {e} old new r h same is = subst (λ (z : Result Stepper Fault). ServesBy z t later node operation old new r) h (is, same)
+
+pub serves_plain : (t later : Tables) (node : ℕ) (operation : Operation) (s : Stepper) (old new : Shown) (r : Result Reply Fault) → Ok s ≡ stepper_at t node → (s.view == 0) ≡ true → ServesPlain t later node operation old new r → ServesTree t later node operation old new r
+serves_plain t later node operation s old new r h is served =
+    subst (λ (z : Result Stepper Fault). ServesBy z t later node operation old new r) h
+    (subst (λ (b : Bool). ServesIn b t later s.pid node operation old new r) (sym is) served)
+
+pub serves_view : (t later : Tables) (node : ℕ) (operation : Operation) (s : Stepper) (old new : Shown) (r : Result Reply Fault) → Ok s ≡ stepper_at t node → (s.view == 0) ≡ false → IsAnswered t later s.pid node operation old new r → ServesTree t later node operation old new r
+serves_view t later node operation s old new r h is served =
+    subst (λ (z : Result Stepper Fault). ServesBy z t later node operation old new r) h
+    (subst (λ (b : Bool). ServesIn b t later s.pid node operation old new r) (sym is) served)
+
+-- ---- processes
+
+pub ready : (maker : ℕ) {old new : Shown} (r : Result ℕ Fault) → Ran old (forking maker) r new → IfOk r (λ pid. IsReadyBy maker old pid new)
+ready maker (Ok pid) h = inr h
+ready maker (Err e) h = tt
+
+pub lacking : (maker : ℕ) {old new : Shown} (r : Result ℕ Fault) → Ran old (forking maker) r new → IfErr r (λ e. IsLackingBy maker old e new)
+lacking maker (Ok pid) h = tt
+lacking maker (Err e) h = inl h
+
+-- a request of the plain tree, by the tables as they were
+pub by_process : (t u later : Tables) {pid process : ℕ} (node : ℕ) (operation : Operation) {old mid before new : Shown} (r : Result Reply Fault) → u ≡ record t { pool = u.pool } → process ≡ pid → before ≡ mid → IsChosen (chosen t node operation) pid → IsReady old pid mid → IsAnswered u later process node operation before new r → ServesPlain t later node operation old new r
+by_process t u later {pid} {process} node operation {old} {mid} {before} {new} r same a b is_chosen is_ready h =
+    Ready pid u.pool mid is_chosen is_ready
+    (answered_as (record t { pool = u.pool }) later node operation new r a b (subst (λ (x : Tables). IsAnswered x later process node operation before new r) same h))
+
+pub without_process : (t later : Tables) (node : ℕ) (operation : Operation) {e : Fault} {old new : Shown} (r : Result Reply Fault) → IsErrAnd r (λ y. y ≡ e) → IsLacking old e new → ServesPlain t later node operation old new r
+without_process t later node operation {e} r is h = Lacking e h (is_err r is)

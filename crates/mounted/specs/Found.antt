@@ -1,5 +1,5 @@
 -- What is known of nodes, views and open files: where a node is, and how its object is found.
-use Rattle.std.specs.Prelude.{◌≡◌, ℕ, ◌==◌, ◌&&◌, ◌++◌, ◌∷◌, [], List, Bool, true, false}
+use Rattle.std.specs.Prelude.{◌≡◌, ℕ, ◌==◌, ◌&&◌, ◌++◌, ◌∷◌, [], List, Bool}
 use Rattle.std.specs.Prelude.{Option, Some, None, is_some, option_map, option_and_then, codes, filter, not}
 use Rattle.std.specs.Prelude.{Result, Ok, Err, if◌then◌else◌}
 use Rattle.std.specs.BTreeMap.{get}
@@ -123,10 +123,10 @@ file_at t handle = get nat_cmp t.files.each handle
 pub record IsAt (found : Option OpenFile) (view inode pid fd : ℕ) : Type 0 where
   pub file : OpenFile
   pub is : found ≡ Some file
-  pub view : file.view ≡ view
-  pub inode : file.inode ≡ inode
-  pub pid : file.pid ≡ pid
-  pub fd : file.fd ≡ fd
+  pub in_view : file.view ≡ view
+  pub on : file.inode ≡ inode
+  pub by : file.pid ≡ pid
+  pub through : file.fd ≡ fd
 
 -- views and objects are in the order of their numbers
 abbrev pub key_cmp : ℕ × ℕ → ℕ × ℕ → Ordering
@@ -172,6 +172,10 @@ shown_names node names = filter (λ name. not (is_reserved node name)) names
 abbrev pub names_by : Option Folder → List (List ℕ)
 names_by (Some folder) = folder.names.items
 names_by None = []
+
+-- its node and its names
+abbrev pub told_of : Folder → ℕ × List (List ℕ)
+told_of folder = (folder.node, folder.names.items)
 
 abbrev pub names_in : Tables → ℕ → List (List ℕ)
 names_in t handle = names_by (folder_at t handle)

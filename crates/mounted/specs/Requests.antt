@@ -1,5 +1,5 @@
 -- The plan of each request about a node of a tree, its course, and what its reply shows.
-use Rattle.std.specs.Prelude.{◌≡◌, ℕ, ◌==◌, ◌||◌, ◌&&◌, ◌/◌, ◌%◌, ◌^◌, not, min, nat_lt, bit_and, ℤ, pos}
+use Rattle.std.specs.Prelude.{◌≡◌, ◌⊎◌, ℕ, ◌==◌, ◌||◌, ◌&&◌, ◌/◌, ◌%◌, ◌^◌, not, min, nat_lt, bit_and, ℤ, pos}
 use Rattle.std.specs.Prelude.{List, Bool, true, false, Option, Some, None, is_some, option_map}
 use Rattle.std.specs.Prelude.{Result, Ok, Err, if◌then◌else◌}
 use Rattle.ids.specs.declared.call.Call.TheVariants as call
@@ -14,20 +14,20 @@ use Rattle.fuse.specs.declared.request.Operation.TheVariants as asked
 use Rattle.fuse.specs.declared.request.Whence.{Whence}
 use Rattle.machine.specs.Shown.{Shown}
 use Rattle.model.specs.FiniteMap as map
-use Rattle.course.specs.Course.{Course, Give, ◌>>=◌}
+use Rattle.course.specs.Course.{Course, Give, Ran, ◌>>=◌}
 use Rattle.course.specs.Courses.{appending, closing_spare, creating_cut, cutting, doing, finding}
 use Rattle.course.specs.Courses.{listing, making, making_file, moving, on_ok, opening_cut, reading}
 use Rattle.course.specs.Courses.{resizing, stating, writing}
 use Rattle.course.specs.Faults.{error}
 use Rattle.course.specs.declared.fault.Fault.{Fault}
 use Rattle.course.specs.declared.files.Made.{Made}
-use Rattle.mounted.specs.Answers.{Answers}
+use Rattle.mounted.specs.Answers.{Answers, IsRefusal}
 use Rattle.mounted.specs.Found.{and_then, file_by, folder_at, found_or, handle_of, inode_of}
 use Rattle.mounted.specs.Found.{is_reserved, located_child, located_new, located_own, names_in}
 use Rattle.mounted.specs.Found.{object_of, own_path, path_to, shown_names, stepper_at}
 use Rattle.mounted.specs.Told.{Lists, ListsFully, ShowsAttributes, ShowsBytes, ShowsCount, ShowsCreated}
 use Rattle.mounted.specs.Told.{ShowsEntry, ShowsFolder, ShowsNothing, ShowsOffset, ShowsOpened}
-use Rattle.mounted.specs.Told.{place, plain_entry, sought}
+use Rattle.mounted.specs.Told.{place, sought}
 use Rattle.mounted.specs.declared.changing.Setting.{Setting}
 use Rattle.mounted.specs.declared.files.Reading.{Reading}
 use Rattle.mounted.specs.declared.files.Writing.{Writing}
@@ -56,10 +56,14 @@ AnswersName t pid node name old new result =
     Answers old new (located_child t node name) (λ p. stating pid (call.Stat p.path))
     (λ p. ShowsEntry t.nodes.table (place node name)) result
 
+abbrev pub AnswersLookUpBy : Bool → Tables → ℕ → ℕ → List ℕ → Shown → Shown → Result Reply Fault
+    → Type 0
+AnswersLookUpBy true t pid node name old new result = IsReserved node result × (new ≡ old)
+AnswersLookUpBy false t pid node name old new result = AnswersName t pid node name old new result
+
 abbrev pub AnswersLookUp : Tables → ℕ → ℕ → List ℕ → Shown → Shown → Result Reply Fault → Type 0
 AnswersLookUp t pid node name old new result =
-    if is_reserved node name then IsReserved node result × (new ≡ old)
-    else AnswersName t pid node name old new result
+    AnswersLookUpBy (is_reserved node name) t pid node name old new result
 
 abbrev pub AnswersGetAttr : Tables → ℕ → ℕ → Shown → Shown → Result Reply Fault → Type 0
 AnswersGetAttr t pid node old new result =
@@ -286,6 +290,17 @@ listing_anew pid names node (Some path) =
     listing pid path >>= on_ok (λ taken. Give (Ok (shown_names node taken)))
 listing_anew pid names node None = Give (Ok names)
 
+-- the names of an open directory are those that the course gave, or memory was refused for them
+abbrev pub RefreshesBy : Tables → ℕ → Shown → Course (Result (List (List ℕ)) Fault) → Shown
+    → Result (Unit {0}) Fault → Type 0
+RefreshesBy later handle old c new (Ok done) = Ran old c (Ok (names_in later handle)) new
+RefreshesBy later handle old c new (Err e) = Ran old c (Err e) new ⊎ IsRefusal e
+
+abbrev pub Refreshes : Tables → Tables → ℕ → ℕ → ℕ → Option (List ℕ) → Shown → Shown
+    → Result (Unit {0}) Fault → Type 0
+Refreshes t later pid handle node path old new r =
+    RefreshesBy later handle old (listing_anew pid (names_in t handle) node path) new r
+
 abbrev pub AnswersList : (List (List ℕ) → Reply → Type 0) → Tables → ℕ → ℕ → ℕ → Shown → Shown
     → Result Reply Fault → Type 0
 AnswersList Shows t pid handle offset old new result =
@@ -294,7 +309,7 @@ AnswersList Shows t pid handle offset old new result =
 
 abbrev pub AnswersReadDir : Tables → ℕ → ℕ → ℕ → Shown → Shown → Result Reply Fault → Type 0
 AnswersReadDir t pid handle offset old new result =
-    AnswersList (Lists plain_entry offset) t pid handle offset old new result
+    AnswersList (Lists None offset) t pid handle offset old new result
 
 abbrev pub AnswersReadDirPlus : Tables → ℕ → ℕ → ℕ → Shown → Shown → Result Reply Fault → Type 0
 AnswersReadDirPlus t pid handle offset old new result =
@@ -306,36 +321,46 @@ AnswersReadDirPlus t pid handle offset old new result =
 abbrev pub Tells : Result Reply Fault → Shown → Shown → Result Reply Fault → Type 0
 Tells told old new result = (result ≡ told) × (new ≡ old)
 
+-- Requests on open files were answered; others are not served.
+abbrev pub IsOfFiles : Tables → Tables → ℕ → ℕ → Operation → Shown → Shown → Result Reply Fault
+    → Type 0
+IsOfFiles t later pid node (asked.Open flags) old new r =
+    AnswersOpen t later pid node flags old new r
+IsOfFiles t later pid node (asked.Read handle offset size flags) old new r =
+    AnswersRead t pid handle offset size old new r
+IsOfFiles t later pid node (asked.Write handle offset how flags bytes) old new r =
+    AnswersWrite t pid handle offset flags bytes old new r
+IsOfFiles t later pid node (asked.Lseek handle offset whence) old new r =
+    AnswersSeek t pid handle offset whence old new r
+IsOfFiles t later pid node _ old new r = Tells (Err (error errno.ENOSYS)) old new r
+
+-- or requests that change names
+abbrev pub IsOfNames : Tables → Tables → ℕ → ℕ → Operation → Shown → Shown → Result Reply Fault
+    → Type 0
+IsOfNames t later pid node (asked.MkNod name mode) old new r =
+    AnswersMkNod t pid node name mode old new r
+IsOfNames t later pid node (asked.MkDir name mode) old new r =
+    AnswersMkDir t pid node name old new r
+IsOfNames t later pid node (asked.Unlink name) old new r = AnswersUnlink t pid node name old new r
+IsOfNames t later pid node (asked.RmDir name) old new r = AnswersRmDir t pid node name old new r
+IsOfNames t later pid node (asked.Rename name new_node new_name flags) old new r =
+    AnswersRename t pid node name new_node new_name flags old new r
+IsOfNames t later pid node (asked.Link of name) old new r =
+    AnswersLink t pid node of name old new r
+IsOfNames t later pid node (asked.Create name flags mode) old new r =
+    AnswersCreate t later pid node name flags old new r
+IsOfNames t later pid node operation old new r = IsOfFiles t later pid node operation old new r
+
 -- By these tables before and later a request of a process about a node was answered.
 abbrev pub IsAnswered : Tables → Tables → ℕ → ℕ → Operation → Shown → Shown → Result Reply Fault
     → Type 0
 IsAnswered t later pid node (asked.Lookup name) old new r = AnswersLookUp t pid node name old new r
 IsAnswered t later pid node (asked.GetAttr h) old new r = AnswersGetAttr t pid node old new r
 IsAnswered t later pid node (asked.SetAttr c) old new r = AnswersSetAttr t pid node c old new r
-IsAnswered t later pid node (asked.MkNod name mode) old new r =
-    AnswersMkNod t pid node name mode old new r
-IsAnswered t later pid node (asked.MkDir name mode) old new r =
-    AnswersMkDir t pid node name old new r
-IsAnswered t later pid node (asked.Unlink name) old new r = AnswersUnlink t pid node name old new r
-IsAnswered t later pid node (asked.RmDir name) old new r = AnswersRmDir t pid node name old new r
-IsAnswered t later pid node (asked.Rename name new_node new_name flags) old new r =
-    AnswersRename t pid node name new_node new_name flags old new r
-IsAnswered t later pid node (asked.Link of name) old new r =
-    AnswersLink t pid node of name old new r
-IsAnswered t later pid node (asked.Open flags) old new r =
-    AnswersOpen t later pid node flags old new r
-IsAnswered t later pid node (asked.Create name flags mode) old new r =
-    AnswersCreate t later pid node name flags old new r
-IsAnswered t later pid node (asked.Read handle offset size flags) old new r =
-    AnswersRead t pid handle offset size old new r
-IsAnswered t later pid node (asked.Write handle offset how flags bytes) old new r =
-    AnswersWrite t pid handle offset flags bytes old new r
-IsAnswered t later pid node (asked.Lseek handle offset whence) old new r =
-    AnswersSeek t pid handle offset whence old new r
 IsAnswered t later pid node asked.OpenDir old new r = AnswersOpenDir t later pid node old new r
 IsAnswered t later pid node (asked.ReadDir handle offset size) old new r =
     AnswersReadDir t pid handle offset old new r
 IsAnswered t later pid node (asked.ReadDirPlus handle offset size) old new r =
     AnswersReadDirPlus t pid handle offset old new r
 IsAnswered t later pid node (asked.Access mask) old new r = Tells (Ok reply.Empty) old new r
-IsAnswered t later pid node _ old new r = Tells (Err (error errno.ENOSYS)) old new r
+IsAnswered t later pid node operation old new r = IsOfNames t later pid node operation old new r

@@ -1,19 +1,15 @@
 -- Which process may step for a request.
-use Rattle.std.specs.Prelude.{◌≡◌, ◌≢◌, ◌⊎◌, ℕ, ◌==◌, List, Option, Some, Bool, true, false}
-use Rattle.std.specs.List.{find}
+use Rattle.std.specs.Prelude.{◌≡◌, ◌≢◌, ◌⊎◌, ℕ, List, Some, Bool, true, false}
 use Rattle.ids.specs.declared.entry.Entry.{Entry}
 use Rattle.fuse.specs.declared.request.Operation.{Operation}
 use Rattle.fuse.specs.declared.request.Operation.TheVariants as asked
 use Rattle.nodes.specs.Tables.{Table, root_of}
 use Rattle.course.specs.Hands.{IsSince}
+use Rattle.mounted.specs.Found.{numbered}
 use Rattle.mounted.specs.Numbers.{class_of, view_of}
 use Rattle.mounted.specs.declared.numbers.Class.TheVariants.{Tree}
 use Rattle.mounted.specs.declared.views.State.TheVariants.{Live}
 use Rattle.mounted.specs.declared.views.View.{View}
-
--- the view of a number
-abbrev pub numbered : List View → ℕ → Option View
-numbered views number = find (λ (v : View). v.number == number) views
 
 -- the process is that of the view's transaction, which goes on
 pub record IsStepper (views : List View) (view process : ℕ) : Type 0 where

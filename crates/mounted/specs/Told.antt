@@ -1,6 +1,6 @@
 -- What replies show of the kernel's answers.
-use Rattle.std.specs.Prelude.{◌≡◌, ℕ, ◌+◌, ◌-◌, ◌/◌, ◌^◌, ◌++◌, ◌∷◌, [], min, nat_lt, take, drop, codes}
-use Rattle.std.specs.Prelude.{List, Option, Some, None, option_map}
+use Rattle.std.specs.Prelude.{◌≡◌, ℕ, ◌+◌, ◌-◌, ◌/◌, ◌^◌, ◌++◌, ◌∷◌, [], min, nat_lt, drop, codes}
+use Rattle.std.specs.Prelude.{List, length, Bool, Option, Some, None, option_map}
 use Rattle.std.specs.Prelude.{Result, Ok, Err, if◌then◌else◌}
 use Rattle.ids.specs.declared.reply.Kind.{Kind}
 use Rattle.ids.specs.declared.reply.Kind.TheVariants.{File, Dir, Pipe}
@@ -18,12 +18,11 @@ use Rattle.nodes.specs.declared.place.Place.{Place}
 use Rattle.course.specs.Faults.{error}
 use Rattle.course.specs.declared.fault.Fault.{Fault}
 use Rattle.course.specs.declared.files.Made.{Made}
-use Rattle.fuse.specs.declared.listing.DirectoryEntry.{DirectoryEntry}
-use Rattle.fuse.specs.declared.listing.Kind.TheVariants as kind
-use Rattle.fuse.specs.Listings.{directory_entry_bytes}
-use Rattle.fuse.specs.Replies.{plus_entry_bytes}
-use Rattle.mounted.specs.Found.{IsAt, file_at, folder_at, handle_of}
-use Rattle.mounted.specs.declared.folders.Folder.{Folder}
+use Rattle.fuse.specs.Listed.{Listed}
+use Rattle.fuse.specs.Listings.{padded}
+use Rattle.fuse.specs.Numbers.{u32s, u64s}
+use Rattle.fuse.specs.Replies.{entry_bytes}
+use Rattle.mounted.specs.Found.{IsAt, file_at, folder_at, handle_of, told_of}
 use Rattle.mounted.specs.declared.tables.Tables.{Tables}
 
 -- the number of a kind in a mode (sys/stat.h), whose lower 12 bits are permissions
@@ -70,7 +69,7 @@ ShowsAttributes stat (reply.Attr attr) = IsLike stat attr
 ShowsAttributes stat _ = ⊥
 
 abbrev pub ShowsBytes : List ℕ → Reply → Type 0
-ShowsBytes bytes (reply.Data data) = data ≡ bytes
+ShowsBytes bytes (reply.Data read) = read ≡ bytes
 ShowsBytes bytes _ = ⊥
 
 abbrev pub ShowsCount : ℕ → Reply → Type 0
@@ -95,46 +94,52 @@ ShowsCreated old new p view pid made _ = ⊥
 -- an open directory of this number has these names from now on
 abbrev pub ShowsFolder : Tables → ℕ → List (List ℕ) → Reply → Type 0
 ShowsFolder t node names (reply.Opened opened) =
-    option_map (λ (f : Folder). (f.node, f.names.items)) (folder_at t opened.handle)
-    ≡ Some (node, names)
+    option_map told_of (folder_at t opened.handle) ≡ Some (node, names)
 ShowsFolder t node names _ = ⊥
 
 -- ---- lists of directories
-
--- an entry of a list: the number and the kind of the object are not told
-abbrev pub entry_at : ℕ → List ℕ → DirectoryEntry
-entry_at index name = record {
-  inode = 2 ^ 32 - 1;
-  offset = index + 1;
-  kind = kind.Unknown;
-  name = name;
-}
 
 -- names of a directory from this place on, as they are told
 abbrev pub listed : (ℕ → List ℕ → List ℕ) → ℕ → List (List ℕ) → List ℕ
 listed told index [] = []
 listed told index (name ∷ names) = told index name ++ listed told (index + 1) names
 
+-- an entry: the number and the kind of the object are not told
 abbrev pub plain_entry : ℕ → List ℕ → List ℕ
-plain_entry index name = directory_entry_bytes (entry_at index name)
+plain_entry index name =
+    u64s ((2 ^ 32 - 1) ∷ (index + 1) ∷ []) ++ u32s (length name ∷ 0 ∷ []) ++ padded name
 
 -- with what a name gives, of which nothing is looked up: its node is 0
 abbrev pub full_entry : Entry → ℕ → List ℕ → List ℕ
-full_entry child index name = plus_entry_bytes child (entry_at index name)
+full_entry child index name = entry_bytes child ++ plain_entry index name
 
 -- the two names that each directory has come first
 abbrev pub with_dots : List (List ℕ) → List (List ℕ)
 with_dots names = codes "." ∷ codes ".." ∷ names
 
--- the reply has some of the names, from an offset on
-abbrev pub Lists : (ℕ → List ℕ → List ℕ) → ℕ → List (List ℕ) → Reply → Type 0
-Lists told offset names (reply.Directory listing) = (count : ℕ)
-    × (listing.bytes ≡ listed told offset (take count (drop offset (with_dots names))))
-Lists told offset names _ = ⊥
+-- an entry as it is told, with what its name gives, where that is wanted
+abbrev pub told_by : Option Entry → ℕ → List ℕ → List ℕ
+told_by (Some child) = full_entry child
+told_by None = plain_entry
+
+-- a list with an entry more, where that fits
+abbrev pub added_entry : Listed → Option Entry → ℕ → List ℕ → Bool → Listed
+added_entry list child index name fits =
+    if fits then record list { bytes = list.bytes ++ told_by child index name } else list
+
+-- A list is a beginning of the whole one from an offset on, which goes on at another.
+abbrev pub IsList : Option Entry → ℕ → List (List ℕ) → Listed → Type 0
+IsList child offset names list = (next : ℕ)
+    × (list.bytes ++ listed (told_by child) next (drop next (with_dots names))
+    ≡ listed (told_by child) offset (drop offset (with_dots names)))
+
+abbrev pub Lists : Option Entry → ℕ → List (List ℕ) → Reply → Type 0
+Lists child offset names (reply.Directory list) = IsList child offset names list
+Lists child offset names _ = ⊥
 
 abbrev pub ListsFully : ℕ → List (List ℕ) → Reply → Type 0
 ListsFully offset names r =
-    (child : Entry) × (child.node ≡ 0) × Lists (full_entry child) offset names r
+    (child : Entry) × (child.node ≡ 0) × Lists (Some child) offset names r
 
 -- The offset that is looked for in a file of this length, which has no holes.
 abbrev pub within : ℕ → ℕ → ℕ → Result ℕ Fault

@@ -1,4 +1,7 @@
 // Modes, owners and times of objects, by their numbers: what was set last, whoever set it.
+ghost use Rattle.std.specs.Prelude.{◌≡◌, ◌*◌, ◌/◌};
+ghost use Rattle.mounted.specs.Told.{IsLike, kind_number};
+
 use fuse::{Attr, Changes, Time, TimeChange};
 use heap::Heap;
 use ids::{Kind, Num, Stat};
@@ -9,8 +12,8 @@ const FILE_MODE: u32 = 0o644;
 
 const DIRECTORY_MODE: u32 = 0o755;
 
-// The bits of a mode that are no kind.
-const PERMISSIONS: u32 = 0o7777;
+// The bits of a mode above permissions tell a kind.
+const KINDS: u32 = 0o10000;
 
 // The kinds of Linux.
 const DIRECTORY: u32 = 0o040_000;
@@ -91,12 +94,21 @@ fn changed_time(change: Option<TimeChange>, before: Time) -> Time {
 }
 
 // The bits of a kind.
-fn kind_bits(kind: Kind) -> u32 {
+fn kind_bits(kind: Kind) -> u32
+    ensures { result ≡ kind_number kind * 4096 }
+{
     match kind {
         Kind::File => FILE,
         Kind::Dir => DIRECTORY,
         Kind::Pipe => PIPE,
     }
+}
+
+// The mode of a kind with these permissions.
+fn mode_of(kind: Kind, permissions: u32) -> u32
+    ensures { result / 4096 ≡ kind_number kind }
+{
+    kind_bits(kind) + permissions % KINDS
 }
 
 // The permissions of a kind where none were told.
@@ -163,7 +175,7 @@ impl AttributeTable {
         self.keep(
             inode,
             Attributes {
-                mode: mode & PERMISSIONS,
+                mode: mode % KINDS,
                 owner,
                 accessed: now,
                 modified: now,
@@ -186,7 +198,7 @@ impl AttributeTable {
         let now = self.tick();
         let mut attributes = self.of(stat.num, stat.kind);
         if let Some(mode) = changes.mode {
-            attributes.mode = mode & PERMISSIONS;
+            attributes.mode = mode % KINDS;
         }
         if let Some(uid) = changes.uid {
             attributes.owner.uid = uid;
@@ -204,7 +216,9 @@ impl AttributeTable {
     }
 
     // What is told of an object. Its number is one more, since some programs take 0 for none.
-    pub(crate) fn attr(&self, stat: &Stat) -> Attr {
+    pub(crate) fn attr(&self, stat: &Stat) -> Attr
+        ensures { IsLike stat.now result }
+    {
         let kept = self.of(stat.num, stat.kind);
         Attr {
             inode: (stat.num.0 as u64).saturating_add(1),
@@ -213,7 +227,7 @@ impl AttributeTable {
             accessed: kept.accessed,
             modified: kept.modified,
             changed: kept.changed,
-            mode: kind_bits(stat.kind) | kept.mode,
+            mode: mode_of(stat.kind, kept.mode),
             links: stat.links,
             uid: kept.owner.uid,
             gid: kept.owner.gid,
@@ -231,9 +245,9 @@ impl AttributeTable {
             modified: self.now,
             changed: self.now,
             mode: if is_directory {
-                DIRECTORY | DIRECTORY_MODE
+                DIRECTORY + DIRECTORY_MODE
             } else {
-                FILE | FILE_MODE
+                FILE + FILE_MODE
             },
             links: 1,
             uid: 0,

@@ -33,15 +33,6 @@ pub(crate) struct Writing {
     offset: Option<i64>,
 }
 
-// A write, by its request.
-#[derive(Drop)]
-pub(crate) struct Written {
-    pub(crate) handle: u64,
-    pub(crate) offset: u64,
-    pub(crate) open_flags: u32,
-    pub(crate) bytes: Bytes,
-}
-
 // An offset as the kernel takes it.
 fn offset_in(offset: u64) -> Result<i64, Fault>
     ensures { result ≡ offset_in offset }
@@ -162,22 +153,19 @@ impl Tables {
     pub(crate) fn write<K: Machine>(
         &mut self,
         hand: &mut Hand<K>,
-        written: Written,
+        handle: u64,
+        offset: u64,
+        open_flags: u32,
+        bytes: Bytes,
     ) -> Result<Reply, Fault>
         ensures bound { bound hand.new ≡ bound hand.old }
-        ensures answers { AnswersWrite self.old hand.old.pid
-            written.handle written.offset written.open_flags written.bytes
+        ensures answers { AnswersWrite self.old hand.old.pid handle offset open_flags bytes
             hand.old.shown hand.new.shown result }
     {
-        let Written {
-            handle,
-            offset,
-            open_flags,
-            bytes,
-        } = written;
         let writing = self.plan_write(hand.pid(), handle, offset, open_flags)?;
+        let inode = writing.inode;
         let size = put(hand, writing, bytes)?;
-        self.attributes.modify(writing.inode, Kind::File);
+        self.attributes.modify(inode, Kind::File);
         Ok(Reply::Written { size })
     }
 

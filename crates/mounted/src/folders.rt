@@ -1,4 +1,11 @@
 // The directories that are open, with the names that they had.
+ghost use Rattle.std.specs.Prelude.{◌≡◌, ◌==◌, ◌&&◌, ◌++◌, ◌∷◌, [], Some, is_some, true, option_copied, option_map, IfOk};
+ghost use Rattle.std.specs.Prelude.{OnOk};
+ghost use Rattle.std.specs.BTreeMap.{get};
+ghost use Rattle.std.specs.Ordering.{nat_cmp};
+ghost use Rattle.mounted.specs.Found.{names_by, shown_names, told_of};
+
+use crate::numbers::is_reserved;
 use heap::Heap;
 use ids::Name;
 use std::alloc::AllocError;
@@ -25,6 +32,15 @@ impl Drop for Folder {
     }
 }
 
+impl Folder {
+    // Whether its names are to be taken anew: they are read from the start again.
+    pub(crate) fn is_stale(&self, offset: u64) -> bool
+        ensures { result ≡ (self.now.was_read && offset == 0) }
+    {
+        self.was_read && offset == 0
+    }
+}
+
 // All of them, under the numbers that requests name them by. Numbers are not used again.
 pub(crate) struct Folders {
     each: BTreeMap<u64, Folder, Heap>,
@@ -38,6 +54,33 @@ impl Drop for Folders {
     }
 }
 
+// Puts a copy of a name behind the others, where lists show it.
+fn push_shown(names: &mut Vec<Name, Heap>, node: u64, name: &Name) -> Result<(), AllocError>
+    ensures { OnOk result (names.new.items
+        ≡ names.old.items ++ shown_names node (name.now ∷ [])) }
+{
+    if is_reserved(node, name.as_slice()) {
+        return Ok(());
+    }
+    names.push(name.try_clone()?)?;
+    Ok(())
+}
+
+// Copies of the names of a directory that its lists show.
+pub(crate) fn names_shown(
+    heap: Heap,
+    node: u64,
+    list: &[Name],
+) -> Result<Vec<Name, Heap>, AllocError>
+    ensures { IfOk result (λ names. names.items ≡ shown_names node list.now) }
+{
+    let mut names = Vec::with_capacity(heap, list.len())?;
+    for name in list {
+        push_shown(&mut names, node, name)?;
+    }
+    Ok(names)
+}
+
 impl Folders {
     pub(crate) fn new(heap: Heap) -> Folders {
         Folders {
@@ -47,7 +90,11 @@ impl Folders {
     }
 
     // A directory was opened. It gives its number.
-    pub(crate) fn add(&mut self, node: u64, names: Vec<Name, Heap>) -> Result<u64, AllocError> {
+    pub(crate) fn add(&mut self, node: u64, names: Vec<Name, Heap>) -> Result<u64, AllocError>
+        ensures { IfOk result (λ handle.
+            option_map told_of (get nat_cmp self.new.each handle)
+            ≡ Some (node, names.entry.items)) }
+    {
         let handle = self.next;
         let folder = Folder {
             node,
@@ -61,29 +108,46 @@ impl Folders {
     }
 
     // The open directory of this number.
-    pub(crate) fn get(&self, handle: u64) -> Option<&Folder> {
+    pub(crate) fn get(&self, handle: u64) -> Option<&Folder>
+        ensures { option_copied result ≡ get nat_cmp self.now.each handle }
+    {
         self.each.get(&handle)
     }
 
-    // Its node, where its names are to be taken anew: they are read from the start again.
-    pub(crate) fn stale(&self, handle: u64, offset: u64) -> Option<u64> {
-        let folder = self.each.get(&handle)?;
-        if folder.was_read && offset == 0 {
-            Some(folder.node)
-        } else {
-            None
+    // Its names.
+    pub(crate) fn names(&self, handle: u64) -> &[Name]
+        ensures { result.now ≡ names_by (get nat_cmp self.now.each handle) }
+    {
+        match self.each.get(&handle) {
+            Some(folder) => folder.names.as_slice(),
+            None => &[],
         }
     }
 
-    // Its names were taken anew.
-    pub(crate) fn renew(&mut self, handle: u64, names: Vec<Name, Heap>) {
+    // Whether its names are to be taken anew: they are read from the start again.
+    pub(crate) fn is_stale(&self, handle: u64, offset: u64) -> bool {
+        match self.each.get(&handle) {
+            Some(folder) => folder.is_stale(offset),
+            None => false,
+        }
+    }
+
+    // Its names were taken anew, and are read.
+    pub(crate) fn renew(&mut self, handle: u64, names: Vec<Name, Heap>)
+        ensures { is_some (get nat_cmp self.old.each handle) ≡ true
+            → names_by (get nat_cmp self.new.each handle) ≡ names.entry.items }
+    {
         if let Some(folder) = self.each.get_mut(&handle) {
             folder.names = names;
+            folder.was_read = true;
         }
     }
 
     // Its names are read.
-    pub(crate) fn mark(&mut self, handle: u64) {
+    pub(crate) fn mark(&mut self, handle: u64)
+        ensures { names_by (get nat_cmp self.new.each handle)
+            ≡ names_by (get nat_cmp self.old.each handle) }
+    {
         if let Some(folder) = self.each.get_mut(&handle) {
             folder.was_read = true;
         }

@@ -37,7 +37,10 @@ pub(crate) fn in_one_view(from: Located, to: Located) -> Result<Pair, Fault>
     if from.view != to.view {
         return Err(Fault::Errno(Errno::EXDEV));
     }
-    let Located { view: _, path: from } = from;
+    let Located {
+        view: _,
+        path: from,
+    } = from;
     let Located { view: _, path: to } = to;
     Ok(Pair { from, to })
 }

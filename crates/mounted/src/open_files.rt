@@ -72,20 +72,8 @@ impl OpenFiles {
         self.handles.get(&(view, inode)).copied()
     }
 
-    // The open file of an object in a view.
-    pub(crate) fn of(&self, view: u64, inode: Num) -> Option<OpenFile> {
-        let handle = self.handle_of(view, inode)?;
-        self.get(handle)
-    }
-
     // A file was opened by a process. It gives its number. Refused memory changes nothing.
-    pub(crate) fn add(
-        &mut self,
-        view: u64,
-        inode: Num,
-        pid: Pid,
-        fd: Fd,
-    ) -> Result<u64, AllocError>
+    pub(crate) fn add(&mut self, view: u64, inode: Num, pid: Pid, fd: Fd) -> Result<u64, AllocError>
         ensures { IfOk result (λ handle.
             IsAt (get nat_cmp self.new.each handle) view inode pid fd) }
     {

@@ -1,9 +1,9 @@
 // Requests that open files.
-ghost use Rattle.std.specs.Prelude.{◌≡◌, IfErr, IfOk, Ok};
+ghost use Rattle.std.specs.Prelude.{◌≡◌, is_some, IfErr, IfOk, Ok};
 ghost use Rattle.course.specs.Course.{Ran};
 ghost use Rattle.course.specs.Hands.{bound};
 ghost use Rattle.mounted.specs.Answers.{IsPlanned, IsRefusal};
-ghost use Rattle.mounted.specs.Found.{IsAt, file_at, handle_of};
+ghost use Rattle.mounted.specs.Found.{IsAt, at, file_at, handle_of};
 ghost use Rattle.mounted.specs.Requests.{AnswersCreate, AnswersOpen, OpensAs, cuts, is_exclusive};
 ghost use Rattle.mounted.specs.Requests.{making_open, opening, opening_by};
 ghost use Rattle.mounted.specs.Told.{IfNew};
@@ -17,6 +17,7 @@ use course::{Fault, Hand, Made, close_for, close_spare, create_cut, cut_if, open
 use fuse::{Errno, Opened, Reply};
 use ids::{Bytes, Fd, Kind, Num, Pid};
 use machine::Machine;
+use nodes::Spot;
 
 // The flags of an open that cuts the file, and of one that has to make it.
 const TRUNCATE: u32 = 0o1000;
@@ -30,17 +31,9 @@ const DIRECT: u32 = 1;
 #[derive(Drop)]
 pub(crate) enum Opening {
     // It is open in the view already, and is opened once more.
-    Again {
-        inode: Num,
-        handle: u64,
-        fd: Fd,
-    },
+    Again { inode: Num, handle: u64, fd: Fd },
     // By its path, where that gives this object.
-    First {
-        view: u64,
-        path: Bytes,
-        inode: Num,
-    },
+    First { view: u64, path: Bytes, inode: Num },
 }
 
 // An open file as it is told.
@@ -171,12 +164,7 @@ impl Tables {
     }
 
     // How the object of a node is opened, where it is open under this number, or not.
-    fn plan_opening_by(
-        &self,
-        pid: Pid,
-        node: u64,
-        handle: Option<u64>,
-    ) -> Result<Opening, Fault>
+    fn plan_opening_by(&self, pid: Pid, node: u64, handle: Option<u64>) -> Result<Opening, Fault>
         ensures { IsPlanned (opening_by self.now pid node handle) result }
     {
         let inode = self.inode_of(node);
@@ -223,23 +211,33 @@ impl Tables {
         self.open_as(hand, opening, cuts(flags))
     }
 
+    // Whether a file is open in a view.
+    fn is_open(&self, view: u64, made: &Made) -> bool
+        ensures { result ≡ is_some (handle_of self.now view made.now.stat.num) }
+    {
+        self.handle_of(view, made.stat.num).is_some()
+    }
+
     // Makes a file and opens it, or opens the one that is there. Where that is open in the view
     // already the new descriptor is closed.
     fn make_open<K: Machine>(
-        &self,
+        &mut self,
         hand: &mut Hand<K>,
-        place: Located,
+        view: u64,
+        path: Bytes,
         again: Bytes,
         flags: u32,
     ) -> Result<Made, Fault>
-        requires { again ≡ place.path }
+        requires { again ≡ path }
+        ensures same { self.new ≡ self.old }
         ensures bound { bound hand.new ≡ bound hand.old }
         ensures ran { Ran hand.old.shown
-            (making_open self.now hand.old.pid flags place) result hand.new.shown }
+            (making_open self.old hand.old.pid flags (at view path)) result hand.new.shown }
     {
-        let Located { view, path } = place;
-        let made = create_cut(hand, path, again, is_exclusive(flags), cuts(flags))?;
-        let is_open = self.handle_of(view, made.stat.num).is_some();
+        let exclusive = is_exclusive(flags);
+        let cut = cuts(flags);
+        let made = create_cut(hand, path, again, exclusive, cut)?;
+        let is_open = self.is_open(view, &made);
         close_spare(hand, is_open, made)
     }
 
@@ -294,11 +292,11 @@ impl Tables {
         ensures answers { AnswersCreate self.old self.new hand.old.pid caller.node name.now flags
             hand.old.shown hand.new.shown result }
     {
-        let place = self.locate_new(caller.node, name)?;
-        let view = place.view;
-        let again = place.path.try_clone()?;
-        let spot = self.spot_for(caller.node, name)?;
-        let made = self.make_open(hand, place, again, flags)?;
+        let Located { view, path } = self.locate_new(caller.node, name)?;
+        let again = path.try_clone()?;
+        let spot = Spot::new(self.heap, caller.node, name.as_slice())?;
+        self.nodes.reserve()?;
+        let made = self.make_open(hand, view, path, again, flags)?;
         self.note_opened(caller, &made, mode, cuts(flags));
         let handle = self.keep_made(hand, view, &made)?;
         let entry = self.entry(spot, &made.stat)?;

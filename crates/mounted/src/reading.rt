@@ -1,251 +1,146 @@
 // Requests on open directories.
-ghost use Rattle.std.specs.Prelude.{◌≡◌};
+ghost use Rattle.std.specs.Prelude.{◌≡◌, is_some, true, IfErr, IfOk};
+ghost use Rattle.fuse.specs.declared.errno.Errno.TheVariants.{ENOMEM};
+ghost use Rattle.course.specs.Faults.{error};
 ghost use Rattle.course.specs.Hands.{bound};
+ghost use Rattle.mounted.specs.Answers.{IsPlanned};
+ghost use Rattle.mounted.specs.Found.{folder_at, names_in};
+ghost use Rattle.mounted.specs.Requests.{AnswersOpenDir, AnswersReadDir, AnswersReadDirPlus, Refreshes};
+ghost use Rattle.mounted.specs.Requests.{anew, lists};
+ghost use Rattle.mounted.specs.Told.{IsList};
 
-use crate::folders::Folder;
-use crate::numbers::is_reserved;
+use crate::folders::{Folder, names_shown};
+use crate::lists::list_from;
+use crate::planning::Located;
 use crate::tables::Tables;
 use course::{Fault, Hand};
-use fuse::{DirectoryEntry, Entry, Errno, Kind, Listing, Opened, Reply};
-use heap::Heap;
-use ids::{Answer, Bytes, Call, Name, NameList};
+use fuse::{Entry, Errno, Listing, Opened, Reply};
+use ids::{Bytes, Pid};
 use machine::Machine;
-use nodes::Spot;
-use std::alloc::AllocError;
 
 // The number of an object that is not told.
 const UNKNOWN: u64 = 0xffff_ffff;
 
-// The most bytes of one list.
-const MOST_LISTED: u32 = 1_048_576;
-
-// The most bytes of a name.
-const NAME_LIMIT: usize = 255;
-
-// Copies of the names of a directory that its lists show.
-fn shown_names(heap: Heap, node: u64, list: &NameList) -> Result<Vec<Name, Heap>, AllocError> {
-    let mut names = Vec::with_capacity(heap, list.as_slice().len())?;
-    for name in list.as_slice() {
-        if !is_reserved(node, name.as_slice()) {
-            names.push(name.try_clone()?)?;
-        }
-    }
-    Ok(names)
-}
-
-// The name of an entry: the two that each directory has come first.
-fn name_at(folder: &Folder, index: usize) -> Option<&[u8]> {
-    match index {
-        0 => Some(b".".as_slice()),
-        1 => Some(b"..".as_slice()),
-        _ => match folder.names.as_slice().get(index.wrapping_sub(2)) {
-            Some(name) => Some(name.as_slice()),
-            None => None,
-        },
-    }
-}
-
-// Adds an entry to a list. False where it does not fit.
-fn add_entry(list: &mut Listing, index: usize, name: &[u8]) -> Result<bool, AllocError> {
-    if name.len() > NAME_LIMIT {
-        return Ok(true);
-    }
-    list.add(&DirectoryEntry {
-        inode: UNKNOWN,
-        offset: (index as u64).saturating_add(1),
-        kind: Kind::Unknown,
-        name,
-    })
-}
-
-// The entries of a directory from this one on, as many as fit.
-fn list_from(heap: Heap, folder: &Folder, offset: u64, size: u32) -> Result<Listing, AllocError> {
-    let mut list = Listing::new(heap, size.min(MOST_LISTED));
-    let first = usize::try_from(offset).unwrap_or(usize::MAX);
-    for index in first..folder.names.len().saturating_add(2) {
-        let Some(name) = name_at(folder, index) else {
-            break;
-        };
-        if !add_entry(&mut list, index, name)? {
-            break;
-        }
-    }
-    Ok(list)
+// An open directory as a request names it, and from where on it is listed.
+#[derive(Clone, Copy)]
+pub(crate) struct Wanted {
+    pub(crate) handle: u64,
+    pub(crate) offset: u64,
+    pub(crate) size: u32,
 }
 
 impl Tables {
-    // The names of a directory, as they are now.
-    fn names_of<K: Machine>(
-        &mut self,
-        hand: &mut Hand<K>,
-        node: u64,
-    ) -> Result<Vec<Name, Heap>, Fault>
-        ensures { bound hand.new ≡ bound hand.old }
-    {
-        let place = self.locate(node)?;
-        let path = place.own_path(self.heap)?;
-        let reply = hand.ask(Call::List(path));
-        match &reply {
-            ids::Reply::Answer(Answer::Names(list)) => Ok(shown_names(self.heap, node, list)?),
-            _ => Err(Fault::of_reply(&reply)),
-        }
-    }
-
     // Opens a directory, and takes its names.
     pub(crate) fn open_folder<K: Machine>(
         &mut self,
         hand: &mut Hand<K>,
         node: u64,
     ) -> Result<Reply, Fault>
-        ensures { bound hand.new ≡ bound hand.old }
+        ensures bound { bound hand.new ≡ bound hand.old }
+        ensures answers { AnswersOpenDir self.old self.new hand.old.pid node
+            hand.old.shown hand.new.shown result }
     {
-        let names = self.names_of(hand, node)?;
+        let Located { view: _, path } = self.locate_own(node)?;
+        let list = course::list(hand, path)?;
+        let names = names_shown(self.heap, node, list.as_slice())?;
         let handle = self.folders.add(node, names)?;
         Ok(Reply::Opened(Opened { handle, flags: 0 }))
     }
 
-    // Takes the names of an open directory anew, where they are read from the start again.
+    // The path of an open directory, where its names are to be taken anew.
+    fn plan_anew(&self, folder: &Folder, offset: u64) -> Result<Option<Bytes>, Fault>
+        ensures { IsPlanned (anew self.now offset folder.now) result }
+    {
+        if !folder.is_stale(offset) {
+            return Ok(None);
+        }
+        let Located { view: _, path } = self.locate_own(folder.node)?;
+        Ok(Some(path))
+    }
+
+    // The node of an open directory, and that path.
+    fn plan_list(&self, handle: u64, offset: u64) -> Result<(u64, Option<Bytes>), Fault>
+        ensures { IsPlanned (lists self.now handle offset) result }
+    {
+        match self.folders.get(handle) {
+            Some(folder) => {
+                let path = self.plan_anew(folder, offset)?;
+                Ok((folder.node, path))
+            }
+            None => Err(Fault::Errno(Errno::EBADF)),
+        }
+    }
+
+    // Takes the names of an open directory anew, where there is a path for that.
     fn refresh<K: Machine>(
         &mut self,
         hand: &mut Hand<K>,
         handle: u64,
-        offset: u64,
+        node: u64,
+        path: Option<Bytes>,
     ) -> Result<(), Fault>
-        ensures { bound hand.new ≡ bound hand.old }
+        requires { is_some (folder_at self.old handle) ≡ true }
+        ensures bound { bound hand.new ≡ bound hand.old }
+        ensures refreshes { Refreshes self.old self.new hand.old.pid handle node path
+            hand.old.shown hand.new.shown result }
     {
-        if let Some(node) = self.folders.stale(handle, offset) {
-            let names = self.names_of(hand, node)?;
-            self.folders.renew(handle, names);
-        }
-        self.folders.mark(handle);
+        let Some(path) = path else {
+            self.folders.mark(handle);
+            return Ok(());
+        };
+        let list = course::list(hand, path)?;
+        let names = names_shown(self.heap, node, list.as_slice())?;
+        self.folders.renew(handle, names);
         Ok(())
+    }
+
+    // Lists the names that are kept of an open directory.
+    pub(crate) fn list(&self, wanted: Wanted, child: Option<Entry>) -> Result<Listing, Fault>
+        ensures ok { IfOk result (λ listing. IsList child wanted.offset
+            (names_in self.now wanted.handle) listing) }
+        ensures err { IfErr result (λ e. e ≡ error ENOMEM) }
+    {
+        let names = self.folders.names(wanted.handle);
+        let listing = list_from(self.heap, names, child, wanted.offset, wanted.size)?;
+        Ok(listing)
     }
 
     // Lists names of an open directory.
     pub(crate) fn read_folder<K: Machine>(
         &mut self,
         hand: &mut Hand<K>,
-        handle: u64,
-        offset: u64,
-        size: u32,
+        wanted: Wanted,
     ) -> Result<Reply, Fault>
-        ensures { bound hand.new ≡ bound hand.old }
+        ensures bound { bound hand.new ≡ bound hand.old }
+        ensures answers { AnswersReadDir self.old hand.old.pid wanted.handle wanted.offset
+            hand.old.shown hand.new.shown result }
     {
-        self.refresh(hand, handle, offset)?;
-        self.list(handle, offset, size)
+        let (node, path) = self.plan_list(wanted.handle, wanted.offset)?;
+        self.refresh(hand, wanted.handle, node, path)?;
+        let listing = self.list(wanted, None)?;
+        Ok(Reply::Directory(listing))
     }
 
-    // Lists the names that are kept of an open directory.
-    pub(crate) fn list(&self, handle: u64, offset: u64, size: u32) -> Result<Reply, Fault> {
-        match self.folders.get(handle) {
-            Some(folder) => Ok(Reply::Directory(list_from(self.heap, folder, offset, size)?)),
-            None => Err(Fault::Errno(Errno::EBADF)),
-        }
-    }
-
-    // The node of an open directory, and a copy of one of its names.
-    fn named_in(&self, handle: u64, index: usize) -> Result<Option<(u64, Bytes)>, Fault> {
-        let Some(folder) = self.folders.get(handle) else {
-            return Err(Fault::Errno(Errno::EBADF));
-        };
-        match name_at(folder, index) {
-            Some(name) => Ok(Some((folder.node, Bytes::copy(self.heap, name)?))),
-            None => Ok(None),
-        }
-    }
-
-    // What a name of a directory gives, for a list: nothing where it went meanwhile, and no look-up is
-    // counted for the two names that each directory has.
-    fn child_of<K: Machine>(
-        &mut self,
-        hand: &mut Hand<K>,
-        node: u64,
-        index: usize,
-        name: &Bytes,
-    ) -> Result<Option<Entry>, Fault>
-        ensures { bound hand.new ≡ bound hand.old }
-    {
-        if index < 2 {
-            return Ok(Some(Entry {
-                node: 0,
-                generation: 0,
-                attr: self.attributes.attr_of_node(UNKNOWN, true),
-            }));
-        }
-        let place = self.locate(node)?;
-        let path = place.path_of(self.heap, name)?;
-        let spot = Spot::new(self.heap, node, name.as_slice())?;
-        self.nodes.reserve()?;
-        match course::stat_path(hand, path) {
-            Ok(stat) => Ok(Some(self.entry(spot, &stat)?)),
-            Err(Fault::Aborted) => Err(Fault::Aborted),
-            Err(Fault::Errno(_)) => Ok(None),
-        }
-    }
-
-    // Adds an entry and what its name gives. False where it does not fit, and then its look-up is
-    // forgotten.
-    fn add_child(
-        &mut self,
-        list: &mut Listing,
-        index: usize,
-        name: &[u8],
-        child: &Entry,
-    ) -> Result<bool, Fault> {
-        if name.len() > NAME_LIMIT {
-            return Ok(true);
-        }
-        let entry = DirectoryEntry {
-            inode: child.attr.inode,
-            offset: (index as u64).saturating_add(1),
-            kind: Kind::Unknown,
-            name,
-        };
-        let fitted = list.add_plus(child, &entry)?;
-        if !fitted && child.node != 0 {
-            self.nodes.forget(child.node, 1);
-        }
-        Ok(fitted)
-    }
-
-    // Adds the entry of this index. False at the end, and where it does not fit.
-    fn add_at<K: Machine>(
-        &mut self,
-        hand: &mut Hand<K>,
-        handle: u64,
-        list: &mut Listing,
-        index: usize,
-    ) -> Result<bool, Fault>
-        ensures { bound hand.new ≡ bound hand.old }
-    {
-        let Some((node, name)) = self.named_in(handle, index)? else {
-            return Ok(false);
-        };
-        match self.child_of(hand, node, index, &name)? {
-            Some(child) => self.add_child(list, index, name.as_slice(), &child),
-            None => Ok(true),
-        }
-    }
-
-    // Lists names of an open directory, and looks each of them up.
+    // The same, each name with what it gives. Nothing is looked up for that: no look-up is counted
+    // for an entry whose node is 0, and the kernel asks when a name is used.
     pub(crate) fn read_folder_plus<K: Machine>(
         &mut self,
         hand: &mut Hand<K>,
-        handle: u64,
-        offset: u64,
-        size: u32,
+        wanted: Wanted,
     ) -> Result<Reply, Fault>
-        ensures { bound hand.new ≡ bound hand.old }
+        ensures bound { bound hand.new ≡ bound hand.old }
+        ensures answers { AnswersReadDirPlus self.old hand.old.pid wanted.handle wanted.offset
+            hand.old.shown hand.new.shown result }
     {
-        self.refresh(hand, handle, offset)?;
-        let mut list = Listing::new(self.heap, size.min(MOST_LISTED));
-        let first = usize::try_from(offset).unwrap_or(usize::MAX);
-        for index in first..usize::MAX {
-            if !self.add_at(hand, handle, &mut list, index)? {
-                break;
-            }
-        }
-        Ok(Reply::Directory(list))
+        let (node, path) = self.plan_list(wanted.handle, wanted.offset)?;
+        self.refresh(hand, wanted.handle, node, path)?;
+        let child = Entry {
+            node: 0,
+            generation: 0,
+            attr: self.attributes.attr_of_node(UNKNOWN, true),
+        };
+        let listing = self.list(wanted, Some(child))?;
+        Ok(Reply::Directory(listing))
     }
 
     // Closes a directory.

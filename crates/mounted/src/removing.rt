@@ -20,15 +20,6 @@ use std::alloc::AllocError;
 // The flag of a move that replaces nothing.
 const NO_REPLACE: u32 = 1;
 
-// A move, by its request.
-#[derive(Clone, Copy)]
-pub(crate) struct Move<'a> {
-    pub(crate) name: &'a Bytes,
-    pub(crate) new_parent: u64,
-    pub(crate) new_name: &'a Bytes,
-    pub(crate) flags: u32,
-}
-
 // A copy, where it is wanted.
 fn copy_if(wanted: bool, bytes: &Bytes) -> Result<Option<Bytes>, AllocError>
     ensures same { IfOk result (λ copy. IfSome copy (λ b. b ≡ bytes.now)) }
@@ -111,13 +102,19 @@ impl Tables {
     }
 
     // The paths of a move, in one view, and whether it may replace nothing.
-    fn plan_move(&self, node: u64, wanted: Move<'_>) -> Result<(Pair, bool), Fault>
-        ensures { IsPlanned (moved self.now node wanted.name.now wanted.new_parent
-            wanted.new_name.now wanted.flags) result }
+    fn plan_move(
+        &self,
+        node: u64,
+        name: &Bytes,
+        new_parent: u64,
+        new_name: &Bytes,
+        flags: u32,
+    ) -> Result<(Pair, bool), Fault>
+        ensures { IsPlanned (moved self.now node name.now new_parent new_name.now flags) result }
     {
-        let absent = absent_in(wanted.flags)?;
-        let from = self.locate_new(node, wanted.name)?;
-        let to = self.locate_new(wanted.new_parent, wanted.new_name)?;
+        let absent = absent_in(flags)?;
+        let from = self.locate_new(node, name)?;
+        let to = self.locate_new(new_parent, new_name)?;
         let paths = in_one_view(from, to)?;
         Ok((paths, absent))
     }
@@ -127,21 +124,23 @@ impl Tables {
         &mut self,
         hand: &mut Hand<K>,
         node: u64,
-        wanted: Move<'_>,
+        name: &Bytes,
+        new_parent: u64,
+        new_name: &Bytes,
+        flags: u32,
     ) -> Result<Reply, Fault>
         ensures bound { bound hand.new ≡ bound hand.old }
-        ensures answers { AnswersRename self.old hand.old.pid node wanted.name.now
-            wanted.new_parent wanted.new_name.now wanted.flags
-            hand.old.shown hand.new.shown result }
+        ensures answers { AnswersRename self.old hand.old.pid node name.now new_parent new_name.now
+            flags hand.old.shown hand.new.shown result }
     {
-        let (Pair { from, to }, absent) = self.plan_move(node, wanted)?;
+        let (Pair { from, to }, absent) = self.plan_move(node, name, new_parent, new_name, flags)?;
         let again = copy_if(absent, &to)?;
-        let former = self.place_of(node, wanted.name)?;
-        let spot = self.spot_for(wanted.new_parent, wanted.new_name)?;
+        let former = self.place_of(node, name)?;
+        let spot = self.spot_for(new_parent, new_name)?;
         course::move_name(hand, from, to, again)?;
         self.nodes.move_place(&former, spot)?;
         self.note_names(node);
-        self.note_names(wanted.new_parent);
+        self.note_names(new_parent);
         Ok(Reply::Empty)
     }
 }

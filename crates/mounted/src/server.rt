@@ -1,7 +1,10 @@
 // A mounted tree, and which process serves a request.
-ghost use Rattle.std.specs.Prelude.{◌≤◌, IfOk};
+ghost use Rattle.std.specs.Prelude.{◌≡◌, ◌≤◌, ◌+◌, option_map, IfErr, IfOk};
 ghost use Rattle.machine.specs.Shown.{Kept};
 ghost use Rattle.ids.specs.declared.limits.TheConstants.{LARGEST_FILE, MAX_ENTRIES};
+ghost use Rattle.mounted.specs.First.{IsFirst};
+ghost use Rattle.mounted.specs.Served.{IsChosen, IsLacking, IsLackingBy, IsReady, IsReadyBy};
+ghost use Rattle.mounted.specs.Served.{chosen, plain_file, process_by};
 
 use crate::numbers::PLAIN;
 use crate::open_files::OpenFile;
@@ -42,7 +45,8 @@ fn priority(level: u8) -> Priority
 fn kernel_with<K: Machine>(heap: Heap, limits: Limits) -> Result<K, AllocError>
     requires limited { limits.entries ≤ MAX_ENTRIES }
     requires files { limits.file_bytes ≤ LARGEST_FILE }
-    ensures { IfOk result (λ kernel. Kept (K.shown kernel)) }
+    ensures kept { IfOk result (λ kernel. Kept (K.shown kernel)) }
+    ensures first { IfOk result (λ kernel. IsFirst limits (K.shown kernel)) }
 {
     let priorities = [
         priority(0),
@@ -66,8 +70,10 @@ fn keeps_open(state: State) -> bool {
     }
 }
 
-// The process that has a file of the plain tree open, and else the one that has none.
-fn process_of(file: Option<OpenFile>) -> Pid {
+// The process that has a file of the plain tree open, and else the first one.
+fn process_by(file: Option<OpenFile>) -> Pid
+    ensures { result ≡ process_by file }
+{
     match file {
         Some(file) => {
             if file.view == PLAIN {
@@ -81,10 +87,13 @@ fn process_of(file: Option<OpenFile>) -> Pid {
 }
 
 impl<K: Machine> Server<K> {
-    /// A mounted tree with no names, on a kernel with these limits. Refused memory gives nothing.
+    /// A mounted tree with no names, on a kernel with these limits, of which nothing was asked yet.
+    /// Refused memory gives nothing.
     pub fn new(heap: Heap, limits: Limits) -> Result<Server<K>, AllocError>
         requires limited { limits.entries ≤ MAX_ENTRIES }
         requires files { limits.file_bytes ≤ LARGEST_FILE }
+        ensures kept { IfOk result (λ s. Kept s.hand.shown) }
+        ensures first { IfOk result (λ s. IsFirst limits s.hand.shown) }
     {
         let kernel = kernel_with(heap, limits)?;
         Ok(Server {
@@ -94,7 +103,13 @@ impl<K: Machine> Server<K> {
     }
 
     // A process of this priority without descriptors: one that waits, or a new one.
-    pub(crate) fn take_process(&mut self, level: u8) -> Result<Pid, Fault> {
+    pub(crate) fn take_process(&mut self, level: u8) -> Result<Pid, Fault>
+        ensures ready { IfOk result (λ pid.
+            IsReadyBy (level + 1) self.old.hand.shown pid self.new.hand.shown) }
+        ensures lacking { IfErr result (λ e.
+            IsLackingBy (level + 1) self.old.hand.shown e self.new.hand.shown) }
+        ensures tables { self.new.tables ≡ record self.old.tables { pool = self.new.tables.pool } }
+    {
         match self.tables.pool.take(level) {
             Some(pid) => Ok(pid),
             None => {
@@ -105,7 +120,11 @@ impl<K: Machine> Server<K> {
     }
 
     // A process of the plain tree that has a descriptor free.
-    fn holder(&mut self) -> Result<Pid, Fault> {
+    fn holder(&mut self) -> Result<Pid, Fault>
+        ensures ready { IfOk result (λ pid. IsReady self.old.hand.shown pid self.new.hand.shown) }
+        ensures lacking { IfErr result (λ e. IsLacking self.old.hand.shown e self.new.hand.shown) }
+        ensures tables { self.new.tables ≡ record self.old.tables { pool = self.new.tables.pool } }
+    {
         match self.tables.pool.free_holder() {
             Some(pid) => Ok(pid),
             None => {
@@ -117,16 +136,27 @@ impl<K: Machine> Server<K> {
     }
 
     // The process that serves an open of the plain tree.
-    fn opener(&mut self, node: u64) -> Result<Pid, Fault> {
-        let inode = self.tables.inode_of(node);
-        match self.tables.files.of(PLAIN, inode) {
+    fn opener(&mut self, node: u64) -> Result<Pid, Fault>
+        ensures chosen { IfOk result (λ pid.
+            IsChosen (option_map (λ f. f.pid) (plain_file self.old.tables node)) pid) }
+        ensures ready { IfOk result (λ pid. IsReady self.old.hand.shown pid self.new.hand.shown) }
+        ensures lacking { IfErr result (λ e. IsLacking self.old.hand.shown e self.new.hand.shown) }
+        ensures tables { self.new.tables ≡ record self.old.tables { pool = self.new.tables.pool } }
+    {
+        match self.tables.plain_file(node) {
             Some(file) => Ok(file.pid),
             None => self.holder(),
         }
     }
 
     // The process that serves a request of the plain tree.
-    pub(crate) fn choose_plain(&mut self, node: u64, operation: &Operation) -> Result<Pid, Fault> {
+    pub(crate) fn choose_plain(&mut self, node: u64, operation: &Operation) -> Result<Pid, Fault>
+        ensures chosen { IfOk result (λ pid.
+            IsChosen (chosen self.old.tables node operation.now) pid) }
+        ensures ready { IfOk result (λ pid. IsReady self.old.hand.shown pid self.new.hand.shown) }
+        ensures lacking { IfErr result (λ e. IsLacking self.old.hand.shown e self.new.hand.shown) }
+        ensures tables { self.new.tables ≡ record self.old.tables { pool = self.new.tables.pool } }
+    {
         match operation {
             Operation::Open { flags: _ } => self.opener(node),
             Operation::Create {
@@ -136,10 +166,27 @@ impl<K: Machine> Server<K> {
             }
             | Operation::MkNod { name: _, mode: _ } => self.holder(),
             Operation::GetAttr { handle: _ } | Operation::SetAttr { changes: _ } => {
-                let inode = self.tables.inode_of(node);
-                Ok(process_of(self.tables.files.of(PLAIN, inode)))
+                Ok(process_by(self.tables.plain_file(node)))
             }
-            _ => Ok(process_of(self.tables.file_named(operation))),
+            Operation::Read {
+                handle,
+                offset: _,
+                size: _,
+                open_flags: _,
+            }
+            | Operation::Write {
+                handle,
+                offset: _,
+                write_flags: _,
+                open_flags: _,
+                bytes: _,
+            }
+            | Operation::Lseek {
+                handle,
+                offset: _,
+                whence: _,
+            } => Ok(process_by(self.tables.files.get(*handle))),
+            _ => Ok(first_process(0)),
         }
     }
 

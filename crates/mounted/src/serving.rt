@@ -1,12 +1,17 @@
 // A request is served.
-ghost use Rattle.std.specs.Prelude.{◌≡◌, false};
+ghost use Rattle.std.specs.Prelude.{◌≡◌, false, true};
 ghost use Rattle.machine.specs.Shown.{Kept, limit_of, setup_of};
 ghost use Rattle.history_laws.specs.Headline.{IsSerializable};
 ghost use Rattle.course.specs.Hands.{IsSince, bound};
+ghost use Rattle.mounted.specs.Numbers.{class_of};
+ghost use Rattle.mounted.specs.Requests.{IsAnswered, IsOfFiles, IsOfNames};
+ghost use Rattle.mounted.specs.Served.{IsServed, IsToldOf, ServesPlain, ServesTree, is_of_tree, told};
 ghost use Rattle.mounted.specs.Steppers.{StaysInView, is_release};
+ghost use Rattle.mounted.specs.declared.numbers.Class.TheVariants.{Tree as InTree};
 
 use crate::attributes::Owner;
 use crate::numbers::{Class, PLAIN, class_of};
+use crate::reading::Wanted;
 use crate::server::Server;
 use crate::starting::{start, status};
 use crate::tables::{Stepper, Tables};
@@ -51,7 +56,8 @@ fn line_of(heap: Heap, entry: &Entry) -> Halting {
 impl<K: Machine> Server<K> {
     /// What is answered to a request; None where no answer is due. The kernel's history stays legal,
     /// and strictly serializable. For a request about a node below a view only the process of its
-    /// transaction steps, while that goes on, and nothing is done where it does not.
+    /// transaction steps, while that goes on, and nothing is done where it does not. A request about a
+    /// node of a tree becomes the course of its operation, and the reply tells what that came to.
     pub fn serve(&mut self, request: Request) -> Option<Reply>
         ensures kept { Kept self.new.hand.shown }
         ensures serial { let s = self.new.hand.shown in
@@ -59,6 +65,9 @@ impl<K: Machine> Server<K> {
         ensures in_view { is_release request.operation ≡ false
             → StaysInView self.old.tables.nodes.table self.old.tables.views.each.items request.node
             self.old.hand.shown.log.entries self.new.hand.shown.log.entries }
+        ensures told { is_of_tree request.operation ≡ true → class_of request.node ≡ InTree
+            → IsServed self.old.tables self.new.tables request.node request.operation
+            self.old.hand.shown self.new.hand.shown result }
     {
         let Request {
             unique: _,
@@ -82,9 +91,12 @@ impl<K: Machine> Server<K> {
 
     // The requests that have no answer, and the others.
     fn answer(&mut self, caller: Caller, operation: Operation) -> Option<Reply>
-        ensures { is_release operation ≡ false
+        ensures in_view { is_release operation ≡ false
             → StaysInView self.old.tables.nodes.table self.old.tables.views.each.items caller.node
             self.old.hand.shown.log.entries self.new.hand.shown.log.entries }
+        ensures told { is_of_tree operation ≡ true → class_of caller.node ≡ InTree
+            → IsToldOf self.old.tables self.new.tables caller.node operation
+            self.old.hand.shown self.new.hand.shown result }
     {
         match operation {
             Operation::Forget { lookups } => {
@@ -113,7 +125,10 @@ impl<K: Machine> Server<K> {
 
     // What is answered to an outcome. Of an abort the view of the process is told.
     fn reply_of(&mut self, outcome: Result<Reply, Fault>) -> Reply
-        ensures { self.new.hand ≡ self.old.hand }
+        ensures reply { result ≡ told outcome }
+        ensures hand { self.new.hand ≡ self.old.hand }
+        ensures tables { self.new.tables
+            ≡ record self.old.tables { views = self.new.tables.views } }
     {
         match outcome {
             Ok(reply) => reply,
@@ -133,7 +148,9 @@ impl<K: Machine> Server<K> {
 
     // The last step aborted the transaction of its process: the view has the cause.
     pub(crate) fn note_abort(&mut self)
-        ensures { self.new.hand ≡ self.old.hand }
+        ensures hand { self.new.hand ≡ self.old.hand }
+        ensures tables { self.new.tables
+            ≡ record self.old.tables { views = self.new.tables.views } }
     {
         let pid = self.hand.pid();
         match self.last_line() {
@@ -147,9 +164,12 @@ impl<K: Machine> Server<K> {
 
     // What comes of a request that is answered.
     fn outcome(&mut self, caller: Caller, operation: Operation) -> Result<Reply, Fault>
-        ensures { is_release operation ≡ false
+        ensures in_view { is_release operation ≡ false
             → StaysInView self.old.tables.nodes.table self.old.tables.views.each.items caller.node
             self.old.hand.shown.log.entries self.new.hand.shown.log.entries }
+        ensures tree { is_of_tree operation ≡ true → class_of caller.node ≡ InTree
+            → ServesTree self.old.tables self.new.tables caller.node operation
+            self.old.hand.shown self.new.hand.shown result }
     {
         match operation {
             Operation::Init {
@@ -173,7 +193,10 @@ impl<K: Machine> Server<K> {
 
     // Requests about a node below a view: the process of its transaction serves them.
     fn in_view(&mut self, pid: Pid, caller: Caller, operation: Operation) -> Result<Reply, Fault>
-        ensures { IsSince pid self.old.hand.shown.log.entries self.new.hand.shown.log.entries }
+        ensures since { IsSince pid
+            self.old.hand.shown.log.entries self.new.hand.shown.log.entries }
+        ensures answers { IsAnswered self.old.tables self.new.tables pid caller.node operation
+            self.old.hand.shown self.new.hand.shown result }
     {
         self.hand.bind(pid);
         let outcome = self.tables.of_nodes(&mut self.hand, caller, operation);
@@ -183,7 +206,10 @@ impl<K: Machine> Server<K> {
     }
 
     // Requests about a node of the plain tree: one process serves each.
-    fn in_plain(&mut self, caller: Caller, operation: Operation) -> Result<Reply, Fault> {
+    fn in_plain(&mut self, caller: Caller, operation: Operation) -> Result<Reply, Fault>
+        ensures { ServesPlain self.old.tables self.new.tables caller.node operation
+            self.old.hand.shown self.new.hand.shown result }
+    {
         let pid = self.choose_plain(caller.node, &operation)?;
         self.hand.bind(pid);
         self.tables.of_nodes(&mut self.hand, caller, operation)
@@ -191,9 +217,11 @@ impl<K: Machine> Server<K> {
 
     // Requests about a node of a tree.
     fn in_tree(&mut self, caller: Caller, operation: Operation) -> Result<Reply, Fault>
-        ensures { StaysInView
+        ensures in_view { StaysInView
             self.old.tables.nodes.table self.old.tables.views.each.items caller.node
             self.old.hand.shown.log.entries self.new.hand.shown.log.entries }
+        ensures tree { ServesTree self.old.tables self.new.tables caller.node operation
+            self.old.hand.shown self.new.hand.shown result }
     {
         let Stepper { view, pid } = self.tables.stepper_at(caller.node)?;
         if view == PLAIN {
@@ -212,7 +240,9 @@ impl Tables {
         caller: Caller,
         operation: Operation,
     ) -> Result<Reply, Fault>
-        ensures { bound hand.new ≡ bound hand.old }
+        ensures bound { bound hand.new ≡ bound hand.old }
+        ensures answers { IsAnswered self.old self.new hand.old.pid caller.node operation
+            hand.old.shown hand.new.shown result }
     {
         match operation {
             Operation::Lookup { name } => self.look_up(hand, caller.node, &name),
@@ -224,12 +254,26 @@ impl Tables {
                 handle,
                 offset,
                 size,
-            } => self.read_folder(hand, handle, offset, size),
+            } => self.read_folder(
+                hand,
+                Wanted {
+                    handle,
+                    offset,
+                    size,
+                },
+            ),
             Operation::ReadDirPlus {
                 handle,
                 offset,
                 size,
-            } => self.read_folder_plus(hand, handle, offset, size),
+            } => self.read_folder_plus(
+                hand,
+                Wanted {
+                    handle,
+                    offset,
+                    size,
+                },
+            ),
             operation => self.of_names(hand, caller, operation),
         }
     }
@@ -241,7 +285,9 @@ impl Tables {
         caller: Caller,
         operation: Operation,
     ) -> Result<Reply, Fault>
-        ensures { bound hand.new ≡ bound hand.old }
+        ensures bound { bound hand.new ≡ bound hand.old }
+        ensures answers { IsOfNames self.old self.new hand.old.pid caller.node operation
+            hand.old.shown hand.new.shown result }
     {
         match operation {
             Operation::MkNod { name, mode } => self.make_file(hand, caller, &name, mode),
@@ -269,7 +315,9 @@ impl Tables {
         caller: Caller,
         operation: Operation,
     ) -> Result<Reply, Fault>
-        ensures { bound hand.new ≡ bound hand.old }
+        ensures bound { bound hand.new ≡ bound hand.old }
+        ensures answers { IsOfFiles self.old self.new hand.old.pid caller.node operation
+            hand.old.shown hand.new.shown result }
     {
         match operation {
             Operation::Open { flags } => self.open(hand, caller.node, flags),

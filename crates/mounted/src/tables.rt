@@ -2,6 +2,7 @@
 ghost use Rattle.std.specs.Prelude.{◌≡◌, IfOk};
 ghost use Rattle.mounted.specs.Found.{fd_of, file_by, handle_of, inode_of, path_to, stepper_at};
 ghost use Rattle.mounted.specs.Found.{stepper_by, stepper_in};
+ghost use Rattle.mounted.specs.Served.{plain_file};
 
 use crate::attributes::AttributeTable;
 use crate::folders::Folders;
@@ -10,7 +11,7 @@ use crate::open_files::{OpenFile, OpenFiles};
 use crate::pool::{Pool, first_process};
 use crate::views::{State, Views};
 use course::Fault;
-use fuse::{Errno, Operation};
+use fuse::Errno;
 use heap::Heap;
 use ids::{Bytes, Fd, Num, Pid};
 use nodes::Nodes;
@@ -157,28 +158,11 @@ impl Tables {
         if file.pid == pid { Some(file.fd) } else { None }
     }
 
-    // The open file that a request names.
-    pub(crate) fn file_named(&self, operation: &Operation) -> Option<OpenFile> {
-        match operation {
-            Operation::Read {
-                handle,
-                offset: _,
-                size: _,
-                open_flags: _,
-            } => self.files.get(*handle),
-            Operation::Write {
-                handle,
-                offset: _,
-                write_flags: _,
-                open_flags: _,
-                bytes: _,
-            } => self.files.get(*handle),
-            Operation::Lseek {
-                handle,
-                offset: _,
-                whence: _,
-            } => self.files.get(*handle),
-            _ => None,
-        }
+    // The file of a node, where it is open in the plain tree.
+    pub(crate) fn plain_file(&self, node: u64) -> Option<OpenFile>
+        ensures { result ≡ plain_file self.now node }
+    {
+        let handle = self.files.handle_of(PLAIN, self.inode_of(node))?;
+        self.files.get(handle)
     }
 }

@@ -1,5 +1,6 @@
 // Requests about the directory of transactions.
 use crate::numbers::{TRANSACTIONS, control_node, root_node};
+use crate::reading::Wanted;
 use crate::server::Server;
 use crate::tables::Tables;
 use crate::views::{Standing, State, View};
@@ -50,11 +51,13 @@ impl Tables {
     // What a name gives.
     fn look_up_transaction(&self, name: &Bytes) -> Result<Reply, Fault> {
         if let Some(standing) = self.views.named(name.as_slice()) {
-            return Ok(self.entry_of_node(root_node(standing.number), true));
+            let entry = self.entry_of_node(root_node(standing.number), true);
+            return Ok(Reply::Entry(entry));
         }
         if let Some(front) = control_name(name.as_slice()) {
             if let Some(standing) = self.views.named(front) {
-                return Ok(self.entry_of_node(control_node(standing.number), false));
+                let entry = self.entry_of_node(control_node(standing.number), false);
+                return Ok(Reply::Entry(entry));
             }
         }
         Err(Fault::Errno(Errno::ENOENT))
@@ -89,7 +92,11 @@ impl Tables {
                 handle,
                 offset,
                 size,
-            } => self.list_transactions(handle, offset, size),
+            } => self.list_transactions(Wanted {
+                handle,
+                offset,
+                size,
+            }),
             Operation::Other { opcode: _ } => Err(Fault::Errno(Errno::ENOSYS)),
             _ => Err(Fault::Errno(Errno::EPERM)),
         }
@@ -108,13 +115,13 @@ impl Tables {
     }
 
     // Lists it.
-    fn list_transactions(&mut self, handle: u64, offset: u64, size: u32) -> Result<Reply, Fault> {
-        if self.folders.stale(handle, offset).is_some() {
+    fn list_transactions(&mut self, wanted: Wanted) -> Result<Reply, Fault> {
+        if self.folders.is_stale(wanted.handle, wanted.offset) {
             let names = self.names_of_transactions()?;
-            self.folders.renew(handle, names);
+            self.folders.renew(wanted.handle, names);
         }
-        self.folders.mark(handle);
-        self.list(handle, offset, size)
+        self.folders.mark(wanted.handle);
+        Ok(Reply::Directory(self.list(wanted, None)?))
     }
 }
 
@@ -139,7 +146,10 @@ impl<K: Machine> Server<K> {
         let level = level_of(name.as_slice());
         let pid = self.take_process(level)?;
         match self.begin_by(pid, level, own_name) {
-            Ok(view) => Ok(self.tables.entry_of_node(root_node(view), true)),
+            Ok(view) => {
+                let entry = self.tables.entry_of_node(root_node(view), true);
+                Ok(Reply::Entry(entry))
+            }
             Err(fault) => {
                 self.tables.pool.give_back(pid, level);
                 Err(fault)

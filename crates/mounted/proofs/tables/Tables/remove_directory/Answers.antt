@@ -1,0 +1,21 @@
+use Rattle.std.proofs.Common.{inl, refl}
+use Rattle.fuse.specs.declared.errno.Errno.TheVariants.{ENOMEM}
+use Rattle.course.specs.Faults.{error}
+use Rattle.mounted.proofs.Answering.{failed, refused, told, unplanned}
+use Rattle.mounted.proofs.tables.Tables.remove_directory.Goals as goal
+
+pub returns-in_err-path-clause-answers : goal.returns-in_err-path-clause-answers
+returns-in_err-path-clause-answers g c =
+    unplanned _ c.from_residual.ensures.1 c.in_err-path.ensures refl
+
+pub returns-in_err-place-clause-answers : goal.returns-in_err-place-clause-answers
+returns-in_err-place-clause-answers g c =
+    refused {e = error ENOMEM} _ c.from_residual-in_err-place.ensures.1 (inl refl)
+
+pub returns-in_err-remove_directory-clause-answers : goal.returns-in_err-remove_directory-clause-answers
+returns-in_err-remove_directory-clause-answers g c =
+    failed _ c.in_ok-path.ensures c.from_residual-in_err-remove_directory.ensures.1 c.in_err-remove_directory.ensures.ran
+
+pub returns-clause-answers : goal.returns-clause-answers
+returns-clause-answers g c =
+    told c.in_ok-path.ensures c.in_ok-remove_directory.ensures.ran tt

@@ -1,0 +1,131 @@
+-- How a request about a node of a tree is served.
+use Rattle.std.specs.Prelude.{◌≡◌, ◌⊎◌, ℕ, ◌==◌, Bool, true, false, Option, Some, None}
+use Rattle.std.specs.Prelude.{option_map, option_and_then, Result, Ok, Err, if◌then◌else◌}
+use Rattle.fuse.specs.declared.errno.Errno.TheVariants as errno
+use Rattle.fuse.specs.declared.reply.Reply.{Reply}
+use Rattle.fuse.specs.declared.reply.Reply.TheVariants as reply
+use Rattle.fuse.specs.declared.request.Operation.{Operation}
+use Rattle.fuse.specs.declared.request.Operation.TheVariants as asked
+use Rattle.machine.specs.Shown.{Shown}
+use Rattle.machine.specs.Steps.{forgetting}
+use Rattle.course.specs.Course.{Ran}
+use Rattle.course.specs.Courses.{forking}
+use Rattle.course.specs.Faults.{error}
+use Rattle.course.specs.declared.fault.Fault.{Fault}
+use Rattle.course.specs.declared.fault.Fault.TheVariants as fault
+use Rattle.mounted.specs.Found.{file_at, handle_of, inode_of, stepper_at}
+use Rattle.mounted.specs.Requests.{IsAnswered, Tells}
+use Rattle.mounted.specs.declared.open_files.OpenFile.{OpenFile}
+use Rattle.mounted.specs.declared.pool.Pool.{Pool}
+use Rattle.mounted.specs.declared.tables.Stepper.{Stepper}
+use Rattle.mounted.specs.declared.tables.Tables.{Tables}
+
+-- ---- the plain tree
+
+-- the process that has a file of the plain tree open, and else the first one
+abbrev pub process_by : Option OpenFile → ℕ
+process_by (Some file) = if file.view == 0 then file.pid else 1
+process_by None = 1
+
+-- a file of the plain tree that is open
+abbrev pub plain_file : Tables → ℕ → Option OpenFile
+plain_file t node = option_and_then (file_at t) (handle_of t 0 (inode_of t node))
+
+-- The process by which a request steps in the plain tree: one that has the file open, or the first
+-- one. Where a file is to be opened it is any that has a descriptor free.
+abbrev pub chosen : Tables → ℕ → Operation → Option ℕ
+chosen t node (asked.Open flags) = option_map (λ (f : OpenFile). f.pid) (plain_file t node)
+chosen t node (asked.Create name flags mode) = None
+chosen t node (asked.MkNod name mode) = None
+chosen t node (asked.GetAttr handle) = Some (process_by (plain_file t node))
+chosen t node (asked.SetAttr changes) = Some (process_by (plain_file t node))
+chosen t node (asked.Read handle offset size flags) = Some (process_by (file_at t handle))
+chosen t node (asked.Write handle offset how flags bytes) = Some (process_by (file_at t handle))
+chosen t node (asked.Lseek handle offset whence) = Some (process_by (file_at t handle))
+chosen t node _ = Some 1
+
+abbrev pub IsChosen : Option ℕ → ℕ → Type 0
+IsChosen (Some process) pid = pid ≡ process
+IsChosen None pid = Unit {0}
+
+-- a process was there, or this one made it
+abbrev pub IsReadyBy : ℕ → Shown → ℕ → Shown → Type 0
+IsReadyBy maker old pid new = (new ≡ old) ⊎ Ran old (forking maker) (Ok pid) new
+
+-- it could not be made, or memory was refused for it
+abbrev pub IsLackingBy : ℕ → Shown → Fault → Shown → Type 0
+IsLackingBy maker old e new = Ran old (forking maker) (Err e) new ⊎ (e ≡ error errno.ENOMEM)
+
+-- the first one makes those of the plain tree
+abbrev pub IsReady : Shown → ℕ → Shown → Type 0
+IsReady old pid new = IsReadyBy 1 old pid new
+
+abbrev pub IsLacking : Shown → Fault → Shown → Type 0
+IsLacking old e new = IsLackingBy 1 old e new
+
+pub data ServesPlain (t later : Tables) (node : ℕ) (operation : Operation) (old new : Shown)
+    (result : Result Reply Fault) : Type 0 where
+  Lacking : (e : Fault) → IsLacking old e new → result ≡ Err e
+      → ServesPlain t later node operation old new result
+  Ready : (pid : ℕ) (pool : Pool) (mid : Shown) → IsChosen (chosen t node operation) pid
+      → IsReady old pid mid
+      → IsAnswered (record t { pool = pool }) later pid node operation mid new result
+      → ServesPlain t later node operation old new result
+
+-- ---- all trees
+
+-- In the plain tree, or by the process of a view's transaction.
+abbrev pub ServesIn : Bool → Tables → Tables → ℕ → ℕ → Operation → Shown → Shown
+    → Result Reply Fault → Type 0
+ServesIn true t later pid node operation old new r =
+    ServesPlain t later node operation old new r
+ServesIn false t later pid node operation old new r =
+    IsAnswered t later pid node operation old new r
+
+abbrev pub ServesBy : Result Stepper Fault → Tables → Tables → ℕ → Operation → Shown → Shown
+    → Result Reply Fault → Type 0
+ServesBy (Err e) t later node operation old new r = Tells (Err e) old new r
+ServesBy (Ok s) t later node operation old new r =
+    ServesIn (s.view == 0) t later s.pid node operation old new r
+
+-- A request about a node: where nobody may step there it is refused.
+abbrev pub ServesTree : Tables → Tables → ℕ → Operation → Shown → Shown → Result Reply Fault
+    → Type 0
+ServesTree t later node operation old new r =
+    ServesBy (stepper_at t node) t later node operation old new r
+
+-- the reply to an outcome
+abbrev pub told : Result Reply Fault → Reply
+told (Ok r) = r
+told (Err (fault.Errno e)) = reply.Error e
+told (Err fault.Aborted) = reply.Error errno.ECANCELED
+
+-- The request was served and its outcome told. Views that were aborted are noted then.
+pub record IsToldOf (t later : Tables) (node : ℕ) (operation : Operation) (old new : Shown)
+    (answer : Option Reply) : Type 0 where
+  pub served : Tables
+  pub noted : later ≡ record served { views = later.views }
+  pub outcome : Result Reply Fault
+  pub serves : ServesTree t served node operation old new outcome
+  pub tells : answer ≡ Some (told outcome)
+
+-- The same, and then what was done is forgotten, so a session can go on for ever.
+pub record IsServed (t later : Tables) (node : ℕ) (operation : Operation) (old new : Shown)
+    (answer : Option Reply) : Type 0 where
+  pub mid : Shown
+  pub is : IsToldOf t later node operation old mid answer
+  pub forgot : (new ≡ mid) ⊎ (new ≡ forgetting mid)
+
+-- requests that are about no node of a tree, or only note what is forgotten or closed
+abbrev pub is_of_tree : Operation → Bool
+is_of_tree (asked.Init major minor ahead flags) = false
+is_of_tree asked.Destroy = false
+is_of_tree asked.StatFs = false
+is_of_tree (asked.Release handle flags) = false
+is_of_tree (asked.ReleaseDir handle) = false
+is_of_tree (asked.Flush handle) = false
+is_of_tree (asked.Fsync handle) = false
+is_of_tree (asked.Forget lookups) = false
+is_of_tree (asked.BatchForget forgets) = false
+is_of_tree (asked.Interrupt unique) = false
+is_of_tree _ = true

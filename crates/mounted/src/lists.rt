@@ -1,0 +1,79 @@
+// Lists of names as they are told.
+ghost use Rattle.std.specs.Prelude.{◌≡◌, ◌<◌, ◌-◌, ◌^◌, slice_get, option_map, IfOk};
+ghost use Rattle.mounted.specs.Told.{IsList, added_entry, with_dots};
+
+use fuse::{DirectoryEntry, Entry, Kind, Listing};
+use heap::Heap;
+use ids::Name;
+use std::alloc::AllocError;
+
+// The number of an object that is not told.
+const UNKNOWN: u64 = 0xffff_ffff;
+
+// The most bytes of one list.
+const MOST_LISTED: u32 = 1_048_576;
+
+// The most bytes of a name.
+const NAME_LIMIT: usize = 255;
+
+// The name of an entry: the two that each directory has come first.
+fn name_at(names: &[Name], index: usize) -> Option<&[u8]>
+    ensures { option_map (λ name. name.now) result ≡ slice_get (with_dots names.now) index }
+{
+    match index {
+        0 => Some(b".".as_slice()),
+        1 => Some(b"..".as_slice()),
+        _ => match names.get(index - 2) {
+            Some(name) => Some(name.as_slice()),
+            None => None,
+        },
+    }
+}
+
+// Adds an entry to a list, with what its name gives, where that is wanted. False where it does not
+// fit, or has a longer name than there is.
+fn add_entry(
+    list: &mut Listing,
+    child: Option<Entry>,
+    index: u64,
+    name: &[u8],
+) -> Result<bool, AllocError>
+    requires { index < 2 ^ 64 - 1 }
+    ensures { IfOk result (λ fits. list.new ≡ added_entry list.old child index name.now fits) }
+{
+    if name.len() > NAME_LIMIT {
+        return Ok(false);
+    }
+    let entry = DirectoryEntry {
+        inode: UNKNOWN,
+        offset: index + 1,
+        kind: Kind::Unknown,
+        name,
+    };
+    match child {
+        Some(child) => list.add_plus(&child, &entry),
+        None => list.add(&entry),
+    }
+}
+
+// The names of a directory from this one on, as many as fit.
+pub(crate) fn list_from(
+    heap: Heap,
+    names: &[Name],
+    child: Option<Entry>,
+    offset: u64,
+    size: u32,
+) -> Result<Listing, AllocError>
+    ensures { IfOk result (λ list. IsList child offset names.now list) }
+{
+    let mut list = Listing::new(heap, size.min(MOST_LISTED));
+    for index in offset..u64::MAX {
+        let Some(name) = name_at(names, index as usize) else {
+            break;
+        };
+        if !add_entry(&mut list, child, index, name)? {
+            break;
+        }
+    }
+    Ok(list)
+}
