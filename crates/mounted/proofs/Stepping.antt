@@ -1,5 +1,5 @@
 -- Who steps for a request, by the view of its node.
-use Rattle.std.proofs.Common.{◌≡◌, ◌≢◌, ◌==◌, ℕ, Bool, true, false, List, Option, Some, None, inl, inr, refl, sym, ap, subst, ◌∙◌, ne_eqb}
+use Rattle.std.proofs.Common.{◌≡◌, ◌≢◌, ◌⊎◌, ◌==◌, ℕ, Bool, true, false, List, Option, Some, None, inl, inr, refl, sym, ap, subst, ◌∙◌, ne_eqb}
 use Rattle.std.specs.Prelude.{if◌then◌else◌}
 use Rattle.std.specs.Prelude.{Result, Ok, Err, IfErr, IfOk, IsErrAnd}
 use Rattle.ids.specs.declared.entry.Entry.{Entry}
@@ -7,17 +7,20 @@ use Rattle.fuse.specs.declared.errno.Errno.TheVariants.{ESTALE}
 use Rattle.fuse.specs.declared.reply.Reply.{Reply}
 use Rattle.fuse.specs.declared.request.Operation.{Operation}
 use Rattle.machine.specs.Shown.{Shown}
+use Rattle.machine.specs.Steps.{forgetting}
 use Rattle.nodes.specs.Tables.{root_of}
 use Rattle.course.specs.Course.{Ran}
 use Rattle.course.specs.Courses.{forking}
 use Rattle.course.specs.Faults.{error}
-use Rattle.course.specs.Hands.{IsSince}
+use Rattle.course.specs.Hands.{Held, IsSince}
 use Rattle.course.specs.declared.fault.Fault.{Fault}
 use Rattle.mounted.specs.Found.{and_then, found_or, numbered, stepper_at, stepper_by, stepper_in, stepper_of}
-use Rattle.mounted.specs.Numbers.{view_of}
+use Rattle.mounted.specs.Numbers.{class_of, view_of}
 use Rattle.mounted.specs.Requests.{IsAnswered}
-use Rattle.mounted.specs.Served.{IsChosen, IsLacking, IsLackingBy, IsReady, IsReadyBy, Lacking, Ready, ServesBy, ServesIn, ServesPlain, ServesTree, chosen}
-use Rattle.mounted.specs.Steppers.{IsStepper, StaysInView}
+use Rattle.mounted.specs.Served.{IsChosen, IsLacking, IsLackingBy, IsReady, IsReadyBy, IsToldOf, Lacking, Ready, ServesBy, ServesIn, ServesPlain, ServesTree, chosen, is_of_tree}
+use Rattle.mounted.specs.Served as served
+use Rattle.mounted.specs.Steppers.{IsStepper, StaysInView, is_release}
+use Rattle.mounted.specs.declared.numbers.Class.TheVariants.{Tree}
 use Rattle.mounted.specs.declared.tables.Stepper.{Stepper}
 use Rattle.mounted.specs.declared.tables.Tables.{Tables}
 use Rattle.mounted.specs.declared.views.State.{State}
@@ -105,3 +108,21 @@ by_process t u later {pid} {process} node operation {old} {mid} {before} {new} r
 
 pub without_process : (t later : Tables) (node : ℕ) (operation : Operation) {e : Fault} {old new : Shown} (r : Result Reply Fault) → IsErrAnd r (λ y. y ≡ e) → IsLacking old e new → ServesPlain t later node operation old new r
 without_process t later node operation {e} r is h = Lacking e h (is_err r is)
+
+-- ---- what was told
+
+pub noted_view : (t : Tables) (node : ℕ) {old : List Entry} {h k : Held} {o p : Operation} → o ≡ p → k ≡ h → (is_release o ≡ false → StaysInView t.nodes.table t.views.each.items node old h.shown.log.entries) → is_release p ≡ false → StaysInView t.nodes.table t.views.each.items node old k.shown.log.entries
+noted_view t node {old} {h} {k} {o} {p} is same stays = subst (λ (x : Operation). is_release x ≡ false → StaysInView t.nodes.table t.views.each.items node old k.shown.log.entries) is (subst (λ (x : Held). is_release o ≡ false → StaysInView t.nodes.table t.views.each.items node old x.shown.log.entries) (sym same) stays)
+
+pub noted : (t later views : Tables) (node : ℕ) {old : Shown} {h k : Held} {o p : Operation} (outcome : Result Reply Fault) (r : Reply) → o ≡ p → views ≡ record later { views = views.views } → k ≡ h → r ≡ served.told outcome → (is_of_tree o ≡ true → class_of node ≡ Tree → ServesTree t later node o old h.shown outcome) → is_of_tree p ≡ true → class_of node ≡ Tree → IsToldOf t views node p old k.shown (Some r)
+noted t later views node {old} {h} {k} {o} {p} outcome r is same_tables same told serves of_tree in_tree = record {
+  served = later;
+  noted = same_tables;
+  outcome = outcome;
+  serves = subst (λ (x : Held). ServesTree t later node p old x.shown outcome) (sym same) (subst (λ (x : Operation). is_of_tree x ≡ true → class_of node ≡ Tree → ServesTree t later node x old h.shown outcome) is serves of_tree in_tree);
+  tells = ap Some told;
+}
+
+pub if_forgotten : (r : Bool) {old new : Shown} → (r ≡ true → new ≡ forgetting old) → (r ≡ false → new ≡ old) → (new ≡ old) ⊎ (new ≡ forgetting old)
+if_forgotten true all none = inr (all refl)
+if_forgotten false all none = inl (none refl)
