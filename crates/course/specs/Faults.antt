@@ -2,7 +2,6 @@
 use Rattle.std.specs.Prelude.{◌≡◌, ◌⊎◌, ℕ, Bool, true, false, List, Result, Ok, Err}
 use Rattle.ids.specs.declared.errno.Errno.{Errno as Refused}
 use Rattle.ids.specs.declared.errno.Errno.TheVariants as refused
-use Rattle.ids.specs.declared.reply.Answer.{Answer}
 use Rattle.ids.specs.declared.reply.Answer.TheVariants as answer
 use Rattle.ids.specs.declared.reply.Reply.{Reply}
 use Rattle.ids.specs.declared.reply.Reply.TheVariants as reply

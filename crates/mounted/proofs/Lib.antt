@@ -2,3 +2,4 @@ mod Stepping
 mod First
 mod Answering
 mod Telling
+mod Ending

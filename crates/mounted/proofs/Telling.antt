@@ -1,5 +1,5 @@
 -- Lists of names that are told one after another, and names that are taken anew.
-use Rattle.std.proofs.Common.{◌≡◌, inl, inr, ℕ, zero, suc, ◌+◌, ◌-◌, ◌^◌, List, length, [], ◌∷◌, ◌++◌, drop, Option, Some, None, Bool, true, false, cond, not, refl, sym, ap, subst, ◌∙◌, append_assoc}
+use Rattle.std.proofs.Common.{◌≡◌, inl, inr, ℕ, ◌+◌, ◌-◌, ◌^◌, List, length, [], ◌∷◌, ◌++◌, drop, Option, Some, None, Bool, true, false, cond, not, refl, sym, ap, subst, ◌∙◌, append_assoc}
 use Rattle.std.specs.Prelude.{Result, Ok, Err, IfOk, IsErrAnd, OnOk, slice_get, if◌then◌else◌}
 use Rattle.std.proofs.lemmas.List.{drop_more}
 use Rattle.std.proofs.lemmas.Option.{get_or_from_slice_get, slice_get_within}
@@ -19,7 +19,7 @@ use Rattle.course.specs.Courses.{RanUnlessRefused, listing, on_ok}
 use Rattle.course.specs.Faults.{error}
 use Rattle.course.specs.declared.fault.Fault.{Fault}
 use Rattle.course.proofs.Runs.{done, goes_on, stops}
-use Rattle.mounted.specs.Answers.{Answers, IsRefusal}
+use Rattle.mounted.specs.Answers.{Answers}
 use Rattle.mounted.specs.Found.{is_reserved, names_in, shown_names}
 use Rattle.mounted.specs.Requests.{RefreshesBy, listing_anew}
 use Rattle.mounted.specs.Told.{added_entry, listed, plain_entry, told_by}

@@ -6,3 +6,4 @@ pub mod Told
 pub mod Requests
 pub mod Steppers
 pub mod Served
+pub mod Aborts

@@ -11,6 +11,7 @@ mod changing;
 mod control;
 mod files;
 mod folders;
+mod laws;
 mod lists;
 mod looking;
 mod making;
@@ -28,4 +29,5 @@ mod tables;
 mod transactions;
 mod views;
 
+pub use laws::requests_end_at_aborts;
 pub use server::Server;

@@ -1,5 +1,4 @@
 use Rattle.std.proofs.Common.{ℕ, ap}
-use Rattle.ids.specs.declared.call.Call.TheVariants as call
 use Rattle.machine.specs.Shown.{Shown}
 use Rattle.course.specs.Courses.{both, checking, opening}
 use Rattle.course.proofs.Runs.{by_pid, goes_on, stops}

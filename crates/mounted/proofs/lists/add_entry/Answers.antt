@@ -1,6 +1,4 @@
-use Rattle.std.proofs.Common.{◌≡◌, Option, List, ℕ, refl, sym, ap, ◌∙◌}
-use Rattle.fuse.specs.Listings.{directory_entry_bytes}
-use Rattle.fuse.specs.Replies.{plus_entry_bytes}
+use Rattle.std.proofs.Common.{Option, refl, sym, ap, ◌∙◌}
 use Rattle.fuse.specs.declared.reply.Entry.{Entry}
 use Rattle.mounted.specs.Told.{told_by}
 use Rattle.mounted.proofs.Telling.{added_if, entry_is, full_is}
