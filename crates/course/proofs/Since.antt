@@ -1,5 +1,5 @@
 -- What a step adds to the entries since a request began.
-use Rattle.std.proofs.Common.{◌≡◌, ℕ, Bool, true, false, List, [], ◌∷◌, ◌++◌, inl, inr, refl, sym, ap, subst, ◌∙◌, append_assoc}
+use Rattle.std.proofs.Common.{◌≡◌, ◌⊎◌, ℕ, Bool, true, false, List, [], ◌∷◌, ◌++◌, inl, inr, refl, sym, ap, subst, ◌∙◌, append_assoc}
 use Rattle.std.proofs.lemmas.List.{append-nil}
 use Rattle.std.specs.Prelude.{MatchBool}
 use Rattle.std.specs.List.{AllByRecursion}
@@ -8,7 +8,7 @@ use Rattle.history.specs.Log.{Log}
 use Rattle.model.specs.Entries.{Op, Reply}
 use Rattle.machine.specs.Shown.{Shown}
 use Rattle.machine.specs.Steps.{Added, IsStep, entry_of, forgetting, is_no_entry}
-use Rattle.course.specs.Course.{IsTaken, IsTried}
+use Rattle.course.specs.Course.{IsTaken}
 use Rattle.course.specs.Hands.{IsSince}
 
 -- nothing was done
@@ -38,11 +38,16 @@ by_entry old new pid op reply false a = record {
 stepped : (old new : Shown) (pid : ℕ) (op : Op) (reply : Reply) → IsStep old new pid op reply → IsSince pid old.log.entries new.log.entries
 stepped old new pid op reply s = by_entry old new pid op reply (is_no_entry reply) s.entry
 
-tried : (old new : Shown) (pid : ℕ) (op : Op) (reply : Reply) → IsTried old new pid op reply → IsSince pid old.log.entries new.log.entries
-tried old new pid op reply (inl s) = stepped old new pid op reply s
-tried old new pid op reply (inr p) = subst (λ (v : Shown). IsSince pid old.log.entries v.log.entries) (sym p.1) (since_same pid old.log.entries)
-
 -- what one step of a process adds is of that process
 pub since_taken : (old new : Shown) (pid : ℕ) (op : Op) (reply : Reply) → IsTaken old new pid op reply → IsSince pid old.log.entries new.log.entries
-since_taken old new pid op reply (inl t) = tried old new pid op reply t
-since_taken old new pid op reply (inr t) = tried (forgetting old) new pid op reply t
+since_taken old new pid op reply (inl t) = stepped old new pid op reply t
+since_taken old new pid op reply (inr t) = stepped (forgetting old) new pid op reply t
+
+-- what was kept of the history was forgotten, or it was not
+pub if_forgotten : (r : Bool) {old new : Shown} → (r ≡ true → new ≡ forgetting old) → (r ≡ false → new ≡ old) → (new ≡ old) ⊎ (new ≡ forgetting old)
+if_forgotten true all none = inr (all refl)
+if_forgotten false all none = inl (none refl)
+
+pub taken_after : {old mid new : Shown} (pid : ℕ) (op : Op) (reply : Reply) → (mid ≡ old) ⊎ (mid ≡ forgetting old) → IsStep mid new pid op reply → IsTaken old new pid op reply
+taken_after {new = new} pid op reply (inl same) h = inl (subst (λ (v : Shown). IsStep v new pid op reply) same h)
+taken_after {new = new} pid op reply (inr same) h = inr (subst (λ (v : Shown). IsStep v new pid op reply) same h)

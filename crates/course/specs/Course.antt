@@ -1,7 +1,7 @@
 -- What a request does to a kernel: steps of processes, each by the replies to those before, and then
 -- an outcome.
 use Rattle.std.specs.Prelude.{◌≡◌, ◌⊎◌, ℕ}
-use Rattle.model.specs.Entries.{Op, Reply, NoMemory}
+use Rattle.model.specs.Entries.{Op, Reply}
 use Rattle.machine.specs.Shown.{Shown}
 use Rattle.machine.specs.Steps.{IsStep, forgetting}
 
@@ -19,15 +19,10 @@ abbrev pub ◌>>=◌ : {A B : Type 0} → Course A → (A → Course B) → Cour
 abbrev pub step : ℕ → Op → Course Reply
 step pid op = Step pid op Give
 
--- a step, or memory for it was refused and nothing has changed
-abbrev pub IsTried : Shown → Shown → ℕ → Op → Reply → Type 0
-IsTried old new pid op reply = IsStep old new pid op reply ⊎ ((reply ≡ NoMemory) × (new ≡ old))
-
--- The same, and where the history was full, its entries were forgotten first. After 2^63 entries
--- none are forgotten any more.
+-- A step, where what is kept of the history may be forgotten first. After 2^63 entries none are
+-- forgotten any more.
 abbrev pub IsTaken : Shown → Shown → ℕ → Op → Reply → Type 0
-IsTaken old new pid op reply =
-    IsTried old new pid op reply ⊎ IsTried (forgetting old) new pid op reply
+IsTaken old new pid op reply = IsStep old new pid op reply ⊎ IsStep (forgetting old) new pid op reply
 
 -- the steps that a course takes from one state of the kernel to another, and its outcome
 abbrev pub HasRun : {A : Type 0} → Shown → Course A → A → Shown → Type 0

@@ -102,9 +102,9 @@ impl<K: Machine> Hand<K> {
     }
 
     /// One step of the process.
-    pub fn step(&mut self, op: &Op) -> Reply
+    pub fn step(&mut self, op: Op) -> Reply
         ensures bound { bound self.new ≡ bound self.old }
-        ensures taken { IsTaken self.old.shown self.new.shown self.old.pid op.now result }
+        ensures taken { IsTaken self.old.shown self.new.shown self.old.pid op result }
     {
         take_step(&mut self.kernel, self.pid, op)
     }
@@ -114,8 +114,7 @@ impl<K: Machine> Hand<K> {
         ensures bound { bound self.new ≡ bound self.old }
         ensures ran { Ran self.old.shown (calling self.old.pid call) result self.new.shown }
     {
-        let op = Op::Call(call);
-        self.step(&op)
+        self.step(Op::Call(call))
     }
 
     // One call that is only done.

@@ -1,8 +1,8 @@
 //! What requests do to a kernel, once their paths and descriptors are known: the steps of one
 //! process, each by the replies to those before, and what comes of them.
 //!
-//! A course is written as a definition (`specs/`), and each function here runs one. Where the history
-//! is full its entries are forgotten, and the step is made again.
+//! A course is written as a definition (`specs/`), and each function here runs one. What is kept of
+//! the history is forgotten before each step, so that its entry has a place.
 #![tactic(auto)]
 
 mod fault;

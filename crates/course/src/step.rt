@@ -1,33 +1,30 @@
 // One step of a process.
+ghost use Rattle.std.specs.Prelude.{◌≡◌, ◌⊎◌};
 ghost use Rattle.machine.specs.Shown.{Kept};
-ghost use Rattle.course.specs.Course.{IsTaken, IsTried};
+ghost use Rattle.machine.specs.Steps.{forgetting};
+ghost use Rattle.course.specs.Course.{IsTaken};
 
 use ids::{Op, Pid, Reply};
 use machine::Machine;
 
-// One step, of a copy of the operation.
-fn try_step<K: Machine>(kernel: &mut K, pid: Pid, op: &Op) -> Reply
-    requires { Kept (K.shown kernel.old) }
+// What is kept of the history is forgotten, so that the next entry has a place. The last entry is
+// there until the next step.
+fn make_room<K: Machine>(kernel: &mut K)
     ensures kept { Kept (K.shown kernel.new) }
-    ensures tried { IsTried (K.shown kernel.old) (K.shown kernel.new) pid op.now result }
+    ensures forgot { (K.shown kernel.new ≡ K.shown kernel.old)
+        ⊎ (K.shown kernel.new ≡ forgetting (K.shown kernel.old)) }
 {
-    match op.try_clone() {
-        Ok(copy) => kernel.step(pid, copy),
-        Err(_) => Reply::NoMemory,
+    if kernel.history().entries().is_empty() {
+        return;
     }
+    let _forgotten = kernel.forget();
 }
 
-// One step. Where the history is full, what is kept of it is forgotten, and the step is made again.
-pub(crate) fn take_step<K: Machine>(kernel: &mut K, pid: Pid, op: &Op) -> Reply
-    requires { Kept (K.shown kernel.old) }
+// One step, behind a history of which nothing is kept.
+pub(crate) fn take_step<K: Machine>(kernel: &mut K, pid: Pid, op: Op) -> Reply
     ensures kept { Kept (K.shown kernel.new) }
-    ensures taken { IsTaken (K.shown kernel.old) (K.shown kernel.new) pid op.now result }
+    ensures taken { IsTaken (K.shown kernel.old) (K.shown kernel.new) pid op result }
 {
-    let reply = try_step(kernel, pid, op);
-    if let Reply::HistoryFull = &reply {
-        drop(reply);
-        let _forgotten = kernel.forget();
-        return try_step(kernel, pid, op);
-    }
-    reply
+    make_room(kernel);
+    kernel.step(pid, op)
 }

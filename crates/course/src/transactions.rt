@@ -27,7 +27,7 @@ pub fn begin<K: Machine>(hand: &mut Hand<K>) -> Result<(), Fault>
     ensures ran { Ran hand.old.shown
         (beginning hand.old.pid) result hand.new.shown }
 {
-    let reply = hand.step(&Op::Begin(BeginFlags::none()));
+    let reply = hand.step(Op::Begin(BeginFlags::none()));
     begun_in(&reply)
 }
 
@@ -37,7 +37,7 @@ pub fn end<K: Machine>(hand: &mut Hand<K>) -> Result<(), Fault>
     ensures ran { Ran hand.old.shown
         (ending hand.old.pid) result hand.new.shown }
 {
-    let reply = hand.step(&Op::End);
+    let reply = hand.step(Op::End);
     committed_in(&reply)
 }
 
@@ -47,7 +47,7 @@ pub fn give_up<K: Machine>(hand: &mut Hand<K>) -> Result<(), Fault>
     ensures ran { Ran hand.old.shown
         (giving_up hand.old.pid) result hand.new.shown }
 {
-    let reply = hand.step(&Op::Abort { no_restart: true });
+    let reply = hand.step(Op::Abort { no_restart: true });
     given_up_in(&reply)
 }
 

@@ -4,5 +4,5 @@ use Rattle.course.proofs.hand.Hand.step.Goals as goal
 pub invariant_of-self : goal.invariant_of-self
 invariant_of-self g c = record {
   kept = c.take_step.ensures.kept;
-  since = since_then c.self.inside.pid _ _ _ c.self.invariant.since (since_taken (g.K.Machine.shown c.self.inside.kernel) (g.K.Machine.shown c.take_step.new.kernel) c.self.inside.pid c.args.op.now c.take_step.result c.take_step.ensures.taken);
+  since = since_then c.self.inside.pid _ _ _ c.self.invariant.since (since_taken (g.K.Machine.shown c.self.inside.kernel) (g.K.Machine.shown c.take_step.new.kernel) c.self.inside.pid c.args.op c.take_step.result c.take_step.ensures.taken);
 }
