@@ -4,6 +4,7 @@ ghost use Rattle.std.specs.Prelude.{◌≡◌, ◌+◌, ◌<◌, length, IfSome}
 use heap::Heap;
 use ids::{DESCRIPTORS, Pid};
 use std::alloc::AllocError;
+use std::collections::{BTreeMap, BTreeSet};
 
 // A process that waits for a transaction.
 #[derive(Clone, Copy, Debug)]
@@ -12,17 +13,13 @@ struct Idle {
     level: u8,
 }
 
-// A process that has open files of the plain tree, and how many.
-#[derive(Clone, Copy, Debug)]
-struct Holder {
-    pid: Pid,
-    used: usize,
-}
-
 // Processes that are used again, since a kernel makes only so many.
 pub(crate) struct Pool {
     idle: Vec<Idle, Heap>,
-    holders: Vec<Holder, Heap>,
+    // How many files of the plain tree each process has open that may have any.
+    used: BTreeMap<Pid, usize, Heap>,
+    // Those of them that have a descriptor free.
+    free: BTreeSet<Pid, Heap>,
 }
 
 // By hand: a derived drop is opened at every place where a value goes, this one is called.
@@ -30,7 +27,8 @@ impl Drop for Pool {
     fn drop(self) {
         let Pool {
             idle: _,
-            holders: _,
+            used: _,
+            free: _,
         } = self;
     }
 }
@@ -54,7 +52,8 @@ impl Pool {
     pub(crate) fn new(heap: Heap) -> Pool {
         Pool {
             idle: Vec::new(heap),
-            holders: Vec::new(heap),
+            used: BTreeMap::new(heap),
+            free: BTreeSet::new(heap),
         }
     }
 
@@ -71,34 +70,39 @@ impl Pool {
 
     // A process of the plain tree that has a descriptor free, if there is one.
     pub(crate) fn free_holder(&self) -> Option<Pid> {
-        let holder = self
-            .holders
-            .iter()
-            .find(|holder| holder.used < DESCRIPTORS)?;
-        Some(holder.pid)
+        self.free.first().copied()
     }
 
     // One process more may have open files of the plain tree.
     pub(crate) fn add_holder(&mut self, pid: Pid) -> Result<(), AllocError> {
-        self.holders.push(Holder { pid, used: 0 })?;
+        self.used.insert(pid, 0)?;
+        self.free.insert(pid)?;
         Ok(())
+    }
+
+    // How many files a process has open, once more than before.
+    fn more(&mut self, pid: Pid) -> usize {
+        match self.used.get_mut(&pid) {
+            Some(used) => {
+                *used = used.saturating_add(1);
+                *used
+            }
+            None => 0,
+        }
     }
 
     // A process of the plain tree has one descriptor more.
     pub(crate) fn hold(&mut self, pid: Pid) {
-        for holder in self.holders.iter_mut() {
-            if holder.pid == pid {
-                holder.used = holder.used.saturating_add(1);
-            }
+        if self.more(pid) >= DESCRIPTORS {
+            let _was_free = self.free.remove(&pid);
         }
     }
 
-    // Or one less.
+    // Or one less. Without memory it is not used again until it has one less still.
     pub(crate) fn release(&mut self, pid: Pid) {
-        for holder in self.holders.iter_mut() {
-            if holder.pid == pid {
-                holder.used = holder.used.saturating_sub(1);
-            }
+        if let Some(used) = self.used.get_mut(&pid) {
+            *used = used.saturating_sub(1);
         }
+        let _is_free = self.free.insert(pid);
     }
 }
