@@ -11,7 +11,7 @@ ghost use Rattle.model.specs.Changes.{set_offset, set_process, sized, with_slot,
 ghost use Rattle.model.specs.Changes.{written, to_read, to_write};
 ghost use Rattle.replay.specs.Edits.{EndsWithin, is_of_processes};
 
-use crate::bytes::{appended, no_bytes, rest};
+use crate::bytes::{no_bytes, rest};
 use crate::inode::{Inode, file_out, pipe_out};
 use crate::inodes::Inodes;
 use crate::names::Names;
@@ -140,7 +140,7 @@ impl PlainKernel {
             ≡ set_inode pipe (A_pipe (pipe_of self.old pipe ++ bytes.now)) self.old) }
     {
         let inode = self.take_inode(heap, pipe)?;
-        let all = appended(pipe_out(heap, inode), bytes)?;
+        let all = pipe_out(heap, inode).followed_by(heap, bytes)?;
         self.set_inode(pipe, Inode::pipe(all))
     }
 

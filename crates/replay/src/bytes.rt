@@ -1,9 +1,8 @@
 // Changes of bytes.
-ghost use Rattle.std.specs.Prelude.{◌≡◌, ◌++◌, [], IfOk, drop, take};
+ghost use Rattle.std.specs.Prelude.{◌≡◌, [], drop, take};
 
 use heap::Heap;
 use ids::Bytes;
-use std::alloc::AllocError;
 
 // None. It takes no memory.
 pub(crate) fn no_bytes(heap: Heap) -> Bytes
@@ -26,13 +25,4 @@ pub(crate) fn rest(bytes: &[u8], skipped: usize) -> &[u8]
     ensures { result.now ≡ drop skipped bytes.now }
 {
     &bytes[skipped.min(bytes.len())..]
-}
-
-// With more bytes behind them.
-pub(crate) fn appended(bytes: Bytes, more: &[u8]) -> Result<Bytes, AllocError>
-    ensures { IfOk result (λ all. all ≡ bytes ++ more.now) }
-{
-    let mut all = bytes.into_vec();
-    all.extend_from_slice(more)?;
-    Ok(Bytes::new(all))
 }
