@@ -190,7 +190,8 @@ pub fn set_length_at<K: Machine>(hand: &mut Hand<K>, path: Bytes, length: u32) -
     hand.do_call(Call::Truncate(path, length))
 }
 
-/// Puts bytes into the file of a descriptor from an offset on. It gives how many.
+/// Puts bytes into the file of a descriptor from an offset on. It gives how many. An edit can share
+/// the bytes.
 pub fn write<K: Machine>(
     hand: &mut Hand<K>,
     fd: Fd,
@@ -201,7 +202,7 @@ pub fn write<K: Machine>(
     ensures ran { Ran hand.old.shown
         (writing hand.old.pid fd bytes offset) result hand.new.shown }
 {
-    let reply = hand.ask(Call::Pwrite(fd, bytes, offset));
+    let reply = hand.ask(Call::Pwrite(fd, bytes.shared(), offset));
     count_in(&reply)
 }
 
