@@ -4,8 +4,8 @@ use Rattle.runner.specs.declared.fault.RunFault.{RunFault}
 use Rattle.runner.specs.declared.fault.RunFault.TheVariants.{Script, Schedule, Read}
 use Rattle.runner.specs.declared.fault.RunFault.TheVariants.{Write, HistoryFull, NoMemory}
 use Rattle.runner.specs.declared.fault.RunFault.TheVariants.{Check}
-use Rattle.runner.specs.declared.refusal.Refusal.{Refusal}
-use Rattle.runner.specs.declared.refusal.Refusal.TheVariants as refusal
+use Rattle.runner.specs.declared.refusal.StepRefusal.{StepRefusal}
+use Rattle.runner.specs.declared.refusal.StepRefusal.TheVariants as refusal
 use Rattle.replay.specs.declared.checking.CheckFault.{CheckFault}
 use Rattle.replay.specs.declared.checking.CheckFault.TheVariants.{Wrong}
 use Rattle.replay.specs.declared.checking.CheckFault.TheVariants.{NoMemory as NoCheckMemory}
@@ -29,7 +29,7 @@ abbrev pub fault_of_check : CheckFault → RunFault
 fault_of_check NoCheckMemory = NoMemory
 fault_of_check (Wrong place) = Check place
 
-abbrev pub fault_of_refusal : Refusal → RunFault
+abbrev pub fault_of_refusal : StepRefusal → RunFault
 fault_of_refusal refusal.HistoryFull = HistoryFull
 fault_of_refusal refusal.NoMemory = NoMemory
 

@@ -4,7 +4,7 @@ ghost use Rattle.runner.specs.Faults.{fault_of_check, fault_of_refusal, fault_of
 ghost use Rattle.runner.specs.Faults.{fault_of_script, fault_of_work, status_of};
 ghost use Rattle.runner.specs.Streaming.{fault_of_stream};
 
-use crate::refusal::Refusal;
+use crate::refusal::StepRefusal;
 use replay::CheckFault;
 use script::{ScheduleFault, ScriptFault};
 use stream::StreamFault;
@@ -93,12 +93,12 @@ impl RunFault {
     }
 
     // The run's fault where a step was refused.
-    pub(crate) fn of_refusal(refusal: Refusal) -> RunFault
+    pub(crate) fn of_refusal(refusal: StepRefusal) -> RunFault
         ensures { result ≡ fault_of_refusal refusal }
     {
         match refusal {
-            Refusal::HistoryFull => RunFault::HistoryFull,
-            Refusal::NoMemory => RunFault::NoMemory,
+            StepRefusal::HistoryFull => RunFault::HistoryFull,
+            StepRefusal::NoMemory => RunFault::NoMemory,
         }
     }
 
