@@ -100,8 +100,8 @@ impl Hash for DirectoryEntry {
     }
 }
 
-/// An entry that will be kept twice, in a node and in the index. Both copies are made beforehand, so
-/// that keeping it takes no memory. Contracts see the entry.
+/// An entry that will be kept twice, in a node and in the index. Both copies are made beforehand,
+/// so that keeping it takes no memory. Contracts see the entry.
 pub struct Spot {
     entry: DirectoryEntry,
     copy: DirectoryEntry,

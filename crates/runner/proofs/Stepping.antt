@@ -111,4 +111,4 @@ ended NoMemory list limits given left old new script pids both stops = inr (reco
 ended (Script fault) list limits given left old new script pids both stops = absurd stops
 ended (Schedule fault) list limits given left old new script pids both stops = absurd stops
 ended Read list limits given left old new script pids both stops = absurd stops
-ended (Check place) list limits given left old new script pids both stops = absurd stops
+ended (Check position) list limits given left old new script pids both stops = absurd stops

@@ -27,7 +27,7 @@ fault_of_schedule fault = Schedule fault
 
 abbrev pub fault_of_check : CheckFault → RunFault
 fault_of_check NoCheckMemory = NoMemory
-fault_of_check (Wrong place) = Check place
+fault_of_check (Wrong position) = Check position
 
 abbrev pub fault_of_refusal : StepRefusal → RunFault
 fault_of_refusal refusal.HistoryFull = HistoryFull
@@ -44,4 +44,4 @@ status_of Read = 1
 status_of Write = 5
 status_of HistoryFull = 3
 status_of NoMemory = 3
-status_of (Check place) = 4
+status_of (Check position) = 4

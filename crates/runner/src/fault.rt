@@ -32,7 +32,7 @@ pub enum RunFault {
     /// Memory was refused, or a thread.
     #[error("no memory")]
     NoMemory,
-    /// The check of the history says that the entry of this place, counted from 1, is wrong.
+    /// The check of the history says that the entry at this position, counted from 1, is wrong.
     #[error("check: entry {0} is wrong")]
     Check(usize),
 }
@@ -63,7 +63,7 @@ impl RunFault {
         ensures { result ≡ fault_of_check fault }
     {
         match fault {
-            CheckFault::Wrong(place) => RunFault::Check(place),
+            CheckFault::Wrong(position) => RunFault::Check(position),
             CheckFault::NoMemory => RunFault::NoMemory,
         }
     }
@@ -88,7 +88,7 @@ impl RunFault {
             StreamFault::Write => RunFault::Write,
             StreamFault::HistoryFull | StreamFault::Spent => RunFault::HistoryFull,
             StreamFault::NoMemory => RunFault::NoMemory,
-            StreamFault::Check(place) => RunFault::Check(place),
+            StreamFault::Check(position) => RunFault::Check(position),
         }
     }
 

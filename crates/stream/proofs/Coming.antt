@@ -64,7 +64,7 @@ stops_refused refusal.NoMemory said kernel none refused = tt
 
 -- why it stops where something cannot be forgotten
 pub stops_settling : (why : StreamFault) (said : Result (Option Line) ScriptFault) (kernel : Shown) → CannotForget kernel why → StopsFurther said kernel why
-stops_settling (stop.Check place) said kernel cannot = cannot
+stops_settling (stop.Check position) said kernel cannot = cannot
 stops_settling stop.NoMemory said kernel cannot = tt
 stops_settling stop.Spent said kernel cannot = tt
 stops_settling stop.Read said kernel cannot = absurd cannot
@@ -74,7 +74,7 @@ stops_settling stop.HistoryFull said kernel cannot = absurd cannot
 -- a fault that comes of a line is none of a device
 pub check_of_line : (why : CheckFault) → IsOfLine (fault_of_check why)
 check_of_line check.NoMemory = tt
-check_of_line (check.Wrong place) = tt
+check_of_line (check.Wrong position) = tt
 
 pub refusal_of_line : (why : StepRefusal) → IsOfLine (fault_of_refusal why)
 refusal_of_line refusal.HistoryFull = tt

@@ -121,13 +121,13 @@ fault_of_refusal refusal.NoMemory = stop.NoMemory
 
 abbrev pub fault_of_check : CheckFault → StreamFault
 fault_of_check NoCheckMemory = stop.NoMemory
-fault_of_check (Wrong place) = stop.Check place
+fault_of_check (Wrong position) = stop.Check position
 
 -- why entries are not forgotten: one of them is wrong, memory was refused to the check, or there
 -- were too many
 abbrev pub CannotForget : Shown → StreamFault → Type 0
-CannotForget kernel (stop.Check place) =
-    IsFaultFor 0 (setup_of kernel.log) kernel.log.entries (Wrong place)
+CannotForget kernel (stop.Check position) =
+    IsFaultFor 0 (setup_of kernel.log) kernel.log.entries (Wrong position)
 CannotForget kernel stop.NoMemory = ⊤
 CannotForget kernel stop.Spent = ⊤
 CannotForget kernel _ = ⊥
@@ -136,7 +136,7 @@ CannotForget kernel _ = ⊥
 -- in it.
 abbrev pub StopsFurther : Result (Option Line) ScriptFault → Shown → StreamFault → Type 0
 StopsFurther said kernel stop.HistoryFull = IsFullFor said kernel × (kept kernel.log ≡ [])
-StopsFurther said kernel (stop.Check place) = CannotForget kernel (stop.Check place)
+StopsFurther said kernel (stop.Check position) = CannotForget kernel (stop.Check position)
 StopsFurther said kernel stop.NoMemory = ⊤
 StopsFurther said kernel stop.Spent = ⊤
 StopsFurther said kernel stop.Read = ⊥

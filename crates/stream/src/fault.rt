@@ -16,7 +16,7 @@ pub enum StreamFault {
     HistoryFull,
     /// Memory was refused.
     NoMemory,
-    /// The check says that the entry of this place, counted from 1, is wrong.
+    /// The check says that the entry at this position, counted from 1, is wrong.
     Check(usize),
     /// 2^64 - 1 reads or 2^63 entries were made. No more can be counted.
     Spent,
@@ -38,7 +38,7 @@ impl StreamFault {
         ensures { result ≡ fault_of_check fault }
     {
         match fault {
-            CheckFault::Wrong(place) => StreamFault::Check(place),
+            CheckFault::Wrong(position) => StreamFault::Check(position),
             CheckFault::NoMemory => StreamFault::NoMemory,
         }
     }
