@@ -9,14 +9,14 @@ use denote.Struct.Declared.{shape}
 use Rattle.std.proofs.Crossing.{crosses, frees}
 use Rattle.std.proofs.CrossingOver as over
 use Rattle.std.proofs.MapsCrossingOver as maps
-use Rattle.dirlist.specs.contracts.patch.Patch as Patch
+use Rattle.dirlist.specs.contracts.patch.NamePatch as NamePatch
 use Rattle.file_shadow.specs.contracts.shadow.FileShadow as FileShadow
 use Rattle.objects.specs.contracts.file.FileData as FileData
 use Rattle.objects.specs.contracts.pipe.PipeData as PipeData
 use Rattle.pipe_shadow.specs.contracts.PipeShadow as PipeShadow
 use Rattle.circular_buffer.proofs.Crosses.{Cells-send, Deed-send}
 use Rattle.fdtable.specs.contracts.FdTable as FdTable
-use Rattle.fdtable.specs.contracts.Patch as FdPatch
+use Rattle.fdtable.specs.contracts.SlotPatch as SlotPatch
 use Rattle.shadow.specs.contracts.change.Contents as Contents
 use Rattle.shadow.specs.contracts.change.Change as Change
 use Rattle.shadow.specs.contracts.inodes.Inodes as Inodes
@@ -64,7 +64,7 @@ frees_by : {D : Type 0} {G : Type 1} (g : G) (holds : D → Ty → Ptr → Fml)
     → ((a : D) (τ : Ty) (p : Ptr) → Keyless (holds a τ p)) → Frees g holds
 frees_by g holds h = record { frees = h }
 
-patch_sent : IsSend Patch.the_row
+patch_sent : IsSend NamePatch.the_row
 patch_sent = search (sendable, crosses, over.crosses, maps.crosses, frees_by, frees.frees) depth 40 fits 30000
 
 bytes_sent : IsSend FileShadow.the_row
@@ -85,7 +85,7 @@ open_pipe_sent = search (waiting_sent, sendable, crosses, over.crosses) depth 40
 table_sent : IsSend FdTable.the_row
 table_sent = search (sendable, crosses, over.crosses) depth 40 fits 30000
 
-given_sent : IsSend FdPatch.the_row
+given_sent : IsSend SlotPatch.the_row
 given_sent = search (sendable, crosses, over.crosses) depth 40 fits 30000
 
 contents_sent : IsSend (Contents.the_field).row

@@ -8,7 +8,7 @@ use Rattle.model.specs.FiniteMap as finite
 use Rattle.model.specs.State.{Name}
 use Rattle.dirlist.specs.Listing.{Listing}
 use Rattle.dirlist.proofs.Laid.{empty_over, full_over}
-use Rattle.dirlist.proofs.patch.Patch.is_empty_over.Goals as goal
+use Rattle.dirlist.proofs.patch.NamePatch.is_empty_over.Goals as goal
 
 pub returns-then-len : goal.returns-then-len
 returns-then-len c =

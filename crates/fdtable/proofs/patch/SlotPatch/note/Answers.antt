@@ -1,7 +1,7 @@
 use Rattle.std.proofs.Common.{ap, ◌∙◌, arith}
 use Rattle.model.specs.FiniteMap as map
 use Rattle.model.proofs.Laws.{insert-placed}
-use Rattle.fdtable.proofs.patch.Patch.note.Goals as goal
+use Rattle.fdtable.proofs.patch.SlotPatch.note.Goals as goal
 
 pub returns : goal.returns
 returns c =

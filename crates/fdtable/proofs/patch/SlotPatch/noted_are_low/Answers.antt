@@ -2,7 +2,7 @@ use Rattle.std.proofs.Common.{◌≡◌, ◌≢◌, ℕ, ◌≤◌, ◌<◌, nat
 use Rattle.std.proofs.lemmas.List.{get_or_past}
 use Rattle.model.specs.FiniteMap.{get}
 use Rattle.model.proofs.Laws.{get-placed}
-use Rattle.fdtable.proofs.patch.Patch.noted_are_low.Goals as goal
+use Rattle.fdtable.proofs.patch.SlotPatch.noted_are_low.Goals as goal
 
 pub returns : goal.returns
 returns c = λ f there. by_test f there (nat_lt f 64) refl

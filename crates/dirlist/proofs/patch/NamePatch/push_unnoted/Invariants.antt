@@ -4,7 +4,7 @@ use Rattle.std.specs.HashMap.{keys}
 use Rattle.std.specs.List.{filter}
 use Rattle.std.specs.Option.{is_none}
 use Rattle.model.specs.FiniteMap as finite
-use Rattle.dirlist.proofs.patch.Patch.push_unnoted.Given as goal
+use Rattle.dirlist.proofs.patch.NamePatch.push_unnoted.Given as goal
 
 abbrev pub invariant-loop-name : goal.invariant-loop-name
 invariant-loop-name l =

@@ -3,7 +3,7 @@ use Rattle.model.specs.FiniteMap as map
 use Rattle.fdtable.specs.Patches.{laid_at}
 use Rattle.fdtable.proofs.Taken.{given_past}
 use Rattle.fdtable.proofs.Opened.{laid_all, laid_next}
-use Rattle.fdtable.proofs.patch.Patch.table_over.Goals as goal
+use Rattle.fdtable.proofs.patch.SlotPatch.table_over.Goals as goal
 
 pub loop-number-preserved : goal.loop-number-preserved
 loop-number-preserved c =

@@ -8,7 +8,7 @@ use Rattle.dirlist.proofs.Names.{name_exact, name_total}
 use Rattle.dirlist.proofs.Entries.{len_made}
 use Rattle.dirlist.proofs.Emptied.{is_zero}
 use Rattle.dirlist.proofs.Laid.{same}
-use Rattle.dirlist.proofs.patch.Patch.is_empty.Goals as goal
+use Rattle.dirlist.proofs.patch.NamePatch.is_empty.Goals as goal
 
 pub returns : goal.returns
 returns c =

@@ -4,7 +4,7 @@ use Rattle.dirlist.specs.Patches.{Notes}
 use Rattle.dirlist.proofs.Names.{name_exact, name_total}
 use Rattle.model.proofs.Laws.{get_at}
 use Rattle.dirlist.proofs.Laid.{same}
-use Rattle.dirlist.proofs.patch.Patch.look.Goals as goal
+use Rattle.dirlist.proofs.patch.NamePatch.look.Goals as goal
 
 pub returns : goal.returns
 returns c =

@@ -6,7 +6,7 @@ use Rattle.model.specs.FiniteMap as finite
 use Rattle.model.specs.State.{Name}
 use Rattle.dirlist.specs.Listing.{Listing}
 use Rattle.dirlist.proofs.Laid.{given, sorted_over}
-use Rattle.dirlist.proofs.patch.Patch.names_over.Goals as goal
+use Rattle.dirlist.proofs.patch.NamePatch.names_over.Goals as goal
 
 pub returns : goal.returns
 returns c =

@@ -7,7 +7,7 @@ use Rattle.dirlist.proofs.Names.{name_exact, name_total}
 use Rattle.model.proofs.Laws.{get_at, inserted, removed}
 use Rattle.dirlist.proofs.Laid.{same}
 use Rattle.dirlist.proofs.Noted.{back_given, back_gone, back_unnoted}
-use Rattle.dirlist.proofs.patch.Patch.put_back.Goals as goal
+use Rattle.dirlist.proofs.patch.NamePatch.put_back.Goals as goal
 
 pub returns-in-Some-get_mut : goal.returns-in-Some-get_mut
 returns-in-Some-get_mut c =

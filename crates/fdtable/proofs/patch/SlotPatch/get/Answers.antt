@@ -1,7 +1,7 @@
 use Rattle.std.proofs.Common.{sym, ap, ◌∙◌, arith}
 use Rattle.model.specs.FiniteMap as map
 use Rattle.fdtable.proofs.Taken.{given, given_past}
-use Rattle.fdtable.proofs.patch.Patch.get.Goals as goal
+use Rattle.fdtable.proofs.patch.SlotPatch.get.Goals as goal
 
 pub returns-then-fd-lt-DESCRIPTORS : goal.returns-then-fd-lt-DESCRIPTORS
 returns-then-fd-lt-DESCRIPTORS c =

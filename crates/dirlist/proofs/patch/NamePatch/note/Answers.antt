@@ -4,7 +4,7 @@ use Rattle.dirlist.specs.Patches.{Notes}
 use Rattle.dirlist.proofs.Names.{name_exact, name_total}
 use Rattle.model.proofs.Laws.{inserted}
 use Rattle.dirlist.proofs.Laid.{same}
-use Rattle.dirlist.proofs.patch.Patch.note.Goals as goal
+use Rattle.dirlist.proofs.patch.NamePatch.note.Goals as goal
 
 pub returns-clause-ok : goal.returns-clause-ok
 returns-clause-ok c =
