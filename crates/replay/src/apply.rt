@@ -315,27 +315,45 @@ impl PlainKernel {
         ensures { OnOk result (self.new ≡ applied chosen.now edit.now self.old) }
     {
         match edit {
-            Edit::MakeDirectory(dir, name, place) => {
+            Edit::MakeDirectory {
+                parent,
+                name,
+                index,
+            } => {
                 let inode = Inode::directory(Names::new(heap));
-                self.make(heap, *dir, name, made(chosen, *place as usize), inode)
+                self.make(heap, *parent, name, made(chosen, *index as usize), inode)
             }
-            Edit::MakeFile(dir, name, place) => {
+            Edit::MakeFile {
+                parent,
+                name,
+                index,
+            } => {
                 let inode = Inode::file(FileData::new(heap));
-                self.make(heap, *dir, name, made(chosen, *place as usize), inode)
+                self.make(heap, *parent, name, made(chosen, *index as usize), inode)
             }
-            Edit::NameFile(dir, name, num) => self.set_name(heap, *dir, name, *num),
-            Edit::UnnameFile(dir, name, _) => self.clear_name(heap, *dir, name),
-            Edit::UnnameDirectory(dir, name, _) => self.clear_name(heap, *dir, name),
-            Edit::Move(dir, name, onto, new, num, _) => {
-                self.clear_name(heap, *dir, name)?;
-                self.set_name(heap, *onto, new, *num)
+            Edit::NameFile { parent, name, file } => self.set_name(heap, *parent, name, *file),
+            Edit::UnnameFile { parent, name, .. } => self.clear_name(heap, *parent, name),
+            Edit::UnnameDirectory { parent, name, .. } => self.clear_name(heap, *parent, name),
+            Edit::Move {
+                from,
+                old_name,
+                to,
+                new_name,
+                inode,
+                ..
+            } => {
+                self.clear_name(heap, *from, old_name)?;
+                self.set_name(heap, *to, new_name, *inode)
             }
-            Edit::PutBytes(file, place, bytes, _) => {
-                self.put(heap, *file, *place as usize, bytes.as_slice())
-            }
-            Edit::Cut(file, _, len) => self.cut(heap, *file, *len as usize),
-            Edit::Take(pipe, count) => self.take(heap, *pipe, *count as usize),
-            Edit::Append(pipe, bytes) => self.append(heap, *pipe, bytes.as_slice()),
+            Edit::PutBytes {
+                file,
+                offset,
+                bytes,
+                ..
+            } => self.put(heap, *file, *offset as usize, bytes.as_slice()),
+            Edit::Cut { file, length, .. } => self.cut(heap, *file, *length as usize),
+            Edit::Take { pipe, count } => self.take(heap, *pipe, *count as usize),
+            Edit::Append { pipe, bytes } => self.append(heap, *pipe, bytes.as_slice()),
             _ => self.apply_to_processes(heap, edit, chosen),
         }
     }
@@ -351,22 +369,49 @@ impl PlainKernel {
         ensures { OnOk result (self.new ≡ applied chosen.now edit.now self.old) }
     {
         match edit {
-            Edit::SetOffset(num, place) => self.set_offset(*num, *place),
-            Edit::OpenInode(place, inode, mode, pid, fd) => {
+            Edit::SetOffset {
+                description,
+                offset,
+            } => self.set_offset(*description, *offset),
+            Edit::OpenInode {
+                index,
+                inode,
+                mode,
+                process,
+                descriptor,
+            } => {
+                let num = made(chosen, *index as usize);
                 let opened = at_start(number(chosen, inode), mode);
-                self.open_at(heap, made(chosen, *place as usize), opened, *pid, *fd)
+                self.open_at(heap, num, opened, *process, *descriptor)
             }
-            Edit::MakePipe(place, pid, reader, writer) => {
-                let pipe = made(chosen, *place as usize);
-                let reading = made(chosen, *place as usize + 1);
-                let writing = made(chosen, *place as usize + 2);
-                self.make_pipe(heap, (pipe, reading, writing), *pid, (*reader, *writer))
+            Edit::MakePipe {
+                index,
+                process,
+                reader,
+                writer,
+            } => {
+                let first = *index as usize;
+                let nums = (
+                    made(chosen, first),
+                    made(chosen, first + 1),
+                    made(chosen, first + 2),
+                );
+                self.make_pipe(heap, nums, *process, (*reader, *writer))
             }
-            Edit::ShareSlot(pid, fd, num, _) => self.set_slot(heap, *pid, *fd, *num),
-            Edit::ClearSlot(pid, fd, _) => self.clear_slot(heap, *pid, *fd),
-            Edit::NewProcess(child, parent, _) => self.new_process(heap, *child, *parent),
-            Edit::EndProcess(pid, _) => {
-                self.end_process(*pid);
+            Edit::ShareSlot {
+                process,
+                descriptor,
+                description,
+                ..
+            } => self.set_slot(heap, *process, *descriptor, *description),
+            Edit::ClearSlot {
+                process,
+                descriptor,
+                ..
+            } => self.clear_slot(heap, *process, *descriptor),
+            Edit::NewProcess { child, parent, .. } => self.new_process(heap, *child, *parent),
+            Edit::EndProcess { process, .. } => {
+                self.end_process(*process);
                 Ok(())
             }
             _ => unreachable!(),

@@ -29,9 +29,19 @@ impl PlainKernel {
         ensures { IfOk result (λ gone. gone.items ≡ let_go self.now edit.now) }
     {
         match edit {
-            Edit::ShareSlot(pid, fd, _, _) => listed(heap, self.given(*pid, *fd)),
-            Edit::ClearSlot(pid, fd, _) => listed(heap, self.given(*pid, *fd)),
-            Edit::EndProcess(pid, _) => values_in(heap, self.processes.get(place_of(*pid))),
+            Edit::ShareSlot {
+                process,
+                descriptor,
+                ..
+            } => listed(heap, self.given(*process, *descriptor)),
+            Edit::ClearSlot {
+                process,
+                descriptor,
+                ..
+            } => listed(heap, self.given(*process, *descriptor)),
+            Edit::EndProcess { process, .. } => {
+                values_in(heap, self.processes.get(place_of(*process)))
+            }
             _ => Ok(Vec::new(heap)),
         }
     }
@@ -197,9 +207,9 @@ fn unnamed(heap: Heap, edit: &Edit) -> Result<Vec<Num, Heap>, AllocError>
     ensures { IfOk result (λ all. all.items ≡ unnamed edit.now) }
 {
     match edit {
-        Edit::UnnameFile(_, _, num) => listed(heap, Some(*num)),
-        Edit::UnnameDirectory(_, _, num) => listed(heap, Some(*num)),
-        Edit::Move(_, _, _, _, _, replaced) => listed(heap, replaced_by(replaced)),
+        Edit::UnnameFile { file, .. } => listed(heap, Some(*file)),
+        Edit::UnnameDirectory { directory, .. } => listed(heap, Some(*directory)),
+        Edit::Move { replaced, .. } => listed(heap, replaced_by(replaced)),
         _ => Ok(Vec::new(heap)),
     }
 }
