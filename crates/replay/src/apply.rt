@@ -390,12 +390,10 @@ impl PlainKernel {
                 reader,
                 writer,
             } => {
-                let first = *index as usize;
-                let nums = (
-                    made(chosen, first),
-                    made(chosen, first + 1),
-                    made(chosen, first + 2),
-                );
+                let pipe = made(chosen, *index as usize);
+                let reading = made(chosen, *index as usize + 1);
+                let writing = made(chosen, *index as usize + 2);
+                let nums = (pipe, reading, writing);
                 self.make_pipe(heap, nums, *process, (*reader, *writer))
             }
             Edit::ShareSlot {
