@@ -8,7 +8,7 @@ ghost use Rattle.freeing_laws.specs.Sweep.{all_freed, freed, free_descriptions, 
 ghost use Rattle.freeing_laws.specs.Sweep.{inodes_of, inode_in};
 ghost use Rattle.replay.specs.Edits.{EndsWithin};
 
-use crate::plain::{Description, PlainKernel, Process, place_of};
+use crate::plain::{Description, PlainKernel, Process, key_of};
 use heap::Heap;
 use ids::{Edit, Fd, Num, Pid, Replaced};
 use std::alloc::AllocError;
@@ -18,7 +18,7 @@ impl PlainKernel {
     pub(crate) fn given(&self, pid: Pid, fd: Fd) -> Option<Num>
         ensures { result ≡ get (process_of self.now pid).table fd }
     {
-        match self.processes.get(place_of(pid)) {
+        match self.processes.get(key_of(pid)) {
             Some(process) => process.table.get(Num(fd.0 as usize)).copied(),
             None => None,
         }
@@ -40,7 +40,7 @@ impl PlainKernel {
                 ..
             } => listed(heap, self.given(*process, *descriptor)),
             Edit::EndProcess { process, .. } => {
-                values_in(heap, self.processes.get(place_of(*process)))
+                values_in(heap, self.processes.get(key_of(*process)))
             }
             _ => Ok(Vec::new(heap)),
         }
