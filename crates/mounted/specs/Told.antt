@@ -39,8 +39,8 @@ pub record IsLike (stat : Stat) (attr : Attr) : Type 0 where
   pub links : attr.links ≡ stat.links
   pub kind : attr.mode / 4096 ≡ kind_number stat.kind
 
-abbrev pub place : ℕ → List ℕ → DirectoryEntry
-place parent name = record { parent = parent; name = name }
+abbrev pub named : ℕ → List ℕ → DirectoryEntry
+named parent name = record { parent = parent; name = name }
 
 -- what a name gave: its node, and the object's attributes
 pub record IsEntry (t : Table) (p : DirectoryEntry) (stat : Stat) (entry : Entry) : Type 0 where
@@ -99,7 +99,7 @@ ShowsFolder t node names _ = ⊥
 
 -- ---- lists of directories
 
--- names of a directory from this place on, as they are told
+-- names of a directory from this index on, as they are told
 abbrev pub listed : (ℕ → List ℕ → List ℕ) → ℕ → List (List ℕ) → List ℕ
 listed told index [] = []
 listed told index (name ∷ names) = told index name ++ listed told (index + 1) names

@@ -38,7 +38,7 @@ const CAUSE_LIMIT: usize = 4_096;
 fn behind_arrow(line: &[u8]) -> &[u8] {
     let arrow = line.windows(4).position(|four| four == b" -> ".as_slice());
     match arrow {
-        Some(place) => line.get(place.saturating_add(4)..).unwrap_or(line),
+        Some(index) => line.get(index.saturating_add(4)..).unwrap_or(line),
         None => line,
     }
 }

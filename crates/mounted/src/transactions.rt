@@ -193,17 +193,17 @@ impl<K: Machine> Server<K> {
 
     // Takes all files of a view out of the table, and closes them where they are open still. Whether
     // nothing is left open.
-    fn close_all(&mut self, standing: Standing, is_open: bool) -> bool
+    fn close_all(&mut self, view: u64, pid: Pid, is_open: bool) -> bool
         ensures bound { bound self.new.hand ≡ bound self.old.hand }
         ensures closed { is_open ≡ false → self.new.hand ≡ self.old.hand }
         ensures tables { self.new.tables ≡ record self.old.tables { files = self.new.tables.files } }
     {
         let mut all = true;
         for _ in 0..self.tables.files.len() {
-            let Some(file) = self.tables.files.take_in(standing.number) else {
+            let Some(file) = self.tables.files.take_in(view) else {
                 break;
             };
-            if is_open && file.pid == standing.pid && close(&mut self.hand, file.fd).is_err() {
+            if is_open && file.pid == pid && close(&mut self.hand, file.fd).is_err() {
                 all = false;
             }
         }
@@ -228,10 +228,16 @@ impl<K: Machine> Server<K> {
         ensures closed { is_open ≡ false → self.new.hand ≡ self.old.hand }
         ensures freed { number_in self.new.tables.views name.now ≡ None }
     {
-        let is_closed = self.close_all(standing, is_open);
+        let Standing {
+            number,
+            pid,
+            level,
+            state: _,
+        } = standing;
+        let is_closed = self.close_all(number, pid, is_open);
         self.tables.views.remove(name);
         if is_closed {
-            self.tables.pool.give_back(standing.pid, standing.level);
+            self.tables.pool.give_back(pid, level);
         }
     }
 
