@@ -44,8 +44,8 @@ use Rattle.ids.specs.contracts.bytes.NameList as NameList
 use Rattle.ids.specs.contracts.reply.Answer as Answer
 use Rattle.ids.specs.contracts.reply.Reply as Reply
 use Rattle.ids.specs.contracts.entry.Entry as Entry
-use Rattle.commit.specs.contracts.slot.Doom as Doom
-use Rattle.commit.specs.contracts.slot.Slot as Slot
+use Rattle.commit.specs.contracts.process_state.Doom as Doom
+use Rattle.commit.specs.contracts.process_state.ProcessState as ProcessState
 use Rattle.records.specs.contracts.journal.Journal as Journal
 use Rattle.records.specs.contracts.users.Users as Users
 use Rattle.ids.specs.contracts.aspect.Aspect as Aspect
@@ -145,11 +145,11 @@ cause_sent = search (sendable, crosses, over.crosses, frees_by, frees.frees) dep
 doom_sent : IsSend (Doom.the_field).row
 doom_sent = search (cause_sent, sendable, crosses, over.crosses, frees_by, frees.frees) depth 40 fits 30000
 
-slot_sent : IsSend Slot.the_row
-slot_sent = search (shadow_sent, doom_sent, sendable, crosses, over.crosses, frees_by, frees.frees) depth 40 fits 30000
+process_state_sent : IsSend ProcessState.the_row
+process_state_sent = search (shadow_sent, doom_sent, sendable, crosses, over.crosses, frees_by, frees.frees) depth 40 fits 30000
 
 transactions_sent : IsSend Transactions.the_row
-transactions_sent = search (stable_sent, slot_sent, sendable, crosses, over.crosses, frees_by, frees.frees) depth 40 fits 30000
+transactions_sent = search (stable_sent, process_state_sent, sendable, crosses, over.crosses, frees_by, frees.frees) depth 40 fits 30000
 
 journal_sent : IsSend Journal.the_row
 journal_sent = search (touch_sent, sendable, crosses, over.crosses, frees_by, frees.frees) depth 40 fits 30000

@@ -6,16 +6,16 @@ use heap::Heap;
 use objects::{FileData, PipeData};
 use std::process::Abort;
 
-// All that stands in a file from a place on.
-fn assert_ends(rt: &impl Abort, heap: Heap, file: &FileData, place: usize, want: &[u8]) {
-    let bytes = file.read_at(heap, place, 100_000).expect(rt, "memory");
+// All that stands in a file from an offset on.
+fn assert_ends(rt: &impl Abort, heap: Heap, file: &FileData, offset: usize, want: &[u8]) {
+    let bytes = file.read_at(heap, offset, 100_000).expect(rt, "memory");
     assert_eq!(rt; bytes.as_slice(), want);
 }
 
-// What stands in a file from a place on, as far as this reaches.
-fn assert_reads(rt: &impl Abort, heap: Heap, file: &FileData, place: usize, want: &[u8]) {
+// What stands in a file from an offset on, as far as this reaches.
+fn assert_reads(rt: &impl Abort, heap: Heap, file: &FileData, offset: usize, want: &[u8]) {
     let bytes = file
-        .read_at(heap, place, want.len().min(100))
+        .read_at(heap, offset, want.len().min(100))
         .expect(rt, "memory");
     assert_eq!(rt; bytes.as_slice(), want);
 }

@@ -1,7 +1,7 @@
 use Rattle.std.proofs.Common.{arith}
-use Rattle.commit.specs.Slots.{slot_view}
+use Rattle.commit.specs.ProcessStates.{slot_view}
 use Rattle.commit.proofs.Counting.{count_set, one_of_count}
-use Rattle.commit.proofs.slots.Slots.swap.Goals as goal
+use Rattle.commit.proofs.process_states.ProcessStates.swap.Goals as goal
 
 pub overflow_sub-self : goal.overflow_sub-self
 overflow_sub-self c = let one = one_of_count c.self.inside.all.items c.args.pid (slot_view c.swap_in-before.result) c.swap_in-before.ensures.taken in omega (arith, one, c.self.invariant, c.weight.ensures)

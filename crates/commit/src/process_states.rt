@@ -6,13 +6,13 @@ ghost use Rattle.shadow.specs.Claims.{claimed_by};
 ghost use Rattle.shadow.specs.Log.{effect};
 ghost use Rattle.shadow.specs.Steps.{CanEdit};
 ghost use Rattle.ids.specs.declared.limits.TheConstants.{MAX_PROCESSES};
-ghost use Rattle.commit.specs.Slots.{AreFirstSlots, Sets, slot_at, slot_view, views, weight};
+ghost use Rattle.commit.specs.ProcessStates.{AreFirstSlots, Sets, slot_at, slot_view, views, weight};
 ghost use Rattle.commit.specs.Edits.{with_change};
 ghost use Rattle.commit.specs.Views.{changes_in, idle_slot, is_live_slot, is_within};
-ghost use Rattle.commit.specs.declared.slot.Slot.{Slot as Slot_of};
-ghost use Rattle.commit.specs.declared.slot.Slot.TheVariants.{Idle as Idle_slot};
+ghost use Rattle.commit.specs.declared.process_state.ProcessState.{ProcessState as ProcessState_of};
+ghost use Rattle.commit.specs.declared.process_state.ProcessState.TheVariants.{Idle as Idle_slot};
 
-use crate::slot::{Slot, first_slots};
+use crate::process_state::{ProcessState, first_slots};
 use heap::Heap;
 use ids::{Edit, Nums, Pid};
 use shadow::Stable;
@@ -22,25 +22,25 @@ use std::mem::replace;
 
 /// A slot for each process, at its number. How many are in a transaction is stored, so that no step
 /// counts them.
-pub struct Slots {
-    all: Vec<Slot, Heap>,
+pub struct ProcessStates {
+    all: Vec<ProcessState, Heap>,
     within: usize,
 }
 
 // By hand: a derived drop is opened at every place where a value goes, this one is called.
-impl Drop for Slots {
+impl Drop for ProcessStates {
     fn drop(self) {
-        let Slots { all: _, within: _ } = self;
+        let ProcessStates { all: _, within: _ } = self;
     }
 }
 
-impl Model for Slots {
+impl Model for ProcessStates {
     ghost use Rattle.std.specs.Prelude.{◌≡◌, List, count_by};
-    ghost use Rattle.commit.specs.Slots.{views};
+    ghost use Rattle.commit.specs.ProcessStates.{views};
     ghost use Rattle.commit.specs.Views.{is_within};
-    ghost use Rattle.commit.specs.declared.slot.Slot.{Slot};
+    ghost use Rattle.commit.specs.declared.process_state.ProcessState.{ProcessState};
 
-    ghost Value = { List Slot };
+    ghost Value = { List ProcessState };
 
     ghost view = { λ s. s.all.items };
 
@@ -48,14 +48,14 @@ impl Model for Slots {
 }
 
 // How many of the processes in a transaction a slot's is: one or none.
-fn weight(slot: &Slot) -> usize
+fn weight(slot: &ProcessState) -> usize
     ensures { result ≡ weight (slot_view slot.now) }
 {
     if slot.is_within() { 1 } else { 0 }
 }
 
 // Puts a slot in the place of the one before, which is answered.
-fn swap_in(all: &mut Vec<Slot, Heap>, pid: Pid, slot: Slot) -> Slot
+fn swap_in(all: &mut Vec<ProcessState, Heap>, pid: Pid, slot: ProcessState) -> ProcessState
     requires { pid < length all.old.items }
     ensures taken { slot_view result ≡ slot_at all.old.items pid }
     ensures set { Sets all.old.items all.new.items pid (slot_view slot) }
@@ -63,15 +63,15 @@ fn swap_in(all: &mut Vec<Slot, Heap>, pid: Pid, slot: Slot) -> Slot
     replace(&mut all[pid.0 as usize], slot)
 }
 
-impl Slots {
+impl ProcessStates {
     /// A slot of no process, and behind it those of so many idle ones. Refused memory gives nothing.
-    pub fn first(heap: Heap, count: usize) -> Result<Slots, AllocError>
+    pub fn first(heap: Heap, count: usize) -> Result<ProcessStates, AllocError>
         requires { count ≤ MAX_PROCESSES }
         ensures count { IfOk result (λ slots. length slots ≡ suc count) }
         ensures first { IfOk result (λ slots. AreFirstSlots slots count) }
     {
         let all = first_slots(heap, count)?;
-        Ok(Slots { all, within: 0 })
+        Ok(ProcessStates { all, within: 0 })
     }
 
     /// How many processes are in a transaction, live or doomed.
@@ -82,14 +82,14 @@ impl Slots {
     }
 
     /// All of them.
-    pub fn as_slice(&self) -> &[Slot]
+    pub fn as_slice(&self) -> &[ProcessState]
         ensures { result.now ≡ self.now }
     {
         self.all.as_slice()
     }
 
     /// Puts a process's slot in the place of the one before, which is answered.
-    pub fn swap(&mut self, pid: Pid, slot: Slot) -> Slot
+    pub fn swap(&mut self, pid: Pid, slot: ProcessState) -> ProcessState
         requires { pid < length self.old }
         ensures taken { slot_view result ≡ slot_at self.old pid }
         ensures set { Sets self.old self.new pid (slot_view slot) }
@@ -105,14 +105,14 @@ impl Slots {
         ensures ok { OnOk result (self.new ≡ self.old ++ Idle_slot ∷ []) }
         ensures err { OnErr result (self.new ≡ self.old) }
     {
-        self.all.push(Slot::Idle)?;
+        self.all.push(ProcessState::Idle)?;
         Ok(())
     }
 
     /// The slot of the idle process that came last is gone again. It takes no memory.
     pub fn pop_idle(&mut self)
-        requires { (before : List Slot_of) × (self.old ≡ before ++ Idle_slot ∷ []) }
-        ensures { (before : List Slot_of) → self.old ≡ before ++ Idle_slot ∷ []
+        requires { (before : List ProcessState_of) × (self.old ≡ before ++ Idle_slot ∷ []) }
+        ensures { (before : List ProcessState_of) → self.old ≡ before ++ Idle_slot ∷ []
             → self.new ≡ before }
     {
         drop(self.all.pop());
@@ -120,16 +120,16 @@ impl Slots {
 }
 
 /// Takes a slot, which is idle then.
-pub fn take_slot(slots: &mut Slots, pid: Pid) -> Slot
+pub fn take_slot(slots: &mut ProcessStates, pid: Pid) -> ProcessState
     requires { pid < length slots.old }
     ensures taken { slot_view result ≡ slot_at slots.old pid }
     ensures left { Sets slots.old slots.new pid idle_slot }
 {
-    slots.swap(pid, Slot::Idle)
+    slots.swap(pid, ProcessState::Idle)
 }
 
 /// Puts a process's slot in the place of the one before, which is forgotten.
-pub fn set_slot(slots: &mut Slots, pid: Pid, slot: Slot)
+pub fn set_slot(slots: &mut ProcessStates, pid: Pid, slot: ProcessState)
     requires { pid < length slots.old }
     ensures { Sets slots.old slots.new pid (slot_view slot) }
 {
@@ -139,7 +139,7 @@ pub fn set_slot(slots: &mut Slots, pid: Pid, slot: Slot)
 // Adds a change to what a live process has changed, with new numbers, which are answered. Refused
 // memory changes nothing.
 fn edit_in(
-    slots: &mut Vec<Slot, Heap>,
+    slots: &mut Vec<ProcessState, Heap>,
     stable: &mut Stable,
     pid: Pid,
     edits: Vec<Edit, Heap>,
@@ -160,17 +160,17 @@ fn edit_in(
     ensures same { OnErr result (KeepsSame stable.old stable.new) }
 {
     match &mut slots[pid.0 as usize] {
-        Slot::Live(transaction) => transaction.shadow.edit(stable, edits),
-        Slot::Gone => unreachable!(),
-        Slot::Idle => unreachable!(),
-        Slot::Doomed(_) => unreachable!(),
+        ProcessState::Live(transaction) => transaction.shadow.edit(stable, edits),
+        ProcessState::Gone => unreachable!(),
+        ProcessState::Idle => unreachable!(),
+        ProcessState::Doomed(_) => unreachable!(),
     }
 }
 
 /// Adds a change to what a live process has changed, with new numbers, which are answered. Refused
 /// memory changes nothing.
 pub fn edit_slot(
-    slots: &mut Slots,
+    slots: &mut ProcessStates,
     stable: &mut Stable,
     pid: Pid,
     edits: Vec<Edit, Heap>,

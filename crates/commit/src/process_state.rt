@@ -9,7 +9,7 @@ ghost use Rattle.shadow.specs.Looks as looks;
 ghost use Rattle.shadow.specs.Steps.{CanEdit};
 ghost use Rattle.commit.specs.Dooming.{with_doom};
 ghost use Rattle.commit.specs.Edits.{with_change};
-ghost use Rattle.commit.specs.Slots.{AreFirstSlots, Sets, slot_at, slot_view};
+ghost use Rattle.commit.specs.ProcessStates.{AreFirstSlots, Sets, slot_at, slot_view};
 ghost use Rattle.commit.specs.Standings.{IsStandingOf};
 ghost use Rattle.commit.specs.Views.{causes_of, changes_in, idle_slot, is_live_slot, is_within};
 
@@ -58,7 +58,7 @@ pub struct Doom {
 
 /// The state of one process.
 #[derive(Drop)]
-pub enum Slot {
+pub enum ProcessState {
     /// No process.
     Gone,
     /// In no transaction.
@@ -69,16 +69,16 @@ pub enum Slot {
     Doomed(Doom),
 }
 
-impl Slot {
+impl ProcessState {
     /// Whether its process is in a transaction, live or doomed.
     pub fn is_within(&self) -> bool
         ensures { result ≡ is_within (slot_view self.now) }
     {
         match self {
-            Slot::Gone => false,
-            Slot::Idle => false,
-            Slot::Live(_) => true,
-            Slot::Doomed(_) => true,
+            ProcessState::Gone => false,
+            ProcessState::Idle => false,
+            ProcessState::Live(_) => true,
+            ProcessState::Doomed(_) => true,
         }
     }
 
@@ -87,55 +87,55 @@ impl Slot {
         ensures { IsStandingOf result (slot_view self.now) }
     {
         match self {
-            Slot::Gone => Standing::Gone,
-            Slot::Idle => Standing::Idle,
-            Slot::Live(transaction) => Standing::Live(transaction.flags, transaction.age),
-            Slot::Doomed(doom) => Standing::Doomed(doom.flags, doom.age),
+            ProcessState::Gone => Standing::Gone,
+            ProcessState::Idle => Standing::Idle,
+            ProcessState::Live(transaction) => Standing::Live(transaction.flags, transaction.age),
+            ProcessState::Doomed(doom) => Standing::Doomed(doom.flags, doom.age),
         }
     }
 }
 
 /// A slot of no process, and behind it those of so many idle ones.
-pub fn first_slots(heap: Heap, count: usize) -> Result<Vec<Slot, Heap>, AllocError>
+pub fn first_slots(heap: Heap, count: usize) -> Result<Vec<ProcessState, Heap>, AllocError>
     requires { count ≤ MAX_PROCESSES }
     ensures count { IfOk result (λ slots. length slots.items ≡ suc count) }
     ensures first { IfOk result (λ slots. AreFirstSlots slots.items count) }
 {
     let mut slots = Vec::with_capacity(heap, count + 1)?;
-    drop(slots.push(Slot::Gone));
+    drop(slots.push(ProcessState::Gone));
     for _i in 0..count {
-        drop(slots.push(Slot::Idle));
+        drop(slots.push(ProcessState::Idle));
     }
     Ok(slots)
 }
 
 /// Forgets what a slot's transaction has changed, and gives back what was kept for it. It takes no
 /// memory.
-pub fn drop_slot(slot: Slot, stable: &mut Stable)
+pub fn drop_slot(slot: ProcessState, stable: &mut Stable)
     requires { Covers stable.old (changes_in (slot_view slot)) }
     ensures state { stable.new.state ≡ stable.old.state }
     ensures kept { KeepsMore stable.new stable.old (λ c. claimed c (changes_in (slot_view slot))) }
 {
     match slot {
-        Slot::Live(transaction) => transaction.shadow.drop_into(stable),
-        Slot::Gone => (),
-        Slot::Idle => (),
-        Slot::Doomed(doom) => drop(doom),
+        ProcessState::Live(transaction) => transaction.shadow.drop_into(stable),
+        ProcessState::Gone => (),
+        ProcessState::Idle => (),
+        ProcessState::Doomed(doom) => drop(doom),
     }
 }
 
 /// The slot of a transaction that is doomed. Its changes are gone, and what was kept for them is
 /// given back.
-pub fn doom_slot(slot: Slot, doomed: Doomed, stable: &mut Stable) -> Slot
+pub fn doom_slot(slot: ProcessState, doomed: Doomed, stable: &mut Stable) -> ProcessState
     requires { Covers stable.old (changes_in (slot_view slot)) }
     ensures slot { slot_view result ≡ with_doom doomed (slot_view slot) }
     ensures state { stable.new.state ≡ stable.old.state }
     ensures kept { KeepsMore stable.new stable.old (λ c. claimed c (changes_in (slot_view slot))) }
 {
     match slot {
-        Slot::Live(Transaction { flags, age, shadow }) => {
+        ProcessState::Live(Transaction { flags, age, shadow }) => {
             shadow.drop_into(stable);
-            Slot::Doomed(Doom {
+            ProcessState::Doomed(Doom {
                 flags,
                 age,
                 entry: doomed.entry,
@@ -150,14 +150,14 @@ pub fn doom_slot(slot: Slot, doomed: Doomed, stable: &mut Stable) -> Slot
 }
 
 /// The changes of a slot.
-pub fn shadow_in(heap: Heap, slot: Slot) -> Shadow
+pub fn shadow_in(heap: Heap, slot: ProcessState) -> Shadow
     ensures { result ≡ changes_in (slot_view slot) }
 {
     match slot {
-        Slot::Live(transaction) => transaction.shadow,
-        Slot::Gone => Shadow::new(heap),
-        Slot::Idle => Shadow::new(heap),
-        Slot::Doomed(doom) => {
+        ProcessState::Live(transaction) => transaction.shadow,
+        ProcessState::Gone => Shadow::new(heap),
+        ProcessState::Idle => Shadow::new(heap),
+        ProcessState::Doomed(doom) => {
             drop(doom);
             Shadow::new(heap)
         }
@@ -165,11 +165,11 @@ pub fn shadow_in(heap: Heap, slot: Slot) -> Shadow
 }
 
 /// The causes of a slot that is doomed.
-pub fn causes_in(slot: Slot) -> Option<(Cause, Cause)>
+pub fn causes_in(slot: ProcessState) -> Option<(Cause, Cause)>
     ensures { result ≡ causes_of (slot_view slot) }
 {
     match slot {
-        Slot::Doomed(Doom { entry, reply, .. }) => Some((entry, reply)),
+        ProcessState::Doomed(Doom { entry, reply, .. }) => Some((entry, reply)),
         other => {
             drop(other);
             None
@@ -178,17 +178,17 @@ pub fn causes_in(slot: Slot) -> Option<(Cause, Cause)>
 }
 
 /// What a process's live transaction has changed, if it is in one.
-pub fn shadow_of(slots: &[Slot], pid: Pid) -> Option<&Shadow>
+pub fn shadow_of(slots: &[ProcessState], pid: Pid) -> Option<&Shadow>
     ensures changes { looks.changes_of (option_map (λ s. s.now) result)
         ≡ changes_in (slot_at slots.now pid) }
     ensures value { IfSome result (λ s. s.now ≡ changes_in (slot_at slots.now pid)) }
     ensures live { is_some result ≡ is_live_slot (slot_at slots.now pid) }
 {
     match slots.get(pid.0 as usize) {
-        Some(Slot::Live(transaction)) => Some(&transaction.shadow),
-        Some(Slot::Gone) => None,
-        Some(Slot::Idle) => None,
-        Some(Slot::Doomed(_)) => None,
+        Some(ProcessState::Live(transaction)) => Some(&transaction.shadow),
+        Some(ProcessState::Gone) => None,
+        Some(ProcessState::Idle) => None,
+        Some(ProcessState::Doomed(_)) => None,
         None => None,
     }
 }

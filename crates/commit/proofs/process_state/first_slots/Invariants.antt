@@ -1,6 +1,6 @@
 use Rattle.std.proofs.Common.{◌≡◌, ◌≤◌, suc, length, vec_capacity}
-use Rattle.commit.specs.Slots.{AreFirstSlots}
-use Rattle.commit.proofs.slot.first_slots.Given as goal
+use Rattle.commit.specs.ProcessStates.{AreFirstSlots}
+use Rattle.commit.proofs.process_state.first_slots.Given as goal
 
 abbrev pub invariant-loop-i : goal.invariant-loop-i
 invariant-loop-i l = record {
