@@ -18,7 +18,7 @@ ghost use Rattle.shadow.specs.Notes.{IsWritten, put_back, room_for};
 ghost use Rattle.shadow.specs.Steps.{bytes_cut, bytes_written, filed, listed, name_noted};
 ghost use Rattle.shadow.specs.Steps.{new_form, new_inode};
 
-use dirlist::Patch;
+use dirlist::NamePatch;
 use file_shadow::FileShadow;
 use heap::Heap;
 use ids::{Name, Num};
@@ -44,7 +44,7 @@ pub(crate) enum Contents {
     /// Nothing.
     Same,
     /// The names that changed, and whether they are laid over none.
-    Names(bool, Patch),
+    Names(bool, NamePatch),
     /// The bytes that changed, and whether they are laid over none.
     Bytes(bool, FileShadow),
     /// What is taken from a pipe and appended to it, and the pipe where it is new.
@@ -214,7 +214,7 @@ fn fresh_of(heap: Heap, what: Made) -> Contents
     ensures numbers { numbers_in result ≡ [] }
 {
     match what {
-        Made::Directory => Contents::Names(true, Patch::new(heap)),
+        Made::Directory => Contents::Names(true, NamePatch::new(heap)),
         Made::File => Contents::Bytes(true, FileShadow::new(heap)),
         Made::Pipe => unreachable!(),
     }
@@ -332,7 +332,7 @@ fn first_name(
 ) -> Result<Contents, AllocError>
     ensures { IfOk result (λ c. c ≡ Names fresh (insert empty name given)) }
 {
-    let mut names = Patch::new(heap);
+    let mut names = NamePatch::new(heap);
     names.note(name, given)?;
     Ok(Contents::Names(fresh, names))
 }
