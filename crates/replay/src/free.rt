@@ -56,44 +56,32 @@ impl PlainKernel {
             ≡ inodes.entry.items ++ inodes_of self.now gone.now) }
     {
         for num in gone {
-            inodes = with_inode_in(inodes, self.descriptions.get(*num))?;
+            if let Some(description) = self.descriptions.get(*num) {
+                inodes.push(description.inode)?;
+            }
         }
         Ok(inodes)
     }
 
-    // A description goes if no descriptor gives it.
-    fn free_description(&mut self, num: Num)
-        ensures { self.new ≡ free_description num self.old }
-    {
-        if !self.is_held(num) {
-            let _before = self.descriptions.remove(num);
-        }
-    }
-
-    // Each of these goes so.
+    // Each of these descriptions goes if no descriptor gives it.
     fn free_descriptions(&mut self, nums: &[Num])
         ensures { self.new ≡ free_descriptions nums.now self.old }
     {
         for num in nums {
-            self.free_description(*num);
+            if !self.is_held(*num) {
+                let _before = self.descriptions.remove(*num);
+            }
         }
     }
 
-    // An inode goes if nothing gives it, and it is not the root.
-    fn free_inode(&mut self, num: Num)
-        ensures { self.new ≡ free_inode num self.old }
-    {
-        if !self.is_reached(num) {
-            self.inodes.remove(num);
-        }
-    }
-
-    // Each of these goes so.
+    // Each of these inodes goes if nothing gives it, and it is not the root.
     fn free_inodes(&mut self, nums: &[Num])
         ensures { self.new ≡ free_inodes nums.now self.old }
     {
         for num in nums {
-            self.free_inode(*num);
+            if !self.is_reached(*num) {
+                self.inodes.remove(*num);
+            }
         }
     }
 
@@ -175,20 +163,6 @@ fn listed(heap: Heap, num: Option<Num>) -> Result<Vec<Num, Heap>, AllocError>
         all.push(num)?;
     }
     Ok(all)
-}
-
-// The inode that a description opens, if it is there, behind others.
-fn with_inode_in(
-    mut inodes: Vec<Num, Heap>,
-    description: Option<&Description>,
-) -> Result<Vec<Num, Heap>, AllocError>
-    ensures { IfOk result (λ all. all.items
-        ≡ inodes.entry.items ++ inode_in (option_copied description.entry)) }
-{
-    if let Some(description) = description {
-        inodes.push(description.inode)?;
-    }
-    Ok(inodes)
 }
 
 // The inode of any kind whose name goes to what moves.

@@ -9,7 +9,6 @@ ghost use Rattle.model.specs.Changes.{process_of, or_new, holders, openings, is_
 ghost use Rattle.model.specs.Moments.{is_alive};
 ghost use Rattle.replay.specs.Counts.{given_by, held_by, is_open, ended_by};
 
-use crate::bytes::part;
 use crate::inode::{given_in, is_empty_in, kind_in, names_in, pipe_in, read_in, size_in};
 use crate::inodes::Inodes;
 use crate::table::Table;
@@ -171,7 +170,8 @@ impl PlainKernel {
     pub(crate) fn is_held(&self, description: Num) -> bool
         ensures { result ≡ is_held self.now description }
     {
-        is_held_in(self.processes.as_slice(), description)
+        let slots = self.processes.as_slice();
+        slots.iter().any(|slot| slot.1.holds(description))
     }
 
     // Whether an inode is the root, or a name or a description gives it.
@@ -179,8 +179,12 @@ impl PlainKernel {
         ensures { result ≡ is_reached self.now inode }
     {
         inode == self.root
-            || self.inodes.is_named(inode)
-            || is_opened_in(self.descriptions.as_slice(), inode)
+            || self.inodes.count(inode) > 0
+            || self
+                .descriptions
+                .as_slice()
+                .iter()
+                .any(|slot| slot.1.inode == inode)
     }
 }
 
@@ -204,26 +208,13 @@ pub(crate) fn counted(so_far: usize, more: usize) -> Result<usize, AllocError>
     }
 }
 
-// Whether one of these descriptions is of an inode.
-fn is_opened_in(descriptions: &[(Num, Description)], inode: Num) -> bool
-    ensures { result ≡ list_any (λ e. e.1.inode == inode) descriptions.now }
-{
-    descriptions.iter().any(|slot| slot.1.inode == inode)
-}
-
-// Whether a descriptor of these processes gives a description.
-fn is_held_in(processes: &[(Num, Process)], description: Num) -> bool
-    ensures { result ≡ list_any (λ e. nat_lt 0 (held_by description e.1)) processes.now }
-{
-    processes.iter().any(|slot| slot.1.holds(description))
-}
-
 impl Process {
     // Whether a descriptor of it gives a description.
     fn holds(&self, description: Num) -> bool
         ensures { result ≡ nat_lt 0 (held_by description self.now) }
     {
-        is_given_in(self.table.as_slice(), description)
+        let slots = self.table.as_slice();
+        slots.iter().any(|slot| slot.1 == description)
     }
 
     // How many of its descriptors are open so on a pipe.
@@ -237,13 +228,6 @@ impl Process {
             .filter(|slot| is_end(descriptions.get(slot.1), pipe, writing))
             .count()
     }
-}
-
-// Whether one of these descriptors gives a description.
-fn is_given_in(slots: &[(Num, Num)], description: Num) -> bool
-    ensures { result ≡ list_any (λ e. e.1 == description) slots.now }
-{
-    slots.iter().any(|slot| slot.1 == description)
 }
 
 // Whether a description is of a pipe, and open to write, or to read.
@@ -340,10 +324,8 @@ impl Look for PlainKernel {
     }
 
     fn read_pipe(&self, heap: Heap, pipe: Num, count: u32) -> Result<Bytes, AllocError> {
-        Bytes::copy(
-            heap,
-            part(pipe_in(self.inodes.get(pipe)), 0, count as usize),
-        )
+        let all = pipe_in(self.inodes.get(pipe));
+        Bytes::copy(heap, &all[..(count as usize).min(all.len())])
     }
 
     fn fit(&self, pipe: Num, count: usize) -> Result<u32, AllocError> {
