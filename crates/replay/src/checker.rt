@@ -262,7 +262,7 @@ fn still_needed(
     }
 }
 
-// Keeps the entries of the calls of those of these transactions that live.
+// Keeps the entries of the calls of these transactions.
 fn keep_each(
     kept: &mut Tree<Entry>,
     window: &Window<'_>,
@@ -276,11 +276,29 @@ fn keep_each(
     ensures there { OnOk result (AllByRecursion (λ slot. AreThere kept.new (Some slot.1)) slots.now) }
 {
     for slot in slots {
-        if let Transaction::Live(_, positions) = &slot.1 {
-            keep_all(kept, window, positions.as_slice())?;
-        }
+        keep_calls(kept, window, &slot.1)?;
     }
     Ok(())
+}
+
+// Keeps the entries of the calls of a transaction, if it lives.
+fn keep_calls(
+    kept: &mut Tree<Entry>,
+    window: &Window<'_>,
+    transaction: &Transaction,
+) -> Result<(), AllocError>
+    ghost es: { List Listed }
+    requires shows { Shows es window.now }
+    requires seen { CanKeep es window.now (Some transaction.now) }
+    requires held { AreHeld es kept.old }
+    ensures held { OnOk result (AreHeld es kept.new) }
+    ensures there { OnOk result (AreThere kept.new (Some transaction.now)) }
+    ensures grows { OnOk result (Grows kept.old kept.new) }
+{
+    match transaction {
+        Transaction::Live(_, positions) => keep_all(kept, window, positions.as_slice()),
+        Transaction::Doomed(_) => Ok(()),
+    }
 }
 
 // Keeps the entries at these positions.

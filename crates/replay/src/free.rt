@@ -63,25 +63,39 @@ impl PlainKernel {
         Ok(inodes)
     }
 
-    // Each of these descriptions goes if no descriptor gives it.
+    // A description goes if no descriptor gives it.
+    fn free_description(&mut self, num: Num)
+        ensures { self.new ≡ free_description num self.old }
+    {
+        if !self.is_held(num) {
+            let _before = self.descriptions.remove(num);
+        }
+    }
+
+    // Each of these goes so.
     fn free_descriptions(&mut self, nums: &[Num])
         ensures { self.new ≡ free_descriptions nums.now self.old }
     {
         for num in nums {
-            if !self.is_held(*num) {
-                let _before = self.descriptions.remove(*num);
-            }
+            self.free_description(*num);
         }
     }
 
-    // Each of these inodes goes if nothing gives it, and it is not the root.
+    // An inode goes if nothing gives it, and it is not the root.
+    fn free_inode(&mut self, num: Num)
+        ensures { self.new ≡ free_inode num self.old }
+    {
+        if !self.is_reached(num) {
+            self.inodes.remove(num);
+        }
+    }
+
+    // Each of these goes so.
     fn free_inodes(&mut self, nums: &[Num])
         ensures { self.new ≡ free_inodes nums.now self.old }
     {
         for num in nums {
-            if !self.is_reached(*num) {
-                self.inodes.remove(*num);
-            }
+            self.free_inode(*num);
         }
     }
 

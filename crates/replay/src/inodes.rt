@@ -67,6 +67,13 @@ impl Inodes {
         count_of(&self.counts, num)
     }
 
+    // Whether a name gives a number.
+    pub(crate) fn is_named(&self, num: Num) -> bool
+        ensures { result ≡ nat_lt 0 (given_by_all self.now num) }
+    {
+        self.count(num) > 0
+    }
+
     // A number gets an inode without names. It gives the one before.
     pub(crate) fn insert(&mut self, num: Num, inode: Inode) -> Result<Option<Inode>, AllocError>
         requires { names_of_inode (Some inode) ≡ map.empty }

@@ -179,12 +179,8 @@ impl PlainKernel {
         ensures { result ≡ is_reached self.now inode }
     {
         inode == self.root
-            || self.inodes.count(inode) > 0
-            || self
-                .descriptions
-                .as_slice()
-                .iter()
-                .any(|slot| slot.1.inode == inode)
+            || self.inodes.is_named(inode)
+            || is_opened_in(self.descriptions.as_slice(), inode)
     }
 }
 
@@ -206,6 +202,13 @@ pub(crate) fn counted(so_far: usize, more: usize) -> Result<usize, AllocError>
         Some(count) => Ok(count),
         None => Err(AllocError),
     }
+}
+
+// Whether one of these descriptions is of an inode.
+fn is_opened_in(descriptions: &[(Num, Description)], inode: Num) -> bool
+    ensures { result ≡ list_any (λ e. e.1.inode == inode) descriptions.now }
+{
+    descriptions.iter().any(|slot| slot.1.inode == inode)
 }
 
 impl Process {

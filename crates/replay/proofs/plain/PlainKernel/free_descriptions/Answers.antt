@@ -1,0 +1,11 @@
+use Rattle.std.proofs.Common.{sym, ap, ◌∙◌}
+use Rattle.std.proofs.lemmas.List.{drop_all}
+use Rattle.freeing_laws.specs.Sweep.{free_descriptions}
+use Rattle.replay.proofs.Freed.{descriptions_step}
+use Rattle.replay.proofs.plain.PlainKernel.free_descriptions.Goals as goal
+
+pub loop-num-preserved : goal.loop-num-preserved
+loop-num-preserved c = descriptions_step c.args.nums.now c.loop-num.num-index c.num-item.result c.loop-num-test.true c.num-item.is _ c.loop-num.self c.free_description.new.self c.loop-num.invariant c.free_description.ensures
+
+pub returns : goal.returns
+returns c = sym (c.loop-num.invariant ∙ ap (λ xs. free_descriptions xs c.loop-num.self) (drop_all _ _ c.loop-num-test.false))
