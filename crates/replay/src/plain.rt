@@ -170,8 +170,7 @@ impl PlainKernel {
     pub(crate) fn is_held(&self, description: Num) -> bool
         ensures { result ≡ is_held self.now description }
     {
-        let slots = self.processes.as_slice();
-        slots.iter().any(|slot| slot.1.holds(description))
+        is_held_in(self.processes.as_slice(), description)
     }
 
     // Whether an inode is the root, or a name or a description gives it.
@@ -211,13 +210,19 @@ fn is_opened_in(descriptions: &[(Num, Description)], inode: Num) -> bool
     descriptions.iter().any(|slot| slot.1.inode == inode)
 }
 
+// Whether a descriptor of these processes gives a description.
+fn is_held_in(processes: &[(Num, Process)], description: Num) -> bool
+    ensures { result ≡ list_any (λ e. nat_lt 0 (held_by description e.1)) processes.now }
+{
+    processes.iter().any(|slot| slot.1.holds(description))
+}
+
 impl Process {
     // Whether a descriptor of it gives a description.
     fn holds(&self, description: Num) -> bool
         ensures { result ≡ nat_lt 0 (held_by description self.now) }
     {
-        let slots = self.table.as_slice();
-        slots.iter().any(|slot| slot.1 == description)
+        is_given_in(self.table.as_slice(), description)
     }
 
     // How many of its descriptors are open so on a pipe.
@@ -231,6 +236,13 @@ impl Process {
             .filter(|slot| is_end(descriptions.get(slot.1), pipe, writing))
             .count()
     }
+}
+
+// Whether one of these descriptors gives a description.
+fn is_given_in(slots: &[(Num, Num)], description: Num) -> bool
+    ensures { result ≡ list_any (λ e. e.1 == description) slots.now }
+{
+    slots.iter().any(|slot| slot.1 == description)
 }
 
 // Whether a description is of a pipe, and open to write, or to read.

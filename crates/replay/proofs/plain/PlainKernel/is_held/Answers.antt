@@ -1,4 +1,4 @@
-use Rattle.std.proofs.Common.{◌≡◌, sym, ap, ◌∙◌, nat_lt, rules}
+use Rattle.std.proofs.Common.{sym, ap, ◌∙◌, nat_lt}
 use Rattle.std.specs.List.{list_any}
 use Rattle.model.specs.FiniteMap.{entries}
 use Rattle.replay.specs.Counts.{held_by}
@@ -7,6 +7,5 @@ use Rattle.replay.proofs.plain.PlainKernel.is_held.Goals as goal
 
 pub returns : goal.returns
 returns c =
-    let told : c.any.result ≡ list_any (λ e. nat_lt 0 (held_by c.args.description e.1)) c.as_slice-slots.result.now = search rules in
-    told ∙ ap (list_any (λ e. nat_lt 0 (held_by c.args.description e.1))) (c.as_slice-slots.ensures ∙ ap (λ k. entries k.processes) c.self.view_is)
+    c.is_held_in.ensures ∙ ap (list_any (λ e. nat_lt 0 (held_by c.args.description e.1))) (c.as_slice.ensures ∙ ap (λ k. entries k.processes) c.self.view_is)
     ∙ sym (held_is c.args.self.now c.args.description)
