@@ -1,5 +1,5 @@
 // A process, and what it does one after the other.
-use crate::content::{Content, Supplies};
+use crate::content::{Content, Room};
 use anyhow::Result;
 use heap::Heap;
 use ids::{BeginFlags, Bytes, Call, Fd, Op, OpenFlags, Pid};
@@ -24,10 +24,10 @@ impl Drop for Act {
 }
 
 impl Act {
-    pub(crate) fn op(&self, supplies: &Supplies) -> Result<Op> {
+    pub(crate) fn op(&self, room: &Room) -> Result<Op> {
         match self {
             Act::Op(op) => Ok(op.try_clone()?),
-            Act::Write(fd, content) => Ok(Op::Call(Call::Write(*fd, supplies.bytes(*content)?))),
+            Act::Write(fd, content) => Ok(Op::Call(Call::Write(*fd, room.bytes(*content)?))),
         }
     }
 }

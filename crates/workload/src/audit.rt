@@ -1,6 +1,6 @@
 // Stored histories of several jobs are checked: one of each as it is, and one of which a reply was
 // changed.
-use crate::content::Supplies;
+use crate::content::Room;
 use crate::digest::Digest;
 use crate::{installer, names, settings, spool};
 use anyhow::{Result, bail};
@@ -43,32 +43,32 @@ fn copy_of(heap: Heap, history: &History, position: usize) -> Result<History> {
     Ok(copy)
 }
 
-fn add_check(supplies: &mut Supplies, digest: &mut Digest, history: &History) -> Result<()> {
-    digest.add_number(fault_of(supplies.heap, history)?);
+fn add_check(room: &mut Room, digest: &mut Digest, history: &History) -> Result<()> {
+    digest.add_number(fault_of(room.heap, history)?);
     let count = history.entries().len() as u64;
     digest.add_number(count);
-    let position = supplies.random.between(count / 2, count) as usize;
-    let copy = copy_of(supplies.heap, history, position)?;
-    digest.add_number(fault_of(supplies.heap, &copy)?);
+    let position = room.random.between(count / 2, count) as usize;
+    let copy = copy_of(room.heap, history, position)?;
+    digest.add_number(fault_of(room.heap, &copy)?);
     Ok(())
 }
 
-fn check_run(supplies: &mut Supplies, digest: &mut Digest, kernel: Kernel) -> Result<()> {
-    let done = add_check(supplies, digest, kernel.history());
+fn check_run(room: &mut Room, digest: &mut Digest, kernel: Kernel) -> Result<()> {
+    let done = add_check(room, digest, kernel.history());
     drop(kernel);
     done
 }
 
 /// Runs jobs and checks their histories.
-pub(crate) fn audit(supplies: &mut Supplies, share: u64) -> Result<u64> {
+pub(crate) fn audit(room: &mut Room, share: u64) -> Result<u64> {
     let mut digest = Digest::new();
-    let kernel = installer::run(supplies, share)?;
-    check_run(supplies, &mut digest, kernel)?;
-    let kernel = spool::run(supplies, share.saturating_mul(20))?;
-    check_run(supplies, &mut digest, kernel)?;
-    let kernel = settings::run(supplies, share.saturating_mul(20))?;
-    check_run(supplies, &mut digest, kernel)?;
-    let kernel = names::run(supplies, share.saturating_mul(160))?;
-    check_run(supplies, &mut digest, kernel)?;
+    let kernel = installer::run(room, share)?;
+    check_run(room, &mut digest, kernel)?;
+    let kernel = spool::run(room, share.saturating_mul(20))?;
+    check_run(room, &mut digest, kernel)?;
+    let kernel = settings::run(room, share.saturating_mul(20))?;
+    check_run(room, &mut digest, kernel)?;
+    let kernel = names::run(room, share.saturating_mul(160))?;
+    check_run(room, &mut digest, kernel)?;
     Ok(digest.value())
 }

@@ -3,7 +3,7 @@
 ghost use Rattle.std.specs.Prelude.{IfOk};
 ghost use Rattle.script.specs.Schedules.{AreProcessNumbers};
 
-use crate::content::Supplies;
+use crate::content::Room;
 use crate::digest::Digest;
 use crate::drive::kernel_of;
 use anyhow::{Result, bail};
@@ -55,8 +55,8 @@ fn add_setup(texts: &mut Texts) -> Result<()> {
 }
 
 // The letters of a line of a source, as a script spells them.
-fn add_source(texts: &mut Texts, supplies: &mut Supplies, unit: u64) -> Result<()> {
-    let heap = supplies.heap;
+fn add_source(texts: &mut Texts, room: &mut Room, unit: u64) -> Result<()> {
+    let heap = room.heap;
     let path = format!(in heap;
         "open /home/user/project/source/library/parts/unit-{unit}.c WRONLY,CREAT,EXCL"
     )?;
@@ -65,17 +65,17 @@ fn add_source(texts: &mut Texts, supplies: &mut Supplies, unit: u64) -> Result<(
         1,
         "write 2 #include\\x20\"library/parts/common.h\"\\x0aint\\x20main(void);\\x0a",
     )?;
-    for _ in 0..supplies.random.between(1, 5) {
-        let length = supplies.random.between(2000, 16_000);
-        let byte = supplies.random.between(0x61, 0x7a);
+    for _ in 0..room.random.between(1, 5) {
+        let length = room.random.between(2000, 16_000);
+        let byte = room.random.between(0x61, 0x7a);
         texts.line(1, format!(in heap; "fill 2 {length} {byte:02x}")?.as_str())?;
     }
     texts.line(1, "close 2")
 }
 
 // The parent looks for what a unit may need, most of which is not there.
-fn add_stats(texts: &mut Texts, supplies: &mut Supplies, unit: u64) -> Result<()> {
-    let heap = supplies.heap;
+fn add_stats(texts: &mut Texts, room: &mut Room, unit: u64) -> Result<()> {
+    let heap = room.heap;
     for number in 0..8u64 {
         let path = format!(in heap;
             "stat /home/user/project/source/library/parts/unit-{unit}.{number}.h"
@@ -91,8 +91,8 @@ fn add_stats(texts: &mut Texts, supplies: &mut Supplies, unit: u64) -> Result<()
 }
 
 // The worker reads the source and writes the object.
-fn add_object(texts: &mut Texts, supplies: &mut Supplies, worker: u64, unit: u64) -> Result<()> {
-    let heap = supplies.heap;
+fn add_object(texts: &mut Texts, room: &mut Room, worker: u64, unit: u64) -> Result<()> {
+    let heap = room.heap;
     let source = format!(in heap;
         "open /home/user/project/source/library/parts/unit-{unit}.c RDONLY"
     )?;
@@ -105,9 +105,9 @@ fn add_object(texts: &mut Texts, supplies: &mut Supplies, worker: u64, unit: u64
         worker,
         format!(in heap; "open {new} WRONLY,CREAT,EXCL")?.as_str(),
     )?;
-    for _ in 0..supplies.random.between(1, 6) {
-        let length = supplies.random.between(4000, 16_384);
-        let byte = supplies.random.between(0x21, 0x5b);
+    for _ in 0..room.random.between(1, 6) {
+        let length = room.random.between(4000, 16_384);
+        let byte = room.random.between(0x21, 0x5b);
         texts.line(
             worker,
             format!(in heap; "fill 3 {length} {byte:02x}")?.as_str(),
@@ -119,21 +119,21 @@ fn add_object(texts: &mut Texts, supplies: &mut Supplies, worker: u64, unit: u64
     texts.line(worker, rename.as_str())
 }
 
-fn add_unit(texts: &mut Texts, supplies: &mut Supplies, unit: u64) -> Result<()> {
-    let worker = supplies.random.between(2, WORKERS + 2);
-    add_source(texts, supplies, unit)?;
-    add_stats(texts, supplies, unit)?;
+fn add_unit(texts: &mut Texts, room: &mut Room, unit: u64) -> Result<()> {
+    let worker = room.random.between(2, WORKERS + 2);
+    add_source(texts, room, unit)?;
+    add_stats(texts, room, unit)?;
     texts.line(worker, "begin RESTART")?;
-    add_object(texts, supplies, worker, unit)?;
+    add_object(texts, room, worker, unit)?;
     texts.line(worker, "write 1 t")?;
     texts.line(worker, "end")?;
     texts.line(1, "read 0 1")
 }
 
-fn texts_of(supplies: &mut Supplies, units: u64) -> Result<Texts> {
+fn texts_of(room: &mut Room, units: u64) -> Result<Texts> {
     let mut texts = Texts {
-        script: String::new(supplies.heap),
-        schedule: String::new(supplies.heap),
+        script: String::new(room.heap),
+        schedule: String::new(room.heap),
     };
     texts.script.push_str("priorities 0\n")?;
     add_setup(&mut texts)?;
@@ -141,7 +141,7 @@ fn texts_of(supplies: &mut Supplies, units: u64) -> Result<Texts> {
         texts.line(1, "fork")?;
     }
     for unit in 0..units {
-        add_unit(&mut texts, supplies, unit)?;
+        add_unit(&mut texts, room, unit)?;
     }
     Ok(texts)
 }
@@ -163,20 +163,20 @@ fn steps_in(heap: Heap, texts: &Texts) -> Result<Vec<(Pid, Op), Heap>> {
     Ok(steps_of(heap, script, pids.as_slice())?)
 }
 
-fn run_script(supplies: &mut Supplies, units: u64) -> Result<Kernel> {
-    let texts = texts_of(supplies, units)?;
-    let steps = steps_in(supplies.heap, &texts)?;
-    let mut kernel = kernel_of(supplies.heap, 0, 1, 65_536)?;
+fn run_script(room: &mut Room, units: u64) -> Result<Kernel> {
+    let texts = texts_of(room, units)?;
+    let steps = steps_in(room.heap, &texts)?;
+    let mut kernel = kernel_of(room.heap, 0, 1, 65_536)?;
     let replies = kernel.run(steps)?;
     drop(replies);
     Ok(kernel)
 }
 
 /// Reads scripts, runs them and prints their transcripts.
-pub(crate) fn build(supplies: &mut Supplies, share: u64) -> Result<u64> {
+pub(crate) fn build(room: &mut Room, share: u64) -> Result<u64> {
     let mut digest = Digest::new();
     for _ in 0..share.div_ceil(5).min(20) {
-        let kernel = run_script(supplies, share.saturating_mul(4).min(400))?;
+        let kernel = run_script(room, share.saturating_mul(4).min(400))?;
         digest.add_run(&kernel)?;
         drop(kernel);
     }

@@ -14,7 +14,7 @@ const POOL: usize = 1_048_576;
 static LETTERS: &[u8; 64] = b"eeeeeetttttaaaaoooonnniiisssrrrhhhllddccuummffppggwy       \n,.BX";
 
 /// The allocator, random numbers, and the bytes that contents are taken from.
-pub(crate) struct Supplies {
+pub(crate) struct Room {
     pub(crate) heap: Heap,
     pub(crate) random: Random,
     // Plain text, and then bytes of all values.
@@ -22,9 +22,9 @@ pub(crate) struct Supplies {
 }
 
 // By hand: a derived drop is opened at every place where a value goes, this one is called.
-impl Drop for Supplies {
+impl Drop for Room {
     fn drop(self) {
-        let Supplies {
+        let Room {
             heap: _,
             random: _,
             pool: _,
@@ -59,11 +59,11 @@ fn pool_of(heap: Heap, random: &mut Random) -> std::result::Result<Vec<u8, Heap>
     Ok(pool)
 }
 
-impl Supplies {
-    pub(crate) fn new(heap: Heap, seed: u64) -> Result<Supplies> {
+impl Room {
+    pub(crate) fn new(heap: Heap, seed: u64) -> Result<Room> {
         let mut random = Random::new(seed);
         let pool = pool_of(heap, &mut random)?;
-        Ok(Supplies { heap, random, pool })
+        Ok(Room { heap, random, pool })
     }
 
     // So many bytes of plain text, up to 512 KiB.

@@ -2,7 +2,7 @@
 ghost use Rattle.std.specs.Prelude.{◌<◌};
 
 use crate::actor::Actor;
-use crate::content::Supplies;
+use crate::content::Room;
 use anyhow::{Result, bail};
 use heap::Heap;
 use ids::{MAX_PROCESSES, Priority, Reply};
@@ -52,9 +52,9 @@ fn follow(actor: &mut Actor, reply: &Reply) -> Result<()> {
 }
 
 // The next act of a process, if it has one.
-fn step(kernel: &mut Kernel, supplies: &Supplies, actor: &mut Actor) -> Result<()> {
+fn step(kernel: &mut Kernel, room: &Room, actor: &mut Actor) -> Result<()> {
     let op = match actor.acts.get(actor.next) {
-        Some(act) => act.op(supplies)?,
+        Some(act) => act.op(room)?,
         None => return Ok(()),
     };
     let reply = kernel.step(actor.pid, op);
@@ -63,32 +63,23 @@ fn step(kernel: &mut Kernel, supplies: &Supplies, actor: &mut Actor) -> Result<(
     followed
 }
 
-fn take_turn(
-    kernel: &mut Kernel,
-    supplies: &Supplies,
-    actor: &mut Actor,
-    steps: u64,
-) -> Result<()> {
+fn take_turn(kernel: &mut Kernel, room: &Room, actor: &mut Actor, steps: u64) -> Result<()> {
     for _ in 0..steps {
-        step(kernel, supplies, actor)?;
+        step(kernel, room, actor)?;
     }
     Ok(())
 }
 
 /// Runs the processes to their ends. Whose turn it is, and how many steps it has, is random.
-pub(crate) fn drive(
-    kernel: &mut Kernel,
-    supplies: &mut Supplies,
-    actors: &mut [Actor],
-) -> Result<()> {
+pub(crate) fn drive(kernel: &mut Kernel, room: &mut Room, actors: &mut [Actor]) -> Result<()> {
     for _ in 0..MOST_TURNS {
         if actors.iter().all(|actor| actor.is_done()) {
             return Ok(());
         }
-        let steps = supplies.random.between(1, TURN + 1);
-        let index = supplies.random.between(0, actors.len() as u64) as usize;
+        let steps = room.random.between(1, TURN + 1);
+        let index = room.random.between(0, actors.len() as u64) as usize;
         if let Some(actor) = actors.get_mut(index) {
-            take_turn(kernel, supplies, actor, steps)?;
+            take_turn(kernel, room, actor, steps)?;
         }
     }
     bail!("a process has not come to its end")

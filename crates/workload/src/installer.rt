@@ -1,6 +1,6 @@
 // Packages are installed, each by one transaction, beside two processes that look at what is there.
 use crate::actor::Actor;
-use crate::content::Supplies;
+use crate::content::Room;
 use crate::digest::Digest;
 use crate::drive::{drive, kernel_of};
 use anyhow::Result;
@@ -31,43 +31,41 @@ fn make_directories(installer: &mut Actor, heap: Heap) -> Result<()> {
 }
 
 // Adds the files of a package, and answers how many there are.
-fn add_files(installer: &mut Actor, supplies: &mut Supplies, package: u64) -> Result<u64> {
-    let count = supplies.random.between(3, 31);
+fn add_files(installer: &mut Actor, room: &mut Room, package: u64) -> Result<u64> {
+    let count = room.random.between(3, 31);
     for number in 0..count {
-        let path = format!(in supplies.heap;
-            "/usr/share/doc/package-{package}/part-{number}.data"
-        )?;
-        let length = supplies.random.length();
+        let path = format!(in room.heap; "/usr/share/doc/package-{package}/part-{number}.data")?;
+        let length = room.random.length();
         let content = if number % 4 == 3 {
-            supplies.binary(length)
+            room.binary(length)
         } else {
-            supplies.text(length)
+            room.text(length)
         };
-        installer.create(supplies.heap, path.as_str(), content)?;
+        installer.create(room.heap, path.as_str(), content)?;
     }
     Ok(count)
 }
 
 // Installs a package. The status grows with each.
-fn add_package(installer: &mut Actor, supplies: &mut Supplies, package: u64) -> Result<()> {
-    let heap = supplies.heap;
+fn add_package(installer: &mut Actor, room: &mut Room, package: u64) -> Result<()> {
+    let heap = room.heap;
     installer.begin()?;
     let directory = format!(in heap; "/usr/share/doc/package-{package}")?;
     installer.mkdir(heap, directory.as_str())?;
-    let count = add_files(installer, supplies, package)?;
+    let count = add_files(installer, room, package)?;
     let list = format!(in heap; "/var/lib/packages/info/package-{package}.list")?;
-    let names = supplies.text(count.saturating_mul(48).min(65_536) as usize);
+    let names = room.text(count.saturating_mul(48).min(65_536) as usize);
     installer.create(heap, list.as_str(), names)?;
-    let status = supplies.text(package.saturating_mul(120).clamp(120, 262_144) as usize);
+    let status = room.text(package.saturating_mul(120).clamp(120, 262_144) as usize);
     installer.rewrite(heap, NEW_STATUS, status)?;
     installer.rename(heap, NEW_STATUS, STATUS)?;
     installer.end()
 }
 
 // Looks at a package, which may not be there yet.
-fn add_look(reader: &mut Actor, supplies: &mut Supplies, package: u64) -> Result<()> {
-    let heap = supplies.heap;
-    let number = supplies.random.below(20);
+fn add_look(reader: &mut Actor, room: &mut Room, package: u64) -> Result<()> {
+    let heap = room.heap;
+    let number = room.random.below(20);
     let directory = format!(in heap; "/usr/share/doc/package-{package}")?;
     let path = format!(in heap; "/usr/share/doc/package-{package}/part-{number}.data")?;
     reader.stat(heap, path.as_str())?;
@@ -81,40 +79,40 @@ fn add_look(reader: &mut Actor, supplies: &mut Supplies, package: u64) -> Result
 }
 
 // So many looks at packages that are there by then.
-fn add_looks(reader: &mut Actor, supplies: &mut Supplies, packages: u64) -> Result<()> {
+fn add_looks(reader: &mut Actor, room: &mut Room, packages: u64) -> Result<()> {
     for index in 0..packages.saturating_mul(6) {
         let end = (index / 7).max(1);
-        let package = supplies.random.between(0, end);
-        add_look(reader, supplies, package)?;
+        let package = room.random.between(0, end);
+        add_look(reader, room, package)?;
     }
     Ok(())
 }
 
-fn actors_of(supplies: &mut Supplies, packages: u64) -> Result<[Actor; 3]> {
-    let mut installer = Actor::new(supplies.heap, 1);
-    make_directories(&mut installer, supplies.heap)?;
+fn actors_of(room: &mut Room, packages: u64) -> Result<[Actor; 3]> {
+    let mut installer = Actor::new(room.heap, 1);
+    make_directories(&mut installer, room.heap)?;
     for package in 0..packages {
-        add_package(&mut installer, supplies, package)?;
+        add_package(&mut installer, room, package)?;
     }
-    let mut first = Actor::new(supplies.heap, 2);
-    add_looks(&mut first, supplies, packages)?;
-    let mut second = Actor::new(supplies.heap, 3);
-    add_looks(&mut second, supplies, packages)?;
+    let mut first = Actor::new(room.heap, 2);
+    add_looks(&mut first, room, packages)?;
+    let mut second = Actor::new(room.heap, 3);
+    add_looks(&mut second, room, packages)?;
     Ok([installer, first, second])
 }
 
 /// A run in which so many packages are installed.
-pub(crate) fn run(supplies: &mut Supplies, packages: u64) -> Result<Kernel> {
+pub(crate) fn run(room: &mut Room, packages: u64) -> Result<Kernel> {
     let packages = packages.min(1000);
-    let mut actors = actors_of(supplies, packages)?;
-    let mut kernel = kernel_of(supplies.heap, 1, 2, 1_048_576)?;
-    drive(&mut kernel, supplies, &mut actors)?;
+    let mut actors = actors_of(room, packages)?;
+    let mut kernel = kernel_of(room.heap, 1, 2, 1_048_576)?;
+    drive(&mut kernel, room, &mut actors)?;
     Ok(kernel)
 }
 
 /// Installs packages, and prints the transcript.
-pub(crate) fn install(supplies: &mut Supplies, share: u64) -> Result<u64> {
-    let kernel = run(supplies, share.saturating_mul(6))?;
+pub(crate) fn install(room: &mut Room, share: u64) -> Result<u64> {
+    let kernel = run(room, share.saturating_mul(6))?;
     let mut digest = Digest::new();
     digest.add_run(&kernel)?;
     drop(kernel);

@@ -21,7 +21,7 @@ mod random;
 mod settings;
 mod spool;
 
-use crate::content::Supplies;
+use crate::content::Room;
 use anyhow::{Result, bail};
 use std::alloc::Global;
 use std::env;
@@ -49,20 +49,20 @@ fn print_job(rt: &HostRuntime, global: Global, job: &str, seed: &str, share: &st
     let Ok(share) = share.parse::<u64>() else {
         bail!("{share} is no share")
     };
-    let mut supplies = Supplies::new(heap::open(global)?, seed)?;
-    let digest = digest_of(&mut supplies, job, share.clamp(1, 100))?;
+    let mut room = Room::new(heap::open(global)?, seed)?;
+    let digest = digest_of(&mut room, job, share.clamp(1, 100))?;
     println!(rt; "{job} {digest:016x}")?;
     Ok(())
 }
 
-fn digest_of(supplies: &mut Supplies, job: &str, share: u64) -> Result<u64> {
+fn digest_of(room: &mut Room, job: &str, share: u64) -> Result<u64> {
     match job {
-        "installer" => installer::install(supplies, share),
-        "spool" => spool::deliver(supplies, share),
-        "build" => build::build(supplies, share),
-        "audit" => audit::audit(supplies, share),
-        "names" => names::make_names(supplies, share),
-        "pieces" => pieces::write_pieces(supplies, share),
+        "installer" => installer::install(room, share),
+        "spool" => spool::deliver(room, share),
+        "build" => build::build(room, share),
+        "audit" => audit::audit(room, share),
+        "names" => names::make_names(room, share),
+        "pieces" => pieces::write_pieces(room, share),
         _ => bail!("{job} is no job"),
     }
 }

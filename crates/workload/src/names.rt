@@ -1,6 +1,6 @@
 // Many names of one directory in one transaction.
 use crate::actor::Actor;
-use crate::content::Supplies;
+use crate::content::Room;
 use crate::digest::Digest;
 use crate::drive::{drive, kernel_of};
 use anyhow::Result;
@@ -45,33 +45,33 @@ fn add_removing(remover: &mut Actor, heap: Heap, first: u64, count: u64) -> Resu
     remover.end()
 }
 
-fn act(kernel: &mut Kernel, supplies: &mut Supplies, actor: Actor) -> Result<()> {
+fn act(kernel: &mut Kernel, room: &mut Room, actor: Actor) -> Result<()> {
     let mut actors = [actor];
-    drive(kernel, supplies, &mut actors)
+    drive(kernel, room, &mut actors)
 }
 
 /// A run in which so many names are made, given up, made again and removed.
-pub(crate) fn run(supplies: &mut Supplies, count: u64) -> Result<Kernel> {
-    let heap = supplies.heap;
+pub(crate) fn run(room: &mut Room, count: u64) -> Result<Kernel> {
+    let heap = room.heap;
     let count = count.min(200_000);
-    let first = supplies.random.below(MOST_NAMES);
+    let first = room.random.below(MOST_NAMES);
     let mut kernel = kernel_of(heap, 0, 2, 1_048_576)?;
     let mut maker = Actor::new(heap, 1);
     maker.mkdir(heap, "/cache")?;
     maker.mkdir(heap, "/cache/objects")?;
     add_making(&mut maker, heap, first, count / 2, false)?;
     add_making(&mut maker, heap, first, count, true)?;
-    act(&mut kernel, supplies, maker)?;
+    act(&mut kernel, room, maker)?;
     let mut remover = Actor::new(heap, 2);
     remover.list(heap, "/cache/objects")?;
     add_removing(&mut remover, heap, first, count)?;
-    act(&mut kernel, supplies, remover)?;
+    act(&mut kernel, room, remover)?;
     Ok(kernel)
 }
 
 /// Makes and removes names, and prints the transcript.
-pub(crate) fn make_names(supplies: &mut Supplies, share: u64) -> Result<u64> {
-    let kernel = run(supplies, share.saturating_mul(800))?;
+pub(crate) fn make_names(room: &mut Room, share: u64) -> Result<u64> {
+    let kernel = run(room, share.saturating_mul(800))?;
     let mut digest = Digest::new();
     digest.add_run(&kernel)?;
     drop(kernel);

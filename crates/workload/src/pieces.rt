@@ -1,6 +1,6 @@
 // Large files written anywhere, by pieces of all lengths.
 use crate::actor::Actor;
-use crate::content::Supplies;
+use crate::content::Room;
 use crate::digest::Digest;
 use crate::drive::{drive, kernel_of};
 use anyhow::Result;
@@ -30,36 +30,36 @@ fn open_files(writer: &mut Actor, heap: Heap) -> Result<()> {
 }
 
 // A length up to 40 KiB: half of them are below 100.
-fn length_of(supplies: &mut Supplies) -> usize {
-    let most = if supplies.random.below(2) == 0 {
+fn length_of(room: &mut Room) -> usize {
+    let most = if room.random.below(2) == 0 {
         100
     } else {
         40_000
     };
-    supplies.random.between(1, most).min(40_000) as usize
+    room.random.between(1, most).min(40_000) as usize
 }
 
 // Writes a piece anywhere, or reads one.
-fn add_piece(writer: &mut Actor, supplies: &mut Supplies, number: u64) -> Result<()> {
-    let fd = supplies.random.below(FILES) as u32;
-    let offset = supplies.random.below(LARGEST - 40_000);
+fn add_piece(writer: &mut Actor, room: &mut Room, number: u64) -> Result<()> {
+    let fd = room.random.below(FILES) as u32;
+    let offset = room.random.below(LARGEST - 40_000);
     seek(writer, fd, offset)?;
-    let length = length_of(supplies);
+    let length = length_of(room);
     if number % 4 == 3 {
         return writer.other(Call::Read(Fd(fd), length.min(40_000) as u32));
     }
     let content = if number % 2 == 0 {
-        supplies.text(length)
+        room.text(length)
     } else {
-        supplies.binary(length)
+        room.binary(length)
     };
     writer.write(fd, content)
 }
 
-fn add_pieces(writer: &mut Actor, supplies: &mut Supplies, count: u64) -> Result<()> {
+fn add_pieces(writer: &mut Actor, room: &mut Room, count: u64) -> Result<()> {
     writer.begin()?;
     for number in 0..count {
-        add_piece(writer, supplies, number)?;
+        add_piece(writer, room, number)?;
     }
     writer.end()
 }
@@ -72,26 +72,26 @@ fn add_closes(writer: &mut Actor) -> Result<()> {
 }
 
 /// A run of transactions, in each of which so many pieces are written.
-pub(crate) fn run(supplies: &mut Supplies, transactions: u64, count: u64) -> Result<Kernel> {
-    let mut writer = Actor::new(supplies.heap, 1);
-    open_files(&mut writer, supplies.heap)?;
+pub(crate) fn run(room: &mut Room, transactions: u64, count: u64) -> Result<Kernel> {
+    let mut writer = Actor::new(room.heap, 1);
+    open_files(&mut writer, room.heap)?;
     for _ in 0..transactions.min(100) {
-        add_pieces(&mut writer, supplies, count.min(10_000))?;
+        add_pieces(&mut writer, room, count.min(10_000))?;
     }
     // The same without a transaction.
     for number in 0..count.min(10_000) {
-        add_piece(&mut writer, supplies, number)?;
+        add_piece(&mut writer, room, number)?;
     }
     add_closes(&mut writer)?;
-    let mut kernel = kernel_of(supplies.heap, 0, 1, 1_048_576)?;
+    let mut kernel = kernel_of(room.heap, 0, 1, 1_048_576)?;
     let mut actors = [writer];
-    drive(&mut kernel, supplies, &mut actors)?;
+    drive(&mut kernel, room, &mut actors)?;
     Ok(kernel)
 }
 
 /// Writes pieces, and prints the transcript.
-pub(crate) fn write_pieces(supplies: &mut Supplies, share: u64) -> Result<u64> {
-    let kernel = run(supplies, 15, share.saturating_mul(15))?;
+pub(crate) fn write_pieces(room: &mut Room, share: u64) -> Result<u64> {
+    let kernel = run(room, 15, share.saturating_mul(15))?;
     let mut digest = Digest::new();
     digest.add_run(&kernel)?;
     drop(kernel);

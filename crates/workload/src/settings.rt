@@ -1,6 +1,6 @@
 // Small files are written anew and renamed over the old ones, beside readers that have them open.
 use crate::actor::Actor;
-use crate::content::Supplies;
+use crate::content::Room;
 use crate::drive::{drive, kernel_of};
 use anyhow::Result;
 use heap::Heap;
@@ -14,27 +14,27 @@ fn path_of(heap: Heap, number: u64) -> Result<String<Heap>> {
     Ok(format!(in heap; "/home/user/.config/program-{number}.conf")?)
 }
 
-fn setup(supplies: &mut Supplies) -> Result<Actor> {
-    let heap = supplies.heap;
+fn setup(room: &mut Room) -> Result<Actor> {
+    let heap = room.heap;
     let mut first = Actor::new(heap, 1);
     for directory in &["/home", "/home/user", "/home/user/.config"] {
         first.mkdir(heap, directory)?;
     }
     for number in 0..FILES {
         let path = path_of(heap, number)?;
-        let content = supplies.text(1024);
+        let content = room.text(1024);
         first.create(heap, path.as_str(), content)?;
     }
     Ok(first)
 }
 
 // Writes a file anew, by one transaction each other time.
-fn add_round(writer: &mut Actor, supplies: &mut Supplies, round: u64) -> Result<()> {
-    let heap = supplies.heap;
-    let path = path_of(heap, supplies.random.below(FILES))?;
+fn add_round(writer: &mut Actor, room: &mut Room, round: u64) -> Result<()> {
+    let heap = room.heap;
+    let path = path_of(heap, room.random.below(FILES))?;
     let new = format!(in heap; "/home/user/.config/.new-{}", writer.pid.0)?;
-    let length = supplies.random.between(1024, 16_384) as usize;
-    let content = supplies.text(length);
+    let length = room.random.between(1024, 16_384) as usize;
+    let content = room.text(length);
     if round % 2 == 0 {
         writer.begin()?;
     }
@@ -46,27 +46,27 @@ fn add_round(writer: &mut Actor, supplies: &mut Supplies, round: u64) -> Result<
     Ok(())
 }
 
-fn add_reading(reader: &mut Actor, supplies: &mut Supplies) -> Result<()> {
-    let path = path_of(supplies.heap, supplies.random.below(FILES))?;
-    reader.open(supplies.heap, path.as_str(), OpenFlags::READ)?;
+fn add_reading(reader: &mut Actor, room: &mut Room) -> Result<()> {
+    let path = path_of(room.heap, room.random.below(FILES))?;
+    reader.open(room.heap, path.as_str(), OpenFlags::READ)?;
     reader.other(ids::Call::Fstat(ids::Fd(0)))?;
     reader.read(0, 2)?;
     reader.close(0)
 }
 
-fn actors_of(supplies: &mut Supplies, rounds: u64) -> Result<Vec<Actor, Heap>> {
-    let mut actors = Vec::new(supplies.heap);
+fn actors_of(room: &mut Room, rounds: u64) -> Result<Vec<Actor, Heap>> {
+    let mut actors = Vec::new(room.heap);
     for pid in 1..3u32 {
-        let mut writer = Actor::new(supplies.heap, pid);
+        let mut writer = Actor::new(room.heap, pid);
         for round in 0..rounds {
-            add_round(&mut writer, supplies, round)?;
+            add_round(&mut writer, room, round)?;
         }
         actors.push(writer)?;
     }
     for pid in 3..5u32 {
-        let mut reader = Actor::new(supplies.heap, pid);
+        let mut reader = Actor::new(room.heap, pid);
         for _ in 0..rounds {
-            add_reading(&mut reader, supplies)?;
+            add_reading(&mut reader, room)?;
         }
         actors.push(reader)?;
     }
@@ -74,11 +74,11 @@ fn actors_of(supplies: &mut Supplies, rounds: u64) -> Result<Vec<Actor, Heap>> {
 }
 
 /// A run of so many rounds.
-pub(crate) fn run(supplies: &mut Supplies, rounds: u64) -> Result<Kernel> {
-    let mut first = [setup(supplies)?];
-    let mut actors = actors_of(supplies, rounds.min(10_000))?;
-    let mut kernel = kernel_of(supplies.heap, 2, 2, 1_048_576)?;
-    drive(&mut kernel, supplies, &mut first)?;
-    drive(&mut kernel, supplies, actors.as_mut_slice())?;
+pub(crate) fn run(room: &mut Room, rounds: u64) -> Result<Kernel> {
+    let mut first = [setup(room)?];
+    let mut actors = actors_of(room, rounds.min(10_000))?;
+    let mut kernel = kernel_of(room.heap, 2, 2, 1_048_576)?;
+    drive(&mut kernel, room, &mut first)?;
+    drive(&mut kernel, room, actors.as_mut_slice())?;
     Ok(kernel)
 }
