@@ -3,3 +3,4 @@ mod First
 mod Answering
 mod Telling
 mod Ending
+mod Ordering

@@ -20,7 +20,7 @@ use Rattle.mounted.specs.Found.{and_then, found_or, stepper_at, stepper_by, step
 use Rattle.mounted.specs.Numbers.{class_of, view_of}
 use Rattle.mounted.specs.Requests.{IsAnswered}
 use Rattle.mounted.specs.Processes.{IsLackingBy, IsReadyBy}
-use Rattle.mounted.specs.Served.{IsChosen, IsLacking, IsReady, IsToldOf, Lacking, Ready, ServesAt, ServesBy, ServesIn, ServesPlain, ServesTree, ServesView, chosen, is_of_node}
+use Rattle.mounted.specs.Served.{IsChosen, IsLacking, IsNoted, IsReady, IsToldOf, Lacking, Ready, ServesAt, ServesBy, ServesIn, ServesPlain, ServesTree, ServesView, chosen, is_of_node}
 use Rattle.mounted.specs.Served as served
 use Rattle.mounted.specs.Steppers.{IsStepper, StaysInView, is_release}
 use Rattle.mounted.specs.declared.numbers.Class.TheVariants.{Tree}
@@ -92,6 +92,14 @@ pub serves_view : (t later : Tables) (node : ℕ) (operation : Operation) (s : S
 serves_view t later node operation s old new r h is served =
     subst (λ (z : Result Stepper Fault). ServesBy z t later node operation old new r) h
     (subst (λ (b : Bool). ServesIn b t later s node operation old new r) (sym is) served)
+
+-- the process of a view served it, and what that came to was noted
+pub serves_in : (t served later : Tables) (view node : ℕ) {pid process : ℕ} (operation : Operation) {old before : Shown} {h k : Held} (r : Result Reply Fault) → process ≡ pid → before ≡ old → k ≡ h → IsAnswered t served process node operation before h.shown r → IsNoted served later view r → ServesView t later view pid node operation old k.shown r
+serves_in t served later view node {pid} operation {old} {h = h} r a b same answers noted = record {
+  served = served;
+  answers = subst (λ (x : Held). IsAnswered t served pid node operation old x.shown r) (sym same) (answered_as t served node operation h.shown r a b answers);
+  noted = noted;
+}
 
 -- ---- processes
 

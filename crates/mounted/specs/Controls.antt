@@ -48,7 +48,8 @@ control_of name =
 
 -- the priority that a name asks for by its end, which is a point, a p and a digit up to 7
 abbrev pub level_by : List ℕ → ℕ
-level_by (46 ∷ 112 ∷ digit ∷ []) = if nat_lt 47 digit && nat_lt digit 56 then digit - 48 else 0
+level_by (point ∷ letter ∷ digit ∷ []) =
+    if point == 46 && letter == 112 && nat_lt 47 digit && nat_lt digit 56 then digit - 48 else 0
 level_by _ = 0
 
 abbrev pub level_of : List ℕ → ℕ

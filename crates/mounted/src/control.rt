@@ -1,5 +1,5 @@
 // Requests about the file by which a transaction is ended.
-ghost use Rattle.std.specs.Prelude.{◌≡◌, drop, IfOk, take};
+ghost use Rattle.std.specs.Prelude.{◌≡◌, ◌-◌, ◌^◌, drop, IfOk, length, min, take};
 ghost use Rattle.course.specs.Course.{Ran};
 ghost use Rattle.course.specs.Hands.{bound};
 ghost use Rattle.mounted.specs.Controls.{IsEnded, Learns, Orders, ReadsBy, ServesControl, ShowsText};
@@ -66,6 +66,13 @@ fn obey_by<K: Machine>(hand: &mut Hand<K>, order: Order) -> Result<(), Fault>
         Order::End => end(hand),
         Order::Abort => give_up(hand),
     }
+}
+
+// How many bytes were written, as it is told.
+fn size_of(bytes: &[u8]) -> u32
+    ensures { result ≡ min (length bytes.now) (2 ^ 32 - 1) }
+{
+    u32::try_from(bytes.len()).unwrap_or(u32::MAX)
 }
 
 // So many bytes from an offset on.
@@ -197,7 +204,7 @@ impl<K: Machine> Server<K> {
     {
         let (pid, order) = self.tables.ordered(view, bytes.as_slice())?;
         self.obey(view, pid, order)?;
-        let size = u32::try_from(bytes.as_slice().len()).unwrap_or(u32::MAX);
+        let size = size_of(bytes.as_slice());
         Ok(Reply::Written { size })
     }
 

@@ -2,7 +2,7 @@
 ghost use Rattle.std.specs.Prelude.{◌≡◌, ◌≤◌, false, IfOk, None, option_map};
 ghost use Rattle.course.specs.Hands.{bound};
 ghost use Rattle.mounted.specs.Controls.{Begins, BeginsBy, GivesUp, IsFreed, Leaves, Removes};
-ghost use Rattle.mounted.specs.Controls.{ServesTransactions, ShowsNode, control_of, level_of};
+ghost use Rattle.mounted.specs.Controls.{ServesTransactions, ShowsNode, control_of, level_by, level_of};
 ghost use Rattle.mounted.specs.Controls.{level_planned, node_in};
 ghost use Rattle.mounted.specs.Views.{number_in, standing_in};
 
@@ -29,15 +29,27 @@ fn control_name(name: &[u8]) -> Option<&[u8]>
     }
 }
 
+// The priority that the last three bytes of a name ask for.
+fn level_by(end: &[u8]) -> u8
+    ensures value { result ≡ level_by end.now }
+    ensures within { result ≤ 7 }
+{
+    let [point, letter, digit] = end else {
+        return 0;
+    };
+    if *point == b'.' && *letter == b'p' && *digit >= b'0' && *digit <= b'7' {
+        *digit - b'0'
+    } else {
+        0
+    }
+}
+
 // The priority that a name asks for by its end.
 fn level_of(name: &[u8]) -> u8
     ensures value { result ≡ level_of name.now }
     ensures within { result ≤ 7 }
 {
-    match &name[name.len().saturating_sub(3)..] {
-        [b'.', b'p', digit @ b'0'..=b'7'] => *digit - b'0',
-        _ => 0,
-    }
+    level_by(&name[name.len().saturating_sub(3)..])
 }
 
 // The name of the file by which the transaction of this name is ended.
@@ -157,7 +169,7 @@ impl<K: Machine> Server<K> {
     // A process begins a transaction, and the view has this name. Where memory is refused for the
     // view, the transaction is given up.
     fn begin_by(&mut self, pid: Pid, level: u8, name: Vec<u8, Heap>) -> Result<u64, Fault>
-        ensures { BeginsBy self.new.tables.views name.items pid
+        ensures { BeginsBy self.new.tables.views name.entry.items pid
             self.old.hand.shown self.new.hand.shown result }
     {
         self.hand.bind(pid);

@@ -136,7 +136,7 @@ impl Views {
         pid: Pid,
         level: u8,
     ) -> Result<u64, AllocError>
-        ensures { IfOk result (λ number. IsView self.new number name.items pid) }
+        ensures { IfOk result (λ number. IsView self.new number name.entry.items pid) }
     {
         let number = self.next;
         let view = View {
