@@ -13,15 +13,15 @@ ghost use Rattle.call_laws.specs.Fits.{Fits, FitsAll};
 ghost use Rattle.freeing_laws.specs.Sweep.{AllFit};
 ghost use Rattle.commit.specs.Dooming.{with_dooms};
 ghost use Rattle.commit.specs.Edits.{AreNew, with_change};
-ghost use Rattle.commit.specs.Slots.{slot_view};
+ghost use Rattle.commit.specs.ProcessStates.{slot_view};
 ghost use Rattle.commit.specs.Standings.{IsStandingOf};
 ghost use Rattle.commit.specs.Views.{AreFirst, SameViews, Shows, causes_of, changes_in, gone_slot, idle_slot};
 ghost use Rattle.commit.specs.Views.{is_live_slot, is_within, live_slot, view_at};
 
-use crate::slot::{
-    Slot, Standing, Transaction, causes_in, doom_slot, drop_slot, shadow_in, shadow_of,
+use crate::process_state::{
+    ProcessState, Standing, Transaction, causes_in, doom_slot, drop_slot, shadow_in, shadow_of,
 };
-use crate::slots::{Slots, edit_slot, set_slot, take_slot};
+use crate::process_states::{ProcessStates, edit_slot, set_slot, take_slot};
 use contention::Doomed;
 use heap::Heap;
 use ids::{Age, BeginFlags, Cause, Edit, Nums, Pid, Priority};
@@ -33,7 +33,7 @@ use std::marker::Model;
 /// slot; the first slot is of no process.
 pub struct Transactions {
     heap: Heap,
-    slots: Slots,
+    slots: ProcessStates,
     stable: Stable,
 }
 
@@ -50,7 +50,7 @@ impl Drop for Transactions {
 
 impl Model for Transactions {
     ghost use Rattle.commit.specs.Claims.{AreCovered};
-    ghost use Rattle.commit.specs.Slots.{views};
+    ghost use Rattle.commit.specs.ProcessStates.{views};
     ghost use Rattle.commit.specs.Views.{Shown};
 
     ghost Value = { Shown };
@@ -78,7 +78,7 @@ impl Transactions {
         ensures state { IfOk result (λ t. t.stable.state
             ≡ start 0 (record { priorities = priorities.now; largest = largest })) }
     {
-        let slots = Slots::first(heap, priorities.len())?;
+        let slots = ProcessStates::first(heap, priorities.len())?;
         let stable = Stable::new(heap, priorities, largest)?;
         Ok(Transactions {
             heap,
@@ -139,7 +139,7 @@ impl Transactions {
         ensures state { self.new.stable.state ≡ self.old.stable.state }
     {
         let shadow = Shadow::new(self.heap);
-        self.set(pid, Slot::Live(Transaction { flags, age, shadow }));
+        self.set(pid, ProcessState::Live(Transaction { flags, age, shadow }));
     }
 
     /// A process's transaction is gone. What was kept for its changes is given back.
@@ -148,11 +148,11 @@ impl Transactions {
         ensures slots { Shows self.old.slots self.new.slots pid idle_slot }
         ensures state { self.new.stable.state ≡ self.old.stable.state }
     {
-        self.set(pid, Slot::Idle);
+        self.set(pid, ProcessState::Idle);
     }
 
     // Puts a slot without changes in the place of the one before.
-    fn set(&mut self, pid: Pid, slot: Slot)
+    fn set(&mut self, pid: Pid, slot: ProcessState)
         requires made { pid < length self.old.slots }
         requires empty { changes_in (slot_view slot) ≡ [] }
         ensures slots { Shows self.old.slots self.new.slots pid (slot_view slot) }
@@ -271,7 +271,7 @@ impl Transactions {
         ensures state { (pipes : List ℕ) → self.new.stable.state
             ≡ tidy (applied [] (End_process pid pipes) self.old.stable.state) }
     {
-        set_slot(&mut self.slots, pid, Slot::Gone);
+        set_slot(&mut self.slots, pid, ProcessState::Gone);
         self.stable.exit(pid);
     }
 }

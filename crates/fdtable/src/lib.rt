@@ -11,7 +11,7 @@ mod patch;
 
 use heap::Heap;
 use ids::{DESCRIPTORS, Fd, Num};
-pub use patch::Patch;
+pub use patch::SlotPatch;
 use std::alloc::AllocError;
 use std::marker::Model;
 

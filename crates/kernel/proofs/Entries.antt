@@ -32,8 +32,8 @@ use Rattle.model.specs.Entries.{Refuses}
 use Rattle.model.specs.Legal.{unsupported}
 use Rattle.kernel.proofs.Words.{Executed, Inside, is_inside}
 use Rattle.commit.specs.Standings.{IsStandingOf}
-use Rattle.commit.specs.declared.slot.Standing.{Standing}
-use Rattle.commit.specs.declared.slot.Standing.TheVariants.{Gone, Idle, Live, Doomed as Is_doomed}
+use Rattle.commit.specs.declared.process_state.Standing.{Standing}
+use Rattle.commit.specs.declared.process_state.Standing.TheVariants.{Gone, Idle, Live, Doomed as Is_doomed}
 use Rattle.std.proofs.lemmas.List.Sums.{count_by_more_yes, count_by_more_no}
 
 abbrev pub pids : List Doomed → List ℕ

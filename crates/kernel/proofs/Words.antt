@@ -44,4 +44,4 @@ pub use Rattle.kernel.specs.States.{Asks, CanEnter, CanEndTransaction, Does, Doo
 pub use Rattle.kernel.specs.States.{changes_of, cleared, doomed_by, fields, part_at, part_of, part_with, plain, settled_as, shown, shown_by, state_with}
 pub use Rattle.kernel.specs.States.{Born, Calls, CanChange, ends_process, first_is, makes_process, no_part, part_after, with_born, with_child}
 pub use Rattle.machine.specs.Steps.{Added, Steps, has_place, is_no_entry, with_entry}
-pub use Rattle.commit.specs.declared.slot.Standing.TheVariants.{Idle, Live}
+pub use Rattle.commit.specs.declared.process_state.Standing.TheVariants.{Idle, Live}

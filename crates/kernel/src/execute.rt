@@ -106,14 +106,14 @@ fn judged(s: &State, pid: Pid, within: &Within, call: &Call) -> Result<(Plan, Ve
 fn makes_process(edits: &[Edit]) -> bool
     ensures { result ≡ first_is makes_process edits.now }
 {
-    matches!(edits.first(), Some(Edit::NewProcess(_, _, _)))
+    matches!(edits.first(), Some(Edit::NewProcess { .. }))
 }
 
 /// Whether a call's edits end a process.
 fn ends_process(edits: &[Edit]) -> bool
     ensures { result ≡ first_is ends_process edits.now }
 {
-    matches!(edits.first(), Some(Edit::EndProcess(_, _)))
+    matches!(edits.first(), Some(Edit::EndProcess { .. }))
 }
 
 /// A process in no transaction makes a child, which is in none. Refused memory makes no child.

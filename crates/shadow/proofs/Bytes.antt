@@ -15,7 +15,7 @@ use Rattle.store.specs.Shown.{inodes, descriptions, inode_of}
 use Rattle.store.specs.declared.OpenFile.{OpenFile}
 use Rattle.store.specs.declared.Place.{Place}
 use Rattle.store.specs.declared.Stage.{Stage}
-use Rattle.store.specs.declared.Stage.TheVariants.{Coming, Held, Lost}
+use Rattle.store.specs.declared.Stage.TheVariants.{Coming, Held, Removed}
 use Rattle.store.specs.declared.Object.{Object}
 use Rattle.store.specs.declared.Object.TheVariants.{Directory as Kept_directory, File as Kept_file, Pipe as Kept_pipe, Description as Kept_description, Nothing}
 use Rattle.store.proofs.Laws.{altered-alike, altered-twice, descriptions-filed, get-inodes, inodes-swapped, insert-held, left-altered}
@@ -48,7 +48,7 @@ former_is s n content there former = get-inodes s n ∙ by_place (get s.places n
     by_stage : (t : Stage) (object : Object) → IsSome (option_and_then stored_file (if_held t object)) → option_map (λ (f : OpenFile). f.bytes) (stored_file object) ≡ Some content
         → option_and_then inode_of (if_held t object) ≡ Some (File content.bytes)
     by_stage Coming object there former = absurd cc
-    by_stage Lost object there former = absurd cc
+    by_stage Removed object there former = absurd cc
     by_stage Held (Kept_directory l) there former = absurd cc
     by_stage Held (Kept_file file) there former = ap (mapped (λ (b : FileContent). File b.bytes)) former
     by_stage Held (Kept_pipe pipe) there former = absurd cc
@@ -96,7 +96,7 @@ module _ (ps : Processes) (s : Numbers) (n : ℕ) (b : FileContent) (sound : Sou
     where
       files : (t : Stage) (object : Object) → openings_seen (if_held t (changed_file (with_bytes b) object)) ≡ openings_seen (if_held t object)
       files Coming object = refl
-      files Lost object = refl
+      files Removed object = refl
       files Held (Kept_directory l) = refl
       files Held (Kept_file file) = refl
       files Held (Kept_pipe pipe) = refl
@@ -105,7 +105,7 @@ module _ (ps : Processes) (s : Numbers) (n : ℕ) (b : FileContent) (sound : Sou
 
       held_by : (t : Stage) (object : Object) → holders_seen (if_held t (changed_file (with_bytes b) object)) ≡ holders_seen (if_held t object)
       held_by Coming object = refl
-      held_by Lost object = refl
+      held_by Removed object = refl
       held_by Held (Kept_directory l) = refl
       held_by Held (Kept_file file) = refl
       held_by Held (Kept_pipe pipe) = refl

@@ -14,7 +14,7 @@ use Rattle.store.specs.Numbers.{Numbers, present}
 use Rattle.store.specs.Places.{altered, installed, is_shown, listing_at, listing_in, may_be_named, may_be_named_by, shown_stage, with_listing}
 use Rattle.store.specs.declared.Place.{Place}
 use Rattle.store.specs.declared.Stage.{Stage}
-use Rattle.store.specs.declared.Stage.TheVariants.{Coming, Held, Lost}
+use Rattle.store.specs.declared.Stage.TheVariants.{Coming, Held, Removed}
 use Rattle.store.specs.declared.Object.TheVariants.{Directory as A_directory}
 use Rattle.store.proofs.Laws.{MayBeNamed, altered-alike, altered-same, left-altered, place-altered, place-other}
 use Rattle.shadow.specs.declared.change.InodeChange.{InodeChange}
@@ -32,7 +32,7 @@ made_named true place = by_stage place.stage
     by_stage : (t : Stage) → may_be_named_by (shown_stage t) ≡ may_be_named_by t
     by_stage Coming = refl
     by_stage Held = refl
-    by_stage Lost = refl
+    by_stage Removed = refl
 
 -- the numbers that are given may be named where the same numbers may be
 pub numbers_stay : (s t : Numbers) → ((m : ℕ) → may_be_named (get s.places m) ≡ true → may_be_named (get t.places m) ≡ true) → (gs : List (Name × Option ℕ)) → MayBeNamed s gs → MayBeNamed t gs

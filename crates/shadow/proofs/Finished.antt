@@ -18,7 +18,7 @@ use Rattle.store.specs.Numbers.{Numbers, coming}
 use Rattle.store.specs.Shown.{description_in, descriptions, inode_in, inodes}
 use Rattle.store.specs.declared.Place.{Place}
 use Rattle.store.specs.declared.Stage.{Stage}
-use Rattle.store.specs.declared.Stage.TheVariants.{Coming, Held, Lost}
+use Rattle.store.specs.declared.Stage.TheVariants.{Coming, Held, Removed}
 use Rattle.store.specs.declared.Object.{Object}
 use Rattle.store.specs.declared.Object.TheVariants.{Directory as Kept_directory}
 use Rattle.store.specs.declared.Object.TheVariants.{File as Kept_file, Pipe as Kept_pipe}
@@ -48,7 +48,7 @@ comes_unopened (Some place) d some = by_stage place.stage place.object some
         → description_in (record { stage = t; object = object }) ≡ None
     by_stage Coming object some = refl
     by_stage Held object some = absurd (omega arith)
-    by_stage Lost object some = absurd (omega arith)
+    by_stage Removed object some = absurd (omega arith)
 
 no_inode : (o : Option Place) → option_and_then description_in o ≢ None
     → option_and_then inode_in o ≡ None
@@ -59,7 +59,7 @@ no_inode (Some place) there = by_stage place.stage place.object there
         → description_in (record { stage = t; object = object }) ≢ None
         → inode_in (record { stage = t; object = object }) ≡ None
     by_stage Coming object there = refl
-    by_stage Lost object there = refl
+    by_stage Removed object there = refl
     by_stage Held (Kept_directory listing) there = absurd (there refl)
     by_stage Held (Kept_file file) there = absurd (there refl)
     by_stage Held (Kept_pipe pipe) there = absurd (there refl)

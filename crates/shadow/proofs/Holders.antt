@@ -10,7 +10,7 @@ use Rattle.store.specs.Places.{holders_at, holders_of, opened_in, opened_of}
 use Rattle.store.specs.Shown.{description_of, descriptions}
 use Rattle.store.specs.declared.Place.{Place}
 use Rattle.store.specs.declared.Stage.{Stage}
-use Rattle.store.specs.declared.Stage.TheVariants.{Coming, Held, Lost}
+use Rattle.store.specs.declared.Stage.TheVariants.{Coming, Held, Removed}
 use Rattle.store.specs.declared.Object.{Object}
 use Rattle.store.specs.declared.Object.TheVariants.{Directory as Kept_directory, File as Kept_file, Pipe as Kept_pipe, Description as Kept_description, Nothing}
 use Rattle.store.proofs.Laws.{get-descriptions}
@@ -38,7 +38,7 @@ module _ (ps : Processes) (s : Numbers) (sound : Sound ps s) (d : ℕ) where
   not_coming (Kept_description opened) fits = absurd fits
   not_coming Nothing fits = refl
 
-  not_lost : (object : Object) → FitsStage Lost object → holders_of (opened_of object) ≡ 0
+  not_lost : (object : Object) → FitsStage Removed object → holders_of (opened_of object) ≡ 0
   not_lost (Kept_directory listing) fits = refl
   not_lost (Kept_file file) fits = refl
   not_lost (Kept_pipe pipe) fits = refl
@@ -48,7 +48,7 @@ module _ (ps : Processes) (s : Numbers) (sound : Sound ps s) (d : ℕ) where
   by_stage : (t : Stage) (object : Object) → get s.places d ≡ Some (record { stage = t; object = object }) → FitsStage t object → holders_of (opened_of object) ≡ holders (state_of ps s) d
   by_stage Held object is fits = by_object object (ap held is)
   by_stage Coming object is fits = not_coming object fits ∙ sym (none_held (get-descriptions s d ∙ ap (λ o. option_and_then description_of (held o)) is))
-  by_stage Lost object is fits = not_lost object fits ∙ sym (none_held (get-descriptions s d ∙ ap (λ o. option_and_then description_of (held o)) is))
+  by_stage Removed object is fits = not_lost object fits ∙ sym (none_held (get-descriptions s d ∙ ap (λ o. option_and_then description_of (held o)) is))
 
   by_place : (o : Option Place) → get s.places d ≡ o → IsStaged o → holders_of (opened_in o) ≡ holders (state_of ps s) d
   by_place None is staged = sym (none_held (get-descriptions s d ∙ ap (λ o. option_and_then description_of (held o)) is))

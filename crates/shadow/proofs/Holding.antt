@@ -12,7 +12,7 @@ use Rattle.store.specs.declared.OpenFile.{OpenFile}
 use Rattle.store.specs.declared.Opened.{Opened}
 use Rattle.store.specs.declared.Place.{Place}
 use Rattle.store.specs.declared.Stage.{Stage}
-use Rattle.store.specs.declared.Stage.TheVariants.{Coming, Held, Lost}
+use Rattle.store.specs.declared.Stage.TheVariants.{Coming, Held, Removed}
 use Rattle.store.specs.declared.Object.{Object}
 use Rattle.store.specs.declared.Object.TheVariants.{Directory as A_directory, File as A_file, Pipe as A_pipe, Description as A_description, Nothing}
 use Rattle.store.proofs.Laws.{descriptions-opened, get-chosen, inodes-opened, left-altered, place-altered, place-other}
@@ -44,7 +44,7 @@ shown_count (Some place) opened is = by_stage place.stage place.object is
   where
     by_stage : (t : Stage) (object : Object) → if_held t object ≡ Some (A_description opened) → holders_of (opened_in (Some (record { stage = t; object = object }))) ≡ opened.holders
     by_stage Coming object is = absurd cc
-    by_stage Lost object is = absurd cc
+    by_stage Removed object is = absurd cc
     by_stage Held (A_description it) is = ap (λ o. (opened_or it o).holders) is
     by_stage Held (A_directory listing) is = absurd cc
     by_stage Held (A_file file) is = absurd cc
@@ -75,7 +75,7 @@ module _ (g : Opened → Opened) where
       by_stage t Nothing h = h
       by_stage Coming (A_description opened) h = h
       by_stage Held (A_description opened) h = λ is. absurd cc
-      by_stage Lost (A_description opened) h = h
+      by_stage Removed (A_description opened) h = h
 
   reserve_opened : (place : Place) → reserve_in (with_opened g place) ≡ reserve_in place
   reserve_opened place = by_object place.object
@@ -92,7 +92,7 @@ module _ (g : Opened → Opened) where
     where
       by_stage : (t : Stage) (object : Object) → shown_file (if_held t (changed_opened g object)) ≡ shown_file (if_held t object)
       by_stage Coming object = refl
-      by_stage Lost object = refl
+      by_stage Removed object = refl
       by_stage Held (A_directory listing) = refl
       by_stage Held (A_file file) = refl
       by_stage Held (A_pipe pipe) = refl
@@ -111,7 +111,7 @@ module _ (g : Opened → Opened) where
     where
       by_stage : (t : Stage) (object : Object) → if_held t (changed_opened g object) ≡ Some (A_description opened) → Before (Some (record { stage = t; object = object })) opened
       by_stage Coming object is = absurd cc
-      by_stage Lost object is = absurd cc
+      by_stage Removed object is = absurd cc
       by_stage Held (A_description it) is = record { before = it; held = refl; is = sym (ap (opened_or (g it)) is) }
       by_stage Held (A_directory listing) is = absurd cc
       by_stage Held (A_file file) is = absurd cc

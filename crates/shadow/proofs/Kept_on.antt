@@ -10,7 +10,7 @@ use Rattle.store.specs.declared.OpenFile.{OpenFile}
 use Rattle.store.specs.declared.Opened.{Opened}
 use Rattle.store.specs.declared.Place.{Place}
 use Rattle.store.specs.declared.Stage.{Stage}
-use Rattle.store.specs.declared.Stage.TheVariants.{Coming, Held, Lost}
+use Rattle.store.specs.declared.Stage.TheVariants.{Coming, Held, Removed}
 use Rattle.store.specs.declared.Object.{Object}
 use Rattle.store.specs.declared.Object.TheVariants.{Directory as Kept_directory, File as Kept_file, Pipe as Kept_pipe, Description as Kept_description, Nothing}
 use Rattle.store.proofs.Laws.{get-chosen, get-inodes, get-descriptions, left-altered, place-altered, place-other, place-over, place-swept-other, swept-stays, without_place}
@@ -93,7 +93,7 @@ no_place (Room r) = refl
 no_place (New_directory m) = refl
 no_place (Number m) = refl
 
-no_room : (object : Object) → has_room (listing_of object) ≡ false → kept_by (Room 0) (Some (record { stage = Lost; object = object })) ≡ 0
+no_room : (object : Object) → has_room (listing_of object) ≡ false → kept_by (Room 0) (Some (record { stage = Removed; object = object })) ≡ 0
 no_room (Kept_directory l) e = let low : l.promised ≤ 0 = ltb-false 0 l.promised e in omega arith
 no_room (Kept_file file) e = refl
 no_room (Kept_pipe pipe) e = refl
@@ -107,22 +107,22 @@ over_keeps_none (Some place) c over = by_stage place.stage place.object c over
     by_stage : (t : Stage) (object : Object) (c : Claim) → is_over_by t (has_room (listing_of object)) ≡ true → kept_by c (Some (record { stage = t; object = object })) ≡ 0
     by_stage Coming object c over = absurd cc
     by_stage Held object c over = absurd cc
-    by_stage Lost object (Room r) over = no_room object (not_true (has_room (listing_of object)) over)
-    by_stage Lost object (New_directory m) over = refl
-    by_stage Lost object (Number m) over = refl
+    by_stage Removed object (Room r) over = no_room object (not_true (has_room (listing_of object)) over)
+    by_stage Removed object (New_directory m) over = refl
+    by_stage Removed object (Number m) over = refl
 
 hidden_keeps : (o : Option Place) (c : Claim) → is_coming o ≡ false → kept_by c (option_map hidden o) ≡ kept_by c o
 hidden_keeps None c settled = refl
 hidden_keeps (Some place) c settled = by_stage place.stage place.object c settled
   where
-    by_stage : (t : Stage) (object : Object) (c : Claim) → is_coming_by t ≡ false → kept_by c (Some (record { stage = Lost; object = object })) ≡ kept_by c (Some (record { stage = t; object = object }))
+    by_stage : (t : Stage) (object : Object) (c : Claim) → is_coming_by t ≡ false → kept_by c (Some (record { stage = Removed; object = object })) ≡ kept_by c (Some (record { stage = t; object = object }))
     by_stage Coming object c settled = absurd cc
     by_stage Held object (Room r) settled = refl
     by_stage Held object (New_directory m) settled = refl
     by_stage Held object (Number m) settled = refl
-    by_stage Lost object (Room r) settled = refl
-    by_stage Lost object (New_directory m) settled = refl
-    by_stage Lost object (Number m) settled = refl
+    by_stage Removed object (Room r) settled = refl
+    by_stage Removed object (New_directory m) settled = refl
+    by_stage Removed object (Number m) settled = refl
 
 -- what is not to come is lost with what is kept left as it is
 pub lost_keeps : (s : Numbers) (n : ℕ) → is_coming (get s.places n) ≡ false → (c : Claim) → kept_in (lost s n) c ≡ kept_in s c
@@ -146,7 +146,7 @@ shown_settled (Some place) there = by_stage place.stage place.object there
   where
     by_stage : (t : Stage) (object : Object) → if_held t object ≢ None → is_coming_by t ≡ false
     by_stage Held object there = refl
-    by_stage Lost object there = refl
+    by_stage Removed object there = refl
     by_stage Coming object there = absurd (there refl)
 
 pub inode_settled : (s : Numbers) (n : ℕ) → get (inodes s) n ≢ None → is_coming (get s.places n) ≡ false
@@ -172,7 +172,7 @@ file_fits : (f : OpenFile → OpenFile) (t : Stage) (object : Object) → FitsSt
 file_fits f t (Kept_directory l) fits = fits
 file_fits f Coming (Kept_file file) fits = absurd fits
 file_fits f Held (Kept_file file) fits = λ e. cc
-file_fits f Lost (Kept_file file) fits = absurd cc
+file_fits f Removed (Kept_file file) fits = absurd cc
 file_fits f t (Kept_pipe pipe) fits = fits
 file_fits f t (Kept_description opened) fits = fits
 file_fits f t Nothing fits = fits
@@ -183,7 +183,7 @@ opened_fits f t (Kept_file file) fits = fits
 opened_fits f t (Kept_pipe pipe) fits = fits
 opened_fits f Coming (Kept_description opened) fits = absurd fits
 opened_fits f Held (Kept_description opened) fits = λ e. cc
-opened_fits f Lost (Kept_description opened) fits = absurd cc
+opened_fits f Removed (Kept_description opened) fits = absurd cc
 opened_fits f t Nothing fits = fits
 
 -- a change of one place that leaves it staged

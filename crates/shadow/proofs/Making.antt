@@ -21,7 +21,7 @@ use Rattle.store.specs.Places.{altered, installed, is_coming, listing_at, may_be
 use Rattle.store.specs.Shown.{descriptions, description_of, inodes, inode_of}
 use Rattle.store.specs.declared.Place.{Place}
 use Rattle.store.specs.declared.Stage.{Stage}
-use Rattle.store.specs.declared.Stage.TheVariants.{Coming, Held, Lost}
+use Rattle.store.specs.declared.Stage.TheVariants.{Coming, Held, Removed}
 use Rattle.store.specs.declared.Object.{Object}
 use Rattle.store.specs.declared.Object.TheVariants.{Directory as Kept_directory, File as Kept_file, Pipe as Kept_pipe, Description as Kept_description, Nothing}
 use Rattle.store.proofs.Laws.{altered-some, descriptions-set, get-inodes, inodes-set, remove-absent, with_place}
@@ -121,7 +121,7 @@ directory_to_come (Some place) n h = by_stage place.stage place.object h
     by_stage Coming (Kept_description opened) h = absurd (omega arith)
     by_stage Coming Nothing h = absurd (omega arith)
     by_stage Held object h = absurd (omega arith)
-    by_stage Lost object h = absurd (omega arith)
+    by_stage Removed object h = absurd (omega arith)
 
 pub other_to_come : (o : Option Place) (n : ℕ) → IsStaged o → 0 < kept_by (Number n) o → o ≡ Some (coming Nothing)
 other_to_come None n fits h = absurd (omega arith)
@@ -134,7 +134,7 @@ other_to_come (Some place) n fits h = by_stage place.stage place.object fits h
     by_stage Coming (Kept_description opened) fits h = absurd fits
     by_stage Coming Nothing fits h = refl
     by_stage Held object fits h = absurd (omega arith)
-    by_stage Lost object fits h = absurd (omega arith)
+    by_stage Removed object fits h = absurd (omega arith)
 
 -- a directory that is shown
 pub held_directory : (s : Numbers) (d : ℕ) → mapped kind (get (inodes s) d) ≡ Some A_directory → (l : Listing) × (get s.places d ≡ Some (present (Kept_directory l)))
@@ -147,7 +147,7 @@ held_directory s d is = by_place (get s.places d) (sym (ap (mapped kind) (get-in
     by_stage Held (Kept_description opened) is = absurd cc
     by_stage Held Nothing is = absurd cc
     by_stage Coming object is = absurd cc
-    by_stage Lost object is = absurd cc
+    by_stage Removed object is = absurd cc
 
     by_place : (o : Option Place) → mapped kind (option_and_then inode_of (held o)) ≡ Some A_directory → (l : Listing) × (o ≡ Some (present (Kept_directory l)))
     by_place None is = absurd cc

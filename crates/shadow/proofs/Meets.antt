@@ -10,7 +10,7 @@ use Rattle.store.specs.Numbers.{IsFirstRoot, Numbers, coming, no_names, present}
 use Rattle.store.specs.Places.{altered, hidden, is_over, is_over_by, has_room, listing_of, changed_object, with_listing, more_room, swept}
 use Rattle.store.specs.declared.Place.{Place}
 use Rattle.store.specs.declared.Stage.{Stage}
-use Rattle.store.specs.declared.Stage.TheVariants.{Coming, Held, Lost}
+use Rattle.store.specs.declared.Stage.TheVariants.{Coming, Held, Removed}
 use Rattle.store.specs.declared.Object.{Object}
 use Rattle.store.specs.declared.Object.TheVariants.{Directory as Kept_directory, File as Kept_file, Pipe as Kept_pipe, Description as Kept_description, Nothing}
 use Rattle.shadow.specs.Claims.{Claim, Room, New_directory, Number, number_of, reserved, IsDirectory, room_in, number_as, new_number, or_zero, room_of, coming_directory, coming_other, as_count}
@@ -152,12 +152,12 @@ hides_coming b s n some c = altered_less hidden s n c (number_as b n c) (no_numb
     by_object Nothing false some (Number m) same = let one : number_as false n (Number m) ≡ 1 = other_here false n m same in omega arith
 
     by_stage : (t : Stage) (object : Object) (b : Bool) → IsAwaited b n (Some (record { stage = t; object = object })) → (c : Claim) → number_of c ≡ n
-        → at_place c (Some (record { stage = Lost; object = object })) + number_as b n c ≡ at_place c (Some (record { stage = t; object = object }))
+        → at_place c (Some (record { stage = Removed; object = object })) + number_as b n c ≡ at_place c (Some (record { stage = t; object = object }))
     by_stage Coming object b some c same = by_object object b some c same
     by_stage Held object true some c same = absurd (omega arith)
     by_stage Held object false some c same = absurd (omega arith)
-    by_stage Lost object true some c same = absurd (omega arith)
-    by_stage Lost object false some c same = absurd (omega arith)
+    by_stage Removed object true some c same = absurd (omega arith)
+    by_stage Removed object false some c same = absurd (omega arith)
 
     by_place : (o : Option Place) (b : Bool) → IsAwaited b n o → (c : Claim) → number_of c ≡ n → at_place c (option_map hidden o) + number_as b n c ≡ at_place c o
     by_place None true some c same = absurd (omega arith)
@@ -165,7 +165,7 @@ hides_coming b s n some c = altered_less hidden s n c (number_as b n c) (no_numb
     by_place (Some place) b some c same = by_stage place.stage place.object b some c same
 
 -- a sweep takes nothing that is claimed
-no_room : (object : Object) → has_room (listing_of object) ≡ false → at_place (Room 0) (Some (record { stage = Lost; object = object })) ≡ 0
+no_room : (object : Object) → has_room (listing_of object) ≡ false → at_place (Room 0) (Some (record { stage = Removed; object = object })) ≡ 0
 no_room (Kept_directory l) e = let low : l.promised ≤ 0 = ltb-false 0 l.promised e in omega arith
 no_room (Kept_file file) e = refl
 no_room (Kept_pipe pipe) e = refl
@@ -185,9 +185,9 @@ over_meets_none (Some place) c over = by_stage place.stage place.object c over
     by_stage : (t : Stage) (object : Object) (c : Claim) → is_over_by t (has_room (listing_of object)) ≡ true → at_place c (Some (record { stage = t; object = object })) ≡ 0
     by_stage Coming object c over = absurd cc
     by_stage Held object c over = absurd cc
-    by_stage Lost object (Room r) over = no_room object (not_true (has_room (listing_of object)) over)
-    by_stage Lost object (New_directory m) over = refl
-    by_stage Lost object (Number m) over = refl
+    by_stage Removed object (Room r) over = no_room object (not_true (has_room (listing_of object)) over)
+    by_stage Removed object (New_directory m) over = refl
+    by_stage Removed object (Number m) over = refl
 
 none_meets_none : (c : Claim) → at_place c None ≡ 0
 none_meets_none (Room r) = refl

@@ -13,7 +13,7 @@ use Rattle.store.specs.Shown.{descriptions, inodes, with_offset, with_offset_by}
 use Rattle.store.specs.declared.Opened.{Opened}
 use Rattle.store.specs.declared.Place.{Place}
 use Rattle.store.specs.declared.Stage.{Stage}
-use Rattle.store.specs.declared.Stage.TheVariants.{Coming, Held, Lost}
+use Rattle.store.specs.declared.Stage.TheVariants.{Coming, Held, Removed}
 use Rattle.store.specs.declared.Object.{Object}
 use Rattle.store.specs.declared.Object.TheVariants.{Directory as A_directory, File as A_file, Pipe as A_pipe}
 use Rattle.store.specs.declared.Object.TheVariants.{Description as A_description, Nothing}
@@ -49,7 +49,7 @@ module _ (f : Opened → Opened) where
           → openings_seen (held (Some (record { stage = t; object = changed_opened f object })))
           ≡ openings_seen (held (Some (record { stage = t; object = object })))
       by_stage Coming object = refl
-      by_stage Lost object = refl
+      by_stage Removed object = refl
       by_stage Held (A_directory listing) = refl
       by_stage Held (A_file file) = refl
       by_stage Held (A_pipe pipe) = refl
@@ -65,7 +65,7 @@ module _ (f : Opened → Opened) where
           → holders_seen (held (Some (record { stage = t; object = changed_opened f object })))
           ≡ holders_seen (held (Some (record { stage = t; object = object })))
       by_stage Coming object = refl
-      by_stage Lost object = refl
+      by_stage Removed object = refl
       by_stage Held (A_directory listing) = refl
       by_stage Held (A_file file) = refl
       by_stage Held (A_pipe pipe) = refl

@@ -17,7 +17,7 @@ use Rattle.store.specs.declared.Opened.{Opened}
 use Rattle.store.specs.declared.OpenPipe.{OpenPipe}
 use Rattle.store.specs.declared.Place.{Place}
 use Rattle.store.specs.declared.Stage.{Stage}
-use Rattle.store.specs.declared.Stage.TheVariants.{Coming, Held, Lost}
+use Rattle.store.specs.declared.Stage.TheVariants.{Coming, Held, Removed}
 use Rattle.store.specs.declared.Object.{Object}
 use Rattle.store.specs.declared.Object.TheVariants.{Directory as Kept_directory, File as Kept_file, Pipe as Kept_pipe, Description as Kept_description, Nothing}
 use Rattle.store.proofs.Laws.{left-altered}
@@ -105,7 +105,7 @@ pipe_by_file g place = by_stage place.stage place.object
   where
     by_stage : (t : Stage) (object : Object) → shown_pipe (if_held t (changed_file g object)) ≡ shown_pipe (if_held t object)
     by_stage Coming object = refl
-    by_stage Lost object = refl
+    by_stage Removed object = refl
     by_stage Held (Kept_directory listing) = refl
     by_stage Held (Kept_file file) = refl
     by_stage Held (Kept_pipe pipe) = refl
@@ -117,7 +117,7 @@ pipe_by_opened g place = by_stage place.stage place.object
   where
     by_stage : (t : Stage) (object : Object) → shown_pipe (if_held t (changed_opened g object)) ≡ shown_pipe (if_held t object)
     by_stage Coming object = refl
-    by_stage Lost object = refl
+    by_stage Removed object = refl
     by_stage Held (Kept_directory listing) = refl
     by_stage Held (Kept_file file) = refl
     by_stage Held (Kept_pipe pipe) = refl
@@ -130,7 +130,7 @@ ends_by_pipe g same place = by_stage place.stage place.object
   where
     by_stage : (t : Stage) (object : Object) → ends_seen (if_held t (changed_pipe g object)) ≡ ends_seen (if_held t object)
     by_stage Coming object = refl
-    by_stage Lost object = refl
+    by_stage Removed object = refl
     by_stage Held (Kept_directory listing) = refl
     by_stage Held (Kept_file file) = refl
     by_stage Held (Kept_pipe pipe) = ap (λ e. Some e) (same pipe)

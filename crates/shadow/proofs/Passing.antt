@@ -14,7 +14,7 @@ use Rattle.store.specs.Places.{IsRoomy, altered, changed_pipe, passed, pipe_of a
 use Rattle.store.specs.Shown.{descriptions, inode_of, inodes}
 use Rattle.store.specs.declared.OpenPipe.{OpenPipe}
 use Rattle.store.specs.declared.Stage.{Stage}
-use Rattle.store.specs.declared.Stage.TheVariants.{Coming, Held, Lost}
+use Rattle.store.specs.declared.Stage.TheVariants.{Coming, Held, Removed}
 use Rattle.store.specs.declared.Object.{Object}
 use Rattle.store.specs.declared.Object.TheVariants.{Directory as Kept_directory, File as Kept_file, Pipe as Kept_pipe, Description as Kept_description, Nothing}
 use Rattle.store.proofs.Laws.{get-inodes, left-altered}
@@ -69,7 +69,7 @@ module _ (f : OpenPipe → OpenPipe) where
   pipe_fits t (Kept_file file) fits = fits
   pipe_fits Coming (Kept_pipe pipe) fits = absurd fits
   pipe_fits Held (Kept_pipe pipe) fits = λ e. cc
-  pipe_fits Lost (Kept_pipe pipe) fits = absurd cc
+  pipe_fits Removed (Kept_pipe pipe) fits = absurd cc
   pipe_fits t (Kept_description opened) fits = fits
   pipe_fits t Nothing fits = fits
 
@@ -78,7 +78,7 @@ module _ (f : OpenPipe → OpenPipe) where
 
   files : (t : Stage) (object : Object) → openings_seen (if_held t (changed_pipe f object)) ≡ openings_seen (if_held t object)
   files Coming object = refl
-  files Lost object = refl
+  files Removed object = refl
   files Held (Kept_directory l) = refl
   files Held (Kept_file file) = refl
   files Held (Kept_pipe pipe) = refl
@@ -87,7 +87,7 @@ module _ (f : OpenPipe → OpenPipe) where
 
   held_by : (t : Stage) (object : Object) → holders_seen (if_held t (changed_pipe f object)) ≡ holders_seen (if_held t object)
   held_by Coming object = refl
-  held_by Lost object = refl
+  held_by Removed object = refl
   held_by Held (Kept_directory l) = refl
   held_by Held (Kept_file file) = refl
   held_by Held (Kept_pipe pipe) = refl

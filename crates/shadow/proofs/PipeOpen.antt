@@ -12,7 +12,7 @@ use Rattle.store.specs.Shown.{descriptions, inode_of, inodes}
 use Rattle.store.specs.declared.OpenPipe.{OpenPipe}
 use Rattle.store.specs.declared.Place.{Place}
 use Rattle.store.specs.declared.Stage.{Stage}
-use Rattle.store.specs.declared.Stage.TheVariants.{Coming, Held, Lost}
+use Rattle.store.specs.declared.Stage.TheVariants.{Coming, Held, Removed}
 use Rattle.store.specs.declared.Object.{Object}
 use Rattle.store.specs.declared.Object.TheVariants.{Directory as Kept_directory, File as Kept_file, Pipe as Kept_pipe, Description as Kept_description, Nothing}
 use Rattle.store.proofs.Laws.{get-inodes}
@@ -60,7 +60,7 @@ module _ (ps : Processes) (s : Numbers) (n : ℕ) (holds : Holds ps s) where
           → openings_of (file_of object) ≡ openings (state_of ps s) n
       by_stage Held object is there no_pipe = by_object object (ap held is) there no_pipe
       by_stage Coming object is there no_pipe = absurd (there refl)
-      by_stage Lost object is there no_pipe = absurd (there refl)
+      by_stage Removed object is there no_pipe = absurd (there refl)
 
       by_place : (o : Option Place) → get s.places n ≡ o → option_and_then inode_of (held o) ≢ None → option_and_then pipe_of (held o) ≡ None → openings_of (file_in o) ≡ openings (state_of ps s) n
       by_place None is there no_pipe = absurd (there refl)

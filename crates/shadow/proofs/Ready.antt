@@ -26,7 +26,7 @@ use Rattle.store.specs.declared.OpenFile.{OpenFile}
 use Rattle.store.specs.declared.OpenPipe.{OpenPipe}
 use Rattle.store.specs.declared.Place.{Place}
 use Rattle.store.specs.declared.Stage.{Stage}
-use Rattle.store.specs.declared.Stage.TheVariants.{Coming, Held, Lost}
+use Rattle.store.specs.declared.Stage.TheVariants.{Coming, Held, Removed}
 use Rattle.store.specs.declared.Object.{Object}
 use Rattle.store.specs.declared.Object.TheVariants.{Directory as Kept_directory}
 use Rattle.store.specs.declared.Object.TheVariants.{File as Kept_file, Pipe as Kept_pipe}
@@ -87,7 +87,7 @@ directory_shown (Some place) is = by_place place.stage place.object is
     by_place Held (Kept_description opened) is = absurd cc
     by_place Held Nothing is = absurd cc
     by_place Coming object is = absurd cc
-    by_place Lost object is = absurd cc
+    by_place Removed object is = absurd cc
 
 -- a file that is shown
 abbrev pub IsShownFile : Option Place → Type 0
@@ -105,7 +105,7 @@ file_shown (Some place) is = by_place place.stage place.object is
     by_place Held (Kept_description opened) is = absurd cc
     by_place Held Nothing is = absurd cc
     by_place Coming object is = absurd cc
-    by_place Lost object is = absurd cc
+    by_place Removed object is = absurd cc
 
 -- a pipe that is shown
 abbrev pub IsShownPipe : Option Place → Type 0
@@ -123,7 +123,7 @@ pipe_shown (Some place) is = by_place place.stage place.object is
     by_place Held (Kept_description opened) is = absurd cc
     by_place Held Nothing is = absurd cc
     by_place Coming object is = absurd cc
-    by_place Lost object is = absurd cc
+    by_place Removed object is = absurd cc
 
 none_less : {A : Type 0} → 0 < 0 → A
 none_less less = absurd (omega arith)
@@ -146,7 +146,7 @@ directory_comes (Some place) some = by_place place.stage place.object some
     by_place Coming (Kept_description opened) some = none_less some
     by_place Coming Nothing some = none_less some
     by_place Held object some = none_less some
-    by_place Lost object some = none_less some
+    by_place Removed object some = none_less some
 
 -- something else to come, which is not settled
 pub other_comes : (o : Option Place) → IsStaged o → 0 < coming_other (reserve_seen o)
@@ -163,7 +163,7 @@ other_comes (Some place) staged some = by_place place.stage place.object staged 
     by_place Coming (Kept_pipe pipe) staged some = absurd staged
     by_place Coming (Kept_description opened) staged some = absurd staged
     by_place Held object staged some = none_less some
-    by_place Lost object staged some = none_less some
+    by_place Removed object staged some = none_less some
 
 -- what is shown can be named
 shown_named : (o : Option Place) → CanBeNamed (kind_seen o) → may_be_named o ≡ true
@@ -174,7 +174,7 @@ shown_named (Some place) can = by_stage place.stage place.object can
         → may_be_named (Some (of_stage t object)) ≡ true
     by_stage Held object can = refl
     by_stage Coming object can = absurd can
-    by_stage Lost object can = absurd can
+    by_stage Removed object can = absurd can
 
 -- What is known of a place by what a transaction made there, and by the form of its changes: what
 -- it made is to come, and it has changed only what is of the kind of its changes.

@@ -10,7 +10,7 @@ use Rattle.store.specs.Places.{altered, is_coming, listing_at, listing_in, may_b
 use Rattle.store.specs.Shown.{descriptions, inode_of, inodes}
 use Rattle.store.specs.declared.Place.{Place}
 use Rattle.store.specs.declared.Stage.{Stage}
-use Rattle.store.specs.declared.Stage.TheVariants.{Coming, Held, Lost}
+use Rattle.store.specs.declared.Stage.TheVariants.{Coming, Held, Removed}
 use Rattle.store.specs.declared.Object.{Object}
 use Rattle.store.specs.declared.Object.TheVariants.{Directory as Kept_directory}
 use Rattle.store.proofs.Laws.{altered-some, descriptions-changed, get-inodes, inodes-set, with_place}
@@ -122,7 +122,7 @@ shown_named s n what is = by_place (get s.places n) (sym (ap (mapped kind) (get-
     by_stage : (t : Stage) (object : Object) → mapped kind (option_and_then inode_of (if_held t object)) ≡ Some what → may_be_named (Some (record { stage = t; object = object })) ≡ true
     by_stage Held object is = refl
     by_stage Coming object is = refl
-    by_stage Lost object is = absurd cc
+    by_stage Removed object is = absurd cc
 
     by_place : (o : Option Place) → mapped kind (option_and_then inode_of (held o)) ≡ Some what → may_be_named o ≡ true
     by_place None is = absurd cc

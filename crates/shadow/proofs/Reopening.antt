@@ -18,7 +18,7 @@ use Rattle.store.specs.declared.OpenFile.{OpenFile}
 use Rattle.store.specs.declared.Opened.{Opened}
 use Rattle.store.specs.declared.Place.{Place}
 use Rattle.store.specs.declared.Stage.{Stage}
-use Rattle.store.specs.declared.Stage.TheVariants.{Coming, Held, Lost}
+use Rattle.store.specs.declared.Stage.TheVariants.{Coming, Held, Removed}
 use Rattle.store.specs.declared.Object.{Object}
 use Rattle.store.specs.declared.Object.TheVariants.{Directory as A_directory, File as A_file, Pipe as A_pipe}
 use Rattle.store.specs.declared.Object.TheVariants.{Description as A_description, Nothing}
@@ -126,7 +126,7 @@ module _ (g : OpenFile → OpenFile) where
       by_stage t Nothing h = h
       by_stage Coming (A_file file) h = h
       by_stage Held (A_file file) h = λ is. true_is_false (ap (λ o. is_file (Some o)) is)
-      by_stage Lost (A_file file) h = h
+      by_stage Removed (A_file file) h = h
 
   pub reserve_filed : (o : Option Place)
       → option_and_then reserve_in (option_map (with_file g) o) ≡ option_and_then reserve_in o
@@ -158,7 +158,7 @@ module _ (g : OpenFile → OpenFile) where
       by_stage t Nothing is = is
       by_stage Coming (A_file file) is = is
       by_stage Held (A_file file) is = absurd (not_file opened (g file) (sym is))
-      by_stage Lost (A_file file) is = is
+      by_stage Removed (A_file file) is = is
 
   -- and a file that is held was one
   pub record HeldBefore (o : Option Place) (file : OpenFile) : Type 0 where
@@ -183,7 +183,7 @@ module _ (g : OpenFile → OpenFile) where
           → if_held t (changed_file g object) ≡ Some (A_file file)
           → HeldBefore (Some (record { stage = t; object = object })) file
       by_stage Coming object is = absurd (none_held (A_file file) is)
-      by_stage Lost object is = absurd (none_held (A_file file) is)
+      by_stage Removed object is = absurd (none_held (A_file file) is)
       by_stage Held (A_file it) is =
           record { before = it; held = refl; is = file_is (g it) is; count = refl }
       by_stage Held (A_directory listing) is = absurd (true_is_false (ap is_file (sym is)))

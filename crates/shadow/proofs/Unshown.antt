@@ -21,7 +21,7 @@ use Rattle.store.specs.Places.{altered, hidden, is_over, is_over_by, has_room, l
 use Rattle.store.specs.Shown.{inodes, descriptions, inode_in, inode_of, description_in, description_of, shown_at}
 use Rattle.store.specs.declared.Place.{Place}
 use Rattle.store.specs.declared.Stage.{Stage}
-use Rattle.store.specs.declared.Stage.TheVariants.{Coming, Held, Lost}
+use Rattle.store.specs.declared.Stage.TheVariants.{Coming, Held, Removed}
 use Rattle.store.specs.declared.Object.{Object}
 use Rattle.store.specs.declared.Object.TheVariants.{Directory as Kept_directory, File as Kept_file, Pipe as Kept_pipe, Description as Kept_description, Nothing}
 use Rattle.freeing_laws.specs.Pipes.{ArePair}
@@ -101,7 +101,7 @@ more_staged (Some place) fits = by_stage place.stage place.object fits
     by_stage : (t : Stage) (object : Object) → FitsStage t object → FitsStage t (changed_object more_room object)
     by_stage Coming (Kept_directory l) fits = fits
     by_stage Held (Kept_directory l) fits = something (more_room l)
-    by_stage Lost (Kept_directory l) fits = lt-ltb 0 (l.promised + 1) (omega arith)
+    by_stage Removed (Kept_directory l) fits = lt-ltb 0 (l.promised + 1) (omega arith)
     by_stage t (Kept_file file) fits = fits
     by_stage t (Kept_pipe pipe) fits = fits
     by_stage t (Kept_description opened) fits = fits
@@ -115,7 +115,7 @@ less_staged (Some place) fits left = by_stage place.stage place.object fits left
     by_stage : (t : Stage) (object : Object) → FitsStage t object → is_over_by t (has_room (listing_of (changed_object less_room object))) ≡ false → FitsStage t (changed_object less_room object)
     by_stage Coming (Kept_directory l) fits left = fits
     by_stage Held (Kept_directory l) fits left = something (less_room l)
-    by_stage Lost (Kept_directory l) fits left = not_false (has_room (listing_of (changed_object less_room (Kept_directory l)))) left
+    by_stage Removed (Kept_directory l) fits left = not_false (has_room (listing_of (changed_object less_room (Kept_directory l)))) left
     by_stage t (Kept_file file) fits left = fits
     by_stage t (Kept_pipe pipe) fits left = fits
     by_stage t (Kept_description opened) fits left = fits
@@ -148,7 +148,7 @@ shows_in f s d n object none is = elim (cases_eq n d) [
     by_stage Held (Kept_description opened) is = is
     by_stage Held Nothing is = is
     by_stage Coming o is = is
-    by_stage Lost o is = is
+    by_stage Removed o is = is
 
     by_place : (o : Option Place) → held (option_map (with_listing f) o) ≡ Some object → held o ≡ Some object
     by_place None is = is
@@ -198,7 +198,7 @@ coming_unseen b n f (Some place) some = by_stage place.stage place.object b some
   where
     by_stage : (t : Stage) (object : Object) (b : Bool) → IsAwaited b n (Some (record { stage = t; object = object })) → shown_at t (f object) ≡ None
     by_stage Coming object b some = refl
-    by_stage Lost object b some = refl
+    by_stage Removed object b some = refl
     by_stage Held object true some = absurd (omega arith)
     by_stage Held object false some = absurd (omega arith)
 

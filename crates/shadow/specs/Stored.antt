@@ -20,7 +20,7 @@ use Rattle.store.specs.declared.Object.{Object}
 use Rattle.store.specs.declared.Object.TheVariants.{Directory as A_directory, File as A_file, Pipe as A_pipe}
 use Rattle.store.specs.declared.Object.TheVariants.{Description as A_description, Nothing}
 use Rattle.store.specs.declared.Stage.{Stage}
-use Rattle.store.specs.declared.Stage.TheVariants.{Coming, Held, Lost}
+use Rattle.store.specs.declared.Stage.TheVariants.{Coming, Held, Removed}
 use Rattle.shadow.specs.Committed.{Committed, Reserve}
 
 -- the processes from number 1 on, of which one that has ended leaves its place empty; and beside
@@ -85,7 +85,7 @@ IsBare _ = ⊥
 abbrev pub FitsStage : Stage → Object → Type 0
 FitsStage Coming object = IsUnsettled object
 FitsStage Held object = object ≢ Nothing
-FitsStage Lost object = has_room (listing_of object) ≡ true
+FitsStage Removed object = has_room (listing_of object) ≡ true
 
 abbrev pub IsStaged : Option Place → Type 0
 IsStaged (Some place) = FitsStage place.stage place.object

@@ -18,7 +18,7 @@ ghost use Rattle.shadow.specs.Notes.{IsWritten, put_back, room_for};
 ghost use Rattle.shadow.specs.Steps.{bytes_cut, bytes_written, filed, listed, name_noted};
 ghost use Rattle.shadow.specs.Steps.{new_form, new_inode};
 
-use dirlist::Patch;
+use dirlist::NamePatch;
 use file_shadow::FileShadow;
 use heap::Heap;
 use ids::{Name, Num};
@@ -48,7 +48,7 @@ pub(crate) enum Contents {
         /// Whether they are laid over none.
         is_fresh: bool,
         /// The names that changed.
-        names: Patch,
+        names: NamePatch,
     },
     /// Bytes of a file.
     Bytes {
@@ -234,7 +234,7 @@ fn fresh_of(heap: Heap, what: Made) -> Contents
     match what {
         Made::Directory => Contents::Names {
             is_fresh: true,
-            names: Patch::new(heap),
+            names: NamePatch::new(heap),
         },
         Made::File => Contents::Bytes {
             is_fresh: true,
@@ -356,7 +356,7 @@ fn first_name(
 ) -> Result<Contents, AllocError>
     ensures { IfOk result (λ c. c ≡ Names fresh (insert empty name given)) }
 {
-    let mut names = Patch::new(heap);
+    let mut names = NamePatch::new(heap);
     names.note(name, given)?;
     Ok(Contents::Names {
         is_fresh: fresh,

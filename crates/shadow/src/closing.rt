@@ -13,7 +13,7 @@ ghost use Rattle.shadow.specs.Stored.{Processes, state_of};
 
 use crate::opening::Openings;
 use crate::slots::Slots;
-use fdtable::Patch;
+use fdtable::SlotPatch;
 use heap::Heap;
 use ids::{DESCRIPTORS, Fd, Num};
 use objects::Description;
@@ -31,7 +31,7 @@ pub(crate) fn close_former(store: &mut Store, former: &Slots)
 }
 
 /// Closes what one process's slots gave before. It takes no memory.
-pub(crate) fn close_given(store: &mut Store, former: &Patch)
+pub(crate) fn close_given(store: &mut Store, former: &SlotPatch)
     requires { (ps : Processes) × Holds ps store.old }
     ensures { (ps : Processes) → Holds ps store.old
         → Frees (all_closed (flat_map (λ g. given_by g.1) (entries former.now))) ps store.old

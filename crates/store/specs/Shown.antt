@@ -8,7 +8,7 @@ use Rattle.model.specs.Changes.{at_offset}
 use Rattle.store.specs.Numbers.{Numbers}
 use Rattle.store.specs.declared.Place.{Place}
 use Rattle.store.specs.declared.Stage.{Stage}
-use Rattle.store.specs.declared.Stage.TheVariants.{Coming, Held, Lost}
+use Rattle.store.specs.declared.Stage.TheVariants.{Coming, Held, Removed}
 use Rattle.store.specs.declared.Object.{Object}
 use Rattle.store.specs.declared.Object.TheVariants.{Directory as Kept_directory}
 use Rattle.store.specs.declared.Object.TheVariants.{File as Kept_file, Pipe as Kept_pipe}
@@ -28,7 +28,7 @@ description_of _ = None
 abbrev pub shown_at : {X : Type 0} → Stage → Option X → Option X
 shown_at Held x = x
 shown_at Coming x = None
-shown_at Lost x = None
+shown_at Removed x = None
 
 abbrev pub inode_in : Place → Option Inode
 inode_in place = shown_at place.stage (inode_of place.object)

@@ -36,7 +36,7 @@ fn held_object(place: &Place) -> Option<&Object>
     match place.stage {
         Stage::Held => Some(&place.object),
         Stage::Coming => None,
-        Stage::Lost => None,
+        Stage::Removed => None,
     }
 }
 
@@ -82,7 +82,7 @@ pub fn is_over_at(headers: &Slab<Header, Heap>, key: usize) -> bool
 {
     match headers.get(key) {
         Some(header) => match header.place.stage {
-            Stage::Lost => !is_promised_in(&header.place.object),
+            Stage::Removed => !is_promised_in(&header.place.object),
             Stage::Coming => false,
             Stage::Held => false,
         },
@@ -121,7 +121,7 @@ pub fn hide_at(headers: &mut Slab<Header, Heap>, key: usize)
         (option_map (at_place hidden) (get headers.old key)) }
 {
     if let Some(header) = headers.get_mut(key) {
-        header.place.stage = Stage::Lost;
+        header.place.stage = Stage::Removed;
     }
 }
 

@@ -121,7 +121,7 @@ pub enum Stage {
     /// Shown.
     Held,
     /// Shown no more. It goes when the last room that is promised in it is given up.
-    Lost,
+    Removed,
 }
 
 /// What a number that is in use is used for: its object, and how far that is.
