@@ -1,6 +1,6 @@
 use Rattle.std.proofs.Common.{length}
 use Rattle.model.specs.Plan.{blocks}
-use Rattle.shadow.proofs.BlocksNoted.{first_ones}
+use Rattle.shadow.proofs.noting.BlockNumbers.{first_ones}
 use Rattle.shadow.proofs.change.first_bytes.Goals as goal
 
 pub returns-clause-numbers : goal.returns-clause-numbers

@@ -3,8 +3,8 @@ use Rattle.std.specs.List.{Contains}
 use Rattle.model.specs.Plan.{blocks}
 use Rattle.shadow.specs.declared.change.Contents.{Contents}
 use Rattle.shadow.specs.Patches.{numbers_in}
-use Rattle.shadow.proofs.BlocksNoted.{behind_none, joined}
-use Rattle.shadow.proofs.Outcomes.{ok_so}
+use Rattle.shadow.proofs.noting.BlockNumbers.{behind_none, joined}
+use Rattle.shadow.proofs.shared.Outcomes.{ok_so}
 use Rattle.shadow.proofs.change.write_in.Goals as goal
 
 pub returns-in-Bytes-clause-numbers : goal.returns-in-Bytes-clause-numbers

@@ -4,7 +4,7 @@ use Rattle.model.specs.State.{Kernel}
 use Rattle.freeing_laws.specs.Counts.{free_inode}
 use Rattle.freeing_laws.specs.Sweep.{free_inodes}
 use Rattle.store.specs.Numbers.{Numbers}
-use Rattle.shadow.proofs.Turning.{Leaves, leaves_all, leaves_less, leaves_none}
+use Rattle.shadow.proofs.freeing.RemovalSteps.{Leaves, leaves_all, leaves_less, leaves_none}
 use Rattle.shadow.proofs.closing.free_all.Goals as goal
 
 pub loop-num-init : goal.loop-num-init

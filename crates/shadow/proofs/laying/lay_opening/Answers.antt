@@ -1,6 +1,6 @@
 use Rattle.std.proofs.Common.{sym, subst}
 use Rattle.shadow.specs.Laid.{IsReopened}
-use Rattle.shadow.proofs.OpeningMoved.{opening_moved}
+use Rattle.shadow.proofs.committing.MovedDescription.{opening_moved}
 use Rattle.shadow.proofs.laying.lay_opening.Goals as goal
 
 pub returns-in-Moved : goal.returns-in-Moved

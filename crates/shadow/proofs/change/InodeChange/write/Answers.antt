@@ -2,8 +2,8 @@ use Rattle.std.proofs.Common.{length, Some}
 use Rattle.model.specs.Plan.{blocks}
 use Rattle.shadow.specs.Patches.{net_of}
 use Rattle.shadow.specs.Steps.{bytes_written}
-use Rattle.shadow.proofs.FiledOn.{filed_on}
-use Rattle.shadow.proofs.Outcomes.{ok_three}
+use Rattle.shadow.proofs.noting.FileNotes.{filed_on}
+use Rattle.shadow.proofs.shared.Outcomes.{ok_three}
 use Rattle.shadow.proofs.change.InodeChange.write.Goals as goal
 
 pub returns-clause-ok : goal.returns-clause-ok

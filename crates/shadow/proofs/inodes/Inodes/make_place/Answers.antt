@@ -2,7 +2,7 @@ use Rattle.std.proofs.Common.{◌≡◌, ℕ, List, None, sym, subst, ap, ◌∙
 use Rattle.shadow.specs.declared.change.InodeChange.{InodeChange}
 use Rattle.shadow.specs.Patches.{kept_at}
 use Rattle.shadow.specs.Notes.{SameInodes}
-use Rattle.shadow.proofs.InodesKept.{none_kept, same_back}
+use Rattle.shadow.proofs.noting.InodeLemmas.{none_kept, same_back}
 use Rattle.shadow.proofs.inodes.Inodes.make_place.Goals as goal
 
 pub returns-clause-same : goal.returns-clause-same

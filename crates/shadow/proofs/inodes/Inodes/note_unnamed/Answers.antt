@@ -2,7 +2,7 @@ use Rattle.std.proofs.Common.{◌≡◌, ℕ, ◌+◌, ◌<◌, ◌^◌, List, O
 use Rattle.shadow.specs.declared.change.InodeChange.{InodeChange}
 use Rattle.shadow.specs.Patches.{kept_at, net_of}
 use Rattle.shadow.specs.Notes.{At, IsUnnamed}
-use Rattle.shadow.proofs.InodesKept.{put_back, some_kept}
+use Rattle.shadow.proofs.noting.InodeLemmas.{put_back, some_kept}
 use Rattle.shadow.proofs.inodes.Inodes.note_unnamed.Goals as goal
 
 pub note_unnamed-requires : goal.note_unnamed-requires

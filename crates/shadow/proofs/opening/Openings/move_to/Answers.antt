@@ -1,7 +1,7 @@
 use Rattle.std.proofs.Common.{◌≡◌, Some, sym, subst}
 use Rattle.shadow.specs.Patches.{kept_at}
 use Rattle.shadow.specs.Openings.{AtOpening, IsMoved}
-use Rattle.shadow.proofs.Openings_at.{Kept_openings, changed_at, is_kept}
+use Rattle.shadow.proofs.noting.DescriptionLemmas.{Kept_openings, changed_at, is_kept}
 use Rattle.shadow.proofs.opening.Openings.move_to.Goals as goal
 
 pub returns : goal.returns

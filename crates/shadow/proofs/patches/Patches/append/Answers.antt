@@ -3,8 +3,8 @@ use Rattle.model.specs.Changes.{Append}
 use Rattle.shadow.specs.Notes.{At, IsAppended}
 use Rattle.shadow.specs.Patches.{Patches}
 use Rattle.shadow.specs.Steps.{TakesIn}
-use Rattle.shadow.proofs.Noted.{ok_so, only_inodes, same_then_takes}
-use Rattle.shadow.proofs.TakenPipes.{append_takes}
+use Rattle.shadow.proofs.noting.InodeNotes.{ok_so, only_inodes, same_then_takes}
+use Rattle.shadow.proofs.noting.PipeEdits.{append_takes}
 use Rattle.shadow.proofs.patches.Patches.append.Goals as goal
 
 pub returns-clause-ok : goal.returns-clause-ok

@@ -2,8 +2,8 @@ use Rattle.std.proofs.Common.{[], refl, subst}
 use Rattle.model.specs.Changes.{Cut}
 use Rattle.shadow.specs.Patches.{Patches}
 use Rattle.shadow.specs.Steps.{TakesIn}
-use Rattle.shadow.proofs.Noted.{only_inodes, same_then_takes}
-use Rattle.shadow.proofs.TakenFiles.{cut_takes}
+use Rattle.shadow.proofs.noting.InodeNotes.{only_inodes, same_then_takes}
+use Rattle.shadow.proofs.noting.FileEdits.{cut_takes}
 use Rattle.shadow.proofs.patches.Patches.cut.Goals as goal
 
 pub returns-clause-ok : goal.returns-clause-ok

@@ -1,8 +1,8 @@
 use Rattle.std.proofs.Common.{[], ◌∷◌, refl, subst}
 use Rattle.shadow.specs.Patches.{Patches}
 use Rattle.shadow.specs.Steps.{TakesIn, making}
-use Rattle.shadow.proofs.Noted.{only_inodes, same_inodes, same_then_takes}
-use Rattle.shadow.proofs.TakenNames.{making_takes}
+use Rattle.shadow.proofs.noting.InodeNotes.{only_inodes, same_inodes, same_then_takes}
+use Rattle.shadow.proofs.noting.NameEdits.{making_takes}
 use Rattle.shadow.proofs.patches.Patches.make.Goals as goal
 
 pub returns-clause-ok : goal.returns-clause-ok

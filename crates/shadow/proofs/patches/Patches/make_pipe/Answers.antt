@@ -5,9 +5,9 @@ use Rattle.shadow.specs.Notes.{At, IsPiped, SamePatches}
 use Rattle.shadow.specs.Openings.{AtOpening, IsOpened}
 use Rattle.shadow.specs.Patches.{Patches}
 use Rattle.shadow.specs.Steps.{TakesIn}
-use Rattle.shadow.proofs.Moved.{piping_takes}
-use Rattle.shadow.proofs.Noted.{same_then_takes, with_places}
-use Rattle.shadow.proofs.TakenPipes.{piping_at}
+use Rattle.shadow.proofs.noting.OffsetEdits.{piping_takes}
+use Rattle.shadow.proofs.noting.InodeNotes.{same_then_takes, with_places}
+use Rattle.shadow.proofs.noting.PipeEdits.{piping_at}
 use Rattle.shadow.proofs.patches.Patches.make_pipe.Goals as goal
 
 pub returns-clause-ok : goal.returns-clause-ok

@@ -2,9 +2,9 @@ use Rattle.std.proofs.Common.{◌≡◌, ◌+◌, ◌<◌, ℕ, List, [], ◌∷
 use Rattle.model.specs.Changes.{Move, inode_replaced}
 use Rattle.shadow.specs.Patches.{Patches, net_at}
 use Rattle.shadow.specs.Steps.{TakesIn}
-use Rattle.shadow.proofs.Noted.{only_inodes, same_inodes, same_then_takes}
-use Rattle.shadow.proofs.TakenNames.{Losing, losing_at, losing_none, moved_count, moving_takes}
-use Rattle.shadow.proofs.Outcomes.{ok_so}
+use Rattle.shadow.proofs.noting.InodeNotes.{only_inodes, same_inodes, same_then_takes}
+use Rattle.shadow.proofs.noting.NameEdits.{Losing, losing_at, losing_none, moved_count, moving_takes}
+use Rattle.shadow.proofs.shared.Outcomes.{ok_so}
 use Rattle.shadow.proofs.patches.Patches.rename.Goals as goal
 
 pub returns-in-None-clause-ok : goal.returns-in-None-clause-ok

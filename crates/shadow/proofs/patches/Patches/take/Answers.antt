@@ -2,8 +2,8 @@ use Rattle.std.proofs.Common.{[], refl, subst}
 use Rattle.model.specs.Changes.{Take}
 use Rattle.shadow.specs.Patches.{Patches}
 use Rattle.shadow.specs.Steps.{TakesIn}
-use Rattle.shadow.proofs.Noted.{ok_so, only_inodes, same_then_takes}
-use Rattle.shadow.proofs.TakenPipes.{take_takes}
+use Rattle.shadow.proofs.noting.InodeNotes.{ok_so, only_inodes, same_then_takes}
+use Rattle.shadow.proofs.noting.PipeEdits.{take_takes}
 use Rattle.shadow.proofs.patches.Patches.take.Goals as goal
 
 pub returns-clause-ok : goal.returns-clause-ok

@@ -1,8 +1,8 @@
 use Rattle.std.proofs.Common.{◌≡◌, ℕ, List, [], ◌∷◌, ◌++◌, refl, ap, ◌∙◌, subst}
 use Rattle.shadow.specs.Patches.{Patches}
 use Rattle.shadow.specs.Steps.{TakesIn, unnaming}
-use Rattle.shadow.proofs.Noted.{only_inodes, same_inodes, same_then_takes}
-use Rattle.shadow.proofs.TakenNames.{unnaming_takes}
+use Rattle.shadow.proofs.noting.InodeNotes.{only_inodes, same_inodes, same_then_takes}
+use Rattle.shadow.proofs.noting.NameEdits.{unnaming_takes}
 use Rattle.shadow.proofs.patches.Patches.unname.Goals as goal
 
 pub returns-clause-ok : goal.returns-clause-ok

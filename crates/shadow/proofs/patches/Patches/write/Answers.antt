@@ -3,8 +3,8 @@ use Rattle.model.specs.Changes.{Put_bytes}
 use Rattle.shadow.specs.Notes.{At, IsWritten}
 use Rattle.shadow.specs.Patches.{Patches}
 use Rattle.shadow.specs.Steps.{TakesIn}
-use Rattle.shadow.proofs.Noted.{ok_so, only_inodes, same_then_takes}
-use Rattle.shadow.proofs.TakenFiles.{put_takes}
+use Rattle.shadow.proofs.noting.InodeNotes.{ok_so, only_inodes, same_then_takes}
+use Rattle.shadow.proofs.noting.FileEdits.{put_takes}
 use Rattle.shadow.proofs.patches.Patches.write.Goals as goal
 
 pub returns-clause-ok : goal.returns-clause-ok

@@ -4,7 +4,7 @@ use Rattle.freeing_laws.specs.Counts.{listed}
 use Rattle.shadow.specs.Claims.{KeepsMore, claimed_by, claimed_in, kinds_in, with_kinds}
 use Rattle.shadow.specs.Log.{effect}
 use Rattle.shadow.specs.Steps.{parents_in}
-use Rattle.shadow.proofs.Agreeing.{can_give}
+use Rattle.shadow.proofs.noting.AgreementAfterCall.{can_give}
 use Rattle.shadow.proofs.stable.Stable.apply.Goals as goal
 
 -- what was kept for the call is kept still

@@ -1,7 +1,7 @@
 use Rattle.std.proofs.Common.{ap}
 use Rattle.shadow.specs.Committed.{Committed}
 use Rattle.shadow.specs.Claims.{reserved}
-use Rattle.shadow.proofs.Claimed.{apart_from, kept_alone, kept_with, may_still_give_up, none_added, parent_is, same_kept, unused_numbers}
+use Rattle.shadow.proofs.claims.NewNumbers.{apart_from, kept_alone, kept_with, may_still_give_up, none_added, parent_is, same_kept, unused_numbers}
 use Rattle.shadow.proofs.stable.Stable.claim.Goals as goal
 
 pub give_up-requires : goal.give_up-requires

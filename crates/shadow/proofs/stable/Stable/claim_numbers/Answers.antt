@@ -1,7 +1,7 @@
 use Rattle.std.proofs.Common.{◌+◌, ◌∷◌, sym, ap, subst, ◌∙◌, drop}
 use Rattle.shadow.specs.Claims.{AreAdded}
 use Rattle.std.proofs.lemmas.List.{drop_more}
-use Rattle.shadow.proofs.Claimed.{claims_next, may_still_give_up, same_kept}
+use Rattle.shadow.proofs.claims.NewNumbers.{claims_next, may_still_give_up, same_kept}
 use Rattle.shadow.proofs.stable.Stable.claim_numbers.Goals as goal
 
 pub give_up-requires : goal.give_up-requires

@@ -3,8 +3,8 @@ use Rattle.std.proofs.lemmas.List.{drop_more}
 use Rattle.freeing_laws.specs.Counts.{listed}
 use Rattle.shadow.specs.Committed.{Committed}
 use Rattle.shadow.specs.Claims.{KeepsMore, claimed_in, with_kinds}
-use Rattle.shadow.proofs.Claimed.{drop_all}
-use Rattle.shadow.proofs.Giving.{AreKept, GivesNumbers, first_coming, given_kept, given_with_room, gives_all, gives_next, room_left}
+use Rattle.shadow.proofs.claims.NewNumbers.{drop_all}
+use Rattle.shadow.proofs.claims.ReleasedClaims.{AreKept, GivesNumbers, first_coming, given_kept, given_with_room, gives_all, gives_next, room_left}
 use Rattle.shadow.proofs.stable.Stable.give_up.Goals as goal
 
 pub loop-num-init : goal.loop-num-init

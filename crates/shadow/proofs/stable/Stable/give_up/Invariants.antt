@@ -1,7 +1,7 @@
 -- What is left of the numbers is kept.
 use Rattle.std.proofs.Common.{drop}
 use Rattle.freeing_laws.specs.Counts.{listed}
-use Rattle.shadow.proofs.Giving.{GivesNumbers}
+use Rattle.shadow.proofs.claims.ReleasedClaims.{GivesNumbers}
 use Rattle.shadow.proofs.stable.Stable.give_up.Given as goal
 
 abbrev pub invariant-loop-num : goal.invariant-loop-num

@@ -1,6 +1,6 @@
 use Rattle.std.proofs.Common.{◌≡◌, Some, arith}
 use Rattle.shadow.specs.Patches.{net_of}
-use Rattle.shadow.proofs.Giving.{made_given, more_room_left, number_left}
+use Rattle.shadow.proofs.claims.ReleasedClaims.{made_given, more_room_left, number_left}
 use Rattle.shadow.proofs.stable.Stable.give_up_inode.Goals as goal
 
 pub unpromise-requires : goal.unpromise-requires

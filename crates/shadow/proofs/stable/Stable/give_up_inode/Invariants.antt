@@ -1,5 +1,5 @@
 -- So much of the room is given back.
-use Rattle.shadow.proofs.Giving.{GivesRoom}
+use Rattle.shadow.proofs.claims.ReleasedClaims.{GivesRoom}
 use Rattle.shadow.proofs.stable.Stable.give_up_inode.Given as goal
 
 abbrev pub invariant-loop-given : goal.invariant-loop-given

@@ -1,5 +1,5 @@
 -- What the changes that are left claim is kept.
-use Rattle.shadow.proofs.Giving.{GivesUp, inode_at}
+use Rattle.shadow.proofs.claims.ReleasedClaims.{GivesUp, inode_at}
 use Rattle.shadow.proofs.stable.Stable.give_up_inodes.Given as goal
 
 abbrev pub invariant-loop-num : goal.invariant-loop-num

@@ -7,9 +7,9 @@ use Rattle.store.specs.Places.{altered, is_coming, listing_at, may_be_named, wit
 use Rattle.shadow.specs.Claims.{claimed_by_one}
 use Rattle.shadow.specs.Laid.{Frees}
 use Rattle.shadow.specs.Stored.{state_of}
-use Rattle.shadow.proofs.Edited.{less_of, state_is}
-use Rattle.shadow.proofs.Making.{named_in}
-use Rattle.shadow.proofs.Renaming.{move_fits, move_room, moved_holds, moved_kept, moved_sound, moved_tidy, moving_dir, moving_num, moving_room, over_kept, over_sound, over_tidy}
+use Rattle.shadow.proofs.shared.SoundnessLemmas.{less_of, state_is}
+use Rattle.shadow.proofs.edits.NewInodes.{named_in}
+use Rattle.shadow.proofs.edits.LinksAndMoves.{move_fits, move_room, moved_holds, moved_kept, moved_sound, moved_tidy, moving_dir, moving_num, moving_room, over_kept, over_sound, over_tidy}
 use Rattle.shadow.proofs.stable.Stable.rename.Goals as goal
 
 pub add_name-requires-clause-room : goal.add_name-requires-clause-room

@@ -7,10 +7,10 @@ use Rattle.store.specs.Shown.{inodes}
 use Rattle.shadow.specs.Claims.{KeepsSame}
 use Rattle.shadow.specs.Committed.{Committed}
 use Rattle.shadow.specs.Stored.{Sound, committed_of, state_of}
-use Rattle.shadow.proofs.Bytes.{either_way, file_still, file_there, former_is, swapped, swapped_twice, unswapped_sound, unswapped_state, written_sound, written_state}
-use Rattle.shadow.proofs.Edited.{same_of, state_is}
-use Rattle.shadow.proofs.Kept_on.{file_keeps}
-use Rattle.shadow.proofs.Outcomes.{err_so, ok_so}
+use Rattle.shadow.proofs.edits.FileBytes.{either_way, file_still, file_there, former_is, swapped, swapped_twice, unswapped_sound, unswapped_state, written_sound, written_state}
+use Rattle.shadow.proofs.shared.SoundnessLemmas.{same_of, state_is}
+use Rattle.shadow.proofs.freeing.RemainingPlaces.{file_keeps}
+use Rattle.shadow.proofs.shared.Outcomes.{err_so, ok_so}
 use Rattle.shadow.proofs.stable.Stable.write.Goals as goal
 
 pub swap_file-data-requires : goal.swap_file-data-requires

@@ -10,7 +10,7 @@ use Rattle.shadow.specs.Log.{effects_in}
 use Rattle.shadow.specs.Looks.{changes_of}
 use Rattle.shadow.specs.Patches.{kept_at, net_of, new_ends}
 use Rattle.shadow.specs.declared.change.InodeChange.{InodeChange}
-use Rattle.shadow.proofs.Pairing.{new_pair_told}
+use Rattle.shadow.proofs.viewing.PipePairs.{new_pair_told}
 use Rattle.shadow.proofs.view.View.new_pair.Goals as goal
 
 pub returns-in-Some-get : goal.returns-in-Some-get

@@ -1,6 +1,6 @@
 use Rattle.std.proofs.Common.{◌≡◌, ◌<◌, ◌^◌, length, arith, rules, ◌∙◌}
 use Rattle.model.specs.State.{file_of}
-use Rattle.shadow.proofs.Seeing.{end_small}
+use Rattle.shadow.proofs.viewing.LookLemmas.{end_small}
 use Rattle.shadow.proofs.view.ViewLook.read_file.Goals as goal
 
 pub returns-clause-small : goal.returns-clause-small
