@@ -143,7 +143,7 @@ pub record AreUnused (s : Committed) (made : List Edit) (chosen : List ℕ) : Ty
   pub different : AllDifferent chosen
   pub nowhere : AllByRecursion (IsNowhere s.state) chosen
 
--- a number of a directory that is there, or to come, or lost
+-- a number of a directory that is there, or to come, or removed
 abbrev pub IsDirectory : FinMap nat_cmp Reserve → ℕ → Type 0
 IsDirectory reserves d = room_of (get reserves d) ≢ None
 

@@ -147,4 +147,4 @@ pub record SamePatches (old new : Patches) : Type 0 where
   pub openings : (d : ℕ) → opening_at new.openings d ≡ opening_at old.openings d
   pub processes : (pid : ℕ) (o : Option Process)
       → reslotted (kept_at new.slots pid) o ≡ reslotted (kept_at old.slots pid) o
-  pub lost : new.lost ≡ old.lost
+  pub unnamed_inodes : new.unnamed_inodes ≡ old.unnamed_inodes

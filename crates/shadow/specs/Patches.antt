@@ -163,4 +163,4 @@ pub record Patches : Type 0 where
   pub inodes : List (ℕ × InodeChange)
   pub openings : List (ℕ × Opening)
   pub slots : List (ℕ × Given)
-  pub lost : List ℕ
+  pub unnamed_inodes : List ℕ

@@ -46,7 +46,7 @@ impl Stable {
         match self.perform(chosen.as_slice(), edits) {
             Ok(()) => Ok(chosen),
             Err(AllocError) => {
-                self.give_up(chosen.as_slice(), parent);
+                self.release_claims(chosen.as_slice(), parent);
                 drop(chosen);
                 Err(AllocError)
             }
@@ -66,6 +66,7 @@ impl Stable {
         ensures err { OnErr result (self.new.state ≡ self.old.state) }
         ensures same { OnErr result (KeepsSame self.old self.new) }
     {
+        // For the proof: the state is tidied before the change.
         self.state_is_tidied();
         match edits.pop() {
             None => Ok(()),
@@ -114,6 +115,7 @@ impl Stable {
         ensures err { OnErr result (self.new.state ≡ self.old.state) }
         ensures same { OnErr result (KeepsSame self.old self.new) }
     {
+        // For the proof: the state is tidied before the change.
         self.state_is_tidied();
         self.perform_first(chosen, first)?;
         self.perform_last(chosen, last);
@@ -132,6 +134,7 @@ impl Stable {
         ensures err { OnErr result (self.new.state ≡ self.old.state) }
         ensures same { OnErr result (KeepsSame self.old self.new) }
     {
+        // For the proof: the state is tidied before the change.
         self.state_is_tidied();
         match edit {
             Edit::PutBytes {
@@ -166,6 +169,7 @@ impl Stable {
         ensures state { self.new.state ≡ tidy (applied chosen.now edit self.old.state) }
         ensures kept { KeepsMore self.new self.old (λ c. claimed_by_one c chosen.now edit) }
     {
+        // For the proof: the state is tidied before the change.
         self.state_is_tidied();
         match edit {
             Edit::MakeDirectory { parent, name, .. } => {
@@ -343,8 +347,8 @@ impl Stable {
     {
         self.store.remove_name(from, old);
         self.store.add_name(to, new, num);
-        if let Some(lost) = inode_replaced(replaced) {
-            free(&mut self.store, lost);
+        if let Some(unnamed) = inode_replaced(replaced) {
+            free(&mut self.store, unnamed);
         }
     }
 
@@ -361,17 +365,17 @@ impl Stable {
     }
 
     // Bytes are written into a file. Refused memory changes nothing.
-    fn write(&mut self, file: Num, place: usize, bytes: &[u8]) -> Result<(), AllocError>
-        requires small { place + length bytes.now ≤ LARGEST_FILE }
+    fn write(&mut self, file: Num, offset: usize, bytes: &[u8]) -> Result<(), AllocError>
+        requires small { offset + length bytes.now ≤ LARGEST_FILE }
         requires file { kind_of self.old.state file ≡ Some A_file }
         ensures state { OnOk result ((before : ℕ) → self.new.state
-            ≡ applied [] (Put_bytes file place bytes.now before) self.old.state) }
+            ≡ applied [] (Put_bytes file offset bytes.now before) self.old.state) }
         ensures kept { KeepsSame self.old self.new }
         ensures err { OnErr result (self.new.state ≡ self.old.state) }
     {
         let empty = FileData::new(self.heap());
         let mut data = self.store.swap_file(file, empty);
-        let written = data.write_at(place, bytes);
+        let written = data.write_at(offset, bytes);
         let _empty = self.store.swap_file(file, data);
         written
     }
@@ -396,7 +400,7 @@ impl Stable {
         ensures state { self.new.state ≡ applied [] (Take pipe count) self.old.state }
         ensures kept { KeepsSame self.old self.new }
     {
-        // What is left fits, since a pipe is never longer than pipes get.
+        // For the proof: what is left fits, since a pipe is never longer than pipes get.
         let _len = pipe_len(&self.store, pipe);
         self.store.change_pipe(pipe, count, &[]);
     }

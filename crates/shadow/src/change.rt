@@ -144,14 +144,19 @@ impl InodeChange {
         }
     }
 
-    /// Notes bytes that are written into the file from a place on. Refused memory changes nothing.
-    pub(crate) fn write(&mut self, heap: Heap, place: usize, bytes: &[u8]) -> Result<(), AllocError>
-        requires { place + length bytes.now ≤ LARGEST_FILE }
+    /// Notes bytes that are written into the file from an offset on. Refused memory changes nothing.
+    pub(crate) fn write(
+        &mut self,
+        heap: Heap,
+        offset: usize,
+        bytes: &[u8],
+    ) -> Result<(), AllocError>
+        requires { offset + length bytes.now ≤ LARGEST_FILE }
         ensures ok { OnOk result
-            (IsWritten place bytes.now (net_of (Some self.old)) (net_of (Some self.new))) }
+            (IsWritten offset bytes.now (net_of (Some self.old)) (net_of (Some self.new))) }
         ensures err { OnErr result (self.new ≡ self.old) }
     {
-        write_in(&mut self.contents, heap, place, bytes)
+        write_in(&mut self.contents, heap, offset, bytes)
     }
 
     /// Notes that the file is cut, or filled up, to this length. It takes no memory.
@@ -368,22 +373,22 @@ fn first_name(
 fn write_in(
     contents: &mut Contents,
     heap: Heap,
-    place: usize,
+    offset: usize,
     bytes: &[u8],
 ) -> Result<(), AllocError>
-    requires { place + length bytes.now ≤ LARGEST_FILE }
+    requires { offset + length bytes.now ≤ LARGEST_FILE }
     ensures contents { OnOk result ((o : Option Inode)
-        → patched contents.new o ≡ bytes_written place bytes.now (patched contents.old o)) }
+        → patched contents.new o ≡ bytes_written offset bytes.now (patched contents.old o)) }
     ensures form { OnOk result (form_of contents.new ≡ filed (form_of contents.old)) }
     ensures numbers { OnOk result ((b : ℕ) → Contains (numbers_in contents.new) b
-        ↔ Contains (numbers_in contents.old ++ blocks place (length bytes.now)) b) }
+        ↔ Contains (numbers_in contents.old ++ blocks offset (length bytes.now)) b) }
     ensures err { OnErr result (contents.new ≡ contents.old) }
 {
     match contents {
-        Contents::Bytes { bytes: changes, .. } => changes.write(place, bytes),
-        Contents::Same => write_first(contents, heap, false, place, bytes),
-        Contents::Names { .. } => write_first(contents, heap, true, place, bytes),
-        Contents::Pipe { .. } => write_first(contents, heap, true, place, bytes),
+        Contents::Bytes { bytes: changes, .. } => changes.write(offset, bytes),
+        Contents::Same => write_first(contents, heap, false, offset, bytes),
+        Contents::Names { .. } => write_first(contents, heap, true, offset, bytes),
+        Contents::Pipe { .. } => write_first(contents, heap, true, offset, bytes),
     }
 }
 
@@ -392,33 +397,33 @@ fn write_first(
     contents: &mut Contents,
     heap: Heap,
     fresh: bool,
-    place: usize,
+    offset: usize,
     bytes: &[u8],
 ) -> Result<(), AllocError>
-    requires { place + length bytes.now ≤ LARGEST_FILE }
+    requires { offset + length bytes.now ≤ LARGEST_FILE }
     ensures contents { OnOk result ((o : Option Inode)
-        → patched contents.new o ≡ Some (File (written (bytes_before fresh o) place bytes.now))) }
+        → patched contents.new o ≡ Some (File (written (bytes_before fresh o) offset bytes.now))) }
     ensures form { OnOk result (form_of contents.new ≡ of_bytes fresh) }
     ensures numbers { OnOk result ((b : ℕ)
-        → Contains (numbers_in contents.new) b ↔ Contains (blocks place (length bytes.now)) b) }
+        → Contains (numbers_in contents.new) b ↔ Contains (blocks offset (length bytes.now)) b) }
     ensures err { OnErr result (contents.new ≡ contents.old) }
 {
-    let noted = first_bytes(heap, fresh, place, bytes)?;
+    let noted = first_bytes(heap, fresh, offset, bytes)?;
     drop(mem::replace(contents, noted));
     Ok(())
 }
 
 // The changes of a file with the bytes of one write.
-fn first_bytes(heap: Heap, fresh: bool, place: usize, bytes: &[u8]) -> Result<Contents, AllocError>
-    requires { place + length bytes.now ≤ LARGEST_FILE }
+fn first_bytes(heap: Heap, fresh: bool, offset: usize, bytes: &[u8]) -> Result<Contents, AllocError>
+    requires { offset + length bytes.now ≤ LARGEST_FILE }
     ensures contents { IfOk result (λ c. (o : Option Inode)
-        → patched c o ≡ Some (File (written (bytes_before fresh o) place bytes.now))) }
+        → patched c o ≡ Some (File (written (bytes_before fresh o) offset bytes.now))) }
     ensures form { IfOk result (λ c. form_of c ≡ of_bytes fresh) }
     ensures numbers { IfOk result (λ c. (b : ℕ)
-        → Contains (numbers_in c) b ↔ Contains (blocks place (length bytes.now)) b) }
+        → Contains (numbers_in c) b ↔ Contains (blocks offset (length bytes.now)) b) }
 {
     let mut changes = FileShadow::new(heap);
-    changes.write(place, bytes)?;
+    changes.write(offset, bytes)?;
     Ok(Contents::Bytes {
         is_fresh: fresh,
         bytes: changes,

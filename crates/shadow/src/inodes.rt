@@ -168,15 +168,15 @@ impl Inodes {
 
     /// Notes bytes that are written into a file, where there is a place for it. Refused memory
     /// changes nothing that shows.
-    pub(crate) fn write(&mut self, file: Num, place: usize, bytes: &[u8]) -> Result<(), AllocError>
+    pub(crate) fn write(&mut self, file: Num, offset: usize, bytes: &[u8]) -> Result<(), AllocError>
         requires place { kept_at self.old file ≢ None }
-        requires small { place + length bytes.now ≤ LARGEST_FILE }
-        ensures ok { OnOk result (At file (IsWritten place bytes.now) self.old self.new) }
+        requires small { offset + length bytes.now ≤ LARGEST_FILE }
+        ensures ok { OnOk result (At file (IsWritten offset bytes.now) self.old self.new) }
         ensures err { OnErr result (SameInodes self.old self.new) }
     {
         let heap = self.heap;
         match self.each.get_mut(&file) {
-            Some(change) => change.write(heap, place, bytes),
+            Some(change) => change.write(heap, offset, bytes),
             None => unreachable!(),
         }
     }

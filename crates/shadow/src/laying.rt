@@ -158,7 +158,7 @@ fn lay_opening(store: &mut Store, num: Num, opening: Opening)
 {
     match opening {
         Opening::Kept => (),
-        Opening::Moved(place) => store.set_offset(num, place),
+        Opening::Moved(offset) => store.set_offset(num, offset),
         Opening::New(description) => open(store, num, description),
     }
 }
@@ -169,6 +169,7 @@ pub(crate) fn open(store: &mut Store, num: Num, description: Description)
     ensures { IsReopened num (New description) store.old store.new }
 {
     let inode = description.inode;
+    // For the proof: a count of openings cannot overflow.
     store.numbers_are_few();
     store.install_as(
         num,

@@ -33,7 +33,7 @@ pub(crate) struct Patches {
     pub(crate) inodes: Inodes,
     pub(crate) openings: Openings,
     pub(crate) slots: Slots,
-    pub(crate) lost: Vec<Num, Heap>,
+    pub(crate) unnamed_inodes: Vec<Num, Heap>,
 }
 
 impl Model for Patches {
@@ -45,7 +45,7 @@ impl Model for Patches {
       inodes = p.inodes;
       openings = p.openings;
       slots = p.slots;
-      lost = p.lost.items;
+      unnamed_inodes = p.unnamed_inodes.items;
     } };
 }
 
@@ -100,13 +100,13 @@ pub(crate) fn inode_replaced(replaced: Replaced) -> Option<Num>
 impl Patches {
     /// Nothing is changed. It takes no memory.
     pub(crate) fn new(heap: Heap) -> Patches
-        ensures { result ≡ record { inodes = []; openings = []; slots = []; lost = [] } }
+        ensures { result ≡ record { inodes = []; openings = []; slots = []; unnamed_inodes = [] } }
     {
         Patches {
             inodes: Inodes::new(heap),
             openings: Openings::new(heap),
             slots: Slots::new(heap),
-            lost: Vec::new(heap),
+            unnamed_inodes: Vec::new(heap),
         }
     }
 
@@ -270,12 +270,12 @@ impl Patches {
         ensures openings { self.new.openings ≡ self.old.openings }
         ensures slots { self.new.slots ≡ self.old.slots }
     {
-        self.lost.reserve(1)?;
+        self.unnamed_inodes.reserve(1)?;
         self.inodes.make_unnamed(num)?;
         self.inodes.make_place(parent)?;
         self.inodes.note_name(parent, name, None)?;
         self.inodes.note_unnamed(num);
-        self.lost.push(num).unwrap();
+        self.unnamed_inodes.push(num).unwrap();
         Ok(())
     }
 
@@ -299,28 +299,28 @@ impl Patches {
         self.inodes.make_place(to)?;
         match inode_replaced(replaced) {
             None => self.inodes.note_names(from, old, to, new, num),
-            Some(lost) => {
-                self.lost.reserve(1)?;
-                self.inodes.make_unnamed(lost)?;
+            Some(unnamed) => {
+                self.unnamed_inodes.reserve(1)?;
+                self.inodes.make_unnamed(unnamed)?;
                 self.inodes.note_names(from, old, to, new, num)?;
-                self.inodes.note_unnamed(lost);
-                self.lost.push(lost).unwrap();
+                self.inodes.note_unnamed(unnamed);
+                self.unnamed_inodes.push(unnamed).unwrap();
                 Ok(())
             }
         }
     }
 
     // Bytes are written into a file.
-    fn write(&mut self, file: Num, place: u32, bytes: &Bytes) -> Result<(), AllocError>
-        requires { place + length bytes.now ≤ LARGEST_FILE }
+    fn write(&mut self, file: Num, offset: u32, bytes: &Bytes) -> Result<(), AllocError>
+        requires { offset + length bytes.now ≤ LARGEST_FILE }
         ensures ok { OnOk result ((before : ℕ)
-            → TakesIn [] (Put_bytes file place bytes.now before) self.old self.new) }
+            → TakesIn [] (Put_bytes file offset bytes.now before) self.old self.new) }
         ensures err { OnErr result (SamePatches self.old self.new) }
         ensures openings { self.new.openings ≡ self.old.openings }
         ensures slots { self.new.slots ≡ self.old.slots }
     {
         self.inodes.make_place(file)?;
-        self.inodes.write(file, place as usize, bytes.as_slice())
+        self.inodes.write(file, offset as usize, bytes.as_slice())
     }
 
     // A file's length changes.
@@ -377,7 +377,7 @@ impl Patches {
         ensures slots { (q : ℕ) → kept_at self.old.slots q ≢ None
             → kept_at self.new.slots q ≢ None }
     {
-        let bytes = PipeData::new(*self.lost.allocator())?;
+        let bytes = PipeData::new(*self.unnamed_inodes.allocator())?;
         self.inodes.make_place(pipe)?;
         self.make_ends(pid, reading.1, writing.1)?;
         self.inodes.note_pipe(
@@ -396,7 +396,7 @@ impl Patches {
     // Makes places for two new descriptions and their descriptors. Refused memory changes nothing.
     fn make_ends(&mut self, pid: Pid, reader: Num, writer: Num) -> Result<(), AllocError>
         ensures inodes { self.new.inodes ≡ self.old.inodes }
-        ensures lost { self.new.lost ≡ self.old.lost }
+        ensures unnamed_inodes { self.new.unnamed_inodes ≡ self.old.unnamed_inodes }
         ensures openings { SameOpenings self.old.openings self.new.openings }
         ensures slots { SameSlots self.old.slots self.new.slots }
         ensures ok { OnOk result ((kept_at self.new.openings reader ≢ None)
@@ -413,7 +413,7 @@ impl Patches {
             × (kept_at self.old.slots pid ≢ None) }
         requires low { end.0 < descriptor_limit }
         ensures inodes { self.new.inodes ≡ self.old.inodes }
-        ensures lost { self.new.lost ≡ self.old.lost }
+        ensures unnamed_inodes { self.new.unnamed_inodes ≡ self.old.unnamed_inodes }
         ensures openings { AtOpening end.1 (IsOpened description) self.old.openings
             self.new.openings }
         ensures slots { AtSlots pid end.0 (Some end.1) self.old.slots self.new.slots }

@@ -242,8 +242,8 @@ kept_with s t u es chosen d is have more c =
     sum ∙ ap (λ parents. reserved s c + claimed_in c ms parents) is
 
 -- they can be given up again
-pub may_give_up : (s t : Committed) (es : List Edit) (chosen : List ℕ) → HaveClaimed s t es chosen → (bs : List Bool) × ((c : Claim) → claimed_in c (with_kinds chosen bs) (listed None) ≤ reserved t c)
-may_give_up s t es chosen have = (flat_map kinds_in es, λ c. (let more : reserved t c ≡ reserved s c + claimed_in c (with_kinds chosen (flat_map kinds_in es)) [] = have.kept c in omega arith))
+pub may_release_claims : (s t : Committed) (es : List Edit) (chosen : List ℕ) → HaveClaimed s t es chosen → (bs : List Bool) × ((c : Claim) → claimed_in c (with_kinds chosen bs) (listed None) ≤ reserved t c)
+may_release_claims s t es chosen have = (flat_map kinds_in es, λ c. (let more : reserved t c ≡ reserved s c + claimed_in c (with_kinds chosen (flat_map kinds_in es)) [] = have.kept c in omega arith))
 
 -- So many of the edits have their numbers.
 snoc_append : {X : Type 0} (xs : List X) (x : X) (ys : List X) → (xs ++ x ∷ []) ++ ys ≡ xs ++ x ∷ ys
@@ -286,8 +286,8 @@ module _ (s t u : Committed) (done : List Edit) (chosen new : List ℕ) (have : 
       ∙ ap (λ ms. claimed_in c ms []) (kinds_appended chosen added.mine (flat_map kinds_in done) added.kinds (have.count ∙ sym (all_kinds_count done)))
       ∙ append_claimed c (with_kinds chosen (flat_map kinds_in done)) (with_kinds added.mine added.kinds)
 
-  pub may_still_give_up : (bs : List Bool) × ((c : Claim) → claimed_in c (with_kinds new bs) (listed None) ≤ reserved u c)
-  may_still_give_up = (
+  pub may_still_release_claims : (bs : List Bool) × ((c : Claim) → claimed_in c (with_kinds new bs) (listed None) ≤ reserved u c)
+  may_still_release_claims = (
     flat_map kinds_in done ++ added.kinds,
     λ c. (
         let more : reserved t c ≡ reserved s c + claimed_in c (with_kinds chosen (flat_map kinds_in done)) [] = have.kept c in
@@ -298,9 +298,9 @@ module _ (s t u : Committed) (done : List Edit) (chosen new : List ℕ) (have : 
   pub same_kept : (v : Committed)
       → ((bs : List Bool) → ((c : Claim) → claimed_in c (with_kinds new bs) (listed None) ≤ reserved u c) → KeepsMore v u (λ c. claimed_in c (with_kinds new bs) (listed None)))
       → (c : Claim) → reserved v c ≡ reserved s c
-  unfolding may_still_give_up
+  unfolding may_still_release_claims
   same_kept v back c =
-      let less : reserved u c ≡ reserved v c + claimed_in c (with_kinds new (flat_map kinds_in done ++ added.kinds)) [] = back (flat_map kinds_in done ++ added.kinds) may_still_give_up.1 c in
+      let less : reserved u c ≡ reserved v c + claimed_in c (with_kinds new (flat_map kinds_in done ++ added.kinds)) [] = back (flat_map kinds_in done ++ added.kinds) may_still_release_claims.1 c in
       let more : reserved t c ≡ reserved s c + claimed_in c (with_kinds chosen (flat_map kinds_in done)) [] = have.kept c in
       let later : reserved u c ≡ reserved t c + claimed_in c (with_kinds added.mine added.kinds) [] = added.kept c in
       let all : claimed_in c (with_kinds new (flat_map kinds_in done ++ added.kinds)) [] ≡ claimed_in c (with_kinds chosen (flat_map kinds_in done)) [] + claimed_in c (with_kinds added.mine added.kinds) [] = in_all c in omega arith

@@ -57,7 +57,7 @@ module _ {ps : Processes} {s mid : Numbers} {ds : List Effect} {p : Patches}
         holds_second = (second qs holds_first).holds
 
         module _ {three : Numbers} (third : (rs : Processes) → Holds rs two
-            → Frees (free_inodes p.lost) rs two three) where
+            → Frees (free_inodes p.unnamed_inodes) rs two three) where
           all : Sound qs three × (state_of qs three ≡ tidy (all_done ds (state_of ps s)))
               × ((c : Claim) → kept_in three c + claimed c ds ≡ kept_in s c)
           all = cleared can has_inodes openings slots has_all (first qs has_all.holds)

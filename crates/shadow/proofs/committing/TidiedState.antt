@@ -128,14 +128,14 @@ module _ (ps qs : Processes) (s after last : Numbers) (ds : List Effect) (p : Pa
           (new_is_key p.openings d (ap is_new e)))
 
   inode_left : (n : ℕ) → get done.inodes n ≢ None
-      → (is_reached done n ≡ true) ⊎ (0 < times n p.lost)
+      → (is_reached done n ≡ true) ⊎ (0 < times n p.unnamed_inodes)
   inode_left n there =
       elim (left_is_tidy_lem.inodes before ds (tidied_of ps s can.sound) can.fits n there) [
         | inl is ↦ inl is
-        | inr has ↦ inr (subst (λ ns. 0 < times n ns) can.agrees.lost has)
+        | inr has ↦ inr (subst (λ ns. 0 < times n ns) can.agrees.unnamed_inodes has)
       ]
 
-  pub are_left : AreLeft closing p.lost done
+  pub are_left : AreLeft closing p.unnamed_inodes done
   are_left = record {
     parents = subst AreParented all.state all.holds.parented;
     descriptions = description_left;
@@ -152,7 +152,7 @@ pub cleared : {ps qs : Processes} {s mid after last one two three : Numbers} {ds
     → AreReslotted p.slots former ps qs after last → HasAll ps qs s last ds
     → Frees (all_closed (given_in former)) qs last one
     → Frees (all_closed (keys_of p.openings)) qs one two
-    → Frees (free_inodes p.lost) qs two three
+    → Frees (free_inodes p.unnamed_inodes) qs two three
     → Sound qs three × (state_of qs three ≡ tidy (all_done ds (state_of ps s)))
     × ((c : Claim) → kept_in three c + claimed c ds ≡ kept_in s c)
 cleared {ps} {qs} {s} {mid} {after} {last} {one} {two} {three} {ds} {p} {former}
@@ -165,11 +165,11 @@ cleared {ps} {qs} {s} {mid} {after} {last} {one} {two} {three} {ds} {p} {former}
     state : state_of qs three ≡ tidy done
     state =
         third.state
-        ∙ ap (free_inodes p.lost) (second.state
+        ∙ ap (free_inodes p.unnamed_inodes) (second.state
         ∙ ap (all_closed (keys_of p.openings)) (first.state
         ∙ ap (all_closed (given_in former)) all.state)
         ∙ sym (closed_append (given_in former) (keys_of p.openings) done))
-        ∙ left_is_tidy_lem.closed (given_in former ++ keys_of p.openings) p.lost done
+        ∙ left_is_tidy_lem.closed (given_in former ++ keys_of p.openings) p.unnamed_inodes done
         (are_left ps qs s after last ds p former can slots all)
 
     well : WellFormed done

@@ -174,15 +174,15 @@ module _ (ps : Processes) (s : Numbers) (v : Committed) (is : committed_of ps s 
       moved_sound = sound_after ps ps s t [] move sound move_fits moved_tidy made.root made.staged made.counted
 
     -- where something had it, and is freed
-    module _ (lost : ℕ) (some : inode_replaced replaced ≡ lost ∷ []) (u : Numbers) (freed : Frees (free_inode lost) ps t u) where
-      frees_one : free_inode lost (applied [] move (state_of ps s)) ≡ tidy (applied [] move (state_of ps s))
+    module _ (former : ℕ) (some : inode_replaced replaced ≡ former ∷ []) (u : Numbers) (freed : Frees (free_inode former) ps t u) where
+      frees_one : free_inode former (applied [] move (state_of ps s)) ≡ tidy (applied [] move (state_of ps s))
       frees_one = subst (λ ns. free_inodes ns (applied [] move (state_of ps s)) ≡ tidy (applied [] move (state_of ps s))) some frees
 
       pub over_tidy : state_of ps u ≡ tidy (applied [] move (state_of ps s))
-      over_tidy = freed_state ps ps s t [] move sound move_fits made (free_inode lost) frees_one u freed
+      over_tidy = freed_state ps ps s t [] move sound move_fits made (free_inode former) frees_one u freed
 
       pub over_sound : Sound ps u
-      over_sound = freed_sound ps ps s t [] move sound move_fits made (free_inode lost) frees_one u freed
+      over_sound = freed_sound ps ps s t [] move sound move_fits made (free_inode former) frees_one u freed
 
       pub over_kept : (c : Claim) → kept_in u c + claimed_by_one c [] move ≡ kept_in s c
       over_kept c = ap (λ m. m + claimed_by_one c [] move) (freed.kept c) ∙ moved_kept c

@@ -25,7 +25,7 @@ use Rattle.shadow.proofs.noting.AgreementAfterEdit.{Along, along_all, along_same
 use Rattle.shadow.proofs.claims.EditClaims.{AreFree, all_one, claims_more, other_claims}
 
 -- nothing is changed
-pub agrees_none : Agrees [] (record { inodes = []; openings = []; slots = []; lost = [] })
+pub agrees_none : Agrees [] (record { inodes = []; openings = []; slots = []; unnamed_inodes = [] })
 agrees_none = record {
   root = λ k. refl;
   count = λ k. refl;
@@ -35,7 +35,7 @@ agrees_none = record {
   processes = λ k pid. refl;
   named = λ n. refl;
   unnamed = λ n. refl;
-  lost = refl;
+  unnamed_inodes = refl;
   claims = none;
   added = λ n. omega arith;
   still = λ n none. refl;
@@ -47,7 +47,7 @@ agrees_none = record {
   alive = λ k pid f some. absurd (some refl);
 }
   where
-    none : (c : Claim) → claimed c [] ≡ claim_in (record { inodes = []; openings = []; slots = []; lost = [] }) c
+    none : (c : Claim) → claimed c [] ≡ claim_in (record { inodes = []; openings = []; slots = []; unnamed_inodes = [] }) c
     none (Room d) = refl
     none (New_directory n) = refl
     none (Number n) = refl
@@ -92,7 +92,7 @@ along_of ds p a = record {
   processes = a.processes;
   named = a.named;
   unnamed = a.unnamed;
-  lost = a.lost;
+  unnamed_inodes = a.unnamed_inodes;
   added = a.added;
   still = a.still;
   kinds = a.kinds;
@@ -114,7 +114,7 @@ of_along ds p claims a = record {
   processes = a.processes;
   named = a.named;
   unnamed = a.unnamed;
-  lost = a.lost;
+  unnamed_inodes = a.unnamed_inodes;
   claims = claims;
   added = a.added;
   still = a.still;
@@ -176,8 +176,8 @@ agrees_same ds p q s a = record {
   descriptions = λ k d. a.descriptions k d ∙ ap (λ o. reopened o (get k.descriptions d)) (sym (s.openings d));
   processes = λ k pid. a.processes k pid ∙ sym (s.processes pid (get k.processes pid));
   named = λ n. a.named n ∙ sym (ap (λ (net : Net). net.named) (s.inodes.nets n));
-  unnamed = λ n. ap (times n) s.lost ∙ a.unnamed n ∙ sym (ap (λ (net : Net). net.unnamed) (s.inodes.nets n));
-  lost = a.lost ∙ sym s.lost;
+  unnamed = λ n. ap (times n) s.unnamed_inodes ∙ a.unnamed n ∙ sym (ap (λ (net : Net). net.unnamed) (s.inodes.nets n));
+  unnamed_inodes = a.unnamed_inodes ∙ sym s.unnamed_inodes;
   claims = λ c. a.claims c ∙ sym (same_claim c);
   added = λ n. subst (λ c. added_by c ≤ (net_at q.inodes n).promised) (sym (contents n)) (subst (λ m. added_by (net_at p.inodes n).contents ≤ m) (sym (promised n)) (a.added n));
   still = λ n none. promised n ∙ a.still n (sym (ap form_of (contents n)) ∙ none);

@@ -33,8 +33,8 @@ pub record Along (done : Kernel → Kernel) (Fit : Kernel → Type 0) (given : �
   pub descriptions : (k : Kernel) (d : ℕ) → get (done k).descriptions d ≡ reopened (opening_at p.openings d) (get k.descriptions d)
   pub processes : (k : Kernel) (pid : ℕ) → get (done k).processes pid ≡ reslotted (kept_at p.slots pid) (get k.processes pid)
   pub named : (n : ℕ) → given n ≡ (net_at p.inodes n).named
-  pub unnamed : (n : ℕ) → times n p.lost ≡ (net_at p.inodes n).unnamed
-  pub lost : gone ≡ p.lost
+  pub unnamed : (n : ℕ) → times n p.unnamed_inodes ≡ (net_at p.inodes n).unnamed
+  pub unnamed_inodes : gone ≡ p.unnamed_inodes
   pub added : (n : ℕ) → added_by (net_at p.inodes n).contents ≤ (net_at p.inodes n).promised
   pub still : (n : ℕ) → form_of (net_at p.inodes n).contents ≡ no_change → (net_at p.inodes n).promised ≡ 0
   pub kinds : (k : Kernel) (n : ℕ) → Fit k → IsOver (kind_of k n) (net_at p.inodes n).made (form_of (net_at p.inodes n).contents)
@@ -91,8 +91,8 @@ along_step done Fit given gone Wrote p q chosen e one apart t a = record {
   descriptions = λ k d. (step k).descriptions d ∙ ap (description_after chosen e d) (a.descriptions k d) ∙ sym (t.descriptions d (get k.descriptions d));
   processes = λ k pid. (step k).processes pid ∙ ap (process_after chosen e pid) (a.processes k pid) ∙ sym (t.processes pid (get k.processes pid));
   named = λ n. ap (λ m. m + times n (named chosen e)) (a.named n) ∙ sym (t.named n);
-  unnamed = λ n. ap (times n) t.lost ∙ sum_by-append (λ v. cond (v == n) 1 0) p.lost (unnamed e) ∙ ap (λ m. m + times n (unnamed e)) (a.unnamed n) ∙ sym (t.unnamed n);
-  lost = ap (λ xs. xs ++ unnamed e) a.lost ∙ sym t.lost;
+  unnamed = λ n. ap (times n) t.unnamed_inodes ∙ sum_by-append (λ v. cond (v == n) 1 0) p.unnamed_inodes (unnamed e) ∙ ap (λ m. m + times n (unnamed e)) (a.unnamed n) ∙ sym (t.unnamed n);
+  unnamed_inodes = ap (λ xs. xs ++ unnamed e) a.unnamed_inodes ∙ sym t.unnamed_inodes;
   added = added;
   still = λ n none. (
       let before = still_before chosen e one n (form_of (net_at p.inodes n).contents) (sym (t.forms n) ∙ none) in
@@ -155,7 +155,7 @@ along_same done other Fit Fits' given given' gone gone' Wrote Wrote' p same fits
   processes = λ k pid. ap (λ (k : Kernel). get k.processes pid) (same k) ∙ a.processes k pid;
   named = λ n. is n ∙ a.named n;
   unnamed = a.unnamed;
-  lost = left ∙ a.lost;
+  unnamed_inodes = left ∙ a.unnamed_inodes;
   added = a.added;
   still = a.still;
   kinds = λ k n fit. a.kinds k n (fits k fit);

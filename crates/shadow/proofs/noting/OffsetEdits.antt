@@ -36,7 +36,7 @@ moving_takes chosen d place old openings moved = record {
   promised = λ n. omega arith;
   named = λ n. omega arith;
   unnamed = λ n. omega arith;
-  lost = sym (append-nil old.lost);
+  unnamed_inodes = sym (append-nil old.unnamed_inodes);
   forms = λ n. refl;
   added = λ n. omega arith;
   news = as_new_as d place old.openings openings moved;
@@ -83,7 +83,7 @@ opening_takes chosen i inode mode pid f old openings slots opened slotted = reco
   promised = λ n. omega arith;
   named = λ n. omega arith;
   unnamed = λ n. omega arith;
-  lost = sym (append-nil old.lost);
+  unnamed_inodes = sym (append-nil old.unnamed_inodes);
   forms = λ n. refl;
   added = λ n. omega arith;
   news = new_at (new_in chosen i) (at_start (number chosen inode) mode) old.openings openings opened;
@@ -102,7 +102,7 @@ clearing_takes chosen pid f pipes old slots slotted = record {
   promised = λ n. omega arith;
   named = λ n. omega arith;
   unnamed = λ n. omega arith;
-  lost = sym (append-nil old.lost);
+  unnamed_inodes = sym (append-nil old.unnamed_inodes);
   forms = λ n. refl;
   added = λ n. omega arith;
   news = λ d. refl;
@@ -121,7 +121,7 @@ sharing_takes chosen pid f d pipes old slots slotted = record {
   promised = λ n. omega arith;
   named = λ n. omega arith;
   unnamed = λ n. omega arith;
-  lost = sym (append-nil old.lost);
+  unnamed_inodes = sym (append-nil old.unnamed_inodes);
   forms = λ n. refl;
   added = λ n. omega arith;
   news = λ e. refl;
@@ -162,8 +162,8 @@ two_slots q f g r w s t u first second pid o =
 
 pub piping_takes : (chosen : List ℕ) (pid f g : ℕ) (old new : Patches) (t : List (ℕ × Opening)) (slots : List (ℕ × Given)) → ((n : ℕ) → Piping chosen 0 n (net_at old.inodes n) (net_at new.inodes n))
     → ends_after old.openings t new.openings (new_in chosen 0) (new_in chosen 1) (new_in chosen 2)
-    → AtSlots pid f (Some (new_in chosen 1)) old.slots slots → AtSlots pid g (Some (new_in chosen 2)) slots new.slots → new.lost ≡ old.lost → TakesIn chosen (Make_pipe 0 pid f g) old new
-piping_takes chosen pid f g old new t slots each both first second lost = record {
+    → AtSlots pid f (Some (new_in chosen 1)) old.slots slots → AtSlots pid g (Some (new_in chosen 2)) slots new.slots → new.unnamed_inodes ≡ old.unnamed_inodes → TakesIn chosen (Make_pipe 0 pid f g) old new
+piping_takes chosen pid f g old new t slots each both first second unnamed_inodes = record {
   inodes = λ n o can. (each n).contents o;
   reach = λ n o can. (each n).reach o;
   pipes = λ n. (each n).ends;
@@ -173,7 +173,7 @@ piping_takes chosen pid f g old new t slots each both first second lost = record
   promised = λ n. (let same : (net_at new.inodes n).promised ≡ (net_at old.inodes n).promised = (each n).promised in omega arith);
   named = λ n. (let same : (net_at new.inodes n).named ≡ (net_at old.inodes n).named = (each n).named in omega arith);
   unnamed = λ n. (let same : (net_at new.inodes n).unnamed ≡ (net_at old.inodes n).unnamed = (each n).unnamed in omega arith);
-  lost = lost ∙ sym (append-nil old.lost);
+  unnamed_inodes = unnamed_inodes ∙ sym (append-nil old.unnamed_inodes);
   forms = λ n. (each n).form;
   added = λ n. (let less : added_by (net_at new.inodes n).contents ≤ added_by (net_at old.inodes n).contents = (each n).added in omega arith);
   news = two_new (new_in chosen 0) (new_in chosen 1) (new_in chosen 2) old.openings t new.openings both;

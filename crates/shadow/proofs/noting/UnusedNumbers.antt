@@ -17,7 +17,7 @@ module _ (chosen : List ℕ) (p q : Patches) where
     promised = t.promised;
     named = t.named;
     unnamed = t.unnamed;
-    lost = t.lost;
+    unnamed_inodes = t.unnamed_inodes;
     forms = t.forms;
     added = t.added;
     news = t.news;
@@ -38,7 +38,7 @@ module _ (chosen : List ℕ) (p q : Patches) where
     promised = t.promised;
     named = t.named;
     unnamed = t.unnamed;
-    lost = t.lost;
+    unnamed_inodes = t.unnamed_inodes;
     forms = t.forms;
     added = t.added;
     news = t.news;
@@ -59,7 +59,7 @@ module _ (chosen : List ℕ) (p q : Patches) where
     promised = t.promised;
     named = t.named;
     unnamed = t.unnamed;
-    lost = t.lost;
+    unnamed_inodes = t.unnamed_inodes;
     forms = t.forms;
     added = t.added;
     news = t.news;
@@ -77,7 +77,7 @@ module _ (chosen : List ℕ) (p q : Patches) where
     promised = t.promised;
     named = t.named;
     unnamed = t.unnamed;
-    lost = t.lost;
+    unnamed_inodes = t.unnamed_inodes;
     forms = t.forms;
     added = t.added;
     news = t.news;
@@ -95,7 +95,7 @@ module _ (chosen : List ℕ) (p q : Patches) where
     promised = t.promised;
     named = t.named;
     unnamed = t.unnamed;
-    lost = t.lost;
+    unnamed_inodes = t.unnamed_inodes;
     forms = t.forms;
     added = t.added;
     news = t.news;
@@ -113,7 +113,7 @@ module _ (chosen : List ℕ) (p q : Patches) where
     promised = t.promised;
     named = t.named;
     unnamed = t.unnamed;
-    lost = t.lost;
+    unnamed_inodes = t.unnamed_inodes;
     forms = t.forms;
     added = t.added;
     news = t.news;
@@ -131,7 +131,7 @@ module _ (chosen : List ℕ) (p q : Patches) where
     promised = t.promised;
     named = t.named;
     unnamed = t.unnamed;
-    lost = t.lost;
+    unnamed_inodes = t.unnamed_inodes;
     forms = t.forms;
     added = t.added;
     news = t.news;

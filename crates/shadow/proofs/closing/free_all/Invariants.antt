@@ -5,4 +5,4 @@ use Rattle.shadow.proofs.freeing.RemovalSteps.{Leaves}
 use Rattle.shadow.proofs.closing.free_all.Given as goal
 
 abbrev pub invariant-loop-num : goal.invariant-loop-num
-invariant-loop-num l = Leaves free_inodes l.fn.store l.store l.fn.lost.items (into_iter_items l.num-iterator)
+invariant-loop-num l = Leaves free_inodes l.fn.store l.store l.fn.unnamed.items (into_iter_items l.num-iterator)

@@ -9,5 +9,5 @@ use Rattle.shadow.proofs.change.InodeChange.write.Goals as goal
 pub returns-clause-ok : goal.returns-clause-ok
 returns-clause-ok c =
     ok_three c.write_in.result
-    (filed_on (bytes_written c.args.place c.args.bytes.now) (blocks c.args.place (length c.args.bytes.now)) (net_of (Some c.args.self.now)) c.write_in.new.contents)
+    (filed_on (bytes_written c.args.offset c.args.bytes.now) (blocks c.args.offset (length c.args.bytes.now)) (net_of (Some c.args.self.now)) c.write_in.new.contents)
     c.write_in.ensures.contents c.write_in.ensures.form c.write_in.ensures.numbers

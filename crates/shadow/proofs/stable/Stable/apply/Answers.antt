@@ -8,8 +8,8 @@ use Rattle.shadow.proofs.noting.AgreementAfterCall.{can_give}
 use Rattle.shadow.proofs.stable.Stable.apply.Goals as goal
 
 -- what was kept for the call is kept still
-pub give_up-requires : goal.give_up-requires
-give_up-requires c = (
+pub release_claims-requires : goal.release_claims-requires
+release_claims-requires c = (
   flat_map kinds_in c.args.edits.items,
   λ claim. subst (λ n. claimed_in claim
       (with_kinds c.as_slice-in-Err.result.now (flat_map kinds_in c.args.edits.items))

@@ -2,7 +2,7 @@ use Rattle.std.proofs.Common.{false, subst, ap}
 use Rattle.shadow.specs.Patches.{is_new}
 use Rattle.shadow.proofs.claims.ReleasedClaims.{GivesUp, opened_at}
 use Rattle.shadow.proofs.claims.ReleasedDescriptions.{gives_new, gives_none, number_kept}
-use Rattle.shadow.proofs.stable.Stable.give_up_openings.Goals as goal
+use Rattle.shadow.proofs.stable.Stable.release_claims_of_openings.Goals as goal
 
 pub give_back-requires : goal.give_back-requires
 give_back-requires c =

@@ -1,7 +1,7 @@
 use Rattle.std.proofs.Common.{◌≡◌, Some, arith}
 use Rattle.shadow.specs.Patches.{net_of}
 use Rattle.shadow.proofs.claims.ReleasedClaims.{made_given, more_room_left, number_left}
-use Rattle.shadow.proofs.stable.Stable.give_up_inode.Goals as goal
+use Rattle.shadow.proofs.stable.Stable.release_claims_of_inode.Goals as goal
 
 pub unpromise-requires : goal.unpromise-requires
 unpromise-requires c = more_room_left c.args.self.now c.loop-given.self c.args.num c.loop-given._given (net_of (Some c.args.change.now)) c.loop-given.invariant c.requires c.loop-given-test.true

@@ -5,7 +5,7 @@ use Rattle.shadow.specs.Committed.{Committed}
 use Rattle.shadow.specs.Claims.{KeepsMore, claimed_in, with_kinds}
 use Rattle.shadow.proofs.claims.NewNumbers.{drop_all}
 use Rattle.shadow.proofs.claims.ReleasedClaims.{AreKept, GivesNumbers, first_coming, given_kept, given_with_room, gives_all, gives_next, room_left}
-use Rattle.shadow.proofs.stable.Stable.give_up.Goals as goal
+use Rattle.shadow.proofs.stable.Stable.release_claims.Goals as goal
 
 pub loop-num-init : goal.loop-num-init
 loop-num-init c = gives_all c.args.self.now c.args.chosen.now (listed c.args.parent)
