@@ -122,7 +122,7 @@ takes_one f low s d some c = altered_less (with_listing f) s d c (room_in d c) (
     by_place None some c same = absurd (omega arith)
     by_place (Some place) some c same = by_object place.stage place.object some c same
 
--- a number that was to come is lost
+-- a number that was to come is removed
 abbrev pub IsAwaited : Bool → ℕ → Option Place → Type 0
 IsAwaited b n o = 0 < at_place (new_number b n) o
 

@@ -78,7 +78,7 @@ not_false : (b : Bool) → not b ≡ false → b ≡ true
 not_false true e = refl
 not_false false e = absurd cc
 
--- what is lost and not over has room
+-- what is removed and not over has room
 pub hidden_staged : (o : Option Place) → is_over (option_map hidden o) ≡ false → IsStaged (option_map hidden o)
 hidden_staged None left = tt
 hidden_staged (Some place) left = not_false (has_room (listing_of place.object)) left

@@ -1,4 +1,4 @@
--- What a lost object leaves: the other places, what is staged, and what is kept for transactions.
+-- What a removed object leaves: the other places, what is staged, and what is kept for transactions.
 use Rattle.std.proofs.Common.{◌≡◌, ◌≢◌, ℕ, ◌≤◌, Bool, true, false, cond, not, Option, Some, None, refl, sym, ap, subst, ◌∙◌, arith, ltb-false, inl, inr}
 use Rattle.std.specs.Option.{option_map, option_and_then}
 use Rattle.std.proofs.lemmas.Bool.{cases_eq}
@@ -26,7 +26,7 @@ not_true : (b : Bool) → not b ≡ true → b ≡ false
 not_true false e = refl
 not_true true e = absurd cc
 
--- a lost object leaves the other places
+-- a removed object leaves the other places
 pub lost_other : (s : Numbers) (n q : ℕ) → q ≢ n → get (lost s n).places q ≡ get s.places q
 lost_other s n q away = place-swept-other (altered hidden s n) n q away ∙ place-other hidden s n q away
 
@@ -58,7 +58,7 @@ lost_before s n q object is = elim (cases_eq q n) [
     none_some : None ≡ Some object → ⊥
     none_some e = cc
 
--- what is lost and stays has room
+-- what is removed and stays has room
 hidden_staged : (o : Option Place) → is_over (option_map hidden o) ≡ false → IsStaged (option_map hidden o)
 hidden_staged None left = tt
 hidden_staged (Some place) left = not_false (has_room (listing_of place.object)) left
@@ -124,7 +124,7 @@ hidden_keeps (Some place) c settled = by_stage place.stage place.object c settle
     by_stage Removed object (New_directory m) settled = refl
     by_stage Removed object (Number m) settled = refl
 
--- what is not to come is lost with what is kept left as it is
+-- what is not to come is removed with what is kept left as it is
 pub lost_keeps : (s : Numbers) (n : ℕ) → is_coming (get s.places n) ≡ false → (c : Claim) → kept_in (lost s n) c ≡ kept_in s c
 lost_keeps s n settled = kept_alike s (lost s n) each
   where
