@@ -22,7 +22,7 @@ use crate::shadow::Shadow;
 use crate::stable::Stable;
 use dirlist::Dir;
 use fdtable::FdTable;
-use freeing_laws::pipes_keep_their_ends;
+use freeing_laws::{left_is_tidy, pipes_keep_their_ends};
 use heap::Heap;
 use ids::{Bytes, DESCRIPTORS, Fd, Kind, Name, NameList, Num, PIPE_CAPACITY, Pid, Slot};
 use look::Look;
@@ -60,6 +60,8 @@ fn change<'a>(shadow: Option<&'a Shadow>, num: Num) -> Option<&'a InodeChange>
     ensures { IsNet (changes_of (option_map (λ s. s.now) shadow.entry)) num
         (net_of (option_copied result)) }
 {
+    // For the proof: how many names give an inode after the changes.
+    left_is_tidy();
     match shadow {
         Some(shadow) => shadow.patches.inodes.get(num),
         None => None,

@@ -17,9 +17,9 @@ returns-in-Some c = given_told _ c.in-Names.is_fresh c.in-Names.names c.args.nam
 pub returns-in-None : goal.returns-in-None
 returns-in-None c =
     given_told _ c.in-Names.is_fresh c.in-Names.names c.args.name.now None _ _ c.in-Names.is (sym c.in-None.is ∙ c.look.ensures)
-    (λ o same. sym (get-empty name_cmp c.args.name.now) ∙ ap (λ b. get (names_before b o) c.args.name.now) (sym c.if-fresh.true))
+    (λ o same. sym (get-empty name_cmp c.args.name.now) ∙ ap (λ b. get (names_before b o) c.args.name.now) (sym c.if-is_fresh.true))
 
 pub returns-in-None-2 : goal.returns-in-None-2
 returns-in-None-2 c =
     given_told _ c.in-Names.is_fresh c.in-Names.names c.args.name.now None _ _ c.in-Names.is (sym c.in-None.is ∙ c.look.ensures)
-    (λ o same. sym same ∙ ap (λ b. get (names_before b o) c.args.name.now) (sym c.if-fresh.false))
+    (λ o same. sym same ∙ ap (λ b. get (names_before b o) c.args.name.now) (sym c.if-is_fresh.false))

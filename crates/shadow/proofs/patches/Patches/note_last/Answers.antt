@@ -39,8 +39,8 @@ returns-in-ClearSlot c =
     let old : Patches = record { inodes = was.inodes; openings = was.openings; slots = was.slots; unnamed_inodes = was.unnamed_inodes.items } in
     let new : Patches = record old { slots = c.note-in-ClearSlot.new.self } in
     subst (λ (e : Edit). TakesIn c.args.chosen.now e c.args.self.now new) (sym c.in-ClearSlot.is)
-    (subst (λ (p : Patches). TakesIn c.args.chosen.now (Clear_slot c.in-ClearSlot.process c.in-ClearSlot.descriptor c.in-ClearSlot.field-2) p new) c.self.view_is
-    (clearing_takes c.args.chosen.now c.in-ClearSlot.process c.in-ClearSlot.descriptor c.in-ClearSlot.field-2 old c.note-in-ClearSlot.new.self c.note-in-ClearSlot.ensures))
+    (subst (λ (p : Patches). TakesIn c.args.chosen.now (Clear_slot c.in-ClearSlot.process c.in-ClearSlot.descriptor c.in-ClearSlot.pipes) p new) c.self.view_is
+    (clearing_takes c.args.chosen.now c.in-ClearSlot.process c.in-ClearSlot.descriptor c.in-ClearSlot.pipes old c.note-in-ClearSlot.new.self c.note-in-ClearSlot.ensures))
 
 pub returns-in-ShareSlot : goal.returns-in-ShareSlot
 returns-in-ShareSlot c =
@@ -48,5 +48,5 @@ returns-in-ShareSlot c =
     let old : Patches = record { inodes = was.inodes; openings = was.openings; slots = was.slots; unnamed_inodes = was.unnamed_inodes.items } in
     let new : Patches = record old { slots = c.note-in-ShareSlot.new.self } in
     subst (λ (e : Edit). TakesIn c.args.chosen.now e c.args.self.now new) (sym c.in-ShareSlot.is)
-    (subst (λ (p : Patches). TakesIn c.args.chosen.now (Share_slot c.in-ShareSlot.process c.in-ShareSlot.descriptor c.in-ShareSlot.description c.in-ShareSlot.field-3) p new) c.self.view_is
-    (sharing_takes c.args.chosen.now c.in-ShareSlot.process c.in-ShareSlot.descriptor c.in-ShareSlot.description c.in-ShareSlot.field-3 old c.note-in-ShareSlot.new.self c.note-in-ShareSlot.ensures))
+    (subst (λ (p : Patches). TakesIn c.args.chosen.now (Share_slot c.in-ShareSlot.process c.in-ShareSlot.descriptor c.in-ShareSlot.description c.in-ShareSlot.pipes) p new) c.self.view_is
+    (sharing_takes c.args.chosen.now c.in-ShareSlot.process c.in-ShareSlot.descriptor c.in-ShareSlot.description c.in-ShareSlot.pipes old c.note-in-ShareSlot.new.self c.note-in-ShareSlot.ensures))

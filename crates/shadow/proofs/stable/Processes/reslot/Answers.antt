@@ -18,8 +18,8 @@ module _ (ps qs : Processes) (given pid : ℕ) (shown : ps ≡ qs) (same : given
   reads : (o : Option Process) → o ≡ get_or ps.list (given - 1) o → o ≡ get (numbered qs) pid
   reads o is = read_there ps given o there is ∙ shows
 
-pub overflow_sub-place : goal.overflow_sub-place
-overflow_sub-place c =
+pub overflow_sub-index : goal.overflow_sub-index
+overflow_sub-index c =
     let is : IsProcess c.args.self.now c.args.pid = is_process c.args.self.now c.args.pid c.requires.pid in
     let some : 0 < c.args.pid = is.some in
     let same : c.pid.inside.0 ≡ c.args.pid = c.pid.view_is in

@@ -58,27 +58,27 @@ returns-in-OpenInode-clause-state c =
     ∙ ap (λ (e : Edit). tidy (applied chosen e c.args.self.now.state)) (sym c.in-OpenInode.is)
 
 pub reslot-requires-clause-fits : goal.reslot-requires-clause-fits
-reslot-requires-clause-fits c = (c.in-ShareSlot.field-3, subst (Fits c.args.chosen.now c.args.self.now.state) c.in-ShareSlot.is c.requires.fits)
+reslot-requires-clause-fits c = (c.in-ShareSlot.pipes, subst (Fits c.args.chosen.now c.args.self.now.state) c.in-ShareSlot.is c.requires.fits)
 
 pub returns-in-ShareSlot-clause-state : goal.returns-in-ShareSlot-clause-state
 returns-in-ShareSlot-clause-state c =
-    c.reslot.ensures.state c.in-ShareSlot.field-3
+    c.reslot.ensures.state c.in-ShareSlot.pipes
     (subst (Fits c.args.chosen.now c.args.self.now.state) c.in-ShareSlot.is c.requires.fits)
     ∙ ap (λ (k : Kernel). tidy k)
     (same_slotting c.args.chosen.now c.args.self.now.state (Some c.in-ShareSlot.description) c.in-ShareSlot.process c.in-ShareSlot.descriptor
-    c.in-ShareSlot.field-3)
+    c.in-ShareSlot.pipes)
     ∙ ap (λ (e : Edit). tidy (applied c.args.chosen.now e c.args.self.now.state))
     (sym c.in-ShareSlot.is)
 
 pub reslot-requires-in-ClearSlot-clause-fits : goal.reslot-requires-in-ClearSlot-clause-fits
-reslot-requires-in-ClearSlot-clause-fits c = (c.in-ClearSlot.field-2, subst (Fits c.args.chosen.now c.args.self.now.state) c.in-ClearSlot.is c.requires.fits)
+reslot-requires-in-ClearSlot-clause-fits c = (c.in-ClearSlot.pipes, subst (Fits c.args.chosen.now c.args.self.now.state) c.in-ClearSlot.is c.requires.fits)
 
 pub returns-in-ClearSlot-clause-state : goal.returns-in-ClearSlot-clause-state
 returns-in-ClearSlot-clause-state c =
-    c.reslot-in-ClearSlot.ensures.state c.in-ClearSlot.field-2
+    c.reslot-in-ClearSlot.ensures.state c.in-ClearSlot.pipes
     (subst (Fits c.args.chosen.now c.args.self.now.state) c.in-ClearSlot.is c.requires.fits)
     ∙ ap (λ (k : Kernel). tidy k)
     (same_slotting c.args.chosen.now c.args.self.now.state None c.in-ClearSlot.process c.in-ClearSlot.descriptor
-    c.in-ClearSlot.field-2)
+    c.in-ClearSlot.pipes)
     ∙ ap (λ (e : Edit). tidy (applied c.args.chosen.now e c.args.self.now.state))
     (sym c.in-ClearSlot.is)

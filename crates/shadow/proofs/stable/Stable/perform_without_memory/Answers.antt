@@ -21,7 +21,7 @@ returns-in-MakeDirectory-clause-state c =
     c.make_directory.ensures.state
     ∙ ap (λ (k : Kernel). tidy k)
     (same_directory chosen c.in-MakeDirectory.parent c.in-MakeDirectory.name
-    c.index-chosen-0.result c.in-MakeDirectory.field-2
+    c.index-chosen-0.result c.in-MakeDirectory.index
     (subst TakesNoMemory c.in-MakeDirectory.is c.requires.first) at c.args.self.now.state)
     ∙ ap (λ (e : Edit). tidy (applied chosen e c.args.self.now.state)) (sym c.in-MakeDirectory.is)
 
@@ -36,7 +36,7 @@ returns-in-MakeFile-clause-state c =
     c.make_file.ensures.state
     ∙ ap (λ (k : Kernel). tidy k)
     (same_file chosen c.in-MakeFile.parent c.in-MakeFile.name
-    c.index-chosen-0-in-MakeFile.result c.in-MakeFile.field-2
+    c.index-chosen-0-in-MakeFile.result c.in-MakeFile.index
     (subst TakesNoMemory c.in-MakeFile.is c.requires.first) at c.args.self.now.state)
     ∙ ap (λ (e : Edit). tidy (applied chosen e c.args.self.now.state)) (sym c.in-MakeFile.is)
 
@@ -83,9 +83,9 @@ returns-in-Move-clause-state c =
 pub returns-in-Cut-clause-state : goal.returns-in-Cut-clause-state
 returns-in-Cut-clause-state c =
     let chosen : List ℕ = c.args.chosen.now in let k : Kernel = c.args.self.now.state in
-    let e : Edit = Cut c.in-Cut.file c.in-Cut.field-1 c.in-Cut.length in
-    c.cut.ensures.state c.in-Cut.field-1
-    ∙ same_cut chosen k c.in-Cut.file c.in-Cut.field-1 c.in-Cut.length
+    let e : Edit = Cut c.in-Cut.file c.in-Cut.length_before c.in-Cut.length in
+    c.cut.ensures.state c.in-Cut.length_before
+    ∙ same_cut chosen k c.in-Cut.file c.in-Cut.length_before c.in-Cut.length
     ∙ none_goes chosen k e c.state_is_tidied.ensures
     (subst (Fits chosen k) c.in-Cut.is c.requires.fits) refl
     ∙ ap (λ (e : Edit). tidy (applied chosen e k)) (sym c.in-Cut.is)
