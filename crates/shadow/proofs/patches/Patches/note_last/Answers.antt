@@ -25,12 +25,12 @@ returns-in-OpenInode c =
     let last = subst (λ (e : Edit). (m : ℕ) × IsLast m e × (m + news e ≤ length chosen)) c.in-OpenInode.is c.requires.last in
     let here : c.in-OpenInode.index ≡ last.0 = last.1.0 in
     let low : c.in-OpenInode.index < length chosen = omega (arith, here, last.2) in
-    let at : c.index-chosen-place.result ≡ new_in chosen c.in-OpenInode.index = get_or_read chosen c.in-OpenInode.index c.index-chosen-place.result low c.index-chosen-place.is 0 in
+    let at : c.index-chosen-index.result ≡ new_in chosen c.in-OpenInode.index = get_or_read chosen c.in-OpenInode.index c.index-chosen-index.result low c.index-chosen-index.is 0 in
     let it : c.at_start-opened.result ≡ at_start (number chosen c.in-OpenInode.inode) c.in-OpenInode.mode = c.at_start-opened.ensures ∙ ap (λ n. at_start n c.in-OpenInode.mode) c.number.ensures in
     subst (λ (e : Edit). TakesIn chosen e c.args.self.now new) (sym c.in-OpenInode.is)
     (subst (λ (p : Patches). TakesIn chosen (Open_inode c.in-OpenInode.index c.in-OpenInode.inode c.in-OpenInode.mode c.in-OpenInode.process c.in-OpenInode.descriptor) p new) c.self.view_is
     (opening_takes chosen c.in-OpenInode.index c.in-OpenInode.inode c.in-OpenInode.mode c.in-OpenInode.process c.in-OpenInode.descriptor old c.open.new.self c.note.new.self
-    (subst (λ m. AtOpening m (IsOpened (at_start (number chosen c.in-OpenInode.inode) c.in-OpenInode.mode)) was.openings c.open.new.self) at (subst (λ d. AtOpening c.index-chosen-place.result (IsOpened d) was.openings c.open.new.self) it c.open.ensures))
+    (subst (λ m. AtOpening m (IsOpened (at_start (number chosen c.in-OpenInode.inode) c.in-OpenInode.mode)) was.openings c.open.new.self) at (subst (λ d. AtOpening c.index-chosen-index.result (IsOpened d) was.openings c.open.new.self) it c.open.ensures))
     (subst (λ m. AtSlots c.in-OpenInode.process c.in-OpenInode.descriptor (Some m) was.slots c.note.new.self) at c.note.ensures)))
 
 pub returns-in-ClearSlot : goal.returns-in-ClearSlot

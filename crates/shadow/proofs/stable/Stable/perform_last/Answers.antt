@@ -47,13 +47,13 @@ returns-in-OpenInode-clause-state c =
     c.in-OpenInode.is c.requires.last in
     let here : c.in-OpenInode.index ≡ last.0 = last.1.0 in
     let low : c.in-OpenInode.index < length chosen = omega (arith, here, last.2) in
-    let at : c.index-chosen-place.result ≡ new_in chosen c.in-OpenInode.index =
-    get_or_read chosen c.in-OpenInode.index c.index-chosen-place.result low
-    c.index-chosen-place.is 0 in
+    let at : c.index-chosen-index.result ≡ new_in chosen c.in-OpenInode.index =
+    get_or_read chosen c.in-OpenInode.index c.index-chosen-index.result low
+    c.index-chosen-index.is 0 in
     c.open_inode.ensures.state
     ∙ ap (λ (k : Kernel). tidy k)
     (same_opening chosen c.in-OpenInode.index c.in-OpenInode.inode c.in-OpenInode.mode
-    c.in-OpenInode.process c.in-OpenInode.descriptor c.index-chosen-place.result c.number-inode.result at
+    c.in-OpenInode.process c.in-OpenInode.descriptor c.index-chosen-index.result c.number-inode.result at
     c.number-inode.ensures c.args.self.now.state)
     ∙ ap (λ (e : Edit). tidy (applied chosen e c.args.self.now.state)) (sym c.in-OpenInode.is)
 
