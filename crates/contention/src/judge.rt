@@ -89,6 +89,7 @@ fn doomed_by(heap: Heap, caller: Pid, clashes: &[Clash]) -> Result<Vec<Doomed, H
         → IfOk result (λ doomed. doomed.items ≡ told_below caller clashes.now n) }
 {
     let firsts = firsts_of(heap, clashes)?;
+    // For the proof: `len` tells that the processes rise.
     let _count = firsts.len();
     told_all(heap, caller, firsts)
 }
