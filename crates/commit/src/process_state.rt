@@ -1,4 +1,7 @@
 // What is kept of each process.
+//
+// For the proof: what a slot has and nobody needs goes by `drop`, which is one call. Where it goes by
+// itself, the proof opens it variant by variant.
 ghost use Rattle.ids.specs.declared.limits.TheConstants.{MAX_PROCESSES};
 ghost use Rattle.std.specs.Prelude.{◌≡◌, ◌<◌, ◌≤◌, true, length, suc, is_some, option_map, IfOk};
 ghost use Rattle.std.specs.Prelude.{IfSome, OnErr};

@@ -216,6 +216,7 @@ impl Transactions {
         ensures state { self.new.stable.state ≡ self.old.stable.state }
         ensures err { OnErr result (SameViews self.old.slots self.new.slots) }
     {
+        // For the proof: by `?` each exit shows the invariant for itself.
         let chosen = edit_slot(&mut self.slots, &mut self.stable, pid, edits)?;
         Ok(chosen)
     }
@@ -233,9 +234,11 @@ impl Transactions {
         ensures slots { SameViews self.old.slots self.new.slots }
         ensures err { OnErr result (self.new.stable.state ≡ self.old.stable.state) }
     {
+        // For the proof: by `?` each exit shows the invariant for itself.
         let chosen = self.stable.apply(edits)?;
         Ok(chosen)
     }
+
     /// A process in no transaction makes a child, at once: a process in no transaction, whose number
     /// is the next and is answered. Refused memory changes nothing.
     pub fn fork(&mut self, parent: Pid) -> Result<Pid, AllocError>

@@ -1,4 +1,7 @@
 // Calls of processes in no transaction and in live ones.
+//
+// For the proof: what a refused step holds goes by `drop`, which is one call. Where a `?` lets a value
+// go, the proof opens it field by field.
 ghost use Rattle.ids.specs.declared.limits.TheConstants.{MAX_PROCESSES};
 ghost use Rattle.std.specs.Prelude.{◌≡◌, ◌<◌, ◌∷◌, [], ℕ, suc, true, List, None, map, IfOk, OnErr, OnOk};
 ghost use Rattle.std.specs.List.{AllByRecursion};

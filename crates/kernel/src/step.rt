@@ -1,4 +1,7 @@
 // One operation of one process.
+//
+// For the proof: an operation that is not executed goes by `drop`, which is one call. Where it goes by
+// itself, the proof opens it field by field.
 ghost use Rattle.std.specs.Prelude.{◌≡◌, false};
 ghost use Rattle.model.specs.Entries as entries;
 ghost use Rattle.model.specs.Entries.{is_inside};
