@@ -146,18 +146,6 @@ impl Dir {
         self.promised -= 1;
     }
 
-    /// Adds a name, and leaves the room that is promised. Refused memory changes nothing.
-    pub fn insert(&mut self, name: Name, num: Num) -> Result<(), AllocError>
-        requires { map.get self.old.names name ≡ None }
-        ensures ok { OnOk result
-            (self.new ≡ record self.old { names = map.insert self.old.names name num }) }
-        ensures err { OnErr result (self.new ≡ self.old) }
-    {
-        self.promise()?;
-        self.insert_promised(name, num);
-        Ok(())
-    }
-
     /// Takes a name away, and gives the number that it gave. It takes no memory, and leaves the
     /// room that is promised.
     pub fn remove(&mut self, name: &Name) -> Option<Num>

@@ -56,13 +56,6 @@ impl NamePatch {
         }
     }
 
-    /// Whether nothing is noted.
-    pub fn is_empty(&self) -> bool
-        ensures { result ≡ (map.len self.now == 0) }
-    {
-        self.given.is_empty()
-    }
-
     /// What is noted of a name, or `None` where nothing is. It takes no memory.
     pub fn look(&self, name: &Name) -> Option<Option<Num>>
         ensures { result ≡ map.get self.now name.now }

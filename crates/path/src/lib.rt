@@ -124,7 +124,7 @@ fn cut_at_slash(bytes: &[u8]) -> (&[u8], Option<&[u8]>)
 }
 
 fn first_slash(bytes: &[u8]) -> Option<usize>
-    ensures place { result ≡ position (λ b. b == 47) bytes.now }
+    ensures index { result ≡ position (λ b. b == 47) bytes.now }
     ensures within { IfSome result (λ end. end < length bytes.now) }
 {
     bytes.iter().position(|byte| *byte == b'/')

@@ -36,7 +36,7 @@ fn are_same_answers(answer: &Answer, other: &Answer) -> bool
         (Answer::Done, Answer::Done) => true,
         (Answer::Fd(fd), Answer::Fd(same)) => fd == same,
         (Answer::Count(count), Answer::Count(same)) => count == same,
-        (Answer::Place(place), Answer::Place(same)) => place == same,
+        (Answer::Place(offset), Answer::Place(same)) => offset == same,
         (Answer::Bytes(bytes), Answer::Bytes(same)) => are_same_bytes(bytes, same),
         (Answer::Pair(reader, writer), Answer::Pair(same, too)) => {
             reader == same && writer == too

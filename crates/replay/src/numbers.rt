@@ -15,10 +15,10 @@ fn news(edit: &Edit) -> usize
     ensures { result ≡ news edit.now }
 {
     match edit {
-        Edit::MakeDirectory(_, _, _) => 1,
-        Edit::MakeFile(_, _, _) => 1,
-        Edit::OpenInode(_, _, _, _, _) => 1,
-        Edit::MakePipe(_, _, _, _) => 3,
+        Edit::MakeDirectory { .. } => 1,
+        Edit::MakeFile { .. } => 1,
+        Edit::OpenInode { .. } => 1,
+        Edit::MakePipe { .. } => 3,
         _ => 0,
     }
 }

@@ -121,8 +121,8 @@ impl Model for PlainKernel {
     ghost invariant = { λ k. k.largest ≤ LARGEST_FILE };
 }
 
-// A process has the place of its number.
-pub(crate) fn place_of(pid: Pid) -> Num
+// A process has its number as its key.
+pub(crate) fn key_of(pid: Pid) -> Num
     ensures { result ≡ pid }
 {
     Num(pid.0 as usize)
@@ -133,7 +133,7 @@ impl PlainKernel {
     pub(crate) fn is_living(&self, pid: Pid) -> bool
         ensures { result ≡ is_alive self.now pid }
     {
-        self.processes.get(place_of(pid)).is_some()
+        self.processes.get(key_of(pid)).is_some()
     }
 
     // What never changes of a description, with its inode's kind.
@@ -316,10 +316,10 @@ impl Look for PlainKernel {
         &self,
         heap: Heap,
         file: Num,
-        place: u32,
+        offset: u32,
         count: u32,
     ) -> Result<Bytes, AllocError> {
-        read_in(heap, self.inodes.get(file), place, count)
+        read_in(heap, self.inodes.get(file), offset, count)
     }
 
     fn links(&self, file: Num) -> Result<u32, AllocError> {
@@ -369,14 +369,14 @@ impl Look for PlainKernel {
     }
 
     fn table(&self, heap: Heap, pid: Pid) -> Result<Vec<(Fd, Slot), Heap>, AllocError> {
-        match self.processes.get(place_of(pid)) {
+        match self.processes.get(key_of(pid)) {
             Some(process) => self.slots_of(heap, process.table.as_slice()),
             None => Ok(Vec::new(heap)),
         }
     }
 
     fn birth(&self, pid: Pid) -> Result<(u32, u8), AllocError> {
-        match self.processes.get(place_of(pid)) {
+        match self.processes.get(key_of(pid)) {
             Some(process) => Ok((self.made, process.priority)),
             None => Ok((self.made, 0)),
         }

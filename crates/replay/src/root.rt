@@ -56,10 +56,10 @@ fn first_missing(rising: &[usize]) -> usize
 }
 
 // What an entry tells of the root's number, if it is an executed `stat` of it.
-pub(crate) fn told_root(entries: &[Entry], place: usize) -> Option<Num>
-    ensures { (root : ℕ) → TellsAt root entries.now place → result ≡ Some root }
+pub(crate) fn told_root(entries: &[Entry], position: usize) -> Option<Num>
+    ensures { (root : ℕ) → TellsAt root entries.now position → result ≡ Some root }
 {
-    let entry = entries.get(place)?;
+    let entry = entries.get(position)?;
     told_by(&entry.op, &entry.reply)
 }
 
