@@ -139,8 +139,8 @@ fn deny(s: &mut State, pid: Pid, flags: BeginFlags, age: Age, call: Call) -> Rep
         let told = Twice::new(unsupported(), unsupported());
         end_transaction(s, pid, op, told, false, (flags, age))
     } else {
-        let told = Twice::new(Reply::Errno(Errno::ENOTSUP), Reply::Errno(Errno::ENOTSUP));
-        add_entry(s, pid, op, told)
+        let refused = Twice::new(Reply::Errno(Errno::ENOTSUP), Reply::Errno(Errno::ENOTSUP));
+        add_entry(s, pid, op, refused)
     }
 }
 

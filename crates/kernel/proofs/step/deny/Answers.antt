@@ -25,6 +25,6 @@ add_entry-requires c =
     let reply = Refuses ENOTSUP in
     let l = c.requires.asks.stands in
     let s = live c.args.flags c.args.age l.0 in
-    rw c.new-told-2.ensures (leaves f c.requires.asks.holds pid op reply s l.1
+    rw c.new-refused.ensures (leaves f c.requires.asks.holds pid op reply s l.1
     (denied f pid c.args.call reply s c.args.flags l.1 c.requires.asks.place c.requires.outside (ap (λ b. if b then Aborted Unsupported false else Refuses ENOTSUP) (sym (sym c.aborts_unsupported.ensures ∙ c.if-aborts_unsupported.false))) c.args.age l.0 refl) refl refl
     refl (not_executed c.args.call))
