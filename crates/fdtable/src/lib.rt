@@ -2,7 +2,7 @@
 //! description; and changes of one. Contracts see both as finite maps.
 #![tactic(auto)]
 
-ghost use Rattle.std.specs.Prelude.{◌≡◌, ◌+◌, ◌-◌, ◌<◌, ◌≤◌, MatchOption, IfOk, IfSome, IsSome, [], ◌∷◌};
+ghost use Rattle.std.specs.Prelude.{◌≡◌, ◌<◌, IfOk, IsSome};
 ghost use Rattle.std.specs.Prelude.{◌==◌, count_by};
 ghost use Rattle.model.specs.FiniteMap as map;
 ghost use Rattle.fdtable.specs.Open.{one_if};

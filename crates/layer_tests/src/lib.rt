@@ -20,7 +20,6 @@ mod of_contention;
 #[cfg(test)]
 mod of_dirlist;
 #[cfg(test)]
-#[cfg(test)]
 mod of_file_shadow;
 #[cfg(test)]
 mod of_fuse;

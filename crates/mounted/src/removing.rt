@@ -14,7 +14,7 @@ use course::{Fault, Hand};
 use fuse::{Errno, Reply};
 use ids::Bytes;
 use machine::Machine;
-use nodes::Place;
+use nodes::DirectoryEntry;
 use std::alloc::AllocError;
 
 // The flag of a move that replaces nothing.
@@ -45,12 +45,12 @@ fn absent_in(flags: u32) -> Result<bool, Fault>
 
 impl Tables {
     // The place of a name.
-    fn place_of(&self, node: u64, name: &Bytes) -> Result<Place, AllocError> {
-        Place::new(self.heap, node, name.as_slice())
+    fn place_of(&self, node: u64, name: &Bytes) -> Result<DirectoryEntry, AllocError> {
+        DirectoryEntry::new(self.heap, node, name.as_slice())
     }
 
     // A name was taken away.
-    fn note_removed(&mut self, node: u64, place: &Place) {
+    fn note_removed(&mut self, node: u64, place: &DirectoryEntry) {
         self.nodes.detach(place);
         self.note_names(node);
     }
@@ -138,7 +138,7 @@ impl Tables {
         let former = self.place_of(node, name)?;
         let spot = self.spot_for(new_parent, new_name)?;
         course::move_name(hand, from, to, again)?;
-        self.nodes.move_place(&former, spot)?;
+        self.nodes.move_entry(&former, spot)?;
         self.note_names(node);
         self.note_names(new_parent);
         Ok(Reply::Empty)

@@ -102,7 +102,7 @@ module _ (old named less more : Slab Header) (d : ℕ) (o : Option Header) (form
       let same : links_in (inodes_of more) q ≡ links_in (inodes_of named) q = ap (λ places. links_in (chosen inode_in places) q) (places-same named more same_place) in
       omega arith
 
-  -- no name gives what is lost
+  -- no name gives what is removed
   none_lost : (q : ℕ) → may_be_named (place_of (slab.get less q)) ≡ false → given_by new q ≡ 0
   none_lost q barred = by_new new refl
     where

@@ -68,7 +68,7 @@ pub record LosesLink (old new : Slab Header) (target : Option ℕ) : Type 0 wher
 abbrev pub names_in : Object → FinMap name_cmp ℕ
 names_in object = names_of_inode (inode_of object)
 
--- what is to come has no names, and no name gives what is lost
+-- what is to come has no names, and no name gives what is removed
 abbrev pub IsStaged : Stage → FinMap name_cmp ℕ → ℕ → Type 0
 IsStaged Coming names links = names ≡ empty
 IsStaged Held names links = Unit {0}

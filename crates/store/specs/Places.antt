@@ -1,4 +1,4 @@
--- How the places of a store change: an object to come is shown, an object is lost, or what it holds
+-- How the places of a store change: an object to come is shown, an object is removed, or what it holds
 -- changes.
 use Rattle.std.specs.Prelude.{ℕ, ◌+◌, ◌-◌, ◌++◌, Bool, true, false, not, nat_lt, Option, Some, None}
 use Rattle.std.specs.Prelude.{◌≤◌, if◌then◌else◌, List, drop, length}
@@ -130,7 +130,7 @@ IsRoomy taken appended None = ⊥
 
 -- a description with another offset, and with one holder more or less
 abbrev pub moved_to : ℕ → Opened → Opened
-moved_to place opened = record opened { description = at_offset place opened.description }
+moved_to offset opened = record opened { description = at_offset offset opened.description }
 
 abbrev pub more_holders : Opened → Opened
 more_holders opened = record opened { holders = opened.holders + 1 }
@@ -230,7 +230,7 @@ abbrev pub has_room : Option Listing → Bool
 has_room (Some listing) = nat_lt 0 listing.promised
 has_room None = false
 
--- whether an object is lost and nothing is promised in it any more
+-- whether an object is removed and nothing is promised in it any more
 abbrev pub is_over_by : Stage → Bool → Bool
 is_over_by Removed room = not room
 is_over_by Coming room = false
@@ -240,11 +240,11 @@ abbrev pub is_over : Option Place → Bool
 is_over (Some place) = is_over_by place.stage (has_room (listing_of place.object))
 is_over None = false
 
--- the number of a lost object with no promised room is given up
+-- the number of a removed object with no promised room is given up
 abbrev pub swept : Numbers → ℕ → Numbers
 swept s n = if is_over (get s.places n) then record s { places = remove s.places n } else s
 
--- an object is lost
+-- an object is removed
 abbrev pub lost : Numbers → ℕ → Numbers
 lost s n = swept (altered hidden s n) n
 

@@ -76,7 +76,7 @@ fn is_promised_in(object: &Object) -> bool
     }
 }
 
-/// Whether the object of a number is lost, with no room promised in it.
+/// Whether the object of a number is removed, with no room promised in it.
 pub fn is_over_at(headers: &Slab<Header, Heap>, key: usize) -> bool
     ensures { result ≡ is_over (place_at headers.now key) }
 {
@@ -115,7 +115,7 @@ fn install_in(place: &mut Place)
     }
 }
 
-/// The object of a number is lost.
+/// The object of a number is removed.
 pub fn hide_at(headers: &mut Slab<Header, Heap>, key: usize)
     ensures { Updates headers.old headers.new key
         (option_map (at_place hidden) (get headers.old key)) }
@@ -315,7 +315,7 @@ fn remove_link_at(headers: &mut Slab<Header, Heap>, key: usize)
     }
 }
 
-/// A `usize` can count the numbers that are in use.
+/// For the proof: a `usize` can count the numbers that are in use.
 pub fn numbers_are_few(headers: &Slab<Header, Heap>)
     ensures { slab_len headers.now < 2 ^ 64 }
 {

@@ -117,7 +117,7 @@ fn deal<K: Machine>(
 }
 
 // Shows that the history of the seat, which has the kernel for ever, begins with what each of the
-// passes had seen. It is for contracts alone: the word that it loads is not used.
+// passes had seen.
 fn check_passes<K: Machine>(lock: &Lock<K>, seat: &mut Place<K>, mut passes: Vec<Pass<K>, Heap>)
     requires lock { lock.now.shared.table_id.words ≡ 1 }
     requires seat { (seat.old.table_id ≡ lock.now.shared.table_id) × IsClosing seat.old.me }
@@ -131,6 +131,8 @@ fn check_passes<K: Machine>(lock: &Lock<K>, seat: &mut Place<K>, mut passes: Vec
             pid: _,
             seat: other,
         } = pass;
+        // For the proof: what the pass had seen begins the history. The word that is loaded is not
+        // used.
         lock.shared.join_seat::<Collect>(seat, other);
         lock.shared.load::<Check>(seat, 0);
     }
@@ -429,7 +431,8 @@ impl<K: Machine> Turnstile<K> {
         }
     }
 
-    // Tells the first seat what the second has seen, and compares.
+    // Tells the first seat what the second has seen, and compares. The word that is loaded is not
+    // used.
     fn compare(&self, seat: &mut Place<K>, other: &mut Place<K>)
         requires seat { (seat.old.table_id ≡ self.now.table) × IsAtRest seat.old.me }
         requires other { (other.old.table_id ≡ self.now.table) × IsAtRest other.old.me }
@@ -437,6 +440,7 @@ impl<K: Machine> Turnstile<K> {
         ensures compared { Compares (pass_of seat.old.me.0) (pass_of other.old.me.0).seen }
     {
         let shared = &self.table.shared;
+        // For the proof: of what two seats have seen one begins the other.
         let copy = shared.split_seat::<Copied>(other);
         shared.join_seat::<Inform>(seat, copy);
         shared.load::<Compare>(seat, 0);

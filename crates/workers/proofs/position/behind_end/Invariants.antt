@@ -1,7 +1,7 @@
 use Rattle.std.proofs.Common.{◌≡◌, length}
 use Rattle.script.specs.Steps.{ops_for}
 use Rattle.workers.specs.Rules.{behind_end}
-use Rattle.workers.proofs.place.behind_end.Given as goal
+use Rattle.workers.proofs.position.behind_end.Given as goal
 
 -- no line that was passed over ends a transaction
 abbrev pub invariant-loop-op : goal.invariant-loop-op

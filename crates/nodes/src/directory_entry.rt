@@ -14,7 +14,7 @@ use std::marker::Model;
 
 /// A name of a directory.
 #[derive(Debug)]
-pub struct Place {
+pub struct DirectoryEntry {
     /// The node of the directory.
     pub parent: u64,
     /// The name.
@@ -22,28 +22,28 @@ pub struct Place {
 }
 
 // By hand: a derived drop is opened at every place where a value goes, this one is called.
-impl Drop for Place {
+impl Drop for DirectoryEntry {
     fn drop(self) {
-        let Place { parent: _, name: _ } = self;
+        let DirectoryEntry { parent: _, name: _ } = self;
     }
 }
 
-impl Place {
-    /// The place of this name. Refused memory gives nothing.
-    pub fn new(heap: Heap, parent: u64, name: &[u8]) -> Result<Place, AllocError>
-        ensures { IfOk result (λ place. place ≡ record { parent = parent; name = name.now }) }
+impl DirectoryEntry {
+    /// The entry of this name. Refused memory gives nothing.
+    pub fn new(heap: Heap, parent: u64, name: &[u8]) -> Result<DirectoryEntry, AllocError>
+        ensures { IfOk result (λ entry. entry ≡ record { parent = parent; name = name.now }) }
     {
-        Ok(Place {
+        Ok(DirectoryEntry {
             parent,
             name: Name::copy(heap, name)?,
         })
     }
 
     /// A copy on the same allocator. Refused memory changes nothing.
-    pub fn try_clone(&self) -> Result<Place, AllocError>
+    pub fn try_clone(&self) -> Result<DirectoryEntry, AllocError>
         ensures { IfOk result (λ copy. copy ≡ self.now) }
     {
-        Ok(Place {
+        Ok(DirectoryEntry {
             parent: self.parent,
             name: self.name.try_clone()?,
         })
@@ -57,7 +57,7 @@ fn compare_names<'x>(first: &'x [u8], second: &'x [u8]) -> Ordering
 }
 
 // By the parent, and then by the name.
-fn compare(first: &Place, second: &Place) -> Ordering
+fn compare(first: &DirectoryEntry, second: &DirectoryEntry) -> Ordering
     ensures { result ≡ slice_cmp nat_cmp
         (first.now.parent ∷ first.now.name) (second.now.parent ∷ second.now.name) }
 {
@@ -67,30 +67,30 @@ fn compare(first: &Place, second: &Place) -> Ordering
     }
 }
 
-impl PartialEq for Place {
-    ghost use Rattle.nodes.specs.Places.{place_cmp, place_cmp_total};
+impl PartialEq for DirectoryEntry {
+    ghost use Rattle.nodes.specs.DirectoryEntries.{entry_cmp, entry_cmp_total};
 
-    ghost eq = { eq_by_cmp place_cmp };
+    ghost eq = { eq_by_cmp entry_cmp };
 
-    ghost laws = { partial_equiv_from_equiv (eq_by_cmp_equiv place_cmp_total) };
+    ghost laws = { partial_equiv_from_equiv (eq_by_cmp_equiv entry_cmp_total) };
 
-    #[tactic(auto, unfolding(crate::specs::Places::place_cmp))]
-    fn eq(&self, other: &Place) -> bool {
+    #[tactic(auto, unfolding(crate::specs::DirectoryEntries::entry_cmp))]
+    fn eq(&self, other: &DirectoryEntry) -> bool {
         compare(self, other).is_eq()
     }
 }
 
-impl Eq for Place {
-    ghost use Rattle.nodes.specs.Places.{place_cmp, place_cmp_total};
+impl Eq for DirectoryEntry {
+    ghost use Rattle.nodes.specs.DirectoryEntries.{entry_cmp, entry_cmp_total};
 
-    ghost laws = { eq_by_cmp_equiv place_cmp_total };
+    ghost laws = { eq_by_cmp_equiv entry_cmp_total };
 }
 
 // The name is one write of all its bytes: a slice of its own would write its length and each byte.
-impl Hash for Place {
-    ghost use Rattle.nodes.specs.Places.{place_fed, fed_alike};
+impl Hash for DirectoryEntry {
+    ghost use Rattle.nodes.specs.DirectoryEntries.{entry_fed, fed_alike};
 
-    ghost hash_input = { place_fed };
+    ghost hash_input = { entry_fed };
 
     ghost respects_eq = { fed_alike };
 
@@ -100,57 +100,57 @@ impl Hash for Place {
     }
 }
 
-/// A place that will be kept twice, in a node and in the index. Both copies are made beforehand, so
-/// that keeping it takes no memory. Contracts see the place.
+/// An entry that will be kept twice, in a node and in the index. Both copies are made beforehand,
+/// so that keeping it takes no memory. Contracts see the entry.
 pub struct Spot {
-    place: Place,
-    copy: Place,
+    entry: DirectoryEntry,
+    copy: DirectoryEntry,
 }
 
 impl Model for Spot {
     ghost use Rattle.std.specs.Prelude.{◌≡◌};
-    ghost use Rattle.nodes.specs.declared.place.Place.{Place};
-    ghost use Rattle.nodes.specs.Places.{coded_place};
+    ghost use Rattle.nodes.specs.declared.directory_entry.DirectoryEntry.{DirectoryEntry};
+    ghost use Rattle.nodes.specs.DirectoryEntries.{coded_entry};
 
-    ghost Value = { Place };
+    ghost Value = { DirectoryEntry };
 
-    ghost coded = { coded_place };
+    ghost coded = { coded_entry };
 
-    ghost view = { λ s. s.place };
+    ghost view = { λ s. s.entry };
 
-    ghost invariant = { λ s. s.copy ≡ s.place };
+    ghost invariant = { λ s. s.copy ≡ s.entry };
 }
 
 // By hand: a derived drop is opened at every place where a value goes, this one is called.
 impl Drop for Spot {
     fn drop(self) {
-        let Spot { place: _, copy: _ } = self;
+        let Spot { entry: _, copy: _ } = self;
     }
 }
 
 impl Spot {
-    /// The place of this name. Refused memory gives nothing.
+    /// The entry of this name. Refused memory gives nothing.
     pub fn new(heap: Heap, parent: u64, name: &[u8]) -> Result<Spot, AllocError>
         ensures { IfOk result (λ spot. spot ≡ record { parent = parent; name = name.now }) }
     {
-        let place = Place::new(heap, parent, name)?;
-        let copy = place.try_clone()?;
-        Ok(Spot { place, copy })
+        let entry = DirectoryEntry::new(heap, parent, name)?;
+        let copy = entry.try_clone()?;
+        Ok(Spot { entry, copy })
     }
 
-    /// The place.
-    pub fn place(&self) -> &Place
+    /// The entry.
+    pub fn entry(&self) -> &DirectoryEntry
         ensures { result.now ≡ self.now }
     {
-        &self.place
+        &self.entry
     }
 
     // Both copies, with no memory.
-    pub(crate) fn into_both(self) -> (Place, Place)
-        ensures place { result.0 ≡ self }
+    pub(crate) fn into_both(self) -> (DirectoryEntry, DirectoryEntry)
+        ensures entry { result.0 ≡ self }
         ensures copy { result.1 ≡ self }
     {
-        let Spot { place, copy } = self;
-        (place, copy)
+        let Spot { entry, copy } = self;
+        (entry, copy)
     }
 }

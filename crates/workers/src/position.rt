@@ -1,7 +1,7 @@
 // Where a worker stands among the lines of its process.
 ghost use Rattle.std.specs.Prelude.{◌≡◌, ◌<◌, ◌∷◌, [], length, IfNone, IfOk, IfSome};
 ghost use Rattle.script.specs.Steps.{ops_for};
-ghost use Rattle.workers.specs.Places.{shown};
+ghost use Rattle.workers.specs.Positions.{shown};
 ghost use Rattle.workers.specs.Rules.{after, after_line, asked, at, behind_end, begun_by};
 ghost use Rattle.workers.specs.Rules.{inside_after, moved_in, put_off, restarted, skipped, start};
 
@@ -26,7 +26,7 @@ pub enum Mode {
 
 /// Where a worker stands among the lines of its process.
 #[derive(Drop)]
-pub struct Place<'a> {
+pub struct Position<'a> {
     process: Pid,
     // The script from the next line on, with the lines of other processes.
     rest: &'a [Line],
@@ -69,12 +69,12 @@ fn behind_end(process: Pid, lines: &[Line]) -> &[Line]
     &[]
 }
 
-impl<'a> Place<'a> {
+impl<'a> Position<'a> {
     /// Before the first line of a process.
-    pub fn start(process: Pid, lines: &'a [Line]) -> Place<'a>
+    pub fn start(process: Pid, lines: &'a [Line]) -> Position<'a>
         ensures { shown result ≡ start (ops_for process lines.now) }
     {
-        Place {
+        Position {
             process,
             rest: lines,
             busy: 0,
@@ -202,7 +202,7 @@ impl<'a> Place<'a> {
     }
 
     fn go_to(&mut self, rest: &'a [Line])
-        ensures place { shown self.new
+        ensures position { shown self.new
             ≡ at (shown self.old) (ops_for self.old.process rest.now) }
         ensures process { self.new.process ≡ self.old.process }
     {

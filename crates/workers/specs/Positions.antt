@@ -1,11 +1,11 @@
--- What contracts see of the place of a worker.
+-- What contracts see of the position of a worker.
 use Rattle.std.specs.Prelude.{option_map}
 use Rattle.script.specs.Steps.{ops_for}
-use Rattle.workers.specs.declared.place.Place.{Place as Inside}
-use Rattle.workers.specs.Rules.{Place}
+use Rattle.workers.specs.declared.position.Position.{Position as Inside}
+use Rattle.workers.specs.Rules.{Position}
 
 -- the lines that are left are those of its process in what is left of the script
-abbrev pub shown : Inside → Place
+abbrev pub shown : Inside → Position
 shown p = record {
   rest = ops_for p.process p.rest.now;
   busy = p.busy;

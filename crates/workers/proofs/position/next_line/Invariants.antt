@@ -1,6 +1,6 @@
 use Rattle.std.proofs.Common.{◌≡◌, ◌≤◌, length}
 use Rattle.script.specs.Steps.{ops_for}
-use Rattle.workers.proofs.place.next_line.Given as goal
+use Rattle.workers.proofs.position.next_line.Given as goal
 
 -- the lines that were passed over are those of other processes
 abbrev pub invariant-loop-line : goal.invariant-loop-line
