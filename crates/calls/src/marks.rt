@@ -91,6 +91,7 @@ fn mark_bytes(
     ensures { OnOk result
         (touches.new ≡ touches.old ++ writing (marks (Put_bytes file offset bytes.now before))) }
 {
+    // For the proof: a plan's bytes end below 2^32, which an edit alone does not say.
     let Ok(count) = u32::try_from(bytes.len()) else {
         return Err(AllocError);
     };

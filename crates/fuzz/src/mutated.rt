@@ -61,7 +61,7 @@ fn mutate_byte(
     Ok(())
 }
 
-// A text without what stands between two indexes.
+// A text without what stands between two indices.
 fn without(heap: Heap, text: &[u8], from: usize, to: usize) -> Result<Vec<u8, Heap>, AllocError> {
     let mut rest = Vec::new(heap);
     let from = from.min(text.len());

@@ -58,7 +58,7 @@ fn kind_of(reply: &Reply) -> usize {
 // How many calls there are.
 const CALL_COUNT: usize = 22;
 
-// The calls, in the order of their indexes.
+// The calls, in the order of their indices.
 pub(crate) static CALLS: [&str; CALL_COUNT] = [
     "open",
     "close",

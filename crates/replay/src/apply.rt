@@ -11,8 +11,7 @@ ghost use Rattle.model.specs.Changes.{set_offset, set_process, sized, with_slot,
 ghost use Rattle.model.specs.Changes.{written, to_read, to_write};
 ghost use Rattle.replay.specs.Edits.{EndsWithin, is_of_processes};
 
-use crate::bytes::{appended, no_bytes, rest};
-use crate::inode::{Inode, file_out, pipe_out};
+use crate::inode::{Inode, file_out, no_bytes, pipe_out};
 use crate::inodes::Inodes;
 use crate::names::Names;
 use crate::plain::{Description, PlainKernel, Process, key_of};
@@ -130,7 +129,8 @@ impl PlainKernel {
     {
         let inode = self.take_inode(heap, pipe)?;
         let all = pipe_out(heap, inode);
-        let left = Bytes::copy(heap, rest(all.as_slice(), count))?;
+        let bytes = all.as_slice();
+        let left = Bytes::copy(heap, &bytes[count.min(bytes.len())..])?;
         self.set_inode(pipe, Inode::pipe(left))
     }
 
@@ -140,8 +140,9 @@ impl PlainKernel {
             ≡ set_inode pipe (A_pipe (pipe_of self.old pipe ++ bytes.now)) self.old) }
     {
         let inode = self.take_inode(heap, pipe)?;
-        let all = appended(pipe_out(heap, inode), bytes)?;
-        self.set_inode(pipe, Inode::pipe(all))
+        let mut all = pipe_out(heap, inode).into_vec();
+        all.extend_from_slice(bytes)?;
+        self.set_inode(pipe, Inode::pipe(Bytes::new(all)))
     }
 
     // A description's offset.
@@ -264,13 +265,6 @@ impl PlainKernel {
         self.set_process(child, process)?;
         self.made = child.0;
         Ok(())
-    }
-
-    // A process is gone.
-    fn end_process(&mut self, pid: Pid)
-        ensures { self.new ≡ record self.old { processes = remove self.old.processes pid } }
-    {
-        drop(self.processes.remove(key_of(pid)));
     }
 }
 
@@ -409,7 +403,7 @@ impl PlainKernel {
             } => self.clear_slot(heap, *process, *descriptor),
             Edit::NewProcess { child, parent, .. } => self.new_process(heap, *child, *parent),
             Edit::EndProcess { process, .. } => {
-                self.end_process(*process);
+                drop(self.processes.remove(key_of(*process)));
                 Ok(())
             }
             _ => unreachable!(),

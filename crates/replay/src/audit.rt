@@ -17,7 +17,7 @@ ghost use Rattle.replay.specs.Ran.{CannotRun, Follows, Ran, RanAt, StopsHere, St
 ghost use Rattle.replay.specs.Ran.{StopsNow};
 ghost use Rattle.model.specs.Suits.{is_executed};
 ghost use Rattle.replay.specs.Transactions.{call_first, call_in, call_of, calls_at_positions};
-ghost use Rattle.replay.specs.Transactions.{doomed_kept, is_end, next_kept, run_kept};
+ghost use Rattle.replay.specs.Transactions.{doomed_kept, next_kept, run_kept};
 ghost use Rattle.replay.specs.Windows.{CanSee, CanSeeAll, CanSeeAny, CanSeeEach, Shows};
 ghost use Rattle.replay.specs.declared.audit.Stop.TheVariants.{NoMemory};
 
@@ -176,45 +176,6 @@ impl PlainKernel {
         Ok(None)
     }
 
-    // Outside a transaction an entry's own call is run, which stands at this position.
-    fn run_idle(
-        &mut self,
-        heap: Heap,
-        entry: &Entry,
-        position: usize,
-    ) -> Result<Option<usize>, AllocError>
-        requires { IsTidied self.old }
-        ensures { IfOk result (λ wrong. MatchOption wrong
-            (Ran self.old entry.now.pid (call_of entry.now) self.new)
-            (λ wrong. (wrong ≡ position) × CannotRun self.old entry.now.pid (call_of entry.now))) }
-    {
-        let right = self.run_entry(heap, entry.pid, entry)?;
-        if right { Ok(None) } else { Ok(Some(position)) }
-    }
-
-    // At a transaction's end its calls are, which stand at these positions.
-    fn run_live(
-        &mut self,
-        heap: Heap,
-        entry: &Entry,
-        window: &Window<'_>,
-        positions: &[usize],
-    ) -> Result<Option<usize>, AllocError>
-        ghost es: { List Listed }
-        requires tidied { IsTidied self.old }
-        requires shows { Shows es window.now }
-        requires sees { CanSeeAll window.now positions.now }
-        ensures { IfOk result (λ wrong. MatchOption wrong (Ran self.old entry.now.pid
-            (if is_end entry.now.op then calls_at_positions es positions.now else []) self.new)
-            (λ position. (is_end entry.now.op ≡ true)
-            × StopsIn self.old entry.now.pid es positions.now position)) }
-    {
-        if !is_end(&entry.op) {
-            return Ok(None);
-        }
-        self.run_all(heap, entry.pid, window, positions)
-    }
-
     // The calls of an entry that take effect now, by what is kept of a living process.
     fn run_kept(
         &mut self,
@@ -234,22 +195,19 @@ impl PlainKernel {
             (StopsHere self.old (option_copied kept.entry) es position entry.now)) }
     {
         match kept {
-            None => self.run_idle(heap, entry, position),
-            Some(transaction) => match transaction {
-                Transaction::Live(_, positions) => {
-                    self.run_live(heap, entry, window, positions.as_slice())
+            None => {
+                let right = self.run_entry(heap, entry.pid, entry)?;
+                if right { Ok(None) } else { Ok(Some(position)) }
+            }
+            Some(Transaction::Live(_, positions)) => {
+                if !matches!(entry.op, Op::End) {
+                    return Ok(None);
                 }
-                Transaction::Doomed(_) => Ok(None),
-            },
+                self.run_all(heap, entry.pid, window, positions.as_slice())
+            }
+            Some(Transaction::Doomed(_)) => Ok(None),
         }
     }
-}
-
-// Whether an operation ends a transaction.
-fn is_end(op: &Op) -> bool
-    ensures { result ≡ is_end op.now }
-{
-    matches!(op, Op::End)
 }
 
 /// A plain kernel, and what is kept of each process.

@@ -56,7 +56,9 @@ impl PlainKernel {
             ≡ inodes.entry.items ++ inodes_of self.now gone.now) }
     {
         for num in gone {
-            inodes = with_inode_in(inodes, self.descriptions.get(*num))?;
+            if let Some(description) = self.descriptions.get(*num) {
+                inodes.push(description.inode)?;
+            }
         }
         Ok(inodes)
     }
@@ -175,20 +177,6 @@ fn listed(heap: Heap, num: Option<Num>) -> Result<Vec<Num, Heap>, AllocError>
         all.push(num)?;
     }
     Ok(all)
-}
-
-// The inode that a description opens, if it is there, behind others.
-fn with_inode_in(
-    mut inodes: Vec<Num, Heap>,
-    description: Option<&Description>,
-) -> Result<Vec<Num, Heap>, AllocError>
-    ensures { IfOk result (λ all. all.items
-        ≡ inodes.entry.items ++ inode_in (option_copied description.entry)) }
-{
-    if let Some(description) = description {
-        inodes.push(description.inode)?;
-    }
-    Ok(inodes)
 }
 
 // The inode of any kind whose name goes to what moves.

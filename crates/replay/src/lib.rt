@@ -11,7 +11,6 @@ mod answers;
 mod apply;
 mod audit;
 mod beginning;
-mod bytes;
 mod checker;
 mod checking;
 mod free;

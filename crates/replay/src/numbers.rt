@@ -81,6 +81,7 @@ impl PlainKernel {
         ensures { WellFormed self.now
             → Decides result (CanBeChosen self.now edits.now chosen.now) }
     {
+        // For the proof: a number that is no inode and no description is nowhere in a state.
         unused_numbers_are_nowhere();
         are_enough(edits, chosen.len()) && self.are_unused(chosen) && are_different(chosen)
     }

@@ -9,7 +9,6 @@ ghost use Rattle.model.specs.Changes.{process_of, or_new, holders, openings, is_
 ghost use Rattle.model.specs.Moments.{is_alive};
 ghost use Rattle.replay.specs.Counts.{given_by, held_by, is_open, ended_by};
 
-use crate::bytes::part;
 use crate::inode::{given_in, is_empty_in, kind_in, names_in, pipe_in, read_in, size_in};
 use crate::inodes::Inodes;
 use crate::table::Table;
@@ -340,10 +339,8 @@ impl Look for PlainKernel {
     }
 
     fn read_pipe(&self, heap: Heap, pipe: Num, count: u32) -> Result<Bytes, AllocError> {
-        Bytes::copy(
-            heap,
-            part(pipe_in(self.inodes.get(pipe)), 0, count as usize),
-        )
+        let all = pipe_in(self.inodes.get(pipe));
+        Bytes::copy(heap, &all[..(count as usize).min(all.len())])
     }
 
     fn fit(&self, pipe: Num, count: usize) -> Result<u32, AllocError> {

@@ -60,15 +60,7 @@ pub(crate) fn told_root(entries: &[Entry], position: usize) -> Option<Num>
     ensures { (root : ℕ) → TellsAt root entries.now position → result ≡ Some root }
 {
     let entry = entries.get(position)?;
-    told_by(&entry.op, &entry.reply)
-}
-
-fn told_by(op: &Op, reply: &Reply) -> Option<Num>
-    ensures { (root : ℕ) (chosen : List ℕ) (call : Executed)
-        → call_in op.now reply.now chosen ≡ call ∷ [] → TellsRoot root call.call call.answer
-        → result ≡ Some root }
-{
-    match (op, reply) {
+    match (&entry.op, &entry.reply) {
         (Op::Call(Call::Stat(path)), Reply::Answer(Answer::Stat(stat)))
             if path.as_slice() == b"/".as_slice() => { Some(stat.num) }
         _ => None,

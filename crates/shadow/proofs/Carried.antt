@@ -14,7 +14,7 @@ use Rattle.store.specs.declared.OpenPipe.{OpenPipe}
 use Rattle.store.specs.declared.Place.{Place}
 use Rattle.store.specs.declared.Object.TheVariants.{Pipe as Kept_pipe, Nothing}
 use Rattle.store.proofs.Laws.{get-descriptions, get-inodes}
-use Rattle.shadow.specs.declared.change.Change.{Change}
+use Rattle.shadow.specs.declared.change.InodeChange.{InodeChange}
 use Rattle.shadow.specs.declared.change.Contents.{Contents}
 use Rattle.shadow.specs.declared.change.Contents.TheVariants.{Same, Names, Bytes, Pipe as Piped}
 use Rattle.shadow.specs.declared.change.Made.{Made}
@@ -31,14 +31,14 @@ use Rattle.shadow.proofs.Making.{unopened}
 use Rattle.shadow.proofs.PairsKept.{ends_in, ends_kind, ends_seen, same_pairs}
 
 -- a change whose contents stay leaves what stands there
-carried_same : (c : Change) (w : Contents) → w ≡ Same → (before after : Option Place) → IsCarriedBy c w before after → after ≡ before
+carried_same : (c : InodeChange) (w : Contents) → w ≡ Same → (before after : Option Place) → IsCarriedBy c w before after → after ≡ before
 carried_same c w same before after is = subst (λ w. IsCarriedBy c w before after) same is
 
 module _ {ps : Processes} {s after : Numbers} {ds : List Effect} {p : Patches} (can : CanCommit ps s ds p) (ready : AreReady p.inodes s) (are : AreCarried s after p) where
   abbrev k : Kernel
   k = state_of ps s
 
-  abbrev Becomes_at : ℕ → Option Change → Type 0
+  abbrev Becomes_at : ℕ → Option InodeChange → Type 0
   Becomes_at n o = Becomes (net_of o).contents (net_of o).made (net_of o).promised (get s.places n) (get after.places n)
 
   -- what is claimed is kept at the number
@@ -57,7 +57,7 @@ module _ {ps : Processes} {s after : Numbers} {ds : List Effect} {p : Patches} (
   over_at : (n : ℕ) → IsOver (mapped kind (inode_seen (get s.places n))) (net_at p.inodes n).made (form_of (net_at p.inodes n).contents)
   over_at n = subst (λ i. IsOver (mapped kind i) (net_at p.inodes n).made (form_of (net_at p.inodes n).contents)) (get-inodes s n) (can.agrees.kinds k n can.fits)
 
-  by_change : (n : ℕ) (o : Option Change) → kept_at p.inodes n ≡ o → IsCarried o (get s.places n) (get after.places n) → Becomes_at n o
+  by_change : (n : ℕ) (o : Option InodeChange) → kept_at p.inodes n ≡ o → IsCarried o (get s.places n) (get after.places n) → Becomes_at n o
   by_change n None is carried = stays_as_it_is (get s.places n) (get after.places n) (can.sound.staged n) carried
   by_change n (Some c) is carried = by_contents c.contents refl (ready n c is) carried
     where
@@ -136,7 +136,7 @@ module _ {ps : Processes} {s after : Numbers} {ds : List Effect} {p : Patches} (
   coming_after : (d : ℕ) → get s.places d ≡ Some (coming Nothing) → (net_at p.inodes d).contents ≡ Same → get after.places d ≡ Some (coming Nothing)
   coming_after d there same = by_kept (kept_at p.inodes d) (are.places d) same ∙ there
     where
-      by_kept : (o : Option Change) → IsCarried o (get s.places d) (get after.places d) → (net_of o).contents ≡ Same → get after.places d ≡ get s.places d
+      by_kept : (o : Option InodeChange) → IsCarried o (get s.places d) (get after.places d) → (net_of o).contents ≡ Same → get after.places d ≡ get s.places d
       by_kept None is same = is
       by_kept (Some c) is same = carried_same c c.contents same (get s.places d) (get after.places d) is
 

@@ -17,7 +17,7 @@ use Rattle.store.specs.declared.Stage.{Stage}
 use Rattle.store.specs.declared.Stage.TheVariants.{Coming, Held, Removed}
 use Rattle.store.specs.declared.Object.TheVariants.{Directory as A_directory}
 use Rattle.store.proofs.Laws.{MayBeNamed, altered-alike, altered-same, left-altered, place-altered, place-other}
-use Rattle.shadow.specs.declared.change.Change.{Change}
+use Rattle.shadow.specs.declared.change.InodeChange.{InodeChange}
 use Rattle.shadow.specs.declared.change.Contents.{Contents}
 use Rattle.shadow.specs.declared.change.Contents.TheVariants.{Same, Names, Bytes, Pipe as Piped}
 use Rattle.shadow.specs.Patches.{kept_at}
@@ -50,7 +50,7 @@ shown_already true s t n old is = absurd cc
 shown_already false s t n old is = is ∙ sym (altered-same (shown_if false) s n (λ place. refl))
 
 -- then the notes of a directory can be laid
-module _ (s t : Numbers) (n : ℕ) (c : Change) (notes : Notes) (ready : IsReadyDirectory s n c notes) (is : t ≡ altered (shown_if (is_some c.made)) s n) where
+module _ (s t : Numbers) (n : ℕ) (c : InodeChange) (notes : Notes) (ready : IsReadyDirectory s n c notes) (is : t ≡ altered (shown_if (is_some c.made)) s n) where
   abbrev made : Bool
   made = is_some c.made
 
@@ -90,7 +90,7 @@ module _ (s t u : Numbers) (n : ℕ) (made : Bool) (notes : Notes) (promised : �
       ∙ ap (λ (t : Numbers). get t.places m) shown ∙ place-other (shown_if made) s n m away
 
 -- what the changes make of the store
-pub record AreCarried (changes : List (ℕ × Change)) (old new : Numbers) : Type 0 where
+pub record AreCarried (changes : List (ℕ × InodeChange)) (old new : Numbers) : Type 0 where
   pub root : new.root ≡ old.root
   pub places : (n : ℕ) → IsCarried (kept_at changes n) (get old.places n) (get new.places n)
 
@@ -98,7 +98,7 @@ pub carried_none : (s : Numbers) → AreCarried [] s s
 carried_none s = record { root = refl; places = λ n. refl }
 
 -- what may be named may be named later
-carried_named : (c : Change) (w : Contents) (before after : Option Place) → IsCarriedBy c w before after → may_be_named before ≡ true → may_be_named after ≡ true
+carried_named : (c : InodeChange) (w : Contents) (before after : Option Place) → IsCarriedBy c w before after → may_be_named before ≡ true → may_be_named after ≡ true
 carried_named c Same before after is named = ap may_be_named is ∙ named
 carried_named c (Names fresh notes) before after is named = ap may_be_named is ∙ by_place before ∙ named
   where
@@ -110,9 +110,9 @@ carried_named c (Piped (Some new) changes) before after is named = ap may_be_nam
 carried_named c (Piped None changes) before after is named = ap may_be_named is.is
 
 -- the changes of the first inode are made
-module _ (n : ℕ) (c : Change) (rest : List (ℕ × Change)) (sorted : IsStrictlySortedBy nat_cmp (keys_of ((n, c) ∷ rest)))
+module _ (n : ℕ) (c : InodeChange) (rest : List (ℕ × InodeChange)) (sorted : IsStrictlySortedBy nat_cmp (keys_of ((n, c) ∷ rest)))
     (s t : Numbers) (here : IsCarried (Some c) (get s.places n) (get t.places n)) (others : (m : ℕ) → m ≢ n → get t.places m ≡ get s.places m) where
-  abbrev whole : List (ℕ × Change)
+  abbrev whole : List (ℕ × InodeChange)
   whole = (n, c) ∷ rest
 
   pub carried_first : (u : Numbers) → t.root ≡ s.root → AreCarried rest t u → AreCarried whole s u
@@ -120,16 +120,16 @@ module _ (n : ℕ) (c : Change) (rest : List (ℕ × Change)) (sorted : IsStrict
     root = later.root ∙ root;
     places = λ m. elim (cases_eq m n) [
       | inl same ↦ subst (λ (m : ℕ). IsCarried (kept_at whole m) (get s.places m) (get u.places m)) (sym same) at_first
-      | inr away ↦ subst (λ (o : Option Change). IsCarried o (get s.places m) (get u.places m)) (sym (later_kept n c rest m away))
+      | inr away ↦ subst (λ (o : Option InodeChange). IsCarried o (get s.places m) (get u.places m)) (sym (later_kept n c rest m away))
           (subst (λ (o : Option Place). IsCarried (kept_at rest m) o (get u.places m)) (others m away) (later.places m))
     ];
   }
     where
       stays : get u.places n ≡ get t.places n
-      stays = subst (λ (o : Option Change). IsCarried o (get t.places n) (get u.places n)) (first_absent n c rest sorted) (later.places n)
+      stays = subst (λ (o : Option InodeChange). IsCarried o (get t.places n) (get u.places n)) (first_absent n c rest sorted) (later.places n)
 
       at_first : IsCarried (kept_at whole n) (get s.places n) (get u.places n)
-      at_first = subst (λ (o : Option Change). IsCarried o (get s.places n) (get u.places n)) (sym (first_kept n c rest))
+      at_first = subst (λ (o : Option InodeChange). IsCarried o (get s.places n) (get u.places n)) (sym (first_kept n c rest))
           (subst (λ (o : Option Place). IsCarried (Some c) (get s.places n) o) (sym stays) here)
 
   named_later : (m : ℕ) → may_be_named (get s.places m) ≡ true → may_be_named (get t.places m) ≡ true
@@ -157,19 +157,19 @@ module _ (n : ℕ) (c : Change) (rest : List (ℕ × Change)) (sorted : IsStrict
       by_contents (Bytes fresh bytes) h = subst (λ (o : Option Place). IsReadyFile (is_some d.made) o) (sym (others m away)) h
       by_contents (Piped fresh changes) h = subst (IsReadyPipe fresh changes) (sym (others m away)) h
 
-pub first_ready : (n : ℕ) (c : Change) (rest : List (ℕ × Change)) (s : Numbers) → AreReady ((n, c) ∷ rest) s → IsReady s n c
+pub first_ready : (n : ℕ) (c : InodeChange) (rest : List (ℕ × InodeChange)) (s : Numbers) → AreReady ((n, c) ∷ rest) s → IsReady s n c
 first_ready n c rest s ready = ready n c (first_kept n c rest)
 
 -- what is left of the changes can be made, and then all are made
-pub record Carries (start now : Numbers) (all rest : List (ℕ × Change)) : Type 0 where
+pub record Carries (start now : Numbers) (all rest : List (ℕ × InodeChange)) : Type 0 where
   pub ready : AreReady rest now
   pub ends : (t : Numbers) → AreCarried rest now t → AreCarried all start t
   pub sorted : IsStrictlySortedBy nat_cmp (keys_of rest)
 
-pub carries_nothing : (start : Numbers) (all : List (ℕ × Change)) → AreReady all start → IsStrictlySortedBy nat_cmp (keys_of all) → Carries start start all all
+pub carries_nothing : (start : Numbers) (all : List (ℕ × InodeChange)) → AreReady all start → IsStrictlySortedBy nat_cmp (keys_of all) → Carries start start all all
 carries_nothing start all ready sorted = record { ready = ready; ends = λ t h. h; sorted = sorted }
 
-pub carries_on : (start now : Numbers) (all : List (ℕ × Change)) (n : ℕ) (c : Change) (rest : List (ℕ × Change)) → Carries start now all ((n, c) ∷ rest) → (after : Numbers)
+pub carries_on : (start now : Numbers) (all : List (ℕ × InodeChange)) (n : ℕ) (c : InodeChange) (rest : List (ℕ × InodeChange)) → Carries start now all ((n, c) ∷ rest) → (after : Numbers)
     → after.root ≡ now.root → IsCarried (Some c) (get now.places n) (get after.places n) → ((m : ℕ) → m ≢ n → get after.places m ≡ get now.places m) → Carries start after all rest
 carries_on start now all n c rest carries after root here others = record {
   ready = ready_later n c rest carries.sorted now after here others carries.ready;
@@ -177,5 +177,5 @@ carries_on start now all n c rest carries after root here others = record {
   sorted = rest_sorted n c rest carries.sorted;
 }
 
-pub all_carried : (start now : Numbers) (all : List (ℕ × Change)) → Carries start now all [] → AreCarried all start now
+pub all_carried : (start now : Numbers) (all : List (ℕ × InodeChange)) → Carries start now all [] → AreCarried all start now
 all_carried start now all carries = carries.ends now (carried_none now)

@@ -11,7 +11,7 @@ use Rattle.model.specs.FiniteMap.{nat_cmp-IsAntisymmetric}
 use Rattle.std.proofs.Math.Nat.{suc-mul}
 use Rattle.model.proofs.Laws.{tie}
 use Rattle.freeing_laws.specs.Counts.{listed}
-use Rattle.shadow.specs.declared.change.Change.{Change}
+use Rattle.shadow.specs.declared.change.InodeChange.{InodeChange}
 use Rattle.shadow.specs.declared.change.Made.{Made}
 use Rattle.shadow.specs.declared.change.Made.TheVariants.{Directory, File, Pipe}
 use Rattle.shadow.specs.declared.opening.Opening.{Opening}
@@ -228,7 +228,7 @@ module _ {X : Type 0} where
   rest_sorted n x es sorted = sorted.1
 
 -- what one change claims of its number
-abbrev pub inode_at : Option Change → Claim → ℕ
+abbrev pub inode_at : Option InodeChange → Claim → ℕ
 inode_at o (Room d) = (net_of o).promised
 inode_at o (New_directory n) = as_count (is_directory_made (net_of o).made)
 inode_at o (Number n) = as_count (is_file_made (net_of o).made)
@@ -238,7 +238,7 @@ opened_at o (Room d) = 0
 opened_at o (New_directory n) = 0
 opened_at o (Number n) = as_count (is_new (or_kept o))
 
-pub inodes_at : (es : List (ℕ × Change)) (c : Claim) → inodes_claim es c ≡ inode_at (kept_at es (number_of c)) c
+pub inodes_at : (es : List (ℕ × InodeChange)) (c : Claim) → inodes_claim es c ≡ inode_at (kept_at es (number_of c)) c
 inodes_at es (Room d) = refl
 inodes_at es (New_directory n) = refl
 inodes_at es (Number n) = refl
@@ -305,17 +305,17 @@ module _ {X : Type 0} (claim : Option X → Claim → ℕ) (none : (c : Claim) �
       let zero : claim None c ≡ 0 = none c in omega arith
 
 -- the claims of one inode, on its number and on others
-pub inode_here : (n : ℕ) (change : Change) (c : Claim) → number_of c ≡ n → inode_claim n (net_of (Some change)) c ≡ inode_at (Some change) c
+pub inode_here : (n : ℕ) (change : InodeChange) (c : Claim) → number_of c ≡ n → inode_claim n (net_of (Some change)) c ≡ inode_at (Some change) c
 inode_here n change (Room d) same = ap (λ b. cond b change.promised 0) (eq-eqb n d (sym same))
 inode_here n change (New_directory m) same = ap (λ b. cond b (as_count (is_directory_made change.made)) 0) (eq-eqb n m (sym same))
 inode_here n change (Number m) same = ap (λ b. cond b (as_count (is_file_made change.made)) 0) (eq-eqb n m (sym same))
 
-pub inode_away : (n : ℕ) (change : Change) (c : Claim) → number_of c ≢ n → inode_claim n (net_of (Some change)) c ≡ 0
+pub inode_away : (n : ℕ) (change : InodeChange) (c : Claim) → number_of c ≢ n → inode_claim n (net_of (Some change)) c ≡ 0
 inode_away n change (Room d) away = ap (λ b. cond b change.promised 0) (ne_eqb n d (λ e. away (sym e)))
 inode_away n change (New_directory m) away = ap (λ b. cond b (as_count (is_directory_made change.made)) 0) (ne_eqb n m (λ e. away (sym e)))
 inode_away n change (Number m) away = ap (λ b. cond b (as_count (is_file_made change.made)) 0) (ne_eqb n m (λ e. away (sym e)))
 
-pub inode_kept : (now : Committed) (n : ℕ) (change : Change) → ((c : Claim) → number_of c ≡ n → inode_at (Some change) c ≤ reserved now c) → (c : Claim) → inode_claim n (net_of (Some change)) c ≤ reserved now c
+pub inode_kept : (now : Committed) (n : ℕ) (change : InodeChange) → ((c : Claim) → number_of c ≡ n → inode_at (Some change) c ≤ reserved now c) → (c : Claim) → inode_claim n (net_of (Some change)) c ≤ reserved now c
 inode_kept now n change there c = elim (cases_eq (number_of c) n) [
   | inl same ↦ (let one : inode_at (Some change) c ≤ reserved now c = there c same in let is : inode_claim n (net_of (Some change)) c ≡ inode_at (Some change) c = inode_here n change c same in omega arith)
   | inr away ↦ (let none : inode_claim n (net_of (Some change)) c ≡ 0 = inode_away n change c away in omega arith)

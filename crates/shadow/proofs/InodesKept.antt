@@ -6,7 +6,7 @@ use Rattle.std.specs.Cmp.{nat_cmp_total, tied_itself}
 use Rattle.model.specs.FiniteMap.{nat_cmp-IsAntisymmetric}
 use Rattle.model.proofs.Laws.{tie}
 use Rattle.call_laws.proofs.Laws.{not_none, true_is_false}
-use Rattle.shadow.specs.declared.change.Change.{Change}
+use Rattle.shadow.specs.declared.change.InodeChange.{InodeChange}
 use Rattle.shadow.specs.Patches.{Net, kept_at, net_at, net_of}
 use Rattle.shadow.specs.Notes.{At, SameInodes}
 
@@ -23,11 +23,11 @@ tests_alike num n = by_cases (is_eq (nat_cmp num n)) (n == num) refl refl
 pub some_kept : {X : Type 0} (o : Option X) (c : X) → o ≡ Some c → is_some o ≡ true
 some_kept o c is = ap is_some is
 
-pub same_change : (old new : Change) → new ≡ old → net_of (Some new) ≡ net_of (Some old)
-same_change old new is = ap (λ (w : Change). net_of (Some w)) is
+pub same_change : (old new : InodeChange) → new ≡ old → net_of (Some new) ≡ net_of (Some old)
+same_change old new is = ap (λ (w : InodeChange). net_of (Some w)) is
 
 -- All is kept as before but at one number, which now has this.
-module _ (num : ℕ) (w : Change) (old new : List (ℕ × Change)) (is : (n : ℕ) → kept_at new n ≡ cond (is_eq (nat_cmp num n)) (Some w) (kept_at old n)) where
+module _ (num : ℕ) (w : InodeChange) (old new : List (ℕ × InodeChange)) (is : (n : ℕ) → kept_at new n ≡ cond (is_eq (nat_cmp num n)) (Some w) (kept_at old n)) where
   at_number : kept_at new num ≡ Some w
   at_number = is num ∙ ap (λ b. cond b (Some w) (kept_at old num)) (tests_alike num num ∙ eq-eqb num num refl)
 
@@ -42,14 +42,14 @@ module _ (num : ℕ) (w : Change) (old new : List (ℕ × Change)) (is : (n : �
       by_test false e = there e
 
   -- what was lent, and is written back
-  pub put_back : (c : Change) (R : Net → Net → Type 0) → kept_at old num ≡ Some c → R (net_of (Some c)) (net_of (Some w)) → At num R old new
+  pub put_back : (c : InodeChange) (R : Net → Net → Type 0) → kept_at old num ≡ Some c → R (net_of (Some c)) (net_of (Some w)) → At num R old new
   put_back c R was h = record {
     here = subst (λ o. R (net_of o) (net_at new num)) (sym was) (subst (λ o. R (net_of (Some c)) (net_of o)) (sym at_number) h);
     others = λ m away. ap net_of (elsewhere m away);
     places = stay;
   }
 
-  pub same_back : (before : Option Change) → kept_at old num ≡ before → net_of (Some w) ≡ net_of before → SameInodes old new
+  pub same_back : (before : Option InodeChange) → kept_at old num ≡ before → net_of (Some w) ≡ net_of before → SameInodes old new
   same_back before was h = record { nets = λ n. by_test n (n == num) refl; places = stay }
     where
       here : net_at new num ≡ net_at old num

@@ -44,7 +44,7 @@ use Rattle.shadow.specs.Patches.{names_before, net_at, net_of, no_change, of_byt
 use Rattle.shadow.specs.Patches.{opening_at, patched, pipe_before, slots_in}
 use Rattle.shadow.specs.Stored.{IsStaged, Processes, Sound, committed_of, numbered, reserve_in}
 use Rattle.shadow.specs.Stored.{state_of}
-use Rattle.shadow.specs.declared.change.Change.{Change}
+use Rattle.shadow.specs.declared.change.InodeChange.{InodeChange}
 use Rattle.shadow.specs.declared.change.Contents.{Contents}
 use Rattle.shadow.specs.declared.change.Contents.TheVariants.{Same, Names, Bytes, Pipe as Piped}
 use Rattle.shadow.specs.declared.change.Made.{Made}
@@ -363,7 +363,7 @@ module _ {ps : Processes} {s : Numbers} {ds : List Effect} {p : Patches}
         ∙ ap (patched (net_at p.inodes n).contents) (inode_at n);
   }
 
-  change_fits : (n : ℕ) (c : Change) → kept_at p.inodes n ≡ Some c
+  change_fits : (n : ℕ) (c : InodeChange) → kept_at p.inodes n ≡ Some c
       → Fits ps s ds n (net_of (Some c))
   change_fits n c is = subst (Fits ps s ds n) (ap net_of is) (fits_at n)
 
@@ -398,7 +398,7 @@ module _ {ps : Processes} {s : Numbers} {ds : List Effect} {p : Patches}
       each x None is = tt
       each x (Some m) is = number_named n x m (given x m is)
 
-  directory_ready : (n : ℕ) (c : Change) (fresh : Bool) (notes : Notes)
+  directory_ready : (n : ℕ) (c : InodeChange) (fresh : Bool) (notes : Notes)
       → Fits ps s ds n (net_of (Some c)) → c.contents ≡ Names fresh notes
       → IsUnder (get s.places n) c.made (Names fresh notes) → IsReadyDirectory s n c notes
   directory_ready n c fresh notes fits is under =
@@ -415,7 +415,7 @@ module _ {ps : Processes} {s : Numbers} {ds : List Effect} {p : Patches}
       }
 
   -- a pipe is no longer after the changes than pipes get
-  short_at : (n : ℕ) (c : Change) (fresh : Option OpenPipe) (changes : PipeChanges)
+  short_at : (n : ℕ) (c : InodeChange) (fresh : Option OpenPipe) (changes : PipeChanges)
       → Fits ps s ds n (net_of (Some c)) → c.contents ≡ Piped fresh changes
       → length (pipe_of_inode (inode_seen (get s.places n))) ≤ PIPE_CAPACITY
       → length (pipe_over changes (pipe_before fresh (inode_seen (get s.places n))))
@@ -426,7 +426,7 @@ module _ {ps : Processes} {s : Numbers} {ds : List Effect} {p : Patches}
       (stays_short n ds (state_of ps s) can.fits
       (subst (λ o. length (pipe_of_inode o) ≤ PIPE_CAPACITY) (sym (inode_at n)) low))
 
-  change_ready : (n : ℕ) (c : Change) → Fits ps s ds n (net_of (Some c)) → (w : Contents)
+  change_ready : (n : ℕ) (c : InodeChange) → Fits ps s ds n (net_of (Some c)) → (w : Contents)
       → c.contents ≡ w → IsUnder (get s.places n) c.made w → IsReadyContents s n c w
   change_ready n c fits Same is under = unmade (get s.places n) c.made under
   change_ready n c fits (Names fresh notes) is under =
@@ -483,7 +483,7 @@ module _ {ps : Processes} {s : Numbers} {ds : List Effect} {p : Patches}
       → get after.places d ≡ Some (coming Nothing)
   still_to_come after carried d new = by_change (kept_at p.inodes d) refl ∙ to_come d new
     where
-      by_change : (o : Option Change) → kept_at p.inodes d ≡ o
+      by_change : (o : Option InodeChange) → kept_at p.inodes d ≡ o
           → get after.places d ≡ get s.places d
       by_change None is = subst (λ o. IsCarried o (get s.places d) (get after.places d)) is
           (carried d)

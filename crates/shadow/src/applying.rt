@@ -134,14 +134,22 @@ impl Stable {
     {
         self.state_is_tidied();
         match edit {
-            Edit::PutBytes(file, place, bytes, _before) => {
-                let written = self.write(file, place as usize, bytes.as_slice());
+            Edit::PutBytes {
+                file,
+                offset,
+                bytes,
+                ..
+            } => {
+                let written = self.write(file, offset as usize, bytes.as_slice());
                 drop(bytes);
                 written
             }
-            Edit::MakePipe(_place, pid, reading, writing) => {
-                self.make_pipe(chosen[0], pid, (reading, chosen[1]), (writing, chosen[2]))
-            }
+            Edit::MakePipe {
+                process,
+                reader,
+                writer,
+                ..
+            } => self.make_pipe(chosen[0], process, (reader, chosen[1]), (writer, chosen[2])),
             other => {
                 self.perform_without_memory(chosen, other);
                 Ok(())
@@ -160,26 +168,37 @@ impl Stable {
     {
         self.state_is_tidied();
         match edit {
-            Edit::MakeDirectory(parent, name, _place) => {
+            Edit::MakeDirectory { parent, name, .. } => {
                 self.make_directory(parent, name, chosen[0]);
             }
-            Edit::MakeFile(parent, name, _place) => self.make_file(parent, name, chosen[0]),
-            Edit::NameFile(parent, name, file) => self.link(parent, name, file),
-            Edit::UnnameFile(parent, name, num) => {
-                self.unname(parent, &name, num);
+            Edit::MakeFile { parent, name, .. } => self.make_file(parent, name, chosen[0]),
+            Edit::NameFile { parent, name, file } => self.link(parent, name, file),
+            Edit::UnnameFile { parent, name, file } => {
+                self.unname(parent, &name, file);
                 drop(name);
             }
-            Edit::UnnameDirectory(parent, name, num) => {
-                self.unname(parent, &name, num);
+            Edit::UnnameDirectory {
+                parent,
+                name,
+                directory,
+            } => {
+                self.unname(parent, &name, directory);
                 drop(name);
             }
-            Edit::Move(from, old, to, new, num, replaced) => {
-                self.rename(from, &old, to, new, num, replaced);
-                drop(old);
+            Edit::Move {
+                from,
+                old_name,
+                to,
+                new_name,
+                inode,
+                replaced,
+            } => {
+                self.rename(from, &old_name, to, new_name, inode, replaced);
+                drop(old_name);
             }
-            Edit::Cut(file, _before, after) => self.cut(file, after as usize),
-            Edit::Take(pipe, count) => self.take(pipe, count as usize),
-            Edit::Append(pipe, bytes) => {
+            Edit::Cut { file, length, .. } => self.cut(file, length as usize),
+            Edit::Take { pipe, count } => self.take(pipe, count as usize),
+            Edit::Append { pipe, bytes } => {
                 self.append(pipe, bytes.as_slice());
                 drop(bytes);
             }
@@ -196,15 +215,31 @@ impl Stable {
         ensures kept { KeepsMore self.new self.old (λ c. claimed_by_one c chosen.now edit.now) }
     {
         match edit {
-            Edit::OpenInode(place, inode, mode, pid, fd) => {
+            Edit::OpenInode {
+                index,
+                inode,
+                mode,
+                process,
+                descriptor,
+            } => {
                 let inode = number(chosen, *inode);
-                self.open_inode(chosen[*place as usize], inode, *mode, *pid, *fd);
+                self.open_inode(chosen[*index as usize], inode, *mode, *process, *descriptor);
             }
-            Edit::SetOffset(description, place) => self.store.set_offset(*description, *place),
-            Edit::ShareSlot(pid, fd, description, _pipes) => {
-                self.reslot(*pid, *fd, Some(*description));
-            }
-            Edit::ClearSlot(pid, fd, _pipes) => self.reslot(*pid, *fd, None),
+            Edit::SetOffset {
+                description,
+                offset,
+            } => self.store.set_offset(*description, *offset),
+            Edit::ShareSlot {
+                process,
+                descriptor,
+                description,
+                ..
+            } => self.reslot(*process, *descriptor, Some(*description)),
+            Edit::ClearSlot {
+                process,
+                descriptor,
+                ..
+            } => self.reslot(*process, *descriptor, None),
             _ => unreachable!(),
         }
     }

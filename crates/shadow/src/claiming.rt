@@ -17,7 +17,7 @@ ghost use Rattle.shadow.specs.Patches.{net_of};
 ghost use Rattle.shadow.specs.Steps.{AreApart, CanEdit, parents_in};
 ghost use Rattle.shadow.specs.Stored.{IsBare};
 
-use crate::change::Change;
+use crate::change::InodeChange;
 use crate::inodes::Inodes;
 use crate::opening::{Opening, Openings};
 use crate::patches::Patches;
@@ -34,10 +34,10 @@ pub(crate) fn parent_of(edits: &[Edit]) -> Option<Num>
     ensures { listed result ≡ flat_map parents_in edits.now }
 {
     match edits.first() {
-        Some(Edit::MakeDirectory(parent, _, _)) => Some(*parent),
-        Some(Edit::MakeFile(parent, _, _)) => Some(*parent),
-        Some(Edit::NameFile(parent, _, _)) => Some(*parent),
-        Some(Edit::Move(_, _, parent, _, _, _)) => Some(*parent),
+        Some(Edit::MakeDirectory { parent, .. }) => Some(*parent),
+        Some(Edit::MakeFile { parent, .. }) => Some(*parent),
+        Some(Edit::NameFile { parent, .. }) => Some(*parent),
+        Some(Edit::Move { to, .. }) => Some(*to),
         _ => None,
     }
 }
@@ -98,13 +98,13 @@ impl Stable {
         ensures err { OnErr result (AreAdded self.old self.new chosen.old chosen.new) }
     {
         match edit {
-            Edit::MakeDirectory(_, _, _) => {
+            Edit::MakeDirectory { .. } => {
                 let dir = Dir::new(self.heap());
                 self.reserve(Object::Directory(dir), chosen)
             }
-            Edit::MakeFile(_, _, _) => self.reserve(Object::Nothing, chosen),
-            Edit::OpenInode(_, _, _, _, _) => self.reserve(Object::Nothing, chosen),
-            Edit::MakePipe(_, _, _, _) => self.reserve_three(chosen),
+            Edit::MakeFile { .. } => self.reserve(Object::Nothing, chosen),
+            Edit::OpenInode { .. } => self.reserve(Object::Nothing, chosen),
+            Edit::MakePipe { .. } => self.reserve_three(chosen),
             _ => Ok(()),
         }
     }
@@ -250,7 +250,7 @@ impl Stable {
     }
 
     // Gives back what was kept for the changes of one inode.
-    fn give_up_inode(&mut self, num: Num, change: &Change)
+    fn give_up_inode(&mut self, num: Num, change: &InodeChange)
         requires { (c : Claim) → inode_claim num (net_of (Some change.now)) c ≤ reserved self.old c }
         ensures kept { KeepsMore self.new self.old (inode_claim num (net_of (Some change.now))) }
         ensures state { self.new.state ≡ self.old.state }

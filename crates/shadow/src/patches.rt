@@ -56,7 +56,7 @@ pub(crate) fn number(chosen: &[Num], which: Which) -> Num
 {
     match which {
         Which::There(num) => num,
-        Which::Made(place) => chosen[place as usize],
+        Which::Made(index) => chosen[index as usize],
     }
 }
 
@@ -117,13 +117,13 @@ impl Patches {
         ensures ok { OnOk result (HasPlaces chosen.now edit.now self.new) }
     {
         match edit {
-            Edit::OpenInode(place, _, _, pid, _) => {
-                self.openings.make_place(chosen[*place as usize])?;
-                self.slots.make_place(*pid)
+            Edit::OpenInode { index, process, .. } => {
+                self.openings.make_place(chosen[*index as usize])?;
+                self.slots.make_place(*process)
             }
-            Edit::SetOffset(description, _) => self.openings.make_place(*description),
-            Edit::ShareSlot(pid, _, _, _) => self.slots.make_place(*pid),
-            Edit::ClearSlot(pid, _, _) => self.slots.make_place(*pid),
+            Edit::SetOffset { description, .. } => self.openings.make_place(*description),
+            Edit::ShareSlot { process, .. } => self.slots.make_place(*process),
+            Edit::ClearSlot { process, .. } => self.slots.make_place(*process),
             _ => unreachable!(),
         }
     }
@@ -135,17 +135,33 @@ impl Patches {
         ensures { TakesIn chosen.now edit.now self.old self.new }
     {
         match edit {
-            Edit::OpenInode(place, inode, mode, pid, fd) => {
-                let description = chosen[*place as usize];
+            Edit::OpenInode {
+                index,
+                inode,
+                mode,
+                process,
+                descriptor,
+            } => {
+                let description = chosen[*index as usize];
                 let opened = at_start(number(chosen, *inode), *mode);
                 self.openings.open(description, opened);
-                self.slots.note(*pid, *fd, Some(description));
+                self.slots.note(*process, *descriptor, Some(description));
             }
-            Edit::SetOffset(description, place) => self.openings.move_to(*description, *place),
-            Edit::ShareSlot(pid, fd, description, _) => {
-                self.slots.note(*pid, *fd, Some(*description));
-            }
-            Edit::ClearSlot(pid, fd, _) => self.slots.note(*pid, *fd, None),
+            Edit::SetOffset {
+                description,
+                offset,
+            } => self.openings.move_to(*description, *offset),
+            Edit::ShareSlot {
+                process,
+                descriptor,
+                description,
+                ..
+            } => self.slots.note(*process, *descriptor, Some(*description)),
+            Edit::ClearSlot {
+                process,
+                descriptor,
+                ..
+            } => self.slots.note(*process, *descriptor, None),
             _ => unreachable!(),
         }
     }
@@ -163,35 +179,54 @@ impl Patches {
             → kept_at self.new.slots pid ≢ None }
     {
         match edit {
-            Edit::MakeDirectory(parent, name, _place) => {
+            Edit::MakeDirectory { parent, name, .. } => {
                 self.make(Made::Directory, parent, name, chosen[0])
             }
-            Edit::MakeFile(parent, name, _place) => {
+            Edit::MakeFile { parent, name, .. } => {
                 self.make(Made::File, parent, name, chosen[0])
             }
-            Edit::NameFile(parent, name, file) => self.link(parent, name, file),
-            Edit::UnnameFile(parent, name, num) => self.unname(parent, name, num),
-            Edit::UnnameDirectory(parent, name, num) => self.unname(parent, name, num),
-            Edit::Move(from, old, to, new, num, replaced) => {
-                let noted = self.rename(from, &old, to, new, num, replaced);
-                drop(old);
+            Edit::NameFile { parent, name, file } => self.link(parent, name, file),
+            Edit::UnnameFile { parent, name, file } => self.unname(parent, name, file),
+            Edit::UnnameDirectory {
+                parent,
+                name,
+                directory,
+            } => self.unname(parent, name, directory),
+            Edit::Move {
+                from,
+                old_name,
+                to,
+                new_name,
+                inode,
+                replaced,
+            } => {
+                let noted = self.rename(from, &old_name, to, new_name, inode, replaced);
+                drop(old_name);
                 noted
             }
-            Edit::PutBytes(file, place, bytes, _before) => {
-                let noted = self.write(file, place, &bytes);
+            Edit::PutBytes {
+                file,
+                offset,
+                bytes,
+                ..
+            } => {
+                let noted = self.write(file, offset, &bytes);
                 drop(bytes);
                 noted
             }
-            Edit::Cut(file, _before, after) => self.cut(file, after),
-            Edit::Take(pipe, count) => self.take(pipe, count),
-            Edit::Append(pipe, bytes) => {
+            Edit::Cut { file, length, .. } => self.cut(file, length),
+            Edit::Take { pipe, count } => self.take(pipe, count),
+            Edit::Append { pipe, bytes } => {
                 let noted = self.append(pipe, &bytes);
                 drop(bytes);
                 noted
             }
-            Edit::MakePipe(_place, pid, reading, writing) => {
-                self.make_pipe(chosen[0], pid, (reading, chosen[1]), (writing, chosen[2]))
-            }
+            Edit::MakePipe {
+                process,
+                reader,
+                writer,
+                ..
+            } => self.make_pipe(chosen[0], process, (reader, chosen[1]), (writer, chosen[2])),
             _ => unreachable!(),
         }
     }
@@ -466,9 +501,9 @@ pub(crate) fn is_last(edit: &Edit) -> bool
 {
     matches!(
         edit,
-        Edit::OpenInode(_, _, _, _, _)
-            | Edit::SetOffset(_, _)
-            | Edit::ShareSlot(_, _, _, _)
-            | Edit::ClearSlot(_, _, _)
+        Edit::OpenInode { .. }
+            | Edit::SetOffset { .. }
+            | Edit::ShareSlot { .. }
+            | Edit::ClearSlot { .. }
     )
 }

@@ -103,11 +103,14 @@ fn new_ends(contents: &Contents) -> Option<(Num, Num)>
     ensures { result ≡ Patches.new_ends contents.now }
 {
     match contents {
-        Contents::Pipe(Some(pipe), _changes) => Some((pipe.reader, pipe.writer)),
-        Contents::Pipe(None, _changes) => None,
+        Contents::Pipe {
+            new: Some(pipe),
+            ..
+        } => Some((pipe.reader, pipe.writer)),
+        Contents::Pipe { new: None, .. } => None,
         Contents::Same => None,
-        Contents::Names(_, _) => None,
-        Contents::Bytes(_, _) => None,
+        Contents::Names { .. } => None,
+        Contents::Bytes { .. } => None,
     }
 }
 
@@ -137,10 +140,13 @@ fn front_over(
 {
     match contents {
         Contents::Same => front_of(heap, stored, count),
-        Contents::Names(_, _) => Ok(Bytes::new(Vec::new(heap))),
-        Contents::Bytes(_, _) => Ok(Bytes::new(Vec::new(heap))),
-        Contents::Pipe(Some(pipe), changes) => changes.read(heap, &pipe.bytes, count),
-        Contents::Pipe(None, changes) => match stored {
+        Contents::Names { .. } => Ok(Bytes::new(Vec::new(heap))),
+        Contents::Bytes { .. } => Ok(Bytes::new(Vec::new(heap))),
+        Contents::Pipe {
+            new: Some(pipe),
+            changes,
+        } => changes.read(heap, &pipe.bytes, count),
+        Contents::Pipe { new: None, changes } => match stored {
             Some(pipe) => changes.read(heap, &pipe.bytes, count),
             None => unreachable!(),
         },
@@ -168,10 +174,13 @@ fn len_over(contents: &Contents, stored: Option<&OpenPipe>) -> usize
 {
     match contents {
         Contents::Same => len_of(stored),
-        Contents::Names(_, _) => 0,
-        Contents::Bytes(_, _) => 0,
-        Contents::Pipe(Some(pipe), changes) => changes.len(&pipe.bytes),
-        Contents::Pipe(None, changes) => match stored {
+        Contents::Names { .. } => 0,
+        Contents::Bytes { .. } => 0,
+        Contents::Pipe {
+            new: Some(pipe),
+            changes,
+        } => changes.len(&pipe.bytes),
+        Contents::Pipe { new: None, changes } => match stored {
             Some(pipe) => changes.len(&pipe.bytes),
             None => unreachable!(),
         },

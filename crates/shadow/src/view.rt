@@ -14,7 +14,7 @@ ghost use Rattle.shadow.specs.Claims.{Covers};
 ghost use Rattle.shadow.specs.Looks.{DirectoriesAreKept, IsNet, KeepsRest, changes_of};
 ghost use Rattle.shadow.specs.Patches.{net_of, patched};
 
-use crate::change::{Change, Contents};
+use crate::change::{Contents, InodeChange};
 use crate::shadow::Shadow;
 use crate::stable::Stable;
 use dirlist::Dir;
@@ -52,7 +52,7 @@ impl<'a> Model for View<'a> {
 }
 
 // What is changed of an inode, where something may be.
-pub(crate) fn change<'a>(shadow: Option<&'a Shadow>, num: Num) -> Option<&'a Change>
+pub(crate) fn change<'a>(shadow: Option<&'a Shadow>, num: Num) -> Option<&'a InodeChange>
     ensures { IsNet (changes_of (option_map (λ s. s.now) shadow.entry)) num
         (net_of (option_copied result)) }
 {
@@ -224,9 +224,9 @@ fn kind_over(contents: &Contents, stored: Option<Kind>) -> Option<Kind>
 {
     match contents {
         Contents::Same => stored,
-        Contents::Names(_, _) => Some(Kind::Dir),
-        Contents::Bytes(_, _) => Some(Kind::File),
-        Contents::Pipe(_, _) => Some(Kind::Pipe),
+        Contents::Names { .. } => Some(Kind::Dir),
+        Contents::Bytes { .. } => Some(Kind::File),
+        Contents::Pipe { .. } => Some(Kind::Pipe),
     }
 }
 
@@ -237,11 +237,11 @@ fn given_over(contents: &Contents, name: &Name, stored: Option<Num>) -> Option<N
 {
     match contents {
         Contents::Same => stored,
-        Contents::Bytes(_, _) => None,
-        Contents::Pipe(_, _) => None,
-        Contents::Names(fresh, names) => match names.look(name) {
+        Contents::Bytes { .. } => None,
+        Contents::Pipe { .. } => None,
+        Contents::Names { is_fresh, names } => match names.look(name) {
             Some(given) => given,
-            None if *fresh => None,
+            None if *is_fresh => None,
             None => stored,
         },
     }
@@ -254,10 +254,16 @@ fn names_over(heap: Heap, contents: &Contents, stored: &Dir) -> Result<NameList,
 {
     match contents {
         Contents::Same => stored.names(heap),
-        Contents::Bytes(_, _) => Dir::new(heap).names(heap),
-        Contents::Pipe(_, _) => Dir::new(heap).names(heap),
-        Contents::Names(true, names) => names.names_over(heap, &Dir::new(heap)),
-        Contents::Names(false, names) => names.names_over(heap, stored),
+        Contents::Bytes { .. } => Dir::new(heap).names(heap),
+        Contents::Pipe { .. } => Dir::new(heap).names(heap),
+        Contents::Names {
+            is_fresh: true,
+            names,
+        } => names.names_over(heap, &Dir::new(heap)),
+        Contents::Names {
+            is_fresh: false,
+            names,
+        } => names.names_over(heap, stored),
     }
 }
 
@@ -268,10 +274,16 @@ fn is_empty_over(heap: Heap, contents: &Contents, stored: &Dir) -> bool
 {
     match contents {
         Contents::Same => stored.is_empty(),
-        Contents::Bytes(_, _) => true,
-        Contents::Pipe(_, _) => true,
-        Contents::Names(true, names) => names.is_empty_over(&Dir::new(heap)),
-        Contents::Names(false, names) => names.is_empty_over(stored),
+        Contents::Bytes { .. } => true,
+        Contents::Pipe { .. } => true,
+        Contents::Names {
+            is_fresh: true,
+            names,
+        } => names.is_empty_over(&Dir::new(heap)),
+        Contents::Names {
+            is_fresh: false,
+            names,
+        } => names.is_empty_over(stored),
     }
 }
 
@@ -282,10 +294,16 @@ fn len_over(heap: Heap, contents: &Contents, stored: &FileData) -> usize
 {
     match contents {
         Contents::Same => stored.len(),
-        Contents::Names(_, _) => 0,
-        Contents::Pipe(_, _) => 0,
-        Contents::Bytes(true, bytes) => bytes.len(&FileData::new(heap)),
-        Contents::Bytes(false, bytes) => bytes.len(stored),
+        Contents::Names { .. } => 0,
+        Contents::Pipe { .. } => 0,
+        Contents::Bytes {
+            is_fresh: true,
+            bytes,
+        } => bytes.len(&FileData::new(heap)),
+        Contents::Bytes {
+            is_fresh: false,
+            bytes,
+        } => bytes.len(stored),
     }
 }
 
@@ -303,10 +321,16 @@ fn bytes_over(
 {
     match contents {
         Contents::Same => stored.read_at(heap, place, count),
-        Contents::Names(_, _) => Ok(Bytes::new(Vec::new(heap))),
-        Contents::Pipe(_, _) => Ok(Bytes::new(Vec::new(heap))),
-        Contents::Bytes(true, bytes) => bytes.read(heap, &FileData::new(heap), place, count),
-        Contents::Bytes(false, bytes) => bytes.read(heap, stored, place, count),
+        Contents::Names { .. } => Ok(Bytes::new(Vec::new(heap))),
+        Contents::Pipe { .. } => Ok(Bytes::new(Vec::new(heap))),
+        Contents::Bytes {
+            is_fresh: true,
+            bytes,
+        } => bytes.read(heap, &FileData::new(heap), place, count),
+        Contents::Bytes {
+            is_fresh: false,
+            bytes,
+        } => bytes.read(heap, stored, place, count),
     }
 }
 

@@ -41,7 +41,7 @@ fn add(history: &mut History, entry: &Entry, changed: bool) -> Result<(), Fail> 
     if is_done(history.push(copy)) {
         Ok(())
     } else {
-        Err(Fail::from("the copy has no room"))
+        Err(Fail::from("the copy has no place"))
     }
 }
 
@@ -104,8 +104,8 @@ fn is_committed(entries: &[Entry], pid: Pid) -> bool {
     false
 }
 
-// What the check has to say where the reply at this position is changed: that position where the call is
-// plain, or of a committed transaction.
+// What the check has to say where the reply at this position is changed: that position where the
+// call is plain, or of a committed transaction.
 fn wanted(entries: &[Entry], at: usize, pid: Pid) -> Result<(), CheckFault> {
     let (before, later) = entries.split_at(at.min(entries.len()));
     if is_inside(before, pid) && !is_committed(later, pid) {

@@ -37,7 +37,7 @@ fn copy_of(heap: Heap, history: &History, position: usize) -> Result<History> {
             entry.try_clone()?
         };
         if copy.push(copied).is_err() {
-            bail!("a copy has no room")
+            bail!("a copy has no place")
         }
     }
     Ok(copy)

@@ -4,7 +4,7 @@ use Rattle.shadow.specs.Patches.{net_of}
 use Rattle.shadow.specs.Steps.{bytes_written}
 use Rattle.shadow.proofs.FiledOn.{filed_on}
 use Rattle.shadow.proofs.Outcomes.{ok_three}
-use Rattle.shadow.proofs.change.Change.write.Goals as goal
+use Rattle.shadow.proofs.change.InodeChange.write.Goals as goal
 
 pub returns-clause-ok : goal.returns-clause-ok
 returns-clause-ok c =
