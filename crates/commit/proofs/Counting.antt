@@ -21,7 +21,7 @@ one_more : (x : View) (n : ℕ) → weight x + n ≡ cond (is_within x) (1 + n) 
 one_more gone_slot n = omega arith
 one_more idle_slot n = omega arith
 one_more (live_slot flags age changes) n = omega arith
-one_more (doomed_slot entry reply flags age) n = omega arith
+one_more (doomed_slot cause flags age) n = omega arith
 
 sum_is_count : (xs : List View) → sum_by weight xs ≡ count_by is_within xs
 sum_is_count = is_count_by (sum_by weight) is_within refl (λ x xs. sum_by-cons weight x xs ∙ one_more x (sum_by weight xs))
@@ -61,7 +61,7 @@ same_weight : (d : Effect) (v : View) → weight (with_change d v) ≡ weight v
 same_weight d gone_slot = refl
 same_weight d idle_slot = refl
 same_weight d (live_slot flags age changes) = refl
-same_weight d (doomed_slot entry reply flags age) = refl
+same_weight d (doomed_slot cause flags age) = refl
 
 set_alike : (old new : List ProcessState) (p : ℕ) (v : View) → Sets old new p v → weight v ≡ weight (slot_at old p) → count_by is_within (views old) ≡ count_by is_within (views new)
 set_alike old new p v sets same = let c = count_set old new p v (slot_at old p) sets refl in omega (arith, c, same)

@@ -60,14 +60,14 @@ pub nothing_left : (d : Doomed) (v : View) → changes_in (with_doom d v) ≡ []
 nothing_left d gone_slot = refl
 nothing_left d idle_slot = refl
 nothing_left d (live_slot flags age changes) = refl
-nothing_left d (doomed_slot entry reply flags age) = refl
+nothing_left d (doomed_slot cause flags age) = refl
 
 -- one change more
 pub live_push : (d : Effect) (v : View) → is_live_slot v ≡ true → changes_in (with_change d v) ≡ changes_in v ++ d ∷ []
 live_push d (live_slot flags age changes) live = refl
 live_push d gone_slot live = absurd (false≢true live)
 live_push d idle_slot live = absurd (false≢true live)
-live_push d (doomed_slot entry reply flags age) live = absurd (false≢true live)
+live_push d (doomed_slot cause flags age) live = absurd (false≢true live)
 
 -- the first slots have no changes
 pub none_changed : (slots : List ProcessState) (count : ℕ) → length slots ≡ suc count → AreFirstSlots slots count → (q : ℕ) → changes_in (view_at (views slots) q) ≡ []

@@ -9,7 +9,7 @@ abbrev pub slot_view : ProcessState → View
 slot_view Gone = gone_slot
 slot_view Idle = idle_slot
 slot_view (Live t) = live_slot t.flags t.age t.shadow
-slot_view (Doomed d) = doomed_slot d.entry d.reply d.flags d.age
+slot_view (Doomed d) = doomed_slot d.cause d.flags d.age
 
 abbrev pub views : List ProcessState → List View
 views slots = map slot_view slots

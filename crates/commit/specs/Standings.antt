@@ -11,9 +11,8 @@ pub record IsLiveSlot (v : View) (flags : BeginFlags) (age : ℕ) : Type 0 where
   pub is : v ≡ live_slot flags age changes
 
 pub record IsDoomedSlot (v : View) (flags : BeginFlags) (age : ℕ) : Type 0 where
-  pub entry : Cause
-  pub reply : Cause
-  pub is : v ≡ doomed_slot entry reply flags age
+  pub cause : Cause
+  pub is : v ≡ doomed_slot cause flags age
 
 abbrev pub IsStandingOf : Standing → View → Type 0
 IsStandingOf Gone v = v ≡ gone_slot

@@ -14,9 +14,9 @@ ghost use Rattle.commit.specs.Dooming.{with_doom};
 ghost use Rattle.commit.specs.Edits.{with_change};
 ghost use Rattle.commit.specs.ProcessStates.{AreFirstSlots, Sets, slot_at, slot_view};
 ghost use Rattle.commit.specs.Standings.{IsStandingOf};
-ghost use Rattle.commit.specs.Views.{causes_of, changes_in, idle_slot, is_live_slot, is_within};
+ghost use Rattle.commit.specs.Views.{cause_of, changes_in, idle_slot, is_live_slot, is_within};
 
-use contention::Doomed;
+use contention::{Doomed, Twice};
 use heap::Heap;
 use ids::{Age, BeginFlags, Cause, Edit, Nums, Pid};
 use shadow::{Shadow, Stable};
@@ -53,10 +53,8 @@ pub struct Doom {
     pub flags: BeginFlags,
     /// When it began first.
     pub age: Age,
-    /// The cause, for the entry of the notice.
-    pub entry: Cause,
-    /// The cause once more, for the reply, so that the notice takes no memory.
-    pub reply: Cause,
+    /// Why, for its notice.
+    pub cause: Twice<Cause>,
 }
 
 /// The state of one process.
@@ -141,8 +139,7 @@ pub fn doom_slot(slot: ProcessState, doomed: Doomed, stable: &mut Stable) -> Pro
             ProcessState::Doomed(Doom {
                 flags,
                 age,
-                entry: doomed.entry,
-                reply: doomed.reply,
+                cause: doomed.cause,
             })
         }
         other => {
@@ -167,12 +164,12 @@ pub fn shadow_in(heap: Heap, slot: ProcessState) -> Shadow
     }
 }
 
-/// The causes of a slot that is doomed.
-pub fn causes_in(slot: ProcessState) -> Option<(Cause, Cause)>
-    ensures { result ≡ causes_of (slot_view slot) }
+/// The cause of a slot that is doomed.
+pub fn cause_in(slot: ProcessState) -> Option<Twice<Cause>>
+    ensures { result ≡ cause_of (slot_view slot) }
 {
     match slot {
-        ProcessState::Doomed(Doom { entry, reply, .. }) => Some((entry, reply)),
+        ProcessState::Doomed(Doom { cause, .. }) => Some(cause),
         other => {
             drop(other);
             None

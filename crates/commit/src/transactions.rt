@@ -15,14 +15,14 @@ ghost use Rattle.commit.specs.Dooming.{with_dooms};
 ghost use Rattle.commit.specs.Edits.{AreNew, with_change};
 ghost use Rattle.commit.specs.ProcessStates.{slot_view};
 ghost use Rattle.commit.specs.Standings.{IsStandingOf};
-ghost use Rattle.commit.specs.Views.{AreFirst, SameViews, Shows, causes_of, changes_in, gone_slot, idle_slot};
+ghost use Rattle.commit.specs.Views.{AreFirst, SameViews, Shows, cause_of, changes_in, gone_slot, idle_slot};
 ghost use Rattle.commit.specs.Views.{is_live_slot, is_within, live_slot, view_at};
 
 use crate::process_state::{
-    ProcessState, Standing, Transaction, causes_in, doom_slot, drop_slot, shadow_in, shadow_of,
+    ProcessState, Standing, Transaction, cause_in, doom_slot, drop_slot, shadow_in, shadow_of,
 };
 use crate::process_states::{ProcessStates, edit_slot, set_slot, take_slot};
-use contention::Doomed;
+use contention::{Doomed, Twice};
 use heap::Heap;
 use ids::{Age, BeginFlags, Cause, Edit, Nums, Pid, Priority};
 use shadow::{Shadow, Stable, View};
@@ -178,16 +178,16 @@ impl Transactions {
         set_slot(&mut self.slots, pid, slot);
     }
 
-    /// The causes of a doomed transaction, which is gone then. It is not for a live one, whose
-    /// changes would be lost.
-    pub fn take_causes(&mut self, pid: Pid) -> Option<(Cause, Cause)>
+    /// The cause of a doomed transaction, which is gone then. It is not for a live one, whose
+    /// changes would be gone with it.
+    pub fn take_cause(&mut self, pid: Pid) -> Option<Twice<Cause>>
         requires made { pid < length self.old.slots }
         requires unchanged { changes_in (view_at self.old.slots pid) ≡ [] }
-        ensures causes { result ≡ causes_of (view_at self.old.slots pid) }
+        ensures cause { result ≡ cause_of (view_at self.old.slots pid) }
         ensures slots { Shows self.old.slots self.new.slots pid idle_slot }
         ensures stable { self.new.stable ≡ self.old.stable }
     {
-        causes_in(take_slot(&mut self.slots, pid))
+        cause_in(take_slot(&mut self.slots, pid))
     }
 
     /// A live transaction is committed: its changes are made in one step, and what nothing leads to

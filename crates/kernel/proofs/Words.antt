@@ -30,7 +30,7 @@ pub use Rattle.history_laws.specs.Limits.{StaysWithinLimits, most_processes}
 pub use Rattle.history_laws.specs.Processes.{IsAsBefore, ProcessesMove, born, child_in, is_ended}
 pub use Rattle.calls.specs.Planned.{IsPlan, counting}
 pub use Rattle.commit.specs.Edits.{AreNew, with_change, made_by}
-pub use Rattle.commit.specs.Views.{AreFirst, View, gone_slot, causes_of, changes_in, doomed_slot, idle_slot, view_at}
+pub use Rattle.commit.specs.Views.{AreFirst, View, gone_slot, cause_of, changes_in, doomed_slot, idle_slot, view_at}
 pub use Rattle.records.specs.Touches.{distinct, with_touches}
 pub use Rattle.contention.proofs.Laws.{grown_touches, take-held, with_touches-append}
 pub use Rattle.contention.specs.Contenders.{SetsContender, Contender, contender_at, contender_of, live_age, nobody}

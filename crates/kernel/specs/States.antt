@@ -35,7 +35,7 @@ abbrev pub shown_by : Status → List Effect → View
 shown_by gone changes = gone_slot
 shown_by idle changes = idle_slot
 shown_by (live flags age calls) changes = live_slot flags age changes
-shown_by (doomed cause flags age) changes = doomed_slot cause cause flags age
+shown_by (doomed cause flags age) changes = doomed_slot cause flags age
 
 -- what a live transaction has changed
 abbrev pub changes_of : Moment → ℕ → List Effect

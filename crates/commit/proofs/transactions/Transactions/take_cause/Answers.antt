@@ -3,7 +3,7 @@ use Rattle.commit.specs.ProcessStates.{views}
 use Rattle.commit.specs.Views.{Shows, changes_in, idle_slot, view_at}
 use Rattle.commit.proofs.Claims.{covered_without}
 use Rattle.commit.proofs.Showing.{shows}
-use Rattle.commit.proofs.transactions.Transactions.take_causes.Goals as goal
+use Rattle.commit.proofs.transactions.Transactions.take_cause.Goals as goal
 
 pub invariant_of-self : goal.invariant_of-self
 invariant_of-self c = covered_without (views c.self.inside.slots) _ c.args.pid idle_slot c.self.inside.stable
