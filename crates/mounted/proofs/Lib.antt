@@ -4,3 +4,4 @@ mod Answering
 mod Telling
 mod Ending
 mod Ordering
+mod Beginning

@@ -146,12 +146,16 @@ impl Views {
             cause: Vec::new(self.heap),
         };
         let _former = self.each.insert(number, view)?;
-        if self.numbers.insert(name, number).is_err() {
-            let _view = self.each.remove(&number);
-            return Err(AllocError);
+        match self.numbers.insert(name, number) {
+            Ok(_former) => {
+                self.next = number.saturating_add(1);
+                Ok(number)
+            }
+            Err(_refused) => {
+                let _view = self.each.remove(&number);
+                Err(AllocError)
+            }
         }
-        self.next = number.saturating_add(1);
-        Ok(number)
     }
 
     // The view of this name is taken away.
