@@ -5,11 +5,10 @@ use Rattle.fuse.specs.declared.reply.Reply.{Reply}
 use Rattle.fuse.specs.declared.request.Operation.{Operation}
 use Rattle.machine.specs.Shown.{Shown}
 use Rattle.course.specs.Course.{Course, Ran}
-use Rattle.course.specs.Courses.{beginning, giving_up}
+use Rattle.course.specs.Courses.{beginning}
 use Rattle.course.specs.declared.fault.Fault.{Fault}
-use Rattle.mounted.specs.Controls.{Begins, Begun, BeginsBy, By, Failed, Lacking, ServesTransactions, ShowsRoot, Undone, Unplanned, level_planned}
+use Rattle.mounted.specs.Controls.{Begins, BeginsBy, By, Failed, Lacking, ServesTransactions, ShowsRoot, Unplanned, level_planned}
 use Rattle.mounted.specs.Processes.{IsLackingBy, IsReadyBy}
-use Rattle.mounted.specs.Views.{IsView}
 use Rattle.mounted.specs.declared.tables.Tables.{Tables}
 use Rattle.mounted.specs.declared.views.Views.{Views}
 use Rattle.mounted.proofs.Answering.{is_err}

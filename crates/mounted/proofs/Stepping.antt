@@ -23,7 +23,6 @@ use Rattle.mounted.specs.Processes.{IsLackingBy, IsReadyBy}
 use Rattle.mounted.specs.Served.{IsChosen, IsLacking, IsNoted, IsReady, IsToldOf, Lacking, Ready, ServesAt, ServesBy, ServesIn, ServesPlain, ServesTree, ServesView, chosen, is_of_node}
 use Rattle.mounted.specs.Served as served
 use Rattle.mounted.specs.Steppers.{IsStepper, StaysInView, is_release}
-use Rattle.mounted.specs.declared.numbers.Class.TheVariants.{Tree}
 use Rattle.mounted.specs.declared.tables.Stepper.{Stepper}
 use Rattle.mounted.specs.declared.tables.Tables.{Tables}
 use Rattle.mounted.specs.declared.views.State.{State}

@@ -1,7 +1,7 @@
 -- Requests about the directory of transactions, and about the files by which they are ended.
-use Rattle.std.specs.Prelude.{◌≡◌, ◌⊎◌, ℕ, ◌-◌, ◌+◌, ◌*◌, ◌==◌, ◌&&◌, ◌++◌, ◌∷◌, ◌^◌, [], min, nat_lt, eqb}
-use Rattle.std.specs.Prelude.{List, length, take, drop, codes, Bool, true, false}
-use Rattle.std.specs.Prelude.{Option, Some, None, IfSome, is_some, option_and_then, option_map}
+use Rattle.std.specs.Prelude.{◌≡◌, ◌⊎◌, ℕ, ◌-◌, ◌+◌, ◌==◌, ◌&&◌, ◌++◌, ◌∷◌, ◌^◌, [], min, nat_lt, eqb}
+use Rattle.std.specs.Prelude.{List, length, take, drop, codes}
+use Rattle.std.specs.Prelude.{Option, Some, None, IfSome, is_some, option_and_then}
 use Rattle.std.specs.Prelude.{Result, Ok, Err, if◌then◌else◌}
 use Rattle.std.specs.BTreeMap.{BTreeMap}
 use Rattle.std.specs.List.{ends_with}
@@ -11,7 +11,6 @@ use Rattle.ids.specs.declared.limits.TheConstants.{DESCRIPTORS, NAME_LIMIT}
 use Rattle.ids.specs.declared.reply.Reply.{Reply as Answer}
 use Rattle.ids.specs.declared.reply.Reply.TheVariants as answer
 use Rattle.fuse.specs.declared.errno.Errno.TheVariants as errno
-use Rattle.fuse.specs.declared.reply.Entry.{Entry}
 use Rattle.fuse.specs.declared.reply.Reply.{Reply}
 use Rattle.fuse.specs.declared.reply.Reply.TheVariants as reply
 use Rattle.fuse.specs.declared.request.Operation.{Operation}

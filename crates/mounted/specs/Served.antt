@@ -8,8 +8,6 @@ use Rattle.fuse.specs.declared.request.Operation.{Operation}
 use Rattle.fuse.specs.declared.request.Operation.TheVariants as asked
 use Rattle.machine.specs.Shown.{Shown}
 use Rattle.machine.specs.Steps.{forgetting}
-use Rattle.course.specs.Course.{Ran}
-use Rattle.course.specs.Faults.{error}
 use Rattle.course.specs.declared.fault.Fault.{Fault}
 use Rattle.course.specs.declared.fault.Fault.TheVariants as fault
 use Rattle.mounted.specs.Found.{file_at, handle_of, inode_of, stepper_at}

@@ -1,4 +1,4 @@
-use Rattle.std.proofs.Common.{refl, sym}
+use Rattle.std.proofs.Common.{refl}
 use Rattle.mounted.proofs.Ordering.{is_done, not_done, unordered}
 use Rattle.mounted.proofs.server.Server.write_control.Goals as goal
 
