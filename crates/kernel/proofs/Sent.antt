@@ -18,7 +18,7 @@ use Rattle.circular_buffer.proofs.Crosses.{Cells-send, Deed-send}
 use Rattle.fdtable.specs.contracts.FdTable as FdTable
 use Rattle.fdtable.specs.contracts.SlotPatch as SlotPatch
 use Rattle.shadow.specs.contracts.change.Contents as Contents
-use Rattle.shadow.specs.contracts.change.Change as Change
+use Rattle.shadow.specs.contracts.change.InodeChange as InodeChange
 use Rattle.shadow.specs.contracts.inodes.Inodes as Inodes
 use Rattle.shadow.specs.contracts.opening.Openings as Openings
 use Rattle.shadow.specs.contracts.slots.Slots as Slots
@@ -91,7 +91,7 @@ given_sent = search (sendable, crosses, over.crosses) depth 40 fits 30000
 contents_sent : IsSend (Contents.the_field).row
 contents_sent = search (patch_sent, bytes_sent, open_pipe_sent, appended_sent, sendable, crosses, over.crosses) depth 40 fits 30000
 
-change_sent : IsSend (Change.the_field).row
+change_sent : IsSend (InodeChange.the_field).row
 change_sent = search (contents_sent, room_sent, sendable, crosses, over.crosses) depth 40 fits 30000
 
 inodes_sent : IsSend Inodes.the_row

@@ -70,7 +70,7 @@ committed_of processes s = record {
 }
 
 -- a directory to come has no names, and what else is to come is not settled; room is promised in
--- what is lost
+-- what is removed
 abbrev pub IsUnsettled : Object → Type 0
 IsUnsettled (A_directory listing) = (x : Name) → get listing.names x ≡ None
 IsUnsettled Nothing = ⊤
@@ -107,7 +107,7 @@ IsEndHere s d it = (pipe : OpenPipe) → object_at s it.inode ≡ Some (A_pipe p
     × ((d ≡ pipe.reader) ⊎ (d ≡ pipe.writer))
 
 -- The root is number 0, the state is well formed, nothing in it is unreached, what is to come is
--- empty, nothing is lost that no transaction needs, and the counts are right.
+-- empty, nothing removed is kept that no transaction needs, and the counts are right.
 pub record Sound (processes : Processes) (s : Numbers) : Type 0 where
   pub root : s.root ≡ 0
   pub well : WellFormed (state_of processes s)

@@ -62,6 +62,7 @@ fn all_opened(table: &FdTable) -> SlotPatch
             patch.note(Fd(number), Some(description));
         }
     }
+    // For the proof: only descriptors below the limit are noted.
     patch.noted_are_low();
     patch
 }
@@ -75,6 +76,7 @@ fn all_closed() -> SlotPatch
     for number in 0..DESCRIPTORS as u32 {
         patch.note(Fd(number), None);
     }
+    // For the proof: only descriptors below the limit are noted.
     patch.noted_are_low();
     patch
 }

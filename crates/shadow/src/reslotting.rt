@@ -54,6 +54,7 @@ pub(crate) fn lay_table(
         store.old store.new }
 {
     let mut former = SlotPatch::new();
+    // For the proof: only descriptors below the limit are noted.
     patch.noted_are_low();
     for number in 0..DESCRIPTORS as u32 {
         if let Some(given) = patch.get(Fd(number)) {
@@ -94,9 +95,9 @@ impl Processes {
             ≡ with_process pid (slot_noted fd given (get (numbered self.old) pid)) self.old }
         ensures few { length self.old.list < 2 ^ 64 }
     {
-        let place = pid.0 as usize - 1;
-        let former = slot_of(&self.list[place], fd);
-        give(&mut self.list[place], fd, given);
+        let index = pid.0 as usize - 1;
+        let former = slot_of(&self.list[index], fd);
+        give(&mut self.list[index], fd, given);
         former
     }
 }

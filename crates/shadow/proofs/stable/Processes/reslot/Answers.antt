@@ -4,7 +4,7 @@ use Rattle.model.specs.State.{Process}
 use Rattle.shadow.specs.Openings.{slot_noted}
 use Rattle.shadow.specs.Stored.{Processes, numbered, with_process}
 use Rattle.shadow.specs.Laid.{table_in}
-use Rattle.shadow.proofs.Living.{IsProcess, is_process, read_there}
+use Rattle.shadow.proofs.shared.ProcessLemmas.{IsProcess, is_process, read_there}
 use Rattle.shadow.proofs.stable.Processes.reslot.Goals as goal
 
 -- of a value and of what it shows: the process is there, and is what is read at its place
