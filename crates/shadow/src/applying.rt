@@ -373,11 +373,7 @@ impl Stable {
         ensures kept { KeepsSame self.old self.new }
         ensures err { OnErr result (self.new.state ≡ self.old.state) }
     {
-        let empty = FileData::new(self.heap());
-        let mut data = self.store.swap_file(file, empty);
-        let written = data.write_at(offset, bytes);
-        let _empty = self.store.swap_file(file, data);
-        written
+        self.store.write_file(file, offset, bytes)
     }
 
     // A file's length changes.
