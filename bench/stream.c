@@ -52,11 +52,11 @@ static unsigned long name_of(unsigned i)
 }
 
 /* Puts a line of a round. */
-static void set_line(char line[128], unsigned round, int place)
+static void set_line(char line[128], unsigned round, int index)
 {
     unsigned long name = name_of(round);
 
-    switch (place) {
+    switch (index) {
     case 0: snprintf(line, 128, "1 mkdir /n%07lu", name); break;
     case 1: snprintf(line, 128, "1 stat /n%07lu", name); break;
     case 2: snprintf(line, 128, "1 open /n%07lu/f WRONLY,CREAT", name); break;
@@ -114,11 +114,11 @@ static void send_ahead(void)
     kagzuvis *kernel = start();
     char line[128];
     unsigned round;
-    int place;
+    int index;
 
     for (round = 0; round < rounds; round++)
-        for (place = 0; place < LINES; place++) {
-            set_line(line, round, place);
+        for (index = 0; index < LINES; index++) {
+            set_line(line, round, index);
             must(kagzuvis_send(kernel, line) == 0, "a line that is sent ahead");
         }
     for (round = 0; round < rounds * LINES; round++)
@@ -191,13 +191,13 @@ static void write_script(void)
     FILE *script = fopen("script", "w");
     char line[128];
     unsigned round;
-    int place;
+    int index;
 
     must(script != NULL, "script");
     fputs("priorities 0\n", script);
     for (round = 0; round < rounds; round++)
-        for (place = 0; place < LINES; place++) {
-            set_line(line, round, place);
+        for (index = 0; index < LINES; index++) {
+            set_line(line, round, index);
             fprintf(script, "%s\n", line);
         }
     must(fclose(script) == 0, "script");

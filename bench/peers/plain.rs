@@ -118,22 +118,22 @@ fn first_name(rest: &[u8]) -> (&[u8], Option<&[u8]>) {
     }
 }
 
-/// Lays bytes into a file's, from a place on, and gives the place behind them.
-fn lay(bytes: &mut Vec<u8>, place: usize, added: &[u8]) -> Result<usize, Errno> {
-    let end = place + added.len();
+/// Lays bytes into a file's, from an offset on, and gives the offset behind them.
+fn lay(bytes: &mut Vec<u8>, offset: usize, added: &[u8]) -> Result<usize, Errno> {
+    let end = offset + added.len();
     if end > LARGEST_FILE {
         return Err(Errno::FileTooBig);
     }
     if bytes.len() < end {
         bytes.resize(end, 0);
     }
-    bytes[place..end].copy_from_slice(added);
+    bytes[offset..end].copy_from_slice(added);
     Ok(end)
 }
 
-/// So many of a file's bytes from a place on, or as many as there are.
-fn part(bytes: &[u8], place: usize, count: usize) -> &[u8] {
-    let start = place.min(bytes.len());
+/// So many of a file's bytes from an offset on, or as many as there are.
+fn part(bytes: &[u8], offset: usize, count: usize) -> &[u8] {
+    let start = offset.min(bytes.len());
     &bytes[start..(start + count).min(bytes.len())]
 }
 
@@ -168,11 +168,13 @@ impl Kernel {
             Op::List(path) => self.list(path),
             Op::Open { path, creates } => self.open(process, path, *creates),
             Op::Write(descriptor, bytes) => self.write(process, *descriptor, bytes),
-            Op::Pwrite(descriptor, bytes, place) => {
-                self.pwrite(process, *descriptor, bytes, *place)
+            Op::Pwrite(descriptor, bytes, offset) => {
+                self.pwrite(process, *descriptor, bytes, *offset)
             }
             Op::Read(descriptor, count) => self.read(process, *descriptor, *count),
-            Op::Pread(descriptor, count, place) => self.pread(process, *descriptor, *count, *place),
+            Op::Pread(descriptor, count, offset) => {
+                self.pread(process, *descriptor, *count, *offset)
+            }
             Op::Close(descriptor) => self.close(process, *descriptor),
             Op::Truncate(path, length) => self.truncate(path, *length),
             Op::Rename(old, new) => self.rename(old, new),
@@ -360,7 +362,7 @@ impl Kernel {
         Ok(Reply::Count(added.len()))
     }
 
-    fn pwrite(&mut self, process: usize, descriptor: usize, added: &[u8], place: usize) -> Answer {
+    fn pwrite(&mut self, process: usize, descriptor: usize, added: &[u8], offset: usize) -> Answer {
         let number = self.description(process, descriptor)?;
         let description = &self.descriptions[number];
         if !description.writes {
@@ -368,7 +370,7 @@ impl Kernel {
         }
         match &mut self.inodes[description.inode] {
             Inode::File { bytes, .. } => {
-                lay(bytes, place, added)?;
+                lay(bytes, offset, added)?;
                 Ok(Reply::Count(added.len()))
             }
             Inode::Pipe { .. } => Err(Errno::NoSeek),
@@ -396,10 +398,10 @@ impl Kernel {
         }
     }
 
-    fn pread(&mut self, process: usize, descriptor: usize, count: usize, place: usize) -> Answer {
+    fn pread(&mut self, process: usize, descriptor: usize, count: usize, offset: usize) -> Answer {
         let number = self.description(process, descriptor)?;
         match &self.inodes[self.descriptions[number].inode] {
-            Inode::File { bytes, .. } => Ok(Reply::Bytes(part(bytes, place, count).to_vec())),
+            Inode::File { bytes, .. } => Ok(Reply::Bytes(part(bytes, offset, count).to_vec())),
             Inode::Pipe { .. } => Err(Errno::NoSeek),
             _ => Err(Errno::BadDescriptor),
         }
@@ -552,8 +554,8 @@ fn shuffled(i: u64, count: u64) -> u64 {
 fn path(letter: u8, mut number: u64) -> Vec<u8> {
     let mut name = *b"/.0000000";
     name[1] = letter;
-    for place in (2..9).rev() {
-        name[place] = b'0' + (number % 10) as u8;
+    for index in (2..9).rev() {
+        name[index] = b'0' + (number % 10) as u8;
         number /= 10;
     }
     let mut bytes = Vec::with_capacity(11);
@@ -594,7 +596,7 @@ fn read(kernel: &mut Kernel, number: u64) {
 }
 
 /// Where the call of this number begins in the open file of 64 KiB.
-fn place_of(number: u64) -> usize {
+fn offset_of(number: u64) -> usize {
     number as usize % 1024 * 64
 }
 
@@ -647,10 +649,10 @@ fn print_opened(kernel: &mut Kernel) {
     step(kernel, 1, Op::Open { path: b"/o".to_vec(), creates: true });
     step(kernel, 1, Op::Write(2, vec![b'x'; 65_536]));
     old_names(kernel, "pwrite 64 bytes anywhere", 1000, |kernel, number| {
-        step(kernel, 1, Op::Pwrite(2, vec![b'x'; 64], place_of(number)));
+        step(kernel, 1, Op::Pwrite(2, vec![b'x'; 64], offset_of(number)));
     });
     old_names(kernel, "pread 64 bytes anywhere", 1000, |kernel, number| {
-        step(kernel, 1, Op::Pread(2, 64, place_of(number)));
+        step(kernel, 1, Op::Pread(2, 64, offset_of(number)));
     });
     step(kernel, 1, Op::Close(2));
     step(kernel, 1, Op::Unlink(b"/o".to_vec()));

@@ -59,8 +59,8 @@ static void set_path(char path[16], char letter, uint64_t number)
 {
     memcpy(path, "d/", 2);
     path[2] = letter;
-    for (int place = 9; place >= 3; place--) {
-        path[place] = '0' + number % 10;
+    for (int index = 9; index >= 3; index--) {
+        path[index] = '0' + number % 10;
         number /= 10;
     }
     path[10] = 0;
@@ -138,20 +138,20 @@ static void do_read(uint64_t number)
 }
 
 /* Where the call of this number begins in the open file of 64 KiB. */
-static off_t small_place_of(uint64_t number)
+static off_t small_offset_of(uint64_t number)
 {
     return number % 1024 * sizeof content;
 }
 
 static void do_pwrite(uint64_t number)
 {
-    must(pwrite(open_file, content, sizeof content, small_place_of(number)), "pwrite");
+    must(pwrite(open_file, content, sizeof content, small_offset_of(number)), "pwrite");
 }
 
 static void do_pread(uint64_t number)
 {
     char bytes[64];
-    must(pread(open_file, bytes, sizeof bytes, small_place_of(number)), "pread");
+    must(pread(open_file, bytes, sizeof bytes, small_offset_of(number)), "pread");
 }
 
 static void do_truncate(uint64_t number)
@@ -234,7 +234,7 @@ static void drop_file(void)
 static void opened(void)
 {
     make_file();
-    for (int place = 0; place < 1024; place++)
+    for (int index = 0; index < 1024; index++)
         must(write(open_file, content, sizeof content), "write");
     old_names("pwrite 64 bytes anywhere", 1000, do_pwrite);
     old_names("pread 64 bytes anywhere", 1000, do_pread);
@@ -285,9 +285,9 @@ static void largest(void)
 
 static char piece[1 << 20];
 
-static void seek_to(off_t place)
+static void seek_to(off_t offset)
 {
-    must(lseek(open_file, place, SEEK_SET) < 0 ? -1 : 0, "lseek");
+    must(lseek(open_file, offset, SEEK_SET) < 0 ? -1 : 0, "lseek");
 }
 
 static void write_piece(size_t count)
@@ -296,7 +296,7 @@ static void write_piece(size_t count)
         fail("write");
 }
 
-static uint32_t place_of(uint32_t i, uint32_t size)
+static uint32_t offset_of(uint32_t i, uint32_t size)
 {
     return i * UINT32_C(2654435761) % (size - PIECE);
 }
@@ -312,20 +312,20 @@ static void do_append(uint32_t i, uint32_t size)
 
 static void do_write_anywhere(uint32_t i, uint32_t size)
 {
-    seek_to(place_of(i, size));
+    seek_to(offset_of(i, size));
     write_piece(PIECE);
 }
 
 static void do_pwrite_anywhere(uint32_t i, uint32_t size)
 {
-    if (pwrite(open_file, piece, PIECE, place_of(i, size)) != PIECE)
+    if (pwrite(open_file, piece, PIECE, offset_of(i, size)) != PIECE)
         fail("pwrite");
 }
 
 static void do_read_anywhere(uint32_t i, uint32_t size)
 {
     char bytes[PIECE];
-    seek_to(place_of(i, size));
+    seek_to(offset_of(i, size));
     if (read(open_file, bytes, PIECE) != PIECE)
         fail("read");
 }
@@ -333,7 +333,7 @@ static void do_read_anywhere(uint32_t i, uint32_t size)
 static void do_pread_anywhere(uint32_t i, uint32_t size)
 {
     char bytes[PIECE];
-    if (pread(open_file, bytes, PIECE, place_of(i, size)) != PIECE)
+    if (pread(open_file, bytes, PIECE, offset_of(i, size)) != PIECE)
         fail("pread");
 }
 

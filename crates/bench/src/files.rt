@@ -55,8 +55,8 @@ fn call<K: Machine>(kernel: &mut K, call: Call) -> Result<()> {
     step(kernel, 1, Op::Call(call))
 }
 
-fn seek<K: Machine>(kernel: &mut K, place: u32, whence: Whence) -> Result<()> {
-    call(kernel, Call::Lseek(FILE, i64::from(place), whence))
+fn seek<K: Machine>(kernel: &mut K, offset: u32, whence: Whence) -> Result<()> {
+    call(kernel, Call::Lseek(FILE, i64::from(offset), whence))
 }
 
 /// Writes so many bytes to the file.
@@ -65,9 +65,9 @@ pub(crate) fn write<K: Machine>(kernel: &mut K, heap: Heap, count: u32) -> Resul
     call(kernel, Call::Write(FILE, Bytes::new(bytes)))
 }
 
-fn pwrite<K: Machine>(kernel: &mut K, heap: Heap, place: u32) -> Result<()> {
+fn pwrite<K: Machine>(kernel: &mut K, heap: Heap, offset: u32) -> Result<()> {
     let bytes = Bytes::new(Vec::from_elem(heap, b'x', PIECE as usize)?);
-    call(kernel, Call::Pwrite(FILE, bytes, i64::from(place)))
+    call(kernel, Call::Pwrite(FILE, bytes, i64::from(offset)))
 }
 
 /// What was done is forgotten, so that no history grows.
@@ -79,7 +79,7 @@ pub(crate) fn forget<K: Machine>(kernel: &mut K) -> Result<()> {
 }
 
 // Where the i-th call anywhere begins in a file of so many bytes.
-fn place_of(i: u32, size: u32) -> u32 {
+fn offset_of(i: u32, size: u32) -> u32 {
     i.wrapping_mul(2_654_435_761)
         .checked_rem(size.saturating_sub(PIECE))
         .unwrap_or(0)
@@ -95,17 +95,17 @@ fn do_work<K: Machine>(kernel: &mut K, heap: Heap, work: Work, i: u32, size: u32
     match work {
         Work::Append => write(kernel, heap, PIECE),
         Work::Write => {
-            seek(kernel, place_of(i, size), Whence::Set)?;
+            seek(kernel, offset_of(i, size), Whence::Set)?;
             write(kernel, heap, PIECE)
         }
-        Work::Pwrite => pwrite(kernel, heap, place_of(i, size)),
+        Work::Pwrite => pwrite(kernel, heap, offset_of(i, size)),
         Work::Read => {
-            seek(kernel, place_of(i, size), Whence::Set)?;
+            seek(kernel, offset_of(i, size), Whence::Set)?;
             call(kernel, Call::Read(FILE, PIECE))
         }
         Work::Pread => {
-            let place = i64::from(place_of(i, size));
-            call(kernel, Call::Pread(FILE, PIECE, place))
+            let offset = i64::from(offset_of(i, size));
+            call(kernel, Call::Pread(FILE, PIECE, offset))
         }
         Work::Cut => call(kernel, Call::Ftruncate(FILE, len_of(i, size))),
         Work::Truncate => {

@@ -48,8 +48,8 @@ const WRITER: Fd = Fd(1);
 
 const FILE: Fd = Fd(2);
 
-// How many places of 64 bytes the open file has.
-const PLACES: u64 = 1024;
+// How many pieces of 64 bytes the open file has.
+const PIECES: u64 = 1024;
 
 // To how many bytes a file of 64 is cut.
 const SHORTER: u32 = 32;
@@ -80,13 +80,13 @@ fn read<K: Machine>(kernel: &mut K, heap: Heap, number: u64) -> Result<()> {
 }
 
 // Where the call of this number begins in the open file.
-fn place_of(number: u64) -> i64 {
-    (number % PLACES) as i64 * 64
+fn offset_of(number: u64) -> i64 {
+    (number % PIECES) as i64 * 64
 }
 
 fn pwrite<K: Machine>(kernel: &mut K, heap: Heap, number: u64) -> Result<()> {
     let bytes = Bytes::copy(heap, &[b'x'; 64])?;
-    call(kernel, Call::Pwrite(FILE, bytes, place_of(number)))
+    call(kernel, Call::Pwrite(FILE, bytes, offset_of(number)))
 }
 
 fn rename<K: Machine>(kernel: &mut K, heap: Heap, number: u64) -> Result<()> {
@@ -117,7 +117,7 @@ fn do_work<K: Machine>(kernel: &mut K, heap: Heap, work: Work, number: u64) -> R
         Work::Create => create(kernel, heap, number),
         Work::Read => read(kernel, heap, number),
         Work::Pwrite => pwrite(kernel, heap, number),
-        Work::Pread => call(kernel, Call::Pread(FILE, 64, place_of(number))),
+        Work::Pread => call(kernel, Call::Pread(FILE, 64, offset_of(number))),
         Work::Truncate => call(kernel, Call::Truncate(path(heap, b'f', number)?, SHORTER)),
         Work::Rename => rename(kernel, heap, number),
         Work::Unlink => call(kernel, Call::Unlink(path(heap, b'g', number)?)),
@@ -163,7 +163,7 @@ pub(crate) fn close_file<K: Machine>(kernel: &mut K, heap: Heap) -> Result<()> {
     call(kernel, Call::Unlink(Bytes::copy(heap, b"/o")?))
 }
 
-/// Makes the directories of the new names from one place up to another.
+/// Makes the directories of the new names from one index up to another.
 pub(crate) fn make_between<K: Machine>(
     kernel: &mut K,
     heap: Heap,

@@ -1,10 +1,10 @@
--- The place that lseek comes to.
+-- The offset that lseek comes to.
 use Rattle.std.proofs.Common.{◌≡◌, ℕ, ℤ, pos, negsuc, [], ◌∷◌, Bool, true, false, Option, Some, None, if◌then◌else◌, nat_lt, refl, ap, arith}
 use Rattle.model.specs.Plan.{Refuse, EINVAL, refuse_if, ◌>>◌}
 use Rattle.model.specs.Calls.{Slot, New_place}
 use Rattle.model.specs.Changes.{Set_offset}
 use Rattle.model.specs.Plans.{changed, sought}
-use Rattle.calls.specs.Parts.{place_in}
+use Rattle.calls.specs.Parts.{offset_in}
 
 abbrev or_zero : Option ℕ → ℕ
 or_zero (Some n) = n
@@ -22,10 +22,10 @@ none_by : (d n : ℕ) (b : Bool) → (if b then None else Some n) ≡ None → (
 none_by d n true h = refl
 none_by d n false h = let e : true ≡ false = ap is_there h in absurd (grind (arith, e))
 
-pub sought_some : (largest : ℕ) (it : Slot) (sum : ℤ) (m : ℕ) → place_in largest sum ≡ Some m → sought largest it sum ≡ changed (New_place m) (Set_offset it.description m ∷ [])
+pub sought_some : (largest : ℕ) (it : Slot) (sum : ℤ) (m : ℕ) → offset_in largest sum ≡ Some m → sought largest it sum ≡ changed (New_place m) (Set_offset it.description m ∷ [])
 sought_some largest it (pos n) m h = some_by it.description n m (nat_lt largest n) h
 sought_some largest it (negsuc n) m h = let e : false ≡ true = ap is_there h in absurd (grind (arith, e))
 
-pub sought_none : (largest : ℕ) (it : Slot) (sum : ℤ) → place_in largest sum ≡ None → sought largest it sum ≡ Refuse EINVAL
+pub sought_none : (largest : ℕ) (it : Slot) (sum : ℤ) → offset_in largest sum ≡ None → sought largest it sum ≡ Refuse EINVAL
 sought_none largest it (pos n) h = none_by it.description n (nat_lt largest n) h
 sought_none largest it (negsuc n) h = refl

@@ -13,26 +13,26 @@ use look::Look;
 use std::alloc::AllocError;
 use walk::Reads;
 
-// The blocks of so many bytes of a file from a place on: the first of them, and how many there are.
-pub(crate) fn blocks_of(place: u32, count: u32) -> (u32, u32)
-    requires { place + count < 2 ^ 32 }
-    ensures blocks { rising result.0 result.1 ≡ blocks place count }
+// The blocks of so many bytes of a file from an offset on: the first of them, and how many there are.
+pub(crate) fn blocks_of(offset: u32, count: u32) -> (u32, u32)
+    requires { offset + count < 2 ^ 32 }
+    ensures blocks { rising result.0 result.1 ≡ blocks offset count }
     ensures small { result.0 + result.1 < 2 ^ 32 }
 {
     if count == 0 {
         return (0, 0);
     }
-    let first = place / BLOCK_LEN as u32;
-    let last = (place + (count - 1)) / BLOCK_LEN as u32;
+    let first = offset / BLOCK_LEN as u32;
+    let last = (offset + (count - 1)) / BLOCK_LEN as u32;
     (first, last - first + 1)
 }
 
-// Reads the blocks of so many bytes of a file from a place on.
-fn read_blocks(reads: &mut Reads, file: Num, place: u32, count: u32) -> Result<(), AllocError>
-    requires { place + count < 2 ^ 32 }
-    ensures { OnOk result (reads.new ≡ noting reads.old (map (Block file) (blocks place count))) }
+// Reads the blocks of so many bytes of a file from an offset on.
+fn read_blocks(reads: &mut Reads, file: Num, offset: u32, count: u32) -> Result<(), AllocError>
+    requires { offset + count < 2 ^ 32 }
+    ensures { OnOk result (reads.new ≡ noting reads.old (map (Block file) (blocks offset count))) }
 {
-    let (first, len) = blocks_of(place, count);
+    let (first, len) = blocks_of(offset, count);
     for more in 0..len {
         reads.add(Aspect::Block(file, first + more))?;
     }
@@ -88,22 +88,22 @@ pub(crate) fn offset<L: Look>(look: &L, description: Num, reads: &mut Reads) -> 
     Ok(look.offset(description)?)
 }
 
-// Bytes of a file from a place on, so many at most.
+// Bytes of a file from an offset on, so many at most.
 pub(crate) fn read_file<L: Look>(
     look: &L,
     file: Num,
-    place: u32,
+    offset: u32,
     count: u32,
     reads: &mut Reads,
 ) -> Result<Bytes, Refusal>
     requires { count ≤ MOST_MOVED }
     ensures value { Comes (L.state look.now)
-        (ask (Read_file file place count)) reads.old result reads.new }
-    ensures small { IfOk result (λ bytes. place + length bytes < 2 ^ 32) }
+        (ask (Read_file file offset count)) reads.old result reads.new }
+    ensures small { IfOk result (λ bytes. offset + length bytes < 2 ^ 32) }
 {
     reads.add(Aspect::Size(file))?;
-    let bytes = look.read_file(reads.heap(), file, place, count)?;
-    read_blocks(reads, file, place, bytes.as_slice().len() as u32)?;
+    let bytes = look.read_file(reads.heap(), file, offset, count)?;
+    read_blocks(reads, file, offset, bytes.as_slice().len() as u32)?;
     Ok(bytes)
 }
 

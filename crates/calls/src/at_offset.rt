@@ -121,6 +121,11 @@ fn put(heap: Heap, file: Num, offset: u32, kept: Bytes, size: u32) -> Result<Cha
     changed_by(
         heap,
         Answer::Count(count),
-        Edit::PutBytes(file, offset, kept, size),
+        Edit::PutBytes {
+            file,
+            offset,
+            bytes: kept,
+            length_before: size,
+        },
     )
 }

@@ -19,7 +19,15 @@ pub(crate) fn close<L: Look>(heap: Heap, look: &L, pid: Pid, fd: Fd) -> Result<C
 {
     let it = slot(look, pid, fd)?;
     let pipes = pipe_in(heap, &it)?;
-    changed_by(heap, Answer::Done, Edit::ClearSlot(pid, fd, pipes))
+    changed_by(
+        heap,
+        Answer::Done,
+        Edit::ClearSlot {
+            process: pid,
+            descriptor: fd,
+            pipes,
+        },
+    )
 }
 
 pub(crate) fn fstat<L: Look>(
@@ -44,7 +52,12 @@ pub(crate) fn dup<L: Look>(heap: Heap, look: &L, pid: Pid, fd: Fd) -> Result<Cha
     changed_by(
         heap,
         Answer::Fd(free),
-        Edit::ShareSlot(pid, free, it.description, pipes),
+        Edit::ShareSlot {
+            process: pid,
+            descriptor: free,
+            description: it.description,
+            pipes,
+        },
     )
 }
 
@@ -69,7 +82,12 @@ pub(crate) fn dup2<L: Look>(
         changed_by(
             heap,
             Answer::Fd(new),
-            Edit::ShareSlot(pid, new, it.description, pipes),
+            Edit::ShareSlot {
+                process: pid,
+                descriptor: new,
+                description: it.description,
+                pipes,
+            },
         )
     }
 }
@@ -82,7 +100,12 @@ pub(crate) fn pipe<L: Look>(heap: Heap, look: &L, pid: Pid) -> Result<Change, Re
     changed_by(
         heap,
         Answer::Pair(reader, writer),
-        Edit::MakePipe(0, pid, reader, writer),
+        Edit::MakePipe {
+            index: 0,
+            process: pid,
+            reader,
+            writer,
+        },
     )
 }
 
@@ -95,7 +118,11 @@ pub(crate) fn fork<L: Look>(heap: Heap, look: &L, pid: Pid) -> Result<Change, Re
     changed_by(
         heap,
         Answer::Child(Pid(birth.0 + 1)),
-        Edit::NewProcess(Pid(birth.0 + 1), pid, pipes),
+        Edit::NewProcess {
+            child: Pid(birth.0 + 1),
+            parent: pid,
+            pipes,
+        },
     )
 }
 
@@ -103,5 +130,12 @@ pub(crate) fn exit<L: Look>(heap: Heap, look: &L, pid: Pid) -> Result<Change, Re
     ensures { TellsIn (L.state look.now) (plan (own_in (L.state look.now) pid) Exit) result }
 {
     let pipes = pipes(heap, look, pid)?;
-    changed_by(heap, Answer::Done, Edit::EndProcess(pid, pipes))
+    changed_by(
+        heap,
+        Answer::Done,
+        Edit::EndProcess {
+            process: pid,
+            pipes,
+        },
+    )
 }

@@ -79,8 +79,18 @@ fn opened_new(heap: Heap, pid: Pid, flags: OpenFlags, fd: Fd, last: Last) -> Res
     ensures { (k : Kernel) → TellsIn k (opened (own_in k pid) flags fd last None) result }
 {
     refuse_if(!flags.creates(), Errno::ENOENT)?;
-    let made = Edits::new(heap).with(Edit::MakeFile(last.parent, last.name, 0))?;
-    let edits = made.with(Edit::OpenInode(1, Which::Made(0), mode(flags), pid, fd))?;
+    let made = Edits::new(heap).with(Edit::MakeFile {
+        parent: last.parent,
+        name: last.name,
+        index: 0,
+    })?;
+    let edits = made.with(Edit::OpenInode {
+        index: 1,
+        inode: Which::Made(0),
+        mode: mode(flags),
+        process: pid,
+        descriptor: fd,
+    })?;
     changed(Answer::Fd(fd), edits)
 }
 
@@ -99,7 +109,13 @@ fn opened_old<L: Look>(
     must_be_new(flags)?;
     must_not_be_directory(&place, Errno::EISDIR)?;
     let cut = cut_if(look, flags, place.0, reads)?;
-    let edits = cut.with(Edit::OpenInode(0, Which::There(place.0), mode(flags), pid, fd))?;
+    let edits = cut.with(Edit::OpenInode {
+        index: 0,
+        inode: Which::There(place.0),
+        mode: mode(flags),
+        process: pid,
+        descriptor: fd,
+    })?;
     changed(Answer::Fd(fd), edits)
 }
 
@@ -141,7 +157,11 @@ pub(crate) fn cut_to<L: Look>(
     ensures { Comes (L.state look.now) (cut_to file length) reads.old result reads.new }
 {
     let size = size(look, file, reads)?;
-    let edits = Edits::new(reads.heap()).with(Edit::Cut(file, size, length))?;
+    let edits = Edits::new(reads.heap()).with(Edit::Cut {
+        file,
+        length_before: size,
+        length,
+    })?;
     Ok(edits)
 }
 
@@ -203,7 +223,11 @@ fn read_some_pipe<L: Look>(
         nothing_from_pipe(look, pipe, reads)
     } else {
         let count = bytes.as_slice().len() as u32;
-        changed_by(reads.heap(), Answer::Bytes(bytes), Edit::Take(pipe, count))
+        changed_by(
+            reads.heap(),
+            Answer::Bytes(bytes),
+            Edit::Take { pipe, count },
+        )
     }
 }
 
@@ -239,7 +263,10 @@ fn moved_on(heap: Heap, description: Num, offset: u32, bytes: &Bytes) -> Result<
     if is_empty(bytes) {
         Ok(Edits::new(heap))
     } else {
-        Edits::new(heap).with(Edit::SetOffset(description, offset + bytes.as_slice().len() as u32))
+        Edits::new(heap).with(Edit::SetOffset {
+            description,
+            offset: offset + bytes.as_slice().len() as u32,
+        })
     }
 }
 
@@ -296,7 +323,7 @@ fn write_pipe<L: Look>(
     changed_by(
         reads.heap(),
         Answer::Count(fitting),
-        Edit::Append(pipe, kept),
+        Edit::Append { pipe, bytes: kept },
     )
 }
 
@@ -310,38 +337,46 @@ fn write_file<L: Look>(
     ensures { Comes (L.state look.now)
         (some_to_file largest it bytes.now) reads.old result reads.new }
 {
-    let place = place_to_write(look, &it, reads)?;
-    must_be_below(place, largest, Errno::EFBIG)?;
+    let offset = offset_to_write(look, &it, reads)?;
+    must_be_below(offset, largest, Errno::EFBIG)?;
     let size = size(look, it.inode, reads)?;
-    let kept = first_bytes(reads.heap(), bytes, room(largest, place))?;
-    put(reads.heap(), it.inode, it.description, place, kept, size)
+    let kept = first_bytes(reads.heap(), bytes, room(largest, offset))?;
+    put(reads.heap(), it.inode, it.description, offset, kept, size)
 }
 
-// How many bytes one write puts at a place of a file that may have so many.
-pub(crate) fn room(largest: u32, place: u32) -> u32
-    requires { place < largest }
-    ensures is { result ≡ room largest place }
-    ensures within { place + result ≤ largest }
+// How many bytes one write puts at an offset of a file that may have so many.
+pub(crate) fn room(largest: u32, offset: u32) -> u32
+    requires { offset < largest }
+    ensures is { result ≡ room largest offset }
+    ensures within { offset + result ≤ largest }
 {
-    (largest - place).min(MOST_MOVED as u32)
+    (largest - offset).min(MOST_MOVED as u32)
 }
 
 fn put(
     heap: Heap,
     file: Num,
     description: Num,
-    place: u32,
+    offset: u32,
     kept: Bytes,
     size: u32,
 ) -> Result<Change, Refusal>
-    requires { place + length kept < 2 ^ 32 }
+    requires { offset + length kept < 2 ^ 32 }
     ensures { Tells (changed (Count (length kept))
-        (Put_bytes file place kept size ∷ Set_offset description (place + length kept) ∷ []))
+        (Put_bytes file offset kept size ∷ Set_offset description (offset + length kept) ∷ []))
         result }
 {
     let count = kept.as_slice().len() as u32;
-    let written = Edits::new(heap).with(Edit::PutBytes(file, place, kept, size))?;
-    let edits = written.with(Edit::SetOffset(description, place + count))?;
+    let written = Edits::new(heap).with(Edit::PutBytes {
+        file,
+        offset,
+        bytes: kept,
+        length_before: size,
+    })?;
+    let edits = written.with(Edit::SetOffset {
+        description,
+        offset: offset + count,
+    })?;
     changed(Answer::Count(count), edits)
 }
 
@@ -358,7 +393,7 @@ pub(crate) fn first_bytes(heap: Heap, bytes: &Bytes, count: u32) -> Result<Bytes
     }
 }
 
-fn place_to_write<L: Look>(look: &L, it: &Slot, reads: &mut Reads) -> Result<u32, Refusal>
+fn offset_to_write<L: Look>(look: &L, it: &Slot, reads: &mut Reads) -> Result<u32, Refusal>
     ensures { Comes (L.state look.now)
         (place_to_write it.now it.now.appending) reads.old result reads.new }
 {

@@ -67,13 +67,13 @@ fn mark_move(
     }
 }
 
-// The blocks of so many bytes of a file from a place on.
-fn mark_blocks(file: Num, place: u32, count: u32, touches: &mut Touches) -> Result<(), AllocError>
-    requires { place + count < 2 ^ 32 }
+// The blocks of so many bytes of a file from an offset on.
+fn mark_blocks(file: Num, offset: u32, count: u32, touches: &mut Touches) -> Result<(), AllocError>
+    requires { offset + count < 2 ^ 32 }
     ensures { OnOk result
-        (touches.new ≡ touches.old ++ writing (map (Block file) (blocks place count))) }
+        (touches.new ≡ touches.old ++ writing (map (Block file) (blocks offset count))) }
 {
-    let (first, len) = blocks_of(place, count);
+    let (first, len) = blocks_of(offset, count);
     for more in 0..len {
         touches.write(Aspect::Block(file, first + more))?;
     }
@@ -83,24 +83,25 @@ fn mark_blocks(file: Num, place: u32, count: u32, touches: &mut Touches) -> Resu
 // Bytes of a file that had so many before.
 fn mark_bytes(
     file: Num,
-    place: u32,
+    offset: u32,
     bytes: &[u8],
     before: u32,
     touches: &mut Touches,
 ) -> Result<(), AllocError>
     ensures { OnOk result
-        (touches.new ≡ touches.old ++ writing (marks (Put_bytes file place bytes.now before))) }
+        (touches.new ≡ touches.old ++ writing (marks (Put_bytes file offset bytes.now before))) }
 {
+    // For the proof: a plan's bytes end below 2^32, which an edit alone does not say.
     let Ok(count) = u32::try_from(bytes.len()) else {
         return Err(AllocError);
     };
-    let Some(end) = place.checked_add(count) else {
+    let Some(end) = offset.checked_add(count) else {
         return Err(AllocError);
     };
     if before < end {
         touches.write(Aspect::Size(file))?;
     }
-    mark_blocks(file, place, count, touches)
+    mark_blocks(file, offset, count, touches)
 }
 
 // A file's length, before and after.
@@ -119,26 +120,38 @@ fn mark(edit: &Edit, touches: &mut Touches) -> Result<(), AllocError>
     ensures { OnOk result (touches.new ≡ touches.old ++ writing (marks edit.now)) }
 {
     match edit {
-        Edit::MakeDirectory(dir, name, _) => mark_entry(*dir, name, touches),
-        Edit::MakeFile(dir, name, _) => mark_entry(*dir, name, touches),
-        Edit::UnnameDirectory(dir, name, _) => mark_entry(*dir, name, touches),
-        Edit::NameFile(dir, name, file) => mark_name(*dir, name, *file, touches),
-        Edit::UnnameFile(dir, name, file) => mark_name(*dir, name, *file, touches),
-        Edit::Move(dir, name, to, onto, _, replaced) => {
-            mark_move(*dir, name, *to, onto, *replaced, touches)
-        }
-        Edit::PutBytes(file, place, bytes, before) => {
-            mark_bytes(*file, *place, bytes.as_slice(), *before, touches)
-        }
-        Edit::Cut(file, before, after) => mark_cut(*file, *before, *after, touches),
-        Edit::Take(pipe, _) => touches.write(Aspect::Front(*pipe)),
-        Edit::Append(pipe, _) => touches.write(Aspect::Back(*pipe)),
-        Edit::SetOffset(description, _) => touches.write(Aspect::Offset(*description)),
-        Edit::ShareSlot(_, _, _, pipes) => mark_ends(pipes.as_slice(), touches),
-        Edit::ClearSlot(_, _, pipes) => mark_ends(pipes.as_slice(), touches),
-        Edit::NewProcess(_, _, pipes) => mark_ends(pipes.as_slice(), touches),
-        Edit::EndProcess(_, pipes) => mark_ends(pipes.as_slice(), touches),
-        Edit::OpenInode(_, _, _, _, _) => Ok(()),
-        Edit::MakePipe(_, _, _, _) => Ok(()),
+        Edit::MakeDirectory { parent, name, .. } => mark_entry(*parent, name, touches),
+        Edit::MakeFile { parent, name, .. } => mark_entry(*parent, name, touches),
+        Edit::UnnameDirectory { parent, name, .. } => mark_entry(*parent, name, touches),
+        Edit::NameFile { parent, name, file } => mark_name(*parent, name, *file, touches),
+        Edit::UnnameFile { parent, name, file } => mark_name(*parent, name, *file, touches),
+        Edit::Move {
+            from,
+            old_name,
+            to,
+            new_name,
+            replaced,
+            ..
+        } => mark_move(*from, old_name, *to, new_name, *replaced, touches),
+        Edit::PutBytes {
+            file,
+            offset,
+            bytes,
+            length_before,
+        } => mark_bytes(*file, *offset, bytes.as_slice(), *length_before, touches),
+        Edit::Cut {
+            file,
+            length_before,
+            length,
+        } => mark_cut(*file, *length_before, *length, touches),
+        Edit::Take { pipe, .. } => touches.write(Aspect::Front(*pipe)),
+        Edit::Append { pipe, .. } => touches.write(Aspect::Back(*pipe)),
+        Edit::SetOffset { description, .. } => touches.write(Aspect::Offset(*description)),
+        Edit::ShareSlot { pipes, .. } => mark_ends(pipes.as_slice(), touches),
+        Edit::ClearSlot { pipes, .. } => mark_ends(pipes.as_slice(), touches),
+        Edit::NewProcess { pipes, .. } => mark_ends(pipes.as_slice(), touches),
+        Edit::EndProcess { pipes, .. } => mark_ends(pipes.as_slice(), touches),
+        Edit::OpenInode { .. } => Ok(()),
+        Edit::MakePipe { .. } => Ok(()),
     }
 }

@@ -133,7 +133,14 @@ pub(crate) fn mkdir<L: Look>(look: &L, path: &Bytes, reads: &mut Reads) -> Resul
 {
     let last = last_at(look, Errno::EEXIST, path, reads)?;
     absent(last.found())?;
-    done(reads.heap(), Edit::MakeDirectory(last.parent, last.name, 0))
+    done(
+        reads.heap(),
+        Edit::MakeDirectory {
+            parent: last.parent,
+            name: last.name,
+            index: 0,
+        },
+    )
 }
 
 pub(crate) fn rmdir<L: Look>(look: &L, path: &Bytes, reads: &mut Reads) -> Result<Change, Refusal>
@@ -145,7 +152,11 @@ pub(crate) fn rmdir<L: Look>(look: &L, path: &Bytes, reads: &mut Reads) -> Resul
     let dir = empty_directory(look, last.found(), reads)?;
     done(
         reads.heap(),
-        Edit::UnnameDirectory(last.parent, last.name, dir),
+        Edit::UnnameDirectory {
+            parent: last.parent,
+            name: last.name,
+            directory: dir,
+        },
     )
 }
 
@@ -188,7 +199,14 @@ pub(crate) fn unlink<L: Look>(look: &L, path: &Bytes, reads: &mut Reads) -> Resu
 {
     let last = last_at(look, Errno::EPERM, path, reads)?;
     let file = file_named(last.found())?;
-    done(reads.heap(), Edit::UnnameFile(last.parent, last.name, file))
+    done(
+        reads.heap(),
+        Edit::UnnameFile {
+            parent: last.parent,
+            name: last.name,
+            file,
+        },
+    )
 }
 
 // The file whose name goes.
@@ -231,7 +249,14 @@ fn link_paths<L: Look>(
     must_not_be_directory(&what, Errno::EPERM)?;
     let last = walk_to_last(look, Errno::EEXIST, to, reads)?;
     absent(last.found())?;
-    done(reads.heap(), Edit::NameFile(last.parent, last.name, what.0))
+    done(
+        reads.heap(),
+        Edit::NameFile {
+            parent: last.parent,
+            name: last.name,
+            file: what.0,
+        },
+    )
 }
 
 pub(crate) fn rename<L: Look>(
@@ -287,7 +312,14 @@ fn move_target<L: Look>(
 fn move_edit(from: Last, to: Last, num: Num, replaced: Replaced) -> Edit
     ensures { result ≡ Move from.parent from.name to.parent to.name num replaced }
 {
-    Edit::Move(from.parent, from.name, to.parent, to.name, num, replaced)
+    Edit::Move {
+        from: from.parent,
+        old_name: from.name,
+        to: to.parent,
+        new_name: to.name,
+        inode: num,
+        replaced,
+    }
 }
 
 // A name that moves to another place.

@@ -4,7 +4,7 @@ ghost use Rattle.model.specs.Plans.{plan, base, sought};
 ghost use Rattle.model.specs.Calls.{Lseek};
 ghost use Rattle.look.specs.Asked.{Comes, Tells};
 ghost use Rattle.look.specs.Shown.{own_in};
-ghost use Rattle.calls.specs.Parts.{place_in};
+ghost use Rattle.calls.specs.Parts.{offset_in};
 
 use crate::asking::{offset, size};
 use crate::change::{Change, changed_by};
@@ -28,8 +28,12 @@ pub(crate) fn lseek<L: Look>(
 {
     let it = slot(look, pid, fd)?;
     must_not_be_pipe(it.kind, Errno::ESPIPE)?;
-    let place = base(look, &it, whence, reads)?;
-    sought(reads.heap(), &it, place_of(look.largest(), place, distance))
+    let start = base(look, &it, whence, reads)?;
+    sought(
+        reads.heap(),
+        &it,
+        offset_of(look.largest(), start, distance),
+    )
 }
 
 // From where it counts.
@@ -43,26 +47,29 @@ fn base<L: Look>(look: &L, it: &Slot, whence: Whence, reads: &mut Reads) -> Resu
     }
 }
 
-// The new place.
+// The new offset.
 fn sought(heap: Heap, it: &Slot, found: Option<u32>) -> Result<Change, Refusal>
-    ensures { (largest : ℕ) (sum : ℤ) → place_in largest sum ≡ found
+    ensures { (largest : ℕ) (sum : ℤ) → offset_in largest sum ≡ found
         → Tells (sought largest it.now sum) result }
 {
     match found {
-        Some(place) => changed_by(
+        Some(offset) => changed_by(
             heap,
-            Answer::Place(place),
-            Edit::SetOffset(it.description, place),
+            Answer::Place(offset),
+            Edit::SetOffset {
+                description: it.description,
+                offset,
+            },
         ),
         None => Err(Refusal::Errno(Errno::EINVAL)),
     }
 }
 
-// The place that a sum is, if a file may be so long.
-fn place_of(largest: u32, place: u32, distance: i64) -> Option<u32>
-    ensures { result ≡ place_in largest (pos place +ℤ distance) }
+// The offset that a sum is, if a file may be so long.
+fn offset_of(largest: u32, start: u32, distance: i64) -> Option<u32>
+    ensures { result ≡ offset_in largest (pos start +ℤ distance) }
 {
-    let sum = i128::from(place) + i128::from(distance);
+    let sum = i128::from(start) + i128::from(distance);
     if sum < 0 {
         None
     } else if sum > i128::from(largest) {

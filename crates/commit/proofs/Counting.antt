@@ -10,10 +10,10 @@ use Rattle.model.specs.Changes.{Edit}
 use Rattle.model.specs.Effects.{Effect}
 use Rattle.shadow.specs.Log.{effect}
 use Rattle.commit.specs.Edits.{with_change}
-use Rattle.commit.specs.Slots.{slot_view, views, slot_at, AreFirstSlots, Sets, weight}
+use Rattle.commit.specs.ProcessStates.{slot_view, views, slot_at, AreFirstSlots, Sets, weight}
 use Rattle.commit.specs.Views.{View, gone_slot, idle_slot, live_slot, doomed_slot, is_within, view_at}
-use Rattle.commit.specs.declared.slot.Slot.{Slot}
-use Rattle.commit.specs.declared.slot.Slot.TheVariants.{Gone}
+use Rattle.commit.specs.declared.process_state.ProcessState.{ProcessState}
+use Rattle.commit.specs.declared.process_state.ProcessState.TheVariants.{Gone}
 use Rattle.commit.proofs.Claims.{sum_changed, one_of_sum, sum_none}
 use Rattle.commit.proofs.Showing.{at_is, shows}
 
@@ -21,13 +21,13 @@ one_more : (x : View) (n : ℕ) → weight x + n ≡ cond (is_within x) (1 + n) 
 one_more gone_slot n = omega arith
 one_more idle_slot n = omega arith
 one_more (live_slot flags age changes) n = omega arith
-one_more (doomed_slot entry reply flags age) n = omega arith
+one_more (doomed_slot cause flags age) n = omega arith
 
 sum_is_count : (xs : List View) → sum_by weight xs ≡ count_by is_within xs
 sum_is_count = is_count_by (sum_by weight) is_within refl (λ x xs. sum_by-cons weight x xs ∙ one_more x (sum_by weight xs))
 
 -- one slot is set
-pub count_set : (old new : List Slot) (p : ℕ) (v w : View) → Sets old new p v → w ≡ slot_at old p → count_by is_within (views new) + weight w ≡ count_by is_within (views old) + weight v
+pub count_set : (old new : List ProcessState) (p : ℕ) (v w : View) → Sets old new p v → w ≡ slot_at old p → count_by is_within (views new) + weight w ≡ count_by is_within (views old) + weight v
 count_set old new p v w sets is =
     let s = shows old new p v sets in
     let sums : sum_by weight (views new) + weight (view_at (views old) p) ≡ sum_by weight (views old) + weight (view_at (views new) p) =
@@ -39,7 +39,7 @@ count_set old new p v w sets is =
     omega (arith, sums, own, before, first, second)
 
 -- one slot counts no more than all
-pub one_of_count : (slots : List Slot) (p : ℕ) (w : View) → w ≡ slot_at slots p → weight w ≤ count_by is_within (views slots)
+pub one_of_count : (slots : List ProcessState) (p : ℕ) (w : View) → w ≡ slot_at slots p → weight w ≤ count_by is_within (views slots)
 one_of_count slots p w is =
     let one : weight (view_at (views slots) p) ≤ sum_by weight (views slots) = one_of_sum weight (views slots) p refl in
     let before : weight (view_at (views slots) p) ≡ weight w = ap weight (at_is slots p ∙ sym is) in
@@ -47,7 +47,7 @@ one_of_count slots p w is =
     omega (arith, one, before, all)
 
 -- the first slots are of no transaction
-pub none_within : (slots : List Slot) (count : ℕ) → length slots ≡ suc count → AreFirstSlots slots count → 0 ≡ count_by is_within (views slots)
+pub none_within : (slots : List ProcessState) (count : ℕ) → length slots ≡ suc count → AreFirstSlots slots count → 0 ≡ count_by is_within (views slots)
 none_within slots count is first = sym (sym (sum_is_count (views slots)) ∙ sum_none weight (views slots) each)
   where
     each : (q : ℕ) → weight (view_at (views slots) q) ≡ 0
@@ -61,13 +61,13 @@ same_weight : (d : Effect) (v : View) → weight (with_change d v) ≡ weight v
 same_weight d gone_slot = refl
 same_weight d idle_slot = refl
 same_weight d (live_slot flags age changes) = refl
-same_weight d (doomed_slot entry reply flags age) = refl
+same_weight d (doomed_slot cause flags age) = refl
 
-set_alike : (old new : List Slot) (p : ℕ) (v : View) → Sets old new p v → weight v ≡ weight (slot_at old p) → count_by is_within (views old) ≡ count_by is_within (views new)
+set_alike : (old new : List ProcessState) (p : ℕ) (v : View) → Sets old new p v → weight v ≡ weight (slot_at old p) → count_by is_within (views old) ≡ count_by is_within (views new)
 set_alike old new p v sets same = let c = count_set old new p v (slot_at old p) sets refl in omega (arith, c, same)
 
 -- a change, done or refused, leaves its process in its transaction
-pub count_edited : {E : Type 0} (r : Result (List ℕ) E) (old new : List Slot) (p : ℕ) (edits : List Edit) → IfOk r (λ chosen. Sets old new p (with_change (effect chosen edits) (slot_at old p)))
+pub count_edited : {E : Type 0} (r : Result (List ℕ) E) (old new : List ProcessState) (p : ℕ) (edits : List Edit) → IfOk r (λ chosen. Sets old new p (with_change (effect chosen edits) (slot_at old p)))
     → OnErr r (Sets old new p (slot_at old p)) → count_by is_within (views old) ≡ count_by is_within (views new)
 count_edited (Ok chosen) old new p edits ok err = set_alike old new p (with_change (effect chosen edits) (slot_at old p)) ok (same_weight (effect chosen edits) (slot_at old p))
 count_edited (Err e) old new p edits ok err = set_alike old new p (slot_at old p) err refl

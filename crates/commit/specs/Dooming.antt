@@ -5,10 +5,10 @@ use Rattle.commit.specs.Views.{View, gone_slot, idle_slot, live_slot, doomed_slo
 
 -- a live transaction is doomed, and its changes are gone
 abbrev pub with_doom : Doomed → View → View
-with_doom d (live_slot flags age changes) = doomed_slot d.entry d.reply flags age
+with_doom d (live_slot flags age changes) = doomed_slot d.cause flags age
 with_doom d gone_slot = gone_slot
 with_doom d idle_slot = idle_slot
-with_doom d (doomed_slot entry reply flags age) = doomed_slot entry reply flags age
+with_doom d (doomed_slot cause flags age) = doomed_slot cause flags age
 
 -- what q's view becomes when these are doomed, one after the other
 abbrev pub with_dooms : List Doomed → ℕ → View → View

@@ -17,7 +17,7 @@ abbrev pub with_change : Effect → View → View
 with_change d (live_slot flags age changes) = live_slot flags age (changes ++ d ∷ [])
 with_change d gone_slot = gone_slot
 with_change d idle_slot = idle_slot
-with_change d (doomed_slot entry reply flags age) = doomed_slot entry reply flags age
+with_change d (doomed_slot cause flags age) = doomed_slot cause flags age
 
 -- New numbers for what these edits make: as many as they need, all different, of no object that is
 -- there, and of none that a live transaction has made.

@@ -1,6 +1,6 @@
 pub mod Views
 pub mod Claims
-pub mod Slots
+pub mod ProcessStates
 pub mod Dooming
 pub mod Standings
 pub mod Edits

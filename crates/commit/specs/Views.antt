@@ -5,13 +5,13 @@ use Rattle.model.specs.Entries.{BeginFlags, Cause}
 use Rattle.model.specs.Effects.{Effect}
 use Rattle.shadow.specs.Committed.{Committed}
 
--- no process; one in no transaction; a live one's flags, age and changes; a doomed one's cause, for
--- the entry and for the reply
+-- no process; one in no transaction; a live one's flags, age and changes; a doomed one's cause,
+-- flags and age
 pub data View : Type 0 where
   gone_slot : View
   idle_slot : View
   live_slot : BeginFlags → ℕ → List Effect → View
-  doomed_slot : Cause → Cause → BeginFlags → ℕ → View
+  doomed_slot : Cause → BeginFlags → ℕ → View
 
 -- the view of each process, at its number, and what is committed
 pub record Shown : Type 0 where
@@ -27,28 +27,28 @@ abbrev pub changes_in : View → List Effect
 changes_in gone_slot = []
 changes_in idle_slot = []
 changes_in (live_slot flags age changes) = changes
-changes_in (doomed_slot entry reply flags age) = []
+changes_in (doomed_slot cause flags age) = []
 
 -- whether it is a live transaction's
 abbrev pub is_live_slot : View → Bool
 is_live_slot (live_slot flags age changes) = true
 is_live_slot gone_slot = false
 is_live_slot idle_slot = false
-is_live_slot (doomed_slot entry reply flags age) = false
+is_live_slot (doomed_slot cause flags age) = false
 
 -- whether it is a transaction's, live or doomed, which holds a place of the history
 abbrev pub is_within : View → Bool
 is_within gone_slot = false
 is_within idle_slot = false
 is_within (live_slot flags age changes) = true
-is_within (doomed_slot entry reply flags age) = true
+is_within (doomed_slot cause flags age) = true
 
--- the causes of a doomed one
-abbrev pub causes_of : View → Option (Cause × Cause)
-causes_of (doomed_slot entry reply flags age) = Some (entry, reply)
-causes_of gone_slot = None
-causes_of idle_slot = None
-causes_of (live_slot flags age changes) = None
+-- the cause of a doomed one
+abbrev pub cause_of : View → Option Cause
+cause_of (doomed_slot cause flags age) = Some cause
+cause_of gone_slot = None
+cause_of idle_slot = None
+cause_of (live_slot flags age changes) = None
 
 -- one process's view is this now, and the others' are as before
 pub record Shows (old new : List View) (pid : ℕ) (v : View) : Type 0 where

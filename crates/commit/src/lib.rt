@@ -6,9 +6,9 @@
 //! and no operation but a change takes memory.
 #![tactic(auto)]
 
-mod slot;
-mod slots;
+mod process_state;
+mod process_states;
 mod transactions;
 
-pub use slot::Standing;
+pub use process_state::Standing;
 pub use transactions::Transactions;

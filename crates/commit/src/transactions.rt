@@ -13,16 +13,16 @@ ghost use Rattle.call_laws.specs.Fits.{Fits, FitsAll};
 ghost use Rattle.freeing_laws.specs.Sweep.{AllFit};
 ghost use Rattle.commit.specs.Dooming.{with_dooms};
 ghost use Rattle.commit.specs.Edits.{AreNew, with_change};
-ghost use Rattle.commit.specs.Slots.{slot_view};
+ghost use Rattle.commit.specs.ProcessStates.{slot_view};
 ghost use Rattle.commit.specs.Standings.{IsStandingOf};
-ghost use Rattle.commit.specs.Views.{AreFirst, SameViews, Shows, causes_of, changes_in, gone_slot, idle_slot};
+ghost use Rattle.commit.specs.Views.{AreFirst, SameViews, Shows, cause_of, changes_in, gone_slot, idle_slot};
 ghost use Rattle.commit.specs.Views.{is_live_slot, is_within, live_slot, view_at};
 
-use crate::slot::{
-    Slot, Standing, Transaction, causes_in, doom_slot, drop_slot, shadow_in, shadow_of,
+use crate::process_state::{
+    ProcessState, Standing, Transaction, cause_in, doom_slot, drop_slot, shadow_in, shadow_of,
 };
-use crate::slots::{Slots, edit_slot, set_slot, take_slot};
-use contention::Doomed;
+use crate::process_states::{ProcessStates, edit_slot, set_slot, take_slot};
+use contention::{Doomed, Twice};
 use heap::Heap;
 use ids::{Age, BeginFlags, Cause, Edit, Nums, Pid, Priority};
 use shadow::{Shadow, Stable, View};
@@ -33,7 +33,7 @@ use std::marker::Model;
 /// slot; the first slot is of no process.
 pub struct Transactions {
     heap: Heap,
-    slots: Slots,
+    slots: ProcessStates,
     stable: Stable,
 }
 
@@ -50,7 +50,7 @@ impl Drop for Transactions {
 
 impl Model for Transactions {
     ghost use Rattle.commit.specs.Claims.{AreCovered};
-    ghost use Rattle.commit.specs.Slots.{views};
+    ghost use Rattle.commit.specs.ProcessStates.{views};
     ghost use Rattle.commit.specs.Views.{Shown};
 
     ghost Value = { Shown };
@@ -78,7 +78,7 @@ impl Transactions {
         ensures state { IfOk result (λ t. t.stable.state
             ≡ start 0 (record { priorities = priorities.now; largest = largest })) }
     {
-        let slots = Slots::first(heap, priorities.len())?;
+        let slots = ProcessStates::first(heap, priorities.len())?;
         let stable = Stable::new(heap, priorities, largest)?;
         Ok(Transactions {
             heap,
@@ -139,7 +139,7 @@ impl Transactions {
         ensures state { self.new.stable.state ≡ self.old.stable.state }
     {
         let shadow = Shadow::new(self.heap);
-        self.set(pid, Slot::Live(Transaction { flags, age, shadow }));
+        self.set(pid, ProcessState::Live(Transaction { flags, age, shadow }));
     }
 
     /// A process's transaction is gone. What was kept for its changes is given back.
@@ -148,11 +148,11 @@ impl Transactions {
         ensures slots { Shows self.old.slots self.new.slots pid idle_slot }
         ensures state { self.new.stable.state ≡ self.old.stable.state }
     {
-        self.set(pid, Slot::Idle);
+        self.set(pid, ProcessState::Idle);
     }
 
     // Puts a slot without changes in the place of the one before.
-    fn set(&mut self, pid: Pid, slot: Slot)
+    fn set(&mut self, pid: Pid, slot: ProcessState)
         requires made { pid < length self.old.slots }
         requires empty { changes_in (slot_view slot) ≡ [] }
         ensures slots { Shows self.old.slots self.new.slots pid (slot_view slot) }
@@ -178,16 +178,16 @@ impl Transactions {
         set_slot(&mut self.slots, pid, slot);
     }
 
-    /// The causes of a doomed transaction, which is gone then. It is not for a live one, whose
-    /// changes would be lost.
-    pub fn take_causes(&mut self, pid: Pid) -> Option<(Cause, Cause)>
+    /// The cause of a doomed transaction, which is gone then. It is not for a live one, whose
+    /// changes would be gone with it.
+    pub fn take_cause(&mut self, pid: Pid) -> Option<Twice<Cause>>
         requires made { pid < length self.old.slots }
         requires unchanged { changes_in (view_at self.old.slots pid) ≡ [] }
-        ensures causes { result ≡ causes_of (view_at self.old.slots pid) }
+        ensures cause { result ≡ cause_of (view_at self.old.slots pid) }
         ensures slots { Shows self.old.slots self.new.slots pid idle_slot }
         ensures stable { self.new.stable ≡ self.old.stable }
     {
-        causes_in(take_slot(&mut self.slots, pid))
+        cause_in(take_slot(&mut self.slots, pid))
     }
 
     /// A live transaction is committed: its changes are made in one step, and what nothing leads to
@@ -216,6 +216,7 @@ impl Transactions {
         ensures state { self.new.stable.state ≡ self.old.stable.state }
         ensures err { OnErr result (SameViews self.old.slots self.new.slots) }
     {
+        // For the proof: by `?` each exit shows the invariant for itself.
         let chosen = edit_slot(&mut self.slots, &mut self.stable, pid, edits)?;
         Ok(chosen)
     }
@@ -233,9 +234,11 @@ impl Transactions {
         ensures slots { SameViews self.old.slots self.new.slots }
         ensures err { OnErr result (self.new.stable.state ≡ self.old.stable.state) }
     {
+        // For the proof: by `?` each exit shows the invariant for itself.
         let chosen = self.stable.apply(edits)?;
         Ok(chosen)
     }
+
     /// A process in no transaction makes a child, at once: a process in no transaction, whose number
     /// is the next and is answered. Refused memory changes nothing.
     pub fn fork(&mut self, parent: Pid) -> Result<Pid, AllocError>
@@ -271,7 +274,7 @@ impl Transactions {
         ensures state { (pipes : List ℕ) → self.new.stable.state
             ≡ tidy (applied [] (End_process pid pipes) self.old.stable.state) }
     {
-        set_slot(&mut self.slots, pid, Slot::Gone);
+        set_slot(&mut self.slots, pid, ProcessState::Gone);
         self.stable.exit(pid);
     }
 }

@@ -102,5 +102,5 @@ doomed_reached rs all pid ts found e are =
     ∙ ap (doomed_below (ranked_list rs all) pid ts) (sym (ranked_count rs all))
 
 pub verdict_reached : (rs : List Rank) (all : List (List Touch)) (pid : ℕ) (ts : List Touch) (found : List Clash) → length all ≡ length rs → AreClashes all pid ts found → (v : Verdict) → IsVerdictOf pid (rank_at rs pid) rs found v → IsVerdictAmong (ranked_list rs all) pid ts v
-verdict_reached rs all pid ts found e are (Lose entry reply) of = (cause_reached rs all pid ts found e are ∙ of.0, of.1)
+verdict_reached rs all pid ts found e are (Lose cause) of = cause_reached rs all pid ts found e are ∙ of
 verdict_reached rs all pid ts found e are (Go ds) of = (cause_reached rs all pid ts found e are ∙ of.0, of.1 ∙ doomed_reached rs all pid ts found e are)

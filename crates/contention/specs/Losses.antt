@@ -39,13 +39,9 @@ abbrev pub touch_or_none : Option Touch → Touch
 touch_or_none None = record { aspect = Names 0; write = false }
 touch_or_none (Some t) = t
 
--- q, with the cause that it is told, twice
+-- q, with the cause that it is told
 abbrev pub told_of : ℕ → ℕ → Touch → Doomed
-told_of caller q t = record {
-  pid = q;
-  entry = record { touch = t; other = caller };
-  reply = record { touch = t; other = caller };
-}
+told_of caller q t = record { pid = q; cause = record { touch = t; other = caller } }
 
 -- q, with which the caller clashes, is told its touch in the first clash with it
 abbrev pub told : ℕ → List Clash → ℕ → Doomed
@@ -58,7 +54,6 @@ told_below caller cs n = map (told caller cs) (all_below (λ q. is_with q cs) n)
 -- The caller loses by its first clash with a process against which it loses; where there is none,
 -- it dooms all with which it clashes.
 abbrev pub IsVerdictOf : ℕ → Rank → List Rank → List Clash → Verdict → Type 0
-IsVerdictOf caller own ranks cs (Lose entry reply) =
-    (cause_of_loss own ranks cs ≡ Some entry) × (reply ≡ entry)
+IsVerdictOf caller own ranks cs (Lose cause) = cause_of_loss own ranks cs ≡ Some cause
 IsVerdictOf caller own ranks cs (Go doomed) = (cause_of_loss own ranks cs ≡ None)
     × (doomed.items ≡ told_below caller cs (length ranks))

@@ -43,10 +43,9 @@ abbrev pub cause_of_doom : List Contender → ℕ → List Touch → ℕ → Cau
 cause_of_doom all pid ts q =
     record { touch = doomed_touch ts (contender_at all q).touches; other = pid }
 
--- q, with that cause twice
+-- q, with that cause
 abbrev pub doomed_process : List Contender → ℕ → List Touch → ℕ → Doomed
-doomed_process all pid ts q =
-    record { pid = q; entry = cause_of_doom all pid ts q; reply = cause_of_doom all pid ts q }
+doomed_process all pid ts q = record { pid = q; cause = cause_of_doom all pid ts q }
 
 -- all that they doom of the processes below n
 abbrev pub doomed_below : List Contender → ℕ → List Touch → ℕ → List Doomed
@@ -55,7 +54,6 @@ doomed_below all pid ts n =
 
 -- what the call comes to
 abbrev pub IsVerdictAmong : List Contender → ℕ → List Touch → Verdict → Type 0
-IsVerdictAmong all pid ts (Lose entry reply) =
-    (cause_to_lose all pid ts ≡ Some entry) × (reply ≡ entry)
+IsVerdictAmong all pid ts (Lose cause) = cause_to_lose all pid ts ≡ Some cause
 IsVerdictAmong all pid ts (Go doomed) = (cause_to_lose all pid ts ≡ None)
     × (doomed.items ≡ doomed_below all pid ts (length all))

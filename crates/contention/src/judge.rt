@@ -7,7 +7,7 @@ ghost use Rattle.contention.specs.Losses.{IsVerdictOf, cause_of_loss, first_touc
 ghost use Rattle.contention.specs.Losses.{told_of};
 
 use crate::rank::{Ranks, yields_to};
-use crate::{Doomed, Verdict};
+use crate::{Doomed, Twice, Verdict};
 use conflict::Clash;
 use heap::Heap;
 use ids::{Cause, Pid, Rank, Touch};
@@ -57,19 +57,17 @@ fn firsts_of(heap: Heap, clashes: &[Clash]) -> Result<Firsts, AllocError>
     Ok(firsts)
 }
 
-/// A process that is told by which touch it clashes with the caller, twice.
+/// A process that is told by which touch it clashes with the caller.
 fn told(caller: Pid, pid: u32, touch: Touch) -> Result<Doomed, AllocError>
     ensures { IfOk result (λ d. d ≡ told_of caller pid touch) }
 {
-    let entry = Cause {
+    let cause = Twice::copied(Cause {
         touch,
         other: caller,
-    };
-    let reply = entry.try_clone()?;
+    })?;
     Ok(Doomed {
         pid: Pid(pid),
-        entry,
-        reply,
+        cause,
     })
 }
 
@@ -91,6 +89,7 @@ fn doomed_by(heap: Heap, caller: Pid, clashes: &[Clash]) -> Result<Vec<Doomed, H
         → IfOk result (λ doomed. doomed.items ≡ told_below caller clashes.now n) }
 {
     let firsts = firsts_of(heap, clashes)?;
+    // For the proof: `len` tells that the processes rise.
     let _count = firsts.len();
     told_all(heap, caller, firsts)
 }
@@ -114,10 +113,7 @@ pub fn verdict(
         return Ok(Verdict::Go(Vec::new(heap)));
     }
     match cause_of_loss(rank, clashes, ranks)? {
-        Some(entry) => {
-            let reply = entry.try_clone()?;
-            Ok(Verdict::Lose(entry, reply))
-        }
+        Some(cause) => Ok(Verdict::Lose(Twice::copied(cause)?)),
         None => Ok(Verdict::Go(doomed_by(heap, caller, clashes)?)),
     }
 }

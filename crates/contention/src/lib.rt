@@ -15,6 +15,7 @@ ghost use Rattle.records.specs.Touches.{touched_by, with_touches};
 
 pub mod judge;
 mod rank;
+mod twice;
 
 use heap::Heap;
 use ids::{Age, Cause, ListMode, Num, Pid, Priority, Rank, Touch};
@@ -23,23 +24,22 @@ pub use rank::{Ranks, yields_to};
 use records::Records;
 use std::alloc::AllocError;
 use std::marker::Model;
+pub use twice::Twice;
 
 /// A process that a call dooms.
 #[derive(Drop)]
 pub struct Doomed {
     /// The process.
     pub pid: Pid,
-    /// Why, for the entry of its notice.
-    pub entry: Cause,
-    /// Why, for the reply to its notice.
-    pub reply: Cause,
+    /// Why, for its notice.
+    pub cause: Twice<Cause>,
 }
 
 /// What a call's clashes come to.
 #[derive(Drop)]
 pub enum Verdict {
-    /// The call loses, with its cause for the entry and for the reply. Nobody is doomed.
-    Lose(Cause, Cause),
+    /// The call loses, for this cause. Nobody is doomed.
+    Lose(Twice<Cause>),
     /// It takes effect, and dooms these, in the order of their numbers.
     Go(Vec<Doomed, Heap>),
 }

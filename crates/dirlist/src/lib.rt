@@ -13,7 +13,7 @@ mod patch;
 use crate::order::sort_names;
 use heap::Heap;
 use ids::{Name, NameList, Num};
-pub use patch::Patch;
+pub use patch::NamePatch;
 use std::alloc::AllocError;
 use std::collections::HashMap;
 use std::hash::{BuildHasherDefault, FoldHasher};
@@ -144,18 +144,6 @@ impl Dir {
         let added: Result<_, _> = self.numbers.insert(name, num);
         let _former = added.unwrap();
         self.promised -= 1;
-    }
-
-    /// Adds a name, and leaves the room that is promised. Refused memory changes nothing.
-    pub fn insert(&mut self, name: Name, num: Num) -> Result<(), AllocError>
-        requires { map.get self.old.names name ≡ None }
-        ensures ok { OnOk result
-            (self.new ≡ record self.old { names = map.insert self.old.names name num }) }
-        ensures err { OnErr result (self.new ≡ self.old) }
-    {
-        self.promise()?;
-        self.insert_promised(name, num);
-        Ok(())
     }
 
     /// Takes a name away, and gives the number that it gave. It takes no memory, and leaves the

@@ -36,7 +36,7 @@ const VISIT: usize = 16;
 #[derive(Clone, Copy)]
 struct Key {
     word: u64,
-    place: u32,
+    index: u32,
     group: u32,
 }
 
@@ -86,12 +86,12 @@ fn seem_ordered(names: &[Name]) -> bool {
 fn sorted_keys(heap: Heap, names: &[Name]) -> Result<Vec<Key, Heap>, AllocError> {
     let mut keys = Vec::with_capacity(heap, names.len())?;
     for index in 0..names.len() {
-        let Ok(place) = u32::try_from(index) else {
+        let Ok(index) = u32::try_from(index) else {
             return Err(AllocError);
         };
         keys.push(Key {
             word: 0,
-            place,
+            index,
             group: 0,
         })?;
     }
@@ -136,7 +136,7 @@ fn cost(group: &[Key], names: &[Name]) -> usize {
     let Some(first) = group.first() else {
         return 0;
     };
-    match names.get(first.place as usize) {
+    match names.get(first.index as usize) {
         Some(name) => group
             .len()
             .saturating_mul(name.as_slice().len().saturating_add(VISIT)),
@@ -162,7 +162,7 @@ fn group_len(keys: &[Key]) -> usize {
 fn split(group: &mut [Key], names: &[Name]) -> bool {
     let from = shared_len(group, names);
     for key in group.iter_mut() {
-        if let Some(name) = names.get(key.place as usize) {
+        if let Some(name) = names.get(key.index as usize) {
             key.word = word_at(name.as_slice(), from);
         }
     }
@@ -170,7 +170,7 @@ fn split(group: &mut [Key], names: &[Name]) -> bool {
     let mut alike = false;
     let mut former: Option<Key> = None;
     for key in group.iter_mut() {
-        key.group = key.place;
+        key.group = key.index;
         if let Some(before) = former {
             if before.word == key.word {
                 key.group = before.group;
@@ -186,7 +186,7 @@ fn split(group: &mut [Key], names: &[Name]) -> bool {
 fn shared_len(group: &[Key], names: &[Name]) -> usize {
     let mut shared: Option<&[u8]> = None;
     for key in group {
-        if let Some(name) = names.get(key.place as usize) {
+        if let Some(name) = names.get(key.index as usize) {
             shared = match shared {
                 Some(bytes) => Some(common(bytes, name.as_slice())),
                 None => Some(name.as_slice()),
@@ -225,7 +225,7 @@ fn common<'a>(bytes: &'a [u8], other: &[u8]) -> &'a [u8] {
     }
 }
 
-// The bytes of a name from a place on, as many as a word has. Zeros stand behind its end.
+// The bytes of a name from an offset on, as many as a word has. Zeros stand behind its end.
 fn word_at(name: &[u8], from: usize) -> u64 {
     let Some(rest) = name.get(from..) else {
         return 0;
@@ -240,25 +240,25 @@ fn word_at(name: &[u8], from: usize) -> u64 {
     u64::from_be_bytes(word)
 }
 
-// Puts each name where its key stands: along each cycle of places, a key whose name has come is told
-// its own place.
+// Puts each name where its key stands: along each cycle of indices, a key whose name has come is told
+// its own index.
 fn arrange(names: &mut Vec<Name, Heap>, keys: &mut [Key])
     ensures { IsPermutation names.old.items names.new.items }
 {
     let mut start = 0u32;
-    let mut place = 0u32;
+    let mut index = 0u32;
     for _ in 0..names.len().saturating_mul(2) {
-        let Some(key) = keys.get_mut(place as usize) else {
+        let Some(key) = keys.get_mut(index as usize) else {
             break;
         };
-        let from = key.place;
-        key.place = place;
-        if from != start && (place as usize) < names.len() && (from as usize) < names.len() {
-            names.swap(place as usize, from as usize);
-            place = from;
+        let from = key.index;
+        key.index = index;
+        if from != start && (index as usize) < names.len() && (from as usize) < names.len() {
+            names.swap(index as usize, from as usize);
+            index = from;
         } else {
             start = start.wrapping_add(1);
-            place = start;
+            index = start;
         }
     }
 }

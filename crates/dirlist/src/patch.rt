@@ -20,18 +20,18 @@ use std::marker::Model;
 /// where the name went.
 ///
 /// Laid on top of a [`Dir`], they say which names there are. The directory itself is not changed.
-pub struct Patch {
+pub struct NamePatch {
     given: BTreeMap<Name, Option<Num>, Heap>,
 }
 
 // By hand: a derived drop is opened at every place where a value goes, this one is called.
-impl Drop for Patch {
+impl Drop for NamePatch {
     fn drop(self) {
-        let Patch { given: _ } = self;
+        let NamePatch { given: _ } = self;
     }
 }
 
-impl Model for Patch {
+impl Model for NamePatch {
     ghost use Rattle.std.specs.BTreeMap.{IsOrdered};
     ghost use Rattle.model.specs.FiniteMap as map;
     ghost use Rattle.model.specs.State.{name_cmp};
@@ -46,21 +46,14 @@ impl Model for Patch {
     ghost invariant = { λ p. IsOrdered name_cmp p.given };
 }
 
-impl Patch {
+impl NamePatch {
     /// No changes. It takes no memory.
-    pub fn new(heap: Heap) -> Patch
+    pub fn new(heap: Heap) -> NamePatch
         ensures { result ≡ map.empty }
     {
-        Patch {
+        NamePatch {
             given: BTreeMap::new(heap),
         }
-    }
-
-    /// Whether nothing is noted.
-    pub fn is_empty(&self) -> bool
-        ensures { result ≡ (map.len self.now == 0) }
-    {
-        self.given.is_empty()
     }
 
     /// What is noted of a name, or `None` where nothing is. It takes no memory.
@@ -140,7 +133,7 @@ impl Patch {
     pub fn into_given(self) -> BTreeMap<Name, Option<Num>, Heap>
         ensures { result.entries ≡ map.entries self }
     {
-        let Patch { given } = self;
+        let NamePatch { given } = self;
         given
     }
 }

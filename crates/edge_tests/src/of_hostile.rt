@@ -192,14 +192,14 @@ fn line_has_fault(heap: Heap, line: &[u8], fault: ScriptFault) -> Result<bool, A
 #[test]
 fn texts_that_are_no_scripts_have_their_faults(rt: HostRuntime) -> Result<(), Fail> {
     let heap = heap::open(rt.alloc())?;
-    for (place, (text, fault)) in HEADS.iter().enumerate() {
+    for (index, (text, fault)) in HEADS.iter().enumerate() {
         assert!(rt;
             has_fault(heap, text, "", RunFault::Script(*fault)),
-            "{place}"
+            "{index}"
         );
     }
-    for (place, (line, fault)) in LINES.iter().enumerate() {
-        assert!(rt; line_has_fault(heap, line, *fault)?, "{place}");
+    for (index, (line, fault)) in LINES.iter().enumerate() {
+        assert!(rt; line_has_fault(heap, line, *fault)?, "{index}");
     }
     Ok(())
 }

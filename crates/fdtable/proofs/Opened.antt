@@ -7,7 +7,7 @@ use Rattle.std.proofs.lemmas.List.Sums.{sum_by-cons}
 use Rattle.model.specs.FiniteMap.{FinMap, entries, get, from_entries}
 use Rattle.model.specs.Places.{placed}
 use Rattle.model.proofs.Laws.{get-placed}
-use Rattle.fdtable.specs.Free.{one_if}
+use Rattle.fdtable.specs.Open.{one_if}
 use Rattle.fdtable.specs.Patches.{Given, IsLaid, laid_at, or_before}
 use Rattle.fdtable.proofs.Laws.{entries-placed, laid_same, laid_other}
 

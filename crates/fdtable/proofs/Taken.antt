@@ -1,14 +1,12 @@
--- Which descriptors are free, by the places.
-use Rattle.std.proofs.Common.{◌≡◌, ℕ, suc, ◌+◌, ◌<◌, ◌≤◌, cond, Bool, true, false, List, [], ◌∷◌, length, get_or, Option, None, nat_cmp, refl, sym, ap, ◌∙◌, inl, inr}
-use Rattle.std.specs.Bool.{if◌then◌else◌}
+-- What a table gives, by its places.
+use Rattle.std.proofs.Common.{◌≡◌, ℕ, ◌<◌, ◌≤◌, cond, List, length, get_or, Option, None, nat_cmp, sym, ap, ◌∙◌, inl, inr}
 use Rattle.std.specs.Ordering.{eq_by_cmp, is_eq}
 use Rattle.std.proofs.lemmas.Bool.{cases_eq}
 use Rattle.std.proofs.lemmas.List.{get_or_past, get_or_read}
 use Rattle.std.specs.Cmp.{nat_cmp_total, tied_itself}
-use Rattle.model.specs.FiniteMap.{FinMap, get, contains_key, remove, from_entries, get-remove, same_map, nat_cmp-IsAntisymmetric}
+use Rattle.model.specs.FiniteMap.{FinMap, get, remove, from_entries, get-remove, same_map, nat_cmp-IsAntisymmetric}
 use Rattle.model.specs.Places.{placed}
 use Rattle.model.proofs.Laws.{apart, get-placed}
-use Rattle.fdtable.specs.Free.{free_from}
 
 -- what was read at a place is what the table gives
 pub given : {X : Type 0} (xs : List (Option X)) (q : ℕ) (x : Option X) → q < length xs → x ≡ get_or xs q x → x ≡ get (from_entries {R = nat_cmp} (placed 0 xs)) q
@@ -27,18 +25,3 @@ remove_absent m k absent = same_map nat_cmp_total nat_cmp-IsAntisymmetric _ _ (�
       | inl e ↦ ap (get m) e ∙ absent ∙ sym (ap (λ k. cond (eq_by_cmp nat_cmp q k) None (get m q)) (sym e) ∙ ap (λ r. cond (is_eq r) None (get m q)) (tied_itself nat_cmp_total q))
       | inr away ↦ sym (ap (λ b. cond b None (get m q)) (apart q k away))
     ]
-
--- no more descriptors
-pub free_none : (m : FinMap nat_cmp ℕ) (first : ℕ) → free_from m first 0 ≡ []
-unfolding free_from
-free_none m first = refl
-
--- a taken descriptor is passed over
-pub free_taken : (m : FinMap nat_cmp ℕ) (first more : ℕ) → contains_key m first ≡ true → free_from m first (suc more) ≡ free_from m (first + 1) more
-unfolding free_from
-free_taken m first more taken = ap (λ (b : Bool). if b then free_from m (first + 1) more else first ∷ free_from m (first + 1) more) taken
-
--- a free one is the first
-pub free_first : (m : FinMap nat_cmp ℕ) (first more : ℕ) → contains_key m first ≡ false → free_from m first (suc more) ≡ first ∷ free_from m (first + 1) more
-unfolding free_from
-free_first m first more free = ap (λ (b : Bool). if b then free_from m (first + 1) more else first ∷ free_from m (first + 1) more) free

@@ -2,16 +2,16 @@
 //! description; and changes of one. Contracts see both as finite maps.
 #![tactic(auto)]
 
-ghost use Rattle.std.specs.Prelude.{◌≡◌, ◌+◌, ◌-◌, ◌<◌, ◌≤◌, MatchOption, IfOk, IfSome, IsSome, [], ◌∷◌};
+ghost use Rattle.std.specs.Prelude.{◌≡◌, ◌<◌, IfOk, IsSome};
 ghost use Rattle.std.specs.Prelude.{◌==◌, count_by};
 ghost use Rattle.model.specs.FiniteMap as map;
-ghost use Rattle.fdtable.specs.Free.{free, free_from, first_of, first_two, one_if};
+ghost use Rattle.fdtable.specs.Open.{one_if};
 
 mod patch;
 
 use heap::Heap;
 use ids::{DESCRIPTORS, Fd, Num};
-pub use patch::Patch;
+pub use patch::SlotPatch;
 use std::alloc::AllocError;
 use std::marker::Model;
 
@@ -75,40 +75,6 @@ impl FdTable {
         if (fd.0 as usize) < DESCRIPTORS {
             self.slots[fd.0 as usize] = None;
         }
-    }
-
-    // The lowest free descriptor from this one on.
-    fn free_from(&self, first: u32) -> Option<Fd>
-        requires { first ≤ DESCRIPTORS }
-        ensures { MatchOption result (free_from self.now first (DESCRIPTORS - first) ≡ []) (λ f.
-            (first ≤ f) × (f < DESCRIPTORS)
-            × (free_from self.now first (DESCRIPTORS - first)
-            ≡ f ∷ free_from self.now (f + 1) (DESCRIPTORS - (f + 1)))) }
-    {
-        for number in first..DESCRIPTORS as u32 {
-            if self.slots[number as usize].is_none() {
-                return Some(Fd(number));
-            }
-        }
-        None
-    }
-
-    /// The lowest free descriptor, `None` exactly where all of 0 to 63 are open.
-    pub fn lowest(&self) -> Option<Fd>
-        ensures value { result ≡ first_of (free self.now) }
-        ensures small { IfSome result (λ fd. fd < DESCRIPTORS) }
-    {
-        self.free_from(0)
-    }
-
-    /// The two lowest free descriptors, the lower one first; `None` exactly where fewer are free.
-    pub fn two_lowest(&self) -> Option<(Fd, Fd)>
-        ensures value { result ≡ first_two (free self.now) }
-        ensures small { IfSome result (λ pair. (pair.0 < pair.1) × (pair.1 < DESCRIPTORS)) }
-    {
-        let lower = self.free_from(0)?;
-        let upper = self.free_from(lower.0 + 1)?;
-        Some((lower, upper))
     }
 
     /// The same descriptors on the same descriptions.

@@ -14,11 +14,11 @@ use std::marker::Model;
 /// Laid on top of a table, they say what is open. The table itself is not changed. No call takes
 /// memory.
 #[derive(Drop)]
-pub struct Patch {
+pub struct SlotPatch {
     given: [Option<Option<Num>>; DESCRIPTORS],
 }
 
-impl Model for Patch {
+impl Model for SlotPatch {
     ghost use Rattle.std.specs.Prelude.{◌≡◌, length};
     ghost use Rattle.model.specs.FiniteMap as map;
     ghost use Rattle.model.specs.Places.{placed};
@@ -34,12 +34,12 @@ impl Model for Patch {
     ghost invariant = { λ p. length p.given ≡ DESCRIPTORS };
 }
 
-impl Patch {
+impl SlotPatch {
     /// No changes.
-    pub fn new() -> Patch
+    pub fn new() -> SlotPatch
         ensures { result ≡ map.empty }
     {
-        Patch {
+        SlotPatch {
             given: [None; DESCRIPTORS],
         }
     }

@@ -70,11 +70,11 @@ module _ (places : List ℕ) (old new : Bytes) (apart : AreApart places old) (in
       ])
 
 -- what is pasted into the bytes of one block is pasted into that block
-pub pasted_in : (old new : Bytes) (p n place : ℕ) (bytes : List ℕ) → p * BLOCK_LEN + BLOCK_LEN ≤ length old → place + n ≤ BLOCK_LEN → Pasted n (p * BLOCK_LEN + place) bytes old new → Pasted n place bytes (block_at old p) (block_at new p)
-pasted_in old new p n place bytes whole fits pasted = record {
+pub pasted_in : (old new : Bytes) (p n offset : ℕ) (bytes : List ℕ) → p * BLOCK_LEN + BLOCK_LEN ≤ length old → offset + n ≤ BLOCK_LEN → Pasted n (p * BLOCK_LEN + offset) bytes old new → Pasted n offset bytes (block_at old p) (block_at new p)
+pasted_in old new p n offset bytes whole fits pasted = record {
   len = long_block new p (omega (arith, pasted.len)) ∙ sym (long_block old p whole);
   inside = λ i from to.
-      let less : p * BLOCK_LEN + i - (p * BLOCK_LEN + place) ≡ i - place = omega arith in
+      let less : p * BLOCK_LEN + i - (p * BLOCK_LEN + offset) ≡ i - offset = omega arith in
       at_block new p i (omega arith) ∙ pasted.inside (p * BLOCK_LEN + i) (omega arith) (omega arith) ∙ ap (λ m. Some (get_or bytes m 0)) less;
   outside = λ i out. elim (cases_lt i BLOCK_LEN) [
     | inl low ↦ at_block new p i low ∙ pasted.outside (p * BLOCK_LEN + i) (elim out [ inl a ↦ inl (omega arith) | inr b ↦ inr (omega arith) ]) ∙ sym (at_block old p i low)
@@ -85,9 +85,9 @@ pasted_in old new p n place bytes whole fits pasted = record {
   ];
 }
 
--- and what is wiped from a place on
-pub kept_in : (old new : Bytes) (p place : ℕ) → p * BLOCK_LEN + BLOCK_LEN ≤ length old → Wiped (p * BLOCK_LEN + min place BLOCK_LEN) (p * BLOCK_LEN + BLOCK_LEN) old new → Kept place (block_at old p) (block_at new p)
-kept_in old new p place whole wiped = record {
+-- and what is wiped from an offset on
+pub kept_in : (old new : Bytes) (p offset : ℕ) → p * BLOCK_LEN + BLOCK_LEN ≤ length old → Wiped (p * BLOCK_LEN + min offset BLOCK_LEN) (p * BLOCK_LEN + BLOCK_LEN) old new → Kept offset (block_at old p) (block_at new p)
+kept_in old new p offset whole wiped = record {
   below = λ i low. elim (cases_lt i BLOCK_LEN) [
     | inl short ↦ at_block new p i short ∙ wiped.outside (p * BLOCK_LEN + i) (inl (omega arith)) ∙ sym (at_block old p i short)
     | inr past ↦

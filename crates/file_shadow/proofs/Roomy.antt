@@ -12,10 +12,10 @@ pub roomy_more : (numbers : List ℕ) (old new : List (List ℕ)) → ((n : ℕ)
 roomy_more numbers old new more roomy n there number low high = (let before = roomy n there number low high in let now = more number in omega (arith, before, now))
 
 -- where there is memory from the first block of a write to its last one, there is for each of them
-pub roomy_written : (rooms : List (List ℕ)) (place count end k : ℕ) → EndsBlocks place count end → Contains (blocks place count) k
-    → HasRoom rooms (place / BLOCK_LEN * BLOCK_LEN) (end * BLOCK_LEN - place / BLOCK_LEN * BLOCK_LEN) → HasRoom rooms (k * BLOCK_LEN) BLOCK_LEN
-roomy_written rooms place count end k ends there room number low high =
-    let within = in_blocks place count k there in
-    let is : end ≡ (place + count - 1) / BLOCK_LEN + 1 = ends.some within.1 in
+pub roomy_written : (rooms : List (List ℕ)) (offset count end k : ℕ) → EndsBlocks offset count end → Contains (blocks offset count) k
+    → HasRoom rooms (offset / BLOCK_LEN * BLOCK_LEN) (end * BLOCK_LEN - offset / BLOCK_LEN * BLOCK_LEN) → HasRoom rooms (k * BLOCK_LEN) BLOCK_LEN
+roomy_written rooms offset count end k ends there room number low high =
+    let within = in_blocks offset count k there in
+    let is : end ≡ (offset + count - 1) / BLOCK_LEN + 1 = ends.some within.1 in
     let all = room number (omega (arith, within)) (omega (arith, within)) in
     omega (arith, all, within)

@@ -9,12 +9,12 @@ pub record Arena : Type 0 where
   pub room : ℕ
 
 abbrev pub block_at : List (Option ℕ) → ℕ → List (Option ℕ)
-block_at bytes place = take BLOCK_LEN (drop (place * BLOCK_LEN) bytes)
+block_at bytes index = take BLOCK_LEN (drop (index * BLOCK_LEN) bytes)
 
 abbrev pub blocks_at : List (Option ℕ) → List ℕ → List (List (Option ℕ))
 blocks_at bytes places = map (block_at bytes) places
 
--- each block lies at a place of its own
+-- each block lies at an index of its own
 pub record AreApart (places : List ℕ) (bytes : List (Option ℕ)) : Type 0 where
   pub whole : length bytes ≡ length places * BLOCK_LEN
   pub within : (i : ℕ) → i < length places → get_or places i 0 < length places

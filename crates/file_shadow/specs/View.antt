@@ -32,16 +32,16 @@ lookup k (n ∷ ns) (b ∷ bs) = if n == k then Some b else lookup k ns bs
 abbrev pub block_of : ChangedBlocks → ℕ → Option (List (Option ℕ))
 block_of c k = lookup k c.numbers c.blocks
 
--- the byte that was written at a place of its block, or what it is without one
+-- the byte that was written at an offset of its block, or what it is without one
 abbrev pub in_block : Option (List (Option ℕ)) → ℕ → ℕ → ℕ
 in_block None i other = other
 in_block (Some b) i other = unwrap_or (get_or b (i % BLOCK_LEN) None) other
 
--- the byte of a place with the changed blocks over it
+-- the byte of an offset with the changed blocks over it
 abbrev pub laid : ChangedBlocks → ℕ → ℕ → ℕ
 laid c i other = in_block (block_of c (i / BLOCK_LEN)) i other
 
--- the byte of a place without the changed blocks: the stable one below the least length, and zero
+-- the byte of an offset without the changed blocks: the stable one below the least length, and zero
 -- at or past it
 abbrev pub stable_byte : ℕ → List ℕ → ℕ → ℕ
 stable_byte least stable i = if nat_lt i least then get_or stable i 0 else 0
@@ -72,8 +72,8 @@ AddsEdit old new step = (xs : List ℕ) → view_over new xs ≡ step (view_over
 
 -- the changed blocks after a write of so many bytes are those before it and those of the bytes
 abbrev pub AddsBlocks : FileChanges → FileChanges → ℕ → ℕ → Type 0
-AddsBlocks old new place count = (k : ℕ) → Contains new.changed.numbers k
-    ↔ (Contains old.changed.numbers k ⊎ Contains (blocks place count) k)
+AddsBlocks old new offset count = (k : ℕ) → Contains new.changed.numbers k
+    ↔ (Contains old.changed.numbers k ⊎ Contains (blocks offset count) k)
 
 -- each byte outside the changed blocks stays
 abbrev pub OnlyChanged : FileChanges → List ℕ → List ℕ → Type 0
@@ -89,7 +89,7 @@ pub record IsInOrder (c : ChangedBlocks) : Type 0 where
   pub same : length c.numbers ≡ length c.blocks
   pub rising : IsRising c.numbers
 
--- no byte but zero was written at or past a place
+-- no byte but zero was written at or past an offset
 abbrev pub PastIsZero : ℕ → List ℕ → List (List (Option ℕ)) → Type 0
 PastIsZero len ns bs = (p : ℕ) → len ≤ p → in_block (lookup (p / BLOCK_LEN) ns bs) p 0 ≡ 0
 

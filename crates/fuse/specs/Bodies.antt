@@ -1,4 +1,4 @@
--- The bodies of requests, which stand behind the header, each as Linux lays it out. A place is
+-- The bodies of requests, which stand behind the header, each as Linux lays it out. An offset is
 -- counted from the body's first byte.
 use Rattle.std.specs.Prelude.{ℕ, zero, suc, ◌+◌, ◌*◌, ◌==◌, nat_lt, bit_and}
 use Rattle.std.specs.Prelude.{List, [], ◌∷◌, length, drop}

@@ -7,7 +7,7 @@ use Rattle.std.specs.List.{AllByRecursion, list_any}
 abbrev pub is_name : List ℕ → Bool
 is_name bytes = not (length bytes == 0) && not (list_any (λ b. b == 47) bytes)
 
--- the bytes up to this place, where they are a name, and those behind the byte there
+-- the bytes up to this offset, where they are a name, and those behind the byte there
 abbrev pub name_up_to : List ℕ → ℕ → Option (List ℕ × List ℕ)
 name_up_to bytes end =
     if is_name (take end bytes) then Some (take end bytes, drop (end + 1) bytes) else None

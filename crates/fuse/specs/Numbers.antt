@@ -3,12 +3,12 @@
 use Rattle.std.specs.Prelude.{ℕ, List, drop, flat_map}
 use Rattle.byteorder.specs.Endian.{little_number, little_bytes}
 
--- the number in the four or eight bytes from a place on
+-- the number in the four or eight bytes from an offset on
 unfoldable pub u32_at : List ℕ → ℕ → ℕ
-u32_at bytes place = little_number 4 (drop place bytes)
+u32_at bytes offset = little_number 4 (drop offset bytes)
 
 unfoldable pub u64_at : List ℕ → ℕ → ℕ
-u64_at bytes place = little_number 8 (drop place bytes)
+u64_at bytes offset = little_number 8 (drop offset bytes)
 
 -- the two, four or eight bytes of a number
 unfoldable pub u16_bytes : ℕ → List ℕ

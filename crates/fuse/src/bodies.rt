@@ -221,7 +221,7 @@ fn time_change(mask: u32, bit: u32, now_bit: u32, time: Time) -> Option<TimeChan
     }
 }
 
-// The time whose seconds and nanoseconds stand at these places.
+// The time whose seconds and nanoseconds stand at these offsets.
 fn time_at(body: &[u8], seconds: usize, nanoseconds: usize) -> Time
     requires long { seconds + 8 ≤ length body.now }
     requires longer { nanoseconds + 4 ≤ length body.now }

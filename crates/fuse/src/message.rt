@@ -47,10 +47,10 @@ fn put_message(
     ensures err { OnErr result (out.new.items ≡ out.old.items) }
 {
     let mut header = [0u8; HEADER_LENGTH];
-    let place: &mut [u8] = &mut header;
-    write_header(place, (HEADER_LENGTH + body.len()) as u32, error, unique);
+    let slice: &mut [u8] = &mut header;
+    write_header(slice, (HEADER_LENGTH + body.len()) as u32, error, unique);
     let before = out.len();
-    out.extend_from_slice(place)?;
+    out.extend_from_slice(slice)?;
     if out.extend_from_slice(body).is_err() {
         out.truncate(before);
         return Err(AllocError);

@@ -78,14 +78,14 @@ pub(crate) fn name_of(heap: Heap, body: &[u8]) -> Result<Bytes, BodyFault>
 }
 
 // The name that a body is behind so many bytes.
-pub(crate) fn name_behind(heap: Heap, body: &[u8], place: usize) -> Result<Bytes, BodyFault>
-    ensures name { Reads (behind place name_in body.now) result }
-    ensures long { OnOk result (place ≤ length body.now) }
+pub(crate) fn name_behind(heap: Heap, body: &[u8], offset: usize) -> Result<Bytes, BodyFault>
+    ensures name { Reads (behind offset name_in body.now) result }
+    ensures long { OnOk result (offset ≤ length body.now) }
 {
-    if body.len() < place {
+    if body.len() < offset {
         return Err(BodyFault::Malformed);
     }
-    name_of(heap, &body[place..])
+    name_of(heap, &body[offset..])
 }
 
 // The two names that a body is.
@@ -102,13 +102,13 @@ fn names_of(heap: Heap, body: &[u8]) -> Result<(Bytes, Bytes), BodyFault>
 pub(crate) fn names_behind(
     heap: Heap,
     body: &[u8],
-    place: usize,
+    offset: usize,
 ) -> Result<(Bytes, Bytes), BodyFault>
-    ensures names { Reads (behind place names_in body.now) result }
-    ensures long { OnOk result (place ≤ length body.now) }
+    ensures names { Reads (behind offset names_in body.now) result }
+    ensures long { OnOk result (offset ≤ length body.now) }
 {
-    if body.len() < place {
+    if body.len() < offset {
         return Err(BodyFault::Malformed);
     }
-    names_of(heap, &body[place..])
+    names_of(heap, &body[offset..])
 }

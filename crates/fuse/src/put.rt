@@ -16,9 +16,9 @@ fn put_u16(out: &mut Vec<u8, Heap>, number: u16) -> Result<(), AllocError>
     ensures { OnOk result (out.new.items ≡ out.old.items ++ u16_bytes number) }
 {
     let mut bytes = [0u8; 2];
-    let place: &mut [u8] = &mut bytes;
-    LittleEndian::write_u16(place, number);
-    out.extend_from_slice(place)?;
+    let slice: &mut [u8] = &mut bytes;
+    LittleEndian::write_u16(slice, number);
+    out.extend_from_slice(slice)?;
     Ok(())
 }
 
@@ -27,9 +27,9 @@ fn put_u32(out: &mut Vec<u8, Heap>, number: u32) -> Result<(), AllocError>
     ensures { OnOk result (out.new.items ≡ out.old.items ++ u32_bytes number) }
 {
     let mut bytes = [0u8; 4];
-    let place: &mut [u8] = &mut bytes;
-    LittleEndian::write_u32(place, number);
-    out.extend_from_slice(place)?;
+    let slice: &mut [u8] = &mut bytes;
+    LittleEndian::write_u32(slice, number);
+    out.extend_from_slice(slice)?;
     Ok(())
 }
 
@@ -38,9 +38,9 @@ fn put_u64(out: &mut Vec<u8, Heap>, number: u64) -> Result<(), AllocError>
     ensures { OnOk result (out.new.items ≡ out.old.items ++ u64_bytes number) }
 {
     let mut bytes = [0u8; 8];
-    let place: &mut [u8] = &mut bytes;
-    LittleEndian::write_u64(place, number);
-    out.extend_from_slice(place)?;
+    let slice: &mut [u8] = &mut bytes;
+    LittleEndian::write_u64(slice, number);
+    out.extend_from_slice(slice)?;
     Ok(())
 }
 

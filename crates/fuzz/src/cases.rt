@@ -74,9 +74,9 @@ fn put_lines(
 
 // Any order of a schedule is one: each process does its own lines in their order.
 fn shuffle(digits: &mut [u8], random: &mut Random) {
-    for place in 1..digits.len() {
-        let other = random.place(place + 1);
-        digits.swap(place, other);
+    for index in 1..digits.len() {
+        let other = random.index(index + 1);
+        digits.swap(index, other);
     }
 }
 

@@ -115,7 +115,7 @@ fn try_case<K: Machine>(
 // A limit that is often enough for all steps.
 fn limit_of(random: &mut Random) -> usize {
     if random.once_in(3) {
-        random.place(60)
+        random.index(60)
     } else {
         200
     }

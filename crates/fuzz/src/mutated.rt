@@ -17,19 +17,19 @@ static SCRIPT_BYTES: &[u8; 41] = b"\n\n\n    ##,,\\\\-0012345789aefxzCRDWPTAS_/.
 static LIST_BYTES: &[u8; 16] = b",,, 001234599-a\n";
 
 fn byte_of(random: &mut Random, bytes: &[u8]) -> u8 {
-    let place = random.place(bytes.len());
-    match bytes.get(place) {
+    let index = random.index(bytes.len());
+    match bytes.get(index) {
         Some(byte) => *byte,
         None => 0,
     }
 }
 
-// The place behind so many line feeds, or the end.
+// The index behind so many line feeds, or the end.
 fn behind_lines(text: &[u8], lines: usize) -> usize {
     let mut left = lines;
-    for (place, byte) in text.iter().enumerate() {
+    for (index, byte) in text.iter().enumerate() {
         if left == 0 {
-            return place;
+            return index;
         }
         if *byte == b'\n' {
             left -= 1;
@@ -44,24 +44,24 @@ fn mutate_byte(
     random: &mut Random,
     bytes: &[u8],
 ) -> Result<(), AllocError> {
-    let place = random.place(text.len());
+    let index = random.index(text.len());
     let byte = byte_of(random, bytes);
-    if place >= text.len() {
+    if index >= text.len() {
         text.push(byte)?;
         return Ok(());
     }
     match random.below(4) {
         0 => {
-            let _byte = text.remove(place);
+            let _byte = text.remove(index);
         }
-        1 => text.insert(place, byte)?,
-        2 => text.insert(place, text[place])?,
-        _ => text[place] = byte,
+        1 => text.insert(index, byte)?,
+        2 => text.insert(index, text[index])?,
+        _ => text[index] = byte,
     }
     Ok(())
 }
 
-// A text without what stands between two places.
+// A text without what stands between two indices.
 fn without(heap: Heap, text: &[u8], from: usize, to: usize) -> Result<Vec<u8, Heap>, AllocError> {
     let mut rest = Vec::new(heap);
     let from = from.min(text.len());
@@ -72,7 +72,7 @@ fn without(heap: Heap, text: &[u8], from: usize, to: usize) -> Result<Vec<u8, He
 
 // A text without one of its first 40 lines.
 fn without_line(heap: Heap, random: &mut Random, text: &[u8]) -> Result<Vec<u8, Heap>, AllocError> {
-    let number = random.place(40);
+    let number = random.index(40);
     let from = behind_lines(text, number);
     let to = behind_lines(text, number + 1);
     without(heap, text, from, to)

@@ -4,7 +4,7 @@ use crate::random::Random;
 use heap::Heap;
 use std::alloc::AllocError;
 
-// What stands at a place of a line.
+// What stands as one word of a line.
 #[derive(Clone, Copy)]
 enum Kind {
     Path,

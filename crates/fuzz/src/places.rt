@@ -126,8 +126,8 @@ impl Places {
     }
 
     fn set(&mut self, pid: Pid, standing: Standing) {
-        if let Some(place) = self.standings.get_mut(pid.0 as usize) {
-            *place = standing;
+        if let Some(kept) = self.standings.get_mut(pid.0 as usize) {
+            *kept = standing;
         }
     }
 

@@ -35,8 +35,8 @@ impl Random {
         self.below(times) == 0
     }
 
-    // A place below this length, or 0 where the length is 0.
-    pub(crate) fn place(&mut self, len: usize) -> usize
+    // An index below this length, or 0 where the length is 0.
+    pub(crate) fn index(&mut self, len: usize) -> usize
         ensures { 0 < len → result < len }
     {
         if len == 0 {
@@ -48,8 +48,8 @@ impl Random {
 
     // One of these words.
     pub(crate) fn pick(&mut self, words: &[&'static str]) -> &'static str {
-        let place = self.place(words.len());
-        match words.get(place) {
+        let index = self.index(words.len());
+        match words.get(index) {
             Some(word) => word,
             None => "",
         }

@@ -58,7 +58,7 @@ fn kind_of(reply: &Reply) -> usize {
 // How many calls there are.
 const CALL_COUNT: usize = 22;
 
-// The calls, in the order of their places.
+// The calls, in the order of their indices.
 pub(crate) static CALLS: [&str; CALL_COUNT] = [
     "open",
     "close",
@@ -84,8 +84,8 @@ pub(crate) static CALLS: [&str; CALL_COUNT] = [
     "exit",
 ];
 
-// The place of a call. Each has one, so that a call that no script makes is noticed.
-fn place_of(call: &Call) -> usize
+// The index of a call. Each has one, so that a call that no script makes is noticed.
+fn index_of(call: &Call) -> usize
     ensures { result < CALL_COUNT }
 {
     match call {
@@ -137,7 +137,7 @@ pub(crate) struct Tally {
     pub(crate) left_out: u64,
     pub(crate) read: u64,
     pub(crate) replies: [u64; 27],
-    // How often each call was answered, by its place.
+    // How often each call was answered, by its index.
     pub(crate) calls: [u64; CALL_COUNT],
     pub(crate) faults: [u64; 8],
 }
@@ -171,7 +171,7 @@ impl Tally {
 
     // Counts a call that was answered.
     pub(crate) fn add_answered(&mut self, call: &Call) {
-        count_one(self.calls.as_mut_slice(), place_of(call));
+        count_one(self.calls.as_mut_slice(), index_of(call));
     }
 
     // Whether each call was answered at least once.

@@ -32,8 +32,8 @@ use Rattle.model.specs.Entries.{Refuses}
 use Rattle.model.specs.Legal.{unsupported}
 use Rattle.kernel.proofs.Words.{Executed, Inside, is_inside}
 use Rattle.commit.specs.Standings.{IsStandingOf}
-use Rattle.commit.specs.declared.slot.Standing.{Standing}
-use Rattle.commit.specs.declared.slot.Standing.TheVariants.{Gone, Idle, Live, Doomed as Is_doomed}
+use Rattle.commit.specs.declared.process_state.Standing.{Standing}
+use Rattle.commit.specs.declared.process_state.Standing.TheVariants.{Gone, Idle, Live, Doomed as Is_doomed}
 use Rattle.std.proofs.lemmas.List.Sums.{count_by_more_yes, count_by_more_no}
 
 abbrev pub pids : List Doomed → List ℕ
@@ -48,26 +48,26 @@ not_doomed (d ∷ ds) q p h = elim (cases_Bool (q == d.pid)) [
 ]
 
 -- the part of one that is doomed
-abbrev pub gone_part : Cause → Cause → BeginFlags → ℕ → ℕ → Part
-gone_part entry reply flags age priority = record { slot = doomed_slot entry reply flags age; held = record { priority = priority; age = None; touches = [] } }
+abbrev pub gone_part : Cause → BeginFlags → ℕ → ℕ → Part
+gone_part cause flags age priority = record { slot = doomed_slot cause flags age; held = record { priority = priority; age = None; touches = [] } }
 
-stays_doomed : (ds : List Doomed) (q : ℕ) (entry reply : Cause) (flags : BeginFlags) (age priority : ℕ) → doomed_by ds q (gone_part entry reply flags age priority) ≡ gone_part entry reply flags age priority
-stays_doomed [] q entry reply flags age priority = refl
-stays_doomed (d ∷ ds) q entry reply flags age priority = elim (cases_Bool (q == d.pid)) [
-  | inl is ↦ rw is (stays_doomed ds q entry reply flags age priority)
-  | inr is ↦ rw is (stays_doomed ds q entry reply flags age priority)
+stays_doomed : (ds : List Doomed) (q : ℕ) (cause : Cause) (flags : BeginFlags) (age priority : ℕ) → doomed_by ds q (gone_part cause flags age priority) ≡ gone_part cause flags age priority
+stays_doomed [] q cause flags age priority = refl
+stays_doomed (d ∷ ds) q cause flags age priority = elim (cases_Bool (q == d.pid)) [
+  | inl is ↦ rw is (stays_doomed ds q cause flags age priority)
+  | inr is ↦ rw is (stays_doomed ds q cause flags age priority)
 ]
 
 -- a live one among them is doomed, with its cause
 pub is_doomed : (m : Moment) (pid : ℕ) (ts : List Touch) (ds : List Doomed) (q : ℕ) (flags : BeginFlags) (age : ℕ) (changes : List Effect) (held : Contender)
     → is_in q (pids ds) ≡ true → AllByRecursion (IsDoomedBy m pid ts) ds
-    → doomed_by ds q (record { slot = live_slot flags age changes; held = held }) ≡ gone_part (doom_cause m pid ts q) (doom_cause m pid ts q) flags age held.priority
+    → doomed_by ds q (record { slot = live_slot flags age changes; held = held }) ≡ gone_part (doom_cause m pid ts q) flags age held.priority
 is_doomed m pid ts [] q flags age changes held h causes = absurd (false≢true h)
 is_doomed m pid ts (d ∷ ds) q flags age changes held h causes = elim (cases_Bool (q == d.pid)) [
   | inl is ↦
       let same : q ≡ d.pid = eqb-true q d.pid is in
-      rw is (stays_doomed ds q d.entry d.reply flags age held.priority
-      ∙ ap₂ (λ c e. gone_part c e flags age held.priority) (causes.0.entry ∙ ap (doom_cause m pid ts) (sym same)) (causes.0.reply ∙ ap (doom_cause m pid ts) (sym same)))
+      rw is (stays_doomed ds q d.cause flags age held.priority
+      ∙ ap (λ c. gone_part c flags age held.priority) (causes.0 ∙ ap (doom_cause m pid ts) (sym same)))
   | inr is ↦ rw is (is_doomed m pid ts ds q flags age changes held (rw is at h) causes.1)
 ]
 
@@ -210,13 +210,13 @@ module _ (past grown now : Fields) (holds : IsConsistent past) (e : Entry) (righ
 
   others : (q : ℕ) → q ≢ e.pid → part_at now q ≡ part_of (next was e) q
   others q differs = elim (cases_Bool (is_in q e.doomed)) [
-    | inl told ↦
-        let d = (moves past.log e holds.legal right).dooms q told in
+    | inl among ↦
+        let d = (moves past.log e holds.legal right).dooms q among in
         let alive = (what_stands 0 (setup_of past.log) (limit_of past.log) past.log.entries holds.legal).phases.alive q (ap holds_place d.before) in
         let older : child_in e.reply ≢ Some q = λ some. false≢true (sym ((processes past.log e holds.legal right).born q some).unmade ∙ alive) in
         moved.others q differs
         ∙ ap (doomed_by ds q) (grows.older q older ∙ holds.parts q ∙ ap (λ s. record { slot = shown_by s (changes_of was q); held = contender_of was q }) (status_alive was q alive ∙ d.before))
-        ∙ is_doomed was e.pid (dooming_touches was e.pid e.op) ds q d.flags d.age (changes_of was q) (contender_of was q) (ap (is_in q) dooms ∙ told) causes
+        ∙ is_doomed was e.pid (dooming_touches was e.pid e.op) ds q d.flags d.age (changes_of was q) (contender_of was q) (ap (is_in q) dooms ∙ among) causes
         ∙ sym (empties past.log e holds.legal right q (doomed (doom_cause was e.pid (dooming_touches was e.pid e.op) q) d.flags d.age) (older, inr differs) alive d.later refl)
     | inr spared ↦ moved.others q differs ∙ not_doomed ds q _ (ap (is_in q) dooms ∙ spared) ∙ elim (is_or_not (child_in e.reply) q) [
       | inl child ↦ grows.born q child ∙ sym (comes past.log e holds.legal right q child)

@@ -9,16 +9,16 @@ use denote.Struct.Declared.{shape}
 use Rattle.std.proofs.Crossing.{crosses, frees}
 use Rattle.std.proofs.CrossingOver as over
 use Rattle.std.proofs.MapsCrossingOver as maps
-use Rattle.dirlist.specs.contracts.patch.Patch as Patch
+use Rattle.dirlist.specs.contracts.patch.NamePatch as NamePatch
 use Rattle.file_shadow.specs.contracts.shadow.FileShadow as FileShadow
 use Rattle.objects.specs.contracts.file.FileData as FileData
 use Rattle.objects.specs.contracts.pipe.PipeData as PipeData
 use Rattle.pipe_shadow.specs.contracts.PipeShadow as PipeShadow
 use Rattle.circular_buffer.proofs.Crosses.{Cells-send, Deed-send}
 use Rattle.fdtable.specs.contracts.FdTable as FdTable
-use Rattle.fdtable.specs.contracts.Patch as FdPatch
+use Rattle.fdtable.specs.contracts.SlotPatch as SlotPatch
 use Rattle.shadow.specs.contracts.change.Contents as Contents
-use Rattle.shadow.specs.contracts.change.Change as Change
+use Rattle.shadow.specs.contracts.change.InodeChange as InodeChange
 use Rattle.shadow.specs.contracts.inodes.Inodes as Inodes
 use Rattle.shadow.specs.contracts.opening.Openings as Openings
 use Rattle.shadow.specs.contracts.slots.Slots as Slots
@@ -44,8 +44,8 @@ use Rattle.ids.specs.contracts.bytes.NameList as NameList
 use Rattle.ids.specs.contracts.reply.Answer as Answer
 use Rattle.ids.specs.contracts.reply.Reply as Reply
 use Rattle.ids.specs.contracts.entry.Entry as Entry
-use Rattle.commit.specs.contracts.slot.Doom as Doom
-use Rattle.commit.specs.contracts.slot.Slot as Slot
+use Rattle.commit.specs.contracts.process_state.Doom as Doom
+use Rattle.commit.specs.contracts.process_state.ProcessState as ProcessState
 use Rattle.records.specs.contracts.journal.Journal as Journal
 use Rattle.records.specs.contracts.users.Users as Users
 use Rattle.ids.specs.contracts.aspect.Aspect as Aspect
@@ -64,7 +64,7 @@ frees_by : {D : Type 0} {G : Type 1} (g : G) (holds : D → Ty → Ptr → Fml)
     → ((a : D) (τ : Ty) (p : Ptr) → Keyless (holds a τ p)) → Frees g holds
 frees_by g holds h = record { frees = h }
 
-patch_sent : IsSend Patch.the_row
+patch_sent : IsSend NamePatch.the_row
 patch_sent = search (sendable, crosses, over.crosses, maps.crosses, frees_by, frees.frees) depth 40 fits 30000
 
 bytes_sent : IsSend FileShadow.the_row
@@ -85,13 +85,13 @@ open_pipe_sent = search (waiting_sent, sendable, crosses, over.crosses) depth 40
 table_sent : IsSend FdTable.the_row
 table_sent = search (sendable, crosses, over.crosses) depth 40 fits 30000
 
-given_sent : IsSend FdPatch.the_row
+given_sent : IsSend SlotPatch.the_row
 given_sent = search (sendable, crosses, over.crosses) depth 40 fits 30000
 
 contents_sent : IsSend (Contents.the_field).row
 contents_sent = search (patch_sent, bytes_sent, open_pipe_sent, appended_sent, sendable, crosses, over.crosses) depth 40 fits 30000
 
-change_sent : IsSend (Change.the_field).row
+change_sent : IsSend (InodeChange.the_field).row
 change_sent = search (contents_sent, room_sent, sendable, crosses, over.crosses) depth 40 fits 30000
 
 inodes_sent : IsSend Inodes.the_row
@@ -145,11 +145,11 @@ cause_sent = search (sendable, crosses, over.crosses, frees_by, frees.frees) dep
 doom_sent : IsSend (Doom.the_field).row
 doom_sent = search (cause_sent, sendable, crosses, over.crosses, frees_by, frees.frees) depth 40 fits 30000
 
-slot_sent : IsSend Slot.the_row
-slot_sent = search (shadow_sent, doom_sent, sendable, crosses, over.crosses, frees_by, frees.frees) depth 40 fits 30000
+process_state_sent : IsSend ProcessState.the_row
+process_state_sent = search (shadow_sent, doom_sent, sendable, crosses, over.crosses, frees_by, frees.frees) depth 40 fits 30000
 
 transactions_sent : IsSend Transactions.the_row
-transactions_sent = search (stable_sent, slot_sent, sendable, crosses, over.crosses, frees_by, frees.frees) depth 40 fits 30000
+transactions_sent = search (stable_sent, process_state_sent, sendable, crosses, over.crosses, frees_by, frees.frees) depth 40 fits 30000
 
 journal_sent : IsSend Journal.the_row
 journal_sent = search (touch_sent, sendable, crosses, over.crosses, frees_by, frees.frees) depth 40 fits 30000

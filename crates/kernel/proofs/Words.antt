@@ -30,7 +30,7 @@ pub use Rattle.history_laws.specs.Limits.{StaysWithinLimits, most_processes}
 pub use Rattle.history_laws.specs.Processes.{IsAsBefore, ProcessesMove, born, child_in, is_ended}
 pub use Rattle.calls.specs.Planned.{IsPlan, counting}
 pub use Rattle.commit.specs.Edits.{AreNew, with_change, made_by}
-pub use Rattle.commit.specs.Views.{AreFirst, View, gone_slot, causes_of, changes_in, doomed_slot, idle_slot, view_at}
+pub use Rattle.commit.specs.Views.{AreFirst, View, gone_slot, cause_of, changes_in, doomed_slot, idle_slot, view_at}
 pub use Rattle.records.specs.Touches.{distinct, with_touches}
 pub use Rattle.contention.proofs.Laws.{grown_touches, take-held, with_touches-append}
 pub use Rattle.contention.specs.Contenders.{SetsContender, Contender, contender_at, contender_of, live_age, nobody}
@@ -44,4 +44,4 @@ pub use Rattle.kernel.specs.States.{Asks, CanEnter, CanEndTransaction, Does, Doo
 pub use Rattle.kernel.specs.States.{changes_of, cleared, doomed_by, fields, part_at, part_of, part_with, plain, settled_as, shown, shown_by, state_with}
 pub use Rattle.kernel.specs.States.{Born, Calls, CanChange, ends_process, first_is, makes_process, no_part, part_after, with_born, with_child}
 pub use Rattle.machine.specs.Steps.{Added, Steps, has_place, is_no_entry, with_entry}
-pub use Rattle.commit.specs.declared.slot.Standing.TheVariants.{Idle, Live}
+pub use Rattle.commit.specs.declared.process_state.Standing.TheVariants.{Idle, Live}

@@ -21,8 +21,8 @@ use Rattle.machine.specs.Shown.{Shown, limit_of, moment, setup_of}
 use Rattle.machine.specs.Steps.{IsStep, entry_of, has_place, is_no_entry, with_entry}
 use Rattle.model.specs.Effects.{Effect, effects, all_done}
 use Rattle.commit.specs.Dooming.{with_doom}
-use Rattle.commit.specs.declared.slot.Standing.{Standing}
-use Rattle.commit.specs.declared.slot.Standing.TheVariants.{Gone, Idle, Live, Doomed as Is_doomed}
+use Rattle.commit.specs.declared.process_state.Standing.{Standing}
+use Rattle.commit.specs.declared.process_state.Standing.TheVariants.{Gone, Idle, Live, Doomed as Is_doomed}
 use Rattle.model.specs.Changes.{Edit, New_process, End_process, applied, process_of}
 use Rattle.model.specs.Changes.{tidy}
 use Rattle.model.specs.Calls.{Call}
@@ -35,7 +35,7 @@ abbrev pub shown_by : Status → List Effect → View
 shown_by gone changes = gone_slot
 shown_by idle changes = idle_slot
 shown_by (live flags age calls) changes = live_slot flags age changes
-shown_by (doomed cause flags age) changes = doomed_slot cause cause flags age
+shown_by (doomed cause flags age) changes = doomed_slot cause flags age
 
 -- what a live transaction has changed
 abbrev pub changes_of : Moment → ℕ → List Effect

@@ -1,4 +1,7 @@
 // Calls of processes in no transaction and in live ones.
+//
+// For the proof: what a refused step holds goes by `drop`, which is one call. Where a `?` lets a value
+// go, the proof opens it field by field.
 ghost use Rattle.ids.specs.declared.limits.TheConstants.{MAX_PROCESSES};
 ghost use Rattle.std.specs.Prelude.{◌≡◌, ◌<◌, ◌∷◌, [], ℕ, suc, true, List, None, map, IfOk, OnErr, OnOk};
 ghost use Rattle.std.specs.List.{AllByRecursion};
@@ -20,9 +23,9 @@ ghost use Rattle.kernel.specs.States.{Unchanged, ends_process, fields, first_is,
 ghost use Rattle.kernel.specs.States.{no_part, part_after, part_at, part_with, state_with, with_born};
 ghost use Rattle.machine.specs.Shown.{moment};
 
-use crate::state::{Live, State, Told, add_entry, end_transaction, enter};
+use crate::state::{Live, State, add_entry, end_transaction, enter};
 use calls::{Plan, plan_of};
-use contention::{Doomed, Verdict};
+use contention::{Doomed, Twice, Verdict};
 use heap::Heap;
 use ids::{Answer, Call, Cause, Edit, Errno, Nums, Op, Pid, Pids, Reply, Touch, Why};
 use std::alloc::AllocError;
@@ -106,14 +109,14 @@ fn judged(s: &State, pid: Pid, within: &Within, call: &Call) -> Result<(Plan, Ve
 fn makes_process(edits: &[Edit]) -> bool
     ensures { result ≡ first_is makes_process edits.now }
 {
-    matches!(edits.first(), Some(Edit::NewProcess(_, _, _)))
+    matches!(edits.first(), Some(Edit::NewProcess { .. }))
 }
 
 /// Whether a call's edits end a process.
 fn ends_process(edits: &[Edit]) -> bool
     ensures { result ≡ first_is ends_process edits.now }
 {
-    matches!(edits.first(), Some(Edit::EndProcess(_, _)))
+    matches!(edits.first(), Some(Edit::EndProcess { .. }))
 }
 
 /// A process in no transaction makes a child, which is in none. Refused memory makes no child.
@@ -229,14 +232,13 @@ fn told_of(
     heap: Heap,
     answer: Result<Answer, Errno>,
     doomed: &[Doomed],
-) -> Result<(Told, Pids), AllocError>
-    ensures entry { IfOk result (λ t. t.0.0 ≡ answered answer) }
-    ensures reply { IfOk result (λ t. t.0.1 ≡ answered answer) }
+) -> Result<(Twice<Reply>, Pids), AllocError>
+    ensures told { IfOk result (λ t. t.0 ≡ answered answer) }
     ensures pids { IfOk result (λ t. t.1 ≡ map (λ d. d.pid) doomed.now) }
 {
     let reply = reply_of(answer);
     match copies_of(heap, &reply, doomed) {
-        Ok((entry, pids)) => Ok(((entry, reply), pids)),
+        Ok((entry, pids)) => Ok((Twice::new(entry, reply), pids)),
         Err(refused) => {
             drop(reply);
             Err(refused)
@@ -268,7 +270,7 @@ fn take(
         edits,
     } = plan;
     let (told, pids) = match told_of(s.heap, answer, doomed.as_slice()) {
-        Ok(told) => told,
+        Ok(both) => both,
         Err(refused) => {
             drop(call);
             drop(touches);
@@ -287,13 +289,29 @@ fn take(
         }
     };
     doom_each(s, doomed);
-    let (entry, reply) = told;
+    let (entry, reply) = told.split();
     enter(s, pid, Op::Call(call), entry, chosen, pids);
     Ok(reply)
 }
 
-/// The reply that tells a cause.
-pub fn aborted(cause: Cause, restarted: bool) -> Reply
+/// The reply to a call outside a transaction that is put off for this cause.
+fn busy(cause: Twice<Cause>) -> Twice<Reply>
+    ensures { result ≡ entries.Busy cause }
+{
+    let (entry, reply) = cause.split();
+    Twice::new(Reply::Busy(entry), Reply::Busy(reply))
+}
+
+/// The reply that tells of a transaction that is aborted for this cause.
+pub fn aborted(cause: Twice<Cause>, restarted: bool) -> Twice<Reply>
+    ensures { result ≡ entries.Aborted (entries.Clash cause) restarted }
+{
+    let (entry, reply) = cause.split();
+    Twice::new(clash(entry, restarted), clash(reply, restarted))
+}
+
+/// The reply that tells of an abort for this cause.
+fn clash(cause: Cause, restarted: bool) -> Reply
     ensures { result ≡ entries.Aborted (entries.Clash cause) restarted }
 {
     Reply::Aborted {
@@ -303,18 +321,18 @@ pub fn aborted(cause: Cause, restarted: bool) -> Reply
 }
 
 /// A call that has lost: outside a transaction it is put off, and a live transaction is undone.
-fn refuse(s: &mut State, pid: Pid, within: Within, call: Call, entry: Cause, reply: Cause) -> Reply
+fn refuse(s: &mut State, pid: Pid, within: Within, call: Call, cause: Twice<Cause>) -> Reply
     requires asks { Calls (fields s.old) pid within call }
     requires lost { IsVerdict (moment s.old.history) pid
-        (counted_touches (moment s.old.history) pid call) (Verdict.Lose entry reply) }
+        (counted_touches (moment s.old.history) pid call) (Verdict.Lose cause) }
     ensures { Does (fields s.old) (fields s.new) pid (entries.Do call) result }
 {
     let op = Op::Call(call);
     match within {
-        None => add_entry(s, pid, op, (Reply::Busy(entry), Reply::Busy(reply))),
+        None => add_entry(s, pid, op, busy(cause)),
         Some(live) => {
             let again = live.0.restarts();
-            let told = (aborted(entry, again), aborted(reply, again));
+            let told = aborted(cause, again);
             end_transaction(s, pid, op, told, again, live)
         }
     }
@@ -334,9 +352,9 @@ pub fn run(s: &mut State, pid: Pid, within: Within, call: Call) -> Result<Reply,
         }
     };
     match verdict {
-        Verdict::Lose(entry, reply) => {
+        Verdict::Lose(cause) => {
             drop(plan);
-            Ok(refuse(s, pid, within, call, entry, reply))
+            Ok(refuse(s, pid, within, call, cause))
         }
         Verdict::Go(doomed) => take(s, pid, within, call, plan, doomed),
     }

@@ -1,4 +1,7 @@
 // The kernel, and one step of it.
+//
+// For the proof: what a refused call holds goes by `drop`, which is one call. Where a `?` lets a value
+// go, the proof opens it field by field.
 ghost use Rattle.ids.specs.declared.limits.TheConstants.{DEFAULT_LARGEST_FILE, LARGEST_FILE};
 ghost use Rattle.ids.specs.declared.limits.TheConstants.{MAX_ENTRIES, MAX_PROCESSES};
 ghost use Rattle.std.specs.Prelude.{◌≡◌, ◌^◌, ◌↔◌, ℕ, ◌<◌, ◌≤◌, [], length, true, false, is_some, IfOk, IfSome, OnErr};

@@ -6,7 +6,7 @@ ghost use Rattle.kernel.specs.States.{cleared, fields, plain, settled_as};
 ghost use Rattle.machine.specs.Steps.{entry_of};
 
 use commit::Transactions;
-use contention::Contenders;
+use contention::{Contenders, Twice};
 use heap::Heap;
 use history::History;
 use ids::{Age, BeginFlags, Entry, Nums, Op, Pid, Pids, Reply};
@@ -38,9 +38,6 @@ impl Drop for State {
 /// The flags and the age of a live transaction.
 pub type Live = (BeginFlags, Age);
 
-/// A reply: for the entry, and for the caller.
-pub type Told = (Reply, Reply);
-
 /// Adds an entry, when the other fields show already what it does. It takes no memory.
 pub fn enter(s: &mut State, pid: Pid, op: Op, reply: Reply, chosen: Nums, doomed: Pids)
     requires { CanEnter (fields s.old) (entry_of pid op reply chosen doomed) }
@@ -56,21 +53,26 @@ pub fn enter(s: &mut State, pid: Pid, op: Op, reply: Reply, chosen: Nums, doomed
 }
 
 /// Adds an entry without new numbers that dooms nobody, and answers its reply once more.
-pub fn add_entry(s: &mut State, pid: Pid, op: Op, told: Told) -> Reply
-    requires can { CanEnter (fields s.old) (plain pid op told.0) }
-    requires twice { told.1 ≡ told.0 }
+pub fn add_entry(s: &mut State, pid: Pid, op: Op, told: Twice<Reply>) -> Reply
+    requires { CanEnter (fields s.old) (plain pid op told) }
     ensures now { Does (fields s.old) (fields s.new) pid op result }
     ensures any { (old : Fields) → old.log ≡ s.old.history → Does old (fields s.new) pid op result }
 {
-    let (entry, reply) = told;
+    let (entry, reply) = told.split();
     enter(s, pid, op, entry, Nums::new(s.heap), Pids::new(s.heap));
     reply
 }
 
 /// Adds such an entry, after which its process's transaction begins, or begins anew, or is gone.
-pub fn end_transaction(s: &mut State, pid: Pid, op: Op, told: Told, anew: bool, live: Live) -> Reply
-    requires can { CanEndTransaction (fields s.old) pid op told.0 anew live.0 live.1 }
-    requires twice { told.1 ≡ told.0 }
+pub fn end_transaction(
+    s: &mut State,
+    pid: Pid,
+    op: Op,
+    told: Twice<Reply>,
+    anew: bool,
+    live: Live,
+) -> Reply
+    requires { CanEndTransaction (fields s.old) pid op told anew live.0 live.1 }
     ensures now { Does (fields s.old) (fields s.new) pid op result }
     ensures any { (old : Fields) → old.log ≡ s.old.history → Does old (fields s.new) pid op result }
 {

@@ -1,4 +1,7 @@
 // One operation of one process.
+//
+// For the proof: an operation that is not executed goes by `drop`, which is one call. Where it goes by
+// itself, the proof opens it field by field.
 ghost use Rattle.std.specs.Prelude.{◌≡◌, false};
 ghost use Rattle.model.specs.Entries as entries;
 ghost use Rattle.model.specs.Entries.{is_inside};
@@ -9,8 +12,9 @@ ghost use Rattle.machine.specs.Shown.{limit_of, moment};
 ghost use Rattle.kernel.specs.States.{Asks, Calls, Does, IsConsistent, Stands, fields};
 
 use crate::execute::{aborted, run};
-use crate::state::{Live, State, Told, add_entry, end_transaction};
+use crate::state::{Live, State, add_entry, end_transaction};
 use commit::Standing;
+use contention::Twice;
 use ids::{Age, BeginFlags, Call, Errno, Op, Pid, Reply, Why};
 use std::alloc::AllocError;
 
@@ -66,7 +70,7 @@ fn begin(s: &mut State, pid: Pid, flags: BeginFlags) -> Reply
     ensures { Does (fields s.old) (fields s.new) pid (entries.Begin flags) result }
 {
     let age = Age(s.history.count() + 1);
-    let told = (Reply::Begun, Reply::Begun);
+    let told = Twice::new(Reply::Begun, Reply::Begun);
     end_transaction(s, pid, Op::Begin(flags), told, true, (flags, age))
 }
 
@@ -77,7 +81,7 @@ fn give_up(s: &mut State, pid: Pid, flags: BeginFlags, age: Age, no_restart: boo
 {
     let op = Op::Abort { no_restart };
     let restarted = is_restarted(s, flags, &op);
-    let told = (Reply::GivenUp { restarted }, Reply::GivenUp { restarted });
+    let told = Twice::new(Reply::GivenUp { restarted }, Reply::GivenUp { restarted });
     end_transaction(s, pid, op, told, restarted, (flags, age))
 }
 
@@ -87,7 +91,7 @@ fn end(s: &mut State, pid: Pid, flags: BeginFlags, age: Age) -> Reply
     ensures { Does (fields s.old) (fields s.new) pid entries.End result }
 {
     s.transactions.end(pid);
-    let told = (Reply::Committed, Reply::Committed);
+    let told = Twice::new(Reply::Committed, Reply::Committed);
     end_transaction(s, pid, Op::End, told, false, (flags, age))
 }
 
@@ -97,11 +101,11 @@ fn notice(s: &mut State, pid: Pid, flags: BeginFlags, age: Age, op: Op) -> Reply
     ensures { Does (fields s.old) (fields s.new) pid op result }
 {
     let restarted = is_restarted(s, flags, &op);
-    let Some((entry, reply)) = s.transactions.take_causes(pid) else {
+    let Some(cause) = s.transactions.take_cause(pid) else {
         drop(op);
         return Reply::NoProcess;
     };
-    let told = (aborted(entry, restarted), aborted(reply, restarted));
+    let told = aborted(cause, restarted);
     end_transaction(s, pid, op, told, restarted, (flags, age))
 }
 
@@ -132,11 +136,11 @@ fn deny(s: &mut State, pid: Pid, flags: BeginFlags, age: Age, call: Call) -> Rep
 {
     let op = Op::Call(call);
     if flags.aborts_unsupported() {
-        let told = (unsupported(), unsupported());
+        let told = Twice::new(unsupported(), unsupported());
         end_transaction(s, pid, op, told, false, (flags, age))
     } else {
-        let told = (Reply::Errno(Errno::ENOTSUP), Reply::Errno(Errno::ENOTSUP));
-        add_entry(s, pid, op, told)
+        let refused = Twice::new(Reply::Errno(Errno::ENOTSUP), Reply::Errno(Errno::ENOTSUP));
+        add_entry(s, pid, op, refused)
     }
 }
 
@@ -151,10 +155,10 @@ fn unsupported() -> Reply
 }
 
 /// The reply to an end or an abort outside a transaction.
-fn outside() -> Told
-    ensures { (result.0 ≡ entries.NotInTransaction) × (result.1 ≡ entries.NotInTransaction) }
+fn outside() -> Twice<Reply>
+    ensures { result ≡ entries.NotInTransaction }
 {
-    (Reply::NotInTransaction, Reply::NotInTransaction)
+    Twice::new(Reply::NotInTransaction, Reply::NotInTransaction)
 }
 
 /// An operation of a process that is in no transaction.
@@ -181,7 +185,7 @@ fn step_live(s: &mut State, pid: Pid, flags: BeginFlags, age: Age, op: Op) -> Re
         Op::Call(call) if is_supported(&call) => step_call(s, pid, Some((flags, age)), call),
         Op::Call(call) => deny(s, pid, flags, age, call),
         Op::Begin(flags) => {
-            let told = (Reply::InTransaction, Reply::InTransaction);
+            let told = Twice::new(Reply::InTransaction, Reply::InTransaction);
             add_entry(s, pid, Op::Begin(flags), told)
         }
     }
@@ -198,7 +202,7 @@ pub fn step(s: &mut State, pid: Pid, op: Op) -> Reply
         return Reply::HistoryFull;
     }
     match standing {
-        Standing::Gone => add_entry(s, pid, op, (Reply::NoProcess, Reply::NoProcess)),
+        Standing::Gone => add_entry(s, pid, op, Twice::new(Reply::NoProcess, Reply::NoProcess)),
         Standing::Idle => step_idle(s, pid, op),
         Standing::Live(flags, age) => step_live(s, pid, flags, age, op),
         Standing::Doomed(flags, age) => notice(s, pid, flags, age, op),

@@ -178,7 +178,7 @@ fn roots(rt: &impl Abort, heap: Heap, first: usize, second: usize) -> History {
 #[test]
 fn root_is_found(rt: HostRuntime) {
     let heap = heap::open(rt.alloc()).expect(&rt, "memory");
-    let wrong = |place| Err(CheckFault::Wrong(place));
+    let wrong = |position| Err(CheckFault::Wrong(position));
     for (first, second, told) in [
         (0, 0, Ok(())),
         (9, 9, Ok(())),

@@ -18,7 +18,8 @@ pub(crate) fn put(dir: &mut Dir, name: Name, num: Num) -> Result<(), AllocError>
     ensures { dir.new.promised ≡ dir.old.promised }
 {
     if dir.lookup(&name).is_none() {
-        dir.insert(name, num)?;
+        dir.promise()?;
+        dir.insert_promised(name, num);
     }
     Ok(())
 }

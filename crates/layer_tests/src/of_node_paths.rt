@@ -1,7 +1,7 @@
 // The paths of a mount's nodes: where they begin, the longest ones, and ways that have no end.
 use crate::trees::{
-    ROOT, assert_no_path, assert_path, chain, detach, has_path, looked_up, lookups, move_place,
-    path_length, place, spot,
+    ROOT, assert_no_path, assert_path, chain, detach, entry, has_path, looked_up, lookups,
+    move_entry, path_length, spot,
 };
 use heap::Heap;
 use nodes::{NAMES_LIMIT, Nodes};
@@ -96,8 +96,8 @@ fn a_folder_below_itself_has_no_path(rt: HostRuntime) {
     let first = looked_up(&rt, heap, &mut nodes, ROOT, b"a", 5);
     let below = looked_up(&rt, heap, &mut nodes, first, b"b", 6);
     assert_path(&rt, heap, &nodes, below, b"/a/b");
-    let (from, to) = (place(&rt, heap, ROOT, b"a"), spot(&rt, heap, below, b"c"));
-    move_place(&rt, &mut nodes, from, to);
+    let (from, to) = (entry(&rt, heap, ROOT, b"a"), spot(&rt, heap, below, b"c"));
+    move_entry(&rt, &mut nodes, from, to);
     assert_no_path(&rt, heap, &nodes, first);
     assert_no_path(&rt, heap, &nodes, below);
     drop(nodes);

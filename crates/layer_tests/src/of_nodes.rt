@@ -1,7 +1,7 @@
 // The numbers of a mount's nodes: which look-ups give the same, counts that are kept, and names that
 // go and move.
 use crate::trees::{
-    ROOT, assert_no_path, assert_path, detach, looked_up, lookups, move_place, number_at, place,
+    ROOT, assert_no_path, assert_path, detach, entry, looked_up, lookups, move_entry, number_at,
     spot,
 };
 use nodes::{FIRST_NUMBER, Nodes};
@@ -9,7 +9,7 @@ use nodes::{FIRST_NUMBER, Nodes};
 const SECOND_ROOT: u64 = 2;
 
 #[test]
-fn a_place_and_an_object_have_one_number(rt: HostRuntime) {
+fn an_entry_and_an_object_have_one_number(rt: HostRuntime) {
     let heap = heap::open(rt.alloc()).expect(&rt, "memory");
     let mut nodes = Nodes::new(heap);
     let first = looked_up(&rt, heap, &mut nodes, ROOT, b"a", 5);
@@ -37,14 +37,14 @@ fn another_object_has_another_number(rt: HostRuntime) {
     let mut nodes = Nodes::new(heap);
     let first = looked_up(&rt, heap, &mut nodes, ROOT, b"a", 5);
     let second = looked_up(&rt, heap, &mut nodes, ROOT, b"a", 6);
-    // The first object's node stays, but the place leads to it no more, even if it comes back.
+    // The first object's node stays, but the entry leads to it no more, even if it comes back.
     assert_no_path(&rt, heap, &nodes, first);
     assert_path(&rt, heap, &nodes, second, b"/a");
     let third = looked_up(&rt, heap, &mut nodes, ROOT, b"a", 5);
     assert_no_path(&rt, heap, &nodes, first);
     assert_no_path(&rt, heap, &nodes, second);
     assert_eq!(rt; [first, second, third], [16, 17, 18]);
-    // It goes, and what the place leads to stays.
+    // It goes, and what the entry leads to stays.
     nodes.forget(first, 1);
     nodes.forget(second, 1);
     assert_eq!(rt; lookups(&nodes, first), None);
@@ -111,15 +111,15 @@ fn what_stands_below_moves_along(rt: HostRuntime) {
     let below = looked_up(&rt, heap, &mut nodes, moved, b"b", 6);
     let last = looked_up(&rt, heap, &mut nodes, below, b"c", 7);
     let folder = looked_up(&rt, heap, &mut nodes, ROOT, b"d", 8);
-    let (from, to) = (place(&rt, heap, ROOT, b"a"), spot(&rt, heap, ROOT, b"e"));
-    move_place(&rt, &mut nodes, from, to);
+    let (from, to) = (entry(&rt, heap, ROOT, b"a"), spot(&rt, heap, ROOT, b"e"));
+    move_entry(&rt, &mut nodes, from, to);
     assert_eq!(rt; number_at(&rt, heap, &nodes, ROOT, b"a"), None);
     assert_eq!(rt; looked_up(&rt, heap, &mut nodes, ROOT, b"e", 5), moved);
     assert_eq!(rt; lookups(&nodes, moved), Some(2));
     assert_path(&rt, heap, &nodes, moved, b"/e");
     assert_path(&rt, heap, &nodes, last, b"/e/b/c");
-    let (from, to) = (place(&rt, heap, ROOT, b"e"), spot(&rt, heap, folder, b"f"));
-    move_place(&rt, &mut nodes, from, to);
+    let (from, to) = (entry(&rt, heap, ROOT, b"e"), spot(&rt, heap, folder, b"f"));
+    move_entry(&rt, &mut nodes, from, to);
     assert_path(&rt, heap, &nodes, moved, b"/d/f");
     assert_path(&rt, heap, &nodes, below, b"/d/f/b");
     assert_path(&rt, heap, &nodes, last, b"/d/f/b/c");
@@ -133,8 +133,8 @@ fn a_move_onto_a_taken_name(rt: HostRuntime) {
     let moved = looked_up(&rt, heap, &mut nodes, ROOT, b"a", 5);
     let replaced = looked_up(&rt, heap, &mut nodes, ROOT, b"b", 6);
     let below = looked_up(&rt, heap, &mut nodes, replaced, b"c", 7);
-    let (from, to) = (place(&rt, heap, ROOT, b"a"), spot(&rt, heap, ROOT, b"b"));
-    move_place(&rt, &mut nodes, from, to);
+    let (from, to) = (entry(&rt, heap, ROOT, b"a"), spot(&rt, heap, ROOT, b"b"));
+    move_entry(&rt, &mut nodes, from, to);
     assert_path(&rt, heap, &nodes, moved, b"/b");
     assert_no_path(&rt, heap, &nodes, replaced);
     assert_no_path(&rt, heap, &nodes, below);
@@ -143,12 +143,12 @@ fn a_move_onto_a_taken_name(rt: HostRuntime) {
     assert_eq!(rt; number_at(&rt, heap, &nodes, ROOT, b"a"), None);
     assert_eq!(rt; number_at(&rt, heap, &nodes, ROOT, b"b"), Some(moved));
     // Onto itself: all stays.
-    let (from, to) = (place(&rt, heap, ROOT, b"b"), spot(&rt, heap, ROOT, b"b"));
-    move_place(&rt, &mut nodes, from, to);
+    let (from, to) = (entry(&rt, heap, ROOT, b"b"), spot(&rt, heap, ROOT, b"b"));
+    move_entry(&rt, &mut nodes, from, to);
     assert_path(&rt, heap, &nodes, moved, b"/b");
     // From a name that leads nowhere: so does the other then.
-    let (from, to) = (place(&rt, heap, ROOT, b"a"), spot(&rt, heap, ROOT, b"b"));
-    move_place(&rt, &mut nodes, from, to);
+    let (from, to) = (entry(&rt, heap, ROOT, b"a"), spot(&rt, heap, ROOT, b"b"));
+    move_entry(&rt, &mut nodes, from, to);
     assert_eq!(rt; number_at(&rt, heap, &nodes, ROOT, b"b"), None);
     assert_no_path(&rt, heap, &nodes, moved);
     drop(nodes);

@@ -1,10 +1,10 @@
 // The nodes of a mount where memory is refused: each request of each step once, after which all is as
 // before and the next try is done; and what takes no memory.
 use crate::refused::is_refused;
-use crate::trees::{ROOT, chain, detach, looked_up, lookups, number_at, path_length, place, spot};
+use crate::trees::{ROOT, chain, detach, entry, looked_up, lookups, number_at, path_length, spot};
 use heap::Heap;
 use ids::Num;
-use nodes::{FIRST_NUMBER, Nodes, Place, Spot};
+use nodes::{DirectoryEntry, FIRST_NUMBER, Nodes, Spot};
 use std::process::Abort;
 
 // A name that does not stand in place.
@@ -67,10 +67,10 @@ fn is_reserved(heap: Heap, nodes: &mut Nodes, request: u64) -> bool {
 }
 
 fn is_moved(rt: &impl Abort, heap: Heap, nodes: &mut Nodes, request: u64) -> bool {
-    let from = place(rt, heap, ROOT, b"A");
+    let from = entry(rt, heap, ROOT, b"A");
     let to = spot(rt, heap, ROOT, LONG);
     heap.refuse(request);
-    let done = nodes.move_place(&from, to).is_ok();
+    let done = nodes.move_entry(&from, to).is_ok();
     heap.refuse(0);
     drop(from);
     done
@@ -216,10 +216,10 @@ fn each_request_of_a_path_is_refused_once(rt: HostRuntime) {
 }
 
 #[test]
-fn places_of_long_names_may_be_refused(rt: HostRuntime) {
+fn entries_of_long_names_may_be_refused(rt: HostRuntime) {
     let heap = heap::open(rt.alloc()).expect(&rt, "memory");
     heap.refuse(1);
-    let place_refused = is_refused(Place::new(heap, ROOT, LONG));
+    let entry_refused = is_refused(DirectoryEntry::new(heap, ROOT, LONG));
     heap.refuse(1);
     let first_refused = is_refused(Spot::new(heap, ROOT, LONG));
     heap.refuse(2);
@@ -228,7 +228,7 @@ fn places_of_long_names_may_be_refused(rt: HostRuntime) {
     let third_refused = is_refused(Spot::new(heap, ROOT, LONG));
     heap.refuse(1);
     let short_refused = is_refused(Spot::new(heap, ROOT, SHORT));
-    assert_eq!(rt; [place_refused, first_refused, second_refused], [true; 3]);
+    assert_eq!(rt; [entry_refused, first_refused, second_refused], [true; 3]);
     assert_eq!(rt; [third_refused, short_refused], [false; 2]);
     assert_eq!(rt; heap.made(), 0);
 }

@@ -2,12 +2,12 @@
 use crate::names::joined;
 use crate::of_dirlist::{name, put};
 use crate::refused::is_refused;
-use dirlist::{Dir, Patch};
+use dirlist::{Dir, NamePatch};
 use heap::Heap;
 use ids::Num;
 use std::process::Abort;
 
-fn note(rt: &impl Abort, heap: Heap, patch: &mut Patch, bytes: &[u8], given: Option<Num>) {
+fn note(rt: &impl Abort, heap: Heap, patch: &mut NamePatch, bytes: &[u8], given: Option<Num>) {
     patch
         .note(name(rt, heap, bytes), given)
         .expect(rt, "memory");
@@ -28,8 +28,8 @@ fn three(rt: &impl Abort, heap: Heap) -> Dir {
 
 // Changes to it: `b` goes, `d` gives another number, `c` and `e` are new, and `f`, which is not
 // there, goes too.
-fn changes(rt: &impl Abort, heap: Heap) -> Patch {
-    let mut patch = Patch::new(heap);
+fn changes(rt: &impl Abort, heap: Heap) -> NamePatch {
+    let mut patch = NamePatch::new(heap);
     for (bytes, given) in [
         (b"e".as_slice(), Some(Num(5))),
         (b"b".as_slice(), None),
@@ -43,14 +43,14 @@ fn changes(rt: &impl Abort, heap: Heap) -> Patch {
 }
 
 // The names with a patch on top, each with a blank behind it.
-fn assert_names_over(rt: &impl Abort, heap: Heap, patch: &Patch, dir: &Dir, want: &[u8]) {
+fn assert_names_over(rt: &impl Abort, heap: Heap, patch: &NamePatch, dir: &Dir, want: &[u8]) {
     let names = patch.names_over(heap, dir).expect(rt, "memory");
     let told = joined(rt, heap, names);
     assert_eq!(rt; told.as_slice(), want);
 }
 
 // Whether the names are refused where this request for memory is.
-fn are_refused(heap: Heap, patch: &Patch, dir: &Dir, number: u64) -> bool {
+fn are_refused(heap: Heap, patch: &NamePatch, dir: &Dir, number: u64) -> bool {
     heap.refuse(number);
     is_refused(patch.names_over(heap, dir))
 }
@@ -59,7 +59,7 @@ fn are_refused(heap: Heap, patch: &Patch, dir: &Dir, number: u64) -> bool {
 fn a_refused_note_changes_nothing(rt: HostRuntime) {
     let heap = heap::open(rt.alloc()).expect(&rt, "memory");
     let dir = three(&rt, heap);
-    let mut patch = Patch::new(heap);
+    let mut patch = NamePatch::new(heap);
     let first = name(&rt, heap, b"b");
     heap.refuse(1);
     assert!(rt; patch.note(first, None).is_err());

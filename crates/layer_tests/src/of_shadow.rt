@@ -31,7 +31,14 @@ fn added(
 {
     let root = View::new(stable, None).root();
     let name = Name::copy(heap, name)?;
-    let edits = Vec::from_array(heap, [Edit::MakeDirectory(root, name, 0)])?;
+    let edits = Vec::from_array(
+        heap,
+        [Edit::MakeDirectory {
+            parent: root,
+            name,
+            index: 0,
+        }],
+    )?;
     let chosen = shadow.edit(stable, edits)?;
     Ok(chosen.as_slice()[0])
 }

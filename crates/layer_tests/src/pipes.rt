@@ -1,4 +1,4 @@
-// Pipes with bytes, and bytes that are taken from them.
+// Pipes with bytes.
 ghost use Rattle.std.specs.Prelude.{◌≡◌, ◌≤◌, length};
 
 use heap::Heap;
@@ -13,16 +13,4 @@ pub(crate) fn pipe_of(rt: &impl Abort, heap: Heap, bytes: &[u8]) -> PipeData
     let mut pipe = PipeData::new(heap).expect(rt, "memory");
     pipe.put(bytes);
     pipe
-}
-
-// Takes at most so many bytes.
-pub(crate) fn assert_taken(
-    rt: &impl Abort,
-    heap: Heap,
-    pipe: &mut PipeData,
-    count: usize,
-    want: &[u8],
-) {
-    let taken = pipe.take(heap, count).expect(rt, "memory");
-    assert_eq!(rt; taken.as_slice(), want);
 }

@@ -1,14 +1,14 @@
 // Nodes of a mount that are looked up, moved and taken away by hand.
 use heap::Heap;
 use ids::Num;
-use nodes::{Nodes, Place, Spot};
+use nodes::{DirectoryEntry, Nodes, Spot};
 use std::process::Abort;
 
 // The root below which all stands.
 pub(crate) const ROOT: u64 = 1;
 
-pub(crate) fn place(rt: &impl Abort, heap: Heap, parent: u64, name: &[u8]) -> Place {
-    Place::new(heap, parent, name).expect(rt, "memory")
+pub(crate) fn entry(rt: &impl Abort, heap: Heap, parent: u64, name: &[u8]) -> DirectoryEntry {
+    DirectoryEntry::new(heap, parent, name).expect(rt, "memory")
 }
 
 pub(crate) fn spot(rt: &impl Abort, heap: Heap, parent: u64, name: &[u8]) -> Spot {
@@ -28,7 +28,7 @@ pub(crate) fn looked_up(
     nodes.look_up(spot, Num(inode)).expect(rt, "memory")
 }
 
-// The number to which a place leads.
+// The number to which an entry leads.
 pub(crate) fn number_at(
     rt: &impl Abort,
     heap: Heap,
@@ -36,8 +36,8 @@ pub(crate) fn number_at(
     parent: u64,
     name: &[u8],
 ) -> Option<u64> {
-    let place = place(rt, heap, parent, name);
-    nodes.number_at(&place)
+    let entry = entry(rt, heap, parent, name);
+    nodes.number_at(&entry)
 }
 
 // How many look-ups of a number are not forgotten.
@@ -97,13 +97,13 @@ pub(crate) fn assert_no_path(rt: &impl Abort, heap: Heap, nodes: &Nodes, number:
     assert_eq!(rt; path_length(rt, heap, nodes, number), None);
 }
 
-pub(crate) fn move_place(rt: &impl Abort, nodes: &mut Nodes, from: Place, to: Spot) {
-    nodes.move_place(&from, to).expect(rt, "memory");
+pub(crate) fn move_entry(rt: &impl Abort, nodes: &mut Nodes, from: DirectoryEntry, to: Spot) {
+    nodes.move_entry(&from, to).expect(rt, "memory");
     drop(from);
 }
 
 pub(crate) fn detach(rt: &impl Abort, heap: Heap, nodes: &mut Nodes, parent: u64, name: &[u8]) {
-    let place = place(rt, heap, parent, name);
-    nodes.detach(&place);
-    drop(place);
+    let entry = entry(rt, heap, parent, name);
+    nodes.detach(&entry);
+    drop(entry);
 }

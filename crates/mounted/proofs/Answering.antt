@@ -10,7 +10,7 @@ use Rattle.fuse.specs.declared.reply.Opened.{Opened}
 use Rattle.fuse.specs.declared.reply.Reply.{Reply}
 use Rattle.machine.specs.Shown.{Shown}
 use Rattle.nodes.specs.Tables.{Table}
-use Rattle.nodes.specs.declared.place.Place.{Place}
+use Rattle.nodes.specs.declared.directory_entry.DirectoryEntry.{DirectoryEntry}
 use Rattle.course.specs.Course.{Course, Give, Ran, ◌>>=◌}
 use Rattle.course.specs.Courses.{RanUnlessRefused, closing_spare, creating_cut, on_ok, writing}
 use Rattle.course.specs.Faults.{error}
@@ -106,8 +106,8 @@ opened_at t {view} {inode} {pid} {process} {fd} o a b h = subst (λ (p : ℕ). I
 
 -- ---- entries
 
-pub entry_as : {t u : Table} {p q : Place} {stat : Stat} {entry : Entry} → u ≡ t → q ≡ p → IsEntry u q stat entry → IsEntry t p stat entry
-entry_as {t} {u} {p} {q} {stat} {entry} a b h = subst (λ (x : Table). IsEntry x p stat entry) a (subst (λ (x : Place). IsEntry u x stat entry) b h)
+pub entry_as : {t u : Table} {p q : DirectoryEntry} {stat : Stat} {entry : Entry} → u ≡ t → q ≡ p → IsEntry u q stat entry → IsEntry t p stat entry
+entry_as {t} {u} {p} {q} {stat} {entry} a b h = subst (λ (x : Table). IsEntry x p stat entry) a (subst (λ (x : DirectoryEntry). IsEntry u x stat entry) b h)
 
 -- ---- files that were made
 

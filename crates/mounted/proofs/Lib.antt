@@ -3,3 +3,5 @@ mod First
 mod Answering
 mod Telling
 mod Ending
+mod Ordering
+mod Beginning

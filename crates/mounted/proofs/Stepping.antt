@@ -14,13 +14,15 @@ use Rattle.course.specs.Courses.{forking}
 use Rattle.course.specs.Faults.{error}
 use Rattle.course.specs.Hands.{Held, IsSince}
 use Rattle.course.specs.declared.fault.Fault.{Fault}
-use Rattle.mounted.specs.Found.{and_then, found_or, numbered, stepper_at, stepper_by, stepper_in, stepper_of}
+use Rattle.std.specs.BTreeMap.{BTreeMap}
+use Rattle.mounted.specs.Views.{numbered}
+use Rattle.mounted.specs.Found.{and_then, found_or, stepper_at, stepper_by, stepper_in, stepper_of}
 use Rattle.mounted.specs.Numbers.{class_of, view_of}
 use Rattle.mounted.specs.Requests.{IsAnswered}
-use Rattle.mounted.specs.Served.{IsChosen, IsLacking, IsLackingBy, IsReady, IsReadyBy, IsToldOf, Lacking, Ready, ServesBy, ServesIn, ServesPlain, ServesTree, chosen, is_of_tree}
+use Rattle.mounted.specs.Processes.{IsLackingBy, IsReadyBy}
+use Rattle.mounted.specs.Served.{IsChosen, IsLacking, IsNoted, IsReady, IsToldOf, Lacking, Ready, ServesAt, ServesBy, ServesIn, ServesPlain, ServesTree, ServesView, chosen, is_of_node}
 use Rattle.mounted.specs.Served as served
 use Rattle.mounted.specs.Steppers.{IsStepper, StaysInView, is_release}
-use Rattle.mounted.specs.declared.numbers.Class.TheVariants.{Tree}
 use Rattle.mounted.specs.declared.tables.Stepper.{Stepper}
 use Rattle.mounted.specs.declared.tables.Tables.{Tables}
 use Rattle.mounted.specs.declared.views.State.{State}
@@ -35,11 +37,11 @@ no_error : {A : Type 0} (r : Result A Fault) {x : A} {e : Fault} → r ≡ Ok x 
 no_error r a b = cc
 
 -- a process that steps in this view
-pub record Steps (views : List View) (view : ℕ) (s : Stepper) : Type 0 where
+pub record Steps (views : BTreeMap ℕ View) (view : ℕ) (s : Stepper) : Type 0 where
   pub here : s.view ≡ view
   pub steps : IsStepper views view s.pid
 
-live : (views : List View) (view : ℕ) (v : View) (state : State) (s : Stepper) → numbered views view ≡ Some v → v.state ≡ state → Ok s ≡ stepper_by view v.pid state → Steps views view s
+live : (views : BTreeMap ℕ View) (view : ℕ) (v : View) (state : State) (s : Stepper) → numbered views view ≡ Some v → v.state ≡ state → Ok s ≡ stepper_by view v.pid state → Steps views view s
 live views view v Live s is state h = record {
   here = ap (λ (z : Stepper). z.view) (same_ok _ refl h);
   steps = record { found = v; is = is; live = state; pid = sym (ap (λ (z : Stepper). z.pid) (same_ok _ refl h)) };
@@ -48,31 +50,31 @@ live views view v Aborted s is state h = absurd (no_error _ refl h)
 live views view v Committed s is state h = absurd (no_error _ refl h)
 live views view v GivenUp s is state h = absurd (no_error _ refl h)
 
-of_view : (views : List View) (view : ℕ) (o : Option View) (s : Stepper) → numbered views view ≡ o → Ok s ≡ stepper_of view o → Steps views view s
+of_view : (views : BTreeMap ℕ View) (view : ℕ) (o : Option View) (s : Stepper) → numbered views view ≡ o → Ok s ≡ stepper_of view o → Steps views view s
 of_view views view (Some v) s is h = live views view v v.state s is refl h
 of_view views view None s is h = absurd (no_error _ refl h)
 
 -- the process of another view than that of the plain tree
-other : (views : List View) (view : ℕ) (s : Stepper) (b : Bool) → (view == 0) ≡ b → b ≡ false → Ok s ≡ stepper_in views view → Steps views view s
+other : (views : BTreeMap ℕ View) (view : ℕ) (s : Stepper) (b : Bool) → (view == 0) ≡ b → b ≡ false → Ok s ≡ stepper_in views view → Steps views view s
 other views view s true is apart h = absurd cc
 other views view s false is apart h = of_view views view (numbered views view) s refl (h ∙ ap (λ (b : Bool). if b then Ok (record { view = 0; pid = 1 }) else stepper_of view (numbered views view)) is)
 
 -- what is told of a node below this view
-told : (t : Tables) (node view : ℕ) (s : Stepper) → view_of (root_of t.nodes.table node) ≡ Some view → view ≢ 0 → Ok s ≡ stepper_at t node → Steps t.views.each.items view s
+told : (t : Tables) (node view : ℕ) (s : Stepper) → view_of (root_of t.nodes.table node) ≡ Some view → view ≢ 0 → Ok s ≡ stepper_at t node → Steps t.views.each view s
 told t node view s is apart h =
-    other t.views.each.items view s (view == 0) refl (ne_eqb view 0 apart)
-    (h ∙ ap (λ (o : Option ℕ). and_then (found_or (error ESTALE) o) (stepper_in t.views.each.items)) is)
+    other t.views.each view s (view == 0) refl (ne_eqb view 0 apart)
+    (h ∙ ap (λ (o : Option ℕ). and_then (found_or (error ESTALE) o) (stepper_in t.views.each)) is)
 
 -- nobody steps
-pub nobody : (t : Tables) (node : ℕ) {old new : List Entry} → new ≡ old → StaysInView t.nodes.table t.views.each.items node old new
+pub nobody : (t : Tables) (node : ℕ) {old new : List Entry} → new ≡ old → StaysInView t.nodes.table t.views.each node old new
 nobody t node same tree view is apart = inl same
 
 -- the process of the view's transaction steps
-pub in_view : (t : Tables) (node : ℕ) (s : Stepper) {old new : List Entry} → Ok s ≡ stepper_at t node → IsSince s.pid old new → StaysInView t.nodes.table t.views.each.items node old new
+pub in_view : (t : Tables) (node : ℕ) (s : Stepper) {old new : List Entry} → Ok s ≡ stepper_at t node → IsSince s.pid old new → StaysInView t.nodes.table t.views.each node old new
 in_view t node s h since tree view is apart = inr (s.pid, (told t node view s is apart h).steps, since)
 
 -- the node is in the plain tree
-pub in_plain : (t : Tables) (node : ℕ) (s : Stepper) {old new : List Entry} → Ok s ≡ stepper_at t node → s.view ≡ 0 → StaysInView t.nodes.table t.views.each.items node old new
+pub in_plain : (t : Tables) (node : ℕ) (s : Stepper) {old new : List Entry} → Ok s ≡ stepper_at t node → s.view ≡ 0 → StaysInView t.nodes.table t.views.each node old new
 in_plain t node s h zero tree view is apart = absurd (apart (sym (told t node view s is apart h).here ∙ zero))
 
 -- ---- how a request is served then
@@ -83,12 +85,20 @@ refuses t later node operation {e} old new r h same is = subst (λ (z : Result S
 pub serves_plain : (t later : Tables) (node : ℕ) (operation : Operation) (s : Stepper) (old new : Shown) (r : Result Reply Fault) → Ok s ≡ stepper_at t node → (s.view == 0) ≡ true → ServesPlain t later node operation old new r → ServesTree t later node operation old new r
 serves_plain t later node operation s old new r h is served =
     subst (λ (z : Result Stepper Fault). ServesBy z t later node operation old new r) h
-    (subst (λ (b : Bool). ServesIn b t later s.pid node operation old new r) (sym is) served)
+    (subst (λ (b : Bool). ServesIn b t later s node operation old new r) (sym is) served)
 
-pub serves_view : (t later : Tables) (node : ℕ) (operation : Operation) (s : Stepper) (old new : Shown) (r : Result Reply Fault) → Ok s ≡ stepper_at t node → (s.view == 0) ≡ false → IsAnswered t later s.pid node operation old new r → ServesTree t later node operation old new r
+pub serves_view : (t later : Tables) (node : ℕ) (operation : Operation) (s : Stepper) (old new : Shown) (r : Result Reply Fault) → Ok s ≡ stepper_at t node → (s.view == 0) ≡ false → ServesView t later s.view s.pid node operation old new r → ServesTree t later node operation old new r
 serves_view t later node operation s old new r h is served =
     subst (λ (z : Result Stepper Fault). ServesBy z t later node operation old new r) h
-    (subst (λ (b : Bool). ServesIn b t later s.pid node operation old new r) (sym is) served)
+    (subst (λ (b : Bool). ServesIn b t later s node operation old new r) (sym is) served)
+
+-- the process of a view served it, and what that came to was noted
+pub serves_in : (t served later : Tables) (view node : ℕ) {pid process : ℕ} (operation : Operation) {old before : Shown} {h k : Held} (r : Result Reply Fault) → process ≡ pid → before ≡ old → k ≡ h → IsAnswered t served process node operation before h.shown r → IsNoted served later view r → ServesView t later view pid node operation old k.shown r
+serves_in t served later view node {pid} operation {old} {h = h} r a b same answers noted = record {
+  served = served;
+  answers = subst (λ (x : Held). IsAnswered t served pid node operation old x.shown r) (sym same) (answered_as t served node operation h.shown r a b answers);
+  noted = noted;
+}
 
 -- ---- processes
 
@@ -111,15 +121,13 @@ without_process t later node operation {e} r is h = Lacking e h (is_err r is)
 
 -- ---- what was told
 
-pub noted_view : (t : Tables) (node : ℕ) {old : List Entry} {h k : Held} {o p : Operation} → o ≡ p → k ≡ h → (is_release o ≡ false → StaysInView t.nodes.table t.views.each.items node old h.shown.log.entries) → is_release p ≡ false → StaysInView t.nodes.table t.views.each.items node old k.shown.log.entries
-noted_view t node {old} {h} {k} {o} {p} is same stays = subst (λ (x : Operation). is_release x ≡ false → StaysInView t.nodes.table t.views.each.items node old k.shown.log.entries) is (subst (λ (x : Held). is_release o ≡ false → StaysInView t.nodes.table t.views.each.items node old x.shown.log.entries) (sym same) stays)
+pub in_view_by : (t : Tables) (node : ℕ) {old new : List Entry} {o p : Operation} → o ≡ p → (is_release o ≡ false → StaysInView t.nodes.table t.views.each node old new) → is_release p ≡ false → StaysInView t.nodes.table t.views.each node old new
+in_view_by t node {old} {new} {o} {p} is stays = subst (λ (x : Operation). is_release x ≡ false → StaysInView t.nodes.table t.views.each node old new) is stays
 
-pub noted : (t later views : Tables) (node : ℕ) {old : Shown} {h k : Held} {o p : Operation} (outcome : Result Reply Fault) (r : Reply) → o ≡ p → views ≡ record later { views = views.views } → k ≡ h → r ≡ served.told outcome → (is_of_tree o ≡ true → class_of node ≡ Tree → ServesTree t later node o old h.shown outcome) → is_of_tree p ≡ true → class_of node ≡ Tree → IsToldOf t views node p old k.shown (Some r)
-noted t later views node {old} {h} {k} {o} {p} outcome r is same_tables same told serves of_tree in_tree = record {
-  served = later;
-  noted = same_tables;
+pub told_of : (t later : Tables) (node : ℕ) {old new : Shown} {o p : Operation} (outcome : Result Reply Fault) (r : Reply) → o ≡ p → r ≡ served.told outcome → (is_of_node o ≡ true → ServesAt (class_of node) t later node o old new outcome) → is_of_node p ≡ true → IsToldOf t later node p old new (Some r)
+told_of t later node {old} {new} {o} {p} outcome r is told serves of_node = record {
   outcome = outcome;
-  serves = subst (λ (x : Held). ServesTree t later node p old x.shown outcome) (sym same) (subst (λ (x : Operation). is_of_tree x ≡ true → class_of node ≡ Tree → ServesTree t later node x old h.shown outcome) is serves of_tree in_tree);
+  serves = subst (λ (x : Operation). is_of_node x ≡ true → ServesAt (class_of node) t later node x old new outcome) is serves of_node;
   tells = ap Some told;
 }
 

@@ -2,8 +2,7 @@
 use Rattle.std.specs.Prelude.{◌≡◌, ℕ, ◌==◌, ◌&&◌, ◌++◌, ◌∷◌, [], List, Bool}
 use Rattle.std.specs.Prelude.{Option, Some, None, is_some, option_map, option_and_then, codes, filter, not}
 use Rattle.std.specs.Prelude.{Result, Ok, Err, if◌then◌else◌}
-use Rattle.std.specs.BTreeMap.{get}
-use Rattle.std.specs.List.{find}
+use Rattle.std.specs.BTreeMap.{BTreeMap, get}
 use Rattle.std.specs.Ordering.{nat_cmp, ordering_then}
 use Rattle.std.specs.Str.{bytes_eq}
 use Rattle.std.specs.declared.cmp.Ordering.{Ordering}
@@ -16,6 +15,7 @@ use Rattle.course.specs.declared.fault.Fault.{Fault}
 use Rattle.course.specs.declared.objects.Object.{Object}
 use Rattle.course.specs.Faults.{error}
 use Rattle.mounted.specs.Numbers.{view_of}
+use Rattle.mounted.specs.Views.{numbered}
 use Rattle.mounted.specs.declared.folders.Folder.{Folder}
 use Rattle.mounted.specs.declared.open_files.OpenFile.{OpenFile}
 use Rattle.mounted.specs.declared.planning.Located.{Located}
@@ -37,10 +37,6 @@ found_or e None = Err e
 
 -- ---- views
 
--- the view of a number
-abbrev pub numbered : List View → ℕ → Option View
-numbered views number = find (λ (v : View). v.number == number) views
-
 -- What the process of a view may do: nothing after an abort, and nothing where the transaction is
 -- over.
 abbrev pub stepper_by : ℕ → ℕ → State → Result Stepper Fault
@@ -54,7 +50,7 @@ stepper_of view (Some v) = stepper_by view v.pid v.state
 stepper_of view None = Err (error errno.ENOENT)
 
 -- The process of a view, or the first one for the plain tree.
-abbrev pub stepper_in : List View → ℕ → Result Stepper Fault
+abbrev pub stepper_in : BTreeMap ℕ View → ℕ → Result Stepper Fault
 stepper_in views view =
     if view == 0 then Ok (record { view = 0; pid = 1 }) else stepper_of view (numbered views view)
 
@@ -62,7 +58,7 @@ stepper_in views view =
 abbrev pub stepper_at : Tables → ℕ → Result Stepper Fault
 stepper_at t node =
     and_then (found_or (error errno.ESTALE) (view_of (root_of t.nodes.table node)))
-    (stepper_in t.views.each.items)
+    (stepper_in t.views.each)
 
 -- ---- nodes
 

@@ -1,5 +1,5 @@
 -- What nodes are by their numbers.
-use Rattle.std.specs.Prelude.{ℕ, ◌-◌, ◌/◌, ◌%◌, ◌==◌, ◌&&◌, nat_lt, Option, Some, None}
+use Rattle.std.specs.Prelude.{ℕ, ◌-◌, ◌+◌, ◌*◌, ◌^◌, ◌/◌, ◌%◌, ◌==◌, ◌&&◌, min, nat_lt, Option, Some, None}
 use Rattle.std.specs.Prelude.{if◌then◌else◌}
 use Rattle.nodes.specs.declared.nodes.TheConstants.{LAST_NUMBER}
 use Rattle.mounted.specs.declared.numbers.Class.{Class}
@@ -18,3 +18,11 @@ view_of root =
     if root == 1 then Some 0
     else if nat_lt LAST_NUMBER root && root % 2 == 0 then Some ((root - LAST_NUMBER) / 2)
     else None
+
+-- the root of a view, and the file by which its transaction is ended
+abbrev pub root_node : ℕ → ℕ
+root_node view =
+    if view == 0 then 1 else min (LAST_NUMBER + min (view * 2) (2 ^ 64 - 1)) (2 ^ 64 - 1)
+
+abbrev pub control_node : ℕ → ℕ
+control_node view = min (root_node view + 1) (2 ^ 64 - 1)

@@ -27,7 +27,7 @@ use Rattle.mounted.specs.Found.{is_reserved, located_child, located_new, located
 use Rattle.mounted.specs.Found.{object_of, own_path, path_to, shown_names, stepper_at}
 use Rattle.mounted.specs.Told.{Lists, ListsFully, ShowsAttributes, ShowsBytes, ShowsCount, ShowsCreated}
 use Rattle.mounted.specs.Told.{ShowsEntry, ShowsFolder, ShowsNothing, ShowsOffset, ShowsOpened}
-use Rattle.mounted.specs.Told.{place, sought}
+use Rattle.mounted.specs.Told.{named, sought}
 use Rattle.mounted.specs.declared.changing.Setting.{Setting}
 use Rattle.mounted.specs.declared.files.Reading.{Reading}
 use Rattle.mounted.specs.declared.files.Writing.{Writing}
@@ -54,7 +54,7 @@ IsReserved node (Err e) = e ≡ error errno.ENOENT
 abbrev pub AnswersName : Tables → ℕ → ℕ → List ℕ → Shown → Shown → Result Reply Fault → Type 0
 AnswersName t pid node name old new result =
     Answers old new (located_child t node name) (λ p. stating pid (call.Stat p.path))
-    (λ p. ShowsEntry t.nodes.table (place node name)) result
+    (λ p. ShowsEntry t.nodes.table (named node name)) result
 
 abbrev pub AnswersLookUpBy : Bool → Tables → ℕ → ℕ → List ℕ → Shown → Shown → Result Reply Fault
     → Type 0
@@ -100,7 +100,7 @@ AnswersSetAttr t pid node changes old new result =
 abbrev pub AnswersMkDir : Tables → ℕ → ℕ → List ℕ → Shown → Shown → Result Reply Fault → Type 0
 AnswersMkDir t pid node name old new result =
     Answers old new (located_new t node name) (λ p. making pid (call.Mkdir p.path) p.path)
-    (λ p. ShowsEntry t.nodes.table (place node name)) result
+    (λ p. ShowsEntry t.nodes.table (named node name)) result
 
 -- only plain files are made, and a mode that tells no kind means them
 abbrev pub plain_kind : ℕ → Result (Unit {0}) Fault
@@ -115,7 +115,7 @@ abbrev pub AnswersMkNod : Tables → ℕ → ℕ → List ℕ → ℕ → Shown 
     → Type 0
 AnswersMkNod t pid node name mode old new result =
     Answers old new (planned_file t node name mode) (λ p. making_file pid p.path p.path)
-    (λ p. ShowsEntry t.nodes.table (place node name)) result
+    (λ p. ShowsEntry t.nodes.table (named node name)) result
 
 -- two paths in one view
 abbrev pub in_one_view : Located → Located → Result Pair Fault
@@ -132,7 +132,7 @@ abbrev pub AnswersLink : Tables → ℕ → ℕ → ℕ → List ℕ → Shown �
 AnswersLink t pid parent node name old new result =
     Answers old new (linking t parent node name)
     (λ paths. making pid (call.Link paths.from paths.to) paths.to)
-    (λ paths. ShowsEntry t.nodes.table (place parent name)) result
+    (λ paths. ShowsEntry t.nodes.table (named parent name)) result
 
 -- ---- taking names away, and moving them
 
@@ -218,7 +218,7 @@ abbrev pub AnswersCreate : Tables → Tables → ℕ → ℕ → List ℕ → �
     → Result Reply Fault → Type 0
 AnswersCreate t later pid node name flags old new result =
     Answers old new (located_new t node name) (making_open t pid flags)
-    (λ p made. ShowsCreated t later (place node name) p.view pid made) result
+    (λ p made. ShowsCreated t later (named node name) p.view pid made) result
 
 -- ---- open files
 

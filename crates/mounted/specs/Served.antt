@@ -1,4 +1,4 @@
--- How a request about a node of a tree is served.
+-- How a request about a node is served.
 use Rattle.std.specs.Prelude.{◌≡◌, ◌⊎◌, ℕ, ◌==◌, Bool, true, false, Option, Some, None}
 use Rattle.std.specs.Prelude.{option_map, option_and_then, Result, Ok, Err, if◌then◌else◌}
 use Rattle.fuse.specs.declared.errno.Errno.TheVariants as errno
@@ -8,13 +8,16 @@ use Rattle.fuse.specs.declared.request.Operation.{Operation}
 use Rattle.fuse.specs.declared.request.Operation.TheVariants as asked
 use Rattle.machine.specs.Shown.{Shown}
 use Rattle.machine.specs.Steps.{forgetting}
-use Rattle.course.specs.Course.{Ran}
-use Rattle.course.specs.Courses.{forking}
-use Rattle.course.specs.Faults.{error}
 use Rattle.course.specs.declared.fault.Fault.{Fault}
 use Rattle.course.specs.declared.fault.Fault.TheVariants as fault
 use Rattle.mounted.specs.Found.{file_at, handle_of, inode_of, stepper_at}
+use Rattle.mounted.specs.Controls.{ServesControl, ServesTransactions}
+use Rattle.mounted.specs.Numbers.{class_of}
+use Rattle.mounted.specs.Processes.{IsLackingBy, IsReadyBy}
 use Rattle.mounted.specs.Requests.{IsAnswered, Tells}
+use Rattle.mounted.specs.Views.{IsOver}
+use Rattle.mounted.specs.declared.numbers.Class.{Class}
+use Rattle.mounted.specs.declared.numbers.Class.TheVariants.{Tree, Transactions, Control}
 use Rattle.mounted.specs.declared.open_files.OpenFile.{OpenFile}
 use Rattle.mounted.specs.declared.pool.Pool.{Pool}
 use Rattle.mounted.specs.declared.tables.Stepper.{Stepper}
@@ -48,14 +51,6 @@ abbrev pub IsChosen : Option ℕ → ℕ → Type 0
 IsChosen (Some process) pid = pid ≡ process
 IsChosen None pid = Unit {0}
 
--- a process was there, or this one made it
-abbrev pub IsReadyBy : ℕ → Shown → ℕ → Shown → Type 0
-IsReadyBy maker old pid new = (new ≡ old) ⊎ Ran old (forking maker) (Ok pid) new
-
--- it could not be made, or memory was refused for it
-abbrev pub IsLackingBy : ℕ → Shown → Fault → Shown → Type 0
-IsLackingBy maker old e new = Ran old (forking maker) (Err e) new ⊎ (e ≡ error errno.ENOMEM)
-
 -- the first one makes those of the plain tree
 abbrev pub IsReady : Shown → ℕ → Shown → Type 0
 IsReady old pid new = IsReadyBy 1 old pid new
@@ -74,19 +69,32 @@ pub data ServesPlain (t later : Tables) (node : ℕ) (operation : Operation) (ol
 
 -- ---- all trees
 
+-- After an abort nobody steps in the view any more.
+abbrev pub IsNoted : Tables → Tables → ℕ → Result Reply Fault → Type 0
+IsNoted served later view (Err fault.Aborted) =
+    (later ≡ record served { views = later.views }) × IsOver later.views.each view
+IsNoted served later view (Err (fault.Errno e)) = later ≡ served
+IsNoted served later view (Ok r) = later ≡ served
+
+pub record ServesView (t later : Tables) (view pid node : ℕ) (operation : Operation)
+    (old new : Shown) (r : Result Reply Fault) : Type 0 where
+  pub served : Tables
+  pub answers : IsAnswered t served pid node operation old new r
+  pub noted : IsNoted served later view r
+
 -- In the plain tree, or by the process of a view's transaction.
-abbrev pub ServesIn : Bool → Tables → Tables → ℕ → ℕ → Operation → Shown → Shown
+abbrev pub ServesIn : Bool → Tables → Tables → Stepper → ℕ → Operation → Shown → Shown
     → Result Reply Fault → Type 0
-ServesIn true t later pid node operation old new r =
+ServesIn true t later s node operation old new r =
     ServesPlain t later node operation old new r
-ServesIn false t later pid node operation old new r =
-    IsAnswered t later pid node operation old new r
+ServesIn false t later s node operation old new r =
+    ServesView t later s.view s.pid node operation old new r
 
 abbrev pub ServesBy : Result Stepper Fault → Tables → Tables → ℕ → Operation → Shown → Shown
     → Result Reply Fault → Type 0
 ServesBy (Err e) t later node operation old new r = Tells (Err e) old new r
 ServesBy (Ok s) t later node operation old new r =
-    ServesIn (s.view == 0) t later s.pid node operation old new r
+    ServesIn (s.view == 0) t later s node operation old new r
 
 -- A request about a node: where nobody may step there it is refused.
 abbrev pub ServesTree : Tables → Tables → ℕ → Operation → Shown → Shown → Result Reply Fault
@@ -94,19 +102,27 @@ abbrev pub ServesTree : Tables → Tables → ℕ → Operation → Shown → Sh
 ServesTree t later node operation old new r =
     ServesBy (stepper_at t node) t later node operation old new r
 
+-- ---- all requests about nodes
+
+abbrev pub ServesAt : Class → Tables → Tables → ℕ → Operation → Shown → Shown
+    → Result Reply Fault → Type 0
+ServesAt Tree t later node operation old new r = ServesTree t later node operation old new r
+ServesAt Transactions t later node operation old new r =
+    ServesTransactions t later operation old new r
+ServesAt (Control view) t later node operation old new r =
+    ServesControl t later view operation old new r
+
 -- the reply to an outcome
 abbrev pub told : Result Reply Fault → Reply
 told (Ok r) = r
 told (Err (fault.Errno e)) = reply.Error e
 told (Err fault.Aborted) = reply.Error errno.ECANCELED
 
--- The request was served and its outcome told. Views that were aborted are noted then.
+-- The request was served by what its node is, and its outcome told.
 pub record IsToldOf (t later : Tables) (node : ℕ) (operation : Operation) (old new : Shown)
     (answer : Option Reply) : Type 0 where
-  pub served : Tables
-  pub noted : later ≡ record served { views = later.views }
   pub outcome : Result Reply Fault
-  pub serves : ServesTree t served node operation old new outcome
+  pub serves : ServesAt (class_of node) t later node operation old new outcome
   pub tells : answer ≡ Some (told outcome)
 
 -- The same, and then what was done is forgotten, so a session can go on for ever.
@@ -116,16 +132,16 @@ pub record IsServed (t later : Tables) (node : ℕ) (operation : Operation) (old
   pub is : IsToldOf t later node operation old mid answer
   pub forgot : (new ≡ mid) ⊎ (new ≡ forgetting mid)
 
--- requests that are about no node of a tree, or only note what is forgotten or closed
-abbrev pub is_of_tree : Operation → Bool
-is_of_tree (asked.Init major minor ahead flags) = false
-is_of_tree asked.Destroy = false
-is_of_tree asked.StatFs = false
-is_of_tree (asked.Release handle flags) = false
-is_of_tree (asked.ReleaseDir handle) = false
-is_of_tree (asked.Flush handle) = false
-is_of_tree (asked.Fsync handle) = false
-is_of_tree (asked.Forget lookups) = false
-is_of_tree (asked.BatchForget forgets) = false
-is_of_tree (asked.Interrupt unique) = false
-is_of_tree _ = true
+-- requests that are about no node, or only note what is forgotten or closed
+abbrev pub is_of_node : Operation → Bool
+is_of_node (asked.Init major minor ahead flags) = false
+is_of_node asked.Destroy = false
+is_of_node asked.StatFs = false
+is_of_node (asked.Release handle flags) = false
+is_of_node (asked.ReleaseDir handle) = false
+is_of_node (asked.Flush handle) = false
+is_of_node (asked.Fsync handle) = false
+is_of_node (asked.Forget lookups) = false
+is_of_node (asked.BatchForget forgets) = false
+is_of_node (asked.Interrupt unique) = false
+is_of_node _ = true

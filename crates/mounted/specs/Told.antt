@@ -14,7 +14,7 @@ use Rattle.fuse.specs.declared.reply.Reply.TheVariants as reply
 use Rattle.fuse.specs.declared.request.Whence.{Whence}
 use Rattle.fuse.specs.declared.request.Whence.TheVariants as whence
 use Rattle.nodes.specs.Tables.{Table, number_for}
-use Rattle.nodes.specs.declared.place.Place.{Place}
+use Rattle.nodes.specs.declared.directory_entry.DirectoryEntry.{DirectoryEntry}
 use Rattle.course.specs.Faults.{error}
 use Rattle.course.specs.declared.fault.Fault.{Fault}
 use Rattle.course.specs.declared.files.Made.{Made}
@@ -39,11 +39,11 @@ pub record IsLike (stat : Stat) (attr : Attr) : Type 0 where
   pub links : attr.links ≡ stat.links
   pub kind : attr.mode / 4096 ≡ kind_number stat.kind
 
-abbrev pub place : ℕ → List ℕ → Place
-place parent name = record { parent = parent; name = name }
+abbrev pub named : ℕ → List ℕ → DirectoryEntry
+named parent name = record { parent = parent; name = name }
 
 -- what a name gave: its node, and the object's attributes
-pub record IsEntry (t : Table) (p : Place) (stat : Stat) (entry : Entry) : Type 0 where
+pub record IsEntry (t : Table) (p : DirectoryEntry) (stat : Stat) (entry : Entry) : Type 0 where
   pub node : entry.node ≡ number_for t p stat.num
   pub like : IsLike stat entry.attr
 
@@ -60,7 +60,7 @@ abbrev pub ShowsNothing : Reply → Type 0
 ShowsNothing reply.Empty = Unit {0}
 ShowsNothing _ = ⊥
 
-abbrev pub ShowsEntry : Table → Place → Stat → Reply → Type 0
+abbrev pub ShowsEntry : Table → DirectoryEntry → Stat → Reply → Type 0
 ShowsEntry t p stat (reply.Entry entry) = IsEntry t p stat entry
 ShowsEntry t p stat _ = ⊥
 
@@ -86,7 +86,7 @@ IsKept old new view pid made opened =
     IfNew (handle_of old view made.stat.num) (IsOpened new view made.stat.num pid made.fd opened)
     opened.handle
 
-abbrev pub ShowsCreated : Tables → Tables → Place → ℕ → ℕ → Made → Reply → Type 0
+abbrev pub ShowsCreated : Tables → Tables → DirectoryEntry → ℕ → ℕ → Made → Reply → Type 0
 ShowsCreated old new p view pid made (reply.Created entry opened) =
     IsEntry old.nodes.table p made.stat entry × IsKept old new view pid made opened
 ShowsCreated old new p view pid made _ = ⊥
@@ -99,7 +99,7 @@ ShowsFolder t node names _ = ⊥
 
 -- ---- lists of directories
 
--- names of a directory from this place on, as they are told
+-- names of a directory from this index on, as they are told
 abbrev pub listed : (ℕ → List ℕ → List ℕ) → ℕ → List (List ℕ) → List ℕ
 listed told index [] = []
 listed told index (name ∷ names) = told index name ++ listed told (index + 1) names

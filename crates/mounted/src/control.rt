@@ -1,33 +1,44 @@
 // Requests about the file by which a transaction is ended.
+ghost use Rattle.std.specs.Prelude.{◌≡◌, ◌-◌, ◌^◌, drop, IfOk, length, min, take};
+ghost use Rattle.course.specs.Course.{Ran};
+ghost use Rattle.course.specs.Hands.{bound};
+ghost use Rattle.mounted.specs.Controls.{IsEnded, Learns, Orders, ReadsBy, ServesControl, ShowsText};
+ghost use Rattle.mounted.specs.Controls.{obeying, order_by, ordered, state_by, text_by, text_of, word_in};
+ghost use Rattle.mounted.specs.Views.{numbered, standing_at};
+
 use crate::numbers::control_node;
 use crate::server::Server;
-use crate::tables::Tables;
-use crate::views::{Standing, State};
-use course::{Fault, end, give_up, look_nowhere};
+use crate::tables::{Tables, stepper_of};
+use crate::views::{Standing, State, View};
+use course::{Fault, Hand, end, give_up, look_nowhere};
 use fuse::{Errno, Opened, Operation, Reply};
 use heap::Heap;
-use ids::Bytes;
+use ids::{Bytes, Pid};
 use machine::Machine;
 use std::alloc::AllocError;
 
 // What is asked by what is written.
 #[derive(Clone, Copy, Debug)]
-enum Order {
+pub(crate) enum Order {
     End,
     Abort,
 }
 
 // The text without a line feed at its end.
-fn without_line_feed(text: &[u8]) -> &[u8] {
-    match text {
-        [front @ .., b'\n'] => front,
-        _ => text,
+fn word_in(text: &[u8]) -> &[u8]
+    ensures { result.now ≡ word_in text.now }
+{
+    if text.ends_with(b"\n".as_slice()) {
+        &text[..text.len() - 1]
+    } else {
+        text
     }
 }
 
-// What is asked.
-fn order_in(text: &[u8]) -> Option<Order> {
-    let word = without_line_feed(text);
+// What a word asks.
+fn order_by(word: &[u8]) -> Option<Order>
+    ensures { result ≡ order_by word.now }
+{
     if word == b"end".as_slice() {
         Some(Order::End)
     } else if word == b"abort".as_slice() {
@@ -37,8 +48,37 @@ fn order_in(text: &[u8]) -> Option<Order> {
     }
 }
 
+// How a transaction stands behind an order that was done.
+fn state_by(order: Order) -> State
+    ensures { result ≡ state_by order }
+{
+    match order {
+        Order::End => State::Committed,
+        Order::Abort => State::GivenUp,
+    }
+}
+
+// An order is done.
+fn obey_by<K: Machine>(hand: &mut Hand<K>, order: Order) -> Result<(), Fault>
+    ensures { Ran hand.old.shown (obeying hand.old.pid order) result hand.new.shown }
+{
+    match order {
+        Order::End => end(hand),
+        Order::Abort => give_up(hand),
+    }
+}
+
+// How many bytes were written, as it is told.
+fn size_of(bytes: &[u8]) -> u32
+    ensures { result ≡ min (length bytes.now) (2 ^ 32 - 1) }
+{
+    u32::try_from(bytes.len()).unwrap_or(u32::MAX)
+}
+
 // So many bytes from an offset on.
-fn part_of(text: &[u8], offset: u64, size: u32) -> &[u8] {
+fn part_of(text: &[u8], offset: u64, size: u32) -> &[u8]
+    ensures { result.now ≡ take size (drop offset text.now) }
+{
     let first = usize::try_from(offset).unwrap_or(usize::MAX);
     match text.get(first..) {
         Some(rest) => match rest.get(..size as usize) {
@@ -49,33 +89,47 @@ fn part_of(text: &[u8], offset: u64, size: u32) -> &[u8] {
     }
 }
 
-impl Tables {
-    // How a view stands.
-    fn standing(&self, view: u64) -> Result<Standing, Fault> {
-        match self.views.standing(view) {
-            Some(standing) => Ok(standing),
-            None => Err(Fault::Errno(Errno::ENOENT)),
-        }
+// What the file tells of a view.
+fn text_by(heap: Heap, view: &View) -> Result<Vec<u8, Heap>, AllocError>
+    ensures { IfOk result (λ text. text.items ≡ text_by view.now.state view.now.cause.items) }
+{
+    match view.state {
+        State::Live => Vec::from_slice(heap, b"live\n"),
+        State::Aborted => Vec::from_slice(heap, view.cause.as_slice()),
+        State::Committed => Vec::from_slice(heap, b"committed\n"),
+        State::GivenUp => Vec::from_slice(heap, b"given up\n"),
     }
+}
 
+impl Tables {
     // What the file tells.
-    fn text_of(&self, view: u64) -> Result<Vec<u8, Heap>, AllocError> {
+    fn text_of(&self, view: u64) -> Result<Vec<u8, Heap>, AllocError>
+        ensures { IfOk result (λ text. text.items ≡ text_of (numbered self.now.views.each view)) }
+    {
         match self.views.get(view) {
-            Some(view) => match view.state {
-                State::Live => Vec::from_slice(self.heap, b"live\n"),
-                State::Aborted => Vec::from_slice(self.heap, view.cause.as_slice()),
-                State::Committed => Vec::from_slice(self.heap, b"committed\n"),
-                State::GivenUp => Vec::from_slice(self.heap, b"given up\n"),
-            },
+            Some(view) => text_by(self.heap, view),
             None => Ok(Vec::new(self.heap)),
         }
     }
 
     // The bytes of the file from an offset on.
-    fn part_of_control(&self, view: u64, offset: u64, size: u32) -> Result<Reply, Fault> {
+    fn part_of_control(&self, view: u64, offset: u64, size: u32) -> Result<Reply, Fault>
+        ensures { ShowsText (numbered self.now.views.each view) offset size result }
+    {
         let text = self.text_of(view)?;
         let part = part_of(text.as_slice(), offset, size);
         Ok(Reply::Data(Bytes::copy(self.heap, part)?))
+    }
+
+    // Whose transaction is to be ended, and how.
+    fn ordered(&self, view: u64, bytes: &[u8]) -> Result<(Pid, Order), Fault>
+        ensures { result ≡ ordered self.now.views.each view bytes.now }
+    {
+        let stepper = stepper_of(&self.views, view)?;
+        match order_by(word_in(bytes)) {
+            Some(order) => Ok((stepper.pid, order)),
+            None => Err(Fault::Errno(Errno::EINVAL)),
+        }
     }
 
     // The attributes of the file.
@@ -86,62 +140,79 @@ impl Tables {
 
 impl<K: Machine> Server<K> {
     // A process whose transaction was doomed learns of it, and its view with it.
-    fn learn(&mut self, view: u64) -> Result<(), Fault> {
-        let standing = self.tables.standing(view)?;
-        if standing.state == State::Live {
-            self.hand.bind(standing.pid);
-            let reply = look_nowhere(&mut self.hand);
-            if let ids::Reply::Aborted {
-                why: _,
-                restarted: _,
-            } = &reply
-            {
-                self.note_abort();
+    fn learn(&mut self, standing: Standing)
+        ensures { Learns standing.state self.new.tables.views.each standing.number standing.pid
+            self.old.hand.shown self.new.hand.shown }
+    {
+        match standing.state {
+            State::Live => {
+                self.hand.bind(standing.pid);
+                let reply = look_nowhere(&mut self.hand);
+                if let ids::Reply::Aborted {
+                    why: _,
+                    restarted: _,
+                } = &reply
+                {
+                    self.note_abort(standing.number);
+                }
             }
+            State::Aborted | State::Committed | State::GivenUp => {}
         }
-        Ok(())
     }
 
     // Reads the file.
-    fn read_control(&mut self, view: u64, offset: u64, size: u32) -> Result<Reply, Fault> {
-        self.learn(view)?;
-        self.tables.part_of_control(view, offset, size)
+    fn read_control(&mut self, view: u64, offset: u64, size: u32) -> Result<Reply, Fault>
+        ensures { ReadsBy (standing_at self.old.tables.views.each view) self.new.tables.views.each
+            view offset size self.old.hand.shown self.new.hand.shown result }
+    {
+        match self.tables.views.standing(view) {
+            Some(standing) => {
+                self.learn(standing);
+                self.tables.part_of_control(view, offset, size)
+            }
+            None => Err(Fault::Errno(Errno::ENOENT)),
+        }
     }
 
-    // Ends the transaction.
-    fn obey(&mut self, standing: Standing, order: Order) -> Result<(), Fault> {
-        self.hand.bind(standing.pid);
-        match order {
-            Order::End => {
-                end(&mut self.hand)?;
-                self.tables.views.close(standing.number, State::Committed);
-            }
-            Order::Abort => {
-                give_up(&mut self.hand)?;
-                self.tables.views.close(standing.number, State::GivenUp);
-            }
+    // The view of a transaction has what an order came to.
+    fn note_order(&mut self, view: u64, order: Order, outcome: &Result<(), Fault>)
+        ensures hand { self.new.hand ≡ self.old.hand }
+        ensures ended { IsEnded self.new.tables.views.each view order outcome.now }
+    {
+        match outcome {
+            Ok(()) => self.tables.views.close(view, state_by(order)),
+            Err(Fault::Aborted) => self.note_abort(view),
+            Err(Fault::Errno(_)) => {}
         }
-        Ok(())
+    }
+
+    // Ends the transaction of a view.
+    fn obey(&mut self, view: u64, pid: Pid, order: Order) -> Result<(), Fault>
+        ensures ran { Ran self.old.hand.shown (obeying pid order) result self.new.hand.shown }
+        ensures ended { IsEnded self.new.tables.views.each view order result }
+    {
+        self.hand.bind(pid);
+        let outcome = obey_by(&mut self.hand, order);
+        self.note_order(view, order, &outcome);
+        outcome
     }
 
     // Writes the file.
-    fn write_control(&mut self, view: u64, bytes: &Bytes) -> Result<Reply, Fault> {
-        let standing = self.tables.standing(view)?;
-        match standing.state {
-            State::Live => {}
-            State::Aborted => return Err(Fault::Errno(Errno::ECANCELED)),
-            State::Committed | State::GivenUp => return Err(Fault::Errno(Errno::ENOENT)),
-        }
-        let Some(order) = order_in(bytes.as_slice()) else {
-            return Err(Fault::Errno(Errno::EINVAL));
-        };
-        self.obey(standing, order)?;
-        let size = u32::try_from(bytes.as_slice().len()).unwrap_or(u32::MAX);
+    fn write_control(&mut self, view: u64, bytes: &Bytes) -> Result<Reply, Fault>
+        ensures { Orders self.old.tables self.new.tables view bytes.now
+            self.old.hand.shown self.new.hand.shown result }
+    {
+        let (pid, order) = self.tables.ordered(view, bytes.as_slice())?;
+        self.obey(view, pid, order)?;
+        let size = size_of(bytes.as_slice());
         Ok(Reply::Written { size })
     }
 
     // Requests about the file.
-    pub(crate) fn in_control(&mut self, view: u64, operation: Operation) -> Result<Reply, Fault> {
+    pub(crate) fn in_control(&mut self, view: u64, operation: Operation) -> Result<Reply, Fault>
+        ensures { ServesControl self.old.tables self.new.tables view operation
+            self.old.hand.shown self.new.hand.shown result }
+    {
         match operation {
             Operation::Lookup { name: _ } => Err(Fault::Errno(Errno::ENOTDIR)),
             Operation::GetAttr { handle: _ } => Ok(self.tables.attr_of_control(view)),

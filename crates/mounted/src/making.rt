@@ -68,7 +68,7 @@ impl Tables {
         ensures files { self.new.files ≡ self.old.files }
     {
         self.attributes.create(stat.num, mode, owner);
-        self.note_names(spot.place().parent);
+        self.note_names(spot.entry().parent);
         self.entry(spot, stat)
     }
 

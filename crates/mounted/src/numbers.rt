@@ -1,7 +1,7 @@
 // The numbers of nodes that stand for no object of the kernel, and which view a root is of.
 ghost use Rattle.std.specs.Prelude.{◌≡◌};
 ghost use Rattle.mounted.specs.Found.{is_reserved};
-ghost use Rattle.mounted.specs.Numbers.{class_of, view_of};
+ghost use Rattle.mounted.specs.Numbers.{class_of, control_node, root_node, view_of};
 
 use nodes::LAST_NUMBER;
 
@@ -39,7 +39,9 @@ pub(crate) fn class_of(node: u64) -> Class
 }
 
 // The root of a view.
-pub(crate) fn root_node(view: u64) -> u64 {
+pub(crate) fn root_node(view: u64) -> u64
+    ensures { result ≡ root_node view }
+{
     if view == PLAIN {
         ROOT
     } else {
@@ -48,7 +50,9 @@ pub(crate) fn root_node(view: u64) -> u64 {
 }
 
 // The file by which a view's transaction is ended.
-pub(crate) fn control_node(view: u64) -> u64 {
+pub(crate) fn control_node(view: u64) -> u64
+    ensures { result ≡ control_node view }
+{
     root_node(view).saturating_add(1)
 }
 

@@ -130,15 +130,15 @@ impl Tables {
     fn open_first<K: Machine>(
         &mut self,
         hand: &mut Hand<K>,
-        place: Located,
+        located: Located,
         inode: Num,
         cut: bool,
     ) -> Result<Reply, Fault>
         ensures bound { bound hand.new ≡ bound hand.old }
-        ensures answers { OpensAs self.new hand.old.pid cut (First place.view place.path inode)
+        ensures answers { OpensAs self.new hand.old.pid cut (First located.view located.path inode)
             hand.old.shown hand.new.shown result }
     {
-        let Located { view, path } = place;
+        let Located { view, path } = located;
         let fd = open_cut(hand, path, inode, cut)?;
         self.note_cut(inode, cut);
         let handle = self.keep_open(hand, view, inode, fd)?;

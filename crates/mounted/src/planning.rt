@@ -1,9 +1,9 @@
-// Where requests find what they name: paths for the kernel, and places for names.
+// Where requests find what they name: paths for the kernel, and entries of directories.
 ghost use Rattle.std.specs.Prelude.{◌≡◌, ◌++◌, ◌∷◌, option_map, IfOk, Ok};
 ghost use Rattle.mounted.specs.Answers.{IsPlanned};
 ghost use Rattle.mounted.specs.Found.{located, located_child, located_new, located_own, object_of};
 ghost use Rattle.mounted.specs.Found.{own_path, path_to};
-ghost use Rattle.mounted.specs.Told.{place};
+ghost use Rattle.mounted.specs.Told.{named};
 
 use crate::numbers::is_reserved;
 use crate::tables::{Stepper, Tables};
@@ -111,9 +111,9 @@ impl Tables {
         Ok(Object { inode, path, fd })
     }
 
-    // The place of a name, with memory for its node.
+    // A name of a directory, with memory for its node.
     pub(crate) fn spot_for(&mut self, node: u64, name: &Bytes) -> Result<Spot, AllocError>
-        ensures place { IfOk result (λ spot. spot ≡ place node name.now) }
+        ensures entry { IfOk result (λ spot. spot ≡ named node name.now) }
         ensures nodes { self.new.nodes.table ≡ self.old.nodes.table }
         ensures views { self.new.views ≡ self.old.views }
         ensures files { self.new.files ≡ self.old.files }

@@ -41,8 +41,8 @@ pub(crate) fn first_process(level: u8) -> Pid
     Pid(u32::from(level) + 1)
 }
 
-// Where a process of this priority waits.
-fn place_of(idle: &[Idle], level: u8) -> Option<usize>
+// Which process of this priority waits.
+fn index_of(idle: &[Idle], level: u8) -> Option<usize>
     ensures within { IfSome result (λ i. i < length idle.now) }
 {
     idle.iter().position(|waiting| waiting.level == level)
@@ -59,8 +59,8 @@ impl Pool {
 
     // A process of this priority without descriptors that waits, if there is one.
     pub(crate) fn take(&mut self, level: u8) -> Option<Pid> {
-        let place = place_of(self.idle.as_slice(), level)?;
-        Some(self.idle.swap_remove(place).pid)
+        let index = index_of(self.idle.as_slice(), level)?;
+        Some(self.idle.swap_remove(index).pid)
     }
 
     // A process without descriptors is not needed any more. Without memory it is not used again.

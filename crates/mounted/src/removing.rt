@@ -4,7 +4,7 @@ ghost use Rattle.course.specs.Hands.{bound};
 ghost use Rattle.mounted.specs.Answers.{IsPlanned};
 ghost use Rattle.mounted.specs.Requests.{AnswersRename, AnswersRmDir, AnswersUnlink, absent_in};
 ghost use Rattle.mounted.specs.Requests.{moved, removing};
-ghost use Rattle.mounted.specs.Told.{place};
+ghost use Rattle.mounted.specs.Told.{named};
 
 use crate::making::in_one_view;
 use crate::numbers::is_reserved;
@@ -14,7 +14,7 @@ use course::{Fault, Hand};
 use fuse::{Errno, Reply};
 use ids::Bytes;
 use machine::Machine;
-use nodes::Place;
+use nodes::DirectoryEntry;
 use std::alloc::AllocError;
 
 // The flag of a move that replaces nothing.
@@ -44,14 +44,14 @@ fn absent_in(flags: u32) -> Result<bool, Fault>
 }
 
 impl Tables {
-    // The place of a name.
-    fn place_of(&self, node: u64, name: &Bytes) -> Result<Place, AllocError> {
-        Place::new(self.heap, node, name.as_slice())
+    // A name of a directory.
+    fn entry_of_name(&self, node: u64, name: &Bytes) -> Result<DirectoryEntry, AllocError> {
+        DirectoryEntry::new(self.heap, node, name.as_slice())
     }
 
     // A name was taken away.
-    fn note_removed(&mut self, node: u64, place: &Place) {
-        self.nodes.detach(place);
+    fn note_removed(&mut self, node: u64, removed: &DirectoryEntry) {
+        self.nodes.detach(removed);
         self.note_names(node);
     }
 
@@ -67,9 +67,9 @@ impl Tables {
             hand.old.shown hand.new.shown result }
     {
         let Located { view: _, path } = self.locate_new(node, name)?;
-        let place = self.place_of(node, name)?;
+        let removed = self.entry_of_name(node, name)?;
         course::unlink(hand, path)?;
-        self.note_removed(node, &place);
+        self.note_removed(node, &removed);
         Ok(Reply::Empty)
     }
 
@@ -95,9 +95,9 @@ impl Tables {
             hand.old.shown hand.new.shown result }
     {
         let Located { view: _, path } = self.plan_removal(node, name)?;
-        let place = self.place_of(node, name)?;
+        let removed = self.entry_of_name(node, name)?;
         course::remove_directory(hand, path)?;
-        self.note_removed(node, &place);
+        self.note_removed(node, &removed);
         Ok(Reply::Empty)
     }
 
@@ -135,10 +135,10 @@ impl Tables {
     {
         let (Pair { from, to }, absent) = self.plan_move(node, name, new_parent, new_name, flags)?;
         let again = copy_if(absent, &to)?;
-        let former = self.place_of(node, name)?;
+        let former = self.entry_of_name(node, name)?;
         let spot = self.spot_for(new_parent, new_name)?;
         course::move_name(hand, from, to, again)?;
-        self.nodes.move_place(&former, spot)?;
+        self.nodes.move_entry(&former, spot)?;
         self.note_names(node);
         self.note_names(new_parent);
         Ok(Reply::Empty)

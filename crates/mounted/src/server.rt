@@ -3,7 +3,8 @@ ghost use Rattle.std.specs.Prelude.{◌≡◌, ◌≤◌, ◌+◌, option_map, I
 ghost use Rattle.machine.specs.Shown.{Kept};
 ghost use Rattle.ids.specs.declared.limits.TheConstants.{LARGEST_FILE, MAX_ENTRIES};
 ghost use Rattle.mounted.specs.First.{IsFirst};
-ghost use Rattle.mounted.specs.Served.{IsChosen, IsLacking, IsLackingBy, IsReady, IsReadyBy};
+ghost use Rattle.mounted.specs.Processes.{IsLackingBy, IsReadyBy};
+ghost use Rattle.mounted.specs.Served.{IsChosen, IsLacking, IsReady};
 ghost use Rattle.mounted.specs.Served.{chosen, plain_file, process_by};
 
 use crate::numbers::PLAIN;
@@ -190,8 +191,17 @@ impl<K: Machine> Server<K> {
         }
     }
 
+    // A descriptor of a view's process is closed.
+    fn close_in(&mut self, file: &OpenFile) -> Result<(), Fault> {
+        let outcome = close(&mut self.hand, file.fd);
+        if let Err(Fault::Aborted) = &outcome {
+            self.note_abort(file.view);
+        }
+        outcome
+    }
+
     // The descriptor of a file that is not open any more is closed.
-    pub(crate) fn close_file(&mut self, file: &OpenFile) -> Result<(), Fault> {
+    fn close_file(&mut self, file: &OpenFile) -> Result<(), Fault> {
         if file.view == PLAIN {
             self.hand.bind(file.pid);
             close(&mut self.hand, file.fd)?;
@@ -202,7 +212,7 @@ impl<K: Machine> Server<K> {
             Some(standing) => {
                 if keeps_open(standing.state) && standing.pid == file.pid {
                     self.hand.bind(file.pid);
-                    close(&mut self.hand, file.fd)?;
+                    self.close_in(file)?;
                 }
                 Ok(())
             }

@@ -5,9 +5,10 @@ ghost use Rattle.history_laws.specs.Headline.{IsSerializable};
 ghost use Rattle.course.specs.Hands.{IsSince, bound};
 ghost use Rattle.mounted.specs.Numbers.{class_of};
 ghost use Rattle.mounted.specs.Requests.{IsAnswered, IsOfFiles, IsOfNames};
-ghost use Rattle.mounted.specs.Served.{IsServed, IsToldOf, ServesPlain, ServesTree, is_of_tree, told};
+ghost use Rattle.mounted.specs.Served.{IsNoted, IsServed, IsToldOf, ServesAt, ServesPlain, ServesTree};
+ghost use Rattle.mounted.specs.Served.{ServesView, is_of_node, told};
 ghost use Rattle.mounted.specs.Steppers.{StaysInView, is_release};
-ghost use Rattle.mounted.specs.declared.numbers.Class.TheVariants.{Tree as InTree};
+ghost use Rattle.mounted.specs.Views.{IsOver};
 
 use crate::attributes::Owner;
 use crate::numbers::{Class, PLAIN, class_of};
@@ -19,7 +20,7 @@ use course::{Fault, Hand};
 use device::Halting;
 use fuse::{Errno, Forgets, Operation, Reply, Request};
 use heap::Heap;
-use ids::{Entry, Pid};
+use ids::Entry;
 use machine::Machine;
 use transcript::print_line;
 
@@ -37,7 +38,7 @@ const CAUSE_LIMIT: usize = 4_096;
 fn behind_arrow(line: &[u8]) -> &[u8] {
     let arrow = line.windows(4).position(|four| four == b" -> ".as_slice());
     match arrow {
-        Some(place) => line.get(place.saturating_add(4)..).unwrap_or(line),
+        Some(index) => line.get(index.saturating_add(4)..).unwrap_or(line),
         None => line,
     }
 }
@@ -53,19 +54,31 @@ fn line_of(heap: Heap, entry: &Entry) -> Halting {
     sink
 }
 
+// What is answered to an outcome.
+fn reply_of(outcome: Result<Reply, Fault>) -> Reply
+    ensures { result ≡ told outcome }
+{
+    match outcome {
+        Ok(reply) => reply,
+        Err(Fault::Errno(errno)) => Reply::Error(errno),
+        Err(Fault::Aborted) => Reply::Error(Errno::ECANCELED),
+    }
+}
+
 impl<K: Machine> Server<K> {
     /// What is answered to a request; None where no answer is due. The kernel's history stays legal,
     /// and strictly serializable. For a request about a node below a view only the process of its
     /// transaction steps, while that goes on, and nothing is done where it does not. A request about a
-    /// node of a tree becomes the course of its operation, and the reply tells what that came to.
+    /// node becomes the course of its operation, and the reply tells what that came to; after an abort
+    /// nobody steps in the view any more.
     pub fn serve(&mut self, request: Request) -> Option<Reply>
         ensures kept { Kept self.new.hand.shown }
         ensures serial { let s = self.new.hand.shown in
             IsSerializable 0 (setup_of s.log) (limit_of s.log) s.log.entries s.state }
         ensures in_view { is_release request.operation ≡ false
-            → StaysInView self.old.tables.nodes.table self.old.tables.views.each.items request.node
+            → StaysInView self.old.tables.nodes.table self.old.tables.views.each request.node
             self.old.hand.shown.log.entries self.new.hand.shown.log.entries }
-        ensures told { is_of_tree request.operation ≡ true → class_of request.node ≡ InTree
+        ensures told { is_of_node request.operation ≡ true
             → IsServed self.old.tables self.new.tables request.node request.operation
             self.old.hand.shown self.new.hand.shown result }
     {
@@ -92,9 +105,9 @@ impl<K: Machine> Server<K> {
     // The requests that have no answer, and the others.
     fn answer(&mut self, caller: Caller, operation: Operation) -> Option<Reply>
         ensures in_view { is_release operation ≡ false
-            → StaysInView self.old.tables.nodes.table self.old.tables.views.each.items caller.node
+            → StaysInView self.old.tables.nodes.table self.old.tables.views.each caller.node
             self.old.hand.shown.log.entries self.new.hand.shown.log.entries }
-        ensures told { is_of_tree operation ≡ true → class_of caller.node ≡ InTree
+        ensures told { is_of_node operation ≡ true
             → IsToldOf self.old.tables self.new.tables caller.node operation
             self.old.hand.shown self.new.hand.shown result }
     {
@@ -110,7 +123,7 @@ impl<K: Machine> Server<K> {
             Operation::Interrupt { unique: _ } => None,
             operation => {
                 let outcome = self.outcome(caller, operation);
-                Some(self.reply_of(outcome))
+                Some(reply_of(outcome))
             }
         }
     }
@@ -123,52 +136,35 @@ impl<K: Machine> Server<K> {
         }
     }
 
-    // What is answered to an outcome. Of an abort the view of the process is told.
-    fn reply_of(&mut self, outcome: Result<Reply, Fault>) -> Reply
-        ensures reply { result ≡ told outcome }
-        ensures hand { self.new.hand ≡ self.old.hand }
-        ensures tables { self.new.tables
-            ≡ record self.old.tables { views = self.new.tables.views } }
-    {
-        match outcome {
-            Ok(reply) => reply,
-            Err(Fault::Errno(errno)) => Reply::Error(errno),
-            Err(Fault::Aborted) => {
-                self.note_abort();
-                Reply::Error(Errno::ECANCELED)
-            }
-        }
-    }
-
     // The line of the last entry.
     fn last_line(&self) -> Option<Halting> {
         let entry = self.hand.history().entries().last()?;
         Some(line_of(self.tables.heap, entry))
     }
 
-    // The last step aborted the transaction of its process: the view has the cause.
-    pub(crate) fn note_abort(&mut self)
+    // The last step aborted the transaction of a view, which has the cause from then on.
+    pub(crate) fn note_abort(&mut self, view: u64)
         ensures hand { self.new.hand ≡ self.old.hand }
         ensures tables { self.new.tables
             ≡ record self.old.tables { views = self.new.tables.views } }
+        ensures over { IsOver self.new.tables.views.each view }
     {
-        let pid = self.hand.pid();
         match self.last_line() {
             Some(line) => self
                 .tables
                 .views
-                .abort(pid, behind_arrow(line.bytes.as_slice())),
-            None => self.tables.views.abort(pid, b"aborted\n"),
+                .abort(view, behind_arrow(line.bytes.as_slice())),
+            None => self.tables.views.abort(view, b"aborted\n"),
         }
     }
 
     // What comes of a request that is answered.
     fn outcome(&mut self, caller: Caller, operation: Operation) -> Result<Reply, Fault>
         ensures in_view { is_release operation ≡ false
-            → StaysInView self.old.tables.nodes.table self.old.tables.views.each.items caller.node
+            → StaysInView self.old.tables.nodes.table self.old.tables.views.each caller.node
             self.old.hand.shown.log.entries self.new.hand.shown.log.entries }
-        ensures tree { is_of_tree operation ≡ true → class_of caller.node ≡ InTree
-            → ServesTree self.old.tables self.new.tables caller.node operation
+        ensures node { is_of_node operation ≡ true
+            → ServesAt (class_of caller.node) self.old.tables self.new.tables caller.node operation
             self.old.hand.shown self.new.hand.shown result }
     {
         match operation {
@@ -191,18 +187,36 @@ impl<K: Machine> Server<K> {
         }
     }
 
-    // Requests about a node below a view: the process of its transaction serves them.
-    fn in_view(&mut self, pid: Pid, caller: Caller, operation: Operation) -> Result<Reply, Fault>
-        ensures since { IsSince pid
+    // Requests about a node below a view: the process of its transaction serves them. After an abort
+    // nobody steps there any more.
+    fn in_view(
+        &mut self,
+        stepper: Stepper,
+        caller: Caller,
+        operation: Operation,
+    ) -> Result<Reply, Fault>
+        ensures since { IsSince stepper.pid
             self.old.hand.shown.log.entries self.new.hand.shown.log.entries }
-        ensures answers { IsAnswered self.old.tables self.new.tables pid caller.node operation
-            self.old.hand.shown self.new.hand.shown result }
+        ensures serves { ServesView self.old.tables self.new.tables stepper.view stepper.pid
+            caller.node operation self.old.hand.shown self.new.hand.shown result }
     {
-        self.hand.bind(pid);
+        self.hand.bind(stepper.pid);
         let outcome = self.tables.of_nodes(&mut self.hand, caller, operation);
         // For the proof: since then all entries are of the process.
         let _history = self.hand.history();
+        self.note_outcome(stepper.view, &outcome);
         outcome
+    }
+
+    // The view of a transaction has what a request came to.
+    fn note_outcome(&mut self, view: u64, outcome: &Result<Reply, Fault>)
+        ensures hand { self.new.hand ≡ self.old.hand }
+        ensures noted { IsNoted self.old.tables self.new.tables view outcome.now }
+    {
+        match outcome {
+            Ok(_) | Err(Fault::Errno(_)) => {}
+            Err(Fault::Aborted) => self.note_abort(view),
+        }
     }
 
     // Requests about a node of the plain tree: one process serves each.
@@ -218,16 +232,16 @@ impl<K: Machine> Server<K> {
     // Requests about a node of a tree.
     fn in_tree(&mut self, caller: Caller, operation: Operation) -> Result<Reply, Fault>
         ensures in_view { StaysInView
-            self.old.tables.nodes.table self.old.tables.views.each.items caller.node
+            self.old.tables.nodes.table self.old.tables.views.each caller.node
             self.old.hand.shown.log.entries self.new.hand.shown.log.entries }
         ensures tree { ServesTree self.old.tables self.new.tables caller.node operation
             self.old.hand.shown self.new.hand.shown result }
     {
-        let Stepper { view, pid } = self.tables.stepper_at(caller.node)?;
-        if view == PLAIN {
+        let stepper = self.tables.stepper_at(caller.node)?;
+        if stepper.view == PLAIN {
             self.in_plain(caller, operation)
         } else {
-            self.in_view(pid, caller, operation)
+            self.in_view(stepper, caller, operation)
         }
     }
 }

@@ -1,8 +1,9 @@
 // What is known of a mounted tree beside its kernel, and where its nodes are.
 ghost use Rattle.std.specs.Prelude.{◌≡◌, IfOk};
 ghost use Rattle.mounted.specs.Found.{fd_of, file_by, handle_of, inode_of, path_to, stepper_at};
-ghost use Rattle.mounted.specs.Found.{stepper_by, stepper_in};
+ghost use Rattle.mounted.specs.Found.{stepper_by, stepper_in, stepper_of};
 ghost use Rattle.mounted.specs.Served.{plain_file};
+ghost use Rattle.mounted.specs.Views.{numbered};
 
 use crate::attributes::AttributeTable;
 use crate::folders::Folders;
@@ -62,9 +63,19 @@ fn stepper_by(view: u64, pid: Pid, state: State) -> Result<Stepper, Fault>
     }
 }
 
+// The process of a view of a transaction.
+pub(crate) fn stepper_of(views: &Views, view: u64) -> Result<Stepper, Fault>
+    ensures { result ≡ stepper_of view (numbered views.now.each view) }
+{
+    match views.get(view) {
+        Some(found) => stepper_by(view, found.pid, found.state),
+        None => Err(Fault::Errno(Errno::ENOENT)),
+    }
+}
+
 // The process of a view, or the first one for the plain tree.
 fn stepper_in(views: &Views, view: u64) -> Result<Stepper, Fault>
-    ensures { result ≡ stepper_in views.now.each.items view }
+    ensures { result ≡ stepper_in views.now.each view }
 {
     if view == PLAIN {
         return Ok(Stepper {
@@ -72,10 +83,7 @@ fn stepper_in(views: &Views, view: u64) -> Result<Stepper, Fault>
             pid: first_process(0),
         });
     }
-    match views.get(view) {
-        Some(found) => stepper_by(view, found.pid, found.state),
-        None => Err(Fault::Errno(Errno::ENOENT)),
-    }
+    stepper_of(views, view)
 }
 
 impl Tables {

@@ -1,10 +1,11 @@
 // The transactions that are mounted.
-ghost use Rattle.std.specs.Prelude.{◌≡◌, ◌<◌, length, IfSome, option_copied};
-ghost use Rattle.mounted.specs.Found.{numbered};
+ghost use Rattle.std.specs.Prelude.{◌≡◌, IfOk, IfSome, None, Some, option_copied};
+ghost use Rattle.mounted.specs.Views.{IsOver, IsView, number_in, numbered, over, standing_at};
 
 use heap::Heap;
-use ids::{Name, Pid};
+use ids::Pid;
 use std::alloc::AllocError;
+use std::collections::BTreeMap;
 
 // How a transaction stands.
 #[derive(Clone, Copy, Debug, PartialEq, Eq)]
@@ -21,10 +22,6 @@ pub(crate) enum State {
 
 // A transaction, and the tree as it sees it.
 pub(crate) struct View {
-    // Its number, from 1.
-    pub(crate) number: u64,
-    // Its name in the directory of transactions.
-    pub(crate) name: Name,
     // The process that steps in it, and the priority of that.
     pub(crate) pid: Pid,
     pub(crate) level: u8,
@@ -37,8 +34,6 @@ pub(crate) struct View {
 impl Drop for View {
     fn drop(self) {
         let View {
-            number: _,
-            name: _,
             pid: _,
             level: _,
             state: _,
@@ -47,7 +42,20 @@ impl Drop for View {
     }
 }
 
-// What is known of a view besides its name.
+impl View {
+    // The transaction was aborted, if it went on, for this cause. Where memory is refused the cause
+    // is not kept.
+    fn abort(&mut self, cause: &[u8])
+        ensures { self.new.state ≡ over self.old.state }
+    {
+        if self.state == State::Live {
+            self.state = State::Aborted;
+            let _kept = self.cause.extend_from_slice(cause);
+        }
+    }
+}
+
+// What is known of a view.
 #[derive(Clone, Copy, Debug)]
 pub(crate) struct Standing {
     pub(crate) number: u64,
@@ -56,10 +64,12 @@ pub(crate) struct Standing {
     pub(crate) state: State,
 }
 
-// All of them.
+// All of them, by their numbers, from 1, and the numbers by their names in the directory of
+// transactions.
 pub(crate) struct Views {
     heap: Heap,
-    each: Vec<View, Heap>,
+    each: BTreeMap<u64, View, Heap>,
+    numbers: BTreeMap<Vec<u8, Heap>, u64, Heap>,
     next: u64,
 }
 
@@ -69,23 +79,9 @@ impl Drop for Views {
         let Views {
             heap: _,
             each: _,
+            numbers: _,
             next: _,
         } = self;
-    }
-}
-
-fn place_of(views: &[View], number: u64) -> Option<usize>
-    ensures within { IfSome result (λ i. i < length views.now) }
-{
-    views.iter().position(|view| view.number == number)
-}
-
-fn standing_of(view: &View) -> Standing {
-    Standing {
-        number: view.number,
-        pid: view.pid,
-        level: view.level,
-        state: view.state,
     }
 }
 
@@ -93,78 +89,99 @@ impl Views {
     pub(crate) fn new(heap: Heap) -> Views {
         Views {
             heap,
-            each: Vec::new(heap),
+            each: BTreeMap::new(heap),
+            numbers: BTreeMap::new(heap),
             next: 1,
         }
     }
 
-    // All of them, in the order in which they began.
-    pub(crate) fn as_slice(&self) -> &[View] {
-        self.each.as_slice()
+    // The names of all of them, in byte order, with their numbers.
+    pub(crate) fn numbers(&self) -> &BTreeMap<Vec<u8, Heap>, u64, Heap> {
+        &self.numbers
     }
 
     // The view of a number.
     pub(crate) fn get(&self, number: u64) -> Option<&View>
-        ensures { option_copied result ≡ numbered self.now.each.items number }
+        ensures { option_copied result ≡ numbered self.now.each number }
     {
-        self.each.iter().find(|view| view.number == number)
+        self.each.get(&number)
     }
 
     // How the view of a number stands.
-    pub(crate) fn standing(&self, number: u64) -> Option<Standing> {
+    pub(crate) fn standing(&self, number: u64) -> Option<Standing>
+        ensures { result ≡ standing_at self.now.each number }
+    {
         match self.get(number) {
-            Some(view) => Some(standing_of(view)),
+            Some(view) => Some(Standing {
+                number,
+                pid: view.pid,
+                level: view.level,
+                state: view.state,
+            }),
             None => None,
         }
     }
 
-    // How the view of a name stands.
-    pub(crate) fn named(&self, name: &[u8]) -> Option<Standing> {
-        match self.each.iter().find(|view| view.name.as_slice() == name) {
-            Some(view) => Some(standing_of(view)),
-            None => None,
-        }
+    // The number of the view of a name.
+    pub(crate) fn named(&self, name: &[u8]) -> Option<u64>
+        ensures { result ≡ number_in self.now name.now }
+    {
+        self.numbers.get(name).copied()
     }
 
-    // A transaction has begun. It gives the view's number.
-    pub(crate) fn add(&mut self, name: Name, pid: Pid, level: u8) -> Result<u64, AllocError> {
+    // A transaction has begun. It gives the view's number. Refused memory changes nothing.
+    pub(crate) fn add(
+        &mut self,
+        name: Vec<u8, Heap>,
+        pid: Pid,
+        level: u8,
+    ) -> Result<u64, AllocError>
+        ensures { IfOk result (λ number. IsView self.new number name.entry.items pid) }
+    {
         let number = self.next;
-        let cause = Vec::new(self.heap);
-        self.each.push(View {
-            number,
-            name,
+        let view = View {
             pid,
             level,
             state: State::Live,
-            cause,
-        })?;
-        self.next = number.saturating_add(1);
-        Ok(number)
+            cause: Vec::new(self.heap),
+        };
+        let _former = self.each.insert(number, view)?;
+        match self.numbers.insert(name, number) {
+            Ok(_former) => {
+                self.next = number.saturating_add(1);
+                Ok(number)
+            }
+            Err(_refused) => {
+                let _view = self.each.remove(&number);
+                Err(AllocError)
+            }
+        }
     }
 
-    // A view is taken away.
-    pub(crate) fn remove(&mut self, number: u64) {
-        if let Some(place) = place_of(self.each.as_slice(), number) {
-            drop(self.each.remove(place));
+    // The view of this name is taken away.
+    pub(crate) fn remove(&mut self, name: &[u8])
+        ensures { number_in self.new name.now ≡ None }
+    {
+        if let Some(number) = self.numbers.remove(name) {
+            let _view = self.each.remove(&number);
         }
     }
 
     // A transaction is over.
-    pub(crate) fn close(&mut self, number: u64, state: State) {
-        for view in self.each.iter_mut() {
-            if view.number == number {
-                view.state = state;
-            }
+    pub(crate) fn close(&mut self, number: u64, state: State)
+        ensures { IfSome (numbered self.new.each number) (λ view. view.state ≡ state) }
+    {
+        if let Some(view) = self.each.get_mut(&number) {
+            view.state = state;
         }
     }
 
-    // The transaction of a process was aborted, for this cause.
-    pub(crate) fn abort(&mut self, pid: Pid, cause: &[u8]) {
-        for view in self.each.iter_mut() {
-            if view.pid == pid && view.state == State::Live {
-                view.state = State::Aborted;
-                let _told = view.cause.extend_from_slice(cause);
-            }
+    // A transaction was aborted, for this cause.
+    pub(crate) fn abort(&mut self, number: u64, cause: &[u8])
+        ensures { IsOver self.new.each number }
+    {
+        if let Some(view) = self.each.get_mut(&number) {
+            view.abort(cause);
         }
     }
 }

@@ -31,27 +31,27 @@ abbrev if_attached : Bool → Option Way → Option Way
 if_attached b way = if b then way else None
 
 -- a node that is not attached
-pub lost : (t : Table) (most number : ℕ) (node : Node) → (most ≡ 0 → ⊥) → map.get t.nodes number ≡ Some node → is_attached t number node ≡ false → way_to t most number ≡ None
-lost t most number node some is off =
+pub unattached : (t : Table) (most number : ℕ) (node : Node) → (most ≡ 0 → ⊥) → map.get t.nodes number ≡ Some node → is_attached t number node ≡ false → way_to t most number ≡ None
+unattached t most number node some is off =
     by_node t most number (Some node) some is
-    ∙ ap (λ (b : Bool). if_attached b (option_map (with_name node.place.name) (way_to t (most - 1) node.place.parent))) off
+    ∙ ap (λ (b : Bool). if_attached b (option_map (with_name node.entry.name) (way_to t (most - 1) node.entry.parent))) off
 
-on_way : (t : Table) (most number : ℕ) (node : Node) → (most ≡ 0 → ⊥) → map.get t.nodes number ≡ Some node → is_attached t number node ≡ true → way_to t most number ≡ option_map (with_name node.place.name) (way_to t (most - 1) node.place.parent)
+on_way : (t : Table) (most number : ℕ) (node : Node) → (most ≡ 0 → ⊥) → map.get t.nodes number ≡ Some node → is_attached t number node ≡ true → way_to t most number ≡ option_map (with_name node.entry.name) (way_to t (most - 1) node.entry.parent)
 on_way t most number node some is on =
     by_node t most number (Some node) some is
-    ∙ ap (λ (b : Bool). if_attached b (option_map (with_name node.place.name) (way_to t (most - 1) node.place.parent))) on
+    ∙ ap (λ (b : Bool). if_attached b (option_map (with_name node.entry.name) (way_to t (most - 1) node.entry.parent))) on
 
 -- no way to the parent
-pub lost_above : (t : Table) (most number : ℕ) (node : Node) → (most ≡ 0 → ⊥) → map.get t.nodes number ≡ Some node → is_attached t number node ≡ true → way_to t (most - 1) node.place.parent ≡ None → way_to t most number ≡ None
-lost_above t most number node some is on none = on_way t most number node some is on ∙ ap (option_map (with_name node.place.name)) none
+pub unattached_above : (t : Table) (most number : ℕ) (node : Node) → (most ≡ 0 → ⊥) → map.get t.nodes number ≡ Some node → is_attached t number node ≡ true → way_to t (most - 1) node.entry.parent ≡ None → way_to t most number ≡ None
+unattached_above t most number node some is on none = on_way t most number node some is on ∙ ap (option_map (with_name node.entry.name)) none
 
 -- one name further
 pub further : (t : Table) (most number root : ℕ) (node : Node) (before mid after : List ℕ) → (most ≡ 0 → ⊥) → map.get t.nodes number ≡ Some node → is_attached t number node ≡ true
-    → IsAdded (way_to t (most - 1) node.place.parent) before (Some root) mid → after ≡ (mid ++ 47 ∷ []) ++ node.place.name → IsAdded (way_to t most number) before (Some root) after
+    → IsAdded (way_to t (most - 1) node.entry.parent) before (Some root) mid → after ≡ (mid ++ 47 ∷ []) ++ node.entry.name → IsAdded (way_to t most number) before (Some root) after
 further t most number root node before mid after some is on above put = (
-  above.0 ++ 47 ∷ node.place.name,
-  on_way t most number node some is on ∙ ap (option_map (with_name node.place.name)) above.1,
-  put ∙ append_assoc mid (47 ∷ []) node.place.name ∙ ap (λ (bytes : List ℕ). bytes ++ 47 ∷ node.place.name) above.2 ∙ append_assoc before above.0 (47 ∷ node.place.name),
+  above.0 ++ 47 ∷ node.entry.name,
+  on_way t most number node some is on ∙ ap (option_map (with_name node.entry.name)) above.1,
+  put ∙ append_assoc mid (47 ∷ []) node.entry.name ∙ ap (λ (bytes : List ℕ). bytes ++ 47 ∷ node.entry.name) above.2 ∙ append_assoc before above.0 (47 ∷ node.entry.name),
 )
 
 -- no path

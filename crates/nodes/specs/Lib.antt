@@ -1,4 +1,4 @@
-pub mod Places
+pub mod DirectoryEntries
 pub mod Tables
 pub mod Parts
 pub mod Paths

@@ -4,18 +4,18 @@ use Rattle.std.specs.Coded.{Coded, code_by, coded×, coded_ℕ}
 use Rattle.std.specs.HashMap.{HashMap}
 use Rattle.std.specs.Ordering.{nat_cmp}
 use Rattle.model.specs.FiniteMap as map
-use Rattle.nodes.specs.Places.{place_cmp, coded_place}
+use Rattle.nodes.specs.DirectoryEntries.{entry_cmp, coded_entry}
 use Rattle.nodes.specs.Tables.{Table, coded_node, table_code}
 use Rattle.nodes.specs.declared.node.Node.{Node}
 
--- the index, and for how many more places there is room
+-- the index, and for how many more entries there is room
 pub record Numbered : Type 0 where
-  pub numbers : map.FinMap place_cmp ℕ
+  pub numbers : map.FinMap entry_cmp ℕ
   pub room : ℕ
 
 abbrev pub numbered_code : Coded Numbered
-numbered_code = code_by (map.FinMap place_cmp ℕ × ℕ)
-    (coded× (map.code coded_place coded_ℕ) coded_ℕ)
+numbered_code = code_by (map.FinMap entry_cmp ℕ × ℕ)
+    (coded× (map.code coded_entry coded_ℕ) coded_ℕ)
     (λ i. (i.numbers, i.room)) (λ q. record { numbers = q.0; room = q.1 }) (λ _. refl)
 
 -- the nodes of a table

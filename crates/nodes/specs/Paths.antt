@@ -17,7 +17,7 @@ with_name name way = (way.0, way.1 ++ 47 ∷ name)
 abbrev pub way_by : Table → ℕ → Option Node → (ℕ → Option Way) → Option Way
 way_by t number None up = Some (number, [])
 way_by t number (Some node) up =
-    if is_attached t number node then option_map (with_name node.place.name) (up node.place.parent)
+    if is_attached t number node then option_map (with_name node.entry.name) (up node.entry.parent)
     else None
 
 -- through at most so many names

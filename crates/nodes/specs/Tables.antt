@@ -4,25 +4,25 @@ use Rattle.std.specs.Prelude.{Option, Some, None, if◌then◌else◌}
 use Rattle.std.specs.Coded.{Coded, code_by, coded×, coded_ℕ}
 use Rattle.std.specs.Ordering.{nat_cmp}
 use Rattle.model.specs.FiniteMap as map
-use Rattle.nodes.specs.Places.{place_cmp, coded_place}
+use Rattle.nodes.specs.DirectoryEntries.{entry_cmp, coded_entry}
 use Rattle.nodes.specs.declared.node.Node.{Node}
-use Rattle.nodes.specs.declared.place.Place.{Place}
+use Rattle.nodes.specs.declared.directory_entry.DirectoryEntry.{DirectoryEntry}
 
--- The node of each number, the number to which each place leads, and the number that is next. No
--- rule ties the two maps together: what a place leads to is what the second one says.
+-- The node of each number, the number to which each entry leads, and the number that is next. No
+-- rule ties the two maps together: what an entry leads to is what the second one says.
 pub record Table : Type 0 where
   pub nodes : map.FinMap nat_cmp Node
-  pub numbers : map.FinMap place_cmp ℕ
+  pub numbers : map.FinMap entry_cmp ℕ
   pub next : ℕ
 
 abbrev pub coded_node : Coded Node
-coded_node = code_by (Place × (ℕ × (ℕ × ℕ))) (coded× coded_place (coded× coded_ℕ (coded× coded_ℕ coded_ℕ)))
-    (λ n. (n.place, (n.root, (n.inode, n.lookups))))
-    (λ q. record { place = q.0; root = q.1.0; inode = q.1.1.0; lookups = q.1.1.1 }) (λ _. refl)
+coded_node = code_by (DirectoryEntry × (ℕ × (ℕ × ℕ))) (coded× coded_entry (coded× coded_ℕ (coded× coded_ℕ coded_ℕ)))
+    (λ n. (n.entry, (n.root, (n.inode, n.lookups))))
+    (λ q. record { entry = q.0; root = q.1.0; inode = q.1.1.0; lookups = q.1.1.1 }) (λ _. refl)
 
 abbrev pub table_code : Coded Table
-table_code = code_by (map.FinMap nat_cmp Node × (map.FinMap place_cmp ℕ × ℕ))
-    (coded× (map.code coded_ℕ coded_node) (coded× (map.code coded_place coded_ℕ) coded_ℕ))
+table_code = code_by (map.FinMap nat_cmp Node × (map.FinMap entry_cmp ℕ × ℕ))
+    (coded× (map.code coded_ℕ coded_node) (coded× (map.code coded_entry coded_ℕ) coded_ℕ))
     (λ t. (t.nodes, (t.numbers, t.next)))
     (λ q. record { nodes = q.0; numbers = q.1.0; next = q.1.1 }) (λ _. refl)
 
@@ -44,10 +44,10 @@ lessened number count None nodes = nodes
 lessened number count (Some node) nodes =
     map.insert nodes number (record node { lookups = node.lookups - count })
 
--- or it has another place
-abbrev pub placed : ℕ → Place → Option Node → map.FinMap nat_cmp Node → map.FinMap nat_cmp Node
-placed number place None nodes = nodes
-placed number place (Some node) nodes = map.insert nodes number (record node { place = place })
+-- or it has another entry
+abbrev pub with_entry : ℕ → DirectoryEntry → Option Node → map.FinMap nat_cmp Node → map.FinMap nat_cmp Node
+with_entry number entry None nodes = nodes
+with_entry number entry (Some node) nodes = map.insert nodes number (record node { entry = entry })
 
 -- ---- attached
 
@@ -56,11 +56,11 @@ abbrev pub is_this : ℕ → Option ℕ → Bool
 is_this number (Some found) = found == number
 is_this number None = false
 
--- a node is attached where its place leads to it
+-- a node is attached where its entry leads to it
 abbrev pub is_attached : Table → ℕ → Node → Bool
-is_attached t number node = is_this number (map.get t.numbers node.place)
+is_attached t number node = is_this number (map.get t.numbers node.entry)
 
--- the root below which a place stands: that of its directory, which is a root where it is no node
+-- the root below which an entry stands: that of its directory, which is a root where it is no node
 abbrev pub root_by : ℕ → Option Node → ℕ
 root_by number (Some node) = node.root
 root_by number None = number
@@ -79,58 +79,58 @@ abbrev pub if_known : Table → ℕ → Option ℕ → Option ℕ
 if_known t inode (Some number) = if_of inode number (map.get t.nodes number)
 if_known t inode None = None
 
--- the number to which a place leads, where that stands for this object
-abbrev pub known : Table → Place → ℕ → Option ℕ
-known t place inode = if_known t inode (map.get t.numbers place)
+-- the number to which an entry leads, where that stands for this object
+abbrev pub known : Table → DirectoryEntry → ℕ → Option ℕ
+known t entry inode = if_known t inode (map.get t.numbers entry)
 
 -- the number that a look-up gives: a known one, or the next
 abbrev pub number_by : Table → Option ℕ → ℕ
 number_by t (Some number) = number
 number_by t None = t.next
 
-abbrev pub number_for : Table → Place → ℕ → ℕ
-number_for t place inode = number_by t (known t place inode)
+abbrev pub number_for : Table → DirectoryEntry → ℕ → ℕ
+number_for t entry inode = number_by t (known t entry inode)
 
--- a new node, to which its place leads from now on
-abbrev pub added : Table → Place → ℕ → Table
-added t place inode = record {
+-- a new node, to which its entry leads from now on
+abbrev pub added : Table → DirectoryEntry → ℕ → Table
+added t entry inode = record {
   nodes = map.insert t.nodes t.next (record {
-    place = place;
-    root = root_of t place.parent;
+    entry = entry;
+    root = root_of t entry.parent;
     inode = inode;
     lookups = 1;
   });
-  numbers = map.insert t.numbers place t.next;
+  numbers = map.insert t.numbers entry t.next;
   next = t.next + 1;
 }
 
-abbrev pub looked_up_as : Table → Place → ℕ → Option ℕ → Table
-looked_up_as t place inode (Some number) =
+abbrev pub looked_up_as : Table → DirectoryEntry → ℕ → Option ℕ → Table
+looked_up_as t entry inode (Some number) =
     record t { nodes = counted number (map.get t.nodes number) t.nodes }
-looked_up_as t place inode None = added t place inode
+looked_up_as t entry inode None = added t entry inode
 
--- after a look-up of a place that gave this object
-abbrev pub looked_up : Table → Place → ℕ → Table
-looked_up t place inode = looked_up_as t place inode (known t place inode)
+-- after a look-up of an entry that gave this object
+abbrev pub looked_up : Table → DirectoryEntry → ℕ → Table
+looked_up t entry inode = looked_up_as t entry inode (known t entry inode)
 
 -- ---- forgetting
 
--- the index without a place, where that leads to this number
-abbrev pub without : ℕ → Place → map.FinMap place_cmp ℕ → map.FinMap place_cmp ℕ
-without number place numbers =
-    if is_this number (map.get numbers place) then map.remove numbers place else numbers
+-- the index without an entry, where that leads to this number
+abbrev pub without : ℕ → DirectoryEntry → map.FinMap entry_cmp ℕ → map.FinMap entry_cmp ℕ
+without number entry numbers =
+    if is_this number (map.get numbers entry) then map.remove numbers entry else numbers
 
-abbrev pub unlinked : ℕ → Option Node → map.FinMap place_cmp ℕ → map.FinMap place_cmp ℕ
-unlinked number (Some node) numbers = without number node.place numbers
+abbrev pub unlinked : ℕ → Option Node → map.FinMap entry_cmp ℕ → map.FinMap entry_cmp ℕ
+unlinked number (Some node) numbers = without number node.entry numbers
 unlinked number None numbers = numbers
 
 abbrev pub gone : Table → ℕ → Node → Table
 gone t number node = record t {
   nodes = map.remove t.nodes number;
-  numbers = without number node.place t.numbers;
+  numbers = without number node.entry t.numbers;
 }
 
--- A node goes with its last look-up, and its place leads nowhere then, if it led to it.
+-- A node goes with its last look-up, and its entry leads nowhere then, if it led to it.
 abbrev pub forgotten_by : Table → ℕ → ℕ → Option Node → Table
 forgotten_by t number count None = t
 forgotten_by t number count (Some node) =
@@ -143,16 +143,16 @@ forgotten t number count = forgotten_by t number count (map.get t.nodes number)
 -- ---- names that go and move
 
 -- a name was taken away
-abbrev pub detached : Table → Place → Table
-detached t place = record t { numbers = map.remove t.numbers place }
+abbrev pub detached : Table → DirectoryEntry → Table
+detached t entry = record t { numbers = map.remove t.numbers entry }
 
 -- a name was moved, and what the other name led to before is attached no more
-abbrev pub moved_by : Table → Place → Place → Option ℕ → Table
+abbrev pub moved_by : Table → DirectoryEntry → DirectoryEntry → Option ℕ → Table
 moved_by t from to (Some number) = record t {
-  nodes = placed number to (map.get t.nodes number) t.nodes;
+  nodes = with_entry number to (map.get t.nodes number) t.nodes;
   numbers = map.insert (map.remove t.numbers from) to number;
 }
 moved_by t from to None = detached t to
 
-abbrev pub moved : Table → Place → Place → Table
+abbrev pub moved : Table → DirectoryEntry → DirectoryEntry → Table
 moved t from to = moved_by t from to (map.get t.numbers from)

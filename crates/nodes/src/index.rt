@@ -1,18 +1,18 @@
-// Which number each place leads to.
+// Which number each entry leads to.
 ghost use Rattle.std.specs.Prelude.{◌≡◌, ◌+◌, ◌≤◌, ◌<◌, IsOk, OnErr, OnOk};
 ghost use Rattle.model.specs.FiniteMap as map;
 
-use crate::place::Place;
+use crate::directory_entry::DirectoryEntry;
 use heap::Heap;
 use std::alloc::AllocError;
 use std::collections::HashMap;
 use std::hash::{BuildHasherDefault, FoldHasher};
 use std::marker::Model;
 
-// Numbers under their places, found by a hash whose seed is fixed.
-type Numbers = HashMap<Place, u64, BuildHasherDefault<FoldHasher>, Heap>;
+// Numbers under their entries, found by a hash whose seed is fixed.
+type Numbers = HashMap<DirectoryEntry, u64, BuildHasherDefault<FoldHasher>, Heap>;
 
-/// Which number each place leads to. Contracts also see for how many more there is room.
+/// Which number each entry leads to. Contracts also see for how many more there is room.
 pub(crate) struct Index {
     numbers: Numbers,
 }
@@ -27,7 +27,7 @@ impl Drop for Index {
 impl Model for Index {
     ghost use Rattle.std.specs.HashMap.{spare};
     ghost use Rattle.model.specs.FiniteMap as map;
-    ghost use Rattle.nodes.specs.Places.{place_cmp};
+    ghost use Rattle.nodes.specs.DirectoryEntries.{entry_cmp};
     ghost use Rattle.nodes.specs.Parts.{Numbered, numbered_code};
 
     ghost Value = { Numbered };
@@ -35,13 +35,13 @@ impl Model for Index {
     ghost coded = { numbered_code };
 
     ghost view = { λ i. record {
-      numbers = map.from_entries {R = place_cmp} i.numbers.entries;
+      numbers = map.from_entries {R = entry_cmp} i.numbers.entries;
       room = spare i.numbers;
     } };
 }
 
 impl Index {
-    // No place. It takes no memory.
+    // No entry. It takes no memory.
     pub(crate) fn new(heap: Heap) -> Index
         ensures { result.numbers ≡ map.empty }
     {
@@ -50,14 +50,14 @@ impl Index {
         }
     }
 
-    // The number to which a place leads.
-    pub(crate) fn get(&self, place: &Place) -> Option<u64>
-        ensures { result ≡ map.get self.now.numbers place.now }
+    // The number to which an entry leads.
+    pub(crate) fn get(&self, entry: &DirectoryEntry) -> Option<u64>
+        ensures { result ≡ map.get self.now.numbers entry.now }
     {
-        self.numbers.get(place).copied()
+        self.numbers.get(entry).copied()
     }
 
-    // Makes room for one place more. Refused memory changes nothing.
+    // Makes room for one entry more. Refused memory changes nothing.
     pub(crate) fn reserve(&mut self) -> Result<(), AllocError>
         ensures numbers { self.new.numbers ≡ self.old.numbers }
         ensures ok { OnOk result (0 < self.new.room) }
@@ -67,22 +67,22 @@ impl Index {
         self.numbers.reserve(1)
     }
 
-    // A place leads to a number. Refused memory changes nothing.
-    pub(crate) fn insert(&mut self, place: Place, number: u64) -> Result<(), AllocError>
-        ensures ok { OnOk result (self.new.numbers ≡ map.insert self.old.numbers place number) }
+    // An entry leads to a number. Refused memory changes nothing.
+    pub(crate) fn insert(&mut self, entry: DirectoryEntry, number: u64) -> Result<(), AllocError>
+        ensures ok { OnOk result (self.new.numbers ≡ map.insert self.old.numbers entry number) }
         ensures err { OnErr result (self.new.numbers ≡ self.old.numbers) }
         ensures room { self.old.room ≤ self.new.room + 1 }
         ensures succeeds { 0 < self.old.room → IsOk result }
     {
-        self.numbers.insert(place, number)?;
+        self.numbers.insert(entry, number)?;
         Ok(())
     }
 
-    // A place leads nowhere any more. It takes no memory.
-    pub(crate) fn remove(&mut self, place: &Place)
-        ensures numbers { self.new.numbers ≡ map.remove self.old.numbers place.now }
+    // An entry leads nowhere any more. It takes no memory.
+    pub(crate) fn remove(&mut self, entry: &DirectoryEntry)
+        ensures numbers { self.new.numbers ≡ map.remove self.old.numbers entry.now }
         ensures room { self.old.room ≤ self.new.room }
     {
-        self.numbers.remove(place);
+        self.numbers.remove(entry);
     }
 }

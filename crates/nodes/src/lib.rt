@@ -1,19 +1,19 @@
 //! What the numbers of a mount's nodes stand for.
 //!
 //! The kernel of the machine on which a tree is mounted names a file or a directory by the number of
-//! a node, which it was told when it looked a name up. A node has the place where it was looked up,
-//! the object's number, and how many look-ups are not forgotten yet. It is *attached* where its place
-//! leads to it. Another object under the same name gets another node, and the former one stays until
-//! it is forgotten, but is attached no more. Numbers are drawn from a counter and never used again.
-//! Nothing here knows a kernel.
+//! a node, which it was told when it looked a name up. A node has the directory entry at which it was
+//! looked up, the object's number, and how many look-ups are not forgotten yet. It is *attached* where
+//! its entry leads to it. Another object under the same name gets another node, and the former one
+//! stays until it is forgotten, but is attached no more. Numbers are drawn from a counter and never
+//! used again. Nothing here knows a kernel.
 #![tactic(auto)]
 
+mod directory_entry;
 mod index;
 mod list;
 mod node;
 mod nodes;
-mod place;
 
+pub use directory_entry::{DirectoryEntry, Spot};
 pub use node::Node;
 pub use nodes::{FIRST_NUMBER, LAST_NUMBER, NAMES_LIMIT, Nodes};
-pub use place::{Place, Spot};

@@ -3,10 +3,10 @@ ghost use Rattle.std.specs.Prelude.{◌≡◌, ◌+◌, ◌≤◌, ◌<◌, IsOk
 ghost use Rattle.model.specs.FiniteMap as map;
 ghost use Rattle.std.specs.HashMap.{spare};
 ghost use Rattle.nodes.specs.Parts.{nodes_in};
-ghost use Rattle.nodes.specs.Tables.{counted, lessened, placed};
+ghost use Rattle.nodes.specs.Tables.{counted, lessened, with_entry};
 
+use crate::directory_entry::DirectoryEntry;
 use crate::node::Node;
-use crate::place::Place;
 use heap::Heap;
 use std::alloc::AllocError;
 use std::collections::HashMap;
@@ -64,13 +64,13 @@ fn lessen_in(nodes: &mut ByNumber, number: u64, count: u64)
     }
 }
 
-// A node has another place.
-fn put_in(nodes: &mut ByNumber, number: u64, place: Place)
-    ensures nodes { nodes_in nodes.new ≡ placed number place (map.get (nodes_in nodes.old) number) (nodes_in nodes.old) }
+// A node has another entry.
+fn put_in(nodes: &mut ByNumber, number: u64, entry: DirectoryEntry)
+    ensures nodes { nodes_in nodes.new ≡ with_entry number entry (map.get (nodes_in nodes.old) number) (nodes_in nodes.old) }
     ensures room { spare nodes.new ≡ spare nodes.old }
 {
     match nodes.get_mut(&number) {
-        Some(node) => node.put(place),
+        Some(node) => node.put(entry),
         None => {}
     }
 }
@@ -131,13 +131,13 @@ impl NodeList {
         lessen_in(&mut self.nodes, number, count);
     }
 
-    // A node has another place. It takes no memory.
-    pub(crate) fn put(&mut self, number: u64, place: Place)
+    // A node has another entry. It takes no memory.
+    pub(crate) fn put(&mut self, number: u64, entry: DirectoryEntry)
         ensures nodes { self.new.nodes
-            ≡ placed number place (map.get self.old.nodes number) self.old.nodes }
+            ≡ with_entry number entry (map.get self.old.nodes number) self.old.nodes }
         ensures room { self.new.room ≡ self.old.room }
     {
-        put_in(&mut self.nodes, number, place);
+        put_in(&mut self.nodes, number, entry);
     }
 
     // A number stands for nothing any more. It gives the node. It takes no memory.

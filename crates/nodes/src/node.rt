@@ -2,14 +2,14 @@
 ghost use Rattle.std.specs.Prelude.{◌≡◌, ◌-◌};
 ghost use Rattle.nodes.specs.Tables.{more};
 
-use crate::place::Place;
+use crate::directory_entry::DirectoryEntry;
 use ids::Num;
 
 /// What the number of a node stands for.
 #[derive(Debug)]
 pub struct Node {
     /// Where it was looked up.
-    pub place: Place,
+    pub entry: DirectoryEntry,
     /// The node of the root below which that is.
     pub root: u64,
     /// The object.
@@ -22,7 +22,7 @@ pub struct Node {
 impl Drop for Node {
     fn drop(self) {
         let Node {
-            place: _,
+            entry: _,
             root: _,
             inode: _,
             lookups: _,
@@ -46,9 +46,9 @@ impl Node {
     }
 
     // It has moved.
-    pub(crate) fn put(&mut self, place: Place)
-        ensures { self.new ≡ record self.old { place = place } }
+    pub(crate) fn put(&mut self, entry: DirectoryEntry)
+        ensures { self.new ≡ record self.old { entry = entry } }
     {
-        self.place = place;
+        self.entry = entry;
     }
 }

@@ -6,10 +6,10 @@ ghost use Rattle.nodes.specs.Tables.{moved, number_for, root_by, root_of, unlink
 ghost use Rattle.nodes.specs.Parts.{room_of};
 ghost use Rattle.nodes.specs.Paths.{IsAdded, path_of, way_to};
 
+use crate::directory_entry::{DirectoryEntry, Spot};
 use crate::index::Index;
 use crate::list::NodeList;
 use crate::node::Node;
-use crate::place::{Place, Spot};
 use heap::Heap;
 use ids::{Bytes, Num, PATH_LIMIT};
 use std::alloc::AllocError;
@@ -91,11 +91,11 @@ fn if_of(list: &NodeList, number: u64, inode: Num) -> Option<u64>
     }
 }
 
-// Whether a place leads to this number.
-fn leads_to(index: &Index, number: u64, place: &Place) -> bool
-    ensures { result ≡ is_this number (map.get index.now.numbers place.now) }
+// Whether an entry leads to this number.
+fn leads_to(index: &Index, number: u64, entry: &DirectoryEntry) -> bool
+    ensures { result ≡ is_this number (map.get index.now.numbers entry.now) }
 {
-    match index.get(place) {
+    match index.get(entry) {
         Some(found) => found == number,
         None => false,
     }
@@ -117,23 +117,23 @@ fn reserve_both(next: u64, list: &mut NodeList, index: &mut Index) -> Result<(),
     index.reserve()
 }
 
-// A place leads nowhere any more, where it leads to this number.
-fn unlink(index: &mut Index, number: u64, place: &Place)
-    ensures { index.new.numbers ≡ without number place.now index.old.numbers }
+// An entry leads nowhere any more, where it leads to this number.
+fn unlink(index: &mut Index, number: u64, entry: &DirectoryEntry)
+    ensures { index.new.numbers ≡ without number entry.now index.old.numbers }
 {
-    if leads_to(index, number, place) {
-        index.remove(place);
+    if leads_to(index, number, entry) {
+        index.remove(entry);
     }
 }
 
-// A node goes, and its place leads nowhere then, if it led to it.
+// A node goes, and its entry leads nowhere then, if it led to it.
 fn drop_node(list: &mut NodeList, index: &mut Index, number: u64)
     ensures nodes { list.new.nodes ≡ map.remove list.old.nodes number }
     ensures numbers { index.new.numbers
         ≡ unlinked number (map.get list.old.nodes number) index.old.numbers }
 {
     if let Some(node) = list.remove(number) {
-        unlink(index, number, &node.place);
+        unlink(index, number, &node.entry);
         drop(node);
     }
 }
@@ -159,11 +159,11 @@ impl Nodes {
         self.list.get(number)
     }
 
-    /// The number to which a place leads.
-    pub fn number_at(&self, place: &Place) -> Option<u64>
-        ensures { result ≡ map.get self.now.table.numbers place.now }
+    /// The number to which an entry leads.
+    pub fn number_at(&self, entry: &DirectoryEntry) -> Option<u64>
+        ensures { result ≡ map.get self.now.table.numbers entry.now }
     {
-        self.index.get(place)
+        self.index.get(entry)
     }
 
     /// The root below which a node is, or the number itself where it is a root's.
@@ -183,15 +183,15 @@ impl Nodes {
         reserve_both(self.next, &mut self.list, &mut self.index)
     }
 
-    // The number to which a place leads, where that stands for this object.
-    fn known(&self, place: &Place, inode: Num) -> Option<u64>
-        ensures { result ≡ known self.now.table place.now inode }
+    // The number to which an entry leads, where that stands for this object.
+    fn known(&self, entry: &DirectoryEntry, inode: Num) -> Option<u64>
+        ensures { result ≡ known self.now.table entry.now inode }
     {
-        let number = self.index.get(place)?;
+        let number = self.index.get(entry)?;
         if_of(&self.list, number, inode)
     }
 
-    // A place leads to a new node.
+    // An entry leads to a new node.
     fn add(&mut self, spot: Spot, inode: Num) -> Result<u64, AllocError>
         ensures ok { OnOk result (self.new.table ≡ added self.old.table spot inode) }
         ensures number { IfOk result (λ number. number ≡ self.old.table.next) }
@@ -200,10 +200,10 @@ impl Nodes {
     {
         reserve_both(self.next, &mut self.list, &mut self.index)?;
         let number = self.next;
-        let root = root_in(&self.list, spot.place().parent);
-        let (place, copy) = spot.into_both();
+        let root = root_in(&self.list, spot.entry().parent);
+        let (entry, copy) = spot.into_both();
         let node = Node {
-            place,
+            entry,
             root,
             inode,
             lookups: 1,
@@ -217,7 +217,7 @@ impl Nodes {
     }
 
     /// A name was looked up and gave this object. It gives the number of its node: the one to which
-    /// the place leads, where that stands for this object, and else a new one, to which it leads from
+    /// the entry leads, where that stands for this object, and else a new one, to which it leads from
     /// now on. Refused memory changes nothing.
     pub fn look_up(&mut self, spot: Spot, inode: Num) -> Result<u64, AllocError>
         ensures ok { OnOk result (self.new.table ≡ looked_up self.old.table spot inode) }
@@ -225,7 +225,7 @@ impl Nodes {
         ensures err { OnErr result (self.new.table ≡ self.old.table) }
         ensures succeeds { 0 < self.old.room → IsOk result }
     {
-        match self.known(spot.place(), inode) {
+        match self.known(spot.entry(), inode) {
             Some(number) => {
                 self.list.count(number);
                 Ok(number)
@@ -248,30 +248,30 @@ impl Nodes {
         }
     }
 
-    /// A name was taken away: its place leads nowhere any more. It takes no memory.
-    pub fn detach(&mut self, place: &Place)
-        ensures { self.new.table ≡ detached self.old.table place.now }
+    /// A name was taken away: its entry leads nowhere any more. It takes no memory.
+    pub fn detach(&mut self, entry: &DirectoryEntry)
+        ensures { self.new.table ≡ detached self.old.table entry.now }
     {
-        self.index.remove(place);
+        self.index.remove(entry);
     }
 
-    /// A name was moved: what the first place led to is at the second. What that led to before is
+    /// A name was moved: what the first entry led to is at the second. What that led to before is
     /// attached no more. Refused memory changes nothing.
-    pub fn move_place(&mut self, from: &Place, to: Spot) -> Result<(), AllocError>
+    pub fn move_entry(&mut self, from: &DirectoryEntry, to: Spot) -> Result<(), AllocError>
         ensures ok { OnOk result (self.new.table ≡ moved self.old.table from.now to) }
         ensures err { OnErr result (self.new.table ≡ self.old.table) }
         ensures succeeds { 0 < self.old.room → IsOk result }
     {
         let Some(number) = self.index.get(from) else {
-            self.index.remove(to.place());
+            self.index.remove(to.entry());
             return Ok(());
         };
         self.index.reserve()?;
-        let (place, copy) = to.into_both();
+        let (entry, copy) = to.into_both();
         self.index.remove(from);
         let indexed: Result<_, _> = self.index.insert(copy, number);
         indexed.unwrap();
-        self.list.put(number, place);
+        self.list.put(number, entry);
         Ok(())
     }
 
@@ -292,14 +292,14 @@ impl Nodes {
         let Some(node) = self.list.get(number) else {
             return Ok(Some(number));
         };
-        if !leads_to(&self.index, number, &node.place) {
+        if !leads_to(&self.index, number, &node.entry) {
             return Ok(None);
         }
-        let Some(root) = self.put_way(most - 1, node.place.parent, out)? else {
+        let Some(root) = self.put_way(most - 1, node.entry.parent, out)? else {
             return Ok(None);
         };
         out.push(b'/')?;
-        out.extend_from_slice(node.place.name.as_slice())?;
+        out.extend_from_slice(node.entry.name.as_slice())?;
         Ok(Some(root))
     }
 

@@ -9,7 +9,7 @@ use Rattle.objects.specs.Contents.{Content}
 use Rattle.objects.specs.Pieces.{JoinedFrom, no_piece, piece_in, piece_of}
 use Rattle.objects.specs.declared.group.TheConstants.{GROUP_LEN}
 
--- the last of the pieces that are left stands at its place
+-- the last of the pieces that are left stands at its index
 pub popped : {X : Type 0} (all left new rest : List X) (last d : X) → all ≡ left ++ rest → left ≡ new ++ last ∷ [] → get_or all (length new) d ≡ last
 popped all left new rest last d is end = ap (λ xs. get_or xs (length new) d) (is ∙ ap (λ xs. xs ++ rest) end ∙ append_assoc new (last ∷ []) rest) ∙ get_or-append_seam new last rest d
 
@@ -19,7 +19,7 @@ left_less all left new rest last is end = is ∙ ap (λ xs. xs ++ rest) end ∙ 
 pub left_long : {X : Type 0} (left new : List X) (last : X) → left ≡ new ++ last ∷ [] → length left ≡ length new + 1
 left_long left new last end = ap length end ∙ length-append new (last ∷ [])
 
--- the place of the last that is left is one of the longer list
+-- the index of the last that is left is one of the longer list
 pub low_place : {X : Type 0} (one other now left new rest : List X) (last : X) → one ≡ left ++ rest → left ≡ new ++ last ∷ [] → length now ≡ length other → length one ≤ length other → length new < length now
 low_place one other now left new rest last is end count fits = (let all = left_less one left new rest last is end in let long : length one ≡ length new + suc (length rest) = ap length all ∙ length-append new (last ∷ rest) in omega (arith, long))
 

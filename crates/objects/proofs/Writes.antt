@@ -11,31 +11,31 @@ use Rattle.objects.specs.declared.group.TheConstants.{PIECE_LEN}
 use Rattle.objects.proofs.Pieced.{byte_is, len_is}
 use Rattle.objects.proofs.Places.{is_written}
 
-module _ (old new : List (List Content)) (number place : ℕ) (chunk : List ℕ) (fits : place + length chunk ≤ PIECE_LEN)
-    (here : (piece_of new number).bytes ≡ written (piece_of old number).bytes place chunk)
+module _ (old new : List (List Content)) (number offset : ℕ) (chunk : List ℕ) (fits : offset + length chunk ≤ PIECE_LEN)
+    (here : (piece_of new number).bytes ≡ written (piece_of old number).bytes offset chunk)
     (others : (n : ℕ) → n ≢ number → (piece_of new n).bytes ≡ (piece_of old n).bytes) where
   -- a byte of the piece
-  in_piece : (p : ℕ) → p / PIECE_LEN ≡ number → byte_of new p ≡ get_or (written (piece_of old number).bytes place chunk) (p % PIECE_LEN) 0
+  in_piece : (p : ℕ) → p / PIECE_LEN ≡ number → byte_of new p ≡ get_or (written (piece_of old number).bytes offset chunk) (p % PIECE_LEN) 0
   in_piece p is = ap (λ n. get_or (piece_of new n).bytes (p % PIECE_LEN) 0) is ∙ ap (λ bytes. get_or bytes (p % PIECE_LEN) 0) here
 
-  pub wrote_in : (p : ℕ) → number * PIECE_LEN + place ≤ p → p < number * PIECE_LEN + place + length chunk → byte_of new p ≡ get_or chunk (p - (number * PIECE_LEN + place)) 0
+  pub wrote_in : (p : ℕ) → number * PIECE_LEN + offset ≤ p → p < number * PIECE_LEN + offset + length chunk → byte_of new p ≡ get_or chunk (p - (number * PIECE_LEN + offset)) 0
   wrote_in p from to =
       let is : p / PIECE_LEN ≡ number = omega (arith, fits) in
-      let at : p % PIECE_LEN - place ≡ p - (number * PIECE_LEN + place) = omega (arith, fits) in
-      in_piece p is ∙ written_in (piece_of old number).bytes place chunk (p % PIECE_LEN) (omega (arith, fits)) (omega (arith, fits)) ∙ ap (λ i. get_or chunk i 0) at
+      let at : p % PIECE_LEN - offset ≡ p - (number * PIECE_LEN + offset) = omega (arith, fits) in
+      in_piece p is ∙ written_in (piece_of old number).bytes offset chunk (p % PIECE_LEN) (omega (arith, fits)) (omega (arith, fits)) ∙ ap (λ i. get_or chunk i 0) at
 
-  pub wrote_out : (p : ℕ) → (p < number * PIECE_LEN + place) ⊎ (number * PIECE_LEN + place + length chunk ≤ p) → byte_of new p ≡ byte_of old p
+  pub wrote_out : (p : ℕ) → (p < number * PIECE_LEN + offset) ⊎ (number * PIECE_LEN + offset + length chunk ≤ p) → byte_of new p ≡ byte_of old p
   wrote_out p out = elim (cases_eq (p / PIECE_LEN) number) [
     | inl is ↦ in_piece p is ∙ elim out [
-      | inl low ↦ written_before (piece_of old number).bytes place chunk (p % PIECE_LEN) (omega arith)
-      | inr past ↦ written_behind (piece_of old number).bytes place chunk (p % PIECE_LEN) (omega arith)
+      | inl low ↦ written_before (piece_of old number).bytes offset chunk (p % PIECE_LEN) (omega arith)
+      | inr past ↦ written_behind (piece_of old number).bytes offset chunk (p % PIECE_LEN) (omega arith)
     ] ∙ ap (λ n. get_or (piece_of old n).bytes (p % PIECE_LEN) 0) (sym is)
     | inr not ↦ ap (λ bytes. get_or bytes (p % PIECE_LEN) 0) (others (p / PIECE_LEN) not)
   ]
 
-  pub wrote_ends : (len : ℕ) → number * PIECE_LEN + place + length chunk ≤ len → EndsBy len old → EndsBy len new
+  pub wrote_ends : (len : ℕ) → number * PIECE_LEN + offset + length chunk ≤ len → EndsBy len old → EndsBy len new
   wrote_ends len within ends n = elim (cases_eq n number) [
-    | inl is ↦ rw is (rw here (let long = length-written (piece_of old number).bytes place chunk in let short = ends number in omega (arith, long, short, fits, within)))
+    | inl is ↦ rw is (rw here (let long = length-written (piece_of old number).bytes offset chunk in let short = ends number in omega (arith, long, short, fits, within)))
     | inr not ↦ rw (others n not) (ends n)
   ]
 
@@ -65,10 +65,10 @@ module _ (old mid new : List (List Content)) (number offset low high : ℕ) (byt
       | inl below ↦ wrote_out mid new number (low - number * PIECE_LEN) chunk fits here others p (inl (omega (arith, is_low))) ∙ before.inside p a b below
       | inr now ↦
           let at : p - (number * PIECE_LEN + (low - number * PIECE_LEN)) ≡ p - low = omega (arith, is_low) in
-          let place : low - offset + (p - low) ≡ p - offset = omega (arith, is_low, now, a) in
+          let in_bytes : low - offset + (p - low) ≡ p - offset = omega (arith, is_low, now, a) in
           let small : p - low < high - low = omega (arith, is_low, is_high, now, a, b, c) in
           wrote_in mid new number (low - number * PIECE_LEN) chunk fits here others p (omega (arith, is_low, now, a)) (omega (arith, is_low, is_high, chunk_long, now, a, b, c))
-          ∙ ap₂ (λ xs i. get_or xs i 0) is_chunk at ∙ get_or-take (high - low) (drop (low - offset) bytes) (p - low) 0 small ∙ get_or-drop (low - offset) bytes (p - low) 0 ∙ ap (λ i. get_or bytes i 0) place
+          ∙ ap₂ (λ xs i. get_or xs i 0) is_chunk at ∙ get_or-take (high - low) (drop (low - offset) bytes) (p - low) 0 small ∙ get_or-drop (low - offset) bytes (p - low) 0 ∙ ap (λ i. get_or bytes i 0) in_bytes
     ];
     outside = λ p out. elim out [
       | inl low' ↦ wrote_out mid new number (low - number * PIECE_LEN) chunk fits here others p (inl (omega (arith, is_low, low'))) ∙ before.outside p (inl low')

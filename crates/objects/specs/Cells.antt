@@ -1,4 +1,4 @@
--- A place of a block as one number.
+-- A cell of a block as one number.
 use Rattle.std.specs.Prelude.{◌≡◌, ℕ, zero, suc, refl, Option, Some, None}
 
 -- what was written there: nothing at 0, and else the byte below this number

@@ -44,13 +44,13 @@ abbrev pub EndsBy : ℕ → List (List Content) → Type 0
 EndsBy len groups = (number : ℕ)
     → length (piece_of groups number).bytes ≤ min PIECE_LEN (len - number * PIECE_LEN)
 
--- written into the places of a piece from one on, which is longer then where they end behind it
-pub record LaidIn (place : ℕ) (cells : List (Option ℕ)) (old new : List ℕ) : Type 0 where
+-- written into a piece from an offset on, which is longer then where they end behind it
+pub record LaidIn (offset : ℕ) (cells : List (Option ℕ)) (old new : List ℕ) : Type 0 where
   pub low : length old ≤ length new
-  pub len : (n : ℕ) → length old ≤ n → place + length cells ≤ n → length new ≤ n
-  pub inside : (p : ℕ) → place ≤ p → p < place + length cells
-      → get_or new p 0 ≡ unwrap_or (get_or cells (p - place) None) (get_or old p 0)
-  pub outside : (p : ℕ) → (p < place) ⊎ (place + length cells ≤ p) → get_or new p 0 ≡ get_or old p 0
+  pub len : (n : ℕ) → length old ≤ n → offset + length cells ≤ n → length new ≤ n
+  pub inside : (p : ℕ) → offset ≤ p → p < offset + length cells
+      → get_or new p 0 ≡ unwrap_or (get_or cells (p - offset) None) (get_or old p 0)
+  pub outside : (p : ℕ) → (p < offset) ⊎ (offset + length cells ≤ p) → get_or new p 0 ≡ get_or old p 0
 
 -- there is memory for these bytes, piece by piece
 abbrev pub HasRoom : List (List ℕ) → (offset count : ℕ) → Type 0

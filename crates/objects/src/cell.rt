@@ -1,12 +1,12 @@
-// Places into which bytes may be written.
+// Cells, into which bytes may be written.
 ghost use Rattle.std.specs.Prelude.{◌≡◌, Some, None};
 ghost use Rattle.std.specs.Option.{unwrap_or};
 
 use std::marker::Model;
 
-/// A place of a block: the byte that was written there, or none.
+/// A cell of a block: the byte that was written there, or none.
 ///
-/// It is one number, 0 or one more than the byte, and no `Option`: so many places are laid over
+/// It is one number, 0 or one more than the byte, and no `Option`: so many cells are laid over
 /// bytes without a branch at each.
 #[derive(Clone, Copy)]
 pub struct Cell {
@@ -29,14 +29,14 @@ impl Model for Cell {
 }
 
 impl Cell {
-    /// A place where nothing was written.
+    /// A cell where nothing was written.
     pub fn empty() -> Cell
         ensures { result ≡ None }
     {
         Cell { state: 0 }
     }
 
-    /// A place where this byte was written.
+    /// A cell where this byte was written.
     pub fn of(byte: u8) -> Cell
         ensures { result ≡ Some byte }
     {

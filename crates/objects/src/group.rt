@@ -91,35 +91,35 @@ impl Group {
         self.pieces[index].promise_within(len, PIECE_LEN)
     }
 
-    /// Writes bytes into a piece from a place on, and fills a gap before them with zero bytes. It
+    /// Writes bytes into a piece from an offset on, and fills a gap before them with zero bytes. It
     /// takes no memory.
-    pub(crate) fn write(&mut self, index: usize, place: usize, bytes: &[u8])
-        requires small { place + length bytes.now ≤ PIECE_LEN }
-        requires room { place + length bytes.now ≤ (piece_in self.old index).room }
+    pub(crate) fn write(&mut self, index: usize, offset: usize, bytes: &[u8])
+        requires small { offset + length bytes.now ≤ PIECE_LEN }
+        requires room { offset + length bytes.now ≤ (piece_in self.old index).room }
         ensures here { (piece_in self.new index).bytes
-            ≡ written (piece_in self.old index).bytes place bytes.now }
+            ≡ written (piece_in self.old index).bytes offset bytes.now }
         ensures others { (i : ℕ) → i ≢ index
             → (piece_in self.new i).bytes ≡ (piece_in self.old i).bytes }
         ensures room { (i : ℕ) → (piece_in self.old i).room ≤ (piece_in self.new i).room }
     {
         if index < self.pieces.len() {
-            self.pieces[index].write_at(place, bytes).unwrap();
+            self.pieces[index].write_at(offset, bytes).unwrap();
         }
     }
 
-    /// Writes over the bytes of a piece from a place on what was written into these places. It takes
+    /// Writes over the bytes of a piece from an offset on what was written into these cells. It takes
     /// no memory.
-    pub(crate) fn lay(&mut self, index: usize, place: usize, cells: &[Cell])
-        requires small { place + length cells.now ≤ PIECE_LEN }
-        requires room { place + length cells.now ≤ (piece_in self.old index).room }
+    pub(crate) fn lay(&mut self, index: usize, offset: usize, cells: &[Cell])
+        requires small { offset + length cells.now ≤ PIECE_LEN }
+        requires room { offset + length cells.now ≤ (piece_in self.old index).room }
         ensures here { LaidIn
-            place cells.now (piece_in self.old index).bytes (piece_in self.new index).bytes }
+            offset cells.now (piece_in self.old index).bytes (piece_in self.new index).bytes }
         ensures others { (i : ℕ) → i ≢ index
             → (piece_in self.new i).bytes ≡ (piece_in self.old i).bytes }
         ensures room { (i : ℕ) → (piece_in self.old i).room ≤ (piece_in self.new i).room }
     {
         if index < self.pieces.len() {
-            self.pieces[index].lay_at(place, cells);
+            self.pieces[index].lay_at(offset, cells);
         }
     }
 

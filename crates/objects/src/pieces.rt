@@ -81,35 +81,35 @@ impl Pieces {
         self.groups[number / GROUP_LEN].promise(number % GROUP_LEN, len)
     }
 
-    /// Writes bytes into a piece from a place on, and fills a gap before them with zero bytes. It
+    /// Writes bytes into a piece from an offset on, and fills a gap before them with zero bytes. It
     /// takes no memory.
-    pub(crate) fn write(&mut self, number: usize, place: usize, bytes: &[u8])
-        requires small { place + length bytes.now ≤ PIECE_LEN }
-        requires room { place + length bytes.now ≤ (piece_of self.old number).room }
+    pub(crate) fn write(&mut self, number: usize, offset: usize, bytes: &[u8])
+        requires small { offset + length bytes.now ≤ PIECE_LEN }
+        requires room { offset + length bytes.now ≤ (piece_of self.old number).room }
         ensures here { (piece_of self.new number).bytes
-            ≡ written (piece_of self.old number).bytes place bytes.now }
+            ≡ written (piece_of self.old number).bytes offset bytes.now }
         ensures others { (n : ℕ) → n ≢ number
             → (piece_of self.new n).bytes ≡ (piece_of self.old n).bytes }
         ensures room { (n : ℕ) → (piece_of self.old n).room ≤ (piece_of self.new n).room }
     {
         if number / GROUP_LEN < self.groups.len() {
-            self.groups[number / GROUP_LEN].write(number % GROUP_LEN, place, bytes);
+            self.groups[number / GROUP_LEN].write(number % GROUP_LEN, offset, bytes);
         }
     }
 
-    /// Writes over the bytes of a piece from a place on what was written into these places. It takes
+    /// Writes over the bytes of a piece from an offset on what was written into these cells. It takes
     /// no memory.
-    pub(crate) fn lay(&mut self, number: usize, place: usize, cells: &[Cell])
-        requires small { place + length cells.now ≤ PIECE_LEN }
-        requires room { place + length cells.now ≤ (piece_of self.old number).room }
+    pub(crate) fn lay(&mut self, number: usize, offset: usize, cells: &[Cell])
+        requires small { offset + length cells.now ≤ PIECE_LEN }
+        requires room { offset + length cells.now ≤ (piece_of self.old number).room }
         ensures here { LaidIn
-            place cells.now (piece_of self.old number).bytes (piece_of self.new number).bytes }
+            offset cells.now (piece_of self.old number).bytes (piece_of self.new number).bytes }
         ensures others { (n : ℕ) → n ≢ number
             → (piece_of self.new n).bytes ≡ (piece_of self.old n).bytes }
         ensures room { (n : ℕ) → (piece_of self.old n).room ≤ (piece_of self.new n).room }
     {
         if number / GROUP_LEN < self.groups.len() {
-            self.groups[number / GROUP_LEN].lay(number % GROUP_LEN, place, cells);
+            self.groups[number / GROUP_LEN].lay(number % GROUP_LEN, offset, cells);
         }
     }
 

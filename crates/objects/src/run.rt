@@ -1,13 +1,13 @@
 // Bytes in a row.
 ghost use Rattle.objects.specs.declared.run.TheConstants.{LARGEST_RUN};
-ghost use Rattle.std.specs.Prelude.{◌≡◌, ◌+◌, ◌≤◌, ◌⊎◌, ◌==◌, nat_le, IfOk, IsOk, OnOk, OnErr};
+ghost use Rattle.std.specs.Prelude.{◌≡◌, ◌+◌, ◌≤◌, ◌⊎◌, IsOk, OnOk, OnErr};
 ghost use Rattle.std.specs.Prelude.{[], ◌++◌, length, take, drop, vec_capacity};
 ghost use Rattle.model.specs.Changes.{sized, written};
 ghost use Rattle.objects.specs.Contents.{pasted, Overlaid};
 ghost use Rattle.objects.specs.Pieces.{LaidIn};
 
 use crate::cell::Cell;
-use crate::slices::{lay, overlay, part, paste};
+use crate::slices::{lay, part, paste};
 use heap::Heap;
 use ids::Bytes;
 use std::alloc::AllocError;
@@ -64,20 +64,6 @@ impl Run {
         self.bytes.len()
     }
 
-    /// Whether it has no bytes.
-    pub fn is_empty(&self) -> bool
-        ensures { result ≡ (length self.now.bytes == 0) }
-    {
-        self.bytes.is_empty()
-    }
-
-    /// Whether it has memory for so many bytes.
-    pub fn has_room(&self, len: usize) -> bool
-        ensures { result ≡ nat_le len self.now.room }
-    {
-        len <= self.bytes.capacity()
-    }
-
     /// All bytes, in order.
     pub fn as_slice(&self) -> &[u8]
         ensures value { result.now ≡ self.now.bytes }
@@ -85,13 +71,6 @@ impl Run {
         ensures small { length result.now ≤ LARGEST_RUN }
     {
         self.bytes.as_slice()
-    }
-
-    /// A copy of at most `count` bytes from a place on; past the end there are none.
-    pub fn read_at(&self, heap: Heap, place: usize, count: usize) -> Result<Bytes, AllocError>
-        ensures { IfOk result (λ bytes. bytes ≡ take count (drop place self.now.bytes)) }
-    {
-        Bytes::copy(heap, part(self.bytes.as_slice(), place, count))
     }
 
     /// Makes room for so many bytes in all. Refused memory changes nothing.
@@ -127,34 +106,34 @@ impl Run {
         Ok(())
     }
 
-    /// Writes bytes from a place on, and fills a gap before them with zero bytes. Where there is
+    /// Writes bytes from an offset on, and fills a gap before them with zero bytes. Where there is
     /// room it takes no memory. Refused memory changes nothing.
-    pub fn write_at(&mut self, place: usize, bytes: &[u8]) -> Result<(), AllocError>
-        requires { place + length bytes.now ≤ LARGEST_RUN }
-        ensures ok { OnOk result (self.new.bytes ≡ written self.old.bytes place bytes.now) }
-        ensures promised { place + length bytes.now ≤ self.old.room → IsOk result }
+    pub fn write_at(&mut self, offset: usize, bytes: &[u8]) -> Result<(), AllocError>
+        requires { offset + length bytes.now ≤ LARGEST_RUN }
+        ensures ok { OnOk result (self.new.bytes ≡ written self.old.bytes offset bytes.now) }
+        ensures promised { offset + length bytes.now ≤ self.old.room → IsOk result }
         ensures room { self.old.room ≤ self.new.room }
         ensures err { OnErr result (self.new.bytes ≡ self.old.bytes) }
     {
-        let end = place + bytes.len();
+        let end = offset + bytes.len();
         if end <= self.bytes.len() {
-            self.paste(place, bytes);
+            self.paste(offset, bytes);
             return Ok(());
         }
         self.bytes.reserve(end - self.bytes.len())?;
-        self.put_at_end(place, bytes);
+        self.put_at_end(offset, bytes);
         Ok(())
     }
 
     // Writes bytes that reach to the end or past it, each once. There has to be room.
-    fn put_at_end(&mut self, place: usize, bytes: &[u8])
-        requires small { place + length bytes.now ≤ LARGEST_RUN }
-        requires end { length self.old.bytes ≤ place + length bytes.now }
-        requires room { place + length bytes.now ≤ self.old.room }
-        ensures bytes { self.new.bytes ≡ written self.old.bytes place bytes.now }
+    fn put_at_end(&mut self, offset: usize, bytes: &[u8])
+        requires small { offset + length bytes.now ≤ LARGEST_RUN }
+        requires end { length self.old.bytes ≤ offset + length bytes.now }
+        requires room { offset + length bytes.now ≤ self.old.room }
+        ensures bytes { self.new.bytes ≡ written self.old.bytes offset bytes.now }
         ensures room { self.old.room ≤ self.new.room }
     {
-        self.bytes.resize(place, 0).unwrap();
+        self.bytes.resize(offset, 0).unwrap();
         self.bytes.extend_from_slice(bytes).unwrap();
     }
 
@@ -170,47 +149,37 @@ impl Run {
         self.bytes.resize(len, 0)
     }
 
-    /// Writes bytes over those from a place on. They have to end within the file. It takes no
+    /// Writes bytes over those from an offset on. They have to end within the file. It takes no
     /// memory.
-    pub fn paste(&mut self, place: usize, bytes: &[u8])
-        requires { place + length bytes.now ≤ length self.old.bytes }
-        ensures { self.new ≡ record self.old { bytes = pasted self.old.bytes place bytes.now } }
+    pub fn paste(&mut self, offset: usize, bytes: &[u8])
+        requires { offset + length bytes.now ≤ length self.old.bytes }
+        ensures { self.new ≡ record self.old { bytes = pasted self.old.bytes offset bytes.now } }
     {
-        paste(self.bytes.as_mut_slice(), place, bytes);
+        paste(self.bytes.as_mut_slice(), offset, bytes);
     }
 
-    /// Writes bytes over those from a place on, where they are there. They have to end within the
-    /// file. It takes no memory.
-    pub fn overlay(&mut self, place: usize, bytes: &[Option<u8>])
-        requires { place + length bytes.now ≤ length self.old.bytes }
-        ensures bytes { Overlaid (length bytes.now) place bytes.now self.old.bytes self.new.bytes }
-        ensures room { self.new.room ≡ self.old.room }
-    {
-        overlay(self.bytes.as_mut_slice(), place, bytes);
-    }
-
-    /// Writes over the bytes from a place on what was written into these places. They have to end
+    /// Writes over the bytes from an offset on what was written into these cells. They have to end
     /// within the file. It takes no memory.
-    pub fn lay(&mut self, place: usize, cells: &[Cell])
-        requires { place + length cells.now ≤ length self.old.bytes }
-        ensures bytes { Overlaid (length cells.now) place cells.now self.old.bytes self.new.bytes }
+    pub fn lay(&mut self, offset: usize, cells: &[Cell])
+        requires { offset + length cells.now ≤ length self.old.bytes }
+        ensures bytes { Overlaid (length cells.now) offset cells.now self.old.bytes self.new.bytes }
         ensures room { self.new.room ≡ self.old.room }
     {
-        lay(self.bytes.as_mut_slice(), place, cells);
+        lay(self.bytes.as_mut_slice(), offset, cells);
     }
 
-    /// Writes over the bytes from a place on what was written into these places. Where they end
+    /// Writes over the bytes from an offset on what was written into these cells. Where they end
     /// behind the bytes, zero bytes come there first. There has to be room; it takes no memory.
-    pub fn lay_at(&mut self, place: usize, cells: &[Cell])
-        requires small { place + length cells.now ≤ LARGEST_RUN }
-        requires room { place + length cells.now ≤ self.old.room }
-        ensures laid { LaidIn place cells.now self.old.bytes self.new.bytes }
+    pub fn lay_at(&mut self, offset: usize, cells: &[Cell])
+        requires small { offset + length cells.now ≤ LARGEST_RUN }
+        requires room { offset + length cells.now ≤ self.old.room }
+        ensures laid { LaidIn offset cells.now self.old.bytes self.new.bytes }
         ensures room { self.old.room ≤ self.new.room }
     {
-        if self.bytes.len() < place + cells.len() {
-            self.cut(place + cells.len()).unwrap();
+        if self.bytes.len() < offset + cells.len() {
+            self.cut(offset + cells.len()).unwrap();
         }
-        self.lay(place, cells);
+        self.lay(offset, cells);
     }
 
     /// Leaves at most so many of the first bytes.

@@ -1,4 +1,4 @@
--- What the names from a place on decide.
+-- What the names from an index on decide.
 use Rattle.std.proofs.Common.{◌≡◌, ℕ, zero, suc, ◌<◌, ◌≤◌, true, false, ◌&&◌, List, [], ◌∷◌, length, get_or, drop, refl, ap, arith, ◌==◌}
 use lib.Pointwise.{pointwise}
 use lib.Dec.{eqb}

@@ -13,7 +13,6 @@ use heap::Heap;
 use ids::{Errno, Name, Refusal};
 pub use ids::{NAME_LIMIT, PATH_LIMIT};
 use smallvec::SmallVec;
-use std::alloc::AllocError;
 use std::marker::Model;
 
 // Up to four names stand in the path itself.
@@ -124,7 +123,7 @@ fn cut_at_slash(bytes: &[u8]) -> (&[u8], Option<&[u8]>)
 }
 
 fn first_slash(bytes: &[u8]) -> Option<usize>
-    ensures place { result ≡ position (λ b. b == 47) bytes.now }
+    ensures index { result ≡ position (λ b. b == 47) bytes.now }
     ensures within { IfSome result (λ end. end < length bytes.now) }
 {
     bytes.iter().position(|byte| *byte == b'/')
@@ -144,15 +143,9 @@ fn push_name(heap: Heap, names: &mut Names, piece: &[u8]) -> Result<(), Refusal>
     if piece.is_empty() || piece.contains(&0) || is_dots(piece) {
         return Err(Refusal::Errno(Errno::EINVAL));
     }
-    let name = Name::copy(heap, piece).map_err(no_memory)?;
+    let name = Name::copy(heap, piece)?;
     names.push(name).map_err(|_failed| Refusal::NoMemory)?;
     Ok(())
-}
-
-fn no_memory(_error: AllocError) -> Refusal
-    ensures { result ≡ Refusal.NoMemory }
-{
-    Refusal::NoMemory
 }
 
 fn is_dots(piece: &[u8]) -> bool

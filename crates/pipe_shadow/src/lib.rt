@@ -63,13 +63,6 @@ impl PipeShadow {
         (pipe.len() + self.appended.len()).saturating_sub(self.taken)
     }
 
-    /// How many bytes more the view can hold.
-    pub fn room(&self, pipe: &PipeData) -> usize
-        ensures { result ≡ PIPE_CAPACITY - length (view_over self.now pipe.now) }
-    {
-        PIPE_CAPACITY.saturating_sub(self.len(pipe))
-    }
-
     /// A copy of at most `count` bytes from the front of the view. They stay there.
     pub fn read(&self, heap: Heap, pipe: &PipeData, count: usize) -> Result<Bytes, AllocError>
         ensures { IfOk result (λ bytes. bytes ≡ take count (view_over self.now pipe.now)) }

@@ -37,9 +37,9 @@ module _ (chosen : List ℕ) (k after : Kernel) where
   unfolding applied
   moves d x e y n replaced h = h
 
-  pub puts : (n place : ℕ) (bytes old : List ℕ) (before : ℕ) → old ≡ bytes → after ≡ set_inode n (File (written (file_of k n) place old)) k → after ≡ applied chosen (Put_bytes n place bytes before) k
+  pub puts : (n offset : ℕ) (bytes old : List ℕ) (before : ℕ) → old ≡ bytes → after ≡ set_inode n (File (written (file_of k n) offset old)) k → after ≡ applied chosen (Put_bytes n offset bytes before) k
   unfolding applied
-  puts n place bytes old before same h = h ∙ ap (λ (bs : List ℕ). set_inode n (File (written (file_of k n) place bs)) k) same
+  puts n offset bytes old before same h = h ∙ ap (λ (bs : List ℕ). set_inode n (File (written (file_of k n) offset bs)) k) same
 
   pub cuts : (n before len : ℕ) → after ≡ set_inode n (File (sized len (file_of k n))) k → after ≡ applied chosen (Cut n before len) k
   unfolding applied
@@ -53,9 +53,9 @@ module _ (chosen : List ℕ) (k after : Kernel) where
   unfolding applied
   appends p bytes old same h = h ∙ ap (λ (bs : List ℕ). set_inode p (Pipe (pipe_of k p ++ bs)) k) same
 
-  pub sets_offset : (d place : ℕ) → after ≡ set_offset d place (get k.descriptions d) k → after ≡ applied chosen (Set_offset d place) k
+  pub sets_offset : (d offset : ℕ) → after ≡ set_offset d offset (get k.descriptions d) k → after ≡ applied chosen (Set_offset d offset) k
   unfolding applied
-  sets_offset d place h = h
+  sets_offset d offset h = h
 
   pub opens : (i : ℕ) (inode : Which) (mode : Mode) (pid f d n : ℕ) (it : Description) → d ≡ get_or chosen i 0 → n ≡ number chosen inode → it ≡ at_start n mode
       → after ≡ set_process pid (with_slot f d (process_of k pid)) (set_description d it k) → after ≡ applied chosen (Open_inode i inode mode pid f) k

@@ -17,8 +17,8 @@ use Rattle.call_laws.proofs.Laws.{after_bind, allowed, either_given, whatever}
 use Rattle.replay.specs.Edits.{EndsWithin}
 
 -- a write or a cut among edits that end so
-pub put_ends : (e : Edit) (n place : ℕ) (bytes old : List ℕ) (before : ℕ) → e ≡ Put_bytes n place bytes before → old ≡ bytes → EndsWithin e → place + length old ≤ largest_file
-put_ends e n place bytes old before is same h = subst (λ (bs : List ℕ). place + length bs ≤ largest_file) (sym same) (subst EndsWithin is h)
+pub put_ends : (e : Edit) (n offset : ℕ) (bytes old : List ℕ) (before : ℕ) → e ≡ Put_bytes n offset bytes before → old ≡ bytes → EndsWithin e → offset + length old ≤ largest_file
+put_ends e n offset bytes old before is same h = subst (λ (bs : List ℕ). offset + length bs ≤ largest_file) (sym same) (subst EndsWithin is h)
 
 pub cut_ends : (e : Edit) (n before len : ℕ) → e ≡ Cut n before len → EndsWithin e → len ≤ largest_file
 cut_ends e n before len is h = subst EndsWithin is h
@@ -55,9 +55,9 @@ reads_pipe k p (b ∷ bytes) = (tt, tt)
 reads : (k : Kernel) (it : Slot) (count : ℕ) → IfOk (given k (read_some it count)) Within
 reads k it count = either_given k Within (is_pipe it.kind) _ _ (λ _. reads_pipe k it.inode (answer_to k (Read_pipe it.inode count))) (λ _. by_test (is_empty (answer_to k (Read_file it.inode (answer_to k (Find_offset it.description)) (min count most_moved)))) _ _)
   where
-    by_test : (b : Bool) (d place : ℕ) → AllByRecursion EndsWithin (if b then [] else Set_offset d place ∷ [])
-    by_test true d place = tt
-    by_test false d place = (tt, tt)
+    by_test : (b : Bool) (d offset : ℕ) → AllByRecursion EndsWithin (if b then [] else Set_offset d offset ∷ [])
+    by_test true d offset = tt
+    by_test false d offset = (tt, tt)
 
 shares : (k : Kernel) (o : Own) (it : Slot) (fs : List ℕ) → IfOk (given k (duplicated o it fs)) Within
 shares k o it [] = tt
@@ -73,11 +73,11 @@ forks k o None = tt
 forks k o (Some (made, priority)) = unless k (nat_le most_processes made) EAGAIN _ (tt, tt)
 
 -- what fits at a place ends at the largest file, and so where any file can end
-room_ends : (largest place : ℕ) (bytes : List ℕ) → largest ≤ largest_file → nat_le largest place ≡ false → place + length (take (room largest place) bytes) ≤ largest_file
-room_ends largest place bytes low above =
-    let below : place < largest = search (arith, above) in
-    let few : length (take (room largest place) bytes) ≤ room largest place = take_few (room largest place) bytes in
-    let least : room largest place ≤ largest - place = min-le_left (largest - place) most_moved in
+room_ends : (largest offset : ℕ) (bytes : List ℕ) → largest ≤ largest_file → nat_le largest offset ≡ false → offset + length (take (room largest offset) bytes) ≤ largest_file
+room_ends largest offset bytes low above =
+    let below : offset < largest = search (arith, above) in
+    let few : length (take (room largest offset) bytes) ≤ room largest offset = take_few (room largest offset) bytes in
+    let least : room largest offset ≤ largest - offset = min-le_left (largest - offset) most_moved in
     omega arith
   where
     take_few : (n : ℕ) (xs : List ℕ) → length (take n xs) ≤ n
@@ -89,14 +89,14 @@ writes : (k : Kernel) (largest : ℕ) → largest ≤ largest_file → (it : Slo
 writes k largest low it bytes = either_given k Within (is_pipe it.kind) _ _ (λ _. unless k ((answer_to k (Count_ends it.inode)).0 == 0) EPIPE _ (
     let fitting = answer_to k (Fit it.inode (length bytes)) in
     unless k (nat_lt fitting (length bytes) && nat_le (length bytes) whole_write) EAGAIN _ (unless k (fitting == 0) EAGAIN _ (tt, tt))))
-    (λ _. after k (place_to_write it it.appending) _ (λ place. allowed k Within (nat_le largest place) EFBIG _ (λ above. (room_ends largest place bytes low above, (tt, tt)))))
+    (λ _. after k (place_to_write it it.appending) _ (λ offset. allowed k Within (nat_le largest offset) EFBIG _ (λ above. (room_ends largest offset bytes low above, (tt, tt)))))
 
 puts : (k : Kernel) (largest : ℕ) → largest ≤ largest_file → (n offset : ℕ) (bytes : List ℕ) → IfOk (given k (write_from largest n offset bytes)) Within
 puts k largest low n offset bytes = allowed k Within (nat_le largest offset) EFBIG _ (λ above. (room_ends largest offset bytes low above, tt))
 
-seeks : (k : Kernel) (largest : ℕ) (it : Slot) (place : ℤ) → IfOk (given k (sought largest it place)) Within
-seeks k largest it (pos place) = unless k (nat_lt largest place) EINVAL _ (tt, tt)
-seeks k largest it (negsuc place) = tt
+seeks : (k : Kernel) (largest : ℕ) (it : Slot) (offset : ℤ) → IfOk (given k (sought largest it offset)) Within
+seeks k largest it (pos offset) = unless k (nat_lt largest offset) EINVAL _ (tt, tt)
+seeks k largest it (negsuc offset) = tt
 
 len_ends : (largest len : ℕ) → largest ≤ largest_file → nat_lt largest len ≡ false → len ≤ largest_file
 len_ends largest len low above = let within : len ≤ largest = search (arith, above) in omega arith
@@ -116,7 +116,7 @@ planned k pid low (Read f count) = after k (slot (own k pid (Read f count)) f) _
 planned k pid low (Pread f count offset) = after k (slot (own k pid (Pread f count offset)) f) _ (λ it. unless k (not it.reading) EBADF _ (unless k (is_pipe it.kind) ESPIPE _ (after k (or_refuse EINVAL (offset_named offset)) _ (λ at. either_given k Within (count == 0) _ _ (λ _. tt) (λ _. tt)))))
 planned k pid low (Write f bytes) = after k (slot (own k pid (Write f bytes)) f) _ (λ it. unless k (not it.writing) EBADF _ (either_given k Within (is_empty bytes) _ _ (λ _. tt) (λ _. writes k k.largest low it bytes)))
 planned k pid low (Pwrite f bytes offset) = after k (slot (own k pid (Pwrite f bytes offset)) f) _ (λ it. unless k (not it.writing) EBADF _ (unless k (is_pipe it.kind) ESPIPE _ (after k (or_refuse EINVAL (offset_named offset)) _ (λ at. either_given k Within (is_empty bytes) _ _ (λ _. tt) (λ _. puts k k.largest low it.inode at bytes)))))
-planned k pid low (Lseek f move whence) = after k (slot (own k pid (Lseek f move whence)) f) _ (λ it. unless k (is_pipe it.kind) ESPIPE _ (after k (base it whence) _ (λ place. seeks k k.largest it (pos place +ℤ move))))
+planned k pid low (Lseek f move whence) = after k (slot (own k pid (Lseek f move whence)) f) _ (λ it. unless k (is_pipe it.kind) ESPIPE _ (after k (base it whence) _ (λ offset. seeks k k.largest it (pos offset +ℤ move))))
 planned k pid low (Ftruncate f len) = after k (slot (own k pid (Ftruncate f len)) f) _ (λ it. unless k (not it.writing) EBADF _ (unless k (is_pipe it.kind) EINVAL _ (allowed k Within (nat_lt k.largest len) EFBIG _ (λ above. (len_ends k.largest len low above, tt)))))
 planned k pid low (Truncate path len) = after k (parsed path) _ (λ names. after k (walk (k.root, Some A_directory) names) _ (λ place. unless k (is_directory place) EISDIR _ (allowed k Within (nat_lt k.largest len) EFBIG _ (λ above. (len_ends k.largest len low above, tt)))))
 planned k pid low (Fstat f) = after k (slot (own k pid (Fstat f)) f) _ (λ it. tells k (it.inode, it.kind))

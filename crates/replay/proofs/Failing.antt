@@ -69,11 +69,11 @@ chosen_of (Begin flags) reply chosen c h = absurd cc
 chosen_of End reply chosen c h = absurd cc
 chosen_of (Abort no_restart) reply chosen c h = absurd cc
 
-unchosen_at : (n : ℕ) (es : List Entry) → IsUnchosen n es → (place : ℕ) (c : Executed) → call_first (drop place es) ≡ c ∷ [] → AllByRecursion (λ m. m ≢ n) c.chosen
+unchosen_at : (n : ℕ) (es : List Entry) → IsUnchosen n es → (position : ℕ) (c : Executed) → call_first (drop position es) ≡ c ∷ [] → AllByRecursion (λ m. m ≢ n) c.chosen
 unchosen_at n [] h zero c is = absurd cc
-unchosen_at n [] h (suc place) c is = absurd cc
+unchosen_at n [] h (suc position) c is = absurd cc
 unchosen_at n (e ∷ es) h zero c is = subst (λ ns. AllByRecursion (λ m. m ≢ n) ns) (sym (chosen_of e.op e.reply e.chosen c is)) h.0
-unchosen_at n (e ∷ es) h (suc place) c is = unchosen_at n es h.1 place c is
+unchosen_at n (e ∷ es) h (suc position) c is = unchosen_at n es h.1 position c is
 
 -- a run of a longer list is one of a beginning
 run_begins : (k : Kernel) (pid : ℕ) (xs ys : List Executed) (l : Kernel) → Begins xs ys → Run k (items pid ys) l → (later : Kernel) × Run k (items pid xs) later
@@ -86,12 +86,12 @@ same_entry x y xs ys h = cc
 
 -- the one failure is no later than the other
 abbrev pub IsNoLater : ℕ → ℕ → ℕ → ℕ → Type 0
-IsNoLater at place behind other = (at < behind) ⊎ ((at ≡ behind) × (place ≤ other))
+IsNoLater at position behind other = (at < behind) ⊎ ((at ≡ behind) × (position ≤ other))
 
 module _ (setup : Setup) (es : List Entry) where
-  module _ (g at place : ℕ) (e : Entry) (here : HoldsEntry es at e) (p : Passes g setup (take at es)) where
+  module _ (g at position : ℕ) (e : Entry) (here : HoldsEntry es at e) (p : Passes g setup (take at es)) where
     abbrev How : Type 0
-    How = IsUnsuited g setup es at place e p ⊎ (IsWrongCall g setup es at place e p ⊎ IsWrongCommit g setup es at place e p)
+    How = IsUnsuited g setup es at position e p ⊎ (IsWrongCall g setup es at position e p ⊎ IsWrongCommit g setup es at position e p)
 
     -- what it is for a root with this committed state to go on where this one fails
     abbrev GoesOn : How → ℕ → Kernel → Type 0
@@ -118,7 +118,7 @@ module _ (setup : Setup) (es : List Entry) where
           (record { rest = drop (suc w.number) calls; is = sym (take-append-drop (suc w.number) calls) ∙ ap (λ cs. cs ++ drop (suc w.number) calls) w.with_it }) run
 
     -- or where it commits, and the call runs behind those before it
-    call_goes_on : (w : IsWrongCommit g setup es at place e p) (r : ℕ) (q : RunsOn r setup es e.pid at (suc w.number)) → GoesOn (inr (inr w)) r q.passes.exists.committed
+    call_goes_on : (w : IsWrongCommit g setup es at position e p) (r : ℕ) (q : RunsOn r setup es e.pid at (suc w.number)) → GoesOn (inr (inr w)) r q.passes.exists.committed
     call_goes_on w r q = (q.after, subst (λ cs. Run q.passes.exists.committed (items e.pid cs) q.after) (ap (take (suc w.number)) (calls_alike setup g r (take at es) p q.passes e.pid) ∙ w.with_it) q.run)
 
     -- this root does not
@@ -128,14 +128,14 @@ module _ (setup : Setup) (es : List Entry) where
     fails_itself (inr (inr w)) q on = w.stops.fails on.0 (subst (λ k. Run k (items e.pid (take w.number (calls_before g setup es e.pid at) ++ w.call ∷ [])) on.0) (same_committed g setup (take at es) q p) on.1)
 
     -- nor does another, where this one is not chosen and the call does not tell the other
-    fails_too : (h : How) (r : ℕ) (q : Passes r setup (take at es)) → IsUnchosen g es → (TellsAt r es place → ⊥) → GoesOn h r q.exists.committed → ⊥
+    fails_too : (h : How) (r : ℕ) (q : Passes r setup (take at es)) → IsUnchosen g es → (TellsAt r es position → ⊥) → GoesOn h r q.exists.committed → ⊥
     fails_too h r q away quiet on = elim (cases_eq r g) [
       | inl same ↦ subst (λ x. (q : Passes x setup (take at es)) → GoesOn h x q.exists.committed → ⊥) (sym same) (fails_itself h) q on
       | inr apart ↦ other apart h on
     ] where
-      stops : (first : List Executed) (c : Executed) → r ≢ g → StopsAt p.exists.committed e.pid es place first c → (later : Kernel) × Run q.exists.committed (items e.pid (first ++ c ∷ [])) later → ⊥
+      stops : (first : List Executed) (c : Executed) → r ≢ g → StopsAt p.exists.committed e.pid es position first c → (later : Kernel) × Run q.exists.committed (items e.pid (first ++ c ∷ [])) later → ⊥
       stops first c apart h on =
-          let ran = last_runs setup r g (take at es) q p apart e.pid first c on.0 h.mid on.1 h.runs (λ tells. quiet (record { call = c; here = h.here; tells = tells })) (unchosen_at g es away place c h.here) in
+          let ran = last_runs setup r g (take at es) q p apart e.pid first c on.0 h.mid on.1 h.runs (λ tells. quiet (record { call = c; here = h.here; tells = tells })) (unchosen_at g es away position c h.here) in
           h.fails ran.0 ran.1
 
       other : r ≢ g → (h : How) → GoesOn h r q.exists.committed → ⊥
@@ -144,7 +144,7 @@ module _ (setup : Setup) (es : List Entry) where
       other apart (inr (inr w)) on = stops (take w.number (calls_before g setup es e.pid at)) w.call apart w.stops on
 
     -- where none goes on, the history is wrong there
-    wrong_there : (h : How) → ((r : ℕ) (q : Passes r setup (take at es)) → GoesOn h r q.exists.committed → ⊥) → IsFirstWrong setup es place
+    wrong_there : (h : How) → ((r : ℕ) (q : Passes r setup (take at es)) → GoesOn h r q.exists.committed → ⊥) → IsFirstWrong setup es position
     wrong_there h none = record {
       at = at;
       entry = e;
@@ -153,7 +153,7 @@ module _ (setup : Setup) (es : List Entry) where
       fails = λ some. let q = passes_take some.0 setup es at (suc at) (omega arith) some.1 in none some.0 q (entry_goes_on h some.0 q some.1);
       is = by h none;
     } where
-      by : (h : How) → ((r : ℕ) (q : Passes r setup (take at es)) → GoesOn h r q.exists.committed → ⊥) → IsItself setup es e at place ⊎ IsFirstWrongCall setup es e at place
+      by : (h : How) → ((r : ℕ) (q : Passes r setup (take at es)) → GoesOn h r q.exists.committed → ⊥) → IsItself setup es e at position ⊎ IsFirstWrongCall setup es e at position
       by (inl u) none = inl (record {
         same = u.same;
         commits_not = λ r q. not_true _ (λ yes. true_or_false _ ((commits_in _ e.op e.reply e.chosen yes).suits) (suits_alike setup g r (take at es) p q e ∙ u.unsuited));
@@ -170,24 +170,24 @@ module _ (setup : Setup) (es : List Entry) where
       })
 
     -- So it is where the call there tells no root.
-    pub wrong_for_all : (h : How) → IsUnchosen g es → ((r : ℕ) → TellsAt r es place → ⊥) → IsFirstWrong setup es place
+    pub wrong_for_all : (h : How) → IsUnchosen g es → ((r : ℕ) → TellsAt r es position → ⊥) → IsFirstWrong setup es position
     wrong_for_all h away quiet = wrong_there h (λ r q. fails_too h r q away (quiet r))
 
-  -- Two roots that fail at one entry, the one at no later place than the other: what goes on from the
+  -- Two roots that fail at one entry, the one at no later position than the other: what goes on from the
   -- later goes on from the earlier.
   module _ (g k at : ℕ) (e : Entry) (here : HoldsEntry es at e) (p : Passes g setup (take at es)) (q : Passes k setup (take at es)) where
-    in_order : (place other : ℕ) (w : IsWrongCommit g setup es at place e p) (v : IsWrongCommit k setup es at other e q) → place ≤ other → w.number ≤ v.number
-    in_order place other w v order =
+    in_order : (position other : ℕ) (w : IsWrongCommit g setup es at position e p) (v : IsWrongCommit k setup es at other e q) → position ≤ other → w.number ≤ v.number
+    in_order position other w v order =
         let low : other ≤ at = omega (arith, v.is_call.earlier) in
         let alike : calls_before k setup es e.pid other ≡ calls_before g setup es e.pid other = calls_alike setup g k (take other es) (passes_take g setup es other at low p) (passes_take k setup es other at low q) e.pid in
         let same : length (calls_before k setup es e.pid other) ≡ length (calls_before g setup es e.pid other) = ap length alike in
         let here : length (calls_before k setup es e.pid other) ≡ v.number = v.is_call.before in
-        elim (cases_eq place other) [
+        elim (cases_eq position other) [
           | inl one ↦
               let before : length (calls_before g setup es e.pid other) ≡ w.number = subst (λ n. length (calls_before g setup es e.pid n) ≡ w.number) one w.is_call.before in
               omega (arith, same, here, before)
           | inr two ↦
-              let past : w.number < length (calls_before g setup es e.pid other) = w.is_call.since other (strictly place other order two) low in
+              let past : w.number < length (calls_before g setup es e.pid other) = w.is_call.since other (strictly position other order two) low in
               omega (arith, same, here, past)
         ]
       where
@@ -200,19 +200,19 @@ module _ (setup : Setup) (es : List Entry) where
     fit : suits (status (after g setup (take at es)) e.pid) e.op e.reply ≡ true → suits (status (after k setup (take at es)) e.pid) e.op e.reply ≡ false → ⊥
     fit fits no_fit = true_or_false _ (suits_alike setup g k (take at es) p q e ∙ fits) no_fit
 
-    same_place : (place other : ℕ) → place ≤ other → (h : How g at place e here p) (v : How k at other e here q) (r : ℕ) (s : Passes r setup (take at es)) → GoesOn k at other e here q v r s.exists.committed → GoesOn g at place e here p h r s.exists.committed
-    same_place place other order (inl u) (inl v) r s on = on
-    same_place place other order (inl u) (inr (inl v)) r s on = absurd (misfit u.unsuited v.suits)
-    same_place place other order (inl u) (inr (inr v)) r s on = absurd (misfit u.unsuited ((commits_in _ e.op e.reply e.chosen v.commits).suits))
-    same_place place other order (inr (inl w)) (inl v) r s on = absurd (fit w.suits v.unsuited)
-    same_place place other order (inr (inl w)) (inr (inl v)) r s on =
+    same_position : (position other : ℕ) → position ≤ other → (h : How g at position e here p) (v : How k at other e here q) (r : ℕ) (s : Passes r setup (take at es)) → GoesOn k at other e here q v r s.exists.committed → GoesOn g at position e here p h r s.exists.committed
+    same_position position other order (inl u) (inl v) r s on = on
+    same_position position other order (inl u) (inr (inl v)) r s on = absurd (misfit u.unsuited v.suits)
+    same_position position other order (inl u) (inr (inr v)) r s on = absurd (misfit u.unsuited ((commits_in _ e.op e.reply e.chosen v.commits).suits))
+    same_position position other order (inr (inl w)) (inl v) r s on = absurd (fit w.suits v.unsuited)
+    same_position position other order (inr (inl w)) (inr (inl v)) r s on =
         (on.0, subst (λ cs. Run s.exists.committed (items e.pid cs) on.0) (sym v.only ∙ runs_alike setup g k (take at es) p q e ∙ w.only) on.1)
-    same_place place other order (inr (inl w)) (inr (inr v)) r s on = absurd (true_or_false _ v.commits (commits_alike setup g k (take at es) p q e ∙ w.commits_not))
-    same_place place other order (inr (inr w)) (inl v) r s on = absurd (fit ((commits_in _ e.op e.reply e.chosen w.commits).suits) v.unsuited)
-    same_place place other order (inr (inr w)) (inr (inl v)) r s on = absurd (true_or_false _ (commits_alike setup g k (take at es) p q e ∙ w.commits) v.commits_not)
-    same_place place other order (inr (inr w)) (inr (inr v)) r s on =
+    same_position position other order (inr (inl w)) (inr (inr v)) r s on = absurd (true_or_false _ v.commits (commits_alike setup g k (take at es) p q e ∙ w.commits_not))
+    same_position position other order (inr (inr w)) (inl v) r s on = absurd (fit ((commits_in _ e.op e.reply e.chosen w.commits).suits) v.unsuited)
+    same_position position other order (inr (inr w)) (inr (inl v)) r s on = absurd (true_or_false _ (commits_alike setup g k (take at es) p q e ∙ w.commits) v.commits_not)
+    same_position position other order (inr (inr w)) (inr (inr v)) r s on =
         let mine : List Executed = calls_before g setup es e.pid at in
-        let low : suc w.number ≤ suc v.number = omega (arith, in_order place other w v order) in
+        let low : suc w.number ≤ suc v.number = omega (arith, in_order position other w v order) in
         let begins = take_begins mine (suc w.number) (suc v.number) low in
         let all : take v.number (calls_before k setup es e.pid at) ++ v.call ∷ [] ≡ take (suc v.number) mine = sym v.with_it ∙ ap (take (suc v.number)) (calls_alike setup g k (take at es) p q e.pid) in
         run_begins s.exists.committed e.pid (take w.number mine ++ w.call ∷ []) (take (suc v.number) mine) on.0
@@ -220,50 +220,50 @@ module _ (setup : Setup) (es : List Entry) where
         (subst (λ cs. Run s.exists.committed (items e.pid cs) on.0) all on.1)
 
   -- to go on where a root fails
-  abbrev Beats : (g at place : ℕ) → FailsAt g setup es at place → ℕ → Kernel → Type 0
-  Beats g at place f r c = GoesOn g at place f.entry f.here f.passes f.how r c
+  abbrev Beats : (g at position : ℕ) → FailsAt g setup es at position → ℕ → Kernel → Type 0
+  Beats g at position f r c = GoesOn g at position f.entry f.here f.passes f.how r c
 
-  module _ (g k at place : ℕ) (f : FailsAt g setup es at place) (r : ℕ) (s : Passes r setup (take at es)) where
-    at_one : (other : ℕ) (v : FailsAt k setup es at other) → place ≤ other → (t : Passes r setup (take at es)) → Beats k at other v r t.exists.committed → Beats g at place f r s.exists.committed
+  module _ (g k at position : ℕ) (f : FailsAt g setup es at position) (r : ℕ) (s : Passes r setup (take at es)) where
+    at_one : (other : ℕ) (v : FailsAt k setup es at other) → position ≤ other → (t : Passes r setup (take at es)) → Beats k at other v r t.exists.committed → Beats g at position f r s.exists.committed
     at_one other v order t on =
-        subst (λ x. (here : HoldsEntry es at x) (p : Passes k setup (take at es)) (h : How k at other x here p) → GoesOn k at other x here p h r t.exists.committed → Beats g at place f r s.exists.committed)
+        subst (λ x. (here : HoldsEntry es at x) (p : Passes k setup (take at es)) (h : How k at other x here p) → GoesOn k at other x here p h r t.exists.committed → Beats g at position f r s.exists.committed)
         (same_entry f.entry v.entry _ _ (sym f.here.here ∙ v.here.here))
-        (λ here p h on. same_place g k at f.entry f.here f.passes p place other order f.how h r s
+        (λ here p h on. same_position g k at f.entry f.here f.passes p position other order f.how h r s
         (subst (λ c. GoesOn k at other f.entry here p h r c) (same_committed r setup (take at es) t s) on))
         v.here v.passes v.how on
 
-    beats_earlier : (behind other : ℕ) (v : FailsAt k setup es behind other) → IsNoLater at place behind other → (t : Passes r setup (take behind es)) → Beats k behind other v r t.exists.committed → Beats g at place f r s.exists.committed
-    beats_earlier behind other v (inl low) t on = entry_goes_on g at place f.entry f.here f.passes f.how r s (passes_take r setup es (suc at) behind (omega arith) t)
+    beats_earlier : (behind other : ℕ) (v : FailsAt k setup es behind other) → IsNoLater at position behind other → (t : Passes r setup (take behind es)) → Beats k behind other v r t.exists.committed → Beats g at position f r s.exists.committed
+    beats_earlier behind other v (inl low) t on = entry_goes_on g at position f.entry f.here f.passes f.how r s (passes_take r setup es (suc at) behind (omega arith) t)
     beats_earlier behind other v (inr same) t on =
-        subst (λ n. (v : FailsAt k setup es n other) (t : Passes r setup (take n es)) → Beats k n other v r t.exists.committed → Beats g at place f r s.exists.committed) same.0
+        subst (λ n. (v : FailsAt k setup es n other) (t : Passes r setup (take n es)) → Beats k n other v r t.exists.committed → Beats g at position f r s.exists.committed) same.0
         (λ v t on. at_one other v same.1 t on) v t on
 
   -- a beginning of what passes, up to the earlier of two failures
-  first_passes : (at place behind other : ℕ) → IsNoLater at place behind other → at ≤ behind
-  first_passes at place behind other (inl low) = omega arith
-  first_passes at place behind other (inr same) = omega (arith, same.0)
+  first_passes : (at position behind other : ℕ) → IsNoLater at position behind other → at ≤ behind
+  first_passes at position behind other (inl low) = omega arith
+  first_passes at position behind other (inr same) = omega (arith, same.0)
 
-  module _ (guess at place : ℕ) (f : FailsAt guess setup es at place) (away : IsUnchosen guess es) where
+  module _ (guess at position : ℕ) (f : FailsAt guess setup es at position) (away : IsUnchosen guess es) where
     -- Where a number fails that is not chosen, the history is wrong, unless the call there tells a root.
-    pub wrong_for_guess : ((r : ℕ) → TellsAt r es place → ⊥) → IsFirstWrong setup es place
-    wrong_for_guess quiet = wrong_for_all guess at place f.entry f.here f.passes f.how away quiet
+    pub wrong_for_guess : ((r : ℕ) → TellsAt r es position → ⊥) → IsFirstWrong setup es position
+    wrong_for_guess quiet = wrong_for_all guess at position f.entry f.here f.passes f.how away quiet
 
     -- If it tells one, the history is wrong at the later of both failures.
-    module _ (root behind other : ℕ) (v : FailsAt root setup es behind other) (told : (r : ℕ) → TellsAt r es place → r ≡ root) where
-      pub wrong_for_told : IsNoLater at place behind other → IsFirstWrong setup es other
+    module _ (root behind other : ℕ) (v : FailsAt root setup es behind other) (told : (r : ℕ) → TellsAt r es position → r ≡ root) where
+      pub wrong_for_told : IsNoLater at position behind other → IsFirstWrong setup es other
       wrong_for_told order = wrong_there root behind other v.entry v.here v.passes v.how (λ r q on. elim (cases_eq r root) [
         | inl same ↦ subst (λ x. (q : Passes x setup (take behind es)) → Beats root behind other v x q.exists.committed → ⊥) (sym same) (fails_itself root behind other v.entry v.here v.passes v.how) q on
         | inr apart ↦
-            let s : Passes r setup (take at es) = passes_take r setup es at behind (first_passes at place behind other order) q in
-            fails_too guess at place f.entry f.here f.passes f.how r s away (λ tells. apart (told r tells)) (beats_earlier guess root at place f r s behind other v order q on)
+            let s : Passes r setup (take at es) = passes_take r setup es at behind (first_passes at position behind other order) q in
+            fails_too guess at position f.entry f.here f.passes f.how r s away (λ tells. apart (told r tells)) (beats_earlier guess root at position f r s behind other v order q on)
       ])
 
-      pub wrong_for_first : IsNoLater behind other at place → IsFirstWrong setup es place
-      wrong_for_first order = wrong_there guess at place f.entry f.here f.passes f.how (λ r q on. elim (cases_eq r root) [
-        | inl same ↦ subst (λ x. (q : Passes x setup (take at es)) → Beats guess at place f x q.exists.committed → ⊥) (sym same)
-            (λ q on. let s : Passes root setup (take behind es) = passes_take root setup es behind at (first_passes behind other at place order) q in
-            fails_itself root behind other v.entry v.here v.passes v.how s (beats_earlier root guess behind other v root s at place f order q on)) q on
-        | inr apart ↦ fails_too guess at place f.entry f.here f.passes f.how r q away (λ tells. apart (told r tells)) on
+      pub wrong_for_first : IsNoLater behind other at position → IsFirstWrong setup es position
+      wrong_for_first order = wrong_there guess at position f.entry f.here f.passes f.how (λ r q on. elim (cases_eq r root) [
+        | inl same ↦ subst (λ x. (q : Passes x setup (take at es)) → Beats guess at position f x q.exists.committed → ⊥) (sym same)
+            (λ q on. let s : Passes root setup (take behind es) = passes_take root setup es behind at (first_passes behind other at position order) q in
+            fails_itself root behind other v.entry v.here v.passes v.how s (beats_earlier root guess behind other v root s at position f order q on)) q on
+        | inr apart ↦ fails_too guess at position f.entry f.here f.passes f.how r q away (λ tells. apart (told r tells)) on
       ])
 
 -- the later of two failures is one of them, and the other is no later

@@ -13,13 +13,13 @@ use Rattle.model.specs.Legal.{items, serial, serial_from}
 use Rattle.call_laws.proofs.Laws.{calls_are_lawful_lem}
 use Rattle.freeing_laws.specs.Sweep.{IsTidied}
 use Rattle.model.specs.Suits.{AllSuit, suits, suits_live, is_committed}
-use Rattle.replay.specs.Transactions.{IsKept, call_in, call_first, call_of, calls_at_places, suits_kept, with_place, begun_kept, settled_kept, own_kept, doomed_kept, next_kept, run_kept, is_end}
+use Rattle.replay.specs.Transactions.{IsKept, call_in, call_first, call_of, calls_at_positions, suits_kept, with_position, begun_kept, settled_kept, own_kept, doomed_kept, next_kept, run_kept, is_end}
 use Rattle.model.specs.Passing.{Passes}
 use Rattle.replay.specs.Ran.{AreNext, Ran, RanAt, Follows}
 use Rattle.replay.specs.Faults.{HoldsEntry}
 use Rattle.replay.specs.declared.transaction.Transaction.{Transaction}
 use Rattle.replay.specs.declared.transaction.Transaction.TheVariants.{Live, Doomed}
-use Rattle.replay.proofs.Placing.{calls-more, next_places}
+use Rattle.replay.proofs.Placing.{calls-more, next_positions}
 use Rattle.replay.proofs.Prefixes.{take_next}
 use Rattle.replay.proofs.Running.{ran_append, ran_nothing, run_append, run_leads}
 
@@ -73,7 +73,7 @@ module _ (es : List Entry) where
   run_is true None gone op reply chosen h u = absurd h
   run_is true None (live f a cs) op reply chosen h u = absurd h
   run_is true None (doomed c f a) op reply chosen h u = absurd h
-  run_is true (Some (Live f ps)) (live g a cs) op reply chosen h u = live_runs g a cs (calls_at_places es ps) op reply chosen h.1 (subst (λ x. suits_live x op reply ≡ true) h.0 u)
+  run_is true (Some (Live f ps)) (live g a cs) op reply chosen h u = live_runs g a cs (calls_at_positions es ps) op reply chosen h.1 (subst (λ x. suits_live x op reply ≡ true) h.0 u)
   run_is true (Some (Live f ps)) idle op reply chosen h u = absurd h
   run_is true (Some (Live f ps)) gone op reply chosen h u = absurd h
   run_is true (Some (Live f ps)) (doomed c g a) op reply chosen h u = absurd h
@@ -112,22 +112,22 @@ module _ (es : List Entry) where
   settled_is (Some (Doomed f)) gone again h = absurd h
   settled_is (Some (Doomed f)) (live g a cs) again h = absurd h
 
-  begun_is : (t : Option Transaction) (s : Status) (op : Op) (place : ℕ) → IsKept es t s → IsKept es (begun_kept t op) (begun s op place)
-  begun_is None idle (Begin flags) place h = (refl, refl)
-  begun_is None idle (Do call) place h = tt
-  begun_is None idle End place h = tt
-  begun_is None idle (Abort no_restart) place h = tt
-  begun_is None gone op place h = absurd h
-  begun_is None (live f a cs) op place h = absurd h
-  begun_is None (doomed c f a) op place h = absurd h
-  begun_is (Some (Live f ps)) (live g a cs) op place h = h
-  begun_is (Some (Live f ps)) idle op place h = absurd h
-  begun_is (Some (Live f ps)) gone op place h = absurd h
-  begun_is (Some (Live f ps)) (doomed c g a) op place h = absurd h
-  begun_is (Some (Doomed f)) (doomed c g a) op place h = h
-  begun_is (Some (Doomed f)) idle op place h = absurd h
-  begun_is (Some (Doomed f)) gone op place h = absurd h
-  begun_is (Some (Doomed f)) (live g a cs) op place h = absurd h
+  begun_is : (t : Option Transaction) (s : Status) (op : Op) (position : ℕ) → IsKept es t s → IsKept es (begun_kept t op) (begun s op position)
+  begun_is None idle (Begin flags) position h = (refl, refl)
+  begun_is None idle (Do call) position h = tt
+  begun_is None idle End position h = tt
+  begun_is None idle (Abort no_restart) position h = tt
+  begun_is None gone op position h = absurd h
+  begun_is None (live f a cs) op position h = absurd h
+  begun_is None (doomed c f a) op position h = absurd h
+  begun_is (Some (Live f ps)) (live g a cs) op position h = h
+  begun_is (Some (Live f ps)) idle op position h = absurd h
+  begun_is (Some (Live f ps)) gone op position h = absurd h
+  begun_is (Some (Live f ps)) (doomed c g a) op position h = absurd h
+  begun_is (Some (Doomed f)) (doomed c g a) op position h = h
+  begun_is (Some (Doomed f)) idle op position h = absurd h
+  begun_is (Some (Doomed f)) gone op position h = absurd h
+  begun_is (Some (Doomed f)) (live g a cs) op position h = absurd h
 
   -- the call of an entry by its answer
   abbrev called_by : Op → Option (Result Answer Errno) → List ℕ → List Executed
@@ -142,15 +142,15 @@ module _ (es : List Entry) where
   called_is End reply chosen = refl
   called_is (Abort no_restart) reply chosen = refl
 
-  live_more : (f g : _) (ps : List ℕ) (a : ℕ) (cs : List Executed) (at : ℕ) (op : Op) (o : Option (Result Answer Errno)) (chosen : List ℕ) → f ≡ g → cs ≡ calls_at_places es ps → call_first (drop at es) ≡ called_by op o chosen
+  live_more : (f g : _) (ps : List ℕ) (a : ℕ) (cs : List Executed) (at : ℕ) (op : Op) (o : Option (Result Answer Errno)) (chosen : List ℕ) → f ≡ g → cs ≡ calls_at_positions es ps → call_first (drop at es) ≡ called_by op o chosen
       → IsKept es (Some (Live f (ps ++ at ∷ []))) (with_call (live g a cs) op o chosen)
-  live_more f g ps a cs at (Do call) (Some x) chosen e is here = (e, ap (λ ds. ds ++ (record { call = call; answer = x; chosen = chosen } ∷ [])) is ∙ ap (λ ds. calls_at_places es ps ++ ds) (sym here) ∙ sym (calls-more es ps at))
-  live_more f g ps a cs at (Do call) None chosen e is here = (e, is ∙ sym (append-nil (calls_at_places es ps)) ∙ ap (λ ds. calls_at_places es ps ++ ds) (sym here) ∙ sym (calls-more es ps at))
-  live_more f g ps a cs at (Begin flags) o chosen e is here = (e, is ∙ sym (append-nil (calls_at_places es ps)) ∙ ap (λ ds. calls_at_places es ps ++ ds) (sym here) ∙ sym (calls-more es ps at))
-  live_more f g ps a cs at End o chosen e is here = (e, is ∙ sym (append-nil (calls_at_places es ps)) ∙ ap (λ ds. calls_at_places es ps ++ ds) (sym here) ∙ sym (calls-more es ps at))
-  live_more f g ps a cs at (Abort no_restart) o chosen e is here = (e, is ∙ sym (append-nil (calls_at_places es ps)) ∙ ap (λ ds. calls_at_places es ps ++ ds) (sym here) ∙ sym (calls-more es ps at))
+  live_more f g ps a cs at (Do call) (Some x) chosen e is here = (e, ap (λ ds. ds ++ (record { call = call; answer = x; chosen = chosen } ∷ [])) is ∙ ap (λ ds. calls_at_positions es ps ++ ds) (sym here) ∙ sym (calls-more es ps at))
+  live_more f g ps a cs at (Do call) None chosen e is here = (e, is ∙ sym (append-nil (calls_at_positions es ps)) ∙ ap (λ ds. calls_at_positions es ps ++ ds) (sym here) ∙ sym (calls-more es ps at))
+  live_more f g ps a cs at (Begin flags) o chosen e is here = (e, is ∙ sym (append-nil (calls_at_positions es ps)) ∙ ap (λ ds. calls_at_positions es ps ++ ds) (sym here) ∙ sym (calls-more es ps at))
+  live_more f g ps a cs at End o chosen e is here = (e, is ∙ sym (append-nil (calls_at_positions es ps)) ∙ ap (λ ds. calls_at_positions es ps ++ ds) (sym here) ∙ sym (calls-more es ps at))
+  live_more f g ps a cs at (Abort no_restart) o chosen e is here = (e, is ∙ sym (append-nil (calls_at_positions es ps)) ∙ ap (λ ds. calls_at_positions es ps ++ ds) (sym here) ∙ sym (calls-more es ps at))
 
-  more_is : (t : Option Transaction) (s : Status) (at : ℕ) (op : Op) (o : Option (Result Answer Errno)) (chosen : List ℕ) → IsKept es t s → call_first (drop at es) ≡ called_by op o chosen → IsKept es (with_place at t) (with_call s op o chosen)
+  more_is : (t : Option Transaction) (s : Status) (at : ℕ) (op : Op) (o : Option (Result Answer Errno)) (chosen : List ℕ) → IsKept es t s → call_first (drop at es) ≡ called_by op o chosen → IsKept es (with_position at t) (with_call s op o chosen)
   more_is None idle at op o chosen h here = tt
   more_is None gone at op o chosen h here = absurd h
   more_is None (live f a cs) at op o chosen h here = absurd h
@@ -164,19 +164,19 @@ module _ (es : List Entry) where
   more_is (Some (Doomed f)) gone at op o chosen h here = absurd h
   more_is (Some (Doomed f)) (live g a cs) at op o chosen h here = absurd h
 
-  own_is : (t : Option Transaction) (s : Status) (at place : ℕ) (op : Op) (reply : Reply) (chosen : List ℕ) → IsKept es t s → call_first (drop at es) ≡ call_in op reply chosen → IsKept es (own_kept at t op reply) (own_next place s op reply chosen)
-  own_is t s at place op (Answers x) chosen h here = more_is t s at op _ chosen h (here ∙ called_is op (Answers x) chosen)
-  own_is t s at place op (Refuses x) chosen h here = more_is t s at op _ chosen h (here ∙ called_is op (Refuses x) chosen)
-  own_is t s at place op Begun chosen h here = begun_is t s op place h
-  own_is t s at place op Committed chosen h here = tt
-  own_is t s at place op (GivenUp again) chosen h here = settled_is t s again h
-  own_is t s at place op (Aborted why again) chosen h here = settled_is t s again h
-  own_is t s at place op (Busy x) chosen h here = h
-  own_is t s at place op InTransaction chosen h here = h
-  own_is t s at place op NotInTransaction chosen h here = h
-  own_is t s at place op HistoryFull chosen h here = h
-  own_is t s at place op NoMemory chosen h here = h
-  own_is t s at place op NoProcess chosen h here = h
+  own_is : (t : Option Transaction) (s : Status) (at position : ℕ) (op : Op) (reply : Reply) (chosen : List ℕ) → IsKept es t s → call_first (drop at es) ≡ call_in op reply chosen → IsKept es (own_kept at t op reply) (own_next position s op reply chosen)
+  own_is t s at position op (Answers x) chosen h here = more_is t s at op _ chosen h (here ∙ called_is op (Answers x) chosen)
+  own_is t s at position op (Refuses x) chosen h here = more_is t s at op _ chosen h (here ∙ called_is op (Refuses x) chosen)
+  own_is t s at position op Begun chosen h here = begun_is t s op position h
+  own_is t s at position op Committed chosen h here = tt
+  own_is t s at position op (GivenUp again) chosen h here = settled_is t s again h
+  own_is t s at position op (Aborted why again) chosen h here = settled_is t s again h
+  own_is t s at position op (Busy x) chosen h here = h
+  own_is t s at position op InTransaction chosen h here = h
+  own_is t s at position op NotInTransaction chosen h here = h
+  own_is t s at position op HistoryFull chosen h here = h
+  own_is t s at position op NoMemory chosen h here = h
+  own_is t s at position op NoProcess chosen h here = h
 
   -- what is kept of each process after an entry
   next_is : (m : Moment) (e : Entry) (at q : ℕ) (t : Option Transaction) → IsKept es t (m.phase q) → call_first (drop at es) ≡ call_in e.op e.reply e.chosen → IsKept es (next_kept at e q t) (next_phase m e q)
@@ -215,7 +215,7 @@ follows_none root setup es k kept is none =
       tidied = subst IsTidied (sym is) tidied;
       committed = is;
       phases = λ q. subst (λ (t : Option Transaction). IsKept es t idle) (sym (ap (λ m. get m q) none ∙ get-empty nat_cmp q)) tt;
-      places = λ q. subst (λ (t : Option Transaction). AreNext root setup es q 0 t) (sym (ap (λ m. get m q) none ∙ get-empty nat_cmp q)) tt;
+      positions = λ q. subst (λ (t : Option Transaction). AreNext root setup es q 0 t) (sym (ap (λ m. get m q) none ∙ get-empty nat_cmp q)) tt;
     }
 
 -- one entry more
@@ -242,10 +242,10 @@ follows_more root setup es at k kept e rest l then_kept f here suit ran later =
       tidied = ran.tidied;
       committed = run_leads e.pid _ k l ran_now ∙ ap (after_list e.pid (run_by (status m e.pid) e.op e.reply e.chosen)) f.committed ∙ ap (λ (x : Moment). x.committed) (sym now) ∙ ap (λ xs. (after root setup xs).committed) (sym more);
       phases = λ q. subst (λ (t : Option Transaction). IsKept es t ((after root setup (take (at + 1) es)).phase q)) (sym (later q)) (phases q);
-      places = λ q. subst (λ (t : Option Transaction). AreNext root setup es q (at + 1) t) (sym (later q)) (next_places root setup es q at (get kept q) e (f.phases q) (f.places q) (phases q));
+      positions = λ q. subst (λ (t : Option Transaction). AreNext root setup es q (at + 1) t) (sym (later q)) (next_positions root setup es q at (get kept q) e (f.phases q) (f.positions q) (phases q));
     }
 
--- the entry at a place
+-- the entry at a position
 heads : (x y : Entry) (xs ys : List Entry) → ◌≡◌ {A = List Entry} (x ∷ xs) (y ∷ ys) → x ≡ y
 heads x y xs ys h = cc
 
@@ -259,7 +259,7 @@ module _ (es : List Entry) (at : ℕ) (d : Entry) where
   pub call_here : at < length es → d ≡ get_or es at d → call_first (drop at es) ≡ call_of d
   call_here low is = ap call_first (begins low is)
 
-  -- what its process runs at its place
+  -- what its process runs at its position
   pub ran_at : (kept : Option Transaction) (k l : Kernel) → at < length es → d ≡ get_or es at d → is_alive k d.pid ≡ true
       → Ran k d.pid (run_kept true kept es d.op d.reply d.chosen) l → RanAt es at kept k l
   ran_at kept k l low is alive ran = λ e held.
@@ -274,12 +274,12 @@ module _ (es : List Entry) (at : ℕ) (d : Entry) where
 pub no_call_here : (es : List Entry) (at : ℕ) → length es ≤ at → call_first (drop at es) ≡ []
 no_call_here es at past = ap call_first (drop_all at es past)
 
--- the call at one place more
+-- the call at one position more
 pub ran_more : (es : List Entry) (ps : List ℕ) (i p d : ℕ) (k mid l : Kernel) (pid : ℕ) → i < length ps → p ≡ get_or ps i d
-    → Ran k pid (calls_at_places es (take i ps)) mid → Ran mid pid (call_first (drop p es)) l → Ran k pid (calls_at_places es (take (i + 1) ps)) l
+    → Ran k pid (calls_at_positions es (take i ps)) mid → Ran mid pid (call_first (drop p es)) l → Ran k pid (calls_at_positions es (take (i + 1) ps)) l
 ran_more es ps i p d k mid l pid low is before ran =
     let more : take (i + 1) ps ≡ take i ps ++ p ∷ [] = list_more ps i d low ∙ ap (λ (x : ℕ). take i ps ++ x ∷ []) (sym is) in
-    subst (λ (cs : List Executed). Ran k pid cs l) (sym (calls-more es (take i ps) p) ∙ ap (calls_at_places es) (sym more))
+    subst (λ (cs : List Executed). Ran k pid cs l) (sym (calls-more es (take i ps) p) ∙ ap (calls_at_positions es) (sym more))
     (ran_append k mid l pid _ _ before ran)
 
 -- all entries

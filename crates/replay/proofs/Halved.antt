@@ -8,7 +8,7 @@ use Rattle.std.specs.List.{AllWithin, HoldsAt}
 use Rattle.std.specs.Result.{MatchResult}
 use Rattle.std.specs.List.Sorted.{IsNonDecreasingBy, IsBinarySearchResult, IsSearchInRange}
 use Rattle.std.specs.FinMap.Entries.{is_sorted, below_all}
-use Rattle.replay.specs.Places.{rank, holds, IsPlaceOf, IsPlaceFor}
+use Rattle.replay.specs.Indices.{rank, holds, IsIndexOf, IsIndexFor}
 
 pub both_parts : (a b : Bool) → (a && b) ≡ true → (a ≡ true) × (b ≡ true)
 both_parts true b h = (refl, h)
@@ -58,31 +58,31 @@ module _ {K X : Type 0} {R : K → K → Ordering} (total : IsTotalOrder R) wher
   holds_by k e es o h = ap (λ o. match_ordering o false true (holds R k es)) h
 
   -- a key that was met is in its place
-  placed_at : (k : K) (es : List (K × X)) → IsTrue (is_sorted R es) → (i : ℕ) → i < length es → HoldsAt (λ e. R e.0 k ≡ Equal) es i → IsPlaceOf R k es i
+  placed_at : (k : K) (es : List (K × X)) → IsTrue (is_sorted R es) → (i : ℕ) → i < length es → HoldsAt (λ e. R e.0 k ≡ Equal) es i → IsIndexOf R k es i
   placed_at k [] s i low met = absurd (omega arith)
   placed_at k (e ∷ es) s zero low met =
       let back : R k e.0 ≡ Equal = turned_by total e.0 k Equal (met e) in
-      record { held = holds_by k e es Equal back; place = sym (rank_by k e es Equal back); within = low }
+      record { held = holds_by k e es Equal back; index = sym (rank_by k e es Equal back); within = low }
   placed_at k (e ∷ es) s (suc i) low met =
       let later : i < length es = omega arith in
-      let rest : IsPlaceOf R k es i = placed_at k es (both_parts _ _ s).1 i later met in
+      let rest : IsIndexOf R k es i = placed_at k es (both_parts _ _ s).1 i later met in
       let first : R e.0 k ≡ Less = sym (alike_right total (get_or es i e).0 k e.0 (met e)) ∙ below_at e.0 es (both_parts _ _ s).0 i e later in
       let back : R k e.0 ≡ Greater = turned_by total e.0 k Less first in
-      record { held = holds_by k e es Greater back ∙ rest.held; place = ap suc rest.place ∙ sym (rank_by k e es Greater back); within = low }
+      record { held = holds_by k e es Greater back ∙ rest.held; index = ap suc rest.index ∙ sym (rank_by k e es Greater back); within = low }
 
   -- between the lower keys and the higher ones is the place for one that was not met
-  placed_between : (k : K) (es : List (K × X)) (i : ℕ) → i ≤ length es → AllWithin (λ e. R e.0 k ≡ Less) es 0 i → AllWithin (λ e. R e.0 k ≡ Greater) es i (length es) → IsPlaceFor R k es i
-  placed_between k [] zero low lower higher = record { absent = refl; place = refl; within = low }
+  placed_between : (k : K) (es : List (K × X)) (i : ℕ) → i ≤ length es → AllWithin (λ e. R e.0 k ≡ Less) es 0 i → AllWithin (λ e. R e.0 k ≡ Greater) es i (length es) → IsIndexFor R k es i
+  placed_between k [] zero low lower higher = record { absent = refl; index = refl; within = low }
   placed_between k [] (suc i) low lower higher = absurd (omega arith)
   placed_between k (e ∷ es) zero low lower higher =
       let back : R k e.0 ≡ Less = turned_by total e.0 k Greater (higher 0 e (omega arith) (omega arith)) in
-      record { absent = holds_by k e es Less back; place = sym (rank_by k e es Less back); within = low }
+      record { absent = holds_by k e es Less back; index = sym (rank_by k e es Less back); within = low }
   placed_between k (e ∷ es) (suc i) low lower higher =
-      let rest : IsPlaceFor R k es i = placed_between k es i (omega arith) (λ m d from upto. lower (suc m) d (omega arith) (omega arith)) (λ m d from upto. higher (suc m) d (omega arith) (omega arith)) in
+      let rest : IsIndexFor R k es i = placed_between k es i (omega arith) (λ m d from upto. lower (suc m) d (omega arith) (omega arith)) (λ m d from upto. higher (suc m) d (omega arith) (omega arith)) in
       let back : R k e.0 ≡ Greater = turned_by total e.0 k Less (lower 0 e (omega arith) (omega arith)) in
-      record { absent = holds_by k e es Greater back ∙ rest.absent; place = ap suc rest.place ∙ sym (rank_by k e es Greater back); within = low }
+      record { absent = holds_by k e es Greater back ∙ rest.absent; index = ap suc rest.index ∙ sym (rank_by k e es Greater back); within = low }
 
   -- what a search by halving answers
-  pub searched_place : (k : K) (es : List (K × X)) → IsTrue (is_sorted R es) → (r : Result ℕ ℕ) → IsSearchInRange r (length es) → IsBinarySearchResult (λ e. R e.0 k) es r → MatchResult r (IsPlaceOf R k es) (IsPlaceFor R k es)
-  searched_place k es s (Ok i) low met = placed_at k es s i low met
-  searched_place k es s (Err i) low between = let parts = between (non_decreasing k es s) in placed_between k es i low parts.0 parts.1
+  pub searched_index : (k : K) (es : List (K × X)) → IsTrue (is_sorted R es) → (r : Result ℕ ℕ) → IsSearchInRange r (length es) → IsBinarySearchResult (λ e. R e.0 k) es r → MatchResult r (IsIndexOf R k es) (IsIndexFor R k es)
+  searched_index k es s (Ok i) low met = placed_at k es s i low met
+  searched_index k es s (Err i) low between = let parts = between (non_decreasing k es s) in placed_between k es i low parts.0 parts.1

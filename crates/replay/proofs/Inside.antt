@@ -52,14 +52,14 @@ settled_inside (live flags age calls) false = tt
 settled_inside (doomed cause flags age) true = tt
 settled_inside (doomed cause flags age) false = tt
 
-begun_inside : (s : Status) (op : Op) (place : ℕ) → AreInside (calls_of s) → AreInside (calls_of (begun s op place))
-begun_inside idle (Begin flags) place h = tt
-begun_inside idle (Do call) place h = tt
-begun_inside idle End place h = tt
-begun_inside idle (Abort no_restart) place h = tt
-begun_inside gone op place h = tt
-begun_inside (live flags age calls) op place h = h
-begun_inside (doomed cause flags age) op place h = tt
+begun_inside : (s : Status) (op : Op) (position : ℕ) → AreInside (calls_of s) → AreInside (calls_of (begun s op position))
+begun_inside idle (Begin flags) position h = tt
+begun_inside idle (Do call) position h = tt
+begun_inside idle End position h = tt
+begun_inside idle (Abort no_restart) position h = tt
+begun_inside gone op position h = tt
+begun_inside (live flags age calls) op position h = h
+begun_inside (doomed cause flags age) op position h = tt
 
 -- what is executed in a live transaction
 executed_inside : (s : Status) (op : Op) (a : Answer) (chosen : List ℕ) → suits s op (Answers a) ≡ true → AreInside (calls_of s) → AreInside (calls_of (with_call s op (Some (Ok a)) chosen))
@@ -80,34 +80,34 @@ refusals_inside gone op e chosen h inside = tt
 refusals_inside idle op e chosen h inside = tt
 refusals_inside (doomed cause flags age) op e chosen h inside = tt
 
-own_inside : (place : ℕ) (s : Status) (op : Op) (reply : Reply) (chosen : List ℕ) → suits s op reply ≡ true → AreInside (calls_of s) → AreInside (calls_of (own_next place s op reply chosen))
-own_inside place s op (Answers a) chosen h inside = executed_inside s op a chosen h inside
-own_inside place s op (Refuses e) chosen h inside = refusals_inside s op e chosen h inside
-own_inside place s op Begun chosen h inside = begun_inside s op place inside
-own_inside place s op Committed chosen h inside = tt
-own_inside place s op (GivenUp again) chosen h inside = settled_inside s again
-own_inside place s op (Aborted why again) chosen h inside = settled_inside s again
-own_inside place s op (Busy cause) chosen h inside = inside
-own_inside place s op InTransaction chosen h inside = inside
-own_inside place s op NotInTransaction chosen h inside = inside
-own_inside place s op HistoryFull chosen h inside = inside
-own_inside place s op NoMemory chosen h inside = inside
-own_inside place s op NoProcess chosen h inside = inside
+own_inside : (position : ℕ) (s : Status) (op : Op) (reply : Reply) (chosen : List ℕ) → suits s op reply ≡ true → AreInside (calls_of s) → AreInside (calls_of (own_next position s op reply chosen))
+own_inside position s op (Answers a) chosen h inside = executed_inside s op a chosen h inside
+own_inside position s op (Refuses e) chosen h inside = refusals_inside s op e chosen h inside
+own_inside position s op Begun chosen h inside = begun_inside s op position inside
+own_inside position s op Committed chosen h inside = tt
+own_inside position s op (GivenUp again) chosen h inside = settled_inside s again
+own_inside position s op (Aborted why again) chosen h inside = settled_inside s again
+own_inside position s op (Busy cause) chosen h inside = inside
+own_inside position s op InTransaction chosen h inside = inside
+own_inside position s op NotInTransaction chosen h inside = inside
+own_inside position s op HistoryFull chosen h inside = inside
+own_inside position s op NoMemory chosen h inside = inside
+own_inside position s op NoProcess chosen h inside = inside
 
 -- a process that does not live stays as it is
-dead_inside : (place : ℕ) (s : Status) (op : Op) (reply : Reply) (chosen : List ℕ) → suits gone op reply ≡ true → AreInside (calls_of s) → AreInside (calls_of (own_next place s op reply chosen))
-dead_inside place s op NoProcess chosen h inside = inside
-dead_inside place s op (Answers a) chosen h inside = absurd cc
-dead_inside place s op (Refuses e) chosen h inside = absurd cc
-dead_inside place s op Begun chosen h inside = absurd cc
-dead_inside place s op Committed chosen h inside = absurd cc
-dead_inside place s op (GivenUp again) chosen h inside = absurd cc
-dead_inside place s op (Aborted why again) chosen h inside = absurd cc
-dead_inside place s op (Busy cause) chosen h inside = absurd cc
-dead_inside place s op InTransaction chosen h inside = absurd cc
-dead_inside place s op NotInTransaction chosen h inside = absurd cc
-dead_inside place s op HistoryFull chosen h inside = absurd cc
-dead_inside place s op NoMemory chosen h inside = absurd cc
+dead_inside : (position : ℕ) (s : Status) (op : Op) (reply : Reply) (chosen : List ℕ) → suits gone op reply ≡ true → AreInside (calls_of s) → AreInside (calls_of (own_next position s op reply chosen))
+dead_inside position s op NoProcess chosen h inside = inside
+dead_inside position s op (Answers a) chosen h inside = absurd cc
+dead_inside position s op (Refuses e) chosen h inside = absurd cc
+dead_inside position s op Begun chosen h inside = absurd cc
+dead_inside position s op Committed chosen h inside = absurd cc
+dead_inside position s op (GivenUp again) chosen h inside = absurd cc
+dead_inside position s op (Aborted why again) chosen h inside = absurd cc
+dead_inside position s op (Busy cause) chosen h inside = absurd cc
+dead_inside position s op InTransaction chosen h inside = absurd cc
+dead_inside position s op NotInTransaction chosen h inside = absurd cc
+dead_inside position s op HistoryFull chosen h inside = absurd cc
+dead_inside position s op NoMemory chosen h inside = absurd cc
 
 doom_inside : (s : Status) (cause : Cause) → AreInside (calls_of s) → AreInside (calls_of (doom s cause))
 doom_inside gone cause h = tt

@@ -22,19 +22,19 @@ test_is q k = by (q == k) refl where
 
 module _ {X : Type 0} where
   -- a key that is set
-  pub at_set : (m new : FinMap nat_cmp X) (k place : ℕ) (t : X) → place ≡ k → new ≡ insert m place t → (q : ℕ) → get new q ≡ (if q == k then Some t else get m q)
-  at_set m new k place t same is q =
-      ap (λ n. get n q) is ∙ get-insert nat_cmp_total m place t q
+  pub at_set : (m new : FinMap nat_cmp X) (k position : ℕ) (t : X) → position ≡ k → new ≡ insert m position t → (q : ℕ) → get new q ≡ (if q == k then Some t else get m q)
+  at_set m new k position t same is q =
+      ap (λ n. get n q) is ∙ get-insert nat_cmp_total m position t q
       ∙ ap (λ p. cond (eq_by_cmp nat_cmp q p) (Some t) (get m q)) same ∙ ap (λ b. cond b (Some t) (get m q)) (test_is q k)
 
   -- a key that is removed
-  at_removed : (m new : FinMap nat_cmp X) (k place : ℕ) → place ≡ k → new ≡ remove m place → (q : ℕ) → get new q ≡ (if q == k then None else get m q)
-  at_removed m new k place same is q =
-      ap (λ n. get n q) is ∙ get-remove nat_cmp_total m place q
+  at_removed : (m new : FinMap nat_cmp X) (k position : ℕ) → position ≡ k → new ≡ remove m position → (q : ℕ) → get new q ≡ (if q == k then None else get m q)
+  at_removed m new k position same is q =
+      ap (λ n. get n q) is ∙ get-remove nat_cmp_total m position q
       ∙ ap (λ p. cond (eq_by_cmp nat_cmp q p) None (get m q)) same ∙ ap (λ b. cond b None (get m q)) (test_is q k)
 
-  pub gone : (m new : FinMap nat_cmp X) (k place : ℕ) → place ≡ k → new ≡ remove m place → get new k ≡ None
-  gone m new k place same is = at_removed m new k place same is k ∙ ap (λ b. cond b None (get m k)) (eq-eqb k k refl)
+  pub gone : (m new : FinMap nat_cmp X) (k position : ℕ) → position ≡ k → new ≡ remove m position → get new k ≡ None
+  gone m new k position same is = at_removed m new k position same is k ∙ ap (λ b. cond b None (get m k)) (eq-eqb k k refl)
 
   -- nothing was there, and nothing is
   pub at_none : (m : FinMap nat_cmp X) (k : ℕ) → get m k ≡ None → (q : ℕ) → get m q ≡ (if q == k then None else get m q)
@@ -44,14 +44,14 @@ module _ {X : Type 0} where
     by false e = refl
 
   -- what was taken out is put back changed
-  pub put_back : (f : Option X → Option X) (m left new : FinMap nat_cmp X) (k place : ℕ) (o r : Option X)
-      → place ≡ k → left ≡ remove m place → o ≡ get m place → r ≡ f o
+  pub put_back : (f : Option X → Option X) (m left new : FinMap nat_cmp X) (k position : ℕ) (o r : Option X)
+      → position ≡ k → left ≡ remove m position → o ≡ get m position → r ≡ f o
       → ((q : ℕ) → get new q ≡ (if q == k then r else get left q))
       → (q : ℕ) → get new q ≡ (if q == k then f (get m q) else get m q)
-  put_back f m left new k place o r same is was made put q = put q ∙ by (q == k) refl where
+  put_back f m left new k position o r same is was made put q = put q ∙ by (q == k) refl where
     by : (b : Bool) → (q == k) ≡ b → (if b then r else get left q) ≡ (if b then f (get m q) else get m q)
     by true e = made ∙ ap f (was ∙ ap (get m) (same ∙ sym (eqb-true q k e)))
-    by false e = at_removed m left k place same is q ∙ ap (λ b. if b then None else get m q) e
+    by false e = at_removed m left k position same is q ∙ ap (λ b. if b then None else get m q) e
 
 or_none : (b : Bool) → (b || false) ≡ b
 or_none true = refl
@@ -68,7 +68,7 @@ is_in_more q (x ∷ xs) y = ap (λ b. (q == x) || b) (is_in_more q xs y) ∙ or_
 -- who is doomed stays so
 doomed_twice : (t : Option Transaction) → doomed_kept (doomed_kept t) ≡ doomed_kept t
 doomed_twice None = refl
-doomed_twice (Some (Live flags places)) = refl
+doomed_twice (Some (Live flags positions)) = refl
 doomed_twice (Some (Doomed flags)) = refl
 
 -- one more is doomed

@@ -10,7 +10,7 @@ use Rattle.std.specs.declared.cmp.Ordering.TheVariants.{Less, Equal, Greater}
 use Rattle.std.specs.Cmp.{IsTotalOrder}
 use Rattle.model.specs.FiniteMap as finite
 use Rattle.std.specs.FinMap.Entries.{by_order, find, put, where_key, is_sorted, below_all, is_sorted-put, is_sorted-where_key, length-put, length_without}
-use Rattle.replay.specs.Places.{rank, holds, IsPlaceOf, IsPlaceFor}
+use Rattle.replay.specs.Indices.{rank, holds, IsIndexOf, IsIndexFor}
 
 pub length-insert_at : {A : Type 0} (xs : List A) (n : ℕ) (x : A) → length (insert xs n x) ≡ suc (length xs)
 length-insert_at [] zero x = refl
@@ -52,11 +52,11 @@ is_err_where P Q (Err at) none h = refl
 
 module _ {K X : Type 0} {R : K → K → Ordering} {k : K} {at : ℕ} {es xs : List (K × X)} where
   -- a place in a list is the place in an equal one
-  pub place_of_in : es ≡ xs → IsPlaceOf R k es at → IsPlaceOf R k xs at
-  place_of_in e here = subst (λ (l : List (K × X)). IsPlaceOf R k l at) e here
+  pub index_of_in : es ≡ xs → IsIndexOf R k es at → IsIndexOf R k xs at
+  index_of_in e here = subst (λ (l : List (K × X)). IsIndexOf R k l at) e here
 
-  pub place_for_in : es ≡ xs → IsPlaceFor R k es at → IsPlaceFor R k xs at
-  place_for_in e here = subst (λ (l : List (K × X)). IsPlaceFor R k l at) e here
+  pub index_for_in : es ≡ xs → IsIndexFor R k es at → IsIndexFor R k xs at
+  index_for_in e here = subst (λ (l : List (K × X)). IsIndexFor R k l at) e here
 
 module _ {K X : Type 0} {R : K → K → Ordering} (total : IsTotalOrder R) where
   -- what stands in its place is what a scan finds
@@ -96,19 +96,19 @@ module _ {K X : Type 0} {R : K → K → Ordering} (total : IsTotalOrder R) wher
       none_of _ (not_some _ (length (e ∷ es)) (sym (ap length (put-rank k e.1 (e ∷ es) h) ∙ length-insert_at (e ∷ es) (rank R k (e ∷ es)) (k, e.1)) ∙ length-put R total k e.1 (e ∷ es) (as_test _ s)))
 
   -- what a key gives that stands there
-  pub get-place : (k : K) (es : List (K × X)) (at : ℕ) (e : K × X) → IsTrue (is_sorted R es) → IsPlaceOf R k es at → get_or es at e ≡ e → finite.get (finite.from_sorted {R = R} es) k ≡ Some e.1
-  get-place k es at e s here is =
+  pub get-index : (k : K) (es : List (K × X)) (at : ℕ) (e : K × X) → IsTrue (is_sorted R es) → IsIndexOf R k es at → get_or es at e ≡ e → finite.get (finite.from_sorted {R = R} es) k ≡ Some e.1
+  get-index k es at e s here is =
       finite.get-from_sorted R es k (as_test _ s) ∙ find-held k es e here.held
-      ∙ ap (λ n. Some ((get_or es n e).1)) (sym here.place) ∙ ap (λ (e : K × X). Some e.1) is
+      ∙ ap (λ n. Some ((get_or es n e).1)) (sym here.index) ∙ ap (λ (e : K × X). Some e.1) is
 
   -- a key that would stand there gives nothing
-  pub get-no_place : (k : K) (es : List (K × X)) (at : ℕ) → IsTrue (is_sorted R es) → IsPlaceFor R k es at → finite.get (finite.from_sorted {R = R} es) k ≡ None
-  get-no_place k es at s here = finite.get-from_sorted R es k (as_test _ s) ∙ find-absent k es s here.absent
+  pub get-no_index : (k : K) (es : List (K × X)) (at : ℕ) → IsTrue (is_sorted R es) → IsIndexFor R k es at → finite.get (finite.from_sorted {R = R} es) k ≡ None
+  get-no_index k es at s here = finite.get-from_sorted R es k (as_test _ s) ∙ find-absent k es s here.absent
 
   -- a key that gives nothing stands nowhere
-  pub no_place : (k : K) (es : List (K × X)) (at : ℕ) → IsTrue (is_sorted R es) → finite.get (finite.from_sorted {R = R} es) k ≡ None → IsPlaceOf R k es at → ⊥
-  no_place k [] at s none here = let h : false ≡ true = here.held in cc
-  no_place k (e ∷ es) at s none here =
+  pub no_index : (k : K) (es : List (K × X)) (at : ℕ) → IsTrue (is_sorted R es) → finite.get (finite.from_sorted {R = R} es) k ≡ None → IsIndexOf R k es at → ⊥
+  no_index k [] at s none here = let h : false ≡ true = here.held in cc
+  no_index k (e ∷ es) at s none here =
       let found : Some ((get_or (e ∷ es) (rank R k (e ∷ es)) e).1) ≡ None = sym (finite.get-from_sorted R (e ∷ es) k (as_test _ s) ∙ find-held k (e ∷ es) e here.held) ∙ none in cc
 
   module _ (k : K) (v : X) (es : List (K × X)) (s : IsTrue (is_sorted R es)) where
@@ -123,9 +123,9 @@ module _ {K X : Type 0} {R : K → K → Ordering} (total : IsTotalOrder R) wher
     made_map : (xs : List (K × X)) → put R k v es ≡ xs → finite.from_sorted {R = R} xs ≡ finite.insert (finite.from_sorted es) k v
     made_map xs e = ap (finite.from_sorted {R = R}) (sym e) ∙ from_sorted-put
 
-    module _ (at : ℕ) (here : IsPlaceFor R k es at) where
+    module _ (at : ℕ) (here : IsIndexFor R k es at) where
       put-at : put R k v es ≡ insert es at (k, v)
-      put-at = put-rank k v es here.absent ∙ ap (λ n. insert es n (k, v)) (sym here.place)
+      put-at = put-rank k v es here.absent ∙ ap (λ n. insert es n (k, v)) (sym here.index)
 
       pub is_sorted-insert : IsTrue (is_sorted R (insert es at (k, v)))
       is_sorted-insert = made_sorted _ put-at
@@ -133,9 +133,9 @@ module _ {K X : Type 0} {R : K → K → Ordering} (total : IsTotalOrder R) wher
       pub from_sorted-insert : finite.from_sorted {R = R} (insert es at (k, v)) ≡ finite.insert (finite.from_sorted es) k v
       from_sorted-insert = made_map _ put-at
 
-    module _ (at : ℕ) (here : IsPlaceOf R k es at) (e : K × X) (is : get_or es at e ≡ e) where
+    module _ (at : ℕ) (here : IsIndexOf R k es at) (e : K × X) (is : get_or es at e ≡ e) where
       set-at : put R k v es ≡ set es at (e.0, v)
-      set-at = put-held k v es e here.held ∙ ap (λ n. set es n ((get_or es n e).0, v)) (sym here.place) ∙ ap (λ (d : K × X). set es at (d.0, v)) is
+      set-at = put-held k v es e here.held ∙ ap (λ n. set es n ((get_or es n e).0, v)) (sym here.index) ∙ ap (λ (d : K × X). set es at (d.0, v)) is
 
       pub is_sorted-set : IsTrue (is_sorted R (set es at (e.0, v)))
       is_sorted-set = made_sorted _ set-at
@@ -157,9 +157,9 @@ module _ {K X : Type 0} {R : K → K → Ordering} (total : IsTotalOrder R) wher
         | Greater ↦ λ p q. ap (λ xs. e ∷ xs) (where-rank k es (sorted_tail e es s) p)
       ] h (length_without R total k (e ∷ es) (as_test _ s))
 
-  module _ (k : K) (es : List (K × X)) (at : ℕ) (s : IsTrue (is_sorted R es)) (here : IsPlaceOf R k es at) where
+  module _ (k : K) (es : List (K × X)) (at : ℕ) (s : IsTrue (is_sorted R es)) (here : IsIndexOf R k es at) where
     without-at : where_key R (λ x. not (eq_by_cmp R k x)) es ≡ remove es at
-    without-at = where-rank k es s here.held ∙ ap (remove es) (sym here.place)
+    without-at = where-rank k es s here.held ∙ ap (remove es) (sym here.index)
 
     pub is_sorted-remove : IsTrue (is_sorted R (remove es at))
     is_sorted-remove = subst (λ (xs : List (K × X)). IsTrue (is_sorted R xs)) without-at (as_true _ (is_sorted-where_key R (λ x. not (eq_by_cmp R k x)) es (as_test _ s)))

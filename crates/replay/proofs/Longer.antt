@@ -12,12 +12,12 @@ use Rattle.model.specs.Moments.{Setup, Status, gone, idle, live, doomed, after, 
 use Rattle.model.specs.Suits.{AllSuit}
 use Rattle.replay.specs.Faults.{HoldsEntry, calls_before}
 use Rattle.replay.specs.Ran.{AreNext, Follows, IsNext}
-use Rattle.replay.specs.Transactions.{IsKept, call_first, calls_at_places}
+use Rattle.replay.specs.Transactions.{IsKept, call_first, calls_at_positions}
 use Rattle.replay.specs.declared.transaction.Transaction.{Transaction}
 use Rattle.replay.specs.declared.transaction.Transaction.TheVariants.{Live, Doomed}
 
 module _ (xs more : List Entry) where
-  -- the call at a place of the first
+  -- the call at a position of the first
   call_longer : (p : ℕ) → p < length xs → call_first (drop p (xs ++ more)) ≡ call_first (drop p xs)
   call_longer p low = ap call_first (drop-append-le p xs more (omega arith)) ∙ first_of (drop p xs) (some p xs low) where
     some : (p : ℕ) (ys : List Entry) → p < length ys → drop p ys ≢ []
@@ -27,7 +27,7 @@ module _ (xs more : List Entry) where
     first_of [] filled = absurd (filled refl)
     first_of (y ∷ ys) filled = refl
 
-  calls_longer : (ps : List ℕ) → AllByRecursion (λ p. p < length xs) ps → calls_at_places (xs ++ more) ps ≡ calls_at_places xs ps
+  calls_longer : (ps : List ℕ) → AllByRecursion (λ p. p < length xs) ps → calls_at_positions (xs ++ more) ps ≡ calls_at_positions xs ps
   calls_longer [] low = refl
   calls_longer (p ∷ ps) low = ap₂ (λ a b. a ++ b) (call_longer p low.0) (calls_longer ps low.1)
 
@@ -39,13 +39,13 @@ module _ (xs more : List Entry) where
   holds_longer p e held low = record { rest = held.rest ++ more; here = drop-append-le p xs more (omega arith) ∙ ap (λ ys. ys ++ more) held.here }
 
   module _ (root : ℕ) (setup : Setup) where
-    -- the places that are kept are of the first
-    earlier : (q : ℕ) (flags : _) (places done ps : List ℕ) → AreNext root setup xs q (length xs) (Some (Live flags places)) → places ≡ done ++ ps → AllByRecursion (λ p. p < length xs) ps
-    earlier q flags places done [] next is = tt
-    earlier q flags places done (p ∷ ps) next is = ((next done ps p is).earlier, earlier q flags places (done ++ p ∷ []) ps next (is ∙ sym (append_assoc done (p ∷ []) ps)))
+    -- the positions that are kept are of the first
+    earlier : (q : ℕ) (flags : _) (positions done ps : List ℕ) → AreNext root setup xs q (length xs) (Some (Live flags positions)) → positions ≡ done ++ ps → AllByRecursion (λ p. p < length xs) ps
+    earlier q flags positions done [] next is = tt
+    earlier q flags positions done (p ∷ ps) next is = ((next done ps p is).earlier, earlier q flags positions (done ++ p ∷ []) ps next (is ∙ sym (append_assoc done (p ∷ []) ps)))
 
-    pub all_earlier : (q : ℕ) (flags : _) (places : List ℕ) → AreNext root setup xs q (length xs) (Some (Live flags places)) → AllByRecursion (λ p. p < length xs) places
-    all_earlier q flags places next = earlier q flags places [] places next refl
+    pub all_earlier : (q : ℕ) (flags : _) (positions : List ℕ) → AreNext root setup xs q (length xs) (Some (Live flags positions)) → AllByRecursion (λ p. p < length xs) positions
+    all_earlier q flags positions next = earlier q flags positions [] positions next refl
 
     kept_longer : (q : ℕ) (t : Option Transaction) (s : Status) → AreNext root setup xs q (length xs) t → IsKept xs t s → IsKept (xs ++ more) t s
     kept_longer q None idle next is = tt
@@ -71,16 +71,16 @@ module _ (xs more : List Entry) where
     next_longer : (q : ℕ) (t : Option Transaction) → AreNext root setup xs q (length xs) t → AreNext root setup (xs ++ more) q (length xs) t
     next_longer q None next = tt
     next_longer q (Some (Doomed f)) next = tt
-    next_longer q (Some (Live f ps)) next = λ first rest place is.
-        let one : IsNext root setup xs q (length xs) first place = next first rest place is in
-        let low : AllByRecursion (λ p. p < length xs) (first ++ place ∷ rest) = subst (AllByRecursion (λ p. p < length xs)) is (all_earlier q f ps next) in
-        let with_it : AllByRecursion (λ p. p < length xs) (first ++ place ∷ []) = first_part (λ p. p < length xs) (first ++ place ∷ []) rest (subst (AllByRecursion (λ p. p < length xs)) (sym (append_assoc first (place ∷ []) rest)) low) in
+    next_longer q (Some (Live f ps)) next = λ first rest position is.
+        let one : IsNext root setup xs q (length xs) first position = next first rest position is in
+        let low : AllByRecursion (λ p. p < length xs) (first ++ position ∷ rest) = subst (AllByRecursion (λ p. p < length xs)) is (all_earlier q f ps next) in
+        let with_it : AllByRecursion (λ p. p < length xs) (first ++ position ∷ []) = first_part (λ p. p < length xs) (first ++ position ∷ []) rest (subst (AllByRecursion (λ p. p < length xs)) (sym (append_assoc first (position ∷ []) rest)) low) in
         record {
           earlier = one.earlier;
-          before = (let small = one.earlier in ap length (before_longer q place (omega (arith, small)))) ∙ one.before ∙ sym (ap length (calls_longer first (first_part (λ p. p < length xs) first (place ∷ rest) low)));
+          before = (let small = one.earlier in ap length (before_longer q position (omega (arith, small)))) ∙ one.before ∙ sym (ap length (calls_longer first (first_part (λ p. p < length xs) first (position ∷ rest) low)));
           since = λ r behind within.
-              subst (λ n. n ≤ length (calls_before root setup (xs ++ more) q r)) (sym (ap length (calls_longer (first ++ place ∷ []) with_it)))
-              (subst (λ n. length (calls_at_places xs (first ++ place ∷ [])) ≤ n) (sym (ap length (before_longer q r within))) (one.since r behind within));
+              subst (λ n. n ≤ length (calls_before root setup (xs ++ more) q r)) (sym (ap length (calls_longer (first ++ position ∷ []) with_it)))
+              (subst (λ n. length (calls_at_positions xs (first ++ position ∷ [])) ≤ n) (sym (ap length (before_longer q r within))) (one.since r behind within));
         }
 
     pub follows_longer : (k : Kernel) (kept : FinMap nat_cmp Transaction) → Follows root setup xs (length xs) k kept → Follows root setup (xs ++ more) (length xs) k kept
@@ -91,6 +91,6 @@ module _ (xs more : List Entry) where
           run = subst (λ ys. Run (start root setup) (serial root setup ys) k) (sym same) f.run;
           tidied = f.tidied;
           committed = f.committed ∙ sym (ap (λ ys. (after root setup ys).committed) same);
-          phases = λ q. subst (λ ys. IsKept (xs ++ more) (get kept q) ((after root setup ys).phase q)) (sym same) (kept_longer q (get kept q) ((after root setup (take (length xs) xs)).phase q) (f.places q) (f.phases q));
-          places = λ q. next_longer q (get kept q) (f.places q);
+          phases = λ q. subst (λ ys. IsKept (xs ++ more) (get kept q) ((after root setup ys).phase q)) (sym same) (kept_longer q (get kept q) ((after root setup (take (length xs) xs)).phase q) (f.positions q) (f.phases q));
+          positions = λ q. next_longer q (get kept q) (f.positions q);
         }

@@ -46,10 +46,10 @@ slots_more k slots es i e fd slot below same so_far first is =
     ∙ sym (map_more (slot_at k) es i e below)
 
 -- bytes of a short file end soon
-pub end_small : {E : Type 0} (r : Result (List ℕ) E) (bytes : List ℕ) (place count : ℕ) → place < 2 ^ 32 → length bytes < 2 ^ 32 → IfOk r (λ a. a ≡ take count (drop place bytes)) → IfOk r (λ a. place + length a < 2 ^ 32)
-end_small (Err e) bytes place count low few is = tt
-end_small (Ok a) bytes place count low few is =
-    let part : length a ≡ min count (length bytes - place) = ap length is ∙ length-take count (drop place bytes) ∙ ap (min count) (length-drop place bytes) in
+pub end_small : {E : Type 0} (r : Result (List ℕ) E) (bytes : List ℕ) (offset count : ℕ) → offset < 2 ^ 32 → length bytes < 2 ^ 32 → IfOk r (λ a. a ≡ take count (drop offset bytes)) → IfOk r (λ a. offset + length a < 2 ^ 32)
+end_small (Err e) bytes offset count low few is = tt
+end_small (Ok a) bytes offset count low few is =
+    let part : length a ≡ min count (length bytes - offset) = ap length is ∙ length-take count (drop offset bytes) ∙ ap (min count) (length-drop offset bytes) in
     omega arith
 
 -- whether a name gives an inode, or a description

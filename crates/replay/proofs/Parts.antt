@@ -33,14 +33,14 @@ pub shows_more : (es more : List Entry) (w : Window) → w.part.now ≡ more →
 shows_more es more w part offset held = record {
   part = ap (λ n. drop n (es ++ more)) offset ∙ drop-append_seam es more ∙ sym part;
   within = (let all = length-append es more in omega (arith, offset, all));
-  kept = λ place e is. holds_longer es more place e (held place e is) (holds_low es place e (held place e is));
+  kept = λ position e is. holds_longer es more position e (held position e is) (holds_low es position e (held position e is));
 }
 
 -- what is kept can be looked at
 pub sees_there : (w : Window) (t : Option Transaction) → AreThere w.kept.now t → CanSeeEach w t
 sees_there w None there = tt
 sees_there w (Some (Doomed flags)) there = tt
-sees_there w (Some (Live flags places)) there = all_so (λ p. get w.kept.now p ≢ None) (CanSee w) places (λ p held. inr held) there
+sees_there w (Some (Live flags positions)) there = all_so (λ p. get w.kept.now p ≢ None) (CanSee w) positions (λ p held. inr held) there
 
 all_both : (P Q : ℕ → Type 0) (xs : List ℕ) → AllByRecursion P xs → AllByRecursion Q xs → AllByRecursion (λ x. P x × Q x) xs
 all_both P Q [] ps qs = tt
@@ -50,7 +50,7 @@ all_both P Q (x ∷ xs) ps qs = ((ps.0, qs.0), all_both P Q xs ps.1 qs.1)
 pub can_keep : (es : List Entry) (root : ℕ) (setup : Setup) (q : ℕ) (w : Window) (t : Option Transaction) → CanSeeEach w t → AreNext root setup es q (length es) t → CanKeep es w t
 can_keep es root setup q w None sees next = tt
 can_keep es root setup q w (Some (Doomed flags)) sees next = tt
-can_keep es root setup q w (Some (Live flags places)) sees next = all_both (CanSee w) (λ p. p < length es) places sees (all_earlier es [] root setup q flags places next)
+can_keep es root setup q w (Some (Live flags positions)) sees next = all_both (CanSee w) (λ p. p < length es) positions sees (all_earlier es [] root setup q flags positions next)
 
 -- what holds of each entry of a map holds of what a number stands for
 found_in : {X : Type 0} (P : X → Type 0) (q : ℕ) (v : X) (es : List (ℕ × X)) → AllByRecursion (λ e. P e.1) es → find nat_cmp q es ≡ Some v → P v

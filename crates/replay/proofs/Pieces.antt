@@ -1,17 +1,13 @@
 -- Parts of bytes.
-use Rattle.std.proofs.Common.{◌≡◌, ℕ, ◌+◌, ◌-◌, List, length, take, drop, sym, ap, ◌∙◌, arith, length-drop}
+use Rattle.std.proofs.Common.{◌≡◌, ℕ, ◌-◌, List, length, take, drop, ap, ◌∙◌, arith, length-drop}
 use Rattle.std.specs.Prelude.{min}
 use Rattle.std.proofs.lemmas.List.{take_all, take_min, drop_min}
 
--- a part whose ends are within the list
-pub part_within : {A : Type 0} (xs : List A) (skipped count start more : ℕ) → start ≡ min skipped (length xs) → more ≡ min count (length xs - start) → take ((start + more) - start) (drop start xs) ≡ take count (drop skipped xs)
-part_within xs skipped count start more first rest =
-    let left : length (drop start xs) ≡ length xs - start = length-drop start xs in
-    let same : (start + more) - start ≡ more = omega arith in
-    ap (λ n. take n (drop start xs)) (same ∙ rest ∙ ap (min count) (sym left)) ∙ take_min count (drop start xs)
-    ∙ ap (λ n. take count (drop n xs)) first ∙ ap (take count) (drop_min skipped xs)
+-- what stands before an end that is within the list
+pub first_within : {A : Type 0} (xs : List A) (count end : ℕ) → end ≡ min count (length xs) → take end xs ≡ take count xs
+first_within xs count end last = ap (λ n. take n xs) last ∙ take_min count xs
 
--- and all that is behind its start
+-- what stands behind a start that is
 pub rest_within : {A : Type 0} (xs : List A) (skipped start : ℕ) → start ≡ min skipped (length xs) → take (length xs - start) (drop start xs) ≡ drop skipped xs
 rest_within xs skipped start first =
     let left : length (drop start xs) ≡ length xs - start = length-drop start xs in

@@ -12,7 +12,7 @@ use Rattle.model.proofs.Laws.{get_other, get_same}
 use Rattle.replay.specs.Faults.{HoldsEntry}
 use Rattle.replay.specs.Checked.{AreHeld, AreThere, Grows}
 use Rattle.replay.proofs.Following.{holds_entry}
-use Rattle.replay.specs.Transactions.{begun_kept, doomed_kept, next_kept, own_kept, settled_kept, with_place}
+use Rattle.replay.specs.Transactions.{begun_kept, doomed_kept, next_kept, own_kept, settled_kept, with_position}
 use Rattle.replay.specs.Windows.{CanSee, CanSeeAll, CanSeeAny, CanSeeEach, Finds, Shows}
 use Rattle.replay.specs.declared.transaction.Transaction.{Transaction}
 use Rattle.replay.specs.declared.transaction.Transaction.TheVariants.{Live, Doomed}
@@ -25,12 +25,12 @@ all_at P (x ∷ xs) zero d all low = all.0
 all_at P (x ∷ xs) (suc i) d all low = all_at P xs i d all.1 (omega arith)
 
 -- what is found before the part
-pub seen_before : (es : List Entry) (w : Window) (place : ℕ) → Shows es w → CanSee w place → place < w.offset → (found : Option Entry) → found ≡ get w.kept.now place → Finds es place found
-seen_before es w place shows sees before None is = absurd (lost sees) where
-  lost : CanSee w place → ⊥
+pub seen_before : (es : List Entry) (w : Window) (position : ℕ) → Shows es w → CanSee w position → position < w.offset → (found : Option Entry) → found ≡ get w.kept.now position → Finds es position found
+seen_before es w position shows sees before None is = absurd (lost sees) where
+  lost : CanSee w position → ⊥
   lost (inl behind) = absurd (omega arith)
   lost (inr held) = held (sym is)
-seen_before es w place shows sees before (Some e) is = shows.kept place e (sym is)
+seen_before es w position shows sees before (Some e) is = shows.kept position e (sym is)
 
 -- an entry of the part stands in the history behind those before the part
 pub part_at : (es part : List Entry) (offset i : ℕ) (d : Entry) → drop offset es ≡ part → get_or es (offset + i) d ≡ get_or part i d
@@ -50,24 +50,24 @@ same_read (x ∷ xs) (suc i) d e low = same_read xs i d e (omega arith)
 
 -- the entry that is read of the part is that of the history
 pub part_read : (es part : List Entry) (offset i at : ℕ) (d : Entry) → drop offset es ≡ part → i < length part → at ≡ offset + i → get_or part i d ≡ get_or es at (get_or part i d)
-part_read es part offset i at d is low place =
-    same_read part i d (get_or part i d) low ∙ sym (part_at es part offset i (get_or part i d) is) ∙ ap (λ n. get_or es n (get_or part i d)) (sym place)
+part_read es part offset i at d is low position =
+    same_read part i d (get_or part i d) low ∙ sym (part_at es part offset i (get_or part i d) is) ∙ ap (λ n. get_or es n (get_or part i d)) (sym position)
 
 pub part_within : (es part : List Entry) (offset i : ℕ) → drop offset es ≡ part → offset ≤ length es → i < length part → (at : ℕ) → at ≡ offset + i → at < length es
-part_within es part offset i is within low at place =
+part_within es part offset i is within low at position =
     let left : length (drop offset es) ≡ length es - offset = length-drop offset es in
     let same : length (drop offset es) ≡ length part = ap length is in
     omega arith
 
 -- what is found in the part, and that nothing is past it
-pub seen_in : (es : List Entry) (w : Window) (place i : ℕ) (e : Entry) → Shows es w → w.offset + i ≡ place → i < length w.part.now → e ≡ get_or w.part.now i e → HoldsEntry es place e
-seen_in es w place i e shows is low here =
-    let within : place < length es = part_within es w.part.now w.offset i shows.part shows.within low place (sym is) in
-    let read : e ≡ get_or es place e = here ∙ sym (part_at es w.part.now w.offset i e shows.part) ∙ ap (λ n. get_or es n e) is in
-    holds_entry es place e within read
+pub seen_in : (es : List Entry) (w : Window) (position i : ℕ) (e : Entry) → Shows es w → w.offset + i ≡ position → i < length w.part.now → e ≡ get_or w.part.now i e → HoldsEntry es position e
+seen_in es w position i e shows is low here =
+    let within : position < length es = part_within es w.part.now w.offset i shows.part shows.within low position (sym is) in
+    let read : e ≡ get_or es position e = here ∙ sym (part_at es w.part.now w.offset i e shows.part) ∙ ap (λ n. get_or es n e) is in
+    holds_entry es position e within read
 
-pub seen_past : (es : List Entry) (w : Window) (place : ℕ) → Shows es w → w.offset ≤ place → length w.part.now ≤ place - w.offset → length es ≤ place
-seen_past es w place shows behind past =
+pub seen_past : (es : List Entry) (w : Window) (position : ℕ) → Shows es w → w.offset ≤ position → length w.part.now ≤ position - w.offset → length es ≤ position
+seen_past es w position shows behind past =
     let left : length (drop w.offset es) ≡ length es - w.offset = length-drop w.offset es in
     let same : length (drop w.offset es) ≡ length w.part.now = ap length shows.part in
     omega arith
@@ -78,7 +78,7 @@ module _ (w : Window) (at : ℕ) (behind : w.offset ≤ at) where
   sees_more [] all = (inl behind, tt)
   sees_more (p ∷ ps) all = (all.0, sees_more ps all.1)
 
-  sees_placed : (kept : Option Transaction) → CanSeeEach w kept → CanSeeEach w (with_place at kept)
+  sees_placed : (kept : Option Transaction) → CanSeeEach w kept → CanSeeEach w (with_position at kept)
   sees_placed (Some (Live flags ps)) all = sees_more ps all
   sees_placed (Some (Doomed flags)) all = tt
   sees_placed None all = tt
@@ -128,32 +128,32 @@ pub all_shown : (es : List Entry) (w : Window) → w.part.now ≡ es → w.offse
 all_shown es w part offset none = record {
   part = ap (λ n. drop n es) offset ∙ sym part;
   within = subst (λ n. n ≤ length es) (sym offset) (omega arith);
-  kept = λ place e is. absurd (held place e is);
+  kept = λ position e is. absurd (held position e is);
 }
   where
-    held : (place : ℕ) (e : Entry) → get w.kept.now place ≡ Some e → ⊥
-    held place e is = (let nothing : None ≡ Some e = sym (ap (λ m. get m place) none ∙ get-empty nat_cmp place) ∙ is in absurd cc)
+    held : (position : ℕ) (e : Entry) → get w.kept.now position ≡ Some e → ⊥
+    held position e is = (let nothing : None ≡ Some e = sym (ap (λ m. get m position) none ∙ get-empty nat_cmp position) ∙ is in absurd cc)
 
 -- where there is no transaction
 pub nothing_kept : (kept : FinMap nat_cmp Transaction) → kept ≡ empty → (q : ℕ) → get kept q ≡ None
 nothing_kept kept none q = ap (λ m. get m q) none ∙ get-empty nat_cmp q
 
 -- one entry more is kept
-pub held_more : (es : List Entry) (old : FinMap nat_cmp Entry) (place : ℕ) (e : Entry) → AreHeld es old → HoldsEntry es place e → AreHeld es (insert old place e)
-held_more es old place e held here p d is = elim (cases_eq p place) [
+pub held_more : (es : List Entry) (old : FinMap nat_cmp Entry) (position : ℕ) (e : Entry) → AreHeld es old → HoldsEntry es position e → AreHeld es (insert old position e)
+held_more es old position e held here p d is = elim (cases_eq p position) [
   | inl same ↦
-      let found : Some e ≡ Some d = sym (ap (get (insert old place e)) same ∙ get_same old place e) ∙ is in
-      subst (λ q. HoldsEntry es q d) (sym same) (subst (HoldsEntry es place) (cc found) here)
-  | inr other ↦ held p d (sym (get_other old place p e other) ∙ is)
+      let found : Some e ≡ Some d = sym (ap (get (insert old position e)) same ∙ get_same old position e) ∙ is in
+      subst (λ q. HoldsEntry es q d) (sym same) (subst (HoldsEntry es position) (cc found) here)
+  | inr other ↦ held p d (sym (get_other old position p e other) ∙ is)
 ]
 
-pub there_more : (old : FinMap nat_cmp Entry) (place : ℕ) (e : Entry) → get (insert old place e) place ≢ None
-there_more old place e none = (let some : Some e ≡ None = sym (get_same old place e) ∙ none in absurd cc)
+pub there_more : (old : FinMap nat_cmp Entry) (position : ℕ) (e : Entry) → get (insert old position e) position ≢ None
+there_more old position e none = (let some : Some e ≡ None = sym (get_same old position e) ∙ none in absurd cc)
 
-pub grows_more : (old : FinMap nat_cmp Entry) (place : ℕ) (e : Entry) → Grows old (insert old place e)
-grows_more old place e p there none = elim (cases_eq p place) [
-  | inl same ↦ there_more old place e (ap (get (insert old place e)) (sym same) ∙ none)
-  | inr other ↦ there (sym (get_other old place p e other) ∙ none)
+pub grows_more : (old : FinMap nat_cmp Entry) (position : ℕ) (e : Entry) → Grows old (insert old position e)
+grows_more old position e p there none = elim (cases_eq p position) [
+  | inl same ↦ there_more old position e (ap (get (insert old position e)) (sym same) ∙ none)
+  | inr other ↦ there (sym (get_other old position p e other) ∙ none)
 ]
 
 -- what follows where a result is good
@@ -172,10 +172,10 @@ all_so P Q (x ∷ xs) f all = (f x all.0, all_so P Q xs f all.1)
 
 -- where no entry is kept
 pub nothing_held : (es : List Entry) (kept : FinMap nat_cmp Entry) → kept ≡ empty → AreHeld es kept
-nothing_held es kept none place e is = (let nothing : None ≡ Some e = sym (ap (λ m. get m place) none ∙ get-empty nat_cmp place) ∙ is in absurd cc)
+nothing_held es kept none position e is = (let nothing : None ≡ Some e = sym (ap (λ m. get m position) none ∙ get-empty nat_cmp position) ∙ is in absurd cc)
 
 -- what is there stays there
 pub there_grows : (old new : FinMap nat_cmp Entry) (t : Option Transaction) → Grows old new → AreThere old t → AreThere new t
 there_grows old new None grows all = tt
 there_grows old new (Some (Doomed flags)) grows all = tt
-there_grows old new (Some (Live flags places)) grows all = all_so (λ p. get old p ≢ None) (λ p. get new p ≢ None) places grows all
+there_grows old new (Some (Live flags positions)) grows all = all_so (λ p. get old p ≢ None) (λ p. get new p ≢ None) positions grows all

@@ -37,13 +37,13 @@ pub process_made : (p : Process) (t : FinMap nat_cmp ℕ) (o : Option Process) �
 process_made p t o e f g = f ∙ ap (λ (x : FinMap nat_cmp ℕ). record { table = x; priority = 0 }) e ∙ ap or_new g
 
 -- the offset of a description that is there, and of one that is not
-pub offset_set : (k after : Kernel) (n place : ℕ) (o : Option Description) (d : Description) → Some d ≡ mapped (at_offset place) o → after ≡ set_description n d k → after ≡ set_offset n place o k
-offset_set k after n place None d e h = absurd cc
-offset_set k after n place (Some old) d e h = h ∙ ap (λ (x : Description). set_description n x k) (same_Some _ _ e)
+pub offset_set : (k after : Kernel) (n offset : ℕ) (o : Option Description) (d : Description) → Some d ≡ mapped (at_offset offset) o → after ≡ set_description n d k → after ≡ set_offset n offset o k
+offset_set k after n offset None d e h = absurd cc
+offset_set k after n offset (Some old) d e h = h ∙ ap (λ (x : Description). set_description n x k) (same_Some _ _ e)
 
-pub offset_kept : (k : Kernel) (n place : ℕ) (o : Option Description) → None ≡ mapped (at_offset place) o → k ≡ set_offset n place o k
-offset_kept k n place None e = refl
-offset_kept k n place (Some old) e = absurd cc
+pub offset_kept : (k : Kernel) (n offset : ℕ) (o : Option Description) → None ≡ mapped (at_offset offset) o → k ≡ set_offset n offset o k
+offset_kept k n offset None e = refl
+offset_kept k n offset (Some old) e = absurd cc
 
 -- a description at its beginning, with its slot
 pub opened_at : (k after : Kernel) (d n : ℕ) (m mode : Mode) (pid f : ℕ) (it : Description) → it ≡ at_start n m → m ≡ mode

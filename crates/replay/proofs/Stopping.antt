@@ -12,7 +12,7 @@ use Rattle.model.specs.Moments.{Setup, Status, gone, idle, live, doomed, Moment,
 use Rattle.model.specs.Legal.{items}
 use Rattle.model.proofs.Laws.{all-append}
 use Rattle.model.specs.Suits.{suits, suits_live}
-use Rattle.replay.specs.Transactions.{IsKept, call_in, call_first, call_of, calls_at_places, suits_kept, is_end}
+use Rattle.replay.specs.Transactions.{IsKept, call_in, call_first, call_of, calls_at_positions, suits_kept, is_end}
 use Rattle.model.specs.Passing.{Passes}
 use Rattle.replay.specs.Faults.{HoldsEntry, calls_before, commits_from}
 use Rattle.replay.specs.Failing.{FailsAt}
@@ -94,9 +94,9 @@ module _ (root : ℕ) (setup : Setup) (es : List Entry) (at : ℕ) (k : Kernel) 
     });
   }
 
-  module _ (alive : is_alive k e.pid ≡ true) (place : ℕ) where
+  module _ (alive : is_alive k e.pid ≡ true) (position : ℕ) where
     -- a call outside a transaction
-    idle_stops : (place ≡ at) → CannotRun k e.pid (call_of e) → m.phase e.pid ≡ idle → suits idle e.op e.reply ≡ true → FailsAt root setup es at place
+    idle_stops : (position ≡ at) → CannotRun k e.pid (call_of e) → m.phase e.pid ≡ idle → suits idle e.op e.reply ≡ true → FailsAt root setup es at position
     idle_stops same fails phase fits =
         let is : status m e.pid ≡ idle = status_is true alive ∙ phase in
         let one : One (call_of e) = the_call k e.pid (call_of e) alive fails (one_call e.op e.reply e.chosen) in
@@ -120,24 +120,24 @@ module _ (root : ℕ) (setup : Setup) (es : List Entry) (at : ℕ) (k : Kernel) 
         }
 
     -- a call of a transaction that ends
-    module _ (flags same : BeginFlags) (age : ℕ) (calls : List Executed) (places : List ℕ) (phase : m.phase e.pid ≡ live same age calls) (alike : IsKept es (Some (Live flags places)) (live same age calls)) where
+    module _ (flags same : BeginFlags) (age : ℕ) (calls : List Executed) (positions : List ℕ) (phase : m.phase e.pid ≡ live same age calls) (alike : IsKept es (Some (Live flags positions)) (live same age calls)) where
       is_live : status m e.pid ≡ live same age calls
       is_live = status_is true alive ∙ phase
 
-      mine : calls_before root setup es e.pid at ≡ calls_at_places es places
+      mine : calls_before root setup es e.pid at ≡ calls_at_positions es positions
       mine = ap calls_of phase ∙ alike.1
 
-      live_stops : AreNext root setup es e.pid at (Some (Live flags places)) → is_end e.op ≡ true → suits_live flags e.op e.reply ≡ true → StopsIn k e.pid es places place → FailsAt root setup es at place
+      live_stops : AreNext root setup es e.pid at (Some (Live flags positions)) → is_end e.op ≡ true → suits_live flags e.op e.reply ≡ true → StopsIn k e.pid es positions position → FailsAt root setup es at position
       live_stops next ends fits s =
-          let first : List Executed = calls_at_places es s.first in
-          let parts : calls_before root setup es e.pid at ≡ first ++ (call_first (drop place es) ++ calls_at_places es s.rest) = mine ∙ ap (calls_at_places es) s.is ∙ calls-append es s.first (place ∷ s.rest) in
+          let first : List Executed = calls_at_positions es s.first in
+          let parts : calls_before root setup es e.pid at ≡ first ++ (call_first (drop position es) ++ calls_at_positions es s.rest) = mine ∙ ap (calls_at_positions es) s.is ∙ calls-append es s.first (position ∷ s.rest) in
           let inside : AreInside (calls_before root setup es e.pid at) = after_inside (at_start root setup) (take at es) f.suit (λ q. tt) e.pid in
           let lives : is_alive s.mid e.pid ≡ true = alive_through e.pid first k s.mid f.tidied.well alive (all-append IsInside first _ (subst AreInside parts inside)).0 s.ran.run in
-          let one : One (call_first (drop place es)) = the_call s.mid e.pid (call_first (drop place es)) lives s.fails (one_first (drop place es)) in
-          let whole : calls_before root setup es e.pid at ≡ first ++ one.call ∷ calls_at_places es s.rest = parts ∙ ap (λ cs. first ++ (cs ++ calls_at_places es s.rest)) one.is in
-          let front : take (length first) (calls_before root setup es e.pid at) ≡ first = ap (take (length first)) whole ∙ take_front first one.call (calls_at_places es s.rest) in
-          let placed = next s.first s.rest place s.is in
-          let longer : length (calls_at_places es (s.first ++ place ∷ [])) ≡ length first + 1 = ap length (calls-more es s.first place ∙ ap (λ cs. first ++ cs) one.is) ∙ length-append first (one.call ∷ []) in
+          let one : One (call_first (drop position es)) = the_call s.mid e.pid (call_first (drop position es)) lives s.fails (one_first (drop position es)) in
+          let whole : calls_before root setup es e.pid at ≡ first ++ one.call ∷ calls_at_positions es s.rest = parts ∙ ap (λ cs. first ++ (cs ++ calls_at_positions es s.rest)) one.is in
+          let front : take (length first) (calls_before root setup es e.pid at) ≡ first = ap (take (length first)) whole ∙ take_front first one.call (calls_at_positions es s.rest) in
+          let placed = next s.first s.rest position s.is in
+          let longer : length (calls_at_positions es (s.first ++ position ∷ [])) ≡ length first + 1 = ap length (calls-more es s.first position ∙ ap (λ cs. first ++ cs) one.is) ∙ length-append first (one.call ∷ []) in
           record {
             entry = e;
             here = here;
@@ -151,7 +151,7 @@ module _ (root : ℕ) (setup : Setup) (es : List Entry) (at : ℕ) (k : Kernel) 
                 earlier = placed.earlier;
               };
               call = one.call;
-              with_it = ap (take (suc (length first))) whole ∙ take_one_more first one.call (calls_at_places es s.rest) ∙ ap (λ cs. cs ++ one.call ∷ []) (sym front);
+              with_it = ap (take (suc (length first))) whole ∙ take_one_more first one.call (calls_at_positions es s.rest) ∙ ap (λ cs. cs ++ one.call ∷ []) (sym front);
               stops = record {
                 here = one.is;
                 mid = s.mid;
@@ -164,30 +164,30 @@ module _ (root : ℕ) (setup : Setup) (es : List Entry) (at : ℕ) (k : Kernel) 
           }
 
     -- by what is kept
-    by_kept : (t : Option Transaction) (s : Status) → m.phase e.pid ≡ s → IsKept es t s → AreNext root setup es e.pid at t → suits_kept true t e.op e.reply ≡ true → StopsHere k t es at e place → FailsAt root setup es at place
+    by_kept : (t : Option Transaction) (s : Status) → m.phase e.pid ≡ s → IsKept es t s → AreNext root setup es e.pid at t → suits_kept true t e.op e.reply ≡ true → StopsHere k t es at e position → FailsAt root setup es at position
     by_kept None idle phase alike next fits stops = idle_stops stops.0 stops.1 phase fits
     by_kept None gone phase alike next fits stops = absurd alike
     by_kept None (live flags age calls) phase alike next fits stops = absurd alike
     by_kept None (doomed cause flags age) phase alike next fits stops = absurd alike
-    by_kept (Some (Live flags places)) (live same age calls) phase alike next fits stops = live_stops flags same age calls places phase alike next stops.0 fits stops.1
-    by_kept (Some (Live flags places)) gone phase alike next fits stops = absurd alike
-    by_kept (Some (Live flags places)) idle phase alike next fits stops = absurd alike
-    by_kept (Some (Live flags places)) (doomed cause same age) phase alike next fits stops = absurd alike
+    by_kept (Some (Live flags positions)) (live same age calls) phase alike next fits stops = live_stops flags same age calls positions phase alike next stops.0 fits stops.1
+    by_kept (Some (Live flags positions)) gone phase alike next fits stops = absurd alike
+    by_kept (Some (Live flags positions)) idle phase alike next fits stops = absurd alike
+    by_kept (Some (Live flags positions)) (doomed cause same age) phase alike next fits stops = absurd alike
     by_kept (Some (Doomed flags)) s phase alike next fits stops = absurd stops
 
--- what the checker finds of the entry at a place
+-- what the checker finds of the entry at a position
 module _ (root : ℕ) (setup : Setup) (es : List Entry) (at : ℕ) (k : Kernel) (kept : FinMap nat_cmp Transaction) (d : Entry) (alive : Bool) (t : Option Transaction) (low : at < length es) (is : d ≡ get_or es at d) (lives : alive ≡ is_alive k d.pid) (was : t ≡ get kept d.pid) where
   pub fails_unsuited : suits_kept alive t d.op d.reply ≡ false → Follows root setup es at k kept → FailsAt root setup es at at
   fails_unsuited h f = unsuited root setup es at k kept f d (holds_entry es at d low is)
       (ap (λ o. suits_kept (is_alive k d.pid) o d.op d.reply) (sym was) ∙ ap (λ b. suits_kept b t d.op d.reply) (sym lives) ∙ h)
 
-  pub fails_stopped : suits_kept alive t d.op d.reply ≡ true → (place : ℕ) → StopsNow es at t k place → Follows root setup es at k kept → FailsAt root setup es at place
-  fails_stopped h place stops f =
+  pub fails_stopped : suits_kept alive t d.op d.reply ≡ true → (position : ℕ) → StopsNow es at t k position → Follows root setup es at k kept → FailsAt root setup es at position
+  fails_stopped h position stops f =
       let here : HoldsEntry es at d = holds_entry es at d low is in
       let now = stops d here in
-      by_kept root setup es at k kept f d here now.0 place (get kept d.pid) ((after root setup (take at es)).phase d.pid) refl (f.phases d.pid) (f.places d.pid)
+      by_kept root setup es at k kept f d here now.0 position (get kept d.pid) ((after root setup (take at es)).phase d.pid) refl (f.phases d.pid) (f.positions d.pid)
       (ap (λ o. suits_kept true o d.op d.reply) (sym was) ∙ ap (λ b. suits_kept b t d.op d.reply) (sym (lives ∙ now.0)) ∙ h)
-      (subst (λ o. StopsHere k o es at d place) was now.1)
+      (subst (λ o. StopsHere k o es at d position) was now.1)
 
 -- whether calls have run, by an equal list
 pub ran_or_not : (b : Bool) (k l : Kernel) (pid : ℕ) (xs ys : List Executed) → xs ≡ ys → MatchBool b (Ran k pid xs l) (CannotRun k pid xs) → MatchBool b (Ran k pid ys l) (CannotRun k pid ys)
@@ -206,16 +206,16 @@ match_some (Some n) h f g = g n h
 pub match_none : (P : Type 0) (Q : ℕ → Type 0) (o : Option ℕ) → o ≡ None → MatchOption o P Q → P
 match_none P Q o is h = subst (λ o. MatchOption o P Q) is h
 
-pub match_place : (P : Type 0) (Q : ℕ → Type 0) (o : Option ℕ) (n : ℕ) → o ≡ Some n → MatchOption o P Q → Q n
-match_place P Q o n is h = subst (λ o. MatchOption o P Q) is h
+pub match_position : (P : Type 0) (Q : ℕ → Type 0) (o : Option ℕ) (n : ℕ) → o ≡ Some n → MatchOption o P Q → Q n
+match_position P Q o n is h = subst (λ o. MatchOption o P Q) is h
 
 -- an error that is passed on
 pub passed_on : {A E : Type 0} (P : A → Type 0) (Q : E → Type 0) (r : Result A E) (e : E) → IsErrAnd r (λ x. x ≡ e) → Q e → MatchResult r P Q
 passed_on P Q (Ok x) e is h = absurd is
 passed_on P Q (Err x) e is h = subst Q (sym is) h
 
--- the calls at places, up to one that cannot run
-pub stops_in : (k mid : Kernel) (pid : ℕ) (es : List Entry) (ps : List ℕ) (i p d : ℕ) → i < length ps → p ≡ get_or ps i d → Ran k pid (calls_at_places es (take i ps)) mid → CannotRun mid pid (call_first (drop p es)) → StopsIn k pid es ps p
+-- the calls at positions, up to one that cannot run
+pub stops_in : (k mid : Kernel) (pid : ℕ) (es : List Entry) (ps : List ℕ) (i p d : ℕ) → i < length ps → p ≡ get_or ps i d → Ran k pid (calls_at_positions es (take i ps)) mid → CannotRun mid pid (call_first (drop p es)) → StopsIn k pid es ps p
 stops_in k mid pid es ps i p d low is ran fails = record {
   first = take i ps;
   rest = drop (i + 1) ps;
@@ -225,10 +225,10 @@ stops_in k mid pid es ps i p d low is ran fails = record {
   fails = fails;
 }
 
--- of the entry at a place
-pub stops_now : (es : List Entry) (at : ℕ) (d : Entry) (t : Option Transaction) (k : Kernel) (place : ℕ) → at < length es → d ≡ get_or es at d → is_alive k d.pid ≡ true → StopsHere k t es at d place → StopsNow es at t k place
-stops_now es at d t k place low is alive stops = λ e held.
-    subst (λ (x : Entry). (is_alive k x.pid ≡ true) × StopsHere k t es at x place) (heads d e _ _ (sym (holds_entry es at d low is).here ∙ held.here)) (alive, stops)
+-- of the entry at a position
+pub stops_now : (es : List Entry) (at : ℕ) (d : Entry) (t : Option Transaction) (k : Kernel) (position : ℕ) → at < length es → d ≡ get_or es at d → is_alive k d.pid ≡ true → StopsHere k t es at d position → StopsNow es at t k position
+stops_now es at d t k position low is alive stops = λ e held.
+    subst (λ (x : Entry). (is_alive k x.pid ≡ true) × StopsHere k t es at x position) (heads d e _ _ (sym (holds_entry es at d low is).here ∙ held.here)) (alive, stops)
   where
     heads : (x y : Entry) (xs ys : List Entry) → ◌≡◌ {A = List Entry} (x ∷ xs) (y ∷ ys) → x ≡ y
     heads x y xs ys h = cc

@@ -15,15 +15,15 @@ use Rattle.replay.specs.declared.checking.CheckFault.TheVariants as fault
 use Rattle.replay.specs.declared.transaction.Transaction.{Transaction}
 use Rattle.replay.specs.declared.transaction.Transaction.TheVariants.{Live, Doomed}
 
--- the entries of these places are kept
+-- the entries of these positions are kept
 abbrev pub AreThere : FinMap nat_cmp Entry → Option Transaction → Type 0
-AreThere kept (Some (Live flags places)) = AllByRecursion (λ place. get kept place ≢ None) places
+AreThere kept (Some (Live flags positions)) = AllByRecursion (λ position. get kept position ≢ None) positions
 AreThere kept (Some (Doomed flags)) = ⊤
 AreThere kept None = ⊤
 
--- each entry that is kept stands at its place
+-- each entry that is kept stands at its position
 abbrev pub AreHeld : List Entry → FinMap nat_cmp Entry → Type 0
-AreHeld es kept = (place : ℕ) (e : Entry) → get kept place ≡ Some e → HoldsEntry es place e
+AreHeld es kept = (position : ℕ) (e : Entry) → get kept position ≡ Some e → HoldsEntry es position e
 
 -- All entries so far pass for the root: the check has come to the state that they commit, and has of
 -- each live transaction the entries of its calls.
@@ -36,10 +36,10 @@ pub record HasChecked (reached : Reached) (so_far : Checked) : Type 0 where
 
 -- what is kept stays, and more may come
 abbrev pub Grows : FinMap nat_cmp Entry → FinMap nat_cmp Entry → Type 0
-Grows old new = (place : ℕ) → get old place ≢ None → get new place ≢ None
+Grows old new = (position : ℕ) → get old position ≢ None → get new position ≢ None
 
 -- What a fault says of a history for one root. Where memory was refused it says nothing.
 abbrev pub IsFaultFor : ℕ → Setup → List Entry → CheckFault → Type 0
-IsFaultFor root setup es (fault.Wrong place) =
-    (at before : ℕ) × (place ≡ suc before) × FailsAt root setup es at before
+IsFaultFor root setup es (fault.Wrong position) =
+    (at before : ℕ) × (position ≡ suc before) × FailsAt root setup es at before
 IsFaultFor root setup es fault.NoMemory = ⊤

@@ -6,7 +6,7 @@ use Rattle.model.specs.Changes.{New_process, End_process, Put_bytes, Cut}
 
 -- whether an edit is of descriptions or of processes
 abbrev pub is_of_processes : Edit → Bool
-is_of_processes (Set_offset d place) = true
+is_of_processes (Set_offset d offset) = true
 is_of_processes (Open_inode i inode mode pid f) = true
 is_of_processes (Make_pipe i pid f g) = true
 is_of_processes (Share_slot pid f d pipes) = true
@@ -17,6 +17,6 @@ is_of_processes _ = false
 
 -- a write ends where a file can end, and a cut leaves no more than that
 abbrev pub EndsWithin : Edit → Type 0
-EndsWithin (Put_bytes n place bytes before) = place + length bytes ≤ largest_file
+EndsWithin (Put_bytes n offset bytes before) = offset + length bytes ≤ largest_file
 EndsWithin (Cut n before after) = after ≤ largest_file
 EndsWithin _ = ⊤

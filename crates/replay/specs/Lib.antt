@@ -1,4 +1,4 @@
-pub mod Places
+pub mod Indices
 pub mod Content
 pub mod Counts
 pub mod Edits

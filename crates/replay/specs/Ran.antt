@@ -11,7 +11,7 @@ use Rattle.model.specs.Legal.{items, serial}
 use Rattle.freeing_laws.specs.Sweep.{IsTidied}
 use Rattle.model.specs.Suits.{AllSuit}
 use Rattle.replay.specs.Faults.{HoldsEntry, calls_before}
-use Rattle.replay.specs.Transactions.{IsKept, call_first, call_of, calls_at_places, is_end, run_kept}
+use Rattle.replay.specs.Transactions.{IsKept, call_first, call_of, calls_at_positions, is_end, run_kept}
 use Rattle.replay.specs.declared.transaction.Transaction.{Transaction}
 use Rattle.replay.specs.declared.transaction.Transaction.TheVariants.{Live, Doomed}
 
@@ -25,21 +25,21 @@ abbrev pub CannotRun : Kernel → ℕ → List Executed → Type 0
 CannotRun before pid es = is_alive before pid ≡ true → (after : Kernel) → Run before (items pid es) after
     → ⊥
 
--- At a place kept of a transaction, behind those of other calls, stands its next call, if one was
--- executed there: before it the transaction had the calls of the other places, and from then on
+-- At a position kept of a transaction, behind those of other calls, stands its next call, if one was
+-- executed there: before it the transaction had the calls of the other positions, and from then on
 -- that one too.
 pub record IsNext (root : ℕ) (setup : Setup) (es : List Entry) (pid at : ℕ) (first : List ℕ)
-    (place : ℕ) : Type 0 where
-  pub earlier : place < at
-  pub before : length (calls_before root setup es pid place) ≡ length (calls_at_places es first)
-  pub since : (q : ℕ) → place < q → q ≤ at → length (calls_at_places es (first ++ place ∷ []))
+    (position : ℕ) : Type 0 where
+  pub earlier : position < at
+  pub before : length (calls_before root setup es pid position) ≡ length (calls_at_positions es first)
+  pub since : (q : ℕ) → position < q → q ≤ at → length (calls_at_positions es (first ++ position ∷ []))
       ≤ length (calls_before root setup es pid q)
 
--- so it is with each place that is kept
+-- so it is with each position that is kept
 abbrev pub AreNext : ℕ → Setup → List Entry → ℕ → ℕ → Option Transaction → Type 0
-AreNext root setup es pid at (Some (Live flags places)) =
-    (first rest : List ℕ) (place : ℕ) → places ≡ first ++ place ∷ rest
-    → IsNext root setup es pid at first place
+AreNext root setup es pid at (Some (Live flags positions)) =
+    (first rest : List ℕ) (position : ℕ) → positions ≡ first ++ position ∷ rest
+    → IsNext root setup es pid at first position
 AreNext root setup es pid at (Some (Doomed flags)) = ⊤
 AreNext root setup es pid at None = ⊤
 
@@ -52,35 +52,35 @@ pub record Follows (root : ℕ) (setup : Setup) (es : List Entry) (at : ℕ) (st
   pub tidied : IsTidied state
   pub committed : state ≡ (after root setup (take at es)).committed
   pub phases : (q : ℕ) → IsKept es (get kept q) ((after root setup (take at es)).phase q)
-  pub places : (q : ℕ) → AreNext root setup es q at (get kept q)
+  pub positions : (q : ℕ) → AreNext root setup es q at (get kept q)
 
--- what the entry at a place runs has run
+-- what the entry at a position runs has run
 abbrev pub RanAt : List Entry → ℕ → Option Transaction → Kernel → Kernel → Type 0
 RanAt es at kept before after = (e : Entry) → HoldsEntry es at e
     → Ran before e.pid (run_kept (is_alive before e.pid) kept es e.op e.reply e.chosen) after
 
--- a place of these up to whose call the calls run, and with it they do not
-pub record StopsIn (before : Kernel) (pid : ℕ) (es : List Entry) (places : List ℕ) (place : ℕ)
+-- a position of these up to whose call the calls run, and with it they do not
+pub record StopsIn (before : Kernel) (pid : ℕ) (es : List Entry) (positions : List ℕ) (position : ℕ)
     : Type 0 where
   pub first : List ℕ
   pub rest : List ℕ
-  pub is : places ≡ first ++ place ∷ rest
+  pub is : positions ≡ first ++ position ∷ rest
   pub mid : Kernel
-  pub ran : Ran before pid (calls_at_places es first) mid
-  pub fails : CannotRun mid pid (call_first (drop place es))
+  pub ran : Ran before pid (calls_at_positions es first) mid
+  pub fails : CannotRun mid pid (call_first (drop position es))
 
--- such a place of a transaction that an entry ends
+-- such a position of a transaction that an entry ends
 abbrev pub StopsInside : Kernel → Transaction → List Entry → Entry → ℕ → Type 0
-StopsInside before (Live flags places) es e place =
-    (is_end e.op ≡ true) × StopsIn before e.pid es places place
-StopsInside before (Doomed flags) es e place = ⊥
+StopsInside before (Live flags positions) es e position =
+    (is_end e.op ≡ true) × StopsIn before e.pid es positions position
+StopsInside before (Doomed flags) es e position = ⊥
 
--- or an entry's own place, whose call cannot be made outside a transaction
+-- or an entry's own position, whose call cannot be made outside a transaction
 abbrev pub StopsHere : Kernel → Option Transaction → List Entry → ℕ → Entry → ℕ → Type 0
-StopsHere before None es at e place = (place ≡ at) × CannotRun before e.pid (call_of e)
-StopsHere before (Some transaction) es at e place = StopsInside before transaction es e place
+StopsHere before None es at e position = (position ≡ at) × CannotRun before e.pid (call_of e)
+StopsHere before (Some transaction) es at e position = StopsInside before transaction es e position
 
--- of the entry at a place, whose process lives
+-- of the entry at a position, whose process lives
 abbrev pub StopsNow : List Entry → ℕ → Option Transaction → Kernel → ℕ → Type 0
-StopsNow es at kept before place = (e : Entry) → HoldsEntry es at e
-    → (is_alive before e.pid ≡ true) × StopsHere before kept es at e place
+StopsNow es at kept before position = (e : Entry) → HoldsEntry es at e
+    → (is_alive before e.pid ≡ true) × StopsHere before kept es at e position

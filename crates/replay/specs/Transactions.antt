@@ -1,5 +1,5 @@
 -- What the checker keeps of a process: nothing while it is idle, else its transaction's flags and,
--- while it lives, the places of its calls.
+-- while it lives, the positions of its calls.
 use Rattle.std.specs.Prelude.{◌≡◌, ℕ, List, [], ◌∷◌, ◌++◌, Bool, true, false, Option, Some, None, ⊤}
 use Rattle.std.specs.Prelude.{drop, if◌then◌else◌, ◌==◌}
 use Rattle.model.specs.Entries.{BeginFlags, Op, Do, Begin, End, Abort, Reply, Answers, Refuses}
@@ -24,16 +24,16 @@ abbrev pub call_first : List Entry → List Executed
 call_first [] = []
 call_first (e ∷ es) = call_of e
 
--- the executed calls at these places
-abbrev pub calls_at_places : List Entry → List ℕ → List Executed
-calls_at_places es [] = []
-calls_at_places es (p ∷ ps) = call_first (drop p es) ++ calls_at_places es ps
+-- the executed calls at these positions
+abbrev pub calls_at_positions : List Entry → List ℕ → List Executed
+calls_at_positions es [] = []
+calls_at_positions es (p ∷ ps) = call_first (drop p es) ++ calls_at_positions es ps
 
 -- what is kept of a status
 abbrev pub IsKept : List Entry → Option Transaction → Status → Type 0
 IsKept es None idle = ⊤
-IsKept es (Some (Live flags places)) (live same age calls) =
-    (flags ≡ same) × (calls ≡ calls_at_places es places)
+IsKept es (Some (Live flags positions)) (live same age calls) =
+    (flags ≡ same) × (calls ≡ calls_at_positions es positions)
 IsKept es (Some (Doomed flags)) (doomed cause same age) = flags ≡ same
 IsKept es _ _ = ⊥
 
@@ -41,14 +41,14 @@ IsKept es _ _ = ⊥
 abbrev pub suits_kept : Bool → Option Transaction → Op → Reply → Bool
 suits_kept false kept op reply = is_no_process reply
 suits_kept true None op reply = suits_idle op reply
-suits_kept true (Some (Live flags places)) op reply = suits_live flags op reply
+suits_kept true (Some (Live flags positions)) op reply = suits_live flags op reply
 suits_kept true (Some (Doomed flags)) op reply = is_clash reply
 
 -- one more call
-abbrev pub with_place : ℕ → Option Transaction → Option Transaction
-with_place at (Some (Live flags places)) = Some (Live flags (places ++ at ∷ []))
-with_place at (Some (Doomed flags)) = Some (Doomed flags)
-with_place at None = None
+abbrev pub with_position : ℕ → Option Transaction → Option Transaction
+with_position at (Some (Live flags positions)) = Some (Live flags (positions ++ at ∷ []))
+with_position at (Some (Doomed flags)) = Some (Doomed flags)
+with_position at None = None
 
 -- a begin
 abbrev pub begun_kept : Option Transaction → Op → Option Transaction
@@ -61,13 +61,13 @@ begun_anew flags again = if again then Some (Live flags []) else None
 
 abbrev pub settled_kept : Option Transaction → Bool → Option Transaction
 settled_kept None again = None
-settled_kept (Some (Live flags places)) again = begun_anew flags again
+settled_kept (Some (Live flags positions)) again = begun_anew flags again
 settled_kept (Some (Doomed flags)) again = begun_anew flags again
 
--- after an entry of the process itself, which stands at this place
+-- after an entry of the process itself, which stands at this position
 abbrev pub own_kept : ℕ → Option Transaction → Op → Reply → Option Transaction
-own_kept at kept op (Answers a) = with_place at kept
-own_kept at kept op (Refuses e) = with_place at kept
+own_kept at kept op (Answers a) = with_position at kept
+own_kept at kept op (Refuses e) = with_position at kept
 own_kept at kept op Begun = begun_kept kept op
 own_kept at kept op Committed = None
 own_kept at kept op (GivenUp again) = settled_kept kept again
@@ -81,7 +81,7 @@ own_kept at kept op NoProcess = kept
 
 -- after an entry that dooms it
 abbrev pub doomed_kept : Option Transaction → Option Transaction
-doomed_kept (Some (Live flags places)) = Some (Doomed flags)
+doomed_kept (Some (Live flags positions)) = Some (Doomed flags)
 doomed_kept (Some (Doomed flags)) = Some (Doomed flags)
 doomed_kept None = None
 
@@ -94,11 +94,11 @@ is_end _ = false
 abbrev pub run_kept : Bool → Option Transaction → List Entry → Op → Reply → List ℕ → List Executed
 run_kept false kept es op reply chosen = []
 run_kept true None es op reply chosen = call_in op reply chosen
-run_kept true (Some (Live flags places)) es op reply chosen =
-    if is_end op then calls_at_places es places else []
+run_kept true (Some (Live flags positions)) es op reply chosen =
+    if is_end op then calls_at_positions es positions else []
 run_kept true (Some (Doomed flags)) es op reply chosen = []
 
--- what is kept of a process after an entry at this place
+-- what is kept of a process after an entry at this position
 abbrev pub next_kept : ℕ → Entry → ℕ → Option Transaction → Option Transaction
 next_kept at e q kept =
     let own = if q == e.pid then own_kept at kept e.op e.reply else kept in

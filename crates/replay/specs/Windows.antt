@@ -13,24 +13,24 @@ use Rattle.replay.specs.declared.window.Window.{Window}
 pub record Shows (es : List Entry) (w : Window) : Type 0 where
   pub part : drop w.offset es ≡ w.part.now
   pub within : w.offset ≤ length es
-  pub kept : (place : ℕ) (e : Entry) → get w.kept.now place ≡ Some e → HoldsEntry es place e
+  pub kept : (position : ℕ) (e : Entry) → get w.kept.now position ≡ Some e → HoldsEntry es position e
 
--- the entry at a place can be looked at, if there is one
+-- the entry at a position can be looked at, if there is one
 abbrev pub CanSee : Window → ℕ → Type 0
-CanSee w place = (w.offset ≤ place) ⊎ (get w.kept.now place ≢ None)
+CanSee w position = (w.offset ≤ position) ⊎ (get w.kept.now position ≢ None)
 
--- the entry at a place is found: there is none only past the end
+-- the entry at a position is found: there is none only past the end
 abbrev pub Finds : List Entry → ℕ → Option Entry → Type 0
-Finds es place None = length es ≤ place
-Finds es place (Some e) = HoldsEntry es place e
+Finds es position None = length es ≤ position
+Finds es position (Some e) = HoldsEntry es position e
 
 -- each of these can
 abbrev pub CanSeeAll : Window → List ℕ → Type 0
-CanSeeAll w places = AllByRecursion (CanSee w) places
+CanSeeAll w positions = AllByRecursion (CanSee w) positions
 
 -- each call of a transaction can
 abbrev pub CanSeeEach : Window → Option Transaction → Type 0
-CanSeeEach w (Some (Live flags places)) = CanSeeAll w places
+CanSeeEach w (Some (Live flags positions)) = CanSeeAll w positions
 CanSeeEach w (Some (Doomed flags)) = ⊤
 CanSeeEach w None = ⊤
 
@@ -40,10 +40,10 @@ CanSeeAny w kept = (q : ℕ) → CanSeeEach w (get kept q)
 
 -- each of these can, and stands in the history
 abbrev pub CanKeepAll : List Entry → Window → List ℕ → Type 0
-CanKeepAll es w places = AllByRecursion (λ place. CanSee w place × (place < length es)) places
+CanKeepAll es w positions = AllByRecursion (λ position. CanSee w position × (position < length es)) positions
 
 -- each call of a transaction can, and does
 abbrev pub CanKeep : List Entry → Window → Option Transaction → Type 0
-CanKeep es w (Some (Live flags places)) = CanKeepAll es w places
+CanKeep es w (Some (Live flags positions)) = CanKeepAll es w positions
 CanKeep es w (Some (Doomed flags)) = ⊤
 CanKeep es w None = ⊤

@@ -3,13 +3,7 @@ ghost use Rattle.std.specs.Prelude.{◌≡◌, Decides, Some};
 ghost use Rattle.model.specs.Entries.{answer_in};
 
 use crate::transaction::is_unsupported;
-use ids::{Answer, Bytes, Errno, Name, NameList, Reply};
-
-fn are_same_bytes(bytes: &Bytes, others: &Bytes) -> bool
-    ensures { Decides result (bytes.now ≡ others.now) }
-{
-    bytes.as_slice() == others.as_slice()
-}
+use ids::{Answer, Errno, Name, Reply};
 
 fn are_same_names(names: &[Name], others: &[Name]) -> bool
     ensures { Decides result (names.now ≡ others.now) }
@@ -23,12 +17,6 @@ fn are_same_names(names: &[Name], others: &[Name]) -> bool
     name.as_slice() == other.as_slice() && are_same_names(rest, more)
 }
 
-fn are_same_lists(list: &NameList, other: &NameList) -> bool
-    ensures { Decides result (list.now ≡ other.now) }
-{
-    are_same_names(list.as_slice(), other.as_slice())
-}
-
 fn are_same_answers(answer: &Answer, other: &Answer) -> bool
     ensures { Decides result (answer.now ≡ other.now) }
 {
@@ -36,13 +24,16 @@ fn are_same_answers(answer: &Answer, other: &Answer) -> bool
         (Answer::Done, Answer::Done) => true,
         (Answer::Fd(fd), Answer::Fd(same)) => fd == same,
         (Answer::Count(count), Answer::Count(same)) => count == same,
-        (Answer::Place(place), Answer::Place(same)) => place == same,
-        (Answer::Bytes(bytes), Answer::Bytes(same)) => are_same_bytes(bytes, same),
+        (Answer::Place(offset), Answer::Place(same)) => offset == same,
+        (Answer::Bytes(bytes), Answer::Bytes(same)) => bytes.as_slice() == same.as_slice(),
         (Answer::Pair(reader, writer), Answer::Pair(same, too)) => {
             reader == same && writer == too
         }
         (Answer::Stat(stat), Answer::Stat(same)) => stat == same,
-        (Answer::Names(names), Answer::Names(same)) => are_same_lists(names, same),
+        (Answer::Names(names), Answer::Names(same)) => are_same_names(
+            names.as_slice(),
+            same.as_slice(),
+        ),
         (Answer::Child(child), Answer::Child(same)) => child == same,
         _ => false,
     }

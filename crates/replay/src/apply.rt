@@ -11,11 +11,10 @@ ghost use Rattle.model.specs.Changes.{set_offset, set_process, sized, with_slot,
 ghost use Rattle.model.specs.Changes.{written, to_read, to_write};
 ghost use Rattle.replay.specs.Edits.{EndsWithin, is_of_processes};
 
-use crate::bytes::{appended, no_bytes, rest};
-use crate::inode::{Inode, file_out, pipe_out};
+use crate::inode::{Inode, file_out, no_bytes, pipe_out};
 use crate::inodes::Inodes;
 use crate::names::Names;
-use crate::plain::{Description, PlainKernel, Process, place_of};
+use crate::plain::{Description, PlainKernel, Process, key_of};
 use crate::table::Table;
 use heap::Heap;
 use ids::{Bytes, Edit, Fd, Mode, Name, Num, Pid, Which};
@@ -23,11 +22,11 @@ use objects::FileData;
 use std::alloc::AllocError;
 use std::mem::replace;
 
-// The new number of a place, 0 where there is none.
-fn made(chosen: &[Num], place: usize) -> Num
-    ensures { result ≡ get_or chosen.now place 0 }
+// The new number of this index, 0 where there is none.
+fn made(chosen: &[Num], index: usize) -> Num
+    ensures { result ≡ get_or chosen.now index 0 }
 {
-    match chosen.get(place) {
+    match chosen.get(index) {
         Some(num) => *num,
         None => Num(0),
     }
@@ -39,7 +38,7 @@ fn number(chosen: &[Num], which: &Which) -> Num
 {
     match which {
         Which::There(num) => *num,
-        Which::Made(place) => made(chosen, *place as usize),
+        Which::Made(index) => made(chosen, *index as usize),
     }
 }
 
@@ -99,15 +98,15 @@ impl PlainKernel {
         self.set_name(heap, dir, name, num)
     }
 
-    // Bytes of a file from a place on. It costs what it writes, however long the file is.
-    fn put(&mut self, heap: Heap, file: Num, place: usize, bytes: &[u8]) -> Result<(), AllocError>
-        requires { place + length bytes.now ≤ largest_file }
+    // Bytes of a file from an offset on. It costs what it writes, however long the file is.
+    fn put(&mut self, heap: Heap, file: Num, offset: usize, bytes: &[u8]) -> Result<(), AllocError>
+        requires { offset + length bytes.now ≤ largest_file }
         ensures { OnOk result (self.new
-            ≡ set_inode file (A_file (written (file_of self.old file) place bytes.now)) self.old) }
+            ≡ set_inode file (A_file (written (file_of self.old file) offset bytes.now)) self.old) }
     {
         let inode = self.take_inode(heap, file)?;
         let mut stored = file_out(heap, inode);
-        stored.write_at(place, bytes)?;
+        stored.write_at(offset, bytes)?;
         self.set_inode(file, Inode::file(stored))
     }
 
@@ -130,7 +129,8 @@ impl PlainKernel {
     {
         let inode = self.take_inode(heap, pipe)?;
         let all = pipe_out(heap, inode);
-        let left = Bytes::copy(heap, rest(all.as_slice(), count))?;
+        let bytes = all.as_slice();
+        let left = Bytes::copy(heap, &bytes[count.min(bytes.len())..])?;
         self.set_inode(pipe, Inode::pipe(left))
     }
 
@@ -140,19 +140,20 @@ impl PlainKernel {
             ≡ set_inode pipe (A_pipe (pipe_of self.old pipe ++ bytes.now)) self.old) }
     {
         let inode = self.take_inode(heap, pipe)?;
-        let all = appended(pipe_out(heap, inode), bytes)?;
-        self.set_inode(pipe, Inode::pipe(all))
+        let mut all = pipe_out(heap, inode).into_vec();
+        all.extend_from_slice(bytes)?;
+        self.set_inode(pipe, Inode::pipe(Bytes::new(all)))
     }
 
     // A description's offset.
-    fn set_offset(&mut self, num: Num, place: u32) -> Result<(), AllocError>
+    fn set_offset(&mut self, num: Num, offset: u32) -> Result<(), AllocError>
         ensures { OnOk result
-            (self.new ≡ set_offset num place (get self.old.descriptions num) self.old) }
+            (self.new ≡ set_offset num offset (get self.old.descriptions num) self.old) }
     {
         match self.descriptions.get(num) {
             Some(description) => {
                 let moved = Description {
-                    offset: place,
+                    offset,
                     ..*description
                 };
                 self.set_description(num, moved)
@@ -173,7 +174,7 @@ impl PlainKernel {
         ensures left { self.new ≡ record self.old { processes = remove self.old.processes pid } }
         ensures taken { result ≡ process_of self.old pid }
     {
-        match self.processes.remove(place_of(pid)) {
+        match self.processes.remove(key_of(pid)) {
             Some(process) => process,
             None => Process {
                 table: Table::new(heap),
@@ -186,7 +187,7 @@ impl PlainKernel {
     fn set_process(&mut self, pid: Pid, process: Process) -> Result<(), AllocError>
         ensures { OnOk result (self.new ≡ set_process pid process self.old) }
     {
-        self.processes.set(place_of(pid), process)
+        self.processes.set(key_of(pid), process)
     }
 
     // A descriptor gives a description.
@@ -260,17 +261,10 @@ impl PlainKernel {
           made = child;
         }) }
     {
-        let process = copy_of(heap, self.processes.get(place_of(parent)))?;
+        let process = copy_of(heap, self.processes.get(key_of(parent)))?;
         self.set_process(child, process)?;
         self.made = child.0;
         Ok(())
-    }
-
-    // A process is gone.
-    fn end_process(&mut self, pid: Pid)
-        ensures { self.new ≡ record self.old { processes = remove self.old.processes pid } }
-    {
-        drop(self.processes.remove(place_of(pid)));
     }
 }
 
@@ -315,27 +309,45 @@ impl PlainKernel {
         ensures { OnOk result (self.new ≡ applied chosen.now edit.now self.old) }
     {
         match edit {
-            Edit::MakeDirectory(dir, name, place) => {
+            Edit::MakeDirectory {
+                parent,
+                name,
+                index,
+            } => {
                 let inode = Inode::directory(Names::new(heap));
-                self.make(heap, *dir, name, made(chosen, *place as usize), inode)
+                self.make(heap, *parent, name, made(chosen, *index as usize), inode)
             }
-            Edit::MakeFile(dir, name, place) => {
+            Edit::MakeFile {
+                parent,
+                name,
+                index,
+            } => {
                 let inode = Inode::file(FileData::new(heap));
-                self.make(heap, *dir, name, made(chosen, *place as usize), inode)
+                self.make(heap, *parent, name, made(chosen, *index as usize), inode)
             }
-            Edit::NameFile(dir, name, num) => self.set_name(heap, *dir, name, *num),
-            Edit::UnnameFile(dir, name, _) => self.clear_name(heap, *dir, name),
-            Edit::UnnameDirectory(dir, name, _) => self.clear_name(heap, *dir, name),
-            Edit::Move(dir, name, onto, new, num, _) => {
-                self.clear_name(heap, *dir, name)?;
-                self.set_name(heap, *onto, new, *num)
+            Edit::NameFile { parent, name, file } => self.set_name(heap, *parent, name, *file),
+            Edit::UnnameFile { parent, name, .. } => self.clear_name(heap, *parent, name),
+            Edit::UnnameDirectory { parent, name, .. } => self.clear_name(heap, *parent, name),
+            Edit::Move {
+                from,
+                old_name,
+                to,
+                new_name,
+                inode,
+                ..
+            } => {
+                self.clear_name(heap, *from, old_name)?;
+                self.set_name(heap, *to, new_name, *inode)
             }
-            Edit::PutBytes(file, place, bytes, _) => {
-                self.put(heap, *file, *place as usize, bytes.as_slice())
-            }
-            Edit::Cut(file, _, len) => self.cut(heap, *file, *len as usize),
-            Edit::Take(pipe, count) => self.take(heap, *pipe, *count as usize),
-            Edit::Append(pipe, bytes) => self.append(heap, *pipe, bytes.as_slice()),
+            Edit::PutBytes {
+                file,
+                offset,
+                bytes,
+                ..
+            } => self.put(heap, *file, *offset as usize, bytes.as_slice()),
+            Edit::Cut { file, length, .. } => self.cut(heap, *file, *length as usize),
+            Edit::Take { pipe, count } => self.take(heap, *pipe, *count as usize),
+            Edit::Append { pipe, bytes } => self.append(heap, *pipe, bytes.as_slice()),
             _ => self.apply_to_processes(heap, edit, chosen),
         }
     }
@@ -351,22 +363,47 @@ impl PlainKernel {
         ensures { OnOk result (self.new ≡ applied chosen.now edit.now self.old) }
     {
         match edit {
-            Edit::SetOffset(num, place) => self.set_offset(*num, *place),
-            Edit::OpenInode(place, inode, mode, pid, fd) => {
+            Edit::SetOffset {
+                description,
+                offset,
+            } => self.set_offset(*description, *offset),
+            Edit::OpenInode {
+                index,
+                inode,
+                mode,
+                process,
+                descriptor,
+            } => {
+                let num = made(chosen, *index as usize);
                 let opened = at_start(number(chosen, inode), mode);
-                self.open_at(heap, made(chosen, *place as usize), opened, *pid, *fd)
+                self.open_at(heap, num, opened, *process, *descriptor)
             }
-            Edit::MakePipe(place, pid, reader, writer) => {
-                let pipe = made(chosen, *place as usize);
-                let reading = made(chosen, *place as usize + 1);
-                let writing = made(chosen, *place as usize + 2);
-                self.make_pipe(heap, (pipe, reading, writing), *pid, (*reader, *writer))
+            Edit::MakePipe {
+                index,
+                process,
+                reader,
+                writer,
+            } => {
+                let pipe = made(chosen, *index as usize);
+                let reading = made(chosen, *index as usize + 1);
+                let writing = made(chosen, *index as usize + 2);
+                let nums = (pipe, reading, writing);
+                self.make_pipe(heap, nums, *process, (*reader, *writer))
             }
-            Edit::ShareSlot(pid, fd, num, _) => self.set_slot(heap, *pid, *fd, *num),
-            Edit::ClearSlot(pid, fd, _) => self.clear_slot(heap, *pid, *fd),
-            Edit::NewProcess(child, parent, _) => self.new_process(heap, *child, *parent),
-            Edit::EndProcess(pid, _) => {
-                self.end_process(*pid);
+            Edit::ShareSlot {
+                process,
+                descriptor,
+                description,
+                ..
+            } => self.set_slot(heap, *process, *descriptor, *description),
+            Edit::ClearSlot {
+                process,
+                descriptor,
+                ..
+            } => self.clear_slot(heap, *process, *descriptor),
+            Edit::NewProcess { child, parent, .. } => self.new_process(heap, *child, *parent),
+            Edit::EndProcess { process, .. } => {
+                drop(self.processes.remove(key_of(*process)));
                 Ok(())
             }
             _ => unreachable!(),

@@ -16,8 +16,8 @@ ghost use Rattle.replay.specs.Failing.{IsStop};
 ghost use Rattle.replay.specs.Ran.{CannotRun, Follows, Ran, RanAt, StopsHere, StopsIn};
 ghost use Rattle.replay.specs.Ran.{StopsNow};
 ghost use Rattle.model.specs.Suits.{is_executed};
-ghost use Rattle.replay.specs.Transactions.{call_first, call_in, call_of, calls_at_places};
-ghost use Rattle.replay.specs.Transactions.{doomed_kept, is_end, next_kept, run_kept};
+ghost use Rattle.replay.specs.Transactions.{call_first, call_in, call_of, calls_at_positions};
+ghost use Rattle.replay.specs.Transactions.{doomed_kept, next_kept, run_kept};
 ghost use Rattle.replay.specs.Windows.{CanSee, CanSeeAll, CanSeeAny, CanSeeEach, Shows};
 ghost use Rattle.replay.specs.declared.audit.Stop.TheVariants.{NoMemory};
 
@@ -26,7 +26,7 @@ use crate::beginning::Beginning;
 use crate::inode::Inode;
 use crate::inodes::Inodes;
 use crate::names::Names;
-use crate::plain::{PlainKernel, Process, place_of, small};
+use crate::plain::{PlainKernel, Process, key_of, small};
 use crate::table::Table;
 use crate::transaction::{Transaction, doomed_kept, is_executed, own_kept, suits};
 use crate::tree::Tree;
@@ -39,8 +39,13 @@ use std::alloc::AllocError;
 /// Why a replay stops.
 #[derive(Clone, Copy, Debug, PartialEq, Eq)]
 pub(crate) enum Stop {
-    /// The entry at this place, and the call at that one, counted from 0.
-    Wrong(usize, usize),
+    /// An entry and a call are wrong. Positions are counted from 0.
+    Wrong {
+        /// The position of the entry.
+        entry: usize,
+        /// The position of the call.
+        call: usize,
+    },
     /// Memory was refused.
     NoMemory,
 }
@@ -124,90 +129,51 @@ impl PlainKernel {
         }
     }
 
-    // The executed call at this place, if there is one.
-    fn run_place(
+    // The executed call at this position, if there is one.
+    fn run_at(
         &mut self,
         heap: Heap,
         pid: Pid,
         window: &Window<'_>,
-        place: usize,
+        position: usize,
     ) -> Result<bool, AllocError>
         ghost es: { List Listed }
         requires tidied { IsTidied self.old }
         requires shows { Shows es window.now }
-        requires sees { CanSee window.now place }
+        requires sees { CanSee window.now position }
         ensures { IfOk result (λ right. MatchBool right
-            (Ran self.old pid (call_first (drop place es)) self.new)
-            (CannotRun self.old pid (call_first (drop place es)))) }
+            (Ran self.old pid (call_first (drop position es)) self.new)
+            (CannotRun self.old pid (call_first (drop position es)))) }
     {
-        match window.entry(place) {
+        match window.entry(position) {
             Some(entry) => self.run_entry(heap, pid, entry),
             None => Ok(true),
         }
     }
 
-    // The executed calls at these places; where one is wrong, its place.
+    // The executed calls at these positions; where one is wrong, its position.
     fn run_all(
         &mut self,
         heap: Heap,
         pid: Pid,
         window: &Window<'_>,
-        places: &[usize],
+        positions: &[usize],
     ) -> Result<Option<usize>, AllocError>
         ghost es: { List Listed }
         requires tidied { IsTidied self.old }
         requires shows { Shows es window.now }
-        requires sees { CanSeeAll window.now places.now }
+        requires sees { CanSeeAll window.now positions.now }
         ensures { IfOk result (λ wrong. MatchOption wrong
-            (Ran self.old pid (calls_at_places es places.now) self.new)
-            (StopsIn self.old pid es places.now)) }
+            (Ran self.old pid (calls_at_positions es positions.now) self.new)
+            (StopsIn self.old pid es positions.now)) }
     {
-        for place in places {
-            let right = self.run_place(heap, pid, window, *place)?;
+        for position in positions {
+            let right = self.run_at(heap, pid, window, *position)?;
             if !right {
-                return Ok(Some(*place));
+                return Ok(Some(*position));
             }
         }
         Ok(None)
-    }
-
-    // Outside a transaction an entry's own call is run, which stands at this place.
-    fn run_idle(
-        &mut self,
-        heap: Heap,
-        entry: &Entry,
-        at: usize,
-    ) -> Result<Option<usize>, AllocError>
-        requires { IsTidied self.old }
-        ensures { IfOk result (λ wrong. MatchOption wrong
-            (Ran self.old entry.now.pid (call_of entry.now) self.new)
-            (λ place. (place ≡ at) × CannotRun self.old entry.now.pid (call_of entry.now))) }
-    {
-        let right = self.run_entry(heap, entry.pid, entry)?;
-        if right { Ok(None) } else { Ok(Some(at)) }
-    }
-
-    // At a transaction's end its calls are, which stand at these places.
-    fn run_live(
-        &mut self,
-        heap: Heap,
-        entry: &Entry,
-        window: &Window<'_>,
-        places: &[usize],
-    ) -> Result<Option<usize>, AllocError>
-        ghost es: { List Listed }
-        requires tidied { IsTidied self.old }
-        requires shows { Shows es window.now }
-        requires sees { CanSeeAll window.now places.now }
-        ensures { IfOk result (λ wrong. MatchOption wrong (Ran self.old entry.now.pid
-            (if is_end entry.now.op then calls_at_places es places.now else []) self.new)
-            (λ place. (is_end entry.now.op ≡ true)
-            × StopsIn self.old entry.now.pid es places.now place)) }
-    {
-        if !is_end(&entry.op) {
-            return Ok(None);
-        }
-        self.run_all(heap, entry.pid, window, places)
     }
 
     // The calls of an entry that take effect now, by what is kept of a living process.
@@ -217,7 +183,7 @@ impl PlainKernel {
         kept: Option<&Transaction>,
         window: &Window<'_>,
         entry: &Entry,
-        at: usize,
+        position: usize,
     ) -> Result<Option<usize>, AllocError>
         ghost es: { List Listed }
         requires tidied { IsTidied self.old }
@@ -226,25 +192,22 @@ impl PlainKernel {
         ensures { IfOk result (λ wrong. MatchOption wrong (Ran self.old entry.now.pid
             (run_kept true (option_copied kept.entry) es entry.now.op entry.now.reply
             entry.now.chosen) self.new)
-            (StopsHere self.old (option_copied kept.entry) es at entry.now)) }
+            (StopsHere self.old (option_copied kept.entry) es position entry.now)) }
     {
         match kept {
-            None => self.run_idle(heap, entry, at),
-            Some(transaction) => match transaction {
-                Transaction::Live(_, places) => {
-                    self.run_live(heap, entry, window, places.as_slice())
+            None => {
+                let right = self.run_entry(heap, entry.pid, entry)?;
+                if right { Ok(None) } else { Ok(Some(position)) }
+            }
+            Some(Transaction::Live(_, positions)) => {
+                if !matches!(entry.op, Op::End) {
+                    return Ok(None);
                 }
-                Transaction::Doomed(_) => Ok(None),
-            },
+                self.run_all(heap, entry.pid, window, positions.as_slice())
+            }
+            Some(Transaction::Doomed(_)) => Ok(None),
         }
     }
-}
-
-// Whether an operation ends a transaction.
-fn is_end(op: &Op) -> bool
-    ensures { result ≡ is_end op.now }
-{
-    matches!(op, Op::End)
 }
 
 /// A plain kernel, and what is kept of each process.
@@ -263,27 +226,27 @@ impl Drop for Audit {
     }
 }
 
-// The calls of an entry that take effect now; where one is wrong, its place.
+// The calls of an entry that take effect now; where one is wrong, its position.
 fn run(
     kernel: &mut PlainKernel,
     heap: Heap,
     kept: Option<&Transaction>,
     window: &Window<'_>,
     entry: &Entry,
-    at: usize,
+    position: usize,
 ) -> Result<Option<usize>, AllocError>
     ghost es: { List Listed }
     requires tidied { IsTidied kernel.old }
     requires shows { Shows es window.now }
     requires sees { CanSeeEach window.now (option_copied kept) }
-    requires within { at < length es }
-    requires here { entry.now ≡ get_or es at entry.now }
+    requires within { position < length es }
+    requires here { entry.now ≡ get_or es position entry.now }
     ensures { IfOk result (λ wrong. MatchOption wrong
-        (RanAt es at (option_copied kept.entry) kernel.old kernel.new)
-        (StopsNow es at (option_copied kept.entry) kernel.old)) }
+        (RanAt es position (option_copied kept.entry) kernel.old kernel.new)
+        (StopsNow es position (option_copied kept.entry) kernel.old)) }
 {
     if kernel.is_living(entry.pid) {
-        kernel.run_kept(heap, kept, window, entry, at)
+        kernel.run_kept(heap, kept, window, entry, position)
     } else {
         Ok(None)
     }
@@ -300,7 +263,7 @@ fn keep(
         ≡ (if q == pid then kept else get transactions.old q)) }
 {
     match kept {
-        Some(transaction) => transactions.set(place_of(pid), transaction),
+        Some(transaction) => transactions.set(key_of(pid), transaction),
         None => Ok(()),
     }
 }
@@ -310,7 +273,7 @@ fn doom(transactions: &mut Table<Transaction>, pid: Pid) -> Result<(), AllocErro
     ensures { OnOk result ((q : ℕ) → get transactions.new q
         ≡ (if q == pid then doomed_kept (get transactions.old q) else get transactions.old q)) }
 {
-    let kept = transactions.remove(place_of(pid));
+    let kept = transactions.remove(key_of(pid));
     keep(transactions, pid, doomed_kept(kept))
 }
 
@@ -326,18 +289,18 @@ fn doom_all(transactions: &mut Table<Transaction>, doomed: &[Pid]) -> Result<(),
     Ok(())
 }
 
-// What is kept after an entry, which stands at this place.
+// What is kept after an entry, which stands at this position.
 fn keep_all(
     transactions: &mut Table<Transaction>,
     heap: Heap,
     entry: &Entry,
-    at: usize,
+    position: usize,
 ) -> Result<(), AllocError>
     ensures { OnOk result ((q : ℕ) → get transactions.new q
-        ≡ next_kept at entry.now q (get transactions.old q)) }
+        ≡ next_kept position entry.now q (get transactions.old q)) }
 {
-    let kept = transactions.remove(place_of(entry.pid));
-    let next = own_kept(heap, kept, at, &entry.op, &entry.reply)?;
+    let kept = transactions.remove(key_of(entry.pid));
+    let next = own_kept(heap, kept, position, &entry.op, &entry.reply)?;
     keep(transactions, entry.pid, next)?;
     doom_all(transactions, entry.doomed.as_slice())
 }
@@ -402,44 +365,50 @@ impl Audit {
         }
     }
 
-    // The entry at a place, which is one of the part, behind those before it.
+    // The entry at a position, which is one of the part, behind those before it.
     fn follow(
         &mut self,
         heap: Heap,
         window: &Window<'_>,
         index: usize,
-        at: usize,
+        position: usize,
     ) -> Result<(), Stop>
         ghost es: { List Listed }
         requires within { index < length window.now.part.now }
-        requires place { at ≡ window.now.offset + index }
+        requires position { position ≡ window.now.offset + index }
         requires tidied { IsTidied self.old.kernel }
         requires shows { Shows es window.now }
         requires sees { CanSeeAny window.now self.old.transactions }
         ensures follows { (root : ℕ) (setup : Setup)
-            → Follows root setup es at self.old.kernel self.old.transactions
-            → MatchResult result (λ _. Follows root setup es (at + 1)
+            → Follows root setup es position self.old.kernel self.old.transactions
+            → MatchResult result (λ _. Follows root setup es (position + 1)
             self.new.kernel self.new.transactions) (IsStop root setup es) }
         ensures sees { OnOk result (CanSeeAny window.now self.new.transactions) }
         ensures tidied { OnOk result (IsTidied self.new.kernel) }
     {
         let entry = &window.part[index];
-        let kept = self.transactions.get(place_of(entry.pid));
+        let kept = self.transactions.get(key_of(entry.pid));
         let living = self.kernel.is_living(entry.pid);
         if !suits(living, kept, &entry.op, &entry.reply) {
-            return Err(Stop::Wrong(at, at));
+            return Err(Stop::Wrong {
+                entry: position,
+                call: position,
+            });
         }
-        let wrong = run(&mut self.kernel, heap, kept, window, entry, at)?;
+        let wrong = run(&mut self.kernel, heap, kept, window, entry, position)?;
         match wrong {
-            Some(place) => Err(Stop::Wrong(at, place)),
+            Some(call) => Err(Stop::Wrong {
+                entry: position,
+                call,
+            }),
             None => {
-                keep_all(&mut self.transactions, heap, entry, at)?;
+                keep_all(&mut self.transactions, heap, entry, position)?;
                 Ok(())
             }
         }
     }
 
-    // All entries of the part, behind those before it. It gives the place behind them.
+    // All entries of the part, behind those before it. It gives the position behind them.
     pub(crate) fn follow_all(&mut self, heap: Heap, window: &Window<'_>) -> Result<usize, Stop>
         ghost es: { List Listed }
         requires tidied { IsTidied self.old.kernel }
@@ -453,12 +422,12 @@ impl Audit {
             (IsStop root setup es) }
         ensures sees { OnOk result (CanSeeAny window.now self.new.transactions) }
     {
-        let mut at = window.offset;
+        let mut position = window.offset;
         for index in 0..window.part.len() {
-            self.follow(heap, window, index, at)?;
-            at = at.checked_add(1).ok_or(Stop::NoMemory)?;
+            self.follow(heap, window, index, position)?;
+            position = position.checked_add(1).ok_or(Stop::NoMemory)?;
         }
-        Ok(at)
+        Ok(position)
     }
 }
 

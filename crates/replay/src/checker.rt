@@ -122,7 +122,7 @@ impl Checker {
     }
 
     /// Checks entries behind those so far, as `check` does of a whole history, for this root alone.
-    /// `Wrong` has a place in the history, counted from its first entry, from 1. At a fault the
+    /// `Wrong` has a position in the history, counted from its first entry, from 1. At a fault the
     /// checker is gone.
     pub fn add(self, entries: &[Entry]) -> Result<Checker, CheckFault>
         ensures ok { IfOk result (λ checker. checker ≡ with_more self entries.now) }
@@ -226,13 +226,13 @@ fn follow_part(
     }
 }
 
-// What a stop is for the caller, who counts places from 1.
+// What a stop is for the caller, who counts positions from 1.
 fn fault_of(stop: Stop) -> CheckFault
     ensures { (root : ℕ) (setup : Setup) (es : List Listed)
         → IsStop root setup es stop → IsFaultFor root setup es result }
 {
     match stop {
-        Stop::Wrong(_, place) => match place.checked_add(1) {
+        Stop::Wrong { call, .. } => match call.checked_add(1) {
             Some(number) => CheckFault::Wrong(number),
             None => CheckFault::NoMemory,
         },
@@ -296,40 +296,44 @@ fn keep_calls(
     ensures grows { OnOk result (Grows kept.old kept.new) }
 {
     match transaction {
-        Transaction::Live(_, places) => keep_all(kept, window, places.as_slice()),
+        Transaction::Live(_, positions) => keep_all(kept, window, positions.as_slice()),
         Transaction::Doomed(_) => Ok(()),
     }
 }
 
-// Keeps the entries at these places.
-fn keep_all(kept: &mut Tree<Entry>, window: &Window<'_>, places: &[usize]) -> Result<(), AllocError>
+// Keeps the entries at these positions.
+fn keep_all(
+    kept: &mut Tree<Entry>,
+    window: &Window<'_>,
+    positions: &[usize],
+) -> Result<(), AllocError>
     ghost es: { List Listed }
     requires shows { Shows es window.now }
-    requires seen { CanKeepAll es window.now places.now }
+    requires seen { CanKeepAll es window.now positions.now }
     requires held { AreHeld es kept.old }
     ensures held { OnOk result (AreHeld es kept.new) }
-    ensures there { OnOk result (AllByRecursion (λ place. get kept.new place ≢ None) places.now) }
+    ensures there { OnOk result (AllByRecursion (λ position. get kept.new position ≢ None) positions.now) }
     ensures grows { OnOk result (Grows kept.old kept.new) }
 {
-    for place in places {
-        keep(kept, window, *place)?;
+    for position in positions {
+        keep(kept, window, *position)?;
     }
     Ok(())
 }
 
-// Keeps the entry at a place.
-fn keep(kept: &mut Tree<Entry>, window: &Window<'_>, place: usize) -> Result<(), AllocError>
+// Keeps the entry at a position.
+fn keep(kept: &mut Tree<Entry>, window: &Window<'_>, position: usize) -> Result<(), AllocError>
     ghost es: { List Listed }
     requires shows { Shows es window.now }
-    requires seen { CanSee window.now place }
-    requires low { place < length es }
+    requires seen { CanSee window.now position }
+    requires low { position < length es }
     requires held { AreHeld es kept.old }
     ensures held { OnOk result (AreHeld es kept.new) }
-    ensures there { OnOk result (get kept.new place ≢ None) }
+    ensures there { OnOk result (get kept.new position ≢ None) }
     ensures grows { OnOk result (Grows kept.old kept.new) }
 {
-    match window.entry(place) {
-        Some(entry) => kept.set(Num(place), entry.try_clone()?),
+    match window.entry(position) {
+        Some(entry) => kept.set(Num(position), entry.try_clone()?),
         None => Ok(()),
     }
 }

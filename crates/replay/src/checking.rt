@@ -15,7 +15,7 @@ use ids::{Entry, Num};
 /// Why a history does not pass, or is not decided.
 #[derive(Clone, Copy, Debug, PartialEq, Eq)]
 pub enum CheckFault {
-    /// The history is wrong at this place, counted from 1.
+    /// The history is wrong at this position, counted from 1.
     Wrong(usize),
     /// Memory was refused. It decides nothing.
     NoMemory,
@@ -25,8 +25,8 @@ pub enum CheckFault {
 /// answers the committed calls as they were answered, with the numbers that they chose.
 ///
 /// It judges plain calls and committed transactions alone: calls of aborted transactions, causes,
-/// dooms, restart marks and places may be anything. The root may have any number. `Wrong` has the
-/// place of the first entry up to which the history passes for no root, or, where that entry commits
+/// dooms, restart marks and positions may be anything. The root may have any number. `Wrong` has the
+/// position of the first entry up to which the history passes for no root, or, where that entry commits
 /// a transaction, of its first call up to which it cannot be run.
 pub fn check(heap: Heap, history: &History) -> Result<(), CheckFault>
     ensures ok { OnOk result (PassesForSome
@@ -60,9 +60,9 @@ fn check_from(
 {
     match passes(heap, guess, beginning, entries) {
         Ok(()) => Ok(()),
-        Err(Stop::Wrong(entry, place)) => match told_root(entries, place) {
-            Some(root) => check_told(heap, root, beginning, entries, (entry, place)),
-            None => Err(CheckFault::Wrong(place + 1)),
+        Err(Stop::Wrong { entry, call }) => match told_root(entries, call) {
+            Some(root) => check_told(heap, root, beginning, entries, (entry, call)),
+            None => Err(CheckFault::Wrong(call + 1)),
         },
         Err(Stop::NoMemory) => Err(CheckFault::NoMemory),
     }
@@ -82,8 +82,8 @@ fn check_told(
 {
     match passes(heap, root, beginning, entries) {
         Ok(()) => Ok(()),
-        Err(Stop::Wrong(entry, place)) => {
-            let later = (entry, place).max(first);
+        Err(Stop::Wrong { entry, call }) => {
+            let later = (entry, call).max(first);
             Err(CheckFault::Wrong(later.1 + 1))
         }
         Err(Stop::NoMemory) => Err(CheckFault::NoMemory),

@@ -8,7 +8,7 @@ ghost use Rattle.freeing_laws.specs.Sweep.{all_freed, freed, free_descriptions, 
 ghost use Rattle.freeing_laws.specs.Sweep.{inodes_of, inode_in};
 ghost use Rattle.replay.specs.Edits.{EndsWithin};
 
-use crate::plain::{Description, PlainKernel, Process, place_of};
+use crate::plain::{Description, PlainKernel, Process, key_of};
 use heap::Heap;
 use ids::{Edit, Fd, Num, Pid, Replaced};
 use std::alloc::AllocError;
@@ -18,7 +18,7 @@ impl PlainKernel {
     pub(crate) fn given(&self, pid: Pid, fd: Fd) -> Option<Num>
         ensures { result ≡ get (process_of self.now pid).table fd }
     {
-        match self.processes.get(place_of(pid)) {
+        match self.processes.get(key_of(pid)) {
             Some(process) => process.table.get(Num(fd.0 as usize)).copied(),
             None => None,
         }
@@ -29,9 +29,19 @@ impl PlainKernel {
         ensures { IfOk result (λ gone. gone.items ≡ let_go self.now edit.now) }
     {
         match edit {
-            Edit::ShareSlot(pid, fd, _, _) => listed(heap, self.given(*pid, *fd)),
-            Edit::ClearSlot(pid, fd, _) => listed(heap, self.given(*pid, *fd)),
-            Edit::EndProcess(pid, _) => values_in(heap, self.processes.get(place_of(*pid))),
+            Edit::ShareSlot {
+                process,
+                descriptor,
+                ..
+            } => listed(heap, self.given(*process, *descriptor)),
+            Edit::ClearSlot {
+                process,
+                descriptor,
+                ..
+            } => listed(heap, self.given(*process, *descriptor)),
+            Edit::EndProcess { process, .. } => {
+                values_in(heap, self.processes.get(key_of(*process)))
+            }
             _ => Ok(Vec::new(heap)),
         }
     }
@@ -46,7 +56,9 @@ impl PlainKernel {
             ≡ inodes.entry.items ++ inodes_of self.now gone.now) }
     {
         for num in gone {
-            inodes = with_inode_in(inodes, self.descriptions.get(*num))?;
+            if let Some(description) = self.descriptions.get(*num) {
+                inodes.push(description.inode)?;
+            }
         }
         Ok(inodes)
     }
@@ -167,20 +179,6 @@ fn listed(heap: Heap, num: Option<Num>) -> Result<Vec<Num, Heap>, AllocError>
     Ok(all)
 }
 
-// The inode that a description opens, if it is there, behind others.
-fn with_inode_in(
-    mut inodes: Vec<Num, Heap>,
-    description: Option<&Description>,
-) -> Result<Vec<Num, Heap>, AllocError>
-    ensures { IfOk result (λ all. all.items
-        ≡ inodes.entry.items ++ inode_in (option_copied description.entry)) }
-{
-    if let Some(description) = description {
-        inodes.push(description.inode)?;
-    }
-    Ok(inodes)
-}
-
 // The inode of any kind whose name goes to what moves.
 fn replaced_by(replaced: &Replaced) -> Option<Num>
     ensures { listed result ≡ inode_replaced replaced.now }
@@ -197,9 +195,9 @@ fn unnamed(heap: Heap, edit: &Edit) -> Result<Vec<Num, Heap>, AllocError>
     ensures { IfOk result (λ all. all.items ≡ unnamed edit.now) }
 {
     match edit {
-        Edit::UnnameFile(_, _, num) => listed(heap, Some(*num)),
-        Edit::UnnameDirectory(_, _, num) => listed(heap, Some(*num)),
-        Edit::Move(_, _, _, _, _, replaced) => listed(heap, replaced_by(replaced)),
+        Edit::UnnameFile { file, .. } => listed(heap, Some(*file)),
+        Edit::UnnameDirectory { directory, .. } => listed(heap, Some(*directory)),
+        Edit::Move { replaced, .. } => listed(heap, replaced_by(replaced)),
         _ => Ok(Vec::new(heap)),
     }
 }

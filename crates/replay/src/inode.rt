@@ -1,6 +1,6 @@
 // An inode of the plain kernel.
 ghost use Rattle.std.specs.Prelude.{◌≡◌, ℕ, ◌+◌, ◌-◌, ◌<◌, ◌≤◌, ◌^◌, option_copied, IfOk};
-ghost use Rattle.std.specs.Prelude.{drop, length, take};
+ghost use Rattle.std.specs.Prelude.{[], drop, length, take};
 ghost use Rattle.objects.specs.declared.run.TheConstants.{LARGEST_RUN};
 ghost use Rattle.model.specs.FiniteMap.{get, keys};
 ghost use Rattle.model.specs.Paths.{is_empty};
@@ -9,7 +9,6 @@ ghost use Rattle.model.specs.State.{Pipe as A_pipe, kind, file_of_inode, names_o
 ghost use Rattle.model.specs.State.{pipe_of_inode};
 ghost use Rattle.replay.specs.Counts.{count_at, times_given};
 
-use crate::bytes::no_bytes;
 use crate::names::Names;
 use crate::tree::Tree;
 use heap::Heap;
@@ -72,6 +71,13 @@ impl Inode {
             content: Content::Pipe(bytes),
         }
     }
+}
+
+// No bytes of a pipe. It takes no memory.
+pub(crate) fn no_bytes(heap: Heap) -> Bytes
+    ensures { result ≡ [] }
+{
+    Bytes::new(Vec::new(heap))
 }
 
 // The kind of an inode that may be there.
@@ -156,23 +162,16 @@ pub(crate) fn read_in(
 {
     match inode {
         Some(inode) => match &inode.content {
-            Content::File(stored) => read(heap, stored, skipped, count),
+            Content::File(stored) => {
+                // For the proof: the file ends below 2^32.
+                let _len = stored.len();
+                stored.read_at(heap, skipped as usize, count as usize)
+            }
             Content::Directory(_) => Ok(no_bytes(heap)),
             Content::Pipe(_) => Ok(no_bytes(heap)),
         },
         None => Ok(no_bytes(heap)),
     }
-}
-
-// The same of what a file has.
-fn read(heap: Heap, stored: &FileData, skipped: u32, count: u32) -> Result<Bytes, AllocError>
-    requires { count ≤ LARGEST_RUN }
-    ensures value { IfOk result (λ bytes. bytes ≡ take count (drop skipped stored.now.bytes)) }
-    ensures small { IfOk result (λ bytes. skipped + length bytes < 2 ^ 32) }
-{
-    // For the proof: the file ends below 2^32.
-    let _len = stored.len();
-    stored.read_at(heap, skipped as usize, count as usize)
 }
 
 // The bytes of a pipe.

@@ -1,5 +1,6 @@
 //! The replay checker: it audits a stored history by a plain kernel of whole maps, which has no
-//! transactions, and shares nothing with the kernel that wrote the history but the calls' plans.
+//! transactions, and shares with the kernel that wrote the history the calls' plans and how a file's
+//! bytes are held.
 #![tactic(auto)]
 
 ghost use Rattle.model.specs.Passing.{LegalHistoriesPass};
@@ -10,7 +11,6 @@ mod answers;
 mod apply;
 mod audit;
 mod beginning;
-mod bytes;
 mod checker;
 mod checking;
 mod free;

@@ -79,23 +79,10 @@ impl Names {
         ensures { IfOk result (λ names. names ≡ map.keys self.now) }
     {
         let mut names = Vec::with_capacity(heap, self.given.len())?;
-        match self.add_to(&mut names) {
-            Ok(()) => Ok(NameList::new(names)),
-            Err(refused) => {
-                drop(names);
-                Err(refused)
-            }
-        }
-    }
-
-    // Copies of the names come behind others, in order.
-    fn add_to(&self, names: &mut Vec<Name, Heap>) -> Result<(), AllocError>
-        ensures { OnOk result (names.new.items ≡ names.old.items ++ map.keys self.now) }
-    {
         for name in self.given.keys() {
             names.push(name.try_clone()?)?;
         }
-        Ok(())
+        Ok(NameList::new(names))
     }
 
     // Whether there are none.

@@ -15,10 +15,10 @@ fn news(edit: &Edit) -> usize
     ensures { result ≡ news edit.now }
 {
     match edit {
-        Edit::MakeDirectory(_, _, _) => 1,
-        Edit::MakeFile(_, _, _) => 1,
-        Edit::OpenInode(_, _, _, _, _) => 1,
-        Edit::MakePipe(_, _, _, _) => 3,
+        Edit::MakeDirectory { .. } => 1,
+        Edit::MakeFile { .. } => 1,
+        Edit::OpenInode { .. } => 1,
+        Edit::MakePipe { .. } => 3,
         _ => 0,
     }
 }
@@ -81,6 +81,7 @@ impl PlainKernel {
         ensures { WellFormed self.now
             → Decides result (CanBeChosen self.now edits.now chosen.now) }
     {
+        // For the proof: a number that is no inode and no description is nowhere in a state.
         unused_numbers_are_nowhere();
         are_enough(edits, chosen.len()) && self.are_unused(chosen) && are_different(chosen)
     }

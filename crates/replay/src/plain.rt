@@ -9,7 +9,6 @@ ghost use Rattle.model.specs.Changes.{process_of, or_new, holders, openings, is_
 ghost use Rattle.model.specs.Moments.{is_alive};
 ghost use Rattle.replay.specs.Counts.{given_by, held_by, is_open, ended_by};
 
-use crate::bytes::part;
 use crate::inode::{given_in, is_empty_in, kind_in, names_in, pipe_in, read_in, size_in};
 use crate::inodes::Inodes;
 use crate::table::Table;
@@ -121,8 +120,8 @@ impl Model for PlainKernel {
     ghost invariant = { λ k. k.largest ≤ LARGEST_FILE };
 }
 
-// A process has the place of its number.
-pub(crate) fn place_of(pid: Pid) -> Num
+// A process has its number as its key.
+pub(crate) fn key_of(pid: Pid) -> Num
     ensures { result ≡ pid }
 {
     Num(pid.0 as usize)
@@ -133,7 +132,7 @@ impl PlainKernel {
     pub(crate) fn is_living(&self, pid: Pid) -> bool
         ensures { result ≡ is_alive self.now pid }
     {
-        self.processes.get(place_of(pid)).is_some()
+        self.processes.get(key_of(pid)).is_some()
     }
 
     // What never changes of a description, with its inode's kind.
@@ -316,10 +315,10 @@ impl Look for PlainKernel {
         &self,
         heap: Heap,
         file: Num,
-        place: u32,
+        offset: u32,
         count: u32,
     ) -> Result<Bytes, AllocError> {
-        read_in(heap, self.inodes.get(file), place, count)
+        read_in(heap, self.inodes.get(file), offset, count)
     }
 
     fn links(&self, file: Num) -> Result<u32, AllocError> {
@@ -340,10 +339,8 @@ impl Look for PlainKernel {
     }
 
     fn read_pipe(&self, heap: Heap, pipe: Num, count: u32) -> Result<Bytes, AllocError> {
-        Bytes::copy(
-            heap,
-            part(pipe_in(self.inodes.get(pipe)), 0, count as usize),
-        )
+        let all = pipe_in(self.inodes.get(pipe));
+        Bytes::copy(heap, &all[..(count as usize).min(all.len())])
     }
 
     fn fit(&self, pipe: Num, count: usize) -> Result<u32, AllocError> {
@@ -369,14 +366,14 @@ impl Look for PlainKernel {
     }
 
     fn table(&self, heap: Heap, pid: Pid) -> Result<Vec<(Fd, Slot), Heap>, AllocError> {
-        match self.processes.get(place_of(pid)) {
+        match self.processes.get(key_of(pid)) {
             Some(process) => self.slots_of(heap, process.table.as_slice()),
             None => Ok(Vec::new(heap)),
         }
     }
 
     fn birth(&self, pid: Pid) -> Result<(u32, u8), AllocError> {
-        match self.processes.get(place_of(pid)) {
+        match self.processes.get(key_of(pid)) {
             Some(process) => Ok((self.made, process.priority)),
             None => Ok((self.made, 0)),
         }

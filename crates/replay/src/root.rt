@@ -56,19 +56,11 @@ fn first_missing(rising: &[usize]) -> usize
 }
 
 // What an entry tells of the root's number, if it is an executed `stat` of it.
-pub(crate) fn told_root(entries: &[Entry], place: usize) -> Option<Num>
-    ensures { (root : ℕ) → TellsAt root entries.now place → result ≡ Some root }
+pub(crate) fn told_root(entries: &[Entry], position: usize) -> Option<Num>
+    ensures { (root : ℕ) → TellsAt root entries.now position → result ≡ Some root }
 {
-    let entry = entries.get(place)?;
-    told_by(&entry.op, &entry.reply)
-}
-
-fn told_by(op: &Op, reply: &Reply) -> Option<Num>
-    ensures { (root : ℕ) (chosen : List ℕ) (call : Executed)
-        → call_in op.now reply.now chosen ≡ call ∷ [] → TellsRoot root call.call call.answer
-        → result ≡ Some root }
-{
-    match (op, reply) {
+    let entry = entries.get(position)?;
+    match (&entry.op, &entry.reply) {
         (Op::Call(Call::Stat(path)), Reply::Answer(Answer::Stat(stat)))
             if path.as_slice() == b"/".as_slice() => { Some(stat.num) }
         _ => None,

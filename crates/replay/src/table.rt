@@ -2,7 +2,7 @@
 ghost use Rattle.std.specs.Prelude.{◌≡◌, IsTrue, MatchResult, IfOk, OnOk, option_copied};
 ghost use Rattle.std.specs.Ordering.{nat_cmp};
 ghost use Rattle.model.specs.FiniteMap as map;
-ghost use Rattle.replay.specs.Places.{IsPlaceOf, IsPlaceFor};
+ghost use Rattle.replay.specs.Indices.{IsIndexOf, IsIndexFor};
 
 use heap::Heap;
 use ids::Num;
@@ -51,9 +51,9 @@ impl<T: Drop> Table<T> {
     pub(crate) fn get(&self, num: Num) -> Option<&T>
         ensures { option_copied result ≡ map.get self.now num }
     {
-        match place(self.slots.as_slice(), num) {
-            Ok(at) => Some(&self.slots[at].1),
-            Err(_at) => None,
+        match index_of(self.slots.as_slice(), num) {
+            Ok(index) => Some(&self.slots[index].1),
+            Err(_index) => None,
         }
     }
 
@@ -62,10 +62,10 @@ impl<T: Drop> Table<T> {
         ensures changed { OnOk result (self.new ≡ map.insert self.old num value) }
         ensures before { IfOk result (λ before. before ≡ map.get self.old num) }
     {
-        match place(self.slots.as_slice(), num) {
-            Ok(at) => Ok(Some(replace(&mut self.slots[at].1, value))),
-            Err(at) => {
-                self.slots.insert(at, (num, value))?;
+        match index_of(self.slots.as_slice(), num) {
+            Ok(index) => Ok(Some(replace(&mut self.slots[index].1, value))),
+            Err(index) => {
+                self.slots.insert(index, (num, value))?;
                 Ok(None)
             }
         }
@@ -84,12 +84,12 @@ impl<T: Drop> Table<T> {
         ensures changed { self.new ≡ map.remove self.old num }
         ensures before { result ≡ map.get self.old num }
     {
-        match place(self.slots.as_slice(), num) {
-            Ok(at) => {
-                let (_num, value) = self.slots.remove(at);
+        match index_of(self.slots.as_slice(), num) {
+            Ok(index) => {
+                let (_num, value) = self.slots.remove(index);
                 Some(value)
             }
-            Err(_at) => None,
+            Err(_index) => None,
         }
     }
 
@@ -113,10 +113,10 @@ impl Table<Num> {
 }
 
 // Where a number stands, or where it would, by halving.
-fn place<T>(slots: &[(Num, T)], num: Num) -> Result<usize, usize>
+fn index_of<T>(slots: &[(Num, T)], num: Num) -> Result<usize, usize>
     requires { IsTrue (map.is_sorted nat_cmp slots.now) }
     ensures { MatchResult result
-        (IsPlaceOf nat_cmp num slots.now) (IsPlaceFor nat_cmp num slots.now) }
+        (IsIndexOf nat_cmp num slots.now) (IsIndexFor nat_cmp num slots.now) }
 {
     slots.binary_search_by(|slot| slot.0.0.cmp(&num.0))
 }

@@ -2,7 +2,7 @@
 ghost use Rattle.std.specs.Prelude.{◌≡◌, [], IfOk, option_copied};
 ghost use Rattle.model.specs.Suits.{is_clash, is_executed, is_refused_inside, suits_idle, suits_live};
 ghost use Rattle.replay.specs.Transactions.{begun_kept, doomed_kept, own_kept};
-ghost use Rattle.replay.specs.Transactions.{settled_kept, suits_kept, with_place};
+ghost use Rattle.replay.specs.Transactions.{settled_kept, suits_kept, with_position};
 ghost use Rattle.model.specs.Entries.{is_unsupported};
 
 use heap::Heap;
@@ -10,27 +10,27 @@ use ids::{BeginFlags, Call, Errno, Op, Reply, Why};
 use std::alloc::AllocError;
 use std::marker::Model;
 
-/// Places in a history, in order, counted from 0.
+/// Positions in a history, in order, counted from 0.
 #[derive(Drop)]
-pub(crate) struct Places {
-    places: Vec<usize, Heap>,
+pub(crate) struct Positions {
+    positions: Vec<usize, Heap>,
 }
 
-impl Model for Places {
+impl Model for Positions {
     ghost use Rattle.std.specs.Prelude.{List, ℕ};
 
     ghost Value = { List ℕ };
 
-    ghost view = { λ p. p.places.items };
+    ghost view = { λ p. p.positions.items };
 }
 
-impl Places {
+impl Positions {
     // None. It takes no memory.
-    pub(crate) fn new(heap: Heap) -> Places
+    pub(crate) fn new(heap: Heap) -> Positions
         ensures { result ≡ [] }
     {
-        Places {
-            places: Vec::new(heap),
+        Positions {
+            positions: Vec::new(heap),
         }
     }
 
@@ -38,7 +38,7 @@ impl Places {
     pub(crate) fn as_slice(&self) -> &[usize]
         ensures { result.now ≡ self.now }
     {
-        self.places.as_slice()
+        self.positions.as_slice()
     }
 }
 
@@ -46,7 +46,7 @@ impl Places {
 #[derive(Drop)]
 pub(crate) enum Transaction {
     /// It lives: its flags, and where its calls stand.
-    Live(BeginFlags, Places),
+    Live(BeginFlags, Positions),
     /// It is doomed: its flags.
     Doomed(BeginFlags),
 }
@@ -127,19 +127,19 @@ fn is_refused_inside(flags: BeginFlags, reply: &Reply) -> bool
     }
 }
 
-// After an entry of the process itself, which stands at this place.
+// After an entry of the process itself, which stands at this position.
 pub(crate) fn own_kept(
     heap: Heap,
     kept: Option<Transaction>,
-    at: usize,
+    position: usize,
     op: &Op,
     reply: &Reply,
 ) -> Result<Option<Transaction>, AllocError>
-    ensures { IfOk result (λ next. next ≡ own_kept at kept op.now reply.now) }
+    ensures { IfOk result (λ next. next ≡ own_kept position kept op.now reply.now) }
 {
     match reply {
-        Reply::Answer(_) => with_place(kept, at),
-        Reply::Errno(_) => with_place(kept, at),
+        Reply::Answer(_) => with_position(kept, position),
+        Reply::Errno(_) => with_position(kept, position),
         Reply::Begun => Ok(begun_kept(heap, kept, op)),
         Reply::Committed => Ok(None),
         Reply::GivenUp { restarted } => Ok(settled_kept(heap, kept, *restarted)),
@@ -154,14 +154,17 @@ pub(crate) fn own_kept(
 }
 
 // One more call.
-fn with_place(kept: Option<Transaction>, at: usize) -> Result<Option<Transaction>, AllocError>
-    ensures { IfOk result (λ next. next ≡ with_place at kept) }
+fn with_position(
+    kept: Option<Transaction>,
+    position: usize,
+) -> Result<Option<Transaction>, AllocError>
+    ensures { IfOk result (λ next. next ≡ with_position position kept) }
 {
     match kept {
-        Some(Transaction::Live(flags, places)) => {
-            let Places { mut places } = places;
-            places.push(at)?;
-            Ok(Some(Transaction::Live(flags, Places { places })))
+        Some(Transaction::Live(flags, positions)) => {
+            let Positions { mut positions } = positions;
+            positions.push(position)?;
+            Ok(Some(Transaction::Live(flags, Positions { positions })))
         }
         Some(Transaction::Doomed(flags)) => Ok(Some(Transaction::Doomed(flags))),
         None => Ok(None),
@@ -174,7 +177,7 @@ fn begun_kept(heap: Heap, kept: Option<Transaction>, op: &Op) -> Option<Transact
 {
     match kept {
         None => match op {
-            Op::Begin(flags) => Some(Transaction::Live(*flags, Places::new(heap))),
+            Op::Begin(flags) => Some(Transaction::Live(*flags, Positions::new(heap))),
             _ => None,
         },
         Some(transaction) => Some(transaction),
@@ -186,12 +189,12 @@ fn settled_kept(heap: Heap, kept: Option<Transaction>, again: bool) -> Option<Tr
     ensures { result ≡ settled_kept kept again }
 {
     let flags = match kept {
-        Some(Transaction::Live(flags, _places)) => flags,
+        Some(Transaction::Live(flags, _positions)) => flags,
         Some(Transaction::Doomed(flags)) => flags,
         None => return None,
     };
     if again {
-        Some(Transaction::Live(flags, Places::new(heap)))
+        Some(Transaction::Live(flags, Positions::new(heap)))
     } else {
         None
     }
@@ -202,7 +205,7 @@ pub(crate) fn doomed_kept(kept: Option<Transaction>) -> Option<Transaction>
     ensures { result ≡ doomed_kept kept }
 {
     match kept {
-        Some(Transaction::Live(flags, _places)) => Some(Transaction::Doomed(flags)),
+        Some(Transaction::Live(flags, _positions)) => Some(Transaction::Doomed(flags)),
         Some(Transaction::Doomed(flags)) => Some(Transaction::Doomed(flags)),
         None => None,
     }

@@ -73,7 +73,7 @@ impl<T: Drop> Tree<T> {
         ensures { self.new ≡ map.insert self.old num value }
     {
         match self.slots.get_mut(&num) {
-            Some(place) => *place = value,
+            Some(slot) => *slot = value,
             None => unreachable!(),
         }
     }

@@ -7,7 +7,7 @@ ghost use Rattle.replay.specs.Windows.{CanSee, Finds, Shows};
 use crate::tree::Tree;
 use ids::{Entry, Num};
 
-/// A part of a history, and what is kept of the entries before it, by their places.
+/// A part of a history, and what is kept of the entries before it, by their positions.
 #[derive(Clone, Copy)]
 pub(crate) struct Window<'a> {
     /// The entries of the part.
@@ -19,15 +19,15 @@ pub(crate) struct Window<'a> {
 }
 
 impl Window<'_> {
-    // The entry at a place, if one stands there.
-    pub(crate) fn entry(&self, place: usize) -> Option<&Entry>
-        ensures { (es : List Listed) → Shows es self.now → CanSee self.now place
-            → Finds es place (option_copied result) }
+    // The entry at a position, if one stands there.
+    pub(crate) fn entry(&self, position: usize) -> Option<&Entry>
+        ensures { (es : List Listed) → Shows es self.now → CanSee self.now position
+            → Finds es position (option_copied result) }
     {
-        if place < self.offset {
-            return self.kept.get(Num(place));
+        if position < self.offset {
+            return self.kept.get(Num(position));
         }
-        let index = place - self.offset;
+        let index = position - self.offset;
         if index < self.part.len() {
             Some(&self.part[index])
         } else {

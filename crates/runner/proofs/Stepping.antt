@@ -16,8 +16,8 @@ use Rattle.script.specs.Steps.{steps as steps_in}
 use Rattle.runner.specs.Runs.{Ended, GivesBoth}
 use Rattle.runner.specs.Steps.{operations, Halted, HasDone, Took, Refused, StopsWriting, Stops}
 use Rattle.runner.specs.Faults.{fault_of_refusal}
-use Rattle.runner.specs.declared.refusal.Refusal.{Refusal}
-use Rattle.runner.specs.declared.refusal.Refusal.TheVariants as refusal
+use Rattle.runner.specs.declared.refusal.StepRefusal.{StepRefusal}
+use Rattle.runner.specs.declared.refusal.StepRefusal.TheVariants as refusal
 use Rattle.runner.specs.declared.fault.RunFault.{RunFault}
 use Rattle.runner.specs.declared.fault.RunFault.TheVariants.{Script, Schedule, Read, Write, HistoryFull, NoMemory, Check}
 
@@ -42,7 +42,7 @@ HasDone-as : {priorities : List ℕ} {limits : Limits} {steps others : List (ℕ
 HasDone-as h e = record { kept = h.kept; same_priorities = h.same_priorities; same_limit = h.same_limit; same_largest = h.same_largest; whole = h.whole; done = h.done ∙ e }
 
 -- where the next step is refused
-halts : (r : Result (Unit {0}) Refusal) (priorities : List ℕ) (limits : Limits) (steps done : List (ℕ × Op)) (kernel : Shown) (pid : ℕ) (op : Op)
+halts : (r : Result (Unit {0}) StepRefusal) (priorities : List ℕ) (limits : Limits) (steps done : List (ℕ × Op)) (kernel : Shown) (pid : ℕ) (op : Op)
     → IfErr r (Refused kernel.log pid op) → HasDone priorities limits done kernel
     → done ≡ take (length done) steps → (length done < length steps) × ((pid, op) ≡ get_or steps (length done) (pid, op))
     → IfErr r (λ refusal. Halted refusal priorities limits steps kernel)
@@ -56,24 +56,24 @@ halts (Err why) priorities limits steps done kernel pid op refused h so_far next
   refused = refused;
 }
 
-pub halts-as : (q r : Result (Unit {0}) Refusal) (priorities : List ℕ) (limits : Limits) (steps done : List (ℕ × Op)) (kernel after : Shown) (pid : ℕ) (op : Op)
+pub halts-as : (q r : Result (Unit {0}) StepRefusal) (priorities : List ℕ) (limits : Limits) (steps done : List (ℕ × Op)) (kernel after : Shown) (pid : ℕ) (op : Op)
     → q ≡ r → after ≡ kernel → IfErr r (Refused kernel.log pid op) → HasDone priorities limits done kernel
     → done ≡ take (length done) steps → (length done < length steps) × ((pid, op) ≡ get_or steps (length done) (pid, op))
     → IfErr q (λ refusal. Halted refusal priorities limits steps after)
 halts-as q r priorities limits steps done kernel after pid op e same refused h so_far next =
     let there : IfErr r (λ refusal. Halted refusal priorities limits steps kernel) = halts r priorities limits steps done kernel pid op refused h so_far next in
-    let here : IfErr q (λ refusal. Halted refusal priorities limits steps kernel) = subst (λ (z : Result (Unit {0}) Refusal). IfErr z (λ refusal. Halted refusal priorities limits steps kernel)) (sym e) there in
+    let here : IfErr q (λ refusal. Halted refusal priorities limits steps kernel) = subst (λ (z : Result (Unit {0}) StepRefusal). IfErr z (λ refusal. Halted refusal priorities limits steps kernel)) (sym e) there in
     subst (λ (k : Shown). IfErr q (λ refusal. Halted refusal priorities limits steps k)) (sym same) here
 
 -- steps that were all done, or done up to one that was refused
-reached : (r : Result (Unit {0}) Refusal) (priorities : List ℕ) (limits : Limits) (steps : List (ℕ × Op)) (kernel : Shown)
+reached : (r : Result (Unit {0}) StepRefusal) (priorities : List ℕ) (limits : Limits) (steps : List (ℕ × Op)) (kernel : Shown)
     → OnOk r (HasDone priorities limits steps kernel) → IfErr r (λ refusal. Halted refusal priorities limits steps kernel)
     → (count : ℕ) × HasDone priorities limits (take count steps) kernel
 reached (Ok u) priorities limits steps kernel done halted = (length steps, HasDone-as done (sym (take_all (length steps) steps (le_refl (length steps)))))
 reached (Err why) priorities limits steps kernel done halted = (halted.count, halted.done)
 
 -- where of their transcript a beginning is written
-pub stops-writing : (q : Result (Unit {0}) RunFault) (r : Result (Unit {0}) Refusal) (priorities : List ℕ) (limits : Limits) (steps : List (ℕ × Op)) (old new : Option (List ℕ)) (kernel : Shown)
+pub stops-writing : (q : Result (Unit {0}) RunFault) (r : Result (Unit {0}) StepRefusal) (priorities : List ℕ) (limits : Limits) (steps : List (ℕ × Op)) (old new : Option (List ℕ)) (kernel : Shown)
     → q ≡ Err Write → OnOk r (HasDone priorities limits steps kernel) → IfErr r (λ refusal. Halted refusal priorities limits steps kernel)
     → IsPart old new (transcript kernel.log.entries) → IfErr q (λ fault. Stops fault priorities limits steps old new)
 stops-writing q r priorities limits steps old new kernel e done halted part =
@@ -82,24 +82,24 @@ stops-writing q r priorities limits steps old new kernel e done halted part =
     subst (λ (z : Result (Unit {0}) RunFault). IfErr z (λ fault. Stops fault priorities limits steps old new)) (sym e) there
 
 -- where all of it is written
-stops : (why : Refusal) (priorities : List ℕ) (limits : Limits) (steps : List (ℕ × Op)) (old new : Option (List ℕ)) (kernel : Shown)
+stops : (why : StepRefusal) (priorities : List ℕ) (limits : Limits) (steps : List (ℕ × Op)) (old new : Option (List ℕ)) (kernel : Shown)
     → Halted why priorities limits steps kernel → new ≡ append_known old (transcript kernel.log.entries) → Stops (fault_of_refusal why) priorities limits steps old new
 stops refusal.HistoryFull priorities limits steps old new kernel h written = record { kernel = kernel; halted = h; written = written }
 stops refusal.NoMemory priorities limits steps old new kernel h written = record { kernel = kernel; halted = h; written = written }
 
-pub stops-before : (fault : RunFault) (r : Result (Unit {0}) Refusal) (why : Refusal) (priorities : List ℕ) (limits : Limits) (steps : List (ℕ × Op)) (old new : Option (List ℕ)) (kernel : Shown)
+pub stops-before : (fault : RunFault) (r : Result (Unit {0}) StepRefusal) (why : StepRefusal) (priorities : List ℕ) (limits : Limits) (steps : List (ℕ × Op)) (old new : Option (List ℕ)) (kernel : Shown)
     → fault ≡ fault_of_refusal why → r ≡ Err why → IfErr r (λ refusal. Halted refusal priorities limits steps kernel) → new ≡ append_known old (transcript kernel.log.entries)
     → Stops fault priorities limits steps old new
 stops-before fault r why priorities limits steps old new kernel is e halted written =
-    let h : Halted why priorities limits steps kernel = subst (λ (z : Result (Unit {0}) Refusal). IfErr z (λ refusal. Halted refusal priorities limits steps kernel)) e halted in
+    let h : Halted why priorities limits steps kernel = subst (λ (z : Result (Unit {0}) StepRefusal). IfErr z (λ refusal. Halted refusal priorities limits steps kernel)) e halted in
     subst (λ (f : RunFault). Stops f priorities limits steps old new) (sym is) (stops why priorities limits steps old new kernel h written)
 
 -- what refuses a step is no write
-no_write : (why : Refusal) → fault_of_refusal why ≢ Write
+no_write : (why : StepRefusal) → fault_of_refusal why ≢ Write
 no_write refusal.HistoryFull e = cc e
 no_write refusal.NoMemory e = cc e
 
-pub refused-no_write : (fault : RunFault) (why : Refusal) → fault ≡ fault_of_refusal why → fault ≢ Write
+pub refused-no_write : (fault : RunFault) (why : StepRefusal) → fault ≡ fault_of_refusal why → fault ≢ Write
 refused-no_write fault why is e = no_write why (sym is ∙ e)
 
 -- where a fault stops the steps it ends the run
@@ -111,4 +111,4 @@ ended NoMemory list limits given left old new script pids both stops = inr (reco
 ended (Script fault) list limits given left old new script pids both stops = absurd stops
 ended (Schedule fault) list limits given left old new script pids both stops = absurd stops
 ended Read list limits given left old new script pids both stops = absurd stops
-ended (Check place) list limits given left old new script pids both stops = absurd stops
+ended (Check position) list limits given left old new script pids both stops = absurd stops

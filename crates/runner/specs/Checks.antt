@@ -24,8 +24,8 @@ IsChecked true log old new =
 -- Why a check did not end so: an entry is wrong, memory was refused, or the sink has failed while
 -- it was told that the history passes.
 abbrev pub NotChecked : Log → (old new : Option (List ℕ)) (failed : Type 0) → RunFault → Type 0
-NotChecked log old new failed (Check place) =
-    IsFault (setup_of log) log.entries (Wrong place) × (new ≡ old)
+NotChecked log old new failed (Check position) =
+    IsFault (setup_of log) log.entries (Wrong position) × (new ≡ old)
 NotChecked log old new failed NoMemory = new ≡ old
 NotChecked log old new failed Write =
     PassesForSome (setup_of log) log.entries × IsPart old new passed × failed

@@ -4,8 +4,8 @@ use Rattle.runner.specs.declared.fault.RunFault.{RunFault}
 use Rattle.runner.specs.declared.fault.RunFault.TheVariants.{Script, Schedule, Read}
 use Rattle.runner.specs.declared.fault.RunFault.TheVariants.{Write, HistoryFull, NoMemory}
 use Rattle.runner.specs.declared.fault.RunFault.TheVariants.{Check}
-use Rattle.runner.specs.declared.refusal.Refusal.{Refusal}
-use Rattle.runner.specs.declared.refusal.Refusal.TheVariants as refusal
+use Rattle.runner.specs.declared.refusal.StepRefusal.{StepRefusal}
+use Rattle.runner.specs.declared.refusal.StepRefusal.TheVariants as refusal
 use Rattle.replay.specs.declared.checking.CheckFault.{CheckFault}
 use Rattle.replay.specs.declared.checking.CheckFault.TheVariants.{Wrong}
 use Rattle.replay.specs.declared.checking.CheckFault.TheVariants.{NoMemory as NoCheckMemory}
@@ -27,9 +27,9 @@ fault_of_schedule fault = Schedule fault
 
 abbrev pub fault_of_check : CheckFault → RunFault
 fault_of_check NoCheckMemory = NoMemory
-fault_of_check (Wrong place) = Check place
+fault_of_check (Wrong position) = Check position
 
-abbrev pub fault_of_refusal : Refusal → RunFault
+abbrev pub fault_of_refusal : StepRefusal → RunFault
 fault_of_refusal refusal.HistoryFull = HistoryFull
 fault_of_refusal refusal.NoMemory = NoMemory
 
@@ -44,4 +44,4 @@ status_of Read = 1
 status_of Write = 5
 status_of HistoryFull = 3
 status_of NoMemory = 3
-status_of (Check place) = 4
+status_of (Check position) = 4

@@ -52,7 +52,7 @@ pub record CheckEnded
   pub ran : HasRun job.way (limits_for job) given left old mid kernel
   pub wanted : job.check ≡ true
   pub fails : NotChecked kernel.log mid new write_failed fault
-  pub passes : (place : ℕ) → fault ≡ Check place → ⊥
+  pub passes : (position : ℕ) → fault ≡ Check position → ⊥
 
 -- A fault has ended the run or the check, and the status is the fault's. Read and Write mean that
 -- the device has failed.

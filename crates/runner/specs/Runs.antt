@@ -61,4 +61,4 @@ Ended list limits given left old new Write = RanTo Write list limits given left 
 Ended list limits given left old new HistoryFull = RanTo HistoryFull list limits given left old new
 Ended list limits given left old new NoMemory =
     (new ≡ old) ⊎ RanTo NoMemory list limits given left old new
-Ended list limits given left old new (Check place) = ⊥
+Ended list limits given left old new (Check position) = ⊥

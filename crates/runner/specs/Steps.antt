@@ -13,8 +13,8 @@ use Rattle.model.specs.Entries.{Reply}
 use Rattle.model.specs.Moments.{status}
 use Rattle.model.specs.Replies.{needed}
 use Rattle.transcript.specs.Line.{transcript}
-use Rattle.runner.specs.declared.refusal.Refusal.{Refusal}
-use Rattle.runner.specs.declared.refusal.Refusal.TheVariants as refusal
+use Rattle.runner.specs.declared.refusal.StepRefusal.{StepRefusal}
+use Rattle.runner.specs.declared.refusal.StepRefusal.TheVariants as refusal
 use Rattle.runner.specs.declared.fault.RunFault.{RunFault}
 use Rattle.runner.specs.declared.fault.RunFault.TheVariants.{Write, HistoryFull, NoMemory}
 
@@ -45,14 +45,14 @@ pub record Took (old new : Log) (pid : ℕ) (op : Op) : Type 0 where
 
 -- Why a step was refused: its places are not free, or they are, and it needs one, and memory was
 -- refused.
-abbrev pub Refused : Log → ℕ → Op → Refusal → Type 0
+abbrev pub Refused : Log → ℕ → Op → StepRefusal → Type 0
 Refused log pid op refusal.HistoryFull = has_place log pid op ≡ false
 Refused log pid op refusal.NoMemory =
     (has_place log pid op ≡ true) × (needed (status (moment log) pid) op ≢ 0)
 
 -- The first `count` steps are done, and the next one was refused.
 pub record Halted
-    (refusal : Refusal) (priorities : List ℕ) (limits : Limits) (steps : List (ℕ × Op)) (kernel : Shown)
+    (refusal : StepRefusal) (priorities : List ℕ) (limits : Limits) (steps : List (ℕ × Op)) (kernel : Shown)
     : Type 0 where
   pub count : ℕ
   pub done : HasDone priorities limits (take count steps) kernel
@@ -64,7 +64,7 @@ pub record Halted
 -- A step was refused, and the transcript of those before it is written behind what stood there
 -- before.
 pub record StopsBefore
-    (refusal : Refusal) (priorities : List ℕ) (limits : Limits) (steps : List (ℕ × Op))
+    (refusal : StepRefusal) (priorities : List ℕ) (limits : Limits) (steps : List (ℕ × Op))
     (old new : Option (List ℕ))
     : Type 0 where
   pub kernel : Shown

@@ -17,7 +17,7 @@ fault_of_stream stop.Read = Read
 fault_of_stream stop.Write = Write
 fault_of_stream stop.HistoryFull = HistoryFull
 fault_of_stream stop.NoMemory = NoMemory
-fault_of_stream (stop.Check place) = Check place
+fault_of_stream (stop.Check position) = Check position
 fault_of_stream stop.Spent = HistoryFull
 
 -- the limits that a stream's job gives its kernel

@@ -45,4 +45,4 @@ EndedByThreads limits given left old new Write = PrintedInPart limits given left
 EndedByThreads limits given left old new HistoryFull =
     (script : ScriptContents) × GivesScript given left script × (new ≡ old)
 EndedByThreads limits given left old new NoMemory = new ≡ old
-EndedByThreads limits given left old new (Check place) = ⊥
+EndedByThreads limits given left old new (Check position) = ⊥

@@ -4,7 +4,7 @@ ghost use Rattle.runner.specs.Faults.{fault_of_check, fault_of_refusal, fault_of
 ghost use Rattle.runner.specs.Faults.{fault_of_script, fault_of_work, status_of};
 ghost use Rattle.runner.specs.Streaming.{fault_of_stream};
 
-use crate::refusal::Refusal;
+use crate::refusal::StepRefusal;
 use replay::CheckFault;
 use script::{ScheduleFault, ScriptFault};
 use stream::StreamFault;
@@ -32,7 +32,7 @@ pub enum RunFault {
     /// Memory was refused, or a thread.
     #[error("no memory")]
     NoMemory,
-    /// The check of the history says that the entry of this place, counted from 1, is wrong.
+    /// The check of the history says that the entry at this position, counted from 1, is wrong.
     #[error("check: entry {0} is wrong")]
     Check(usize),
 }
@@ -63,7 +63,7 @@ impl RunFault {
         ensures { result ≡ fault_of_check fault }
     {
         match fault {
-            CheckFault::Wrong(place) => RunFault::Check(place),
+            CheckFault::Wrong(position) => RunFault::Check(position),
             CheckFault::NoMemory => RunFault::NoMemory,
         }
     }
@@ -88,17 +88,17 @@ impl RunFault {
             StreamFault::Write => RunFault::Write,
             StreamFault::HistoryFull | StreamFault::Spent => RunFault::HistoryFull,
             StreamFault::NoMemory => RunFault::NoMemory,
-            StreamFault::Check(place) => RunFault::Check(place),
+            StreamFault::Check(position) => RunFault::Check(position),
         }
     }
 
     // The run's fault where a step was refused.
-    pub(crate) fn of_refusal(refusal: Refusal) -> RunFault
+    pub(crate) fn of_refusal(refusal: StepRefusal) -> RunFault
         ensures { result ≡ fault_of_refusal refusal }
     {
         match refusal {
-            Refusal::HistoryFull => RunFault::HistoryFull,
-            Refusal::NoMemory => RunFault::NoMemory,
+            StepRefusal::HistoryFull => RunFault::HistoryFull,
+            StepRefusal::NoMemory => RunFault::NoMemory,
         }
     }
 

@@ -74,6 +74,7 @@ fn do_job<K: Machine + Send, R: Threads + Wait + Sync, I: Source, O: Sink>(
 {
     match run_script::<K, _, _, _>(rt, heap, job, source, out) {
         Ok(kernel) => {
+            // For the proof: a legal history has no fault.
             legal_histories_have_no_fault();
             let told = check_if(job.check, heap, kernel.history(), out);
             drop(kernel);

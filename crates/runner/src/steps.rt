@@ -8,14 +8,14 @@ ghost use Rattle.runner.specs.Steps.{Halted, HasDone, Refused, Stops, Took, limi
 
 use crate::RunFault;
 use crate::printing::print_whole;
-use crate::refusal::Refusal;
+use crate::refusal::StepRefusal;
 use device::Sink;
 use heap::Heap;
 use ids::{Op, Pid, Reply};
 use machine::Machine;
 
 // Executes one step. Where it is refused nothing has changed.
-fn do_step<K: Machine>(kernel: &mut K, pid: Pid, op: Op) -> Result<(), Refusal>
+fn do_step<K: Machine>(kernel: &mut K, pid: Pid, op: Op) -> Result<(), StepRefusal>
     ensures kept { Kept (K.shown kernel.new) }
     ensures ok { OnOk result (Took (K.shown kernel.old).log (K.shown kernel.new).log pid op) }
     ensures unchanged { OnErr result (K.shown kernel.new ≡ K.shown kernel.old) }
@@ -25,11 +25,11 @@ fn do_step<K: Machine>(kernel: &mut K, pid: Pid, op: Op) -> Result<(), Refusal>
     match &reply {
         Reply::HistoryFull => {
             drop(reply);
-            Err(Refusal::HistoryFull)
+            Err(StepRefusal::HistoryFull)
         }
         Reply::NoMemory => {
             drop(reply);
-            Err(Refusal::NoMemory)
+            Err(StepRefusal::NoMemory)
         }
         _ => {
             drop(reply);
@@ -39,7 +39,7 @@ fn do_step<K: Machine>(kernel: &mut K, pid: Pid, op: Op) -> Result<(), Refusal>
 }
 
 // Executes steps in a row on a kernel whose history is empty, up to the first that is refused.
-fn make_steps<K: Machine>(kernel: &mut K, steps: Vec<(Pid, Op), Heap>) -> Result<(), Refusal>
+fn make_steps<K: Machine>(kernel: &mut K, steps: Vec<(Pid, Op), Heap>) -> Result<(), StepRefusal>
     requires kept { Kept (K.shown kernel.old) }
     requires fresh { (K.shown kernel.old).log.entries ≡ [] }
     requires whole { (K.shown kernel.old).log.forgotten ≡ [] }

@@ -55,8 +55,8 @@ pub record Agrees (ds : List Effect) (p : Patches) : Type 0 where
       → get (all_done ds k).processes pid ≡ reslotted (kept_at p.slots pid) (get k.processes pid)
   -- how many names were given and taken, and from what
   pub named : (n : ℕ) → times n (named_along ds) ≡ (net_at p.inodes n).named
-  pub unnamed : (n : ℕ) → times n p.lost ≡ (net_at p.inodes n).unnamed
-  pub lost : unnamed_along ds ≡ p.lost
+  pub unnamed : (n : ℕ) → times n p.unnamed_inodes ≡ (net_at p.inodes n).unnamed
+  pub unnamed_inodes : unnamed_along ds ≡ p.unnamed_inodes
   -- what is claimed, and that it is enough for the names that come
   pub claims : (c : Claim) → claimed c ds ≡ claim_in p c
   pub added : (n : ℕ) → added_by (net_at p.inodes n).contents ≤ (net_at p.inodes n).promised

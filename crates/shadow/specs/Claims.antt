@@ -14,7 +14,7 @@ use Rattle.freeing_laws.specs.Counts.{times}
 use Rattle.shadow.specs.Committed.{Committed, Reserve}
 use Rattle.shadow.specs.Patches.{Net, Patches, is_new, net_at, opening_at}
 use Rattle.shadow.specs.Steps.{directories_in, files_in, opened_in, parents_in}
-use Rattle.shadow.specs.declared.change.Change.{Change}
+use Rattle.shadow.specs.declared.change.InodeChange.{InodeChange}
 use Rattle.shadow.specs.declared.change.Made.{Made}
 use Rattle.shadow.specs.declared.change.Made.TheVariants.{Directory, File, Pipe}
 use Rattle.shadow.specs.declared.opening.Opening.{Opening}
@@ -143,7 +143,7 @@ pub record AreUnused (s : Committed) (made : List Edit) (chosen : List ℕ) : Ty
   pub different : AllDifferent chosen
   pub nowhere : AllByRecursion (IsNowhere s.state) chosen
 
--- a number of a directory that is there, or to come, or lost
+-- a number of a directory that is there, or to come, or removed
 abbrev pub IsDirectory : FinMap nat_cmp Reserve → ℕ → Type 0
 IsDirectory reserves d = room_of (get reserves d) ≢ None
 
@@ -213,7 +213,7 @@ inode_claim n net (New_directory m) =
     if n == m then as_count (is_directory_made net.made) else 0
 inode_claim n net (Number m) = if n == m then as_count (is_file_made net.made) else 0
 
-abbrev pub inodes_claim : List (ℕ × Change) → Claim → ℕ
+abbrev pub inodes_claim : List (ℕ × InodeChange) → Claim → ℕ
 inodes_claim inodes (Room d) = (net_at inodes d).promised
 inodes_claim inodes (New_directory n) = as_count (is_directory_made (net_at inodes n).made)
 inodes_claim inodes (Number n) = as_count (is_file_made (net_at inodes n).made)

@@ -27,7 +27,7 @@ use Rattle.store.specs.declared.Object.TheVariants.{Description as A_description
 use Rattle.store.specs.declared.OpenFile.{OpenFile}
 use Rattle.store.specs.declared.Opened.{Opened}
 use Rattle.store.specs.declared.OpenPipe.{OpenPipe}
-use Rattle.shadow.specs.declared.change.Change.{Change}
+use Rattle.shadow.specs.declared.change.InodeChange.{InodeChange}
 use Rattle.shadow.specs.declared.change.Contents.{Contents}
 use Rattle.shadow.specs.declared.change.Contents.TheVariants.{Same, Names, Bytes, Pipe as Piped}
 use Rattle.shadow.specs.declared.opening.Opening.{Opening}
@@ -72,7 +72,7 @@ pub record IsPassedOver (changes : PipeChanges) (before after : Option Place) : 
   pub is : after ≡ Some (present (A_pipe (record pipe { bytes = pipe_over changes pipe.bytes })))
 
 -- a place after the changes of its inode
-abbrev pub IsCarriedBy : Change → Contents → Option Place → Option Place → Type 0
+abbrev pub IsCarriedBy : InodeChange → Contents → Option Place → Option Place → Type 0
 IsCarriedBy c Same before after = after ≡ before
 IsCarriedBy c (Names fresh notes) before after =
     after ≡ option_map (named_by (is_some c.made) notes c.promised) before
@@ -81,13 +81,13 @@ IsCarriedBy c (Piped (Some new) changes) before after =
     after ≡ Some (present (A_pipe (record new { bytes = pipe_over changes new.bytes })))
 IsCarriedBy c (Piped None changes) before after = IsPassedOver changes before after
 
-abbrev pub IsCarried : Option Change → Option Place → Option Place → Type 0
+abbrev pub IsCarried : Option InodeChange → Option Place → Option Place → Type 0
 IsCarried (Some c) before after = IsCarriedBy c c.contents before after
 IsCarried None before after = after ≡ before
 
 -- The changes of a directory can be made: it is shown, or is new; its names have room, and their
 -- numbers are there.
-pub record IsReadyDirectory (s : Numbers) (n : ℕ) (c : Change) (notes : Notes) : Type 0 where
+pub record IsReadyDirectory (s : Numbers) (n : ℕ) (c : InodeChange) (notes : Notes) : Type 0 where
   pub listing : Listing
   pub there : option_map (shown_if (is_some c.made)) (get s.places n)
       ≡ Some (present (A_directory listing))
@@ -111,17 +111,17 @@ IsReadyPipe None changes before =
     × (length pipe.bytes ≤ PIPE_CAPACITY
     → length (pipe_over changes pipe.bytes) ≤ PIPE_CAPACITY)
 
-abbrev pub IsReadyContents : Numbers → ℕ → Change → Contents → Type 0
+abbrev pub IsReadyContents : Numbers → ℕ → InodeChange → Contents → Type 0
 IsReadyContents s n c Same = c.made ≡ None
 IsReadyContents s n c (Names fresh notes) = IsReadyDirectory s n c notes
 IsReadyContents s n c (Bytes fresh bytes) = IsReadyFile (is_some c.made) (get s.places n)
 IsReadyContents s n c (Piped fresh changes) = IsReadyPipe fresh changes (get s.places n)
 
-abbrev pub IsReady : Numbers → ℕ → Change → Type 0
+abbrev pub IsReady : Numbers → ℕ → InodeChange → Type 0
 IsReady s n c = IsReadyContents s n c c.contents
 
-abbrev pub AreReady : List (ℕ × Change) → Numbers → Type 0
-AreReady changes s = (n : ℕ) (c : Change) → kept_at changes n ≡ Some c → IsReady s n c
+abbrev pub AreReady : List (ℕ × InodeChange) → Numbers → Type 0
+AreReady changes s = (n : ℕ) (c : InodeChange) → kept_at changes n ≡ Some c → IsReady s n c
 
 -- what is kept of a number whose object is no longer to come
 abbrev pub settled : Option Reserve → Option Reserve

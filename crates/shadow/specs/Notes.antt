@@ -4,7 +4,7 @@ use Rattle.std.specs.Prelude.{Option, Some, None}
 use Rattle.dirlist.specs.Patches.{noted_back}
 use Rattle.model.specs.State.{Name, Inode, Pipe, Process, pipe_of_inode}
 use Rattle.model.specs.Plan.{blocks}
-use Rattle.shadow.specs.declared.change.Change.{Change}
+use Rattle.shadow.specs.declared.change.InodeChange.{InodeChange}
 use Rattle.shadow.specs.declared.change.Contents.{Contents}
 use Rattle.shadow.specs.declared.change.Contents.TheVariants.{Same, Names, Bytes, Pipe as Piped}
 use Rattle.shadow.specs.declared.change.Former.{Former}
@@ -108,15 +108,15 @@ pub record IsUnnamed (old new : Net) : Type 0 where
   pub rest : record new { unnamed = old.unnamed } ≡ old
 
 -- At one number it is so, all others are as before, and places stay.
-pub record At (n : ℕ) (R : Net → Net → Type 0) (old new : List (ℕ × Change)) : Type 0 where
+pub record At (n : ℕ) (R : Net → Net → Type 0) (old new : List (ℕ × InodeChange)) : Type 0 where
   pub here : R (net_at old n) (net_at new n)
   pub others : (m : ℕ) → m ≢ n → net_at new m ≡ net_at old m
   pub places : (m : ℕ) → kept_at old m ≢ None → kept_at new m ≢ None
 
 -- A name of directory d went, and then one of e gave n.
-pub record AreNamed (d : ℕ) (x : Name) (e : ℕ) (y : Name) (n : ℕ) (old new : List (ℕ × Change))
+pub record AreNamed (d : ℕ) (x : Name) (e : ℕ) (y : Name) (n : ℕ) (old new : List (ℕ × InodeChange))
     : Type 0 where
-  pub mid : List (ℕ × Change)
+  pub mid : List (ℕ × InodeChange)
   pub gone : At d (IsNamed x None) old mid
   pub come : At e (IsNamed y (Some n)) mid new
 
@@ -137,7 +137,7 @@ abbrev pub IsPutBack : Name → Former → Net → Net → Type 0
 IsPutBack x former old new = new ≡ record old { contents = put_back former x old.contents }
 
 -- All that counts is as before.
-pub record SameInodes (old new : List (ℕ × Change)) : Type 0 where
+pub record SameInodes (old new : List (ℕ × InodeChange)) : Type 0 where
   pub nets : (n : ℕ) → net_at new n ≡ net_at old n
   pub places : (n : ℕ) → kept_at old n ≢ None → kept_at new n ≢ None
 
@@ -147,4 +147,4 @@ pub record SamePatches (old new : Patches) : Type 0 where
   pub openings : (d : ℕ) → opening_at new.openings d ≡ opening_at old.openings d
   pub processes : (pid : ℕ) (o : Option Process)
       → reslotted (kept_at new.slots pid) o ≡ reslotted (kept_at old.slots pid) o
-  pub lost : new.lost ≡ old.lost
+  pub unnamed_inodes : new.unnamed_inodes ≡ old.unnamed_inodes

@@ -12,7 +12,7 @@ use Rattle.file_shadow.specs.View.{view_over}
 use Rattle.pipe_shadow.specs.View.{Reaches, view_over as pipe_over}
 use Rattle.store.specs.Laid.{laid}
 use Rattle.store.specs.declared.OpenPipe.{OpenPipe}
-use Rattle.shadow.specs.declared.change.Change.{Change}
+use Rattle.shadow.specs.declared.change.InodeChange.{InodeChange}
 use Rattle.shadow.specs.declared.change.Contents.{Contents}
 use Rattle.shadow.specs.declared.change.Contents.TheVariants.{Same, Names, Bytes, Pipe as Piped}
 use Rattle.shadow.specs.declared.change.Made.{Made}
@@ -127,7 +127,7 @@ untouched = record {
   contents = Same;
 }
 
-abbrev pub net_of : Option Change → Net
+abbrev pub net_of : Option InodeChange → Net
 net_of (Some c) = record {
   made = c.made;
   promised = c.promised;
@@ -141,7 +141,7 @@ net_of None = untouched
 abbrev pub kept_at : {X : Type 0} → List (ℕ × X) → ℕ → Option X
 kept_at changes n = lookup (λ m. is_eq (nat_cmp n m)) changes
 
-abbrev pub net_at : List (ℕ × Change) → ℕ → Net
+abbrev pub net_at : List (ℕ × InodeChange) → ℕ → Net
 net_at changes n = net_of (kept_at changes n)
 
 -- whether a description is one that the transaction made
@@ -160,7 +160,7 @@ opening_at openings d = or_kept (kept_at openings d)
 -- All that a transaction has changed, by the numbers of inodes, of descriptions and of processes,
 -- and what has lost a name.
 pub record Patches : Type 0 where
-  pub inodes : List (ℕ × Change)
+  pub inodes : List (ℕ × InodeChange)
   pub openings : List (ℕ × Opening)
   pub slots : List (ℕ × Given)
-  pub lost : List ℕ
+  pub unnamed_inodes : List ℕ

@@ -318,7 +318,7 @@ pub record TakesIn (chosen : List ℕ) (e : Edit) (old new : Patches) : Type 0 w
       ≡ (net_at old.inodes n).promised + times n (parents_in e)
   pub named : (n : ℕ) → (net_at new.inodes n).named
       ≡ (net_at old.inodes n).named + times n (named chosen e)
-  pub lost : new.lost ≡ old.lost ++ unnamed e
+  pub unnamed_inodes : new.unnamed_inodes ≡ old.unnamed_inodes ++ unnamed e
   pub unnamed : (n : ℕ) → (net_at new.inodes n).unnamed
       ≡ (net_at old.inodes n).unnamed + times n (unnamed e)
   pub forms : (n : ℕ) → form_of (net_at new.inodes n).contents

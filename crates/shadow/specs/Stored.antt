@@ -20,7 +20,7 @@ use Rattle.store.specs.declared.Object.{Object}
 use Rattle.store.specs.declared.Object.TheVariants.{Directory as A_directory, File as A_file, Pipe as A_pipe}
 use Rattle.store.specs.declared.Object.TheVariants.{Description as A_description, Nothing}
 use Rattle.store.specs.declared.Stage.{Stage}
-use Rattle.store.specs.declared.Stage.TheVariants.{Coming, Held, Lost}
+use Rattle.store.specs.declared.Stage.TheVariants.{Coming, Held, Removed}
 use Rattle.shadow.specs.Committed.{Committed, Reserve}
 
 -- the processes from number 1 on, of which one that has ended leaves its place empty; and beside
@@ -70,7 +70,7 @@ committed_of processes s = record {
 }
 
 -- a directory to come has no names, and what else is to come is not settled; room is promised in
--- what is lost
+-- what is removed
 abbrev pub IsUnsettled : Object → Type 0
 IsUnsettled (A_directory listing) = (x : Name) → get listing.names x ≡ None
 IsUnsettled Nothing = ⊤
@@ -85,7 +85,7 @@ IsBare _ = ⊥
 abbrev pub FitsStage : Stage → Object → Type 0
 FitsStage Coming object = IsUnsettled object
 FitsStage Held object = object ≢ Nothing
-FitsStage Lost object = has_room (listing_of object) ≡ true
+FitsStage Removed object = has_room (listing_of object) ≡ true
 
 abbrev pub IsStaged : Option Place → Type 0
 IsStaged (Some place) = FitsStage place.stage place.object
@@ -107,7 +107,7 @@ IsEndHere s d it = (pipe : OpenPipe) → object_at s it.inode ≡ Some (A_pipe p
     × ((d ≡ pipe.reader) ⊎ (d ≡ pipe.writer))
 
 -- The root is number 0, the state is well formed, nothing in it is unreached, what is to come is
--- empty, nothing is lost that no transaction needs, and the counts are right.
+-- empty, nothing removed is kept that no transaction needs, and the counts are right.
 pub record Sound (processes : Processes) (s : Numbers) : Type 0 where
   pub root : s.root ≡ 0
   pub well : WellFormed (state_of processes s)

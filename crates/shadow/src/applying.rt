@@ -46,7 +46,7 @@ impl Stable {
         match self.perform(chosen.as_slice(), edits) {
             Ok(()) => Ok(chosen),
             Err(AllocError) => {
-                self.give_up(chosen.as_slice(), parent);
+                self.release_claims(chosen.as_slice(), parent);
                 drop(chosen);
                 Err(AllocError)
             }
@@ -66,6 +66,7 @@ impl Stable {
         ensures err { OnErr result (self.new.state ≡ self.old.state) }
         ensures same { OnErr result (KeepsSame self.old self.new) }
     {
+        // For the proof: the state is tidied before the change.
         self.state_is_tidied();
         match edits.pop() {
             None => Ok(()),
@@ -114,6 +115,7 @@ impl Stable {
         ensures err { OnErr result (self.new.state ≡ self.old.state) }
         ensures same { OnErr result (KeepsSame self.old self.new) }
     {
+        // For the proof: the state is tidied before the change.
         self.state_is_tidied();
         self.perform_first(chosen, first)?;
         self.perform_last(chosen, last);
@@ -132,16 +134,25 @@ impl Stable {
         ensures err { OnErr result (self.new.state ≡ self.old.state) }
         ensures same { OnErr result (KeepsSame self.old self.new) }
     {
+        // For the proof: the state is tidied before the change.
         self.state_is_tidied();
         match edit {
-            Edit::PutBytes(file, place, bytes, _before) => {
-                let written = self.write(file, place as usize, bytes.as_slice());
+            Edit::PutBytes {
+                file,
+                offset,
+                bytes,
+                ..
+            } => {
+                let written = self.write(file, offset as usize, bytes.as_slice());
                 drop(bytes);
                 written
             }
-            Edit::MakePipe(_place, pid, reading, writing) => {
-                self.make_pipe(chosen[0], pid, (reading, chosen[1]), (writing, chosen[2]))
-            }
+            Edit::MakePipe {
+                process,
+                reader,
+                writer,
+                ..
+            } => self.make_pipe(chosen[0], process, (reader, chosen[1]), (writer, chosen[2])),
             other => {
                 self.perform_without_memory(chosen, other);
                 Ok(())
@@ -158,28 +169,40 @@ impl Stable {
         ensures state { self.new.state ≡ tidy (applied chosen.now edit self.old.state) }
         ensures kept { KeepsMore self.new self.old (λ c. claimed_by_one c chosen.now edit) }
     {
+        // For the proof: the state is tidied before the change.
         self.state_is_tidied();
         match edit {
-            Edit::MakeDirectory(parent, name, _place) => {
+            Edit::MakeDirectory { parent, name, .. } => {
                 self.make_directory(parent, name, chosen[0]);
             }
-            Edit::MakeFile(parent, name, _place) => self.make_file(parent, name, chosen[0]),
-            Edit::NameFile(parent, name, file) => self.link(parent, name, file),
-            Edit::UnnameFile(parent, name, num) => {
-                self.unname(parent, &name, num);
+            Edit::MakeFile { parent, name, .. } => self.make_file(parent, name, chosen[0]),
+            Edit::NameFile { parent, name, file } => self.link(parent, name, file),
+            Edit::UnnameFile { parent, name, file } => {
+                self.unname(parent, &name, file);
                 drop(name);
             }
-            Edit::UnnameDirectory(parent, name, num) => {
-                self.unname(parent, &name, num);
+            Edit::UnnameDirectory {
+                parent,
+                name,
+                directory,
+            } => {
+                self.unname(parent, &name, directory);
                 drop(name);
             }
-            Edit::Move(from, old, to, new, num, replaced) => {
-                self.rename(from, &old, to, new, num, replaced);
-                drop(old);
+            Edit::Move {
+                from,
+                old_name,
+                to,
+                new_name,
+                inode,
+                replaced,
+            } => {
+                self.rename(from, &old_name, to, new_name, inode, replaced);
+                drop(old_name);
             }
-            Edit::Cut(file, _before, after) => self.cut(file, after as usize),
-            Edit::Take(pipe, count) => self.take(pipe, count as usize),
-            Edit::Append(pipe, bytes) => {
+            Edit::Cut { file, length, .. } => self.cut(file, length as usize),
+            Edit::Take { pipe, count } => self.take(pipe, count as usize),
+            Edit::Append { pipe, bytes } => {
                 self.append(pipe, bytes.as_slice());
                 drop(bytes);
             }
@@ -196,15 +219,31 @@ impl Stable {
         ensures kept { KeepsMore self.new self.old (λ c. claimed_by_one c chosen.now edit.now) }
     {
         match edit {
-            Edit::OpenInode(place, inode, mode, pid, fd) => {
+            Edit::OpenInode {
+                index,
+                inode,
+                mode,
+                process,
+                descriptor,
+            } => {
                 let inode = number(chosen, *inode);
-                self.open_inode(chosen[*place as usize], inode, *mode, *pid, *fd);
+                self.open_inode(chosen[*index as usize], inode, *mode, *process, *descriptor);
             }
-            Edit::SetOffset(description, place) => self.store.set_offset(*description, *place),
-            Edit::ShareSlot(pid, fd, description, _pipes) => {
-                self.reslot(*pid, *fd, Some(*description));
-            }
-            Edit::ClearSlot(pid, fd, _pipes) => self.reslot(*pid, *fd, None),
+            Edit::SetOffset {
+                description,
+                offset,
+            } => self.store.set_offset(*description, *offset),
+            Edit::ShareSlot {
+                process,
+                descriptor,
+                description,
+                ..
+            } => self.reslot(*process, *descriptor, Some(*description)),
+            Edit::ClearSlot {
+                process,
+                descriptor,
+                ..
+            } => self.reslot(*process, *descriptor, None),
             _ => unreachable!(),
         }
     }
@@ -308,8 +347,8 @@ impl Stable {
     {
         self.store.remove_name(from, old);
         self.store.add_name(to, new, num);
-        if let Some(lost) = inode_replaced(replaced) {
-            free(&mut self.store, lost);
+        if let Some(unnamed) = inode_replaced(replaced) {
+            free(&mut self.store, unnamed);
         }
     }
 
@@ -326,17 +365,17 @@ impl Stable {
     }
 
     // Bytes are written into a file. Refused memory changes nothing.
-    fn write(&mut self, file: Num, place: usize, bytes: &[u8]) -> Result<(), AllocError>
-        requires small { place + length bytes.now ≤ LARGEST_FILE }
+    fn write(&mut self, file: Num, offset: usize, bytes: &[u8]) -> Result<(), AllocError>
+        requires small { offset + length bytes.now ≤ LARGEST_FILE }
         requires file { kind_of self.old.state file ≡ Some A_file }
         ensures state { OnOk result ((before : ℕ) → self.new.state
-            ≡ applied [] (Put_bytes file place bytes.now before) self.old.state) }
+            ≡ applied [] (Put_bytes file offset bytes.now before) self.old.state) }
         ensures kept { KeepsSame self.old self.new }
         ensures err { OnErr result (self.new.state ≡ self.old.state) }
     {
         let empty = FileData::new(self.heap());
         let mut data = self.store.swap_file(file, empty);
-        let written = data.write_at(place, bytes);
+        let written = data.write_at(offset, bytes);
         let _empty = self.store.swap_file(file, data);
         written
     }
@@ -361,7 +400,7 @@ impl Stable {
         ensures state { self.new.state ≡ applied [] (Take pipe count) self.old.state }
         ensures kept { KeepsSame self.old self.new }
     {
-        // What is left fits, since a pipe is never longer than pipes get.
+        // For the proof: what is left fits, since a pipe is never longer than pipes get.
         let _len = pipe_len(&self.store, pipe);
         self.store.change_pipe(pipe, count, &[]);
     }

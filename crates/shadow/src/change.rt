@@ -18,7 +18,7 @@ ghost use Rattle.shadow.specs.Notes.{IsWritten, put_back, room_for};
 ghost use Rattle.shadow.specs.Steps.{bytes_cut, bytes_written, filed, listed, name_noted};
 ghost use Rattle.shadow.specs.Steps.{new_form, new_inode};
 
-use dirlist::Patch;
+use dirlist::NamePatch;
 use file_shadow::FileShadow;
 use heap::Heap;
 use ids::{Name, Num};
@@ -43,12 +43,27 @@ pub(crate) enum Made {
 pub(crate) enum Contents {
     /// Nothing.
     Same,
-    /// The names that changed, and whether they are laid over none.
-    Names(bool, Patch),
-    /// The bytes that changed, and whether they are laid over none.
-    Bytes(bool, FileShadow),
-    /// What is taken from a pipe and appended to it, and the pipe where it is new.
-    Pipe(Option<OpenPipe>, PipeShadow),
+    /// Names of a directory.
+    Names {
+        /// Whether they are laid over none.
+        is_fresh: bool,
+        /// The names that changed.
+        names: NamePatch,
+    },
+    /// Bytes of a file.
+    Bytes {
+        /// Whether they are laid over none.
+        is_fresh: bool,
+        /// The bytes that changed.
+        bytes: FileShadow,
+    },
+    /// Bytes of a pipe.
+    Pipe {
+        /// The pipe, where it is new.
+        new: Option<OpenPipe>,
+        /// What is taken from it and appended to it.
+        changes: PipeShadow,
+    },
 }
 
 /// What a note of a name took the place of.
@@ -62,7 +77,7 @@ pub(crate) enum Former {
 
 /// What a transaction has changed of one inode.
 #[derive(Drop)]
-pub(crate) struct Change {
+pub(crate) struct InodeChange {
     /// What the transaction has made under this number.
     pub(crate) made: Option<Made>,
     /// For how many names room is promised in the directory.
@@ -75,12 +90,12 @@ pub(crate) struct Change {
     pub(crate) contents: Contents,
 }
 
-impl Change {
+impl InodeChange {
     /// Nothing is changed. It takes no memory.
-    pub(crate) fn new() -> Change
+    pub(crate) fn new() -> InodeChange
         ensures { net_of (Some result) ≡ untouched }
     {
-        Change {
+        InodeChange {
             made: None,
             promised: 0,
             named: 0,
@@ -129,14 +144,19 @@ impl Change {
         }
     }
 
-    /// Notes bytes that are written into the file from a place on. Refused memory changes nothing.
-    pub(crate) fn write(&mut self, heap: Heap, place: usize, bytes: &[u8]) -> Result<(), AllocError>
-        requires { place + length bytes.now ≤ LARGEST_FILE }
+    /// Notes bytes that are written into the file from an offset on. Refused memory changes nothing.
+    pub(crate) fn write(
+        &mut self,
+        heap: Heap,
+        offset: usize,
+        bytes: &[u8],
+    ) -> Result<(), AllocError>
+        requires { offset + length bytes.now ≤ LARGEST_FILE }
         ensures ok { OnOk result
-            (IsWritten place bytes.now (net_of (Some self.old)) (net_of (Some self.new))) }
+            (IsWritten offset bytes.now (net_of (Some self.old)) (net_of (Some self.new))) }
         ensures err { OnErr result (self.new ≡ self.old) }
     {
-        write_in(&mut self.contents, heap, place, bytes)
+        write_in(&mut self.contents, heap, offset, bytes)
     }
 
     /// Notes that the file is cut, or filled up, to this length. It takes no memory.
@@ -171,7 +191,10 @@ impl Change {
         ensures { IsPiped pipe.reader pipe.writer (net_of (Some self.old)) (net_of (Some self.new)) }
     {
         self.made = Some(Made::Pipe);
-        let contents = Contents::Pipe(Some(pipe), PipeShadow::new(heap));
+        let contents = Contents::Pipe {
+            new: Some(pipe),
+            changes: PipeShadow::new(heap),
+        };
         drop(mem::replace(&mut self.contents, contents));
     }
 
@@ -214,8 +237,14 @@ fn fresh_of(heap: Heap, what: Made) -> Contents
     ensures numbers { numbers_in result ≡ [] }
 {
     match what {
-        Made::Directory => Contents::Names(true, Patch::new(heap)),
-        Made::File => Contents::Bytes(true, FileShadow::new(heap)),
+        Made::Directory => Contents::Names {
+            is_fresh: true,
+            names: NamePatch::new(heap),
+        },
+        Made::File => Contents::Bytes {
+            is_fresh: true,
+            bytes: FileShadow::new(heap),
+        },
         Made::Pipe => unreachable!(),
     }
 }
@@ -248,10 +277,10 @@ fn note_in(
     ensures err { OnErr result (contents.new ≡ contents.old) }
 {
     match contents {
-        Contents::Names(_fresh, names) => names.note(name, given),
+        Contents::Names { names, .. } => names.note(name, given),
         Contents::Same => note_first(contents, heap, false, name, given),
-        Contents::Bytes(_fresh, _bytes) => note_first(contents, heap, true, name, given),
-        Contents::Pipe(_new, _changes) => note_first(contents, heap, true, name, given),
+        Contents::Bytes { .. } => note_first(contents, heap, true, name, given),
+        Contents::Pipe { .. } => note_first(contents, heap, true, name, given),
     }
 }
 
@@ -285,14 +314,14 @@ fn note_gone_in(contents: &mut Contents, heap: Heap, name: Name) -> Result<Forme
     ensures err { OnErr result (contents.new ≡ contents.old) }
 {
     match contents {
-        Contents::Names(_fresh, names) => {
+        Contents::Names { names, .. } => {
             let former = names.look(&name);
             names.note(name, None)?;
             Ok(Former::Noted(former))
         }
         Contents::Same => note_first_gone(contents, heap, false, name),
-        Contents::Bytes(_fresh, _bytes) => note_first_gone(contents, heap, true, name),
-        Contents::Pipe(_new, _changes) => note_first_gone(contents, heap, true, name),
+        Contents::Bytes { .. } => note_first_gone(contents, heap, true, name),
+        Contents::Pipe { .. } => note_first_gone(contents, heap, true, name),
     }
 }
 
@@ -316,10 +345,10 @@ fn put_back_in(contents: &mut Contents, name: &Name, given: Option<Option<Num>>)
     ensures { contents.new ≡ put_back (Noted given) name.now contents.old }
 {
     match contents {
-        Contents::Names(_fresh, names) => names.put_back(name, given),
+        Contents::Names { names, .. } => names.put_back(name, given),
         Contents::Same => (),
-        Contents::Bytes(_fresh, _bytes) => (),
-        Contents::Pipe(_new, _changes) => (),
+        Contents::Bytes { .. } => (),
+        Contents::Pipe { .. } => (),
     }
 }
 
@@ -332,31 +361,34 @@ fn first_name(
 ) -> Result<Contents, AllocError>
     ensures { IfOk result (λ c. c ≡ Names fresh (insert empty name given)) }
 {
-    let mut names = Patch::new(heap);
+    let mut names = NamePatch::new(heap);
     names.note(name, given)?;
-    Ok(Contents::Names(fresh, names))
+    Ok(Contents::Names {
+        is_fresh: fresh,
+        names,
+    })
 }
 
 // Notes bytes that are written; names of a directory go, and bytes of a pipe.
 fn write_in(
     contents: &mut Contents,
     heap: Heap,
-    place: usize,
+    offset: usize,
     bytes: &[u8],
 ) -> Result<(), AllocError>
-    requires { place + length bytes.now ≤ LARGEST_FILE }
+    requires { offset + length bytes.now ≤ LARGEST_FILE }
     ensures contents { OnOk result ((o : Option Inode)
-        → patched contents.new o ≡ bytes_written place bytes.now (patched contents.old o)) }
+        → patched contents.new o ≡ bytes_written offset bytes.now (patched contents.old o)) }
     ensures form { OnOk result (form_of contents.new ≡ filed (form_of contents.old)) }
     ensures numbers { OnOk result ((b : ℕ) → Contains (numbers_in contents.new) b
-        ↔ Contains (numbers_in contents.old ++ blocks place (length bytes.now)) b) }
+        ↔ Contains (numbers_in contents.old ++ blocks offset (length bytes.now)) b) }
     ensures err { OnErr result (contents.new ≡ contents.old) }
 {
     match contents {
-        Contents::Bytes(_fresh, changes) => changes.write(place, bytes),
-        Contents::Same => write_first(contents, heap, false, place, bytes),
-        Contents::Names(_fresh, _names) => write_first(contents, heap, true, place, bytes),
-        Contents::Pipe(_new, _changes) => write_first(contents, heap, true, place, bytes),
+        Contents::Bytes { bytes: changes, .. } => changes.write(offset, bytes),
+        Contents::Same => write_first(contents, heap, false, offset, bytes),
+        Contents::Names { .. } => write_first(contents, heap, true, offset, bytes),
+        Contents::Pipe { .. } => write_first(contents, heap, true, offset, bytes),
     }
 }
 
@@ -365,34 +397,37 @@ fn write_first(
     contents: &mut Contents,
     heap: Heap,
     fresh: bool,
-    place: usize,
+    offset: usize,
     bytes: &[u8],
 ) -> Result<(), AllocError>
-    requires { place + length bytes.now ≤ LARGEST_FILE }
+    requires { offset + length bytes.now ≤ LARGEST_FILE }
     ensures contents { OnOk result ((o : Option Inode)
-        → patched contents.new o ≡ Some (File (written (bytes_before fresh o) place bytes.now))) }
+        → patched contents.new o ≡ Some (File (written (bytes_before fresh o) offset bytes.now))) }
     ensures form { OnOk result (form_of contents.new ≡ of_bytes fresh) }
     ensures numbers { OnOk result ((b : ℕ)
-        → Contains (numbers_in contents.new) b ↔ Contains (blocks place (length bytes.now)) b) }
+        → Contains (numbers_in contents.new) b ↔ Contains (blocks offset (length bytes.now)) b) }
     ensures err { OnErr result (contents.new ≡ contents.old) }
 {
-    let noted = first_bytes(heap, fresh, place, bytes)?;
+    let noted = first_bytes(heap, fresh, offset, bytes)?;
     drop(mem::replace(contents, noted));
     Ok(())
 }
 
 // The changes of a file with the bytes of one write.
-fn first_bytes(heap: Heap, fresh: bool, place: usize, bytes: &[u8]) -> Result<Contents, AllocError>
-    requires { place + length bytes.now ≤ LARGEST_FILE }
+fn first_bytes(heap: Heap, fresh: bool, offset: usize, bytes: &[u8]) -> Result<Contents, AllocError>
+    requires { offset + length bytes.now ≤ LARGEST_FILE }
     ensures contents { IfOk result (λ c. (o : Option Inode)
-        → patched c o ≡ Some (File (written (bytes_before fresh o) place bytes.now))) }
+        → patched c o ≡ Some (File (written (bytes_before fresh o) offset bytes.now))) }
     ensures form { IfOk result (λ c. form_of c ≡ of_bytes fresh) }
     ensures numbers { IfOk result (λ c. (b : ℕ)
-        → Contains (numbers_in c) b ↔ Contains (blocks place (length bytes.now)) b) }
+        → Contains (numbers_in c) b ↔ Contains (blocks offset (length bytes.now)) b) }
 {
     let mut changes = FileShadow::new(heap);
-    changes.write(place, bytes)?;
-    Ok(Contents::Bytes(fresh, changes))
+    changes.write(offset, bytes)?;
+    Ok(Contents::Bytes {
+        is_fresh: fresh,
+        bytes: changes,
+    })
 }
 
 // Notes a file's length; names of a directory go, and bytes of a pipe.
@@ -404,10 +439,10 @@ fn cut_in(contents: &mut Contents, heap: Heap, len: usize)
     ensures numbers { numbers_in contents.new ≡ numbers_in contents.old }
 {
     match contents {
-        Contents::Bytes(_fresh, changes) => changes.cut(len),
+        Contents::Bytes { bytes: changes, .. } => changes.cut(len),
         Contents::Same => cut_first(contents, heap, false, len),
-        Contents::Names(_fresh, _names) => cut_first(contents, heap, true, len),
-        Contents::Pipe(_new, _changes) => cut_first(contents, heap, true, len),
+        Contents::Names { .. } => cut_first(contents, heap, true, len),
+        Contents::Pipe { .. } => cut_first(contents, heap, true, len),
     }
 }
 
@@ -432,7 +467,10 @@ fn first_cut(heap: Heap, fresh: bool, len: usize) -> Contents
 {
     let mut changes = FileShadow::new(heap);
     changes.cut(len);
-    Contents::Bytes(fresh, changes)
+    Contents::Bytes {
+        is_fresh: fresh,
+        bytes: changes,
+    }
 }
 
 // Notes bytes that are taken from a pipe. What shows a directory or a file stays as it is.
@@ -441,15 +479,15 @@ fn take_in(contents: &mut Contents, heap: Heap, count: usize) -> Result<(), Allo
     ensures err { OnErr result (contents.new ≡ contents.old) }
 {
     match contents {
-        Contents::Pipe(_new, changes) => changes.take(count),
+        Contents::Pipe { changes, .. } => changes.take(count),
         Contents::Same => {
             let mut changes = PipeShadow::new(heap);
             changes.take(count)?;
-            drop(mem::replace(contents, Contents::Pipe(None, changes)));
+            drop(mem::replace(contents, Contents::Pipe { new: None, changes }));
             Ok(())
         }
-        Contents::Names(_fresh, _names) => Ok(()),
-        Contents::Bytes(_fresh, _bytes) => Ok(()),
+        Contents::Names { .. } => Ok(()),
+        Contents::Bytes { .. } => Ok(()),
     }
 }
 
@@ -459,14 +497,14 @@ fn append_in(contents: &mut Contents, heap: Heap, bytes: &[u8]) -> Result<(), Al
     ensures err { OnErr result (contents.new ≡ contents.old) }
 {
     match contents {
-        Contents::Pipe(_new, changes) => changes.append(bytes),
+        Contents::Pipe { changes, .. } => changes.append(bytes),
         Contents::Same => {
             let mut changes = PipeShadow::new(heap);
             changes.append(bytes)?;
-            drop(mem::replace(contents, Contents::Pipe(None, changes)));
+            drop(mem::replace(contents, Contents::Pipe { new: None, changes }));
             Ok(())
         }
-        Contents::Names(_fresh, _names) => Ok(()),
-        Contents::Bytes(_fresh, _bytes) => Ok(()),
+        Contents::Names { .. } => Ok(()),
+        Contents::Bytes { .. } => Ok(()),
     }
 }

@@ -17,7 +17,7 @@ ghost use Rattle.shadow.specs.Patches.{net_of};
 ghost use Rattle.shadow.specs.Steps.{AreApart, CanEdit, parents_in};
 ghost use Rattle.shadow.specs.Stored.{IsBare};
 
-use crate::change::Change;
+use crate::change::InodeChange;
 use crate::inodes::Inodes;
 use crate::opening::{Opening, Openings};
 use crate::patches::Patches;
@@ -34,10 +34,10 @@ pub(crate) fn parent_of(edits: &[Edit]) -> Option<Num>
     ensures { listed result ≡ flat_map parents_in edits.now }
 {
     match edits.first() {
-        Some(Edit::MakeDirectory(parent, _, _)) => Some(*parent),
-        Some(Edit::MakeFile(parent, _, _)) => Some(*parent),
-        Some(Edit::NameFile(parent, _, _)) => Some(*parent),
-        Some(Edit::Move(_, _, parent, _, _, _)) => Some(*parent),
+        Some(Edit::MakeDirectory { parent, .. }) => Some(*parent),
+        Some(Edit::MakeFile { parent, .. }) => Some(*parent),
+        Some(Edit::NameFile { parent, .. }) => Some(*parent),
+        Some(Edit::Move { to, .. }) => Some(*to),
         _ => None,
     }
 }
@@ -61,7 +61,7 @@ impl Stable {
             Some(parent) => match self.promise(parent) {
                 Ok(()) => Ok(chosen),
                 Err(AllocError) => {
-                    self.give_up(chosen.as_slice(), None);
+                    self.release_claims(chosen.as_slice(), None);
                     drop(chosen);
                     Err(AllocError)
                 }
@@ -81,7 +81,7 @@ impl Stable {
             match self.claim_number(edit, &mut chosen) {
                 Ok(()) => (),
                 Err(AllocError) => {
-                    self.give_up(chosen.as_slice(), None);
+                    self.release_claims(chosen.as_slice(), None);
                     return Err(AllocError);
                 }
             }
@@ -98,13 +98,13 @@ impl Stable {
         ensures err { OnErr result (AreAdded self.old self.new chosen.old chosen.new) }
     {
         match edit {
-            Edit::MakeDirectory(_, _, _) => {
+            Edit::MakeDirectory { .. } => {
                 let dir = Dir::new(self.heap());
                 self.reserve(Object::Directory(dir), chosen)
             }
-            Edit::MakeFile(_, _, _) => self.reserve(Object::Nothing, chosen),
-            Edit::OpenInode(_, _, _, _, _) => self.reserve(Object::Nothing, chosen),
-            Edit::MakePipe(_, _, _, _) => self.reserve_three(chosen),
+            Edit::MakeFile { .. } => self.reserve(Object::Nothing, chosen),
+            Edit::OpenInode { .. } => self.reserve(Object::Nothing, chosen),
+            Edit::MakePipe { .. } => self.reserve_three(chosen),
             _ => Ok(()),
         }
     }
@@ -153,13 +153,14 @@ impl Stable {
         ensures state { self.new.state ≡ self.old.state }
         ensures err { OnErr result (self.new ≡ self.old) }
     {
+        // For the proof: a number that is not in use is nowhere in the state.
         call_laws::unused_numbers_are_nowhere();
         let num = self.store.reserve_num(object)?;
         Ok(num)
     }
 
     /// Gives back new numbers, and the room of a name. It takes no memory.
-    pub(crate) fn give_up(&mut self, chosen: &[Num], parent: Option<Num>)
+    pub(crate) fn release_claims(&mut self, chosen: &[Num], parent: Option<Num>)
         requires { (bs : List Bool) × ((c : Claim)
             → claimed_in c (with_kinds chosen.now bs) (listed parent) ≤ reserved self.old c) }
         ensures kept { (bs : List Bool) → ((c : Claim)
@@ -208,7 +209,7 @@ impl Stable {
     }
 
     /// Gives back all that was kept for a transaction's changes. It takes no memory.
-    pub(crate) fn give_up_all(&mut self, patches: Patches)
+    pub(crate) fn release_all_claims(&mut self, patches: Patches)
         requires { (c : Claim) → claim_in patches c ≤ reserved self.old c }
         ensures kept { KeepsMore self.new self.old (claim_in patches) }
         ensures state { self.new.state ≡ self.old.state }
@@ -218,24 +219,24 @@ impl Stable {
             openings,
             ..
         } = patches;
-        self.give_up_inodes(inodes);
-        self.give_up_openings(openings);
+        self.release_claims_of_inodes(inodes);
+        self.release_claims_of_openings(openings);
     }
 
     // Gives back what was kept for the changes of inodes.
-    fn give_up_inodes(&mut self, inodes: Inodes)
+    fn release_claims_of_inodes(&mut self, inodes: Inodes)
         requires { (c : Claim) → inodes_claim inodes c ≤ reserved self.old c }
         ensures kept { KeepsMore self.new self.old (inodes_claim inodes) }
         ensures state { self.new.state ≡ self.old.state }
     {
         for (num, change) in inodes.each {
-            self.give_up_inode(num, &change);
+            self.release_claims_of_inode(num, &change);
             drop(change);
         }
     }
 
     // Gives back the numbers of new descriptions.
-    fn give_up_openings(&mut self, openings: Openings)
+    fn release_claims_of_openings(&mut self, openings: Openings)
         requires { (c : Claim) → openings_claim openings c ≤ reserved self.old c }
         ensures kept { KeepsMore self.new self.old (openings_claim openings) }
         ensures state { self.new.state ≡ self.old.state }
@@ -250,7 +251,7 @@ impl Stable {
     }
 
     // Gives back what was kept for the changes of one inode.
-    fn give_up_inode(&mut self, num: Num, change: &Change)
+    fn release_claims_of_inode(&mut self, num: Num, change: &InodeChange)
         requires { (c : Claim) → inode_claim num (net_of (Some change.now)) c ≤ reserved self.old c }
         ensures kept { KeepsMore self.new self.old (inode_claim num (net_of (Some change.now))) }
         ensures state { self.new.state ≡ self.old.state }

@@ -13,7 +13,7 @@ ghost use Rattle.shadow.specs.Stored.{Processes, state_of};
 
 use crate::opening::Openings;
 use crate::slots::Slots;
-use fdtable::Patch;
+use fdtable::SlotPatch;
 use heap::Heap;
 use ids::{DESCRIPTORS, Fd, Num};
 use objects::Description;
@@ -31,12 +31,13 @@ pub(crate) fn close_former(store: &mut Store, former: &Slots)
 }
 
 /// Closes what one process's slots gave before. It takes no memory.
-pub(crate) fn close_given(store: &mut Store, former: &Patch)
+pub(crate) fn close_given(store: &mut Store, former: &SlotPatch)
     requires { (ps : Processes) × Holds ps store.old }
     ensures { (ps : Processes) → Holds ps store.old
         → Frees (all_closed (flat_map (λ g. given_by g.1) (entries former.now))) ps store.old
         store.new }
 {
+    // For the proof: only descriptors below the limit are noted.
     former.noted_are_low();
     for number in 0..DESCRIPTORS as u32 {
         match former.get(Fd(number)) {
@@ -85,12 +86,12 @@ fn inode_in(description: Description) -> Num
 }
 
 /// These inodes go to which nothing leads. It takes no memory.
-pub(crate) fn free_all(store: &mut Store, lost: Vec<Num, Heap>)
+pub(crate) fn free_all(store: &mut Store, unnamed: Vec<Num, Heap>)
     requires { (ps : Processes) × Holds ps store.old }
     ensures { (ps : Processes) → Holds ps store.old
-        → Frees (free_inodes lost.entry.items) ps store.old store.new }
+        → Frees (free_inodes unnamed.entry.items) ps store.old store.new }
 {
-    for num in lost {
+    for num in unnamed {
         free(store, num);
     }
 }

@@ -9,7 +9,7 @@ ghost use Rattle.shadow.specs.Notes.{IsAppended, IsPiped, IsPutBack, IsTaken, Is
 ghost use Rattle.shadow.specs.Notes.{SameInodes};
 ghost use Rattle.shadow.specs.declared.change.Made.TheVariants as Made;
 
-use crate::change::{Change, Contents, Former, Made};
+use crate::change::{Contents, Former, InodeChange, Made};
 use heap::Heap;
 use ids::{Name, Num};
 use std::alloc::AllocError;
@@ -21,12 +21,12 @@ use store::OpenPipe;
 #[derive(Drop)]
 pub(crate) struct Inodes {
     heap: Heap,
-    pub(crate) each: BTreeMap<Num, Change, Heap>,
+    pub(crate) each: BTreeMap<Num, InodeChange, Heap>,
 }
 
 impl Model for Inodes {
     ghost use Rattle.std.specs.Prelude.{ℕ, List};
-    ghost use Rattle.shadow.specs.declared.change.Change.{Change as Changed};
+    ghost use Rattle.shadow.specs.declared.change.InodeChange.{InodeChange as Changed};
 
     ghost Value = { List (ℕ × Changed) };
 
@@ -45,7 +45,7 @@ impl Inodes {
     }
 
     /// What is changed of an inode, where something may be. It takes no memory.
-    pub(crate) fn get(&self, num: Num) -> Option<&Change>
+    pub(crate) fn get(&self, num: Num) -> Option<&InodeChange>
         ensures { option_copied result ≡ kept_at self.now num }
     {
         self.each.get(&num)
@@ -60,7 +60,7 @@ impl Inodes {
         if self.get(num).is_some() {
             return Ok(());
         }
-        drop(self.each.insert(num, Change::new())?);
+        drop(self.each.insert(num, InodeChange::new())?);
         Ok(())
     }
 
@@ -168,15 +168,15 @@ impl Inodes {
 
     /// Notes bytes that are written into a file, where there is a place for it. Refused memory
     /// changes nothing that shows.
-    pub(crate) fn write(&mut self, file: Num, place: usize, bytes: &[u8]) -> Result<(), AllocError>
+    pub(crate) fn write(&mut self, file: Num, offset: usize, bytes: &[u8]) -> Result<(), AllocError>
         requires place { kept_at self.old file ≢ None }
-        requires small { place + length bytes.now ≤ LARGEST_FILE }
-        ensures ok { OnOk result (At file (IsWritten place bytes.now) self.old self.new) }
+        requires small { offset + length bytes.now ≤ LARGEST_FILE }
+        ensures ok { OnOk result (At file (IsWritten offset bytes.now) self.old self.new) }
         ensures err { OnErr result (SameInodes self.old self.new) }
     {
         let heap = self.heap;
         match self.each.get_mut(&file) {
-            Some(change) => change.write(heap, place, bytes),
+            Some(change) => change.write(heap, offset, bytes),
             None => unreachable!(),
         }
     }
@@ -291,9 +291,9 @@ fn changed_in(contents: &Contents) -> &[u32]
     ensures rising { IsStrictlyIncreasing result.now }
 {
     match contents {
-        Contents::Bytes(_fresh, bytes) => bytes.changed(),
-        Contents::Names(_fresh, _names) => &[],
-        Contents::Pipe(_new, _changes) => &[],
+        Contents::Bytes { bytes, .. } => bytes.changed(),
+        Contents::Names { .. } => &[],
+        Contents::Pipe { .. } => &[],
         Contents::Same => &[],
     }
 }

@@ -15,7 +15,7 @@ ghost use Rattle.shadow.specs.Laid.{IsPassedOver, IsReadyPipe, IsReopened, IsWri
 ghost use Rattle.shadow.specs.declared.opening.Opening.TheVariants.{New};
 ghost use Rattle.shadow.specs.Patches.{is_new, kept_at, opening_at};
 
-use crate::change::{Change, Contents};
+use crate::change::{Contents, InodeChange};
 use crate::inodes::Inodes;
 use crate::opening::{Opening, Openings};
 use file_shadow::FileShadow;
@@ -38,13 +38,13 @@ pub(crate) fn lay_inodes(store: &mut Store, heap: Heap, inodes: Inodes)
 }
 
 // Makes what is changed of one inode.
-fn lay_inode(store: &mut Store, heap: Heap, num: Num, change: Change)
+fn lay_inode(store: &mut Store, heap: Heap, num: Num, change: InodeChange)
     requires { IsReady store.old num change }
     ensures root { store.new.root ≡ store.old.root }
     ensures here { IsCarried (Some change) (get store.old.places num) (get store.new.places num) }
     ensures others { (n : ℕ) → n ≢ num → get store.new.places n ≡ get store.old.places n }
 {
-    let Change {
+    let InodeChange {
         made,
         promised,
         contents,
@@ -52,20 +52,20 @@ fn lay_inode(store: &mut Store, heap: Heap, num: Num, change: Change)
     } = change;
     match contents {
         Contents::Same => (),
-        Contents::Names(_fresh, names) => {
+        Contents::Names { names, .. } => {
             if made.is_some() {
                 store.install(num);
             }
             store.lay(num, names.into_given(), promised);
         }
-        Contents::Bytes(_fresh, bytes) => {
+        Contents::Bytes { bytes, .. } => {
             if made.is_some() {
                 install_file(store, heap, num, bytes);
             } else {
                 lay_bytes(store, heap, num, bytes);
             }
         }
-        Contents::Pipe(new, changes) => {
+        Contents::Pipe { new, changes } => {
             match new {
                 Some(pipe) => install_pipe(store, num, pipe, changes),
                 None => lay_pipe(store, num, &changes),
@@ -158,7 +158,7 @@ fn lay_opening(store: &mut Store, num: Num, opening: Opening)
 {
     match opening {
         Opening::Kept => (),
-        Opening::Moved(place) => store.set_offset(num, place),
+        Opening::Moved(offset) => store.set_offset(num, offset),
         Opening::New(description) => open(store, num, description),
     }
 }
@@ -169,6 +169,7 @@ pub(crate) fn open(store: &mut Store, num: Num, description: Description)
     ensures { IsReopened num (New description) store.old store.new }
 {
     let inode = description.inode;
+    // For the proof: a count of openings cannot overflow.
     store.numbers_are_few();
     store.install_as(
         num,

@@ -12,7 +12,6 @@ mod laying;
 mod log;
 mod opening;
 mod patches;
-mod pipes;
 mod processes;
 mod reslotting;
 mod shadow;

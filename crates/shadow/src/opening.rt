@@ -32,32 +32,32 @@ impl Opening {
         match self {
             Opening::Kept => stored,
             Opening::New(description) => Some(description),
-            Opening::Moved(place) => moved(stored, place),
+            Opening::Moved(offset) => moved(stored, offset),
         }
     }
 
     // The same with this offset.
-    fn moved_to(self, place: u32) -> Opening
-        ensures { IsMoved place self result }
+    fn moved_to(self, offset: u32) -> Opening
+        ensures { IsMoved offset self result }
     {
         match self {
             Opening::New(description) => Opening::New(Description {
-                offset: place,
+                offset,
                 ..description
             }),
-            Opening::Kept => Opening::Moved(place),
-            Opening::Moved(_) => Opening::Moved(place),
+            Opening::Kept => Opening::Moved(offset),
+            Opening::Moved(_) => Opening::Moved(offset),
         }
     }
 }
 
 // A description with this offset.
-fn moved(stored: Option<Description>, place: u32) -> Option<Description>
-    ensures { result ≡ mapped (at_offset place) stored }
+fn moved(stored: Option<Description>, offset: u32) -> Option<Description>
+    ensures { result ≡ mapped (at_offset offset) stored }
 {
     match stored {
         Some(description) => Some(Description {
-            offset: place,
+            offset,
             ..description
         }),
         None => None,
@@ -123,12 +123,12 @@ impl Openings {
     }
 
     /// Notes a description's offset, in its place. It takes no memory.
-    pub(crate) fn move_to(&mut self, num: Num, place: u32)
+    pub(crate) fn move_to(&mut self, num: Num, offset: u32)
         requires { kept_at self.old num ≢ None }
-        ensures { AtOpening num (IsMoved place) self.old self.new }
+        ensures { AtOpening num (IsMoved offset) self.old self.new }
     {
         match self.each.get_mut(&num) {
-            Some(opening) => *opening = opening.moved_to(place),
+            Some(opening) => *opening = opening.moved_to(offset),
             None => unreachable!(),
         }
     }

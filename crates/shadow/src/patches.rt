@@ -33,7 +33,7 @@ pub(crate) struct Patches {
     pub(crate) inodes: Inodes,
     pub(crate) openings: Openings,
     pub(crate) slots: Slots,
-    pub(crate) lost: Vec<Num, Heap>,
+    pub(crate) unnamed_inodes: Vec<Num, Heap>,
 }
 
 impl Model for Patches {
@@ -45,7 +45,7 @@ impl Model for Patches {
       inodes = p.inodes;
       openings = p.openings;
       slots = p.slots;
-      lost = p.lost.items;
+      unnamed_inodes = p.unnamed_inodes.items;
     } };
 }
 
@@ -56,7 +56,7 @@ pub(crate) fn number(chosen: &[Num], which: Which) -> Num
 {
     match which {
         Which::There(num) => num,
-        Which::Made(place) => chosen[place as usize],
+        Which::Made(index) => chosen[index as usize],
     }
 }
 
@@ -100,13 +100,13 @@ pub(crate) fn inode_replaced(replaced: Replaced) -> Option<Num>
 impl Patches {
     /// Nothing is changed. It takes no memory.
     pub(crate) fn new(heap: Heap) -> Patches
-        ensures { result ≡ record { inodes = []; openings = []; slots = []; lost = [] } }
+        ensures { result ≡ record { inodes = []; openings = []; slots = []; unnamed_inodes = [] } }
     {
         Patches {
             inodes: Inodes::new(heap),
             openings: Openings::new(heap),
             slots: Slots::new(heap),
-            lost: Vec::new(heap),
+            unnamed_inodes: Vec::new(heap),
         }
     }
 
@@ -117,13 +117,13 @@ impl Patches {
         ensures ok { OnOk result (HasPlaces chosen.now edit.now self.new) }
     {
         match edit {
-            Edit::OpenInode(place, _, _, pid, _) => {
-                self.openings.make_place(chosen[*place as usize])?;
-                self.slots.make_place(*pid)
+            Edit::OpenInode { index, process, .. } => {
+                self.openings.make_place(chosen[*index as usize])?;
+                self.slots.make_place(*process)
             }
-            Edit::SetOffset(description, _) => self.openings.make_place(*description),
-            Edit::ShareSlot(pid, _, _, _) => self.slots.make_place(*pid),
-            Edit::ClearSlot(pid, _, _) => self.slots.make_place(*pid),
+            Edit::SetOffset { description, .. } => self.openings.make_place(*description),
+            Edit::ShareSlot { process, .. } => self.slots.make_place(*process),
+            Edit::ClearSlot { process, .. } => self.slots.make_place(*process),
             _ => unreachable!(),
         }
     }
@@ -135,17 +135,33 @@ impl Patches {
         ensures { TakesIn chosen.now edit.now self.old self.new }
     {
         match edit {
-            Edit::OpenInode(place, inode, mode, pid, fd) => {
-                let description = chosen[*place as usize];
+            Edit::OpenInode {
+                index,
+                inode,
+                mode,
+                process,
+                descriptor,
+            } => {
+                let description = chosen[*index as usize];
                 let opened = at_start(number(chosen, *inode), *mode);
                 self.openings.open(description, opened);
-                self.slots.note(*pid, *fd, Some(description));
+                self.slots.note(*process, *descriptor, Some(description));
             }
-            Edit::SetOffset(description, place) => self.openings.move_to(*description, *place),
-            Edit::ShareSlot(pid, fd, description, _) => {
-                self.slots.note(*pid, *fd, Some(*description));
-            }
-            Edit::ClearSlot(pid, fd, _) => self.slots.note(*pid, *fd, None),
+            Edit::SetOffset {
+                description,
+                offset,
+            } => self.openings.move_to(*description, *offset),
+            Edit::ShareSlot {
+                process,
+                descriptor,
+                description,
+                ..
+            } => self.slots.note(*process, *descriptor, Some(*description)),
+            Edit::ClearSlot {
+                process,
+                descriptor,
+                ..
+            } => self.slots.note(*process, *descriptor, None),
             _ => unreachable!(),
         }
     }
@@ -163,35 +179,54 @@ impl Patches {
             → kept_at self.new.slots pid ≢ None }
     {
         match edit {
-            Edit::MakeDirectory(parent, name, _place) => {
+            Edit::MakeDirectory { parent, name, .. } => {
                 self.make(Made::Directory, parent, name, chosen[0])
             }
-            Edit::MakeFile(parent, name, _place) => {
+            Edit::MakeFile { parent, name, .. } => {
                 self.make(Made::File, parent, name, chosen[0])
             }
-            Edit::NameFile(parent, name, file) => self.link(parent, name, file),
-            Edit::UnnameFile(parent, name, num) => self.unname(parent, name, num),
-            Edit::UnnameDirectory(parent, name, num) => self.unname(parent, name, num),
-            Edit::Move(from, old, to, new, num, replaced) => {
-                let noted = self.rename(from, &old, to, new, num, replaced);
-                drop(old);
+            Edit::NameFile { parent, name, file } => self.link(parent, name, file),
+            Edit::UnnameFile { parent, name, file } => self.unname(parent, name, file),
+            Edit::UnnameDirectory {
+                parent,
+                name,
+                directory,
+            } => self.unname(parent, name, directory),
+            Edit::Move {
+                from,
+                old_name,
+                to,
+                new_name,
+                inode,
+                replaced,
+            } => {
+                let noted = self.rename(from, &old_name, to, new_name, inode, replaced);
+                drop(old_name);
                 noted
             }
-            Edit::PutBytes(file, place, bytes, _before) => {
-                let noted = self.write(file, place, &bytes);
+            Edit::PutBytes {
+                file,
+                offset,
+                bytes,
+                ..
+            } => {
+                let noted = self.write(file, offset, &bytes);
                 drop(bytes);
                 noted
             }
-            Edit::Cut(file, _before, after) => self.cut(file, after),
-            Edit::Take(pipe, count) => self.take(pipe, count),
-            Edit::Append(pipe, bytes) => {
+            Edit::Cut { file, length, .. } => self.cut(file, length),
+            Edit::Take { pipe, count } => self.take(pipe, count),
+            Edit::Append { pipe, bytes } => {
                 let noted = self.append(pipe, &bytes);
                 drop(bytes);
                 noted
             }
-            Edit::MakePipe(_place, pid, reading, writing) => {
-                self.make_pipe(chosen[0], pid, (reading, chosen[1]), (writing, chosen[2]))
-            }
+            Edit::MakePipe {
+                process,
+                reader,
+                writer,
+                ..
+            } => self.make_pipe(chosen[0], process, (reader, chosen[1]), (writer, chosen[2])),
             _ => unreachable!(),
         }
     }
@@ -235,12 +270,12 @@ impl Patches {
         ensures openings { self.new.openings ≡ self.old.openings }
         ensures slots { self.new.slots ≡ self.old.slots }
     {
-        self.lost.reserve(1)?;
+        self.unnamed_inodes.reserve(1)?;
         self.inodes.make_unnamed(num)?;
         self.inodes.make_place(parent)?;
         self.inodes.note_name(parent, name, None)?;
         self.inodes.note_unnamed(num);
-        self.lost.push(num).unwrap();
+        self.unnamed_inodes.push(num).unwrap();
         Ok(())
     }
 
@@ -264,28 +299,28 @@ impl Patches {
         self.inodes.make_place(to)?;
         match inode_replaced(replaced) {
             None => self.inodes.note_names(from, old, to, new, num),
-            Some(lost) => {
-                self.lost.reserve(1)?;
-                self.inodes.make_unnamed(lost)?;
+            Some(unnamed) => {
+                self.unnamed_inodes.reserve(1)?;
+                self.inodes.make_unnamed(unnamed)?;
                 self.inodes.note_names(from, old, to, new, num)?;
-                self.inodes.note_unnamed(lost);
-                self.lost.push(lost).unwrap();
+                self.inodes.note_unnamed(unnamed);
+                self.unnamed_inodes.push(unnamed).unwrap();
                 Ok(())
             }
         }
     }
 
     // Bytes are written into a file.
-    fn write(&mut self, file: Num, place: u32, bytes: &Bytes) -> Result<(), AllocError>
-        requires { place + length bytes.now ≤ LARGEST_FILE }
+    fn write(&mut self, file: Num, offset: u32, bytes: &Bytes) -> Result<(), AllocError>
+        requires { offset + length bytes.now ≤ LARGEST_FILE }
         ensures ok { OnOk result ((before : ℕ)
-            → TakesIn [] (Put_bytes file place bytes.now before) self.old self.new) }
+            → TakesIn [] (Put_bytes file offset bytes.now before) self.old self.new) }
         ensures err { OnErr result (SamePatches self.old self.new) }
         ensures openings { self.new.openings ≡ self.old.openings }
         ensures slots { self.new.slots ≡ self.old.slots }
     {
         self.inodes.make_place(file)?;
-        self.inodes.write(file, place as usize, bytes.as_slice())
+        self.inodes.write(file, offset as usize, bytes.as_slice())
     }
 
     // A file's length changes.
@@ -342,7 +377,7 @@ impl Patches {
         ensures slots { (q : ℕ) → kept_at self.old.slots q ≢ None
             → kept_at self.new.slots q ≢ None }
     {
-        let bytes = PipeData::new(*self.lost.allocator())?;
+        let bytes = PipeData::new(*self.unnamed_inodes.allocator())?;
         self.inodes.make_place(pipe)?;
         self.make_ends(pid, reading.1, writing.1)?;
         self.inodes.note_pipe(
@@ -361,7 +396,7 @@ impl Patches {
     // Makes places for two new descriptions and their descriptors. Refused memory changes nothing.
     fn make_ends(&mut self, pid: Pid, reader: Num, writer: Num) -> Result<(), AllocError>
         ensures inodes { self.new.inodes ≡ self.old.inodes }
-        ensures lost { self.new.lost ≡ self.old.lost }
+        ensures unnamed_inodes { self.new.unnamed_inodes ≡ self.old.unnamed_inodes }
         ensures openings { SameOpenings self.old.openings self.new.openings }
         ensures slots { SameSlots self.old.slots self.new.slots }
         ensures ok { OnOk result ((kept_at self.new.openings reader ≢ None)
@@ -378,7 +413,7 @@ impl Patches {
             × (kept_at self.old.slots pid ≢ None) }
         requires low { end.0 < descriptor_limit }
         ensures inodes { self.new.inodes ≡ self.old.inodes }
-        ensures lost { self.new.lost ≡ self.old.lost }
+        ensures unnamed_inodes { self.new.unnamed_inodes ≡ self.old.unnamed_inodes }
         ensures openings { AtOpening end.1 (IsOpened description) self.old.openings
             self.new.openings }
         ensures slots { AtSlots pid end.0 (Some end.1) self.old.slots self.new.slots }
@@ -466,9 +501,9 @@ pub(crate) fn is_last(edit: &Edit) -> bool
 {
     matches!(
         edit,
-        Edit::OpenInode(_, _, _, _, _)
-            | Edit::SetOffset(_, _)
-            | Edit::ShareSlot(_, _, _, _)
-            | Edit::ClearSlot(_, _, _)
+        Edit::OpenInode { .. }
+            | Edit::SetOffset { .. }
+            | Edit::ShareSlot { .. }
+            | Edit::ClearSlot { .. }
     )
 }

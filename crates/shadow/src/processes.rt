@@ -10,7 +10,7 @@ ghost use Rattle.shadow.specs.Claims.{KeepsSame};
 use crate::closing::close_given;
 use crate::reslotting::lay_table;
 use crate::stable::{Process, Stable};
-use fdtable::{FdTable, Patch};
+use fdtable::{FdTable, SlotPatch};
 use ids::{DESCRIPTORS, Fd, Pid};
 use std::alloc::AllocError;
 
@@ -52,29 +52,31 @@ impl Stable {
 }
 
 // The changes that open these descriptors.
-fn all_opened(table: &FdTable) -> Patch
+fn all_opened(table: &FdTable) -> SlotPatch
     ensures given { (f : ℕ) → f < DESCRIPTORS → get result f ≡ mapped Some (get table.now f) }
     ensures low { (f : ℕ) → get result f ≢ None → f < DESCRIPTORS }
 {
-    let mut patch = Patch::new();
+    let mut patch = SlotPatch::new();
     for number in 0..DESCRIPTORS as u32 {
         if let Some(description) = table.get(Fd(number)) {
             patch.note(Fd(number), Some(description));
         }
     }
+    // For the proof: only descriptors below the limit are noted.
     patch.noted_are_low();
     patch
 }
 
 // The changes that close every descriptor.
-fn all_closed() -> Patch
+fn all_closed() -> SlotPatch
     ensures given { (f : ℕ) → f < DESCRIPTORS → get result f ≡ Some None }
     ensures low { (f : ℕ) → get result f ≢ None → f < DESCRIPTORS }
 {
-    let mut patch = Patch::new();
+    let mut patch = SlotPatch::new();
     for number in 0..DESCRIPTORS as u32 {
         patch.note(Fd(number), None);
     }
+    // For the proof: only descriptors below the limit are noted.
     patch.noted_are_low();
     patch
 }

@@ -10,7 +10,7 @@ ghost use Rattle.shadow.specs.Patches.{kept_at, slots_in};
 
 use crate::slots::Slots;
 use crate::stable::{Process, Processes};
-use fdtable::Patch;
+use fdtable::SlotPatch;
 use ids::{DESCRIPTORS, Fd, Num, Pid};
 use store::Store;
 
@@ -26,7 +26,7 @@ pub(crate) fn lay_slots(store: &mut Store, processes: &mut Processes, slots: &mu
 }
 
 // Makes what is changed of each process's slots, and puts what they gave before in its place.
-fn lay_each(store: &mut Store, processes: &mut Processes, each: &mut [(Pid, Patch)])
+fn lay_each(store: &mut Store, processes: &mut Processes, each: &mut [(Pid, SlotPatch)])
     requires once { AreOnce each.old }
     requires living { (pid : ℕ) → slots_in (kept_at each.old pid) ≢ []
         → get (numbered processes.old) pid ≢ None }
@@ -47,13 +47,14 @@ pub(crate) fn lay_table(
     store: &mut Store,
     processes: &mut Processes,
     pid: Pid,
-    patch: &Patch,
-) -> Patch
+    patch: &SlotPatch,
+) -> SlotPatch
     requires { entries patch.now ≢ [] → get (numbered processes.old) pid ≢ None }
     ensures { IsReslotted pid patch.now result processes.old processes.new
         store.old store.new }
 {
-    let mut former = Patch::new();
+    let mut former = SlotPatch::new();
+    // For the proof: only descriptors below the limit are noted.
     patch.noted_are_low();
     for number in 0..DESCRIPTORS as u32 {
         if let Some(given) = patch.get(Fd(number)) {
@@ -94,9 +95,9 @@ impl Processes {
             ≡ with_process pid (slot_noted fd given (get (numbered self.old) pid)) self.old }
         ensures few { length self.old.list < 2 ^ 64 }
     {
-        let place = pid.0 as usize - 1;
-        let former = slot_of(&self.list[place], fd);
-        give(&mut self.list[place], fd, given);
+        let index = pid.0 as usize - 1;
+        let former = slot_of(&self.list[index], fd);
+        give(&mut self.list[index], fd, given);
         former
     }
 }

@@ -90,7 +90,7 @@ impl Shadow {
                 Ok(chosen)
             }
             Err(AllocError) => {
-                stable.give_up(chosen.as_slice(), parent);
+                stable.release_claims(chosen.as_slice(), parent);
                 drop(chosen);
                 Err(AllocError)
             }
@@ -120,7 +120,7 @@ impl Shadow {
             inodes,
             openings,
             mut slots,
-            lost,
+            unnamed_inodes,
         } = patches;
         let heap = stable.heap();
         let store = &mut stable.store;
@@ -129,7 +129,7 @@ impl Shadow {
         lay_slots(store, &mut stable.processes, &mut slots);
         close_former(store, &slots);
         close_new(store, &openings);
-        free_all(store, lost);
+        free_all(store, unnamed_inodes);
     }
 
     /// Forgets the changes, and gives back what was kept for them. It takes no memory.
@@ -139,6 +139,6 @@ impl Shadow {
         ensures kept { KeepsMore stable.new stable.old (λ c. claimed c self) }
     {
         let Shadow { log: _, patches } = self;
-        stable.give_up_all(patches);
+        stable.release_all_claims(patches);
     }
 }

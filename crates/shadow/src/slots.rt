@@ -11,7 +11,7 @@ ghost use Rattle.shadow.specs.Patches.{kept_at, reslotted};
 ghost use Rattle.shadow.specs.Openings.{AreOnce, AtSlots, SameSlots};
 
 use crate::stable::Stable;
-use fdtable::{FdTable, Patch};
+use fdtable::{FdTable, SlotPatch};
 use heap::Heap;
 use ids::{Fd, Num, Pid};
 use std::alloc::AllocError;
@@ -20,7 +20,7 @@ use std::marker::Model;
 /// The changes of the descriptors of all processes, by their numbers, each of which stands once; a
 /// transaction changes those of its own process.
 pub(crate) struct Slots {
-    pub(crate) each: Vec<(Pid, Patch), Heap>,
+    pub(crate) each: Vec<(Pid, SlotPatch), Heap>,
 }
 
 // By hand: a derived drop is opened at every place where a value goes, this one is called.
@@ -53,7 +53,7 @@ impl Slots {
     }
 
     /// What is changed of a process's descriptors, where something may be. It takes no memory.
-    pub(crate) fn get(&self, pid: Pid) -> Option<&Patch>
+    pub(crate) fn get(&self, pid: Pid) -> Option<&SlotPatch>
         ensures { option_copied result ≡ kept_at self.now pid }
     {
         find(self.each.as_slice(), pid)
@@ -110,7 +110,7 @@ impl Slots {
         if self.get(pid).is_some() {
             return Ok(());
         }
-        self.each.push((pid, Patch::new()))?;
+        self.each.push((pid, SlotPatch::new()))?;
         Ok(())
     }
 
@@ -136,7 +136,7 @@ fn or_before(noted: Option<Option<Num>>, stored: Option<Num>) -> Option<Num>
 }
 
 // The changes of one process's descriptors.
-fn find(each: &[(Pid, Patch)], pid: Pid) -> Option<&Patch>
+fn find(each: &[(Pid, SlotPatch)], pid: Pid) -> Option<&SlotPatch>
     ensures { option_copied result ≡ kept_at each.now pid }
 {
     for (of, patch) in each {
@@ -148,7 +148,7 @@ fn find(each: &[(Pid, Patch)], pid: Pid) -> Option<&Patch>
 }
 
 // Notes what a descriptor is open on now, where its process stands first.
-fn note_in(each: &mut [(Pid, Patch)], pid: Pid, fd: Fd, given: Option<Num>)
+fn note_in(each: &mut [(Pid, SlotPatch)], pid: Pid, fd: Fd, given: Option<Num>)
     requires place { kept_at each.old pid ≢ None }
     requires small { fd < DESCRIPTORS }
     ensures noted { (q : ℕ) → kept_at each.new q

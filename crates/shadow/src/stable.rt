@@ -24,7 +24,6 @@ ghost use Rattle.shadow.specs.Stored.{numbered, with_one_more, with_process};
 use crate::shadow::Shadow;
 use dirlist::Dir;
 use fdtable::FdTable;
-use freeing_laws::openings_change;
 use heap::Heap;
 use ids::{Edit, Fd, Kind, Name, Num, Nums, Pid, Priority};
 use objects::{Description, FileData};
@@ -351,7 +350,6 @@ impl Stable {
     pub(crate) fn holders(&self, num: Num) -> u128
         ensures { result ≡ holders self.now.state num }
     {
-        openings_change();
         self.store.holders(num)
     }
 
@@ -362,14 +360,14 @@ impl Stable {
         self.store.links(num)
     }
 
-    /// For the proof: each directory can have room promised.
+    // For the proof: each directory can have room promised.
     pub(crate) fn directories_are_kept(&self)
         ensures { DirectoriesAreKept self.now }
     {
         let _store = &self.store;
     }
 
-    /// For the proof: its state is well formed, and nothing in it is unreached.
+    // For the proof: its state is well formed, and nothing in it is unreached.
     pub(crate) fn state_is_tidied(&self)
         ensures { IsTidied self.now.state }
     {

@@ -1,31 +1,35 @@
 // What a process sees.
-ghost use Rattle.std.specs.Prelude.{ℕ, ◌≡◌, ◌+◌, ◌-◌, ◌≤◌, [], IfOk, Option, drop, length};
-ghost use Rattle.std.specs.Prelude.{option_copied, option_map, take};
+ghost use Rattle.std.specs.Prelude.{ℕ, ◌≡◌, ◌+◌, ◌-◌, ◌≤◌, [], IfOk, IfSome, IsSome, Option, drop};
+ghost use Rattle.std.specs.Prelude.{false, if◌then◌else◌, length, option_copied, option_map, take, true};
 ghost use Rattle.model.specs.FiniteMap.{get, keys};
 ghost use Rattle.model.specs.Paths.{is_empty};
 ghost use Rattle.model.specs.State.{Inode, file_of, file_of_inode, kind, kind_of, mapped, names_of};
-ghost use Rattle.model.specs.State.{names_of_inode};
-ghost use Rattle.model.specs.Changes.{process_of};
+ghost use Rattle.model.specs.State.{Pipe as A_pipe, names_of_inode, pipe_of, pipe_of_inode};
+ghost use Rattle.model.specs.Changes.{holders, process_of};
 ghost use Rattle.model.specs.Calls.{slot_of};
 ghost use Rattle.model.specs.Effects.{all_done};
+ghost use Rattle.freeing_laws.specs.Pipes.{ArePair, holders_if, reads, writes};
 ghost use Rattle.freeing_laws.specs.Sweep.{AllFit};
+ghost use Rattle.store.specs.Shown.{pipe_inode};
 ghost use Rattle.objects.specs.declared.run.TheConstants.{LARGEST_RUN};
 ghost use Rattle.shadow.specs.Claims.{Covers};
 ghost use Rattle.shadow.specs.Looks.{DirectoriesAreKept, IsNet, KeepsRest, changes_of};
-ghost use Rattle.shadow.specs.Patches.{net_of, patched};
+ghost use Rattle.shadow.specs.Patches.{form_of, net_of, of_pipe, patched};
+ghost use Rattle.shadow.specs.Patches as Patches;
 
-use crate::change::{Change, Contents};
+use crate::change::{Contents, InodeChange};
 use crate::shadow::Shadow;
 use crate::stable::Stable;
 use dirlist::Dir;
 use fdtable::FdTable;
-use freeing_laws::left_is_tidy;
+use freeing_laws::{left_is_tidy, pipes_keep_their_ends};
 use heap::Heap;
 use ids::{Bytes, DESCRIPTORS, Fd, Kind, Name, NameList, Num, PIPE_CAPACITY, Pid, Slot};
 use look::Look;
 use objects::{Description, FileData};
 use std::alloc::AllocError;
 use std::marker::Model;
+use store::OpenPipe;
 
 /// The committed state with a transaction's changes on top.
 #[derive(Drop)]
@@ -52,10 +56,11 @@ impl<'a> Model for View<'a> {
 }
 
 // What is changed of an inode, where something may be.
-pub(crate) fn change<'a>(shadow: Option<&'a Shadow>, num: Num) -> Option<&'a Change>
+fn change<'a>(shadow: Option<&'a Shadow>, num: Num) -> Option<&'a InodeChange>
     ensures { IsNet (changes_of (option_map (λ s. s.now) shadow.entry)) num
         (net_of (option_copied result)) }
 {
+    // For the proof: how many names give an inode after the changes.
     left_is_tidy();
     match shadow {
         Some(shadow) => shadow.patches.inodes.get(num),
@@ -63,7 +68,8 @@ pub(crate) fn change<'a>(shadow: Option<&'a Shadow>, num: Num) -> Option<&'a Cha
     }
 }
 
-// No change changes the root, the largest file, how many processes were made, or a priority.
+// For the proof: no change changes the root, the largest file, how many processes were made, or a
+// priority.
 fn keeps_rest(shadow: Option<&Shadow>)
     ensures { KeepsRest (changes_of (option_map (λ s. s.now) shadow.entry)) }
 {
@@ -106,6 +112,7 @@ impl<'a> View<'a> {
         ensures directories { Covers stable.now (changes_of (option_map (λ s. s.now) shadow.entry))
             → DirectoriesAreKept result }
     {
+        // For the proof: each directory that is seen can have room promised.
         seen_are_kept(stable, shadow);
         View { stable, shadow }
     }
@@ -133,7 +140,7 @@ impl<'a> View<'a> {
     }
 
     // An open file description.
-    pub(crate) fn description(&self, num: Num) -> Option<Description>
+    fn description(&self, num: Num) -> Option<Description>
         ensures { result ≡ get self.now.state.descriptions num }
     {
         let stored = self.stable.description(num);
@@ -156,17 +163,17 @@ impl<'a> View<'a> {
         }
     }
 
-    // Bytes of a file from a place on.
-    fn bytes(&self, heap: Heap, file: Num, place: usize, count: usize) -> Result<Bytes, AllocError>
+    // Bytes of a file from an offset on.
+    fn bytes(&self, heap: Heap, file: Num, offset: usize, count: usize) -> Result<Bytes, AllocError>
         requires { count ≤ LARGEST_RUN }
         ensures { IfOk result
-            (λ bytes. bytes ≡ take count (drop place (file_of self.now.state file))) }
+            (λ bytes. bytes ≡ take count (drop offset (file_of self.now.state file))) }
     {
         let none = FileData::new(heap);
         let stored = self.stable.file(file, &none);
         match change(self.shadow, file) {
-            Some(change) => bytes_over(heap, &change.contents, stored, place, count),
-            None => stored.read_at(heap, place, count),
+            Some(change) => bytes_over(heap, &change.contents, stored, offset, count),
+            None => stored.read_at(heap, offset, count),
         }
     }
 
@@ -215,6 +222,88 @@ impl<'a> View<'a> {
             None => stored,
         }
     }
+
+    // How many descriptors give a description.
+    fn holders(&self, description: Num) -> Result<u32, AllocError>
+        ensures { IfOk result (λ n. n ≡ holders self.now.state description) }
+    {
+        let stored = self.stable.holders(description);
+        match self.shadow {
+            Some(shadow) => {
+                let (added, taken) = shadow.patches.slots.turnover(self.stable, description);
+                count_over(stored, added, taken)
+            }
+            None => count_over(stored, 0, 0),
+        }
+    }
+
+    // Bytes from the front of a pipe, so many at most; none where there is no pipe.
+    fn front(&self, heap: Heap, pipe: Num, count: usize) -> Result<Bytes, AllocError>
+        ensures { IfOk result (λ bytes. bytes ≡ take count (pipe_of self.now.state pipe)) }
+    {
+        let stored = self.stable.pipe(pipe);
+        match change(self.shadow, pipe) {
+            Some(change) => front_over(heap, &change.contents, stored, count),
+            None => front_of(heap, stored, count),
+        }
+    }
+
+    // How many bytes a pipe has; none where there is no pipe.
+    fn pipe_len(&self, pipe: Num) -> usize
+        ensures { result ≡ length (pipe_of self.now.state pipe) }
+    {
+        let stored = self.stable.pipe(pipe);
+        match change(self.shadow, pipe) {
+            Some(change) => pipe_len_over(&change.contents, stored),
+            None => pipe_len_of(stored),
+        }
+    }
+
+    // The descriptions of a pipe, to read and to write, which may be gone.
+    fn pair(&self, pipe: Num) -> Option<(Num, Num)>
+        ensures { IfSome result (λ ends.
+            ArePair self.now.state.descriptions pipe ends.0 ends.1) }
+    {
+        // For the proof: changes leave the pair of descriptions of a pipe that is there.
+        pipes_keep_their_ends();
+        match self.new_pair(pipe) {
+            Some(ends) => Some(ends),
+            None => match self.stable.pipe(pipe) {
+                Some(pipe) => Some((pipe.reader, pipe.writer)),
+                None => None,
+            },
+        }
+    }
+
+    // The descriptions of a pipe that the transaction has made.
+    fn new_pair(&self, pipe: Num) -> Option<(Num, Num)>
+        ensures { IfSome result (λ ends.
+            ArePair self.now.state.descriptions pipe ends.0 ends.1) }
+    {
+        // For the proof: the committed state is well formed.
+        self.stable.state_is_tidied();
+        let Some(shadow) = self.shadow else {
+            return None;
+        };
+        match shadow.patches.inodes.get(pipe) {
+            Some(change) => new_ends(&change.contents),
+            None => None,
+        }
+    }
+
+    // How many descriptors give this description, where it is an end of the pipe, to write or to
+    // read.
+    fn holders_if(&self, pipe: Num, end: Num, writing: bool) -> Result<u32, AllocError>
+        ensures { IfOk result (λ n. n
+            ≡ holders_if self.now.state (if writing then writes else reads) pipe end) }
+    {
+        match self.description(end) {
+            Some(it) if it.inode == pipe && (if writing { it.writing } else { it.reading }) => {
+                self.holders(end)
+            }
+            _ => Ok(0),
+        }
+    }
 }
 
 // The kind of an inode, with changes of its contents.
@@ -224,9 +313,9 @@ fn kind_over(contents: &Contents, stored: Option<Kind>) -> Option<Kind>
 {
     match contents {
         Contents::Same => stored,
-        Contents::Names(_, _) => Some(Kind::Dir),
-        Contents::Bytes(_, _) => Some(Kind::File),
-        Contents::Pipe(_, _) => Some(Kind::Pipe),
+        Contents::Names { .. } => Some(Kind::Dir),
+        Contents::Bytes { .. } => Some(Kind::File),
+        Contents::Pipe { .. } => Some(Kind::Pipe),
     }
 }
 
@@ -237,11 +326,11 @@ fn given_over(contents: &Contents, name: &Name, stored: Option<Num>) -> Option<N
 {
     match contents {
         Contents::Same => stored,
-        Contents::Bytes(_, _) => None,
-        Contents::Pipe(_, _) => None,
-        Contents::Names(fresh, names) => match names.look(name) {
+        Contents::Bytes { .. } => None,
+        Contents::Pipe { .. } => None,
+        Contents::Names { is_fresh, names } => match names.look(name) {
             Some(given) => given,
-            None if *fresh => None,
+            None if *is_fresh => None,
             None => stored,
         },
     }
@@ -254,10 +343,16 @@ fn names_over(heap: Heap, contents: &Contents, stored: &Dir) -> Result<NameList,
 {
     match contents {
         Contents::Same => stored.names(heap),
-        Contents::Bytes(_, _) => Dir::new(heap).names(heap),
-        Contents::Pipe(_, _) => Dir::new(heap).names(heap),
-        Contents::Names(true, names) => names.names_over(heap, &Dir::new(heap)),
-        Contents::Names(false, names) => names.names_over(heap, stored),
+        Contents::Bytes { .. } => Dir::new(heap).names(heap),
+        Contents::Pipe { .. } => Dir::new(heap).names(heap),
+        Contents::Names {
+            is_fresh: true,
+            names,
+        } => names.names_over(heap, &Dir::new(heap)),
+        Contents::Names {
+            is_fresh: false,
+            names,
+        } => names.names_over(heap, stored),
     }
 }
 
@@ -268,10 +363,16 @@ fn is_empty_over(heap: Heap, contents: &Contents, stored: &Dir) -> bool
 {
     match contents {
         Contents::Same => stored.is_empty(),
-        Contents::Bytes(_, _) => true,
-        Contents::Pipe(_, _) => true,
-        Contents::Names(true, names) => names.is_empty_over(&Dir::new(heap)),
-        Contents::Names(false, names) => names.is_empty_over(stored),
+        Contents::Bytes { .. } => true,
+        Contents::Pipe { .. } => true,
+        Contents::Names {
+            is_fresh: true,
+            names,
+        } => names.is_empty_over(&Dir::new(heap)),
+        Contents::Names {
+            is_fresh: false,
+            names,
+        } => names.is_empty_over(stored),
     }
 }
 
@@ -282,31 +383,43 @@ fn len_over(heap: Heap, contents: &Contents, stored: &FileData) -> usize
 {
     match contents {
         Contents::Same => stored.len(),
-        Contents::Names(_, _) => 0,
-        Contents::Pipe(_, _) => 0,
-        Contents::Bytes(true, bytes) => bytes.len(&FileData::new(heap)),
-        Contents::Bytes(false, bytes) => bytes.len(stored),
+        Contents::Names { .. } => 0,
+        Contents::Pipe { .. } => 0,
+        Contents::Bytes {
+            is_fresh: true,
+            bytes,
+        } => bytes.len(&FileData::new(heap)),
+        Contents::Bytes {
+            is_fresh: false,
+            bytes,
+        } => bytes.len(stored),
     }
 }
 
-// Bytes from a place on, with changes of the file's contents.
+// Bytes from an offset on, with changes of the file's contents.
 fn bytes_over(
     heap: Heap,
     contents: &Contents,
     stored: &FileData,
-    place: usize,
+    offset: usize,
     count: usize,
 ) -> Result<Bytes, AllocError>
     requires { count ≤ LARGEST_RUN }
     ensures { IfOk result (λ bytes. (o : Option Inode) → file_of_inode o ≡ stored.now.bytes
-        → bytes ≡ take count (drop place (file_of_inode (patched contents.now o)))) }
+        → bytes ≡ take count (drop offset (file_of_inode (patched contents.now o)))) }
 {
     match contents {
-        Contents::Same => stored.read_at(heap, place, count),
-        Contents::Names(_, _) => Ok(Bytes::new(Vec::new(heap))),
-        Contents::Pipe(_, _) => Ok(Bytes::new(Vec::new(heap))),
-        Contents::Bytes(true, bytes) => bytes.read(heap, &FileData::new(heap), place, count),
-        Contents::Bytes(false, bytes) => bytes.read(heap, stored, place, count),
+        Contents::Same => stored.read_at(heap, offset, count),
+        Contents::Names { .. } => Ok(Bytes::new(Vec::new(heap))),
+        Contents::Pipe { .. } => Ok(Bytes::new(Vec::new(heap))),
+        Contents::Bytes {
+            is_fresh: true,
+            bytes,
+        } => bytes.read(heap, &FileData::new(heap), offset, count),
+        Contents::Bytes {
+            is_fresh: false,
+            bytes,
+        } => bytes.read(heap, stored, offset, count),
     }
 }
 
@@ -321,7 +434,7 @@ fn small(count: u128) -> Result<u32, AllocError>
 }
 
 // A count, with what changes added to it and took from it.
-pub(crate) fn count_over(stored: u128, added: u128, taken: u128) -> Result<u32, AllocError>
+fn count_over(stored: u128, added: u128, taken: u128) -> Result<u32, AllocError>
     ensures { IfOk result (λ n. n ≡ stored + added - taken) }
 {
     match stored.checked_add(added) {
@@ -330,15 +443,106 @@ pub(crate) fn count_over(stored: u128, added: u128, taken: u128) -> Result<u32, 
     }
 }
 
+// The descriptions of a pipe that is new.
+fn new_ends(contents: &Contents) -> Option<(Num, Num)>
+    ensures { result ≡ Patches.new_ends contents.now }
+{
+    match contents {
+        Contents::Pipe {
+            new: Some(pipe),
+            ..
+        } => Some((pipe.reader, pipe.writer)),
+        Contents::Pipe { new: None, .. } => None,
+        Contents::Same => None,
+        Contents::Names { .. } => None,
+        Contents::Bytes { .. } => None,
+    }
+}
+
+// Bytes from the front of a pipe, if there is one.
+fn front_of(heap: Heap, stored: Option<&OpenPipe>, count: usize) -> Result<Bytes, AllocError>
+    ensures { IfOk result (λ bytes. (o : Option Inode)
+        → pipe_inode o ≡ mapped (λ pipe. A_pipe pipe.bytes) (option_copied stored.entry)
+        → bytes ≡ take count (pipe_of_inode o)) }
+{
+    match stored {
+        Some(pipe) => pipe.bytes.read(heap, 0, count),
+        None => Ok(Bytes::new(Vec::new(heap))),
+    }
+}
+
+// The same, with changes of its contents.
+fn front_over(
+    heap: Heap,
+    contents: &Contents,
+    stored: Option<&OpenPipe>,
+    count: usize,
+) -> Result<Bytes, AllocError>
+    requires { form_of contents.now ≡ of_pipe false → IsSome (option_copied stored) }
+    ensures { IfOk result (λ bytes. (o : Option Inode)
+        → pipe_inode o ≡ mapped (λ pipe. A_pipe pipe.bytes) (option_copied stored.entry)
+        → bytes ≡ take count (pipe_of_inode (patched contents.now o))) }
+{
+    match contents {
+        Contents::Same => front_of(heap, stored, count),
+        Contents::Names { .. } => Ok(Bytes::new(Vec::new(heap))),
+        Contents::Bytes { .. } => Ok(Bytes::new(Vec::new(heap))),
+        Contents::Pipe {
+            new: Some(pipe),
+            changes,
+        } => changes.read(heap, &pipe.bytes, count),
+        Contents::Pipe { new: None, changes } => match stored {
+            Some(pipe) => changes.read(heap, &pipe.bytes, count),
+            None => unreachable!(),
+        },
+    }
+}
+
+// How many bytes a pipe has, if there is one.
+fn pipe_len_of(stored: Option<&OpenPipe>) -> usize
+    ensures { (o : Option Inode)
+        → pipe_inode o ≡ mapped (λ pipe. A_pipe pipe.bytes) (option_copied stored.entry)
+        → result ≡ length (pipe_of_inode o) }
+{
+    match stored {
+        Some(pipe) => pipe.bytes.len(),
+        None => 0,
+    }
+}
+
+// The same, with changes of its contents.
+fn pipe_len_over(contents: &Contents, stored: Option<&OpenPipe>) -> usize
+    requires { form_of contents.now ≡ of_pipe false → IsSome (option_copied stored) }
+    ensures { (o : Option Inode)
+        → pipe_inode o ≡ mapped (λ pipe. A_pipe pipe.bytes) (option_copied stored.entry)
+        → result ≡ length (pipe_of_inode (patched contents.now o)) }
+{
+    match contents {
+        Contents::Same => pipe_len_of(stored),
+        Contents::Names { .. } => 0,
+        Contents::Bytes { .. } => 0,
+        Contents::Pipe {
+            new: Some(pipe),
+            changes,
+        } => changes.len(&pipe.bytes),
+        Contents::Pipe { new: None, changes } => match stored {
+            Some(pipe) => changes.len(&pipe.bytes),
+            None => unreachable!(),
+        },
+    }
+}
+
 impl<'a> Look for View<'a> {
     ghost state = { λ v. v.state };
 
     fn root(&self) -> Num {
+        // For the proof: changes leave the root.
         keeps_rest(self.shadow);
         self.stable.root()
     }
 
     fn largest(&self) -> u32 {
+        // For the proof: changes leave the largest size of a file.
         keeps_rest(self.shadow);
         self.stable.largest()
     }
@@ -377,11 +581,11 @@ impl<'a> Look for View<'a> {
         &self,
         heap: Heap,
         file: Num,
-        place: u32,
+        offset: u32,
         count: u32,
     ) -> Result<Bytes, AllocError> {
         small(self.len(file) as u128)?;
-        self.bytes(heap, file, place as usize, count as usize)
+        self.bytes(heap, file, offset as usize, count as usize)
     }
 
     fn links(&self, file: Num) -> Result<u32, AllocError> {
@@ -449,6 +653,7 @@ impl<'a> Look for View<'a> {
     }
 
     fn birth(&self, pid: Pid) -> Result<(u32, u8), AllocError> {
+        // For the proof: changes leave the count of processes and the priorities.
         keeps_rest(self.shadow);
         self.stable.birth(pid)
     }

@@ -16,7 +16,7 @@ use Rattle.store.specs.declared.Opened.{Opened}
 use Rattle.store.specs.declared.OpenPipe.{OpenPipe}
 use Rattle.store.specs.declared.Place.{Place}
 use Rattle.store.specs.declared.Stage.{Stage}
-use Rattle.store.specs.declared.Stage.TheVariants.{Coming, Held, Lost}
+use Rattle.store.specs.declared.Stage.TheVariants.{Coming, Held, Removed}
 use Rattle.store.specs.declared.Object.{Object}
 use Rattle.store.specs.declared.Object.TheVariants.{Directory as Kept_directory, File as Kept_file, Pipe as Kept_pipe, Description as Kept_description, Nothing as Kept_nothing}
 use Rattle.store.proofs.Chosen.{get-chosen, chosen-insert, chosen-insert-none, chosen-remove, chosen-empty, remove-absent, insert-held}
@@ -47,7 +47,7 @@ seen-held {Y} c (Some place) = by_stage place.stage place.object
     by_stage : (t : Stage) (object : Object) → shown_at {X = Y} t (c object) ≡ option_and_then c (if_held t object)
     by_stage Held object = refl
     by_stage Coming object = refl
-    by_stage Lost object = refl
+    by_stage Removed object = refl
 
 -- what is given up was not shown
 over_hidden : {Y : Type 0} (c : Object → Option Y) (o : Option Place) → is_over o ≡ true → option_and_then (λ (place : Place). shown_at place.stage (c place.object)) o ≡ None
@@ -56,7 +56,7 @@ over_hidden {Y} c (Some place) over = by_stage place.stage (has_room (listing_of
   where
     by_stage : (t : Stage) (room : Bool) (y : Option Y) → is_over_by t room ≡ true → shown_at t y ≡ None
     by_stage Coming room y over = refl
-    by_stage Lost room y over = refl
+    by_stage Removed room y over = refl
     by_stage Held room y over = absurd cc
 
 -- c is what is chosen of each place: its inode, or its description
@@ -186,7 +186,7 @@ module _ (f : Listing → Listing) (g : FinMap name_cmp ℕ → FinMap name_cmp 
       by_stage Held (Kept_description opened) is = remove-absent (inodes s) n (get-inodes_by s n _ is)
       by_stage Held Kept_nothing is = remove-absent (inodes s) n (get-inodes_by s n _ is)
       by_stage Coming object is = remove-absent (inodes s) n (get-inodes_by s n _ is)
-      by_stage Lost object is = remove-absent (inodes s) n (get-inodes_by s n _ is)
+      by_stage Removed object is = remove-absent (inodes s) n (get-inodes_by s n _ is)
 
       by_place : (o : Option Place) → get s.places n ≡ o → inodes (altered (with_listing f) s n) ≡ with_names_by g (option_and_then inode_in o) (inodes s) n
       by_place (Some place) is = inodes-altered (with_listing f) s n place is ∙ by_stage place.stage place.object is
@@ -288,7 +288,7 @@ inodes-swapped content s n = by_place (get s.places n) refl
     by_stage Held (Kept_description opened) is some = absurd cc
     by_stage Held Kept_nothing is some = absurd cc
     by_stage Coming object is some = absurd cc
-    by_stage Lost object is some = absurd cc
+    by_stage Removed object is some = absurd cc
 
     by_place : (o : Option Place) → get s.places n ≡ o → IsSome (option_and_then file_of (held o)) → inodes (altered (with_file (with_bytes content)) s n) ≡ insert (inodes s) n (File content.bytes)
     by_place (Some place) is some = inodes-altered (with_file (with_bytes content)) s n place is ∙ by_stage place.stage place.object is some
@@ -307,7 +307,7 @@ inodes-passed taken appended s n roomy = by_place (get s.places n) refl roomy
     by_stage Held (Kept_description opened) some = absurd some
     by_stage Held Kept_nothing some = absurd some
     by_stage Coming object some = absurd some
-    by_stage Lost object some = absurd some
+    by_stage Removed object some = absurd some
 
     by_place : (o : Option Place) → get s.places n ≡ o → IsRoomy taken appended (option_and_then pipe_of (held o)) → inodes (altered (with_pipe (passed taken appended)) s n) ≡ insert (inodes s) n (Pipe (drop taken (pipe_of_inode (option_and_then inode_in o)) ++ appended))
     by_place (Some place) is some = inodes-altered (with_pipe (passed taken appended)) s n place is ∙ by_stage place.stage place.object some
@@ -324,7 +324,7 @@ descriptions-moved offset s n = by_place (get s.places n) refl ∙ ap (λ (o : O
     by_stage Held (Kept_pipe pipe) is = remove-absent (descriptions s) n (get-descriptions_by s n _ is)
     by_stage Held Kept_nothing is = remove-absent (descriptions s) n (get-descriptions_by s n _ is)
     by_stage Coming object is = remove-absent (descriptions s) n (get-descriptions_by s n _ is)
-    by_stage Lost object is = remove-absent (descriptions s) n (get-descriptions_by s n _ is)
+    by_stage Removed object is = remove-absent (descriptions s) n (get-descriptions_by s n _ is)
 
     by_place : (o : Option Place) → get s.places n ≡ o → descriptions (altered (with_opened (moved_to offset)) s n) ≡ with_offset_by offset (option_and_then description_in o) (descriptions s) n
     by_place (Some place) is = descriptions-altered (with_opened (moved_to offset)) s n place is ∙ by_stage place.stage place.object is

@@ -21,7 +21,7 @@ use Rattle.store.specs.declared.Opened.{Opened}
 use Rattle.store.specs.declared.OpenPipe.{OpenPipe}
 use Rattle.store.specs.declared.Place.{Place}
 use Rattle.store.specs.declared.Stage.{Stage}
-use Rattle.store.specs.declared.Stage.TheVariants.{Coming, Held, Lost}
+use Rattle.store.specs.declared.Stage.TheVariants.{Coming, Held, Removed}
 use Rattle.store.proofs.Changes.{inodes-set}
 use Rattle.store.proofs.Chosen.{chosen-empty, chosen-remove, get-chosen}
 use Rattle.store.proofs.Counts.{given_of, links-with_inode}
@@ -107,7 +107,7 @@ kept-installed header sound = by_stage header.place.stage header.place.object he
     by_stage : (t : Stage) (object : Object) (links : ℕ) → IsSound (record { place = record { stage = t; object = object }; links = links }) → IsKept installed (record { place = record { stage = t; object = object }; links = links })
     by_stage Coming object links sound = (record { staged = tt; few = sound.few }, sound.staged)
     by_stage Held object links sound = (sound, refl)
-    by_stage Lost object links sound = (sound, refl)
+    by_stage Removed object links sound = (sound, refl)
 
 pub kept-hidden : (header : Header) → IsSound header → header.links ≡ 0 → names_at (Some header) ≡ empty → IsKept hidden header
 kept-hidden header sound unnamed bare = (record { staged = unnamed; few = sound.few }, sym bare)
@@ -119,7 +119,7 @@ kept-names g same header sound = (record { staged = subst (λ names. IsStaged he
     shown_names : (t : Stage) (object : Object) → names_in (g object) ≡ names_in object → names_of_inode (shown_at t (inode_of (g object))) ≡ names_of_inode (shown_at t (inode_of object))
     shown_names Coming object e = refl
     shown_names Held object e = e
-    shown_names Lost object e = refl
+    shown_names Removed object e = refl
 
 -- a change of promised room, of a file, and of a description
 pub kept-room : (f : Listing → Listing) → ((listing : Listing) → (f listing).names ≡ listing.names) → (header : Header) → IsSound header → IsKept (with_listing f) header
@@ -178,7 +178,7 @@ module _ (old new : Slab Header) (n : ℕ) where
   counted-over was u over = counted-updated old new n None u was (λ header e. absurd cc) (by_slot (slab.get old n) refl).0 (by_slot (slab.get old n) refl).1
     where
       by_stage : (t : Stage) (object : Object) (links : ℕ) → IsStaged t (names_in object) links → is_over_by t (has_room (listing_of object)) ≡ true → (0 ≡ links) × (empty ≡ names_of_inode (shown_at t (inode_of object)))
-      by_stage Lost object links staged over = (sym staged, refl)
+      by_stage Removed object links staged over = (sym staged, refl)
       by_stage Coming object links staged over = absurd cc
       by_stage Held object links staged over = absurd cc
 

@@ -15,7 +15,7 @@ use Rattle.store.specs.Places.{altered, is_coming, is_coming_by, is_over, is_ove
 use Rattle.store.specs.Laid.{laid, laid_listing}
 use Rattle.store.specs.declared.Place.{Place}
 use Rattle.store.specs.declared.Stage.{Stage}
-use Rattle.store.specs.declared.Stage.TheVariants.{Coming, Held, Lost}
+use Rattle.store.specs.declared.Stage.TheVariants.{Coming, Held, Removed}
 use Rattle.store.specs.declared.Object.{Object}
 use Rattle.store.specs.declared.Object.TheVariants.{Directory, File, Pipe, Description, Nothing}
 use Rattle.store.proofs.Changes.{altered-none, altered-some, with_place}
@@ -93,7 +93,7 @@ shown-comes_not (Some place) shown = by_stage place.stage shown
     by_stage : (t : Stage) → is_shown_by t ≡ true → is_coming_by t ≡ false
     by_stage Held shown = refl
     by_stage Coming shown = absurd cc
-    by_stage Lost shown = refl
+    by_stage Removed shown = refl
 
 shown-stays : (o : Option Place) → is_shown o ≡ true → is_over o ≡ false
 shown-stays None shown = refl
@@ -102,7 +102,7 @@ shown-stays (Some place) shown = by_stage place.stage (has_room (listing_of plac
     by_stage : (t : Stage) (room : Bool) → is_shown_by t ≡ true → is_over_by t room ≡ false
     by_stage Held room shown = refl
     by_stage Coming room shown = refl
-    by_stage Lost room shown = absurd cc
+    by_stage Removed room shown = absurd cc
 
 -- a promise that is given up in a directory that is shown
 released-shown : (s : Numbers) (n : ℕ) → is_shown (get s.places n) ≡ true → released s n ≡ altered (with_listing less_room) s n

@@ -23,7 +23,7 @@ use Rattle.store.specs.declared.Object.{Object}
 use Rattle.store.specs.declared.Object.TheVariants.{Directory, File, Pipe, Description, Nothing}
 use Rattle.store.specs.declared.Place.{Place}
 use Rattle.store.specs.declared.Stage.{Stage}
-use Rattle.store.specs.declared.Stage.TheVariants.{Coming, Held, Lost}
+use Rattle.store.specs.declared.Stage.TheVariants.{Coming, Held, Removed}
 use Rattle.store.proofs.Counted.{get-inodes_of, inode_at, links-updated, names_at, same-links, inodes_of, some_same, still-sound}
 use Rattle.store.proofs.Counts.{given-insert, given-le-links, given-remove, given-some, links-le}
 use Rattle.store.proofs.Rows.{places-same}
@@ -44,7 +44,7 @@ given-named name n (Some header) q = by_object header.place.stage header.place.o
     by_object Held (Description opened) = refl
     by_object Held Nothing = refl
     by_object Coming object = refl
-    by_object Lost object = refl
+    by_object Removed object = refl
 
 pub given-unnamed : (name : Name) (o : Option Header) (q : ℕ) → given_in q (names_at (option_map (at_place (with_listing (without_name name))) o)) + given_by (former_at o name) q ≡ given_in q (names_at o) + given_by None q
 given-unnamed name None q = refl
@@ -57,7 +57,7 @@ given-unnamed name (Some header) q = by_object header.place.stage header.place.o
     by_object Held (Description opened) = refl
     by_object Held Nothing = refl
     by_object Coming object = refl
-    by_object Lost object = refl
+    by_object Removed object = refl
 
 -- what a name gives is counted
 pub former-counted : (headers : Slab Header) → AreCounted headers → (d : ℕ) (name : Name) (n : ℕ) → former_at (slab.get headers d) name ≡ Some n → 0 < links_of (slab.get headers n)
@@ -75,7 +75,7 @@ former-counted headers was d name n is =
     by_object Held (Description opened) e = absurd cc
     by_object Held Nothing e = absurd cc
     by_object Coming object e = absurd cc
-    by_object Lost object e = absurd cc
+    by_object Removed object e = absurd cc
 
     by_slot : (o : Option Header) → former_at o name ≡ Some n → 0 < given_in n (names_at o)
     by_slot None e = absurd cc
@@ -102,7 +102,7 @@ module _ (old named less more : Slab Header) (d : ℕ) (o : Option Header) (form
       let same : links_in (inodes_of more) q ≡ links_in (inodes_of named) q = ap (λ places. links_in (chosen inode_in places) q) (places-same named more same_place) in
       omega arith
 
-  -- no name gives what is lost
+  -- no name gives what is removed
   none_lost : (q : ℕ) → may_be_named (place_of (slab.get less q)) ≡ false → given_by new q ≡ 0
   none_lost q barred = by_new new refl
     where
@@ -119,7 +119,7 @@ module _ (old named less more : Slab Header) (d : ℕ) (o : Option Header) (form
       by_stage : (t : Stage) (names : FinMap name_cmp ℕ) (before after : ℕ) → IsStaged t names before → (may_be_named_by t ≡ false → before ≡ 0 → after ≡ 0) → IsStaged t names after
       by_stage Coming names before after staged none = staged
       by_stage Held names before after staged none = tt
-      by_stage Lost names before after staged none = none refl staged
+      by_stage Removed names before after staged none = none refl staged
 
       gone : (first : Header) → slab.get named q ≡ Some first → may_be_named (Some first.place) ≡ false → first.links ≡ 0 → links_of (slab.get more q) ≡ 0
       gone first found barred zero =
@@ -176,7 +176,7 @@ sound-unnamed name header sound = by_object header.place.stage header.place.obje
     staged : (t : Stage) (names : FinMap name_cmp ℕ) (links : ℕ) → IsStaged t names links → IsStaged t (remove names name) links
     staged Coming names links e = ap (λ (names : FinMap name_cmp ℕ). remove names name) e ∙ remove-empty name
     staged Held names links e = tt
-    staged Lost names links e = e
+    staged Removed names links e = e
 
     by_object : (t : Stage) (object : Object) (links : ℕ) → IsSound (record { place = record { stage = t; object = object }; links = links }) → IsSound (record { place = record { stage = t; object = changed_object (without_name name) object }; links = links })
     by_object t (Directory listing) links sound = record {
@@ -194,7 +194,7 @@ sound-named name n header sound = by_object header.place.stage header.place.obje
     staged : (t : Stage) (names more : FinMap name_cmp ℕ) (links : ℕ) → is_coming_by t ≡ false → IsStaged t names links → IsStaged t more links
     staged Coming names more links away e = absurd cc
     staged Held names more links away e = tt
-    staged Lost names more links away e = e
+    staged Removed names more links away e = e
 
     by_object : (t : Stage) (object : Object) (links : ℕ) → IsSound (record { place = record { stage = t; object = object }; links = links }) → is_coming_by t ≡ false → ((listing : Listing) → listing_of (changed_object (with_name name n) object) ≡ Some listing → len listing.names < 2 ^ 64) → IsSound (record { place = record { stage = t; object = changed_object (with_name name n) object }; links = links })
     by_object t (Directory listing) links sound away few = record {
@@ -253,7 +253,7 @@ few_in headers was n inode is = by_slot (slab.get headers n) refl
     by_stage : (t : Stage) (object : Object) → len (names_in object) < 2 ^ 64 → shown_at t (inode_of object) ≡ Some inode → len (names_of_inode (Some inode)) ≤ 18446744073709551615
     by_stage Held object few e = let same : len (names_in object) ≡ len (names_of_inode (Some inode)) = ap (λ i. len (names_of_inode i)) e in omega arith
     by_stage Coming object few e = absurd cc
-    by_stage Lost object few e = absurd cc
+    by_stage Removed object few e = absurd cc
 
     by_slot : (o : Option Header) → slab.get headers n ≡ o → len (names_of_inode (Some inode)) ≤ 18446744073709551615
     by_slot None found = let bad : None ≡ Some inode = sym (get-inodes_of headers n ∙ ap inode_at found) ∙ is in absurd cc
@@ -290,7 +290,7 @@ module _ (f : Listing → Listing) (old named : Slab Header) (d : ℕ) (u : Upda
       by_object Held (Description opened) = refl
       by_object Held Nothing = refl
       by_object Coming object = refl
-      by_object Lost object = refl
+      by_object Removed object = refl
 
   pub links-kept : (q : ℕ) → links_of (slab.get named q) ≡ links_of (slab.get old q)
   links-kept q = same-links old named d (option_map (at_place (with_listing f)) (slab.get old d)) u (counted-kept_links (with_listing f) (slab.get old d)) q

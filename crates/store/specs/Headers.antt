@@ -12,7 +12,7 @@ use Rattle.store.specs.declared.Header.{Header}
 use Rattle.store.specs.declared.Object.{Object}
 use Rattle.store.specs.declared.Place.{Place}
 use Rattle.store.specs.declared.Stage.{Stage}
-use Rattle.store.specs.declared.Stage.TheVariants.{Coming, Held, Lost}
+use Rattle.store.specs.declared.Stage.TheVariants.{Coming, Held, Removed}
 use Rattle.store.specs.Links.{links_in}
 use Rattle.store.specs.Places.{shows_names}
 use Rattle.store.specs.Shown.{chosen, inode_in, inode_of}
@@ -68,11 +68,11 @@ pub record LosesLink (old new : Slab Header) (target : Option ℕ) : Type 0 wher
 abbrev pub names_in : Object → FinMap name_cmp ℕ
 names_in object = names_of_inode (inode_of object)
 
--- what is to come has no names, and no name gives what is lost
+-- what is to come has no names, and no name gives what is removed
 abbrev pub IsStaged : Stage → FinMap name_cmp ℕ → ℕ → Type 0
 IsStaged Coming names links = names ≡ empty
 IsStaged Held names links = Unit {0}
-IsStaged Lost names links = links ≡ 0
+IsStaged Removed names links = links ≡ 0
 
 -- the names of one directory can be counted by a `usize`
 pub record IsSound (header : Header) : Type 0 where

@@ -1,4 +1,4 @@
--- How the places of a store change: an object to come is shown, an object is lost, or what it holds
+-- How the places of a store change: an object to come is shown, an object is removed, or what it holds
 -- changes.
 use Rattle.std.specs.Prelude.{ℕ, ◌+◌, ◌-◌, ◌++◌, Bool, true, false, not, nat_lt, Option, Some, None}
 use Rattle.std.specs.Prelude.{◌≤◌, if◌then◌else◌, List, drop, length}
@@ -12,7 +12,7 @@ use Rattle.dirlist.specs.Listing.{Listing}
 use Rattle.store.specs.Numbers.{Numbers, held}
 use Rattle.store.specs.declared.Place.{Place}
 use Rattle.store.specs.declared.Stage.{Stage}
-use Rattle.store.specs.declared.Stage.TheVariants.{Coming, Held, Lost}
+use Rattle.store.specs.declared.Stage.TheVariants.{Coming, Held, Removed}
 use Rattle.store.specs.declared.Object.{Object}
 use Rattle.store.specs.declared.Object.TheVariants.{Directory, File, Pipe, Description, Nothing}
 use Rattle.store.specs.declared.OpenFile.{OpenFile}
@@ -32,14 +32,14 @@ altered f s n = record s { places = altered_by f (get s.places n) s.places n }
 abbrev pub shown_stage : Stage → Stage
 shown_stage Coming = Held
 shown_stage Held = Held
-shown_stage Lost = Lost
+shown_stage Removed = Removed
 
 abbrev pub installed : Place → Place
 installed place = record place { stage = shown_stage place.stage }
 
 -- an object is shown no more
 abbrev pub hidden : Place → Place
-hidden place = record place { stage = Lost }
+hidden place = record place { stage = Removed }
 
 abbrev pub listing_of : Object → Option Listing
 listing_of (Directory listing) = Some listing
@@ -130,7 +130,7 @@ IsRoomy taken appended None = ⊥
 
 -- a description with another offset, and with one holder more or less
 abbrev pub moved_to : ℕ → Opened → Opened
-moved_to place opened = record opened { description = at_offset place opened.description }
+moved_to offset opened = record opened { description = at_offset offset opened.description }
 
 abbrev pub more_holders : Opened → Opened
 more_holders opened = record opened { holders = opened.holders + 1 }
@@ -192,7 +192,7 @@ number_in None name = None
 abbrev pub is_shown_by : Stage → Bool
 is_shown_by Held = true
 is_shown_by Coming = false
-is_shown_by Lost = false
+is_shown_by Removed = false
 
 abbrev pub is_shown : Option Place → Bool
 is_shown (Some place) = is_shown_by place.stage
@@ -209,7 +209,7 @@ shows_names place = is_directory (held place)
 abbrev pub is_coming_by : Stage → Bool
 is_coming_by Coming = true
 is_coming_by Held = false
-is_coming_by Lost = false
+is_coming_by Removed = false
 
 abbrev pub is_coming : Option Place → Bool
 is_coming (Some place) = is_coming_by place.stage
@@ -219,7 +219,7 @@ is_coming None = false
 abbrev pub may_be_named_by : Stage → Bool
 may_be_named_by Held = true
 may_be_named_by Coming = true
-may_be_named_by Lost = false
+may_be_named_by Removed = false
 
 abbrev pub may_be_named : Option Place → Bool
 may_be_named (Some place) = may_be_named_by place.stage
@@ -230,9 +230,9 @@ abbrev pub has_room : Option Listing → Bool
 has_room (Some listing) = nat_lt 0 listing.promised
 has_room None = false
 
--- whether an object is lost and nothing is promised in it any more
+-- whether an object is removed and nothing is promised in it any more
 abbrev pub is_over_by : Stage → Bool → Bool
-is_over_by Lost room = not room
+is_over_by Removed room = not room
 is_over_by Coming room = false
 is_over_by Held room = false
 
@@ -240,11 +240,11 @@ abbrev pub is_over : Option Place → Bool
 is_over (Some place) = is_over_by place.stage (has_room (listing_of place.object))
 is_over None = false
 
--- the number of a lost object with no promised room is given up
+-- the number of a removed object with no promised room is given up
 abbrev pub swept : Numbers → ℕ → Numbers
 swept s n = if is_over (get s.places n) then record s { places = remove s.places n } else s
 
--- an object is lost
+-- an object is removed
 abbrev pub lost : Numbers → ℕ → Numbers
 lost s n = swept (altered hidden s n) n
 

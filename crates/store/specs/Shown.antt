@@ -1,5 +1,5 @@
 -- The inodes and the descriptions of a store, as a plain kernel has them: without objects to come
--- and lost ones, without promised room, and without counts.
+-- and removed ones, without promised room, and without counts.
 use Rattle.std.specs.Prelude.{ℕ, List, [], ◌∷◌, Option, Some, None}
 use Rattle.std.specs.Ordering.{nat_cmp}
 use Rattle.model.specs.FiniteMap.{FinMap, entries, get, insert, remove, from_entries}
@@ -8,7 +8,7 @@ use Rattle.model.specs.Changes.{at_offset}
 use Rattle.store.specs.Numbers.{Numbers}
 use Rattle.store.specs.declared.Place.{Place}
 use Rattle.store.specs.declared.Stage.{Stage}
-use Rattle.store.specs.declared.Stage.TheVariants.{Coming, Held, Lost}
+use Rattle.store.specs.declared.Stage.TheVariants.{Coming, Held, Removed}
 use Rattle.store.specs.declared.Object.{Object}
 use Rattle.store.specs.declared.Object.TheVariants.{Directory as Kept_directory}
 use Rattle.store.specs.declared.Object.TheVariants.{File as Kept_file, Pipe as Kept_pipe}
@@ -24,11 +24,11 @@ abbrev pub description_of : Object → Option Description
 description_of (Kept_description opened) = Some opened.description
 description_of _ = None
 
--- an object is shown where it is neither to come nor lost
+-- an object is shown where it is neither to come nor removed
 abbrev pub shown_at : {X : Type 0} → Stage → Option X → Option X
 shown_at Held x = x
 shown_at Coming x = None
-shown_at Lost x = None
+shown_at Removed x = None
 
 abbrev pub inode_in : Place → Option Inode
 inode_in place = shown_at place.stage (inode_of place.object)
@@ -79,11 +79,11 @@ with_names f m n = with_names_by f (get m n) m n
 -- the description of a number with another offset, where there is one
 abbrev pub with_offset_by : ℕ → Option Description → FinMap nat_cmp Description → ℕ
     → FinMap nat_cmp Description
-with_offset_by place (Some it) m d = insert m d (at_offset place it)
-with_offset_by place None m d = m
+with_offset_by offset (Some it) m d = insert m d (at_offset offset it)
+with_offset_by offset None m d = m
 
 abbrev pub with_offset : ℕ → FinMap nat_cmp Description → ℕ → FinMap nat_cmp Description
-with_offset place m d = with_offset_by place (get m d) m d
+with_offset offset m d = with_offset_by offset (get m d) m d
 
 -- an inode, where it is a pipe, and where it is a file
 abbrev pub pipe_inode : Option Inode → Option Inode

@@ -85,21 +85,21 @@ fn change_pipe_in(object: &mut Object, taken: usize, appended: &[u8])
     }
 }
 
-/// The next read or write of a description begins at this place.
-pub fn set_offset_at(headers: &mut Slab<Header, Heap>, key: usize, place: u32)
+/// The next read or write of a description begins at this offset.
+pub fn set_offset_at(headers: &mut Slab<Header, Heap>, key: usize, offset: u32)
     ensures { Updates headers.old headers.new key
-        (option_map (at_place (with_opened (moved_to place))) (get headers.old key)) }
+        (option_map (at_place (with_opened (moved_to offset))) (get headers.old key)) }
 {
     if let Some(header) = headers.get_mut(key) {
-        set_offset_in(&mut header.place.object, place);
+        set_offset_in(&mut header.place.object, offset);
     }
 }
 
-fn set_offset_in(object: &mut Object, place: u32)
-    ensures { object.new ≡ changed_opened (moved_to place) object.old }
+fn set_offset_in(object: &mut Object, offset: u32)
+    ensures { object.new ≡ changed_opened (moved_to offset) object.old }
 {
     if let Object::Description(opened) = object {
-        opened.description.offset = place;
+        opened.description.offset = offset;
     }
 }
 

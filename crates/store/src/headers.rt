@@ -36,7 +36,7 @@ fn held_object(place: &Place) -> Option<&Object>
     match place.stage {
         Stage::Held => Some(&place.object),
         Stage::Coming => None,
-        Stage::Lost => None,
+        Stage::Removed => None,
     }
 }
 
@@ -76,13 +76,13 @@ fn is_promised_in(object: &Object) -> bool
     }
 }
 
-/// Whether the object of a number is lost, with no room promised in it.
+/// Whether the object of a number is removed, with no room promised in it.
 pub fn is_over_at(headers: &Slab<Header, Heap>, key: usize) -> bool
     ensures { result ≡ is_over (place_at headers.now key) }
 {
     match headers.get(key) {
         Some(header) => match header.place.stage {
-            Stage::Lost => !is_promised_in(&header.place.object),
+            Stage::Removed => !is_promised_in(&header.place.object),
             Stage::Coming => false,
             Stage::Held => false,
         },
@@ -115,13 +115,13 @@ fn install_in(place: &mut Place)
     }
 }
 
-/// The object of a number is lost.
+/// The object of a number is removed.
 pub fn hide_at(headers: &mut Slab<Header, Heap>, key: usize)
     ensures { Updates headers.old headers.new key
         (option_map (at_place hidden) (get headers.old key)) }
 {
     if let Some(header) = headers.get_mut(key) {
-        header.place.stage = Stage::Lost;
+        header.place.stage = Stage::Removed;
     }
 }
 
@@ -315,7 +315,7 @@ fn remove_link_at(headers: &mut Slab<Header, Heap>, key: usize)
     }
 }
 
-/// A `usize` can count the numbers that are in use.
+/// For the proof: a `usize` can count the numbers that are in use.
 pub fn numbers_are_few(headers: &Slab<Header, Heap>)
     ensures { slab_len headers.now < 2 ^ 64 }
 {

@@ -121,7 +121,7 @@ pub enum Stage {
     /// Shown.
     Held,
     /// Shown no more. It goes when the last room that is promised in it is given up.
-    Lost,
+    Removed,
 }
 
 /// What a number that is in use is used for: its object, and how far that is.
@@ -292,7 +292,7 @@ impl Store {
         self.sweep(num);
     }
 
-    // Gives up the number of a lost object in which no room is promised.
+    // Gives up the number of a removed object in which no room is promised.
     fn sweep(&mut self, num: Num)
         ensures { self.new ≡ swept self.old num }
     {
@@ -413,17 +413,17 @@ impl Store {
         contents::change_pipe_at(&mut self.headers, num.0, taken, appended);
     }
 
-    /// A description's next read or write begins at this place; where the number is of none,
+    /// A description's next read or write begins at this offset; where the number is of none,
     /// nothing changes. It takes no memory.
-    pub fn set_offset(&mut self, num: Num, place: u32)
-        ensures moved { self.new ≡ altered (with_opened (moved_to place)) self.old num }
+    pub fn set_offset(&mut self, num: Num, offset: u32)
+        ensures moved { self.new ≡ altered (with_opened (moved_to offset)) self.old num }
         ensures shown { inodes self.new ≡ inodes self.old }
-        ensures open { descriptions self.new ≡ with_offset place (descriptions self.old) num }
+        ensures open { descriptions self.new ≡ with_offset offset (descriptions self.old) num }
     {
-        contents::set_offset_at(&mut self.headers, num.0, place);
+        contents::set_offset_at(&mut self.headers, num.0, offset);
     }
 
-    /// A `usize` can count the numbers that are in use.
+    /// For the proof: a `usize` can count the numbers that are in use.
     pub fn numbers_are_few(&self)
         ensures { map.len self.now.places < 2 ^ 64 }
     {

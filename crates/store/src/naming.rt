@@ -45,7 +45,8 @@ impl Store {
         headers::links_at(&self.headers, num.0)
     }
 
-    /// Whether room for a name is promised in a directory, which may be to come or lost.
+    /// Whether room for a name is promised in a directory, which may be to come or removed. Only
+    /// tests ask it.
     pub fn is_promised(&self, dir: Num) -> bool
         ensures { result ≡ has_room (listing_at self.now dir) }
     {
@@ -64,7 +65,7 @@ impl Store {
     }
 
     /// Gives up the promised room of one name in a directory; where no room is promised, none is
-    /// given up. The number of a lost directory is given up with its last promise. It takes no
+    /// given up. The number of a removed directory is given up with its last promise. It takes no
     /// memory.
     pub fn release(&mut self, dir: Num)
         ensures released { self.new ≡ released self.old dir }
@@ -76,7 +77,7 @@ impl Store {
     }
 
     /// From now on the name gives this number, whatever it gave before, in promised room; where
-    /// there is no directory, nothing changes. The directory is shown or lost, and the object of
+    /// there is no directory, nothing changes. The directory is shown or removed, and the object of
     /// the number is shown or to come. It takes no memory.
     pub fn add_name(&mut self, dir: Num, name: Name, num: Num)
         requires room { (listing : Listing) →
@@ -88,7 +89,7 @@ impl Store {
             with_names (λ names. map.insert names name num) (inodes self.old) dir }
         ensures open { descriptions self.new ≡ descriptions self.old }
     {
-        // So a count of one name more fits.
+        // For the proof: a count of one name more fits.
         headers::numbers_are_few(&self.headers);
         let former = headers::add_name_at(&mut self.headers, dir.0, name, num);
         headers::remove_link(&mut self.headers, dir.0, former);

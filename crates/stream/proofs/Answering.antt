@@ -22,16 +22,16 @@ entries_in-append (Ok e ∷ xs) ys = ap (λ (es : List Entry). e ∷ es) (entrie
 entries_in-append (Err why ∷ xs) ys = entries_in-append xs ys
 
 -- the text of some answers and of more
-pub text_from-append : (place : ℕ) (xs ys : List (Result Entry ScriptFault)) → text_from place (xs ++ ys) ≡ text_from place xs ++ text_from (place + length (entries_in xs)) ys
-text_from-append place [] ys = (let same : place ≡ place + 0 = omega arith in ap (λ (p : ℕ). text_from p ys) same)
-text_from-append place (Ok e ∷ xs) ys =
-    let same : place + 1 + length (entries_in xs) ≡ place + length (entries_in (Ok e ∷ xs)) = omega arith in
-    ap (λ (t : List ℕ). line_of place e ++ t) (text_from-append (place + 1) xs ys)
-    ∙ sym (append_assoc (line_of place e) (text_from (place + 1) xs) (text_from (place + 1 + length (entries_in xs)) ys))
-    ∙ ap (λ (p : ℕ). (line_of place e ++ text_from (place + 1) xs) ++ text_from p ys) same
-text_from-append place (Err why ∷ xs) ys =
-    ap (λ (t : List ℕ). fault_line why ++ t) (text_from-append place xs ys)
-    ∙ sym (append_assoc (fault_line why) (text_from place xs) (text_from (place + length (entries_in xs)) ys))
+pub text_from-append : (position : ℕ) (xs ys : List (Result Entry ScriptFault)) → text_from position (xs ++ ys) ≡ text_from position xs ++ text_from (position + length (entries_in xs)) ys
+text_from-append position [] ys = (let same : position ≡ position + 0 = omega arith in ap (λ (p : ℕ). text_from p ys) same)
+text_from-append position (Ok e ∷ xs) ys =
+    let same : position + 1 + length (entries_in xs) ≡ position + length (entries_in (Ok e ∷ xs)) = omega arith in
+    ap (λ (t : List ℕ). line_of position e ++ t) (text_from-append (position + 1) xs ys)
+    ∙ sym (append_assoc (line_of position e) (text_from (position + 1) xs) (text_from (position + 1 + length (entries_in xs)) ys))
+    ∙ ap (λ (p : ℕ). (line_of position e ++ text_from (position + 1) xs) ++ text_from p ys) same
+text_from-append position (Err why ∷ xs) ys =
+    ap (λ (t : List ℕ). fault_line why ++ t) (text_from-append position xs ys)
+    ∙ sym (append_assoc (fault_line why) (text_from position xs) (text_from (position + length (entries_in xs)) ys))
 
 -- the same answers, said in another way
 pub answers_none : (limits : Limits) (stand : Stand) (kernel : Option Shown) (answers : List (Result Entry ScriptFault))
@@ -167,12 +167,12 @@ further_answered limits number priorities asked line old new answers heard.Opera
     let done = comes.done in
     let entry : Entry = done.entry in
     let ask : Result (ℕ × Op) ScriptFault = Ok (comes.line.pid, comes.line.op) in
-    let place : length old.log.entries + 1 ≡ length (entries_in answers) + 1 = ap (λ (es : List Entry). length es + 1) (sym a.entries) in
+    let position : length old.log.entries + 1 ≡ length (entries_in answers) + 1 = ap (λ (es : List Entry). length es + 1) (sym a.entries) in
     by_stand limits stand (with_asked stand ask) line (Some new) answers (Ok entry ∷ []) heard.Operation text (ap (behind_further stand) comes.asks)
     (operation_answers limits stand old new answers entry comes.line.pid comes.line.op a done.grown
     (grown_is priorities limits old new (entry ∷ []) a.made done.grown) done.same_pid done.same_op)
     (told old.log.entries entry done.grown.entries done.here
-    ∙ ap (λ (p : ℕ). line_of p entry) place
+    ∙ ap (λ (p : ℕ). line_of p entry) position
     ∙ sym (append-nil (line_of (length (entries_in answers) + 1) entry)))
     (good-asked asked ask)
 

@@ -14,7 +14,7 @@ use Rattle.script.specs.declared.limits.TheConstants.{SCRIPT_LIMIT}
 use Rattle.stream.specs.Answers.{AreAnswers, IsMade, entries_in, fault_line, is_good, text_from, text_of}
 use Rattle.stream.specs.Asked.{Stand, at_end, stand_of, unended_fault}
 use Rattle.stream.specs.Heard.{IsFollowed, StopsAt}
-use Rattle.stream.specs.Parts.{HasCome, IsStopped, IsTaken, IsUnwritten, NotTaken, Seen, TakesUpTo, input_of, place_of}
+use Rattle.stream.specs.Parts.{HasCome, IsStopped, IsTaken, IsUnwritten, NotTaken, Seen, TakesUpTo, input_of, position_of}
 use Rattle.stream.specs.States.{IsFresh}
 use Rattle.stream.specs.Streams.{AreAnswered, AreFirstAnswered, HasEnded, HasStopped, IsWhole, StopsBefore, StopsInPart, rest_text, verdict}
 use Rattle.stream.specs.declared.fault.StreamFault.{StreamFault}
@@ -53,14 +53,14 @@ come_none {K} shown setting stream given old fresh = record {
 
 -- the text of all answers, with those to a part more
 written_more : (seen : Seen) (more : List (Result Entry ScriptFault)) (text : List ℕ) (old mid new : Option (List ℕ))
-    → mid ≡ append_known old (text_of seen.answers) → new ≡ append_known mid text → text ≡ text_from (place_of seen) more
+    → mid ≡ append_known old (text_of seen.answers) → new ≡ append_known mid text → text ≡ text_from (position_of seen) more
     → new ≡ append_known old (text_of (seen.answers ++ more))
 written_more seen more text old mid new before now_is told =
-    let place : place_of seen ≡ 1 + length (entries_in seen.answers) = omega arith in
+    let position : position_of seen ≡ 1 + length (entries_in seen.answers) = omega arith in
     now_is
     ∙ ap (λ (k : Option (List ℕ)). append_known k text) before
     ∙ append_known-append_known old (text_of seen.answers) text
-    ∙ ap (λ (t : List ℕ). append_known old (text_of seen.answers ++ t)) (told ∙ ap (λ (p : ℕ). text_from p more) place)
+    ∙ ap (λ (t : List ℕ). append_known old (text_of seen.answers ++ t)) (told ∙ ap (λ (p : ℕ). text_from p more) position)
     ∙ ap (λ (t : List ℕ). append_known old t) (sym (text_from-append 1 seen.answers more))
 
 -- a part more
@@ -130,16 +130,16 @@ stops_before shown setting mid new given between left old was now_holds part why
 
 -- a beginning of the text of a part more is a beginning of the text of all
 part_more : (seen : Seen) (more : List (Result Entry ScriptFault)) (text : List ℕ) (old was now_holds : Option (List ℕ))
-    → was ≡ append_known old (text_of seen.answers) → IsPart was now_holds text → text ≡ text_from (place_of seen) more
+    → was ≡ append_known old (text_of seen.answers) → IsPart was now_holds text → text ≡ text_from (position_of seen) more
     → IsPart old now_holds (text_of (seen.answers ++ more))
 part_more seen more text old was now_holds before p told =
-    let place : place_of seen ≡ 1 + length (entries_in seen.answers) = omega arith in
+    let position : position_of seen ≡ 1 + length (entries_in seen.answers) = omega arith in
     record {
       front = text_of seen.answers ++ p.front;
       back = p.back;
       whole =
           text_from-append 1 seen.answers more
-          ∙ ap (λ (t : List ℕ). text_of seen.answers ++ t) (ap (λ (q : ℕ). text_from q more) (sym place) ∙ sym told ∙ p.whole)
+          ∙ ap (λ (t : List ℕ). text_of seen.answers ++ t) (ap (λ (q : ℕ). text_from q more) (sym position) ∙ sym told ∙ p.whole)
           ∙ sym (append_assoc (text_of seen.answers) p.front p.back);
       appended = p.appended ∙ ap (λ (k : Option (List ℕ)). append_known k p.front) before ∙ append_known-append_known old (text_of seen.answers) p.front;
     }
@@ -177,8 +177,8 @@ come_stopped shown setting mid new given between left old was now_holds part His
     stops_before shown setting mid new given between left old was now_holds part HistoryFull come gave not
 come_stopped shown setting mid new given between left old was now_holds part NoMemory come gave not =
     stops_before shown setting mid new given between left old was now_holds part NoMemory come gave not
-come_stopped shown setting mid new given between left old was now_holds part (Check place) come gave not =
-    stops_before shown setting mid new given between left old was now_holds part (Check place) come gave not
+come_stopped shown setting mid new given between left old was now_holds part (Check position) come gave not =
+    stops_before shown setting mid new given between left old was now_holds part (Check position) come gave not
 come_stopped shown setting mid new given between left old was now_holds part Spent come gave not =
     inr (stops_before shown setting mid new given between left old was now_holds part Spent come gave not)
 
@@ -196,7 +196,7 @@ record AnsweredAtEnd
     : Type 0 where
   more : List (Result Entry ScriptFault)
   answered : AreAnswers limits (at_end stand rest) kernel (answers ++ more)
-  told : (place : ℕ) → rest_text stand.number kept ≡ text_from place more
+  told : (position : ℕ) → rest_text stand.number kept ≡ text_from position more
   good : is_good (at_end stand rest).asked ≡ (is_good stand.asked && (length kept == 0))
 
 answered_at_end : (limits : Limits) (stand : Stand) (rest kept : List ℕ) (kernel : Option Shown) (answers : List (Result Entry ScriptFault))
@@ -204,7 +204,7 @@ answered_at_end : (limits : Limits) (stand : Stand) (rest kept : List ℕ) (kern
 answered_at_end limits stand [] kept kernel answers e a = record {
   more = [];
   answered = answers_none limits stand kernel answers a;
-  told = λ place. ap (λ (xs : List ℕ). rest_text stand.number xs) e;
+  told = λ position. ap (λ (xs : List ℕ). rest_text stand.number xs) e;
   good = sym (and_true (is_good stand.asked)) ∙ ap (λ (xs : List ℕ). is_good stand.asked && (length xs == 0)) (sym e);
 }
 answered_at_end limits stand (b ∷ bs) kept kernel answers e a =
@@ -212,7 +212,7 @@ answered_at_end limits stand (b ∷ bs) kept kernel answers e a =
     record {
       more = Err why ∷ [];
       answered = fault_answers limits stand kernel answers why a;
-      told = λ place.
+      told = λ position.
           ap (λ (xs : List ℕ). rest_text stand.number xs) e
           ∙ ap fault_line (unended_kept stand.number (b ∷ bs))
           ∙ sym (append-nil (fault_line why));
@@ -249,7 +249,7 @@ end_is_whole shown setting stream given left old was good come over done is_good
 }
 
 end_text : (seen : Seen) (more : List (Result Entry ScriptFault)) (number : ℕ) (kept : List ℕ) (check : Bool)
-    → ((place : ℕ) → rest_text number kept ≡ text_from place more) → text_of seen.answers ++ (rest_text number kept ++ verdict check) ≡ text_of (seen.answers ++ more) ++ verdict check
+    → ((position : ℕ) → rest_text number kept ≡ text_from position more) → text_of seen.answers ++ (rest_text number kept ++ verdict check) ≡ text_of (seen.answers ++ more) ++ verdict check
 end_text seen more number kept check told =
     sym (append_assoc (text_of seen.answers) (rest_text number kept) (verdict check))
     ∙ ap (λ (t : List ℕ). (text_of seen.answers ++ t) ++ verdict check) (told (1 + length (entries_in seen.answers)))
@@ -264,8 +264,8 @@ come_ended shown setting stream given left old was now_holds good law come over 
     let stand : Stand = stand_of come.seen.lines in
     let kernel : Option Shown = option_map shown stream.kernel in
     let done = answered_at_end setting.limits stand come.seen.rest stream.line.items kernel come.seen.answers come.at.line come.at.answered in
-    let told : (place : ℕ) → rest_text stream.number stream.line.items ≡ text_from place done.more =
-    λ place. ap (λ (n : ℕ). rest_text n stream.line.items) come.at.number ∙ done.told place in
+    let told : (position : ℕ) → rest_text stream.number stream.line.items ≡ text_from position done.more =
+    λ position. ap (λ (n : ℕ). rest_text n stream.line.items) come.at.number ∙ done.told position in
     record {
       kernel = kernel;
       answers = come.seen.answers ++ done.more;
@@ -287,8 +287,8 @@ come_ended_in_part shown setting stream given left old was now_holds come over p
     let stand : Stand = stand_of come.seen.lines in
     let kernel : Option Shown = option_map shown stream.kernel in
     let done = answered_at_end setting.limits stand come.seen.rest stream.line.items kernel come.seen.answers come.at.line come.at.answered in
-    let told : (place : ℕ) → rest_text stream.number stream.line.items ≡ text_from place done.more =
-    λ place. ap (λ (n : ℕ). rest_text n stream.line.items) come.at.number ∙ done.told place in
+    let told : (position : ℕ) → rest_text stream.number stream.line.items ≡ text_from position done.more =
+    λ position. ap (λ (n : ℕ). rest_text n stream.line.items) come.at.number ∙ done.told position in
     let good : Bool = stream.good && (length stream.line.items == 0) in
     inr (record {
       good = good;

@@ -13,8 +13,8 @@ use Rattle.stream.specs.declared.fault.StreamFault.{StreamFault}
 use Rattle.stream.specs.declared.fault.StreamFault.TheVariants.{NoMemory}
 use Rattle.stream.specs.declared.heard.Heard.{Heard}
 use Rattle.stream.specs.declared.heard.Heard.TheVariants as heard
-use Rattle.stream.specs.declared.refusal.Refusal.{Refusal}
-use Rattle.stream.specs.declared.refusal.Refusal.TheVariants as refusal
+use Rattle.stream.specs.declared.refusal.StepRefusal.{StepRefusal}
+use Rattle.stream.specs.declared.refusal.StepRefusal.TheVariants as refusal
 use Rattle.stream.specs.declared.state.Setting.{Setting}
 use Rattle.stream.specs.declared.state.Stream.{Stream}
 use Rattle.stream.proofs.Forgotten.{grown_forgetting, grown_same}
@@ -121,7 +121,7 @@ not_heard_first {K} shown setting old new was is = record {
       subst (λ (k : Option K). StopsAt old.number old.line.items (option_map shown k) NoMemory) (sym is) there;
 }
 
-pub not_heard_first_by : {K : Type 0} (shown : K → Shown) (setting : Setting) (old new : Stream K) (refused : Refusal) (why : StreamFault)
+pub not_heard_first_by : {K : Type 0} (shown : K → Shown) (setting : Setting) (old new : Stream K) (refused : StepRefusal) (why : StreamFault)
     → old.kernel ≡ None → new ≡ old → refused ≡ refusal.NoMemory → why ≡ fault_of_refusal refused → IsNotHeard shown setting old new why
 not_heard_first_by {K} shown setting old new refused why was same none is =
     subst (λ (w : StreamFault). IsNotHeard shown setting old new w) (sym (is ∙ ap fault_of_refusal none))

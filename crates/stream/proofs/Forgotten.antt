@@ -110,11 +110,11 @@ followed_by former behind log part h e is = is ∙ ap (λ (es : List Entry). wit
 pub cannot_forget : (former : Checked) (kernel : Shown) (part : List Entry) (why : CheckFault) → Follows (Some former) kernel.log → part ≡ kept kernel.log
     → IsFaultFor former.root former.setup (former.entries ++ part) why → CannotForget kernel (fault_of_check why)
 cannot_forget former kernel part fault.NoMemory h e wrong = tt
-cannot_forget former kernel part (fault.Wrong place) h e wrong =
+cannot_forget former kernel part (fault.Wrong position) h e wrong =
     let log : Log = kernel.log in
-    let first = subst (λ (es : List Entry). IsFaultFor former.root former.setup (former.entries ++ es) (fault.Wrong place)) e wrong in
-    let then_is = subst (λ (c : Checked). IsFaultFor c.root c.setup (c.entries ++ kept log) (fault.Wrong place)) h first in
-    subst (λ (es : List Entry). IsFaultFor 0 (setup_of log) es (fault.Wrong place)) (take-append-drop (sum log.forgotten) log.entries) then_is
+    let first = subst (λ (es : List Entry). IsFaultFor former.root former.setup (former.entries ++ es) (fault.Wrong position)) e wrong in
+    let then_is = subst (λ (c : Checked). IsFaultFor c.root c.setup (c.entries ++ kept log) (fault.Wrong position)) h first in
+    subst (λ (es : List Entry). IsFaultFor 0 (setup_of log) es (fault.Wrong position)) (take-append-drop (sum log.forgotten) log.entries) then_is
 
 -- no entry, and then some
 grown-then : (a b c : Shown) (more : List Entry) → HasGrown a b [] → HasGrown b c more → HasGrown a c more
@@ -171,10 +171,10 @@ last_kept log before entry other e some is =
     let gone : ℕ = sum log.forgotten in
     let all : length log.entries ≡ length before + 1 = ap (λ (es : List Entry). length es) e ∙ length-append before (entry ∷ []) in
     let left : length (kept log) ≡ length log.entries - gone = length-drop gone log.entries in
-    let place : gone + (length (kept log) - 1) ≡ length before = omega arith in
+    let index : gone + (length (kept log) - 1) ≡ length before = omega arith in
     is
     ∙ get_or-drop gone log.entries (length (kept log) - 1) other
-    ∙ ap (λ (n : ℕ). get_or log.entries n other) place
+    ∙ ap (λ (n : ℕ). get_or log.entries n other) index
     ∙ ap (λ (es : List Entry). get_or es (length before) other) e
     ∙ get_or_at before entry [] other (length before) refl
 
@@ -182,16 +182,16 @@ last_kept log before entry other e some is =
 pub last_line : (log : Log) (other : Entry) (count : ℕ) → count ≡ length log.entries → Some other ≡ slice_get (kept log) (length (kept log) - 1)
     → IsLastLine log (line_of count other)
 last_line log other count counted here before entry e some =
-    let place : ℕ = length (kept log) - 1 in
-    let is : get_or (kept log) place other ≡ other = get_or_from_slice_get (kept log) place other other (sym here) in
+    let index : ℕ = length (kept log) - 1 in
+    let is : get_or (kept log) index other ≡ other = get_or_from_slice_get (kept log) index other other (sym here) in
     let all : length log.entries ≡ length before + 1 = ap (λ (es : List Entry). length es) e ∙ length-append before (entry ∷ []) in
     ap₂ line_of (counted ∙ all) (last_kept log before entry other e some (sym is))
 
 -- where nothing is kept the last entry is not
 pub no_last : (log : Log) (entry : Entry) → sum log.forgotten < length log.entries → None ≡ slice_get (kept log) (length (kept log) - 1) → ⊥
 no_last log entry some none =
-    let place : ℕ = length (kept log) - 1 in
+    let index : ℕ = length (kept log) - 1 in
     let left : length (kept log) ≡ length log.entries - sum log.forgotten = length-drop (sum log.forgotten) log.entries in
-    let inside : place < length (kept log) = omega arith in
-    let here : slice_get (kept log) place ≡ Some (get_or (kept log) place entry) = slice_get-get_or (kept log) place entry inside in
+    let inside : index < length (kept log) = omega arith in
+    let here : slice_get (kept log) index ≡ Some (get_or (kept log) index entry) = slice_get-get_or (kept log) index entry inside in
     cc (none ∙ here)

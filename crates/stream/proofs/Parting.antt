@@ -16,7 +16,7 @@ use Rattle.stream.specs.Asked.{Stand, behind_line, next_number, stand_of, beginn
 use Rattle.stream.specs.Heard.{IsFollowed, IsOfLine, IsTold, StopsAt, is_fault}
 use Rattle.script.specs.Lines.{further_line_of}
 use Rattle.stream.specs.Input.{BeginsWith, ended}
-use Rattle.stream.specs.Parts.{ComesOf, IsAt, IsStopped, IsTaken, IsUnwritten, NotTaken, Seen, Stops, Takes, TakesUpTo, input_of, place_of}
+use Rattle.stream.specs.Parts.{ComesOf, IsAt, IsStopped, IsTaken, IsUnwritten, NotTaken, Seen, Stops, Takes, TakesUpTo, input_of, position_of}
 use Rattle.stream.specs.States.{CannotSettle, IsHeard, IsNotHeard, IsNotSettled, IsSettled, StaysAlike}
 use Rattle.stream.specs.declared.fault.StreamFault.{StreamFault}
 use Rattle.stream.specs.declared.fault.StreamFault.TheVariants.{Read, Write, HistoryFull, NoMemory, Check, Spent}
@@ -40,17 +40,17 @@ Takes-none shown setting seen stream at = record {
   told = refl;
 }
 
-place_after : (seen after : Seen) (more : List (Result Entry ScriptFault)) → after.answers ≡ seen.answers ++ more → place_of after ≡ place_of seen + length (entries_in more)
-place_after seen after more e =
+position_after : (seen after : Seen) (more : List (Result Entry ScriptFault)) → after.answers ≡ seen.answers ++ more → position_of after ≡ position_of seen + length (entries_in more)
+position_after seen after more e =
     let longer : length (entries_in after.answers) ≡ length (entries_in seen.answers ++ entries_in more) =
     ap (λ (xs : List (Result Entry ScriptFault)). length (entries_in xs)) e ∙ ap (λ (es : List Entry). length es) (entries_in-append seen.answers more) in
     omega (arith, length-append (entries_in seen.answers) (entries_in more))
 
 texts_join : (seen after : Seen) (more later : List (Result Entry ScriptFault)) (s t : List ℕ)
-    → after.answers ≡ seen.answers ++ more → s ≡ text_from (place_of seen) more → t ≡ text_from (place_of after) later → s ++ t ≡ text_from (place_of seen) (more ++ later)
+    → after.answers ≡ seen.answers ++ more → s ≡ text_from (position_of seen) more → t ≡ text_from (position_of after) later → s ++ t ≡ text_from (position_of seen) (more ++ later)
 texts_join seen after more later s t e f g =
-    ap₂ (λ (x y : List ℕ). x ++ y) f (g ∙ ap (λ (p : ℕ). text_from p later) (place_after seen after more e))
-    ∙ sym (text_from-append (place_of seen) more later)
+    ap₂ (λ (x y : List ℕ). x ++ y) f (g ∙ ap (λ (p : ℕ). text_from p later) (position_after seen after more e))
+    ∙ sym (text_from-append (position_of seen) more later)
 
 -- a part, and then another
 pub Takes-then : {K : Type 0} (shown : K → Shown) (setting : Setting) (seen : Seen) (xs ys s t : List ℕ) (mid new : Stream K)
@@ -311,7 +311,7 @@ stopped_as shown setting part old new was now_holds Read fine stopped = stopped
 stopped_as shown setting part old new was now_holds Write fine stopped = absurd fine
 stopped_as shown setting part old new was now_holds HistoryFull fine stopped = stopped
 stopped_as shown setting part old new was now_holds NoMemory fine stopped = stopped
-stopped_as shown setting part old new was now_holds (Check place) fine stopped = stopped
+stopped_as shown setting part old new was now_holds (Check position) fine stopped = stopped
 stopped_as shown setting part old new was now_holds Spent fine stopped = stopped
 
 -- where it is not forgotten

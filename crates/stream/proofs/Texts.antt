@@ -10,34 +10,34 @@ use Rattle.transcript.specs.Operation.{op_text}
 use Rattle.transcript.specs.Reply.{reply_text}
 use Rattle.stream.specs.Answers.{FaultLinesAreNoEntries, GoodAnswersAreTranscripts, ask_of, entries_in, fault_line, is_good, text_from}
 
-good_from : (place : ℕ) (answers : List (Result Entry ScriptFault)) → is_good (map ask_of answers) ≡ true → text_from place answers ≡ lines_from place (entries_in answers)
-good_from place [] h = refl
-good_from place (Ok e ∷ answers) h =
-    ap (λ (t : List ℕ). line_of place e ++ t) (good_from (place + 1) answers h)
-good_from place (Err why ∷ answers) h = absurd (true≢false (sym h))
+good_from : (position : ℕ) (answers : List (Result Entry ScriptFault)) → is_good (map ask_of answers) ≡ true → text_from position answers ≡ lines_from position (entries_in answers)
+good_from position [] h = refl
+good_from position (Ok e ∷ answers) h =
+    ap (λ (t : List ℕ). line_of position e ++ t) (good_from (position + 1) answers h)
+good_from position (Err why ∷ answers) h = absurd (true≢false (sym h))
 
 pub good_answers : GoodAnswersAreTranscripts
 good_answers answers h = good_from 1 answers h
 
 -- what a line of an entry begins with
-line_begins : (place : ℕ) (entry : Entry) → line_of place entry ≡ decimal place ++ (codes " P" ++ (decimal entry.pid ++ (codes " " ++ (op_text entry.op ++ (codes " -> " ++ (reply_text entry.reply ++ (dooms_text entry.doomed ++ codes "\n")))))))
+line_begins : (position : ℕ) (entry : Entry) → line_of position entry ≡ decimal position ++ (codes " P" ++ (decimal entry.pid ++ (codes " " ++ (op_text entry.op ++ (codes " -> " ++ (reply_text entry.reply ++ (dooms_text entry.doomed ++ codes "\n")))))))
 unfolding line_of
-line_begins place entry = simp append_assoc
+line_begins position entry = simp append_assoc
 
-first_digit : (place : ℕ) (rest : List ℕ) → place < 2 ^ 64 → get_or (decimal place ++ rest) 0 0 ≤ 57
-first_digit place rest small =
-    let some : 0 < length (decimal place) = decimal_nonempty place small in
-    let digits = (decimal_is_IsNumeral place small).0.1 in
-    let range = digit_at (decimal place) 0 digits some in
-    let here : get_or (decimal place ++ rest) 0 0 ≡ get_or (decimal place) 0 0 = get_or_append_left (decimal place) rest 0 0 some in
+first_digit : (position : ℕ) (rest : List ℕ) → position < 2 ^ 64 → get_or (decimal position ++ rest) 0 0 ≤ 57
+first_digit position rest small =
+    let some : 0 < length (decimal position) = decimal_nonempty position small in
+    let digits = (decimal_is_IsNumeral position small).0.1 in
+    let range = digit_at (decimal position) 0 digits some in
+    let here : get_or (decimal position ++ rest) 0 0 ≡ get_or (decimal position) 0 0 = get_or_append_left (decimal position) rest 0 0 some in
     omega (arith, range.1)
 
 pub fault_lines : FaultLinesAreNoEntries
-fault_lines why place entry s t small e =
+fault_lines why position entry s t small e =
     let rest : List ℕ = codes " P" ++ (decimal entry.pid ++ (codes " " ++ (op_text entry.op ++ (codes " -> " ++ (reply_text entry.reply ++ (dooms_text entry.doomed ++ codes "\n")))))) in
-    let shown : fault_line why ++ s ≡ decimal place ++ (rest ++ t) =
-    e ∙ ap (λ (line : List ℕ). line ++ t) (line_begins place entry) ∙ append_assoc (decimal place) rest t in
-    let first : get_or (fault_line why ++ s) 0 0 ≡ get_or (decimal place ++ (rest ++ t)) 0 0 = ap (λ (xs : List ℕ). get_or xs 0 0) shown in
-    let digit : get_or (decimal place ++ (rest ++ t)) 0 0 ≤ 57 = first_digit place (rest ++ t) small in
+    let shown : fault_line why ++ s ≡ decimal position ++ (rest ++ t) =
+    e ∙ ap (λ (line : List ℕ). line ++ t) (line_begins position entry) ∙ append_assoc (decimal position) rest t in
+    let first : get_or (fault_line why ++ s) 0 0 ≡ get_or (decimal position ++ (rest ++ t)) 0 0 = ap (λ (xs : List ℕ). get_or xs 0 0) shown in
+    let digit : get_or (decimal position ++ (rest ++ t)) 0 0 ≤ 57 = first_digit position (rest ++ t) small in
     let mark : get_or (fault_line why ++ s) 0 0 ≡ 63 = refl in
     omega arith

@@ -42,12 +42,12 @@ entries_in [] = []
 entries_in (Ok entry ∷ answers) = entry ∷ entries_in answers
 entries_in (Err why ∷ answers) = entries_in answers
 
--- the text of answers, of which the next entry has this place: the lines of a transcript, and those
+-- the text of answers, of which the next entry has this position: the lines of a transcript, and those
 -- of faults between them
 abbrev pub text_from : ℕ → List (Result Entry ScriptFault) → List ℕ
-text_from place [] = []
-text_from place (Ok entry ∷ answers) = line_of place entry ++ text_from (place + 1) answers
-text_from place (Err why ∷ answers) = fault_line why ++ text_from place answers
+text_from position [] = []
+text_from position (Ok entry ∷ answers) = line_of position entry ++ text_from (position + 1) answers
+text_from position (Err why ∷ answers) = fault_line why ++ text_from position answers
 
 -- the text of all answers: entries are numbered from 1
 abbrev pub text_of : List (Result Entry ScriptFault) → List ℕ
@@ -94,5 +94,5 @@ GoodAnswersAreTranscripts = (answers : List (Result Entry ScriptFault))
 -- No line of a transcript can be taken for the answer to a line that is a fault: they differ in their
 -- first byte.
 abbrev pub FaultLinesAreNoEntries : Type 0
-FaultLinesAreNoEntries = (why : ScriptFault) (place : ℕ) (entry : Entry) (s t : List ℕ)
-    → place < 2 ^ 64 → fault_line why ++ s ≡ line_of place entry ++ t → ⊥
+FaultLinesAreNoEntries = (why : ScriptFault) (position : ℕ) (entry : Entry) (s t : List ℕ)
+    → position < 2 ^ 64 → fault_line why ++ s ≡ line_of position entry ++ t → ⊥

@@ -21,8 +21,8 @@ use Rattle.stream.specs.Answers.{IsKernelOf, fault_line}
 use Rattle.stream.specs.declared.fault.StreamFault.{StreamFault}
 use Rattle.stream.specs.declared.fault.StreamFault.TheVariants as stop
 use Rattle.stream.specs.declared.heard.Heard.{Heard}
-use Rattle.stream.specs.declared.refusal.Refusal.{Refusal}
-use Rattle.stream.specs.declared.refusal.Refusal.TheVariants as refusal
+use Rattle.stream.specs.declared.refusal.StepRefusal.{StepRefusal}
+use Rattle.stream.specs.declared.refusal.StepRefusal.TheVariants as refusal
 use Rattle.stream.specs.declared.heard.Heard.TheVariants as heard
 
 -- A kernel has made these entries more, and is otherwise the same to a reader of its history. Some
@@ -106,28 +106,28 @@ pub record IsFullFor (said : Result (Option Line) ScriptFault) (kernel : Shown) 
   pub full : has_place kernel.log line.pid line.op ≡ false
 
 -- why a line is not done: its places are not free, or memory was refused
-abbrev pub Refuses : Result (Option Line) ScriptFault → Shown → Refusal → Type 0
+abbrev pub Refuses : Result (Option Line) ScriptFault → Shown → StepRefusal → Type 0
 Refuses said kernel refusal.HistoryFull = IsFullFor said kernel
 Refuses said kernel refusal.NoMemory = ⊤
 
 -- why an operation is not done
-abbrev pub Refused : Log → ℕ → Op → Refusal → Type 0
+abbrev pub Refused : Log → ℕ → Op → StepRefusal → Type 0
 Refused log pid op refusal.HistoryFull = has_place log pid op ≡ false
 Refused log pid op refusal.NoMemory = ⊤
 
-abbrev pub fault_of_refusal : Refusal → StreamFault
+abbrev pub fault_of_refusal : StepRefusal → StreamFault
 fault_of_refusal refusal.HistoryFull = stop.HistoryFull
 fault_of_refusal refusal.NoMemory = stop.NoMemory
 
 abbrev pub fault_of_check : CheckFault → StreamFault
 fault_of_check NoCheckMemory = stop.NoMemory
-fault_of_check (Wrong place) = stop.Check place
+fault_of_check (Wrong position) = stop.Check position
 
 -- why entries are not forgotten: one of them is wrong, memory was refused to the check, or there
 -- were too many
 abbrev pub CannotForget : Shown → StreamFault → Type 0
-CannotForget kernel (stop.Check place) =
-    IsFaultFor 0 (setup_of kernel.log) kernel.log.entries (Wrong place)
+CannotForget kernel (stop.Check position) =
+    IsFaultFor 0 (setup_of kernel.log) kernel.log.entries (Wrong position)
 CannotForget kernel stop.NoMemory = ⊤
 CannotForget kernel stop.Spent = ⊤
 CannotForget kernel _ = ⊥
@@ -136,7 +136,7 @@ CannotForget kernel _ = ⊥
 -- in it.
 abbrev pub StopsFurther : Result (Option Line) ScriptFault → Shown → StreamFault → Type 0
 StopsFurther said kernel stop.HistoryFull = IsFullFor said kernel × (kept kernel.log ≡ [])
-StopsFurther said kernel (stop.Check place) = CannotForget kernel (stop.Check place)
+StopsFurther said kernel (stop.Check position) = CannotForget kernel (stop.Check position)
 StopsFurther said kernel stop.NoMemory = ⊤
 StopsFurther said kernel stop.Spent = ⊤
 StopsFurther said kernel stop.Read = ⊥

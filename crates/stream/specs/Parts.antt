@@ -26,9 +26,9 @@ pub record Seen : Type 0 where
 abbrev pub input_of : Seen → List ℕ
 input_of seen = flat_map ended seen.lines ++ seen.rest
 
--- the place of the next entry
-abbrev pub place_of : Seen → ℕ
-place_of seen = length (entries_in seen.answers) + 1
+-- the position of the next entry
+abbrev pub position_of : Seen → ℕ
+position_of seen = length (entries_in seen.answers) + 1
 
 -- The stream's fields show what was seen. Of the line that has not ended it keeps no more than is
 -- needed to tell that the line is too long.
@@ -54,7 +54,7 @@ pub record Takes
   pub at : IsAt shown setting after new
   pub input : input_of after ≡ input_of seen ++ part
   pub answers : after.answers ≡ seen.answers ++ more
-  pub told : text ≡ text_from (place_of seen) more
+  pub told : text ≡ text_from (position_of seen) more
 
 -- The part is taken up to the line of which `next` is, and this is the text of the answers up to
 -- it.
@@ -68,7 +68,7 @@ pub record TakesUpTo
   pub number_is : number ≡ (stand_of lines).number
   pub answered : AreAnswers setting.limits (stand_of lines)
       (option_map shown new.kernel) (seen.answers ++ more)
-  pub told : text ≡ text_from (place_of seen) more
+  pub told : text ≡ text_from (position_of seen) more
 
 -- A fault stops the stream at that line.
 pub record Stops

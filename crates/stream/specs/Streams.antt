@@ -123,8 +123,8 @@ HasStopped limits check given left old new stop.Write =
     StopsInPart limits given left old new ⊎ EndsInPart limits check given left old new
 HasStopped limits check given left old new stop.HistoryFull =
     StopsBefore limits given left old new stop.HistoryFull
-HasStopped limits check given left old new (stop.Check place) =
-    StopsBefore limits given left old new (stop.Check place)
+HasStopped limits check given left old new (stop.Check position) =
+    StopsBefore limits given left old new (stop.Check position)
 HasStopped limits check given left old new stop.NoMemory =
     StopsBefore limits given left old new stop.NoMemory
 HasStopped limits check given left old new stop.Spent =

@@ -2,7 +2,7 @@
 ghost use Rattle.std.specs.Prelude.{◌≡◌};
 ghost use Rattle.stream.specs.Heard.{fault_of_check, fault_of_refusal};
 
-use crate::refusal::Refusal;
+use crate::refusal::StepRefusal;
 use replay::CheckFault;
 
 /// Why a stream has stopped before the end of its input.
@@ -16,7 +16,7 @@ pub enum StreamFault {
     HistoryFull,
     /// Memory was refused.
     NoMemory,
-    /// The check says that the entry of this place, counted from 1, is wrong.
+    /// The check says that the entry at this position, counted from 1, is wrong.
     Check(usize),
     /// 2^64 - 1 reads or 2^63 entries were made. No more can be counted.
     Spent,
@@ -24,12 +24,12 @@ pub enum StreamFault {
 
 impl StreamFault {
     // The fault where an operation is refused and nothing more can be forgotten.
-    pub(crate) fn of_refusal(refusal: Refusal) -> StreamFault
+    pub(crate) fn of_refusal(refusal: StepRefusal) -> StreamFault
         ensures { result ≡ fault_of_refusal refusal }
     {
         match refusal {
-            Refusal::HistoryFull => StreamFault::HistoryFull,
-            Refusal::NoMemory => StreamFault::NoMemory,
+            StepRefusal::HistoryFull => StreamFault::HistoryFull,
+            StepRefusal::NoMemory => StreamFault::NoMemory,
         }
     }
 
@@ -38,7 +38,7 @@ impl StreamFault {
         ensures { result ≡ fault_of_check fault }
     {
         match fault {
-            CheckFault::Wrong(place) => StreamFault::Check(place),
+            CheckFault::Wrong(position) => StreamFault::Check(position),
             CheckFault::NoMemory => StreamFault::NoMemory,
         }
     }

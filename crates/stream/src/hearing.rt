@@ -8,7 +8,7 @@ ghost use Rattle.stream.specs.Heard.{Refused, Refuses, StopsFurther, Took};
 
 use crate::fault::StreamFault;
 use crate::heard::Heard;
-use crate::refusal::Refusal;
+use crate::refusal::StepRefusal;
 use crate::settling::settle;
 use heap::Heap;
 use ids::{Op, Pid, Reply};
@@ -17,7 +17,7 @@ use replay::Checker;
 use script::{Line, ScriptFault, read_further_line};
 
 // Executes one operation. Where it is refused nothing has changed.
-fn do_step<K: Machine>(kernel: &mut K, pid: Pid, op: Op) -> Result<(), Refusal>
+fn do_step<K: Machine>(kernel: &mut K, pid: Pid, op: Op) -> Result<(), StepRefusal>
     ensures kept { Kept (K.shown kernel.new) }
     ensures ok { OnOk result (Took (K.shown kernel.old).log (K.shown kernel.new).log pid op) }
     ensures unchanged { OnErr result (K.shown kernel.new ≡ K.shown kernel.old) }
@@ -27,11 +27,11 @@ fn do_step<K: Machine>(kernel: &mut K, pid: Pid, op: Op) -> Result<(), Refusal>
     match &reply {
         Reply::HistoryFull => {
             drop(reply);
-            Err(Refusal::HistoryFull)
+            Err(StepRefusal::HistoryFull)
         }
         Reply::NoMemory => {
             drop(reply);
-            Err(Refusal::NoMemory)
+            Err(StepRefusal::NoMemory)
         }
         _ => {
             drop(reply);
@@ -41,7 +41,7 @@ fn do_step<K: Machine>(kernel: &mut K, pid: Pid, op: Op) -> Result<(), Refusal>
 }
 
 // Executes the operation of a line.
-fn do_line<K: Machine>(kernel: &mut K, line: Line) -> Result<Heard, Refusal>
+fn do_line<K: Machine>(kernel: &mut K, line: Line) -> Result<Heard, StepRefusal>
     requires { Kept (K.shown kernel.old) }
     ensures kept { Kept (K.shown kernel.new) }
     ensures heard { IfOk result (λ heard. heard ≡ Heard.Operation) }
@@ -60,13 +60,13 @@ fn do_line<K: Machine>(kernel: &mut K, line: Line) -> Result<Heard, Refusal>
 }
 
 // A fault of a line is heard, but for refused memory, which says nothing of the line.
-pub(crate) fn heard_fault(fault: ScriptFault) -> Result<Heard, Refusal>
+pub(crate) fn heard_fault(fault: ScriptFault) -> Result<Heard, StepRefusal>
     ensures heard { IfOk result (λ heard. heard ≡ Heard.Fault fault) }
     ensures no_memory { OnOk result (fault ≢ ScriptFault.NoMemory) }
-    ensures refused { IfErr result (λ refusal. refusal ≡ Refusal.NoMemory) }
+    ensures refused { IfErr result (λ refusal. refusal ≡ StepRefusal.NoMemory) }
 {
     match fault {
-        ScriptFault::NoMemory => Err(Refusal::NoMemory),
+        ScriptFault::NoMemory => Err(StepRefusal::NoMemory),
         _ => Ok(Heard::Fault(fault)),
     }
 }
@@ -78,7 +78,7 @@ fn try_line<K: Machine>(
     number: usize,
     line: &[u8],
     kernel: &mut K,
-) -> Result<Heard, Refusal>
+) -> Result<Heard, StepRefusal>
     ensures kept { Kept (K.shown kernel.new) }
     ensures comes { IfOk result (ComesFurther
         (further_line_of number line.now) (K.shown kernel.old) (K.shown kernel.new)) }
@@ -146,7 +146,7 @@ pub(crate) fn hear_further<K: Machine>(
 {
     match try_line(heap, number, line, kernel) {
         Ok(heard) => Ok(heard),
-        Err(Refusal::HistoryFull) => hear_again(heap, number, line, kernel, checker),
-        Err(Refusal::NoMemory) => Err(StreamFault::NoMemory),
+        Err(StepRefusal::HistoryFull) => hear_again(heap, number, line, kernel, checker),
+        Err(StepRefusal::NoMemory) => Err(StreamFault::NoMemory),
     }
 }

@@ -1,6 +1,6 @@
 // Why an operation was refused.
 #[derive(Clone, Copy)]
-pub(crate) enum Refusal {
+pub(crate) enum StepRefusal {
     // Its places in the history are not free.
     HistoryFull,
     // Memory was refused.

@@ -57,6 +57,7 @@ pub fn run_stream<K: Machine, I: Source, O: Sink>(
             return Err(StreamFault::Read);
         };
         if count == 0 {
+            // For the proof: a legal history passes.
             legal_histories_pass();
             return stream.finish(check, sink);
         }

@@ -16,7 +16,7 @@ ghost use Rattle.stream.specs.Parts.{ComesOf, IsTaken, NotTaken};
 use crate::fault::StreamFault;
 use crate::heard::Heard;
 use crate::hearing::{hear_further, heard_fault};
-use crate::refusal::Refusal;
+use crate::refusal::StepRefusal;
 use crate::settling::settle;
 use crate::telling::{put_fault_line, put_verdict, tell};
 use device::Sink;
@@ -115,18 +115,18 @@ impl<K: Machine> Stream<K> {
     }
 
     // Does the line that has ended, where no line before it has given priorities.
-    fn hear_first(&mut self, setting: Setting) -> Result<Heard, Refusal>
+    fn hear_first(&mut self, setting: Setting) -> Result<Heard, StepRefusal>
         requires none { self.old.kernel ≡ None }
         requires can_make { CanMake setting.limits }
         ensures ok { IfOk result (IsHeard K.shown setting self.old self.new) }
         ensures err { OnErr result (self.new ≡ self.old) }
-        ensures memory { IfErr result (λ refusal. refusal ≡ Refusal.NoMemory) }
+        ensures memory { IfErr result (λ refusal. refusal ≡ StepRefusal.NoMemory) }
     {
         match read_first_line(self.heap, self.number, self.line.as_slice()) {
             Ok(None) => Ok(Heard::Nothing),
             Ok(Some(priorities)) => match self.begin(setting, priorities.as_slice()) {
                 Ok(()) => Ok(Heard::Nothing),
-                Err(_) => Err(Refusal::NoMemory),
+                Err(_) => Err(StepRefusal::NoMemory),
             },
             Err(fault) => heard_fault(fault),
         }

@@ -5,11 +5,11 @@ use Rattle.ids.specs.declared.entry.Entry.{Entry}
 use Rattle.transcript.specs.Line.{line_of, lines_from}
 
 -- the lines of entries and of one more
-pub lines_from-push : (first place : ℕ) (xs : List Entry) (x : Entry) → place ≡ first + length xs → lines_from first (xs ++ x ∷ []) ≡ lines_from first xs ++ line_of place x
-lines_from-push first place [] x e = append-nil (line_of first x) ∙ ap (λ (k : ℕ). line_of k x) (let same : first ≡ place = omega arith in same)
-lines_from-push first place (y ∷ ys) x e =
-    ap (λ (t : List ℕ). line_of first y ++ t) (lines_from-push (first + 1) place ys x (omega arith))
-    ∙ sym (append_assoc (line_of first y) (lines_from (first + 1) ys) (line_of place x))
+pub lines_from-push : (first position : ℕ) (xs : List Entry) (x : Entry) → position ≡ first + length xs → lines_from first (xs ++ x ∷ []) ≡ lines_from first xs ++ line_of position x
+lines_from-push first position [] x e = append-nil (line_of first x) ∙ ap (λ (k : ℕ). line_of k x) (let same : first ≡ position = omega arith in same)
+lines_from-push first position (y ∷ ys) x e =
+    ap (λ (t : List ℕ). line_of first y ++ t) (lines_from-push (first + 1) position ys x (omega arith))
+    ∙ sym (append_assoc (line_of first y) (lines_from (first + 1) ys) (line_of position x))
 
 pub lines_from-more : (first i : ℕ) (xs : List Entry) (x : Entry) → i < length xs → x ≡ get_or xs i x → lines_from first (take (i + 1) xs) ≡ lines_from first (take i xs) ++ line_of (first + i) x
 lines_from-more first i xs x below is =
@@ -17,5 +17,5 @@ lines_from-more first i xs x below is =
     ∙ lines_from-push first (first + i) (take i xs) x (omega (arith, length-take {A = Entry} i xs))
 
 -- the lines of one entry are its line
-pub lines_from-one : (place : ℕ) (entry : Entry) (entries : List Entry) → entries ≡ entry ∷ [] → lines_from place entries ≡ line_of place entry
-lines_from-one place entry entries is = ap (lines_from place) is ∙ append-nil (line_of place entry)
+pub lines_from-one : (position : ℕ) (entry : Entry) (entries : List Entry) → entries ≡ entry ∷ [] → lines_from position entries ≡ line_of position entry
+lines_from-one position entry entries is = ap (lines_from position) is ∙ append-nil (line_of position entry)

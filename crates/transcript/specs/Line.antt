@@ -13,16 +13,16 @@ abbrev pub dooms_text : List ℕ → List ℕ
 dooms_text [] = []
 dooms_text (pid ∷ pids) = codes " dooms P" ++ decimal pid ++ flat_map more_text pids
 
--- the line of the entry at this place
+-- the line of the entry at this position
 unfoldable pub line_of : ℕ → Entry → List ℕ
-line_of place entry =
-    decimal place ++ codes " P" ++ decimal entry.pid ++ codes " " ++ op_text entry.op
+line_of position entry =
+    decimal position ++ codes " P" ++ decimal entry.pid ++ codes " " ++ op_text entry.op
     ++ codes " -> " ++ reply_text entry.reply ++ dooms_text entry.doomed ++ codes "\n"
 
--- the lines of entries, of which the first has this place
+-- the lines of entries, of which the first has this position
 abbrev pub lines_from : ℕ → List Entry → List ℕ
-lines_from place [] = []
-lines_from place (entry ∷ entries) = line_of place entry ++ lines_from (place + 1) entries
+lines_from position [] = []
+lines_from position (entry ∷ entries) = line_of position entry ++ lines_from (position + 1) entries
 
 -- the lines of a whole history: its entries are numbered from 1
 abbrev pub transcript : List Entry → List ℕ

@@ -63,7 +63,7 @@ abbrev pub answer_text : Answer → List ℕ
 answer_text answer.Done = codes "ok"
 answer_text (answer.Fd fd) = decimal fd
 answer_text (answer.Count count) = decimal count
-answer_text (answer.Place place) = decimal place
+answer_text (answer.Place offset) = decimal offset
 answer_text (answer.Bytes bytes) = decimal (length bytes) ++ codes " " ++ text_of bytes
 answer_text (answer.Pair reader writer) = decimal reader ++ codes " " ++ decimal writer
 answer_text (answer.Stat stat) = stat_text stat

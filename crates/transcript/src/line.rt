@@ -31,14 +31,14 @@ fn put_dooms<S: Sink>(out: &mut Printer<'_, S>, doomed: &[Pid])
     }
 }
 
-/// Prints the line of one entry behind what was printed before. `place` is its number in its
+/// Prints the line of one entry behind what was printed before. `position` is its number in its
 /// history, from 1.
 #[tactic(auto, unfolding(crate::specs::Line::line_of))]
-pub fn put_line<S: Sink>(out: &mut Printer<'_, S>, place: usize, entry: &Entry)
+pub fn put_line<S: Sink>(out: &mut Printer<'_, S>, position: usize, entry: &Entry)
     requires { CanPrint S.failures out.old }
-    ensures { Prints S.written S.failures out.old out.new (line_of place entry.now) }
+    ensures { Prints S.written S.failures out.old out.new (line_of position entry.now) }
 {
-    out.put_decimal(place as u64);
+    out.put_decimal(position as u64);
     out.put_number(b" P", entry.pid.0);
     out.put(b" ");
     put_op(out, &entry.op);
@@ -58,18 +58,18 @@ fn put_lines<S: Sink>(out: &mut Printer<'_, S>, first: usize, entries: &[Entry])
     }
 }
 
-/// Prints the line of one entry. `place` is its number in its history, from 1.
+/// Prints the line of one entry. `position` is its number in its history, from 1.
 ///
 /// Where the sink fails a beginning of the line is written.
-pub fn print_line<S: Sink>(place: usize, entry: &Entry, sink: &mut S) -> Result<(), DeviceFailed>
+pub fn print_line<S: Sink>(position: usize, entry: &Entry, sink: &mut S) -> Result<(), DeviceFailed>
     requires { CanCount (S.failures sink.old) }
     ensures ok { OnOk result (S.written sink.new
-        ≡ append_known (S.written sink.old) (line_of place entry.now)) }
+        ≡ append_known (S.written sink.old) (line_of position entry.now)) }
     ensures no_failure { OnOk result (S.failures sink.new ≡ S.failures sink.old) }
-    ensures part { IsPart (S.written sink.old) (S.written sink.new) (line_of place entry.now) }
+    ensures part { IsPart (S.written sink.old) (S.written sink.new) (line_of position entry.now) }
     ensures failure { OnErr result (S.failures sink.old < S.failures sink.new) }
 {
-    print(place, slice::from_ref(entry), sink)
+    print(position, slice::from_ref(entry), sink)
 }
 
 /// Prints the lines of entries that follow each other in a history. `first` is the number of the

@@ -133,7 +133,7 @@ fn put_answer<S: Sink>(out: &mut Printer<'_, S>, answer: &Answer)
         Answer::Done => out.put(b"ok"),
         Answer::Fd(fd) => out.put_decimal(u64::from(fd.0)),
         Answer::Count(count) => out.put_decimal(u64::from(*count)),
-        Answer::Place(place) => out.put_decimal(u64::from(*place)),
+        Answer::Place(offset) => out.put_decimal(u64::from(*offset)),
         Answer::Bytes(bytes) => put_counted(out, bytes.as_slice()),
         Answer::Pair(reader, writer) => put_pair(out, reader.0, writer.0),
         Answer::Stat(stat) => put_stat(out, stat),

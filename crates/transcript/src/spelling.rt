@@ -293,24 +293,24 @@ fn entry(byte: u8) -> [u8; WIDTH]
     (&SPELLINGS)[usize::from(byte)]
 }
 
-// Puts all of a byte's entry from a place on.
-fn put_entry(out: &mut [u8], place: usize, byte: u8)
-    requires { place + WIDTH ≤ length out.old }
-    ensures entry { take (place + WIDTH) out.new ≡ take place out.old ++ get_or SPELLINGS byte [] }
+// Puts all of a byte's entry from an offset on.
+fn put_entry(out: &mut [u8], offset: usize, byte: u8)
+    requires { offset + WIDTH ≤ length out.old }
+    ensures entry { take (offset + WIDTH) out.new ≡ take offset out.old ++ get_or SPELLINGS byte [] }
     ensures len { length out.new ≡ length out.old }
 {
-    out[place..place + WIDTH].copy_from_slice(&entry(byte));
+    out[offset..offset + WIDTH].copy_from_slice(&entry(byte));
 }
 
-// Spells bytes from a place on, and answers where they end. All of each entry is copied, which takes
+// Spells bytes from an offset on, and answers where they end. All of each entry is copied, which takes
 // no branch; behind the end anything may stand.
-pub(crate) fn spell(out: &mut [u8], place: usize, bytes: &[u8]) -> usize
-    requires { place + length bytes.now * WIDTH ≤ length out.old }
-    ensures spelled { take result out.new ≡ take place out.old ++ flat_map byte_text bytes.now }
-    ensures end { result ≤ place + length bytes.now * WIDTH }
+pub(crate) fn spell(out: &mut [u8], offset: usize, bytes: &[u8]) -> usize
+    requires { offset + length bytes.now * WIDTH ≤ length out.old }
+    ensures spelled { take result out.new ≡ take offset out.old ++ flat_map byte_text bytes.now }
+    ensures end { result ≤ offset + length bytes.now * WIDTH }
     ensures len { length out.new ≡ length out.old }
 {
-    let mut end = place;
+    let mut end = offset;
     for byte in bytes {
         put_entry(out, end, *byte);
         end += width(*byte);

@@ -15,7 +15,7 @@ use Rattle.turnstile.specs.Histories.{IsLegal, Begins, made_of, own, shown}
 use Rattle.turnstile.specs.Rule.{having_seen, Follows, Learns}
 use Rattle.turnstile.specs.Passes.{pass_view, pass_of}
 use Rattle.turnstile.specs.Calls.{IsSamePass, Called, Ends}
-use Rattle.turnstile.specs.Holding.{Place, HasTaken, Stepped, taker_of}
+use Rattle.turnstile.specs.Holding.{KernelSeat, HasTaken, Stepped, taker_of}
 use Rattle.turnstile.specs.declared.rule.PassState.{PassState}
 use Rattle.turnstile.specs.declared.rule.Role.{Role}
 use Rattle.turnstile.specs.declared.rule.Role.TheVariants.{Takes}
@@ -25,7 +25,7 @@ use Rattle.turnstile.proofs.Beginnings.{before_self, before_trans, last, before_
 abbrev pub history : {K : Type 0} → (K → Shown) → K → Log
 history shown k = (shown k).log
 
-pub same_seat : {K : Type 0} (p q : Place K) → q.table_id ≡ p.table_id → q.id ≡ p.id → q.me ≡ p.me → q ≡ p
+pub same_seat : {K : Type 0} (p q : KernelSeat K) → q.table_id ≡ p.table_id → q.id ≡ p.id → q.me ≡ p.me → q ≡ p
 same_seat p q t i m = λ k. record { marker = q.marker; table_id = t k; id = i k; me = m k }
 
 -- a step is told by the histories alone
@@ -86,7 +86,7 @@ step_called z o old new op reply before same s = record {
     }
 
 -- what the pass of a seat has seen after the call
-pub called_pass : {K : Type 0} (p q r : Place K) (log : Log) (op : Op) (reply : Reply) → HasTaken p log q → Stepped q op reply r
+pub called_pass : {K : Type 0} (p q r : KernelSeat K) (log : Log) (op : Op) (reply : Reply) → HasTaken p log q → Stepped q op reply r
     → IsSamePass (pass_view p.table_id (pass_of p.me.0)) (pass_view r.table_id (pass_of r.me.0)) × Called (pass_view p.table_id (pass_of p.me.0)) op reply (pass_view r.table_id (pass_of r.me.0))
 called_pass {K = K} p q r log op reply taken stepped = let o : PassState = pass_of p.me.0 in let new : Log = stepped.log in
     let taker : taker_of q.me.0 ≡ having_seen o log = ap (λ (m : Me (Option K) Role). taker_of m.0) taken.me in
@@ -105,7 +105,7 @@ called_pass {K = K} p q r log op reply taken stepped = let o : PassState = pass_
     )
 
 -- the kernel that comes out of the slot
-pub takes_out : {K : Type 0} (shown : K → Shown) (p q r : Place K) (x : Option K) (k : K) → q.table_id ≡ p.table_id → q.id ≡ p.id → q.me ≡ (Takes (having_seen (pass_of p.me.0) (shown k).log), (0, Some k) ∷ []) → Learns IsLegal (pass_of p.me.0) (shown k).log
+pub takes_out : {K : Type 0} (shown : K → Shown) (p q r : KernelSeat K) (x : Option K) (k : K) → q.table_id ≡ p.table_id → q.id ≡ p.id → q.me ≡ (Takes (having_seen (pass_of p.me.0) (shown k).log), (0, Some k) ∷ []) → Learns IsLegal (pass_of p.me.0) (shown k).log
     → r.table_id ≡ q.table_id → r.id ≡ q.id → q.me.1 ≡ (0, x) ∷ rest q.me.1 → r.me ≡ (q.me.0, (0, None) ∷ rest q.me.1)
     → IfSome x (λ k. HasTaken p (shown k).log r) × IfNone x (r ≡ p)
 takes_out {K = K} shown p q r x k t i is learns t' i' out me = let e : x ≡ Some k = ap head (sym out ∙ ap (λ (m : Me (Option K) Role). m.1) is) in

@@ -12,7 +12,7 @@ use Rattle.model.specs.Entries.{Op, Do, Reply, Answers, Refuses, Begun, Committe
 use Rattle.turnstile.specs.Histories.{IsLegal, made_of, own, shown}
 use Rattle.turnstile.specs.Rule.{having_seen, Follows}
 use Rattle.turnstile.specs.Passes.{pass_view, pass_of}
-use Rattle.turnstile.specs.Holding.{Place, IsSameSeat, HasTaken, Stepped, taker_of, child_of}
+use Rattle.turnstile.specs.Holding.{KernelSeat, IsSameSeat, HasTaken, Stepped, taker_of, child_of}
 use Rattle.turnstile.specs.declared.rule.PassState.{PassState}
 use Rattle.turnstile.specs.declared.rule.Role.{Role}
 use Rattle.turnstile.specs.declared.rule.Role.TheVariants.{Process}
@@ -63,7 +63,7 @@ pub made_is : (k : Shown) → Kept k → made_of k.log ≡ k.state.made
 unfolding made_of
 made_is k kept = ap (λ (s : State). s.made) (sym kept.state)
 
-module _ {K : Type 0} (p q r : Place K) (k k' : Log) (pid : ℕ) (op : Op) (reply : Reply) (taken : HasTaken p k q) (pid_is : pid ≡ (pass_of p.me.0).pid) (legal : IsLegal k') (step : IsStep (shown k) (shown k') pid op reply) where
+module _ {K : Type 0} (p q r : KernelSeat K) (k k' : Log) (pid : ℕ) (op : Op) (reply : Reply) (taken : HasTaken p k q) (pid_is : pid ≡ (pass_of p.me.0).pid) (legal : IsLegal k') (step : IsStep (shown k) (shown k') pid op reply) where
   taker_is : taker_of q.me.0 ≡ having_seen (pass_of p.me.0) k
   taker_is = ap (λ (m : M K). taker_of m.0) taken.me
 
@@ -83,7 +83,7 @@ module _ {K : Type 0} (p q r : Place K) (k k' : Log) (pid : ℕ) (op : Op) (repl
   }
 
 -- what follows where a process was made
-module _ {K : Type 0} (p q : Place K) (k k' : Log) (pid n : ℕ) (op : Op) (taken : HasTaken p k q) (pid_is : pid ≡ (pass_of p.me.0).pid) (legal : IsLegal k') (step : IsStep (shown k) (shown k') pid op (Answers (Child n))) where
+module _ {K : Type 0} (p q : KernelSeat K) (k k' : Log) (pid n : ℕ) (op : Op) (taken : HasTaken p k q) (pid_is : pid ≡ (pass_of p.me.0).pid) (legal : IsLegal k') (step : IsStep (shown k) (shown k') pid op (Answers (Child n))) where
   next : n ≡ suc (made_of k)
   next = child_is_next k k' pid op (Answers (Child n)) taken.learns.lawful legal step.entry n refl
 

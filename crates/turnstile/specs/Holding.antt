@@ -15,8 +15,8 @@ use Rattle.turnstile.specs.declared.rule.PassState.{PassState}
 use Rattle.turnstile.specs.declared.rule.Role.{Role}
 use Rattle.turnstile.specs.declared.rule.Role.TheVariants.{Process, Takes, Closes}
 
-abbrev pub Place : Type 0 → Type 0
-Place K = Seat (Option K) Role
+abbrev pub KernelSeat : Type 0 → Type 0
+KernelSeat K = Seat (Option K) Role
 
 abbrev pub taker_of : Role → PassState
 taker_of (Takes o) = o
@@ -33,7 +33,7 @@ IsTaking m = m ≡ (Takes (taker_of m.0), (0, None) ∷ [])
 abbrev pub child_of : PassState → Log → PassState
 child_of o log = pass_state (made_of log) log o.start
 
-abbrev pub IsSameSeat : {K : Type 0} → Place K → Place K → Type 0
+abbrev pub IsSameSeat : {K : Type 0} → KernelSeat K → KernelSeat K → Type 0
 IsSameSeat p q = (q.table_id ≡ p.table_id) × (q.id ≡ p.id)
 
 abbrev pub closer_of : Role → Log
@@ -45,13 +45,13 @@ abbrev pub IsClosing : {K : Type 0} → Me (Option K) Role → Type 0
 IsClosing m = m.0 ≡ Closes (closer_of m.0)
 
 -- the seat took the kernel, and has seen its history
-pub record HasTaken {K : Type 0} (p : Place K) (log : Log) (q : Place K) : Type 0 where
+pub record HasTaken {K : Type 0} (p : KernelSeat K) (log : Log) (q : KernelSeat K) : Type 0 where
   pub same : IsSameSeat p q
   pub me : q.me ≡ (Takes (having_seen (pass_of p.me.0) log), (0, None) ∷ [])
   pub learns : Learns IsLegal (pass_of p.me.0) log
 
 -- the seat gave the kernel back after a step of its process
-pub record Stepped {K : Type 0} (p : Place K) (op : Op) (reply : Reply) (q : Place K)
+pub record Stepped {K : Type 0} (p : KernelSeat K) (op : Op) (reply : Reply) (q : KernelSeat K)
     : Type 0 where
   pub log : Log
   pub same : IsSameSeat p q

@@ -67,12 +67,14 @@ impl Machine for Full {
     }
 
     fn step(&mut self, _pid: Pid, op: Op) -> Reply {
+        // For the proof: the history has no place.
         let _no_place = self.history.limit();
         drop(op);
         Reply::HistoryFull
     }
 
     fn run(&mut self, ops: Vec<(Pid, Op), Heap>) -> Result<Vec<Reply, Heap>, AllocError> {
+        // For the proof: the history has no place.
         let _no_place = self.history.limit();
         drop(ops);
         Err(AllocError)

@@ -43,7 +43,7 @@ const AWAITED: u64 = 2;
 // as some of these looks.
 const LOOKS: u32 = 100;
 
-type Place<K> = Seat<Option<K>, Role>;
+type KernelSeat<K> = Seat<Option<K>, Role>;
 
 type Lock<K> = Table<Option<K>, Role, Snapshot<History>, OneLock, Heap>;
 
@@ -90,7 +90,7 @@ fn living<K: Machine>(heap: Heap, kernel: &K) -> Result<Vec<bool, Heap>, AllocEr
 // A pass for each number that is marked. There is room for them.
 fn deal<K: Machine>(
     lock: &Lock<K>,
-    mut dealer: Place<K>,
+    mut dealer: KernelSeat<K>,
     mut passes: Vec<Pass<K>, Heap>,
     living: &[bool],
 ) -> Vec<Pass<K>, Heap>
@@ -117,8 +117,12 @@ fn deal<K: Machine>(
 }
 
 // Shows that the history of the seat, which has the kernel for ever, begins with what each of the
-// passes had seen. It is for contracts alone: the word that it loads is not used.
-fn check_passes<K: Machine>(lock: &Lock<K>, seat: &mut Place<K>, mut passes: Vec<Pass<K>, Heap>)
+// passes had seen.
+fn check_passes<K: Machine>(
+    lock: &Lock<K>,
+    seat: &mut KernelSeat<K>,
+    mut passes: Vec<Pass<K>, Heap>,
+)
     requires lock { lock.now.shared.table_id.words ≡ 1 }
     requires seat { (seat.old.table_id ≡ lock.now.shared.table_id) × IsClosing seat.old.me }
     requires passes { All
@@ -131,6 +135,8 @@ fn check_passes<K: Machine>(lock: &Lock<K>, seat: &mut Place<K>, mut passes: Vec
             pid: _,
             seat: other,
         } = pass;
+        // For the proof: what the pass had seen begins the history. The word that is loaded is not
+        // used.
         lock.shared.join_seat::<Collect>(seat, other);
         lock.shared.load::<Check>(seat, 0);
     }
@@ -166,7 +172,7 @@ fn table_of<K: Machine>(
     heap: Heap,
     kernel: K,
     mut slots: Vec<Option<K>, Heap>,
-) -> Result<(Lock<K>, Place<K>), K>
+) -> Result<(Lock<K>, KernelSeat<K>), K>
     requires { (slots.items ≡ []) × (vec_capacity slots ≡ 1) }
     ensures start { IfOk result (λ t. (t.0.shared.key.value ≡ (K.shown kernel).log)
         × IsLegal t.0.shared.key.value) }
@@ -269,7 +275,7 @@ impl<K: Machine> Turnstile<K> {
     }
 
     // The kernel, where it is free.
-    pub(crate) fn take(&self, seat: &mut Place<K>) -> Option<K>
+    pub(crate) fn take(&self, seat: &mut KernelSeat<K>) -> Option<K>
         requires { (seat.old.table_id ≡ self.now.table) × IsAtRest seat.old.me }
         ensures some { IfSome result (λ k. HasTaken seat.old (K.shown k).log seat.new) }
         ensures none { IfNone result (seat.new ≡ seat.old) }
@@ -282,7 +288,7 @@ impl<K: Machine> Turnstile<K> {
     }
 
     // The kernel, where it is free at one of some looks.
-    fn look_and_take(&self, seat: &mut Place<K>) -> Option<K>
+    fn look_and_take(&self, seat: &mut KernelSeat<K>) -> Option<K>
         requires { (seat.old.table_id ≡ self.now.table) × IsAtRest seat.old.me }
         ensures some { IfSome result (λ k. HasTaken seat.old (K.shown k).log seat.new) }
         ensures none { IfNone result (seat.new ≡ seat.old) }
@@ -299,7 +305,7 @@ impl<K: Machine> Turnstile<K> {
     }
 
     // The kernel, where it is free. Where it is not, who gives it back wakes a thread that sleeps.
-    fn await_and_take(&self, seat: &mut Place<K>) -> Option<K>
+    fn await_and_take(&self, seat: &mut KernelSeat<K>) -> Option<K>
         requires { (seat.old.table_id ≡ self.now.table) × IsAtRest seat.old.me }
         ensures some { IfSome result (λ k. HasTaken seat.old (K.shown k).log seat.new) }
         ensures none { IfNone result (seat.new ≡ seat.old) }
@@ -312,7 +318,7 @@ impl<K: Machine> Turnstile<K> {
     }
 
     // The kernel, once it is free. The thread looks for it for a while, and then sleeps.
-    fn wait_and_take<R: Wait>(&self, rt: &R, seat: &mut Place<K>) -> K
+    fn wait_and_take<R: Wait>(&self, rt: &R, seat: &mut KernelSeat<K>) -> K
         requires { (seat.old.table_id ≡ self.now.table) × IsAtRest seat.old.me }
         ensures { HasTaken seat.old (K.shown result).log seat.new }
     {
@@ -329,7 +335,7 @@ impl<K: Machine> Turnstile<K> {
     }
 
     // Gives the kernel back after one step of the seat's process.
-    fn give(&self, seat: &mut Place<K>, kernel: K)
+    fn give(&self, seat: &mut KernelSeat<K>, kernel: K)
         requires seat { (seat.old.table_id ≡ self.now.table) × IsTaking seat.old.me }
         requires kernel { IsLegal (K.shown kernel).log
             × Follows (taker_of seat.old.me.0).pid (taker_of seat.old.me.0).seen (K.shown kernel).log }
@@ -345,7 +351,7 @@ impl<K: Machine> Turnstile<K> {
     }
 
     // One step of the process whose seat has the kernel.
-    fn step(&self, seat: &mut Place<K>, pid: Pid, mut kernel: K, op: Op) -> Reply
+    fn step(&self, seat: &mut KernelSeat<K>, pid: Pid, mut kernel: K, op: Op) -> Reply
         requires seat { (seat.old.table_id ≡ self.now.table) × IsTaking seat.old.me }
         requires kernel { ((taker_of seat.old.me.0).seen ≡ (K.shown kernel).log)
             × ((taker_of seat.old.me.0).pid ≡ pid) }
@@ -385,7 +391,7 @@ impl<K: Machine> Turnstile<K> {
     }
 
     // Gives the kernel back after a step that made a process, and cuts off the seat of that process.
-    fn bear(&self, seat: &mut Place<K>, kernel: K) -> Place<K>
+    fn bear(&self, seat: &mut KernelSeat<K>, kernel: K) -> KernelSeat<K>
         requires seat { (seat.old.table_id ≡ self.now.table) × IsTaking seat.old.me }
         requires kernel { IsLegal (K.shown kernel).log
             × Follows (taker_of seat.old.me.0).pid (taker_of seat.old.me.0).seen (K.shown kernel).log
@@ -429,14 +435,16 @@ impl<K: Machine> Turnstile<K> {
         }
     }
 
-    // Tells the first seat what the second has seen, and compares.
-    fn compare(&self, seat: &mut Place<K>, other: &mut Place<K>)
+    // Tells the first seat what the second has seen, and compares. The word that is loaded is not
+    // used.
+    fn compare(&self, seat: &mut KernelSeat<K>, other: &mut KernelSeat<K>)
         requires seat { (seat.old.table_id ≡ self.now.table) × IsAtRest seat.old.me }
         requires other { (other.old.table_id ≡ self.now.table) × IsAtRest other.old.me }
         ensures same { (seat.new ≡ seat.old) × (other.new ≡ other.old) }
         ensures compared { Compares (pass_of seat.old.me.0) (pass_of other.old.me.0).seen }
     {
         let shared = &self.table.shared;
+        // For the proof: of what two seats have seen one begins the other.
         let copy = shared.split_seat::<Copied>(other);
         shared.join_seat::<Inform>(seat, copy);
         shared.load::<Compare>(seat, 0);

@@ -1,4 +1,4 @@
-// Rows of reads and writes at a place beside other transactions.
+// Rows of reads and writes at an offset beside other transactions.
 use crate::row::Row;
 
 pub(crate) static BESIDE_OFFSETS: [Row; 8] = [
@@ -115,8 +115,8 @@ pub(crate) static BESIDE_OFFSETS: [Row; 8] = [
 17 P1 end -> committed
 ",
     },
-    // A write behind the end changes the length, which a read of any place has asked for. A read at
-    // the end or behind it has seen the length alone.
+    // A write behind the end changes the length, which a read at any offset has asked for. A read
+    // at the end or behind it has seen the length alone.
     Row {
         script: "priorities 0 0
 1 open /a RDWR,CREAT

@@ -1,4 +1,5 @@
-// Rows of what reads and writes at a place find and leave. They neither look at the offset nor move it.
+// Rows of what reads and writes at an offset find and leave. They neither look at the offset of the
+// description nor move it.
 use crate::openings::row_after;
 use crate::row::Row;
 
@@ -118,7 +119,7 @@ pub(crate) static BYTES_AT_OFFSETS: [Row; 6] = [
 28 P1 lseek 0 0 CUR -> 0
 ",
     },
-    // With APPEND a write at a place goes there all the same, plain and in a transaction.
+    // With APPEND a write at an offset goes there all the same, plain and in a transaction.
     row_after! {
         after: a_written_file("WRONLY,CREAT,APPEND", "abcd", 4),
         priorities: "0",

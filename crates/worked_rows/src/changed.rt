@@ -58,7 +58,7 @@ fn add_all(history: &mut History, entries: &[Entry], changed: usize) -> Result<(
     Ok(())
 }
 
-// What the check says of a history whose entry at this place has another reply.
+// What the check says of a history whose entry at this position has another reply.
 fn check_changed(heap: Heap, history: &History, at: usize) -> Result<Result<(), CheckFault>, Fail> {
     let entries = history.entries();
     let limits = Limits {
@@ -104,8 +104,8 @@ fn is_committed(entries: &[Entry], pid: Pid) -> bool {
     false
 }
 
-// What the check has to say where the reply at this place is changed: its place where the call is
-// plain, or of a committed transaction.
+// What the check has to say where the reply at this position is changed: that position where the
+// call is plain, or of a committed transaction.
 fn wanted(entries: &[Entry], at: usize, pid: Pid) -> Result<(), CheckFault> {
     let (before, later) = entries.split_at(at.min(entries.len()));
     if is_inside(before, pid) && !is_committed(later, pid) {
@@ -115,7 +115,7 @@ fn wanted(entries: &[Entry], at: usize, pid: Pid) -> Result<(), CheckFault> {
     }
 }
 
-// The place of the first entry of which the check says something else when its reply is changed.
+// The position of the first entry of which the check says something else when its reply is changed.
 fn first_missed(heap: Heap, history: &History) -> Result<Option<usize>, Fail> {
     let entries = history.entries();
     for (at, entry) in entries.iter().enumerate() {
@@ -128,7 +128,7 @@ fn first_missed(heap: Heap, history: &History) -> Result<Option<usize>, Fail> {
     Ok(None)
 }
 
-// Does the row's steps, and tells that place.
+// Does the row's steps, and tells that position.
 pub(crate) fn missed_on<K: Machine>(
     kernel: &mut K,
     heap: Heap,

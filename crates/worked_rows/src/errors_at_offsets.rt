@@ -1,10 +1,10 @@
-// Rows of the tests of reads and writes at a place, in their order.
+// Rows of the tests of reads and writes at an offset, in their order.
 use crate::openings::row_after;
 use crate::row::Row;
 
 pub(crate) static ERRORS_AT_OFFSETS: [Row; 4] = [
-    // The tests of a read in their order, each where those behind it would refuse too. A place far
-    // behind the end has no bytes, and is not taken for a small one.
+    // The tests of a read in their order, each where those behind it would refuse too. An offset
+    // far behind the end has no bytes, and is not taken for a small one.
     row_after! {
         after: a_written_file("WRONLY,CREAT", "abc", 3),
         priorities: "0",

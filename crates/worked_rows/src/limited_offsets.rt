@@ -1,4 +1,4 @@
-// Rows of reads and writes at a place under other limits of a file's bytes.
+// Rows of reads and writes at an offset under other limits of a file's bytes.
 use crate::row::{Large, Row};
 
 pub(crate) static LIMITED_OFFSETS: [Large; 4] = [

@@ -25,13 +25,13 @@ fn read(count: u32) -> Op {
     Op::Call(Call::Read(Fd(0), count))
 }
 
-fn pwrite(heap: Heap, count: usize, place: i64) -> Result<Op, Fail> {
+fn pwrite(heap: Heap, count: usize, offset: i64) -> Result<Op, Fail> {
     let bytes = Vec::from_elem(heap, b'y', count)?;
-    Ok(Op::Call(Call::Pwrite(Fd(0), Bytes::new(bytes), place)))
+    Ok(Op::Call(Call::Pwrite(Fd(0), Bytes::new(bytes), offset)))
 }
 
-fn pread(count: u32, place: i64) -> Op {
-    Op::Call(Call::Pread(Fd(0), count, place))
+fn pread(count: u32, offset: i64) -> Op {
+    Op::Call(Call::Pread(Fd(0), count, offset))
 }
 
 // How many bytes a step moves.
@@ -54,7 +54,7 @@ fn each_moved<K: Machine>(heap: Heap, kernel: &mut K) -> Result<[usize; 5], Fail
 
 const MOVED: [usize; 5] = [1_048_576, 1_048_576, 1_048_576, 1_048_576, 0];
 
-// How many a write and two reads at places move, which find 2,097,152 there.
+// How many a write and two reads at offsets move, which find 2,097,152 there.
 fn each_moved_at_offsets<K: Machine>(heap: Heap, kernel: &mut K) -> Result<[usize; 3], Fail> {
     let one = moved(kernel, pwrite(heap, 1_048_577, 1)?);
     let two = moved(kernel, pread(u32::MAX, 0));

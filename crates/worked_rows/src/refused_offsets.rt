@@ -1,4 +1,4 @@
-// Each request for memory refused once, in reads and writes at a place.
+// Each request for memory refused once, in reads and writes at an offset.
 use crate::refused::{Part, Refused, assert_right};
 use kernel::Kernel;
 use std::test::Fail;

@@ -58,8 +58,8 @@ fn show_each<L: Look>(
 fn show_tree<L: Look>(heap: Heap, text: &mut Text, view: &L) -> Result<(), AllocError> {
     let mut dirs = Vec::new(heap);
     dirs.push(view.root())?;
-    for place in 0..DIRECTORIES {
-        if let Some(dir) = dirs.get(place).copied() {
+    for index in 0..DIRECTORIES {
+        if let Some(dir) = dirs.get(index).copied() {
             show_names(heap, text, view, dir, &mut dirs)?;
         }
     }

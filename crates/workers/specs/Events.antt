@@ -5,7 +5,7 @@ use Rattle.ids.specs.declared.reply.Reply.{Reply}
 use Rattle.workers.specs.declared.worker.Event.{Event}
 use Rattle.workers.specs.declared.worker.Event.TheVariants.{Ended, Forked, Stopped}
 use Rattle.workers.specs.Port.{fork, child_reply}
-use Rattle.workers.specs.Rules.{Place}
+use Rattle.workers.specs.Rules.{Position}
 use Rattle.workers.specs.Families.{children}
 use Rattle.workers.specs.Work.{IsStopped, IsWork, Stands}
 
@@ -19,15 +19,15 @@ pub record IsBorn {P H : Type 0} (number : P → ℕ) (home : P → H) (done : P
   pub home_is : home child ≡ h
   pub fresh : done child ≡ []
 
--- The worker of these lines goes on, from its place, or has come to the end, to a child, or to a
+-- The worker of these lines goes on, from its position, or has come to the end, to a child, or to a
 -- refusal. Only a fork that made a child adds one.
 abbrev pub Comes : {P H : Type 0} → (P → ℕ) → (P → H) → (P → List (Op × Reply)) → H → List Op
-    → List (Op × Reply) → List (Op × Reply) → Place → Option (Event P) → Type 0
-Comes number home done h lines old new place None =
-    Stands lines new place × (children new ≡ children old)
-Comes number home done h lines old new place (Some Ended) =
+    → List (Op × Reply) → List (Op × Reply) → Position → Option (Event P) → Type 0
+Comes number home done h lines old new position None =
+    Stands lines new position × (children new ≡ children old)
+Comes number home done h lines old new position (Some Ended) =
     IsWork lines new × (children new ≡ children old)
-Comes number home done h lines old new place (Some (Forked pid child)) = Stands lines new place
+Comes number home done h lines old new position (Some (Forked pid child)) = Stands lines new position
     × (children new ≡ children old ++ pid ∷ []) × (number child ≡ pid) × (home child ≡ h)
     × (done child ≡ [])
-Comes number home done h lines old new place (Some (Stopped fault)) = IsStopped lines new
+Comes number home done h lines old new position (Some (Stopped fault)) = IsStopped lines new

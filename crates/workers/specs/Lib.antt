@@ -1,6 +1,6 @@
 pub mod Events
 pub mod Families
-pub mod Places
+pub mod Positions
 pub mod Port
 pub mod Rules
 pub mod Threads

@@ -5,11 +5,11 @@ use Rattle.ids.specs.declared.call.Op.{Op}
 use Rattle.ids.specs.declared.call.Op.TheVariants.{Begin, End, Abort}
 use Rattle.ids.specs.declared.reply.Reply.{Reply}
 use Rattle.ids.specs.declared.reply.Reply.TheVariants as reply
-use Rattle.workers.specs.declared.place.Mode.{Mode}
-use Rattle.workers.specs.declared.place.Mode.TheVariants.{AtLine, GivingUp, Gone}
+use Rattle.workers.specs.declared.position.Mode.{Mode}
+use Rattle.workers.specs.declared.position.Mode.TheVariants.{AtLine, GivingUp, Gone}
 
 -- Where a worker stands.
-pub record Place : Type 0 where
+pub record Position : Type 0 where
   -- the lines that are left, the next one first
   pub rest : List Op
   -- how often the next line was answered Busy
@@ -21,7 +21,7 @@ pub record Place : Type 0 where
   pub inside : Bool
   pub mode : Mode
 
-abbrev pub start : List Op → Place
+abbrev pub start : List Op → Position
 start lines = record { rest = lines; busy = 0; begun = None; inside = false; mode = AtLine }
 
 abbrev pub first : List Op → Option Op
@@ -34,8 +34,8 @@ asked_in rest AtLine = first rest
 asked_in rest GivingUp = Some (Abort true)
 asked_in rest Gone = None
 
-abbrev pub asked : Place → Option Op
-asked place = asked_in place.rest place.mode
+abbrev pub asked : Position → Option Op
+asked position = asked_in position.rest position.mode
 
 -- what is left behind the first `end` or `abort`
 abbrev pub behind_end : List Op → List Op
@@ -45,57 +45,57 @@ behind_end (Abort no_restart ∷ rest) = rest
 behind_end (line ∷ rest) = behind_end rest
 
 -- at the first of these lines
-abbrev pub at : Place → List Op → Place
-at place rest = record place { rest = rest; busy = 0; mode = AtLine }
+abbrev pub at : Position → List Op → Position
+at position rest = record position { rest = rest; busy = 0; mode = AtLine }
 
 -- A Busy line is asked for again, at most a hundred times, and then the worker goes on.
-abbrev pub put_off : Place → List Op → Place
-put_off place rest =
-    if nat_lt place.busy 100 then record place { busy = place.busy + 1 } else at place rest
+abbrev pub put_off : Position → List Op → Position
+put_off position rest =
+    if nat_lt position.busy 100 then record position { busy = position.busy + 1 } else at position rest
 
 -- After an abort the worker goes on behind the transaction. The line that was answered may be its
 -- end.
-abbrev pub skipped : Place → Place
-skipped place = at place (behind_end place.rest)
+abbrev pub skipped : Position → Position
+skipped position = at position (behind_end position.rest)
 
 -- After a restart it goes back behind the last begin, at most a hundred times for one begin. The
 -- next time it gives the transaction up.
-abbrev pub restarted : Place → Option (List Op × ℕ) → Place
-restarted place None = skipped place
-restarted place (Some begun) =
+abbrev pub restarted : Position → Option (List Op × ℕ) → Position
+restarted position None = skipped position
+restarted position (Some begun) =
     if nat_lt begun.1 100
-    then record (at place begun.0) { begun = Some (begun.0, begun.1 + 1) }
-    else record place { mode = GivingUp }
+    then record (at position begun.0) { begun = Some (begun.0, begun.1 + 1) }
+    else record position { mode = GivingUp }
 
 -- after the reply Begun to this line
-abbrev pub begun_by : Place → Op → List Op → Place
-begun_by place (Begin flags) rest = record (at place rest) { begun = Some (rest, 0) }
-begun_by place line rest = at place rest
+abbrev pub begun_by : Position → Op → List Op → Position
+begun_by position (Begin flags) rest = record (at position rest) { begun = Some (rest, 0) }
+begun_by position line rest = at position rest
 
 -- The process is gone, and the worker stops.
-abbrev pub gone : Place → Place
-gone place = record place { mode = Gone }
+abbrev pub gone : Position → Position
+gone position = record position { mode = Gone }
 
 -- after the reply to a line, with the lines behind it
-abbrev pub after_line : Place → Op → List Op → Reply → Place
-after_line place line rest (reply.Busy cause) = put_off place rest
-after_line place line rest (reply.Aborted why true) = restarted place place.begun
-after_line place line rest (reply.Aborted why false) = skipped place
-after_line place line rest (reply.GivenUp true) = restarted place place.begun
-after_line place line rest reply.Begun = begun_by place line rest
-after_line place line rest reply.NoProcess = gone place
-after_line place line rest r = at place rest
+abbrev pub after_line : Position → Op → List Op → Reply → Position
+after_line position line rest (reply.Busy cause) = put_off position rest
+after_line position line rest (reply.Aborted why true) = restarted position position.begun
+after_line position line rest (reply.Aborted why false) = skipped position
+after_line position line rest (reply.GivenUp true) = restarted position position.begun
+after_line position line rest reply.Begun = begun_by position line rest
+after_line position line rest reply.NoProcess = gone position
+after_line position line rest r = at position rest
 
 -- after the reply to the abort of a transaction that restarted too often
-abbrev pub after_abort : Place → Reply → Place
-after_abort place reply.NoProcess = gone place
-after_abort place r = skipped place
+abbrev pub after_abort : Position → Reply → Position
+after_abort position reply.NoProcess = gone position
+after_abort position r = skipped position
 
-abbrev pub moved_in : Place → List Op → Mode → Reply → Place
-moved_in place (line ∷ rest) AtLine r = after_line place line rest r
-moved_in place [] AtLine r = place
-moved_in place lines GivingUp r = after_abort place r
-moved_in place lines Gone r = place
+abbrev pub moved_in : Position → List Op → Mode → Reply → Position
+moved_in position (line ∷ rest) AtLine r = after_line position line rest r
+moved_in position [] AtLine r = position
+moved_in position lines GivingUp r = after_abort position r
+moved_in position lines Gone r = position
 
 -- whether the process is in a transaction, by the last reply that says so
 abbrev pub inside_after : Bool → Reply → Bool
@@ -106,6 +106,6 @@ inside_after inside (reply.Aborted why again) = again
 inside_after inside r = inside
 
 -- where the worker stands after a reply
-unfoldable pub after : Place → Reply → Place
-after place r =
-    record (moved_in place place.rest place.mode r) { inside = inside_after place.inside r }
+unfoldable pub after : Position → Reply → Position
+after position r =
+    record (moved_in position position.rest position.mode r) { inside = inside_after position.inside r }

@@ -7,12 +7,12 @@
 
 mod fault;
 mod lines;
-mod place;
 mod port;
+mod position;
 mod threads;
 mod worker;
 
 pub use fault::WorkFault;
-pub use place::{Mode, Place};
 pub use port::Port;
+pub use position::{Mode, Position};
 pub use threads::run_workers;

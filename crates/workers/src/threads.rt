@@ -8,7 +8,7 @@ ghost use Rattle.workers.specs.Work.{IsWork};
 
 use crate::lines::{Lines, ScriptLines};
 use crate::worker::{Event, run_on};
-use crate::{Place, Port, WorkFault};
+use crate::{Port, Position, WorkFault};
 use heap::Heap;
 use ids::{MAX_PROCESSES, Pid};
 use script::Script;
@@ -178,11 +178,11 @@ fn work<
                 (P.home (L.port lines.entry.now)) (P.number port ∷ []) result }
         {
             let mut port = port;
-            let mut place = Place::start(port.pid(), lines.all());
+            let mut position = Position::start(port.pid(), lines.all());
             let mut threads = VecDeque::new(alloc);
             let mut stop = None;
             for _ in rt.forever() {
-                let (pid, child) = match run_on(rt, &mut port, &mut place) {
+                let (pid, child) = match run_on(rt, &mut port, &mut position) {
                     Event::Forked(pid, child) => (pid, child),
                     Event::Ended => break,
                     Event::Stopped(fault) => {

@@ -4,13 +4,13 @@ ghost use Rattle.ids.specs.declared.call.Op.{Op};
 ghost use Rattle.ids.specs.declared.reply.Reply.{Reply};
 ghost use Rattle.workers.specs.Events.{Comes, IsBorn};
 ghost use Rattle.workers.specs.Families.{child_of};
-ghost use Rattle.workers.specs.Places.{shown};
+ghost use Rattle.workers.specs.Positions.{shown};
 ghost use Rattle.workers.specs.Port.{child_reply, grown};
 ghost use Rattle.workers.specs.Rules.{after, asked};
 ghost use Rattle.workers.specs.declared.worker.Event.TheVariants.{Forked};
 ghost use Rattle.workers.specs.Work.{IsStopped, Stands};
 
-use crate::{Place, Port, WorkFault};
+use crate::{Port, Position, WorkFault};
 use ids::{Answer, Call, Op, Pid, Reply};
 use std::sync::Wait;
 
@@ -40,12 +40,12 @@ fn ask<R: Wait, P: Port>(rt: &R, port: &mut P, operation: Op) -> Result<(Pid, P)
 }
 
 // Gives up the transaction that the process is in, if it is in one.
-fn stop<R: Wait, P: Port>(rt: &R, port: &mut P, place: &Place)
+fn stop<R: Wait, P: Port>(rt: &R, port: &mut P, position: &Position)
     ensures same { (P.number port.new ≡ P.number port.old) × (P.home port.new ≡ P.home port.old) }
-    ensures stopped { (lines : List Op) → Stands lines (P.done port.old) (shown place.now)
+    ensures stopped { (lines : List Op) → Stands lines (P.done port.old) (shown position.now)
         → IsStopped lines (P.done port.new) }
 {
-    if place.is_inside() {
+    if position.is_inside() {
         drop(port.call(rt, Op::Abort { no_restart: true }));
     }
 }
@@ -54,26 +54,26 @@ fn stop<R: Wait, P: Port>(rt: &R, port: &mut P, place: &Place)
 fn take_reply<R: Wait, P: Port>(
     rt: &R,
     port: &mut P,
-    place: &mut Place,
+    position: &mut Position,
     reply: Reply,
 ) -> Option<Event<P>>
     ensures same { (P.number port.new ≡ P.number port.old) × (P.home port.new ≡ P.home port.old) }
     ensures comes { (lines : List Op) (before : List (Op × Reply)) (operation : Op)
-        → Stands lines before (shown place.old)
-        → asked (shown place.old) ≡ Some operation
+        → Stands lines before (shown position.old)
+        → asked (shown position.old) ≡ Some operation
         → child_of operation reply ≡ []
         → P.done port.old ≡ grown before operation reply
         → Comes P.number P.home P.done (P.home port.old) lines
-        before (P.done port.new) (shown place.new) result }
+        before (P.done port.new) (shown position.new) result }
 {
     match WorkFault::of_reply(&reply) {
         Some(fault) => {
             drop(reply);
-            stop(rt, port, place);
+            stop(rt, port, position);
             Some(Event::Stopped(fault))
         }
         None => {
-            place.after(&reply);
+            position.after(&reply);
             drop(reply);
             None
         }
@@ -88,46 +88,46 @@ fn child_reply(pid: Pid) -> Reply
 }
 
 // The worker goes on after a fork that made a child.
-fn take_child<P: Port>(place: &mut Place, born: (Pid, P)) -> Event<P>
-    ensures place { shown place.new ≡ after (shown place.old) (child_reply born.0) }
+fn take_child<P: Port>(position: &mut Position, born: (Pid, P)) -> Event<P>
+    ensures position { shown position.new ≡ after (shown position.old) (child_reply born.0) }
     ensures event { result ≡ Forked born.0 born.1 }
 {
     let (pid, child) = born;
     let reply = child_reply(pid);
-    place.after(&reply);
+    position.after(&reply);
     drop(reply);
     Event::Forked(pid, child)
 }
 
 // One operation of a worker, if one is left.
-fn step<R: Wait, P: Port>(rt: &R, port: &mut P, place: &mut Place) -> Option<Event<P>>
+fn step<R: Wait, P: Port>(rt: &R, port: &mut P, position: &mut Position) -> Option<Event<P>>
     ensures same { (P.number port.new ≡ P.number port.old) × (P.home port.new ≡ P.home port.old) }
-    ensures comes { (lines : List Op) → Stands lines (P.done port.old) (shown place.old)
+    ensures comes { (lines : List Op) → Stands lines (P.done port.old) (shown position.old)
         → Comes P.number P.home P.done (P.home port.old) lines
-        (P.done port.old) (P.done port.new) (shown place.new) result }
+        (P.done port.old) (P.done port.new) (shown position.new) result }
 {
-    match place.next() {
+    match position.next() {
         Ok(Some(operation)) => match ask(rt, port, operation) {
-            Ok(born) => Some(take_child(place, born)),
-            Err(reply) => take_reply(rt, port, place, reply),
+            Ok(born) => Some(take_child(position, born)),
+            Err(reply) => take_reply(rt, port, position, reply),
         },
         Ok(None) => Some(Event::Ended),
         Err(_) => {
-            stop(rt, port, place);
+            stop(rt, port, position);
             Some(Event::Stopped(WorkFault::NoMemory))
         }
     }
 }
 
 /// Goes on with the work of a process up to the next child, or to its end.
-pub(crate) fn run_on<R: Wait, P: Port>(rt: &R, port: &mut P, place: &mut Place) -> Event<P>
+pub(crate) fn run_on<R: Wait, P: Port>(rt: &R, port: &mut P, position: &mut Position) -> Event<P>
     ensures same { (P.number port.new ≡ P.number port.old) × (P.home port.new ≡ P.home port.old) }
-    ensures comes { (lines : List Op) → Stands lines (P.done port.old) (shown place.old)
+    ensures comes { (lines : List Op) → Stands lines (P.done port.old) (shown position.old)
         → Comes P.number P.home P.done (P.home port.old) lines
-        (P.done port.old) (P.done port.new) (shown place.new) (Some result) }
+        (P.done port.old) (P.done port.new) (shown position.new) (Some result) }
 {
     for _ in rt.forever() {
-        if let Some(event) = step(rt, port, place) {
+        if let Some(event) = step(rt, port, position) {
             return event;
         }
     }

@@ -10,11 +10,11 @@ use ids::{Answer, Entry, Reply};
 use kernel::Kernel;
 use replay::{CheckFault, check};
 
-// The place at which a check says that a history is wrong, from 1, or 0 where it passes.
+// The position at which a check says that a history is wrong, from 1, or 0 where it passes.
 fn fault_of(heap: Heap, history: &History) -> Result<u64> {
     match check(heap, history) {
         Ok(()) => Ok(0),
-        Err(CheckFault::Wrong(place)) => Ok(place as u64),
+        Err(CheckFault::Wrong(position)) => Ok(position as u64),
         Err(CheckFault::NoMemory) => bail!("a check was refused memory"),
     }
 }
@@ -26,12 +26,12 @@ fn changed(entry: &Entry) -> Result<Entry> {
     Ok(copy)
 }
 
-// A copy of a history, of which the entry at this place is changed.
-fn copy_of(heap: Heap, history: &History, place: usize) -> Result<History> {
+// A copy of a history, of which the entry at this position is changed.
+fn copy_of(heap: Heap, history: &History, position: usize) -> Result<History> {
     let entries = history.entries();
     let mut copy = History::new(heap, history.priorities(), entries.len())?;
     for (index, entry) in entries.iter().enumerate() {
-        let copied = if index == place {
+        let copied = if index == position {
             changed(entry)?
         } else {
             entry.try_clone()?
@@ -47,8 +47,8 @@ fn add_check(room: &mut Room, digest: &mut Digest, history: &History) -> Result<
     digest.add_number(fault_of(room.heap, history)?);
     let count = history.entries().len() as u64;
     digest.add_number(count);
-    let place = room.random.between(count / 2, count) as usize;
-    let copy = copy_of(room.heap, history, place)?;
+    let position = room.random.between(count / 2, count) as usize;
+    let copy = copy_of(room.heap, history, position)?;
     digest.add_number(fault_of(room.heap, &copy)?);
     Ok(())
 }

@@ -77,8 +77,8 @@ pub(crate) fn drive(kernel: &mut Kernel, room: &mut Room, actors: &mut [Actor]) 
             return Ok(());
         }
         let steps = room.random.between(1, TURN + 1);
-        let place = room.random.between(0, actors.len() as u64) as usize;
-        if let Some(actor) = actors.get_mut(place) {
+        let index = room.random.between(0, actors.len() as u64) as usize;
+        if let Some(actor) = actors.get_mut(index) {
             take_turn(kernel, room, actor, steps)?;
         }
     }

@@ -80,8 +80,8 @@ fn add_look(reader: &mut Actor, room: &mut Room, package: u64) -> Result<()> {
 
 // So many looks at packages that are there by then.
 fn add_looks(reader: &mut Actor, room: &mut Room, packages: u64) -> Result<()> {
-    for place in 0..packages.saturating_mul(6) {
-        let end = (place / 7).max(1);
+    for index in 0..packages.saturating_mul(6) {
+        let end = (index / 7).max(1);
         let package = room.random.between(0, end);
         add_look(reader, room, package)?;
     }

@@ -33,12 +33,12 @@ fn add_making(maker: &mut Actor, heap: Heap, first: u64, count: u64, commits: bo
 fn add_removing(remover: &mut Actor, heap: Heap, first: u64, count: u64) -> Result<()> {
     remover.begin()?;
     for i in 0..count {
-        let place = i
+        let index = i
             .wrapping_mul(7919)
             .wrapping_add(13)
             .checked_rem(count)
             .unwrap_or(0);
-        let path = path_of(heap, first, place)?;
+        let path = path_of(heap, first, index)?;
         remover.stat(heap, path.as_str())?;
         remover.other(ids::Call::Rmdir(ids::Bytes::copy(heap, path.as_str().as_bytes())?))?;
     }

@@ -13,8 +13,8 @@ const LARGEST: u64 = 1_048_576;
 // The files, which stay open on descriptors that follow each other.
 const FILES: u64 = 4;
 
-fn seek(actor: &mut Actor, fd: u32, place: u64) -> Result<()> {
-    actor.other(Call::Lseek(Fd(fd), place.min(LARGEST) as i64, Whence::Set))
+fn seek(actor: &mut Actor, fd: u32, offset: u64) -> Result<()> {
+    actor.other(Call::Lseek(Fd(fd), offset.min(LARGEST) as i64, Whence::Set))
 }
 
 fn open_files(writer: &mut Actor, heap: Heap) -> Result<()> {
@@ -42,8 +42,8 @@ fn length_of(room: &mut Room) -> usize {
 // Writes a piece anywhere, or reads one.
 fn add_piece(writer: &mut Actor, room: &mut Room, number: u64) -> Result<()> {
     let fd = room.random.below(FILES) as u32;
-    let place = room.random.below(LARGEST - 40_000);
-    seek(writer, fd, place)?;
+    let offset = room.random.below(LARGEST - 40_000);
+    seek(writer, fd, offset)?;
     let length = length_of(room);
     if number % 4 == 3 {
         return writer.other(Call::Read(Fd(fd), length.min(40_000) as u32));

@@ -6,7 +6,7 @@ use Rattle.replay.proofs.Prefixes.{passes_take}
 use Rattle.replay.proofs.legal_histories_have_no_fault.Goals as goal
 
 pub returns : goal.returns
-returns c = λ root setup limit es legal place fault.
+returns c = λ root setup limit es legal position fault.
     let wrong = fault.2 in
     let most = suc wrong.at + length es in
     wrong.fails (

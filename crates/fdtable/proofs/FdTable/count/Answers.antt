@@ -1,7 +1,7 @@
 use Rattle.std.proofs.Common.{◌≡◌, ◌+◌, ◌-◌, ◌≤◌, ◌∙◌, ℕ, suc, sym, ap, arith}
 use Rattle.model.specs.FiniteMap as map
 use Rattle.ids.specs.declared.limits.TheConstants.{DESCRIPTORS}
-use Rattle.fdtable.specs.Free.{one_if}
+use Rattle.fdtable.specs.Open.{one_if}
 use Rattle.fdtable.proofs.Opened.{among, among_more, one_low, open_all, open_from, open_none}
 use Rattle.fdtable.proofs.FdTable.count.Goals as goal
 

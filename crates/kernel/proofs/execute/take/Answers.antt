@@ -29,9 +29,9 @@ enter-requires c =
     let at = (goal.at.enter-requires c).After-doom_each-arg-1 in
     let chosen = c.in-Ok-change.chosen in
     subst₂ (λ reply doomed. CanEnter (fields c.doom_each.new.s) (record { pid = c.args.pid; op = Do c.args.call; reply = reply; chosen = chosen; doomed = doomed }))
-    (sym (c.in-Ok.ensures.entry ∙ ap answered c.requires.answer)) (sym (c.in-Ok.ensures.pids ∙ ap (map (λ d. d.pid)) c.as_slice.ensures.value))
+    (sym (c.split-entry.ensures.entry ∙ c.in-Ok.ensures.told ∙ ap answered c.requires.answer)) (sym (c.in-Ok.ensures.pids ∙ ap (map (λ d. d.pid)) c.as_slice.ensures.value))
     (takes (fields c.args.s.now) c.args.pid c.args.within c.args.call chosen c.args.doomed.items c.requires.asks c.requires.wins (new at) _ _ (moved at) c.doom_each.ensures)
 
 pub returns-clause-ok : goal.returns-clause-ok
-returns-clause-ok c = subst (Does (fields c.args.s.now) _ c.args.pid (Do c.args.call)) (c.in-Ok.ensures.entry ∙ sym c.in-Ok.ensures.reply)
+returns-clause-ok c = subst (Does (fields c.args.s.now) _ c.args.pid (Do c.args.call)) (c.split-entry.ensures.entry ∙ sym c.split-entry.ensures.reply)
     (c.enter.ensures (fields c.args.s.now) (sym (c.doom_each.ensures.log ∙ c.in-Ok-change.ensures.moves.log ∙ same_log c.args.within c.args.pid c.args.plan.edits.items (fields c.args.s.now))))

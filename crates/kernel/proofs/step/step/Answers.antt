@@ -2,10 +2,10 @@ use Rattle.kernel.proofs.Words.{rules, ◌≡◌, true, subst, status, moment, S
 use Rattle.kernel.proofs.Entries.{free_at, leaves, none_else}
 use Rattle.kernel.proofs.step.step.Goals as goal
 
-pub add_entry-requires-clause-can : goal.add_entry-requires-clause-can
-add_entry-requires-clause-can c =
+pub add_entry-requires : goal.add_entry-requires
+add_entry-requires c =
     let log = c.args.s.now.history in
     let stands = subst (λ x. Stands x (status (moment log) c.args.pid)) c.in-Gone.is c.standing_of-standing.ensures in
     let place : has_place log c.args.pid c.args.op ≡ true = search rules in
-    leaves (fields c.args.s.now) c.requires c.args.pid c.args.op NoProcess gone stands
-    (refl, none_else c.args.pid c.args.op NoProcess, free_at (fields c.args.s.now) c.args.pid c.args.op gone stands place) refl refl refl (λ n t. refl)
+    rw c.new.ensures (leaves (fields c.args.s.now) c.requires c.args.pid c.args.op NoProcess gone stands
+    (refl, none_else c.args.pid c.args.op NoProcess, free_at (fields c.args.s.now) c.args.pid c.args.op gone stands place) refl refl refl (λ n t. refl))

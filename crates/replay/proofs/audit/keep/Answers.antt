@@ -6,7 +6,7 @@ use Rattle.replay.proofs.Setting.{if_ok}
 use Rattle.replay.proofs.audit.keep.Goals as goal
 
 pub returns-in-Some : goal.returns-in-Some
-returns-in-Some c = if_ok c.set.result c.set.ensures (λ h q. at_set _ _ _ _ _ c.place_of.ensures h q
+returns-in-Some c = if_ok c.set.result c.set.ensures (λ h q. at_set _ _ _ _ _ c.key_of.ensures h q
     ∙ ap (λ o. if q == c.args.pid then o else get c.args.transactions.now q) (sym c.in-Some.is))
 
 pub returns-in-None : goal.returns-in-None

@@ -11,7 +11,7 @@ still_needed-requires g c =
     let all = c.in-Ok.ensures.follows g.before.root g.before.setup (first_is g.before.entries c.args.entries.now g.before.root g.before.setup c.args.count c.args.audit.kernel c.args.audit.transactions c.requires.count c.requires.follows) in
     let end = last_is g.before.entries c.args.entries.now g.before.root g.before.setup c.args.count c.in-Ok.end c.follow_all.new.self.kernel c.follow_all.new.self.transactions c.requires.count all.0 all.1 in
     ends_part (g.before.entries ++ c.args.entries.now) g.before.root g.before.setup _ c.follow_all.new.self.transactions
-    (begins_part g.before.entries c.args.entries.now _ c.args.audit.transactions refl c.requires.count c.requires.held c.requires.there).0 c.in-Ok.ensures.sees end.1.places
+    (begins_part g.before.entries c.args.entries.now _ c.args.audit.transactions refl c.requires.count c.requires.held c.requires.there).0 c.in-Ok.ensures.sees end.1.positions
 
 pub returns-in-Ok-still_needed-clause-ok : goal.returns-in-Ok-still_needed-clause-ok
 returns-in-Ok-still_needed-clause-ok g c =

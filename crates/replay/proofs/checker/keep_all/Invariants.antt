@@ -7,5 +7,5 @@ use Rattle.replay.proofs.checker.keep_all.Given as goal
 abbrev pub ghost-keep : goal.ghost-keep
 ghost-keep g a = g.es
 
-abbrev pub invariant-loop-place : goal.invariant-loop-place
-invariant-loop-place g l = AreHeld g.es l.kept × AllByRecursion (λ place. get l.kept place ≢ None) (take l.place-index l.places) × Grows l.fn.kept l.kept
+abbrev pub invariant-loop-position : goal.invariant-loop-position
+invariant-loop-position g l = AreHeld g.es l.kept × AllByRecursion (λ position. get l.kept position ≢ None) (take l.position-index l.positions) × Grows l.fn.kept l.kept

@@ -16,9 +16,9 @@ check_told-requires c = record {
 
 pub returns-in-None-clause-wrong : goal.returns-in-None-clause-wrong
 returns-in-None-clause-wrong c = (
-  c.in-Err-Wrong.place,
-  add-one c.in-Err-Wrong.place,
-  wrong_for_guess c.args.beginning.now c.args.entries.now c.args.guess c.in-Err-Wrong.entry c.in-Err-Wrong.place
+  c.in-Err-Wrong.call,
+  add-one c.in-Err-Wrong.call,
+  wrong_for_guess c.args.beginning.now c.args.entries.now c.args.guess c.in-Err-Wrong.entry c.in-Err-Wrong.call
       (subst (IsStop c.args.guess c.args.beginning.now c.args.entries.now) c.in-Err-Wrong.field-0-is c.in-Err-Wrong.ensures) c.requires
       (λ r tells. absurd (let wrong : Some r ≡ None = sym (c.told_root.ensures r tells) ∙ c.in-None.is in cc)),
 )

@@ -31,7 +31,7 @@ returns-in-Ok-clause-fault g c =
         ran = search rules;
         wanted = wanted;
         fails = fails;
-        passes = λ place e. c.legal_histories_have_no_fault.ensures 0 (setup_of (g.K.Machine.shown c.in-Ok.kernel).log) (limit_of (g.K.Machine.shown c.in-Ok.kernel).log) (g.K.Machine.shown c.in-Ok.kernel).log.entries c.history.ensures.kept.legal place (subst (NotChecked (g.K.Machine.shown c.in-Ok.kernel).log mid new (g.O.Sink.failures c.args.out.now < last)) e fails).0;
+        passes = λ position e. c.legal_histories_have_no_fault.ensures 0 (setup_of (g.K.Machine.shown c.in-Ok.kernel).log) (limit_of (g.K.Machine.shown c.in-Ok.kernel).log) (g.K.Machine.shown c.in-Ok.kernel).log.entries c.history.ensures.kept.legal position (subst (NotChecked (g.K.Machine.shown c.in-Ok.kernel).log mid new (g.O.Sink.failures c.args.out.now < last)) e fails).0;
       });
       read = λ e. absurd (subst (NotChecked (g.K.Machine.shown c.in-Ok.kernel).log mid new (g.O.Sink.failures c.args.out.now < last)) e fails);
       write = λ e. (subst (NotChecked (g.K.Machine.shown c.in-Ok.kernel).log mid new (g.O.Sink.failures c.args.out.now < last)) e fails).2;

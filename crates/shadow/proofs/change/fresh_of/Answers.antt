@@ -7,7 +7,7 @@ use Rattle.shadow.specs.declared.change.Made.{Made}
 use Rattle.shadow.specs.declared.change.Contents.TheVariants.{Names}
 use Rattle.shadow.specs.Patches.{added_by}
 use Rattle.shadow.specs.Steps.{new_inode}
-use Rattle.shadow.proofs.NamesNoted.{laid_none, none_added}
+use Rattle.shadow.proofs.noting.NameNotes.{laid_none, none_added}
 use Rattle.shadow.proofs.change.fresh_of.Goals as goal
 
 pub returns-in-Directory-clause-contents : goal.returns-in-Directory-clause-contents

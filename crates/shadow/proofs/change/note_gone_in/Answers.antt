@@ -5,22 +5,22 @@ use Rattle.shadow.specs.declared.change.Contents.{Contents}
 use Rattle.shadow.specs.declared.change.Contents.TheVariants.{Names}
 use Rattle.shadow.specs.Patches.{added_by, patched}
 use Rattle.shadow.specs.Steps.{name_noted}
-use Rattle.shadow.proofs.NamesNoted.{added_first, added_more, named_first, named_more, taken_back}
-use Rattle.shadow.proofs.Outcomes.{ok_so}
+use Rattle.shadow.proofs.noting.NameNotes.{added_first, added_more, named_first, named_more, taken_back}
+use Rattle.shadow.proofs.shared.Outcomes.{ok_so}
 use Rattle.shadow.proofs.change.note_gone_in.Goals as goal
 
 pub returns-in_ok-note-in-Names-clause-contents : goal.returns-in_ok-note-in-Names-clause-contents
 returns-in_ok-note-in-Names-clause-contents c =
-    named_more c.in-Names._fresh c.in-Names.names c.note.new.self c.args.name None c.args.contents.now c.in-Names.is c.in_ok-note-in-Names.ensures.ok
+    named_more c.in-Names.is_fresh c.in-Names.names c.note.new.self c.args.name None c.args.contents.now c.in-Names.is c.in_ok-note-in-Names.ensures.ok
 
 pub returns-in_ok-note-in-Names-clause-added : goal.returns-in_ok-note-in-Names-clause-added
 returns-in_ok-note-in-Names-clause-added c =
-    let more : added_by (Names c.in-Names._fresh c.note.new.self) ≤ added_by c.args.contents.now + 0 =
-    added_more c.in-Names._fresh c.in-Names.names c.note.new.self c.args.name None c.args.contents.now c.in-Names.is c.in_ok-note-in-Names.ensures.ok in omega (arith, more)
+    let more : added_by (Names c.in-Names.is_fresh c.note.new.self) ≤ added_by c.args.contents.now + 0 =
+    added_more c.in-Names.is_fresh c.in-Names.names c.note.new.self c.args.name None c.args.contents.now c.in-Names.is c.in_ok-note-in-Names.ensures.ok in omega (arith, more)
 
 pub returns-in_ok-note-in-Names-clause-back : goal.returns-in_ok-note-in-Names-clause-back
 returns-in_ok-note-in-Names-clause-back c =
-    ap (λ (notes : Notes). Names c.in-Names._fresh notes)
+    ap (λ (notes : Notes). Names c.in-Names.is_fresh notes)
     (ap (λ (notes : Notes). noted_back c.args.name c.look-former.result notes) c.in_ok-note-in-Names.ensures.ok
     ∙ ap (λ former. noted_back c.args.name former (insert c.in-Names.names c.args.name None)) c.look-former.ensures
     ∙ taken_back c.in-Names.names c.args.name None)

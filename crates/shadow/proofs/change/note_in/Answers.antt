@@ -2,20 +2,20 @@ use Rattle.std.proofs.Common.{ap, sym, ◌∙◌, true, false}
 use Rattle.shadow.specs.declared.change.Contents.{Contents}
 use Rattle.shadow.specs.Patches.{patched}
 use Rattle.shadow.specs.Steps.{name_noted}
-use Rattle.shadow.proofs.NamesNoted.{added_first, added_more, named_first, named_more}
-use Rattle.shadow.proofs.Outcomes.{ok_so}
+use Rattle.shadow.proofs.noting.NameNotes.{added_first, added_more, named_first, named_more}
+use Rattle.shadow.proofs.shared.Outcomes.{ok_so}
 use Rattle.shadow.proofs.change.note_in.Goals as goal
 
 pub returns-in-Names-clause-contents : goal.returns-in-Names-clause-contents
 returns-in-Names-clause-contents c =
     ok_so c.note.result
-    (λ is. named_more c.in-Names._fresh c.in-Names.names c.note.new.self c.args.name c.args.given c.args.contents.now c.in-Names.is is)
+    (λ is. named_more c.in-Names.is_fresh c.in-Names.names c.note.new.self c.args.name c.args.given c.args.contents.now c.in-Names.is is)
     c.note.ensures.ok
 
 pub returns-in-Names-clause-added : goal.returns-in-Names-clause-added
 returns-in-Names-clause-added c =
     ok_so c.note.result
-    (λ is. added_more c.in-Names._fresh c.in-Names.names c.note.new.self c.args.name c.args.given c.args.contents.now c.in-Names.is is)
+    (λ is. added_more c.in-Names.is_fresh c.in-Names.names c.note.new.self c.args.name c.args.given c.args.contents.now c.in-Names.is is)
     c.note.ensures.ok
 
 pub returns-in-Same-clause-contents : goal.returns-in-Same-clause-contents

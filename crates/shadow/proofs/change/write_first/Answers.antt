@@ -7,5 +7,5 @@ use Rattle.shadow.proofs.change.write_first.Goals as goal
 
 pub returns-clause-numbers : goal.returns-clause-numbers
 returns-clause-numbers c =
-    subst (λ (d : Contents). (b : ℕ) → Contains (numbers_in d) b ↔ Contains (blocks c.args.place (length c.args.bytes.now)) b)
+    subst (λ (d : Contents). (b : ℕ) → Contains (numbers_in d) b ↔ Contains (blocks c.args.offset (length c.args.bytes.now)) b)
     (sym c.replace.ensures.after) c.in_ok-noted.ensures.numbers

@@ -6,7 +6,7 @@ use Rattle.store.specs.Numbers.{Numbers}
 use Rattle.store.specs.Places.{altered, less_openings, with_file}
 use Rattle.store.specs.Shown.{descriptions}
 use Rattle.shadow.specs.Laid.{Frees, Holds}
-use Rattle.shadow.proofs.Going.{closes, closes_nothing, description_bare, description_unnamed, frees_description, stays_held}
+use Rattle.shadow.proofs.freeing.RemovedObjects.{closes, closes_nothing, description_bare, description_unnamed, frees_description, stays_held}
 use Rattle.shadow.proofs.closing.close.Goals as goal
 use Rattle.shadow.proofs.closing.close.Goals.{then-holders-eq0, else-holders-eq0}
 use Rattle.shadow.specs.Stored.{Processes}

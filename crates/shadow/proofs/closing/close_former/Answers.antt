@@ -6,7 +6,7 @@ use Rattle.model.specs.FiniteMap.{entries}
 use Rattle.fdtable.specs.Patches.{Given}
 use Rattle.freeing_laws.specs.Sweep.{all_closed}
 use Rattle.shadow.specs.Laid.{Frees, given_by, given_in}
-use Rattle.shadow.proofs.Turning.{closed_append, leaves_all, leaves_less, leaves_none}
+use Rattle.shadow.proofs.freeing.RemovalSteps.{closed_append, leaves_all, leaves_less, leaves_none}
 use Rattle.shadow.proofs.closing.close_former.Goals as goal
 
 -- the slots of this turn are the first of those that are left

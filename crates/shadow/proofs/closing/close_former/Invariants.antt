@@ -2,7 +2,7 @@
 use Rattle.std.proofs.Common.{drop}
 use Rattle.freeing_laws.specs.Sweep.{all_closed}
 use Rattle.shadow.specs.Laid.{given_in}
-use Rattle.shadow.proofs.Turning.{Leaves}
+use Rattle.shadow.proofs.freeing.RemovalSteps.{Leaves}
 use Rattle.shadow.proofs.closing.close_former.Given as goal
 
 abbrev pub invariant-loop-pid : goal.invariant-loop-pid

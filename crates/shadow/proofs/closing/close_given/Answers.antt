@@ -5,8 +5,8 @@ use Rattle.fdtable.specs.Patches.{Given}
 use Rattle.freeing_laws.specs.Sweep.{all_closed}
 use Rattle.store.specs.Numbers.{Numbers}
 use Rattle.shadow.specs.Laid.{given_by}
-use Rattle.shadow.proofs.Rows.{entries_listed, listed_end}
-use Rattle.shadow.proofs.Turning.{Leaves, given_from, gives_none, gives_one, leaves_all, leaves_none, not_given}
+use Rattle.shadow.proofs.freeing.LowNumberMaps.{entries_listed, listed_end}
+use Rattle.shadow.proofs.freeing.RemovalSteps.{Leaves, given_from, gives_none, gives_one, leaves_all, leaves_none, not_given}
 use Rattle.shadow.proofs.closing.close_given.Goals as goal
 use Rattle.shadow.proofs.closing.close_given.Goals.{in-Some-Some, in-Some-None, in-None}
 

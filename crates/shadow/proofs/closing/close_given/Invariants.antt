@@ -4,7 +4,7 @@ use Rattle.std.specs.List.{flat_map}
 use Rattle.model.specs.FiniteMap.{entries, get}
 use Rattle.freeing_laws.specs.Sweep.{all_closed}
 use Rattle.shadow.specs.Laid.{given_by}
-use Rattle.shadow.proofs.Turning.{Leaves, given_from}
+use Rattle.shadow.proofs.freeing.RemovalSteps.{Leaves, given_from}
 use Rattle.shadow.proofs.closing.close_given.Given as goal
 
 abbrev pub invariant-loop-number : goal.invariant-loop-number

@@ -2,7 +2,7 @@ use Rattle.std.proofs.Common.{◌≡◌, ◌∷◌, [], List, ℕ, sym, ap, subs
 use Rattle.std.specs.Map.{keys_of}
 use Rattle.freeing_laws.specs.Sweep.{all_closed, closed}
 use Rattle.store.specs.Numbers.{Numbers}
-use Rattle.shadow.proofs.Turning.{Leaves, leaves_all, leaves_less, leaves_none}
+use Rattle.shadow.proofs.freeing.RemovalSteps.{Leaves, leaves_all, leaves_less, leaves_none}
 use Rattle.shadow.proofs.closing.close_new.Goals as goal
 
 pub loop-num-init : goal.loop-num-init

@@ -1,7 +1,7 @@
 -- What is left of the descriptions is still to be closed.
 use Rattle.std.specs.Map.{keys_of}
 use Rattle.freeing_laws.specs.Sweep.{all_closed}
-use Rattle.shadow.proofs.Turning.{Leaves}
+use Rattle.shadow.proofs.freeing.RemovalSteps.{Leaves}
 use Rattle.shadow.proofs.closing.close_new.Given as goal
 
 abbrev pub invariant-loop-num : goal.invariant-loop-num

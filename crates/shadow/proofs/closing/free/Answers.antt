@@ -8,7 +8,7 @@ use Rattle.store.specs.Numbers.{Numbers}
 use Rattle.store.specs.Shown.{inodes}
 use Rattle.shadow.specs.Laid.{Holds}
 use Rattle.shadow.specs.Stored.{Processes, state_of}
-use Rattle.shadow.proofs.Going.{bare_if_unreached, equal_by, frees_inode, named_reached, not_reached, open_reached, other_by, root_reached, some_by, stays_absent, stays_reached, zero_by}
+use Rattle.shadow.proofs.freeing.RemovedObjects.{bare_if_unreached, equal_by, frees_inode, named_reached, not_reached, open_reached, other_by, root_reached, some_by, stays_absent, stays_reached, zero_by}
 use Rattle.shadow.proofs.closing.free.Goals as goal
 
 -- whether there is an inode

@@ -5,7 +5,7 @@ use Rattle.store.specs.Numbers.{Numbers, object_at}
 use Rattle.store.specs.Shown.{descriptions}
 use Rattle.store.specs.declared.OpenPipe.{OpenPipe}
 use Rattle.store.specs.declared.Object.TheVariants.{Pipe as Kept_pipe}
-use Rattle.shadow.proofs.PipeOpen.{others_open, pipe_open, pipe_there}
+use Rattle.shadow.proofs.freeing.OpenInodes.{others_open, pipe_open, pipe_there}
 use Rattle.shadow.proofs.closing.is_open.Goals as goal
 
 pub returns-then-is_of : goal.returns-then-is_of

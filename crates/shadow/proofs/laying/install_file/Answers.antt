@@ -1,4 +1,4 @@
-use Rattle.shadow.proofs.Overwriting.{new_beside, written_new}
+use Rattle.shadow.proofs.committing.FileBytes.{new_beside, written_new}
 use Rattle.shadow.proofs.laying.install_file.Goals as goal
 
 pub returns-clause-here : goal.returns-clause-here

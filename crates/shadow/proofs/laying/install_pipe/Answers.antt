@@ -1,7 +1,7 @@
 use Rattle.std.proofs.Common.{◌∙◌, Some, ap}
 use Rattle.store.specs.Numbers.{present}
 use Rattle.store.specs.declared.Object.TheVariants.{Pipe as A_pipe}
-use Rattle.shadow.proofs.Piping.{pipe_beside, pipe_here}
+use Rattle.shadow.proofs.committing.PipeBytes.{pipe_beside, pipe_here}
 use Rattle.shadow.proofs.laying.install_pipe.Goals as goal
 
 pub returns-clause-here : goal.returns-clause-here

@@ -1,4 +1,4 @@
-use Rattle.shadow.proofs.Overwriting.{over_beside, still_file, written_over}
+use Rattle.shadow.proofs.committing.FileBytes.{over_beside, still_file, written_over}
 use Rattle.shadow.proofs.laying.lay_bytes.Goals as goal
 
 pub swap_file-empty-requires : goal.swap_file-empty-requires

@@ -4,7 +4,7 @@ use Rattle.store.specs.Laid.{laid_listing}
 use Rattle.store.specs.Places.{altered, with_listing}
 use Rattle.store.proofs.Laws.{MayBeNamed}
 use Rattle.shadow.specs.Laid.{IsCarriedBy, IsReadyContents, IsReadyDirectory, shown_if}
-use Rattle.shadow.proofs.Carrying.{laid_elsewhere, laid_here, shown_already, shown_first, then_numbers, then_room, then_shown}
+use Rattle.shadow.proofs.committing.InodeSteps.{laid_elsewhere, laid_here, shown_already, shown_first, then_numbers, then_room, then_shown}
 use Rattle.shadow.proofs.laying.lay_inode.Goals as goal
 use Rattle.shadow.proofs.laying.lay_inode.Goals.{then-is_some, else-is_some}
 

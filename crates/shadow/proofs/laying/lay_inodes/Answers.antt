@@ -1,7 +1,7 @@
 use Rattle.std.proofs.Common.{◌≡◌, ◌∷◌, ◌∙◌, sym, subst, nat_cmp}
 use Rattle.std.specs.List.Sorted.{IsStrictlySortedBy}
 use Rattle.std.specs.Map.{keys_of}
-use Rattle.shadow.proofs.Carrying.{AreCarried, Carries, all_carried, carries_nothing, carries_on, first_ready}
+use Rattle.shadow.proofs.committing.InodeSteps.{AreCarried, Carries, all_carried, carries_nothing, carries_on, first_ready}
 use Rattle.shadow.proofs.laying.lay_inodes.Goals as goal
 
 pub loop-num-init : goal.loop-num-init

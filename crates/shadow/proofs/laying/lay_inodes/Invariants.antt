@@ -1,5 +1,5 @@
 -- What is left of the changes is still to be made.
-use Rattle.shadow.proofs.Carrying.{Carries}
+use Rattle.shadow.proofs.committing.InodeSteps.{Carries}
 use Rattle.shadow.proofs.laying.lay_inodes.Given as goal
 
 abbrev pub invariant-loop-num : goal.invariant-loop-num

@@ -1,8 +1,8 @@
 use Rattle.std.proofs.Common.{◌≡◌, ◌∷◌, ◌∙◌, sym, subst, nat_cmp}
 use Rattle.std.specs.List.Sorted.{IsStrictlySortedBy}
 use Rattle.std.specs.Map.{keys_of}
-use Rattle.shadow.proofs.OpeningsInTurn.{Reopens, all_reopened, first_to_come, reopens_nothing}
-use Rattle.shadow.proofs.OpeningsInTurn.{reopens_on}
+use Rattle.shadow.proofs.committing.DescriptionSteps.{Reopens, all_reopened, first_to_come, reopens_nothing}
+use Rattle.shadow.proofs.committing.DescriptionSteps.{reopens_on}
 use Rattle.shadow.proofs.laying.lay_openings.Goals as goal
 
 pub loop-num-init : goal.loop-num-init

@@ -1,5 +1,5 @@
 -- What is left of the changes is still to be made.
-use Rattle.shadow.proofs.OpeningsInTurn.{Reopens}
+use Rattle.shadow.proofs.committing.DescriptionSteps.{Reopens}
 use Rattle.shadow.proofs.laying.lay_openings.Given as goal
 
 abbrev pub invariant-loop-num : goal.invariant-loop-num

@@ -1,4 +1,4 @@
-use Rattle.shadow.proofs.Piping.{passed_beside, passed_over, pipe_roomy}
+use Rattle.shadow.proofs.committing.PipeBytes.{passed_beside, passed_over, pipe_roomy}
 use Rattle.shadow.proofs.laying.lay_pipe.Goals as goal
 
 pub change_pipe-requires : goal.change_pipe-requires

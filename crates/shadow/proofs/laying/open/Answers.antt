@@ -3,8 +3,8 @@ use Rattle.model.specs.State.{Description}
 use Rattle.store.specs.Numbers.{Numbers}
 use Rattle.store.specs.Places.{altered, more_openings, openings_at, with_file}
 use Rattle.store.proofs.Laws.{altered-same, with_place}
-use Rattle.shadow.proofs.OpeningNew.{new_place, not_counted, opening_new}
-use Rattle.shadow.proofs.Reopening.{counted_if}
+use Rattle.shadow.proofs.committing.NewDescription.{new_place, not_counted, opening_new}
+use Rattle.shadow.proofs.committing.DescriptionChanges.{counted_if}
 use Rattle.shadow.proofs.laying.open.Goals as goal
 
 pub returns-then-is_few : goal.returns-then-is_few

@@ -1,5 +1,5 @@
 use Rattle.std.proofs.Common.{None, Some, refl}
-use Rattle.shadow.proofs.NotedSlots.{none_noted, one_more}
+use Rattle.shadow.proofs.noting.SlotNotes.{none_noted, one_more}
 use Rattle.shadow.proofs.processes.all_closed.Goals as goal
 
 pub loop-number-init : goal.loop-number-init

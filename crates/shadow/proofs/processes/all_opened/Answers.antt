@@ -1,7 +1,7 @@
 use Rattle.std.proofs.Common.{◌+◌, ◌∙◌, ℕ, Option, Some, sym, ap, subst}
 use Rattle.model.specs.FiniteMap.{get}
 use Rattle.model.specs.State.{mapped}
-use Rattle.shadow.proofs.NotedSlots.{NotedBelow, none_more, none_noted, one_more}
+use Rattle.shadow.proofs.noting.SlotNotes.{NotedBelow, none_more, none_noted, one_more}
 use Rattle.shadow.proofs.processes.all_opened.Goals as goal
 use Rattle.shadow.proofs.processes.all_opened.Goals.{in-Some, in_default}
 

@@ -2,7 +2,7 @@
 use Rattle.std.proofs.Common.{Some}
 use Rattle.model.specs.FiniteMap.{get}
 use Rattle.model.specs.State.{mapped}
-use Rattle.shadow.proofs.NotedSlots.{NotedBelow}
+use Rattle.shadow.proofs.noting.SlotNotes.{NotedBelow}
 use Rattle.shadow.proofs.processes.all_opened.Given as goal
 
 abbrev pub invariant-loop-number : goal.invariant-loop-number

@@ -1,6 +1,6 @@
 use Rattle.std.proofs.Common.{Some, sym, subst}
 use Rattle.shadow.specs.Laid.{AreHeld, IsOneLess}
-use Rattle.shadow.proofs.Holding.{held_less}
+use Rattle.shadow.proofs.committing.HolderCounts.{held_less}
 use Rattle.shadow.proofs.reslotting.count_less.Goals as goal
 
 pub returns-in-Some : goal.returns-in-Some

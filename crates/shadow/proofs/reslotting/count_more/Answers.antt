@@ -1,6 +1,6 @@
 use Rattle.std.proofs.Common.{Some, sym, subst}
 use Rattle.shadow.specs.Laid.{AreHeld, IsOneMore}
-use Rattle.shadow.proofs.Holding.{held_more}
+use Rattle.shadow.proofs.committing.HolderCounts.{held_more}
 use Rattle.shadow.proofs.reslotting.count_more.Goals as goal
 
 pub returns-then-holders-lt340282366920938463463374607431768211455 :

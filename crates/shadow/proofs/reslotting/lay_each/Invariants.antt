@@ -1,5 +1,5 @@
 -- The changes of the processes before this place are made.
-use Rattle.shadow.proofs.Each_laid.{Lays}
+use Rattle.shadow.proofs.committing.ProcessSteps.{Lays}
 use Rattle.shadow.proofs.reslotting.lay_each.Given as goal
 
 abbrev pub invariant-loop-i : goal.invariant-loop-i

@@ -4,8 +4,8 @@ use Rattle.model.specs.State.{Process}
 use Rattle.shadow.specs.Openings.{slot_noted}
 use Rattle.shadow.specs.Stored.{Processes, numbered}
 use Rattle.shadow.specs.Laid.{IsSlotted}
-use Rattle.shadow.proofs.Living.{IsProcess, is_process}
-use Rattle.shadow.proofs.SlotInState.{slotted_by}
+use Rattle.shadow.proofs.shared.ProcessLemmas.{IsProcess, is_process}
+use Rattle.shadow.proofs.edits.SlotChanges.{slotted_by}
 use Rattle.shadow.proofs.reslotting.lay_slot.Goals as goal
 
 pub returns-clause-laid : goal.returns-clause-laid

@@ -1,8 +1,8 @@
 use Rattle.std.proofs.Common.{◌+◌, ◌∙◌, Some, sym, subst, arith}
 use Rattle.model.specs.FiniteMap.{get}
 use Rattle.shadow.specs.Stored.{numbered}
-use Rattle.shadow.proofs.Tabling.{Reslots, noted_somewhere, reslots_all, reslots_nothing, reslots_on, reslots_past}
-use Rattle.shadow.proofs.Tabling.{still_there}
+use Rattle.shadow.proofs.committing.TableSteps.{Reslots, noted_somewhere, reslots_all, reslots_nothing, reslots_on, reslots_past}
+use Rattle.shadow.proofs.committing.TableSteps.{still_there}
 use Rattle.shadow.proofs.reslotting.lay_table.Goals as goal
 use Rattle.shadow.proofs.reslotting.lay_table.Goals.{in-Some, in_default}
 

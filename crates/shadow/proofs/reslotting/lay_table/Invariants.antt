@@ -1,5 +1,5 @@
 -- The changes of the slots below this number are made.
-use Rattle.shadow.proofs.Tabling.{Reslots}
+use Rattle.shadow.proofs.committing.TableSteps.{Reslots}
 use Rattle.shadow.proofs.reslotting.lay_table.Given as goal
 
 abbrev pub invariant-loop-number : goal.invariant-loop-number

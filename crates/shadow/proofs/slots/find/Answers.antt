@@ -2,7 +2,7 @@ use Rattle.std.proofs.Common.{◌∙◌, Some, sym, ap, arith}
 use Rattle.std.proofs.lemmas.Bool.{eqb-true}
 use Rattle.std.proofs.lemmas.List.{get_or_read}
 use Rattle.model.specs.FiniteMap.{empty}
-use Rattle.shadow.proofs.Slots_over.{kept_here, kept_nowhere}
+use Rattle.shadow.proofs.noting.SlotLemmas.{kept_here, kept_nowhere}
 use Rattle.shadow.proofs.slots.find.Goals as goal
 
 pub returns-then-eq : goal.returns-then-eq

@@ -1,4 +1,4 @@
-use Rattle.shadow.proofs.Slots_over.{NoneBefore}
+use Rattle.shadow.proofs.noting.SlotLemmas.{NoneBefore}
 use Rattle.shadow.proofs.slots.find.Given as goal
 
 abbrev pub invariant-loop-of : goal.invariant-loop-of

@@ -5,8 +5,8 @@ use Rattle.model.specs.FiniteMap.{empty, insert}
 use Rattle.fdtable.specs.Patches.{Given}
 use Rattle.shadow.specs.Patches.{kept_at}
 use Rattle.shadow.specs.Openings.{AreOnce}
-use Rattle.shadow.proofs.Once.{once_set}
-use Rattle.shadow.proofs.Slots_over.{Entries, NoneBefore, kept_here, kept_nowhere, noted_in, set_here, set_others}
+use Rattle.shadow.proofs.noting.DistinctProcesses.{once_set}
+use Rattle.shadow.proofs.noting.SlotLemmas.{Entries, NoneBefore, kept_here, kept_nowhere, noted_in, set_here, set_others}
 use Rattle.shadow.proofs.slots.note_in.Goals as goal
 
 pub returns-then-eq-clause-noted : goal.returns-then-eq-clause-noted

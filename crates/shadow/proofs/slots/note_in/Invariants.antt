@@ -1,5 +1,5 @@
 use Rattle.std.proofs.Common.{◌≡◌}
-use Rattle.shadow.proofs.Slots_over.{NoneBefore}
+use Rattle.shadow.proofs.noting.SlotLemmas.{NoneBefore}
 use Rattle.shadow.proofs.slots.note_in.Given as goal
 
 abbrev pub invariant-loop-i : goal.invariant-loop-i

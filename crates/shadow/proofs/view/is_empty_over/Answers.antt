@@ -4,7 +4,7 @@ use Rattle.model.specs.State.{names_of_inode}
 use Rattle.model.specs.Paths.{is_empty}
 use Rattle.shadow.specs.Patches.{patched}
 use Rattle.shadow.specs.declared.change.Contents.TheVariants.{Names}
-use Rattle.shadow.proofs.Seeing.{empty_has_none, empty_told, no_keys}
+use Rattle.shadow.proofs.viewing.LookLemmas.{empty_has_none, empty_told, no_keys}
 use Rattle.shadow.proofs.view.is_empty_over.Goals as goal
 
 pub returns-in-Same : goal.returns-in-Same

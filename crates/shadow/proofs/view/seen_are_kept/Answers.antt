@@ -5,7 +5,7 @@ use Rattle.shadow.specs.Agrees.{Agrees}
 use Rattle.shadow.specs.Claims.{Covers}
 use Rattle.shadow.specs.Committed.{Committed}
 use Rattle.shadow.specs.Looks.{DirectoriesAreKept, changes_of}
-use Rattle.shadow.proofs.KeptDirectories.{kept_over}
+use Rattle.shadow.proofs.viewing.DirectoryRoom.{kept_over}
 use Rattle.shadow.proofs.view.seen_are_kept.Goals as goal
 
 pub returns-in-Some : goal.returns-in-Some

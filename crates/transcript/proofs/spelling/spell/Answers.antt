@@ -11,7 +11,7 @@ loop-byte-preserved c =
     let within : c.loop-byte.end ≤ length c.loop-byte.out = omega (arith, kept, c.requires, c.loop-byte.invariant.1, c.loop-byte-test.true) in
     let longest : length (byte_text byte) ≤ 4 = spelled_within byte in (
       ap (λ (n : ℕ). take (c.loop-byte.end + n) c.put_entry.new.out) is
-          ∙ spelled_more (take c.args.place c.args.out.now) c.loop-byte.out c.put_entry.new.out c.args.bytes.now c.loop-byte.end c.loop-byte.byte-index
+          ∙ spelled_more (take c.args.offset c.args.out.now) c.loop-byte.out c.put_entry.new.out c.args.bytes.now c.loop-byte.end c.loop-byte.byte-index
           within c.loop-byte-test.true (omega (arith, c.type_inv.bytes c.loop-byte.byte-index)) c.loop-byte.invariant.0 c.put_entry.ensures.entry,
       omega (arith, is, longest, c.loop-byte.invariant.1),
       c.put_entry.ensures.len ∙ kept,

@@ -1,7 +1,7 @@
 use Rattle.std.proofs.Common.{◌≡◌, ◌+◌, ◌*◌, None}
 use Rattle.script.specs.Steps.{ops_for}
 use Rattle.workers.specs.Families.{children}
-use Rattle.workers.specs.Places.{shown}
+use Rattle.workers.specs.Positions.{shown}
 use Rattle.workers.specs.Threads.{AreOver, promised}
 use Rattle.workers.specs.Work.{Stands}
 use Rattle.workers.proofs.threads.+fn-work-fn-scope-child_work+fn-work-scope+work.Given as goal
@@ -21,7 +21,7 @@ invariant-scope-loop g l = record {
   can_next : (goal.iterator-scope-loop g).can_next l.iterator';
   is_finite : (goal.iterator-scope-loop g).is_finite l.iterator';
   number : g.P.Port.number l.port ≡ g.P.Port.number l.initial.port;
-  stands : Stands (ops_for (g.P.Port.number l.port) (g.L.Lines.listed l.lines.now)) (g.P.Port.done l.port) (shown l.place);
+  stands : Stands (ops_for (g.P.Port.number l.port) (g.L.Lines.listed l.lines.now)) (g.P.Port.done l.port) (shown l.position);
   threads : l.stop ≡ None → promised l.threads.items ≡ children (g.P.Port.done l.port);
   home : g.P.Port.home l.port ≡ g.P.Port.home (g.L.Lines.port l.lines.now);
   over : AreOver l.lines.now l.threads.items;

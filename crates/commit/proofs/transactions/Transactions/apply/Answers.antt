@@ -1,7 +1,7 @@
 use Rattle.std.proofs.Common.{sym, subst, ◌∙◌}
 use Rattle.call_laws.specs.Fits.{FitsAll}
 use Rattle.commit.specs.Edits.{AreNew}
-use Rattle.commit.specs.Slots.{views}
+use Rattle.commit.specs.ProcessStates.{views}
 use Rattle.commit.proofs.Claims.{are_new}
 use Rattle.commit.proofs.transactions.Transactions.apply.Goals as goal
 

@@ -1,5 +1,5 @@
 use Rattle.std.proofs.Common.{◌≡◌, ℕ, [], ◌∷◌, ap, subst, ◌∙◌}
-use Rattle.commit.specs.Slots.{slot_view, views, Sets}
+use Rattle.commit.specs.ProcessStates.{slot_view, views, Sets}
 use Rattle.commit.specs.Dooming.{with_doom, with_dooms}
 use Rattle.commit.specs.Views.{changes_in, view_at}
 use Rattle.commit.proofs.Keeping.{covered_without_its, slot_covered}

@@ -3,7 +3,7 @@ use Rattle.std.specs.Result.{OnErr}
 use Rattle.shadow.specs.Log.{effect}
 use Rattle.shadow.specs.Claims.{Covers}
 use Rattle.commit.specs.Edits.{AreNew, with_change}
-use Rattle.commit.specs.Slots.{views, slot_at}
+use Rattle.commit.specs.ProcessStates.{views, slot_at}
 use Rattle.commit.specs.Views.{Shows, SameViews, changes_in, is_live_slot, view_at}
 use Rattle.commit.proofs.Claims.{are_new, covers_one}
 use Rattle.commit.proofs.Keeping.{covered_with_change, covered_with_none}

@@ -1,5 +1,5 @@
 use Rattle.std.proofs.Common.{refl, ap, subst, ◌∙◌}
-use Rattle.commit.specs.Slots.{views}
+use Rattle.commit.specs.ProcessStates.{views}
 use Rattle.commit.specs.Views.{Shows, changes_in, idle_slot}
 use Rattle.commit.proofs.Keeping.{covered_without_its}
 use Rattle.commit.proofs.Showing.{shows}

@@ -1,5 +1,5 @@
 use Rattle.std.proofs.Common.{refl, ap, subst, ◌∙◌}
-use Rattle.commit.specs.Slots.{views}
+use Rattle.commit.specs.ProcessStates.{views}
 use Rattle.commit.specs.Views.{Shows, changes_in, gone_slot, view_at}
 use Rattle.commit.proofs.Claims.{covered_without}
 use Rattle.commit.proofs.Showing.{shows}

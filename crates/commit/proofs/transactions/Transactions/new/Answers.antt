@@ -1,4 +1,4 @@
-use Rattle.commit.specs.Slots.{views}
+use Rattle.commit.specs.ProcessStates.{views}
 use Rattle.commit.proofs.Claims.{covers_none}
 use Rattle.commit.proofs.Showing.{first_views, none_changed}
 use Rattle.commit.proofs.transactions.Transactions.new.Goals as goal

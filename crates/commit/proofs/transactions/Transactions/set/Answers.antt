@@ -1,5 +1,5 @@
 use Rattle.std.proofs.Common.{subst}
-use Rattle.commit.specs.Slots.{slot_view, views}
+use Rattle.commit.specs.ProcessStates.{slot_view, views}
 use Rattle.commit.specs.Views.{Shows}
 use Rattle.commit.proofs.Keeping.{covered_without_its, slot_covered}
 use Rattle.commit.proofs.Showing.{sets_again, shows}

@@ -1,6 +1,6 @@
 use Rattle.std.proofs.Common.{sym, subst, ap}
 use Rattle.shadow.specs.Claims.{Covers}
-use Rattle.commit.specs.Slots.{slot_at}
+use Rattle.commit.specs.ProcessStates.{slot_at}
 use Rattle.commit.proofs.Keeping.{slot_covered}
 use Rattle.commit.proofs.transactions.Transactions.view.Goals as goal
 

@@ -29,4 +29,4 @@ returns-in_err-entry-clause-answers g c =
 pub returns-clause-answers : goal.returns-clause-answers
 returns-clause-answers g c =
     let h = rw c.in_ok-again.ensures at c.in_ok-stat.ensures.ran in
-    told c.in_ok-from.ensures h (entry_as (ap (λ (n : Stored). n.table) c.note_names.ensures.nodes ∙ c.in_ok-spot.ensures.nodes) c.in_ok-spot.ensures.place c.in_ok-entry.ensures.ok)
+    told c.in_ok-from.ensures h (entry_as (ap (λ (n : Stored). n.table) c.note_names.ensures.nodes ∙ c.in_ok-spot.ensures.nodes) c.in_ok-spot.ensures.entry c.in_ok-entry.ensures.ok)

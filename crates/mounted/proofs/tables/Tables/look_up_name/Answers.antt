@@ -22,4 +22,4 @@ returns-in_err-entry-clause-answers g c =
 
 pub returns-clause-answers : goal.returns-clause-answers
 returns-clause-answers g c =
-    told c.in_ok-path.ensures c.in_ok-stat.ensures.ran (entry_as c.in_ok-spot.ensures.nodes c.in_ok-spot.ensures.place c.in_ok-entry.ensures.ok)
+    told c.in_ok-path.ensures c.in_ok-stat.ensures.ran (entry_as c.in_ok-spot.ensures.nodes c.in_ok-spot.ensures.entry c.in_ok-entry.ensures.ok)

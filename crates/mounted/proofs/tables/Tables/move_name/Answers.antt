@@ -25,9 +25,9 @@ returns-in_err-move_name-clause-answers g c =
     let h = rw c.in_ok-again.ensures.wanted at c.in_err-move_name.ensures.ran in
     failed _ c.in_ok-from.ensures c.from_residual-in_err-move_name.ensures.1 h
 
-pub returns-in_err-move_place-clause-answers : goal.returns-in_err-move_place-clause-answers
-returns-in_err-move_place-clause-answers g c =
-    refused {e = error ENOMEM} _ c.from_residual-in_err-move_place.ensures.1 (inl refl)
+pub returns-in_err-move_entry-clause-answers : goal.returns-in_err-move_entry-clause-answers
+returns-in_err-move_entry-clause-answers g c =
+    refused {e = error ENOMEM} _ c.from_residual-in_err-move_entry.ensures.1 (inl refl)
 
 pub returns-clause-answers : goal.returns-clause-answers
 returns-clause-answers g c =

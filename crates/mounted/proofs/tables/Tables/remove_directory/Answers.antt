@@ -8,9 +8,9 @@ pub returns-in_err-path-clause-answers : goal.returns-in_err-path-clause-answers
 returns-in_err-path-clause-answers g c =
     unplanned _ c.from_residual.ensures.1 c.in_err-path.ensures refl
 
-pub returns-in_err-place-clause-answers : goal.returns-in_err-place-clause-answers
-returns-in_err-place-clause-answers g c =
-    refused {e = error ENOMEM} _ c.from_residual-in_err-place.ensures.1 (inl refl)
+pub returns-in_err-removed-clause-answers : goal.returns-in_err-removed-clause-answers
+returns-in_err-removed-clause-answers g c =
+    refused {e = error ENOMEM} _ c.from_residual-in_err-removed.ensures.1 (inl refl)
 
 pub returns-in_err-remove_directory-clause-answers : goal.returns-in_err-remove_directory-clause-answers
 returns-in_err-remove_directory-clause-answers g c =

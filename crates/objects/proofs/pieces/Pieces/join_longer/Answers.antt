@@ -30,9 +30,9 @@ join-requires c =
     λ i small.
     let n : ℕ = length new * GROUP_LEN + i in
     let group : n / GROUP_LEN ≡ length new = omega (arith, small) in
-    let place : n % GROUP_LEN ≡ i = omega (arith, small) in
-    let of_self : piece_of c.args.self n ≡ piece_in c.in-Some.group i = ap₂ (λ g j. piece_in (get_or c.args.self g []) j) group place ∙ ap (λ (g : List Content). piece_in g i) mine in
-    let of_now : piece_of now n ≡ piece_in c.replace-before.result i = ap₂ (λ g j. piece_in (get_or now g []) j) group place ∙ ap (λ (g : List Content). piece_in g i) (sym here) in
+    let is_index : n % GROUP_LEN ≡ i = omega (arith, small) in
+    let of_self : piece_of c.args.self n ≡ piece_in c.in-Some.group i = ap₂ (λ g j. piece_in (get_or c.args.self g []) j) group is_index ∙ ap (λ (g : List Content). piece_in g i) mine in
+    let of_now : piece_of now n ≡ piece_in c.replace-before.result i = ap₂ (λ g j. piece_in (get_or now g []) j) group is_index ∙ ap (λ (g : List Content). piece_in g i) (sym here) in
     let before : piece_of now n ≡ piece_of c.args.long n = so_far.below n (omega (arith, small)) in
     elim (c.requires.apart n) [
       | inl none ↦ inl (ap (λ (p : Content). p.bytes) (sym of_self) ∙ none)

@@ -10,6 +10,6 @@ ghost-follow g a = g.es
 
 abbrev pub invariant-loop-index : goal.invariant-loop-index
 invariant-loop-index g l =
-    (l.at ≡ l.window.offset + l.index) × IsTidied l.self.kernel × CanSeeAny l.window l.self.transactions
+    (l.position ≡ l.window.offset + l.index) × IsTidied l.self.kernel × CanSeeAny l.window l.self.transactions
     × ((root : ℕ) (setup : Setup) → Follows root setup g.es l.window.offset l.fn.self.kernel l.fn.self.transactions
-    → Follows root setup g.es l.at l.self.kernel l.self.transactions)
+    → Follows root setup g.es l.position l.self.kernel l.self.transactions)

@@ -22,7 +22,7 @@ returns-in-UnnameDirectory c = if_ok c.clear_name-in-UnnameDirectory.result c.cl
 
 pub returns-in_ok-clear_name-in-Move : goal.returns-in_ok-clear_name-in-Move
 returns-in_ok-clear_name-in-Move c = if_ok c.set_name-in-Move.result c.set_name-in-Move.ensures (λ h. edited _ _ _ _ _ c.in-Move.is (moves _ _ _ _ _ _ _ _ _
-    (h ∙ ap (set_name c.in-Move.onto c.in-Move.new c.in-Move.num) c.in_ok-clear_name-in-Move.ensures)))
+    (h ∙ ap (set_name c.in-Move.to c.in-Move.new_name c.in-Move.inode) c.in_ok-clear_name-in-Move.ensures)))
 
 pub returns-in-PutBytes : goal.returns-in-PutBytes
 returns-in-PutBytes c = if_ok c.put.result c.put.ensures (λ h. edited _ _ _ _ _ c.in-PutBytes.is (puts _ _ _ _ _ _ _ _ c.as_slice.ensures h))

@@ -1,12 +1,12 @@
 use Rattle.replay.proofs.Edited.{clears, edited, ends, forks, makes_pipe, opens, sets_offset, shares}
-use Rattle.replay.proofs.Setting.{if_ok}
+use Rattle.replay.proofs.Setting.{if_ok, process_left}
 use Rattle.replay.proofs.plain.PlainKernel.apply_to_processes.Goals as goal
 
 pub returns-in-SetOffset : goal.returns-in-SetOffset
 returns-in-SetOffset c = if_ok c.set_offset.result c.set_offset.ensures (λ h. edited _ _ _ _ _ c.in-SetOffset.is (sets_offset _ _ _ _ _ h))
 
 pub returns-in-OpenInode : goal.returns-in-OpenInode
-returns-in-OpenInode c = if_ok c.open_at.result c.open_at.ensures (λ h. edited _ _ _ _ _ c.in-OpenInode.is (opens _ _ _ _ _ _ _ _ _ _ _ c.made.ensures c.number.ensures c.at_start-opened.ensures h))
+returns-in-OpenInode c = if_ok c.open_at.result c.open_at.ensures (λ h. edited _ _ _ _ _ c.in-OpenInode.is (opens _ _ _ _ _ _ _ _ _ _ _ c.made-num.ensures c.number.ensures c.at_start-opened.ensures h))
 
 pub returns-in-MakePipe : goal.returns-in-MakePipe
 returns-in-MakePipe c = if_ok c.make_pipe.result c.make_pipe.ensures (λ h. edited _ _ _ _ _ c.in-MakePipe.is (makes_pipe _ _ _ _ _ _ _ _ _ _ c.made-pipe.ensures c.made-reading.ensures c.made-writing.ensures h))
@@ -21,4 +21,4 @@ pub returns-in-NewProcess : goal.returns-in-NewProcess
 returns-in-NewProcess c = if_ok c.new_process.result c.new_process.ensures (λ h. edited _ _ _ _ _ c.in-NewProcess.is (forks _ _ _ _ _ _ h))
 
 pub returns-in-EndProcess : goal.returns-in-EndProcess
-returns-in-EndProcess c = edited _ _ _ _ _ c.in-EndProcess.is (ends _ _ _ _ _ c.end_process.ensures)
+returns-in-EndProcess c = edited _ _ _ _ _ c.in-EndProcess.is (ends _ _ _ _ _ (process_left _ _ _ _ _ c.self.view_is c.key_of.ensures c.remove.ensures.changed))

@@ -13,5 +13,5 @@ returns-in-ClearSlot c = ok_then c.listed-in-ClearSlot.result c.listed-in-ClearS
 
 pub returns-in-EndProcess : goal.returns-in-EndProcess
 returns-in-EndProcess c = ok_then c.values_in.result c.values_in.ensures (λ gone h. h
-    ∙ ap (λ o. values (or_new o).table) (c.get.ensures ∙ ap (get c.self.inside.processes) c.place_of.ensures ∙ ap (λ k. get k.processes c.in-EndProcess.pid) c.self.view_is)
+    ∙ ap (λ o. values (or_new o).table) (c.get.ensures ∙ ap (get c.self.inside.processes) c.key_of.ensures ∙ ap (λ k. get k.processes c.in-EndProcess.process) c.self.view_is)
     ∙ ap (let_go c.args.self.now) (sym c.in-EndProcess.is))

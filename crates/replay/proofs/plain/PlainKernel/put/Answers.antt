@@ -7,4 +7,4 @@ use Rattle.replay.proofs.plain.PlainKernel.put.Goals as goal
 pub returns : goal.returns
 returns c = if_ok c.set_inode.result c.set_inode.ensures (λ h. inode_replaced _ _ _ _ _ _ c.in_ok-inode.ensures.left h
     (c.file.ensures ∙ ap File (c.in_ok-write_at.ensures.ok
-    ∙ ap (λ old. written old c.args.place c.args.bytes.now) (c.file_out-stored.ensures ∙ ap file_of_inode c.in_ok-inode.ensures.taken))))
+    ∙ ap (λ old. written old c.args.offset c.args.bytes.now) (c.file_out-stored.ensures ∙ ap file_of_inode c.in_ok-inode.ensures.taken))))

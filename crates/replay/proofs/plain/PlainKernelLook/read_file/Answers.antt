@@ -7,5 +7,5 @@ use Rattle.replay.proofs.plain.PlainKernelLook.read_file.Goals as goal
 pub returns-clause-value : goal.returns-clause-value
 returns-clause-value c =
     told_by c.read_in.result _ _
-    (ap (λ (o : Option Inode). take c.args.count (drop c.args.place (file_of_inode o))) (c.get.ensures ∙ ap (λ k. get k.inodes c.args.file) c.self.view_is))
+    (ap (λ (o : Option Inode). take c.args.count (drop c.args.offset (file_of_inode o))) (c.get.ensures ∙ ap (λ k. get k.inodes c.args.file) c.self.view_is))
     c.read_in.ensures.value

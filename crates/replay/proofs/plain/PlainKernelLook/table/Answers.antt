@@ -10,10 +10,10 @@ returns-in-Some c =
     let k = c.args.self.now in
     told_of (λ v. v.items) c.slots_of.result _ _
     (ap (map (slot_at k)) (c.as_slice.ensures ∙ ap (λ p. entries p.table) c.process.view_is
-    ∙ ap (λ (o : Option Process). entries (or_new o).table) (c.in-Some.ensures ∙ ap (get c.self.inside.processes) c.place_of.ensures ∙ ap (λ k. get k.processes c.args.pid) c.self.view_is)))
+    ∙ ap (λ (o : Option Process). entries (or_new o).table) (c.in-Some.ensures ∙ ap (get c.self.inside.processes) c.key_of.ensures ∙ ap (λ k. get k.processes c.args.pid) c.self.view_is)))
     c.slots_of.ensures
 
 pub returns-in-None : goal.returns-in-None
 returns-in-None c =
     c.new.ensures.items
-    ∙ no_table c.args.self.now c.args.pid (c.in-None.ensures ∙ ap (get c.self.inside.processes) c.place_of.ensures ∙ ap (λ k. get k.processes c.args.pid) c.self.view_is)
+    ∙ no_table c.args.self.now c.args.pid (c.in-None.ensures ∙ ap (get c.self.inside.processes) c.key_of.ensures ∙ ap (λ k. get k.processes c.args.pid) c.self.view_is)

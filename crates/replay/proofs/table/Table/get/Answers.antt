@@ -1,14 +1,14 @@
 use Rattle.std.proofs.Common.{sym, nat_cmp}
 use Rattle.std.specs.Cmp.{nat_cmp_total}
-use Rattle.replay.proofs.Kept.{place_of_in, place_for_in, get-place, get-no_place}
+use Rattle.replay.proofs.Kept.{index_of_in, index_for_in, get-index, get-no_index}
 use Rattle.replay.proofs.table.Table.get.Goals as goal
 
 pub returns-in-Ok : goal.returns-in-Ok
 returns-in-Ok g c =
-    let here = place_of_in {R = nat_cmp} {k = c.args.num} {at = c.in-Ok.at} {es = c.as_slice.result.now} {xs = c.self.inside.slots.items} c.as_slice.ensures.value c.in-Ok.ensures in
-    rw (← c.self.view_is) (sym (get-place nat_cmp_total _ _ _ c.index.result.now c.self.invariant here (sym c.index.ensures)))
+    let here = index_of_in {R = nat_cmp} {k = c.args.num} {at = c.in-Ok.index} {es = c.as_slice.result.now} {xs = c.self.inside.slots.items} c.as_slice.ensures.value c.in-Ok.ensures in
+    rw (← c.self.view_is) (sym (get-index nat_cmp_total _ _ _ c.index.result.now c.self.invariant here (sym c.index.ensures)))
 
 pub returns-in-Err : goal.returns-in-Err
 returns-in-Err g c =
-    let here = place_for_in {R = nat_cmp} {k = c.args.num} {at = c.in-Err._at} {es = c.as_slice.result.now} {xs = c.self.inside.slots.items} c.as_slice.ensures.value c.in-Err.ensures in
-    rw (← c.self.view_is) (sym (get-no_place nat_cmp_total _ _ _ c.self.invariant here))
+    let here = index_for_in {R = nat_cmp} {k = c.args.num} {at = c.in-Err._index} {es = c.as_slice.result.now} {xs = c.self.inside.slots.items} c.as_slice.ensures.value c.in-Err.ensures in
+    rw (← c.self.view_is) (sym (get-no_index nat_cmp_total _ _ _ c.self.invariant here))

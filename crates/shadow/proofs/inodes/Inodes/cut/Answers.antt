@@ -1,7 +1,7 @@
 use Rattle.std.proofs.Common.{◌≡◌, sym, subst, Some}
 use Rattle.shadow.specs.Patches.{kept_at}
 use Rattle.shadow.specs.Notes.{At, IsCut}
-use Rattle.shadow.proofs.InodesKept.{put_back, some_kept}
+use Rattle.shadow.proofs.noting.InodeLemmas.{put_back, some_kept}
 use Rattle.shadow.proofs.inodes.Inodes.cut.Goals as goal
 
 pub returns : goal.returns

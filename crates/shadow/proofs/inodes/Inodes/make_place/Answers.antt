@@ -1,8 +1,8 @@
 use Rattle.std.proofs.Common.{◌≡◌, ℕ, List, None, sym, subst, ap, ◌∙◌}
-use Rattle.shadow.specs.declared.change.Change.{Change}
+use Rattle.shadow.specs.declared.change.InodeChange.{InodeChange}
 use Rattle.shadow.specs.Patches.{kept_at}
 use Rattle.shadow.specs.Notes.{SameInodes}
-use Rattle.shadow.proofs.InodesKept.{none_kept, same_back}
+use Rattle.shadow.proofs.noting.InodeLemmas.{none_kept, same_back}
 use Rattle.shadow.proofs.inodes.Inodes.make_place.Goals as goal
 
 pub returns-clause-same : goal.returns-clause-same
@@ -11,4 +11,4 @@ returns-clause-same c =
     let was : kept_at c.args.self.now c.args.num ≡ None = none_kept c.get.result (kept_at c.args.self.now c.args.num) c.get.ensures (sym c.is_some.ensures ∙ c.if-is_some.false) in
     subst (λ es. SameInodes es c.insert.new.self.entries) c.self.view_is
     (same_back c.args.num c.new.result es c.insert.new.self.entries c.in_ok-insert.ensures.updates.0
-    None (ap (λ (es : List (ℕ × Change)). kept_at es c.args.num) c.self.view_is ∙ was) c.new.ensures)
+    None (ap (λ (es : List (ℕ × InodeChange)). kept_at es c.args.num) c.self.view_is ∙ was) c.new.ensures)

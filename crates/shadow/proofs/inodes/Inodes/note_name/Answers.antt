@@ -1,8 +1,8 @@
 use Rattle.std.proofs.Common.{◌≡◌, sym, subst, Some}
 use Rattle.shadow.specs.Patches.{kept_at}
 use Rattle.shadow.specs.Notes.{At, IsNamed, SameInodes}
-use Rattle.shadow.proofs.InodesKept.{put_back, same_back, same_change, some_kept}
-use Rattle.shadow.proofs.Outcomes.{err_so, ok_so}
+use Rattle.shadow.proofs.noting.InodeLemmas.{put_back, same_back, same_change, some_kept}
+use Rattle.shadow.proofs.shared.Outcomes.{err_so, ok_so}
 use Rattle.shadow.proofs.inodes.Inodes.note_name.Goals as goal
 
 pub returns-clause-ok : goal.returns-clause-ok

@@ -1,15 +1,15 @@
 use Rattle.std.proofs.Common.{◌≡◌, ℕ, ◌+◌, ◌<◌, ◌^◌, List, Option, ap, sym, subst, Some, ◌∙◌}
-use Rattle.shadow.specs.declared.change.Change.{Change}
+use Rattle.shadow.specs.declared.change.InodeChange.{InodeChange}
 use Rattle.shadow.specs.Patches.{kept_at, net_of}
 use Rattle.shadow.specs.Notes.{At, IsUnnamed}
-use Rattle.shadow.proofs.InodesKept.{put_back, some_kept}
+use Rattle.shadow.proofs.noting.InodeLemmas.{put_back, some_kept}
 use Rattle.shadow.proofs.inodes.Inodes.note_unnamed.Goals as goal
 
 pub note_unnamed-requires : goal.note_unnamed-requires
 note_unnamed-requires c =
     let was : kept_at c.self.inside.each.entries c.args.num ≡ Some c.in-Some.change.now = sym c.in-Some.ensures.value in
-    subst (λ (o : Option Change). (net_of o).unnamed + 1 < 2 ^ 64)
-    (ap (λ (es : List (ℕ × Change)). kept_at es c.args.num) (sym c.self.view_is) ∙ was) c.requires.count
+    subst (λ (o : Option InodeChange). (net_of o).unnamed + 1 < 2 ^ 64)
+    (ap (λ (es : List (ℕ × InodeChange)). kept_at es c.args.num) (sym c.self.view_is) ∙ was) c.requires.count
 
 pub returns : goal.returns
 returns c =

@@ -1,8 +1,8 @@
 use Rattle.std.proofs.Common.{◌≡◌, sym, subst, Some}
 use Rattle.shadow.specs.Patches.{kept_at}
 use Rattle.shadow.specs.Notes.{At, IsWritten, SameInodes}
-use Rattle.shadow.proofs.InodesKept.{put_back, same_back, same_change, some_kept}
-use Rattle.shadow.proofs.Outcomes.{err_so, ok_so}
+use Rattle.shadow.proofs.noting.InodeLemmas.{put_back, same_back, same_change, some_kept}
+use Rattle.shadow.proofs.shared.Outcomes.{err_so, ok_so}
 use Rattle.shadow.proofs.inodes.Inodes.write.Goals as goal
 
 pub returns-clause-ok : goal.returns-clause-ok
@@ -10,10 +10,10 @@ returns-clause-ok c =
     let es = c.self.inside.each.entries in
     let was : kept_at es c.args.file ≡ Some c.in-Some.change.now = sym c.in-Some.ensures.value in
     ok_so c.write.result
-    (λ h. subst (λ es. At c.args.file (IsWritten c.args.place c.args.bytes.now) es (c.get_mut.follows.lender c.write.new.self).entries) c.self.view_is
+    (λ h. subst (λ es. At c.args.file (IsWritten c.args.offset c.args.bytes.now) es (c.get_mut.follows.lender c.write.new.self).entries) c.self.view_is
     (put_back c.args.file c.write.new.self es (c.get_mut.follows.lender c.write.new.self).entries
     ((c.get_mut.follows.holds c.write.new.self).3 (some_kept (kept_at es c.args.file) c.in-Some.change.now was)).0
-    c.in-Some.change.now (IsWritten c.args.place c.args.bytes.now) was h))
+    c.in-Some.change.now (IsWritten c.args.offset c.args.bytes.now) was h))
     c.write.ensures.ok
 
 pub returns-clause-err : goal.returns-clause-err

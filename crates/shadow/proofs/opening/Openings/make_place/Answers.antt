@@ -1,7 +1,7 @@
 use Rattle.std.proofs.Common.{rules, ◌≡◌, None, subst}
 use Rattle.shadow.specs.Patches.{kept_at}
 use Rattle.shadow.specs.Openings.{SameOpenings}
-use Rattle.shadow.proofs.Openings_at.{Kept_openings, place_at}
+use Rattle.shadow.proofs.noting.DescriptionLemmas.{Kept_openings, place_at}
 use Rattle.shadow.proofs.opening.Openings.make_place.Goals as goal
 
 pub returns-clause-same : goal.returns-clause-same

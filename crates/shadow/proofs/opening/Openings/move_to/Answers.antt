@@ -1,7 +1,7 @@
 use Rattle.std.proofs.Common.{◌≡◌, Some, sym, subst}
 use Rattle.shadow.specs.Patches.{kept_at}
 use Rattle.shadow.specs.Openings.{AtOpening, IsMoved}
-use Rattle.shadow.proofs.Openings_at.{Kept_openings, changed_at, is_kept}
+use Rattle.shadow.proofs.noting.DescriptionLemmas.{Kept_openings, changed_at, is_kept}
 use Rattle.shadow.proofs.opening.Openings.move_to.Goals as goal
 
 pub returns : goal.returns
@@ -9,6 +9,6 @@ returns c =
     let old : Kept_openings = c.self.inside.each.entries in
     let new : Kept_openings = (c.get_mut.follows.lender c.moved_to.result).entries in
     let was : kept_at old c.args.num ≡ Some c.in-Some.opening.now = sym c.in-Some.ensures.value in
-    subst (λ (es : Kept_openings). AtOpening c.args.num (IsMoved c.args.place) es new) c.self.view_is
-    (changed_at (IsMoved c.args.place) c.args.num c.in-Some.opening.now c.moved_to.result old new was
+    subst (λ (es : Kept_openings). AtOpening c.args.num (IsMoved c.args.offset) es new) c.self.view_is
+    (changed_at (IsMoved c.args.offset) c.args.num c.in-Some.opening.now c.moved_to.result old new was
     ((c.get_mut.follows.holds c.moved_to.result).3 (is_kept (kept_at old c.args.num) c.in-Some.opening.now was)).0 c.moved_to.ensures)

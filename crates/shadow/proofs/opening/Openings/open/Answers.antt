@@ -2,7 +2,7 @@ use Rattle.std.proofs.Common.{◌≡◌, Some, refl, sym, subst}
 use Rattle.shadow.specs.declared.opening.Opening.TheVariants.{New}
 use Rattle.shadow.specs.Patches.{kept_at}
 use Rattle.shadow.specs.Openings.{AtOpening, IsOpened}
-use Rattle.shadow.proofs.Openings_at.{Kept_openings, changed_at, is_kept}
+use Rattle.shadow.proofs.noting.DescriptionLemmas.{Kept_openings, changed_at, is_kept}
 use Rattle.shadow.proofs.opening.Openings.open.Goals as goal
 
 pub returns : goal.returns

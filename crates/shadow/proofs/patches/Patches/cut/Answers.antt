@@ -2,14 +2,14 @@ use Rattle.std.proofs.Common.{[], refl, subst}
 use Rattle.model.specs.Changes.{Cut}
 use Rattle.shadow.specs.Patches.{Patches}
 use Rattle.shadow.specs.Steps.{TakesIn}
-use Rattle.shadow.proofs.Noted.{only_inodes, same_then_takes}
-use Rattle.shadow.proofs.TakenFiles.{cut_takes}
+use Rattle.shadow.proofs.noting.InodeNotes.{only_inodes, same_then_takes}
+use Rattle.shadow.proofs.noting.FileEdits.{cut_takes}
 use Rattle.shadow.proofs.patches.Patches.cut.Goals as goal
 
 pub returns-clause-ok : goal.returns-clause-ok
 returns-clause-ok c before =
     let was = c.self.inside in
-    let old : Patches = record { inodes = was.inodes; openings = was.openings; slots = was.slots; lost = was.lost.items } in
+    let old : Patches = record { inodes = was.inodes; openings = was.openings; slots = was.slots; unnamed_inodes = was.unnamed_inodes.items } in
     let mid : Patches = record old { inodes = c.make_place.new.self } in
     let new : Patches = record old { inodes = c.cut.new.self } in
     subst (λ (p : Patches). TakesIn [] (Cut c.args.file before c.args.after) p new) c.self.view_is

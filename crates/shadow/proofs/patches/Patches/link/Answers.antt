@@ -2,14 +2,14 @@ use Rattle.std.proofs.Common.{refl, subst}
 use Rattle.model.specs.Changes.{Name_file}
 use Rattle.shadow.specs.Patches.{Patches}
 use Rattle.shadow.specs.Steps.{TakesIn}
-use Rattle.shadow.proofs.Noted.{only_inodes, same_inodes, same_then_takes}
-use Rattle.shadow.proofs.TakenNames.{linking_takes}
+use Rattle.shadow.proofs.noting.InodeNotes.{only_inodes, same_inodes, same_then_takes}
+use Rattle.shadow.proofs.noting.NameEdits.{linking_takes}
 use Rattle.shadow.proofs.patches.Patches.link.Goals as goal
 
 pub returns-clause-ok : goal.returns-clause-ok
 returns-clause-ok c chosen =
     let was = c.self.inside in
-    let old : Patches = record { inodes = was.inodes; openings = was.openings; slots = was.slots; lost = was.lost.items } in
+    let old : Patches = record { inodes = was.inodes; openings = was.openings; slots = was.slots; unnamed_inodes = was.unnamed_inodes.items } in
     let mid : Patches = record old { inodes = c.make_place.new.self } in
     let new : Patches = record old { inodes = c.note_named.new.self } in
     let edit = Name_file c.args.parent c.args.name c.args.file in

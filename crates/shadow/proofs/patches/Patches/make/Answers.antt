@@ -1,14 +1,14 @@
 use Rattle.std.proofs.Common.{[], ◌∷◌, refl, subst}
 use Rattle.shadow.specs.Patches.{Patches}
 use Rattle.shadow.specs.Steps.{TakesIn, making}
-use Rattle.shadow.proofs.Noted.{only_inodes, same_inodes, same_then_takes}
-use Rattle.shadow.proofs.TakenNames.{making_takes}
+use Rattle.shadow.proofs.noting.InodeNotes.{only_inodes, same_inodes, same_then_takes}
+use Rattle.shadow.proofs.noting.NameEdits.{making_takes}
 use Rattle.shadow.proofs.patches.Patches.make.Goals as goal
 
 pub returns-clause-ok : goal.returns-clause-ok
 returns-clause-ok c =
     let was = c.self.inside in
-    let old : Patches = record { inodes = was.inodes; openings = was.openings; slots = was.slots; lost = was.lost.items } in
+    let old : Patches = record { inodes = was.inodes; openings = was.openings; slots = was.slots; unnamed_inodes = was.unnamed_inodes.items } in
     let mid : Patches = record old { inodes = c.make_place.new.self } in
     let new : Patches = record old { inodes = c.note_made.new.self } in
     let edit = making c.args.what c.args.parent c.args.name in

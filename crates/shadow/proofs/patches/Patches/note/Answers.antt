@@ -3,8 +3,8 @@ use Rattle.std.specs.Prelude.{take}
 use Rattle.std.specs.List.{AllByRecursion}
 use Rattle.model.specs.Changes.{Edit, news}
 use Rattle.shadow.specs.Steps.{AreApart, CanEdit, TakesAll}
-use Rattle.shadow.proofs.Outcomes.{ok_so}
-use Rattle.shadow.proofs.Pairs.{news_of_one, news_of_two, two_edits}
+use Rattle.shadow.proofs.shared.Outcomes.{ok_so}
+use Rattle.shadow.proofs.shared.EditPairs.{news_of_one, news_of_two, two_edits}
 use Rattle.shadow.proofs.patches.Patches.note.Goals as goal
 
 -- there are none

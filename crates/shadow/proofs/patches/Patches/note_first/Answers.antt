@@ -3,8 +3,8 @@ use Rattle.std.proofs.lemmas.List.{get_or_read}
 use Rattle.model.specs.Changes.{Edit, news}
 use Rattle.shadow.specs.Steps.{IsFirst, TakesIn, new_in}
 use Rattle.shadow.specs.declared.change.Made.TheVariants.{Directory as A_directory, File as A_file}
-use Rattle.shadow.proofs.Alike.{append_taken, pipe_taken, take_taken, cut_taken, directory_taken, file_taken, put_taken}
-use Rattle.shadow.proofs.Outcomes.{ok_so}
+use Rattle.shadow.proofs.noting.UnusedNumbers.{append_taken, pipe_taken, take_taken, cut_taken, directory_taken, file_taken, put_taken}
+use Rattle.shadow.proofs.shared.Outcomes.{ok_so}
 use Rattle.shadow.proofs.patches.Patches.note_first.Goals as goal
 
 pub returns-in-MakeDirectory-clause-ok : goal.returns-in-MakeDirectory-clause-ok
@@ -15,7 +15,7 @@ returns-in-MakeDirectory-clause-ok c =
     let at : c.index-chosen-0.result ≡ new_in chosen 0 = get_or_read chosen 0 c.index-chosen-0.result low c.index-chosen-0.is 0 in
     ok_so c.make.result
     (λ t. subst (λ (e : Edit). TakesIn chosen e c.args.self.now c.make.new.self) (sym c.in-MakeDirectory.is)
-    (directory_taken chosen c.args.self.now c.make.new.self c.in-MakeDirectory.parent c.index-chosen-0.result c.in-MakeDirectory._place c.in-MakeDirectory.name (subst IsFirst c.in-MakeDirectory.is c.requires.first) at t))
+    (directory_taken chosen c.args.self.now c.make.new.self c.in-MakeDirectory.parent c.index-chosen-0.result c.in-MakeDirectory.index c.in-MakeDirectory.name (subst IsFirst c.in-MakeDirectory.is c.requires.first) at t))
     c.make.ensures.ok
 
 pub returns-in-MakeFile-clause-ok : goal.returns-in-MakeFile-clause-ok
@@ -26,7 +26,7 @@ returns-in-MakeFile-clause-ok c =
     let at : c.index-chosen-0-in-MakeFile.result ≡ new_in chosen 0 = get_or_read chosen 0 c.index-chosen-0-in-MakeFile.result low c.index-chosen-0-in-MakeFile.is 0 in
     ok_so c.make-in-MakeFile.result
     (λ t. subst (λ (e : Edit). TakesIn chosen e c.args.self.now c.make-in-MakeFile.new.self) (sym c.in-MakeFile.is)
-    (file_taken chosen c.args.self.now c.make-in-MakeFile.new.self c.in-MakeFile.parent c.index-chosen-0-in-MakeFile.result c.in-MakeFile._place c.in-MakeFile.name (subst IsFirst c.in-MakeFile.is c.requires.first) at t))
+    (file_taken chosen c.args.self.now c.make-in-MakeFile.new.self c.in-MakeFile.parent c.index-chosen-0-in-MakeFile.result c.in-MakeFile.index c.in-MakeFile.name (subst IsFirst c.in-MakeFile.is c.requires.first) at t))
     c.make-in-MakeFile.ensures.ok
 
 pub returns-in-NameFile-clause-ok : goal.returns-in-NameFile-clause-ok
@@ -57,14 +57,14 @@ pub returns-in-PutBytes-clause-ok : goal.returns-in-PutBytes-clause-ok
 returns-in-PutBytes-clause-ok c =
     ok_so c.write-noted.result
     (λ t. subst (λ (e : Edit). TakesIn c.args.chosen.now e c.args.self.now c.write-noted.new.self) (sym c.in-PutBytes.is)
-    (put_taken c.args.chosen.now c.args.self.now c.write-noted.new.self c.in-PutBytes.file c.in-PutBytes.place c.in-PutBytes.bytes c.in-PutBytes._before (t c.in-PutBytes._before)))
+    (put_taken c.args.chosen.now c.args.self.now c.write-noted.new.self c.in-PutBytes.file c.in-PutBytes.offset c.in-PutBytes.bytes c.in-PutBytes.length_before (t c.in-PutBytes.length_before)))
     c.write-noted.ensures.ok
 
 pub returns-in-Cut-clause-ok : goal.returns-in-Cut-clause-ok
 returns-in-Cut-clause-ok c =
     ok_so c.cut.result
     (λ t. subst (λ (e : Edit). TakesIn c.args.chosen.now e c.args.self.now c.cut.new.self) (sym c.in-Cut.is)
-    (cut_taken c.args.chosen.now c.args.self.now c.cut.new.self c.in-Cut.file c.in-Cut._before c.in-Cut.after (t c.in-Cut._before)))
+    (cut_taken c.args.chosen.now c.args.self.now c.cut.new.self c.in-Cut.file c.in-Cut.length_before c.in-Cut.length (t c.in-Cut.length_before)))
     c.cut.ensures.ok
 
 pub returns-in-Take-clause-ok : goal.returns-in-Take-clause-ok
@@ -91,5 +91,5 @@ returns-in-MakePipe-clause-ok c =
     let last : c.index-chosen-2.result ≡ new_in chosen 2 = get_or_read chosen 2 c.index-chosen-2.result (omega (arith, count)) c.index-chosen-2.is 0 in
     ok_so c.make_pipe.result
     (λ t. subst (λ (e : Edit). TakesIn chosen e c.args.self.now c.make_pipe.new.self) (sym c.in-MakePipe.is)
-    (pipe_taken chosen c.args.self.now c.make_pipe.new.self c.index-chosen-0-in-MakePipe.result c.index-chosen-1.result c.index-chosen-2.result c.in-MakePipe._place c.in-MakePipe.pid c.in-MakePipe.reading c.in-MakePipe.writing first.0 here next last t))
+    (pipe_taken chosen c.args.self.now c.make_pipe.new.self c.index-chosen-0-in-MakePipe.result c.index-chosen-1.result c.index-chosen-2.result c.in-MakePipe.index c.in-MakePipe.process c.in-MakePipe.reader c.in-MakePipe.writer first.0 here next last t))
     c.make_pipe.ensures.ok

@@ -1,5 +1,5 @@
 use Rattle.std.proofs.Common.{refl}
-use Rattle.shadow.proofs.Noted.{same_then_takes}
+use Rattle.shadow.proofs.noting.InodeNotes.{same_then_takes}
 use Rattle.shadow.proofs.patches.Patches.note_lone_last.Goals as goal
 
 pub returns-clause-ok : goal.returns-clause-ok

@@ -1,6 +1,6 @@
 use Rattle.std.proofs.Common.{◌≡◌, ◌+◌, arith, length, refl}
 use Rattle.model.specs.Changes.{news}
-use Rattle.shadow.proofs.Noted.{on_err, same_patches, same_then_takes}
+use Rattle.shadow.proofs.noting.InodeNotes.{on_err, same_patches, same_then_takes}
 use Rattle.shadow.proofs.patches.Patches.note_two.Goals as goal
 
 pub returns-in_err-note_first-clause-err : goal.returns-in_err-note_first-clause-err

@@ -2,14 +2,14 @@ use Rattle.std.proofs.Common.{[], refl, subst}
 use Rattle.model.specs.Changes.{Take}
 use Rattle.shadow.specs.Patches.{Patches}
 use Rattle.shadow.specs.Steps.{TakesIn}
-use Rattle.shadow.proofs.Noted.{ok_so, only_inodes, same_then_takes}
-use Rattle.shadow.proofs.TakenPipes.{take_takes}
+use Rattle.shadow.proofs.noting.InodeNotes.{ok_so, only_inodes, same_then_takes}
+use Rattle.shadow.proofs.noting.PipeEdits.{take_takes}
 use Rattle.shadow.proofs.patches.Patches.take.Goals as goal
 
 pub returns-clause-ok : goal.returns-clause-ok
 returns-clause-ok c =
     let was = c.self.inside in
-    let old : Patches = record { inodes = was.inodes; openings = was.openings; slots = was.slots; lost = was.lost.items } in
+    let old : Patches = record { inodes = was.inodes; openings = was.openings; slots = was.slots; unnamed_inodes = was.unnamed_inodes.items } in
     let mid : Patches = record old { inodes = c.make_place.new.self } in
     let new : Patches = record old { inodes = c.take.new.self } in
     let edit = Take c.args.pipe c.args.count in

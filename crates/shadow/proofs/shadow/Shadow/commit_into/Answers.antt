@@ -1,6 +1,6 @@
-use Rattle.shadow.proofs.Composed.{can_commit, has_all, has_inodes, has_kept, has_state}
-use Rattle.shadow.proofs.Composed.{holds_first, holds_second, is_sound}
-use Rattle.shadow.proofs.Ready.{ready, slots_alive}
+use Rattle.shadow.proofs.committing.AllSteps.{can_commit, has_all, has_inodes, has_kept, has_state}
+use Rattle.shadow.proofs.committing.AllSteps.{holds_first, holds_second, is_sound}
+use Rattle.shadow.proofs.committing.Readiness.{ready, slots_alive}
 use Rattle.shadow.proofs.shadow.Shadow.commit_into.Goals as goal
 
 pub lay_inodes-requires : goal.lay_inodes-requires

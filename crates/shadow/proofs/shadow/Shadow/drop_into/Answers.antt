@@ -2,10 +2,10 @@ use Rattle.std.proofs.Common.{◌≤◌, ◌+◌, sym, ap, subst, ◌∙◌}
 use Rattle.shadow.specs.Claims.{claimed, reserved}
 use Rattle.shadow.proofs.shadow.Shadow.drop_into.Goals as goal
 
-pub give_up_all-requires : goal.give_up_all-requires
-give_up_all-requires c = λ q.
+pub release_all_claims-requires : goal.release_all_claims-requires
+release_all_claims-requires c = λ q.
     subst (λ n. n ≤ reserved c.args.stable.now q) (ap (claimed q) (sym c.self.view_is) ∙ c.self.invariant.claims q) (c.requires q)
 
 pub returns-clause-kept : goal.returns-clause-kept
 returns-clause-kept c = λ q.
-    c.give_up_all.ensures.kept q ∙ ap (λ n. reserved c.give_up_all.new.self q + n) (sym (c.self.invariant.claims q) ∙ ap (claimed q) c.self.view_is)
+    c.release_all_claims.ensures.kept q ∙ ap (λ n. reserved c.release_all_claims.new.self q + n) (sym (c.self.invariant.claims q) ∙ ap (claimed q) c.self.view_is)

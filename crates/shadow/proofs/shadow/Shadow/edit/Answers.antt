@@ -6,7 +6,7 @@ use Rattle.shadow.specs.Agrees.{Agrees}
 use Rattle.shadow.specs.Claims.{AreUnused, Covers, KeepsMore, claimed_by, kinds_in}
 use Rattle.shadow.specs.Log.{effect, effects_in}
 use Rattle.shadow.specs.Steps.{AreApart, TakesAll, parents_in}
-use Rattle.shadow.proofs.Agreeing.{agrees_more, agrees_same, can_give, given_back, unused_claims}
+use Rattle.shadow.proofs.noting.AgreementAfterCall.{agrees_more, agrees_same, can_give, given_back, unused_claims}
 use Rattle.shadow.proofs.shadow.Shadow.edit.Goals as goal
 
 pub invariant_of-self : goal.invariant_of-self
@@ -21,8 +21,8 @@ invariant_of-self c =
     (agrees_more (effects_in c.self.inside.log) c.self.inside.patches c.note.new.self chosen edits c.requires.kinds new.count new.different
     (unused_claims c.args.stable.now (effects_in c.self.inside.log) edits chosen covers new) apart takes c.self.invariant)
 
-pub give_up-requires : goal.give_up-requires
-give_up-requires c = (
+pub release_claims-requires : goal.release_claims-requires
+release_claims-requires c = (
   flat_map kinds_in c.args.edits.items,
   can_give c.args.stable.now c.claim.new.self c.args.edits.items c.in_ok-chosen.chosen c.as_slice-in-Err.result.now (listed c.parent_of-parent.result)
       (subst (λ es. KeepsMore c.args.stable.now c.claim.new.self (λ q. claimed_by q (effect c.in_ok-chosen.chosen es))) c.as_slice-2.ensures.value c.in_ok-chosen.ensures.kept)
@@ -34,6 +34,6 @@ invariant_of-self-in-Err-1 c = agrees_same (effects_in c.self.inside.log) c.self
 
 pub returns-in-Err-clause-same : goal.returns-in-Err-clause-same
 returns-in-Err-clause-same c =
-    given_back c.args.stable.now c.claim.new.self c.give_up.new.self c.args.edits.items c.in_ok-chosen.chosen c.as_slice-in-Err.result.now (listed c.parent_of-parent.result)
+    given_back c.args.stable.now c.claim.new.self c.release_claims.new.self c.args.edits.items c.in_ok-chosen.chosen c.as_slice-in-Err.result.now (listed c.parent_of-parent.result)
     (subst (λ es. KeepsMore c.args.stable.now c.claim.new.self (λ q. claimed_by q (effect c.in_ok-chosen.chosen es))) c.as_slice-2.ensures.value c.in_ok-chosen.ensures.kept)
-    c.as_slice-in-Err.ensures (c.parent_of-parent.ensures ∙ ap (flat_map parents_in) c.as_slice.ensures.value) c.give_up.ensures.kept
+    c.as_slice-in-Err.ensures (c.parent_of-parent.ensures ∙ ap (flat_map parents_in) c.as_slice.ensures.value) c.release_claims.ensures.kept

@@ -1,6 +1,6 @@
 use Rattle.std.proofs.Common.{◌∙◌}
 use Rattle.shadow.specs.Patches.{kept_at}
-use Rattle.shadow.proofs.Slots_over.{given_slots}
+use Rattle.shadow.proofs.noting.SlotLemmas.{given_slots}
 use Rattle.shadow.proofs.slots.Slots.given.Goals as goal
 
 pub returns-in-Some : goal.returns-in-Some

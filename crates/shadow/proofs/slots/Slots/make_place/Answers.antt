@@ -1,8 +1,8 @@
 use Rattle.std.proofs.Common.{rules, ◌≡◌, ◌++◌, ◌∷◌, [], None, sym, subst}
 use Rattle.shadow.specs.Patches.{kept_at}
 use Rattle.shadow.specs.Openings.{AreOnce}
-use Rattle.shadow.proofs.Once.{once_pushed}
-use Rattle.shadow.proofs.Slots_over.{Entries, placed_slots, placed_there}
+use Rattle.shadow.proofs.noting.DistinctProcesses.{once_pushed}
+use Rattle.shadow.proofs.noting.SlotLemmas.{Entries, placed_slots, placed_there}
 use Rattle.shadow.proofs.slots.Slots.make_place.Goals as goal
 
 pub invariant_of-self-2 : goal.invariant_of-self-2

@@ -1,7 +1,7 @@
 use Rattle.std.proofs.Common.{◌≡◌, ◌∙◌, rules, None, length, sym, subst}
 use Rattle.shadow.specs.Patches.{kept_at}
 use Rattle.shadow.specs.Openings.{AtSlots}
-use Rattle.shadow.proofs.Slots_over.{Entries, noted_slots, written}
+use Rattle.shadow.proofs.noting.SlotLemmas.{Entries, noted_slots, written}
 use Rattle.shadow.proofs.slots.Slots.note.Goals as goal
 
 pub returns : goal.returns

@@ -1,5 +1,5 @@
 use Rattle.shadow.specs.Patches.{kept_at}
-use Rattle.shadow.proofs.Slots_over.{laid_slots}
+use Rattle.shadow.proofs.noting.SlotLemmas.{laid_slots}
 use Rattle.shadow.proofs.slots.Slots.over.Goals as goal
 
 pub returns-in-Some : goal.returns-in-Some

@@ -6,9 +6,9 @@ use Rattle.model.specs.Changes.{holders, or_new, process_of}
 use Rattle.freeing_laws.specs.Counts.{times}
 use Rattle.shadow.specs.Openings.{AreOnce}
 use Rattle.shadow.specs.Patches.{kept_at, reslotted}
-use Rattle.shadow.proofs.Once.{key_at}
-use Rattle.shadow.proofs.Slots_over.{Entries}
-use Rattle.shadow.proofs.Turnover.{Turned, open_on, turned_all, turned_nothing, turned_on}
+use Rattle.shadow.proofs.noting.DistinctProcesses.{key_at}
+use Rattle.shadow.proofs.noting.SlotLemmas.{Entries}
+use Rattle.shadow.proofs.viewing.SlotTurnover.{Turned, open_on, turned_all, turned_nothing, turned_on}
 use Rattle.shadow.proofs.slots.Slots.turnover.Goals as goal
 
 pub loop-i-init : goal.loop-i-init

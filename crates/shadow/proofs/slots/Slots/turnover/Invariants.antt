@@ -1,6 +1,6 @@
 -- So many descriptors came and went with the processes so far.
 use Rattle.std.proofs.Common.{◌*◌, ◌≤◌}
-use Rattle.shadow.proofs.Turnover.{Turned}
+use Rattle.shadow.proofs.viewing.SlotTurnover.{Turned}
 use Rattle.shadow.proofs.slots.Slots.turnover.Given as goal
 
 abbrev pub invariant-loop-i : goal.invariant-loop-i

@@ -1,7 +1,7 @@
 use Rattle.std.proofs.Common.{◌≡◌, ◌<◌, ◌≤◌, ◌∙◌, ℕ, length, sym, ap, inl, inr, arith}
 use Rattle.model.specs.FiniteMap.{get}
 use Rattle.shadow.specs.Stored.{Processes, numbered}
-use Rattle.shadow.proofs.Living.{IsProcess, no_process, read_there}
+use Rattle.shadow.proofs.shared.ProcessLemmas.{IsProcess, no_process, read_there}
 use Rattle.shadow.proofs.stable.Processes.process.Goals as goal
 use Rattle.shadow.proofs.stable.Processes.process.Goals.{else-number-gt0-via-then-number-gt0+else-number-len, else-number-gt0-via-else-number-gt0}
 

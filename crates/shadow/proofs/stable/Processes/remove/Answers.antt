@@ -1,7 +1,7 @@
 use Rattle.std.proofs.Common.{◌≡◌, ◌≢◌, ◌≤◌, ◌∙◌, ◌<◌, ℕ, None, length, sym, ap, arith, vec_len}
 use Rattle.model.specs.FiniteMap.{get}
 use Rattle.shadow.specs.Stored.{Processes, numbered}
-use Rattle.shadow.proofs.Living.{IsProcess, is_process}
+use Rattle.shadow.proofs.shared.ProcessLemmas.{IsProcess, is_process}
 use Rattle.shadow.proofs.stable.Processes.remove.Goals as goal
 
 -- the process is there

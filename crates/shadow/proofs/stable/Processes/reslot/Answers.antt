@@ -4,7 +4,7 @@ use Rattle.model.specs.State.{Process}
 use Rattle.shadow.specs.Openings.{slot_noted}
 use Rattle.shadow.specs.Stored.{Processes, numbered, with_process}
 use Rattle.shadow.specs.Laid.{table_in}
-use Rattle.shadow.proofs.Living.{IsProcess, is_process, read_there}
+use Rattle.shadow.proofs.shared.ProcessLemmas.{IsProcess, is_process, read_there}
 use Rattle.shadow.proofs.stable.Processes.reslot.Goals as goal
 
 -- of a value and of what it shows: the process is there, and is what is read at its place
@@ -18,8 +18,8 @@ module _ (ps qs : Processes) (given pid : ℕ) (shown : ps ≡ qs) (same : given
   reads : (o : Option Process) → o ≡ get_or ps.list (given - 1) o → o ≡ get (numbered qs) pid
   reads o is = read_there ps given o there is ∙ shows
 
-pub overflow_sub-place : goal.overflow_sub-place
-overflow_sub-place c =
+pub overflow_sub-index : goal.overflow_sub-index
+overflow_sub-index c =
     let is : IsProcess c.args.self.now c.args.pid = is_process c.args.self.now c.args.pid c.requires.pid in
     let some : 0 < c.args.pid = is.some in
     let same : c.pid.inside.0 ≡ c.args.pid = c.pid.view_is in

@@ -7,7 +7,7 @@ use Rattle.call_laws.specs.Fits.{Fits}
 use Rattle.store.specs.Shown.{inodes}
 use Rattle.shadow.specs.Committed.{Committed}
 use Rattle.shadow.specs.Stored.{state_of}
-use Rattle.shadow.proofs.Passing.{appending, passing_kept, passing_sound, passing_state, roomy}
+use Rattle.shadow.proofs.edits.PipeBytes.{appending, passing_kept, passing_sound, passing_state, roomy}
 use Rattle.shadow.proofs.stable.Stable.append.Goals as goal
 
 pub change_pipe-requires : goal.change_pipe-requires

@@ -4,12 +4,12 @@ use Rattle.freeing_laws.specs.Counts.{listed}
 use Rattle.shadow.specs.Claims.{KeepsMore, claimed_by, claimed_in, kinds_in, with_kinds}
 use Rattle.shadow.specs.Log.{effect}
 use Rattle.shadow.specs.Steps.{parents_in}
-use Rattle.shadow.proofs.Agreeing.{can_give}
+use Rattle.shadow.proofs.noting.AgreementAfterCall.{can_give}
 use Rattle.shadow.proofs.stable.Stable.apply.Goals as goal
 
 -- what was kept for the call is kept still
-pub give_up-requires : goal.give_up-requires
-give_up-requires c = (
+pub release_claims-requires : goal.release_claims-requires
+release_claims-requires c = (
   flat_map kinds_in c.args.edits.items,
   λ claim. subst (λ n. claimed_in claim
       (with_kinds c.as_slice-in-Err.result.now (flat_map kinds_in c.args.edits.items))

@@ -1,11 +1,11 @@
 use Rattle.std.proofs.Common.{ap}
 use Rattle.shadow.specs.Committed.{Committed}
 use Rattle.shadow.specs.Claims.{reserved}
-use Rattle.shadow.proofs.Claimed.{apart_from, kept_alone, kept_with, may_still_give_up, none_added, parent_is, same_kept, unused_numbers}
+use Rattle.shadow.proofs.claims.NewNumbers.{apart_from, kept_alone, kept_with, may_still_release_claims, none_added, parent_is, same_kept, unused_numbers}
 use Rattle.shadow.proofs.stable.Stable.claim.Goals as goal
 
-pub give_up-requires : goal.give_up-requires
-give_up-requires c = may_still_give_up c.args.self.now c.claim_numbers.new.self c.promise.new.self c.args.edits.now c.in_ok-chosen.chosen c.as_slice.result.now c.in_ok-chosen.ensures.ok
+pub release_claims-requires : goal.release_claims-requires
+release_claims-requires c = may_still_release_claims c.args.self.now c.claim_numbers.new.self c.promise.new.self c.args.edits.now c.in_ok-chosen.chosen c.as_slice.result.now c.in_ok-chosen.ensures.ok
     (none_added c.claim_numbers.new.self c.promise.new.self c.in_ok-chosen.chosen c.as_slice.result.now c.as_slice.ensures (λ claim. ap (λ (v : Committed). reserved v claim) c.in-Err.ensures.err))
 
 pub returns-in-None-clause-new : goal.returns-in-None-clause-new
@@ -34,4 +34,4 @@ promise-requires c =
 pub returns-in-Err-clause-err : goal.returns-in-Err-clause-err
 returns-in-Err-clause-err c = same_kept c.args.self.now c.claim_numbers.new.self c.promise.new.self c.args.edits.now c.in_ok-chosen.chosen c.as_slice.result.now c.in_ok-chosen.ensures.ok
     (none_added c.claim_numbers.new.self c.promise.new.self c.in_ok-chosen.chosen c.as_slice.result.now c.as_slice.ensures (λ claim. ap (λ (v : Committed). reserved v claim) c.in-Err.ensures.err))
-    c.give_up.new.self c.give_up.ensures.kept
+    c.release_claims.new.self c.release_claims.ensures.kept

@@ -1,7 +1,7 @@
 use Rattle.std.proofs.Common.{false, true, ap, sym}
 use Rattle.shadow.specs.Claims.{kinds_in}
 use Rattle.model.specs.Changes.{news}
-use Rattle.shadow.proofs.Claimed.{err_added, ok_claimed}
+use Rattle.shadow.proofs.claims.NewNumbers.{err_added, ok_claimed}
 use Rattle.shadow.proofs.stable.Stable.claim_number.Goals as goal
 
 pub returns-in-MakeDirectory-clause-ok : goal.returns-in-MakeDirectory-clause-ok

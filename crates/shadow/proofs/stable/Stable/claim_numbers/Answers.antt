@@ -1,11 +1,11 @@
 use Rattle.std.proofs.Common.{◌+◌, ◌∷◌, sym, ap, subst, ◌∙◌, drop}
 use Rattle.shadow.specs.Claims.{AreAdded}
 use Rattle.std.proofs.lemmas.List.{drop_more}
-use Rattle.shadow.proofs.Claimed.{claims_next, may_still_give_up, same_kept}
+use Rattle.shadow.proofs.claims.NewNumbers.{claims_next, may_still_release_claims, same_kept}
 use Rattle.shadow.proofs.stable.Stable.claim_numbers.Goals as goal
 
-pub give_up-requires : goal.give_up-requires
-give_up-requires c = may_still_give_up c.args.self.now c.loop-edit.self c.claim_number.new.self c.loop-edit.invariant.done c.loop-edit.chosen c.as_slice.result.now c.loop-edit.invariant.have
+pub release_claims-requires : goal.release_claims-requires
+release_claims-requires c = may_still_release_claims c.args.self.now c.loop-edit.self c.claim_number.new.self c.loop-edit.invariant.done c.loop-edit.chosen c.as_slice.result.now c.loop-edit.invariant.have
     (subst (AreAdded c.loop-edit.self c.claim_number.new.self c.loop-edit.chosen) (sym c.as_slice.ensures) c.in-Err.ensures.err)
 
 pub loop-edit-preserved : goal.loop-edit-preserved
@@ -17,4 +17,4 @@ loop-edit-preserved c =
 pub returns-in-Err-clause-err : goal.returns-in-Err-clause-err
 returns-in-Err-clause-err c =
     same_kept c.args.self.now c.loop-edit.self c.claim_number.new.self c.loop-edit.invariant.done c.loop-edit.chosen c.as_slice.result.now c.loop-edit.invariant.have
-    (subst (AreAdded c.loop-edit.self c.claim_number.new.self c.loop-edit.chosen) (sym c.as_slice.ensures) c.in-Err.ensures.err) c.give_up.new.self c.give_up.ensures.kept
+    (subst (AreAdded c.loop-edit.self c.claim_number.new.self c.loop-edit.chosen) (sym c.as_slice.ensures) c.in-Err.ensures.err) c.release_claims.new.self c.release_claims.ensures.kept

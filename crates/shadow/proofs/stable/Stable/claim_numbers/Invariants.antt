@@ -1,5 +1,5 @@
 -- The edits before this one have their numbers.
-use Rattle.shadow.proofs.Claimed.{ClaimsOn}
+use Rattle.shadow.proofs.claims.NewNumbers.{ClaimsOn}
 use Rattle.shadow.proofs.stable.Stable.claim_numbers.Given as goal
 
 abbrev pub invariant-loop-edit : goal.invariant-loop-edit

@@ -7,9 +7,9 @@ use Rattle.store.specs.Shown.{inodes}
 use Rattle.shadow.specs.Claims.{KeepsSame}
 use Rattle.shadow.specs.Committed.{Committed}
 use Rattle.shadow.specs.Stored.{Sound, committed_of, state_of}
-use Rattle.shadow.proofs.Bytes.{file_still, file_there, former_is, swapped, swapped_twice, cut_sound, cut_state}
-use Rattle.shadow.proofs.Edited.{same_of, state_is}
-use Rattle.shadow.proofs.Kept_on.{file_keeps}
+use Rattle.shadow.proofs.edits.FileBytes.{file_still, file_there, former_is, swapped, swapped_twice, cut_sound, cut_state}
+use Rattle.shadow.proofs.shared.SoundnessLemmas.{same_of, state_is}
+use Rattle.shadow.proofs.freeing.RemainingPlaces.{file_keeps}
 use Rattle.shadow.proofs.stable.Stable.cut.Goals as goal
 
 pub swap_file-data-requires : goal.swap_file-data-requires

@@ -7,9 +7,9 @@ use Rattle.shadow.specs.Claims.{KeepsSame}
 use Rattle.shadow.specs.Committed.{Committed}
 use Rattle.shadow.specs.Laid.{Frees, Holds}
 use Rattle.shadow.specs.Stored.{Processes, Sound, committed_of, state_of, with_process}
-use Rattle.shadow.proofs.Edited.{same_of, state_is}
-use Rattle.shadow.proofs.Ending.{ending_holds, ending_sound, ending_tidy, given_of, there}
-use Rattle.shadow.proofs.Ending.{slots_keep}
+use Rattle.shadow.proofs.shared.SoundnessLemmas.{same_of, state_is}
+use Rattle.shadow.proofs.edits.Exit.{ending_holds, ending_sound, ending_tidy, given_of, there}
+use Rattle.shadow.proofs.edits.Exit.{slots_keep}
 use Rattle.shadow.proofs.stable.Stable.exit.Goals as goal
 
 -- the edit fits what is stored

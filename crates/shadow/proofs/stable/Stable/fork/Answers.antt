@@ -9,8 +9,8 @@ use Rattle.store.specs.Numbers.{Numbers}
 use Rattle.shadow.specs.Committed.{Committed}
 use Rattle.shadow.specs.Laid.{IsReslotted}
 use Rattle.shadow.specs.Stored.{Processes, committed_of, numbered, state_of}
-use Rattle.shadow.proofs.Edited.{state_is}
-use Rattle.shadow.proofs.Forking.{forked, forked_sound, grown, grown_here}
+use Rattle.shadow.proofs.shared.SoundnessLemmas.{state_is}
+use Rattle.shadow.proofs.edits.Fork.{forked, forked_sound, grown, grown_here}
 use Rattle.shadow.proofs.stable.Stable.fork.Goals as goal
 
 -- the next number

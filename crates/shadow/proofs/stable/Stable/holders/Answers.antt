@@ -1,7 +1,7 @@
 use Rattle.std.proofs.Common.{ap, ◌∙◌}
 use Rattle.model.specs.Changes.{holders}
 use Rattle.shadow.specs.Committed.{Committed}
-use Rattle.shadow.proofs.Holders.{stored_holders}
+use Rattle.shadow.proofs.viewing.StoredHolders.{stored_holders}
 use Rattle.shadow.proofs.stable.Stable.holders.Goals as goal
 
 pub returns : goal.returns

@@ -6,10 +6,10 @@ use Rattle.shadow.specs.Claims.{Room, claimed_by_one}
 use Rattle.shadow.specs.Committed.{Committed}
 use Rattle.shadow.specs.Laid.{kept_in}
 use Rattle.shadow.specs.Stored.{Sound, state_of}
-use Rattle.shadow.proofs.Edited.{less_of, sound_after, state_is, tidy_after}
-use Rattle.shadow.proofs.Freed.{IsMade}
-use Rattle.shadow.proofs.Making.{named_in}
-use Rattle.shadow.proofs.Renaming.{link_claims, linking_dir, linking_kept, linking_made, linking_num, linking_room, room_here}
+use Rattle.shadow.proofs.shared.SoundnessLemmas.{less_of, sound_after, state_is, tidy_after}
+use Rattle.shadow.proofs.freeing.SoundAfterFreeing.{IsMade}
+use Rattle.shadow.proofs.edits.NewInodes.{named_in}
+use Rattle.shadow.proofs.edits.LinksAndMoves.{link_claims, linking_dir, linking_kept, linking_made, linking_num, linking_room, room_here}
 use Rattle.shadow.proofs.stable.Stable.link.Goals as goal
 
 -- the edit fits what is stored, and there is room for its name

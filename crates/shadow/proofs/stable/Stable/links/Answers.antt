@@ -2,7 +2,7 @@ use Rattle.std.proofs.Common.{sym, ap, ◌∙◌}
 use Rattle.model.specs.State.{links}
 use Rattle.shadow.specs.Committed.{Committed}
 use Rattle.shadow.specs.Stored.{state_of}
-use Rattle.shadow.proofs.Unshown.{links_links_in}
+use Rattle.shadow.proofs.claims.Reservations.{links_links_in}
 use Rattle.shadow.proofs.stable.Stable.links.Goals as goal
 
 pub returns : goal.returns

@@ -7,8 +7,8 @@ use Rattle.store.proofs.Laws.{with_place}
 use Rattle.store.specs.Places.{is_coming, listing_at, may_be_named}
 use Rattle.shadow.specs.Claims.{Claim, KeepsMore, claimed_by_one}
 use Rattle.shadow.specs.Stored.{Sound, committed_of, state_of}
-use Rattle.shadow.proofs.Making.{Makes, file_to_come, makes_file, named_in}
-use Rattle.shadow.proofs.Edited.{less_of, state_is}
+use Rattle.shadow.proofs.edits.NewInodes.{Makes, file_to_come, makes_file, named_in}
+use Rattle.shadow.proofs.shared.SoundnessLemmas.{less_of, state_is}
 use Rattle.shadow.proofs.stable.Stable.make_file.Goals as goal
 
 -- before the name is there, and after it

@@ -4,8 +4,8 @@ use Rattle.model.specs.Changes.{Make_pipe, at_start, to_read, to_write}
 use Rattle.shadow.specs.Claims.{claimed_by_one}
 use Rattle.shadow.specs.declared.opening.Opening.TheVariants.{New}
 use Rattle.shadow.specs.Laid.{IsReopened}
-use Rattle.shadow.proofs.Edited.{less_of}
-use Rattle.shadow.proofs.PipeMade.{pipe_to_come, piping_kept, piping_process, piping_sound, piping_state, process_still, reader_comes, writer_still}
+use Rattle.shadow.proofs.shared.SoundnessLemmas.{less_of}
+use Rattle.shadow.proofs.edits.NewPipes.{pipe_to_come, piping_kept, piping_process, piping_sound, piping_state, process_still, reader_comes, writer_still}
 use Rattle.shadow.proofs.stable.Stable.make_pipe.Goals as goal
 
 pub install_as-requires-clause-coming : goal.install_as-requires-clause-coming

@@ -4,9 +4,9 @@ use Rattle.model.specs.Changes.{Open_inode, There, at_start}
 use Rattle.shadow.specs.Claims.{claimed_by_one}
 use Rattle.shadow.specs.declared.opening.Opening.TheVariants.{New}
 use Rattle.shadow.specs.Laid.{IsReopened}
-use Rattle.shadow.proofs.Edited.{less_of}
-use Rattle.shadow.proofs.OpeningMade.{opening_kept, opening_process, opening_sound, opening_state}
-use Rattle.shadow.proofs.OpeningMade.{opening_to_come}
+use Rattle.shadow.proofs.shared.SoundnessLemmas.{less_of}
+use Rattle.shadow.proofs.edits.OpenedInodes.{opening_kept, opening_process, opening_sound, opening_state}
+use Rattle.shadow.proofs.edits.OpenedInodes.{opening_to_come}
 use Rattle.shadow.proofs.stable.Stable.open_inode.Goals as goal
 
 pub open-requires : goal.open-requires

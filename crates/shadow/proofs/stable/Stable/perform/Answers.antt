@@ -3,9 +3,9 @@ use Rattle.std.specs.Prelude.{take}
 use Rattle.model.specs.Changes.{Edit, all_applied, tidy}
 use Rattle.shadow.specs.Claims.{KeepsMore, claimed_by}
 use Rattle.shadow.specs.Log.{effect}
-use Rattle.shadow.proofs.ClaimsOfCall.{CanPerform}
-use Rattle.shadow.proofs.Outcomes.{ok_so}
-use Rattle.shadow.proofs.Pairs.{two_edits}
+use Rattle.shadow.proofs.claims.CallClaims.{CanPerform}
+use Rattle.shadow.proofs.shared.Outcomes.{ok_so}
+use Rattle.shadow.proofs.shared.EditPairs.{two_edits}
 use Rattle.shadow.proofs.stable.Stable.perform.Goals as goal
 
 -- there are two edits

@@ -6,14 +6,14 @@ use Rattle.call_laws.specs.Fits.{Fits}
 use Rattle.shadow.specs.Claims.{KeepsMore, claimed_by_one}
 use Rattle.shadow.specs.Stored.{committed_of}
 use Rattle.shadow.specs.Steps.{IsLast, new_in}
-use Rattle.shadow.proofs.Edited.{less_of}
-use Rattle.shadow.proofs.OffsetInState.{moving_kept, moving_sound, moving_state}
-use Rattle.shadow.proofs.SameEdit.{same_slotting, same_opening}
+use Rattle.shadow.proofs.shared.SoundnessLemmas.{less_of}
+use Rattle.shadow.proofs.edits.Offsets.{moving_kept, moving_sound, moving_state}
+use Rattle.shadow.proofs.edits.UnusedNumbers.{same_slotting, same_opening}
 use Rattle.shadow.proofs.stable.Stable.perform_last.Goals as goal
 
 pub invariant_of-self : goal.invariant_of-self
 invariant_of-self c = moving_sound c.self.inside.processes c.self.inside.store c.args.self.now
-    c.self.view_is c.args.chosen.now c.in-SetOffset.description c.in-SetOffset.place
+    c.self.view_is c.args.chosen.now c.in-SetOffset.description c.in-SetOffset.offset
     c.self.invariant
     (subst (Fits c.args.chosen.now c.args.self.now.state) c.in-SetOffset.is c.requires.fits)
     c.set_offset.new.self c.set_offset.ensures.moved
@@ -21,7 +21,7 @@ invariant_of-self c = moving_sound c.self.inside.processes c.self.inside.store c
 pub returns-in-SetOffset-clause-state : goal.returns-in-SetOffset-clause-state
 returns-in-SetOffset-clause-state c =
     moving_state c.self.inside.processes c.self.inside.store c.args.self.now c.self.view_is
-    c.args.chosen.now c.in-SetOffset.description c.in-SetOffset.place c.self.invariant
+    c.args.chosen.now c.in-SetOffset.description c.in-SetOffset.offset c.self.invariant
     (subst (Fits c.args.chosen.now c.args.self.now.state) c.in-SetOffset.is c.requires.fits)
     c.set_offset.new.self c.set_offset.ensures.moved
     ∙ ap (λ (e : Edit). tidy (applied c.args.chosen.now e c.args.self.now.state))
@@ -34,9 +34,9 @@ returns-in-SetOffset-clause-kept c =
     (λ claim. claimed_by_one claim c.args.chosen.now e)) (sym c.in-SetOffset.is)
     (less_of ps ps c.self.inside.store c.args.self.now c.self.view_is c.set_offset.new.self
     (λ claim. claimed_by_one claim c.args.chosen.now
-    (Set_offset c.in-SetOffset.description c.in-SetOffset.place))
+    (Set_offset c.in-SetOffset.description c.in-SetOffset.offset))
     (moving_kept ps c.self.inside.store c.args.self.now c.self.view_is c.args.chosen.now
-    c.in-SetOffset.description c.in-SetOffset.place c.self.invariant
+    c.in-SetOffset.description c.in-SetOffset.offset c.self.invariant
     (subst (Fits c.args.chosen.now c.args.self.now.state) c.in-SetOffset.is c.requires.fits)
     c.set_offset.new.self c.set_offset.ensures.moved))
 
@@ -45,40 +45,40 @@ returns-in-OpenInode-clause-state c =
     let chosen : List ℕ = c.args.chosen.now in
     let last = subst (λ (e : Edit). (m : ℕ) × IsLast m e × (m + news e ≤ length chosen))
     c.in-OpenInode.is c.requires.last in
-    let here : c.in-OpenInode.place ≡ last.0 = last.1.0 in
-    let low : c.in-OpenInode.place < length chosen = omega (arith, here, last.2) in
-    let at : c.index-chosen-place.result ≡ new_in chosen c.in-OpenInode.place =
-    get_or_read chosen c.in-OpenInode.place c.index-chosen-place.result low
-    c.index-chosen-place.is 0 in
+    let here : c.in-OpenInode.index ≡ last.0 = last.1.0 in
+    let low : c.in-OpenInode.index < length chosen = omega (arith, here, last.2) in
+    let at : c.index-chosen-index.result ≡ new_in chosen c.in-OpenInode.index =
+    get_or_read chosen c.in-OpenInode.index c.index-chosen-index.result low
+    c.index-chosen-index.is 0 in
     c.open_inode.ensures.state
     ∙ ap (λ (k : Kernel). tidy k)
-    (same_opening chosen c.in-OpenInode.place c.in-OpenInode.inode c.in-OpenInode.mode
-    c.in-OpenInode.pid c.in-OpenInode.fd c.index-chosen-place.result c.number-inode.result at
+    (same_opening chosen c.in-OpenInode.index c.in-OpenInode.inode c.in-OpenInode.mode
+    c.in-OpenInode.process c.in-OpenInode.descriptor c.index-chosen-index.result c.number-inode.result at
     c.number-inode.ensures c.args.self.now.state)
     ∙ ap (λ (e : Edit). tidy (applied chosen e c.args.self.now.state)) (sym c.in-OpenInode.is)
 
 pub reslot-requires-clause-fits : goal.reslot-requires-clause-fits
-reslot-requires-clause-fits c = (c.in-ShareSlot._pipes, subst (Fits c.args.chosen.now c.args.self.now.state) c.in-ShareSlot.is c.requires.fits)
+reslot-requires-clause-fits c = (c.in-ShareSlot.pipes, subst (Fits c.args.chosen.now c.args.self.now.state) c.in-ShareSlot.is c.requires.fits)
 
 pub returns-in-ShareSlot-clause-state : goal.returns-in-ShareSlot-clause-state
 returns-in-ShareSlot-clause-state c =
-    c.reslot.ensures.state c.in-ShareSlot._pipes
+    c.reslot.ensures.state c.in-ShareSlot.pipes
     (subst (Fits c.args.chosen.now c.args.self.now.state) c.in-ShareSlot.is c.requires.fits)
     ∙ ap (λ (k : Kernel). tidy k)
-    (same_slotting c.args.chosen.now c.args.self.now.state (Some c.in-ShareSlot.description) c.in-ShareSlot.pid c.in-ShareSlot.fd
-    c.in-ShareSlot._pipes)
+    (same_slotting c.args.chosen.now c.args.self.now.state (Some c.in-ShareSlot.description) c.in-ShareSlot.process c.in-ShareSlot.descriptor
+    c.in-ShareSlot.pipes)
     ∙ ap (λ (e : Edit). tidy (applied c.args.chosen.now e c.args.self.now.state))
     (sym c.in-ShareSlot.is)
 
 pub reslot-requires-in-ClearSlot-clause-fits : goal.reslot-requires-in-ClearSlot-clause-fits
-reslot-requires-in-ClearSlot-clause-fits c = (c.in-ClearSlot._pipes, subst (Fits c.args.chosen.now c.args.self.now.state) c.in-ClearSlot.is c.requires.fits)
+reslot-requires-in-ClearSlot-clause-fits c = (c.in-ClearSlot.pipes, subst (Fits c.args.chosen.now c.args.self.now.state) c.in-ClearSlot.is c.requires.fits)
 
 pub returns-in-ClearSlot-clause-state : goal.returns-in-ClearSlot-clause-state
 returns-in-ClearSlot-clause-state c =
-    c.reslot-in-ClearSlot.ensures.state c.in-ClearSlot._pipes
+    c.reslot-in-ClearSlot.ensures.state c.in-ClearSlot.pipes
     (subst (Fits c.args.chosen.now c.args.self.now.state) c.in-ClearSlot.is c.requires.fits)
     ∙ ap (λ (k : Kernel). tidy k)
-    (same_slotting c.args.chosen.now c.args.self.now.state None c.in-ClearSlot.pid c.in-ClearSlot.fd
-    c.in-ClearSlot._pipes)
+    (same_slotting c.args.chosen.now c.args.self.now.state None c.in-ClearSlot.process c.in-ClearSlot.descriptor
+    c.in-ClearSlot.pipes)
     ∙ ap (λ (e : Edit). tidy (applied c.args.chosen.now e c.args.self.now.state))
     (sym c.in-ClearSlot.is)

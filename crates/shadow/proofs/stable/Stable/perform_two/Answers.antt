@@ -1,5 +1,5 @@
-use Rattle.shadow.proofs.ClaimsOfCall.{both_kept, both_made, first_covers, last_covers}
-use Rattle.shadow.proofs.ClaimsOfCall.{last_fits, last_is}
+use Rattle.shadow.proofs.claims.CallClaims.{both_kept, both_made, first_covers, last_covers}
+use Rattle.shadow.proofs.claims.CallClaims.{last_fits, last_is}
 use Rattle.shadow.proofs.stable.Stable.perform_two.Goals as goal
 
 pub perform_first-requires-clause-covers : goal.perform_first-requires-clause-covers

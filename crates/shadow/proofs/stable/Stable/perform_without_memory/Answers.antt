@@ -4,9 +4,9 @@ use Rattle.model.specs.State.{Kernel}
 use Rattle.model.specs.Changes.{Append, Cut, Edit, Take, applied, news, tidy}
 use Rattle.call_laws.specs.Fits.{Fits}
 use Rattle.shadow.specs.Steps.{TakesNoMemory, new_in}
-use Rattle.shadow.proofs.SameEdit.{none_goes, same_append, same_cut}
-use Rattle.shadow.proofs.SameEdit.{same_directory, same_file, same_linking, same_moving}
-use Rattle.shadow.proofs.SameEdit.{same_take, same_unnaming}
+use Rattle.shadow.proofs.edits.UnusedNumbers.{none_goes, same_append, same_cut}
+use Rattle.shadow.proofs.edits.UnusedNumbers.{same_directory, same_file, same_linking, same_moving}
+use Rattle.shadow.proofs.edits.UnusedNumbers.{same_take, same_unnaming}
 use Rattle.shadow.specs.declared.change.Made.TheVariants.{Directory as A_directory, File as A_file}
 use Rattle.shadow.proofs.stable.Stable.perform_without_memory.Goals as goal
 
@@ -21,7 +21,7 @@ returns-in-MakeDirectory-clause-state c =
     c.make_directory.ensures.state
     ∙ ap (λ (k : Kernel). tidy k)
     (same_directory chosen c.in-MakeDirectory.parent c.in-MakeDirectory.name
-    c.index-chosen-0.result c.in-MakeDirectory._place
+    c.index-chosen-0.result c.in-MakeDirectory.index
     (subst TakesNoMemory c.in-MakeDirectory.is c.requires.first) at c.args.self.now.state)
     ∙ ap (λ (e : Edit). tidy (applied chosen e c.args.self.now.state)) (sym c.in-MakeDirectory.is)
 
@@ -36,7 +36,7 @@ returns-in-MakeFile-clause-state c =
     c.make_file.ensures.state
     ∙ ap (λ (k : Kernel). tidy k)
     (same_file chosen c.in-MakeFile.parent c.in-MakeFile.name
-    c.index-chosen-0-in-MakeFile.result c.in-MakeFile._place
+    c.index-chosen-0-in-MakeFile.result c.in-MakeFile.index
     (subst TakesNoMemory c.in-MakeFile.is c.requires.first) at c.args.self.now.state)
     ∙ ap (λ (e : Edit). tidy (applied chosen e c.args.self.now.state)) (sym c.in-MakeFile.is)
 
@@ -57,7 +57,7 @@ returns-in-UnnameFile-clause-state c =
     c.unname.ensures.state A_file (subst (λ (e : Edit). Fits c.args.chosen.now c.args.self.now.state e) c.in-UnnameFile.is c.requires.fits)
     ∙ ap (λ (k : Kernel). tidy k)
     (same_unnaming c.args.chosen.now c.args.self.now.state A_file c.in-UnnameFile.parent c.in-UnnameFile.name
-    c.in-UnnameFile.num)
+    c.in-UnnameFile.file)
     ∙ ap (λ (e : Edit). tidy (applied c.args.chosen.now e c.args.self.now.state)) (sym c.in-UnnameFile.is)
 
 pub unname-requires-in-UnnameDirectory : goal.unname-requires-in-UnnameDirectory
@@ -68,24 +68,24 @@ returns-in-UnnameDirectory-clause-state c =
     c.unname-in-UnnameDirectory.ensures.state A_directory (subst (λ (e : Edit). Fits c.args.chosen.now c.args.self.now.state e) c.in-UnnameDirectory.is c.requires.fits)
     ∙ ap (λ (k : Kernel). tidy k)
     (same_unnaming c.args.chosen.now c.args.self.now.state A_directory c.in-UnnameDirectory.parent c.in-UnnameDirectory.name
-    c.in-UnnameDirectory.num)
+    c.in-UnnameDirectory.directory)
     ∙ ap (λ (e : Edit). tidy (applied c.args.chosen.now e c.args.self.now.state)) (sym c.in-UnnameDirectory.is)
 
 pub returns-in-Move-clause-state : goal.returns-in-Move-clause-state
 returns-in-Move-clause-state c =
     c.rename.ensures.state
     ∙ ap (λ (k : Kernel). tidy k)
-    (same_moving c.args.chosen.now c.args.self.now.state c.in-Move.from c.in-Move.old c.in-Move.to
-    c.in-Move.new c.in-Move.num c.in-Move.replaced)
+    (same_moving c.args.chosen.now c.args.self.now.state c.in-Move.from c.in-Move.old_name c.in-Move.to
+    c.in-Move.new_name c.in-Move.inode c.in-Move.replaced)
     ∙ ap (λ (e : Edit). tidy (applied c.args.chosen.now e c.args.self.now.state))
     (sym c.in-Move.is)
 
 pub returns-in-Cut-clause-state : goal.returns-in-Cut-clause-state
 returns-in-Cut-clause-state c =
     let chosen : List ℕ = c.args.chosen.now in let k : Kernel = c.args.self.now.state in
-    let e : Edit = Cut c.in-Cut.file c.in-Cut._before c.in-Cut.after in
-    c.cut.ensures.state c.in-Cut._before
-    ∙ same_cut chosen k c.in-Cut.file c.in-Cut._before c.in-Cut.after
+    let e : Edit = Cut c.in-Cut.file c.in-Cut.length_before c.in-Cut.length in
+    c.cut.ensures.state c.in-Cut.length_before
+    ∙ same_cut chosen k c.in-Cut.file c.in-Cut.length_before c.in-Cut.length
     ∙ none_goes chosen k e c.state_is_tidied.ensures
     (subst (Fits chosen k) c.in-Cut.is c.requires.fits) refl
     ∙ ap (λ (e : Edit). tidy (applied chosen e k)) (sym c.in-Cut.is)

@@ -3,9 +3,9 @@ use Rattle.std.specs.Result.{OnOk, OnErr}
 use Rattle.store.specs.Places.{altered, more_room, with_listing}
 use Rattle.shadow.specs.Claims.{KeepsMore, room_in}
 use Rattle.shadow.specs.Stored.{Sound, committed_of}
-use Rattle.shadow.proofs.Meets.{gives_one}
-use Rattle.shadow.proofs.Unshown.{promised_sound}
-use Rattle.shadow.proofs.Plugs.{listed_in, more_of}
+use Rattle.shadow.proofs.claims.ClaimCounts.{gives_one}
+use Rattle.shadow.proofs.claims.Reservations.{promised_sound}
+use Rattle.shadow.proofs.shared.CommittedLemmas.{listed_in, more_of}
 use Rattle.shadow.proofs.stable.Stable.promise.Goals as goal
 
 on_ok_by : {X E P Q : Type 0} (r : Result X E) → (P → Q) → OnOk r P → OnOk r Q

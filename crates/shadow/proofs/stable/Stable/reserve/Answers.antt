@@ -1,7 +1,7 @@
 use Rattle.std.proofs.Common.{◌≡◌, ◌+◌, ◌<◌, is_some, arith}
 use Rattle.store.specs.Places.{listing_of}
 use Rattle.shadow.specs.Claims.{new_number, number_as, reserved}
-use Rattle.shadow.proofs.Meets.{number_counts}
+use Rattle.shadow.proofs.claims.ClaimCounts.{number_counts}
 use Rattle.shadow.proofs.stable.Stable.reserve.Goals as goal
 
 pub give_back-requires : goal.give_back-requires

@@ -7,10 +7,10 @@ use Rattle.store.specs.Places.{listing_of}
 use Rattle.shadow.specs.Committed.{Committed}
 use Rattle.shadow.specs.Claims.{KeepsMore, Stays, number_as}
 use Rattle.shadow.specs.Stored.{committed_of, reserve_in}
-use Rattle.shadow.proofs.Meets.{reserves, with_place}
-use Rattle.shadow.proofs.Places.{get_chosen}
-use Rattle.shadow.proofs.Unshown.{bare_names, reserved_sound, unused_nowhere}
-use Rattle.shadow.proofs.Plugs.{more_of, now_used, stays_with}
+use Rattle.shadow.proofs.claims.ClaimCounts.{reserves, with_place}
+use Rattle.shadow.proofs.shared.PlaceLemmas.{get_chosen}
+use Rattle.shadow.proofs.claims.Reservations.{bare_names, reserved_sound, unused_nowhere}
+use Rattle.shadow.proofs.shared.CommittedLemmas.{more_of, now_used, stays_with}
 use Rattle.shadow.proofs.stable.Stable.reserve_num.Goals as goal
 
 pub reserve_num-requires : goal.reserve_num-requires

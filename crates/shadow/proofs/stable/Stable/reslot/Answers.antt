@@ -3,9 +3,9 @@ use Rattle.call_laws.specs.Fits.{IsAlive}
 use Rattle.freeing_laws.specs.Sweep.{closed}
 use Rattle.shadow.specs.Committed.{Committed}
 use Rattle.shadow.specs.Laid.{Frees}
-use Rattle.shadow.proofs.Edited.{same_of}
-use Rattle.shadow.proofs.SlotInState.{frees_nothing, slotted_holds, slotted_keeps}
-use Rattle.shadow.proofs.SlotInState.{slotted_sound, slotted_tidy, slotting_alive}
+use Rattle.shadow.proofs.shared.SoundnessLemmas.{same_of}
+use Rattle.shadow.proofs.edits.SlotChanges.{frees_nothing, slotted_holds, slotted_keeps}
+use Rattle.shadow.proofs.edits.SlotChanges.{slotted_sound, slotted_tidy, slotting_alive}
 use Rattle.shadow.proofs.stable.Stable.reslot.Goals as goal
 
 pub lay_slot-former-requires-clause-pid : goal.lay_slot-former-requires-clause-pid

@@ -7,10 +7,10 @@ use Rattle.store.specs.Shown.{inodes}
 use Rattle.shadow.specs.Claims.{KeepsSame}
 use Rattle.shadow.specs.Committed.{Committed}
 use Rattle.shadow.specs.Stored.{Sound, committed_of, state_of}
-use Rattle.shadow.proofs.Bytes.{either_way, file_still, file_there, former_is, swapped, swapped_twice, unswapped_sound, unswapped_state, written_sound, written_state}
-use Rattle.shadow.proofs.Edited.{same_of, state_is}
-use Rattle.shadow.proofs.Kept_on.{file_keeps}
-use Rattle.shadow.proofs.Outcomes.{err_so, ok_so}
+use Rattle.shadow.proofs.edits.FileBytes.{either_way, file_still, file_there, former_is, swapped, swapped_twice, unswapped_sound, unswapped_state, written_sound, written_state}
+use Rattle.shadow.proofs.shared.SoundnessLemmas.{same_of, state_is}
+use Rattle.shadow.proofs.freeing.RemainingPlaces.{file_keeps}
+use Rattle.shadow.proofs.shared.Outcomes.{err_so, ok_so}
 use Rattle.shadow.proofs.stable.Stable.write.Goals as goal
 
 pub swap_file-data-requires : goal.swap_file-data-requires
@@ -31,22 +31,22 @@ now c = swapped_twice c.new-empty.result c.write_at-written.new.self c.self.insi
 same : (c : goal.After-drop-empty) → c.write_at-written.new.self.bytes ≡ c.swap_file-data.result.bytes → get (inodes c.self.inside.store) c.args.file ≡ Some (File c.write_at-written.new.self.bytes)
 same c is = was c ∙ ap (λ bs. Some (File bs)) (sym is)
 
-changed : (c : goal.After-drop-empty) → c.write_at-written.new.self.bytes ≡ written c.swap_file-data.result.bytes c.args.place c.args.bytes.now
-    → c.write_at-written.new.self.bytes ≡ written (file_of (state_of c.self.inside.processes c.self.inside.store) c.args.file) c.args.place c.args.bytes.now
-changed c is = is ∙ ap (λ (o : Rattle.std.proofs.Common.Option Inode). written (file_of_inode o) c.args.place c.args.bytes.now) (sym (was c))
+changed : (c : goal.After-drop-empty) → c.write_at-written.new.self.bytes ≡ written c.swap_file-data.result.bytes c.args.offset c.args.bytes.now
+    → c.write_at-written.new.self.bytes ≡ written (file_of (state_of c.self.inside.processes c.self.inside.store) c.args.file) c.args.offset c.args.bytes.now
+changed c is = is ∙ ap (λ (o : Rattle.std.proofs.Common.Option Inode). written (file_of_inode o) c.args.offset c.args.bytes.now) (sym (was c))
 
 pub invariant_of-self : goal.invariant_of-self
 invariant_of-self c =
     let ps = c.self.inside.processes in let s = c.self.inside.store in let n = c.args.file in let b = c.write_at-written.new.self in
     subst (Sound ps) (sym (now c)) (either_way c.write_at-written.result c.write_at-written.ensures.ok c.write_at-written.ensures.err
-    (λ h. written_sound ps s n b c.self.invariant (is_file c) c.args.place c.args.bytes.now (changed c h))
+    (λ h. written_sound ps s n b c.self.invariant (is_file c) c.args.offset c.args.bytes.now (changed c h))
     (λ h. unswapped_sound ps s n b c.self.invariant (is_file c) (same c h)))
 
 pub returns-clause-state : goal.returns-clause-state
 returns-clause-state c =
     let ps = c.self.inside.processes in let s = c.self.inside.store in let n = c.args.file in let b = c.write_at-written.new.self in
-    ok_so c.write_at-written.result (λ h before. state_is ps ps s c.args.self.now c.self.view_is (state_of ps c.swap_file-empty.new.self) (applied [] (Put_bytes n c.args.place c.args.bytes.now before))
-    (ap (state_of ps) (now c) ∙ written_state ps s n b c.self.invariant (is_file c) c.args.place c.args.bytes.now before (changed c h))) c.write_at-written.ensures.ok
+    ok_so c.write_at-written.result (λ h before. state_is ps ps s c.args.self.now c.self.view_is (state_of ps c.swap_file-empty.new.self) (applied [] (Put_bytes n c.args.offset c.args.bytes.now before))
+    (ap (state_of ps) (now c) ∙ written_state ps s n b c.self.invariant (is_file c) c.args.offset c.args.bytes.now before (changed c h))) c.write_at-written.ensures.ok
 
 pub returns-clause-kept : goal.returns-clause-kept
 returns-clause-kept c =

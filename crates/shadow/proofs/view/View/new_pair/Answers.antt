@@ -9,8 +9,8 @@ use Rattle.shadow.specs.Committed.{Committed}
 use Rattle.shadow.specs.Log.{effects_in}
 use Rattle.shadow.specs.Looks.{changes_of}
 use Rattle.shadow.specs.Patches.{kept_at, net_of, new_ends}
-use Rattle.shadow.specs.declared.change.Change.{Change}
-use Rattle.shadow.proofs.Pairing.{new_pair_told}
+use Rattle.shadow.specs.declared.change.InodeChange.{InodeChange}
+use Rattle.shadow.proofs.viewing.PipePairs.{new_pair_told}
 use Rattle.shadow.proofs.view.View.new_pair.Goals as goal
 
 pub returns-in-Some-get : goal.returns-in-Some-get
@@ -21,7 +21,7 @@ returns-in-Some-get c =
     let fits : AllFit ds k = subst (λ (ds : List Effect). AllFit ds k) changes c.self.invariant in
     let kept : Some c.in-Some-get.change.now ≡ kept_at c.shadow.inside.patches.inodes c.args.pipe = search rules in
     let told = new_pair_told ds c.shadow.inside.patches c.shadow.invariant k c.state_is_tidied.ensures.well fits c.args.pipe c.new_ends.result
-    (c.new_ends.ensures ∙ ap (λ (o : Option Change). new_ends (net_of o).contents) kept) in
+    (c.new_ends.ensures ∙ ap (λ (o : Option InodeChange). new_ends (net_of o).contents) kept) in
     let seen : (all_done ds k).descriptions ≡ c.args.self.now.state.descriptions
     = ap (λ (ds : List Effect). (all_done ds k).descriptions) (sym changes) ∙ ap (λ (v : Committed). v.state.descriptions) c.self.view_is in
     subst (λ (m : FinMap nat_cmp Description). IfSome c.new_ends.result (λ ends. ArePair m c.args.pipe ends.0 ends.1)) seen told

@@ -3,7 +3,7 @@ use Rattle.model.specs.FiniteMap.{get, keys}
 use Rattle.model.specs.State.{names_of, names_of_inode}
 use Rattle.model.specs.Paths.{is_empty}
 use Rattle.shadow.specs.Patches.{net_of, patched}
-use Rattle.shadow.proofs.Seeing.{no_keys}
+use Rattle.shadow.proofs.viewing.LookLemmas.{no_keys}
 use Rattle.shadow.proofs.view.ViewLook.is_empty.Goals as goal
 
 pub returns : goal.returns

@@ -1,7 +1,7 @@
 use Rattle.std.proofs.Common.{◌≡◌, ap, take, ◌∙◌, map}
 use Rattle.std.proofs.lemmas.List.{take_all}
 use Rattle.model.specs.FiniteMap.{entries}
-use Rattle.shadow.proofs.Seeing.{slot_at, slots_more}
+use Rattle.shadow.proofs.viewing.LookLemmas.{slot_at, slots_more}
 use Rattle.shadow.proofs.view.ViewLook.table.Goals as goal
 
 pub loop-fd-preserved : goal.loop-fd-preserved

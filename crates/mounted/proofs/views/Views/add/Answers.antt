@@ -1,0 +1,12 @@
+use Rattle.std.proofs.Common.{refl}
+use Rattle.mounted.specs.declared.views.State.TheVariants.{Live}
+use Rattle.mounted.proofs.views.Views.add.Goals as goal
+
+pub returns-in-Ok : goal.returns-in-Ok
+returns-in-Ok c = record {
+  view = record { pid = c.args.pid; level = c.args.level; state = Live; cause = c.new.result };
+  is = c.in_ok-_former.ensures.updates.1;
+  live = refl;
+  by = refl;
+  named = c.in-Ok.ensures.updates.1;
+}

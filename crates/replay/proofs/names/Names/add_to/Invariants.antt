@@ -1,7 +1,0 @@
--- The names so far are those before, and those that the tree has shown.
-use Rattle.std.proofs.Common.{◌≡◌, ◌++◌, map}
-use Rattle.std.specs.Map.Iter.{deref}
-use Rattle.replay.proofs.names.Names.add_to.Given as goal
-
-abbrev pub invariant-loop-name : goal.invariant-loop-name
-invariant-loop-name l = l.names.items ≡ l.fn.names.items ++ map deref l.yielded

@@ -1,0 +1,7 @@
+pub mod EditClaims
+pub mod ClaimCounts
+pub mod Reservations
+pub mod NewNumbers
+pub mod ReleasedClaims
+pub mod CallClaims
+pub mod ReleasedDescriptions

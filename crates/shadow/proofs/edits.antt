@@ -1,0 +1,14 @@
+pub mod EmptyProcesses
+pub mod Fork
+pub mod Exit
+pub mod PipeBytes
+pub mod DirectoryNames
+pub mod LinksAndMoves
+pub mod FileBytes
+pub mod NewInodes
+pub mod RemovedNames
+pub mod SlotChanges
+pub mod OpenedInodes
+pub mod NewPipes
+pub mod Offsets
+pub mod UnusedNumbers

@@ -1,0 +1,8 @@
+pub mod Outcomes
+pub mod PipePairLemmas
+pub mod EditPairs
+pub mod PlaceLemmas
+pub mod ProcessLemmas
+pub mod CommittedLemmas
+pub mod SortedKeys
+pub mod SoundnessLemmas

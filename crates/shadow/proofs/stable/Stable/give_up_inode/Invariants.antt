@@ -1,6 +1,0 @@
--- So much of the room is given back.
-use Rattle.shadow.proofs.Giving.{GivesRoom}
-use Rattle.shadow.proofs.stable.Stable.give_up_inode.Given as goal
-
-abbrev pub invariant-loop-given : goal.invariant-loop-given
-invariant-loop-given l = GivesRoom l.fn.self l.self l.num l._given

@@ -1,6 +1,0 @@
--- What the changes that are left claim is kept.
-use Rattle.shadow.proofs.Giving.{GivesUp, inode_at}
-use Rattle.shadow.proofs.stable.Stable.give_up_inodes.Given as goal
-
-abbrev pub invariant-loop-num : goal.invariant-loop-num
-invariant-loop-num l = GivesUp inode_at l.fn.self l.self l.fn.inodes l.num-iterator

@@ -1,6 +1,0 @@
--- What the changes that are left claim is kept.
-use Rattle.shadow.proofs.Giving.{GivesUp, opened_at}
-use Rattle.shadow.proofs.stable.Stable.give_up_openings.Given as goal
-
-abbrev pub invariant-loop-num : goal.invariant-loop-num
-invariant-loop-num l = GivesUp opened_at l.fn.self l.self l.fn.openings l.num-iterator

@@ -1,0 +1,5 @@
+pub mod LookLemmas
+pub mod SlotTurnover
+pub mod StoredHolders
+pub mod PipePairs
+pub mod DirectoryRoom
