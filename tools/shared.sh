@@ -10,6 +10,26 @@ need_rt() {
     exit 127
 }
 
+# Whether the kit's `rt ci` takes words: names of crates, and --anew. One that takes none proves everything from nothing each time.
+ci_takes_words() { ! (cd / && rt ci --anew 2>&1) | grep -q '^usage: '; }
+
+# Prints the lines of crates.txt for these crates and all that they use.
+lines_for() {
+    awk -F: -v names="$*" '
+        function take(name, list, i, count) {
+            if (name in taken || !(name in uses)) return
+            taken[name]
+            count = split(uses[name], list, " ")
+            for (i = 1; i <= count; i++) take(list[i])
+        }
+        !/^#/ && NF > 1 { split($1, head, " "); uses[head[1]] = $2; line[head[1]] = $0 }
+        END {
+            count = split(names, wanted, " ")
+            for (i = 1; i <= count; i++) take(wanted[i])
+            for (name in taken) print line[name]
+        }' "$top/crates.txt"
+}
+
 # Makes the folder $room, which is removed when the script ends; in the folder of this name, or where temporary files stand.
 make_room() {
     room=$(readlink -f "$(mktemp -d "${1:-${TMPDIR:-/tmp}}/room.XXXXXX")")
