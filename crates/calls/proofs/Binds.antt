@@ -1,17 +1,17 @@
 -- Plans whose first steps one function takes.
-use Rattle.std.proofs.Common.{◌≡◌, ℕ, List, [], ◌∷◌, Bool, true, false, Option, Some, None, Result, Ok, Err, not, ◌&&◌, ◌==◌, if◌then◌else◌, refl, sym, ap, ◌∙◌}
+use Rattle.std.proofs.Common.{◌≡◌, ℕ, List, [], ◌∷◌, Bool, true, false, Option, Some, None, Result, Ok, Err, not, ◌&&◌, ◌==◌, if◌then◌else◌, refl, sym}
 use Rattle.std.specs.Prelude.{IsErrAnd}
-use Rattle.model.specs.State.{Name, Kernel, A_directory}
-use Rattle.model.specs.Plan.{Errno as Refused, EISDIR, EINVAL, ENOENT, ENOTDIR, ENOTEMPTY, EBUSY, EPERM, Plan, Give, Refuse, Ask, List_names, ◌>>=◌, ◌>>◌, ask, refuse_if, or_refuse}
+use Rattle.model.specs.State.{Kernel, A_directory}
+use Rattle.model.specs.Plan.{Errno as Refused, EISDIR, ENOTDIR, ENOTEMPTY, Plan, Give, Refuse, Ask, List_names, ◌>>=◌, ◌>>◌, ask, refuse_if}
 use Rattle.model.specs.Walks.{Place, Last, is_directory, parsed, walk, last_of}
-use Rattle.model.specs.Paths.{is_empty, is_below}
+use Rattle.model.specs.Paths.{is_empty}
 use Rattle.model.specs.Calls.{Done}
 use Rattle.model.specs.Changes.{Move, Replaced}
 use Rattle.model.specs.Plans.{Change, changed, unchanged, moved, replaced_by_name}
 use Rattle.model.specs.Steps.{Touch}
 use Rattle.ids.specs.declared.errno.Refusal.{Refusal}
 use Rattle.look.specs.Asked.{Comes}
-use Rattle.calls.specs.Parts.{place_at, last_at, empty_directory, without_names, file_named, move_target, gives, replaced, replaced_over}
+use Rattle.calls.specs.Parts.{place_at, last_at, without_names, gives, replaced, replaced_over}
 use Rattle.walk.proofs.Laws.{goes, stops, via}
 
 pub binds : {A B C : Type 0} (m : Plan A) (f : A → Plan B) (g : B → Plan C) → (m >>= f) >>= g ≡ m >>= (λ x. f x >>= g)
@@ -38,22 +38,8 @@ test_then : {A B : Type 0} (b : Bool) (e : Refused) (m : Plan A) (g : A → Plan
 test_then true e m g = refl
 test_then false e m g = refl
 
-pub file_then : {B : Type 0} (found : Option Place) (g : ℕ → Plan B) → (or_refuse ENOENT found >>= (λ what. refuse_if (is_directory what) EPERM >> g what.0)) ≡ (file_named found >>= g)
-file_then None g = refl
-file_then (Some place) g = test_then (is_directory place) EPERM (Give place.0) g
-
 pub bare_then : {B : Type 0} (dir : ℕ) (g : Plan B) → (ask (List_names dir) >>= (λ entries. refuse_if (not (is_empty entries)) ENOTEMPTY >> g)) ≡ (without_names dir >> g)
 bare_then dir g = refl
-
-bare_gives : {B : Type 0} (dir : ℕ) (g : ℕ → Plan B) → (ask (List_names dir) >>= (λ entries. refuse_if (not (is_empty entries)) ENOTEMPTY >> g dir)) ≡ ((without_names dir >> Give dir) >>= g)
-bare_gives dir g = λ i. Ask (List_names dir) (λ entries. test_then (not (is_empty entries)) ENOTEMPTY (Give dir) g i)
-
-pub empty_then : {B : Type 0} (found : Option Place) (g : ℕ → Plan B) → (or_refuse ENOENT found >>= (λ what. refuse_if (not (is_directory what)) ENOTDIR >> (ask (List_names what.0) >>= (λ entries. refuse_if (not (is_empty entries)) ENOTEMPTY >> g what.0)))) ≡ (empty_directory found >>= g)
-empty_then None g = refl
-empty_then (Some place) g = ap (λ rest. refuse_if (not (is_directory place)) ENOTDIR >> rest) (bare_gives place.0 g) ∙ test_then (not (is_directory place)) ENOTDIR (without_names place.0 >> Give place.0) g
-
-pub target_then : {B : Type 0} (root : ℕ) (what : Place) (from to : List Name) (g : Last → Plan B) → (refuse_if (is_directory what && is_below from to) EINVAL >> (last_of root EBUSY to >>= g)) ≡ (move_target root what from to >>= g)
-target_then root what from to g = test_then (is_directory what && is_below from to) EINVAL (last_of root EBUSY to) g
 
 two_then : {A B : Type 0} (a b : Bool) (m : Plan A) (g : A → Plan B) → (refuse_if a EISDIR >> (refuse_if b ENOTDIR >> (m >>= g))) ≡ ((refuse_if a EISDIR >> (refuse_if b ENOTDIR >> m)) >>= g)
 two_then true b m g = refl

@@ -8,7 +8,7 @@ ghost use Rattle.look.specs.Shown.{own_in};
 
 use crate::asking::{read_file, size};
 use crate::change::{Change, changed_by, unchanged};
-use crate::checks::{must_not_be_pipe, offset_must_be_below};
+use crate::checks::{must_be_below, must_not_be_pipe};
 use crate::files::{at_most_moved, first_bytes, is_empty, no_bytes, room};
 use crate::own::slot;
 use crate::steps::refuse_if;
@@ -105,7 +105,7 @@ fn write_from<L: Look>(
     ensures { Comes (L.state look.now)
         (write_from largest it.inode offset bytes.now) reads.old result reads.new }
 {
-    offset_must_be_below(offset, largest, Errno::EFBIG)?;
+    must_be_below(offset, largest, Errno::EFBIG)?;
     let offset = offset as u32;
     let size = size(look, it.inode, reads)?;
     let kept = first_bytes(reads.heap(), bytes, room(largest, offset))?;

@@ -53,23 +53,11 @@ pub(crate) fn must_not_be_pipe(kind: Option<Kind>, errno: Errno) -> Result<(), R
     }
 }
 
-pub(crate) fn must_be_below(number: u32, bound: u32, errno: Errno) -> Result<(), Refusal>
+pub(crate) fn must_be_below(number: u64, bound: u32, errno: Errno) -> Result<(), Refusal>
     ensures value { Tells (refuse_if (nat_le bound number) errno) result }
     ensures within { IfOk result (λ _. number < bound) }
 {
-    if bound <= number {
-        Err(Refusal::Errno(errno))
-    } else {
-        Ok(())
-    }
-}
-
-// The same of an offset that a call names.
-pub(crate) fn offset_must_be_below(offset: u64, bound: u32, errno: Errno) -> Result<(), Refusal>
-    ensures value { Tells (refuse_if (nat_le bound offset) errno) result }
-    ensures within { IfOk result (λ _. offset < bound) }
-{
-    if bound as u64 <= offset {
+    if bound as u64 <= number {
         Err(Refusal::Errno(errno))
     } else {
         Ok(())

@@ -64,7 +64,8 @@ fn open_path<L: Look>(
 {
     let fd = free_from(look, pid, Fd(0))?;
     let last = walk_to_last(look, refusal_of_root(flags), path, reads)?;
-    match last.found() {
+    let found = last.found;
+    match found {
         None => opened_new(reads.heap(), pid, flags, fd, last),
         Some(place) => {
             let change = opened_old(look, pid, flags, fd, place, reads);
@@ -338,7 +339,7 @@ fn write_file<L: Look>(
         (some_to_file largest it bytes.now) reads.old result reads.new }
 {
     let offset = offset_to_write(look, &it, reads)?;
-    must_be_below(offset, largest, Errno::EFBIG)?;
+    must_be_below(offset as u64, largest, Errno::EFBIG)?;
     let size = size(look, it.inode, reads)?;
     let kept = first_bytes(reads.heap(), bytes, room(largest, offset))?;
     put(reads.heap(), it.inode, it.description, offset, kept, size)

@@ -62,8 +62,7 @@ fn mark_move(
     mark_entry(to, onto, touches)?;
     match replaced {
         Replaced::File(file) => touches.write(Aspect::Links(file)),
-        Replaced::Directory(_) => Ok(()),
-        Replaced::Nothing => Ok(()),
+        Replaced::Directory(_) | Replaced::Nothing => Ok(()),
     }
 }
 
@@ -120,11 +119,12 @@ fn mark(edit: &Edit, touches: &mut Touches) -> Result<(), AllocError>
     ensures { OnOk result (touches.new ≡ touches.old ++ writing (marks edit.now)) }
 {
     match edit {
-        Edit::MakeDirectory { parent, name, .. } => mark_entry(*parent, name, touches),
-        Edit::MakeFile { parent, name, .. } => mark_entry(*parent, name, touches),
-        Edit::UnnameDirectory { parent, name, .. } => mark_entry(*parent, name, touches),
-        Edit::NameFile { parent, name, file } => mark_name(*parent, name, *file, touches),
-        Edit::UnnameFile { parent, name, file } => mark_name(*parent, name, *file, touches),
+        Edit::MakeDirectory { parent, name, .. }
+        | Edit::MakeFile { parent, name, .. }
+        | Edit::UnnameDirectory { parent, name, .. } => mark_entry(*parent, name, touches),
+        Edit::NameFile { parent, name, file } | Edit::UnnameFile { parent, name, file } => {
+            mark_name(*parent, name, *file, touches)
+        }
         Edit::Move {
             from,
             old_name,
@@ -147,11 +147,10 @@ fn mark(edit: &Edit, touches: &mut Touches) -> Result<(), AllocError>
         Edit::Take { pipe, .. } => touches.write(Aspect::Front(*pipe)),
         Edit::Append { pipe, .. } => touches.write(Aspect::Back(*pipe)),
         Edit::SetOffset { description, .. } => touches.write(Aspect::Offset(*description)),
-        Edit::ShareSlot { pipes, .. } => mark_ends(pipes.as_slice(), touches),
-        Edit::ClearSlot { pipes, .. } => mark_ends(pipes.as_slice(), touches),
-        Edit::NewProcess { pipes, .. } => mark_ends(pipes.as_slice(), touches),
-        Edit::EndProcess { pipes, .. } => mark_ends(pipes.as_slice(), touches),
-        Edit::OpenInode { .. } => Ok(()),
-        Edit::MakePipe { .. } => Ok(()),
+        Edit::ShareSlot { pipes, .. }
+        | Edit::ClearSlot { pipes, .. }
+        | Edit::NewProcess { pipes, .. }
+        | Edit::EndProcess { pipes, .. } => mark_ends(pipes.as_slice(), touches),
+        Edit::OpenInode { .. } | Edit::MakePipe { .. } => Ok(()),
     }
 }

@@ -55,26 +55,15 @@ fn pipes_of(heap: Heap, table: &[(Fd, Slot)]) -> Result<Nums, AllocError>
     Ok(pipes)
 }
 
-fn has_num(nums: &[Num], num: Num) -> bool
-    ensures { result ≡ list_any (λ m. m == num) nums.now }
-{
-    nums.iter().any(|entry| *entry == num)
-}
-
 fn add_pipe(pipes: &mut Nums, kind: Option<Kind>, inode: Num) -> Result<(), AllocError>
     ensures { OnOk result (pipes.new ≡ (if is_pipe kind
         then if list_any (λ m. m == inode) pipes.old then pipes.old else pipes.old ++ inode ∷ []
         else pipes.old)) }
 {
-    if is_pipe(kind) {
-        if has_num(pipes.as_slice(), inode) {
-            Ok(())
-        } else {
-            pipes.push(inode)
-        }
-    } else {
-        Ok(())
+    if is_pipe(kind) && !pipes.as_slice().iter().any(|entry| *entry == inode) {
+        pipes.push(inode)?;
     }
+    Ok(())
 }
 
 // Whether a kind is that of a pipe.

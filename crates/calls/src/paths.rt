@@ -1,9 +1,7 @@
 // The plans of calls on paths.
 ghost use Rattle.std.specs.Prelude.{◌≡◌, ◌∷◌, [], ℕ, Some};
-ghost use Rattle.calls.specs.Parts.{place_at, last_at, empty_directory, without_names};
-ghost use Rattle.calls.specs.Parts.{file_named, link_paths, rename_paths, move_target};
-ghost use Rattle.calls.specs.Parts.{gives, replaced};
-ghost use Rattle.model.specs.Changes.{Move};
+ghost use Rattle.calls.specs.Parts.{place_at, last_at, without_names, link_paths};
+ghost use Rattle.calls.specs.Parts.{rename_paths, gives, replaced};
 ghost use Rattle.model.specs.Plans.{plan, changed, unchanged, status, moved};
 ghost use Rattle.model.specs.Calls.{own, Done, Stated, Truncate, Stat as Stat_path, Mkdir, Rmdir};
 ghost use Rattle.model.specs.Calls.{List_directory, Link, Unlink, Rename};
@@ -13,8 +11,8 @@ use crate::asking::{has_no_names, links, names, size};
 use crate::change::{Change, changed, changed_by, unchanged};
 use crate::files::cut_to;
 use crate::steps::{
-    absent, is_directory, is_same, must_be_directory_for, must_be_no_directory_for,
-    must_not_be_directory, must_not_be_root, must_not_go_below, parsed, refuse_if,
+    absent, is_directory, must_be_directory_for, must_be_no_directory_for, must_not_be_directory,
+    must_not_be_root, must_not_go_below, parsed, refuse_if,
 };
 use heap::Heap;
 use ids::{Answer, Bytes, Edit, Errno, Kind, Num, Refusal, Replaced, Stat};
@@ -132,7 +130,7 @@ pub(crate) fn mkdir<L: Look>(look: &L, path: &Bytes, reads: &mut Reads) -> Resul
         reads.old result reads.new }
 {
     let last = last_at(look, Errno::EEXIST, path, reads)?;
-    absent(last.found())?;
+    absent(last.found)?;
     done(
         reads.heap(),
         Edit::MakeDirectory {
@@ -149,29 +147,17 @@ pub(crate) fn rmdir<L: Look>(look: &L, path: &Bytes, reads: &mut Reads) -> Resul
         reads.old result reads.new }
 {
     let last = last_at(look, Errno::EBUSY, path, reads)?;
-    let dir = empty_directory(look, last.found(), reads)?;
+    let what = or_refuse(Errno::ENOENT, last.found)?;
+    must_be_directory(&what)?;
+    must_have_no_names(look, what.0, reads)?;
     done(
         reads.heap(),
         Edit::UnnameDirectory {
             parent: last.parent,
             name: last.name,
-            directory: dir,
+            directory: what.0,
         },
     )
-}
-
-// The directory whose name goes, which has to be there and empty.
-fn empty_directory<L: Look>(
-    look: &L,
-    found: Option<(Num, Option<Kind>)>,
-    reads: &mut Reads,
-) -> Result<Num, Refusal>
-    ensures { Comes (L.state look.now) (empty_directory found) reads.old result reads.new }
-{
-    let what = or_refuse(Errno::ENOENT, found)?;
-    must_be_directory(&what)?;
-    must_have_no_names(look, what.0, reads)?;
-    Ok(what.0)
 }
 
 fn must_have_no_names<L: Look>(look: &L, dir: Num, reads: &mut Reads) -> Result<(), Refusal>
@@ -198,24 +184,16 @@ pub(crate) fn unlink<L: Look>(look: &L, path: &Bytes, reads: &mut Reads) -> Resu
         reads.old result reads.new }
 {
     let last = last_at(look, Errno::EPERM, path, reads)?;
-    let file = file_named(last.found())?;
+    let what = or_refuse(Errno::ENOENT, last.found)?;
+    must_not_be_directory(&what, Errno::EPERM)?;
     done(
         reads.heap(),
         Edit::UnnameFile {
             parent: last.parent,
             name: last.name,
-            file,
+            file: what.0,
         },
     )
-}
-
-// The file whose name goes.
-fn file_named(found: Option<(Num, Option<Kind>)>) -> Result<Num, Refusal>
-    ensures { Tells (file_named found) result }
-{
-    let what = or_refuse(Errno::ENOENT, found)?;
-    must_not_be_directory(&what, Errno::EPERM)?;
-    Ok(what.0)
 }
 
 pub(crate) fn link<L: Look>(
@@ -248,7 +226,7 @@ fn link_paths<L: Look>(
     let what = walk::walk(look, from, reads)?;
     must_not_be_directory(&what, Errno::EPERM)?;
     let last = walk_to_last(look, Errno::EEXIST, to, reads)?;
-    absent(last.found())?;
+    absent(last.found)?;
     done(
         reads.heap(),
         Edit::NameFile {
@@ -288,38 +266,10 @@ fn rename_paths<L: Look>(
 {
     must_not_be_root(from, to)?;
     let at = walk_to_last(look, Errno::EBUSY, from, reads)?;
-    let what = or_refuse(Errno::ENOENT, at.found())?;
-    let onto = move_target(look, &what, from, to, reads)?;
+    let what = or_refuse(Errno::ENOENT, at.found)?;
+    must_not_go_below(&what, from, to)?;
+    let onto = walk_to_last(look, Errno::EBUSY, to, reads)?;
     moved(look, at, what, onto, reads)
-}
-
-// Where the new name stands, which must not be below what moves.
-fn move_target<L: Look>(
-    look: &L,
-    what: &(Num, Option<Kind>),
-    from: &Path,
-    to: &Path,
-    reads: &mut Reads,
-) -> Result<Last, Refusal>
-    ensures { let k = L.state look.now in
-        Comes k (move_target k.root what.now from.now to.now) reads.old result reads.new }
-{
-    must_not_go_below(what, from, to)?;
-    walk_to_last(look, Errno::EBUSY, to, reads)
-}
-
-// The change of a name that moves.
-fn move_edit(from: Last, to: Last, num: Num, replaced: Replaced) -> Edit
-    ensures { result ≡ Move from.parent from.name to.parent to.name num replaced }
-{
-    Edit::Move {
-        from: from.parent,
-        old_name: from.name,
-        to: to.parent,
-        new_name: to.name,
-        inode: num,
-        replaced,
-    }
 }
 
 // A name that moves to another place.
@@ -333,13 +283,23 @@ fn moved<L: Look>(
     ensures { Comes (L.state look.now)
         (moved from what to to.found) reads.old result reads.new }
 {
-    if gives(to.found(), what.0) {
+    if gives(to.found, what.0) {
         drop(to);
         drop(from);
         return unchanged(reads.heap(), Answer::Done);
     }
-    match replaced(look, &what, to.found(), reads) {
-        Ok(replaced) => done(reads.heap(), move_edit(from, to, what.0, replaced)),
+    match replaced(look, &what, to.found, reads) {
+        Ok(replaced) => done(
+            reads.heap(),
+            Edit::Move {
+                from: from.parent,
+                old_name: from.name,
+                to: to.parent,
+                new_name: to.name,
+                inode: what.0,
+                replaced,
+            },
+        ),
         Err(refusal) => {
             drop(to);
             drop(from);
@@ -353,7 +313,7 @@ fn gives(found: Option<(Num, Option<Kind>)>, num: Num) -> bool
     ensures { result ≡ gives found num }
 {
     match found {
-        Some(old) => is_same(num, old.0),
+        Some(old) => num == old.0,
         None => false,
     }
 }

@@ -1,5 +1,5 @@
 // Steps of plans that ask nothing.
-ghost use Rattle.std.specs.Prelude.{◌≡◌, ◌==◌, ◌&&◌, ◌||◌, not};
+ghost use Rattle.std.specs.Prelude.{◌≡◌, ◌&&◌, ◌||◌, not};
 ghost use Rattle.model.specs.Plan.{refuse_if, ENOTDIR, EBUSY, EINVAL, EISDIR};
 ghost use Rattle.model.specs.Paths.{is_empty, is_below};
 ghost use Rattle.model.specs.Walks.{parsed, is_directory};
@@ -9,7 +9,6 @@ ghost use Rattle.look.specs.Asked.{Tells};
 use heap::Heap;
 use ids::{Bytes, Errno, Kind, Num, Refusal};
 use path::Path;
-use walk::must_be_directory;
 
 // A test.
 pub(crate) fn refuse_if(refused: bool, errno: Errno) -> Result<(), Refusal>
@@ -70,16 +69,7 @@ pub(crate) fn must_not_go_below(
 ) -> Result<(), Refusal>
     ensures { Tells (refuse_if (is_directory what.now && is_below from.now to.now) EINVAL) result }
 {
-    match what.1 {
-        Some(Kind::Dir) => {
-            if to.is_below(from) {
-                Err(Refusal::Errno(Errno::EINVAL))
-            } else {
-                Ok(())
-            }
-        }
-        _ => Ok(()),
-    }
+    refuse_if(is_directory(what) && to.is_below(from), Errno::EINVAL)
 }
 
 // A file does not replace a directory.
@@ -90,10 +80,7 @@ pub(crate) fn must_be_no_directory_for(
     ensures { Tells
         (refuse_if (not (is_directory what.now) && is_directory old.now) EISDIR) result }
 {
-    match what.1 {
-        Some(Kind::Dir) => Ok(()),
-        _ => must_not_be_directory(old, Errno::EISDIR),
-    }
+    refuse_if(!is_directory(what) && is_directory(old), Errno::EISDIR)
 }
 
 // A directory replaces none but a directory.
@@ -104,10 +91,7 @@ pub(crate) fn must_be_directory_for(
     ensures { Tells
         (refuse_if (is_directory what.now && not (is_directory old.now)) ENOTDIR) result }
 {
-    match what.1 {
-        Some(Kind::Dir) => must_be_directory(old),
-        _ => Ok(()),
-    }
+    refuse_if(is_directory(what) && !is_directory(old), Errno::ENOTDIR)
 }
 
 // Whether a place is a directory.
@@ -115,11 +99,4 @@ pub(crate) fn is_directory(place: &(Num, Option<Kind>)) -> bool
     ensures { result ≡ is_directory place.now }
 {
     matches!(place.1, Some(Kind::Dir))
-}
-
-// Whether two numbers are one.
-pub(crate) fn is_same(first: Num, second: Num) -> bool
-    ensures { result ≡ (first == second) }
-{
-    first == second
 }

@@ -1,5 +1,4 @@
 // Where a path's last name stands.
-ghost use Rattle.std.specs.Prelude.{◌≡◌};
 
 use ids::{Kind, Name, Num};
 use std::marker::Model;
@@ -21,13 +20,4 @@ impl Model for Last {
     ghost Value = { Last };
 
     ghost view = { λ l. record { parent = l.parent; name = l.name; found = l.found } };
-}
-
-impl Last {
-    /// What it gives.
-    pub fn found(&self) -> Option<(Num, Option<Kind>)>
-        ensures { result ≡ self.now.found }
-    {
-        self.found
-    }
 }

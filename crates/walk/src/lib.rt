@@ -9,7 +9,6 @@ mod reads;
 mod steps;
 mod touches;
 
-ghost use Rattle.model.specs.Plan.{ask, Look as Look_up};
 ghost use Rattle.model.specs.Walks.{look as look_in, walk, last_of};
 ghost use Rattle.look.specs.Asked.{Comes};
 ghost use Rattle.walk.specs.Walking.{next_of, start, look_last};
@@ -47,19 +46,6 @@ pub fn walk_to_last<L: Look>(
     walk_to_last_of(look, of_root, path.components(), reads)
 }
 
-// What a name gives.
-fn find<L: Look>(
-    look: &L,
-    dir: Num,
-    name: &Name,
-    reads: &mut Reads,
-) -> Result<Option<(Num, Option<Kind>)>, Refusal>
-    ensures { Comes (L.state look.now) (ask (Look_up dir name.now)) reads.old result reads.new }
-{
-    reads.add_entry(dir, name)?;
-    Ok(look.find(dir, name))
-}
-
 // One name, where the place that was reached is a directory.
 fn look_up<L: Look>(
     look: &L,
@@ -70,7 +56,8 @@ fn look_up<L: Look>(
     ensures { Comes (L.state look.now) (look_in place.now name.now) reads.old result reads.new }
 {
     must_be_directory(place)?;
-    find(look, place.0, name, reads)
+    reads.add_entry(place.0, name)?;
+    Ok(look.find(place.0, name))
 }
 
 // One name that has to be there.
