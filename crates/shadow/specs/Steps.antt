@@ -77,6 +77,13 @@ TakesNoMemory (Put_bytes n place bytes before) = ⊥
 TakesNoMemory (Make_pipe i pid f g) = ⊥
 TakesNoMemory e = IsFirst e
 
+-- and of these, the edits of a name
+abbrev pub IsNaming : Edit → Type 0
+IsNaming (Cut n before after) = ⊥
+IsNaming (Take p count) = ⊥
+IsNaming (Append p bytes) = ⊥
+IsNaming e = TakesNoMemory e
+
 abbrev pub IsBelow : ℕ → Which → Type 0
 IsBelow m (There n) = ⊤
 IsBelow m (Made j) = j < m

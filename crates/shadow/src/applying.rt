@@ -11,7 +11,8 @@ ghost use Rattle.call_laws.specs.Fits.{Fits, FitsAll};
 ghost use Rattle.shadow.specs.Claims.{AreUnused, Claim, Covers, HaveParents, KeepsMore, KeepsSame};
 ghost use Rattle.shadow.specs.Claims.{claimed_by, claimed_by_one, reserved};
 ghost use Rattle.shadow.specs.Log.{effect};
-ghost use Rattle.shadow.specs.Steps.{CanEdit, IsFirst, IsLast, TakesNoMemory, slotting, unnaming};
+ghost use Rattle.shadow.specs.Steps.{CanEdit, IsFirst, IsLast, IsNaming, TakesNoMemory};
+ghost use Rattle.shadow.specs.Steps.{slotting, unnaming};
 ghost use Rattle.shadow.specs.declared.change.Made.{Made as What};
 
 use crate::claiming::parent_of;
@@ -172,6 +173,26 @@ impl Stable {
         // For the proof: the state is tidied before the change.
         self.state_is_tidied();
         match edit {
+            Edit::Cut { file, length, .. } => self.cut(file, length as usize),
+            Edit::Take { pipe, count } => self.take(pipe, count as usize),
+            Edit::Append { pipe, bytes } => {
+                self.append(pipe, bytes.as_slice());
+                drop(bytes);
+            }
+            other => self.perform_naming(chosen, other),
+        }
+    }
+
+    // An edit of a name. It takes no memory.
+    fn perform_naming(&mut self, chosen: &[Num], edit: Edit)
+        requires naming { IsNaming edit }
+        requires count { news edit ≤ length chosen.now }
+        requires fits { Fits chosen.now self.old.state edit }
+        requires covers { (c : Claim) → claimed_by_one c chosen.now edit ≤ reserved self.old c }
+        ensures state { self.new.state ≡ tidy (applied chosen.now edit self.old.state) }
+        ensures kept { KeepsMore self.new self.old (λ c. claimed_by_one c chosen.now edit) }
+    {
+        match edit {
             Edit::MakeDirectory { parent, name, .. } => {
                 self.make_directory(parent, name, chosen[0]);
             }
@@ -199,12 +220,6 @@ impl Stable {
             } => {
                 self.rename(from, &old_name, to, new_name, inode, replaced);
                 drop(old_name);
-            }
-            Edit::Cut { file, length, .. } => self.cut(file, length as usize),
-            Edit::Take { pipe, count } => self.take(pipe, count as usize),
-            Edit::Append { pipe, bytes } => {
-                self.append(pipe, bytes.as_slice());
-                drop(bytes);
             }
             _ => unreachable!(),
         }
@@ -373,11 +388,7 @@ impl Stable {
         ensures kept { KeepsSame self.old self.new }
         ensures err { OnErr result (self.new.state ≡ self.old.state) }
     {
-        let empty = FileData::new(self.heap());
-        let mut data = self.store.swap_file(file, empty);
-        let written = data.write_at(offset, bytes);
-        let _empty = self.store.swap_file(file, data);
-        written
+        self.store.write_file(file, offset, bytes)
     }
 
     // A file's length changes.

@@ -12,7 +12,7 @@ ghost use Rattle.shadow.specs.Patches.{kept_at};
 ghost use Rattle.shadow.specs.declared.change.Made.TheVariants as Made;
 ghost use Rattle.std.specs.List.{AllByRecursion, sum_by};
 ghost use Rattle.shadow.specs.Steps.{AreApart, CanEdit, HasPlaces, IsBelow, IsFirst, IsLast};
-ghost use Rattle.shadow.specs.Steps.{TakesAll, TakesIn, is_last, making, unnaming};
+ghost use Rattle.shadow.specs.Steps.{IsNaming, TakesAll, TakesIn, is_last, making, unnaming};
 ghost use Rattle.shadow.specs.declared.change.Made.{Made as What};
 
 use crate::change::Made;
@@ -179,6 +179,44 @@ impl Patches {
             → kept_at self.new.slots pid ≢ None }
     {
         match edit {
+            Edit::PutBytes {
+                file,
+                offset,
+                bytes,
+                ..
+            } => {
+                let noted = self.write(file, offset, &bytes);
+                drop(bytes);
+                noted
+            }
+            Edit::Cut { file, length, .. } => self.cut(file, length),
+            Edit::Take { pipe, count } => self.take(pipe, count),
+            Edit::Append { pipe, bytes } => {
+                let noted = self.append(pipe, &bytes);
+                drop(bytes);
+                noted
+            }
+            Edit::MakePipe {
+                process,
+                reader,
+                writer,
+                ..
+            } => self.make_pipe(chosen[0], process, (reader, chosen[1]), (writer, chosen[2])),
+            other => self.note_naming(chosen, other),
+        }
+    }
+
+    // Notes an edit of a name. Refused memory changes nothing that shows.
+    fn note_naming(&mut self, chosen: &[Num], edit: Edit) -> Result<(), AllocError>
+        requires naming { IsNaming edit }
+        requires count { news edit ≤ length chosen.now }
+        requires apart { AreApart chosen.now edit }
+        ensures ok { OnOk result (TakesIn chosen.now edit self.old self.new) }
+        ensures err { OnErr result (SamePatches self.old self.new) }
+        ensures openings { self.new.openings ≡ self.old.openings }
+        ensures slots { self.new.slots ≡ self.old.slots }
+    {
+        match edit {
             Edit::MakeDirectory { parent, name, .. } => {
                 self.make(Made::Directory, parent, name, chosen[0])
             }
@@ -204,29 +242,6 @@ impl Patches {
                 drop(old_name);
                 noted
             }
-            Edit::PutBytes {
-                file,
-                offset,
-                bytes,
-                ..
-            } => {
-                let noted = self.write(file, offset, &bytes);
-                drop(bytes);
-                noted
-            }
-            Edit::Cut { file, length, .. } => self.cut(file, length),
-            Edit::Take { pipe, count } => self.take(pipe, count),
-            Edit::Append { pipe, bytes } => {
-                let noted = self.append(pipe, &bytes);
-                drop(bytes);
-                noted
-            }
-            Edit::MakePipe {
-                process,
-                reader,
-                writer,
-                ..
-            } => self.make_pipe(chosen[0], process, (reader, chosen[1]), (writer, chosen[2])),
             _ => unreachable!(),
         }
     }

@@ -90,9 +90,11 @@ fn seen_are_kept(stable: &Stable, shadow: Option<&Shadow>)
               (changes_of (option_map (λ s. s.now) shadow.entry)) stable.now.state;
         }) }
 {
+    // For the proof: each directory that is stored can have room promised.
     stable.directories_are_kept();
     match shadow {
         Some(shadow) => {
+            // For the proof: the patches are those of the changes.
             let _patches = &shadow.patches;
         }
         None => (),

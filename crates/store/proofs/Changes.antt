@@ -4,12 +4,12 @@ use Rattle.std.proofs.Common.{◌≡◌, ℕ, Bool, true, false, cond, Option, S
 use Rattle.std.specs.Prelude.{IsSome}
 use Rattle.std.specs.Option.{option_and_then}
 use Rattle.model.specs.FiniteMap.{FinMap, get, insert, remove, empty, get-empty}
-use Rattle.model.specs.State.{Inode, Description, Directory, File, Pipe, name_cmp, pipe_of_inode}
+use Rattle.model.specs.State.{Inode, Description, Directory, File, Pipe, name_cmp, file_of_inode, pipe_of_inode}
 use Rattle.model.specs.Changes.{at_offset}
 use Rattle.dirlist.specs.Listing.{Listing}
 use Rattle.objects.specs.Pieces.{FileContent}
 use Rattle.store.specs.Numbers.{Numbers, coming, present, object_at, held, if_held, no_names, IsFirstRoot}
-use Rattle.store.specs.Places.{altered_by, altered, installed, hidden, is_over, is_over_by, has_room, file_of, listing_of, IsRoomy, changed_file, changed_object, changed_opened, changed_pipe, passed, pipe_of, with_pipe, with_bytes, with_file, with_listing, with_opened, moved_to, swept, lost}
+use Rattle.store.specs.Places.{altered_by, altered, installed, hidden, is_over, is_over_by, has_room, file_of, listing_of, IsRoomy, changed_file, changed_object, changed_opened, changed_pipe, passed, pipe_of, with_pipe, with_bytes, with_file, with_listing, with_opened, moved_to, swept, lost, content_of, file_in}
 use Rattle.store.specs.Shown.{chosen, inodes, inode_of, inode_in, descriptions, description_of, description_in, shown_at, with_inode, with_value, with_names, with_names_by, with_offset, with_offset_by}
 use Rattle.store.specs.declared.OpenFile.{OpenFile}
 use Rattle.store.specs.declared.Opened.{Opened}
@@ -293,6 +293,23 @@ inodes-swapped content s n = by_place (get s.places n) refl
     by_place : (o : Option Place) → get s.places n ≡ o → IsSome (option_and_then file_of (held o)) → inodes (altered (with_file (with_bytes content)) s n) ≡ insert (inodes s) n (File content.bytes)
     by_place (Some place) is some = inodes-altered (with_file (with_bytes content)) s n place is ∙ by_stage place.stage place.object is some
     by_place None is some = absurd cc
+
+-- the bytes of a file that is shown are those of its inode
+pub bytes-shown : (s : Numbers) (n : ℕ) → IsSome (option_and_then file_of (object_at s n)) → (content_of (file_in (get s.places n))).bytes ≡ file_of_inode (get (inodes s) n)
+bytes-shown s n some = by_place (get s.places n) some ∙ ap file_of_inode (sym (get-inodes_by s n (get s.places n) refl))
+  where
+    by_stage : (t : Stage) (object : Object) → IsSome (option_and_then file_of (if_held t object)) → (content_of (file_of object)).bytes ≡ file_of_inode (shown_at t (inode_of object))
+    by_stage Held (Kept_file file) some = refl
+    by_stage Held (Kept_pipe pipe) some = absurd cc
+    by_stage Held (Kept_directory listing) some = absurd cc
+    by_stage Held (Kept_description opened) some = absurd cc
+    by_stage Held Kept_nothing some = absurd cc
+    by_stage Coming object some = absurd cc
+    by_stage Removed object some = absurd cc
+
+    by_place : (o : Option Place) → IsSome (option_and_then file_of (held o)) → (content_of (file_in o)).bytes ≡ file_of_inode (option_and_then inode_in o)
+    by_place (Some place) some = by_stage place.stage place.object some
+    by_place None some = absurd cc
 
 -- other bytes of a pipe that is shown
 pub inodes-passed : (taken : ℕ) (appended : List ℕ) (s : Numbers) (n : ℕ) → IsRoomy taken appended (option_and_then pipe_of (object_at s n))

@@ -5,6 +5,7 @@ mod Chosen
 mod Changes
 mod Listings
 mod Laying
+mod Outcomes
 mod Beside
 mod Laid
 mod Counted

@@ -1,7 +1,7 @@
 -- How the places of a store change: an object to come is shown, an object is removed, or what it holds
 -- changes.
 use Rattle.std.specs.Prelude.{ℕ, ◌+◌, ◌-◌, ◌++◌, Bool, true, false, not, nat_lt, Option, Some, None}
-use Rattle.std.specs.Prelude.{◌≤◌, if◌then◌else◌, List, drop, length}
+use Rattle.std.specs.Prelude.{◌≡◌, ◌≤◌, if◌then◌else◌, List, [], drop, length}
 use Rattle.ids.specs.declared.limits.TheConstants.{PIPE_CAPACITY}
 use Rattle.std.specs.Ordering.{nat_cmp}
 use Rattle.model.specs.FiniteMap.{FinMap, get, insert, remove}
@@ -110,6 +110,17 @@ with_opened f place = record place { object = changed_opened f place.object }
 -- a file with other bytes, and with one opening more or less
 abbrev pub with_bytes : FileContent → OpenFile → OpenFile
 with_bytes content file = record file { bytes = content }
+
+-- what is kept of a file's bytes; none where there is no file
+abbrev pub content_of : Option OpenFile → FileContent
+content_of (Some file) = file.bytes
+content_of None = record { bytes = []; rooms = [] }
+
+-- a content with these bytes, whatever room that has, of which this holds
+pub record Refilled (bytes : List ℕ) (holds : FileContent → Type 0) : Type 0 where
+  pub content : FileContent
+  pub bytes_are : content.bytes ≡ bytes
+  pub rest : holds content
 
 abbrev pub more_openings : OpenFile → OpenFile
 more_openings file = record file { openings = file.openings + 1 }

@@ -1,6 +1,9 @@
 //! Files, pipes and open file descriptions: their bytes, offsets and counts.
 //! A number that is of no such object does not change.
-ghost use Rattle.std.specs.Prelude.{◌≡◌, ◌+◌, ◌<◌, ◌^◌, IsSome, Some, option_and_then, option_map};
+ghost use Rattle.std.specs.Prelude.{◌≡◌, ◌+◌, ◌≤◌, ◌<◌, ◌^◌, IsSome, Some, option_and_then, option_map};
+ghost use Rattle.std.specs.Prelude.{OnOk, OnErr, length};
+ghost use Rattle.ids.specs.declared.limits.TheConstants.{LARGEST_FILE};
+ghost use Rattle.model.specs.Changes.{written};
 ghost use Rattle.slab.specs.Slab.{get, Updates};
 ghost use Rattle.store.specs.Headers.{at_place, place_at};
 ghost use Rattle.store.specs.Numbers.{coming, held, present};
@@ -8,7 +11,7 @@ ghost use Rattle.store.specs.Places.{changed_file, changed_opened, changed_pipe,
 ghost use Rattle.store.specs.Places.{IsRoomy, holders_of, passed, pipe_of, with_pipe};
 ghost use Rattle.store.specs.Places.{less_holders, less_openings, more_holders, more_openings};
 ghost use Rattle.store.specs.Places.{moved_to, opened_in, opened_of, openings_of, with_bytes};
-ghost use Rattle.store.specs.Places.{with_file, with_opened};
+ghost use Rattle.store.specs.Places.{content_of, Refilled, with_file, with_opened};
 ghost use Rattle.store.specs.declared.Object.TheVariants.{Nothing};
 ghost use Rattle.store.specs.declared.Place.{Place};
 
@@ -16,6 +19,7 @@ use crate::{Header, Object, Stage};
 use heap::Heap;
 use objects::FileData;
 use slab::Slab;
+use std::alloc::AllocError;
 use std::mem::replace;
 
 /// A number for an object to come stands for this one from now on, which is shown.
@@ -50,6 +54,47 @@ fn swap_file_in(object: &mut Object, bytes: FileData) -> FileData
 {
     match object {
         Object::File(file) => replace(&mut file.bytes, bytes),
+        Object::Pipe(_) => unreachable!(),
+        Object::Directory(_) => unreachable!(),
+        Object::Description(_) => unreachable!(),
+        Object::Nothing => unreachable!(),
+    }
+}
+
+/// Writes bytes into a file from an offset on. Refused memory changes no byte.
+pub fn write_file_at(
+    headers: &mut Slab<Header, Heap>,
+    key: usize,
+    offset: usize,
+    bytes: &[u8],
+) -> Result<(), AllocError>
+    requires file { IsSome (option_and_then file_of (held (place_at headers.old key))) }
+    requires small { offset + length bytes.now ≤ LARGEST_FILE }
+    ensures ok { OnOk result (Refilled
+        (written (content_of (file_in (place_at headers.old key))).bytes offset bytes.now)
+        (λ content. Updates headers.old headers.new key
+        (option_map (at_place (with_file (with_bytes content))) (get headers.old key)))) }
+    ensures err { OnErr result (Refilled (content_of (file_in (place_at headers.old key))).bytes
+        (λ content. Updates headers.old headers.new key
+        (option_map (at_place (with_file (with_bytes content))) (get headers.old key)))) }
+{
+    match headers.get_mut(key) {
+        Some(header) => write_file_in(&mut header.place.object, offset, bytes),
+        None => unreachable!(),
+    }
+}
+
+fn write_file_in(object: &mut Object, offset: usize, bytes: &[u8]) -> Result<(), AllocError>
+    requires file { IsSome (file_of object.old) }
+    requires small { offset + length bytes.now ≤ LARGEST_FILE }
+    ensures ok { OnOk result (Refilled
+        (written (content_of (file_of object.old)).bytes offset bytes.now)
+        (λ content. object.new ≡ changed_file (with_bytes content) object.old)) }
+    ensures err { OnErr result (Refilled (content_of (file_of object.old)).bytes
+        (λ content. object.new ≡ changed_file (with_bytes content) object.old)) }
+{
+    match object {
+        Object::File(file) => file.bytes.write_at(offset, bytes),
         Object::Pipe(_) => unreachable!(),
         Object::Directory(_) => unreachable!(),
         Object::Description(_) => unreachable!(),

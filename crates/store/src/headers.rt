@@ -227,15 +227,9 @@ fn put_name(dir: &mut Dir, name: Name, num: Num) -> Option<Num>
 {
     let former = dir.remove(&name);
     dir.insert_promised(name, num);
-    names_are_few(dir);
-    former
-}
-
-// A `usize` can count the names of one directory.
-fn names_are_few(dir: &Dir)
-    ensures { map.len dir.now.names < 2 ^ 64 }
-{
+    // For the proof: a `usize` can count the names of one directory.
     let _len = dir.len();
+    former
 }
 
 /// Takes a name out of a directory, and answers what it gave.

@@ -1,15 +1,18 @@
 //! Objects under their numbers, and objects to come, which are not shown before they are installed.
 #![tactic(auto)]
 
-ghost use Rattle.std.specs.Prelude.{◌≡◌, ◌<◌, ◌++◌, ◌^◌, drop, Some, None, IfOk, OnOk, OnErr};
+ghost use Rattle.std.specs.Prelude.{◌≡◌, ◌<◌, ◌≤◌, ◌+◌, ◌++◌, ◌^◌, drop, length, Some, None};
+ghost use Rattle.std.specs.Prelude.{IfOk, OnOk, OnErr};
+ghost use Rattle.ids.specs.declared.limits.TheConstants.{LARGEST_FILE};
+ghost use Rattle.model.specs.Changes.{written};
 ghost use Rattle.std.specs.Prelude.{option_and_then, option_copied, option_map, IsSome};
 ghost use Rattle.model.specs.FiniteMap as map;
-ghost use Rattle.model.specs.State.{kind, mapped, names_of_inode, pipe_of_inode};
+ghost use Rattle.model.specs.State.{file_of_inode, kind, mapped, names_of_inode, pipe_of_inode};
 ghost use Rattle.model.specs.State.{Directory as A_directory, File as A_file, Pipe as A_pipe};
 ghost use Rattle.store.specs.Numbers.{coming, object_at, present, IsFirstRoot};
 ghost use Rattle.store.specs.Places.{altered, installed, lost, swept, listing_of, file_in, file_of};
 ghost use Rattle.store.specs.Places.{IsRoomy, moved_to, passed, pipe_of, with_bytes, with_file};
-ghost use Rattle.store.specs.Places.{with_opened, with_pipe};
+ghost use Rattle.store.specs.Places.{Refilled, with_opened, with_pipe};
 ghost use Rattle.store.specs.Shown.{inodes, inode_of, with_inode, with_value};
 ghost use Rattle.store.specs.Shown.{description_of, descriptions, file_inode, pipe_inode};
 ghost use Rattle.store.specs.Shown.{with_offset};
@@ -399,6 +402,20 @@ impl Store {
         ensures open { descriptions self.new ≡ descriptions self.old }
     {
         contents::swap_file_at(&mut self.headers, num.0, bytes)
+    }
+
+    /// Writes bytes into a file from an offset on, and fills a gap before them with zero bytes. The
+    /// file is shown. Refused memory changes no byte.
+    pub fn write_file(&mut self, num: Num, offset: usize, bytes: &[u8]) -> Result<(), AllocError>
+        requires file { IsSome (option_and_then file_of (object_at self.old num)) }
+        requires small { offset + length bytes.now ≤ LARGEST_FILE }
+        ensures ok { OnOk result (Refilled
+            (written (file_of_inode (map.get (inodes self.old) num)) offset bytes.now)
+            (λ content. self.new ≡ altered (with_file (with_bytes content)) self.old num)) }
+        ensures err { OnErr result (Refilled (file_of_inode (map.get (inodes self.old) num))
+            (λ content. self.new ≡ altered (with_file (with_bytes content)) self.old num)) }
+    {
+        contents::write_file_at(&mut self.headers, num.0, offset, bytes)
     }
 
     /// Takes so many bytes from the front of a pipe, and appends these. The pipe is shown, it has so

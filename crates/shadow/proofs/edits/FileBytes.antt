@@ -1,9 +1,9 @@
--- A file whose bytes are changed outside the store, and swapped in again.
+-- A file whose bytes are changed where it stands, or outside the store and swapped in again.
 use Rattle.std.proofs.Common.{◌≡◌, ℕ, List, [], length, Option, Some, None, Result, Ok, Err, OnOk, OnErr, refl, sym, ap, subst, ◌∙◌}
 use Rattle.std.specs.Prelude.{IsSome}
 use Rattle.std.specs.Option.{option_and_then, option_map}
 use Rattle.model.specs.FiniteMap.{get, insert}
-use Rattle.model.specs.State.{A_file, Kernel, File, kind, kind_of, mapped, file_of}
+use Rattle.model.specs.State.{A_file, Inode, Kernel, Directory, File, Pipe, kind, kind_of, mapped, file_of, file_of_inode}
 use Rattle.model.specs.Changes.{Put_bytes, Cut, applied, sized, written, set_inode, tidy}
 use Rattle.model.proofs.Laws.{get_same}
 use Rattle.call_laws.specs.Fits.{Fits}
@@ -35,6 +35,13 @@ file_there s n is = by_object (object_at s n) (sym (ap (mapped kind) (get-inodes
     by_object (Some (Kept_pipe pipe)) is = absurd cc
     by_object (Some (Kept_description opened)) is = absurd cc
     by_object (Some Nothing) is = absurd cc
+
+-- and what is there of it is its bytes
+pub file_is : (o : Option Inode) → mapped kind o ≡ Some A_file → o ≡ Some (File (file_of_inode o))
+file_is None is = absurd cc
+file_is (Some (Directory names)) is = absurd cc
+file_is (Some (File bytes)) is = refl
+file_is (Some (Pipe bytes)) is = absurd cc
 
 -- after the first swap it is one still
 pub file_still : (s t : Numbers) (n : ℕ) (bytes : List ℕ) → inodes t ≡ insert (inodes s) n (File bytes) → IsSome (option_and_then stored_file (object_at t n))

@@ -1,57 +1,10 @@
-use Rattle.std.proofs.Common.{◌≡◌, ◌<◌, ◌≤◌, ℕ, List, length, sym, subst, arith}
+use Rattle.std.proofs.Common.{◌≡◌, ◌≤◌, ℕ, List, length, sym, subst, arith}
 use Rattle.std.proofs.lemmas.List.{get_or_read}
 use Rattle.model.specs.Changes.{Edit, news}
 use Rattle.shadow.specs.Steps.{IsFirst, TakesIn, new_in}
-use Rattle.shadow.specs.declared.change.Made.TheVariants.{Directory as A_directory, File as A_file}
-use Rattle.shadow.proofs.noting.UnusedNumbers.{append_taken, pipe_taken, take_taken, cut_taken, directory_taken, file_taken, put_taken}
+use Rattle.shadow.proofs.noting.UnusedNumbers.{append_taken, cut_taken, pipe_taken, put_taken, take_taken}
 use Rattle.shadow.proofs.shared.Outcomes.{ok_so}
 use Rattle.shadow.proofs.patches.Patches.note_first.Goals as goal
-
-pub returns-in-MakeDirectory-clause-ok : goal.returns-in-MakeDirectory-clause-ok
-returns-in-MakeDirectory-clause-ok c =
-    let chosen : List ℕ = c.args.chosen.now in
-    let count = subst (λ (e : Edit). news e ≤ length chosen) c.in-MakeDirectory.is c.requires.count in
-    let low : 0 < length chosen = omega (arith, count) in
-    let at : c.index-chosen-0.result ≡ new_in chosen 0 = get_or_read chosen 0 c.index-chosen-0.result low c.index-chosen-0.is 0 in
-    ok_so c.make.result
-    (λ t. subst (λ (e : Edit). TakesIn chosen e c.args.self.now c.make.new.self) (sym c.in-MakeDirectory.is)
-    (directory_taken chosen c.args.self.now c.make.new.self c.in-MakeDirectory.parent c.index-chosen-0.result c.in-MakeDirectory.index c.in-MakeDirectory.name (subst IsFirst c.in-MakeDirectory.is c.requires.first) at t))
-    c.make.ensures.ok
-
-pub returns-in-MakeFile-clause-ok : goal.returns-in-MakeFile-clause-ok
-returns-in-MakeFile-clause-ok c =
-    let chosen : List ℕ = c.args.chosen.now in
-    let count = subst (λ (e : Edit). news e ≤ length chosen) c.in-MakeFile.is c.requires.count in
-    let low : 0 < length chosen = omega (arith, count) in
-    let at : c.index-chosen-0-in-MakeFile.result ≡ new_in chosen 0 = get_or_read chosen 0 c.index-chosen-0-in-MakeFile.result low c.index-chosen-0-in-MakeFile.is 0 in
-    ok_so c.make-in-MakeFile.result
-    (λ t. subst (λ (e : Edit). TakesIn chosen e c.args.self.now c.make-in-MakeFile.new.self) (sym c.in-MakeFile.is)
-    (file_taken chosen c.args.self.now c.make-in-MakeFile.new.self c.in-MakeFile.parent c.index-chosen-0-in-MakeFile.result c.in-MakeFile.index c.in-MakeFile.name (subst IsFirst c.in-MakeFile.is c.requires.first) at t))
-    c.make-in-MakeFile.ensures.ok
-
-pub returns-in-NameFile-clause-ok : goal.returns-in-NameFile-clause-ok
-returns-in-NameFile-clause-ok c =
-    ok_so c.link.result
-    (λ t. subst (λ (e : Edit). TakesIn c.args.chosen.now e c.args.self.now c.link.new.self) (sym c.in-NameFile.is) (t c.args.chosen.now))
-    c.link.ensures.ok
-
-pub returns-in-UnnameFile-clause-ok : goal.returns-in-UnnameFile-clause-ok
-returns-in-UnnameFile-clause-ok c =
-    ok_so c.unname.result
-    (λ t. subst (λ (e : Edit). TakesIn c.args.chosen.now e c.args.self.now c.unname.new.self) (sym c.in-UnnameFile.is) (t c.args.chosen.now A_file))
-    c.unname.ensures.ok
-
-pub returns-in-UnnameDirectory-clause-ok : goal.returns-in-UnnameDirectory-clause-ok
-returns-in-UnnameDirectory-clause-ok c =
-    ok_so c.unname-in-UnnameDirectory.result
-    (λ t. subst (λ (e : Edit). TakesIn c.args.chosen.now e c.args.self.now c.unname-in-UnnameDirectory.new.self) (sym c.in-UnnameDirectory.is) (t c.args.chosen.now A_directory))
-    c.unname-in-UnnameDirectory.ensures.ok
-
-pub returns-in-Move-clause-ok : goal.returns-in-Move-clause-ok
-returns-in-Move-clause-ok c =
-    ok_so c.rename-noted.result
-    (λ t. subst (λ (e : Edit). TakesIn c.args.chosen.now e c.args.self.now c.rename-noted.new.self) (sym c.in-Move.is) (t c.args.chosen.now))
-    c.rename-noted.ensures.ok
 
 pub returns-in-PutBytes-clause-ok : goal.returns-in-PutBytes-clause-ok
 returns-in-PutBytes-clause-ok c =
@@ -86,10 +39,10 @@ returns-in-MakePipe-clause-ok c =
     let chosen : List ℕ = c.args.chosen.now in
     let count = subst (λ (e : Edit). news e ≤ length chosen) c.in-MakePipe.is c.requires.count in
     let first = subst IsFirst c.in-MakePipe.is c.requires.first in
-    let here : c.index-chosen-0-in-MakePipe.result ≡ new_in chosen 0 = get_or_read chosen 0 c.index-chosen-0-in-MakePipe.result (omega (arith, count)) c.index-chosen-0-in-MakePipe.is 0 in
+    let here : c.index-chosen-0.result ≡ new_in chosen 0 = get_or_read chosen 0 c.index-chosen-0.result (omega (arith, count)) c.index-chosen-0.is 0 in
     let next : c.index-chosen-1.result ≡ new_in chosen 1 = get_or_read chosen 1 c.index-chosen-1.result (omega (arith, count)) c.index-chosen-1.is 0 in
     let last : c.index-chosen-2.result ≡ new_in chosen 2 = get_or_read chosen 2 c.index-chosen-2.result (omega (arith, count)) c.index-chosen-2.is 0 in
     ok_so c.make_pipe.result
     (λ t. subst (λ (e : Edit). TakesIn chosen e c.args.self.now c.make_pipe.new.self) (sym c.in-MakePipe.is)
-    (pipe_taken chosen c.args.self.now c.make_pipe.new.self c.index-chosen-0-in-MakePipe.result c.index-chosen-1.result c.index-chosen-2.result c.in-MakePipe.index c.in-MakePipe.process c.in-MakePipe.reader c.in-MakePipe.writer first.0 here next last t))
+    (pipe_taken chosen c.args.self.now c.make_pipe.new.self c.index-chosen-0.result c.index-chosen-1.result c.index-chosen-2.result c.in-MakePipe.index c.in-MakePipe.process c.in-MakePipe.reader c.in-MakePipe.writer first.0 here next last t))
     c.make_pipe.ensures.ok
