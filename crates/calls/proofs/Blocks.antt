@@ -23,3 +23,7 @@ taken_plan p (b ∷ bytes) is = refl
 pub nothing_plan : (p : ℕ) (bytes : List ℕ) → is_empty bytes ≡ true → read_pipe p bytes ≡ read_pipe p []
 nothing_plan p [] is = refl
 nothing_plan p (b ∷ bytes) is = absurd (grind (arith, is))
+
+pub nothing_left : (bytes : List ℕ) → is_empty bytes ≡ true → [] ≡ bytes
+nothing_left [] is = refl
+nothing_left (b ∷ bytes) is = absurd (grind (arith, is))

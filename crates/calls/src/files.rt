@@ -1,6 +1,6 @@
 // The plans of calls on files and pipes.
 ghost use Rattle.std.specs.Prelude.{◌≡◌, ◌<◌, ◌≤◌, ◌^◌, ◌+◌, [], ◌∷◌, length, take};
-ghost use Rattle.std.specs.Prelude.{IfOk, Some, None, ◌++◌, min, if◌then◌else◌};
+ghost use Rattle.std.specs.Prelude.{IfOk, Some, None, min, if◌then◌else◌};
 ghost use Rattle.model.specs.Paths.{is_empty};
 ghost use Rattle.model.specs.State.{Kernel};
 ghost use Rattle.model.specs.Plan.{Give};
@@ -8,7 +8,7 @@ ghost use Rattle.model.specs.Walks.{Last};
 ghost use Rattle.model.specs.Changes.{Set_offset, Put_bytes};
 ghost use Rattle.ids.specs.Flags.{is_truncating};
 ghost use Rattle.model.specs.Plans.{plan, changed, mode, opened, cut_to};
-ghost use Rattle.model.specs.Plans.{read_pipe, place_to_write, room, most_moved};
+ghost use Rattle.model.specs.Plans.{place_to_write, room, most_moved};
 ghost use Rattle.model.specs.Calls.{Slot, Count, Open, Read, Write, Ftruncate};
 ghost use Rattle.calls.specs.Parts.{open_path, some_of_pipe, some_of_file, some_to_pipe};
 ghost use Rattle.calls.specs.Parts.{some_to_file};
@@ -221,7 +221,9 @@ fn read_some_pipe<L: Look>(
 {
     let bytes = read_pipe(look, pipe, count, reads)?;
     if is_empty(&bytes) {
-        nothing_from_pipe(look, pipe, reads)
+        let ends = ends(look, pipe, reads)?;
+        refuse_if(0 < ends.1, Errno::EAGAIN)?;
+        unchanged(reads.heap(), Answer::Bytes(bytes))
     } else {
         let count = bytes.as_slice().len() as u32;
         changed_by(
@@ -269,14 +271,6 @@ fn moved_on(heap: Heap, description: Num, offset: u32, bytes: &Bytes) -> Result<
             offset: offset + bytes.as_slice().len() as u32,
         })
     }
-}
-
-fn nothing_from_pipe<L: Look>(look: &L, pipe: Num, reads: &mut Reads) -> Result<Change, Refusal>
-    ensures { Comes (L.state look.now) (read_pipe pipe []) reads.old result reads.new }
-{
-    let ends = ends(look, pipe, reads)?;
-    refuse_if(0 < ends.1, Errno::EAGAIN)?;
-    unchanged(reads.heap(), Answer::Bytes(no_bytes(reads)))
 }
 
 pub(crate) fn write<L: Look>(

@@ -43,7 +43,11 @@ pub fn walk_to_last<L: Look>(
     ensures { let k = L.state look.now in
         Comes k (last_of k.root of_root path.now) reads.old result reads.new }
 {
-    walk_to_last_of(look, of_root, path.components(), reads)
+    let [parents @ .., last] = path.components() else {
+        return Err(Refusal::Errno(of_root));
+    };
+    let place = walk_along(look, parents, reads)?;
+    look_at_last(look, place, last, reads)
 }
 
 // One name, where the place that was reached is a directory.
@@ -87,23 +91,6 @@ fn walk_along<L: Look>(
         place = next(look, &place, name, reads)?;
     }
     Ok(place)
-}
-
-// Where the last of the names stands, and what it gives.
-fn walk_to_last_of<L: Look>(
-    look: &L,
-    of_root: Errno,
-    names: &[Name],
-    reads: &mut Reads,
-) -> Result<Last, Refusal>
-    ensures { let k = L.state look.now in
-        Comes k (last_of k.root of_root names.now) reads.old result reads.new }
-{
-    let [parents @ .., last] = names else {
-        return Err(Refusal::Errno(of_root));
-    };
-    let place = walk_along(look, parents, reads)?;
-    look_at_last(look, place, last, reads)
 }
 
 // The last name, where the others lead here.

@@ -1,4 +1,4 @@
-use Rattle.std.proofs.Common.{Ok, sym}
+use Rattle.std.proofs.Common.{rules}
 use Rattle.walk.proofs.Then.{goes, stops}
 use Rattle.walk.proofs.look_up.Goals as goal
 
@@ -6,4 +6,4 @@ pub returns-in_err-must_be_directory : goal.returns-in_err-must_be_directory
 returns-in_err-must_be_directory g c = stops _ c.from_residual.ensures.1 (c.in_err-must_be_directory.ensures _ _)
 
 pub returns : goal.returns
-returns g c = goes _ (c.in_ok-must_be_directory.ensures _ _) (record { is = λ i. (Ok (sym c.find.ensures i), sym c.in_ok-add_entry.ensures i) })
+returns g c = goes _ (c.in_ok-must_be_directory.ensures _ _) (search rules)
