@@ -157,7 +157,3 @@ module _ (ps : Processes) (s : Numbers) (n : ℕ) (b : FileContent) (sound : Sou
 pub either_way : {A E P Q C : Type 0} (r : Result A E) → OnOk r P → OnErr r Q → (P → C) → (Q → C) → C
 either_way (Ok x) h g f e = f h
 either_way (Err x) h g f e = e g
-
-pub whichever : {A E P Q : Type 0} (r : Result A E) → (P → Q) → OnOk r P → OnOk r Q
-whichever (Ok x) f h = f h
-whichever (Err x) f h = tt
