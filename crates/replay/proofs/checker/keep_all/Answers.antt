@@ -3,7 +3,7 @@ use Rattle.std.specs.List.{AllByRecursion}
 use Rattle.std.specs.Ordering.{nat_cmp}
 use Rattle.std.proofs.lemmas.List.{take_all, take_more}
 use Rattle.model.specs.Entries.{Entry}
-use Rattle.model.specs.FiniteMap.{FinMap, get, insert}
+use Rattle.model.specs.FiniteMap.{FinMap, get}
 use Rattle.replay.specs.Checked.{AreHeld, Grows}
 use Rattle.replay.specs.Faults.{HoldsEntry}
 use Rattle.replay.specs.Windows.{Finds}
