@@ -1,6 +1,6 @@
 // What each edit makes of a plain kernel.
 ghost use Rattle.std.specs.Prelude.{◌≡◌, ◌++◌, IfOk, OnOk, Some, [], get_or, true, drop, option_copied};
-ghost use Rattle.std.specs.Prelude.{◌+◌, ◌≤◌, length};
+ghost use Rattle.std.specs.Prelude.{◌+◌, ◌≤◌, false, length};
 ghost use Rattle.model.specs.FiniteMap.{empty, get, insert, remove};
 ghost use Rattle.model.specs.Limits.{largest_file};
 ghost use Rattle.model.specs.State.{File as A_file, Pipe as A_pipe};
@@ -9,7 +9,7 @@ ghost use Rattle.model.specs.Changes.{applied, at_start, clear_name, number, ope
 ghost use Rattle.model.specs.Changes.{or_new, process_of, set_description, set_inode, set_name};
 ghost use Rattle.model.specs.Changes.{set_offset, set_process, sized, with_slot, without_slot};
 ghost use Rattle.model.specs.Changes.{written, to_read, to_write};
-ghost use Rattle.replay.specs.Edits.{EndsWithin, is_of_processes};
+ghost use Rattle.replay.specs.Edits.{EndsWithin, is_of_descriptions, is_of_names, is_of_processes};
 
 use crate::inode::{Inode, file_out, no_bytes, pipe_out};
 use crate::inodes::Inodes;
@@ -339,6 +339,17 @@ impl PlainKernel {
                 self.clear_name(heap, *from, old_name)?;
                 self.set_name(heap, *to, new_name, *inode)
             }
+            _ => self.apply_to_bytes(heap, edit, chosen),
+        }
+    }
+
+    // One edit that is not of names: of bytes, or of processes and descriptions.
+    fn apply_to_bytes(&mut self, heap: Heap, edit: &Edit, chosen: &[Num]) -> Result<(), AllocError>
+        requires within { EndsWithin edit.now }
+        requires kind { is_of_names edit.now ≡ false }
+        ensures { OnOk result (self.new ≡ applied chosen.now edit.now self.old) }
+    {
+        match edit {
             Edit::PutBytes {
                 file,
                 offset,
@@ -352,7 +363,7 @@ impl PlainKernel {
         }
     }
 
-    // One edit of descriptions or processes.
+    // One edit of processes or descriptions.
     fn apply_to_processes(
         &mut self,
         heap: Heap,
@@ -360,6 +371,37 @@ impl PlainKernel {
         chosen: &[Num],
     ) -> Result<(), AllocError>
         requires { is_of_processes edit.now ≡ true }
+        ensures { OnOk result (self.new ≡ applied chosen.now edit.now self.old) }
+    {
+        match edit {
+            Edit::ShareSlot {
+                process,
+                descriptor,
+                description,
+                ..
+            } => self.set_slot(heap, *process, *descriptor, *description),
+            Edit::ClearSlot {
+                process,
+                descriptor,
+                ..
+            } => self.clear_slot(heap, *process, *descriptor),
+            Edit::NewProcess { child, parent, .. } => self.new_process(heap, *child, *parent),
+            Edit::EndProcess { process, .. } => {
+                drop(self.processes.remove(key_of(*process)));
+                Ok(())
+            }
+            _ => self.apply_to_descriptions(heap, edit, chosen),
+        }
+    }
+
+    // One edit of descriptions.
+    fn apply_to_descriptions(
+        &mut self,
+        heap: Heap,
+        edit: &Edit,
+        chosen: &[Num],
+    ) -> Result<(), AllocError>
+        requires { is_of_descriptions edit.now ≡ true }
         ensures { OnOk result (self.new ≡ applied chosen.now edit.now self.old) }
     {
         match edit {
@@ -389,22 +431,6 @@ impl PlainKernel {
                 let writing = made(chosen, *index as usize + 2);
                 let nums = (pipe, reading, writing);
                 self.make_pipe(heap, nums, *process, (*reader, *writer))
-            }
-            Edit::ShareSlot {
-                process,
-                descriptor,
-                description,
-                ..
-            } => self.set_slot(heap, *process, *descriptor, *description),
-            Edit::ClearSlot {
-                process,
-                descriptor,
-                ..
-            } => self.clear_slot(heap, *process, *descriptor),
-            Edit::NewProcess { child, parent, .. } => self.new_process(heap, *child, *parent),
-            Edit::EndProcess { process, .. } => {
-                drop(self.processes.remove(key_of(*process)));
-                Ok(())
             }
             _ => unreachable!(),
         }

@@ -1,5 +1,5 @@
 // A run of a history's committed calls on a plain kernel.
-ghost use Rattle.std.specs.Prelude.{◌≡◌, ◌<◌, ◌+◌, ◌^◌, ◌==◌, ℕ, List, [], length, drop};
+ghost use Rattle.std.specs.Prelude.{◌≡◌, ◌<◌, ◌+◌, ◌^◌, ◌==◌, ℕ, List, [], length};
 ghost use Rattle.std.specs.Prelude.{IfOk, MatchBool, MatchOption, MatchResult, OnOk, true, false};
 ghost use Rattle.std.specs.Prelude.{if◌then◌else◌, get_or, option_copied};
 ghost use Rattle.std.specs.List.{AllByRecursion};
@@ -16,9 +16,9 @@ ghost use Rattle.replay.specs.Failing.{IsStop};
 ghost use Rattle.replay.specs.Ran.{CannotRun, Follows, Ran, RanAt, StopsHere, StopsIn};
 ghost use Rattle.replay.specs.Ran.{StopsNow};
 ghost use Rattle.model.specs.Suits.{is_executed};
-ghost use Rattle.replay.specs.Transactions.{call_first, call_in, call_of, calls_at_positions};
+ghost use Rattle.replay.specs.Transactions.{call_in, call_of, calls_at_positions};
 ghost use Rattle.replay.specs.Transactions.{doomed_kept, next_kept, run_kept};
-ghost use Rattle.replay.specs.Windows.{CanSee, CanSeeAll, CanSeeAny, CanSeeEach, Shows};
+ghost use Rattle.replay.specs.Windows.{CanSeeAll, CanSeeAny, CanSeeEach, Shows};
 ghost use Rattle.replay.specs.declared.audit.Stop.TheVariants.{NoMemory};
 
 use crate::answers::is_reply;
@@ -129,28 +129,6 @@ impl PlainKernel {
         }
     }
 
-    // The executed call at this position, if there is one.
-    fn run_at(
-        &mut self,
-        heap: Heap,
-        pid: Pid,
-        window: &Window<'_>,
-        position: usize,
-    ) -> Result<bool, AllocError>
-        ghost es: { List Listed }
-        requires tidied { IsTidied self.old }
-        requires shows { Shows es window.now }
-        requires sees { CanSee window.now position }
-        ensures { IfOk result (λ right. MatchBool right
-            (Ran self.old pid (call_first (drop position es)) self.new)
-            (CannotRun self.old pid (call_first (drop position es)))) }
-    {
-        match window.entry(position) {
-            Some(entry) => self.run_entry(heap, pid, entry),
-            None => Ok(true),
-        }
-    }
-
     // The executed calls at these positions; where one is wrong, its position.
     fn run_all(
         &mut self,
@@ -168,9 +146,11 @@ impl PlainKernel {
             (StopsIn self.old pid es positions.now)) }
     {
         for position in positions {
-            let right = self.run_at(heap, pid, window, *position)?;
-            if !right {
-                return Ok(Some(*position));
+            if let Some(entry) = window.entry(*position) {
+                let right = self.run_entry(heap, pid, entry)?;
+                if !right {
+                    return Ok(Some(*position));
+                }
             }
         }
         Ok(None)
@@ -268,23 +248,15 @@ fn keep(
     }
 }
 
-// The process is doomed.
-fn doom(transactions: &mut Table<Transaction>, pid: Pid) -> Result<(), AllocError>
-    ensures { OnOk result ((q : ℕ) → get transactions.new q
-        ≡ (if q == pid then doomed_kept (get transactions.old q) else get transactions.old q)) }
-{
-    let kept = transactions.remove(key_of(pid));
-    keep(transactions, pid, doomed_kept(kept))
-}
-
-// These processes are.
+// These processes are doomed.
 fn doom_all(transactions: &mut Table<Transaction>, doomed: &[Pid]) -> Result<(), AllocError>
     ensures { OnOk result ((q : ℕ) → get transactions.new q
         ≡ (if is_in q doomed.now then doomed_kept (get transactions.old q)
         else get transactions.old q)) }
 {
     for pid in doomed {
-        doom(transactions, *pid)?;
+        let kept = transactions.remove(key_of(*pid));
+        keep(transactions, *pid, doomed_kept(kept))?;
     }
     Ok(())
 }

@@ -1,5 +1,5 @@
 // The check of a history that comes in parts.
-ghost use Rattle.std.specs.Prelude.{◌≡◌, ◌≢◌, ◌<◌, ◌≤◌, ◌++◌, ℕ, List, [], length, None, Some, IfOk, IfErr, OnOk};
+ghost use Rattle.std.specs.Prelude.{◌≡◌, ◌≢◌, ◌≤◌, ◌++◌, ℕ, List, [], None, Some, IfOk, IfErr, OnOk};
 ghost use Rattle.std.specs.List.{AllByRecursion};
 ghost use Rattle.model.specs.Entries.{Entry as Listed};
 ghost use Rattle.ids.specs.declared.limits.TheConstants.{DEFAULT_LARGEST_FILE, LARGEST_FILE};
@@ -10,7 +10,7 @@ ghost use Rattle.replay.specs.Added.{so_far};
 ghost use Rattle.replay.specs.Checked.{AreHeld, AreThere, Grows, HasChecked, IsFaultFor};
 ghost use Rattle.replay.specs.Failing.{IsStop};
 ghost use Rattle.replay.specs.SoFar.{Checked, with_more};
-ghost use Rattle.replay.specs.Windows.{CanKeep, CanKeepAll, CanSee, Shows};
+ghost use Rattle.replay.specs.Windows.{CanKeep, CanKeepAll, Shows};
 
 use crate::added::Added;
 use crate::audit::{Audit, Stop};
@@ -262,7 +262,7 @@ fn still_needed(
     }
 }
 
-// Keeps the entries of the calls of these transactions.
+// Keeps the entries of the calls of these transactions, of those that live.
 fn keep_each(
     kept: &mut Tree<Entry>,
     window: &Window<'_>,
@@ -276,29 +276,11 @@ fn keep_each(
     ensures there { OnOk result (AllByRecursion (λ slot. AreThere kept.new (Some slot.1)) slots.now) }
 {
     for slot in slots {
-        keep_calls(kept, window, &slot.1)?;
+        if let Transaction::Live(_, positions) = &slot.1 {
+            keep_all(kept, window, positions.as_slice())?;
+        }
     }
     Ok(())
-}
-
-// Keeps the entries of the calls of a transaction, if it lives.
-fn keep_calls(
-    kept: &mut Tree<Entry>,
-    window: &Window<'_>,
-    transaction: &Transaction,
-) -> Result<(), AllocError>
-    ghost es: { List Listed }
-    requires shows { Shows es window.now }
-    requires seen { CanKeep es window.now (Some transaction.now) }
-    requires held { AreHeld es kept.old }
-    ensures held { OnOk result (AreHeld es kept.new) }
-    ensures there { OnOk result (AreThere kept.new (Some transaction.now)) }
-    ensures grows { OnOk result (Grows kept.old kept.new) }
-{
-    match transaction {
-        Transaction::Live(_, positions) => keep_all(kept, window, positions.as_slice()),
-        Transaction::Doomed(_) => Ok(()),
-    }
 }
 
 // Keeps the entries at these positions.
@@ -316,24 +298,9 @@ fn keep_all(
     ensures grows { OnOk result (Grows kept.old kept.new) }
 {
     for position in positions {
-        keep(kept, window, *position)?;
+        if let Some(entry) = window.entry(*position) {
+            kept.set(Num(*position), entry.try_clone()?)?;
+        }
     }
     Ok(())
-}
-
-// Keeps the entry at a position.
-fn keep(kept: &mut Tree<Entry>, window: &Window<'_>, position: usize) -> Result<(), AllocError>
-    ghost es: { List Listed }
-    requires shows { Shows es window.now }
-    requires seen { CanSee window.now position }
-    requires low { position < length es }
-    requires held { AreHeld es kept.old }
-    ensures held { OnOk result (AreHeld es kept.new) }
-    ensures there { OnOk result (get kept.new position ≢ None) }
-    ensures grows { OnOk result (Grows kept.old kept.new) }
-{
-    match window.entry(position) {
-        Some(entry) => kept.set(Num(position), entry.try_clone()?),
-        None => Ok(()),
-    }
 }

@@ -2,8 +2,8 @@
 ghost use Rattle.std.specs.Prelude.{◌≡◌, ◌++◌, IfOk, OnOk, map, option_copied};
 ghost use Rattle.std.specs.List.{AllByRecursion};
 ghost use Rattle.model.specs.FiniteMap.{get, remove, values};
-ghost use Rattle.model.specs.Changes.{inode_replaced, or_new, process_of};
-ghost use Rattle.freeing_laws.specs.Counts.{free_description, free_inode, let_go, listed, unnamed};
+ghost use Rattle.model.specs.Changes.{or_new, process_of};
+ghost use Rattle.freeing_laws.specs.Counts.{let_go, listed, unnamed};
 ghost use Rattle.freeing_laws.specs.Sweep.{all_freed, freed, free_descriptions, free_inodes};
 ghost use Rattle.freeing_laws.specs.Sweep.{inodes_of, inode_in};
 ghost use Rattle.replay.specs.Edits.{EndsWithin};
@@ -63,39 +63,25 @@ impl PlainKernel {
         Ok(inodes)
     }
 
-    // A description goes if no descriptor gives it.
-    fn free_description(&mut self, num: Num)
-        ensures { self.new ≡ free_description num self.old }
-    {
-        if !self.is_held(num) {
-            let _before = self.descriptions.remove(num);
-        }
-    }
-
-    // Each of these goes so.
+    // Each of these descriptions goes if no descriptor gives it.
     fn free_descriptions(&mut self, nums: &[Num])
         ensures { self.new ≡ free_descriptions nums.now self.old }
     {
         for num in nums {
-            self.free_description(*num);
+            if !self.is_held(*num) {
+                let _before = self.descriptions.remove(*num);
+            }
         }
     }
 
-    // An inode goes if nothing gives it, and it is not the root.
-    fn free_inode(&mut self, num: Num)
-        ensures { self.new ≡ free_inode num self.old }
-    {
-        if !self.is_reached(num) {
-            self.inodes.remove(num);
-        }
-    }
-
-    // Each of these goes so.
+    // Each of these inodes goes if nothing gives it, and it is not the root.
     fn free_inodes(&mut self, nums: &[Num])
         ensures { self.new ≡ free_inodes nums.now self.old }
     {
         for num in nums {
-            self.free_inode(*num);
+            if !self.is_reached(*num) {
+                self.inodes.remove(*num);
+            }
         }
     }
 
@@ -179,17 +165,6 @@ fn listed(heap: Heap, num: Option<Num>) -> Result<Vec<Num, Heap>, AllocError>
     Ok(all)
 }
 
-// The inode of any kind whose name goes to what moves.
-fn replaced_by(replaced: &Replaced) -> Option<Num>
-    ensures { listed result ≡ inode_replaced replaced.now }
-{
-    match replaced {
-        Replaced::Nothing => None,
-        Replaced::File(num) => Some(*num),
-        Replaced::Directory(num) => Some(*num),
-    }
-}
-
 // The inodes that lose a name by an edit.
 fn unnamed(heap: Heap, edit: &Edit) -> Result<Vec<Num, Heap>, AllocError>
     ensures { IfOk result (λ all. all.items ≡ unnamed edit.now) }
@@ -197,7 +172,10 @@ fn unnamed(heap: Heap, edit: &Edit) -> Result<Vec<Num, Heap>, AllocError>
     match edit {
         Edit::UnnameFile { file, .. } => listed(heap, Some(*file)),
         Edit::UnnameDirectory { directory, .. } => listed(heap, Some(*directory)),
-        Edit::Move { replaced, .. } => listed(heap, replaced_by(replaced)),
+        Edit::Move {
+            replaced: Replaced::File(num) | Replaced::Directory(num),
+            ..
+        } => listed(heap, Some(*num)),
         _ => Ok(Vec::new(heap)),
     }
 }

@@ -1,6 +1,6 @@
 // All inodes, with how many names give each number: so a number's names are counted in few steps,
 // and no name is looked for.
-ghost use Rattle.std.specs.Prelude.{◌≡◌, ℕ, ◌+◌, ◌-◌, ◌==◌, nat_lt, cond, IfOk, OnOk, Some, []};
+ghost use Rattle.std.specs.Prelude.{◌≡◌, ℕ, ◌+◌, ◌-◌, ◌==◌, cond, IfOk, OnOk, Some, []};
 ghost use Rattle.std.specs.Prelude.{option_copied};
 ghost use Rattle.model.specs.FiniteMap as map;
 ghost use Rattle.model.specs.State.{File as A_file, Directory as A_directory, names_of_inode};
@@ -65,13 +65,6 @@ impl Inodes {
         ensures { result ≡ given_by_all self.now num }
     {
         count_of(&self.counts, num)
-    }
-
-    // Whether a name gives a number.
-    pub(crate) fn is_named(&self, num: Num) -> bool
-        ensures { result ≡ nat_lt 0 (given_by_all self.now num) }
-    {
-        self.count(num) > 0
     }
 
     // A number gets an inode without names. It gives the one before.
@@ -156,25 +149,6 @@ fn names_taken(each: &mut Tree<Inode>, heap: Heap, dir: Num) -> Result<Names, Al
     Ok(names_out(heap, inode))
 }
 
-// A name of a directory gives a number. It gives what the name gave before.
-fn give_name(
-    each: &mut Tree<Inode>,
-    heap: Heap,
-    dir: Num,
-    name: &Name,
-    num: Num,
-) -> Result<Option<Num>, AllocError>
-    ensures changed { OnOk result (each.new ≡ map.insert each.old dir
-        (A_directory (map.insert (names_of_inode (map.get each.old dir)) name.now num))) }
-    ensures before { IfOk result
-        (λ before. before ≡ map.get (names_of_inode (map.get each.old dir)) name.now) }
-{
-    let mut names = names_taken(each, heap, dir)?;
-    let before = names.insert(name, num)?;
-    each.set(dir, Inode::directory(names))?;
-    Ok(before)
-}
-
 // A name of a directory gives nothing any more. It gives what the name gave before.
 fn take_name(
     each: &mut Tree<Inode>,
@@ -208,8 +182,11 @@ fn set_name(
         ≡ count_at counts.old n + cond (num == n) 1 0
         - given_once n (map.get (names_of_inode (map.get each.old dir)) name.now)) }
 {
-    let before = give_name(each, heap, dir, name, num)?;
-    gain(counts, num)?;
+    let mut names = names_taken(each, heap, dir)?;
+    let before = names.insert(name, num)?;
+    each.set(dir, Inode::directory(names))?;
+    let more = counted(count_of(counts, num), 1)?;
+    counts.set(num, more)?;
     lose_some(counts, before);
     Ok(())
 }
@@ -222,15 +199,6 @@ fn count_of(counts: &Tree<usize>, num: Num) -> usize
         Some(count) => *count,
         None => 0,
     }
-}
-
-// One name more gives a number.
-fn gain(counts: &mut Tree<usize>, num: Num) -> Result<(), AllocError>
-    ensures { OnOk result ((n : ℕ)
-        → count_at counts.new n ≡ count_at counts.old n + cond (num == n) 1 0) }
-{
-    let more = counted(count_of(counts, num), 1)?;
-    counts.set(num, more)
 }
 
 // One name less gives a number. What counts 0 is not kept.

@@ -1,6 +1,6 @@
 //! The replay checker: it audits a stored history by a plain kernel of whole maps, which has no
-//! transactions, and shares with the kernel that wrote the history the calls' plans and how a file's
-//! bytes are held.
+//! transactions. With the kernel that wrote the history it shares what a call comes to (`calls`) and
+//! how a file's bytes are stored (`objects::FileData`); all else of the run is its own.
 #![tactic(auto)]
 
 ghost use Rattle.model.specs.Passing.{LegalHistoriesPass};

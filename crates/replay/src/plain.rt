@@ -1,7 +1,6 @@
 // The plain kernel: whole maps. How many names give each number is counted as names come and go;
 // openings and holders are counted when they are asked for.
-ghost use Rattle.std.specs.Prelude.{◌≡◌, ◌+◌, ◌==◌, nat_lt, IfOk, Some, None, map, option_copied};
-ghost use Rattle.std.specs.List.{list_any, sum_by};
+ghost use Rattle.std.specs.Prelude.{◌≡◌, ◌+◌, nat_lt, IfOk, Some, None, option_copied};
 ghost use Rattle.model.specs.FiniteMap.{get};
 ghost use Rattle.model.specs.State.{Kernel, Description as Opened, ends, is_end, links, kind_of};
 ghost use Rattle.model.specs.Calls.{slot_of};
@@ -163,14 +162,22 @@ impl PlainKernel {
     fn open_ends(&self, pipe: Num, writing: bool) -> Result<u32, AllocError>
         ensures { IfOk result (λ n. n ≡ ends self.now pipe (is_open writing)) }
     {
-        ends_in(self.processes.as_slice(), &self.descriptions, pipe, writing)
+        let processes = self.processes.as_slice();
+        let mut count = 0;
+        for slot in processes {
+            count = counted(count, slot.1.open_ends(&self.descriptions, pipe, writing))?;
+        }
+        small(count)
     }
 
     // Whether a descriptor gives a description.
     pub(crate) fn is_held(&self, description: Num) -> bool
         ensures { result ≡ is_held self.now description }
     {
-        is_held_in(self.processes.as_slice(), description)
+        self.processes
+            .as_slice()
+            .iter()
+            .any(|slot| slot.1.holds(description))
     }
 
     // Whether an inode is the root, or a name or a description gives it.
@@ -178,8 +185,12 @@ impl PlainKernel {
         ensures { result ≡ is_reached self.now inode }
     {
         inode == self.root
-            || self.inodes.is_named(inode)
-            || is_opened_in(self.descriptions.as_slice(), inode)
+            || self.inodes.count(inode) > 0
+            || self
+                .descriptions
+                .as_slice()
+                .iter()
+                .any(|slot| slot.1.inode == inode)
     }
 }
 
@@ -203,26 +214,15 @@ pub(crate) fn counted(so_far: usize, more: usize) -> Result<usize, AllocError>
     }
 }
 
-// Whether one of these descriptions is of an inode.
-fn is_opened_in(descriptions: &[(Num, Description)], inode: Num) -> bool
-    ensures { result ≡ list_any (λ e. e.1.inode == inode) descriptions.now }
-{
-    descriptions.iter().any(|slot| slot.1.inode == inode)
-}
-
-// Whether a descriptor of these processes gives a description.
-fn is_held_in(processes: &[(Num, Process)], description: Num) -> bool
-    ensures { result ≡ list_any (λ e. nat_lt 0 (held_by description e.1)) processes.now }
-{
-    processes.iter().any(|slot| slot.1.holds(description))
-}
-
 impl Process {
     // Whether a descriptor of it gives a description.
     fn holds(&self, description: Num) -> bool
         ensures { result ≡ nat_lt 0 (held_by description self.now) }
     {
-        is_given_in(self.table.as_slice(), description)
+        self.table
+            .as_slice()
+            .iter()
+            .any(|slot| slot.1 == description)
     }
 
     // How many of its descriptors are open so on a pipe.
@@ -238,47 +238,21 @@ impl Process {
     }
 }
 
-// Whether one of these descriptors gives a description.
-fn is_given_in(slots: &[(Num, Num)], description: Num) -> bool
-    ensures { result ≡ list_any (λ e. e.1 == description) slots.now }
-{
-    slots.iter().any(|slot| slot.1 == description)
-}
-
 // Whether a description is of a pipe, and open to write, or to read.
 fn is_end(description: Option<&Description>, pipe: Num, writing: bool) -> bool
     ensures { result ≡ is_end (is_open writing) pipe (option_copied description.entry) }
 {
     match description {
-        Some(description) => { description.inode == pipe && description.is_open(writing) }
+        Some(description) => {
+            let is_open = if writing {
+                description.writing
+            } else {
+                description.reading
+            };
+            description.inode == pipe && is_open
+        }
         None => false,
     }
-}
-
-impl Description {
-    // Whether it is open to write, or to read.
-    fn is_open(&self, writing: bool) -> bool
-        ensures { result ≡ is_open writing self.now }
-    {
-        if writing { self.writing } else { self.reading }
-    }
-}
-
-// How many descriptors of these processes are open so on a pipe.
-fn ends_in(
-    processes: &[(Num, Process)],
-    descriptions: &Table<Description>,
-    pipe: Num,
-    writing: bool,
-) -> Result<u32, AllocError>
-    ensures { (k : Kernel) → k.descriptions ≡ descriptions.now
-        → IfOk result (λ n. n ≡ sum_by (ended_by k pipe writing) (map (λ e. e.1) processes.now)) }
-{
-    let mut count = 0;
-    for slot in processes {
-        count = counted(count, slot.1.open_ends(descriptions, pipe, writing))?;
-    }
-    small(count)
 }
 
 impl Look for PlainKernel {
@@ -366,10 +340,15 @@ impl Look for PlainKernel {
     }
 
     fn table(&self, heap: Heap, pid: Pid) -> Result<Vec<(Fd, Slot), Heap>, AllocError> {
-        match self.processes.get(key_of(pid)) {
-            Some(process) => self.slots_of(heap, process.table.as_slice()),
-            None => Ok(Vec::new(heap)),
+        let Some(process) = self.processes.get(key_of(pid)) else {
+            return Ok(Vec::new(heap));
+        };
+        let slots = process.table.as_slice();
+        let mut all = Vec::with_capacity(heap, slots.len())?;
+        for (fd, description) in slots {
+            all.push((Fd(small(fd.0)?), self.described(*description)))?;
         }
+        Ok(all)
     }
 
     fn birth(&self, pid: Pid) -> Result<(u32, u8), AllocError> {
@@ -377,23 +356,5 @@ impl Look for PlainKernel {
             Some(process) => Ok((self.made, process.priority)),
             None => Ok((self.made, 0)),
         }
-    }
-}
-
-impl PlainKernel {
-    // These descriptors with what never changes of their descriptions.
-    fn slots_of(
-        &self,
-        heap: Heap,
-        slots: &[(Num, Num)],
-    ) -> Result<Vec<(Fd, Slot), Heap>, AllocError>
-        ensures { IfOk result (λ a. a.items
-            ≡ map (λ e. (e.0, slot_of self.now e.1 (get self.now.descriptions e.1))) slots.now) }
-    {
-        let mut all = Vec::with_capacity(heap, slots.len())?;
-        for (fd, description) in slots {
-            all.push((Fd(small(fd.0)?), self.described(*description)))?;
-        }
-        Ok(all)
     }
 }

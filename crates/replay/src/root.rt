@@ -1,5 +1,5 @@
 // The number of the root, which a history tells by a `stat` of it alone.
-ghost use Rattle.std.specs.Prelude.{◌≡◌, ◌≢◌, ◌++◌, ◌∷◌, ℕ, List, [], All, IfOk, OnOk, Some};
+ghost use Rattle.std.specs.Prelude.{◌≡◌, ◌≢◌, ◌∷◌, ℕ, List, [], All, IfOk, Some};
 ghost use Rattle.std.specs.List.{AllByRecursion};
 ghost use Rattle.std.specs.List.Sorted.{IsNonDecreasing};
 ghost use Rattle.model.specs.Entries.{Executed};
@@ -27,18 +27,12 @@ fn all_chosen(heap: Heap, entries: &[Entry]) -> Result<Vec<usize, Heap>, AllocEr
 {
     let mut all = Vec::new(heap);
     for entry in entries {
-        add_all(&mut all, entry.chosen.as_slice())?;
+        let chosen = entry.chosen.as_slice();
+        for num in chosen {
+            all.push(num.0)?;
+        }
     }
     Ok(all)
-}
-
-fn add_all(all: &mut Vec<usize, Heap>, nums: &[Num]) -> Result<(), AllocError>
-    ensures { OnOk result (all.new.items ≡ all.old.items ++ nums.now) }
-{
-    for num in nums {
-        all.push(num.0)?;
-    }
-    Ok(())
 }
 
 // The first number that stands nowhere in a list that rises.

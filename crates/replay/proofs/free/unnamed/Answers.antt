@@ -8,6 +8,3 @@ returns-in-UnnameFile c = ok_then c.listed.result c.listed.ensures (λ all h. h 
 
 pub returns-in-UnnameDirectory : goal.returns-in-UnnameDirectory
 returns-in-UnnameDirectory c = ok_then c.listed-in-UnnameDirectory.result c.listed-in-UnnameDirectory.ensures (λ all h. h ∙ ap unnamed (sym c.in-UnnameDirectory.is))
-
-pub returns-in-Move : goal.returns-in-Move
-returns-in-Move c = ok_then c.listed-in-Move.result c.listed-in-Move.ensures (λ all h. h ∙ c.replaced_by.ensures ∙ ap unnamed (sym c.in-Move.is))

@@ -1,7 +1,6 @@
 use Rattle.std.proofs.Common.{ap, ◌∙◌}
 use Rattle.model.specs.Changes.{set_name}
-use Rattle.replay.proofs.Edited.{appends, cuts, edited, makes_directory, makes_file, moves, names_file, puts, takes, unnames_directory, unnames_file}
-use Rattle.replay.proofs.Ends.{cut_ends, put_ends}
+use Rattle.replay.proofs.Edited.{edited, makes_directory, makes_file, moves, names_file, unnames_directory, unnames_file}
 use Rattle.replay.proofs.Setting.{if_ok}
 use Rattle.replay.proofs.plain.PlainKernel.apply.Goals as goal
 
@@ -23,21 +22,3 @@ returns-in-UnnameDirectory c = if_ok c.clear_name-in-UnnameDirectory.result c.cl
 pub returns-in_ok-clear_name-in-Move : goal.returns-in_ok-clear_name-in-Move
 returns-in_ok-clear_name-in-Move c = if_ok c.set_name-in-Move.result c.set_name-in-Move.ensures (λ h. edited _ _ _ _ _ c.in-Move.is (moves _ _ _ _ _ _ _ _ _
     (h ∙ ap (set_name c.in-Move.to c.in-Move.new_name c.in-Move.inode) c.in_ok-clear_name-in-Move.ensures)))
-
-pub returns-in-PutBytes : goal.returns-in-PutBytes
-returns-in-PutBytes c = if_ok c.put.result c.put.ensures (λ h. edited _ _ _ _ _ c.in-PutBytes.is (puts _ _ _ _ _ _ _ _ c.as_slice.ensures h))
-
-pub returns-in-Cut : goal.returns-in-Cut
-returns-in-Cut c = if_ok c.cut.result c.cut.ensures (λ h. edited _ _ _ _ _ c.in-Cut.is (cuts _ _ _ _ _ _ h))
-
-pub returns-in-Take : goal.returns-in-Take
-returns-in-Take c = if_ok c.take.result c.take.ensures (λ h. edited _ _ _ _ _ c.in-Take.is (takes _ _ _ _ _ h))
-
-pub returns-in-Append : goal.returns-in-Append
-returns-in-Append c = if_ok c.append.result c.append.ensures (λ h. edited _ _ _ _ _ c.in-Append.is (appends _ _ _ _ _ _ c.as_slice-in-Append.ensures h))
-
-pub put-requires : goal.put-requires
-put-requires c = put_ends _ _ _ _ _ _ c.in-PutBytes.is c.as_slice.ensures c.requires
-
-pub cut-requires : goal.cut-requires
-cut-requires c = cut_ends _ _ _ _ c.in-Cut.is c.requires

@@ -1,5 +1,7 @@
-use Rattle.std.proofs.Common.{◌≡◌, ◌||◌, ◌==◌, nat_lt, List, ℕ, sym, ap, ◌∙◌}
+use Rattle.std.proofs.Common.{◌≡◌, ◌||◌, ◌==◌, nat_lt, List, ℕ, sym, ap, ◌∙◌, rules, tests}
 use Rattle.std.specs.List.{list_any}
+use Rattle.std.proofs.lemmas.Iterator.{YieldsList-from_slice}
+use Rattle.std.proofs.lemmas.Iterator.Search.{any_from_yields_List}
 use Rattle.model.specs.FiniteMap.{entries}
 use Rattle.model.specs.State.{Description}
 use Rattle.replay.specs.Counts.{given_by_all}
@@ -8,27 +10,28 @@ use Rattle.replay.proofs.Looking.{named, reached_early, reached_late}
 use Rattle.replay.proofs.plain.PlainKernel.is_reached.Goals as goal
 use Rattle.replay.proofs.plain.PlainKernel.is_reached.Goals.{then-eq, else-eq}
 
-pub returns-then-is_named : goal.returns-then-is_named
-returns-then-is_named c =
+pub returns-then-count-gt0 : goal.returns-then-count-gt0
+returns-then-count-gt0 c =
     let k = c.args.self.now in
     let n : ℕ = c.args.inode in
     let told : c.if-eq.value ≡ ((n == c.self.inside.root) || named k n) = elim c.if-eq.branch [
       | then-eq w ↦ w.value-is ∙ w.if-eq.true ∙ ap (λ b. b || named k n) w.if-eq.ensures
-      | else-eq w ↦ w.value-is ∙ w.is_named.ensures
+      | else-eq w ↦ w.value-is ∙ ap (nat_lt 0) w.count.ensures
           ∙ ap (λ k. nat_lt 0 (given_by_all k.inodes n)) c.self.view_is ∙ ap (nat_lt 0) (sym (links_is k n))
           ∙ ap (λ b. b || named k n) w.if-eq.ensures
     ] in
-    c.if-is_named.true ∙ reached_early k n c.self.inside.root c.if-eq.value (ap (λ k. k.root) c.self.view_is) told c.if-is_named.true
+    c.if-count-gt0.true ∙ reached_early k n c.self.inside.root c.if-eq.value (ap (λ k. k.root) c.self.view_is) told c.if-count-gt0.true
 
-pub returns-else-is_named : goal.returns-else-is_named
-returns-else-is_named c =
+pub returns-else-count-gt0 : goal.returns-else-count-gt0
+returns-else-count-gt0 c =
     let k = c.args.self.now in
     let n : ℕ = c.args.inode in
     let told : c.if-eq.value ≡ ((n == c.self.inside.root) || named k n) = elim c.if-eq.branch [
       | then-eq w ↦ w.value-is ∙ w.if-eq.true ∙ ap (λ b. b || named k n) w.if-eq.ensures
-      | else-eq w ↦ w.value-is ∙ w.is_named.ensures
+      | else-eq w ↦ w.value-is ∙ ap (nat_lt 0) w.count.ensures
           ∙ ap (λ k. nat_lt 0 (given_by_all k.inodes n)) c.self.view_is ∙ ap (nat_lt 0) (sym (links_is k n))
           ∙ ap (λ b. b || named k n) w.if-eq.ensures
     ] in
-    reached_late k n c.self.inside.root c.if-eq.value (ap (λ k. k.root) c.self.view_is) told c.is_opened_in.result c.if-is_named.false
-    (c.is_opened_in.ensures ∙ ap (λ (es : List (ℕ × Description)). list_any (λ e. e.1.inode == n) es) (c.as_slice.ensures ∙ ap (λ k. entries k.descriptions) c.self.view_is))
+    let any : c.any.result ≡ list_any (λ e. e.1.inode == n) c.as_slice.result.now = any_from_yields_List (λ e. e.1.inode == n) _ _ _ c.any.ensures.ran (YieldsList-from_slice c.as_slice.result.now cc) (λ x b q k. search (rules, tests)) in
+    reached_late k n c.self.inside.root c.if-eq.value (ap (λ k. k.root) c.self.view_is) told c.any.result c.if-count-gt0.false
+    (any ∙ ap (λ (es : List (ℕ × Description)). list_any (λ e. e.1.inode == n) es) (c.as_slice.ensures ∙ ap (λ k. entries k.descriptions) c.self.view_is))

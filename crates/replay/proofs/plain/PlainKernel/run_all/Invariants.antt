@@ -3,8 +3,5 @@ use Rattle.replay.specs.Ran.{Ran}
 use Rattle.replay.specs.Transactions.{calls_at_positions}
 use Rattle.replay.proofs.plain.PlainKernel.run_all.Given as goal
 
-abbrev pub ghost-run_at : goal.ghost-run_at
-ghost-run_at g a = g.es
-
 abbrev pub invariant-loop-position : goal.invariant-loop-position
 invariant-loop-position g l = Ran l.fn.self l.pid (calls_at_positions g.es (take l.position-index l.positions)) l.self

@@ -1,8 +1,0 @@
-use Rattle.std.proofs.Common.{◌≡◌, map, take}
-use Rattle.std.specs.List.{sum_by}
-use Rattle.model.specs.State.{Kernel}
-use Rattle.replay.specs.Counts.{ended_by}
-use Rattle.replay.proofs.plain.ends_in.Given as goal
-
-abbrev pub invariant-loop-slot : goal.invariant-loop-slot
-invariant-loop-slot l = (k : Kernel) → k.descriptions ≡ l.descriptions → l.count ≡ sum_by (ended_by k l.pipe l.writing) (map (λ e. e.1) (take l.slot-index l.processes))
