@@ -39,6 +39,7 @@ impl Tables {
         ensures bound { bound hand.new ≡ bound hand.old }
         ensures answers { AnswersOpenDir self.old self.new hand.old.pid node
             hand.old.shown hand.new.shown result }
+        ensures views { self.new.views ≡ self.old.views }
     {
         let Located { view: _, path } = self.locate_own(node)?;
         let list = course::list(hand, path)?;
@@ -83,6 +84,7 @@ impl Tables {
         ensures bound { bound hand.new ≡ bound hand.old }
         ensures refreshes { Refreshes self.old self.new hand.old.pid handle node path
             hand.old.shown hand.new.shown result }
+        ensures views { self.new.views ≡ self.old.views }
     {
         let Some(path) = path else {
             self.folders.mark(handle);
@@ -114,6 +116,7 @@ impl Tables {
         ensures bound { bound hand.new ≡ bound hand.old }
         ensures answers { AnswersReadDir self.old hand.old.pid wanted.handle wanted.offset
             hand.old.shown hand.new.shown result }
+        ensures views { self.new.views ≡ self.old.views }
     {
         let (node, path) = self.plan_list(wanted.handle, wanted.offset)?;
         self.refresh(hand, wanted.handle, node, path)?;
@@ -131,6 +134,7 @@ impl Tables {
         ensures bound { bound hand.new ≡ bound hand.old }
         ensures answers { AnswersReadDirPlus self.old hand.old.pid wanted.handle wanted.offset
             hand.old.shown hand.new.shown result }
+        ensures views { self.new.views ≡ self.old.views }
     {
         let (node, path) = self.plan_list(wanted.handle, wanted.offset)?;
         self.refresh(hand, wanted.handle, node, path)?;
@@ -144,7 +148,9 @@ impl Tables {
     }
 
     // Closes a directory.
-    pub(crate) fn close_folder(&mut self, handle: u64) -> Reply {
+    pub(crate) fn close_folder(&mut self, handle: u64) -> Reply
+        ensures { self.new.views ≡ self.old.views }
+    {
         self.folders.remove(handle);
         Reply::Empty
     }

@@ -50,7 +50,9 @@ impl Tables {
     }
 
     // A name was taken away.
-    fn note_removed(&mut self, node: u64, removed: &DirectoryEntry) {
+    fn note_removed(&mut self, node: u64, removed: &DirectoryEntry)
+        ensures { self.new.views ≡ self.old.views }
+    {
         self.nodes.detach(removed);
         self.note_names(node);
     }
@@ -65,6 +67,7 @@ impl Tables {
         ensures bound { bound hand.new ≡ bound hand.old }
         ensures answers { AnswersUnlink self.old hand.old.pid node name.now
             hand.old.shown hand.new.shown result }
+        ensures views { self.new.views ≡ self.old.views }
     {
         let Located { view: _, path } = self.locate_new(node, name)?;
         let removed = self.entry_of_name(node, name)?;
@@ -93,6 +96,7 @@ impl Tables {
         ensures bound { bound hand.new ≡ bound hand.old }
         ensures answers { AnswersRmDir self.old hand.old.pid node name.now
             hand.old.shown hand.new.shown result }
+        ensures views { self.new.views ≡ self.old.views }
     {
         let Located { view: _, path } = self.plan_removal(node, name)?;
         let removed = self.entry_of_name(node, name)?;
@@ -132,6 +136,7 @@ impl Tables {
         ensures bound { bound hand.new ≡ bound hand.old }
         ensures answers { AnswersRename self.old hand.old.pid node name.now new_parent new_name.now
             flags hand.old.shown hand.new.shown result }
+        ensures views { self.new.views ≡ self.old.views }
     {
         let (Pair { from, to }, absent) = self.plan_move(node, name, new_parent, new_name, flags)?;
         let again = copy_if(absent, &to)?;
