@@ -1,5 +1,5 @@
 -- What is known of nodes, views and open files: where a node is, and how its object is found.
-use Rattle.std.specs.Prelude.{◌≡◌, ℕ, ◌==◌, ◌&&◌, ◌++◌, ◌∷◌, [], List, Bool}
+use Rattle.std.specs.Prelude.{◌≡◌, ◌≢◌, ℕ, ◌==◌, ◌&&◌, ◌++◌, ◌∷◌, [], List, Bool}
 use Rattle.std.specs.Prelude.{Option, Some, None, is_some, option_map, option_and_then, codes, filter, not}
 use Rattle.std.specs.Prelude.{Result, Ok, Err, if◌then◌else◌}
 use Rattle.std.specs.BTreeMap.{BTreeMap, get}
@@ -110,6 +110,11 @@ abbrev pub inode_of : Tables → ℕ → ℕ
 inode_of t node = inode_by (map.get t.nodes.table.nodes node)
 
 -- ---- open files
+
+-- what stands under all numbers but one stays as it is
+abbrev pub StayOthers : {A : Type 0} → BTreeMap ℕ A → BTreeMap ℕ A → ℕ → Type 0
+StayOthers old new number =
+    (other : ℕ) → other ≢ number → get nat_cmp new other ≡ get nat_cmp old other
 
 -- the open file of a number
 abbrev pub file_at : Tables → ℕ → Option OpenFile
