@@ -3,7 +3,7 @@ ghost use Rattle.std.specs.Prelude.{◌≡◌, ◌==◌, ◌&&◌, ◌++◌, ◌
 ghost use Rattle.std.specs.Prelude.{OnOk};
 ghost use Rattle.std.specs.BTreeMap.{get};
 ghost use Rattle.std.specs.Ordering.{nat_cmp};
-ghost use Rattle.mounted.specs.Found.{StayOthers, names_by, shown_names, told_of};
+ghost use Rattle.mounted.specs.Found.{StayOthers, WasRead, names_by, shown_names, told_of};
 
 use crate::numbers::is_reserved;
 use heap::Heap;
@@ -139,8 +139,10 @@ impl Folders {
 
     // Its names were taken anew, and are read.
     pub(crate) fn renew(&mut self, handle: u64, names: Vec<Name, Heap>)
-        ensures { is_some (get nat_cmp self.old.each handle) ≡ true
+        ensures names { is_some (get nat_cmp self.old.each handle) ≡ true
             → names_by (get nat_cmp self.new.each handle) ≡ names.entry.items }
+        ensures read { WasRead (get nat_cmp self.new.each handle) }
+        ensures others { StayOthers self.old.each self.new.each handle }
     {
         if let Some(folder) = self.each.get_mut(&handle) {
             folder.names = names;
@@ -150,8 +152,10 @@ impl Folders {
 
     // Its names are read.
     pub(crate) fn mark(&mut self, handle: u64)
-        ensures { names_by (get nat_cmp self.new.each handle)
+        ensures names { names_by (get nat_cmp self.new.each handle)
             ≡ names_by (get nat_cmp self.old.each handle) }
+        ensures read { WasRead (get nat_cmp self.new.each handle) }
+        ensures others { StayOthers self.old.each self.new.each handle }
     {
         if let Some(folder) = self.each.get_mut(&handle) {
             folder.was_read = true;
