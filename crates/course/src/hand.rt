@@ -1,5 +1,5 @@
 // A process of a kernel, with which a request steps.
-ghost use Rattle.std.specs.Prelude.{◌≡◌, true, false};
+ghost use Rattle.std.specs.Prelude.{◌≡◌, ◌<◌, ◌^◌, ◌↔◌, length, true, false};
 ghost use Rattle.machine.specs.Shown.{Kept, limit_of, setup_of};
 ghost use Rattle.machine.specs.Steps.{forgetting};
 ghost use Rattle.history_laws.specs.Headline.{IsSerializable};
@@ -91,10 +91,11 @@ impl<K: Machine> Hand<K> {
     }
 
     /// What is kept of the history is forgotten, and its memory given back. False, and nothing has
-    /// changed, where 2^63 entries or more would be forgotten then.
+    /// changed, exactly where 2^63 entries or more would be forgotten then.
     pub fn forget(&mut self) -> bool
         ensures bound { bound self.new ≡ bound self.old }
         ensures entries { self.new.shown.log.entries ≡ self.old.shown.log.entries }
+        ensures exactly { (result ≡ true) ↔ (length self.old.shown.log.entries < 2 ^ 63) }
         ensures yes { result ≡ true → self.new.shown ≡ forgetting self.old.shown }
         ensures no { result ≡ false → self.new.shown ≡ self.old.shown }
     {

@@ -1,7 +1,7 @@
 -- What is known of nodes, views and open files: where a node is, and how its object is found.
-use Rattle.std.specs.Prelude.{◌≡◌, ℕ, ◌==◌, ◌&&◌, ◌++◌, ◌∷◌, [], List, Bool}
+use Rattle.std.specs.Prelude.{◌≡◌, ◌≢◌, ℕ, ◌==◌, ◌&&◌, ◌++◌, ◌∷◌, [], List, Bool}
 use Rattle.std.specs.Prelude.{Option, Some, None, is_some, option_map, option_and_then, codes, filter, not}
-use Rattle.std.specs.Prelude.{Result, Ok, Err, if◌then◌else◌}
+use Rattle.std.specs.Prelude.{Result, Ok, Err, IfSome, true, if◌then◌else◌}
 use Rattle.std.specs.BTreeMap.{BTreeMap, get}
 use Rattle.std.specs.Ordering.{nat_cmp, ordering_then}
 use Rattle.std.specs.Str.{bytes_eq}
@@ -111,6 +111,11 @@ inode_of t node = inode_by (map.get t.nodes.table.nodes node)
 
 -- ---- open files
 
+-- what stands under all numbers but one stays as it is
+abbrev pub StayOthers : {A : Type 0} → BTreeMap ℕ A → BTreeMap ℕ A → ℕ → Type 0
+StayOthers old new number =
+    (other : ℕ) → other ≢ number → get nat_cmp new other ≡ get nat_cmp old other
+
 -- the open file of a number
 abbrev pub file_at : Tables → ℕ → Option OpenFile
 file_at t handle = get nat_cmp t.files.each handle
@@ -168,6 +173,10 @@ shown_names node names = filter (λ name. not (is_reserved node name)) names
 abbrev pub names_by : Option Folder → List (List ℕ)
 names_by (Some folder) = folder.names.items
 names_by None = []
+
+-- its names were read since they were taken, so a list from the start takes them anew
+abbrev pub WasRead : Option Folder → Type 0
+WasRead folder = IfSome folder (λ (f : Folder). f.was_read ≡ true)
 
 -- its node and its names
 abbrev pub told_of : Folder → ℕ × List (List ℕ)

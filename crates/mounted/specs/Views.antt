@@ -1,5 +1,5 @@
 -- The transactions that are mounted, by their numbers and by their names.
-use Rattle.std.specs.Prelude.{◌≡◌, ℕ, List, Option, Some, Bool, true, false, IfSome, option_and_then, option_map}
+use Rattle.std.specs.Prelude.{◌≡◌, ◌≢◌, ℕ, List, Option, Some, Bool, true, false, IfSome, option_and_then, option_map}
 use Rattle.std.specs.BTreeMap.{BTreeMap, get, get_by}
 use Rattle.std.specs.Ordering.{nat_cmp}
 use Rattle.std.specs.Cmp.Lexicographic.{slice_cmp}
@@ -44,6 +44,21 @@ is_live GivenUp = false
 -- nobody steps in a view any more
 abbrev pub IsOver : BTreeMap ℕ View → ℕ → Type 0
 IsOver views number = IfSome (numbered views number) (λ (v : View). is_live v.state ≡ false)
+
+-- a view stays with its process, and once it is over it does not go on again
+pub record IsSameView (old new : View) : Type 0 where
+  pub pid : new.pid ≡ old.pid
+  pub level : new.level ≡ old.level
+  pub over : is_live old.state ≡ false → is_live new.state ≡ false
+
+-- All views but one stay as they are. That one may be new, may go, and else is the same.
+pub record KeepsOthers (old new : BTreeMap ℕ View) (number : ℕ) : Type 0 where
+  pub others : (other : ℕ) → other ≢ number → numbered new other ≡ numbered old other
+  pub own : (v w : View) → numbered old number ≡ Some v → numbered new number ≡ Some w
+      → IsSameView v w
+
+abbrev pub KeepsViews : BTreeMap ℕ View → BTreeMap ℕ View → Type 0
+KeepsViews old new = (number : ℕ) × KeepsOthers old new number
 
 -- a transaction of a process goes on, and has this number and name
 pub record IsView (views : Views) (number : ℕ) (name : List ℕ) (pid : ℕ) : Type 0 where

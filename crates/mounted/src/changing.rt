@@ -74,6 +74,7 @@ impl Tables {
         ensures bound { bound hand.new ≡ bound hand.old }
         ensures answers { AnswersSetAttr self.old hand.old.pid node changes.now
             hand.old.shown hand.new.shown result }
+        ensures views { self.new.views ≡ self.old.views }
     {
         let setting = self.plan_setting(hand.pid(), node, changes.size)?;
         self.attributes.hear_changes(changes);

@@ -4,7 +4,7 @@ ghost use Rattle.course.specs.Course.{Ran};
 ghost use Rattle.course.specs.Hands.{bound};
 ghost use Rattle.mounted.specs.Controls.{IsEnded, Learns, Orders, ReadsBy, ServesControl, ShowsText};
 ghost use Rattle.mounted.specs.Controls.{obeying, order_by, ordered, state_by, text_by, text_of, word_in};
-ghost use Rattle.mounted.specs.Views.{numbered, standing_at};
+ghost use Rattle.mounted.specs.Views.{KeepsOthers, KeepsViews, numbered, standing_at};
 
 use crate::numbers::control_node;
 use crate::server::Server;
@@ -141,8 +141,10 @@ impl Tables {
 impl<K: Machine> Server<K> {
     // A process whose transaction was doomed learns of it, and its view with it.
     fn learn(&mut self, standing: Standing)
-        ensures { Learns standing.state self.new.tables.views.each standing.number standing.pid
-            self.old.hand.shown self.new.hand.shown }
+        ensures learns { Learns standing.state self.new.tables.views.each standing.number
+            standing.pid self.old.hand.shown self.new.hand.shown }
+        ensures keeps { KeepsOthers self.old.tables.views.each self.new.tables.views.each
+            standing.number }
     {
         match standing.state {
             State::Live => {
@@ -162,8 +164,10 @@ impl<K: Machine> Server<K> {
 
     // Reads the file.
     fn read_control(&mut self, view: u64, offset: u64, size: u32) -> Result<Reply, Fault>
-        ensures { ReadsBy (standing_at self.old.tables.views.each view) self.new.tables.views.each
-            view offset size self.old.hand.shown self.new.hand.shown result }
+        ensures reads { ReadsBy (standing_at self.old.tables.views.each view)
+            self.new.tables.views.each view offset size
+            self.old.hand.shown self.new.hand.shown result }
+        ensures keeps { KeepsViews self.old.tables.views.each self.new.tables.views.each }
     {
         match self.tables.views.standing(view) {
             Some(standing) => {
@@ -178,6 +182,7 @@ impl<K: Machine> Server<K> {
     fn note_order(&mut self, view: u64, order: Order, outcome: &Result<(), Fault>)
         ensures hand { self.new.hand ≡ self.old.hand }
         ensures ended { IsEnded self.new.tables.views.each view order outcome.now }
+        ensures keeps { KeepsOthers self.old.tables.views.each self.new.tables.views.each view }
     {
         match outcome {
             Ok(()) => self.tables.views.close(view, state_by(order)),
@@ -190,6 +195,7 @@ impl<K: Machine> Server<K> {
     fn obey(&mut self, view: u64, pid: Pid, order: Order) -> Result<(), Fault>
         ensures ran { Ran self.old.hand.shown (obeying pid order) result self.new.hand.shown }
         ensures ended { IsEnded self.new.tables.views.each view order result }
+        ensures keeps { KeepsOthers self.old.tables.views.each self.new.tables.views.each view }
     {
         self.hand.bind(pid);
         let outcome = obey_by(&mut self.hand, order);
@@ -199,8 +205,9 @@ impl<K: Machine> Server<K> {
 
     // Writes the file.
     fn write_control(&mut self, view: u64, bytes: &Bytes) -> Result<Reply, Fault>
-        ensures { Orders self.old.tables self.new.tables view bytes.now
+        ensures orders { Orders self.old.tables self.new.tables view bytes.now
             self.old.hand.shown self.new.hand.shown result }
+        ensures keeps { KeepsViews self.old.tables.views.each self.new.tables.views.each }
     {
         let (pid, order) = self.tables.ordered(view, bytes.as_slice())?;
         self.obey(view, pid, order)?;
@@ -210,8 +217,9 @@ impl<K: Machine> Server<K> {
 
     // Requests about the file.
     pub(crate) fn in_control(&mut self, view: u64, operation: Operation) -> Result<Reply, Fault>
-        ensures { ServesControl self.old.tables self.new.tables view operation
+        ensures serves { ServesControl self.old.tables self.new.tables view operation
             self.old.hand.shown self.new.hand.shown result }
+        ensures keeps { KeepsViews self.old.tables.views.each self.new.tables.views.each }
     {
         match operation {
             Operation::Lookup { name: _ } => Err(Fault::Errno(Errno::ENOTDIR)),

@@ -120,6 +120,7 @@ impl Tables {
         ensures bound { bound hand.new ≡ bound hand.old }
         ensures answers { AnswersRead self.old hand.old.pid handle offset size
             hand.old.shown hand.new.shown result }
+        ensures views { self.new.views ≡ self.old.views }
     {
         let reading = self.plan_read(hand.pid(), handle, offset, size)?;
         let bytes = course::read(hand, reading.fd, reading.count, reading.offset)?;
@@ -161,6 +162,7 @@ impl Tables {
         ensures bound { bound hand.new ≡ bound hand.old }
         ensures answers { AnswersWrite self.old hand.old.pid handle offset open_flags bytes
             hand.old.shown hand.new.shown result }
+        ensures views { self.new.views ≡ self.old.views }
     {
         let writing = self.plan_write(hand.pid(), handle, offset, open_flags)?;
         let inode = writing.inode;
@@ -180,6 +182,7 @@ impl Tables {
         ensures bound { bound hand.new ≡ bound hand.old }
         ensures answers { AnswersSeek self.old hand.old.pid handle offset whence
             hand.old.shown hand.new.shown result }
+        ensures views { self.new.views ≡ self.old.views }
     {
         let file = self.open_file(handle, hand.pid())?;
         let offset = seek_in(hand, &file, offset, whence)?;

@@ -1,9 +1,9 @@
 // The directories that are open, with the names that they had.
-ghost use Rattle.std.specs.Prelude.{◌≡◌, ◌==◌, ◌&&◌, ◌++◌, ◌∷◌, [], Some, is_some, true, option_copied, option_map, IfOk};
+ghost use Rattle.std.specs.Prelude.{◌≡◌, ◌==◌, ◌&&◌, ◌++◌, ◌∷◌, [], None, Some, is_some, true, option_copied, option_map, IfOk};
 ghost use Rattle.std.specs.Prelude.{OnOk};
 ghost use Rattle.std.specs.BTreeMap.{get};
 ghost use Rattle.std.specs.Ordering.{nat_cmp};
-ghost use Rattle.mounted.specs.Found.{names_by, shown_names, told_of};
+ghost use Rattle.mounted.specs.Found.{StayOthers, WasRead, names_by, shown_names, told_of};
 
 use crate::numbers::is_reserved;
 use heap::Heap;
@@ -89,13 +89,18 @@ impl Folders {
         }
     }
 
-    // A directory was opened. It gives its number.
+    // A directory was opened. It gives its number. Where none is left memory is refused.
     pub(crate) fn add(&mut self, node: u64, names: Vec<Name, Heap>) -> Result<u64, AllocError>
-        ensures { IfOk result (λ handle.
+        ensures folder { IfOk result (λ handle.
             option_map told_of (get nat_cmp self.new.each handle)
             ≡ Some (node, names.entry.items)) }
+        ensures free { IfOk result (λ handle. get nat_cmp self.old.each handle ≡ None) }
+        ensures others { StayOthers self.old.each self.new.each self.old.next }
     {
         let handle = self.next;
+        if self.each.contains_key(&handle) {
+            return Err(AllocError);
+        }
         let folder = Folder {
             node,
             names,
@@ -134,8 +139,10 @@ impl Folders {
 
     // Its names were taken anew, and are read.
     pub(crate) fn renew(&mut self, handle: u64, names: Vec<Name, Heap>)
-        ensures { is_some (get nat_cmp self.old.each handle) ≡ true
+        ensures names { is_some (get nat_cmp self.old.each handle) ≡ true
             → names_by (get nat_cmp self.new.each handle) ≡ names.entry.items }
+        ensures read { WasRead (get nat_cmp self.new.each handle) }
+        ensures others { StayOthers self.old.each self.new.each handle }
     {
         if let Some(folder) = self.each.get_mut(&handle) {
             folder.names = names;
@@ -145,8 +152,10 @@ impl Folders {
 
     // Its names are read.
     pub(crate) fn mark(&mut self, handle: u64)
-        ensures { names_by (get nat_cmp self.new.each handle)
+        ensures names { names_by (get nat_cmp self.new.each handle)
             ≡ names_by (get nat_cmp self.old.each handle) }
+        ensures read { WasRead (get nat_cmp self.new.each handle) }
+        ensures others { StayOthers self.old.each self.new.each handle }
     {
         if let Some(folder) = self.each.get_mut(&handle) {
             folder.was_read = true;

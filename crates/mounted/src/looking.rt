@@ -21,6 +21,7 @@ impl Tables {
         ensures ok { IfOk result (λ entry. IsEntry self.old.nodes.table spot stat.now entry) }
         ensures err { IfErr result (λ e. e ≡ error ENOMEM) }
         ensures files { self.new.files ≡ self.old.files }
+        ensures views { self.new.views ≡ self.old.views }
     {
         let node = self.nodes.look_up(spot, stat.num)?;
         Ok(Entry {
@@ -62,6 +63,7 @@ impl Tables {
         ensures bound { bound hand.new ≡ bound hand.old }
         ensures answers { AnswersName self.old hand.old.pid node name.now
             hand.old.shown hand.new.shown result }
+        ensures views { self.new.views ≡ self.old.views }
     {
         let Located { view: _, path } = self.locate_child(node, name)?;
         let spot = self.spot_for(node, name)?;
@@ -80,6 +82,7 @@ impl Tables {
         ensures bound { bound hand.new ≡ bound hand.old }
         ensures answers { AnswersLookUp self.old hand.old.pid node name.now
             hand.old.shown hand.new.shown result }
+        ensures views { self.new.views ≡ self.old.views }
     {
         if is_reserved(node, name.as_slice()) {
             return self.look_up_reserved(node);
@@ -96,6 +99,7 @@ impl Tables {
         ensures bound { bound hand.new ≡ bound hand.old }
         ensures answers { AnswersGetAttr self.old hand.old.pid node
             hand.old.shown hand.new.shown result }
+        ensures views { self.new.views ≡ self.old.views }
     {
         let object = self.find_object(hand.pid(), node)?;
         let stat = find(hand, object)?;

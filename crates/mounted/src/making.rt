@@ -50,6 +50,7 @@ impl Tables {
     pub(crate) fn note_names(&mut self, node: u64)
         ensures nodes { self.new.nodes ≡ self.old.nodes }
         ensures files { self.new.files ≡ self.old.files }
+        ensures views { self.new.views ≡ self.old.views }
     {
         let parent = self.inode_of(node);
         self.attributes.modify(parent, Kind::Dir);
@@ -66,6 +67,7 @@ impl Tables {
         ensures ok { IfOk result (λ entry. IsEntry self.old.nodes.table spot stat.now entry) }
         ensures err { IfErr result (λ e. e ≡ error ENOMEM) }
         ensures files { self.new.files ≡ self.old.files }
+        ensures views { self.new.views ≡ self.old.views }
     {
         self.attributes.create(stat.num, mode, owner);
         self.note_names(spot.entry().parent);
@@ -83,6 +85,7 @@ impl Tables {
         ensures bound { bound hand.new ≡ bound hand.old }
         ensures answers { AnswersMkDir self.old hand.old.pid caller.node name.now
             hand.old.shown hand.new.shown result }
+        ensures views { self.new.views ≡ self.old.views }
     {
         let Located { view: _, path } = self.locate_new(caller.node, name)?;
         let again = path.try_clone()?;
@@ -111,6 +114,7 @@ impl Tables {
         ensures bound { bound hand.new ≡ bound hand.old }
         ensures answers { AnswersMkNod self.old hand.old.pid caller.node name.now mode
             hand.old.shown hand.new.shown result }
+        ensures views { self.new.views ≡ self.old.views }
     {
         let Located { view: _, path } = self.plan_file(caller.node, name, mode)?;
         let again = path.try_clone()?;
@@ -140,6 +144,7 @@ impl Tables {
         ensures bound { bound hand.new ≡ bound hand.old }
         ensures answers { AnswersLink self.old hand.old.pid parent node name.now
             hand.old.shown hand.new.shown result }
+        ensures views { self.new.views ≡ self.old.views }
     {
         let Pair { from, to } = self.plan_link(parent, node, name)?;
         let again = to.try_clone()?;

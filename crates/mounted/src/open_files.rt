@@ -1,8 +1,8 @@
 // The files that are open: all opens of one file in one view share a descriptor.
-ghost use Rattle.std.specs.Prelude.{◌≡◌, IfOk};
+ghost use Rattle.std.specs.Prelude.{◌≡◌, IfOk, None};
 ghost use Rattle.std.specs.BTreeMap.{get};
 ghost use Rattle.std.specs.Ordering.{nat_cmp};
-ghost use Rattle.mounted.specs.Found.{IsAt, key_cmp};
+ghost use Rattle.mounted.specs.Found.{IsAt, StayOthers, key_cmp};
 
 use heap::Heap;
 use ids::{Fd, Num, Pid};
@@ -72,12 +72,18 @@ impl OpenFiles {
         self.handles.get(&(view, inode)).copied()
     }
 
-    // A file was opened by a process. It gives its number. Refused memory changes nothing.
+    // A file was opened by a process. It gives its number. Refused memory changes nothing, and where
+    // no number is left it is refused too.
     pub(crate) fn add(&mut self, view: u64, inode: Num, pid: Pid, fd: Fd) -> Result<u64, AllocError>
-        ensures { IfOk result (λ handle.
+        ensures file { IfOk result (λ handle.
             IsAt (get nat_cmp self.new.each handle) view inode pid fd) }
+        ensures free { IfOk result (λ handle. get nat_cmp self.old.each handle ≡ None) }
+        ensures others { StayOthers self.old.each self.new.each self.old.next }
     {
         let handle = self.next;
+        if self.each.contains_key(&handle) {
+            return Err(AllocError);
+        }
         let file = OpenFile {
             view,
             inode,

@@ -65,6 +65,7 @@ impl Tables {
     fn note_cut(&mut self, inode: Num, cut: bool)
         ensures nodes { self.new.nodes ≡ self.old.nodes }
         ensures files { self.new.files ≡ self.old.files }
+        ensures views { self.new.views ≡ self.old.views }
     {
         if cut {
             self.attributes.modify(inode, Kind::File);
@@ -75,6 +76,7 @@ impl Tables {
     fn note_held(&mut self, view: u64, pid: Pid)
         ensures nodes { self.new.nodes ≡ self.old.nodes }
         ensures files { self.new.files ≡ self.old.files }
+        ensures views { self.new.views ≡ self.old.views }
     {
         if view == PLAIN {
             self.pool.hold(pid);
@@ -96,6 +98,7 @@ impl Tables {
         ensures shown { IfOk result (λ _. hand.new.shown ≡ hand.old.shown) }
         ensures err { IfErr result (λ e. IsRefusal e) }
         ensures nodes { self.new.nodes ≡ self.old.nodes }
+        ensures views { self.new.views ≡ self.old.views }
     {
         let pid = hand.pid();
         match self.files.add(view, inode, pid, fd) {
@@ -119,6 +122,7 @@ impl Tables {
         ensures bound { bound hand.new ≡ bound hand.old }
         ensures answers { OpensAs self.new hand.old.pid cut (Again inode handle fd)
             hand.old.shown hand.new.shown result }
+        ensures views { self.new.views ≡ self.old.views }
     {
         cut_if(hand, fd, cut)?;
         self.note_cut(inode, cut);
@@ -137,6 +141,7 @@ impl Tables {
         ensures bound { bound hand.new ≡ bound hand.old }
         ensures answers { OpensAs self.new hand.old.pid cut (First located.view located.path inode)
             hand.old.shown hand.new.shown result }
+        ensures views { self.new.views ≡ self.old.views }
     {
         let Located { view, path } = located;
         let fd = open_cut(hand, path, inode, cut)?;
@@ -154,6 +159,7 @@ impl Tables {
         ensures bound { bound hand.new ≡ bound hand.old }
         ensures answers { OpensAs self.new hand.old.pid cut opening
             hand.old.shown hand.new.shown result }
+        ensures views { self.new.views ≡ self.old.views }
     {
         match opening {
             Opening::Again { inode, handle, fd } => self.open_again(hand, inode, handle, fd, cut),
@@ -206,6 +212,7 @@ impl Tables {
         ensures bound { bound hand.new ≡ bound hand.old }
         ensures answers { AnswersOpen self.old self.new hand.old.pid node flags
             hand.old.shown hand.new.shown result }
+        ensures views { self.new.views ≡ self.old.views }
     {
         let opening = self.plan_opening(hand.pid(), node)?;
         self.open_as(hand, opening, cuts(flags))
@@ -256,6 +263,7 @@ impl Tables {
         ensures shown { IfOk result (λ _. hand.new.shown ≡ hand.old.shown) }
         ensures err { IfErr result (λ e. IsRefusal e) }
         ensures nodes { self.new.nodes ≡ self.old.nodes }
+        ensures views { self.new.views ≡ self.old.views }
     {
         match self.handle_of(view, made.stat.num) {
             Some(handle) => {
@@ -270,6 +278,7 @@ impl Tables {
     fn note_opened(&mut self, caller: Caller, made: &Made, mode: u32, cut: bool)
         ensures nodes { self.new.nodes ≡ self.old.nodes }
         ensures files { self.new.files ≡ self.old.files }
+        ensures views { self.new.views ≡ self.old.views }
     {
         if made.is_new {
             self.attributes.create(made.stat.num, mode, caller.owner);
@@ -291,6 +300,7 @@ impl Tables {
         ensures bound { bound hand.new ≡ bound hand.old }
         ensures answers { AnswersCreate self.old self.new hand.old.pid caller.node name.now flags
             hand.old.shown hand.new.shown result }
+        ensures views { self.new.views ≡ self.old.views }
     {
         let Located { view, path } = self.locate_new(caller.node, name)?;
         let again = path.try_clone()?;

@@ -4,7 +4,7 @@ ghost use Rattle.fuse.specs.declared.errno.Errno.TheVariants.{ENOMEM};
 ghost use Rattle.course.specs.Faults.{error};
 ghost use Rattle.course.specs.Hands.{bound};
 ghost use Rattle.mounted.specs.Answers.{IsPlanned};
-ghost use Rattle.mounted.specs.Found.{folder_at, names_in};
+ghost use Rattle.mounted.specs.Found.{WasRead, folder_at, names_in};
 ghost use Rattle.mounted.specs.Requests.{AnswersOpenDir, AnswersReadDir, AnswersReadDirPlus, Refreshes};
 ghost use Rattle.mounted.specs.Requests.{anew, lists};
 ghost use Rattle.mounted.specs.Told.{IsList};
@@ -39,6 +39,7 @@ impl Tables {
         ensures bound { bound hand.new ≡ bound hand.old }
         ensures answers { AnswersOpenDir self.old self.new hand.old.pid node
             hand.old.shown hand.new.shown result }
+        ensures views { self.new.views ≡ self.old.views }
     {
         let Located { view: _, path } = self.locate_own(node)?;
         let list = course::list(hand, path)?;
@@ -83,6 +84,8 @@ impl Tables {
         ensures bound { bound hand.new ≡ bound hand.old }
         ensures refreshes { Refreshes self.old self.new hand.old.pid handle node path
             hand.old.shown hand.new.shown result }
+        ensures read { IfOk result (λ _. WasRead (folder_at self.new handle)) }
+        ensures views { self.new.views ≡ self.old.views }
     {
         let Some(path) = path else {
             self.folders.mark(handle);
@@ -114,6 +117,8 @@ impl Tables {
         ensures bound { bound hand.new ≡ bound hand.old }
         ensures answers { AnswersReadDir self.old hand.old.pid wanted.handle wanted.offset
             hand.old.shown hand.new.shown result }
+        ensures read { IfOk result (λ _. WasRead (folder_at self.new wanted.handle)) }
+        ensures views { self.new.views ≡ self.old.views }
     {
         let (node, path) = self.plan_list(wanted.handle, wanted.offset)?;
         self.refresh(hand, wanted.handle, node, path)?;
@@ -131,6 +136,8 @@ impl Tables {
         ensures bound { bound hand.new ≡ bound hand.old }
         ensures answers { AnswersReadDirPlus self.old hand.old.pid wanted.handle wanted.offset
             hand.old.shown hand.new.shown result }
+        ensures read { IfOk result (λ _. WasRead (folder_at self.new wanted.handle)) }
+        ensures views { self.new.views ≡ self.old.views }
     {
         let (node, path) = self.plan_list(wanted.handle, wanted.offset)?;
         self.refresh(hand, wanted.handle, node, path)?;
@@ -144,7 +151,9 @@ impl Tables {
     }
 
     // Closes a directory.
-    pub(crate) fn close_folder(&mut self, handle: u64) -> Reply {
+    pub(crate) fn close_folder(&mut self, handle: u64) -> Reply
+        ensures { self.new.views ≡ self.old.views }
+    {
         self.folders.remove(handle);
         Reply::Empty
     }

@@ -1,5 +1,6 @@
 // Requests that take names away, or move them.
 ghost use Rattle.std.specs.Prelude.{◌≡◌, is_some, IfOk, IfSome};
+ghost use Rattle.nodes.specs.Tables.{detached};
 ghost use Rattle.course.specs.Hands.{bound};
 ghost use Rattle.mounted.specs.Answers.{IsPlanned};
 ghost use Rattle.mounted.specs.Requests.{AnswersRename, AnswersRmDir, AnswersUnlink, absent_in};
@@ -45,12 +46,17 @@ fn absent_in(flags: u32) -> Result<bool, Fault>
 
 impl Tables {
     // A name of a directory.
-    fn entry_of_name(&self, node: u64, name: &Bytes) -> Result<DirectoryEntry, AllocError> {
+    fn entry_of_name(&self, node: u64, name: &Bytes) -> Result<DirectoryEntry, AllocError>
+        ensures { IfOk result (λ entry. entry ≡ named node name.now) }
+    {
         DirectoryEntry::new(self.heap, node, name.as_slice())
     }
 
     // A name was taken away.
-    fn note_removed(&mut self, node: u64, removed: &DirectoryEntry) {
+    fn note_removed(&mut self, node: u64, removed: &DirectoryEntry)
+        ensures nodes { self.new.nodes.table ≡ detached self.old.nodes.table removed.now }
+        ensures views { self.new.views ≡ self.old.views }
+    {
         self.nodes.detach(removed);
         self.note_names(node);
     }
@@ -65,6 +71,9 @@ impl Tables {
         ensures bound { bound hand.new ≡ bound hand.old }
         ensures answers { AnswersUnlink self.old hand.old.pid node name.now
             hand.old.shown hand.new.shown result }
+        ensures nodes { IfOk result (λ _. self.new.nodes.table
+            ≡ detached self.old.nodes.table (named node name.now)) }
+        ensures views { self.new.views ≡ self.old.views }
     {
         let Located { view: _, path } = self.locate_new(node, name)?;
         let removed = self.entry_of_name(node, name)?;
@@ -93,6 +102,9 @@ impl Tables {
         ensures bound { bound hand.new ≡ bound hand.old }
         ensures answers { AnswersRmDir self.old hand.old.pid node name.now
             hand.old.shown hand.new.shown result }
+        ensures nodes { IfOk result (λ _. self.new.nodes.table
+            ≡ detached self.old.nodes.table (named node name.now)) }
+        ensures views { self.new.views ≡ self.old.views }
     {
         let Located { view: _, path } = self.plan_removal(node, name)?;
         let removed = self.entry_of_name(node, name)?;
@@ -132,6 +144,7 @@ impl Tables {
         ensures bound { bound hand.new ≡ bound hand.old }
         ensures answers { AnswersRename self.old hand.old.pid node name.now new_parent new_name.now
             flags hand.old.shown hand.new.shown result }
+        ensures views { self.new.views ≡ self.old.views }
     {
         let (Pair { from, to }, absent) = self.plan_move(node, name, new_parent, new_name, flags)?;
         let again = copy_if(absent, &to)?;

@@ -6,6 +6,7 @@ ghost use Rattle.mounted.specs.First.{IsFirst};
 ghost use Rattle.mounted.specs.Processes.{IsLackingBy, IsReadyBy};
 ghost use Rattle.mounted.specs.Served.{IsChosen, IsLacking, IsReady};
 ghost use Rattle.mounted.specs.Served.{chosen, plain_file, process_by};
+ghost use Rattle.mounted.specs.Views.{KeepsViews};
 
 use crate::numbers::PLAIN;
 use crate::open_files::OpenFile;
@@ -192,7 +193,9 @@ impl<K: Machine> Server<K> {
     }
 
     // A descriptor of a view's process is closed.
-    fn close_in(&mut self, file: &OpenFile) -> Result<(), Fault> {
+    fn close_in(&mut self, file: &OpenFile) -> Result<(), Fault>
+        ensures { KeepsViews self.old.tables.views.each self.new.tables.views.each }
+    {
         let outcome = close(&mut self.hand, file.fd);
         if let Err(Fault::Aborted) = &outcome {
             self.note_abort(file.view);
@@ -201,7 +204,9 @@ impl<K: Machine> Server<K> {
     }
 
     // The descriptor of a file that is not open any more is closed.
-    fn close_file(&mut self, file: &OpenFile) -> Result<(), Fault> {
+    fn close_file(&mut self, file: &OpenFile) -> Result<(), Fault>
+        ensures { KeepsViews self.old.tables.views.each self.new.tables.views.each }
+    {
         if file.view == PLAIN {
             self.hand.bind(file.pid);
             close(&mut self.hand, file.fd)?;
@@ -221,7 +226,9 @@ impl<K: Machine> Server<K> {
     }
 
     // A file is open once less.
-    pub(crate) fn release(&mut self, handle: u64) -> Result<Reply, Fault> {
+    pub(crate) fn release(&mut self, handle: u64) -> Result<Reply, Fault>
+        ensures { KeepsViews self.old.tables.views.each self.new.tables.views.each }
+    {
         if let Some(file) = self.tables.files.release(handle) {
             self.close_file(&file)?;
         }

@@ -8,7 +8,7 @@ ghost use Rattle.mounted.specs.Requests.{IsAnswered, IsOfFiles, IsOfNames};
 ghost use Rattle.mounted.specs.Served.{IsNoted, IsServed, IsToldOf, ServesAt, ServesPlain, ServesTree};
 ghost use Rattle.mounted.specs.Served.{ServesView, is_of_node, told};
 ghost use Rattle.mounted.specs.Steppers.{StaysInView, is_release};
-ghost use Rattle.mounted.specs.Views.{IsOver};
+ghost use Rattle.mounted.specs.Views.{IsOver, KeepsOthers, KeepsViews};
 
 use crate::attributes::Owner;
 use crate::numbers::{Class, PLAIN, class_of};
@@ -70,7 +70,8 @@ impl<K: Machine> Server<K> {
     /// and strictly serializable. For a request about a node below a view only the process of its
     /// transaction steps, while that goes on, and nothing is done where it does not. A request about a
     /// node becomes the course of its operation, and the reply tells what that came to; after an abort
-    /// nobody steps in the view any more.
+    /// nobody steps in the view any more. A request changes one view at most, which stays with its
+    /// process.
     pub fn serve(&mut self, request: Request) -> Option<Reply>
         ensures kept { Kept self.new.hand.shown }
         ensures serial { let s = self.new.hand.shown in
@@ -81,6 +82,7 @@ impl<K: Machine> Server<K> {
         ensures told { is_of_node request.operation ≡ true
             → IsServed self.old.tables self.new.tables request.node request.operation
             self.old.hand.shown self.new.hand.shown result }
+        ensures keeps { KeepsViews self.old.tables.views.each self.new.tables.views.each }
     {
         let Request {
             unique: _,
@@ -110,6 +112,7 @@ impl<K: Machine> Server<K> {
         ensures told { is_of_node operation ≡ true
             → IsToldOf self.old.tables self.new.tables caller.node operation
             self.old.hand.shown self.new.hand.shown result }
+        ensures keeps { KeepsViews self.old.tables.views.each self.new.tables.views.each }
     {
         match operation {
             Operation::Forget { lookups } => {
@@ -129,7 +132,8 @@ impl<K: Machine> Server<K> {
     }
 
     fn forget_all(&mut self, forgets: &Forgets)
-        ensures { self.new.hand ≡ self.old.hand }
+        ensures hand { self.new.hand ≡ self.old.hand }
+        ensures views { self.new.tables.views ≡ self.old.tables.views }
     {
         for forget in forgets.as_slice() {
             self.tables.nodes.forget(forget.node, forget.lookups);
@@ -148,6 +152,7 @@ impl<K: Machine> Server<K> {
         ensures tables { self.new.tables
             ≡ record self.old.tables { views = self.new.tables.views } }
         ensures over { IsOver self.new.tables.views.each view }
+        ensures keeps { KeepsOthers self.old.tables.views.each self.new.tables.views.each view }
     {
         match self.last_line() {
             Some(line) => self
@@ -166,6 +171,7 @@ impl<K: Machine> Server<K> {
         ensures node { is_of_node operation ≡ true
             → ServesAt (class_of caller.node) self.old.tables self.new.tables caller.node operation
             self.old.hand.shown self.new.hand.shown result }
+        ensures keeps { KeepsViews self.old.tables.views.each self.new.tables.views.each }
     {
         match operation {
             Operation::Init {
@@ -199,6 +205,8 @@ impl<K: Machine> Server<K> {
             self.old.hand.shown.log.entries self.new.hand.shown.log.entries }
         ensures serves { ServesView self.old.tables self.new.tables stepper.view stepper.pid
             caller.node operation self.old.hand.shown self.new.hand.shown result }
+        ensures keeps { KeepsOthers self.old.tables.views.each self.new.tables.views.each
+            stepper.view }
     {
         self.hand.bind(stepper.pid);
         let outcome = self.tables.of_nodes(&mut self.hand, caller, operation);
@@ -212,6 +220,7 @@ impl<K: Machine> Server<K> {
     fn note_outcome(&mut self, view: u64, outcome: &Result<Reply, Fault>)
         ensures hand { self.new.hand ≡ self.old.hand }
         ensures noted { IsNoted self.old.tables self.new.tables view outcome.now }
+        ensures keeps { KeepsOthers self.old.tables.views.each self.new.tables.views.each view }
     {
         match outcome {
             Ok(_) | Err(Fault::Errno(_)) => {}
@@ -221,8 +230,9 @@ impl<K: Machine> Server<K> {
 
     // Requests about a node of the plain tree: one process serves each.
     fn in_plain(&mut self, caller: Caller, operation: Operation) -> Result<Reply, Fault>
-        ensures { ServesPlain self.old.tables self.new.tables caller.node operation
+        ensures serves { ServesPlain self.old.tables self.new.tables caller.node operation
             self.old.hand.shown self.new.hand.shown result }
+        ensures views { self.new.tables.views ≡ self.old.tables.views }
     {
         let pid = self.choose_plain(caller.node, &operation)?;
         self.hand.bind(pid);
@@ -236,6 +246,7 @@ impl<K: Machine> Server<K> {
             self.old.hand.shown.log.entries self.new.hand.shown.log.entries }
         ensures tree { ServesTree self.old.tables self.new.tables caller.node operation
             self.old.hand.shown self.new.hand.shown result }
+        ensures keeps { KeepsViews self.old.tables.views.each self.new.tables.views.each }
     {
         let stepper = self.tables.stepper_at(caller.node)?;
         if stepper.view == PLAIN {
@@ -257,6 +268,7 @@ impl Tables {
         ensures bound { bound hand.new ≡ bound hand.old }
         ensures answers { IsAnswered self.old self.new hand.old.pid caller.node operation
             hand.old.shown hand.new.shown result }
+        ensures views { self.new.views ≡ self.old.views }
     {
         match operation {
             Operation::Lookup { name } => self.look_up(hand, caller.node, &name),
@@ -302,6 +314,7 @@ impl Tables {
         ensures bound { bound hand.new ≡ bound hand.old }
         ensures answers { IsOfNames self.old self.new hand.old.pid caller.node operation
             hand.old.shown hand.new.shown result }
+        ensures views { self.new.views ≡ self.old.views }
     {
         match operation {
             Operation::MkNod { name, mode } => self.make_file(hand, caller, &name, mode),
@@ -332,6 +345,7 @@ impl Tables {
         ensures bound { bound hand.new ≡ bound hand.old }
         ensures answers { IsOfFiles self.old self.new hand.old.pid caller.node operation
             hand.old.shown hand.new.shown result }
+        ensures views { self.new.views ≡ self.old.views }
     {
         match operation {
             Operation::Open { flags } => self.open(hand, caller.node, flags),

@@ -4,7 +4,7 @@ ghost use Rattle.course.specs.Hands.{bound};
 ghost use Rattle.mounted.specs.Controls.{Begins, BeginsBy, GivesUp, IsFreed, Leaves, Removes};
 ghost use Rattle.mounted.specs.Controls.{ServesTransactions, ShowsNode, control_of, level_by, level_of};
 ghost use Rattle.mounted.specs.Controls.{level_planned, node_in};
-ghost use Rattle.mounted.specs.Views.{number_in, standing_in};
+ghost use Rattle.mounted.specs.Views.{KeepsViews, number_in, standing_in};
 
 use crate::numbers::{TRANSACTIONS, control_node, root_node, view_of};
 use crate::reading::Wanted;
@@ -119,7 +119,9 @@ impl Tables {
     }
 
     // Requests about the directory that change no transaction.
-    fn about_transactions(&mut self, operation: Operation) -> Result<Reply, Fault> {
+    fn about_transactions(&mut self, operation: Operation) -> Result<Reply, Fault>
+        ensures { self.new.views ≡ self.old.views }
+    {
         match operation {
             Operation::GetAttr { handle: _ } => Ok(self.attr_of_transactions()),
             Operation::SetAttr { changes } => {
@@ -148,14 +150,18 @@ impl Tables {
     }
 
     // Opens the directory.
-    fn open_transactions(&mut self) -> Result<Reply, Fault> {
+    fn open_transactions(&mut self) -> Result<Reply, Fault>
+        ensures { self.new.views ≡ self.old.views }
+    {
         let names = self.names_of_transactions()?;
         let handle = self.folders.add(TRANSACTIONS, names)?;
         Ok(Reply::Opened(Opened { handle, flags: 0 }))
     }
 
     // Lists it.
-    fn list_transactions(&mut self, wanted: Wanted) -> Result<Reply, Fault> {
+    fn list_transactions(&mut self, wanted: Wanted) -> Result<Reply, Fault>
+        ensures { self.new.views ≡ self.old.views }
+    {
         if self.folders.is_stale(wanted.handle, wanted.offset) {
             let names = self.names_of_transactions()?;
             self.folders.renew(wanted.handle, names);
@@ -169,8 +175,9 @@ impl<K: Machine> Server<K> {
     // A process begins a transaction, and the view has this name. Where memory is refused for the
     // view, the transaction is given up.
     fn begin_by(&mut self, pid: Pid, level: u8, name: Vec<u8, Heap>) -> Result<u64, Fault>
-        ensures { BeginsBy self.new.tables.views name.entry.items pid
+        ensures begins { BeginsBy self.new.tables.views name.entry.items pid
             self.old.hand.shown self.new.hand.shown result }
+        ensures keeps { KeepsViews self.old.tables.views.each self.new.tables.views.each }
     {
         self.hand.bind(pid);
         begin(&mut self.hand)?;
@@ -185,8 +192,9 @@ impl<K: Machine> Server<K> {
 
     // Begins a transaction.
     fn begin_transaction(&mut self, name: &Bytes) -> Result<Reply, Fault>
-        ensures { Begins self.old.tables self.new.tables name.now
+        ensures begins { Begins self.old.tables self.new.tables name.now
             self.old.hand.shown self.new.hand.shown result }
+        ensures keeps { KeepsViews self.old.tables.views.each self.new.tables.views.each }
     {
         let level = self.tables.plan_level(name.as_slice())?;
         let own_name = Vec::from_slice(self.tables.heap, name.as_slice())?;
@@ -239,6 +247,7 @@ impl<K: Machine> Server<K> {
         ensures bound { bound self.new.hand ≡ bound self.old.hand }
         ensures closed { is_open ≡ false → self.new.hand ≡ self.old.hand }
         ensures freed { number_in self.new.tables.views name.now ≡ None }
+        ensures keeps { KeepsViews self.old.tables.views.each self.new.tables.views.each }
     {
         let Standing {
             number,
@@ -258,6 +267,7 @@ impl<K: Machine> Server<K> {
         ensures leaves { Leaves standing.state standing.pid
             self.old.hand.shown self.new.hand.shown result }
         ensures freed { IsFreed self.new.tables.views name.now result }
+        ensures keeps { KeepsViews self.old.tables.views.each self.new.tables.views.each }
     {
         self.hand.bind(standing.pid);
         match standing.state {
@@ -277,8 +287,9 @@ impl<K: Machine> Server<K> {
 
     // Takes the view of a name away.
     fn remove_transaction(&mut self, name: &Bytes) -> Result<Reply, Fault>
-        ensures { Removes self.old.tables self.new.tables name.now
+        ensures removes { Removes self.old.tables self.new.tables name.now
             self.old.hand.shown self.new.hand.shown result }
+        ensures keeps { KeepsViews self.old.tables.views.each self.new.tables.views.each }
     {
         match self.tables.standing_by(name.as_slice()) {
             Some(standing) => self.remove_view(name.as_slice(), standing),
@@ -288,8 +299,9 @@ impl<K: Machine> Server<K> {
 
     // Requests about the directory of transactions.
     pub(crate) fn in_transactions(&mut self, operation: Operation) -> Result<Reply, Fault>
-        ensures { ServesTransactions self.old.tables self.new.tables operation
+        ensures serves { ServesTransactions self.old.tables self.new.tables operation
             self.old.hand.shown self.new.hand.shown result }
+        ensures keeps { KeepsViews self.old.tables.views.each self.new.tables.views.each }
     {
         match operation {
             Operation::MkDir { name, mode: _ } => self.begin_transaction(&name),

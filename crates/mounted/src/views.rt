@@ -1,6 +1,7 @@
 // The transactions that are mounted.
-ghost use Rattle.std.specs.Prelude.{◌≡◌, IfOk, IfSome, None, Some, option_copied};
-ghost use Rattle.mounted.specs.Views.{IsOver, IsView, number_in, numbered, over, standing_at};
+ghost use Rattle.std.specs.Prelude.{◌≡◌, false, IfOk, IfSome, None, Some, option_copied};
+ghost use Rattle.mounted.specs.Views.{IsOver, IsView, KeepsOthers, KeepsViews, is_live, number_in};
+ghost use Rattle.mounted.specs.Views.{numbered, over, standing_at};
 
 use heap::Heap;
 use ids::Pid;
@@ -46,7 +47,9 @@ impl View {
     // The transaction was aborted, if it went on, for this cause. Where memory is refused the cause
     // is not kept.
     fn abort(&mut self, cause: &[u8])
-        ensures { self.new.state ≡ over self.old.state }
+        ensures state { self.new.state ≡ over self.old.state }
+        ensures rest { self.new
+            ≡ record self.old { state = self.new.state; cause = self.new.cause } }
     {
         if self.state == State::Live {
             self.state = State::Aborted;
@@ -129,16 +132,21 @@ impl Views {
         self.numbers.get(name).copied()
     }
 
-    // A transaction has begun. It gives the view's number. Refused memory changes nothing.
+    // A transaction has begun. It gives the view's number. Refused memory changes nothing, and where
+    // no number is left it is refused too.
     pub(crate) fn add(
         &mut self,
         name: Vec<u8, Heap>,
         pid: Pid,
         level: u8,
     ) -> Result<u64, AllocError>
-        ensures { IfOk result (λ number. IsView self.new number name.entry.items pid) }
+        ensures view { IfOk result (λ number. IsView self.new number name.entry.items pid) }
+        ensures keeps { KeepsOthers self.old.each self.new.each self.old.next }
     {
         let number = self.next;
+        if self.each.contains_key(&number) {
+            return Err(AllocError);
+        }
         let view = View {
             pid,
             level,
@@ -160,7 +168,8 @@ impl Views {
 
     // The view of this name is taken away.
     pub(crate) fn remove(&mut self, name: &[u8])
-        ensures { number_in self.new name.now ≡ None }
+        ensures freed { number_in self.new name.now ≡ None }
+        ensures keeps { KeepsViews self.old.each self.new.each }
     {
         if let Some(number) = self.numbers.remove(name) {
             let _view = self.each.remove(&number);
@@ -169,7 +178,8 @@ impl Views {
 
     // A transaction is over.
     pub(crate) fn close(&mut self, number: u64, state: State)
-        ensures { IfSome (numbered self.new.each number) (λ view. view.state ≡ state) }
+        ensures state { IfSome (numbered self.new.each number) (λ view. view.state ≡ state) }
+        ensures keeps { is_live state ≡ false → KeepsOthers self.old.each self.new.each number }
     {
         if let Some(view) = self.each.get_mut(&number) {
             view.state = state;
@@ -178,7 +188,8 @@ impl Views {
 
     // A transaction was aborted, for this cause.
     pub(crate) fn abort(&mut self, number: u64, cause: &[u8])
-        ensures { IsOver self.new.each number }
+        ensures over { IsOver self.new.each number }
+        ensures keeps { KeepsOthers self.old.each self.new.each number }
     {
         if let Some(view) = self.each.get_mut(&number) {
             view.abort(cause);

@@ -22,5 +22,5 @@ returns-in_err-handle-clause-answers g c =
 
 pub returns-clause-answers : goal.returns-clause-answers
 returns-clause-answers g c =
-    let h = rw (c.in_ok-names.ensures, c.as_slice.ensures) at c.in_ok-handle.ensures in
+    let h = rw (c.in_ok-names.ensures, c.as_slice.ensures) at c.in_ok-handle.ensures.folder in
     told_or c.in_ok-path.ensures c.in_ok-list.ensures.ran h

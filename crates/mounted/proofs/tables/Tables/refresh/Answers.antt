@@ -9,4 +9,4 @@ returns-in_err-list-clause-refreshes g c = not_taken c.args.self.now c.args.hand
 pub returns-clause-refreshes : goal.returns-clause-refreshes
 returns-clause-refreshes g c =
     let h = rw c.as_slice.ensures at c.in_ok-names.ensures in
-    taken (record c.args.self.now { folders = c.renew.new.self }) c.args.handle c.args.hand.now.pid c.args.node (names_in c.args.self.now c.args.handle) c.args.path _ _ _ c.in-Some.is (c.renew.ensures c.requires ∙ h) c.in_ok-list.ensures.ran
+    taken (record c.args.self.now { folders = c.renew.new.self }) c.args.handle c.args.hand.now.pid c.args.node (names_in c.args.self.now c.args.handle) c.args.path _ _ _ c.in-Some.is (c.renew.ensures.names c.requires ∙ h) c.in_ok-list.ensures.ran

@@ -2,8 +2,8 @@ use Rattle.std.proofs.Common.{refl}
 use Rattle.mounted.specs.declared.views.State.TheVariants.{Live}
 use Rattle.mounted.proofs.views.Views.add.Goals as goal
 
-pub returns-in-Ok : goal.returns-in-Ok
-returns-in-Ok c = record {
+pub returns-in-Ok-clause-view : goal.returns-in-Ok-clause-view
+returns-in-Ok-clause-view c = record {
   view = record { pid = c.args.pid; level = c.args.level; state = Live; cause = c.new.result };
   is = c.in_ok-_former.ensures.updates.1;
   live = refl;
