@@ -1,5 +1,5 @@
 -- The users of aspects and the journals, as a touch is added to a journal or taken from its end.
-use Rattle.std.proofs.Common.{◌≡◌, ◌∙◌, sym, refl, ap, subst, ℕ, zero, suc, ◌<◌, ◌+◌, ◌-◌, if◌then◌else◌, Bool, true, false, cond, not, ◌&&◌, ◌||◌, ◌==◌, List, [], ◌∷◌, ◌++◌, length, set, take, inl, inr, arith}
+use Rattle.std.proofs.Common.{◌≡◌, ◌≢◌, ◌∙◌, sym, refl, ap, subst, ℕ, zero, suc, ◌<◌, ◌+◌, ◌-◌, if◌then◌else◌, Bool, true, false, cond, not, ◌&&◌, ◌||◌, ◌==◌, List, [], ◌∷◌, ◌++◌, length, set, take, inl, inr, arith}
 use Rattle.std.proofs.lemmas.Bool.{cases_eq, eq-eqb, ne_eqb, false≢true}
 use Rattle.std.proofs.lemmas.List.{get_or-set_same, get_or-set_other, set-set, set-get_or, take_all, take_more, length-set}
 use Rattle.std.proofs.lemmas.List.Folds.{list_any-append}
@@ -169,3 +169,13 @@ not_false f false h k = absurd (false≢true (sym k ∙ h))
 pub not_true : (f b : Bool) → f ≡ not b → f ≡ true → b ≡ false
 not_true f true h k = absurd (false≢true (sym h ∙ k))
 not_true f false h k = refl
+
+-- the one process that touched something has touched nothing any more, and no aspect has users
+pub indexed_cleared : (lists : List (List Touch)) (n : Index) (p : ℕ) → p < length lists → ((q : ℕ) → q ≢ p → touched_by lists q ≡ []) → ((u : Touch) → users_on n u ≡ []) → IsIndexed (set lists p []) n
+indexed_cleared lists n p within alone none = record {
+  each = λ m. ap (among m.pid) (none m.touch) ∙ elim (cases_eq m.pid p) [
+    | inl e ↦ ap (has m.touch) (sym (ap (λ q. touched_by (set lists p []) q) e ∙ get_or-set_same lists p [] [] within))
+    | inr ne ↦ ap (has m.touch) (sym (get_or-set_other lists p m.pid [] [] ne ∙ alone m.pid ne))
+  ];
+  once = λ u. subst AreDistinct (sym (none u)) tt;
+}

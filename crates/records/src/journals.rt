@@ -67,6 +67,14 @@ fn pop_from(journals: &mut List, pid: Pid) -> Touch
     journals[pid.0 as usize].pop().unwrap()
 }
 
+/// All touches are taken from a journal.
+fn clear_at(journals: &mut List, pid: Pid)
+    requires { pid < length journals.old.items }
+    ensures { journals.new.items ≡ set journals.old.items pid [] }
+{
+    journals[pid.0 as usize].clear();
+}
+
 impl Journals {
     /// No processes. It takes no memory.
     pub fn new(heap: Heap) -> Journals
@@ -159,5 +167,14 @@ impl Journals {
         let touch = pop_from(&mut self.list, pid);
         self.active -= usize::from(last);
         touch
+    }
+    /// All touches of a process are taken away. It takes no memory.
+    pub fn clear(&mut self, pid: Pid)
+        requires { pid < length self.old }
+        ensures { self.new ≡ set self.old pid [] }
+    {
+        let any = self.count(pid) > 0;
+        clear_at(&mut self.list, pid);
+        self.active -= usize::from(any);
     }
 }

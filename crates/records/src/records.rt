@@ -6,7 +6,7 @@ ghost use Rattle.records.specs.Index.{IsIndexed, ListsWritten};
 ghost use Rattle.records.specs.Touches.{touched_by, with_touch, with_touches};
 
 use crate::holders::collect;
-use crate::index::{Index, enter, leave};
+use crate::index::{Index, clear, enter, is_filled_by, leave};
 use crate::journals::Journals;
 use crate::mark::Mark;
 use heap::Heap;
@@ -175,13 +175,28 @@ impl Records {
         }
     }
 
+    /// The touches of the only process that has any are forgotten, without a look-up of an aspect.
+    /// It takes no memory.
+    fn forget_all(&mut self, pid: Pid)
+        requires within { pid < length self.old }
+        requires alone { (q : ℕ) → q ≢ pid → touched_by self.old q ≡ [] }
+        ensures { self.new ≡ set self.old pid [] }
+    {
+        self.journals.clear(pid);
+        clear(&mut self.index);
+    }
+
     /// A process's touches are forgotten. It takes no memory, and as many steps as the process has
-    /// touches.
+    /// touches, each with a look-up of its aspect where another process has touched something.
     pub fn release(&mut self, pid: Pid)
         requires { pid < length self.old }
         ensures { self.new ≡ set self.old pid [] }
     {
-        self.keep_first(pid, 0);
+        if !self.others_touched(pid) && is_filled_by(&self.index, self.count(pid)) {
+            self.forget_all(pid);
+        } else {
+            self.keep_first(pid, 0);
+        }
     }
 
     /// A process touches these too. One that it has already takes no memory. Refused memory changes
