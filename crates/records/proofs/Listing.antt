@@ -92,11 +92,11 @@ undone s n o t p none enters leaves u =
     by true k = with_out p (users_in s u) (ap (λ v. among p (users_in s v)) (sym (touch_from_tied t u k)) ∙ none)
     by false k = refl
 
--- an entry that nobody writes is taken out
-pub unlisted : (before after : BTreeSet Aspect) (b : Aspect) (a : Aspect) → (users : Touch → List ℕ) → users (touch_on b true) ≡ [] → contains aspect_cmp after a ≡ cond (is_eq (aspect_cmp b a)) false (contains aspect_cmp before a) → contains aspect_cmp before a ≡ true → (users (touch_on a true) ≡ [] → ⊥) → contains aspect_cmp after a ≡ true
-unlisted before after b a users none updates there some = updates ∙ by (is_eq (aspect_cmp b a)) refl where
+-- an entry is taken out
+pub unlisted : (before after : BTreeSet Aspect) (b : Aspect) (a : Aspect) → contains aspect_cmp after a ≡ cond (is_eq (aspect_cmp b a)) false (contains aspect_cmp before a) → contains aspect_cmp before a ≡ true → (a ≡ b → ⊥) → contains aspect_cmp after a ≡ true
+unlisted before after b a updates there other = updates ∙ by (is_eq (aspect_cmp b a)) refl where
   by : (c : Bool) → is_eq (aspect_cmp b a) ≡ c → cond c false (contains aspect_cmp before a) ≡ true
-  by true k = absurd (some (ap (λ x. users (touch_on x true)) (sym (aspect_from_tied b a k)) ∙ none))
+  by true k = absurd (other (sym (aspect_from_tied b a k)))
   by false k = there
 
 -- where nobody uses anything, no entry has to be listed

@@ -78,41 +78,49 @@ fn enter_users(
     }
 }
 
-/// A process goes from the users of an aspect, and the answer is whether nobody is left there.
-fn leave_aspect(table: &mut UsersByAspect, pid: Pid, touch: &Touch) -> bool
+/// Who is left of the users of an aspect.
+#[derive(Clone, Copy, Debug)]
+struct Left {
+    nobody: bool,
+    no_writer: bool,
+}
+
+/// A process goes from the users of an aspect, and the answer is who is left there.
+fn leave_aspect(table: &mut UsersByAspect, pid: Pid, touch: &Touch) -> Left
     ensures users { (u : Touched) → users_in table.new u ≡ cond (is_touch touch.now u)
         (without_pid pid (users_in table.old u)) (users_in table.old u) }
-    ensures nobody { result ≡ true
+    ensures nobody { result.nobody ≡ true
         → (u : Touched) → u.aspect ≡ touch.now.aspect → users_in table.new u ≡ [] }
+    ensures no_writer { result.no_writer ≡ true
+        → users_in table.new (touch_on touch.now.aspect true) ≡ [] }
 {
     match table.get_mut(&touch.aspect) {
         Some(users) => {
             users.leave(pid, touch.write);
-            users.is_empty()
+            Left {
+                nobody: users.is_empty(),
+                no_writer: users.writers.is_empty(),
+            }
         }
-        None => false,
+        None => Left {
+            nobody: false,
+            no_writer: false,
+        },
     }
 }
 
-/// A process goes from the users of an aspect, which is forgotten where nobody is left. It takes no
-/// memory.
-fn leave_users(table: &mut UsersByAspect, pid: Pid, touch: &Touch)
-    ensures { (u : Touched) → users_in table.new u ≡ cond (is_touch touch.now u)
+/// A process goes from the users of an aspect, which is forgotten where nobody is left, and the
+/// answer is whether nobody writes it any more. It takes no memory.
+fn leave_users(table: &mut UsersByAspect, pid: Pid, touch: &Touch) -> bool
+    ensures users { (u : Touched) → users_in table.new u ≡ cond (is_touch touch.now u)
         (without_pid pid (users_in table.old u)) (users_in table.old u) }
+    ensures no_writer { result ≡ true → users_in table.new (touch_on touch.now.aspect true) ≡ [] }
 {
-    if leave_aspect(table, pid, touch) {
+    let left = leave_aspect(table, pid, touch);
+    if left.nobody {
         table.remove(&touch.aspect);
     }
-}
-
-/// Whether somebody writes an aspect.
-fn is_written(table: &UsersByAspect, aspect: &Aspect) -> bool
-    ensures { result ≡ false → users_in table.now (touch_on aspect.now true) ≡ [] }
-{
-    match table.get(aspect) {
-        Some(users) => !users.writers.is_empty(),
-        None => false,
-    }
+    left.no_writer
 }
 
 fn writes_entry(touch: &Touch) -> bool
@@ -138,16 +146,13 @@ fn list_entry(written: &mut Entries, touch: &Touch) -> Result<(), AllocError>
     Ok(())
 }
 
-/// The entry that a touch writes is not among the written ones any more, where nobody writes it. It
-/// takes no memory.
-fn unlist_entry(table: &UsersByAspect, written: &mut Entries, touch: &Touch)
+/// An aspect is not among the written entries any more. It takes no memory.
+fn unlist_entry(written: &mut Entries, aspect: &Aspect)
     ensures keeps { (a : Touchable) → contains aspect_cmp written.old a ≡ true
-        → (users_in table.now (touch_on a true) ≡ [] → ⊥) → contains aspect_cmp written.new a ≡ true }
+        → (a ≡ aspect.now → ⊥) → contains aspect_cmp written.new a ≡ true }
     ensures ordered { IsOrdered aspect_cmp written.old → IsOrdered aspect_cmp written.new }
 {
-    if writes_entry(touch) && !is_written(table, &touch.aspect) {
-        written.remove(&touch.aspect);
-    }
+    written.remove(aspect);
 }
 
 /// A process uses an aspect, and the answer is whether it did not do so before. Where it did, it
@@ -177,8 +182,9 @@ pub fn leave(index: &mut Index, pid: Pid, touch: &Touch)
         (without_pid pid (users_on index.old u)) (users_on index.old u) }
     ensures listed { ListsWritten index.old → ListsWritten index.new }
 {
-    leave_users(&mut index.users, pid, touch);
-    unlist_entry(&index.users, &mut index.written, touch);
+    if leave_users(&mut index.users, pid, touch) && writes_entry(touch) {
+        unlist_entry(&mut index.written, &touch.aspect);
+    }
 }
 
 /// Whether the table of users has no more places than a small multiple of so many touches: to clear

@@ -15,7 +15,7 @@ returns-in-Ok-clause-listed c = λ listed. record {
 }
 
 pub returns-in-Err-clause-err : goal.returns-in-Err-clause-err
-returns-in-Err-clause-err c = undone c.args.index.now.users c.enter_users.new.table c.leave_users.new.table c.args.touch.now c.args.pid (not_true _ _ c.in_ok-enter_users.ensures.new c.if-not-branch.false) c.in_ok-enter_users.ensures.ok c.leave_users.ensures
+returns-in-Err-clause-err c = undone c.args.index.now.users c.enter_users.new.table c.leave_users.new.table c.args.touch.now c.args.pid (not_true _ _ c.in_ok-enter_users.ensures.new c.if-not-branch.false) c.in_ok-enter_users.ensures.ok c.leave_users.ensures.users
 
 pub returns-in-Err-clause-listed : goal.returns-in-Err-clause-listed
 returns-in-Err-clause-listed c = λ listed. record {
