@@ -1,10 +1,11 @@
--- A table of which nothing is held, and one of which a process holds nothing any more.
+-- A table of which nothing is held, one in which a process holds what it held, and one of which it
+-- holds nothing any more.
 use Rattle.std.proofs.Common.{◌≡◌, ◌≢◌, ℕ, zero, suc, ◌+◌, refl, sym, ◌∙◌, ap, true, false, Bool, [], None, unwrap_or}
-use Rattle.std.specs.Prelude.{if◌then◌else◌, ◌==◌}
+use Rattle.std.specs.Prelude.{if◌then◌else◌, ◌==◌, ◌&&◌}
 use Rattle.std.specs.Map.{lookup}
 use Rattle.std.specs.BTreeMap as tree
 use Rattle.std.specs.Ordering.{is_eq, nat_cmp}
-use Rattle.std.proofs.lemmas.Bool.{eqb-true, eqb-false}
+use Rattle.std.proofs.lemmas.Bool.{and_parts, eqb-true, eqb-false}
 use Rattle.model.specs.Moments.{count_below}
 use Rattle.list_modes.specs.Holding.{Held, Table, nothing, place_cmp, held_of, SetsHeld, LetsGo}
 use Rattle.list_modes.specs.Counted.{Counts, no_counts, tally, pids, IsCounted}
@@ -32,3 +33,12 @@ all_gone old now pid others none p d = by (p == pid) refl where
   by : (b : Bool) → (p == pid) ≡ b → held_of now.entries p d ≡ (if b then nothing else held_of old p d)
   by true same = ap (λ q. held_of now.entries q d) (eqb-true p pid same) ∙ ap (λ o. unwrap_or o nothing) (none d)
   by false ne = others p d (eqb-false p pid ne)
+
+-- a process holds of a directory what it held there
+pub held_again : (table : Table) (pid dir : ℕ) (held : Held) → held ≡ held_of table pid dir → SetsHeld table table pid dir held
+held_again table pid dir held is p d = by ((p == pid) && (d == dir)) refl where
+  by : (b : Bool) → ((p == pid) && (d == dir)) ≡ b → held_of table p d ≡ (if b then held else held_of table p d)
+  by true same =
+      let parts = and_parts (p == pid) (d == dir) same in
+      ap (λ q. held_of table q d) (eqb-true p pid parts.0) ∙ ap (held_of table pid) (eqb-true d dir parts.1) ∙ sym is
+  by false other = refl

@@ -6,7 +6,7 @@
 //! is one look-up.
 #![tactic(auto)]
 
-ghost use Rattle.std.specs.Prelude.{◌≡◌, ℕ, [], ◌||◌, OnErr, OnOk};
+ghost use Rattle.std.specs.Prelude.{◌≡◌, ℕ, [], ◌||◌, true, OnErr, OnOk};
 ghost use Rattle.list_modes.specs.Holding.{nothing, held_of, with_marks, IsPartOf, SetsHeld, LetsGo};
 ghost use Rattle.list_modes.specs.Holding.{IsBelow, mode_in, others_write};
 
@@ -34,6 +34,13 @@ impl Held {
         names_read: false,
         entry_written: false,
     };
+
+    /// Whether it did these already.
+    fn has(self, names_read: bool, entry_written: bool) -> bool
+        ensures { result ≡ true → with_marks self names_read entry_written ≡ self }
+    {
+        (self.names_read || !names_read) && (self.entry_written || !entry_written)
+    }
 
     /// Whether it did anything.
     pub fn is_some(self) -> bool
@@ -90,7 +97,8 @@ impl Holders {
     }
 
     /// A process holds these marks of a directory besides what it holds there. Refused memory
-    /// changes nothing; where it holds something there, none is asked for.
+    /// changes nothing; where it holds something there, none is asked for. Where it holds these
+    /// already, it is one look-up.
     pub fn hold(
         &mut self,
         dir: Num,
@@ -103,10 +111,10 @@ impl Holders {
         ensures err { OnErr result (self.new ≡ self.old) }
         ensures room { OnErr result (held_of self.old pid dir ≡ nothing) }
     {
-        if !names_read && !entry_written {
+        let before = self.held(dir, pid);
+        if before.has(names_read, entry_written) {
             return Ok(());
         }
-        let before = self.held(dir, pid);
         let after = Held {
             names_read: before.names_read || names_read,
             entry_written: before.entry_written || entry_written,
