@@ -1,7 +1,5 @@
 -- What is found is exactly what clashes.
-use Rattle.std.proofs.Common.{◌≡◌, ◌∙◌, sym, refl, ap, subst, ℕ, Bool, true, false, not, ◌&&◌, ◌||◌, ◌==◌, List, [], ◌∷◌, ◌++◌, length, arith}
-use Rattle.std.specs.Map.{lookup}
-use Rattle.std.specs.Ordering.{eq_by_cmp}
+use Rattle.std.proofs.Common.{◌≡◌, ◌∙◌, sym, refl, ap, subst, ℕ, Bool, true, false, not, ◌&&◌, ◌||◌, ◌==◌, List}
 use Rattle.std.specs.BTreeSet.{IsOrdered}
 use Rattle.std.proofs.lemmas.Bool.{and_parts, false≢true}
 use Rattle.std.proofs.lemmas.List.Folds.{list_any-append}
@@ -14,8 +12,8 @@ use Rattle.model.specs.Clashes.{same_aspect, names_against, clash}
 use Rattle.records.specs.Codes.{is_touch}
 use Rattle.records.specs.Groups.{AreDistinct, alike}
 use Rattle.records.specs.Marks.{mark_of}
-use Rattle.records.specs.Index.{side_at, users_on, holds, IsIndexed, ListsWritten}
-use Rattle.records.specs.Ranges.{touch_on, marks_of, marks_on, marks_of_writers, entries_of, marks_by_names, marks_on_aspect, clashing_marks}
+use Rattle.records.specs.Index.{users_on, holds, IsIndexed, ListsWritten}
+use Rattle.records.specs.Ranges.{touch_on, marks_on, marks_by_names, marks_on_aspect, clashing_marks}
 use Rattle.records.specs.Holders.{has_mark, AreEachOnce, AreHolders}
 use Rattle.records.specs.declared.index.Index.{Index}
 use Rattle.records.specs.declared.mark.Mark.{Mark}

@@ -1,5 +1,3 @@
-use Rattle.std.proofs.Common.{ap, ◌∙◌}
-use Rattle.records.specs.Touches.{touched_by}
 use Rattle.records.proofs.Active.{others_idle}
 use Rattle.records.proofs.journals.Journals.others_touched.Goals as goal
 
