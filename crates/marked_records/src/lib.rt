@@ -6,8 +6,8 @@
 //! counted for its list mode says so, and such a look is dropped before clashes are asked for.
 #![tactic(auto)]
 
-ghost use Rattle.std.specs.Prelude.{◌≡◌, ℕ, ◌<◌, ◌-◌, ◌++◌, ◌∷◌, [], length, take, set, get_or};
-ghost use Rattle.std.specs.Prelude.{not, IfOk, OnErr, OnOk};
+ghost use Rattle.std.specs.Prelude.{◌≡◌, ℕ, ◌<◌, ◌-◌, ◌++◌, ◌∷◌, [], false, length, take, set, get_or};
+ghost use Rattle.std.specs.Prelude.{not, List, IfOk, OnErr, OnOk};
 ghost use Rattle.list_modes.specs.Holding.{held_of};
 ghost use Rattle.model.specs.Steps.{Touch as OfModel};
 ghost use Rattle.records.specs.Touches.{touched_by, with_touches};
@@ -197,6 +197,14 @@ impl MarkedRecords {
         } else {
             Ok(Vec::new(heap))
         }
+    }
+
+    /// Whether a process other than the caller has touched something: where none has, nothing
+    /// clashes, whatever the caller touches. It takes no memory, and no look-up of an aspect.
+    pub fn others_touched(&self, caller: Pid) -> bool
+        ensures { result ≡ false → (touches : List OfModel) → AreClashes self.now caller touches [] }
+    {
+        self.records.others_touched(caller)
     }
 
     /// All clashes of these touches of a process with what others touched, in order. Where no other
