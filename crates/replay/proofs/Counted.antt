@@ -5,7 +5,7 @@ use Rattle.std.proofs.lemmas.List.Sums.{sum_by-cons, sum_by_more}
 use Rattle.model.specs.FiniteMap.{entries}
 use Rattle.model.specs.State.{Kernel, ends, links}
 use Rattle.model.specs.Changes.{holders, openings, is_held, is_reached}
-use Rattle.replay.specs.Counts.{given_by, held_by, is_open, ended_by}
+use Rattle.replay.specs.Counts.{given_by, held_by, is_open, ended_by, opened_by_all}
 
 either : (m n : ℕ) (b : Bool) → b ≡ nat_lt 0 n → (nat_lt 0 m || b) ≡ nat_lt 0 (m + n)
 either m n b h = grind (arith, h)
@@ -52,6 +52,6 @@ pub held_is : (k : Kernel) (d : ℕ) → is_held k d ≡ list_any (λ e. nat_lt 
 unfolding holders
 held_is k d = sym (any-values (held_by d) (entries k.processes))
 
-pub reached_is : (k : Kernel) (n : ℕ) → is_reached k n ≡ (n == k.root) || (nat_lt 0 (links k n) || list_any (λ e. e.1.inode == n) (entries k.descriptions))
+pub reached_is : (k : Kernel) (n : ℕ) → is_reached k n ≡ (n == k.root) || (nat_lt 0 (links k n) || nat_lt 0 (opened_by_all k.descriptions n))
 unfolding openings
-reached_is k n = ap (λ b. (n == k.root) || (nat_lt 0 (links k n) || b)) (sym (any-counted (λ d. d.inode == n) (entries k.descriptions)))
+reached_is k n = refl

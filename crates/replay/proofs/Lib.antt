@@ -8,6 +8,7 @@ mod Counted
 mod Maps
 mod Trees
 mod Linked
+mod Opened
 mod Setting
 mod Keeping
 mod Starting

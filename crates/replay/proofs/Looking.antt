@@ -1,12 +1,12 @@
 -- What a look at a plain kernel tells.
 use Rattle.std.proofs.Common.{◌≡◌, ℕ, ◌+◌, ◌<◌, Bool, true, false, ◌||◌, ◌==◌, nat_lt, List, [], ◌∷◌, length, map, take, drop, Option, Some, None, Result, Ok, Err, IfOk, refl, sym, ap, ◌∙◌, arith, ◌++◌, get_or, ◌^◌, ◌-◌, length-drop, length-take, nat_cmp}
 use Rattle.std.specs.Prelude.{min}
-use Rattle.std.specs.List.{list_any}
 use Rattle.std.proofs.lemmas.List.{map_more}
 use Rattle.model.specs.FiniteMap.{get, entries, entries-empty}
 use Rattle.model.specs.State.{Name, Kernel, Kind, Description, Process, entry_of, kind_of, links, mapped, names_of}
 use Rattle.model.specs.Changes.{process_of, or_new, is_reached}
 use Rattle.model.specs.Calls.{Slot, slot_of}
+use Rattle.replay.specs.Counts.{opened_by_all}
 use Rattle.replay.proofs.Counted.{reached_is}
 
 -- what a name gives, with its kind
@@ -56,8 +56,8 @@ end_small (Ok a) bytes offset count low few is =
 abbrev pub named : Kernel → ℕ → Bool
 named k n = nat_lt 0 (links k n)
 
-abbrev opened : Kernel → ℕ → Bool
-opened k n = list_any (λ e. e.1.inode == n) (entries k.descriptions)
+abbrev pub opened : Kernel → ℕ → Bool
+opened k n = nat_lt 0 (opened_by_all k.descriptions n)
 
 early : (a m o v : Bool) → v ≡ (a || m) → v ≡ true → true ≡ (a || (m || o))
 early true m o v is met = refl

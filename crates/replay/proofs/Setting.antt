@@ -1,8 +1,7 @@
 -- What a write to one map of a kernel makes of it.
-use Rattle.std.proofs.Common.{◌≡◌, ℕ, [], Option, Some, None, Result, Ok, Err, IfOk, OnOk, nat_cmp, refl, ap, ◌∙◌}
-use Rattle.std.proofs.lemmas.Option.{same_Some}
-use Rattle.model.specs.FiniteMap.{FinMap, empty, insert, remove}
-use Rattle.model.specs.State.{Kernel, Inode, File, Description, Process, mapped}
+use Rattle.std.proofs.Common.{◌≡◌, ℕ, [], Option, Some, None, MatchOption, Result, Ok, Err, IfOk, OnOk, nat_cmp, refl, ap, ◌∙◌}
+use Rattle.model.specs.FiniteMap.{FinMap, get, empty, insert, remove}
+use Rattle.model.specs.State.{Kernel, Inode, File, Description, Process}
 use Rattle.model.specs.Changes.{Mode, at_offset, at_start, open_at, or_new, process_of, set_description, set_inode, set_offset, set_process, with_slot, without_slot}
 use Rattle.replay.proofs.Maps.{set_twice, set_removed}
 
@@ -37,13 +36,14 @@ pub process_made : (p : Process) (t : FinMap nat_cmp ℕ) (o : Option Process) �
 process_made p t o e f g = f ∙ ap (λ (x : FinMap nat_cmp ℕ). record { table = x; priority = 0 }) e ∙ ap or_new g
 
 -- the offset of a description that is there, and of one that is not
-pub offset_set : (k after : Kernel) (n offset : ℕ) (o : Option Description) (d : Description) → Some d ≡ mapped (at_offset offset) o → after ≡ set_description n d k → after ≡ set_offset n offset o k
-offset_set k after n offset None d e h = absurd cc
-offset_set k after n offset (Some old) d e h = h ∙ ap (λ (x : Description). set_description n x k) (same_Some _ _ e)
+offset_by : (k : Kernel) (n offset : ℕ) (o : Option Description) (m : FinMap nat_cmp Description)
+    → MatchOption o (m ≡ k.descriptions) (λ old. m ≡ insert k.descriptions n (at_offset offset old)) → record k { descriptions = m } ≡ set_offset n offset o k
+offset_by k n offset None m is = ap (λ (x : FinMap nat_cmp Description). record k { descriptions = x }) is
+offset_by k n offset (Some old) m is = ap (λ (x : FinMap nat_cmp Description). record k { descriptions = x }) is
 
-pub offset_kept : (k : Kernel) (n offset : ℕ) (o : Option Description) → None ≡ mapped (at_offset offset) o → k ≡ set_offset n offset o k
-offset_kept k n offset None e = refl
-offset_kept k n offset (Some old) e = absurd cc
+pub offset_set : (a k : Kernel) (m : FinMap nat_cmp Description) (n offset : ℕ) → a ≡ k
+    → MatchOption (get a.descriptions n) (m ≡ a.descriptions) (λ old. m ≡ insert a.descriptions n (at_offset offset old)) → record a { descriptions = m } ≡ set_offset n offset (get k.descriptions n) k
+offset_set a k m n offset e is = offset_by a n offset (get a.descriptions n) m is ∙ ap (λ (x : Kernel). set_offset n offset (get x.descriptions n) x) e
 
 -- a description at its beginning, with its slot
 pub opened_at : (k after : Kernel) (d n : ℕ) (m mode : Mode) (pid f : ℕ) (it : Description) → it ≡ at_start n m → m ≡ mode

@@ -37,6 +37,15 @@ given_once n (Some m) = cond (m == n) 1 0
 abbrev pub given_by_all : FinMap nat_cmp Inode → ℕ → ℕ
 given_by_all inodes n = sum_by (given_by n) (values inodes)
 
+-- how many of these descriptions are open on n
+abbrev pub opened_by_all : FinMap nat_cmp Description → ℕ → ℕ
+opened_by_all descriptions n = count_by (λ d. d.inode == n) (values descriptions)
+
+-- how often one description is open on n, if there is one
+abbrev pub opened_once : ℕ → Option Description → ℕ
+opened_once n None = 0
+opened_once n (Some d) = cond (d.inode == n) 1 0
+
 -- what is counted of n, where what is not there counts 0
 abbrev pub count_at : FinMap nat_cmp ℕ → ℕ → ℕ
 count_at counts n = unwrap_or (get counts n) 0
@@ -44,3 +53,7 @@ count_at counts n = unwrap_or (get counts n) 0
 -- the counts are those of the names that give each number
 abbrev pub AreCounted : FinMap nat_cmp Inode → FinMap nat_cmp ℕ → Type 0
 AreCounted inodes counts = (n : ℕ) → count_at counts n ≡ given_by_all inodes n
+
+-- the counts are those of the descriptions that are open on each inode
+abbrev pub AreOpened : FinMap nat_cmp Description → FinMap nat_cmp ℕ → Type 0
+AreOpened descriptions counts = (n : ℕ) → count_at counts n ≡ opened_by_all descriptions n

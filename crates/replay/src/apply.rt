@@ -146,20 +146,10 @@ impl PlainKernel {
     }
 
     // A description's offset.
-    fn set_offset(&mut self, num: Num, offset: u32) -> Result<(), AllocError>
-        ensures { OnOk result
-            (self.new ≡ set_offset num offset (get self.old.descriptions num) self.old) }
+    fn set_offset(&mut self, num: Num, offset: u32)
+        ensures { self.new ≡ set_offset num offset (get self.old.descriptions num) self.old }
     {
-        match self.descriptions.get(num) {
-            Some(description) => {
-                let moved = Description {
-                    offset,
-                    ..*description
-                };
-                self.set_description(num, moved)
-            }
-            None => Ok(()),
-        }
+        self.descriptions.set_offset(num, offset);
     }
 
     // A description.
@@ -408,7 +398,10 @@ impl PlainKernel {
             Edit::SetOffset {
                 description,
                 offset,
-            } => self.set_offset(*description, *offset),
+            } => {
+                self.set_offset(*description, *offset);
+                Ok(())
+            }
             Edit::OpenInode {
                 index,
                 inode,

@@ -23,6 +23,7 @@ ghost use Rattle.replay.specs.declared.audit.Stop.TheVariants.{NoMemory};
 
 use crate::answers::is_reply;
 use crate::beginning::Beginning;
+use crate::descriptions::Descriptions;
 use crate::inode::Inode;
 use crate::inodes::Inodes;
 use crate::names::Names;
@@ -323,7 +324,7 @@ impl Audit {
                 kernel: PlainKernel {
                     root,
                     inodes,
-                    descriptions: Table::new(heap),
+                    descriptions: Descriptions::new(heap),
                     processes,
                     made,
                     largest: beginning.largest,

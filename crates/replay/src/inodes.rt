@@ -6,9 +6,9 @@ ghost use Rattle.model.specs.FiniteMap as map;
 ghost use Rattle.model.specs.State.{File as A_file, Directory as A_directory, names_of_inode};
 ghost use Rattle.replay.specs.Counts.{count_at, given_by_all, given_once};
 
+use crate::counts::{count_of, gain, lose_some};
 use crate::inode::{Inode, lose_all, names_out};
 use crate::names::Names;
-use crate::plain::counted;
 use crate::tree::Tree;
 use heap::Heap;
 use ids::{Name, Num};
@@ -185,39 +185,7 @@ fn set_name(
     let mut names = names_taken(each, heap, dir)?;
     let before = names.insert(name, num)?;
     each.set(dir, Inode::directory(names))?;
-    let more = counted(count_of(counts, num), 1)?;
-    counts.set(num, more)?;
+    gain(counts, num)?;
     lose_some(counts, before);
     Ok(())
-}
-
-// What is counted of a number.
-fn count_of(counts: &Tree<usize>, num: Num) -> usize
-    ensures { result ≡ count_at counts.now num }
-{
-    match counts.get(num) {
-        Some(count) => *count,
-        None => 0,
-    }
-}
-
-// One name less gives a number. What counts 0 is not kept.
-pub(crate) fn lose(counts: &mut Tree<usize>, num: Num)
-    ensures { (n : ℕ) → count_at counts.new n ≡ count_at counts.old n - cond (num == n) 1 0 }
-{
-    let count = count_of(counts, num);
-    if count > 1 {
-        counts.change(num, count - 1);
-    } else {
-        let _before = counts.remove(num);
-    }
-}
-
-// One name less gives this number, if it is one.
-fn lose_some(counts: &mut Tree<usize>, num: Option<Num>)
-    ensures { (n : ℕ) → count_at counts.new n ≡ count_at counts.old n - given_once n num }
-{
-    if let Some(num) = num {
-        lose(counts, num);
-    }
 }

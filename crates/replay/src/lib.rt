@@ -13,6 +13,8 @@ mod audit;
 mod beginning;
 mod checker;
 mod checking;
+mod counts;
+mod descriptions;
 mod free;
 mod inode;
 mod inodes;

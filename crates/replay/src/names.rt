@@ -5,7 +5,7 @@ ghost use Rattle.model.specs.FiniteMap as map;
 ghost use Rattle.model.specs.Paths.{is_empty};
 ghost use Rattle.replay.specs.Counts.{count_at, times_given};
 
-use crate::inodes::lose;
+use crate::counts::lose;
 use crate::tree::Tree;
 use heap::Heap;
 use ids::{Name, NameList, Num};

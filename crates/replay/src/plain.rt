@@ -1,5 +1,5 @@
-// The plain kernel: whole maps. How many names give each number is counted as names come and go;
-// openings and holders are counted when they are asked for.
+// The plain kernel: whole maps. How many names give each number is counted as names come and go, and
+// how many descriptions open it likewise; holders are counted when they are asked for.
 ghost use Rattle.std.specs.Prelude.{◌≡◌, ◌+◌, nat_lt, IfOk, Some, None, option_copied};
 ghost use Rattle.model.specs.FiniteMap.{get};
 ghost use Rattle.model.specs.State.{Kernel, Description as Opened, ends, is_end, links, kind_of};
@@ -8,6 +8,7 @@ ghost use Rattle.model.specs.Changes.{process_of, or_new, holders, openings, is_
 ghost use Rattle.model.specs.Moments.{is_alive};
 ghost use Rattle.replay.specs.Counts.{given_by, held_by, is_open, ended_by};
 
+use crate::descriptions::Descriptions;
 use crate::inode::{given_in, is_empty_in, kind_in, names_in, pipe_in, read_in, size_in};
 use crate::inodes::Inodes;
 use crate::table::Table;
@@ -80,7 +81,7 @@ impl Model for Process {
 pub(crate) struct PlainKernel {
     pub(crate) root: Num,
     pub(crate) inodes: Inodes,
-    pub(crate) descriptions: Table<Description>,
+    pub(crate) descriptions: Descriptions,
     pub(crate) processes: Table<Process>,
     pub(crate) made: u32,
     pub(crate) largest: u32,
@@ -184,13 +185,7 @@ impl PlainKernel {
     pub(crate) fn is_reached(&self, inode: Num) -> bool
         ensures { result ≡ is_reached self.now inode }
     {
-        inode == self.root
-            || self.inodes.count(inode) > 0
-            || self
-                .descriptions
-                .as_slice()
-                .iter()
-                .any(|slot| slot.1.inode == inode)
+        inode == self.root || self.inodes.count(inode) > 0 || self.descriptions.count(inode) > 0
     }
 }
 
@@ -226,7 +221,7 @@ impl Process {
     }
 
     // How many of its descriptors are open so on a pipe.
-    fn open_ends(&self, descriptions: &Table<Description>, pipe: Num, writing: bool) -> usize
+    fn open_ends(&self, descriptions: &Descriptions, pipe: Num, writing: bool) -> usize
         ensures { (k : Kernel) → k.descriptions ≡ descriptions.now
             → result ≡ ended_by k pipe writing self.now }
     {

@@ -59,9 +59,10 @@ impl<T: Drop> Tree<T> {
         Ok(self.slots.insert(num, value)?)
     }
 
-    // A number gets a value.
+    // A number gets a value. Refused memory changes nothing.
     pub(crate) fn set(&mut self, num: Num, value: T) -> Result<(), AllocError>
-        ensures { OnOk result (self.new ≡ map.insert self.old num value) }
+        ensures changed { OnOk result (self.new ≡ map.insert self.old num value) }
+        ensures err { OnErr result (self.new ≡ self.old) }
     {
         drop(self.insert(num, value)?);
         Ok(())

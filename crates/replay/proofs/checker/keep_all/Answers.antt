@@ -23,7 +23,7 @@ loop-position-preserved g c =
     let one : AreHeld g.es after × (get after p ≢ None) × Grows before after = elim c.match-entry.branch [
       | in-Some+in_ok-try_clone+in_ok-set w ↦
           let here = subst (HoldsEntry g.es p) (sym w.in_ok-try_clone.ensures) (subst (Finds g.es p) (ap option_copied w.in-Some.is) found) in
-          subst (λ (m : FinMap nat_cmp Entry). AreHeld g.es m × (get m p ≢ None) × Grows before m) (sym (w.kept-is ∙ w.in_ok-set.ensures))
+          subst (λ (m : FinMap nat_cmp Entry). AreHeld g.es m × (get m p ≢ None) × Grows before m) (sym (w.kept-is ∙ w.in_ok-set.ensures.changed))
           (held_more g.es before p _ c.loop-position.invariant.0 here, there_more before p _, grows_more before p _)
       | in_default w ↦
           let past = subst (Finds g.es p) (ap option_copied w.in_default.is) found in

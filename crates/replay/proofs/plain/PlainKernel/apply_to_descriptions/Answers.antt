@@ -3,7 +3,7 @@ use Rattle.replay.proofs.Setting.{if_ok}
 use Rattle.replay.proofs.plain.PlainKernel.apply_to_descriptions.Goals as goal
 
 pub returns-in-SetOffset : goal.returns-in-SetOffset
-returns-in-SetOffset c = if_ok c.set_offset.result c.set_offset.ensures (λ h. edited _ _ _ _ _ c.in-SetOffset.is (sets_offset _ _ _ _ _ h))
+returns-in-SetOffset c = edited _ _ _ _ _ c.in-SetOffset.is (sets_offset _ _ _ _ _ c.set_offset.ensures)
 
 pub returns-in-OpenInode : goal.returns-in-OpenInode
 returns-in-OpenInode c = if_ok c.open_at.result c.open_at.ensures (λ h. edited _ _ _ _ _ c.in-OpenInode.is (opens _ _ _ _ _ _ _ _ _ _ _ c.made-num.ensures c.number.ensures c.at_start-opened.ensures h))

@@ -1,12 +1,7 @@
-use Rattle.std.proofs.Common.{◌≡◌, ◌||◌, ◌==◌, nat_lt, List, ℕ, sym, ap, ◌∙◌, rules, tests}
-use Rattle.std.specs.List.{list_any}
-use Rattle.std.proofs.lemmas.Iterator.{YieldsList-from_slice}
-use Rattle.std.proofs.lemmas.Iterator.Search.{any_from_yields_List}
-use Rattle.model.specs.FiniteMap.{entries}
-use Rattle.model.specs.State.{Description}
+use Rattle.std.proofs.Common.{◌≡◌, ◌||◌, ◌==◌, nat_lt, ℕ, sym, ap, ◌∙◌}
 use Rattle.replay.specs.Counts.{given_by_all}
 use Rattle.replay.proofs.Counted.{links_is}
-use Rattle.replay.proofs.Looking.{named, reached_early, reached_late}
+use Rattle.replay.proofs.Looking.{named, opened, reached_early, reached_late}
 use Rattle.replay.proofs.plain.PlainKernel.is_reached.Goals as goal
 use Rattle.replay.proofs.plain.PlainKernel.is_reached.Goals.{then-eq, else-eq}
 
@@ -32,6 +27,5 @@ returns-else-count-gt0 c =
           ∙ ap (λ k. nat_lt 0 (given_by_all k.inodes n)) c.self.view_is ∙ ap (nat_lt 0) (sym (links_is k n))
           ∙ ap (λ b. b || named k n) w.if-eq.ensures
     ] in
-    let any : c.any.result ≡ list_any (λ e. e.1.inode == n) c.as_slice.result.now = any_from_yields_List (λ e. e.1.inode == n) _ _ _ c.any.ensures.ran (YieldsList-from_slice c.as_slice.result.now cc) (λ x b q k. search (rules, tests)) in
-    reached_late k n c.self.inside.root c.if-eq.value (ap (λ k. k.root) c.self.view_is) told c.any.result c.if-count-gt0.false
-    (any ∙ ap (λ (es : List (ℕ × Description)). list_any (λ e. e.1.inode == n) es) (c.as_slice.ensures ∙ ap (λ k. entries k.descriptions) c.self.view_is))
+    reached_late k n c.self.inside.root c.if-eq.value (ap (λ k. k.root) c.self.view_is) told _ c.if-count-gt0.false
+    (ap (nat_lt 0) c.count-else-count-gt0.ensures ∙ ap (λ k. opened k n) c.self.view_is)

@@ -1,7 +1,7 @@
 use Rattle.std.proofs.Common.{◌≡◌, ap, ◌∙◌, arith}
 use Rattle.replay.specs.Counts.{count_at}
 use Rattle.replay.proofs.Linked.{lost, lost_last}
-use Rattle.replay.proofs.inodes.lose.Goals as goal
+use Rattle.replay.proofs.counts.lose.Goals as goal
 
 pub returns-then-count-gt1 : goal.returns-then-count-gt1
 returns-then-count-gt1 c = λ n.
