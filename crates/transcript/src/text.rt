@@ -62,6 +62,10 @@ fn put_bytes<S: Sink>(out: &mut Printer<'_, S>, bytes: &[u8])
     }
 }
 
+// How long a text is, at most, that is spelled with no look whether each byte stands for itself: for a
+// shorter one the look takes longer than it spares.
+const SHORT: usize = 16;
+
 // Bytes as a script spells them.
 #[tactic(auto, unfolding(crate::specs::Text::text_of))]
 pub(crate) fn put_text<S: Sink>(out: &mut Printer<'_, S>, text: &[u8])
@@ -69,7 +73,9 @@ pub(crate) fn put_text<S: Sink>(out: &mut Printer<'_, S>, text: &[u8])
     ensures { Prints S.written S.failures out.old out.new (text_of text.now) }
 {
     if text.is_empty() {
-        out.put(b"\\e");
+        out.put_word(b"\\e");
+    } else if text.len() <= SHORT {
+        out.put_portion(text);
     } else {
         put_bytes(out, text);
     }
