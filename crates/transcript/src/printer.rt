@@ -160,11 +160,14 @@ impl<'a, S: Sink> Printer<'a, S> {
     }
 
     /// Prints a number in decimal.
+    #[inline]
     pub fn put_decimal(&mut self, n: u64)
         requires { CanPrint S.failures self.old }
         ensures { Prints S.written S.failures self.old self.new (decimal n) }
     {
-        if self.pending.has_room(MOST_DIGITS) {
+        if n < 10 {
+            self.put_word(&[b'0' + n as u8]);
+        } else if self.pending.has_room(MOST_DIGITS) {
             self.pending.append_decimal(n);
         } else {
             self.put_decimal_over(n);

@@ -43,7 +43,9 @@ fn split_plain(text: &[u8]) -> (&[u8], &[u8])
 }
 
 // Each byte in its spelling. Portions that follow each other and need no other spelling are printed
-// together, so that a long run of them is written at once.
+// together, so that a long run of them is written at once. Out of line, so that a short text takes
+// little.
+#[inline(never)]
 fn put_bytes<S: Sink>(out: &mut Printer<'_, S>, bytes: &[u8])
     requires { CanPrint S.failures out.old }
     ensures { Prints S.written S.failures out.old out.new (flat_map byte_text bytes.now) }
