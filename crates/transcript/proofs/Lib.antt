@@ -1,3 +1,4 @@
+mod Decimals
 pub mod Laws
 pub mod Lines
 pub mod Names

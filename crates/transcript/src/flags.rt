@@ -17,12 +17,12 @@ fn put_access<S: Sink>(out: &mut Printer<'_, S>, reads: bool, writes: bool) -> b
 {
     if reads {
         if writes {
-            out.put(b"RDWR");
+            out.put_word(b"RDWR");
         } else {
-            out.put(b"RDONLY");
+            out.put_word(b"RDONLY");
         }
     } else if writes {
-        out.put(b"WRONLY");
+        out.put_word(b"WRONLY");
     }
     reads || writes
 }
@@ -41,7 +41,7 @@ fn put_name<S: Sink>(out: &mut Printer<'_, S>, any: bool, has: bool, name: &[u8]
         out.put(name);
         return true;
     }
-    out.put(b",");
+    out.put_word(b",");
     out.put(name);
     true
 }
@@ -64,7 +64,7 @@ pub(crate) fn put_flags<S: Sink>(out: &mut Printer<'_, S>, flags: OpenFlags)
     ensures { Prints S.written S.failures out.old out.new (flags_text flags) }
 {
     if !put_names(out, flags) {
-        out.put(b"-");
+        out.put_word(b"-");
     }
 }
 

@@ -4,6 +4,7 @@
 //! 8 KiB. Other lines can stand between those of entries: they go through one [`Printer`].
 #![tactic(auto)]
 
+mod digits;
 mod flags;
 mod line;
 mod operation;

@@ -40,12 +40,12 @@ pub fn put_line<S: Sink>(out: &mut Printer<'_, S>, position: usize, entry: &Entr
 {
     out.put_decimal(position as u64);
     out.put_number(b" P", entry.pid.0);
-    out.put(b" ");
+    out.put_word(b" ");
     put_op(out, &entry.op);
-    out.put(b" -> ");
+    out.put_word(b" -> ");
     put_reply(out, &entry.reply);
     put_dooms(out, entry.doomed.as_slice());
-    out.put(b"\n");
+    out.put_word(b"\n");
 }
 
 fn put_lines<S: Sink>(out: &mut Printer<'_, S>, first: usize, entries: &[Entry])

@@ -23,15 +23,20 @@ fn whence_text(whence: Whence) -> &'static [u8]
     }
 }
 
-fn put_path<S: Sink>(out: &mut Printer<'_, S>, word: &[u8], path: &Bytes)
+fn put_path<S: Sink, const N: usize>(out: &mut Printer<'_, S>, word: &[u8; N], path: &Bytes)
     requires { CanPrint S.failures out.old }
     ensures { Prints S.written S.failures out.old out.new (path_text word.now path.now) }
 {
-    out.put(word);
+    out.put_word(word);
     put_text(out, path.as_slice());
 }
 
-fn put_paths<S: Sink>(out: &mut Printer<'_, S>, word: &[u8], first: &Bytes, second: &Bytes)
+fn put_paths<S: Sink, const N: usize>(
+    out: &mut Printer<'_, S>,
+    word: &[u8; N],
+    first: &Bytes,
+    second: &Bytes,
+)
     requires { CanPrint S.failures out.old }
     ensures { Prints S.written S.failures out.old out.new
         (paths_text word.now first.now second.now) }
@@ -40,7 +45,12 @@ fn put_paths<S: Sink>(out: &mut Printer<'_, S>, word: &[u8], first: &Bytes, seco
     put_path(out, b" ", second);
 }
 
-fn put_numbers<S: Sink>(out: &mut Printer<'_, S>, word: &[u8], first: u32, second: u32)
+fn put_numbers<S: Sink, const N: usize>(
+    out: &mut Printer<'_, S>,
+    word: &[u8; N],
+    first: u32,
+    second: u32,
+)
     requires { CanPrint S.failures out.old }
     ensures { Prints S.written S.failures out.old out.new (numbers_text word.now first second) }
 {
@@ -54,7 +64,7 @@ fn put_open<S: Sink>(out: &mut Printer<'_, S>, path: &Bytes, flags: OpenFlags)
         (codes "open " ++ text_of path.now ++ codes " " ++ flags_text flags) }
 {
     put_path(out, b"open ", path);
-    out.put(b" ");
+    out.put_word(b" ");
     put_flags(out, flags);
 }
 
@@ -64,11 +74,16 @@ fn put_pread<S: Sink>(out: &mut Printer<'_, S>, fd: u32, count: u32, offset: i64
         (numbers_text (codes "pread ") fd count ++ codes " " ++ signed_decimal offset) }
 {
     put_numbers(out, b"pread ", fd, count);
-    out.put(b" ");
+    out.put_word(b" ");
     out.put_signed(offset);
 }
 
-fn put_bytes<S: Sink>(out: &mut Printer<'_, S>, word: &[u8], fd: u32, bytes: &Bytes)
+fn put_bytes<S: Sink, const N: usize>(
+    out: &mut Printer<'_, S>,
+    word: &[u8; N],
+    fd: u32,
+    bytes: &Bytes,
+)
     requires { CanPrint S.failures out.old }
     ensures { Prints S.written S.failures out.old out.new (bytes_text word.now fd bytes.now) }
 {
@@ -82,7 +97,7 @@ fn put_pwrite<S: Sink>(out: &mut Printer<'_, S>, fd: u32, bytes: &Bytes, offset:
         (bytes_text (codes "pwrite ") fd bytes.now ++ codes " " ++ signed_decimal offset) }
 {
     put_bytes(out, b"pwrite ", fd, bytes);
-    out.put(b" ");
+    out.put_word(b" ");
     out.put_signed(offset);
 }
 
@@ -93,9 +108,9 @@ fn put_lseek<S: Sink>(out: &mut Printer<'_, S>, fd: u32, offset: i64, whence: Wh
         ++ whence_text whence) }
 {
     out.put_number(b"lseek ", fd);
-    out.put(b" ");
+    out.put_word(b" ");
     out.put_signed(offset);
-    out.put(b" ");
+    out.put_word(b" ");
     out.put(whence_text(whence));
 }
 
@@ -132,9 +147,9 @@ fn put_call<S: Sink>(out: &mut Printer<'_, S>, call: &Call)
         Call::List(path) => put_path(out, b"list ", path),
         Call::Dup(fd) => out.put_number(b"dup ", fd.0),
         Call::Dup2(old, new) => put_numbers(out, b"dup2 ", old.0, new.0),
-        Call::Pipe => out.put(b"pipe"),
-        Call::Fork => out.put(b"fork"),
-        Call::Exit => out.put(b"exit"),
+        Call::Pipe => out.put_word(b"pipe"),
+        Call::Fork => out.put_word(b"fork"),
+        Call::Exit => out.put_word(b"exit"),
     }
 }
 
@@ -143,7 +158,7 @@ fn put_begin<S: Sink>(out: &mut Printer<'_, S>, flags: BeginFlags)
     ensures { Prints S.written S.failures out.old out.new
         (codes "begin" ++ begin_flags_text flags) }
 {
-    out.put(b"begin");
+    out.put_word(b"begin");
     out.put(begin_flags_text(flags));
 }
 
@@ -154,8 +169,8 @@ pub(crate) fn put_op<S: Sink>(out: &mut Printer<'_, S>, op: &Op)
     match op {
         Op::Call(call) => put_call(out, call),
         Op::Begin(flags) => put_begin(out, *flags),
-        Op::End => out.put(b"end"),
-        Op::Abort { no_restart: true } => out.put(b"abort no_restart"),
-        Op::Abort { no_restart: false } => out.put(b"abort"),
+        Op::End => out.put_word(b"end"),
+        Op::Abort { no_restart: true } => out.put_word(b"abort no_restart"),
+        Op::Abort { no_restart: false } => out.put_word(b"abort"),
     }
 }

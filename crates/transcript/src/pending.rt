@@ -1,9 +1,12 @@
 // Bytes that are printed and not yet written.
-ghost use Rattle.std.specs.Prelude.{◌≡◌, ◌+◌, ◌*◌, ◌≤◌, ◌++◌, [], flat_map, length, nat_le};
+ghost use Rattle.std.specs.Prelude.{◌≡◌, ◌+◌, ◌*◌, ◌≤◌, ◌++◌, [], decimal, flat_map, length, nat_le};
 ghost use Rattle.transcript.specs.Text.{byte_text};
+ghost use Rattle.transcript.specs.declared.digits.TheConstants.{MOST_DIGITS};
 ghost use Rattle.transcript.specs.declared.spelling.TheConstants.{WIDTH};
 
+use crate::digits::{MOST_DIGITS, count_digits};
 use crate::spelling::{WIDTH, spell};
+use itoa::write_digits;
 use std::marker::Model;
 
 // How many bytes are gathered before they are written.
@@ -40,11 +43,11 @@ impl Pending {
         }
     }
 
-    // Whether there is room for the text too.
-    pub(crate) fn fits(&self, text: &[u8]) -> bool
-        ensures { result ≡ nat_le (length self.now + length text.now) CAPACITY }
+    // Whether there is room for so many bytes more.
+    pub(crate) fn has_room(&self, count: usize) -> bool
+        ensures { result ≡ nat_le (length self.now + count) CAPACITY }
     {
-        text.len() <= CAPACITY - self.len
+        count <= CAPACITY - self.len
     }
 
     pub(crate) fn append(&mut self, text: &[u8])
@@ -56,17 +59,19 @@ impl Pending {
         self.len = end;
     }
 
-    // Whether there is room for a portion more, however its bytes are spelled.
-    pub(crate) fn has_room(&self) -> bool
-        ensures { result ≡ nat_le (length self.now + PORTION * WIDTH) CAPACITY }
+    // Appends the digits of a number, each where it will stand.
+    pub(crate) fn append_decimal(&mut self, n: u64)
+        requires { length self.old + MOST_DIGITS ≤ CAPACITY }
+        ensures { self.new ≡ self.old ++ decimal n }
     {
-        self.len <= CAPACITY - PORTION * WIDTH
+        let end = self.len + count_digits(n);
+        write_digits(n, &mut self.bytes, end);
+        self.len = end;
     }
 
-    // Appends the bytes of a portion in their spelling.
+    // Appends bytes in their spelling.
     pub(crate) fn spell(&mut self, bytes: &[u8])
-        requires room { length self.old + PORTION * WIDTH ≤ CAPACITY }
-        requires portion { length bytes.now ≤ PORTION }
+        requires { length self.old + length bytes.now * WIDTH ≤ CAPACITY }
         ensures { self.new ≡ self.old ++ flat_map byte_text bytes.now }
     {
         self.len = spell(&mut self.bytes, self.len, bytes);

@@ -4,9 +4,10 @@ ghost use Rattle.std.specs.Prelude.{OnErr, OnOk};
 ghost use Rattle.std.specs.Fmt.{signed_decimal};
 ghost use Rattle.device.specs.Device.{CanCount};
 
+use crate::digits::MOST_DIGITS;
 use crate::pending::{PORTION, Pending};
+use crate::spelling::WIDTH;
 use device::{DeviceFailed, Sink, write_all};
-use itoa::Buffer;
 
 /// Prints to a sink until the sink fails, and then no more. What is printed is gathered, up to 8
 /// KiB, before it is written: all of it is written once [`Printer::finish`] returns Ok.
@@ -76,13 +77,16 @@ impl<'a, S: Sink> Printer<'a, S> {
     }
 
     // Prints bytes for which there is no room: what is pending is written first, and they are written
-    // too if there are more of them than are ever gathered.
+    // too if there are more of them than are ever gathered. Out of line, so that where there is room
+    // little is done.
+    #[cold]
+    #[inline(never)]
     fn put_over(&mut self, text: &[u8])
         requires { CanPrint S.failures self.old }
         ensures { Prints S.written S.failures self.old self.new text.now }
     {
         self.flush();
-        if self.pending.fits(text) {
+        if self.pending.has_room(text.len()) {
             self.pending.append(text);
         } else {
             self.write(text);
@@ -90,19 +94,37 @@ impl<'a, S: Sink> Printer<'a, S> {
     }
 
     /// Prints bytes as they are.
+    #[inline]
     pub fn put(&mut self, text: &[u8])
         requires { CanPrint S.failures self.old }
         ensures { Prints S.written S.failures self.old self.new text.now }
     {
-        if self.pending.fits(text) {
+        if self.pending.has_room(text.len()) {
             self.pending.append(text);
         } else {
             self.put_over(text);
         }
     }
 
+    // Prints a word of which the length is known where it is compiled. A copy of it is put: of the word
+    // itself would be asked, each time, whether it overlaps what is pending.
+    #[inline(always)]
+    pub(crate) fn put_word<const N: usize>(&mut self, word: &[u8; N])
+        requires { CanPrint S.failures self.old }
+        ensures { Prints S.written S.failures self.old self.new word.now }
+    {
+        let copy = *word;
+        if self.pending.has_room(N) {
+            self.pending.append(&copy);
+        } else {
+            self.put_over(word);
+        }
+    }
+
     // Prints the bytes of a portion in their spelling, where there is no room for them: what is pending
     // is written first.
+    #[cold]
+    #[inline(never)]
     fn put_portion_over(&mut self, bytes: &[u8])
         requires can { CanPrint S.failures self.old }
         requires portion { length bytes.now ≤ PORTION }
@@ -118,28 +140,46 @@ impl<'a, S: Sink> Printer<'a, S> {
         requires portion { length bytes.now ≤ PORTION }
         ensures { Prints S.written S.failures self.old self.new (flat_map byte_text bytes.now) }
     {
-        if self.pending.has_room() {
+        if self.pending.has_room(bytes.len() * WIDTH) {
             self.pending.spell(bytes);
         } else {
             self.put_portion_over(bytes);
         }
     }
 
+    // Prints a number in decimal where there is no room for its digits: what is pending is written
+    // first.
+    #[cold]
+    #[inline(never)]
+    fn put_decimal_over(&mut self, n: u64)
+        requires { CanPrint S.failures self.old }
+        ensures { Prints S.written S.failures self.old self.new (decimal n) }
+    {
+        self.flush();
+        self.pending.append_decimal(n);
+    }
+
     /// Prints a number in decimal.
+    #[inline]
     pub fn put_decimal(&mut self, n: u64)
         requires { CanPrint S.failures self.old }
         ensures { Prints S.written S.failures self.old self.new (decimal n) }
     {
-        let mut buffer = Buffer::new();
-        self.put(buffer.format(n).as_bytes());
+        if n < 10 {
+            self.put_word(&[b'0' + n as u8]);
+        } else if self.pending.has_room(MOST_DIGITS) {
+            self.pending.append_decimal(n);
+        } else {
+            self.put_decimal_over(n);
+        }
     }
 
     // Prints a word and a number behind it.
-    pub(crate) fn put_number(&mut self, word: &[u8], n: u32)
+    pub(crate) fn put_number<const N: usize>(&mut self, word: &[u8; N], n: u32)
         requires { CanPrint S.failures self.old }
         ensures { Prints S.written S.failures self.old self.new (word.now ++ decimal n) }
     {
-        self.put(word);
+        self.put_word(word);
         self.put_decimal(u64::from(n));
     }
 
@@ -148,7 +188,10 @@ impl<'a, S: Sink> Printer<'a, S> {
         requires { CanPrint S.failures self.old }
         ensures { Prints S.written S.failures self.old self.new (signed_decimal n) }
     {
-        let mut buffer = Buffer::new();
-        self.put(buffer.format(n).as_bytes());
+        if n >= 0 {
+            return self.put_decimal(n.unsigned_abs());
+        }
+        self.put_word(b"-");
+        self.put_decimal(n.unsigned_abs());
     }
 }

@@ -15,7 +15,7 @@ fn put_entry<S: Sink>(out: &mut Printer<'_, S>, name: &Name)
     requires { CanPrint S.failures out.old }
     ensures { Prints S.written S.failures out.old out.new (codes "entry " ++ text_of name.now) }
 {
-    out.put(b"entry ");
+    out.put_word(b"entry ");
     put_text(out, name.as_slice());
 }
 
@@ -25,14 +25,14 @@ fn put_aspect<S: Sink>(out: &mut Printer<'_, S>, aspect: &Aspect)
 {
     match aspect {
         Aspect::Entry(_, name) => put_entry(out, name),
-        Aspect::Names(_) => out.put(b"names"),
-        Aspect::Size(_) => out.put(b"size"),
+        Aspect::Names(_) => out.put_word(b"names"),
+        Aspect::Size(_) => out.put_word(b"size"),
         Aspect::Block(_, block) => out.put_number(b"block ", *block),
-        Aspect::Links(_) => out.put(b"links"),
-        Aspect::Ends(_) => out.put(b"ends"),
-        Aspect::Offset(_) => out.put(b"offset"),
-        Aspect::Front(_) => out.put(b"front"),
-        Aspect::Back(_) => out.put(b"back"),
+        Aspect::Links(_) => out.put_word(b"links"),
+        Aspect::Ends(_) => out.put_word(b"ends"),
+        Aspect::Offset(_) => out.put_word(b"offset"),
+        Aspect::Front(_) => out.put_word(b"front"),
+        Aspect::Back(_) => out.put_word(b"back"),
     }
 }
 
@@ -57,7 +57,7 @@ fn put_why<S: Sink>(out: &mut Printer<'_, S>, why: &Why)
 {
     match why {
         Why::Clash(cause) => put_cause(out, cause),
-        Why::Unsupported => out.put(b"unsupported"),
+        Why::Unsupported => out.put_word(b"unsupported"),
     }
 }
 
@@ -67,13 +67,14 @@ fn restarted_text(restarted: bool) -> &'static [u8]
     if restarted { b" restarted" } else { b"" }
 }
 
-fn kind_text(kind: Kind) -> &'static [u8]
-    ensures { result.now ≡ kind_text kind }
+fn put_kind<S: Sink>(out: &mut Printer<'_, S>, kind: Kind)
+    requires { CanPrint S.failures out.old }
+    ensures { Prints S.written S.failures out.old out.new (kind_text kind) }
 {
     match kind {
-        Kind::File => b"file",
-        Kind::Dir => b"dir",
-        Kind::Pipe => b"pipe",
+        Kind::File => out.put_word(b"file"),
+        Kind::Dir => out.put_word(b"dir"),
+        Kind::Pipe => out.put_word(b"pipe"),
     }
 }
 
@@ -81,7 +82,7 @@ fn put_stat<S: Sink>(out: &mut Printer<'_, S>, stat: &Stat)
     requires { CanPrint S.failures out.old }
     ensures { Prints S.written S.failures out.old out.new (stat_text stat.now) }
 {
-    out.put(kind_text(stat.kind));
+    put_kind(out, stat.kind);
     out.put_number(b" size ", stat.size);
     out.put_number(b" links ", stat.links);
 }
@@ -91,7 +92,7 @@ fn put_each_name<S: Sink>(out: &mut Printer<'_, S>, names: &[Name])
     ensures { Prints S.written S.failures out.old out.new (flat_map name_text names.now) }
 {
     for name in names {
-        out.put(b" ");
+        out.put_word(b" ");
         put_text(out, name.as_slice());
     }
 }
@@ -100,7 +101,7 @@ fn put_names<S: Sink>(out: &mut Printer<'_, S>, names: &[Name])
     requires { CanPrint S.failures out.old }
     ensures { Prints S.written S.failures out.old out.new (names_text names.now) }
 {
-    out.put(b"names ");
+    out.put_word(b"names ");
     out.put_decimal(names.len() as u64);
     put_each_name(out, names);
 }
@@ -112,7 +113,7 @@ fn put_counted<S: Sink>(out: &mut Printer<'_, S>, bytes: &[u8])
         (decimal (length bytes.now) ++ codes " " ++ text_of bytes.now) }
 {
     out.put_decimal(bytes.len() as u64);
-    out.put(b" ");
+    out.put_word(b" ");
     put_text(out, bytes);
 }
 
@@ -130,7 +131,7 @@ fn put_answer<S: Sink>(out: &mut Printer<'_, S>, answer: &Answer)
     ensures { Prints S.written S.failures out.old out.new (answer_text answer.now) }
 {
     match answer {
-        Answer::Done => out.put(b"ok"),
+        Answer::Done => out.put_word(b"ok"),
         Answer::Fd(fd) => out.put_decimal(u64::from(fd.0)),
         Answer::Count(count) => out.put_decimal(u64::from(*count)),
         Answer::Place(offset) => out.put_decimal(u64::from(*offset)),
@@ -147,7 +148,7 @@ fn put_given_up<S: Sink>(out: &mut Printer<'_, S>, restarted: bool)
     ensures { Prints S.written S.failures out.old out.new
         (codes "given up" ++ restarted_text restarted) }
 {
-    out.put(b"given up");
+    out.put_word(b"given up");
     out.put(restarted_text(restarted));
 }
 
@@ -156,7 +157,7 @@ fn put_aborted<S: Sink>(out: &mut Printer<'_, S>, why: &Why, restarted: bool)
     ensures { Prints S.written S.failures out.old out.new
         (codes "aborted " ++ why_text why.now ++ restarted_text restarted) }
 {
-    out.put(b"aborted ");
+    out.put_word(b"aborted ");
     put_why(out, why);
     out.put(restarted_text(restarted));
 }
@@ -165,7 +166,7 @@ fn put_busy<S: Sink>(out: &mut Printer<'_, S>, cause: &Cause)
     requires { CanPrint S.failures out.old }
     ensures { Prints S.written S.failures out.old out.new (codes "busy " ++ cause_text cause.now) }
 {
-    out.put(b"busy ");
+    out.put_word(b"busy ");
     put_cause(out, cause);
 }
 
@@ -176,15 +177,15 @@ pub(crate) fn put_reply<S: Sink>(out: &mut Printer<'_, S>, reply: &Reply)
     match reply {
         Reply::Answer(answer) => put_answer(out, answer),
         Reply::Errno(errno) => out.put(errno.name().as_bytes()),
-        Reply::Begun => out.put(b"begun"),
-        Reply::Committed => out.put(b"committed"),
+        Reply::Begun => out.put_word(b"begun"),
+        Reply::Committed => out.put_word(b"committed"),
         Reply::GivenUp { restarted } => put_given_up(out, *restarted),
         Reply::Aborted { why, restarted } => put_aborted(out, why, *restarted),
         Reply::Busy(cause) => put_busy(out, cause),
-        Reply::InTransaction => out.put(b"InTransaction"),
-        Reply::NotInTransaction => out.put(b"NotInTransaction"),
-        Reply::HistoryFull => out.put(b"HistoryFull"),
-        Reply::NoMemory => out.put(b"NoMemory"),
-        Reply::NoProcess => out.put(b"NoProcess"),
+        Reply::InTransaction => out.put_word(b"InTransaction"),
+        Reply::NotInTransaction => out.put_word(b"NotInTransaction"),
+        Reply::HistoryFull => out.put_word(b"HistoryFull"),
+        Reply::NoMemory => out.put_word(b"NoMemory"),
+        Reply::NoProcess => out.put_word(b"NoProcess"),
     }
 }

@@ -43,7 +43,9 @@ fn split_plain(text: &[u8]) -> (&[u8], &[u8])
 }
 
 // Each byte in its spelling. Portions that follow each other and need no other spelling are printed
-// together, so that a long run of them is written at once.
+// together, so that a long run of them is written at once. Out of line, so that a short text takes
+// little.
+#[inline(never)]
 fn put_bytes<S: Sink>(out: &mut Printer<'_, S>, bytes: &[u8])
     requires { CanPrint S.failures out.old }
     ensures { Prints S.written S.failures out.old out.new (flat_map byte_text bytes.now) }
@@ -62,6 +64,10 @@ fn put_bytes<S: Sink>(out: &mut Printer<'_, S>, bytes: &[u8])
     }
 }
 
+// How long a text is, at most, that is spelled with no look whether each byte stands for itself: for a
+// shorter one the look takes longer than it spares.
+const SHORT: usize = 16;
+
 // Bytes as a script spells them.
 #[tactic(auto, unfolding(crate::specs::Text::text_of))]
 pub(crate) fn put_text<S: Sink>(out: &mut Printer<'_, S>, text: &[u8])
@@ -69,7 +75,9 @@ pub(crate) fn put_text<S: Sink>(out: &mut Printer<'_, S>, text: &[u8])
     ensures { Prints S.written S.failures out.old out.new (text_of text.now) }
 {
     if text.is_empty() {
-        out.put(b"\\e");
+        out.put_word(b"\\e");
+    } else if text.len() <= SHORT {
+        out.put_portion(text);
     } else {
         put_bytes(out, text);
     }

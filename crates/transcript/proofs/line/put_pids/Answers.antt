@@ -1,4 +1,4 @@
-use Rattle.std.proofs.Common.{rules}
+use Rattle.std.proofs.Common.{rules, arith}
 use Rattle.transcript.specs.Line.{more_text}
 use Rattle.transcript.proofs.Printing.{CanPrint-after, Prints-all, Prints-as, Prints-none, Prints-next}
 use Rattle.transcript.proofs.line.put_pids.Goals as goal
@@ -12,7 +12,7 @@ loop-pid-preserved g c =
     (CanPrint-after printed c.requires, printed)
 
 pub put_number-requires : goal.put_number-requires
-put_number-requires g c = c.loop-pid.invariant.0
+put_number-requires g c = (omega arith, c.loop-pid.invariant.0)
 
 pub returns : goal.returns
 returns g c = Prints-all more_text c.args.pids.now c.loop-pid.pid-index c.loop-pid-test.false c.loop-pid.invariant.1

@@ -3,4 +3,4 @@ use Rattle.transcript.proofs.Printing.{Prints-as, Prints-then}
 use Rattle.transcript.proofs.operation.put_begin.Goals as goal
 
 pub returns : goal.returns
-returns g c = Prints-as (Prints-then _ _ c.put.ensures c.put-2.ensures) (search rules)
+returns g c = Prints-as (Prints-then _ _ c.put_word.ensures c.put.ensures) (search rules)

@@ -60,10 +60,10 @@ pub returns-in-Dup2 : goal.returns-in-Dup2
 returns-in-Dup2 g c = Prints-as c.put_numbers-in-Dup2.ensures (search rules)
 
 pub returns-in-Pipe : goal.returns-in-Pipe
-returns-in-Pipe g c = Prints-as c.put.ensures (search rules)
+returns-in-Pipe g c = Prints-as c.put_word.ensures (search rules)
 
 pub returns-in-Fork : goal.returns-in-Fork
-returns-in-Fork g c = Prints-as c.put-in-Fork.ensures (search rules)
+returns-in-Fork g c = Prints-as c.put_word-in-Fork.ensures (search rules)
 
 pub returns-in-Exit : goal.returns-in-Exit
-returns-in-Exit g c = Prints-as c.put-in-Exit.ensures (search rules)
+returns-in-Exit g c = Prints-as c.put_word-in-Exit.ensures (search rules)

@@ -3,4 +3,4 @@ use Rattle.transcript.proofs.Printing.{Prints-as, Prints-then}
 use Rattle.transcript.proofs.operation.put_lseek.Goals as goal
 
 pub returns : goal.returns
-returns g c = Prints-as (Prints-then _ _ (Prints-then _ _ (Prints-then _ _ (Prints-then _ _ c.put_number.ensures c.put.ensures) c.put_signed.ensures) c.put-2.ensures) (Prints-as c.put-3.ensures c.whence_text.ensures)) (search rules)
+returns g c = Prints-as (Prints-then _ _ (Prints-then _ _ (Prints-then _ _ (Prints-then _ _ c.put_number.ensures c.put_word.ensures) c.put_signed.ensures) c.put_word-2.ensures) (Prints-as c.put.ensures c.whence_text.ensures)) (search rules)

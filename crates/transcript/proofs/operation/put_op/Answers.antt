@@ -9,4 +9,4 @@ pub returns-in-Call : goal.returns-in-Call
 returns-in-Call g c = Prints-as c.put_call.ensures (search rules)
 
 pub returns-in-End : goal.returns-in-End
-returns-in-End g c = Prints-as c.put.ensures (search rules)
+returns-in-End g c = Prints-as c.put_word.ensures (search rules)

@@ -3,4 +3,4 @@ use Rattle.transcript.proofs.Printing.{Prints-as, Prints-then}
 use Rattle.transcript.proofs.operation.put_open.Goals as goal
 
 pub returns : goal.returns
-returns g c = Prints-as (Prints-then _ _ (Prints-then _ _ c.put_path.ensures c.put.ensures) c.put_flags.ensures) (search rules)
+returns g c = Prints-as (Prints-then _ _ (Prints-then _ _ c.put_path.ensures c.put_word.ensures) c.put_flags.ensures) (search rules)

@@ -12,7 +12,7 @@ pub returns-in-Child : goal.returns-in-Child
 returns-in-Child g c = Prints-as c.put_number.ensures (search rules)
 
 pub returns-in-Done : goal.returns-in-Done
-returns-in-Done g c = Prints-as c.put.ensures (search rules)
+returns-in-Done g c = Prints-as c.put_word.ensures (search rules)
 
 pub returns-in-Fd : goal.returns-in-Fd
 returns-in-Fd g c = Prints-as c.put_decimal.ensures (search rules)

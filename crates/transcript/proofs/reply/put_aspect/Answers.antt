@@ -9,22 +9,22 @@ pub returns-in-Block : goal.returns-in-Block
 returns-in-Block g c = Prints-as c.put_number.ensures (search rules)
 
 pub returns-in-Names : goal.returns-in-Names
-returns-in-Names g c = Prints-as c.put.ensures (search rules)
+returns-in-Names g c = Prints-as c.put_word.ensures (search rules)
 
 pub returns-in-Size : goal.returns-in-Size
-returns-in-Size g c = Prints-as c.put-in-Size.ensures (search rules)
+returns-in-Size g c = Prints-as c.put_word-in-Size.ensures (search rules)
 
 pub returns-in-Links : goal.returns-in-Links
-returns-in-Links g c = Prints-as c.put-in-Links.ensures (search rules)
+returns-in-Links g c = Prints-as c.put_word-in-Links.ensures (search rules)
 
 pub returns-in-Ends : goal.returns-in-Ends
-returns-in-Ends g c = Prints-as c.put-in-Ends.ensures (search rules)
+returns-in-Ends g c = Prints-as c.put_word-in-Ends.ensures (search rules)
 
 pub returns-in-Offset : goal.returns-in-Offset
-returns-in-Offset g c = Prints-as c.put-in-Offset.ensures (search rules)
+returns-in-Offset g c = Prints-as c.put_word-in-Offset.ensures (search rules)
 
 pub returns-in-Front : goal.returns-in-Front
-returns-in-Front g c = Prints-as c.put-in-Front.ensures (search rules)
+returns-in-Front g c = Prints-as c.put_word-in-Front.ensures (search rules)
 
 pub returns-in-Back : goal.returns-in-Back
-returns-in-Back g c = Prints-as c.put-in-Back.ensures (search rules)
+returns-in-Back g c = Prints-as c.put_word-in-Back.ensures (search rules)

@@ -3,4 +3,4 @@ use Rattle.transcript.proofs.Printing.{Prints-as, Prints-then}
 use Rattle.transcript.proofs.reply.put_names.Goals as goal
 
 pub returns : goal.returns
-returns g c = Prints-as (Prints-then _ _ (Prints-then _ _ c.put.ensures c.put_decimal.ensures) c.put_each_name.ensures) (search rules)
+returns g c = Prints-as (Prints-then _ _ (Prints-then _ _ c.put_word.ensures c.put_decimal.ensures) c.put_each_name.ensures) (search rules)

@@ -6,4 +6,4 @@ pub returns-in-Clash : goal.returns-in-Clash
 returns-in-Clash g c = Prints-as c.put_cause.ensures (search rules)
 
 pub returns-in-Unsupported : goal.returns-in-Unsupported
-returns-in-Unsupported g c = Prints-as c.put.ensures (search rules)
+returns-in-Unsupported g c = Prints-as c.put_word.ensures (search rules)
