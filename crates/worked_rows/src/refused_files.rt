@@ -114,7 +114,7 @@ static FILES: [Refused; 16] = [
 2 P1 rmdir /a -> ok
 3 P2 list / -> names 0
 ",
-        requests: 2,
+        requests: 1,
     },
     // And by a transaction.
     Refused {
@@ -200,7 +200,7 @@ static FILES: [Refused; 16] = [
         transcript: "1 P1 open /a RDWR,CREAT -> 0
 2 P1 fstat 0 -> file size 0 links 1
 ",
-        requests: 6,
+        requests: 5,
     },
     // So does a transaction.
     Refused {
@@ -256,7 +256,7 @@ static FILES: [Refused; 16] = [
 3 P1 lseek 0 0 SET -> 0
 4 P1 read 0 5 -> 2 hi
 ",
-        requests: 6,
+        requests: 5,
     },
     // So does a transaction.
     Refused {

@@ -66,7 +66,7 @@ static NAMES: [Refused; 8] = [
 6 P1 end -> committed
 7 P2 stat /d/b -> file size 0 links 2
 ",
-        requests: 5,
+        requests: 18,
     },
     // A plain call takes a file's last name.
     Refused {
@@ -94,7 +94,7 @@ static NAMES: [Refused; 8] = [
 3 P1 fstat 0 -> file size 0 links 0
 4 P2 list / -> names 0
 ",
-        requests: 2,
+        requests: 1,
     },
     // So does a transaction, and gives it up.
     Refused {
@@ -126,7 +126,7 @@ static NAMES: [Refused; 8] = [
 5 P1 abort -> given up
 6 P1 fstat 0 -> file size 0 links 1
 ",
-        requests: 5,
+        requests: 13,
     },
     // A plain call moves a name over another, in another directory.
     Refused {
@@ -162,7 +162,7 @@ static NAMES: [Refused; 8] = [
 7 P2 list / -> names 1 d
 8 P2 list /d -> names 1 b
 ",
-        requests: 2,
+        requests: 1,
     },
     // So does a transaction.
     Refused {
@@ -202,7 +202,7 @@ static NAMES: [Refused; 8] = [
 9 P1 end -> committed
 10 P2 list /d -> names 1 b
 ",
-        requests: 5,
+        requests: 16,
     },
     // A transaction moves a name that it has given itself.
     Refused {
@@ -238,7 +238,7 @@ static NAMES: [Refused; 8] = [
 7 P2 list / -> names 1 d
 8 P2 stat /d/b -> file size 0 links 1
 ",
-        requests: 5,
+        requests: 9,
     },
     // A transaction moves a directory over another, which it has emptied.
     Refused {
@@ -280,7 +280,7 @@ static NAMES: [Refused; 8] = [
 10 P2 list /d -> names 1 e
 11 P2 list /d/e -> names 0
 ",
-        requests: 5,
+        requests: 6,
     },
 ];
 

@@ -90,7 +90,7 @@ static PIPES: [Refused; 9] = [
 3 P1 write 1 cd -> 2
 4 P1 read 0 9 -> 4 abcd
 ",
-        requests: 3,
+        requests: 2,
     },
     // And by a transaction.
     Refused {
@@ -276,7 +276,7 @@ static PIPES: [Refused; 9] = [
 9 P2 stat / -> NoProcess
 10 P1 list / -> names 0
 ",
-        requests: 4,
+        requests: 3,
     },
     // An end of a pipe that a transaction shares and closes.
     Refused {
