@@ -3,7 +3,7 @@ use Rattle.std.proofs.Common.{◌≡◌, ℕ, ◌+◌, ◌<◌, true, false, Lis
 use Rattle.std.specs.Prelude.{if◌then◌else◌}
 use Rattle.std.proofs.lemmas.List.{drop_more}
 use Rattle.model.specs.FiniteMap.{FinMap, get, remove}
-use Rattle.model.specs.State.{Kernel, Inode, Description}
+use Rattle.model.specs.State.{Kernel, Inode}
 use Rattle.model.specs.Changes.{Edit, applied, is_held, is_reached}
 use Rattle.freeing_laws.specs.Counts.{free_description, free_inode, let_go, unnamed}
 use Rattle.freeing_laws.specs.Sweep.{all_freed, freed, free_descriptions, free_inodes, inode_in, inodes_of}
@@ -15,10 +15,9 @@ abbrev less_inode : ℕ → Kernel → Kernel
 less_inode n k = record k { inodes = remove k.inodes n }
 
 -- `a` is what the fields say, `k` the kernel that they are
-pub description_freed : (a k : Kernel) (d : ℕ) (m : FinMap nat_cmp Description) → a ≡ k → is_held k d ≡ false → m ≡ remove a.descriptions d → record a { descriptions = m } ≡ free_description d k
+pub description_freed : (k after : Kernel) (d : ℕ) → is_held k d ≡ false → after ≡ record k { descriptions = remove k.descriptions d } → after ≡ free_description d k
 unfolding free_description
-description_freed a k d m e free is =
-    ap (λ (x : FinMap nat_cmp Description). record a { descriptions = x }) is ∙ ap (less_description d) e ∙ sym (ap (λ b. if b then k else less_description d k) free)
+description_freed k after d free is = is ∙ sym (ap (λ b. if b then k else less_description d k) free)
 
 pub description_kept : (k : Kernel) (d : ℕ) → is_held k d ≡ true → k ≡ free_description d k
 unfolding free_description

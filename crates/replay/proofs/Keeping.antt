@@ -28,7 +28,7 @@ module _ {X : Type 0} where
       ∙ ap (λ p. cond (eq_by_cmp nat_cmp q p) (Some t) (get m q)) same ∙ ap (λ b. cond b (Some t) (get m q)) (test_is q k)
 
   -- a key that is removed
-  at_removed : (m new : FinMap nat_cmp X) (k position : ℕ) → position ≡ k → new ≡ remove m position → (q : ℕ) → get new q ≡ (if q == k then None else get m q)
+  pub at_removed : (m new : FinMap nat_cmp X) (k position : ℕ) → position ≡ k → new ≡ remove m position → (q : ℕ) → get new q ≡ (if q == k then None else get m q)
   at_removed m new k position same is q =
       ap (λ n. get n q) is ∙ get-remove nat_cmp_total m position q
       ∙ ap (λ p. cond (eq_by_cmp nat_cmp q p) None (get m q)) same ∙ ap (λ b. cond b None (get m q)) (test_is q k)

@@ -9,6 +9,8 @@ mod Maps
 mod Trees
 mod Linked
 mod Opened
+mod Holding
+mod Slots
 mod Setting
 mod Keeping
 mod Starting

@@ -34,30 +34,30 @@ module _ (c : FinMap nat_cmp ℕ) (k n : ℕ) where
   count-gone : count_at (remove c k) n ≡ cond (k == n) 0 (count_at c n)
   count-gone = ap (λ o. unwrap_or o 0) (get-remove nat_cmp_total c k n) ∙ unchosen (eq_by_cmp nat_cmp n k) (get c n) ∙ ap (λ b. cond b 0 (count_at c n)) (turned k n)
 
-  -- one more
-  pub gained : (v : ℕ) → v ≡ count_at c k + 1 → count_at (insert c k v) n ≡ count_at c n + cond (k == n) 1 0
-  gained v is = count-set v ∙ by (k == n) refl where
-    by : (b : Bool) → (k == n) ≡ b → cond b v (count_at c n) ≡ count_at c n + cond b 1 0
-    by true e = is ∙ ap (λ x. count_at c x + 1) (eqb-true k n e)
+  -- so many more
+  pub gained : (v more : ℕ) → v ≡ count_at c k + more → count_at (insert c k v) n ≡ count_at c n + cond (k == n) more 0
+  gained v more is = count-set v ∙ by (k == n) refl where
+    by : (b : Bool) → (k == n) ≡ b → cond b v (count_at c n) ≡ count_at c n + cond b more 0
+    by true e = is ∙ ap (λ x. count_at c x + more) (eqb-true k n e)
     by false e = omega arith
 
-  -- one less, where some are left, and where none is
-  pub lost : (v : ℕ) → v + 1 ≡ count_at c k → count_at (insert c k v) n ≡ count_at c n - cond (k == n) 1 0
-  lost v is = count-set v ∙ by (k == n) refl where
-    by : (b : Bool) → (k == n) ≡ b → cond b v (count_at c n) ≡ count_at c n - cond b 1 0
+  -- so many less, where some are left, and where none is
+  pub lost : (v less : ℕ) → v + less ≡ count_at c k → count_at (insert c k v) n ≡ count_at c n - cond (k == n) less 0
+  lost v less is = count-set v ∙ by (k == n) refl where
+    by : (b : Bool) → (k == n) ≡ b → cond b v (count_at c n) ≡ count_at c n - cond b less 0
     by true e = let same : count_at c k ≡ count_at c n = ap (count_at c) (eqb-true k n e) in omega arith
     by false e = omega arith
 
-  pub lost_last : count_at c k ≤ 1 → count_at (remove c k) n ≡ count_at c n - cond (k == n) 1 0
-  lost_last few = count-gone ∙ by (k == n) refl where
-    by : (b : Bool) → (k == n) ≡ b → cond b 0 (count_at c n) ≡ count_at c n - cond b 1 0
+  pub lost_last : (less : ℕ) → count_at c k ≤ less → count_at (remove c k) n ≡ count_at c n - cond (k == n) less 0
+  lost_last less few = count-gone ∙ by (k == n) refl where
+    by : (b : Bool) → (k == n) ≡ b → cond b 0 (count_at c n) ≡ count_at c n - cond b less 0
     by true e = let same : count_at c k ≡ count_at c n = ap (count_at c) (eqb-true k n e) in omega arith
     by false e = omega arith
 
--- what counts more than one is there
-pub is_there : (o : Option ℕ) → 1 < unwrap_or o 0 → o ≢ None
-is_there None more e = absurd (omega arith)
-is_there (Some v) more e = absurd cc
+-- what counts more than some is there
+pub is_there : (o : Option ℕ) (less : ℕ) → less < unwrap_or o 0 → o ≢ None
+is_there None less more e = absurd (omega arith)
+is_there (Some v) less more e = absurd cc
 
 -- one name more of those that a walk has shown
 pub shown_more : {A : Type 0} (f : A → ℕ) (n : ℕ) (ys : List A) (y : A) → count_by (λ m. m == n) (map f (ys ++ y ∷ [])) ≡ count_by (λ m. m == n) (map f ys) + cond (f y == n) 1 0
@@ -115,14 +115,17 @@ module _ (m : FinMap nat_cmp Inode) (c d : FinMap nat_cmp ℕ) (counted : AreCou
     counted_unnamed less = λ n.
         omega (arith, counted n, less n, all-set m k n (Directory (remove (names_of_inode (get m k)) x)), name-gone (names_of_inode (get m k)) x n)
 
+-- what an empty map counts
+pub nothing_at : (c : FinMap nat_cmp ℕ) (n : ℕ) → c ≡ empty → count_at c n ≡ 0
+nothing_at c n none = ap (λ x. count_at x n) none ∙ ap (λ o. unwrap_or o 0) (get-empty nat_cmp n)
+
 pub nothing_counted : (m : FinMap nat_cmp Inode) (c : FinMap nat_cmp ℕ) → m ≡ empty → c ≡ empty → AreCounted m c
 nothing_counted m c bare none = λ n.
-    ap (λ x. count_at x n) none ∙ ap (λ o. unwrap_or o 0) (get-empty nat_cmp n)
-    ∙ sym (ap (λ x. given_by_all x n) bare ∙ ap (λ (es : List (ℕ × Inode)). sum_by (given_by n) (map (λ e. e.1) es)) (entries-empty nat_cmp))
+    nothing_at c n none ∙ sym (ap (λ x. given_by_all x n) bare ∙ ap (λ (es : List (ℕ × Inode)). sum_by (given_by n) (map (λ e. e.1) es)) (entries-empty nat_cmp))
 
--- an inode that was taken out, and is set again
-pub set_again : (m mid last : FinMap nat_cmp Inode) (k : ℕ) (f v w : Inode) → mid ≡ insert m k f → last ≡ insert mid k v → v ≡ w → last ≡ insert m k w
-set_again m mid last k f v w out back same = back ∙ ap (λ (x : FinMap nat_cmp Inode). insert x k v) out ∙ insert_twice m k f v ∙ ap (insert m k) same
+-- what was taken out, and is set again
+pub set_again : {X : Type 0} (m mid last : FinMap nat_cmp X) (k : ℕ) (f v w : X) → mid ≡ insert m k f → last ≡ insert mid k v → v ≡ w → last ≡ insert m k w
+set_again {X} m mid last k f v w out back same = back ∙ ap (λ (x : FinMap nat_cmp X). insert x k v) out ∙ insert_twice m k f v ∙ ap (insert m k) same
 
 -- the same inodes have the same names
 pub counted_as : (m last : FinMap nat_cmp Inode) (c : FinMap nat_cmp ℕ) → last ≡ m → AreCounted m c → AreCounted last c

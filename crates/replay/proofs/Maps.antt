@@ -1,10 +1,10 @@
--- A key that is set twice, or removed and set.
+-- A key that is set twice.
 use Rattle.std.proofs.Common.{◌≡◌, ℕ, Bool, true, false, cond, Some, nat_cmp, refl, sym, ap, ◌∙◌}
 use Rattle.std.specs.Cmp.{nat_cmp_total}
 use Rattle.std.specs.Ordering.{eq_by_cmp}
-use Rattle.model.specs.FiniteMap.{FinMap, insert, remove, get-insert, get-remove, same_map, nat_cmp-IsAntisymmetric}
-use Rattle.model.specs.State.{Kernel, Inode, Process}
-use Rattle.model.specs.Changes.{set_inode, set_process}
+use Rattle.model.specs.FiniteMap.{FinMap, insert, get-insert, same_map, nat_cmp-IsAntisymmetric}
+use Rattle.model.specs.State.{Kernel, Inode}
+use Rattle.model.specs.Changes.{set_inode}
 
 cond_twice : {A : Type 0} (b : Bool) (x y z : A) → cond b x (cond b y z) ≡ cond b x z
 cond_twice true x y z = refl
@@ -16,13 +16,5 @@ module _ {X : Type 0} (m : FinMap nat_cmp X) (k : ℕ) where
       get-insert nat_cmp_total (insert m k a) k b q ∙ ap (cond (eq_by_cmp nat_cmp q k) (Some b)) (get-insert nat_cmp_total m k a q)
       ∙ cond_twice (eq_by_cmp nat_cmp q k) _ _ _ ∙ sym (get-insert nat_cmp_total m k b q))
 
-  pub insert_removed : (b : X) → insert (remove m k) k b ≡ insert m k b
-  insert_removed b = same_map nat_cmp_total nat_cmp-IsAntisymmetric _ _ (λ q.
-      get-insert nat_cmp_total (remove m k) k b q ∙ ap (cond (eq_by_cmp nat_cmp q k) (Some b)) (get-remove nat_cmp_total m k q)
-      ∙ cond_twice (eq_by_cmp nat_cmp q k) _ _ _ ∙ sym (get-insert nat_cmp_total m k b q))
-
 pub set_twice : (k : Kernel) (n : ℕ) (a b : Inode) → set_inode n b (set_inode n a k) ≡ set_inode n b k
 set_twice k n a b = ap (λ m. record k { inodes = m }) (insert_twice k.inodes n a b)
-
-pub set_removed : (k : Kernel) (pid : ℕ) (p : Process) → set_process pid p (record k { processes = remove k.processes pid }) ≡ set_process pid p k
-set_removed k pid p = ap (λ m. record k { processes = m }) (insert_removed k.processes pid p)

@@ -1,13 +1,13 @@
 -- Counts of openings, after a change of one description.
 use Rattle.std.proofs.Common.{◌≡◌, ℕ, ◌+◌, ◌-◌, ◌==◌, cond, List, map, Option, Some, None, nat_cmp, refl, sym, ap, ◌∙◌, arith}
 use Rattle.std.specs.List.{count_by}
-use Rattle.std.specs.Option.{unwrap_or}
 use Rattle.std.specs.Cmp.{nat_cmp_total}
-use Rattle.model.specs.FiniteMap.{FinMap, get, empty, insert, remove, entries-empty, get-empty, nat_cmp-IsAntisymmetric}
+use Rattle.model.specs.FiniteMap.{FinMap, get, empty, insert, remove, entries-empty, nat_cmp-IsAntisymmetric}
 use Rattle.model.specs.State.{Description}
 use Rattle.model.specs.Changes.{at_offset}
 use Rattle.model.proofs.Laws.{weight, sum-insert, sum-remove}
 use Rattle.replay.specs.Counts.{AreOpened, count_at, opened_by_all, opened_once}
+use Rattle.replay.proofs.Linked.{nothing_at}
 
 abbrev opens : ℕ → Description → ℕ
 opens n d = cond (d.inode == n) 1 0
@@ -49,8 +49,7 @@ module _ (m : FinMap nat_cmp Description) (c d : FinMap nat_cmp ℕ) (counted : 
 
 pub nothing_opened : (m : FinMap nat_cmp Description) (c : FinMap nat_cmp ℕ) → m ≡ empty → c ≡ empty → AreOpened m c
 nothing_opened m c bare none = λ n.
-    ap (λ x. count_at x n) none ∙ ap (λ o. unwrap_or o 0) (get-empty nat_cmp n)
-    ∙ sym (ap (λ x. opened_by_all x n) bare ∙ ap (λ (es : List (ℕ × Description)). count_by (λ d. d.inode == n) (map (λ e. e.1) es)) (entries-empty nat_cmp))
+    nothing_at c n none ∙ sym (ap (λ x. opened_by_all x n) bare ∙ ap (λ (es : List (ℕ × Description)). count_by (λ d. d.inode == n) (map (λ e. e.1) es)) (entries-empty nat_cmp))
 
 -- the same descriptions are as often open
 pub opened_as : (m last : FinMap nat_cmp Description) (c : FinMap nat_cmp ℕ) → last ≡ m → AreOpened m c → AreOpened last c

@@ -1,5 +1,5 @@
 -- The map that the entries of a tree make.
-use Rattle.std.proofs.Common.{◌≡◌, ◌↔◌, Bool, true, false, IsTrue, cond, List, [], ◌∷◌, length, Some, None, refl, sym, ap, ◌∙◌, arith}
+use Rattle.std.proofs.Common.{◌≡◌, ◌↔◌, Bool, true, false, IsTrue, cond, List, [], ◌∷◌, length, Option, Some, None, MatchOption, refl, sym, ap, ◌∙◌, arith}
 use Rattle.std.proofs.lemmas.Map.Keys.{sorted_head, sorted_tail}
 use Rattle.std.specs.List.{AllByRecursion}
 use Rattle.std.specs.List.Sorted.{IsStrictlySortedBy}
@@ -56,3 +56,12 @@ none_there true [] h = refl
 none_there true (e ∷ es) h = absurd (let none : length (e ∷ es) ≡ 0 = h.0 refl in omega arith)
 none_there false [] h = absurd (let none : false ≡ true = h.1 refl in cc)
 none_there false (e ∷ es) h = refl
+
+-- what a swap gives
+pub swapped_some : {A : Type 0} (P : Type 0) (Q : A → Type 0) (r : Option A) (x : A) → r ≡ Some x → ((y : A) → Q y) → MatchOption r P Q
+swapped_some P Q None x e q = absurd cc
+swapped_some P Q (Some y) x e q = q y
+
+pub swapped_none : {A : Type 0} (P : Type 0) (Q : A → Type 0) (r : Option A) → r ≡ None → P → MatchOption r P Q
+swapped_none P Q None e p = p
+swapped_none P Q (Some y) e p = absurd cc

@@ -1,6 +1,7 @@
 pub mod Indices
 pub mod Content
 pub mod Counts
+pub mod Holders
 pub mod Edits
 pub mod Transactions
 pub mod Ran

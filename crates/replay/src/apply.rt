@@ -14,8 +14,8 @@ ghost use Rattle.replay.specs.Edits.{EndsWithin, is_of_descriptions, is_of_names
 use crate::inode::{Inode, file_out, no_bytes, pipe_out};
 use crate::inodes::Inodes;
 use crate::names::Names;
-use crate::plain::{Description, PlainKernel, Process, key_of};
-use crate::table::Table;
+use crate::plain::{Description, PlainKernel, key_of};
+use crate::processes;
 use heap::Heap;
 use ids::{Bytes, Edit, Fd, Mode, Name, Num, Pid, Which};
 use objects::FileData;
@@ -152,32 +152,32 @@ impl PlainKernel {
         self.descriptions.set_offset(num, offset);
     }
 
-    // A description.
+    // A description. What descriptors give it already, they give it as it is from now on.
     fn set_description(&mut self, num: Num, description: Description) -> Result<(), AllocError>
         ensures { OnOk result (self.new ≡ set_description num description self.old) }
     {
-        self.descriptions.set(num, description)
-    }
-
-    // Takes a process out, or makes one without descriptors.
-    fn take_process(&mut self, heap: Heap, pid: Pid) -> Process
-        ensures left { self.new ≡ record self.old { processes = remove self.old.processes pid } }
-        ensures taken { result ≡ process_of self.old pid }
-    {
-        match self.processes.remove(key_of(pid)) {
-            Some(process) => process,
-            None => Process {
-                table: Table::new(heap),
-                priority: 0,
-            },
+        let held = self.holders.of(num);
+        self.holders.gain_ends(Some(&description), held)?;
+        match self.descriptions.insert(num, description) {
+            Ok(before) => {
+                self.holders.lose_ends(before.as_ref(), held);
+                Ok(())
+            }
+            Err(refused) => {
+                self.holders.lose_ends(Some(&description), held);
+                Err(refused)
+            }
         }
     }
 
-    // A process.
-    fn set_process(&mut self, pid: Pid, process: Process) -> Result<(), AllocError>
-        ensures { OnOk result (self.new ≡ set_process pid process self.old) }
+    // A number describes nothing any more.
+    pub(crate) fn clear_description(&mut self, num: Num)
+        ensures { self.new
+            ≡ record self.old { descriptions = remove self.old.descriptions num } }
     {
-        self.processes.set(key_of(pid), process)
+        let held = self.holders.of(num);
+        let before = self.descriptions.remove(num);
+        self.holders.lose_ends(before.as_ref(), held);
     }
 
     // A descriptor gives a description.
@@ -185,9 +185,18 @@ impl PlainKernel {
         ensures { OnOk result
             (self.new ≡ set_process pid (with_slot fd num (process_of self.old pid)) self.old) }
     {
-        let mut process = self.take_process(heap, pid);
-        let _before = process.table.insert(Num(fd.0 as usize), num)?;
-        self.set_process(pid, process)
+        self.holders.hold(&self.descriptions, num)?;
+        let fd = Num(fd.0 as usize);
+        match processes::set_slot(&mut self.processes, heap, key_of(pid), fd, num) {
+            Ok(before) => {
+                self.holders.let_some_go(&self.descriptions, before);
+                Ok(())
+            }
+            Err(refused) => {
+                self.holders.let_go(&self.descriptions, num);
+                Err(refused)
+            }
+        }
     }
 
     // A descriptor gives nothing any more.
@@ -195,9 +204,10 @@ impl PlainKernel {
         ensures { OnOk result
             (self.new ≡ set_process pid (without_slot fd (process_of self.old pid)) self.old) }
     {
-        let mut process = self.take_process(heap, pid);
-        let _before = process.table.remove(Num(fd.0 as usize));
-        self.set_process(pid, process)
+        let fd = Num(fd.0 as usize);
+        let before = processes::clear_slot(&mut self.processes, heap, key_of(pid), fd)?;
+        self.holders.let_some_go(&self.descriptions, before);
+        Ok(())
     }
 
     // A new description with its slot.
@@ -251,26 +261,31 @@ impl PlainKernel {
           made = child;
         }) }
     {
-        let process = copy_of(heap, self.processes.get(key_of(parent)))?;
-        self.set_process(child, process)?;
-        self.made = child.0;
-        Ok(())
+        let parent = key_of(parent);
+        let held = self.processes.get(parent);
+        self.holders.hold_all(&self.descriptions, held)?;
+        match processes::copy(&mut self.processes, heap, key_of(child), parent) {
+            Ok(before) => {
+                self.holders.let_all_go(&self.descriptions, before.as_ref());
+                drop(before);
+                self.made = child.0;
+                Ok(())
+            }
+            Err(refused) => {
+                let held = self.processes.get(parent);
+                self.holders.let_all_go(&self.descriptions, held);
+                Err(refused)
+            }
+        }
     }
-}
 
-// A copy of a process, or one without descriptors.
-fn copy_of(heap: Heap, process: Option<&Process>) -> Result<Process, AllocError>
-    ensures { IfOk result (λ p. p ≡ or_new (option_copied process.entry)) }
-{
-    match process {
-        Some(process) => Ok(Process {
-            table: process.table.try_clone(heap)?,
-            priority: process.priority,
-        }),
-        None => Ok(Process {
-            table: Table::new(heap),
-            priority: 0,
-        }),
+    // A process ends.
+    fn end_process(&mut self, pid: Pid)
+        ensures { self.new ≡ record self.old { processes = remove self.old.processes pid } }
+    {
+        let before = self.processes.remove(key_of(pid));
+        self.holders.let_all_go(&self.descriptions, before.as_ref());
+        drop(before);
     }
 }
 
@@ -377,7 +392,7 @@ impl PlainKernel {
             } => self.clear_slot(heap, *process, *descriptor),
             Edit::NewProcess { child, parent, .. } => self.new_process(heap, *child, *parent),
             Edit::EndProcess { process, .. } => {
-                drop(self.processes.remove(key_of(*process)));
+                self.end_process(*process);
                 Ok(())
             }
             _ => self.apply_to_descriptions(heap, edit, chosen),

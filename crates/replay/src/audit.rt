@@ -24,6 +24,7 @@ ghost use Rattle.replay.specs.declared.audit.Stop.TheVariants.{NoMemory};
 use crate::answers::is_reply;
 use crate::beginning::Beginning;
 use crate::descriptions::Descriptions;
+use crate::holders::Holders;
 use crate::inode::Inode;
 use crate::inodes::Inodes;
 use crate::names::Names;
@@ -279,11 +280,11 @@ fn keep_all(
 }
 
 // A process without descriptors for each of these priorities.
-fn first_processes(heap: Heap, priorities: &[Priority]) -> Result<Table<Process>, AllocError>
+fn first_processes(heap: Heap, priorities: &[Priority]) -> Result<Tree<Process>, AllocError>
     requires { length priorities.now < 2 ^ 32 }
     ensures { IfOk result (λ all. all ≡ with_processes 0 priorities.now empty) }
 {
-    let mut processes = Table::new(heap);
+    let mut processes = Tree::new(heap);
     for (index, priority) in priorities.iter().enumerate() {
         let process = Process {
             table: Table::new(heap),
@@ -326,6 +327,7 @@ impl Audit {
                     inodes,
                     descriptions: Descriptions::new(heap),
                     processes,
+                    holders: Holders::new(heap),
                     made,
                     largest: beginning.largest,
                 },

@@ -17,23 +17,23 @@ pub(crate) fn count_of(counts: &Tree<usize>, num: Num) -> usize
     }
 }
 
-// One more counts for a number. Refused memory changes nothing.
-pub(crate) fn gain(counts: &mut Tree<usize>, num: Num) -> Result<(), AllocError>
+// So many more count for a number. Refused memory changes nothing.
+pub(crate) fn gain(counts: &mut Tree<usize>, num: Num, count: usize) -> Result<(), AllocError>
     ensures gained { OnOk result
-        ((n : ℕ) → count_at counts.new n ≡ count_at counts.old n + cond (num == n) 1 0) }
+        ((n : ℕ) → count_at counts.new n ≡ count_at counts.old n + cond (num == n) count 0) }
     ensures err { OnErr result (counts.new ≡ counts.old) }
 {
-    let more = counted(count_of(counts, num), 1)?;
+    let more = counted(count_of(counts, num), count)?;
     counts.set(num, more)
 }
 
-// One less counts for a number. What counts 0 is not kept.
-pub(crate) fn lose(counts: &mut Tree<usize>, num: Num)
-    ensures { (n : ℕ) → count_at counts.new n ≡ count_at counts.old n - cond (num == n) 1 0 }
+// So many less count for a number. What counts 0 is not kept.
+pub(crate) fn lose(counts: &mut Tree<usize>, num: Num, count: usize)
+    ensures { (n : ℕ) → count_at counts.new n ≡ count_at counts.old n - cond (num == n) count 0 }
 {
-    let count = count_of(counts, num);
-    if count > 1 {
-        counts.change(num, count - 1);
+    let all = count_of(counts, num);
+    if all > count {
+        counts.change(num, all - count);
     } else {
         let _before = counts.remove(num);
     }
@@ -44,6 +44,6 @@ pub(crate) fn lose_some(counts: &mut Tree<usize>, num: Option<Num>)
     ensures { (n : ℕ) → count_at counts.new n ≡ count_at counts.old n - given_once n num }
 {
     if let Some(num) = num {
-        lose(counts, num);
+        lose(counts, num, 1);
     }
 }

@@ -1,6 +1,6 @@
 // All descriptions, with how many are open on each inode: so whether one opens an inode is known in
 // few steps, and no description is looked for.
-ghost use Rattle.std.specs.Prelude.{◌≡◌, ℕ, ◌-◌, MatchOption, OnErr, OnOk, option_copied};
+ghost use Rattle.std.specs.Prelude.{◌≡◌, ℕ, ◌-◌, IfOk, MatchOption, OnErr, OnOk, option_copied};
 ghost use Rattle.model.specs.FiniteMap as map;
 ghost use Rattle.model.specs.Changes.{at_offset};
 ghost use Rattle.replay.specs.Counts.{count_at, opened_by_all, opened_once};
@@ -67,19 +67,24 @@ impl Descriptions {
         count_of(&self.openings, inode)
     }
 
-    // A number gets a description. Refused memory changes nothing.
-    pub(crate) fn set(&mut self, num: Num, description: Description) -> Result<(), AllocError>
+    // A number gets a description. It gives the one before. Refused memory changes nothing.
+    pub(crate) fn insert(
+        &mut self,
+        num: Num,
+        description: Description,
+    ) -> Result<Option<Description>, AllocError>
         ensures changed { OnOk result (self.new ≡ map.insert self.old num description) }
+        ensures before { IfOk result (λ before. before ≡ map.get self.old num) }
         ensures err { OnErr result (self.new ≡ self.old) }
     {
-        gain(&mut self.openings, description.inode)?;
+        gain(&mut self.openings, description.inode, 1)?;
         match self.each.insert(num, description) {
             Ok(before) => {
-                lose_opening(&mut self.openings, before);
-                Ok(())
+                lose_opening(&mut self.openings, before.as_ref());
+                Ok(before)
             }
             Err(refused) => {
-                lose(&mut self.openings, description.inode);
+                lose(&mut self.openings, description.inode, 1);
                 Err(refused)
             }
         }
@@ -99,21 +104,23 @@ impl Descriptions {
         }
     }
 
-    // A number describes nothing any more.
-    pub(crate) fn remove(&mut self, num: Num)
-        ensures { self.new ≡ map.remove self.old num }
+    // A number describes nothing any more. It gives the description before.
+    pub(crate) fn remove(&mut self, num: Num) -> Option<Description>
+        ensures changed { self.new ≡ map.remove self.old num }
+        ensures before { result ≡ map.get self.old num }
     {
         let before = self.each.remove(num);
-        lose_opening(&mut self.openings, before);
+        lose_opening(&mut self.openings, before.as_ref());
+        before
     }
 }
 
 // One opening less of the inode of a description, if there is one.
-fn lose_opening(openings: &mut Tree<usize>, description: Option<Description>)
-    ensures { (n : ℕ)
-        → count_at openings.new n ≡ count_at openings.old n - opened_once n description }
+fn lose_opening(openings: &mut Tree<usize>, description: Option<&Description>)
+    ensures { (n : ℕ) → count_at openings.new n
+        ≡ count_at openings.old n - opened_once n (option_copied description.entry) }
 {
     if let Some(description) = description {
-        lose(openings, description.inode);
+        lose(openings, description.inode, 1);
     }
 }

@@ -69,7 +69,7 @@ impl PlainKernel {
     {
         for num in nums {
             if !self.is_held(*num) {
-                self.descriptions.remove(*num);
+                self.clear_description(*num);
             }
         }
     }

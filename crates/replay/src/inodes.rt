@@ -185,7 +185,7 @@ fn set_name(
     let mut names = names_taken(each, heap, dir)?;
     let before = names.insert(name, num)?;
     each.set(dir, Inode::directory(names))?;
-    gain(counts, num)?;
+    gain(counts, num, 1)?;
     lose_some(counts, before);
     Ok(())
 }

@@ -98,7 +98,7 @@ impl Names {
             → count_at counts.new n ≡ count_at counts.old n - times_given n self.now }
     {
         for num in self.given.values() {
-            lose(counts, *num);
+            lose(counts, *num, 1);
         }
     }
 }

@@ -1,17 +1,19 @@
-// The plain kernel: whole maps. How many names give each number is counted as names come and go, and
-// how many descriptions open it likewise; holders are counted when they are asked for.
+// The plain kernel: whole maps. How many names give each number is counted as names come and go, how
+// many descriptions open it and how many descriptors give each description likewise.
 ghost use Rattle.std.specs.Prelude.{◌≡◌, ◌+◌, nat_lt, IfOk, Some, None, option_copied};
 ghost use Rattle.model.specs.FiniteMap.{get};
 ghost use Rattle.model.specs.State.{Kernel, Description as Opened, ends, is_end, links, kind_of};
 ghost use Rattle.model.specs.Calls.{slot_of};
 ghost use Rattle.model.specs.Changes.{process_of, or_new, holders, openings, is_held, is_reached};
 ghost use Rattle.model.specs.Moments.{is_alive};
-ghost use Rattle.replay.specs.Counts.{given_by, held_by, is_open, ended_by};
+ghost use Rattle.replay.specs.Counts.{given_by};
 
 use crate::descriptions::Descriptions;
+use crate::holders::Holders;
 use crate::inode::{given_in, is_empty_in, kind_in, names_in, pipe_in, read_in, size_in};
 use crate::inodes::Inodes;
 use crate::table::Table;
+use crate::tree::Tree;
 use heap::Heap;
 use ids::{Bytes, DESCRIPTORS, Fd, Kind, Name, NameList, Num, PIPE_CAPACITY, Pid, Slot};
 use look::Look;
@@ -82,7 +84,8 @@ pub(crate) struct PlainKernel {
     pub(crate) root: Num,
     pub(crate) inodes: Inodes,
     pub(crate) descriptions: Descriptions,
-    pub(crate) processes: Table<Process>,
+    pub(crate) processes: Tree<Process>,
+    pub(crate) holders: Holders,
     pub(crate) made: u32,
     pub(crate) largest: u32,
 }
@@ -95,6 +98,7 @@ impl Drop for PlainKernel {
             inodes: _,
             descriptions: _,
             processes: _,
+            holders: _,
             made: _,
             largest: _,
         } = self;
@@ -105,6 +109,7 @@ impl Model for PlainKernel {
     ghost use Rattle.std.specs.Prelude.{◌≤◌};
     ghost use Rattle.ids.specs.declared.limits.TheConstants.{LARGEST_FILE};
     ghost use Rattle.model.specs.State.{Kernel};
+    ghost use Rattle.replay.specs.Holders.{AreHoldersOf};
 
     ghost Value = { Kernel };
 
@@ -117,7 +122,8 @@ impl Model for PlainKernel {
       largest = k.largest;
     } };
 
-    ghost invariant = { λ k. k.largest ≤ LARGEST_FILE };
+    ghost invariant = { λ k. (k.largest ≤ LARGEST_FILE)
+        × AreHoldersOf k.descriptions k.processes k.holders };
 }
 
 // A process has its number as its key.
@@ -159,26 +165,11 @@ impl PlainKernel {
         }
     }
 
-    // How many descriptors are open on a pipe, to write or to read.
-    fn open_ends(&self, pipe: Num, writing: bool) -> Result<u32, AllocError>
-        ensures { IfOk result (λ n. n ≡ ends self.now pipe (is_open writing)) }
-    {
-        let processes = self.processes.as_slice();
-        let mut count = 0;
-        for slot in processes {
-            count = counted(count, slot.1.open_ends(&self.descriptions, pipe, writing))?;
-        }
-        small(count)
-    }
-
     // Whether a descriptor gives a description.
     pub(crate) fn is_held(&self, description: Num) -> bool
         ensures { result ≡ is_held self.now description }
     {
-        self.processes
-            .as_slice()
-            .iter()
-            .any(|slot| slot.1.holds(description))
+        self.holders.of(description) > 0
     }
 
     // Whether an inode is the root, or a name or a description gives it.
@@ -210,43 +201,14 @@ pub(crate) fn counted(so_far: usize, more: usize) -> Result<usize, AllocError>
 }
 
 impl Process {
-    // Whether a descriptor of it gives a description.
-    fn holds(&self, description: Num) -> bool
-        ensures { result ≡ nat_lt 0 (held_by description self.now) }
+    // One without descriptors. It takes no memory.
+    pub(crate) fn new(heap: Heap) -> Process
+        ensures { result ≡ or_new None }
     {
-        self.table
-            .as_slice()
-            .iter()
-            .any(|slot| slot.1 == description)
-    }
-
-    // How many of its descriptors are open so on a pipe.
-    fn open_ends(&self, descriptions: &Descriptions, pipe: Num, writing: bool) -> usize
-        ensures { (k : Kernel) → k.descriptions ≡ descriptions.now
-            → result ≡ ended_by k pipe writing self.now }
-    {
-        self.table
-            .as_slice()
-            .iter()
-            .filter(|slot| is_end(descriptions.get(slot.1), pipe, writing))
-            .count()
-    }
-}
-
-// Whether a description is of a pipe, and open to write, or to read.
-fn is_end(description: Option<&Description>, pipe: Num, writing: bool) -> bool
-    ensures { result ≡ is_end (is_open writing) pipe (option_copied description.entry) }
-{
-    match description {
-        Some(description) => {
-            let is_open = if writing {
-                description.writing
-            } else {
-                description.reading
-            };
-            description.inode == pipe && is_open
+        Process {
+            table: Table::new(heap),
+            priority: 0,
         }
-        None => false,
     }
 }
 
@@ -295,8 +257,8 @@ impl Look for PlainKernel {
     }
 
     fn ends(&self, pipe: Num) -> Result<(u32, u32), AllocError> {
-        let reading = self.open_ends(pipe, false)?;
-        let writing = self.open_ends(pipe, true)?;
+        let reading = small(self.holders.ends(pipe, false))?;
+        let writing = small(self.holders.ends(pipe, true))?;
         Ok((reading, writing))
     }
 

@@ -1,5 +1,5 @@
 // A map from numbers to values: a vector in the order of the numbers.
-ghost use Rattle.std.specs.Prelude.{◌≡◌, IsTrue, MatchResult, IfOk, OnOk, option_copied};
+ghost use Rattle.std.specs.Prelude.{◌≡◌, IsTrue, MatchResult, IfOk, OnErr, OnOk, option_copied};
 ghost use Rattle.std.specs.Ordering.{nat_cmp};
 ghost use Rattle.model.specs.FiniteMap as map;
 ghost use Rattle.replay.specs.Indices.{IsIndexOf, IsIndexFor};
@@ -57,10 +57,11 @@ impl<T: Drop> Table<T> {
         }
     }
 
-    // A number gets a value. It gives the one before.
+    // A number gets a value. It gives the one before. Refused memory changes nothing.
     pub(crate) fn insert(&mut self, num: Num, value: T) -> Result<Option<T>, AllocError>
         ensures changed { OnOk result (self.new ≡ map.insert self.old num value) }
         ensures before { IfOk result (λ before. before ≡ map.get self.old num) }
+        ensures err { OnErr result (self.new ≡ self.old) }
     {
         match index_of(self.slots.as_slice(), num) {
             Ok(index) => Ok(Some(replace(&mut self.slots[index].1, value))),

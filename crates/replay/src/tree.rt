@@ -1,5 +1,5 @@
 // A map from numbers to values where a number among many comes and goes in few steps: a tree.
-ghost use Rattle.std.specs.Prelude.{◌≡◌, ◌≢◌, IfOk, OnErr, OnOk, None, option_copied};
+ghost use Rattle.std.specs.Prelude.{◌≡◌, ◌≢◌, IfOk, MatchOption, OnErr, OnOk, None, option_copied};
 ghost use Rattle.std.specs.Ordering.{nat_cmp};
 ghost use Rattle.model.specs.FiniteMap as map;
 
@@ -8,6 +8,7 @@ use ids::Num;
 use std::alloc::AllocError;
 use std::collections::BTreeMap;
 use std::marker::Model;
+use std::mem::replace;
 
 /// What each number stands for.
 pub(crate) struct Tree<T> {
@@ -76,6 +77,22 @@ impl<T: Drop> Tree<T> {
         match self.slots.get_mut(&num) {
             Some(slot) => *slot = value,
             None => unreachable!(),
+        }
+    }
+
+    // A number that has a value gets this one, and gives the one before; a number that has none keeps
+    // none. It takes no memory.
+    pub(crate) fn swap(&mut self, num: Num, value: T) -> Option<T>
+        ensures before { result ≡ map.get self.old num }
+        ensures changed { MatchOption result (self.new ≡ self.old)
+            (λ _. self.new ≡ map.insert self.old num value) }
+    {
+        match self.slots.get_mut(&num) {
+            Some(slot) => Some(replace(slot, value)),
+            None => {
+                drop(value);
+                None
+            }
         }
     }
 

@@ -1,5 +1,5 @@
 use Rattle.replay.proofs.Edited.{clears, edited, ends, forks, shares}
-use Rattle.replay.proofs.Setting.{if_ok, process_left}
+use Rattle.replay.proofs.Setting.{if_ok}
 use Rattle.replay.proofs.plain.PlainKernel.apply_to_processes.Goals as goal
 
 pub returns-in-ShareSlot : goal.returns-in-ShareSlot
@@ -12,4 +12,4 @@ pub returns-in-NewProcess : goal.returns-in-NewProcess
 returns-in-NewProcess c = if_ok c.new_process.result c.new_process.ensures (λ h. edited _ _ _ _ _ c.in-NewProcess.is (forks _ _ _ _ _ _ h))
 
 pub returns-in-EndProcess : goal.returns-in-EndProcess
-returns-in-EndProcess c = edited _ _ _ _ _ c.in-EndProcess.is (ends _ _ _ _ _ (process_left _ _ _ _ _ c.self.view_is c.key_of.ensures c.remove.ensures.changed))
+returns-in-EndProcess c = edited _ _ _ _ _ c.in-EndProcess.is (ends _ _ _ _ _ c.end_process.ensures)

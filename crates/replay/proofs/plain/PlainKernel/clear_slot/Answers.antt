@@ -1,7 +1,14 @@
-use Rattle.std.proofs.Common.{◌∙◌}
-use Rattle.replay.proofs.Setting.{process_replaced, slot_left, if_ok}
+use Rattle.std.proofs.Common.{◌-◌, Option, ℕ, refl, ap, ◌∙◌}
+use Rattle.replay.specs.Holders.{held_at, is_sought, passing_once}
+use Rattle.replay.proofs.Holding.{held_cleared, held_with}
 use Rattle.replay.proofs.plain.PlainKernel.clear_slot.Goals as goal
 
-pub returns : goal.returns
-returns c = if_ok c.set_process.result c.set_process.ensures (λ h. process_replaced _ _ _ _ _ _ c.take_process-process.ensures.left h
-    (slot_left _ _ _ _ _ (c.process.view_is ∙ c.take_process-process.ensures.taken) c.fd.view_is c.remove-before.ensures.changed))
+pub invariant_of-self-2 : goal.invariant_of-self-2
+invariant_of-self-2 c =
+    let ds = c.self.inside.descriptions in
+    let holders = c.self.inside.holders in (
+      c.self.invariant.0,
+      held_with ds ds _ c.clear_slot.new.processes c.let_some_go.new.self refl c.in_ok-before.ensures.changed
+          (held_cleared ds c.self.inside.processes holders c.let_some_go.new.self c.self.invariant.1 c.key_of.result _
+          (λ s. c.let_some_go.ensures s ∙ ap (λ (o : Option ℕ). held_at holders s - passing_once (is_sought ds s) o) c.in_ok-before.ensures.before)),
+    )

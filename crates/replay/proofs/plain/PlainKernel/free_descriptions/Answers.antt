@@ -9,7 +9,7 @@ use Rattle.replay.proofs.plain.PlainKernel.free_descriptions.Goals.{then-not-is_
 pub loop-num-preserved : goal.loop-num-preserved
 loop-num-preserved c =
     let freed : c.if-not-is_held.self ≡ free_description c.num-item.result c.loop-num.self = elim c.if-not-is_held.branch [
-      | then-not-is_held w ↦ w.self-is ∙ description_freed _ _ _ _ c.self.view_is (sym c.is_held.ensures ∙ w.if-not-is_held.true) w.remove.ensures
+      | then-not-is_held w ↦ w.self-is ∙ description_freed _ _ _ (sym c.is_held.ensures ∙ w.if-not-is_held.true) w.clear_description.ensures
       | else-not-is_held w ↦ w.self-is ∙ description_kept _ _ (sym c.is_held.ensures ∙ w.if-not-is_held.false)
     ] in
     descriptions_step c.args.nums.now c.loop-num.num-index c.num-item.result c.loop-num-test.true c.num-item.is _ c.loop-num.self c.if-not-is_held.self c.loop-num.invariant freed

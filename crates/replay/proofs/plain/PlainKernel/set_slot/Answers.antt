@@ -1,7 +1,13 @@
-use Rattle.std.proofs.Common.{◌∙◌}
-use Rattle.replay.proofs.Setting.{process_replaced, slot_set, if_ok}
+use Rattle.std.proofs.Common.{◌-◌, Option, ℕ, refl, ap, ◌∙◌}
+use Rattle.replay.specs.Holders.{held_at, is_sought, passing_once}
+use Rattle.replay.proofs.Holding.{held_set, held_with}
 use Rattle.replay.proofs.plain.PlainKernel.set_slot.Goals as goal
 
-pub returns : goal.returns
-returns c = if_ok c.set_process.result c.set_process.ensures (λ h. process_replaced _ _ _ _ _ _ c.take_process-process.ensures.left h
-    (slot_set _ _ _ _ _ _ (c.process.view_is ∙ c.take_process-process.ensures.taken) c.fd.view_is c.in_ok-_before.ensures.changed))
+pub invariant_of-self-in-Ok : goal.invariant_of-self-in-Ok
+invariant_of-self-in-Ok c =
+    let ds = c.self.inside.descriptions in (
+      c.self.invariant.0,
+      held_with ds ds _ c.set_slot.new.processes c.let_some_go.new.self refl c.in-Ok.ensures.changed
+          (held_set ds c.self.inside.processes c.self.inside.holders c.let_some_go.new.self c.self.invariant.1 c.key_of.result _ c.hold.new.self c.args.num c.in_ok-hold.ensures.gained
+          (λ s. c.let_some_go.ensures s ∙ ap (λ (o : Option ℕ). held_at c.hold.new.self s - passing_once (is_sought ds s) o) c.in-Ok.ensures.before)),
+    )

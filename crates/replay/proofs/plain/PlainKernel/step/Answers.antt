@@ -8,7 +8,7 @@ use Rattle.replay.proofs.plain.PlainKernel.step.Goals as goal
 
 pub step_by-right-requires-clause-within : goal.step_by-right-requires-clause-within
 step_by-right-requires-clause-within c = subst (AllByRecursion EndsWithin) (sym c.in_ok-plan.ensures.edits)
-    (edits_end c.args.self.now c.args.pid (subst (λ (k : Kernel). k.largest ≤ largest_file) c.self.view_is c.self.invariant) c.args.call.now)
+    (edits_end c.args.self.now c.args.pid (subst (λ (k : Kernel). k.largest ≤ largest_file) c.self.view_is c.self.invariant.0) c.args.call.now)
 
 pub returns : goal.returns
 returns c = c.step_by-right.ensures c.args.call.now c.in_ok-plan.ensures
