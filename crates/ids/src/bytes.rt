@@ -1,5 +1,5 @@
 // Bytes and names that are owned. Contracts see each as a list.
-ghost use Rattle.std.specs.Prelude.{◌≡◌, ◌≤◌, ◌++◌, IfOk, MatchResult, length};
+ghost use Rattle.std.specs.Prelude.{◌≡◌, ◌≤◌, ◌++◌, IfOk, IfSome, MatchResult, length};
 ghost use Rattle.ids.specs.declared.bytes.TheConstants.{IN_PLACE};
 
 use arrayvec::ArrayVec;
@@ -13,21 +13,27 @@ use std::marker::Model;
 use std::sync::Arc;
 
 // Up to how many bytes stand in place, and take no memory.
-const IN_PLACE: usize = 64;
+const IN_PLACE: usize = 24;
+
+// Up to how many bytes stand behind a count of owners in one block.
+const FEW: usize = 64;
 
 // Where bytes stand.
 #[derive(Drop)]
 enum Form {
     // In place.
     Short(ArrayVec<u8, IN_PLACE>),
+    // In a block that copies have too, also in other threads. It goes with the last of them.
+    Few(Arc<ArrayVec<u8, FEW>, Heap>),
     // In a vector that is theirs alone.
     Own(Vec<u8, Heap>),
-    // In a vector that copies have too, also in other threads. It goes with the last of them.
+    // In a vector that copies have too.
     Shared(Arc<Vec<u8, Heap>, Heap>),
 }
 
-/// Bytes that are owned: a path as it was given, or what is read or written. Up to 64 of them stand
-/// in place, and take no memory; more of them can be shared, so that copies take none either.
+/// Bytes that are owned: a path as it was given, or what is read or written. Up to 24 of them stand
+/// in place, and take no memory; copies of up to 64 take none either, nor do copies of more once
+/// they are shared.
 pub struct Bytes {
     form: Form,
 }
@@ -57,6 +63,27 @@ impl Model for Bytes {
     ghost view = { λ b. bytes_in b.form };
 }
 
+// A copy of a few bytes, in place.
+fn in_place(bytes: &[u8]) -> ArrayVec<u8, IN_PLACE>
+    requires { length bytes.now ≤ IN_PLACE }
+    ensures { result.items ≡ bytes.now }
+{
+    let mut short = ArrayVec::new();
+    short.try_extend_from_slice(bytes).unwrap();
+    short
+}
+
+// Copies of these bytes, the first and behind them the second, in a block. `None` stands where they
+// are too many.
+fn few(first: &[u8], second: &[u8]) -> Option<ArrayVec<u8, FEW>>
+    ensures { IfSome result (λ few. few.items ≡ first.now ++ second.now) }
+{
+    let mut few = ArrayVec::new();
+    few.try_extend_from_slice(first).ok()?;
+    few.try_extend_from_slice(second).ok()?;
+    Some(few)
+}
+
 impl Bytes {
     /// Takes the vector as it is, with no memory.
     pub fn new(bytes: Vec<u8, Heap>) -> Bytes
@@ -67,15 +94,24 @@ impl Bytes {
         }
     }
 
-    // A copy of a few bytes, in place.
-    fn in_place(bytes: &[u8]) -> Bytes
-        requires { length bytes.now ≤ IN_PLACE }
-        ensures { result ≡ bytes.now }
+    // Bytes in place.
+    fn short(bytes: ArrayVec<u8, IN_PLACE>) -> Bytes
+        ensures { result ≡ bytes.items }
     {
-        let mut short = ArrayVec::new();
-        short.try_extend_from_slice(bytes).unwrap();
         Bytes {
-            form: Form::Short(short),
+            form: Form::Short(bytes),
+        }
+    }
+
+    // Bytes in a block behind a count of owners. Refused memory gives nothing.
+    fn counted_few(heap: Heap, bytes: ArrayVec<u8, FEW>) -> Result<Bytes, AllocError>
+        ensures { IfOk result (λ b. b ≡ bytes.items) }
+    {
+        match Arc::new(heap, bytes) {
+            Ok(bytes) => Ok(Bytes {
+                form: Form::Few(bytes),
+            }),
+            Err(_) => Err(AllocError),
         }
     }
 
@@ -85,38 +121,40 @@ impl Bytes {
     {
         match &self.form {
             Form::Short(bytes) => bytes.as_slice(),
+            Form::Few(bytes) => bytes.as_slice(),
             Form::Own(bytes) => bytes.as_slice(),
             Form::Shared(bytes) => bytes.as_slice(),
         }
     }
 
-    /// A copy of these bytes. Refused memory changes nothing.
+    /// A copy of these bytes. Up to 24 of them take no memory. Refused memory changes nothing.
     pub fn copy(heap: Heap, bytes: &[u8]) -> Result<Bytes, AllocError>
         ensures { IfOk result (λ b. b ≡ bytes.now) }
     {
         if bytes.len() <= IN_PLACE {
-            Ok(Bytes::in_place(bytes))
-        } else {
-            Ok(Bytes::new(Vec::from_slice(heap, bytes)?))
+            return Ok(Bytes::short(in_place(bytes)));
+        }
+        match few(bytes, &[]) {
+            Some(few) => Bytes::counted_few(heap, few),
+            None => Ok(Bytes::new(Vec::from_slice(heap, bytes)?)),
         }
     }
 
-    /// Copies of these bytes, the first and behind them the second. Refused memory changes nothing.
+    /// Copies of these bytes, the first and behind them the second. Up to 24 of them take no memory.
+    /// Refused memory changes nothing.
     pub fn joined(heap: Heap, first: &[u8], second: &[u8]) -> Result<Bytes, AllocError>
         ensures { IfOk result (λ b. b ≡ first.now ++ second.now) }
     {
-        let mut short = ArrayVec::new();
-        if short.try_extend_from_slice(first).is_ok()
-            && short.try_extend_from_slice(second).is_ok()
-        {
-            return Ok(Bytes {
-                form: Form::Short(short),
-            });
+        match few(first, second) {
+            Some(few) if few.len() <= IN_PLACE => Ok(Bytes::short(in_place(few.as_slice()))),
+            Some(few) => Bytes::counted_few(heap, few),
+            None => {
+                let mut bytes = Vec::with_capacity(heap, first.len().saturating_add(second.len()))?;
+                bytes.extend_from_slice(first)?;
+                bytes.extend_from_slice(second)?;
+                Ok(Bytes::new(bytes))
+            }
         }
-        let mut bytes = Vec::with_capacity(heap, first.len().saturating_add(second.len()))?;
-        bytes.extend_from_slice(first)?;
-        bytes.extend_from_slice(second)?;
-        Ok(Bytes::new(bytes))
     }
 
     /// These bytes and more behind them. Refused memory gives nothing.
@@ -129,6 +167,7 @@ impl Bytes {
         let Bytes { form } = self;
         match form {
             Form::Short(bytes) => Bytes::joined(heap, bytes.as_slice(), more),
+            Form::Few(bytes) => Bytes::joined(heap, bytes.as_slice(), more),
             Form::Shared(bytes) => Bytes::joined(heap, bytes.as_slice(), more),
             Form::Own(mut bytes) => {
                 bytes.extend_from_slice(more)?;
@@ -137,15 +176,18 @@ impl Bytes {
         }
     }
 
-    // The bytes of a vector: few of them in place, and more behind a count of owners. Where memory for
-    // the count is refused, the bytes are given back as they were.
+    // The bytes of a vector, so that copies take no memory: few of them in place or in a block, and
+    // more behind a count of owners. Where memory is refused, the bytes are given back as they were.
     fn counted(bytes: Vec<u8, Heap>) -> Result<Bytes, Bytes>
         ensures { MatchResult result (λ b. b ≡ bytes.entry.items) (λ b. b ≡ bytes.entry.items) }
     {
-        if bytes.len() <= IN_PLACE {
-            return Ok(Bytes::in_place(bytes.as_slice()));
-        }
         let heap = *bytes.allocator();
+        if bytes.len() <= FEW {
+            return match Bytes::copy(heap, bytes.as_slice()) {
+                Ok(copy) => Ok(copy),
+                Err(_) => Err(Bytes::new(bytes)),
+            };
+        }
         match Arc::new(heap, bytes) {
             Ok(bytes) => Ok(Bytes {
                 form: Form::Shared(bytes),
@@ -162,12 +204,7 @@ impl Bytes {
         let Bytes { form } = self;
         match form {
             Form::Own(bytes) => Bytes::counted(bytes),
-            Form::Short(bytes) => Ok(Bytes {
-                form: Form::Short(bytes),
-            }),
-            Form::Shared(bytes) => Ok(Bytes {
-                form: Form::Shared(bytes),
-            }),
+            form => Ok(Bytes { form }),
         }
     }
 
@@ -197,7 +234,10 @@ impl Bytes {
         ensures { IfOk result (λ b. b ≡ self.now) }
     {
         match &self.form {
-            Form::Short(bytes) => Ok(Bytes::in_place(bytes.as_slice())),
+            Form::Short(bytes) => Ok(Bytes::short(in_place(bytes.as_slice()))),
+            Form::Few(bytes) => Ok(Bytes {
+                form: Form::Few(Arc::try_clone(bytes)?),
+            }),
             Form::Own(bytes) => Bytes::copy(*bytes.allocator(), bytes.as_slice()),
             Form::Shared(bytes) => Ok(Bytes {
                 form: Form::Shared(Arc::try_clone(bytes)?),
