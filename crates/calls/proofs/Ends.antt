@@ -11,7 +11,7 @@ use Rattle.model.specs.Changes.{marks}
 use Rattle.model.specs.Steps.{Touch, reply_of, edits_of}
 use Rattle.look.specs.Asked.{asked, reading, writing, noting}
 use Rattle.calls.specs.declared.plan.Plan.{Plan}
-use Rattle.calls.specs.Planned.{counting, IsPlan}
+use Rattle.calls.specs.Planned.{counting, IsPlan, IsPlanWithoutTouches}
 use Rattle.walk.proofs.Laws.{asked-is}
 
 -- what is read and then what is written, where reads count or do not
@@ -50,4 +50,23 @@ module _ (k : Kernel) (pid : ℕ) (call : Call) (b : Bool) (p : Plan) (start mid
         ∙ (λ i. unwrap_or (saw (Err e) h i) [] ++ writing (flat_map marks (edits_of (sym (outcome (Err e) h) i))))
         ∙ counted b (seen k (plan (own k pid call) call)) (flat_map marks (edits_of (given k (plan (own k pid call) call))));
     edits = edits ∙ sym (ap edits_of (outcome (Err e) h));
+  }
+
+-- The same where nobody asks for touches.
+module _ (k : Kernel) (pid : ℕ) (call : Call) (p : Plan) (start mid : Option (List Touch)) (none : p.touches.items ≡ []) where
+  came_to : (r : Result Change Refused) → asked k (plan (own k pid call) call) start ≡ (r, mid) → given k (plan (own k pid call) call) ≡ r
+  came_to r h = ap (λ x. x.0) (sym (asked-is k (plan (own k pid call) call) start) ∙ h)
+
+  pub untouched_ok : (change : Change) → asked k (plan (own k pid call) call) start ≡ (Ok change, mid) → p.answer ≡ Ok change.reply → p.edits.items ≡ change.edits → IsPlanWithoutTouches k pid call p
+  untouched_ok change h answer edits = record {
+    answer = answer ∙ sym (ap reply_of (came_to (Ok change) h));
+    touches = none;
+    edits = edits ∙ sym (ap edits_of (came_to (Ok change) h));
+  }
+
+  pub untouched_err : (e : Refused) → asked k (plan (own k pid call) call) start ≡ (Err e, mid) → p.answer ≡ Err e → p.edits.items ≡ [] → IsPlanWithoutTouches k pid call p
+  untouched_err e h answer edits = record {
+    answer = answer ∙ sym (ap reply_of (came_to (Err e) h));
+    touches = none;
+    edits = edits ∙ sym (ap edits_of (came_to (Err e) h));
   }

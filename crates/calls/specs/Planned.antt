@@ -1,5 +1,5 @@
 -- What a call comes to in a state.
-use Rattle.std.specs.Prelude.{◌≡◌, ℕ, Bool, true, false, List, filter}
+use Rattle.std.specs.Prelude.{◌≡◌, ℕ, Bool, true, false, List, [], filter}
 use Rattle.model.specs.State.{Kernel}
 use Rattle.model.specs.Calls.{Call}
 use Rattle.model.specs.Steps.{Touch, reply, touches, edits}
@@ -13,4 +13,10 @@ counting false ts = filter (λ t. t.write) ts
 pub record IsPlan (k : Kernel) (pid : ℕ) (call : Call) (reads_count : Bool) (p : Plan) : Type 0 where
   pub answer : p.answer ≡ reply k pid call
   pub touches : p.touches.items ≡ counting reads_count (touches k pid call)
+  pub edits : p.edits.items ≡ edits k pid call
+
+-- what a call comes to where nobody asks what it touches
+pub record IsPlanWithoutTouches (k : Kernel) (pid : ℕ) (call : Call) (p : Plan) : Type 0 where
+  pub answer : p.answer ≡ reply k pid call
+  pub touches : p.touches.items ≡ []
   pub edits : p.edits.items ≡ edits k pid call

@@ -18,4 +18,4 @@ mod plan;
 mod seek;
 mod steps;
 
-pub use plan::{Plan, plan_of};
+pub use plan::{Plan, plan_of, plan_without_touches};

@@ -3,7 +3,7 @@ ghost use Rattle.std.specs.Prelude.{IfOk};
 ghost use Rattle.model.specs.Calls.{own};
 ghost use Rattle.model.specs.Plans.{plan};
 ghost use Rattle.look.specs.Asked.{Comes};
-ghost use Rattle.calls.specs.Planned.{IsPlan};
+ghost use Rattle.calls.specs.Planned.{IsPlan, IsPlanWithoutTouches};
 
 use crate::at_offset::{pread, pwrite};
 use crate::change::Change;
@@ -55,6 +55,35 @@ pub fn plan_of<L: Look>(
         Err(Refusal::Errno(errno)) => Ok(Plan {
             answer: Err(errno),
             touches: reads.into_touches().into_vec(),
+            edits: Vec::new(heap),
+        }),
+        Err(Refusal::NoMemory) => Err(AllocError),
+    }
+}
+
+/// What a call of a process comes to in a state where nobody asks what it touches: its list of touches
+/// is empty, and takes no memory. It changes nothing; `AllocError` says that memory was refused.
+pub fn plan_without_touches<L: Look>(
+    heap: Heap,
+    look: &L,
+    pid: Pid,
+    call: &Call,
+) -> Result<Plan, AllocError>
+    ensures { IfOk result (IsPlanWithoutTouches (L.state look.now) pid call.now) }
+{
+    let mut reads = Reads::new(heap, false);
+    match change_of(heap, look, pid, call, &mut reads) {
+        Ok(change) => {
+            let Change { answer, edits } = change;
+            Ok(Plan {
+                answer: Ok(answer),
+                touches: Vec::new(heap),
+                edits: edits.into_vec(),
+            })
+        }
+        Err(Refusal::Errno(errno)) => Ok(Plan {
+            answer: Err(errno),
+            touches: Vec::new(heap),
             edits: Vec::new(heap),
         }),
         Err(Refusal::NoMemory) => Err(AllocError),
