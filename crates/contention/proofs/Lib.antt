@@ -1,3 +1,4 @@
+mod Alone
 pub mod Alike
 pub mod Distinct
 pub mod Modes

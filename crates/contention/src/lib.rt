@@ -3,11 +3,11 @@
 #![tactic(auto)]
 
 ghost use Rattle.std.specs.Prelude.{◌≡◌, ℕ, suc, ◌<◌, ◌-◌, ◌++◌, ◌∷◌, [], length, take, set};
-ghost use Rattle.std.specs.Prelude.{get_or, Some, None, IfOk, OnErr, OnOk};
+ghost use Rattle.std.specs.Prelude.{get_or, false, Some, None, IfOk, OnErr, OnOk};
 ghost use Rattle.contention.specs.Contenders.{nobody, contender_at, AreContendersOf, SetsContender};
 ghost use Rattle.contention.specs.Policy.{IsVerdictAmong};
 ghost use Rattle.contention.specs.Ranks.{idle_rank, rank_at};
-ghost use Rattle.contention.specs.Verdicts.{IsVerdict};
+ghost use Rattle.contention.specs.Verdicts.{IsAlone, IsVerdict};
 ghost use Rattle.contention.specs.Contenders.{mode_by_contenders};
 ghost use Rattle.model.specs.Modes.{mode_of};
 ghost use Rattle.model.specs.Moments.{Moment};
@@ -218,6 +218,15 @@ impl Contenders {
     {
         set_age(&mut self.ranks, pid, None);
         self.records.release(pid);
+    }
+
+    /// Whether a process other than this one has touched something. Where none has, a call of this
+    /// one takes effect and dooms nobody, whatever it touches. It takes no memory, and as many steps
+    /// for any number of touches.
+    pub fn others_touched(&self, pid: Pid) -> bool
+        ensures { result ≡ false → (m : Moment) → AreContendersOf m self.now → IsAlone m pid }
+    {
+        self.records.others_touched(pid)
     }
 
     /// What a call of a process comes to that touches these: of a live process all that it touches,

@@ -8,7 +8,7 @@ use Rattle.kernel.proofs.Words.{executed_again, nowhere_seen, childless, phase_i
 use Rattle.kernel.proofs.Words.{IsDoomedBy, Doomed, effect, made_by, AreNew, with_change, view_at, changes_in, part_with, state_with, Stands}
 use Rattle.kernel.proofs.Words.{calling, limit_of, setup_of, moment, Fields, Dooms, CanEnter, IsIn, Moves, part_at, part_of, shown_by, changes_of, doomed_by, is_no_entry, is_some}
 use Rattle.kernel.proofs.Words.{Edit, FitsAll, is_alive, sum_by, news, distinct, with_touches, with_touches-append, Make_directory}
-use Rattle.kernel.proofs.Words.{Unname_directory, Touch, touches, counted, counting, all_done, CanEdit, Committed, IsPlan, Plans, Live}
+use Rattle.kernel.proofs.Words.{Unname_directory, Touch, touches, counted, counting, all_done, CanEdit, Committed, IsPlan, IsPlanWithoutTouches, Plans, Prepares, Part, Live}
 use Rattle.model.specs.Changes.{Make_file, Name_file, Unname_file, Move, Put_bytes, Cut, Open_inode, Set_offset, Share_slot, Clear_slot, Make_pipe, Take, Append, New_process, End_process}
 use Rattle.call_laws.specs.Fits.{Fits}
 use Rattle.shadow.specs.Looks.{DirectoriesAreKept}
@@ -119,6 +119,28 @@ module _ (f : Fields) (pid : ℕ) (within : Option (BeginFlags × ℕ)) (call : 
           parents = subst (HaveParents f.stable.reserves) (sym is.edits) (have_parents sees pid call seen_well (slot_low f asks.holds pid) seen_alive used);
         };
       }
+
+-- The same of a call of a process in no transaction, without its touches.
+module _ (f : Fields) (pid : ℕ) (call : Call) (asks : Calls f pid None call) where
+  pub plans_alone : (p : Planned) → IsPlanWithoutTouches (sees f pid None call asks).state pid call p → DirectoriesAreKept (sees f pid None call asks)
+      → record { answer : p.answer ≡ reply (seen_by (moment f.log) pid) pid call; plans : Prepares f pid None call p.touches.items p.edits.items }
+  plans_alone p is used =
+      let seen = slot_views f asks.holds pid in
+      let goes = (views_may_be_loose 0 (setup_of f.log) (limit_of f.log) f.log.entries asks.holds.legal pid).goes_on call in
+      record {
+        answer = is.answer ∙ ap (λ k. reply k pid call) seen ∙ sym goes.reply;
+        plans = record {
+          touches = λ live. absurd (false≢true live);
+          edits = is.edits ∙ ap (λ k. edits k pid call) seen ∙ sym goes.edits;
+          kinds = subst (CanChange f.stable.state pid None) (sym is.edits) (can_change f pid None call asks None asks.stands asks.supported);
+          parents = subst (HaveParents f.stable.reserves) (sym is.edits) (have_parents (sees f pid None call asks) pid call (seen_well f pid None call asks) (slot_low f asks.holds pid) (seen_alive f pid None call asks) used);
+        };
+      }
+
+-- what it touches has no part in the change of a process in no transaction
+pub same_part : (w : Option (BeginFlags × ℕ)) (d : Effect) (ts us : List Touch) (p : Part) → (is_some w ≡ true → ts ≡ us) → part_with w d ts p ≡ part_with w d us p
+same_part None d ts us p same = refl
+same_part (Some within) d ts us p same = ap (λ xs. part_with (Some within) d xs p) (same refl)
 
 -- calls that transactions support end no process
 goes_on : (call : Call) (r : Result Answer Errno) → is_inside call ≡ true → is_ended (Do call) (answered r) ≡ false

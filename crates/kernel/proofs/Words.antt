@@ -28,7 +28,7 @@ pub use Rattle.history_laws.proofs.Laws.{plain_calls_run, right_by, serializable
 pub use Rattle.history_laws.specs.Entered.{CallGoesIn, PhasesMove, view}
 pub use Rattle.history_laws.specs.Limits.{StaysWithinLimits, most_processes}
 pub use Rattle.history_laws.specs.Processes.{IsAsBefore, ProcessesMove, born, child_in, is_ended}
-pub use Rattle.calls.specs.Planned.{IsPlan, counting}
+pub use Rattle.calls.specs.Planned.{IsPlan, IsPlanWithoutTouches, counting}
 pub use Rattle.commit.specs.Edits.{AreNew, with_change, made_by}
 pub use Rattle.commit.specs.Views.{AreFirst, View, gone_slot, cause_of, changes_in, doomed_slot, idle_slot, view_at}
 pub use Rattle.records.specs.Touches.{distinct, with_touches}
@@ -40,7 +40,7 @@ pub use Rattle.shadow.specs.Log.{effect}
 pub use Rattle.shadow.specs.Steps.{CanEdit}
 pub use Rattle.shadow.specs.Committed.{Committed}
 pub use Rattle.machine.specs.Shown.{Kept, Shown, is_live, is_live_status, limit_of, moment, setup_of}
-pub use Rattle.kernel.specs.States.{Asks, CanEnter, CanEndTransaction, Does, Dooms, Fields, IsConsistent, IsIn, Moves, Part, Plans, Stands, Unchanged, calling}
+pub use Rattle.kernel.specs.States.{Asks, CanEnter, CanEndTransaction, Does, Dooms, Fields, IsConsistent, IsIn, Moves, Part, Plans, Prepares, Stands, Unchanged, calling}
 pub use Rattle.kernel.specs.States.{changes_of, cleared, doomed_by, fields, part_at, part_of, part_with, plain, settled_as, shown, shown_by, state_with}
 pub use Rattle.kernel.specs.States.{Born, Calls, CanChange, ends_process, first_is, makes_process, no_part, part_after, with_born, with_child}
 pub use Rattle.machine.specs.Steps.{Added, Steps, has_place, is_no_entry, with_entry}

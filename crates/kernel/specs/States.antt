@@ -195,6 +195,15 @@ pub record Plans (f : Fields) (pid : ℕ) (within : Option (BeginFlags × ℕ)) 
   pub kinds : CanChange f.stable.state pid within es
   pub parents : HaveParents f.stable.reserves es
 
+-- the same, where of a process in no transaction nobody asks what it touches
+pub record Prepares (f : Fields) (pid : ℕ) (within : Option (BeginFlags × ℕ)) (call : Call)
+    (ts : List Touch) (es : List Edit)
+    : Type 0 where
+  pub touches : is_some within ≡ true → ts ≡ counted_touches (moment f.log) pid call
+  pub edits : es ≡ edits (seen_by (moment f.log) pid) pid call
+  pub kinds : CanChange f.stable.state pid within es
+  pub parents : HaveParents f.stable.reserves es
+
 -- one process more, with this priority and in no transaction
 abbrev pub with_child : ℕ → Fields → Fields
 with_child priority f = record f {

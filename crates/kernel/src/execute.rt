@@ -11,20 +11,20 @@ ghost use Rattle.model.specs.Moments.{counted_touches, is_alive, seen_by};
 ghost use Rattle.model.specs.Replies.{answered};
 ghost use Rattle.model.specs.Steps as steps;
 ghost use Rattle.model.specs.Steps.{reply};
-ghost use Rattle.contention.specs.Verdicts.{IsVerdict};
+ghost use Rattle.contention.specs.Verdicts.{IsAlone, IsVerdict};
 ghost use Rattle.shadow.specs.Claims.{HaveParents};
 ghost use Rattle.shadow.specs.Log.{effect};
 ghost use Rattle.call_laws.specs.Fits.{Fits};
 ghost use Rattle.commit.specs.Edits.{AreNew};
 ghost use Rattle.commit.specs.Views.{idle_slot, view_at};
 ghost use Rattle.kernel.specs.States.{Born, Calls, CanChange, Does, Dooms, IsConsistent, IsIn};
-ghost use Rattle.kernel.specs.States.{Moves, Plans};
+ghost use Rattle.kernel.specs.States.{Moves, Plans, Prepares};
 ghost use Rattle.kernel.specs.States.{Unchanged, ends_process, fields, first_is, makes_process};
 ghost use Rattle.kernel.specs.States.{no_part, part_after, part_at, part_with, state_with, with_born};
 ghost use Rattle.machine.specs.Shown.{moment};
 
 use crate::state::{Live, State, add_entry, end_transaction, enter};
-use calls::{Plan, plan_of};
+use calls::{Plan, plan_of, plan_without_touches};
 use contention::{Doomed, Twice, Verdict};
 use heap::Heap;
 use ids::{Answer, Call, Cause, Edit, Errno, Nums, Op, Pid, Pids, Reply, Touch, Why};
@@ -85,8 +85,57 @@ fn plan_for(s: &State, pid: Pid, within: &Within, call: &Call) -> Result<Plan, A
     plan_of(s.heap, &view, pid, call, within.is_some())
 }
 
+/// What a call of a process in no transaction comes to, without what it touches.
+fn plan_alone(s: &State, pid: Pid, call: &Call) -> Result<Plan, AllocError>
+    requires { Calls (fields s.now) pid None call.now }
+    ensures answer { IfOk result (λ p.
+        p.answer ≡ reply (seen_by (moment s.now.history) pid) pid call.now) }
+    ensures plans { IfOk result (λ p.
+        Prepares (fields s.now) pid None call.now p.touches.items p.edits.items) }
+{
+    let view = s.transactions.view(pid);
+    plan_without_touches(s.heap, &view, pid, call)
+}
+
+/// What a call of a process in no transaction comes to where no other process has touched anything:
+/// it dooms nobody.
+fn judged_alone(s: &State, pid: Pid, call: &Call) -> Result<(Plan, Verdict), AllocError>
+    requires asks { Calls (fields s.now) pid None call.now }
+    requires alone { IsAlone (moment s.now.history) pid }
+    ensures answer { IfOk result (λ p.
+        p.0.answer ≡ reply (seen_by (moment s.now.history) pid) pid call.now) }
+    ensures plans { IfOk result (λ p.
+        Prepares (fields s.now) pid None call.now p.0.touches.items p.0.edits.items) }
+    ensures verdict { IfOk result (λ p. IsVerdict (moment s.now.history) pid
+        (counted_touches (moment s.now.history) pid call.now) p.1) }
+{
+    let plan = plan_alone(s, pid, call)?;
+    Ok((plan, Verdict::Go(Vec::new(s.heap))))
+}
+
 /// What a call comes to, and whether it loses or which processes it dooms.
 fn judged(s: &State, pid: Pid, within: &Within, call: &Call) -> Result<(Plan, Verdict), AllocError>
+    requires { Calls (fields s.now) pid within.now call.now }
+    ensures answer { IfOk result (λ p.
+        p.0.answer ≡ reply (seen_by (moment s.now.history) pid) pid call.now) }
+    ensures plans { IfOk result (λ p.
+        Prepares (fields s.now) pid within.now call.now p.0.touches.items p.0.edits.items) }
+    ensures verdict { IfOk result (λ p. IsVerdict (moment s.now.history) pid
+        (counted_touches (moment s.now.history) pid call.now) p.1) }
+{
+    match within {
+        None if !s.contenders.others_touched(pid) => judged_alone(s, pid, call),
+        _ => judged_by_touches(s, pid, within, call),
+    }
+}
+
+/// What a call comes to, and by what it touches whether it loses or which processes it dooms.
+fn judged_by_touches(
+    s: &State,
+    pid: Pid,
+    within: &Within,
+    call: &Call,
+) -> Result<(Plan, Verdict), AllocError>
     requires { Calls (fields s.now) pid within.now call.now }
     ensures answer { IfOk result (λ p.
         p.0.answer ≡ reply (seen_by (moment s.now.history) pid) pid call.now) }
@@ -193,7 +242,7 @@ fn change(
     edits: Vec<Edit, Heap>,
 ) -> Result<Nums, AllocError>
     requires asks { Calls (fields s.old) pid within.now call.now }
-    requires plans { Plans (fields s.old) pid within.now call.now touches.items edits.items }
+    requires plans { Prepares (fields s.old) pid within.now call.now touches.items edits.items }
     ensures new { IfOk result (AreNew s.old.transactions edits.entry.items) }
     ensures moves { IfOk result (λ chosen.
         Moves (with_born within.now pid edits.entry.items (fields s.old)) (fields s.new) pid
@@ -258,7 +307,7 @@ fn take(
 ) -> Result<Reply, AllocError>
     requires asks { Calls (fields s.old) pid within call }
     requires answer { plan.answer ≡ reply (seen_by (moment s.old.history) pid) pid call }
-    requires plans { Plans (fields s.old) pid within call plan.touches.items plan.edits.items }
+    requires plans { Prepares (fields s.old) pid within call plan.touches.items plan.edits.items }
     requires wins { IsVerdict (moment s.old.history) pid
         (counted_touches (moment s.old.history) pid call) (Verdict.Go doomed) }
     ensures ok { IfOk result (Does (fields s.old) (fields s.new) pid (entries.Do call)) }

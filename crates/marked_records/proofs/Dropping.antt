@@ -1,7 +1,7 @@
 -- A look at the names of a directory of which no other process writes an entry clashes with nothing.
-use Rattle.std.proofs.Common.{◌≡◌, ℕ, ◌<◌, refl, sym, ◌∙◌, ap, subst, true, false, Bool, List, [], ◌∷◌, ◌++◌, ◌+◌, ◌-◌, take, drop, drop-cons, get_or, length, arith, inl, inr, append_assoc}
+use Rattle.std.proofs.Common.{◌≡◌, ◌≢◌, ℕ, ◌<◌, refl, sym, ◌∙◌, ap, subst, true, false, Bool, List, [], ◌∷◌, ◌++◌, ◌+◌, ◌-◌, take, drop, drop-cons, get_or, length, arith, inl, inr, append_assoc}
 use Rattle.std.specs.Prelude.{◌||◌, ◌&&◌, ◌==◌, not, slice_range, if◌then◌else◌}
-use Rattle.std.proofs.lemmas.Bool.{cases_lt, eqb-true, or_cases, or_left, or_right, and_parts, false≢true, false_from_ne_true, not-true, not-false}
+use Rattle.std.proofs.lemmas.Bool.{cases_lt, cases_eq, eq-eqb, eqb-true, or_cases, or_left, or_right, and_parts, false≢true, false_from_ne_true, not-true, not-false}
 use Rattle.std.proofs.lemmas.List.{get_or_default, get_or_past, take_more}
 use Rattle.model.specs.Aspects.{Aspect, Entry, Names, Size, Block, Links, Ends, Offset, Front, Back}
 use Rattle.model.specs.Steps.{Touch}
@@ -115,6 +115,25 @@ none_unwritten lists pid d q passes other = elim (cases_lt q (length lists)) [
   alone : (own b : Bool) → own ≡ false → (not own && b) ≡ false → b ≡ false
   alone false b e h = h
   alone true b e h = absurd (false≢true (sym e))
+
+-- where no other process has touched anything, nothing clashes
+module _ (lists : List (List Touch)) (pid : ℕ) (idle : (q : ℕ) → q ≢ pid → touched_by lists q ≡ []) where
+  and_none : (a b : Bool) → false ≡ (a && (b && false))
+  and_none true b = sym (and_nothing b)
+  and_none false b = refl
+
+  none_of_idle : (t u : Touch) (q : ℕ) → false ≡ (not (q == pid) && (clash t u && has_touch u.aspect u.write (touched_by lists q)))
+  none_of_idle t u q = elim (cases_eq q pid) [
+    | inl e ↦ sym (ap (λ b. not b && (clash t u && has_touch u.aspect u.write (touched_by lists q))) (eq-eqb q pid e))
+    | inr apart ↦ and_none (not (q == pid)) (clash t u) ∙ ap (λ us. not (q == pid) && (clash t u && has_touch u.aspect u.write us)) (sym (idle q apart))
+  ]
+
+  alone_by : (ts : List Touch) → AreClashes lists pid ts []
+  alone_by [] = refl
+  alone_by (t ∷ ts) = ([], [], refl, record { mine = tt; exact = λ q u. none_of_idle t u q; order = tt }, alone_by ts)
+
+  pub clashes_alone : (ts : List Touch) (found : List Clash) → found ≡ [] → AreClashes lists pid ts found
+  clashes_alone ts found none = subst (λ (x : List Clash). AreClashes lists pid ts x) (sym none) (alone_by ts)
 
 -- clashes of some touches, and of those that come after them
 pub clashes_join : (lists : List (List Touch)) (pid : ℕ) (ts us : List Touch) (f g : List Clash) → AreClashes lists pid ts f → AreClashes lists pid us g → AreClashes lists pid (ts ++ us) (f ++ g)

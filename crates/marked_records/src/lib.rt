@@ -1,13 +1,13 @@
 //! What each process's live transaction touched, with the list modes of directories beside it
 //! (TxOS, sections 4 and 5).
 //!
-//! A look at all names of a directory clashes with nothing where no other process writes an entry of
-//! it. What is counted for its list mode says so, and such a look is dropped before clashes are asked
-//! for.
+//! Where no other process has touched anything, nothing clashes, and no touch is looked up. A look at
+//! all names of a directory clashes with nothing where no other process writes an entry of it. What is
+//! counted for its list mode says so, and such a look is dropped before clashes are asked for.
 #![tactic(auto)]
 
-ghost use Rattle.std.specs.Prelude.{◌≡◌, ℕ, ◌<◌, ◌-◌, ◌++◌, ◌∷◌, [], length, take, set, get_or};
-ghost use Rattle.std.specs.Prelude.{not, IfOk, OnErr, OnOk};
+ghost use Rattle.std.specs.Prelude.{◌≡◌, ℕ, ◌<◌, ◌-◌, ◌++◌, ◌∷◌, [], false, length, take, set, get_or};
+ghost use Rattle.std.specs.Prelude.{not, List, IfOk, OnErr, OnOk};
 ghost use Rattle.list_modes.specs.Holding.{held_of};
 ghost use Rattle.model.specs.Steps.{Touch as OfModel};
 ghost use Rattle.records.specs.Touches.{touched_by, with_touches};
@@ -199,9 +199,18 @@ impl MarkedRecords {
         }
     }
 
-    /// All clashes of these touches of a process with what others touched, in order. It is not
-    /// asked about looks at the names of directories of which no other process writes an entry.
-    /// Refused memory is an error.
+    /// Whether a process other than the caller has touched something: where none has, nothing
+    /// clashes, whatever the caller touches. It takes no memory, and no look-up of an aspect.
+    pub fn others_touched(&self, caller: Pid) -> bool
+        ensures { result ≡ false → (touches : List OfModel) → AreClashes self.now caller touches [] }
+    {
+        self.records.others_touched(caller)
+    }
+
+    /// All clashes of these touches of a process with what others touched, in order. Where no other
+    /// process has touched anything, it takes no memory and as many steps for any number of touches.
+    /// It is not asked about looks at the names of directories of which no other process writes an
+    /// entry. Refused memory is an error.
     pub fn clashes(
         &self,
         heap: Heap,
@@ -210,6 +219,9 @@ impl MarkedRecords {
     ) -> Result<Vec<Clash, Heap>, AllocError>
         ensures { IfOk result (λ found. AreClashes self.now caller touches.now found.items) }
     {
+        if !self.records.others_touched(caller) {
+            return Ok(Vec::new(heap));
+        }
         let mut found = Vec::new(heap);
         for i in 0..touches.len() {
             let mut own = self.clashes_of(heap, caller, touches, i)?;

@@ -171,29 +171,3 @@ holders_from lists s caller t indexed listed found is = record {
       ∙ ap (λ b. not (q == caller) && (clash t u && b)) (indexed.each (mark_of q u));
   once = subst AreEachOnce (sym is) (each_once (clashing_marks caller t s) (once_clashing caller t s listed listed.ordered indexed.once));
 }
-
--- where no aspect has users, nothing clashes
-none_on : (caller : ℕ) (t : Touch) (s : Index) → s.users.entries ≡ [] → marks_on caller t s ≡ []
-none_on caller t s h = ap (λ es. marks_of caller t (side_at t.write (lookup (eq_by_cmp aspect_cmp t.aspect) es))) h
-
-none_of_writers : (caller : ℕ) (s : Index) (es : List Aspect) → s.users.entries ≡ [] → marks_of_writers caller s es ≡ []
-none_of_writers caller s [] h = refl
-none_of_writers caller s (a ∷ es) h = ap (λ l. l ++ marks_of_writers caller s es) (none_on caller (touch_on a true) s h) ∙ none_of_writers caller s es h
-
-none_by_names : (caller : ℕ) (a : Aspect) (w : Bool) (s : Index) → s.users.entries ≡ [] → marks_by_names caller a w s ≡ []
-none_by_names caller (Entry d x) true s h = none_on caller (touch_on (Names d) false) s h
-none_by_names caller (Names d) false s h = none_of_writers caller s (entries_of d s) h
-none_by_names caller a w s h = refl
-
-none_on_aspect : (caller : ℕ) (a : Aspect) (w : Bool) (s : Index) → s.users.entries ≡ [] → marks_on_aspect caller a w s ≡ []
-none_on_aspect caller a true s h = ap (λ l. l ++ marks_on caller (touch_on a false) s) (none_on caller (touch_on a true) s h) ∙ none_on caller (touch_on a false) s h
-none_on_aspect caller a false s h = none_on caller (touch_on a true) s h
-
-pub none_clashing : (caller : ℕ) (t : Touch) (s : Index) → length s.users.entries ≡ 0 → clashing_marks caller t s ≡ []
-none_clashing caller t s e =
-    ap (λ l. l ++ marks_by_names caller t.aspect t.write s) (none_on_aspect caller t.aspect t.write s (no_entries s.users.entries e))
-    ∙ none_by_names caller t.aspect t.write s (no_entries s.users.entries e)
-  where
-    no_entries : {X : Type 0} (es : List X) → length es ≡ 0 → es ≡ []
-    no_entries [] h = refl
-    no_entries (x ∷ es) h = absurd (omega arith)

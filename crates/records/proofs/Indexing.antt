@@ -1,8 +1,7 @@
 -- The users of aspects and the journals, as a touch is added to a journal or taken from its end.
-use Rattle.std.proofs.Common.{◌≡◌, ◌∙◌, sym, refl, ap, subst, Option, Some, None, ℕ, zero, suc, ◌<◌, ◌-◌, if◌then◌else◌, Bool, true, false, cond, not, ◌&&◌, ◌||◌, ◌==◌, List, [], ◌∷◌, ◌++◌, length, set, inl, inr, arith}
+use Rattle.std.proofs.Common.{◌≡◌, ◌≢◌, ◌∙◌, sym, refl, ap, subst, ℕ, zero, suc, ◌<◌, ◌+◌, ◌-◌, if◌then◌else◌, Bool, true, false, cond, not, ◌&&◌, ◌||◌, ◌==◌, List, [], ◌∷◌, ◌++◌, length, set, take, inl, inr, arith}
 use Rattle.std.proofs.lemmas.Bool.{cases_eq, eq-eqb, ne_eqb, false≢true}
-use Rattle.std.proofs.lemmas.List.{get_or-set_same, get_or-set_other, set-set, set-get_or, length_push, get_or_push, append-nil, length-set}
-use Rattle.std.specs.Option.{option_to_list}
+use Rattle.std.proofs.lemmas.List.{get_or-set_same, get_or-set_other, set-set, set-get_or, take_all, take_more, length-set}
 use Rattle.std.proofs.lemmas.List.Folds.{list_any-append}
 use Rattle.model.specs.Steps.{Touch}
 use Rattle.model.specs.Clashes.{same_aspect}
@@ -154,14 +153,14 @@ shrunk_by js ks s indexed e = record {
   once = indexed.once;
 }
 
-last_there : (ks : List (List Touch)) (l : List Touch) → touched_by (ks ++ l ∷ []) (length (ks ++ l ∷ []) - 1) ≡ l
-last_there ks l = get_or_push ks l [] (length (ks ++ l ∷ []) - 1) (omega (arith, length_push ks l))
+-- the last journal apart from those before it
+last_apart : (js : List (List Touch)) → 0 < length js → js ≡ take (length js - 1) js ++ touched_by js (length js - 1) ∷ []
+last_apart js some =
+    let e : length js ≡ (length js - 1) + 1 = omega arith in
+    sym (take_all (length js) js (omega arith)) ∙ ap (λ n. take n js) e ∙ take_more js (length js - 1) [] (omega arith)
 
-pub indexed_shrunk : (js ks : List (List Touch)) (s : Index) (o : Option (List Touch)) → IsIndexed js s → js ≡ ks ++ option_to_list o → touched_by js (length js - 1) ≡ [] → IsIndexed ks s
-indexed_shrunk js ks s (Some l) indexed e untouched =
-    let none : l ≡ [] = sym (last_there ks l) ∙ ap (λ x. touched_by x (length x - 1)) (sym e) ∙ untouched in
-    shrunk_by js ks s indexed (e ∙ ap (λ x. ks ++ x ∷ []) none)
-indexed_shrunk js ks s None indexed e untouched = subst (λ x. IsIndexed x s) (e ∙ append-nil ks) indexed
+pub indexed_shrunk : (js ks : List (List Touch)) (s : Index) → IsIndexed js s → 0 < length js → touched_by js (length js - 1) ≡ [] → ks ≡ take (length js - 1) js → IsIndexed ks s
+indexed_shrunk js ks s indexed some untouched e = shrunk_by js ks s indexed (last_apart js some ∙ ap (λ l. take (length js - 1) js ++ l ∷ []) untouched ∙ ap (λ x. x ++ [] ∷ []) (sym e))
 
 pub not_false : (f b : Bool) → f ≡ not b → f ≡ false → b ≡ true
 not_false f true h k = refl
@@ -170,3 +169,13 @@ not_false f false h k = absurd (false≢true (sym k ∙ h))
 pub not_true : (f b : Bool) → f ≡ not b → f ≡ true → b ≡ false
 not_true f true h k = absurd (false≢true (sym h ∙ k))
 not_true f false h k = refl
+
+-- the one process that touched something has touched nothing any more, and no aspect has users
+pub indexed_cleared : (lists : List (List Touch)) (n : Index) (p : ℕ) → p < length lists → ((q : ℕ) → q ≢ p → touched_by lists q ≡ []) → ((u : Touch) → users_on n u ≡ []) → IsIndexed (set lists p []) n
+indexed_cleared lists n p within alone none = record {
+  each = λ m. ap (among m.pid) (none m.touch) ∙ elim (cases_eq m.pid p) [
+    | inl e ↦ ap (has m.touch) (sym (ap (λ q. touched_by (set lists p []) q) e ∙ get_or-set_same lists p [] [] within))
+    | inr ne ↦ ap (has m.touch) (sym (get_or-set_other lists p m.pid [] [] ne ∙ alone m.pid ne))
+  ];
+  once = λ u. subst AreDistinct (sym (none u)) tt;
+}

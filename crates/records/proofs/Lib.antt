@@ -1,8 +1,9 @@
 pub mod Exact
 mod Names
 pub mod Laws
-mod Journals
+mod Distinct
 mod Keeping
+mod Active
 mod Groups
 mod Aspects
 mod Uses

@@ -98,3 +98,7 @@ unlisted before after b a users none updates there some = updates ∙ by (is_eq 
   by : (c : Bool) → is_eq (aspect_cmp b a) ≡ c → cond c false (contains aspect_cmp before a) ≡ true
   by true k = absurd (some (ap (λ x. users (touch_on x true)) (sym (aspect_from_tied b a k)) ∙ none))
   by false k = there
+
+-- where nobody uses anything, no entry has to be listed
+pub listed_cleared : (n : Index) → ((u : Touch) → users_on n u ≡ []) → Lists n
+listed_cleared n none m e h = absurd (false≢true (sym (ap (among m.pid) (none m.touch)) ∙ h))

@@ -3,6 +3,7 @@ use Rattle.std.proofs.Common.{◌≡◌, ◌∙◌, sym, refl, ap, Option, Some,
 use Rattle.std.specs.Prelude.{Result, Ok, Err, OnOk, OnErr}
 use Rattle.std.specs.Ordering.{is_eq, eq_by_cmp}
 use Rattle.std.specs.HashMap.{HashMap, get}
+use Rattle.std.specs.Map.{lookup}
 use Rattle.ids.specs.Order.{aspect_cmp}
 use Rattle.model.specs.Aspects.{Aspect}
 use Rattle.model.specs.Steps.{Touch}
@@ -79,3 +80,7 @@ both_err (Err e) P Q R f p q = f p q
 pub same_sides : (u n : Users) → n.writers.items ≡ u.writers.items → n.readers.items ≡ u.readers.items → (w : Bool) → side w n ≡ side w u
 same_sides u n h k true = h
 same_sides u n h k false = k
+
+-- a table with no entries has no users
+pub none_kept : {S : Type 0} (m : HashMap Aspect Users S) → m.entries ≡ [] → (u : Touch) → users_in m u ≡ []
+none_kept m empty u = ap (λ es. side_at u.write (lookup (eq_by_cmp aspect_cmp u.aspect) es)) empty

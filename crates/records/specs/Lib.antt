@@ -1,4 +1,5 @@
 pub mod Touches
+pub mod Active
 pub mod Codes
 pub mod Marks
 pub mod Groups

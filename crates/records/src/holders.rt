@@ -130,9 +130,6 @@ fn collect_by_names(
 pub fn collect(heap: Heap, index: &Index, caller: Pid, touch: &Touch) -> Result<Found, AllocError>
     ensures { IfOk result (λ r. r.items ≡ clashing_marks caller touch.now index.now) }
 {
-    if index.users.is_empty() {
-        return Ok(Vec::new(heap));
-    }
     let found = collect_aspect(index, caller, touch, Vec::new(heap))?;
     collect_by_names(heap, index, caller, touch, found)
 }

@@ -180,3 +180,18 @@ pub fn leave(index: &mut Index, pid: Pid, touch: &Touch)
     leave_users(&mut index.users, pid, touch);
     unlist_entry(&index.users, &mut index.written, touch);
 }
+
+/// Whether the table of users has no more places than a small multiple of so many touches: to clear
+/// it takes as many steps as it has places, and these stay from when most aspects were used.
+pub fn is_filled_by(index: &Index, touches: usize) -> bool {
+    index.users.capacity() / 16 <= touches
+}
+
+/// Nobody uses any aspect any more. It takes no memory.
+pub fn clear(index: &mut Index)
+    ensures users { (u : Touched) → users_on index.new u ≡ [] }
+    ensures ordered { IsOrdered aspect_cmp index.new.written }
+{
+    index.users.clear();
+    index.written.clear();
+}

@@ -77,4 +77,11 @@ impl Journal {
     {
         self.touches.pop()
     }
+
+    /// Takes all touches away. It takes no memory.
+    pub fn clear(&mut self)
+        ensures { self.new ≡ [] }
+    {
+        self.touches.clear();
+    }
 }

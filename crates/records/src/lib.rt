@@ -11,6 +11,7 @@
 mod holders;
 mod index;
 mod journal;
+mod journals;
 mod mark;
 mod records;
 mod users;

@@ -1,13 +1,13 @@
 // All touches of all live transactions.
-ghost use Rattle.std.specs.Prelude.{◌≡◌, ◌-◌, ◌<◌, ◌++◌, ◌∷◌, [], false, length};
-ghost use Rattle.std.specs.Prelude.{take, set, IfOk, IfErr, OnOk, OnErr};
+ghost use Rattle.std.specs.Prelude.{◌≡◌, ◌≢◌, ℕ, ◌-◌, ◌<◌, ◌++◌, ◌∷◌, [], false, length};
+ghost use Rattle.std.specs.Prelude.{take, set, IfOk, OnOk, OnErr};
 ghost use Rattle.records.specs.Holders.{AreHolders};
-ghost use Rattle.records.specs.Index.{has, IsIndexed, ListsWritten};
+ghost use Rattle.records.specs.Index.{IsIndexed, ListsWritten};
 ghost use Rattle.records.specs.Touches.{touched_by, with_touch, with_touches};
 
 use crate::holders::collect;
-use crate::index::{Index, enter, leave};
-use crate::journal::Journal;
+use crate::index::{Index, clear, enter, is_filled_by, leave};
+use crate::journals::Journals;
 use crate::mark::Mark;
 use heap::Heap;
 use ids::{Pid, Touch};
@@ -19,7 +19,7 @@ use std::marker::Model;
 /// once, in the order in which they first came.
 pub struct Records {
     heap: Heap,
-    journals: Vec<Journal, Heap>,
+    journals: Journals,
     index: Index,
 }
 
@@ -41,61 +41,32 @@ impl Model for Records {
 
     ghost Value = { List (List Touch) };
 
-    ghost view = { λ r. r.journals.items };
+    ghost view = { λ r. r.journals };
 
-    ghost invariant = { λ r. IsIndexed r.journals.items r.index × ListsWritten r.index };
-}
-
-/// A touch more at the end of a journal that has not got it. Refused memory gives it back and
-/// changes nothing.
-fn push_to(journals: &mut Vec<Journal, Heap>, pid: Pid, touch: Touch) -> Result<(), Touch>
-    requires within { pid < length journals.old.items }
-    requires absent { has touch (touched_by journals.old.items pid) ≡ false }
-    ensures ok { OnOk result (journals.new.items
-        ≡ set journals.old.items pid (touched_by journals.old.items pid ++ touch ∷ [])) }
-    ensures back { IfErr result (λ t. t ≡ touch) }
-    ensures err { OnErr result (journals.new.items ≡ journals.old.items) }
-{
-    journals[pid.0 as usize].push(touch)
-}
-
-/// The last touch is taken from a journal.
-fn pop_from(journals: &mut Vec<Journal, Heap>, pid: Pid) -> Touch
-    requires within { pid < length journals.old.items }
-    requires some { 0 < length (touched_by journals.old.items pid) }
-    ensures journals { journals.new.items ≡ set journals.old.items pid
-        (take (length (touched_by journals.old.items pid) - 1)
-        (touched_by journals.old.items pid)) }
-    ensures last { touched_by journals.old.items pid
-        ≡ take (length (touched_by journals.old.items pid) - 1) (touched_by journals.old.items pid)
-        ++ result ∷ [] }
-    ensures once { has result (take (length (touched_by journals.old.items pid) - 1)
-        (touched_by journals.old.items pid)) ≡ false }
-{
-    journals[pid.0 as usize].pop().unwrap()
+    ghost invariant = { λ r. IsIndexed r.journals r.index × ListsWritten r.index };
 }
 
 /// A touch more of a process, with its use; one that it has already takes no memory. Refused memory
 /// changes nothing.
 fn note(
     heap: Heap,
-    journals: &mut Vec<Journal, Heap>,
+    journals: &mut Journals,
     index: &mut Index,
     pid: Pid,
     touch: Touch,
 ) -> Result<(), AllocError>
-    requires within { pid < length journals.old.items }
-    requires indexed { IsIndexed journals.old.items index.old }
-    ensures ok { OnOk result (journals.new.items
-        ≡ set journals.old.items pid (with_touch (touched_by journals.old.items pid) touch)) }
-    ensures err { OnErr result (journals.new.items ≡ journals.old.items) }
-    ensures indexed { IsIndexed journals.new.items index.new }
+    requires within { pid < length journals.old }
+    requires indexed { IsIndexed journals.old index.old }
+    ensures ok { OnOk result (journals.new
+        ≡ set journals.old pid (with_touch (touched_by journals.old pid) touch)) }
+    ensures err { OnErr result (journals.new ≡ journals.old) }
+    ensures indexed { IsIndexed journals.new index.new }
     ensures listed { ListsWritten index.old → ListsWritten index.new }
 {
     if !enter(heap, index, pid, &touch)? {
         return Ok(());
     }
-    match push_to(journals, pid, touch) {
+    match journals.push(pid, touch) {
         Ok(()) => Ok(()),
         Err(touch) => {
             leave(index, pid, &touch);
@@ -111,7 +82,7 @@ impl Records {
     {
         Records {
             heap,
-            journals: Vec::new(heap),
+            journals: Journals::new(heap),
             index: Index {
                 users: HashMap::new(heap),
                 written: BTreeSet::new(heap),
@@ -125,8 +96,7 @@ impl Records {
         ensures ok { OnOk result (self.new ≡ self.old ++ [] ∷ []) }
         ensures err { OnErr result (self.new ≡ self.old) }
     {
-        self.journals.push(Journal::new(self.heap))?;
-        Ok(())
+        self.journals.enrol(self.heap)
     }
 
     /// The last process is taken away again, which touched nothing. It takes no memory.
@@ -135,7 +105,7 @@ impl Records {
         requires untouched { touched_by self.old (length self.old - 1) ≡ [] }
         ensures { self.new ≡ take (length self.old - 1) self.old }
     {
-        self.journals.pop();
+        self.journals.shrink();
     }
 
     /// What a process touched, each once, in the order in which they first came; nothing for one
@@ -143,10 +113,7 @@ impl Records {
     pub fn touches(&self, pid: Pid) -> &[Touch]
         ensures { result.now ≡ touched_by self.now pid }
     {
-        match self.journals.get(pid.0 as usize) {
-            Some(journal) => journal.as_slice(),
-            None => &[],
-        }
+        self.journals.touches(pid)
     }
 
     /// How many touches a process has, each counted once.
@@ -154,7 +121,15 @@ impl Records {
         requires { pid < length self.now }
         ensures { result ≡ length (touched_by self.now pid) }
     {
-        self.journals[pid.0 as usize].len()
+        self.journals.count(pid)
+    }
+
+    /// Whether a process other than the caller has touched something: where none has, no touch of
+    /// the caller clashes. It takes no memory, and no look-up of an aspect.
+    pub fn others_touched(&self, caller: Pid) -> bool
+        ensures { result ≡ false → (q : ℕ) → q ≢ caller → touched_by self.now q ≡ [] }
+    {
+        self.journals.others_touched(caller)
     }
 
     /// All touches of other processes that clash with a touch, each once, with its process. Where
@@ -185,7 +160,7 @@ impl Records {
         ensures { self.new ≡ set self.old pid
             (take (length (touched_by self.old pid) - 1) (touched_by self.old pid)) }
     {
-        let touch = pop_from(&mut self.journals, pid);
+        let touch = self.journals.pop(pid);
         leave(&mut self.index, pid, &touch);
     }
 
@@ -200,13 +175,28 @@ impl Records {
         }
     }
 
+    /// The touches of the only process that has any are forgotten, without a look-up of an aspect.
+    /// It takes no memory.
+    fn forget_all(&mut self, pid: Pid)
+        requires within { pid < length self.old }
+        requires alone { (q : ℕ) → q ≢ pid → touched_by self.old q ≡ [] }
+        ensures { self.new ≡ set self.old pid [] }
+    {
+        self.journals.clear(pid);
+        clear(&mut self.index);
+    }
+
     /// A process's touches are forgotten. It takes no memory, and as many steps as the process has
-    /// touches.
+    /// touches, each with a look-up of its aspect where another process has touched something.
     pub fn release(&mut self, pid: Pid)
         requires { pid < length self.old }
         ensures { self.new ≡ set self.old pid [] }
     {
-        self.keep_first(pid, 0);
+        if !self.others_touched(pid) && is_filled_by(&self.index, self.count(pid)) {
+            self.forget_all(pid);
+        } else {
+            self.keep_first(pid, 0);
+        }
     }
 
     /// A process touches these too. One that it has already takes no memory. Refused memory changes

@@ -1,6 +1,6 @@
 use Rattle.kernel.proofs.Words.{[], map, sym, ap, subst, subst₂, ◌∙◌, Do, answered, counted_touches, effect, edits, moment, seen_by, AreNew, part_with, state_with, fields}
 use Rattle.kernel.proofs.Words.{CanEnter, Does, Moves, part_at, with_born}
-use Rattle.kernel.proofs.Calls.{are_in, same_log, takes}
+use Rattle.kernel.proofs.Calls.{are_in, same_log, same_part, takes}
 use Rattle.kernel.proofs.execute.take.Goals as goal
 use Rattle.kernel.proofs.execute.take.Goals.{After-doom_each-arg-1}
 
@@ -16,8 +16,11 @@ moved : (c : After-doom_each-arg-1) →
 moved c =
     let f = fields c.args.s.now in
     let chosen = c.in-Ok-change.chosen in
-    subst₂ (λ ts es. Moves (with_born c.args.within c.args.pid es f) (fields c.change.new.s) c.args.pid (part_with c.args.within (effect chosen es) ts (part_at f c.args.pid)) (state_with c.args.within (effect chosen es) f.stable.state) [])
-    c.requires.plans.touches c.requires.plans.edits c.in-Ok-change.ensures.moves
+    let es = edits (seen_by (moment f.log) c.args.pid) c.args.pid c.args.call in
+    subst (λ part. Moves (with_born c.args.within c.args.pid es f) (fields c.change.new.s) c.args.pid part (state_with c.args.within (effect chosen es) f.stable.state) [])
+    (same_part c.args.within (effect chosen es) c.args.plan.touches.items (counted_touches (moment f.log) c.args.pid c.args.call) (part_at f c.args.pid) c.requires.plans.touches)
+    (subst (λ es. Moves (with_born c.args.within c.args.pid es f) (fields c.change.new.s) c.args.pid (part_with c.args.within (effect chosen es) c.args.plan.touches.items (part_at f c.args.pid)) (state_with c.args.within (effect chosen es) f.stable.state) [])
+    c.requires.plans.edits c.in-Ok-change.ensures.moves)
 
 pub doom_each-requires : goal.doom_each-requires
 doom_each-requires c =

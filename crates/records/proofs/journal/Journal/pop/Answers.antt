@@ -1,4 +1,4 @@
-use Rattle.records.proofs.Journals.{once_left}
+use Rattle.records.proofs.Distinct.{once_left}
 use Rattle.records.proofs.journal.Journal.pop.Goals as goal
 
 pub invariant_of-self : goal.invariant_of-self

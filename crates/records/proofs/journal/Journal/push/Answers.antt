@@ -1,7 +1,7 @@
 use Rattle.std.proofs.Common.{◌∙◌, ap}
 use Rattle.std.specs.Prelude.{is_ok}
 use Rattle.records.specs.Index.{has}
-use Rattle.records.proofs.Journals.{once_pushed_if}
+use Rattle.records.proofs.Distinct.{once_pushed_if}
 use Rattle.records.proofs.journal.Journal.push.Goals as goal
 
 pub invariant_of-self : goal.invariant_of-self

@@ -1,5 +1,5 @@
 use Rattle.kernel.proofs.Words.{ap, subst, ◌∙◌, IsVerdict, moment}
-use Rattle.kernel.proofs.execute.judged.Goals as goal
+use Rattle.kernel.proofs.execute.judged_by_touches.Goals as goal
 
 -- the verdict on the touches that count
 pub returns-in-Ok-clause-verdict : goal.returns-in-Ok-clause-verdict

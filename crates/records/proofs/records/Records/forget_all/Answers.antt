@@ -1,0 +1,12 @@
+use Rattle.records.proofs.Indexing.{indexed_cleared}
+use Rattle.records.proofs.Listing.{listed_cleared}
+use Rattle.records.proofs.records.Records.forget_all.Goals as goal
+
+pub invariant_of-self : goal.invariant_of-self
+invariant_of-self c =
+    let within = rw (← c.self.view_is) at c.requires.within in
+    let alone = rw (← c.self.view_is) at c.requires.alone in
+    rw c.clear.ensures (
+      indexed_cleared c.self.inside.journals c.clear-2.new.index c.args.pid within alone c.clear-2.ensures.users,
+      record { each = listed_cleared c.clear-2.new.index c.clear-2.ensures.users; ordered = c.clear-2.ensures.ordered },
+    )
