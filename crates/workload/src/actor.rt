@@ -104,6 +104,10 @@ impl Actor {
         self.call(Call::Unlink(Bytes::copy(heap, path.as_bytes())?))
     }
 
+    pub(crate) fn rmdir(&mut self, heap: Heap, path: &str) -> Result<()> {
+        self.call(Call::Rmdir(Bytes::copy(heap, path.as_bytes())?))
+    }
+
     pub(crate) fn rename(&mut self, heap: Heap, old: &str, new: &str) -> Result<()> {
         let old = Bytes::copy(heap, old.as_bytes())?;
         let new = Bytes::copy(heap, new.as_bytes())?;
@@ -173,5 +177,49 @@ impl Actor {
         self.open(heap, path, OpenFlags::READ)?;
         self.read(0, pieces)?;
         self.close(0)
+    }
+}
+
+/// Processes that take turns.
+pub(crate) struct Actors {
+    heap: Heap,
+    each: Vec<Actor, Heap>,
+}
+
+// By hand: a derived drop is opened at every place where a value goes, this one is called.
+impl Drop for Actors {
+    fn drop(self) {
+        let Actors { heap: _, each: _ } = self;
+    }
+}
+
+impl Actors {
+    pub(crate) fn new(heap: Heap) -> Actors {
+        Actors {
+            heap,
+            each: Vec::new(heap),
+        }
+    }
+
+    // One more, of this process, which has nothing to do yet.
+    pub(crate) fn add(&mut self, pid: u32) -> Result<&mut Actor> {
+        let index = self.each.len();
+        self.each.push(Actor::new(self.heap, pid))?;
+        Ok(&mut self.each[index])
+    }
+
+    // None is left.
+    pub(crate) fn clear(&mut self) {
+        self.each.clear();
+    }
+
+    pub(crate) fn all(&mut self) -> &mut [Actor] {
+        self.each.as_mut_slice()
+    }
+
+    // The first, and the others.
+    pub(crate) fn first_and_others(&mut self) -> (&mut [Actor], &mut [Actor]) {
+        let first = self.each.len().min(1);
+        self.each.as_mut_slice().split_at_mut(first)
     }
 }

@@ -2,12 +2,12 @@
 // changed.
 use crate::content::Room;
 use crate::digest::Digest;
-use crate::{installer, names, settings, spool};
+use crate::runs::{Run, run_on};
 use anyhow::{Result, bail};
 use heap::Heap;
 use history::History;
 use ids::{Answer, Entry, Reply};
-use kernel::Kernel;
+use machine::Machine;
 use replay::{CheckFault, check};
 
 // The position at which a check says that a history is wrong, from 1, or 0 where it passes.
@@ -26,21 +26,42 @@ fn changed(entry: &Entry) -> Result<Entry> {
     Ok(copy)
 }
 
-// A copy of a history, of which the entry at this position is changed.
-fn copy_of(heap: Heap, history: &History, position: usize) -> Result<History> {
-    let entries = history.entries();
-    let mut copy = History::new(heap, history.priorities(), entries.len())?;
+fn push(copy: &mut History, entry: Entry) -> Result<()> {
+    if copy.push(entry).is_err() {
+        bail!("a copy has no place")
+    }
+    Ok(())
+}
+
+// Copies entries, of which the one at this position is changed.
+fn copy_all(copy: &mut History, entries: &[Entry], position: usize) -> Result<()> {
     for (index, entry) in entries.iter().enumerate() {
-        let copied = if index == position {
-            changed(entry)?
+        if index == position {
+            push(copy, changed(entry)?)?;
         } else {
-            entry.try_clone()?
-        };
-        if copy.push(copied).is_err() {
-            bail!("a copy has no place")
+            push(copy, entry.try_clone()?)?;
         }
     }
-    Ok(copy)
+    Ok(())
+}
+
+fn fault_of_copy(
+    heap: Heap,
+    copy: &mut History,
+    entries: &[Entry],
+    position: usize,
+) -> Result<u64> {
+    copy_all(copy, entries, position)?;
+    fault_of(heap, copy)
+}
+
+// The same of a copy of a history, of which the entry at this position is changed.
+fn fault_of_changed(heap: Heap, history: &History, position: usize) -> Result<u64> {
+    let entries = history.entries();
+    let mut copy = History::new(heap, history.priorities(), entries.len())?;
+    let fault = fault_of_copy(heap, &mut copy, entries, position);
+    drop(copy);
+    fault
 }
 
 fn add_check(room: &mut Room, digest: &mut Digest, history: &History) -> Result<()> {
@@ -48,27 +69,34 @@ fn add_check(room: &mut Room, digest: &mut Digest, history: &History) -> Result<
     let count = history.entries().len() as u64;
     digest.add_number(count);
     let position = room.random.between(count / 2, count) as usize;
-    let copy = copy_of(room.heap, history, position)?;
-    digest.add_number(fault_of(room.heap, &copy)?);
+    digest.add_number(fault_of_changed(room.heap, history, position)?);
     Ok(())
 }
 
-fn check_run(room: &mut Room, digest: &mut Digest, kernel: Kernel) -> Result<()> {
-    let done = add_check(room, digest, kernel.history());
+fn check_on<K: Machine>(
+    kernel: &mut K,
+    room: &mut Room,
+    digest: &mut Digest,
+    run: Run,
+    size: u64,
+) -> Result<()> {
+    run_on(kernel, room, run, size)?;
+    add_check(room, digest, kernel.history())
+}
+
+fn check_run<K: Machine>(room: &mut Room, digest: &mut Digest, run: Run, size: u64) -> Result<()> {
+    let mut kernel: K = run.kernel(room.heap)?;
+    let done = check_on(&mut kernel, room, digest, run, size);
     drop(kernel);
     done
 }
 
 /// Runs jobs and checks their histories.
-pub(crate) fn audit(room: &mut Room, share: u64) -> Result<u64> {
+pub(crate) fn audit<K: Machine>(room: &mut Room, share: u64) -> Result<u64> {
     let mut digest = Digest::new();
-    let kernel = installer::run(room, share)?;
-    check_run(room, &mut digest, kernel)?;
-    let kernel = spool::run(room, share.saturating_mul(20))?;
-    check_run(room, &mut digest, kernel)?;
-    let kernel = settings::run(room, share.saturating_mul(20))?;
-    check_run(room, &mut digest, kernel)?;
-    let kernel = names::run(room, share.saturating_mul(160))?;
-    check_run(room, &mut digest, kernel)?;
+    check_run::<K>(room, &mut digest, Run::Installer, share)?;
+    check_run::<K>(room, &mut digest, Run::Spool, share.saturating_mul(20))?;
+    check_run::<K>(room, &mut digest, Run::Settings, share.saturating_mul(20))?;
+    check_run::<K>(room, &mut digest, Run::Names, share.saturating_mul(160))?;
     Ok(digest.value())
 }

@@ -4,27 +4,16 @@ ghost use Rattle.std.specs.Prelude.{◌≡◌, None};
 use anyhow::{Result, bail};
 use device::{DeviceFailed, Sink};
 use ids::Entry;
-use kernel::Kernel;
 use transcript::print;
 
 // Two sums of the bytes, as in Fletcher's checksum: each counts once in the first, and in the second
 // as often as there are bytes from it on.
+#[derive(Clone, Copy)]
 pub(crate) struct Digest {
     plain: u64,
     weighted: u64,
     // Numbers that are no bytes.
     numbers: u64,
-}
-
-// By hand: a derived drop is opened at every place where a value goes, this one is called.
-impl Drop for Digest {
-    fn drop(self) {
-        let Digest {
-            plain: _,
-            weighted: _,
-            numbers: _,
-        } = self;
-    }
 }
 
 // How many bytes are summed at once.
@@ -64,10 +53,6 @@ impl Digest {
     }
 
     // Adds what a kernel has done: its transcript, and the numbers of the objects that were made.
-    pub(crate) fn add_run(&mut self, kernel: &Kernel) -> Result<()> {
-        self.add_entries(kernel.history().entries())
-    }
-
     pub(crate) fn add_entries(&mut self, entries: &[Entry]) -> Result<()> {
         if print(1, entries, self).is_err() {
             bail!("the transcript is not printed")

@@ -5,8 +5,8 @@ use crate::actor::Actor;
 use crate::content::Room;
 use anyhow::{Result, bail};
 use heap::Heap;
-use ids::{MAX_PROCESSES, Priority, Reply};
-use kernel::Kernel;
+use ids::{Op, Priority, Reply};
+use machine::Machine;
 
 // The most turns of a run.
 const MOST_TURNS: u64 = 1_000_000;
@@ -16,21 +16,21 @@ const TURN: u64 = 8;
 
 /// A kernel of so many processes, the first of which have the priority 1 and the others 0, and with
 /// room for so many entries.
-pub(crate) fn kernel_of(heap: Heap, first: usize, others: usize, entries: usize) -> Result<Kernel> {
+pub(crate) fn kernel_of<K: Machine>(
+    heap: Heap,
+    first: usize,
+    others: usize,
+    entries: usize,
+) -> Result<K> {
     let (Some(zero), Some(one)) = (Priority::new(0), Priority::new(1)) else {
         bail!("there is no such priority")
     };
-    let mut priorities = Vec::new(heap);
-    for _ in 0..first.min(64) {
-        priorities.push(one)?;
+    let count = (first.min(64) + others.min(64)).max(1);
+    let mut priorities = Vec::from_elem(heap, zero, count)?;
+    for priority in priorities.iter_mut().take(first) {
+        *priority = one;
     }
-    for _ in 0..others.min(64) {
-        priorities.push(zero)?;
-    }
-    if priorities.is_empty() || priorities.len() > MAX_PROCESSES as usize {
-        bail!("no kernel has so many processes")
-    }
-    Ok(Kernel::new(heap, priorities.as_slice(), entries.min(1_048_576))?)
+    Ok(K::new(heap, priorities.as_slice(), entries.min(1_048_576))?)
 }
 
 // What becomes of a process by the reply to its act.
@@ -51,27 +51,31 @@ fn follow(actor: &mut Actor, reply: &Reply) -> Result<()> {
     Ok(())
 }
 
-// The next act of a process, if it has one.
-fn step(kernel: &mut Kernel, room: &Room, actor: &mut Actor) -> Result<()> {
-    let op = match actor.acts.get(actor.next) {
-        Some(act) => act.op(room)?,
-        None => return Ok(()),
-    };
+// A process does an operation.
+fn step<K: Machine>(kernel: &mut K, actor: &mut Actor, op: Op) -> Result<()> {
     let reply = kernel.step(actor.pid, op);
     let followed = follow(actor, &reply);
     drop(reply);
     followed
 }
 
-fn take_turn(kernel: &mut Kernel, room: &Room, actor: &mut Actor, steps: u64) -> Result<()> {
+// The next acts of a process, if it has any.
+fn take_turn<K: Machine>(kernel: &mut K, room: &Room, actor: &mut Actor, steps: u64) -> Result<()> {
     for _ in 0..steps {
-        step(kernel, room, actor)?;
+        if let Some(act) = actor.acts.get(actor.next) {
+            let op = act.op(room)?;
+            step(kernel, actor, op)?;
+        }
     }
     Ok(())
 }
 
 /// Runs the processes to their ends. Whose turn it is, and how many steps it has, is random.
-pub(crate) fn drive(kernel: &mut Kernel, room: &mut Room, actors: &mut [Actor]) -> Result<()> {
+pub(crate) fn drive<K: Machine>(
+    kernel: &mut K,
+    room: &mut Room,
+    actors: &mut [Actor],
+) -> Result<()> {
     for _ in 0..MOST_TURNS {
         if actors.iter().all(|actor| actor.is_done()) {
             return Ok(());

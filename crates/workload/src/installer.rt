@@ -1,11 +1,10 @@
 // Packages are installed, each by one transaction, beside two processes that look at what is there.
-use crate::actor::Actor;
-use crate::content::Room;
-use crate::digest::Digest;
-use crate::drive::{drive, kernel_of};
+use crate::actor::{Actor, Actors};
+use crate::content::{Content, Room};
+use crate::drive::drive;
 use anyhow::Result;
 use heap::Heap;
-use kernel::Kernel;
+use machine::Machine;
 
 static STATUS: &str = "/var/lib/packages/status";
 
@@ -30,50 +29,85 @@ fn make_directories(installer: &mut Actor, heap: Heap) -> Result<()> {
     Ok(())
 }
 
-// Adds the files of a package, and answers how many there are.
-fn add_files(installer: &mut Actor, room: &mut Room, package: u64) -> Result<u64> {
-    let count = room.random.between(3, 31);
-    for number in 0..count {
-        let path = format!(in room.heap; "/usr/share/doc/package-{package}/part-{number}.data")?;
-        let length = room.random.length();
-        let content = if number % 4 == 3 {
-            room.binary(length)
-        } else {
-            room.text(length)
-        };
-        installer.create(room.heap, path.as_str(), content)?;
-    }
-    Ok(count)
+fn directory_of(heap: Heap, package: u64) -> Result<String<Heap>> {
+    Ok(format!(in heap; "/usr/share/doc/package-{package}")?)
 }
 
-// Installs a package. The status grows with each.
-fn add_package(installer: &mut Actor, room: &mut Room, package: u64) -> Result<()> {
-    let heap = room.heap;
-    installer.begin()?;
-    let directory = format!(in heap; "/usr/share/doc/package-{package}")?;
-    installer.mkdir(heap, directory.as_str())?;
-    let count = add_files(installer, room, package)?;
-    let list = format!(in heap; "/var/lib/packages/info/package-{package}.list")?;
+fn path_of(heap: Heap, package: u64, number: u64) -> Result<String<Heap>> {
+    Ok(format!(in heap; "/usr/share/doc/package-{package}/part-{number}.data")?)
+}
+
+fn list_of(heap: Heap, package: u64) -> Result<String<Heap>> {
+    Ok(format!(in heap; "/var/lib/packages/info/package-{package}.list")?)
+}
+
+// What a file of a package holds.
+fn content_of(room: &mut Room, number: u64) -> Content {
+    let length = room.random.length();
+    if number % 4 == 3 {
+        room.binary(length)
+    } else {
+        room.text(length)
+    }
+}
+
+// Adds the files of a package.
+fn add_files(installer: &mut Actor, room: &mut Room, package: u64, count: u64) -> Result<()> {
+    for number in 0..count {
+        let content = content_of(room, number);
+        let path = path_of(room.heap, package, number)?;
+        installer.create(room.heap, path.as_str(), content)?;
+    }
+    Ok(())
+}
+
+// Adds the package's list of so many files.
+fn add_list(installer: &mut Actor, room: &mut Room, package: u64, count: u64) -> Result<()> {
     let names = room.text(count.saturating_mul(48).min(65_536) as usize);
-    installer.create(heap, list.as_str(), names)?;
+    let list = list_of(room.heap, package)?;
+    installer.create(room.heap, list.as_str(), names)
+}
+
+// Writes the status anew. It grows with each package.
+fn add_status(installer: &mut Actor, room: &mut Room, package: u64) -> Result<()> {
     let status = room.text(package.saturating_mul(120).clamp(120, 262_144) as usize);
-    installer.rewrite(heap, NEW_STATUS, status)?;
-    installer.rename(heap, NEW_STATUS, STATUS)?;
+    installer.rewrite(room.heap, NEW_STATUS, status)?;
+    installer.rename(room.heap, NEW_STATUS, STATUS)
+}
+
+// Installs a package.
+fn add_package(installer: &mut Actor, room: &mut Room, package: u64) -> Result<()> {
+    let count = room.random.between(3, 31);
+    installer.begin()?;
+    installer.mkdir(room.heap, directory_of(room.heap, package)?.as_str())?;
+    add_files(installer, room, package, count)?;
+    add_list(installer, room, package, count)?;
+    add_status(installer, room, package)?;
     installer.end()
 }
 
-// Looks at a package, which may not be there yet.
-fn add_look(reader: &mut Actor, room: &mut Room, package: u64) -> Result<()> {
+// Looks at a file of a package and at its directory, which may not be there yet.
+fn add_look(reader: &mut Actor, heap: Heap, path: &str, directory: &str) -> Result<()> {
+    reader.stat(heap, path)?;
+    reader.list(heap, directory)?;
+    reader.look_into(heap, path, 2)
+}
+
+// Looks at what is installed.
+fn add_survey(reader: &mut Actor, heap: Heap) -> Result<()> {
+    reader.list(heap, "/var/lib/packages/info")?;
+    reader.look_into(heap, STATUS, 2)
+}
+
+// Looks at a package, and now and then at all of them.
+fn add_looking(reader: &mut Actor, room: &mut Room, package: u64) -> Result<()> {
     let heap = room.heap;
     let number = room.random.below(20);
-    let directory = format!(in heap; "/usr/share/doc/package-{package}")?;
-    let path = format!(in heap; "/usr/share/doc/package-{package}/part-{number}.data")?;
-    reader.stat(heap, path.as_str())?;
-    reader.list(heap, directory.as_str())?;
-    reader.look_into(heap, path.as_str(), 2)?;
+    let path = path_of(heap, package, number)?;
+    let directory = directory_of(heap, package)?;
+    add_look(reader, heap, path.as_str(), directory.as_str())?;
     if number == 0 {
-        reader.list(heap, "/var/lib/packages/info")?;
-        reader.look_into(heap, STATUS, 2)?;
+        add_survey(reader, heap)?;
     }
     Ok(())
 }
@@ -83,38 +117,29 @@ fn add_looks(reader: &mut Actor, room: &mut Room, packages: u64) -> Result<()> {
     for index in 0..packages.saturating_mul(6) {
         let end = (index / 7).max(1);
         let package = room.random.between(0, end);
-        add_look(reader, room, package)?;
+        add_looking(reader, room, package)?;
     }
     Ok(())
 }
 
-fn actors_of(room: &mut Room, packages: u64) -> Result<[Actor; 3]> {
-    let mut installer = Actor::new(room.heap, 1);
-    make_directories(&mut installer, room.heap)?;
+fn add_packages(installer: &mut Actor, room: &mut Room, packages: u64) -> Result<()> {
+    make_directories(installer, room.heap)?;
     for package in 0..packages {
-        add_package(&mut installer, room, package)?;
+        add_package(installer, room, package)?;
     }
-    let mut first = Actor::new(room.heap, 2);
-    add_looks(&mut first, room, packages)?;
-    let mut second = Actor::new(room.heap, 3);
-    add_looks(&mut second, room, packages)?;
-    Ok([installer, first, second])
+    Ok(())
 }
 
 /// A run in which so many packages are installed.
-pub(crate) fn run(room: &mut Room, packages: u64) -> Result<Kernel> {
+pub(crate) fn run<K: Machine>(
+    kernel: &mut K,
+    room: &mut Room,
+    actors: &mut Actors,
+    packages: u64,
+) -> Result<()> {
     let packages = packages.min(1000);
-    let mut actors = actors_of(room, packages)?;
-    let mut kernel = kernel_of(room.heap, 1, 2, 1_048_576)?;
-    drive(&mut kernel, room, &mut actors)?;
-    Ok(kernel)
-}
-
-/// Installs packages, and prints the transcript.
-pub(crate) fn install(room: &mut Room, share: u64) -> Result<u64> {
-    let kernel = run(room, share.saturating_mul(6))?;
-    let mut digest = Digest::new();
-    digest.add_run(&kernel)?;
-    drop(kernel);
-    Ok(digest.value())
+    add_packages(actors.add(1)?, room, packages)?;
+    add_looks(actors.add(2)?, room, packages)?;
+    add_looks(actors.add(3)?, room, packages)?;
+    drive(kernel, room, actors.all())
 }

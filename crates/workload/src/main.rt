@@ -18,51 +18,77 @@ mod installer;
 mod names;
 mod pieces;
 mod random;
+mod runs;
 mod settings;
 mod spool;
 
 use crate::content::Room;
+use crate::runs::{Run, digest_of};
 use anyhow::{Result, bail};
+use kernel::Kernel;
+use machine::Machine;
 use std::alloc::Global;
 use std::env;
 
 fn main(rt: HostRuntime) -> Result<()> {
-    run(&rt, rt.alloc())
+    run::<Kernel>(&rt, rt.alloc())
 }
 
-fn run(rt: &HostRuntime, global: Global) -> Result<()> {
+fn run<K: Machine>(rt: &HostRuntime, global: Global) -> Result<()> {
+    let words = words_of(rt, global)?;
+    print_as_told::<K>(rt, global, words.as_slice())
+}
+
+fn words_of(rt: &HostRuntime, global: Global) -> Result<Vec<String>> {
     let mut words = Vec::new(global);
     for word in env::args(rt)? {
         words.push(word)?;
     }
-    match words.as_slice() {
-        [_, job, seed] => print_job(rt, global, job.as_str(), seed.as_str(), "100"),
-        [_, job, seed, share] => print_job(rt, global, job.as_str(), seed.as_str(), share.as_str()),
+    Ok(words)
+}
+
+fn print_as_told<K: Machine>(rt: &HostRuntime, global: Global, words: &[String]) -> Result<()> {
+    match words {
+        [_, job, seed] => print_job::<K>(rt, global, job.as_str(), seed.as_str(), "100"),
+        [_, job, seed, share] => {
+            print_job::<K>(rt, global, job.as_str(), seed.as_str(), share.as_str())
+        }
         _ => bail!("usage: workload JOB SEED [SHARE]"),
     }
 }
 
-fn print_job(rt: &HostRuntime, global: Global, job: &str, seed: &str, share: &str) -> Result<()> {
+fn print_job<K: Machine>(
+    rt: &HostRuntime,
+    global: Global,
+    job: &str,
+    seed: &str,
+    share: &str,
+) -> Result<()> {
     let Ok(seed) = seed.parse::<u64>() else {
         bail!("{seed} is no seed")
     };
     let Ok(share) = share.parse::<u64>() else {
         bail!("{share} is no share")
     };
-    let mut room = Room::new(heap::open(global)?, seed)?;
-    let digest = digest_of(&mut room, job, share.clamp(1, 100))?;
+    let digest = digest_by::<K>(global, job, seed, share.clamp(1, 100))?;
     println!(rt; "{job} {digest:016x}")?;
     Ok(())
 }
 
-fn digest_of(room: &mut Room, job: &str, share: u64) -> Result<u64> {
+// The digest of a job on the input of a seed.
+fn digest_by<K: Machine>(global: Global, job: &str, seed: u64, share: u64) -> Result<u64> {
+    let mut room = Room::new(heap::open(global)?, seed)?;
+    do_job::<K>(&mut room, job, share)
+}
+
+fn do_job<K: Machine>(room: &mut Room, job: &str, share: u64) -> Result<u64> {
     match job {
-        "installer" => installer::install(room, share),
-        "spool" => spool::deliver(room, share),
-        "build" => build::build(room, share),
-        "audit" => audit::audit(room, share),
-        "names" => names::make_names(room, share),
-        "pieces" => pieces::write_pieces(room, share),
+        "installer" => digest_of::<K>(room, Run::Installer, share.saturating_mul(6)),
+        "spool" => digest_of::<K>(room, Run::Spool, share.saturating_mul(70)),
+        "build" => build::build::<K>(room, share),
+        "audit" => audit::audit::<K>(room, share),
+        "names" => digest_of::<K>(room, Run::Names, share.saturating_mul(800)),
+        "pieces" => digest_of::<K>(room, Run::Pieces, share.saturating_mul(15)),
         _ => bail!("{job} is no job"),
     }
 }

@@ -1,11 +1,10 @@
 // Many names of one directory in one transaction.
-use crate::actor::Actor;
+use crate::actor::{Actor, Actors};
 use crate::content::Room;
-use crate::digest::Digest;
-use crate::drive::{drive, kernel_of};
+use crate::drive::drive;
 use anyhow::Result;
 use heap::Heap;
-use kernel::Kernel;
+use machine::Machine;
 
 const MOST_NAMES: u64 = 1_048_576;
 
@@ -15,22 +14,37 @@ fn path_of(heap: Heap, first: u64, i: u64) -> Result<String<Heap>> {
     Ok(format!(in heap; "/cache/objects/{number:07}")?)
 }
 
-// Whether the process commits its transaction, or gives it up.
-fn finish(actor: &mut Actor, commits: bool) -> Result<()> {
-    if commits { actor.end() } else { actor.abort() }
+fn add_directories(maker: &mut Actor, heap: Heap) -> Result<()> {
+    maker.mkdir(heap, "/cache")?;
+    maker.mkdir(heap, "/cache/objects")
 }
 
-fn add_making(maker: &mut Actor, heap: Heap, first: u64, count: u64, commits: bool) -> Result<()> {
+// Makes so many names in a transaction that goes on.
+fn add_making(maker: &mut Actor, heap: Heap, first: u64, count: u64) -> Result<()> {
     maker.begin()?;
     for i in 0..count {
         maker.mkdir(heap, path_of(heap, first, i)?.as_str())?;
     }
-    maker.list(heap, "/cache/objects")?;
-    finish(maker, commits)
+    maker.list(heap, "/cache/objects")
+}
+
+// One process makes half of the names and gives them up, and then makes all.
+fn add_maker(maker: &mut Actor, heap: Heap, first: u64, count: u64) -> Result<()> {
+    add_directories(maker, heap)?;
+    add_making(maker, heap, first, count / 2)?;
+    maker.abort()?;
+    add_making(maker, heap, first, count)?;
+    maker.end()
+}
+
+fn add_removing(remover: &mut Actor, heap: Heap, path: &str) -> Result<()> {
+    remover.stat(heap, path)?;
+    remover.rmdir(heap, path)
 }
 
 // Another process removes them, in another order.
-fn add_removing(remover: &mut Actor, heap: Heap, first: u64, count: u64) -> Result<()> {
+fn add_remover(remover: &mut Actor, heap: Heap, first: u64, count: u64) -> Result<()> {
+    remover.list(heap, "/cache/objects")?;
     remover.begin()?;
     for i in 0..count {
         let index = i
@@ -38,42 +52,23 @@ fn add_removing(remover: &mut Actor, heap: Heap, first: u64, count: u64) -> Resu
             .wrapping_add(13)
             .checked_rem(count)
             .unwrap_or(0);
-        let path = path_of(heap, first, index)?;
-        remover.stat(heap, path.as_str())?;
-        remover.other(ids::Call::Rmdir(ids::Bytes::copy(heap, path.as_str().as_bytes())?))?;
+        add_removing(remover, heap, path_of(heap, first, index)?.as_str())?;
     }
     remover.end()
 }
 
-fn act(kernel: &mut Kernel, room: &mut Room, actor: Actor) -> Result<()> {
-    let mut actors = [actor];
-    drive(kernel, room, &mut actors)
-}
-
 /// A run in which so many names are made, given up, made again and removed.
-pub(crate) fn run(room: &mut Room, count: u64) -> Result<Kernel> {
-    let heap = room.heap;
+pub(crate) fn run<K: Machine>(
+    kernel: &mut K,
+    room: &mut Room,
+    actors: &mut Actors,
+    count: u64,
+) -> Result<()> {
     let count = count.min(200_000);
     let first = room.random.below(MOST_NAMES);
-    let mut kernel = kernel_of(heap, 0, 2, 1_048_576)?;
-    let mut maker = Actor::new(heap, 1);
-    maker.mkdir(heap, "/cache")?;
-    maker.mkdir(heap, "/cache/objects")?;
-    add_making(&mut maker, heap, first, count / 2, false)?;
-    add_making(&mut maker, heap, first, count, true)?;
-    act(&mut kernel, room, maker)?;
-    let mut remover = Actor::new(heap, 2);
-    remover.list(heap, "/cache/objects")?;
-    add_removing(&mut remover, heap, first, count)?;
-    act(&mut kernel, room, remover)?;
-    Ok(kernel)
-}
-
-/// Makes and removes names, and prints the transcript.
-pub(crate) fn make_names(room: &mut Room, share: u64) -> Result<u64> {
-    let kernel = run(room, share.saturating_mul(800))?;
-    let mut digest = Digest::new();
-    digest.add_run(&kernel)?;
-    drop(kernel);
-    Ok(digest.value())
+    add_maker(actors.add(1)?, room.heap, first, count)?;
+    drive(kernel, room, actors.all())?;
+    actors.clear();
+    add_remover(actors.add(2)?, room.heap, first, count)?;
+    drive(kernel, room, actors.all())
 }

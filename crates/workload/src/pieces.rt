@@ -1,17 +1,18 @@
 // Large files written anywhere, by pieces of all lengths.
-use crate::actor::Actor;
+use crate::actor::{Actor, Actors};
 use crate::content::Room;
-use crate::digest::Digest;
-use crate::drive::{drive, kernel_of};
+use crate::drive::drive;
 use anyhow::Result;
 use heap::Heap;
 use ids::{Call, Fd, OpenFlags, Whence};
-use kernel::Kernel;
+use machine::Machine;
 
 const LARGEST: u64 = 1_048_576;
 
 // The files, which stay open on descriptors that follow each other.
 const FILES: u64 = 4;
+
+const TRANSACTIONS: u64 = 15;
 
 fn seek(actor: &mut Actor, fd: u32, offset: u64) -> Result<()> {
     actor.other(Call::Lseek(Fd(fd), offset.min(LARGEST) as i64, Whence::Set))
@@ -22,8 +23,7 @@ fn open_files(writer: &mut Actor, heap: Heap) -> Result<()> {
         .with(OpenFlags::WRITE)
         .with(OpenFlags::CREAT);
     for number in 0..FILES {
-        let path = format!(in heap; "/table-{number}")?;
-        writer.open(heap, path.as_str(), flags)?;
+        writer.open(heap, format!(in heap; "/table-{number}")?.as_str(), flags)?;
         writer.other(Call::Ftruncate(Fd(number as u32), LARGEST as u32 / 2))?;
     }
     Ok(())
@@ -57,10 +57,15 @@ fn add_piece(writer: &mut Actor, room: &mut Room, number: u64) -> Result<()> {
 }
 
 fn add_pieces(writer: &mut Actor, room: &mut Room, count: u64) -> Result<()> {
-    writer.begin()?;
     for number in 0..count {
         add_piece(writer, room, number)?;
     }
+    Ok(())
+}
+
+fn add_transaction(writer: &mut Actor, room: &mut Room, count: u64) -> Result<()> {
+    writer.begin()?;
+    add_pieces(writer, room, count)?;
     writer.end()
 }
 
@@ -71,29 +76,23 @@ fn add_closes(writer: &mut Actor) -> Result<()> {
     Ok(())
 }
 
-/// A run of transactions, in each of which so many pieces are written.
-pub(crate) fn run(room: &mut Room, transactions: u64, count: u64) -> Result<Kernel> {
-    let mut writer = Actor::new(room.heap, 1);
-    open_files(&mut writer, room.heap)?;
-    for _ in 0..transactions.min(100) {
-        add_pieces(&mut writer, room, count.min(10_000))?;
+// Writes by transactions, and then the same without one.
+fn add_writing(writer: &mut Actor, room: &mut Room, count: u64) -> Result<()> {
+    open_files(writer, room.heap)?;
+    for _ in 0..TRANSACTIONS {
+        add_transaction(writer, room, count)?;
     }
-    // The same without a transaction.
-    for number in 0..count.min(10_000) {
-        add_piece(&mut writer, room, number)?;
-    }
-    add_closes(&mut writer)?;
-    let mut kernel = kernel_of(room.heap, 0, 1, 1_048_576)?;
-    let mut actors = [writer];
-    drive(&mut kernel, room, &mut actors)?;
-    Ok(kernel)
+    add_pieces(writer, room, count)?;
+    add_closes(writer)
 }
 
-/// Writes pieces, and prints the transcript.
-pub(crate) fn write_pieces(room: &mut Room, share: u64) -> Result<u64> {
-    let kernel = run(room, 15, share.saturating_mul(15))?;
-    let mut digest = Digest::new();
-    digest.add_run(&kernel)?;
-    drop(kernel);
-    Ok(digest.value())
+/// A run of transactions, in each of which so many pieces are written.
+pub(crate) fn run<K: Machine>(
+    kernel: &mut K,
+    room: &mut Room,
+    actors: &mut Actors,
+    count: u64,
+) -> Result<()> {
+    add_writing(actors.add(1)?, room, count.min(10_000))?;
+    drive(kernel, room, actors.all())
 }

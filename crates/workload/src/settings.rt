@@ -1,84 +1,108 @@
 // Small files are written anew and renamed over the old ones, beside readers that have them open.
-use crate::actor::Actor;
-use crate::content::Room;
-use crate::drive::{drive, kernel_of};
+use crate::actor::{Actor, Actors};
+use crate::content::{Content, Room};
+use crate::drive::drive;
 use anyhow::Result;
 use heap::Heap;
-use ids::OpenFlags;
-use kernel::Kernel;
+use ids::{Call, Fd, OpenFlags};
+use machine::Machine;
 
 // How many files there are.
 const FILES: u64 = 300;
+
+// The directories that are there at the start.
+static DIRECTORIES: [&str; 3] = ["/home", "/home/user", "/home/user/.config"];
 
 fn path_of(heap: Heap, number: u64) -> Result<String<Heap>> {
     Ok(format!(in heap; "/home/user/.config/program-{number}.conf")?)
 }
 
-fn setup(room: &mut Room) -> Result<Actor> {
-    let heap = room.heap;
-    let mut first = Actor::new(heap, 1);
-    for directory in &["/home", "/home/user", "/home/user/.config"] {
-        first.mkdir(heap, directory)?;
+fn set_up(first: &mut Actor, room: &mut Room) -> Result<()> {
+    for directory in &DIRECTORIES {
+        first.mkdir(room.heap, directory)?;
     }
     for number in 0..FILES {
-        let path = path_of(heap, number)?;
         let content = room.text(1024);
-        first.create(heap, path.as_str(), content)?;
+        first.create(room.heap, path_of(room.heap, number)?.as_str(), content)?;
     }
-    Ok(first)
+    Ok(())
+}
+
+// Writes a new file and gives it this path.
+fn add_rewriting(writer: &mut Actor, heap: Heap, path: &str, content: Content) -> Result<()> {
+    let new = format!(in heap; "/home/user/.config/.new-{}", writer.pid.0)?;
+    writer.rewrite(heap, new.as_str(), content)?;
+    writer.rename(heap, new.as_str(), path)
+}
+
+// Writes a file anew.
+fn add_file(writer: &mut Actor, heap: Heap, number: u64, content: Content) -> Result<()> {
+    add_rewriting(writer, heap, path_of(heap, number)?.as_str(), content)
+}
+
+// The same by one transaction.
+fn add_file_within(writer: &mut Actor, heap: Heap, number: u64, content: Content) -> Result<()> {
+    writer.begin()?;
+    add_file(writer, heap, number, content)?;
+    writer.end()
 }
 
 // Writes a file anew, by one transaction each other time.
 fn add_round(writer: &mut Actor, room: &mut Room, round: u64) -> Result<()> {
-    let heap = room.heap;
-    let path = path_of(heap, room.random.below(FILES))?;
-    let new = format!(in heap; "/home/user/.config/.new-{}", writer.pid.0)?;
+    let number = room.random.below(FILES);
     let length = room.random.between(1024, 16_384) as usize;
     let content = room.text(length);
     if round % 2 == 0 {
-        writer.begin()?;
+        add_file_within(writer, room.heap, number, content)
+    } else {
+        add_file(writer, room.heap, number, content)
     }
-    writer.rewrite(heap, new.as_str(), content)?;
-    writer.rename(heap, new.as_str(), path.as_str())?;
-    if round % 2 == 0 {
-        writer.end()?;
+}
+
+fn add_rounds(writer: &mut Actor, room: &mut Room, rounds: u64) -> Result<()> {
+    for round in 0..rounds {
+        add_round(writer, room, round)?;
     }
     Ok(())
 }
 
 fn add_reading(reader: &mut Actor, room: &mut Room) -> Result<()> {
-    let path = path_of(room.heap, room.random.below(FILES))?;
-    reader.open(room.heap, path.as_str(), OpenFlags::READ)?;
-    reader.other(ids::Call::Fstat(ids::Fd(0)))?;
+    let heap = room.heap;
+    let number = room.random.below(FILES);
+    reader.open(heap, path_of(heap, number)?.as_str(), OpenFlags::READ)?;
+    reader.other(Call::Fstat(Fd(0)))?;
     reader.read(0, 2)?;
     reader.close(0)
 }
 
-fn actors_of(room: &mut Room, rounds: u64) -> Result<Vec<Actor, Heap>> {
-    let mut actors = Vec::new(room.heap);
+fn add_readings(reader: &mut Actor, room: &mut Room, rounds: u64) -> Result<()> {
+    for _ in 0..rounds {
+        add_reading(reader, room)?;
+    }
+    Ok(())
+}
+
+// The processes that write, and those that read.
+fn add_all(actors: &mut Actors, room: &mut Room, rounds: u64) -> Result<()> {
     for pid in 1..3u32 {
-        let mut writer = Actor::new(room.heap, pid);
-        for round in 0..rounds {
-            add_round(&mut writer, room, round)?;
-        }
-        actors.push(writer)?;
+        add_rounds(actors.add(pid)?, room, rounds)?;
     }
     for pid in 3..5u32 {
-        let mut reader = Actor::new(room.heap, pid);
-        for _ in 0..rounds {
-            add_reading(&mut reader, room)?;
-        }
-        actors.push(reader)?;
+        add_readings(actors.add(pid)?, room, rounds)?;
     }
-    Ok(actors)
+    Ok(())
 }
 
 /// A run of so many rounds.
-pub(crate) fn run(room: &mut Room, rounds: u64) -> Result<Kernel> {
-    let mut first = [setup(room)?];
-    let mut actors = actors_of(room, rounds.min(10_000))?;
-    let mut kernel = kernel_of(room.heap, 2, 2, 1_048_576)?;
-    drive(&mut kernel, room, &mut first)?;
-    drive(&mut kernel, room, actors.as_mut_slice())?;
-    Ok(kernel)
+pub(crate) fn run<K: Machine>(
+    kernel: &mut K,
+    room: &mut Room,
+    actors: &mut Actors,
+    rounds: u64,
+) -> Result<()> {
+    set_up(actors.add(1)?, room)?;
+    add_all(actors, room, rounds.min(10_000))?;
+    let (first, others) = actors.first_and_others();
+    drive(kernel, room, first)?;
+    drive(kernel, room, others)
 }

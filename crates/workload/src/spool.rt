@@ -1,49 +1,66 @@
 // Messages are delivered into one directory by several processes, each by one transaction, with a
 // line of an index that all share, beside a process that lists the spool and reads the index.
-use crate::actor::Actor;
-use crate::content::Room;
-use crate::digest::Digest;
-use crate::drive::{drive, kernel_of};
+use crate::actor::{Actor, Actors};
+use crate::content::{Content, Room};
+use crate::drive::drive;
 use anyhow::Result;
 use heap::Heap;
 use ids::OpenFlags;
-use kernel::Kernel;
+use machine::Machine;
 
 static INDEX: &str = "/var/spool/mail/index";
 
+// The directories that are there at the start.
+static DIRECTORIES: [&str; 4] = [
+    "/var",
+    "/var/spool",
+    "/var/spool/mail",
+    "/var/spool/mail/new",
+];
+
 const DELIVERERS: u64 = 8;
 
-fn setup(heap: Heap) -> Result<Actor> {
-    let mut first = Actor::new(heap, 1);
-    for directory in &[
-        "/var",
-        "/var/spool",
-        "/var/spool/mail",
-        "/var/spool/mail/new",
-    ] {
+fn set_up(first: &mut Actor, heap: Heap) -> Result<()> {
+    for directory in &DIRECTORIES {
         first.mkdir(heap, directory)?;
     }
     let flags = OpenFlags::WRITE.with(OpenFlags::CREAT);
     first.open(heap, INDEX, flags)?;
-    first.close(0)?;
-    Ok(first)
+    first.close(0)
+}
+
+// Writes a line at the end of the index.
+fn add_line(deliverer: &mut Actor, heap: Heap, line: Content) -> Result<()> {
+    let flags = OpenFlags::WRITE.with(OpenFlags::APPEND);
+    deliverer.open(heap, INDEX, flags)?;
+    deliverer.write(0, line)?;
+    deliverer.close(0)
+}
+
+// The path of a message.
+fn path_of(heap: Heap, stamp: u64, number: u64) -> Result<String<Heap>> {
+    Ok(format!(in heap; "/var/spool/mail/new/{stamp}.M{number}.mail-host")?)
 }
 
 // Delivers a message: its file, and its line of the index.
 fn add_message(deliverer: &mut Actor, room: &mut Room, number: u64) -> Result<()> {
     let heap = room.heap;
     let stamp = room.random.between(1_700_000_000, 1_800_000_000);
-    let path = format!(in heap; "/var/spool/mail/new/{stamp}.M{number}.mail-host")?;
     let length = room.random.length().clamp(2048, 102_400);
-    deliverer.begin()?;
     let message = room.text(length);
-    deliverer.create(heap, path.as_str(), message)?;
-    let flags = OpenFlags::WRITE.with(OpenFlags::APPEND);
-    deliverer.open(heap, INDEX, flags)?;
     let line = room.text(100);
-    deliverer.write(0, line)?;
-    deliverer.close(0)?;
+    deliverer.begin()?;
+    deliverer.create(heap, path_of(heap, stamp, number)?.as_str(), message)?;
+    add_line(deliverer, heap, line)?;
     deliverer.end()
+}
+
+fn add_messages(actor: &mut Actor, room: &mut Room, deliverer: u64, count: u64) -> Result<()> {
+    for number in 0..count {
+        let message = number.saturating_mul(DELIVERERS).saturating_add(deliverer);
+        add_message(actor, room, message)?;
+    }
+    Ok(())
 }
 
 fn add_reading(reader: &mut Actor, heap: Heap, messages: u64) -> Result<()> {
@@ -53,38 +70,33 @@ fn add_reading(reader: &mut Actor, heap: Heap, messages: u64) -> Result<()> {
     reader.end()
 }
 
-fn actors_of(room: &mut Room, messages: u64) -> Result<Vec<Actor, Heap>> {
-    let mut actors = Vec::new(room.heap);
-    for deliverer in 0..DELIVERERS {
-        let mut actor = Actor::new(room.heap, deliverer as u32 + 1);
-        for number in 0..messages / DELIVERERS {
-            add_message(&mut actor, room, number * DELIVERERS + deliverer)?;
-        }
-        actors.push(actor)?;
-    }
-    let mut reader = Actor::new(room.heap, DELIVERERS as u32 + 1);
+fn add_readings(reader: &mut Actor, heap: Heap, messages: u64) -> Result<()> {
     for number in 0..messages / 60 {
-        add_reading(&mut reader, room.heap, number.saturating_mul(60))?;
+        add_reading(reader, heap, number.saturating_mul(60))?;
     }
-    actors.push(reader)?;
-    Ok(actors)
+    Ok(())
+}
+
+// The processes that deliver, and the reader.
+fn add_all(actors: &mut Actors, room: &mut Room, messages: u64) -> Result<()> {
+    for deliverer in 0..DELIVERERS {
+        let actor = actors.add(deliverer as u32 + 1)?;
+        add_messages(actor, room, deliverer, messages / DELIVERERS)?;
+    }
+    let reader = actors.add(DELIVERERS as u32 + 1)?;
+    add_readings(reader, room.heap, messages)
 }
 
 /// A run in which so many messages are delivered.
-pub(crate) fn run(room: &mut Room, messages: u64) -> Result<Kernel> {
-    let mut first = [setup(room.heap)?];
-    let mut actors = actors_of(room, messages.min(16_000))?;
-    let mut kernel = kernel_of(room.heap, 0, DELIVERERS as usize + 1, 1_048_576)?;
-    drive(&mut kernel, room, &mut first)?;
-    drive(&mut kernel, room, actors.as_mut_slice())?;
-    Ok(kernel)
-}
-
-/// Delivers messages, and prints the transcript.
-pub(crate) fn deliver(room: &mut Room, share: u64) -> Result<u64> {
-    let kernel = run(room, share.saturating_mul(70))?;
-    let mut digest = Digest::new();
-    digest.add_run(&kernel)?;
-    drop(kernel);
-    Ok(digest.value())
+pub(crate) fn run<K: Machine>(
+    kernel: &mut K,
+    room: &mut Room,
+    actors: &mut Actors,
+    messages: u64,
+) -> Result<()> {
+    set_up(actors.add(1)?, room.heap)?;
+    add_all(actors, room, messages.min(16_000))?;
+    let (first, others) = actors.first_and_others();
+    drive(kernel, room, first)?;
+    drive(kernel, room, others)
 }
