@@ -10,7 +10,7 @@ use Rattle.course.specs.declared.fault.Fault.{Fault}
 use Rattle.mounted.specs.Controls.{Begins, BeginsBy, By, Failed, Lacking, ServesTransactions, ShowsRoot, Unplanned, level_planned}
 use Rattle.mounted.specs.Processes.{IsLackingBy, IsReadyBy}
 use Rattle.mounted.specs.declared.tables.Tables.{Tables}
-use Rattle.mounted.specs.declared.views.Views.{Views}
+use Rattle.views.specs.declared.views.Views.{Views}
 use Rattle.mounted.proofs.Answering.{is_err}
 
 -- the same process, from the same state

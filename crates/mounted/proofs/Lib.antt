@@ -1,6 +1,6 @@
-mod Stepping
+mod Forking
 mod First
-mod Answering
+pub mod Answering
 mod Telling
 mod Ending
 mod Ordering

@@ -11,7 +11,7 @@ use Rattle.course.specs.declared.fault.Fault.TheVariants as fault
 use Rattle.mounted.specs.Controls.{IsEnded, Orders, obeying, ordered}
 use Rattle.mounted.specs.declared.control.Order.{Order}
 use Rattle.mounted.specs.declared.tables.Tables.{Tables}
-use Rattle.mounted.specs.declared.views.View.{View}
+use Rattle.views.specs.declared.views.View.{View}
 use Rattle.mounted.proofs.Answering.{failed, is_err, told, unplanned}
 
 no_plan : (r : Result (ℕ × Order) Fault) {x : ℕ × Order} {e : Fault} → r ≡ Ok x → r ≡ Err e → ⊥

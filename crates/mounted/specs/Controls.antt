@@ -1,4 +1,5 @@
 -- Requests about the directory of transactions, and about the files by which they are ended.
+use Rattle.views.specs.Steppers.{stepper_of}
 use Rattle.std.specs.Prelude.{◌≡◌, ◌⊎◌, ℕ, ◌-◌, ◌+◌, ◌==◌, ◌&&◌, ◌++◌, ◌∷◌, ◌^◌, [], min, nat_lt, eqb}
 use Rattle.std.specs.Prelude.{List, length, take, drop, codes}
 use Rattle.std.specs.Prelude.{Option, Some, None, IfSome, is_some, option_and_then}
@@ -23,20 +24,20 @@ use Rattle.course.specs.Hands.{IsSince}
 use Rattle.course.specs.declared.fault.Fault.{Fault}
 use Rattle.course.specs.declared.fault.Fault.TheVariants as fault
 use Rattle.mounted.specs.Answers.{Answers}
-use Rattle.mounted.specs.Found.{and_then, found_or, stepper_of}
-use Rattle.mounted.specs.Numbers.{control_node, root_node}
+use Rattle.mounted.specs.Found.{and_then, found_or}
+use Rattle.views.specs.Numbers.{control_node, root_node}
 use Rattle.mounted.specs.Processes.{IsLackingBy, IsReadyBy}
 use Rattle.mounted.specs.Requests.{Tells}
 use Rattle.mounted.specs.Told.{ShowsCount}
-use Rattle.mounted.specs.Views.{IsOver, IsView, number_in, numbered, standing_at, standing_in}
+use Rattle.views.specs.Views.{IsOver, IsView, number_in, numbered, standing_at, standing_in}
 use Rattle.mounted.specs.declared.control.Order.{Order}
 use Rattle.mounted.specs.declared.control.Order.TheVariants.{End, Abort}
 use Rattle.mounted.specs.declared.tables.Tables.{Tables}
-use Rattle.mounted.specs.declared.views.Standing.{Standing}
-use Rattle.mounted.specs.declared.views.State.{State}
-use Rattle.mounted.specs.declared.views.State.TheVariants.{Live, Aborted, Committed, GivenUp}
-use Rattle.mounted.specs.declared.views.View.{View}
-use Rattle.mounted.specs.declared.views.Views.{Views}
+use Rattle.views.specs.declared.views.Standing.{Standing}
+use Rattle.views.specs.declared.views.State.{State}
+use Rattle.views.specs.declared.views.State.TheVariants.{Live, Aborted, Committed, GivenUp}
+use Rattle.views.specs.declared.views.View.{View}
+use Rattle.views.specs.declared.views.Views.{Views}
 
 -- ---- names in the directory
 

@@ -14,16 +14,13 @@ use Rattle.nodes.specs.declared.node.Node.{Node}
 use Rattle.course.specs.declared.fault.Fault.{Fault}
 use Rattle.course.specs.declared.objects.Object.{Object}
 use Rattle.course.specs.Faults.{error}
-use Rattle.mounted.specs.Numbers.{view_of}
-use Rattle.mounted.specs.Views.{numbered}
+use Rattle.views.specs.Numbers.{view_of}
+use Rattle.views.specs.Steppers.{stepper_in}
 use Rattle.mounted.specs.declared.folders.Folder.{Folder}
 use Rattle.mounted.specs.declared.open_files.OpenFile.{OpenFile}
 use Rattle.mounted.specs.declared.planning.Located.{Located}
-use Rattle.mounted.specs.declared.tables.Stepper.{Stepper}
+use Rattle.views.specs.declared.steppers.Stepper.{Stepper}
 use Rattle.mounted.specs.declared.tables.Tables.{Tables}
-use Rattle.mounted.specs.declared.views.State.{State}
-use Rattle.mounted.specs.declared.views.State.TheVariants.{Live, Aborted, Committed, GivenUp}
-use Rattle.mounted.specs.declared.views.View.{View}
 
 -- what comes behind what was found; a fault stays
 abbrev pub and_then : {A B : Type 0} → Result A Fault → (A → Result B Fault) → Result B Fault
@@ -36,23 +33,6 @@ found_or e (Some x) = Ok x
 found_or e None = Err e
 
 -- ---- views
-
--- What the process of a view may do: nothing after an abort, and nothing where the transaction is
--- over.
-abbrev pub stepper_by : ℕ → ℕ → State → Result Stepper Fault
-stepper_by view pid Live = Ok (record { view = view; pid = pid })
-stepper_by view pid Aborted = Err (error errno.ECANCELED)
-stepper_by view pid Committed = Err (error errno.ENOENT)
-stepper_by view pid GivenUp = Err (error errno.ENOENT)
-
-abbrev pub stepper_of : ℕ → Option View → Result Stepper Fault
-stepper_of view (Some v) = stepper_by view v.pid v.state
-stepper_of view None = Err (error errno.ENOENT)
-
--- The process of a view, or the first one for the plain tree.
-abbrev pub stepper_in : BTreeMap ℕ View → ℕ → Result Stepper Fault
-stepper_in views view =
-    if view == 0 then Ok (record { view = 0; pid = 1 }) else stepper_of view (numbered views view)
 
 -- the view in which a node is, and the process that steps there
 abbrev pub stepper_at : Tables → ℕ → Result Stepper Fault

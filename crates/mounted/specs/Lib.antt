@@ -1,6 +1,4 @@
 pub mod First
-pub mod Numbers
-pub mod Views
 pub mod Found
 pub mod Answers
 pub mod Told

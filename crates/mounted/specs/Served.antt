@@ -12,15 +12,15 @@ use Rattle.course.specs.declared.fault.Fault.{Fault}
 use Rattle.course.specs.declared.fault.Fault.TheVariants as fault
 use Rattle.mounted.specs.Found.{file_at, handle_of, inode_of, stepper_at}
 use Rattle.mounted.specs.Controls.{ServesControl, ServesTransactions}
-use Rattle.mounted.specs.Numbers.{class_of}
+use Rattle.views.specs.Numbers.{class_of}
 use Rattle.mounted.specs.Processes.{IsLackingBy, IsReadyBy}
 use Rattle.mounted.specs.Requests.{IsAnswered, Tells}
-use Rattle.mounted.specs.Views.{IsOver}
-use Rattle.mounted.specs.declared.numbers.Class.{Class}
-use Rattle.mounted.specs.declared.numbers.Class.TheVariants.{Tree, Transactions, Control}
+use Rattle.views.specs.Views.{IsOver}
+use Rattle.views.specs.declared.numbers.Class.{Class}
+use Rattle.views.specs.declared.numbers.Class.TheVariants.{Tree, Transactions, Control}
 use Rattle.mounted.specs.declared.open_files.OpenFile.{OpenFile}
 use Rattle.mounted.specs.declared.pool.Pool.{Pool}
-use Rattle.mounted.specs.declared.tables.Stepper.{Stepper}
+use Rattle.views.specs.declared.steppers.Stepper.{Stepper}
 use Rattle.mounted.specs.declared.tables.Tables.{Tables}
 
 -- ---- the plain tree

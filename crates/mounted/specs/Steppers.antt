@@ -6,11 +6,11 @@ use Rattle.fuse.specs.declared.request.Operation.{Operation}
 use Rattle.fuse.specs.declared.request.Operation.TheVariants as asked
 use Rattle.nodes.specs.Tables.{Table, root_of}
 use Rattle.course.specs.Hands.{IsSince}
-use Rattle.mounted.specs.Numbers.{class_of, view_of}
-use Rattle.mounted.specs.Views.{numbered}
-use Rattle.mounted.specs.declared.numbers.Class.TheVariants.{Tree}
-use Rattle.mounted.specs.declared.views.State.TheVariants.{Live}
-use Rattle.mounted.specs.declared.views.View.{View}
+use Rattle.views.specs.Numbers.{class_of, view_of}
+use Rattle.views.specs.Views.{numbered}
+use Rattle.views.specs.declared.numbers.Class.TheVariants.{Tree}
+use Rattle.views.specs.declared.views.State.TheVariants.{Live}
+use Rattle.views.specs.declared.views.View.{View}
 
 -- the process is that of the view's transaction, which goes on
 pub record IsStepper (views : BTreeMap ℕ View) (view process : ℕ) : Type 0 where

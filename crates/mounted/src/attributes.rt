@@ -34,11 +34,11 @@ const START: Time = Time {
     nanoseconds: 0,
 };
 
-// The user and the group that something belongs to.
+/// The user and the group that something belongs to.
 #[derive(Clone, Copy, Debug)]
-pub(crate) struct Owner {
-    pub(crate) uid: u32,
-    pub(crate) gid: u32,
+pub struct Owner {
+    pub uid: u32,
+    pub gid: u32,
 }
 
 // What is kept of one object.
@@ -51,8 +51,8 @@ struct Attributes {
     changed: Time,
 }
 
-// What is kept of all objects, and the latest time that was told or given.
-pub(crate) struct AttributeTable {
+/// What is kept of all objects, and the latest time that was told or given.
+pub struct AttributeTable {
     each: BTreeMap<usize, Attributes, Heap>,
     now: Time,
 }
@@ -215,8 +215,8 @@ impl AttributeTable {
         self.keep(stat.num, attributes);
     }
 
-    // What is told of an object. Its number is one more, since some programs take 0 for none.
-    pub(crate) fn attr(&self, stat: &Stat) -> Attr
+    /// What is told of an object. Its number is one more, since some programs take 0 for none.
+    pub fn attr(&self, stat: &Stat) -> Attr
         ensures { IsLike stat.now result }
     {
         let kept = self.of(stat.num, stat.kind);

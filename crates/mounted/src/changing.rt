@@ -64,8 +64,8 @@ impl Tables {
         })
     }
 
-    // Sets attributes of a node.
-    pub(crate) fn set_attr<K: Machine>(
+    /// Sets attributes of a node.
+    pub fn set_attr<K: Machine>(
         &mut self,
         hand: &mut Hand<K>,
         node: u64,

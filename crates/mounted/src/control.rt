@@ -4,18 +4,17 @@ ghost use Rattle.course.specs.Course.{Ran};
 ghost use Rattle.course.specs.Hands.{bound};
 ghost use Rattle.mounted.specs.Controls.{IsEnded, Learns, Orders, ReadsBy, ServesControl, ShowsText};
 ghost use Rattle.mounted.specs.Controls.{obeying, order_by, ordered, state_by, text_by, text_of, word_in};
-ghost use Rattle.mounted.specs.Views.{KeepsOthers, KeepsViews, numbered, standing_at};
+ghost use Rattle.views.specs.Views.{KeepsOthers, KeepsViews, numbered, standing_at};
 
-use crate::numbers::control_node;
 use crate::server::Server;
-use crate::tables::{Tables, stepper_of};
-use crate::views::{Standing, State, View};
+use crate::tables::Tables;
 use course::{Fault, Hand, end, give_up, look_nowhere};
 use fuse::{Errno, Opened, Operation, Reply};
 use heap::Heap;
 use ids::{Bytes, Pid};
 use machine::Machine;
 use std::alloc::AllocError;
+use views::{Standing, State, View, control_node, stepper_of};
 
 // What is asked by what is written.
 #[derive(Clone, Copy, Debug)]
@@ -215,8 +214,8 @@ impl<K: Machine> Server<K> {
         Ok(Reply::Written { size })
     }
 
-    // Requests about the file.
-    pub(crate) fn in_control(&mut self, view: u64, operation: Operation) -> Result<Reply, Fault>
+    /// Requests about the file.
+    pub fn in_control(&mut self, view: u64, operation: Operation) -> Result<Reply, Fault>
         ensures serves { ServesControl self.old.tables self.new.tables view operation
             self.old.hand.shown self.new.hand.shown result }
         ensures keeps { KeepsViews self.old.tables.views.each self.new.tables.views.each }

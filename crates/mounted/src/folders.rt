@@ -5,7 +5,7 @@ ghost use Rattle.std.specs.BTreeMap.{get};
 ghost use Rattle.std.specs.Ordering.{nat_cmp};
 ghost use Rattle.mounted.specs.Found.{StayOthers, WasRead, names_by, shown_names, told_of};
 
-use crate::numbers::is_reserved;
+use crate::reserved::is_reserved;
 use heap::Heap;
 use ids::Name;
 use std::alloc::AllocError;

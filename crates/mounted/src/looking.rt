@@ -3,17 +3,18 @@ ghost use Rattle.std.specs.Prelude.{◌≡◌, IfErr, IfOk};
 ghost use Rattle.fuse.specs.declared.errno.Errno.TheVariants.{ENOMEM};
 ghost use Rattle.course.specs.Faults.{error};
 ghost use Rattle.course.specs.Hands.{bound};
-ghost use Rattle.mounted.specs.Requests.{AnswersGetAttr, AnswersLookUp, AnswersName, IsReserved};
+ghost use Rattle.mounted.specs.Requests.{AnswersLookUp, AnswersName, IsReserved};
 ghost use Rattle.mounted.specs.Told.{IsEntry};
 
-use crate::numbers::{ROOT, TRANSACTIONS, is_reserved};
 use crate::planning::Located;
+use crate::reserved::is_reserved;
 use crate::tables::Tables;
 use course::{Fault, Hand, find, stat_path};
 use fuse::{Entry, Errno, Reply};
 use ids::{Bytes, Stat};
 use machine::Machine;
 use nodes::Spot;
+use views::{ROOT, TRANSACTIONS};
 
 impl Tables {
     // What is told of a node that was looked up, or made, under this name: its look-up is counted.
@@ -72,8 +73,8 @@ impl Tables {
         Ok(Reply::Entry(entry))
     }
 
-    // What a name of a directory gives.
-    pub(crate) fn look_up<K: Machine>(
+    /// What a name of a directory gives.
+    pub fn look_up<K: Machine>(
         &mut self,
         hand: &mut Hand<K>,
         node: u64,
@@ -88,21 +89,5 @@ impl Tables {
             return self.look_up_reserved(node);
         }
         self.look_up_name(hand, node, name)
-    }
-
-    // The attributes of a node.
-    pub(crate) fn get_attr<K: Machine>(
-        &mut self,
-        hand: &mut Hand<K>,
-        node: u64,
-    ) -> Result<Reply, Fault>
-        ensures bound { bound hand.new ≡ bound hand.old }
-        ensures answers { AnswersGetAttr self.old hand.old.pid node
-            hand.old.shown hand.new.shown result }
-        ensures views { self.new.views ≡ self.old.views }
-    {
-        let object = self.find_object(hand.pid(), node)?;
-        let stat = find(hand, object)?;
-        Ok(Reply::Attr(self.attributes.attr(&stat)))
     }
 }

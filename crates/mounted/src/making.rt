@@ -10,7 +10,7 @@ ghost use Rattle.mounted.specs.Told.{IsEntry};
 
 use crate::attributes::Owner;
 use crate::planning::{Located, Pair};
-use crate::serving::Caller;
+use crate::requests::Caller;
 use crate::tables::Tables;
 use course::{Fault, Hand};
 use fuse::{Entry, Errno, Reply};

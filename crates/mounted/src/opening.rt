@@ -9,15 +9,15 @@ ghost use Rattle.mounted.specs.Requests.{making_open, opening, opening_by};
 ghost use Rattle.mounted.specs.Told.{IfNew};
 ghost use Rattle.mounted.specs.declared.opening.Opening.TheVariants.{Again, First};
 
-use crate::numbers::PLAIN;
 use crate::planning::Located;
-use crate::serving::Caller;
-use crate::tables::{Stepper, Tables};
+use crate::requests::Caller;
+use crate::tables::Tables;
 use course::{Fault, Hand, Made, close_for, close_spare, create_cut, cut_if, open_cut};
 use fuse::{Errno, Opened, Reply};
 use ids::{Bytes, Fd, Kind, Num, Pid};
 use machine::Machine;
 use nodes::Spot;
+use views::{PLAIN, Stepper};
 
 // The flags of an open that cuts the file, and of one that has to make it.
 const TRUNCATE: u32 = 0o1000;

@@ -5,14 +5,15 @@ ghost use Rattle.mounted.specs.Found.{located, located_child, located_new, locat
 ghost use Rattle.mounted.specs.Found.{own_path, path_to};
 ghost use Rattle.mounted.specs.Told.{named};
 
-use crate::numbers::is_reserved;
-use crate::tables::{Stepper, Tables};
+use crate::reserved::is_reserved;
+use crate::tables::Tables;
 use course::{Fault, Object};
 use fuse::Errno;
 use heap::Heap;
 use ids::{Bytes, Pid};
 use nodes::Spot;
 use std::alloc::AllocError;
+use views::Stepper;
 
 // Where a node is: its view, and the path.
 #[derive(Drop)]
@@ -100,8 +101,8 @@ impl Tables {
         }
     }
 
-    // The object of a node, and how it is found.
-    pub(crate) fn find_object(&self, pid: Pid, node: u64) -> Result<Object, Fault>
+    /// The object of a node, and how it is found.
+    pub fn find_object(&self, pid: Pid, node: u64) -> Result<Object, Fault>
         ensures { IsPlanned (object_of self.now pid node) result }
     {
         let Stepper { view, pid: _ } = self.stepper_at(node)?;

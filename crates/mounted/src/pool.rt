@@ -1,5 +1,5 @@
 // The processes by which requests step.
-ghost use Rattle.std.specs.Prelude.{◌≡◌, ◌+◌, ◌<◌, length, IfSome};
+ghost use Rattle.std.specs.Prelude.{◌<◌, length, IfSome};
 
 use heap::Heap;
 use ids::{DESCRIPTORS, Pid};
@@ -31,14 +31,6 @@ impl Drop for Pool {
             free: _,
         } = self;
     }
-}
-
-// The process of a priority that was made at the start. It never has a descriptor: others are forked
-// from it, and the one of priority 0 makes the plain calls on paths.
-pub(crate) fn first_process(level: u8) -> Pid
-    ensures { result ≡ level + 1 }
-{
-    Pid(u32::from(level) + 1)
 }
 
 // Which process of this priority waits.

@@ -21,21 +21,17 @@ use machine::Machine;
 // The number of an object that is not told.
 const UNKNOWN: u64 = 0xffff_ffff;
 
-// An open directory as a request names it, and from where on it is listed.
+/// An open directory as a request names it, and from where on it is listed.
 #[derive(Clone, Copy)]
-pub(crate) struct Wanted {
-    pub(crate) handle: u64,
-    pub(crate) offset: u64,
-    pub(crate) size: u32,
+pub struct Wanted {
+    pub handle: u64,
+    pub offset: u64,
+    pub size: u32,
 }
 
 impl Tables {
-    // Opens a directory, and takes its names.
-    pub(crate) fn open_folder<K: Machine>(
-        &mut self,
-        hand: &mut Hand<K>,
-        node: u64,
-    ) -> Result<Reply, Fault>
+    /// Opens a directory, and takes its names.
+    pub fn open_folder<K: Machine>(&mut self, hand: &mut Hand<K>, node: u64) -> Result<Reply, Fault>
         ensures bound { bound hand.new ≡ bound hand.old }
         ensures answers { AnswersOpenDir self.old self.new hand.old.pid node
             hand.old.shown hand.new.shown result }
@@ -108,8 +104,8 @@ impl Tables {
         Ok(listing)
     }
 
-    // Lists names of an open directory.
-    pub(crate) fn read_folder<K: Machine>(
+    /// Lists names of an open directory.
+    pub fn read_folder<K: Machine>(
         &mut self,
         hand: &mut Hand<K>,
         wanted: Wanted,
@@ -126,9 +122,9 @@ impl Tables {
         Ok(Reply::Directory(listing))
     }
 
-    // The same, each name with what it gives. Nothing is looked up for that: no look-up is counted
-    // for an entry whose node is 0, and the kernel asks when a name is used.
-    pub(crate) fn read_folder_plus<K: Machine>(
+    /// The same, each name with what it gives. Nothing is looked up for that: no look-up is counted
+    /// for an entry whose node is 0, and the kernel asks when a name is used.
+    pub fn read_folder_plus<K: Machine>(
         &mut self,
         hand: &mut Hand<K>,
         wanted: Wanted,
@@ -150,8 +146,8 @@ impl Tables {
         Ok(Reply::Directory(listing))
     }
 
-    // Closes a directory.
-    pub(crate) fn close_folder(&mut self, handle: u64) -> Reply
+    /// Closes a directory.
+    pub fn close_folder(&mut self, handle: u64) -> Reply
         ensures { self.new.views ≡ self.old.views }
     {
         self.folders.remove(handle);

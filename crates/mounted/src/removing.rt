@@ -8,8 +8,8 @@ ghost use Rattle.mounted.specs.Requests.{moved, removing};
 ghost use Rattle.mounted.specs.Told.{named};
 
 use crate::making::in_one_view;
-use crate::numbers::is_reserved;
 use crate::planning::{Located, Pair};
+use crate::reserved::is_reserved;
 use crate::tables::Tables;
 use course::{Fault, Hand};
 use fuse::{Errno, Reply};

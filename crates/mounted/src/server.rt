@@ -6,24 +6,22 @@ ghost use Rattle.mounted.specs.First.{IsFirst};
 ghost use Rattle.mounted.specs.Processes.{IsLackingBy, IsReadyBy};
 ghost use Rattle.mounted.specs.Served.{IsChosen, IsLacking, IsReady};
 ghost use Rattle.mounted.specs.Served.{chosen, plain_file, process_by};
-ghost use Rattle.mounted.specs.Views.{KeepsViews};
+ghost use Rattle.views.specs.Views.{KeepsViews};
 
-use crate::numbers::PLAIN;
 use crate::open_files::OpenFile;
-use crate::pool::first_process;
 use crate::tables::Tables;
-use crate::views::State;
 use course::{Fault, Hand, close, fork};
 use fuse::{Operation, Reply};
 use heap::Heap;
 use ids::{Limits, Pid, Priority};
 use machine::Machine;
 use std::alloc::AllocError;
+use views::{PLAIN, State, first_process};
 
 /// A mounted tree: a kernel, and what is known of its nodes, transactions and open files.
 pub struct Server<K: Machine> {
-    pub(crate) hand: Hand<K>,
-    pub(crate) tables: Tables,
+    pub hand: Hand<K>,
+    pub tables: Tables,
 }
 
 // By hand: a derived drop is opened at every place where a value goes, this one is called.
@@ -151,8 +149,8 @@ impl<K: Machine> Server<K> {
         }
     }
 
-    // The process that serves a request of the plain tree.
-    pub(crate) fn choose_plain(&mut self, node: u64, operation: &Operation) -> Result<Pid, Fault>
+    /// The process that serves a request of the plain tree.
+    pub fn choose_plain(&mut self, node: u64, operation: &Operation) -> Result<Pid, Fault>
         ensures chosen { IfOk result (λ pid.
             IsChosen (chosen self.old.tables node operation.now) pid) }
         ensures ready { IfOk result (λ pid. IsReady self.old.hand.shown pid self.new.hand.shown) }
@@ -225,8 +223,8 @@ impl<K: Machine> Server<K> {
         }
     }
 
-    // A file is open once less.
-    pub(crate) fn release(&mut self, handle: u64) -> Result<Reply, Fault>
+    /// A file is open once less.
+    pub fn release(&mut self, handle: u64) -> Result<Reply, Fault>
         ensures { KeepsViews self.old.tables.views.each self.new.tables.views.each }
     {
         if let Some(file) = self.tables.files.release(handle) {

@@ -1,31 +1,28 @@
 // What is known of a mounted tree beside its kernel, and where its nodes are.
 ghost use Rattle.std.specs.Prelude.{◌≡◌, IfOk};
 ghost use Rattle.mounted.specs.Found.{fd_of, file_by, handle_of, inode_of, path_to, stepper_at};
-ghost use Rattle.mounted.specs.Found.{stepper_by, stepper_in, stepper_of};
 ghost use Rattle.mounted.specs.Served.{plain_file};
-ghost use Rattle.mounted.specs.Views.{numbered};
 
 use crate::attributes::AttributeTable;
 use crate::folders::Folders;
-use crate::numbers::{PLAIN, view_of};
 use crate::open_files::{OpenFile, OpenFiles};
-use crate::pool::{Pool, first_process};
-use crate::views::{State, Views};
+use crate::pool::Pool;
 use course::Fault;
 use fuse::Errno;
 use heap::Heap;
 use ids::{Bytes, Fd, Num, Pid};
 use nodes::Nodes;
 use std::alloc::AllocError;
+use views::{PLAIN, Stepper, Views, stepper_in, view_of};
 
-// What is known of nodes, transactions, open files and attributes.
-pub(crate) struct Tables {
+/// What is known of nodes, transactions, open files and attributes.
+pub struct Tables {
     pub(crate) heap: Heap,
-    pub(crate) nodes: Nodes,
-    pub(crate) views: Views,
+    pub nodes: Nodes,
+    pub views: Views,
     pub(crate) files: OpenFiles,
     pub(crate) folders: Folders,
-    pub(crate) attributes: AttributeTable,
+    pub attributes: AttributeTable,
     pub(crate) pool: Pool,
 }
 
@@ -44,48 +41,6 @@ impl Drop for Tables {
     }
 }
 
-// A view, and the process that steps there.
-#[derive(Clone, Copy, Debug)]
-pub(crate) struct Stepper {
-    pub(crate) view: u64,
-    pub(crate) pid: Pid,
-}
-
-// What the process of a view may do: nothing after an abort, and nothing where the transaction is
-// over.
-fn stepper_by(view: u64, pid: Pid, state: State) -> Result<Stepper, Fault>
-    ensures { result ≡ stepper_by view pid state }
-{
-    match state {
-        State::Live => Ok(Stepper { view, pid }),
-        State::Aborted => Err(Fault::Errno(Errno::ECANCELED)),
-        State::Committed | State::GivenUp => Err(Fault::Errno(Errno::ENOENT)),
-    }
-}
-
-// The process of a view of a transaction.
-pub(crate) fn stepper_of(views: &Views, view: u64) -> Result<Stepper, Fault>
-    ensures { result ≡ stepper_of view (numbered views.now.each view) }
-{
-    match views.get(view) {
-        Some(found) => stepper_by(view, found.pid, found.state),
-        None => Err(Fault::Errno(Errno::ENOENT)),
-    }
-}
-
-// The process of a view, or the first one for the plain tree.
-fn stepper_in(views: &Views, view: u64) -> Result<Stepper, Fault>
-    ensures { result ≡ stepper_in views.now.each view }
-{
-    if view == PLAIN {
-        return Ok(Stepper {
-            view: PLAIN,
-            pid: first_process(0),
-        });
-    }
-    stepper_of(views, view)
-}
-
 impl Tables {
     pub(crate) fn new(heap: Heap) -> Tables {
         Tables {
@@ -99,8 +54,8 @@ impl Tables {
         }
     }
 
-    // The view in which a node is, and the process that steps there.
-    pub(crate) fn stepper_at(&self, node: u64) -> Result<Stepper, Fault>
+    /// The view in which a node is, and the process that steps there.
+    pub fn stepper_at(&self, node: u64) -> Result<Stepper, Fault>
         ensures { result ≡ stepper_at self.now node }
     {
         match view_of(self.nodes.root_of(node)) {

@@ -4,19 +4,18 @@ ghost use Rattle.course.specs.Hands.{bound};
 ghost use Rattle.mounted.specs.Controls.{Begins, BeginsBy, GivesUp, IsFreed, Leaves, Removes};
 ghost use Rattle.mounted.specs.Controls.{ServesTransactions, ShowsNode, control_of, level_by, level_of};
 ghost use Rattle.mounted.specs.Controls.{level_planned, node_in};
-ghost use Rattle.mounted.specs.Views.{KeepsViews, number_in, standing_in};
+ghost use Rattle.views.specs.Views.{KeepsViews, number_in, standing_in};
 
-use crate::numbers::{TRANSACTIONS, control_node, root_node, view_of};
 use crate::reading::Wanted;
 use crate::server::Server;
 use crate::tables::Tables;
-use crate::views::{Standing, State};
 use course::{Fault, begin, close, give_up};
 use fuse::{Errno, Opened, Operation, Reply};
 use heap::Heap;
 use ids::{Bytes, NAME_LIMIT, Name, Pid};
 use machine::Machine;
 use std::alloc::AllocError;
+use views::{Standing, State, TRANSACTIONS, control_node, root_node, view_of};
 
 // What stands before the end of the name of a file by which a transaction is ended.
 fn control_name(name: &[u8]) -> Option<&[u8]>
@@ -297,8 +296,8 @@ impl<K: Machine> Server<K> {
         }
     }
 
-    // Requests about the directory of transactions.
-    pub(crate) fn in_transactions(&mut self, operation: Operation) -> Result<Reply, Fault>
+    /// Requests about the directory of transactions.
+    pub fn in_transactions(&mut self, operation: Operation) -> Result<Reply, Fault>
         ensures serves { ServesTransactions self.old.tables self.new.tables operation
             self.old.hand.shown self.new.hand.shown result }
         ensures keeps { KeepsViews self.old.tables.views.each self.new.tables.views.each }

@@ -14,6 +14,7 @@ use ids::{LARGEST_FILE, Limits, MAX_ENTRIES};
 use kernel::Kernel;
 use machine::Machine;
 use mounted::Server;
+use serving::serve;
 use std::alloc::AllocError;
 use std::io::{ErrorKind, Read, Write};
 use std::process::ExitCode;
@@ -110,7 +111,7 @@ fn answer<K: Machine, W: Write>(
     match parse(heap, bytes) {
         Ok(request) => {
             let unique = request.unique;
-            match server.serve(request) {
+            match serve(server, request) {
                 Some(reply) => send(heap, unique, &reply, out),
                 None => Ok(()),
             }

@@ -1,5 +1,5 @@
 use Rattle.std.proofs.Common.{◌+◌}
-use Rattle.mounted.proofs.Stepping.{lacking, ready}
+use Rattle.mounted.proofs.Forking.{lacking, ready}
 use Rattle.mounted.proofs.server.Server.take_process.Goals as goal
 
 pub returns-in-None-clause-ready : goal.returns-in-None-clause-ready
