@@ -45,10 +45,7 @@ pub(crate) fn path_in(
         digit(number / 10),
         digit(number),
     ];
-    let mut bytes = Vec::with_capacity(heap, directory.len() + 9)?;
-    bytes.extend_from_slice(directory.as_bytes())?;
-    bytes.extend_from_slice(&name)?;
-    Ok(Bytes::new(bytes))
+    Bytes::joined(heap, directory.as_bytes(), &name)
 }
 
 /// The path of a name in the directory `/d`.

@@ -375,16 +375,16 @@ fn put(
     changed(Answer::Count(count), edits)
 }
 
-// The first bytes, so many at most.
+// The first bytes, so many at most. All of them may be shared.
 pub(crate) fn first_bytes(heap: Heap, bytes: &Bytes, count: u32) -> Result<Bytes, AllocError>
     ensures { IfOk result (λ kept. kept ≡ take count bytes.now) }
 {
-    let bytes = bytes.as_slice();
+    let all = bytes.as_slice();
     let count = count as usize;
-    if count < bytes.len() {
-        Bytes::copy(heap, &bytes[..count])
+    if count < all.len() {
+        Bytes::copy(heap, &all[..count])
     } else {
-        Bytes::copy(heap, bytes)
+        bytes.try_clone()
     }
 }
 

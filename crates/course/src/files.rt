@@ -218,7 +218,8 @@ pub fn stat_file<K: Machine>(hand: &mut Hand<K>, fd: Fd) -> Result<Stat, Fault>
     hand.stat_call(Call::Fstat(fd))
 }
 
-/// Puts bytes into the file of a descriptor from an offset on. It gives how many.
+/// Puts bytes into the file of a descriptor from an offset on. It gives how many. An edit can share
+/// the bytes.
 pub fn write<K: Machine>(
     hand: &mut Hand<K>,
     fd: Fd,
@@ -229,7 +230,7 @@ pub fn write<K: Machine>(
     ensures ran { Ran hand.old.shown
         (writing hand.old.pid fd bytes offset) result hand.new.shown }
 {
-    let reply = hand.ask(Call::Pwrite(fd, bytes, offset));
+    let reply = hand.ask(Call::Pwrite(fd, bytes.shared(), offset));
     count_in(&reply)
 }
 

@@ -1,3 +1,4 @@
 pub mod Errnos
 pub mod Flags
+pub mod Forms
 pub mod Order

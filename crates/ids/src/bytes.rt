@@ -1,31 +1,87 @@
 // Bytes and names that are owned. Contracts see each as a list.
-ghost use Rattle.std.specs.Prelude.{◌≡◌, IfOk};
+ghost use Rattle.std.specs.Prelude.{◌≡◌, ◌≤◌, ◌++◌, IfOk, IfSome, MatchResult, length};
+ghost use Rattle.ids.specs.declared.bytes.TheConstants.{IN_PLACE};
 
+use arrayvec::ArrayVec;
 use heap::Heap;
 use smallvec::SmallVec;
-use std::alloc::AllocError;
+use std::alloc::{AllocError, AllocFailed};
 use std::default::MadeWith;
+use std::fmt;
+use std::fmt::Debug;
 use std::marker::Model;
+use std::sync::Arc;
 
-/// Bytes that are owned: a path as it was given, or what is read or written.
-#[derive(Debug)]
+// Up to how many bytes stand in place, and take no memory.
+const IN_PLACE: usize = 24;
+
+// Up to how many bytes stand behind a count of owners in one block.
+const FEW: usize = 64;
+
+// Where bytes stand.
+#[derive(Drop)]
+enum Form {
+    // In place.
+    Short(ArrayVec<u8, IN_PLACE>),
+    // In a block that copies have too, also in other threads. It goes with the last of them.
+    Few(Arc<ArrayVec<u8, FEW>, Heap>),
+    // In a vector that is theirs alone.
+    Own(Vec<u8, Heap>),
+    // In a vector that copies have too.
+    Shared(Arc<Vec<u8, Heap>, Heap>),
+}
+
+/// Bytes that are owned: a path as it was given, or what is read or written. Up to 24 of them stand
+/// in place, and take no memory; copies of up to 64 take none either, nor do copies of more once
+/// they are shared.
 pub struct Bytes {
-    bytes: Vec<u8, Heap>,
+    form: Form,
 }
 
 // By hand: a derived drop is opened at every place where a value goes, this one is called.
 impl Drop for Bytes {
     fn drop(self) {
-        let Bytes { bytes: _ } = self;
+        let Bytes { form: _ } = self;
+    }
+}
+
+// By hand: the text tells the bytes, wherever they stand.
+impl Debug for Bytes {
+    fn fmt<W: fmt::Write>(&self, f: &mut fmt::Formatter<W>) -> fmt::Result {
+        f.debug_struct("Bytes")
+            .field("bytes", &self.as_slice())
+            .finish()
     }
 }
 
 impl Model for Bytes {
     ghost use Rattle.std.specs.Prelude.{List, ℕ};
+    ghost use Rattle.ids.specs.Forms.{bytes_in};
 
     ghost Value = { List ℕ };
 
-    ghost view = { λ b. b.bytes.items };
+    ghost view = { λ b. bytes_in b.form };
+}
+
+// A copy of a few bytes, in place.
+fn in_place(bytes: &[u8]) -> ArrayVec<u8, IN_PLACE>
+    requires { length bytes.now ≤ IN_PLACE }
+    ensures { result.items ≡ bytes.now }
+{
+    let mut short = ArrayVec::new();
+    short.try_extend_from_slice(bytes).unwrap();
+    short
+}
+
+// Copies of these bytes, the first and behind them the second, in a block. `None` stands where they
+// are too many.
+fn few(first: &[u8], second: &[u8]) -> Option<ArrayVec<u8, FEW>>
+    ensures { IfSome result (λ few. few.items ≡ first.now ++ second.now) }
+{
+    let mut few = ArrayVec::new();
+    few.try_extend_from_slice(first).ok()?;
+    few.try_extend_from_slice(second).ok()?;
+    Some(few)
 }
 
 impl Bytes {
@@ -33,38 +89,160 @@ impl Bytes {
     pub fn new(bytes: Vec<u8, Heap>) -> Bytes
         ensures { result ≡ bytes.entry.items }
     {
-        Bytes { bytes }
+        Bytes {
+            form: Form::Own(bytes),
+        }
     }
 
-    /// Gives the vector back, with no memory.
-    pub fn into_vec(self) -> Vec<u8, Heap>
-        ensures { result.items ≡ self }
+    // Bytes in place.
+    fn short(bytes: ArrayVec<u8, IN_PLACE>) -> Bytes
+        ensures { result ≡ bytes.items }
     {
-        let Bytes { bytes } = self;
-        bytes
+        Bytes {
+            form: Form::Short(bytes),
+        }
+    }
+
+    // Bytes in a block behind a count of owners. Refused memory gives nothing.
+    fn counted_few(heap: Heap, bytes: ArrayVec<u8, FEW>) -> Result<Bytes, AllocError>
+        ensures { IfOk result (λ b. b ≡ bytes.items) }
+    {
+        match Arc::new(heap, bytes) {
+            Ok(bytes) => Ok(Bytes {
+                form: Form::Few(bytes),
+            }),
+            Err(_) => Err(AllocError),
+        }
     }
 
     /// The bytes, in order.
     pub fn as_slice(&self) -> &[u8]
         ensures { result.now ≡ self.now }
     {
-        self.bytes.as_slice()
+        match &self.form {
+            Form::Short(bytes) => bytes.as_slice(),
+            Form::Few(bytes) => bytes.as_slice(),
+            Form::Own(bytes) => bytes.as_slice(),
+            Form::Shared(bytes) => bytes.as_slice(),
+        }
     }
 
-    /// A copy of these bytes. Refused memory changes nothing.
+    /// A copy of these bytes. Up to 24 of them take no memory. Refused memory changes nothing.
     pub fn copy(heap: Heap, bytes: &[u8]) -> Result<Bytes, AllocError>
         ensures { IfOk result (λ b. b ≡ bytes.now) }
     {
-        Ok(Bytes {
-            bytes: Vec::from_slice(heap, bytes)?,
-        })
+        if bytes.len() <= IN_PLACE {
+            return Ok(Bytes::short(in_place(bytes)));
+        }
+        match few(bytes, &[]) {
+            Some(few) => Bytes::counted_few(heap, few),
+            None => Ok(Bytes::new(Vec::from_slice(heap, bytes)?)),
+        }
+    }
+
+    /// Copies of these bytes, the first and behind them the second. Up to 24 of them take no memory.
+    /// Refused memory changes nothing.
+    pub fn joined(heap: Heap, first: &[u8], second: &[u8]) -> Result<Bytes, AllocError>
+        ensures { IfOk result (λ b. b ≡ first.now ++ second.now) }
+    {
+        match few(first, second) {
+            Some(few) if few.len() <= IN_PLACE => Ok(Bytes::short(in_place(few.as_slice()))),
+            Some(few) => Bytes::counted_few(heap, few),
+            None => {
+                let mut bytes = Vec::with_capacity(heap, first.len().saturating_add(second.len()))?;
+                bytes.extend_from_slice(first)?;
+                bytes.extend_from_slice(second)?;
+                Ok(Bytes::new(bytes))
+            }
+        }
+    }
+
+    /// These bytes and more behind them. Refused memory gives nothing.
+    pub fn followed_by(self, heap: Heap, more: &[u8]) -> Result<Bytes, AllocError>
+        ensures { IfOk result (λ b. b ≡ self ++ more.now) }
+    {
+        if more.is_empty() {
+            return Ok(self);
+        }
+        let Bytes { form } = self;
+        match form {
+            Form::Short(bytes) => Bytes::joined(heap, bytes.as_slice(), more),
+            Form::Few(bytes) => Bytes::joined(heap, bytes.as_slice(), more),
+            Form::Shared(bytes) => Bytes::joined(heap, bytes.as_slice(), more),
+            Form::Own(mut bytes) => {
+                bytes.extend_from_slice(more)?;
+                Ok(Bytes::new(bytes))
+            }
+        }
+    }
+
+    // The bytes of a vector, so that copies take no memory: few of them in place or in a block, and
+    // more behind a count of owners. Where memory is refused, the bytes are given back as they were.
+    fn counted(bytes: Vec<u8, Heap>) -> Result<Bytes, Bytes>
+        ensures { MatchResult result (λ b. b ≡ bytes.entry.items) (λ b. b ≡ bytes.entry.items) }
+    {
+        let heap = *bytes.allocator();
+        if bytes.len() <= FEW {
+            return match Bytes::copy(heap, bytes.as_slice()) {
+                Ok(copy) => Ok(copy),
+                Err(_) => Err(Bytes::new(bytes)),
+            };
+        }
+        match Arc::new(heap, bytes) {
+            Ok(bytes) => Ok(Bytes {
+                form: Form::Shared(bytes),
+            }),
+            Err(AllocFailed { value }) => Err(Bytes::new(value)),
+        }
+    }
+
+    // The same bytes, of which copies take no memory. Where memory is refused, they are given back as
+    // they were.
+    fn share(self) -> Result<Bytes, Bytes>
+        ensures { MatchResult result (λ b. b ≡ self) (λ b. b ≡ self) }
+    {
+        let Bytes { form } = self;
+        match form {
+            Form::Own(bytes) => Bytes::counted(bytes),
+            form => Ok(Bytes { form }),
+        }
+    }
+
+    /// The same bytes, of which copies take no memory. Refused memory gives nothing.
+    pub fn try_shared(self) -> Result<Bytes, AllocError>
+        ensures { IfOk result (λ b. b ≡ self) }
+    {
+        match self.share() {
+            Ok(bytes) => Ok(bytes),
+            Err(_) => Err(AllocError),
+        }
+    }
+
+    /// The same bytes, of which copies take no memory, unless memory is refused: then they stay as
+    /// they are.
+    pub fn shared(self) -> Bytes
+        ensures { result ≡ self }
+    {
+        match self.share() {
+            Ok(bytes) => bytes,
+            Err(bytes) => bytes,
+        }
     }
 
     /// A copy on the same allocator. Refused memory changes nothing.
     pub fn try_clone(&self) -> Result<Bytes, AllocError>
         ensures { IfOk result (λ b. b ≡ self.now) }
     {
-        Bytes::copy(*self.bytes.allocator(), self.as_slice())
+        match &self.form {
+            Form::Short(bytes) => Ok(Bytes::short(in_place(bytes.as_slice()))),
+            Form::Few(bytes) => Ok(Bytes {
+                form: Form::Few(Arc::try_clone(bytes)?),
+            }),
+            Form::Own(bytes) => Bytes::copy(*bytes.allocator(), bytes.as_slice()),
+            Form::Shared(bytes) => Ok(Bytes {
+                form: Form::Shared(Arc::try_clone(bytes)?),
+            }),
+        }
     }
 }
 

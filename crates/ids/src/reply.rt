@@ -72,6 +72,16 @@ impl Drop for Answer {
 }
 
 impl Answer {
+    /// The same answer, with bytes of which copies take no memory. Refused memory gives nothing.
+    pub fn try_shared(self) -> Result<Answer, AllocError>
+        ensures { IfOk result (λ answer. answer ≡ self) }
+    {
+        match self {
+            Answer::Bytes(bytes) => Ok(Answer::Bytes(bytes.try_shared()?)),
+            other => Ok(other),
+        }
+    }
+
     /// A copy on the same allocator. Refused memory changes nothing.
     pub fn try_clone(&self) -> Result<Answer, AllocError>
         ensures { IfOk result (λ copy. copy ≡ self.now) }

@@ -33,13 +33,13 @@ use std::alloc::AllocError;
 /// The live transaction that a process is in, if it is in one.
 type Within = Option<Live>;
 
-/// The answer as a reply.
-fn reply_of(answer: Result<Answer, Errno>) -> Reply
-    ensures { result ≡ answered answer }
+/// The answer as a reply, with bytes that its entry can share. Refused memory gives nothing.
+fn reply_of(answer: Result<Answer, Errno>) -> Result<Reply, AllocError>
+    ensures { IfOk result (λ reply. reply ≡ answered answer) }
 {
     match answer {
-        Ok(answer) => Reply::Answer(answer),
-        Err(errno) => Reply::Errno(errno),
+        Ok(answer) => Ok(Reply::Answer(answer.try_shared()?)),
+        Err(errno) => Ok(Reply::Errno(errno)),
     }
 }
 
@@ -285,7 +285,7 @@ fn told_of(
     ensures told { IfOk result (λ t. t.0 ≡ answered answer) }
     ensures pids { IfOk result (λ t. t.1 ≡ map (λ d. d.pid) doomed.now) }
 {
-    let reply = reply_of(answer);
+    let reply = reply_of(answer)?;
     match copies_of(heap, &reply, doomed) {
         Ok((entry, pids)) => Ok((Twice::new(entry, reply), pids)),
         Err(refused) => {

@@ -103,7 +103,9 @@ fn malformed_bodies(rt: HostRuntime) -> Result<(), Fail> {
 #[test]
 fn a_refused_request_is_told(rt: HostRuntime) -> Result<(), Fail> {
     let heap = heap::open(rt.alloc())?;
-    let bytes = request(heap, 1, b"name\0")?;
+    let mut name = [b'a'; 66];
+    name[65] = 0;
+    let bytes = request(heap, 1, &name)?;
     heap.refuse(1);
     assert!(rt; matches!(parse(heap, &bytes), Err(ParseFault::NoMemory { unique: 9 })));
     assert!(rt; matches!(parse(heap, &bytes), Ok(_)));

@@ -48,11 +48,43 @@ fn a_copy_is_told_as_its_source(rt: HostRuntime) {
 #[test]
 fn a_refused_copy_says_so(rt: HostRuntime) {
     let heap = heap::open(rt.alloc()).expect(&rt, "memory");
-    let path = Bytes::copy(heap, b"/a").expect(&rt, "memory");
+    let long = Bytes::copy(heap, &[b'a'; 65]).expect(&rt, "memory");
     heap.refuse(1);
-    let refused = [is_refused(path.try_clone()), is_refused(path.try_clone())];
-    drop(path);
+    let refused = [is_refused(long.try_clone()), is_refused(long.try_clone())];
+    drop(long);
     assert_eq!(rt; refused, [true, false]);
+}
+
+// How many requests two copies of so many bytes take, once they are shared.
+fn requests_of_copies(rt: &impl Abort, heap: Heap, count: usize) -> u64 {
+    let bytes = Vec::from_elem(heap, b'a', count).expect(rt, "memory");
+    let shared = Bytes::new(bytes).shared();
+    heap.refuse(0);
+    let one = shared.try_clone().expect(rt, "memory");
+    let other = shared.try_clone().expect(rt, "memory");
+    drop(shared);
+    assert!(rt; one.as_slice() == other.as_slice() && one.as_slice().len() == count);
+    heap.made()
+}
+
+#[test]
+fn copies_of_shared_bytes_take_no_memory(rt: HostRuntime) {
+    let heap = heap::open(rt.alloc()).expect(&rt, "memory");
+    for count in [0usize, 64, 65, 70_000] {
+        assert_eq!(rt; requests_of_copies(&rt, heap, count), 0, "{count}");
+    }
+}
+
+// Refused memory leaves bytes as they are, or gives nothing.
+#[test]
+fn bytes_stay_where_the_count_is_refused(rt: HostRuntime) {
+    let heap = heap::open(rt.alloc()).expect(&rt, "memory");
+    let long = Bytes::copy(heap, &[b'a'; 65]).expect(&rt, "memory");
+    heap.refuse(1);
+    let long = long.shared();
+    assert!(rt; long.as_slice() == [b'a'; 65].as_slice());
+    heap.refuse(1);
+    assert!(rt; is_refused(long.try_shared()));
 }
 
 #[test]

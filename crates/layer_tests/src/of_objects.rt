@@ -1,6 +1,7 @@
 // Each call once with ample memory and once refused, against bytes written out by hand.
 ghost use Rattle.std.specs.Prelude.{◌≡◌, []};
 
+use crate::pipes::pipe_of;
 use crate::refused::is_refused;
 use heap::Heap;
 use objects::{FileData, PipeData};
@@ -159,12 +160,13 @@ fn a_pipe_takes_its_memory_at_the_start(rt: HostRuntime) {
 #[test]
 fn a_refused_pipe_stays(rt: HostRuntime) {
     let heap = heap::open(rt.alloc()).expect(&rt, "memory");
-    let mut pipe = PipeData::new(heap).expect(&rt, "memory");
-    put_around(&mut pipe);
+    let mut pipe = pipe_of(&rt, heap, &[b'a'; 65]);
     heap.refuse(1);
-    let read = is_refused(pipe.read(heap, 0, 3));
+    let read = is_refused(pipe.read(heap, 0, 65));
+    heap.refuse(1);
+    let few = is_refused(pipe.read(heap, 0, 64));
     let len = pipe.len();
     drop(pipe);
-    assert!(rt; read);
-    assert_eq!(rt; len, 12);
+    assert_eq!(rt; [read, few], [true, false]);
+    assert_eq!(rt; len, 65);
 }

@@ -67,10 +67,10 @@ impl PipeShadow {
     pub fn read(&self, heap: Heap, pipe: &PipeData, count: usize) -> Result<Bytes, AllocError>
         ensures { IfOk result (λ bytes. bytes ≡ take count (view_over self.now pipe.now)) }
     {
-        let mut bytes = pipe.read(heap, self.taken, count)?.into_vec();
+        let stored = pipe.read(heap, self.taken, count)?;
         let own = self.taken.saturating_sub(pipe.len());
-        bytes.extend_from_slice(part(self.appended.as_slice(), own, count - bytes.len()))?;
-        Ok(Bytes::new(bytes))
+        let left = count - stored.as_slice().len();
+        Ok(stored.followed_by(heap, part(self.appended.as_slice(), own, left))?)
     }
 
     /// Takes so many bytes from the front of the view of each pipe that has them. It takes no

@@ -140,9 +140,8 @@ impl PlainKernel {
             ≡ set_inode pipe (A_pipe (pipe_of self.old pipe ++ bytes.now)) self.old) }
     {
         let inode = self.take_inode(heap, pipe)?;
-        let mut all = pipe_out(heap, inode).into_vec();
-        all.extend_from_slice(bytes)?;
-        self.set_inode(pipe, Inode::pipe(Bytes::new(all)))
+        let all = pipe_out(heap, inode).followed_by(heap, bytes)?;
+        self.set_inode(pipe, Inode::pipe(all))
     }
 
     // A description's offset.

@@ -225,7 +225,7 @@ fn open_arguments(heap: Heap, args: &mut Pieces<'_>) -> Result<Op, WordFault>
     Ok(Op::Call(Call::Open(text_in(heap, path)?, flags)))
 }
 
-// The descriptor and the bytes of a write.
+// The descriptor and the bytes of a write, which edits can share.
 fn write_arguments(heap: Heap, args: &mut Pieces<'_>) -> Result<Op, WordFault>
     ensures { Reads (arguments Verb.Write args.old) result }
 {
@@ -235,10 +235,10 @@ fn write_arguments(heap: Heap, args: &mut Pieces<'_>) -> Result<Op, WordFault>
     let Some(fd) = fd_in(fd) else {
         return Err(WordFault::Malformed);
     };
-    Ok(Op::Call(Call::Write(fd, text_in(heap, bytes)?)))
+    Ok(Op::Call(Call::Write(fd, text_in(heap, bytes)?.shared())))
 }
 
-// The descriptor, the bytes and the offset of a pwrite.
+// The descriptor, the bytes, which edits can share, and the offset of a pwrite.
 fn pwrite_arguments(heap: Heap, args: &mut Pieces<'_>) -> Result<Op, WordFault>
     ensures { Reads (arguments Verb.Pwrite args.old) result }
 {
@@ -251,15 +251,16 @@ fn pwrite_arguments(heap: Heap, args: &mut Pieces<'_>) -> Result<Op, WordFault>
     let Some(offset) = offset_in(offset) else {
         return Err(WordFault::Malformed);
     };
-    Ok(Op::Call(Call::Pwrite(fd, text_in(heap, bytes)?, offset)))
+    let bytes = text_in(heap, bytes)?.shared();
+    Ok(Op::Call(Call::Pwrite(fd, bytes, offset)))
 }
 
-// So many of one byte.
+// So many of one byte, which edits can share.
 fn filled(heap: Heap, count: u32, byte: u8) -> Result<Bytes, WordFault>
     ensures { Reads (Some (replicate count byte)) result }
 {
     match Vec::from_elem(heap, byte, count as usize) {
-        Ok(bytes) => Ok(Bytes::new(bytes)),
+        Ok(bytes) => Ok(Bytes::new(bytes).shared()),
         Err(_) => Err(WordFault::NoMemory),
     }
 }

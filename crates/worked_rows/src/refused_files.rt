@@ -290,7 +290,7 @@ static FILES: [Refused; 16] = [
 6 P1 lseek 0 0 SET -> 0
 7 P1 read 0 5 -> 3 hi!
 ",
-        requests: 18,
+        requests: 17,
     },
     // A transaction lengthens a file that it has cut.
     Refused {

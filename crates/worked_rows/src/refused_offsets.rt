@@ -32,7 +32,7 @@ static PLACES: [Refused; 7] = [
 4 P1 pread 0 9 4 -> 1 o
 5 P1 lseek 0 0 CUR -> 5
 ",
-        requests: 2,
+        requests: 1,
     },
     // A transaction's read, whose block is noted.
     Refused {
@@ -68,7 +68,7 @@ static PLACES: [Refused; 7] = [
 7 P1 end -> aborted block 0 read by P2
 8 P1 pread 0 9 0 -> 5 Jello
 ",
-        requests: 8,
+        requests: 7,
     },
     // A plain write behind a gap.
     Refused {
@@ -134,7 +134,7 @@ static PLACES: [Refused; 7] = [
 7 P1 end -> aborted block 0 read by P2
 8 P2 pread 0 9 0 -> 5 Jello
 ",
-        requests: 9,
+        requests: 8,
     },
     // A transaction's write over the border of two blocks.
     Refused {
@@ -172,7 +172,7 @@ static PLACES: [Refused; 7] = [
 8 P1 pread 0 9 1021 -> 4 \\x00xyz
 9 P1 lseek 0 0 CUR -> 2
 ",
-        requests: 15,
+        requests: 14,
     },
     // A transaction's write of many bytes into what it has changed.
     Refused {
@@ -204,7 +204,7 @@ static PLACES: [Refused; 7] = [
 5 P1 end -> committed
 6 P1 pread 0 9 0 -> 6 azzzef
 ",
-        requests: 3,
+        requests: 2,
     },
     // A read behind the end, which notes the length.
     Refused {

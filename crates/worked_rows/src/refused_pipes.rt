@@ -126,7 +126,7 @@ static PIPES: [Refused; 9] = [
 7 P1 end -> committed
 8 P2 read 0 9 -> 2 cd
 ",
-        requests: 10,
+        requests: 9,
     },
     // A read from a pipe, which dooms another reader.
     Refused {
@@ -162,7 +162,7 @@ static PIPES: [Refused; 9] = [
 7 P1 end -> aborted front write by P2
 8 P1 read 0 9 -> 1 c
 ",
-        requests: 10,
+        requests: 8,
     },
     // And by a transaction, which has written itself.
     Refused {
@@ -196,7 +196,7 @@ static PIPES: [Refused; 9] = [
 6 P1 end -> committed
 7 P1 read 0 9 -> 1 d
 ",
-        requests: 6,
+        requests: 3,
     },
     // A fork, which dooms a reader.
     Refused {

@@ -87,7 +87,8 @@ impl Room {
         }
     }
 
+    // The same, which edits can share.
     pub(crate) fn bytes(&self, content: Content) -> std::result::Result<Bytes, AllocError> {
-        Bytes::copy(self.heap, self.slice(content))
+        Ok(Bytes::copy(self.heap, self.slice(content))?.shared())
     }
 }

@@ -7,5 +7,5 @@ use Rattle.course.proofs.files.write.Goals as goal
 
 pub returns-clause-ran : goal.returns-clause-ran
 returns-clause-ran g c =
-    let h = rw (to_z-of_z _ _ c.ranges.offset) at c.ask-reply.ensures.ran in
+    let h = rw (c.shared.ensures, to_z-of_z _ _ c.ranges.offset) at c.ask-reply.ensures.ran in
     gives (calling c.args.hand.now.pid (call.Pwrite c.args.fd c.args.bytes c.args.offset)) count_in h c.count_in.ensures
