@@ -306,10 +306,18 @@ impl MadeWith<Heap> for Name {
     }
 }
 
-/// Names in order, as `list` answers them.
-#[derive(Debug)]
+// Where the names of a list stand.
+#[derive(Drop)]
+enum Names {
+    // In a vector that is theirs alone.
+    Own(Vec<Name, Heap>),
+    // In a vector that copies have too, also in other threads. It goes with the last of them.
+    Shared(Arc<Vec<Name, Heap>, Heap>),
+}
+
+/// Names in order, as `list` answers them. Copies take no memory once they are shared.
 pub struct NameList {
-    names: Vec<Name, Heap>,
+    names: Names,
 }
 
 // By hand: a derived drop is opened at every place where a value goes, this one is called.
@@ -319,12 +327,22 @@ impl Drop for NameList {
     }
 }
 
+// By hand: the text tells the names, wherever they stand.
+impl Debug for NameList {
+    fn fmt<W: fmt::Write>(&self, f: &mut fmt::Formatter<W>) -> fmt::Result {
+        f.debug_struct("NameList")
+            .field("names", &self.as_slice())
+            .finish()
+    }
+}
+
 impl Model for NameList {
     ghost use Rattle.std.specs.Prelude.{List, ℕ};
+    ghost use Rattle.ids.specs.Forms.{names_in};
 
     ghost Value = { List (List ℕ) };
 
-    ghost view = { λ l. l.names.items };
+    ghost view = { λ l. names_in l.names };
 }
 
 impl NameList {
@@ -332,24 +350,67 @@ impl NameList {
     pub fn new(names: Vec<Name, Heap>) -> NameList
         ensures { result ≡ names.entry.items }
     {
-        NameList { names }
+        NameList {
+            names: Names::Own(names),
+        }
     }
 
     /// The names, in order.
     pub fn as_slice(&self) -> &[Name]
         ensures { result.now ≡ self.now }
     {
-        self.names.as_slice()
+        match &self.names {
+            Names::Own(names) => names.as_slice(),
+            Names::Shared(names) => names.as_slice(),
+        }
+    }
+
+    /// The same names, of which copies take no memory. Refused memory gives nothing.
+    pub fn try_shared(self) -> Result<NameList, AllocError>
+        ensures { IfOk result (λ l. l ≡ self) }
+    {
+        let NameList { names } = self;
+        match names {
+            Names::Own(names) => NameList::counted(names),
+            names => Ok(NameList { names }),
+        }
+    }
+
+    // The names behind a count of owners, where there are any. Refused memory gives nothing.
+    fn counted(names: Vec<Name, Heap>) -> Result<NameList, AllocError>
+        ensures { IfOk result (λ l. l ≡ names.entry.items) }
+    {
+        if names.is_empty() {
+            return Ok(NameList::new(names));
+        }
+        match Arc::new(*names.allocator(), names) {
+            Ok(names) => Ok(NameList {
+                names: Names::Shared(names),
+            }),
+            Err(_) => Err(AllocError),
+        }
     }
 
     /// A copy on the same allocator. Refused memory changes nothing.
     pub fn try_clone(&self) -> Result<NameList, AllocError>
         ensures { IfOk result (λ l. l ≡ self.now) }
     {
-        let mut names = Vec::with_capacity(*self.names.allocator(), self.names.len())?;
-        for name in &self.names {
-            names.push(name.try_clone()?)?;
+        match &self.names {
+            Names::Own(names) => Ok(NameList::new(names_copied(names)?)),
+            Names::Shared(names) => Ok(NameList {
+                names: Names::Shared(Arc::try_clone(names)?),
+            }),
         }
-        Ok(NameList { names })
     }
+}
+
+// A copy of these names on the same allocators. Refused memory changes nothing.
+fn names_copied(names: &Vec<Name, Heap>) -> Result<Vec<Name, Heap>, AllocError>
+    ensures { IfOk result (λ copies. copies.items ≡ names.now.items) }
+{
+    let mut copies = Vec::with_capacity(*names.allocator(), names.len())?;
+    for name in names {
+        copies.push(name.try_clone()?)?;
+    }
+    Ok(copies)
 }

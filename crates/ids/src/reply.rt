@@ -72,12 +72,14 @@ impl Drop for Answer {
 }
 
 impl Answer {
-    /// The same answer, with bytes of which copies take no memory. Refused memory gives nothing.
+    /// The same answer, with bytes or names of which copies take no memory. Refused memory gives
+    /// nothing.
     pub fn try_shared(self) -> Result<Answer, AllocError>
         ensures { IfOk result (λ answer. answer ≡ self) }
     {
         match self {
             Answer::Bytes(bytes) => Ok(Answer::Bytes(bytes.try_shared()?)),
+            Answer::Names(names) => Ok(Answer::Names(names.try_shared()?)),
             other => Ok(other),
         }
     }

@@ -1,6 +1,0 @@
-use Rattle.std.proofs.Common.{◌≡◌, take}
-use Rattle.ids.proofs.bytes.NameList.try_clone.Given as goal
-
--- as many names are copied as the loop has passed
-abbrev pub invariant-loop-name : goal.invariant-loop-name
-invariant-loop-name l = (l.name-items ≡ l.self) × (l.names.items ≡ take l.name-index l.name-items)
