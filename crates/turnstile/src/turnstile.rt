@@ -39,9 +39,12 @@ const TAKEN: u64 = 1;
 // Taken, and a thread may sleep until it is free.
 const AWAITED: u64 = 2;
 
-// How often a thread looks whether the kernel is free before it sleeps. A step takes about as long
-// as some of these looks.
-const LOOKS: u32 = 100;
+// How often a thread looks whether the kernel is free before it sleeps.
+const LOOKS: u32 = 20;
+
+// How many pauses stand between two of its looks at most. Each look takes the lock's memory from the
+// processor that has the kernel, so they come more and more rarely.
+const MOST_PAUSES: u32 = 128;
 
 type KernelSeat<K> = Seat<Option<K>, Role>;
 
@@ -204,6 +207,14 @@ fn child_in(reply: &Reply) -> Option<Pid>
     }
 }
 
+// Pauses so often, and gives how often the next time.
+fn paused(pauses: u32) -> u32 {
+    for _ in 0..pauses {
+        spin_loop();
+    }
+    pauses.saturating_mul(2).min(MOST_PAUSES)
+}
+
 impl<K: Machine> Turnstile<K> {
     /// A pass for each living process, rising; each has seen the kernel's history. Refused memory
     /// gives the same kernel back.
@@ -293,15 +304,28 @@ impl<K: Machine> Turnstile<K> {
         ensures some { IfSome result (λ k. HasTaken seat.old (K.shown k).log seat.new) }
         ensures none { IfNone result (seat.new ≡ seat.old) }
     {
+        let mut pauses = 1;
         for _ in 0..LOOKS {
             if self.table.shared.peek(0) == FREE
                 && let Some(kernel) = self.take(seat)
             {
                 return Some(kernel);
             }
-            spin_loop();
+            pauses = paused(pauses);
         }
         None
+    }
+
+    // Waits until the kernel is free at a look, for a while. Who has slept takes nothing here, since
+    // others may sleep still.
+    fn look_again(&self) {
+        let mut pauses = 1;
+        for _ in 0..LOOKS {
+            if self.table.shared.peek(0) == FREE {
+                return;
+            }
+            pauses = paused(pauses);
+        }
     }
 
     // The kernel, where it is free. Where it is not, who gives it back wakes a thread that sleeps.
@@ -330,6 +354,7 @@ impl<K: Machine> Turnstile<K> {
                 return kernel;
             }
             self.table.shared.park(rt, 0, AWAITED as u32);
+            self.look_again();
         }
         unreachable!()
     }
