@@ -59,19 +59,14 @@ fn seek<K: Machine>(kernel: &mut K, offset: u32, whence: Whence) -> Result<()> {
     call(kernel, Call::Lseek(FILE, i64::from(offset), whence))
 }
 
-// So many bytes, which an edit can share.
-fn bytes_of(heap: Heap, count: u32) -> Result<Bytes> {
-    let bytes = Vec::from_elem(heap, b'x', count as usize)?;
-    Ok(Bytes::new(bytes).shared())
-}
-
 /// Writes so many bytes to the file.
 pub(crate) fn write<K: Machine>(kernel: &mut K, heap: Heap, count: u32) -> Result<()> {
-    call(kernel, Call::Write(FILE, bytes_of(heap, count)?))
+    let bytes = Vec::from_elem(heap, b'x', count as usize)?;
+    call(kernel, Call::Write(FILE, Bytes::new(bytes)))
 }
 
 fn pwrite<K: Machine>(kernel: &mut K, heap: Heap, offset: u32) -> Result<()> {
-    let bytes = bytes_of(heap, PIECE)?;
+    let bytes = Bytes::new(Vec::from_elem(heap, b'x', PIECE as usize)?);
     call(kernel, Call::Pwrite(FILE, bytes, i64::from(offset)))
 }
 

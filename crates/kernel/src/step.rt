@@ -109,12 +109,24 @@ fn notice(s: &mut State, pid: Pid, flags: BeginFlags, age: Age, op: Op) -> Reply
     end_transaction(s, pid, op, told, restarted, (flags, age))
 }
 
+/// The same call, with content that its edit and its entry can share. Where memory for that is
+/// refused, it stays as it is, and the edit asks for a copy.
+fn shared(call: Call) -> Call
+    ensures { result ≡ call }
+{
+    match call {
+        Call::Write(fd, bytes) => Call::Write(fd, bytes.shared()),
+        Call::Pwrite(fd, bytes, offset) => Call::Pwrite(fd, bytes.shared(), offset),
+        other => other,
+    }
+}
+
 /// A call of a process in no transaction or in a live one.
 fn step_call(s: &mut State, pid: Pid, within: Option<Live>, call: Call) -> Reply
     requires { Calls (fields s.old) pid within call }
     ensures { Does (fields s.old) (fields s.new) pid (entries.Do call) result }
 {
-    match run(s, pid, within, call) {
+    match run(s, pid, within, shared(call)) {
         Ok(reply) => reply,
         Err(AllocError) => Reply::NoMemory,
     }

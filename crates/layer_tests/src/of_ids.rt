@@ -3,8 +3,8 @@ use crate::refused::is_refused;
 use bitflags::Flags;
 use heap::Heap;
 use ids::{
-    Aspect, BeginFlags, Bytes, Call, Cause, Entry, Name, Num, Nums, Op, OpenFlags, Pid, Pids,
-    Priority, Reply, Touch,
+    Aspect, BeginFlags, Bytes, Call, Cause, Entry, Name, NameList, Num, Nums, Op, OpenFlags, Pid,
+    Pids, Priority, Reply, Touch,
 };
 use std::fmt::Debug;
 use std::process::Abort;
@@ -85,6 +85,36 @@ fn bytes_stay_where_the_count_is_refused(rt: HostRuntime) {
     assert!(rt; long.as_slice() == [b'a'; 65].as_slice());
     heap.refuse(1);
     assert!(rt; is_refused(long.try_shared()));
+}
+
+// A list of two names.
+fn two_names(rt: &impl Abort, heap: Heap) -> NameList {
+    let mut names = Vec::new(heap);
+    for bytes in [b"a", b"b"] {
+        let name = Name::copy(heap, bytes).expect(rt, "memory");
+        names.push(name).expect(rt, "memory");
+    }
+    NameList::new(names)
+}
+
+#[test]
+fn copies_of_shared_names_take_no_memory(rt: HostRuntime) {
+    let heap = heap::open(rt.alloc()).expect(&rt, "memory");
+    heap.refuse(0);
+    let none = NameList::new(Vec::new(heap)).try_shared();
+    let asked = heap.made();
+    drop(none.expect(&rt, "memory"));
+    let names = two_names(&rt, heap).try_shared().expect(&rt, "memory");
+    heap.refuse(0);
+    let copy = names.try_clone().expect(&rt, "memory");
+    drop(names);
+    assert_eq!(rt;
+        [asked, heap.made(), copy.as_slice().len() as u64],
+        [0, 0, 2]
+    );
+    let names = two_names(&rt, heap);
+    heap.refuse(1);
+    assert!(rt; is_refused(names.try_shared()));
 }
 
 #[test]

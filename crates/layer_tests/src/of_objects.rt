@@ -164,7 +164,7 @@ fn a_refused_pipe_stays(rt: HostRuntime) {
     heap.refuse(1);
     let read = is_refused(pipe.read(heap, 0, 65));
     heap.refuse(1);
-    let few = is_refused(pipe.read(heap, 0, 64));
+    let few = is_refused(pipe.read(heap, 0, 24));
     let len = pipe.len();
     drop(pipe);
     assert_eq!(rt; [read, few], [true, false]);

@@ -87,8 +87,7 @@ impl Room {
         }
     }
 
-    // The same, which edits can share.
     pub(crate) fn bytes(&self, content: Content) -> std::result::Result<Bytes, AllocError> {
-        Ok(Bytes::copy(self.heap, self.slice(content))?.shared())
+        Bytes::copy(self.heap, self.slice(content))
     }
 }
