@@ -1,16 +1,13 @@
 -- The map that entries make, in whatever order a table keeps them.
 use Rattle.std.proofs.Common.{◌≡◌, ◌+◌, Bool, false, cond, List, [], ◌∷◌, length, refl, ap, ◌∙◌, arith}
-use Rattle.std.proofs.lemmas.Map.Keys.{IsDistinct-head, IsDistinct-tail, sorted_head, sorted_tail}
+use Rattle.std.proofs.lemmas.Map.Keys.{IsDistinct-head, IsDistinct-tail}
 use Rattle.std.proofs.lemmas.Map.Made.{is_some-lookup}
 use Rattle.std.specs.Option.{is_some}
 use Rattle.std.specs.List.{AllByRecursion, IsDistinct, list_any}
-use Rattle.std.specs.List.Sorted.{IsStrictlySortedBy}
 use Rattle.std.specs.Map.{keys_of}
 use Rattle.std.specs.Ordering.{eq_by_cmp}
 use Rattle.std.specs.declared.cmp.Ordering.{Ordering}
-use Rattle.std.specs.declared.cmp.Ordering.TheVariants.{Less}
 use Rattle.std.specs.Cmp.{IsTotalOrder}
-use Rattle.std.specs.FinMap.Entries.{by_order, put}
 use Rattle.model.specs.FiniteMap as finite
 use Rattle.model.proofs.Laws.{get_at}
 
@@ -35,16 +32,3 @@ module _ {K : Type 0} {R : K → K → Ordering} (total : IsTotalOrder R) (exact
         let one : finite.len (finite.insert (made es) e.0 e.1) ≡ finite.len (made es) + 1
         = finite.len-insert total (made es) e.0 e.1 ∙ ap (λ b. cond b (finite.len (made es)) (finite.len (made es) + 1)) new in
         omega arith
-
--- entries in order are those of their map
-module _ {K X : Type 0} {R : K → K → Ordering} (total : IsTotalOrder R) where
-  first : (e : K × X) (es : List (K × X)) → AllByRecursion (λ k. R e.0 k ≡ Less) (keys_of es) → put R e.0 e.1 es ≡ e ∷ es
-  first e [] h = refl
-  first e (f ∷ fs) h = ap (λ o. by_order o (e ∷ f ∷ fs) ((f.0, e.1) ∷ fs) (f ∷ put R e.0 e.1 fs)) h.0
-
-  pub entries_made : (es : List (K × X)) → IsStrictlySortedBy R (keys_of es) → finite.entries (finite.from_entries {R = R} es) ≡ es
-  entries_made [] h = finite.entries-empty R
-  entries_made (e ∷ es) h =
-      finite.entries-insert total (finite.from_entries es) e.0 e.1
-      ∙ ap (put R e.0 e.1) (entries_made es (sorted_tail R e.0 (keys_of es) h))
-      ∙ first e es (sorted_head R e.0 (keys_of es) h)

@@ -9,7 +9,6 @@ use Rattle.std.proofs.lemmas.Map.Views.{any-filter_same}
 use Rattle.std.specs.Cmp.{IsEquivalence, eq_by_cmp_equiv}
 use Rattle.std.specs.Cmp.Lexicographic.{pointwise, texts_ties}
 use Rattle.std.specs.List.{AllByRecursion, IsDistinct, filter, list_all, list_any}
-use Rattle.std.specs.List.Sorted.{IsStrictlySortedBy}
 use Rattle.std.specs.Map.{keys_of, lookup, values_of}
 use Rattle.std.specs.Option.{is_none}
 use Rattle.std.specs.Ordering.{eq_by_cmp, is_eq}
@@ -191,9 +190,9 @@ module _ (gs : List (Name × Option ℕ)) (es : List (Name × ℕ)) (gs_differ :
         by false e = refl
 
 -- the same under other names for the notes and for the names before
-module _ (gs : List (Name × Option ℕ)) (es : List (Name × ℕ)) (gs_rise : IsStrictlySortedBy name_cmp (keys_of gs)) (es_differ : IsDistinct (pointwise nat_eq) (keys_of es)) (notes : Notes) (before : FinMap name_cmp ℕ) (notes_are : from_entries gs ≡ notes) (before_is : from_entries es ≡ before) (names : FinMap name_cmp ℕ) (laid : IsLaid notes before names) where
+module _ (gs : List (Name × Option ℕ)) (es : List (Name × ℕ)) (gs_differ : IsDistinct (pointwise nat_eq) (keys_of gs)) (es_differ : IsDistinct (pointwise nat_eq) (keys_of es)) (notes : Notes) (before : FinMap name_cmp ℕ) (notes_are : from_entries gs ≡ notes) (before_is : from_entries es ≡ before) (names : FinMap name_cmp ℕ) (laid : IsLaid notes before names) where
   differ : IsDistinct same (keys_of gs)
-  differ = IsDistinct-from_sorted name_cmp (keys_of gs) gs_rise
+  differ = by_order (keys_of gs) gs_differ
 
   laid_so : IsLaid (from_entries gs) (from_entries es) names
   laid_so q = laid q ∙ (λ i. or_before (get (sym notes_are i) q) (get (sym before_is i) q))

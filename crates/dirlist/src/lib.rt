@@ -13,7 +13,7 @@ mod patch;
 use crate::order::sort_names;
 use heap::Heap;
 use ids::{Name, NameList, Num};
-pub use patch::NamePatch;
+pub use patch::{NamePatch, NoteTable};
 use std::alloc::AllocError;
 use std::collections::HashMap;
 use std::hash::{BuildHasherDefault, FoldHasher};

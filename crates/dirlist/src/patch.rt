@@ -13,15 +13,20 @@ use crate::{Dir, Numbers};
 use heap::Heap;
 use ids::{Name, NameList, Num};
 use std::alloc::AllocError;
-use std::collections::BTreeMap;
+use std::collections::HashMap;
+use std::hash::{BuildHasherDefault, FoldHasher};
 use std::marker::Model;
+
+/// What names give now, under the names, found by a hash whose seed is fixed.
+pub type NoteTable = HashMap<Name, Option<Num>, BuildHasherDefault<FoldHasher>, Heap>;
 
 /// Changes to the names of one directory: what each changed name gives now, a number, or `None`
 /// where the name went.
 ///
 /// Laid on top of a [`Dir`], they say which names there are. The directory itself is not changed.
+/// A name is found by its hash, and the names are put in order only where they are listed.
 pub struct NamePatch {
-    given: BTreeMap<Name, Option<Num>, Heap>,
+    given: NoteTable,
 }
 
 // By hand: a derived drop is opened at every place where a value goes, this one is called.
@@ -32,7 +37,9 @@ impl Drop for NamePatch {
 }
 
 impl Model for NamePatch {
-    ghost use Rattle.std.specs.BTreeMap.{IsOrdered};
+    ghost use Rattle.std.specs.Prelude.{nat_eq};
+    ghost use Rattle.std.specs.Cmp.Lexicographic.{pointwise};
+    ghost use Rattle.std.specs.HashMap.{IsUnique};
     ghost use Rattle.model.specs.FiniteMap as map;
     ghost use Rattle.model.specs.State.{name_cmp};
     ghost use Rattle.dirlist.specs.Patches.{Notes, notes_code};
@@ -43,7 +50,7 @@ impl Model for NamePatch {
 
     ghost view = { λ p. map.from_entries {R = name_cmp} p.given.entries };
 
-    ghost invariant = { λ p. IsOrdered name_cmp p.given };
+    ghost invariant = { λ p. IsUnique (pointwise nat_eq) p.given };
 }
 
 impl NamePatch {
@@ -52,7 +59,7 @@ impl NamePatch {
         ensures { result ≡ map.empty }
     {
         NamePatch {
-            given: BTreeMap::new(heap),
+            given: HashMap::new(heap),
         }
     }
 
@@ -129,9 +136,9 @@ impl NamePatch {
             && self.given.values().all(|given| given.is_none())
     }
 
-    /// The changes in the byte order of their names, with no memory.
-    pub fn into_given(self) -> BTreeMap<Name, Option<Num>, Heap>
-        ensures { result.entries ≡ map.entries self }
+    /// The changes, in whatever order their table has them. It takes no memory.
+    pub fn into_given(self) -> NoteTable
+        ensures { map.from_entries {R = name_cmp} result.entries ≡ self }
     {
         let NamePatch { given } = self;
         given
@@ -139,10 +146,7 @@ impl NamePatch {
 }
 
 // Adds copies of the names that give a number behind the others.
-fn push_given(
-    names: &mut Vec<Name, Heap>,
-    given: &BTreeMap<Name, Option<Num>, Heap>,
-) -> Result<(), AllocError>
+fn push_given(names: &mut Vec<Name, Heap>, given: &NoteTable) -> Result<(), AllocError>
     ensures { OnOk result (names.new.items ≡ names.old.items
         ++ list_map (λ e. e.0) (filter (λ e. is_some e.1) given.now.entries)) }
 {

@@ -10,13 +10,12 @@ ghost use Rattle.store.specs.Places.{is_coming, is_shown, may_be_named, listing_
 ghost use Rattle.store.specs.Places.{has_room, more_room, number_in, with_name, without_name};
 ghost use Rattle.store.specs.Shown.{descriptions, inodes, with_names};
 ghost use Rattle.store.specs.Links.{links_in};
-ghost use Rattle.store.specs.Laid.{laid, laid_listing};
+ghost use Rattle.store.specs.Laid.{in_order, laid, laid_listing};
 
 use crate::{Store, headers};
-use heap::Heap;
+use dirlist::NoteTable;
 use ids::{Name, Num};
 use std::alloc::AllocError;
-use std::collections::BTreeMap;
 
 impl Store {
     /// The number that a name gives in a directory that is shown.
@@ -111,19 +110,21 @@ impl Store {
     }
 
     /// Lays notes over a directory that is shown: what each noted name gives from now on, a number
-    /// or nothing. So many promises of room in it are given up, and the names that come take their
-    /// room from these. The objects of the numbers are shown or to come. It takes no memory.
-    pub fn lay(&mut self, dir: Num, notes: BTreeMap<Name, Option<Num>, Heap>, promised: usize)
+    /// or nothing, whatever order the table has them in. So many promises of room in it are given
+    /// up, and the names that come take their room from these. The objects of the numbers are shown
+    /// or to come. It takes no memory.
+    pub fn lay(&mut self, dir: Num, notes: NoteTable, promised: usize)
         requires shown { is_shown (map.get self.old.places dir) ≡ true }
         requires room { (listing : Listing) →
             listing_at self.old dir ≡ Some listing → promised ≤ listing.promised }
-        requires added { count_by (λ note. is_some note.1) notes.entries ≤ promised }
-        requires numbers { AllByRecursion (λ note.
-            IfSome note.1 (λ n. may_be_named (map.get self.old.places n) ≡ true)) notes.entries }
-        ensures laid { self.new ≡
-            altered (with_listing (laid_listing notes.entry.entries promised)) self.old dir }
+        requires added { count_by (λ note. is_some note.1) (in_order notes.entries) ≤ promised }
+        requires numbers { AllByRecursion
+            (λ note. IfSome note.1 (λ n. may_be_named (map.get self.old.places n) ≡ true))
+            (in_order notes.entries) }
+        ensures laid { self.new ≡ altered
+            (with_listing (laid_listing (in_order notes.entry.entries) promised)) self.old dir }
         ensures shown { inodes self.new ≡
-            with_names (laid notes.entry.entries) (inodes self.old) dir }
+            with_names (laid (in_order notes.entry.entries)) (inodes self.old) dir }
         ensures open { descriptions self.new ≡ descriptions self.old }
     {
         let mut left = promised;

@@ -1,5 +1,5 @@
 use Rattle.std.proofs.Common.{◌≡◌, ◌∙◌, ap, is_some, sym, subst}
-use Rattle.model.specs.FiniteMap.{get}
+use Rattle.model.specs.FiniteMap.{entries, get}
 use Rattle.store.specs.Laid.{laid_listing}
 use Rattle.store.specs.Places.{altered, with_listing}
 use Rattle.store.proofs.Laws.{MayBeNamed}
@@ -25,7 +25,7 @@ lay-requires-clause-room c = then_room c.args.store.now c.if-is_some.store c.arg
 
 pub lay-requires-clause-numbers : goal.lay-requires-clause-numbers
 lay-requires-clause-numbers c =
-    subst (MayBeNamed c.if-is_some.store) (sym c.into_given.ensures)
+    subst (MayBeNamed c.if-is_some.store) (sym (ap entries c.into_given.ensures))
     (then_numbers c.args.store.now c.if-is_some.store c.args.num c.args.change c.in-Names.names (ready c) (shown c))
 
 -- the notes are laid over the names that are shown then
@@ -33,9 +33,9 @@ pub returns-after-is_some-clause-here : goal.returns-after-is_some-clause-here
 returns-after-is_some-clause-here c =
     subst (λ w. IsCarriedBy c.args.change w (get c.args.store.now.places c.args.num) (get c.lay.new.self.places c.args.num)) (sym c.in-Names.is)
     (laid_here c.args.store.now c.if-is_some.store c.lay.new.self c.args.num (is_some c.args.change.made) c.in-Names.names c.args.change.promised (shown c.before)
-    (c.lay.ensures.laid ∙ ap (λ gs. altered (with_listing (laid_listing gs c.args.change.promised)) c.if-is_some.store c.args.num) c.into_given.ensures))
+    (c.lay.ensures.laid ∙ ap (λ gs. altered (with_listing (laid_listing gs c.args.change.promised)) c.if-is_some.store c.args.num) (ap entries c.into_given.ensures)))
 
 pub returns-after-is_some-clause-others : goal.returns-after-is_some-clause-others
 returns-after-is_some-clause-others c =
     laid_elsewhere c.args.store.now c.if-is_some.store c.lay.new.self c.args.num (is_some c.args.change.made) c.in-Names.names c.args.change.promised (shown c.before)
-    (c.lay.ensures.laid ∙ ap (λ gs. altered (with_listing (laid_listing gs c.args.change.promised)) c.if-is_some.store c.args.num) c.into_given.ensures)
+    (c.lay.ensures.laid ∙ ap (λ gs. altered (with_listing (laid_listing gs c.args.change.promised)) c.if-is_some.store c.args.num) (ap entries c.into_given.ensures))
