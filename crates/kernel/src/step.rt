@@ -15,8 +15,10 @@ use crate::execute::{aborted, run};
 use crate::state::{Live, State, add_entry, end_transaction};
 use commit::Standing;
 use contention::Twice;
-use ids::{Age, BeginFlags, Call, Errno, Op, Pid, Reply, Why};
+use heap::Heap;
+use ids::{Age, BeginFlags, Bytes, Call, Errno, Op, Pid, Reply, Why};
 use std::alloc::AllocError;
+use std::mem::replace;
 
 /// What the process is.
 fn standing_of(s: &State, pid: Pid) -> Standing
@@ -109,24 +111,33 @@ fn notice(s: &mut State, pid: Pid, flags: BeginFlags, age: Age, op: Op) -> Reply
     end_transaction(s, pid, op, told, restarted, (flags, age))
 }
 
-/// The same call, with content that its edit and its entry can share. Where memory for that is
-/// refused, it stays as it is, and the edit asks for a copy.
-fn shared(call: Call) -> Call
-    ensures { result ≡ call }
+/// Has content stand where copies of it take no memory. Where memory for that is refused, it stays
+/// as it is.
+fn share(heap: Heap, content: &mut Bytes)
+    ensures { content.new ≡ content.old }
+{
+    let all = replace(content, Bytes::new(Vec::new(heap)));
+    *content = all.shared();
+}
+
+/// Has what a call writes shared, so that its edit is no copy.
+fn share_content(heap: Heap, call: &mut Call)
+    ensures { call.new ≡ call.old }
 {
     match call {
-        Call::Write(fd, bytes) => Call::Write(fd, bytes.shared()),
-        Call::Pwrite(fd, bytes, offset) => Call::Pwrite(fd, bytes.shared(), offset),
-        other => other,
+        Call::Write(_, content) => share(heap, content),
+        Call::Pwrite(_, content, _) => share(heap, content),
+        _ => {}
     }
 }
 
 /// A call of a process in no transaction or in a live one.
-fn step_call(s: &mut State, pid: Pid, within: Option<Live>, call: Call) -> Reply
+fn step_call(s: &mut State, pid: Pid, within: Option<Live>, mut call: Call) -> Reply
     requires { Calls (fields s.old) pid within call }
     ensures { Does (fields s.old) (fields s.new) pid (entries.Do call) result }
 {
-    match run(s, pid, within, shared(call)) {
+    share_content(s.heap, &mut call);
+    match run(s, pid, within, call) {
         Ok(reply) => reply,
         Err(AllocError) => Reply::NoMemory,
     }
