@@ -86,3 +86,19 @@ fn refused_names_change_nothing(rt: HostRuntime) {
     drop(dir);
     assert_eq!(rt; refused, [true; 2]);
 }
+
+#[test]
+fn what_is_noted_takes_no_more_memory(rt: HostRuntime) {
+    let heap = heap::open(rt.alloc()).expect(&rt, "memory");
+    let mut patch = changes(&rt, heap);
+    let again = name(&rt, heap, b"c");
+    let back = name(&rt, heap, b"e");
+    heap.refuse(0);
+    let noted = patch.note(again, None).is_ok();
+    patch.put_back(&back, None);
+    let given = patch.into_given();
+    let told = [heap.made(), given.len() as u64];
+    drop(given);
+    assert!(rt; noted);
+    assert_eq!(rt; told, [0, 4]);
+}
