@@ -58,7 +58,7 @@ static FILES: [Refused; 16] = [
 3 P1 end -> committed
 4 P2 stat /a -> dir size 0 links 1
 ",
-        requests: 16,
+        requests: 19,
     },
     // A call in a directory that the same transaction has made.
     Refused {
@@ -88,7 +88,7 @@ static FILES: [Refused; 16] = [
 4 P1 end -> committed
 5 P2 list /a -> names 1 b
 ",
-        requests: 7,
+        requests: 10,
     },
     // A directory is removed by a plain call.
     Refused {
@@ -146,7 +146,7 @@ static FILES: [Refused; 16] = [
 5 P1 end -> committed
 6 P2 list / -> names 0
 ",
-        requests: 13,
+        requests: 16,
     },
     // Two names are listed.
     Refused {
@@ -228,7 +228,7 @@ static FILES: [Refused; 16] = [
 3 P1 end -> committed
 4 P1 fstat 0 -> file size 0 links 1
 ",
-        requests: 18,
+        requests: 21,
     },
     // A plain call writes into a file.
     Refused {
@@ -256,7 +256,7 @@ static FILES: [Refused; 16] = [
 3 P1 lseek 0 0 SET -> 0
 4 P1 read 0 5 -> 2 hi
 ",
-        requests: 5,
+        requests: 4,
     },
     // So does a transaction.
     Refused {

@@ -66,7 +66,7 @@ static NAMES: [Refused; 8] = [
 6 P1 end -> committed
 7 P2 stat /d/b -> file size 0 links 2
 ",
-        requests: 18,
+        requests: 21,
     },
     // A plain call takes a file's last name.
     Refused {
@@ -126,7 +126,7 @@ static NAMES: [Refused; 8] = [
 5 P1 abort -> given up
 6 P1 fstat 0 -> file size 0 links 1
 ",
-        requests: 13,
+        requests: 16,
     },
     // A plain call moves a name over another, in another directory.
     Refused {
@@ -202,7 +202,7 @@ static NAMES: [Refused; 8] = [
 9 P1 end -> committed
 10 P2 list /d -> names 1 b
 ",
-        requests: 16,
+        requests: 22,
     },
     // A transaction moves a name that it has given itself.
     Refused {
@@ -238,7 +238,7 @@ static NAMES: [Refused; 8] = [
 7 P2 list / -> names 1 d
 8 P2 stat /d/b -> file size 0 links 1
 ",
-        requests: 9,
+        requests: 12,
     },
     // A transaction moves a directory over another, which it has emptied.
     Refused {
@@ -280,7 +280,7 @@ static NAMES: [Refused; 8] = [
 10 P2 list /d -> names 1 e
 11 P2 list /d/e -> names 0
 ",
-        requests: 6,
+        requests: 12,
     },
 ];
 

@@ -98,7 +98,7 @@ static PLACES: [Refused; 7] = [
 4 P1 pread 0 9 0 -> 7 hi\\x00\\x00xyz
 5 P1 lseek 0 0 CUR -> 2
 ",
-        requests: 3,
+        requests: 2,
     },
     // A plain write inside a file that dooms a reader.
     Refused {

@@ -90,7 +90,7 @@ static PIPES: [Refused; 9] = [
 3 P1 write 1 cd -> 2
 4 P1 read 0 9 -> 4 abcd
 ",
-        requests: 2,
+        requests: 1,
     },
     // And by a transaction.
     Refused {
