@@ -5,5 +5,5 @@ use Rattle.replay.proofs.plain.PlainKernel.append.Goals as goal
 
 pub returns : goal.returns
 returns c = if_ok c.set_inode.result c.set_inode.ensures (λ h. inode_replaced _ _ _ _ _ _ c.in_ok-inode.ensures.left h
-    (c.pipe.ensures ∙ ap Pipe (c.new.ensures ∙ c.in_ok-extend_from_slice.ensures.items
-    ∙ ap (λ old. old ++ c.args.bytes.now) (c.into_vec-all.ensures ∙ c.pipe_out.ensures ∙ ap pipe_of_inode c.in_ok-inode.ensures.taken))))
+    (c.pipe.ensures ∙ ap Pipe (c.in_ok-all.ensures
+    ∙ ap (λ old. old ++ c.args.bytes.now) (c.pipe_out.ensures ∙ ap pipe_of_inode c.in_ok-inode.ensures.taken))))
