@@ -131,7 +131,7 @@ def wanted(row):
 
 
 def print_calls(best):
-    print("Calls: nanoseconds and requests for memory a line (the bytes of a call's path are one of them)\n")
+    print("Calls: nanoseconds and requests for memory a line (those that the making of the call asks are among them)\n")
     rows = []
     notes = []
     for row in CALLS:
