@@ -42,9 +42,10 @@ make_room_in_memory() {
     if [ -d /dev/shm ] && [ -w /dev/shm ]; then make_room /dev/shm; else make_room; fi
 }
 
-# Has the C library of programs that are started ask for huge pages, where nothing else is set: what a large file or directory
-# holds is then found in fewer steps, since each page has a translation of its own.
-ask_huge_pages() { export GLIBC_TUNABLES="${GLIBC_TUNABLES-glibc.malloc.hugetlb=1}"; }
+# Sets how the C library of programs that are started gives out memory, where nothing else is set. Huge pages: what a large file
+# or directory holds is then found in fewer steps, since each page has a translation of its own. And of each small size a thread
+# keeps up to 128 blocks that were freed, where the library by itself keeps 7: a transaction asks for many and frees them together.
+tune_memory() { export GLIBC_TUNABLES="${GLIBC_TUNABLES-glibc.malloc.hugetlb=1:glibc.malloc.tcache_count=128}"; }
 
 # Says on what machine a script has measured.
 say_machine() {
