@@ -14,5 +14,5 @@ mod reply;
 mod spelling;
 mod text;
 
-pub use line::{print, print_line, put_line};
+pub use line::{print, print_line, print_why, put_line};
 pub use printer::Printer;

@@ -4,12 +4,13 @@ ghost use Rattle.std.specs.Io.KnownBytes.{append_known};
 ghost use Rattle.device.specs.Device.{CanCount, IsPart};
 ghost use Rattle.transcript.specs.Line.{dooms_text, line_of, lines_from, more_text};
 ghost use Rattle.transcript.specs.Printer.{CanPrint, Prints};
+ghost use Rattle.transcript.specs.Reply.{why_text};
 
 use crate::operation::put_op;
 use crate::printer::Printer;
-use crate::reply::put_reply;
+use crate::reply::{put_reply, put_why};
 use device::{DeviceFailed, Sink};
-use ids::{Entry, Pid};
+use ids::{Entry, Pid, Why};
 use std::slice;
 
 fn put_pids<S: Sink>(out: &mut Printer<'_, S>, pids: &[Pid])
@@ -87,5 +88,21 @@ pub fn print<S: Sink>(first: usize, entries: &[Entry], sink: &mut S) -> Result<(
 {
     let mut out = Printer::new(sink);
     put_lines(&mut out, first, entries);
+    out.finish()
+}
+
+/// Prints why a transaction was aborted, as it stands in the line of the entry by which it was told.
+///
+/// Where the sink fails a beginning of it is written.
+pub fn print_why<S: Sink>(why: &Why, sink: &mut S) -> Result<(), DeviceFailed>
+    requires { CanCount (S.failures sink.old) }
+    ensures ok { OnOk result (S.written sink.new
+        ≡ append_known (S.written sink.old) (why_text why.now)) }
+    ensures no_failure { OnOk result (S.failures sink.new ≡ S.failures sink.old) }
+    ensures part { IsPart (S.written sink.old) (S.written sink.new) (why_text why.now) }
+    ensures failure { OnErr result (S.failures sink.old < S.failures sink.new) }
+{
+    let mut out = Printer::new(sink);
+    put_why(&mut out, why);
     out.finish()
 }

@@ -51,7 +51,7 @@ fn put_cause<S: Sink>(out: &mut Printer<'_, S>, cause: &Cause)
     out.put_number(b" by P", cause.other.0);
 }
 
-fn put_why<S: Sink>(out: &mut Printer<'_, S>, why: &Why)
+pub(crate) fn put_why<S: Sink>(out: &mut Printer<'_, S>, why: &Why)
     requires { CanPrint S.failures out.old }
     ensures { Prints S.written S.failures out.old out.new (why_text why.now) }
 {
