@@ -1,7 +1,8 @@
-mod Stepping
-mod First
 mod Answering
-mod Telling
-mod Ending
-mod Ordering
 mod Beginning
+mod Ending
+mod First
+mod Ordering
+mod Replying
+mod Stepping
+mod Telling

@@ -1,5 +1,6 @@
 // A request is served.
-ghost use Rattle.std.specs.Prelude.{◌≡◌, false, true};
+ghost use Rattle.std.specs.Prelude.{◌≡◌, false, is_some, true};
+ghost use Rattle.fuse.specs.Operations.{is_answered};
 ghost use Rattle.machine.specs.Shown.{Kept, limit_of, setup_of};
 ghost use Rattle.history_laws.specs.Headline.{IsSerializable};
 ghost use Rattle.course.specs.Hands.{IsSince, bound};
@@ -66,7 +67,7 @@ fn reply_of(outcome: Result<Reply, Fault>) -> Reply
 }
 
 impl<K: Machine> Server<K> {
-    /// What is answered to a request; None where no answer is due. The kernel's history stays legal,
+    /// What is answered to a request, where the protocol wants an answer, and else None. The kernel's history stays legal,
     /// and strictly serializable. For a request about a node below a view only the process of its
     /// transaction steps, while that goes on, and nothing is done where it does not. A request about a
     /// node becomes the course of its operation, and the reply tells what that came to; after an abort
@@ -82,6 +83,7 @@ impl<K: Machine> Server<K> {
         ensures told { is_of_node request.operation ≡ true
             → IsServed self.old.tables self.new.tables request.node request.operation
             self.old.hand.shown self.new.hand.shown result }
+        ensures answered { is_some result ≡ is_answered request.operation }
         ensures keeps { KeepsViews self.old.tables.views.each self.new.tables.views.each }
     {
         let Request {
@@ -112,6 +114,7 @@ impl<K: Machine> Server<K> {
         ensures told { is_of_node operation ≡ true
             → IsToldOf self.old.tables self.new.tables caller.node operation
             self.old.hand.shown self.new.hand.shown result }
+        ensures answered { is_some result ≡ is_answered operation }
         ensures keeps { KeepsViews self.old.tables.views.each self.new.tables.views.each }
     {
         match operation {
