@@ -106,7 +106,7 @@ fn put_attr(out: &mut Vec<u8, Heap>, attr: &Attr) -> Result<(), AllocError>
 }
 
 #[tactic(auto, unfolding(crate::specs::Replies::entry_bytes))]
-pub(crate) fn put_entry(out: &mut Vec<u8, Heap>, entry: &Entry) -> Result<(), AllocError>
+fn put_entry(out: &mut Vec<u8, Heap>, entry: &Entry) -> Result<(), AllocError>
     ensures { OnOk result (out.new.items ≡ out.old.items ++ entry_bytes entry.now) }
 {
     put_u64s(out, &[entry.node, entry.generation, 0, 0])?;

@@ -6,11 +6,9 @@ use Rattle.std.proofs.lemmas.Option.{get_or_from_slice_get, slice_get_within}
 use Rattle.fuse.specs.Listed.{Listed}
 use Rattle.fuse.specs.Listings.{added, directory_entry_bytes, fits, kind_number, padded}
 use Rattle.fuse.specs.Numbers.{u32s, u64s}
-use Rattle.fuse.specs.Replies.{entry_bytes, plus_entry_bytes}
 use Rattle.fuse.specs.declared.listing.DirectoryEntry.{DirectoryEntry}
 use Rattle.fuse.specs.declared.listing.Kind.{Kind}
 use Rattle.fuse.specs.declared.listing.Kind.TheVariants as kind
-use Rattle.fuse.specs.declared.reply.Entry.{Entry}
 use Rattle.fuse.specs.declared.errno.Errno.TheVariants.{ENOMEM}
 use Rattle.fuse.specs.declared.reply.Reply.{Reply}
 use Rattle.machine.specs.Shown.{Shown}
@@ -22,7 +20,7 @@ use Rattle.course.proofs.Runs.{done, goes_on, stops}
 use Rattle.mounted.specs.Answers.{Answers}
 use Rattle.mounted.specs.Found.{is_reserved, names_in, shown_names}
 use Rattle.mounted.specs.Requests.{RefreshesBy, listing_anew}
-use Rattle.mounted.specs.Told.{added_entry, listed, plain_entry, told_by}
+use Rattle.mounted.specs.Told.{added_entry, listed, plain_entry}
 use Rattle.mounted.specs.declared.tables.Tables.{Tables}
 use Rattle.mounted.proofs.Answering.{failed, gave, refused}
 
@@ -32,10 +30,10 @@ pub drop_at : {A : Type 0} (xs : List A) (i : ℕ) (x : A) → slice_get xs i �
 drop_at xs i x h = drop_more xs i x (slice_get_within xs i x h) ∙ ap (λ z. z ∷ drop (i + 1) xs) (get_or_from_slice_get xs i x x h)
 
 -- what was told so far, and what comes behind it
-pub one_more : (told : ℕ → List ℕ → List ℕ) (names : List (List ℕ)) (index : ℕ) (name so_far all : List ℕ) → slice_get names index ≡ Some name → so_far ++ listed told index (drop index names) ≡ all → (so_far ++ told index name) ++ listed told (index + 1) (drop (index + 1) names) ≡ all
-one_more told names index name so_far all at h =
-    append_assoc so_far (told index name) (listed told (index + 1) (drop (index + 1) names))
-    ∙ ap (λ (bytes : List ℕ). so_far ++ bytes) (sym (ap (listed told index) (drop_at names index name at)))
+pub one_more : (names : List (List ℕ)) (index : ℕ) (name so_far all : List ℕ) → slice_get names index ≡ Some name → so_far ++ listed index (drop index names) ≡ all → (so_far ++ plain_entry index name) ++ listed (index + 1) (drop (index + 1) names) ≡ all
+one_more names index name so_far all at h =
+    append_assoc so_far (plain_entry index name) (listed (index + 1) (drop (index + 1) names))
+    ∙ ap (λ (bytes : List ℕ). so_far ++ bytes) (sym (ap (listed index) (drop_at names index name at)))
     ∙ h
 
 -- a list with an entry more, where that fits
@@ -51,17 +49,13 @@ entry_is entry index name a b c d =
     ∙ ap (λ (k : Kind). u64s ((2 ^ 32 - 1) ∷ (index + 1) ∷ []) ++ u32s (length entry.name.now ∷ kind_number k ∷ []) ++ padded entry.name.now) c
     ∙ ap (λ (n : List ℕ). u64s ((2 ^ 32 - 1) ∷ (index + 1) ∷ []) ++ u32s (length n ∷ 0 ∷ []) ++ padded n) d
 
-pub full_is : (child : Entry) (entry : DirectoryEntry) (told : List ℕ) → directory_entry_bytes entry ≡ told → plus_entry_bytes child entry ≡ entry_bytes child ++ told
-unfolding plus_entry_bytes
-full_is child entry told is = ap (λ (n : List ℕ). entry_bytes child ++ n) is
-
 -- what was told is in the list, where it fits
 pub added_if : {E : Type 0} (r : Result Bool E) (old new : Listed) (bytes told : List ℕ) → bytes ≡ told → IfOk r (λ f. f ≡ fits old bytes) → OnOk r (new ≡ added old bytes) → IfOk r (λ f. new ≡ (if f then record old { bytes = old.bytes ++ told } else old))
 added_if (Ok f) old new bytes told same is h = h ∙ added_as old bytes told f same is
 added_if (Err e) old new bytes told same is h = tt
 
-pub added_yes : (old new : Listed) (child : Option Entry) (index : ℕ) (name : List ℕ) (fit : Bool) → new ≡ added_entry old child index name fit → fit ≡ true → new.bytes ≡ old.bytes ++ told_by child index name
-added_yes old new child index name fit is fitted = ap (λ (l : Listed). l.bytes) (is ∙ ap (λ (b : Bool). if b then record old { bytes = old.bytes ++ told_by child index name } else old) fitted)
+pub added_yes : (old new : Listed) (index : ℕ) (name : List ℕ) (fit : Bool) → new ≡ added_entry old index name fit → fit ≡ true → new.bytes ≡ old.bytes ++ plain_entry index name
+added_yes old new index name fit is fitted = ap (λ (l : Listed). l.bytes) (is ∙ ap (λ (b : Bool). if b then record old { bytes = old.bytes ++ plain_entry index name } else old) fitted)
 
 -- ---- names that are taken anew
 

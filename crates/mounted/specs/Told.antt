@@ -21,7 +21,6 @@ use Rattle.course.specs.declared.files.Made.{Made}
 use Rattle.fuse.specs.Listed.{Listed}
 use Rattle.fuse.specs.Listings.{padded}
 use Rattle.fuse.specs.Numbers.{u32s, u64s}
-use Rattle.fuse.specs.Replies.{entry_bytes}
 use Rattle.mounted.specs.Found.{IsAt, file_at, folder_at, handle_of, told_of}
 use Rattle.mounted.specs.declared.tables.Tables.{Tables}
 
@@ -99,47 +98,34 @@ ShowsFolder t node names _ = ⊥
 
 -- ---- lists of directories
 
--- names of a directory from this index on, as they are told
-abbrev pub listed : (ℕ → List ℕ → List ℕ) → ℕ → List (List ℕ) → List ℕ
-listed told index [] = []
-listed told index (name ∷ names) = told index name ++ listed told (index + 1) names
-
 -- an entry: the number and the kind of the object are not told
 abbrev pub plain_entry : ℕ → List ℕ → List ℕ
 plain_entry index name =
     u64s ((2 ^ 32 - 1) ∷ (index + 1) ∷ []) ++ u32s (length name ∷ 0 ∷ []) ++ padded name
 
--- with what a name gives, of which nothing is looked up: its node is 0
-abbrev pub full_entry : Entry → ℕ → List ℕ → List ℕ
-full_entry child index name = entry_bytes child ++ plain_entry index name
+-- names of a directory, of which the first has this index, as they are told
+abbrev pub listed : ℕ → List (List ℕ) → List ℕ
+listed index [] = []
+listed index (name ∷ names) = plain_entry index name ++ listed (index + 1) names
 
 -- the two names that each directory has come first
 abbrev pub with_dots : List (List ℕ) → List (List ℕ)
 with_dots names = codes "." ∷ codes ".." ∷ names
 
--- an entry as it is told, with what its name gives, where that is wanted
-abbrev pub told_by : Option Entry → ℕ → List ℕ → List ℕ
-told_by (Some child) = full_entry child
-told_by None = plain_entry
-
 -- a list with an entry more, where that fits
-abbrev pub added_entry : Listed → Option Entry → ℕ → List ℕ → Bool → Listed
-added_entry list child index name fits =
-    if fits then record list { bytes = list.bytes ++ told_by child index name } else list
+abbrev pub added_entry : Listed → ℕ → List ℕ → Bool → Listed
+added_entry list index name fits =
+    if fits then record list { bytes = list.bytes ++ plain_entry index name } else list
 
 -- A list is a beginning of the whole one from an offset on, which goes on at another.
-abbrev pub IsList : Option Entry → ℕ → List (List ℕ) → Listed → Type 0
-IsList child offset names list = (next : ℕ)
-    × (list.bytes ++ listed (told_by child) next (drop next (with_dots names))
-    ≡ listed (told_by child) offset (drop offset (with_dots names)))
+abbrev pub IsList : ℕ → List (List ℕ) → Listed → Type 0
+IsList offset names list = (next : ℕ)
+    × (list.bytes ++ listed next (drop next (with_dots names))
+    ≡ listed offset (drop offset (with_dots names)))
 
-abbrev pub Lists : Option Entry → ℕ → List (List ℕ) → Reply → Type 0
-Lists child offset names (reply.Directory list) = IsList child offset names list
-Lists child offset names _ = ⊥
-
-abbrev pub ListsFully : ℕ → List (List ℕ) → Reply → Type 0
-ListsFully offset names r =
-    (child : Entry) × (child.node ≡ 0) × Lists (Some child) offset names r
+abbrev pub Lists : ℕ → List (List ℕ) → Reply → Type 0
+Lists offset names (reply.Directory list) = IsList offset names list
+Lists offset names _ = ⊥
 
 -- The offset that is looked for in a file of this length, which has no holes.
 abbrev pub within : ℕ → ℕ → ℕ → Result ℕ Fault

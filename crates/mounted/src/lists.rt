@@ -2,7 +2,7 @@
 ghost use Rattle.std.specs.Prelude.{◌≡◌, ◌<◌, ◌-◌, ◌^◌, slice_get, option_map, IfOk};
 ghost use Rattle.mounted.specs.Told.{IsList, added_entry, with_dots};
 
-use fuse::{DirectoryEntry, Entry, Kind, Listing};
+use fuse::{DirectoryEntry, Kind, Listing};
 use heap::Heap;
 use ids::Name;
 use std::alloc::AllocError;
@@ -30,16 +30,10 @@ fn name_at(names: &[Name], index: usize) -> Option<&[u8]>
     }
 }
 
-// Adds an entry to a list, with what its name gives, where that is wanted. False where it does not
-// fit, or has a longer name than there is.
-fn add_entry(
-    list: &mut Listing,
-    child: Option<Entry>,
-    index: u64,
-    name: &[u8],
-) -> Result<bool, AllocError>
+// Adds an entry to a list. False where it does not fit, or has a longer name than there is.
+fn add_entry(list: &mut Listing, index: u64, name: &[u8]) -> Result<bool, AllocError>
     requires { index < 2 ^ 64 - 1 }
-    ensures { IfOk result (λ fits. list.new ≡ added_entry list.old child index name.now fits) }
+    ensures { IfOk result (λ fits. list.new ≡ added_entry list.old index name.now fits) }
 {
     if name.len() > NAME_LIMIT {
         return Ok(false);
@@ -50,28 +44,24 @@ fn add_entry(
         kind: Kind::Unknown,
         name,
     };
-    match child {
-        Some(child) => list.add_plus(&child, &entry),
-        None => list.add(&entry),
-    }
+    list.add(&entry)
 }
 
 // The names of a directory from this one on, as many as fit.
 pub(crate) fn list_from(
     heap: Heap,
     names: &[Name],
-    child: Option<Entry>,
     offset: u64,
     size: u32,
 ) -> Result<Listing, AllocError>
-    ensures { IfOk result (λ list. IsList child offset names.now list) }
+    ensures { IfOk result (λ list. IsList offset names.now list) }
 {
     let mut list = Listing::new(heap, size.min(MOST_LISTED));
     for index in offset..u64::MAX {
         let Some(name) = name_at(names, index as usize) else {
             break;
         };
-        if !add_entry(&mut list, child, index, name)? {
+        if !add_entry(&mut list, index, name)? {
             break;
         }
     }
