@@ -301,10 +301,10 @@ abbrev pub Refreshes : Tables → Tables → ℕ → ℕ → ℕ → Option (Lis
 Refreshes t later pid handle node path old new r =
     RefreshesBy later handle old (listing_anew pid (names_in t handle) node path) new r
 
-abbrev pub AnswersReadDir : Tables → ℕ → ℕ → ℕ → Shown → Shown → Result Reply Fault → Type 0
-AnswersReadDir t pid handle offset old new result =
+abbrev pub AnswersReadDir : Tables → ℕ → ℕ → ℕ → ℕ → Shown → Shown → Result Reply Fault → Type 0
+AnswersReadDir t pid handle offset size old new result =
     Answers old new (lists t handle offset)
-    (λ l. listing_anew pid (names_in t handle) l.0 l.1) (λ l. Lists offset) result
+    (λ l. listing_anew pid (names_in t handle) l.0 l.1) (λ l. Lists offset size) result
 
 -- ---- all of them
 
@@ -350,6 +350,6 @@ IsAnswered t later pid node (asked.GetAttr h) old new r = AnswersGetAttr t pid n
 IsAnswered t later pid node (asked.SetAttr c) old new r = AnswersSetAttr t pid node c old new r
 IsAnswered t later pid node asked.OpenDir old new r = AnswersOpenDir t later pid node old new r
 IsAnswered t later pid node (asked.ReadDir handle offset size) old new r =
-    AnswersReadDir t pid handle offset old new r
+    AnswersReadDir t pid handle offset size old new r
 IsAnswered t later pid node (asked.Access mask) old new r = Tells (Ok reply.Empty) old new r
 IsAnswered t later pid node operation old new r = IsOfNames t later pid node operation old new r

@@ -1,6 +1,6 @@
 -- What replies show of the kernel's answers.
-use Rattle.std.specs.Prelude.{◌≡◌, ℕ, ◌+◌, ◌-◌, ◌/◌, ◌^◌, ◌++◌, ◌∷◌, [], min, nat_lt, drop, codes}
-use Rattle.std.specs.Prelude.{List, length, Bool, Option, Some, None, option_map}
+use Rattle.std.specs.Prelude.{◌≡◌, ℕ, ◌+◌, ◌-◌, ◌/◌, ◌^◌, ◌++◌, ◌∷◌, [], min, nat_le, nat_lt, drop, codes}
+use Rattle.std.specs.Prelude.{List, length, Option, Some, None, option_map}
 use Rattle.std.specs.Prelude.{Result, Ok, Err, if◌then◌else◌}
 use Rattle.ids.specs.declared.reply.Kind.{Kind}
 use Rattle.ids.specs.declared.reply.Kind.TheVariants.{File, Dir, Pipe}
@@ -103,29 +103,36 @@ abbrev pub plain_entry : ℕ → List ℕ → List ℕ
 plain_entry index name =
     u64s ((2 ^ 32 - 1) ∷ (index + 1) ∷ []) ++ u32s (length name ∷ 0 ∷ []) ++ padded name
 
+-- how many bytes that are
+abbrev pub entry_size : List ℕ → ℕ
+entry_size name = 24 + length (padded name)
+
 -- names of a directory, of which the first has this index, as they are told
 abbrev pub listed : ℕ → List (List ℕ) → List ℕ
 listed index [] = []
 listed index (name ∷ names) = plain_entry index name ++ listed (index + 1) names
 
+-- the first of these names, as many as fit into so many bytes
+abbrev pub fitting : ℕ → List (List ℕ) → List (List ℕ)
+fitting room [] = []
+fitting room (name ∷ names) =
+    if nat_le (entry_size name) room then name ∷ fitting (room - entry_size name) names else []
+
 -- the two names that each directory has come first
 abbrev pub with_dots : List (List ℕ) → List (List ℕ)
 with_dots names = codes "." ∷ codes ".." ∷ names
 
--- a list with an entry more, where that fits
-abbrev pub added_entry : Listed → ℕ → List ℕ → Bool → Listed
-added_entry list index name fits =
-    if fits then record list { bytes = list.bytes ++ plain_entry index name } else list
+-- The names that a list of this size gives from an offset on: as many as fit. No list has more than
+-- 1 MiB.
+abbrev pub given : ℕ → ℕ → List (List ℕ) → List (List ℕ)
+given offset size names = fitting (min size 1_048_576) (drop offset (with_dots names))
 
--- A list is a beginning of the whole one from an offset on, which goes on at another.
-abbrev pub IsList : ℕ → List (List ℕ) → Listed → Type 0
-IsList offset names list = (next : ℕ)
-    × (list.bytes ++ listed next (drop next (with_dots names))
-    ≡ listed offset (drop offset (with_dots names)))
+abbrev pub IsList : ℕ → ℕ → List (List ℕ) → Listed → Type 0
+IsList offset size names list = list.bytes ≡ listed offset (given offset size names)
 
-abbrev pub Lists : ℕ → List (List ℕ) → Reply → Type 0
-Lists offset names (reply.Directory list) = IsList offset names list
-Lists offset names _ = ⊥
+abbrev pub Lists : ℕ → ℕ → List (List ℕ) → Reply → Type 0
+Lists offset size names (reply.Directory list) = IsList offset size names list
+Lists offset size names _ = ⊥
 
 -- The offset that is looked for in a file of this length, which has no holes.
 abbrev pub within : ℕ → ℕ → ℕ → Result ℕ Fault

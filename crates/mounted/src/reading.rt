@@ -96,7 +96,7 @@ impl Tables {
 
     // Lists the names that are kept of an open directory.
     pub(crate) fn list(&self, wanted: Wanted) -> Result<Listing, Fault>
-        ensures ok { IfOk result (λ listing. IsList wanted.offset
+        ensures ok { IfOk result (λ listing. IsList wanted.offset wanted.size
             (names_in self.now wanted.handle) listing) }
         ensures err { IfErr result (λ e. e ≡ error ENOMEM) }
     {
@@ -113,7 +113,7 @@ impl Tables {
     ) -> Result<Reply, Fault>
         ensures bound { bound hand.new ≡ bound hand.old }
         ensures answers { AnswersReadDir self.old hand.old.pid wanted.handle wanted.offset
-            hand.old.shown hand.new.shown result }
+            wanted.size hand.old.shown hand.new.shown result }
         ensures read { IfOk result (λ _. WasRead (folder_at self.new wanted.handle)) }
         ensures views { self.new.views ≡ self.old.views }
     {
