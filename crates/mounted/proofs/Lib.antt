@@ -3,6 +3,7 @@ mod Beginning
 mod Ending
 mod First
 mod Ordering
+mod Reaching
 mod Replying
 mod Stepping
 mod Telling
