@@ -25,6 +25,9 @@ const REQUEST_LIMIT: usize = 1_048_576 + 4_096;
 // The most bytes of a reply behind its header.
 const REPLY_LIMIT: usize = 1_048_576;
 
+// The most bytes of a reply's header, and of one that has no bytes of files or lists behind it.
+const HEADER_LIMIT: usize = 4_096;
+
 // How many entries the history has places for, where no number is given.
 const ENTRIES: usize = 65_536;
 
@@ -81,23 +84,23 @@ fn is_short(reply: &Reply) -> bool
     }
 }
 
-// The bytes of a reply. One whose length cannot be told is an error.
-fn message(heap: Heap, unique: u64, reply: &Reply) -> Result<Vec<u8, Heap>, AllocError> {
-    let mut out = Vec::new(heap);
+// Puts the bytes of a reply into the buffer, which has room for the longest. One whose length cannot
+// be told is an error.
+fn message(buffer: &mut Vec<u8, Heap>, unique: u64, reply: &Reply) -> Result<(), AllocError> {
+    buffer.clear();
     if is_short(reply) {
-        put_reply(&mut out, unique, reply)?;
+        put_reply(buffer, unique, reply)
     } else {
-        put_reply(&mut out, unique, &Reply::Error(Errno::EIO))?;
+        put_reply(buffer, unique, &Reply::Error(Errno::EIO))
     }
-    Ok(out)
 }
 
 // Writes a reply, all of it at once. What the kernel does not take is an answer to a request that was
 // interrupted, so nothing is done about it.
-fn send<W: Write>(heap: Heap, unique: u64, reply: &Reply, out: &mut W) -> Result<(), AllocError> {
-    let bytes = message(heap, unique, reply)?;
-    let _written = out.write(bytes.as_slice());
-    Ok(())
+fn send<W: Write>(buffer: &mut Vec<u8, Heap>, unique: u64, reply: &Reply, out: &mut W) {
+    if message(buffer, unique, reply).is_ok() {
+        let _written = out.write(buffer.as_slice());
+    }
 }
 
 // Serves the request that the bytes are.
@@ -105,29 +108,24 @@ fn answer<K: Machine, W: Write>(
     heap: Heap,
     server: &mut Server<K>,
     bytes: &[u8],
+    replies: &mut Vec<u8, Heap>,
     out: &mut W,
-) -> Result<(), AllocError> {
+) {
     match parse(heap, bytes) {
         Ok(request) => {
             let unique = request.unique;
-            match server.serve(request) {
-                Some(reply) => send(heap, unique, &reply, out),
-                None => Ok(()),
+            if let Some(reply) = server.serve(request) {
+                send(replies, unique, &reply, out);
             }
         }
-        Err(fault) => refuse(heap, fault.answer(), out),
+        Err(fault) => refuse(fault.answer(), replies, out),
     }
 }
 
 // Answers bytes that are no request, where somebody is to be answered.
-fn refuse<W: Write>(
-    heap: Heap,
-    answer: Option<(u64, Errno)>,
-    out: &mut W,
-) -> Result<(), AllocError> {
-    match answer {
-        Some((unique, errno)) => send(heap, unique, &Reply::Error(errno), out),
-        None => Ok(()),
+fn refuse<W: Write>(answer: Option<(u64, Errno)>, replies: &mut Vec<u8, Heap>, out: &mut W) {
+    if let Some((unique, errno)) = answer {
+        send(replies, unique, &Reply::Error(errno), out);
     }
 }
 
@@ -153,6 +151,10 @@ fn serve_all<K: Machine, R: Read, W: Write>(
     if buffer.resize(REQUEST_LIMIT, 0u8).is_err() {
         return Ending::NoMemory;
     }
+    // All replies go by one buffer with room for the longest, so that none is refused memory.
+    let Ok(mut replies) = Vec::with_capacity(heap, REPLY_LIMIT + HEADER_LIMIT) else {
+        return Ending::NoMemory;
+    };
     for _ in 0..u64::MAX {
         match input.read(buffer.as_mut_slice()) {
             Ok(0) => return Ending::Unmounted,
@@ -160,8 +162,7 @@ fn serve_all<K: Machine, R: Read, W: Write>(
                 let Some(bytes) = buffer.as_slice().get(..count) else {
                     return Ending::Read;
                 };
-                // Without memory for a reply its request is not answered, and the next may be.
-                let _answered = answer(heap, server, bytes, out);
+                answer(heap, server, bytes, &mut replies, out);
             }
             Err(error) => {
                 if let Some(ending) = ending_of(&error) {
