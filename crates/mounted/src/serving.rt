@@ -23,7 +23,8 @@ use fuse::{Errno, Forgets, Operation, Reply, Request};
 use heap::Heap;
 use ids::Entry;
 use machine::Machine;
-use transcript::print_line;
+use std::alloc::AllocError;
+use transcript::print_why;
 
 // About which node a request is, and who asks.
 #[derive(Clone, Copy, Debug)]
@@ -32,27 +33,27 @@ pub(crate) struct Caller {
     pub(crate) owner: Owner,
 }
 
-// The most bytes of a cause that are kept.
+// The most bytes of a cause.
 const CAUSE_LIMIT: usize = 4_096;
 
-// What stands behind the arrow of a transcript's line.
-fn behind_arrow(line: &[u8]) -> &[u8] {
-    let arrow = line.windows(4).position(|four| four == b" -> ".as_slice());
-    match arrow {
-        Some(index) => line.get(index.saturating_add(4)..).unwrap_or(line),
-        None => line,
-    }
-}
-
-// The line of a transcript for an entry, or a beginning of it.
-fn line_of(heap: Heap, entry: &Entry) -> Halting {
+// How an abort is told: by its cause alone. What else stands in the entry may be any bytes.
+fn text_of_abort(heap: Heap, entry: &Entry) -> Result<Vec<u8, Heap>, AllocError> {
     let mut sink = Halting {
-        bytes: Vec::new(heap),
+        bytes: Vec::from_slice(heap, b"aborted")?,
         left: CAUSE_LIMIT,
         failures: 0,
     };
-    let _printed = print_line(1, entry, &mut sink);
-    sink
+    if let ids::Reply::Aborted { why, restarted: _ } = &entry.reply {
+        sink.bytes.push(b' ')?;
+        let _printed = print_why(why, &mut sink);
+    }
+    let Halting {
+        mut bytes,
+        left: _,
+        failures: _,
+    } = sink;
+    bytes.push(b'\n')?;
+    Ok(bytes)
 }
 
 // What is answered to an outcome.
@@ -143,10 +144,10 @@ impl<K: Machine> Server<K> {
         }
     }
 
-    // The line of the last entry.
-    fn last_line(&self) -> Option<Halting> {
+    // How the abort is told that the last entry has.
+    fn last_abort(&self) -> Option<Vec<u8, Heap>> {
         let entry = self.hand.history().entries().last()?;
-        Some(line_of(self.tables.heap, entry))
+        text_of_abort(self.tables.heap, entry).ok()
     }
 
     // The last step aborted the transaction of a view, which has the cause from then on.
@@ -157,11 +158,8 @@ impl<K: Machine> Server<K> {
         ensures over { IsOver self.new.tables.views.each view }
         ensures keeps { KeepsOthers self.old.tables.views.each self.new.tables.views.each view }
     {
-        match self.last_line() {
-            Some(line) => self
-                .tables
-                .views
-                .abort(view, behind_arrow(line.bytes.as_slice())),
+        match self.last_abort() {
+            Some(text) => self.tables.views.abort(view, text.as_slice()),
             None => self.tables.views.abort(view, b"aborted\n"),
         }
     }
