@@ -29,7 +29,6 @@ others_answered (op.Release handle flags) f b i = refl
 others_answered (op.Fsync handle) f b i = refl
 others_answered op.OpenDir f b i = refl
 others_answered (op.ReadDir handle offset size) f b i = refl
-others_answered (op.ReadDirPlus handle offset size) f b i = refl
 others_answered (op.ReleaseDir handle) f b i = refl
 others_answered op.StatFs f b i = refl
 others_answered (op.Access mask) f b i = refl
