@@ -1,15 +1,16 @@
 -- No number is given twice.
-use Rattle.std.proofs.Common.{◌≡◌, ℕ, ◌+◌, ◌<◌, ◌≤◌, Bool, true, false, List, [], ◌∷◌, Option, Some, None, refl, ap, arith}
+use Rattle.std.proofs.Common.{◌≡◌, ℕ, ◌+◌, ◌<◌, ◌≤◌, Bool, true, false, List, [], ◌∷◌, Option, Some, None, refl, ap, ◌∙◌, arith}
 use Rattle.std.specs.Prelude.{nat_le, if◌then◌else◌}
 use Rattle.ids.specs.declared.reply.Kind.{Kind}
 use Rattle.model.specs.FiniteMap as map
 use Rattle.nodes.specs.Numbers.{Becomes, Changes, IsOrderly, NumbersAreGivenOnce}
 use Rattle.nodes.specs.Numbers.Changes.{LooksUp, Forgets, Detaches, Moves, Makes, Stays}
+use Rattle.nodes.specs.Parts.{table_of}
 use Rattle.nodes.specs.Tables.{Table, forgotten_by, gone, known, lessened, looked_up, looked_up_as, moved_by, number_for}
 use Rattle.nodes.specs.declared.node.Node.{Node}
 use Rattle.nodes.specs.declared.directory_entry.DirectoryEntry.{DirectoryEntry}
 use Rattle.nodes.proofs.Known.{new_number, unlinked_number, unused_number}
-use Rattle.nodes.proofs.Orderly.{detached_orderly, forgotten_orderly, looked_up_as_orderly, made_orderly, moved_orderly}
+use Rattle.nodes.proofs.Orderly.{detached_orderly, empty_orderly, forgotten_orderly, looked_up_as_orderly, made_orderly, moved_orderly}
 
 abbrev next_of : Table → ℕ
 next_of t = t.next
@@ -66,8 +67,14 @@ rises t u ts first second inode other kind none is later =
     let more : (looked_up t first inode kind).next ≡ t.next + 1 = ap (λ (found : Option ℕ). next_of (looked_up_as t first inode kind found)) none in
     omega (arith, more, new_number t first inode none, new_number u second other later, next_grows (looked_up t first inode kind) u ts is)
 
+begins_orderly : (t : Table) → t.nodes ≡ map.empty → t.numbers ≡ map.empty → t.births ≡ map.empty → t.next ≡ 16 → IsOrderly t
+begins_orderly t nodes numbers births next =
+    let same : t ≡ table_of map.empty map.empty map.empty 16 = ap (λ n. table_of n t.numbers t.births t.next) nodes ∙ ap (λ m. table_of map.empty m t.births t.next) numbers ∙ ap (λ b. table_of map.empty map.empty b t.next) births ∙ ap (table_of map.empty map.empty map.empty) next in
+    rw same empty_orderly
+
 pub numbers_are_given_once : NumbersAreGivenOnce
 numbers_are_given_once = record {
+  begins = begins_orderly;
   stays = stays_orderly;
   unused = λ t u ts entry inode o is none. unused_number t (number_for u entry inode) o (not_given t u ts entry inode is none);
   unlinked = λ t u ts entry inode o is none. unlinked_number t (number_for u entry inode) o (not_given t u ts entry inode is none);

@@ -57,9 +57,12 @@ Becomes old (t ∷ ts) new = Changes old t × Becomes t ts new
 
 -- ---- laws
 
--- After any calls a new node has a number that no node had and no entry led to before them; of two
--- new nodes the later one has the higher number.
+-- A mount begins with an orderly table, and its table stays orderly. After any calls a new node has a
+-- number that no node had and no entry led to before them; of two new nodes the later one has the
+-- higher number.
 pub record NumbersAreGivenOnce : Type 0 where
+  pub begins : (t : Table) → t.nodes ≡ map.empty → t.numbers ≡ map.empty → t.births ≡ map.empty
+      → t.next ≡ 16 → IsOrderly t
   pub stays : (t u : Table) (ts : List Table) → IsOrderly t → Becomes t ts u → IsOrderly u
   pub unused : (t u : Table) (ts : List Table) (entry : DirectoryEntry) (inode : ℕ)
       → IsOrderly t → Becomes t ts u → known u entry inode ≡ None
