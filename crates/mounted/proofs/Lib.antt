@@ -1,7 +1,3 @@
-mod Stepping
-mod First
-mod Answering
-mod Telling
-mod Ending
-mod Ordering
-mod Beginning
+mod Keeping
+mod Roles
+pub mod Sound
