@@ -46,7 +46,7 @@ answers_keep {later = later} {r = r} told (Begun p planned began known is) = kee
 stands : {s : Seen} (t : Seen) → t.views ≡ s.views → t.names ≡ s.names → t.next_view ≡ s.next_view → t.roles ≡ s.roles → Keeps s t
 stands {s} t views names next roles = record { views = views; names = names; next = next; roles = λ q. ap (λ (m : Roles). purpose (map.get m q)) roles }
 
-held_if : (b : Bool) (pid : ℕ) (r : Roles) → AreKept r (if b then held pid r else r)
+held_if : (b : Bool) (pid : ℕ) (r : Roles) → AreKept r (if b then held pid (map.get r pid) r else r)
 held_if true pid r = held_kept pid r
 held_if false pid r = kept_same r
 

@@ -7,7 +7,7 @@ use Rattle.model.specs.FiniteMap as map
 use Rattle.model.proofs.Laws.{get_other, get_same, removed_other, removed_same}
 use Rattle.machine.specs.Shown.{Shown}
 use Rattle.course.specs.Hands.{IsChild, Stand, made_in, priority_in}
-use Rattle.mount_tables.specs.Views.{View}
+use Rattle.mount_tables.specs.declared.views.View.{View}
 use Rattle.mount_tables.specs.declared.processes.Role.{Role}
 use Rattle.mount_tables.specs.declared.processes.Role.TheVariants.{Holder, Idle, Of}
 use Rattle.mount_requests.specs.Seen.{Seen}
@@ -233,3 +233,23 @@ sound_removed s v number view was there later views next (inl idle) = record {
         let is : Some (Idle view.level) ≡ Some (Idle l) = sym (get_same s.roles view.pid (Idle view.level)) ∙ (ap (map.get (map.insert s.roles view.pid (Idle view.level))) (sym e) ∙ h) in
         ap (priority_in v) e ∙ (was.levels number view there ∙ cc)
     waiting_by q l h (inr ne) = was.waiting q l (sym (get_other s.roles view.pid q (Idle view.level) ne) ∙ h)
+
+-- ---- a view that stands otherwise
+
+-- a view keeps its process and its priority
+pub there_as : (views : Views) (number : ℕ) (view now : View) → map.get views number ≡ Some view → now.pid ≡ view.pid → now.level ≡ view.level → AreThere views (map.insert views number now)
+there_as views number view now is pid level n w h = by (cases_eq n number)
+  where
+    by : (n ≡ number) ⊎ (n ≢ number) → WasThere views n w
+    by (inl e) =
+        let same : Some now ≡ Some w = sym (get_same views number now) ∙ (ap (map.get (map.insert views number now)) (sym e) ∙ h) in
+        record { was = view; is = ap (map.get views) e ∙ is; pid = ap (λ (o : Option View). pid_in o) (sym same) ∙ pid; level = ap (λ (o : Option View). level_in o) (sym same) ∙ level }
+      where
+        pid_in : Option View → ℕ
+        pid_in (Some v) = v.pid
+        pid_in None = 0
+
+        level_in : Option View → ℕ
+        level_in (Some v) = v.level
+        level_in None = 0
+    by (inr ne) = record { was = w; is = sym (get_other views number n now ne) ∙ h; pid = refl; level = refl }

@@ -25,8 +25,9 @@ use Rattle.course.specs.Hands.{IsChild}
 use Rattle.course.specs.declared.fault.Fault.{Fault}
 use Rattle.course.specs.declared.fault.Fault.TheVariants as fault
 use Rattle.mount_tables.specs.Numbers.{control_node, root_node}
-use Rattle.mount_tables.specs.Processes.{assigned}
-use Rattle.mount_tables.specs.Views.{View, aborted, with_state}
+use Rattle.mount_tables.specs.Rows.{replaced}
+use Rattle.mount_tables.specs.Views.{aborted, standing}
+use Rattle.mount_tables.specs.declared.views.View.{View}
 use Rattle.mount_tables.specs.declared.open_files.OpenFile.{OpenFile}
 use Rattle.mount_tables.specs.declared.processes.Role.{Role}
 use Rattle.mount_tables.specs.declared.processes.Role.TheVariants.{Idle, Of}
@@ -43,7 +44,7 @@ use Rattle.mounted.specs.declared.control.Order.{Order}
 use Rattle.mounted.specs.declared.control.Order.TheVariants.{End, Abort}
 use Rattle.mounted.specs.declared.transactions.Leaving.{Leaving}
 use Rattle.mounted.specs.declared.transactions.Standing.{Standing}
-use Rattle.mounted.specs.declared.transactions.Standing.TheVariants as standing
+use Rattle.mounted.specs.declared.transactions.Standing.TheVariants as leaves
 
 -- the view of a number, and the number of that of a name
 abbrev pub numbered : Seen → ℕ → Option View
@@ -113,7 +114,7 @@ with_view s name level pid = record s {
   views = map.insert s.views s.next_view (record { pid = pid; level = level; state = Live });
   names = map.insert s.names name s.next_view;
   next_view = s.next_view + 1;
-  roles = assigned pid (Of s.next_view) s.roles;
+  roles = replaced pid (Of s.next_view) (map.get s.roles pid) s.roles;
 }
 
 -- A process of the priority that the name asks for begins a transaction, and its view has this name.
@@ -183,7 +184,7 @@ pub record IsWithoutView (s later : Seen) (name : List ℕ) (number pid level : 
   pub files : IsWithoutFiles s later number
   pub nodes : later.nodes ≡ s.nodes
   pub folders : (later.folders ≡ s.folders) × (later.next_folder ≡ s.next_folder)
-  pub roles : (later.roles ≡ assigned pid (Idle level) s.roles) ⊎ (later.roles ≡ s.roles)
+  pub roles : (later.roles ≡ replaced pid (Idle level) (map.get s.roles pid) s.roles) ⊎ (later.roles ≡ s.roles)
 
 abbrev pub Left : Seen → Seen → List ℕ → ℕ → ℕ → ℕ → Result (Unit {0}) Failure → Result Reply Failure
     → Type 0
@@ -194,18 +195,18 @@ Left s later name number pid level (Err e) r = (later ≡ s) × (r ≡ Err e)
 -- A transaction that goes on is given up. Of one that was committed what its process has open still
 -- is closed, and of others nothing is open.
 abbrev pub standing_of : State → Standing
-standing_of Live = standing.Live
-standing_of (Aborted why) = standing.Over
-standing_of Committed = standing.Committed
-standing_of GivenUp = standing.Over
+standing_of Live = leaves.Live
+standing_of (Aborted why) = leaves.Over
+standing_of Committed = leaves.Committed
+standing_of GivenUp = leaves.Over
 
 abbrev pub LeavesAs : Standing → Seen → Seen → List ℕ → ℕ → ℕ → ℕ → Shown → Shown
     → Result Reply Failure → Type 0
-LeavesAs standing.Live s later name number pid level old new r = (given_up : Result (Unit {0}) Fault)
+LeavesAs leaves.Live s later name number pid level old new r = (given_up : Result (Unit {0}) Fault)
     × Ran old (giving_up pid) given_up new × Left s later name number pid level (gone given_up) r
-LeavesAs standing.Committed s later name number pid level old new r = (fds : List ℕ)
+LeavesAs leaves.Committed s later name number pid level old new r = (fds : List ℕ)
     × ClosesAll pid fds old new × Left s later name number pid level (Ok tt) r
-LeavesAs standing.Over s later name number pid level old new r =
+LeavesAs leaves.Over s later name number pid level old new r =
     (new ≡ old) × Left s later name number pid level (Ok tt) r
 
 -- what is known of the view of a name
@@ -277,7 +278,8 @@ ShowsText view offset size r =
 
 -- the cause of an abort is known of the view from then on
 abbrev pub with_aborted : Seen → ℕ → Why → Seen
-with_aborted s view why = record s { views = aborted view why s.views }
+with_aborted s view why =
+    record s { views = aborted why view (map.get s.views view) s.views }
 
 -- the process of a view whose transaction goes on
 abbrev pub live_by : State → ℕ → Option ℕ
@@ -333,7 +335,8 @@ state_by Abort = GivenUp
 -- The transaction is over then: by the order, or by an abort. Where the order failed otherwise it goes
 -- on.
 abbrev pub ended : Seen → ℕ → Order → Result (Unit {0}) Fault → Seen
-ended s view order (Ok done) = record s { views = with_state view (state_by order) s.views }
+ended s view order (Ok done) =
+    record s { views = standing (state_by order) view (map.get s.views view) s.views }
 ended s view order (Err (fault.Aborted why)) = with_aborted s view why
 ended s view order (Err e) = s
 

@@ -22,7 +22,7 @@ use Rattle.course.specs.declared.fault.Fault.TheVariants as fault
 use Rattle.mount_tables.specs.Files.{closed_once, key_of, unlinked}
 use Rattle.mount_tables.specs.Numbers.{class_of}
 use Rattle.mount_tables.specs.Processes.{let_go}
-use Rattle.mount_tables.specs.Views.{View}
+use Rattle.mount_tables.specs.declared.views.View.{View}
 use Rattle.mount_tables.specs.declared.numbers.Class.{Class}
 use Rattle.mount_tables.specs.declared.numbers.Class.TheVariants.{Tree, Transactions, Control}
 use Rattle.mount_tables.specs.declared.open_files.OpenFile.{OpenFile}
@@ -167,7 +167,7 @@ is_held s file =
 -- what is known then: a holder of the plain tree has one descriptor less, and a view may be aborted
 abbrev pub closed_by : Seen → OpenFile → Result (Unit {0}) Fault → Seen
 closed_by s file (Ok done) =
-    if file.view == 0 then record s { roles = let_go file.pid s.roles } else s
+    if file.view == 0 then record s { roles = let_go file.pid (map.get s.roles file.pid) s.roles } else s
 closed_by s file (Err (fault.Aborted why)) = with_aborted s file.view why
 closed_by s file (Err e) = s
 

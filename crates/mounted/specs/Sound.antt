@@ -3,7 +3,7 @@ use Rattle.std.specs.Prelude.{◌≡◌, ℕ, ◌+◌, ◌≤◌, ◌<◌, Some}
 use Rattle.model.specs.FiniteMap as map
 use Rattle.machine.specs.Shown.{Shown}
 use Rattle.course.specs.Hands.{made_in, priority_in}
-use Rattle.mount_tables.specs.Views.{View}
+use Rattle.mount_tables.specs.declared.views.View.{View}
 use Rattle.mount_tables.specs.declared.processes.Role.{Role}
 use Rattle.mount_tables.specs.declared.processes.Role.TheVariants.{Idle, Of}
 use Rattle.mount_requests.specs.Seen.{Seen}
@@ -22,3 +22,7 @@ pub record IsSound (s : Seen) (v : Shown) : Type 0 where
   pub numbers : (number : ℕ) (view : View) → map.get s.views number ≡ Some view → number < s.next_view
   pub first : 8 ≤ made_in v
   pub levels_first : (level : ℕ) → level < 8 → priority_in v (level + 1) ≡ level
+
+-- what is sound stays so
+abbrev pub StaysSound : Seen → Shown → Seen → Shown → Type 0
+StaysSound s v later w = IsSound s v → IsSound later w

@@ -7,7 +7,7 @@ use Rattle.fuse.specs.declared.request.Operation.TheVariants as asked
 use Rattle.nodes.specs.Tables.{root_of}
 use Rattle.course.specs.Hands.{IsSince}
 use Rattle.mount_tables.specs.Numbers.{class_of, view_of}
-use Rattle.mount_tables.specs.Views.{View}
+use Rattle.mount_tables.specs.declared.views.View.{View}
 use Rattle.mount_tables.specs.declared.numbers.Class.TheVariants.{Tree}
 use Rattle.mount_tables.specs.declared.views.State.TheVariants.{Live}
 use Rattle.mount_requests.specs.Seen.{Seen}

@@ -10,6 +10,7 @@ ghost use Rattle.mounted.specs.Controls.{state_by, text_by, text_of, told_order,
 ghost use Rattle.mounted.specs.Served.{ToldBy, told};
 ghost use Rattle.mount_tables.specs.declared.views.State.TheVariants.{Live};
 ghost use Rattle.mounted.specs.Server.{HasGrown};
+ghost use Rattle.mounted.specs.Sound.{StaysSound};
 
 use crate::serving::{Serving, reply_of};
 use course::{Fault, Hand, end, give_up, look_nowhere};
@@ -170,6 +171,8 @@ impl<K: Machine> Serving<K> {
             self.old.hand.shown self.new.hand.shown }
         ensures stand { Stand self.old.hand.shown self.new.hand.shown }
         ensures grows { HasGrown self.old.hand.shown self.new.hand.shown }
+        ensures sound { StaysSound (seen self.old.tables) self.old.hand.shown
+            (seen self.new.tables) self.new.hand.shown }
     {
         self.hand.bind(pid);
         let mut reply = look_nowhere(&mut self.hand);
@@ -201,6 +204,8 @@ impl<K: Machine> Serving<K> {
             self.old.hand.shown self.new.hand.shown result }
         ensures stand { Stand self.old.hand.shown self.new.hand.shown }
         ensures grows { HasGrown self.old.hand.shown self.new.hand.shown }
+        ensures sound { StaysSound (seen self.old.tables) self.old.hand.shown
+            (seen self.new.tables) self.new.hand.shown }
     {
         if self.tables.views.get(view).is_none() {
             return Err(Failure::Error(Errno::ENOENT));
@@ -244,6 +249,8 @@ impl<K: Machine> Serving<K> {
             bytes.now self.old.hand.shown self.new.hand.shown) result }
         ensures stand { Stand self.old.hand.shown self.new.hand.shown }
         ensures grows { HasGrown self.old.hand.shown self.new.hand.shown }
+        ensures sound { StaysSound (seen self.old.tables) self.old.hand.shown
+            (seen self.new.tables) self.new.hand.shown }
     {
         self.hand.bind(pid);
         let outcome = obey_by(&mut self.hand, order);
@@ -259,6 +266,8 @@ impl<K: Machine> Serving<K> {
             self.old.hand.shown self.new.hand.shown) result }
         ensures stand { Stand self.old.hand.shown self.new.hand.shown }
         ensures grows { HasGrown self.old.hand.shown self.new.hand.shown }
+        ensures sound { StaysSound (seen self.old.tables) self.old.hand.shown
+            (seen self.new.tables) self.new.hand.shown }
     {
         match ordered(&self.tables, view, bytes.as_slice()) {
             Ok((pid, order)) => self.obey(view, pid, order, bytes.as_slice()),
@@ -294,6 +303,8 @@ impl<K: Machine> Serving<K> {
             operation self.old.hand.shown self.new.hand.shown) result }
         ensures stand { Stand self.old.hand.shown self.new.hand.shown }
         ensures grows { HasGrown self.old.hand.shown self.new.hand.shown }
+        ensures sound { StaysSound (seen self.old.tables) self.old.hand.shown
+            (seen self.new.tables) self.new.hand.shown }
     {
         match operation {
             Operation::Read {

@@ -9,6 +9,7 @@ ghost use Rattle.mounted.specs.Controls.{IsTaken, with_roles};
 ghost use Rattle.mounted.specs.Served.{IsHolder, IsLacking, IsReady, Lacks, chosen, is_holder};
 ghost use Rattle.mounted.specs.Served.{plain_file, process_by};
 ghost use Rattle.mounted.specs.Server.{HasGrown};
+ghost use Rattle.mounted.specs.Sound.{StaysSound};
 
 use crate::serving::Serving;
 use course::fork;
@@ -115,6 +116,8 @@ impl<K: Machine> Serving<K> {
             (seen self.new.tables) self.old.hand.shown self.new.hand.shown e) }
         ensures stand { Stand self.old.hand.shown self.new.hand.shown }
         ensures grows { HasGrown self.old.hand.shown self.new.hand.shown }
+        ensures sound { StaysSound (seen self.old.tables) self.old.hand.shown
+            (seen self.new.tables) self.new.hand.shown }
     {
         self.hand.bind(first_process(level));
         let made = fork(&mut self.hand);
@@ -137,6 +140,8 @@ impl<K: Machine> Serving<K> {
             self.old.hand.shown self.new.hand.shown e) }
         ensures stand { Stand self.old.hand.shown self.new.hand.shown }
         ensures grows { HasGrown self.old.hand.shown self.new.hand.shown }
+        ensures sound { StaysSound (seen self.old.tables) self.old.hand.shown
+            (seen self.new.tables) self.new.hand.shown }
     {
         self.tables.processes.reserve()?;
         match self.tables.processes.free_holder() {
@@ -155,6 +160,8 @@ impl<K: Machine> Serving<K> {
             self.old.hand.shown self.new.hand.shown e) }
         ensures stand { Stand self.old.hand.shown self.new.hand.shown }
         ensures grows { HasGrown self.old.hand.shown self.new.hand.shown }
+        ensures sound { StaysSound (seen self.old.tables) self.old.hand.shown
+            (seen self.new.tables) self.new.hand.shown }
     {
         match chosen(&self.tables, node, operation) {
             Some(pid) => Ok(pid),
@@ -174,6 +181,8 @@ impl<K: Machine> Serving<K> {
             (seen self.new.tables) self.old.hand.shown self.new.hand.shown e) }
         ensures stand { Stand self.old.hand.shown self.new.hand.shown }
         ensures grows { HasGrown self.old.hand.shown self.new.hand.shown }
+        ensures sound { StaysSound (seen self.old.tables) self.old.hand.shown
+            (seen self.new.tables) self.new.hand.shown }
     {
         match self.tables.processes.take(level) {
             Some(pid) => Ok(pid),

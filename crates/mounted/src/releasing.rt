@@ -5,6 +5,7 @@ ghost use Rattle.mount_requests.specs.Seen.{seen};
 ghost use Rattle.mounted.specs.Served.{Closes, Releases, ToldBy, closed_by, has_open, is_held};
 ghost use Rattle.mounted.specs.Served.{keeps_open, told, told_closed};
 ghost use Rattle.mounted.specs.Server.{HasGrown};
+ghost use Rattle.mounted.specs.Sound.{StaysSound};
 
 use crate::processes::is_holder;
 use crate::serving::{Serving, reply_of};
@@ -74,6 +75,8 @@ impl<K: Machine> Serving<K> {
             self.old.hand.shown self.new.hand.shown) result }
         ensures stand { Stand self.old.hand.shown self.new.hand.shown }
         ensures grows { HasGrown self.old.hand.shown self.new.hand.shown }
+        ensures sound { StaysSound (seen self.old.tables) self.old.hand.shown
+            (seen self.new.tables) self.new.hand.shown }
     {
         self.hand.bind(file.pid);
         let closed = close(&mut self.hand, file.fd);
@@ -88,6 +91,8 @@ impl<K: Machine> Serving<K> {
             self.old.hand.shown self.new.hand.shown) result }
         ensures stand { Stand self.old.hand.shown self.new.hand.shown }
         ensures grows { HasGrown self.old.hand.shown self.new.hand.shown }
+        ensures sound { StaysSound (seen self.old.tables) self.old.hand.shown
+            (seen self.new.tables) self.new.hand.shown }
     {
         match self.tables.files.release(handle) {
             Some(file) => {

@@ -10,6 +10,7 @@ ghost use Rattle.mounted.specs.First.{IsEmpty};
 ghost use Rattle.mounted.specs.Served.{IsServed, IsToldOf, Serves, ServesAt, ServesPlain, ServesTree};
 ghost use Rattle.mounted.specs.Served.{ServesView, noted, told, with_forgets};
 ghost use Rattle.mounted.specs.Server.{HasGrown};
+ghost use Rattle.mounted.specs.Sound.{StaysSound};
 ghost use Rattle.mounted.specs.Steppers.{StaysInView, is_release};
 
 use crate::starting::{start, status};
@@ -64,6 +65,8 @@ impl<K: Machine> Serving<K> {
             IsSerializable 0 (setup_of s.log) (limit_of s.log) s.log.entries s.state }
         ensures stand { Stand self.old.hand.shown self.new.hand.shown }
         ensures grows { HasGrown self.old.hand.shown self.new.hand.shown }
+        ensures sound { StaysSound (seen self.old.tables) self.old.hand.shown
+            (seen self.new.tables) self.new.hand.shown }
         ensures answered { is_some result ≡ is_answered operation }
         ensures in_view { is_release operation ≡ false → StaysInView (seen self.old.tables) caller.node
             self.old.hand.shown.log.entries self.new.hand.shown.log.entries }
@@ -81,6 +84,8 @@ impl<K: Machine> Serving<K> {
     fn answer(&mut self, caller: Caller, operation: Operation) -> Option<Reply>
         ensures stand { Stand self.old.hand.shown self.new.hand.shown }
         ensures grows { HasGrown self.old.hand.shown self.new.hand.shown }
+        ensures sound { StaysSound (seen self.old.tables) self.old.hand.shown
+            (seen self.new.tables) self.new.hand.shown }
         ensures answered { is_some result ≡ is_answered operation }
         ensures in_view { is_release operation ≡ false → StaysInView (seen self.old.tables) caller.node
             self.old.hand.shown.log.entries self.new.hand.shown.log.entries }
@@ -114,6 +119,8 @@ impl<K: Machine> Serving<K> {
     fn outcome(&mut self, caller: Caller, operation: Operation) -> Reply
         ensures stand { Stand self.old.hand.shown self.new.hand.shown }
         ensures grows { HasGrown self.old.hand.shown self.new.hand.shown }
+        ensures sound { StaysSound (seen self.old.tables) self.old.hand.shown
+            (seen self.new.tables) self.new.hand.shown }
         ensures in_view { is_release operation ≡ false → StaysInView (seen self.old.tables) caller.node
             self.old.hand.shown.log.entries self.new.hand.shown.log.entries }
         ensures served { ToldBy (Serves (seen self.old.tables) (seen self.new.tables) caller.node
@@ -142,6 +149,8 @@ impl<K: Machine> Serving<K> {
     fn at_node(&mut self, caller: Caller, operation: Operation) -> Reply
         ensures stand { Stand self.old.hand.shown self.new.hand.shown }
         ensures grows { HasGrown self.old.hand.shown self.new.hand.shown }
+        ensures sound { StaysSound (seen self.old.tables) self.old.hand.shown
+            (seen self.new.tables) self.new.hand.shown }
         ensures in_view { StaysInView (seen self.old.tables) caller.node
             self.old.hand.shown.log.entries self.new.hand.shown.log.entries }
         ensures served { ToldBy (ServesAt (class_of caller.node) (seen self.old.tables)
@@ -159,6 +168,8 @@ impl<K: Machine> Serving<K> {
     fn in_tree(&mut self, caller: Caller, operation: Operation) -> Reply
         ensures stand { Stand self.old.hand.shown self.new.hand.shown }
         ensures grows { HasGrown self.old.hand.shown self.new.hand.shown }
+        ensures sound { StaysSound (seen self.old.tables) self.old.hand.shown
+            (seen self.new.tables) self.new.hand.shown }
         ensures in_view { StaysInView (seen self.old.tables) caller.node
             self.old.hand.shown.log.entries self.new.hand.shown.log.entries }
         ensures served { ToldBy (ServesTree (seen self.old.tables) (seen self.new.tables) caller.node
@@ -212,6 +223,8 @@ impl<K: Machine> Serving<K> {
     fn in_plain(&mut self, caller: Caller, operation: Operation) -> Result<Reply, Failure>
         ensures stand { Stand self.old.hand.shown self.new.hand.shown }
         ensures grows { HasGrown self.old.hand.shown self.new.hand.shown }
+        ensures sound { StaysSound (seen self.old.tables) self.old.hand.shown
+            (seen self.new.tables) self.new.hand.shown }
         ensures serves { ServesPlain (seen self.old.tables) (seen self.new.tables) caller.node operation
             self.old.hand.shown self.new.hand.shown result }
     {

@@ -11,6 +11,7 @@ ghost use Rattle.mounted.specs.Controls.{level_by, level_of, level_planned, node
 ghost use Rattle.mounted.specs.Controls.{with_roles};
 ghost use Rattle.course.specs.declared.fault.Fault.{Fault};
 ghost use Rattle.mounted.specs.Server.{HasGrown};
+ghost use Rattle.mounted.specs.Sound.{StaysSound};
 
 use crate::serving::Serving;
 use course::{Fault, begin, close, give_up};
@@ -224,6 +225,8 @@ impl<K: Machine> Serving<K> {
             ≡ with_roles (seen self.old.tables) (seen self.new.tables).roles }
         ensures stand { Stand self.old.hand.shown self.new.hand.shown }
         ensures grows { HasGrown self.old.hand.shown self.new.hand.shown }
+        ensures sound { StaysSound (seen self.old.tables) self.old.hand.shown
+            (seen self.new.tables) self.new.hand.shown }
     {
         let pid = self.take_idle(level)?;
         self.hand.bind(pid);
@@ -242,6 +245,8 @@ impl<K: Machine> Serving<K> {
             self.old.hand.shown self.new.hand.shown result }
         ensures stand { Stand self.old.hand.shown self.new.hand.shown }
         ensures grows { HasGrown self.old.hand.shown self.new.hand.shown }
+        ensures sound { StaysSound (seen self.old.tables) self.old.hand.shown
+            (seen self.new.tables) self.new.hand.shown }
     {
         let level = plan_level(&self.tables, name.as_slice())?;
         let own_name = Vec::from_slice(self.tables.heap, name.as_slice())?;
@@ -289,6 +294,8 @@ impl<K: Machine> Serving<K> {
             leaving.pid leaving.level (Ok tt) result }
         ensures stand { Stand self.old.hand.shown self.new.hand.shown }
         ensures grows { HasGrown self.old.hand.shown self.new.hand.shown }
+        ensures sound { StaysSound (seen self.old.tables) self.old.hand.shown
+            (seen self.new.tables) self.new.hand.shown }
     {
         let Leaving {
             number,
@@ -315,6 +322,8 @@ impl<K: Machine> Serving<K> {
         ensures tables { self.new.tables ≡ self.old.tables }
         ensures stand { Stand self.old.hand.shown self.new.hand.shown }
         ensures grows { HasGrown self.old.hand.shown self.new.hand.shown }
+        ensures sound { StaysSound (seen self.old.tables) self.old.hand.shown
+            (seen self.new.tables) self.new.hand.shown }
     {
         self.hand.bind(pid);
         let given_up = give_up(&mut self.hand);
@@ -330,6 +339,8 @@ impl<K: Machine> Serving<K> {
             self.old.hand.shown self.new.hand.shown result }
         ensures stand { Stand self.old.hand.shown self.new.hand.shown }
         ensures grows { HasGrown self.old.hand.shown self.new.hand.shown }
+        ensures sound { StaysSound (seen self.old.tables) self.old.hand.shown
+            (seen self.new.tables) self.new.hand.shown }
     {
         match leaving.standing {
             Standing::Live => {
@@ -347,6 +358,8 @@ impl<K: Machine> Serving<K> {
             self.old.hand.shown self.new.hand.shown result }
         ensures stand { Stand self.old.hand.shown self.new.hand.shown }
         ensures grows { HasGrown self.old.hand.shown self.new.hand.shown }
+        ensures sound { StaysSound (seen self.old.tables) self.old.hand.shown
+            (seen self.new.tables) self.new.hand.shown }
     {
         match leaving(&self.tables, name.as_slice()) {
             Some(leaving) => self.remove_view(name.as_slice(), leaving),
@@ -383,6 +396,8 @@ impl<K: Machine> Serving<K> {
             self.old.hand.shown self.new.hand.shown result }
         ensures stand { Stand self.old.hand.shown self.new.hand.shown }
         ensures grows { HasGrown self.old.hand.shown self.new.hand.shown }
+        ensures sound { StaysSound (seen self.old.tables) self.old.hand.shown
+            (seen self.new.tables) self.new.hand.shown }
     {
         match operation {
             Operation::MkDir { name, mode: _ } => self.begin_transaction(&name),
