@@ -1,3 +1,4 @@
 pub mod Rows
 pub mod FileKeys
 pub mod Files
+pub mod Processes

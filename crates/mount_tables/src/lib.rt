@@ -8,7 +8,10 @@
 mod by_number;
 mod file_index;
 mod file_key;
+mod hints;
 mod open_files;
+mod processes;
 
 pub use file_key::FileKey;
 pub use open_files::{OpenFile, OpenFiles};
+pub use processes::{Processes, Role, first_process};
