@@ -2,7 +2,7 @@
 ghost use Rattle.mounted.specs.Served.{IsBeginning, IsStatus};
 ghost use Rattle.std.specs.Prelude.{Ok};
 
-use fuse::{INIT_BIG_WRITES, INIT_DROPS_CHANGED, INIT_MAX_PAGES, INIT_OPEN_TRUNCATES};
+use fuse::bits::{INIT_BIG_WRITES, INIT_DROPS_CHANGED, INIT_MAX_PAGES, INIT_OPEN_TRUNCATES};
 use fuse::{Init, Reply, StatFs};
 
 // What is asked of the kernel, where it can: opens that cut, writes of more than a page, requests of

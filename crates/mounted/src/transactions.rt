@@ -170,7 +170,7 @@ fn gone(given_up: Result<(), Fault>) -> Result<(), Failure>
 }
 
 // What is known of the view of a name.
-fn leaving(tables: &Tables, name: &[u8]) -> Option<Leaving>
+fn find_leaving(tables: &Tables, name: &[u8]) -> Option<Leaving>
     ensures { result ≡ leaving_in (seen tables.now) name.now }
 {
     let number = tables.views.named(name)?;
@@ -361,7 +361,7 @@ impl<K: Machine> Serving<K> {
         ensures sound { StaysSound (seen self.old.tables) self.old.hand.shown
             (seen self.new.tables) self.new.hand.shown }
     {
-        match leaving(&self.tables, name.as_slice()) {
+        match find_leaving(&self.tables, name.as_slice()) {
             Some(leaving) => self.remove_view(name.as_slice(), leaving),
             None => Err(Failure::Error(Errno::ENOENT)),
         }
