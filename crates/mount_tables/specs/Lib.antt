@@ -4,3 +4,4 @@ pub mod Files
 pub mod Processes
 pub mod Views
 pub mod Names
+pub mod Folders

@@ -8,6 +8,7 @@
 mod by_number;
 mod file_index;
 mod file_key;
+mod folders;
 mod hints;
 mod name_index;
 mod open_files;
@@ -15,6 +16,7 @@ mod processes;
 mod views;
 
 pub use file_key::FileKey;
+pub use folders::{Folder, Folders};
 pub use open_files::{OpenFile, OpenFiles};
 pub use processes::{Processes, Role, first_process};
 pub use views::{State, View, Views};
