@@ -5,3 +5,5 @@ pub mod Processes
 pub mod Views
 pub mod Names
 pub mod Folders
+pub mod Numbers
+pub mod Attributes
