@@ -31,6 +31,12 @@ abbrev pub standing : State → ℕ → Option View → map.FinMap nat_cmp View 
 standing state number None each = each
 standing state number (Some view) each = map.insert each number (record view { state = state })
 
+-- the transaction of a number goes on, by this process
+abbrev pub started : ℕ → ℕ → Option View → map.FinMap nat_cmp View → map.FinMap nat_cmp View
+started pid number None each = each
+started pid number (Some view) each =
+    map.insert each number (record { pid = pid; level = view.level; state = Live })
+
 -- a transaction that goes on is aborted for this, and one that is over stays as it is
 abbrev pub aborted_by : Why → State → State
 aborted_by why Live = Aborted why

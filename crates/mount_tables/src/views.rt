@@ -2,7 +2,7 @@
 ghost use Rattle.std.specs.Prelude.{◌≡◌, ◌+◌, ◌<◌, IfOk, OnErr, OnOk, None, option_copied};
 ghost use Rattle.model.specs.FiniteMap as map;
 ghost use Rattle.mount_tables.specs.Names.{numbers_in};
-ghost use Rattle.mount_tables.specs.Views.{aborted, live_process, standing, unnamed, view_of_process};
+ghost use Rattle.mount_tables.specs.Views.{aborted, live_process, standing, started, unnamed, view_of_process};
 ghost use Rattle.mount_tables.specs.declared.views.State.TheVariants.{GivenUp};
 
 use crate::by_number::ByNumber;
@@ -182,6 +182,20 @@ impl Views {
         if let Some(view) = self.each.get(number) {
             let pid = view.pid;
             let level = view.level;
+            self.each.set(number, View { pid, level, state });
+        }
+    }
+
+    /// The transaction of a number has begun, by this process. It takes no memory.
+    pub fn start(&mut self, number: u64, pid: Pid)
+        ensures each { self.new.each
+            ≡ started pid number (map.get self.old.each number) self.old.each }
+        ensures numbers { self.new.numbers ≡ self.old.numbers }
+        ensures next { self.new.next ≡ self.old.next }
+    {
+        if let Some(view) = self.each.get(number) {
+            let level = view.level;
+            let state = State::Live;
             self.each.set(number, View { pid, level, state });
         }
     }
