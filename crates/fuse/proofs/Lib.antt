@@ -1,3 +1,4 @@
+pub mod Answered
 pub mod Forgotten
 pub mod Lengths
 pub mod Messages

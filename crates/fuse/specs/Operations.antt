@@ -1,5 +1,5 @@
 -- The operation of each opcode that is served, with this body.
-use Rattle.std.specs.Prelude.{ℕ, ◌==◌, List, Option, Some, if◌then◌else◌}
+use Rattle.std.specs.Prelude.{ℕ, ◌==◌, ◌||◌, Bool, true, false, List, Option, Some, if◌then◌else◌}
 use Rattle.fuse.specs.declared.request.Operation.{Operation}
 use Rattle.fuse.specs.declared.request.Operation.TheVariants as op
 use Rattle.fuse.specs.Bodies.{lookup_in, mknod_in, mkdir_in, unlink_in, rmdir_in, rename_in}
@@ -53,3 +53,15 @@ operation_in opcode body =
     else if opcode == 13 then link_in body
     else if opcode == 35 then create_in body
     else if opcode == 45 then rename2_in body else file_operation_in opcode body
+
+-- Which requests are answered. Linux sends what it forgets, and that a request is to end early,
+-- and waits for no reply (fs/fuse/dev.c: neither is put among the requests that wait for one).
+abbrev pub is_answered : Operation → Bool
+is_answered (op.Forget lookups) = false
+is_answered (op.BatchForget forgets) = false
+is_answered (op.Interrupt unique) = false
+is_answered _ = true
+
+-- the opcodes of those that are not
+abbrev pub is_silent : ℕ → Bool
+is_silent opcode = opcode == 2 || opcode == 36 || opcode == 42

@@ -1,13 +1,13 @@
 -- Requests. Each begins with a header of 40 bytes: its length, opcode, number (unique), node, uid,
 -- gid, pid, and four bytes that are left out.
-use Rattle.std.specs.Prelude.{◌≡◌, ℕ, ◌==◌, nat_lt, List, length, drop}
+use Rattle.std.specs.Prelude.{◌≡◌, ℕ, ◌==◌, nat_lt, true, false, List, length, drop}
 use Rattle.std.specs.Prelude.{Option, Some, None, Result, Ok, Err, IsOkAnd, if◌then◌else◌}
 use Rattle.fuse.specs.declared.fault.ParseFault.{ParseFault}
 use Rattle.fuse.specs.declared.fault.ParseFault.TheVariants as fault
 use Rattle.fuse.specs.declared.request.Operation.{Operation}
 use Rattle.fuse.specs.declared.request.Request.{Request}
 use Rattle.fuse.specs.Numbers.{u32_at, u64_at}
-use Rattle.fuse.specs.Operations.{operation_in}
+use Rattle.fuse.specs.Operations.{is_answered, operation_in}
 
 -- the request of these bytes, where their body asks for an operation
 abbrev pub request_of : List ℕ → Option Operation → Result Request ParseFault
@@ -29,13 +29,17 @@ request_in bytes =
     request_of bytes (operation_in (u32_at bytes 4) (drop 40 bytes))
     else Err (fault.WrongLength (u64_at bytes 8))
 
--- the fault of these bytes; where memory was refused, they are a request of this number
+-- The fault of these bytes. Where memory was refused they are a request of this number that is
+-- answered, or one that is not.
 abbrev pub IsFaultOf : List ℕ → ParseFault → Type 0
 IsFaultOf bytes fault.NoHeader = request_in bytes ≡ Err fault.NoHeader
 IsFaultOf bytes (fault.WrongLength unique) = request_in bytes ≡ Err (fault.WrongLength unique)
 IsFaultOf bytes (fault.Malformed unique) = request_in bytes ≡ Err (fault.Malformed unique)
 IsFaultOf bytes (fault.NoMemory unique) =
-    IsOkAnd (request_in bytes) (λ request. request.unique ≡ unique)
+    IsOkAnd (request_in bytes)
+    (λ request. (request.unique ≡ unique) × (is_answered request.operation ≡ true))
+IsFaultOf bytes fault.Unanswered =
+    IsOkAnd (request_in bytes) (λ request. is_answered request.operation ≡ false)
 
 -- the result is what these bytes are
 abbrev pub IsParsed : List ℕ → Result Request ParseFault → Type 0

@@ -20,16 +20,19 @@ pub enum ParseFault {
         /// The number of the request.
         unique: u64,
     },
-    /// Memory was refused for what is else a request.
+    /// Memory was refused for what is else a request that is answered.
     NoMemory {
         /// The number of the request.
         unique: u64,
     },
+    /// Memory was refused for what is else a request that has no answer: nodes to be forgotten.
+    Unanswered,
 }
 
 impl ParseFault {
-    /// What is to be answered: this error to the request of this number, or nothing. The kernel
-    /// ignores an answer to a request that wants none, such as a forget.
+    /// What is to be answered: this error to the request of this number, or nothing. Of a request
+    /// whose body is malformed nothing is known, and the kernel ignores an answer that it does not
+    /// wait for.
     pub fn answer(self) -> Option<(u64, Errno)>
         ensures { result ≡ answer_to self }
     {
@@ -38,6 +41,7 @@ impl ParseFault {
             ParseFault::WrongLength { unique } => Some((unique, Errno::EIO)),
             ParseFault::Malformed { unique } => Some((unique, Errno::EINVAL)),
             ParseFault::NoMemory { unique } => Some((unique, Errno::ENOMEM)),
+            ParseFault::Unanswered => None,
         }
     }
 }

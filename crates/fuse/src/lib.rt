@@ -5,6 +5,7 @@
 //! each list of bytes is, and which bytes each reply has. Nothing here knows a file system.
 #![tactic(auto)]
 
+pub mod bits;
 mod bodies;
 mod errno;
 mod fault;

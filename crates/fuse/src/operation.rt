@@ -1,7 +1,8 @@
 // The operation of each opcode that is served.
 ghost use Rattle.fuse.specs.Faults.{Reads};
-ghost use Rattle.fuse.specs.Operations.{file_operation_in, node_operation_in, operation_in};
-ghost use Rattle.fuse.specs.Operations.{session_operation_in};
+ghost use Rattle.std.specs.Prelude.{◌≡◌};
+ghost use Rattle.fuse.specs.Operations.{file_operation_in, is_silent, node_operation_in};
+ghost use Rattle.fuse.specs.Operations.{operation_in, session_operation_in};
 
 use crate::bodies::{
     access_in, batch_forget_in, destroy_in, flush_in, forget_in, fsync_in, getattr_in, init_in,
@@ -72,6 +73,13 @@ const READDIRPLUS: u32 = 44;
 const RENAME2: u32 = 45;
 
 const LSEEK: u32 = 46;
+
+// Whether a request of this opcode has no answer.
+pub(crate) fn is_silent(opcode: u32) -> bool
+    ensures { result ≡ is_silent opcode }
+{
+    matches!(opcode, FORGET | INTERRUPT | BATCH_FORGET)
+}
 
 #[tactic(auto, unfolding(crate::specs::Operations::session_operation_in))]
 fn session_operation_in(heap: Heap, opcode: u32, body: &[u8]) -> Result<Operation, BodyFault>

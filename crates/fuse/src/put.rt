@@ -1,5 +1,7 @@
-// Numbers and the parts of replies, put behind what is there already.
-ghost use Rattle.std.specs.Prelude.{◌≡◌, ◌++◌, OnOk};
+// Numbers and the parts of replies, put behind what is there already. Where the vector has room for
+// them no memory is asked for, and each of these succeeds.
+ghost use Rattle.std.specs.Prelude.{◌≡◌, ◌+◌, ◌*◌, ◌≤◌, ◌++◌, IsOk, OnOk, length};
+ghost use Rattle.std.specs.Prelude.{vec_capacity, vec_len};
 ghost use Rattle.fuse.specs.Numbers.{u16_bytes, u16s, u32_bytes, u32s, u64_bytes, u64s};
 ghost use Rattle.fuse.specs.Replies.{attr_bytes, attr_reply_bytes, body_of, entry_bytes};
 ghost use Rattle.fuse.specs.Replies.{init_bytes, opened_bytes, statfs_bytes};
@@ -13,7 +15,10 @@ use std::alloc::AllocError;
 
 #[tactic(auto, unfolding(crate::specs::Numbers::u16_bytes))]
 fn put_u16(out: &mut Vec<u8, Heap>, number: u16) -> Result<(), AllocError>
-    ensures { OnOk result (out.new.items ≡ out.old.items ++ u16_bytes number) }
+    ensures bytes { OnOk result (out.new.items ≡ out.old.items ++ u16_bytes number) }
+    ensures len { OnOk result (vec_len out.new ≡ vec_len out.old + 2) }
+    ensures capacity { vec_capacity out.old ≤ vec_capacity out.new }
+    ensures succeeds { vec_len out.old + 2 ≤ vec_capacity out.old → IsOk result }
 {
     let mut bytes = [0u8; 2];
     let slice: &mut [u8] = &mut bytes;
@@ -24,7 +29,10 @@ fn put_u16(out: &mut Vec<u8, Heap>, number: u16) -> Result<(), AllocError>
 
 #[tactic(auto, unfolding(crate::specs::Numbers::u32_bytes))]
 fn put_u32(out: &mut Vec<u8, Heap>, number: u32) -> Result<(), AllocError>
-    ensures { OnOk result (out.new.items ≡ out.old.items ++ u32_bytes number) }
+    ensures bytes { OnOk result (out.new.items ≡ out.old.items ++ u32_bytes number) }
+    ensures len { OnOk result (vec_len out.new ≡ vec_len out.old + 4) }
+    ensures capacity { vec_capacity out.old ≤ vec_capacity out.new }
+    ensures succeeds { vec_len out.old + 4 ≤ vec_capacity out.old → IsOk result }
 {
     let mut bytes = [0u8; 4];
     let slice: &mut [u8] = &mut bytes;
@@ -35,7 +43,10 @@ fn put_u32(out: &mut Vec<u8, Heap>, number: u32) -> Result<(), AllocError>
 
 #[tactic(auto, unfolding(crate::specs::Numbers::u64_bytes))]
 fn put_u64(out: &mut Vec<u8, Heap>, number: u64) -> Result<(), AllocError>
-    ensures { OnOk result (out.new.items ≡ out.old.items ++ u64_bytes number) }
+    ensures bytes { OnOk result (out.new.items ≡ out.old.items ++ u64_bytes number) }
+    ensures len { OnOk result (vec_len out.new ≡ vec_len out.old + 8) }
+    ensures capacity { vec_capacity out.old ≤ vec_capacity out.new }
+    ensures succeeds { vec_len out.old + 8 ≤ vec_capacity out.old → IsOk result }
 {
     let mut bytes = [0u8; 8];
     let slice: &mut [u8] = &mut bytes;
@@ -46,7 +57,10 @@ fn put_u64(out: &mut Vec<u8, Heap>, number: u64) -> Result<(), AllocError>
 
 #[tactic(auto, unfolding(crate::specs::Numbers::u16s))]
 fn put_u16s(out: &mut Vec<u8, Heap>, numbers: &[u16]) -> Result<(), AllocError>
-    ensures { OnOk result (out.new.items ≡ out.old.items ++ u16s numbers.now) }
+    ensures bytes { OnOk result (out.new.items ≡ out.old.items ++ u16s numbers.now) }
+    ensures len { OnOk result (vec_len out.new ≡ vec_len out.old + 2 * length numbers.now) }
+    ensures capacity { vec_capacity out.old ≤ vec_capacity out.new }
+    ensures succeeds { vec_len out.old + 2 * length numbers.now ≤ vec_capacity out.old → IsOk result }
 {
     for number in numbers {
         put_u16(out, *number)?;
@@ -56,7 +70,10 @@ fn put_u16s(out: &mut Vec<u8, Heap>, numbers: &[u16]) -> Result<(), AllocError>
 
 #[tactic(auto, unfolding(crate::specs::Numbers::u32s))]
 pub(crate) fn put_u32s(out: &mut Vec<u8, Heap>, numbers: &[u32]) -> Result<(), AllocError>
-    ensures { OnOk result (out.new.items ≡ out.old.items ++ u32s numbers.now) }
+    ensures bytes { OnOk result (out.new.items ≡ out.old.items ++ u32s numbers.now) }
+    ensures len { OnOk result (vec_len out.new ≡ vec_len out.old + 4 * length numbers.now) }
+    ensures capacity { vec_capacity out.old ≤ vec_capacity out.new }
+    ensures succeeds { vec_len out.old + 4 * length numbers.now ≤ vec_capacity out.old → IsOk result }
 {
     for number in numbers {
         put_u32(out, *number)?;
@@ -66,7 +83,10 @@ pub(crate) fn put_u32s(out: &mut Vec<u8, Heap>, numbers: &[u32]) -> Result<(), A
 
 #[tactic(auto, unfolding(crate::specs::Numbers::u64s))]
 pub(crate) fn put_u64s(out: &mut Vec<u8, Heap>, numbers: &[u64]) -> Result<(), AllocError>
-    ensures { OnOk result (out.new.items ≡ out.old.items ++ u64s numbers.now) }
+    ensures bytes { OnOk result (out.new.items ≡ out.old.items ++ u64s numbers.now) }
+    ensures len { OnOk result (vec_len out.new ≡ vec_len out.old + 8 * length numbers.now) }
+    ensures capacity { vec_capacity out.old ≤ vec_capacity out.new }
+    ensures succeeds { vec_len out.old + 8 * length numbers.now ≤ vec_capacity out.old → IsOk result }
 {
     for number in numbers {
         put_u64(out, *number)?;
@@ -78,7 +98,10 @@ pub(crate) fn put_u64s(out: &mut Vec<u8, Heap>, numbers: &[u64]) -> Result<(), A
 
 #[tactic(auto, unfolding(crate::specs::Replies::attr_bytes))]
 fn put_attr(out: &mut Vec<u8, Heap>, attr: &Attr) -> Result<(), AllocError>
-    ensures { OnOk result (out.new.items ≡ out.old.items ++ attr_bytes attr.now) }
+    ensures bytes { OnOk result (out.new.items ≡ out.old.items ++ attr_bytes attr.now) }
+    ensures len { OnOk result (vec_len out.new ≡ vec_len out.old + 88) }
+    ensures capacity { vec_capacity out.old ≤ vec_capacity out.new }
+    ensures succeeds { vec_len out.old + 88 ≤ vec_capacity out.old → IsOk result }
 {
     let wide = [
         attr.inode,
@@ -107,7 +130,10 @@ fn put_attr(out: &mut Vec<u8, Heap>, attr: &Attr) -> Result<(), AllocError>
 
 #[tactic(auto, unfolding(crate::specs::Replies::entry_bytes))]
 pub(crate) fn put_entry(out: &mut Vec<u8, Heap>, entry: &Entry) -> Result<(), AllocError>
-    ensures { OnOk result (out.new.items ≡ out.old.items ++ entry_bytes entry.now) }
+    ensures bytes { OnOk result (out.new.items ≡ out.old.items ++ entry_bytes entry.now) }
+    ensures len { OnOk result (vec_len out.new ≡ vec_len out.old + 128) }
+    ensures capacity { vec_capacity out.old ≤ vec_capacity out.new }
+    ensures succeeds { vec_len out.old + 128 ≤ vec_capacity out.old → IsOk result }
 {
     put_u64s(out, &[entry.node, entry.generation, 0, 0])?;
     put_u32s(out, &[0, 0])?;
@@ -117,7 +143,10 @@ pub(crate) fn put_entry(out: &mut Vec<u8, Heap>, entry: &Entry) -> Result<(), Al
 
 #[tactic(auto, unfolding(crate::specs::Replies::attr_reply_bytes))]
 fn put_attr_reply(out: &mut Vec<u8, Heap>, attr: &Attr) -> Result<(), AllocError>
-    ensures { OnOk result (out.new.items ≡ out.old.items ++ attr_reply_bytes attr.now) }
+    ensures bytes { OnOk result (out.new.items ≡ out.old.items ++ attr_reply_bytes attr.now) }
+    ensures len { OnOk result (vec_len out.new ≡ vec_len out.old + 104) }
+    ensures capacity { vec_capacity out.old ≤ vec_capacity out.new }
+    ensures succeeds { vec_len out.old + 104 ≤ vec_capacity out.old → IsOk result }
 {
     put_u64s(out, &[0])?;
     put_u32s(out, &[0, 0])?;
@@ -127,7 +156,10 @@ fn put_attr_reply(out: &mut Vec<u8, Heap>, attr: &Attr) -> Result<(), AllocError
 
 #[tactic(auto, unfolding(crate::specs::Replies::opened_bytes))]
 fn put_opened(out: &mut Vec<u8, Heap>, opened: &Opened) -> Result<(), AllocError>
-    ensures { OnOk result (out.new.items ≡ out.old.items ++ opened_bytes opened.now) }
+    ensures bytes { OnOk result (out.new.items ≡ out.old.items ++ opened_bytes opened.now) }
+    ensures len { OnOk result (vec_len out.new ≡ vec_len out.old + 16) }
+    ensures capacity { vec_capacity out.old ≤ vec_capacity out.new }
+    ensures succeeds { vec_len out.old + 16 ≤ vec_capacity out.old → IsOk result }
 {
     put_u64s(out, &[opened.handle])?;
     put_u32s(out, &[opened.flags, 0])?;
@@ -136,7 +168,10 @@ fn put_opened(out: &mut Vec<u8, Heap>, opened: &Opened) -> Result<(), AllocError
 
 #[tactic(auto, unfolding(crate::specs::Replies::statfs_bytes))]
 fn put_statfs(out: &mut Vec<u8, Heap>, s: &StatFs) -> Result<(), AllocError>
-    ensures { OnOk result (out.new.items ≡ out.old.items ++ statfs_bytes s.now) }
+    ensures bytes { OnOk result (out.new.items ≡ out.old.items ++ statfs_bytes s.now) }
+    ensures len { OnOk result (vec_len out.new ≡ vec_len out.old + 80) }
+    ensures capacity { vec_capacity out.old ≤ vec_capacity out.new }
+    ensures succeeds { vec_len out.old + 80 ≤ vec_capacity out.old → IsOk result }
 {
     let wide = [
         s.blocks,
@@ -164,7 +199,10 @@ fn put_statfs(out: &mut Vec<u8, Heap>, s: &StatFs) -> Result<(), AllocError>
 
 #[tactic(auto, unfolding(crate::specs::Replies::init_bytes))]
 fn put_init(out: &mut Vec<u8, Heap>, init: &Init) -> Result<(), AllocError>
-    ensures { OnOk result (out.new.items ≡ out.old.items ++ init_bytes init.now) }
+    ensures bytes { OnOk result (out.new.items ≡ out.old.items ++ init_bytes init.now) }
+    ensures len { OnOk result (vec_len out.new ≡ vec_len out.old + 64) }
+    ensures capacity { vec_capacity out.old ≤ vec_capacity out.new }
+    ensures succeeds { vec_len out.old + 64 ≤ vec_capacity out.old → IsOk result }
 {
     put_u32s(out, &[MAJOR, MINOR, init.max_readahead, init.flags])?;
     put_u16s(out, &[init.max_background, init.congestion_threshold])?;
@@ -175,8 +213,11 @@ fn put_init(out: &mut Vec<u8, Heap>, init: &Init) -> Result<(), AllocError>
 }
 
 fn put_created(out: &mut Vec<u8, Heap>, entry: &Entry, opened: &Opened) -> Result<(), AllocError>
-    ensures { OnOk result
+    ensures bytes { OnOk result
         (out.new.items ≡ out.old.items ++ (entry_bytes entry.now ++ opened_bytes opened.now)) }
+    ensures len { OnOk result (vec_len out.new ≡ vec_len out.old + 144) }
+    ensures capacity { vec_capacity out.old ≤ vec_capacity out.new }
+    ensures succeeds { vec_len out.old + 144 ≤ vec_capacity out.old → IsOk result }
 {
     put_entry(out, entry)?;
     put_opened(out, opened)?;
@@ -184,7 +225,10 @@ fn put_created(out: &mut Vec<u8, Heap>, entry: &Entry, opened: &Opened) -> Resul
 }
 
 fn put_bytes(out: &mut Vec<u8, Heap>, bytes: &[u8]) -> Result<(), AllocError>
-    ensures { OnOk result (out.new.items ≡ out.old.items ++ bytes.now) }
+    ensures bytes { OnOk result (out.new.items ≡ out.old.items ++ bytes.now) }
+    ensures len { OnOk result (vec_len out.new ≡ vec_len out.old + length bytes.now) }
+    ensures capacity { vec_capacity out.old ≤ vec_capacity out.new }
+    ensures succeeds { vec_len out.old + length bytes.now ≤ vec_capacity out.old → IsOk result }
 {
     out.extend_from_slice(bytes)?;
     Ok(())
@@ -192,7 +236,10 @@ fn put_bytes(out: &mut Vec<u8, Heap>, bytes: &[u8]) -> Result<(), AllocError>
 
 // What stands behind the header of a reply.
 pub(crate) fn put_body(out: &mut Vec<u8, Heap>, reply: &Reply) -> Result<(), AllocError>
-    ensures { OnOk result (out.new.items ≡ out.old.items ++ body_of reply.now) }
+    ensures bytes { OnOk result (out.new.items ≡ out.old.items ++ body_of reply.now) }
+    ensures len { OnOk result (vec_len out.new ≡ vec_len out.old + length (body_of reply.now)) }
+    ensures capacity { vec_capacity out.old ≤ vec_capacity out.new }
+    ensures succeeds { vec_len out.old + length (body_of reply.now) ≤ vec_capacity out.old → IsOk result }
 {
     match reply {
         Reply::Error(_) | Reply::Empty => Ok(()),

@@ -1,8 +1,8 @@
 use Rattle.std.proofs.Common.{◌≡◌, drop, length, Some, None, arith}
-use Rattle.fuse.specs.Numbers.{u32_at}
-use Rattle.fuse.specs.Operations.{operation_in}
+use Rattle.fuse.specs.Numbers.{u32_at, u64_at}
+use Rattle.fuse.specs.Operations.{is_silent, operation_in}
 use Rattle.std.specs.Prelude.{IsSome}
-use Rattle.fuse.proofs.Reading.{request_known, request_told}
+use Rattle.fuse.proofs.Reading.{refused_told, request_known, request_told}
 use Rattle.fuse.proofs.reader.parse.Goals as goal
 
 pub returns-in-Ok : goal.returns-in-Ok
@@ -26,4 +26,5 @@ returns-in-Err-NoMemory c =
     let told : u32_at bytes 0 ≡ length bytes = omega (arith, c.if-u32_at-bytes.false, c.u32_at.ensures) in
     let some : IsSome (operation_in c.u32_at-opcode.result c.split_at.result.1.now) = c.in-Err-NoMemory.ensures.1 cc in
     let body : IsSome (operation_in (u32_at bytes 4) (drop 40 bytes)) = rw (c.u32_at-opcode.ensures, c.split_at.ensures.back) at some in
-    rw c.u64_at-unique.ensures (request_known bytes (omega arith) told body)
+    refused_told bytes c.no_memory.result (u64_at bytes 8) (is_silent (u32_at bytes 4)) (request_known bytes (omega arith) told body)
+    (rw c.u32_at-opcode.ensures at c.no_memory.ensures.silent) (rw (c.u32_at-opcode.ensures, c.u64_at-unique.ensures) at c.no_memory.ensures.answered)
