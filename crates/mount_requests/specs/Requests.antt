@@ -95,7 +95,7 @@ opened_first s view inode pid fd = record s {
 
 -- or once more under the number that it has
 abbrev pub opened_again : Seen → ℕ → Seen
-opened_again s handle = record s { files = counted handle s.files }
+opened_again s handle = record s { files = counted handle (map.get s.files handle) s.files }
 
 -- ---- looking
 
@@ -433,13 +433,17 @@ with_names s node handle names = record s {
   folders = map.insert s.folders handle (record { node = node; names = names; was_read = true });
 }
 
+abbrev pub ListsBy : Seen → Seen → ℕ → ℕ → ℕ → ℕ → ℕ → Result (Option Directory) Failure
+    → Shown → Shown → Result Reply Failure → Type 0
+ListsBy s later pid node handle offset size plan old new result =
+    Answers s later old new plan (listing_anew pid node (kept_names (folder_at s handle)))
+    (λ d names known r. Says (Lists offset size names) r × (known ≡ with_names s node handle names))
+    result
+
 abbrev pub AnswersReadDir : Seen → Seen → ℕ → ℕ → ℕ → ℕ → ℕ → Shown → Shown → Result Reply Failure
     → Type 0
 AnswersReadDir s later pid node handle offset size old new result =
-    Answers s later old new (lists s node handle offset)
-    (listing_anew pid node (kept_names (folder_at s handle)))
-    (λ d names known r. Says (Lists offset size names) r × (known ≡ with_names s node handle names))
-    result
+    ListsBy s later pid node handle offset size (lists s node handle offset) old new result
 
 -- ---- all of them
 

@@ -3,7 +3,7 @@ use Rattle.std.specs.Prelude.{ℕ}
 use Rattle.std.specs.Ordering.{nat_cmp}
 use Rattle.model.specs.FiniteMap as map
 use Rattle.nodes.specs.Tables.{Table}
-use Rattle.mount_tables.specs.Files.{key_cmp}
+use Rattle.mount_tables.specs.FileKeys.{key_cmp}
 use Rattle.mount_tables.specs.Folders.{Opened}
 use Rattle.mount_tables.specs.Views.{View, name_cmp}
 use Rattle.mount_tables.specs.declared.open_files.OpenFile.{OpenFile}

@@ -11,7 +11,8 @@ ghost use Rattle.mount_requests.specs.Told.{ShowsSought, sought};
 use crate::failure::Failure;
 use crate::tables::Tables;
 use course::{Fault, Hand, append, stat_file, write};
-use fuse::{Errno, OPEN_APPEND, Reply, Whence};
+use fuse::bits::OPEN_APPEND;
+use fuse::{Errno, Reply, Whence};
 use ids::{Bytes, Fd, Kind, MOST_MOVED, Num, Pid};
 use machine::Machine;
 use mount_tables::OpenFile;
@@ -158,8 +159,9 @@ impl Tables {
             open_flags bytes hand.old.shown hand.new.shown result }
     {
         let writing = self.plan_write(hand.pid(), handle, offset, open_flags)?;
+        let inode = writing.inode;
         let size = put(hand, writing, bytes)?;
-        self.attributes.modify(writing.inode, Kind::File);
+        self.attributes.modify(inode, Kind::File);
         Ok(Reply::Written { size })
     }
 

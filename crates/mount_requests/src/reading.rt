@@ -1,12 +1,15 @@
 // Requests on open directories.
-ghost use Rattle.std.specs.Prelude.{◌≡◌, IfOk, IfSome, None, Ok, Some};
+ghost use Rattle.std.specs.Prelude.{◌≡◌, IfErr, IfOk, IfSome, IsOk, Err, OnErr, OnOk, Ok, Some};
 ghost use Rattle.course.specs.Course.{Ran};
 ghost use Rattle.course.specs.Hands.{bound};
+ghost use Rattle.fuse.specs.declared.errno.Errno.TheVariants.{ENOMEM};
 ghost use Rattle.mount_requests.specs.Answers.{IsPlanned};
+ghost use Rattle.mount_requests.specs.Failures.{error};
 ghost use Rattle.mount_requests.specs.Found.{folder_at};
 ghost use Rattle.mount_requests.specs.Requests.{AnswersOpenDir, AnswersReadDir, ListsBy, directory_of};
 ghost use Rattle.mount_requests.specs.Requests.{folder_of, is_stale, listed_by, lists};
-ghost use Rattle.mount_requests.specs.Requests.{planned_directory};
+ghost use Rattle.mount_requests.specs.Requests.{kept_names, planned_directory, with_names};
+ghost use Rattle.mount_requests.specs.Listed.{Lists};
 ghost use Rattle.mount_requests.specs.Seen.{seen};
 
 use crate::failure::Failure;
@@ -15,7 +18,7 @@ use crate::tables::Tables;
 use course::{Fault, Hand, Twice, list_at};
 use fuse::{Errno, Opened, Reply};
 use heap::Heap;
-use ids::{NameList, Num};
+use ids::{Name, NameList, Num};
 use machine::Machine;
 use mount_tables::Folder;
 use std::alloc::AllocError;
@@ -100,7 +103,8 @@ impl Tables {
 
     // An open directory of this node.
     fn open_folder_of(&self, node: u64, handle: u64) -> Result<&Folder, Failure>
-        ensures { option_copied result ≡ folder_of (seen self.now) node handle }
+        ensures ok { IfOk result (λ folder. folder_of (seen self.now) node handle ≡ Ok folder.now) }
+        ensures err { IfErr result (λ e. folder_of (seen self.now) node handle ≡ Err e) }
     {
         match self.folders.get(handle) {
             Some(folder) => {
@@ -119,6 +123,7 @@ impl Tables {
         ensures plan { IsPlanned (lists (seen self.now) node handle offset) result }
         ensures same { IfOk result (λ o. IfSome o
             (λ d. IfSome d.paths (λ p. p.second ≡ p.first))) }
+        ensures folder { OnOk result (IsOk (folder_of (seen self.now) node handle)) }
     {
         let folder = self.open_folder_of(node, handle)?;
         if !is_stale(folder, offset) {
@@ -136,7 +141,8 @@ impl Tables {
         wanted: Wanted,
         directory: Directory,
     ) -> Result<Reply, Failure>
-        requires { IfSome directory.paths (λ p. p.second ≡ p.first) }
+        requires same { IfSome directory.paths (λ p. p.second ≡ p.first) }
+        requires folder { IsOk (folder_of (seen self.old) node wanted.handle) }
         ensures bound { bound hand.new ≡ bound hand.old }
         ensures answers { ListsBy (seen self.old) (seen self.new) hand.old.pid node wanted.handle
             wanted.offset wanted.size (Ok (Some directory)) hand.old.shown hand.new.shown result }
@@ -148,13 +154,27 @@ impl Tables {
         Ok(Reply::Directory(listing))
     }
 
-    // Lists the names that are kept of an open directory.
-    fn list_kept(&mut self, wanted: Wanted) -> Result<Reply, Failure>
+    // The names that are kept of an open directory.
+    fn names_kept(&self, handle: u64) -> &[Name]
+        ensures { result.now ≡ kept_names (folder_at (seen self.now) handle) }
     {
-        let names = match self.folders.get(wanted.handle) {
+        match self.folders.get(handle) {
             Some(folder) => folder.names.as_slice(),
             None => &[],
-        };
+        }
+    }
+
+    // Lists the names that are kept of an open directory.
+    fn list_kept(&mut self, node: u64, wanted: Wanted) -> Result<Reply, Failure>
+        requires { IsOk (folder_of (seen self.old) node wanted.handle) }
+        ensures ok { IfOk result (Lists wanted.offset wanted.size
+            (kept_names (folder_at (seen self.old) wanted.handle))) }
+        ensures kept { OnOk result (seen self.new ≡ with_names (seen self.old) node wanted.handle
+            (kept_names (folder_at (seen self.old) wanted.handle))) }
+        ensures err { IfErr result (λ e. e ≡ error ENOMEM) }
+        ensures none { OnErr result (seen self.new ≡ seen self.old) }
+    {
+        let names = self.names_kept(wanted.handle);
         let listing = list_from(self.heap, names, wanted.offset, wanted.size)?;
         self.folders.mark(wanted.handle);
         Ok(Reply::Directory(listing))
@@ -173,7 +193,7 @@ impl Tables {
     {
         match self.plan_list(node, wanted.handle, wanted.offset)? {
             Some(directory) => self.list_anew(hand, node, wanted, directory),
-            None => self.list_kept(wanted),
+            None => self.list_kept(node, wanted),
         }
     }
 }
