@@ -90,7 +90,7 @@ opened_first s view inode pid fd = record s {
       (record { view = view; inode = inode; pid = pid; fd = fd; opens = 1 });
   handles = map.insert s.handles (record { view = view; inode = inode }) s.next_file;
   next_file = s.next_file + 1;
-  roles = if view == 0 then held pid s.roles else s.roles;
+  roles = if view == 0 then held pid (map.get s.roles pid) s.roles else s.roles;
 }
 
 -- or once more under the number that it has

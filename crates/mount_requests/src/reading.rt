@@ -18,7 +18,7 @@ use crate::tables::Tables;
 use course::{Fault, Hand, Twice, list_at};
 use fuse::{Errno, Opened, Reply};
 use heap::Heap;
-use ids::{Name, NameList, Num};
+use ids::{NameList, Num};
 use machine::Machine;
 use mount_tables::Folder;
 use std::alloc::AllocError;
@@ -154,16 +154,6 @@ impl Tables {
         Ok(Reply::Directory(listing))
     }
 
-    // The names that are kept of an open directory.
-    fn names_kept(&self, handle: u64) -> &[Name]
-        ensures { result.now ≡ kept_names (folder_at (seen self.now) handle) }
-    {
-        match self.folders.get(handle) {
-            Some(folder) => folder.names.as_slice(),
-            None => &[],
-        }
-    }
-
     // Lists the names that are kept of an open directory.
     fn list_kept(&mut self, node: u64, wanted: Wanted) -> Result<Reply, Failure>
         requires { IsOk (folder_of (seen self.old) node wanted.handle) }
@@ -174,7 +164,7 @@ impl Tables {
         ensures err { IfErr result (λ e. e ≡ error ENOMEM) }
         ensures none { OnErr result (seen self.new ≡ seen self.old) }
     {
-        let names = self.names_kept(wanted.handle);
+        let names = self.folders.names(wanted.handle);
         let listing = list_from(self.heap, names, wanted.offset, wanted.size)?;
         self.folders.mark(wanted.handle);
         Ok(Reply::Directory(listing))
