@@ -1,2 +1,3 @@
 mod Written
 mod Below
+mod Named

@@ -69,6 +69,11 @@ impl<T: Drop> ByNumber<T> {
         self.rows.get(&number)
     }
 
+    // How many numbers stand for something.
+    pub(crate) fn len(&self) -> usize {
+        self.rows.len()
+    }
+
     // Makes room for one number more. Refused memory changes nothing.
     pub(crate) fn reserve(&mut self) -> Result<(), AllocError>
         ensures rows { self.new.rows ≡ self.old.rows }

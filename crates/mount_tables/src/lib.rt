@@ -8,7 +8,13 @@
 mod by_number;
 mod file_index;
 mod file_key;
+mod hints;
+mod name_index;
 mod open_files;
+mod processes;
+mod views;
 
 pub use file_key::FileKey;
 pub use open_files::{OpenFile, OpenFiles};
+pub use processes::{Processes, Role, first_process};
+pub use views::{State, View, Views};
