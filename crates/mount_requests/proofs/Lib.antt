@@ -1,1 +1,3 @@
 mod Answering
+mod Knowing
+mod Listing

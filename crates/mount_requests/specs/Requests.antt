@@ -1,7 +1,7 @@
 -- The plan of each request about a node of a tree, its course, what its reply shows, and what is known
 -- then of nodes and open files: all that is not told here stands.
 use Rattle.std.specs.Prelude.{◌≡◌, ℕ, ◌+◌, ◌==◌, ◌||◌, ◌&&◌, ◌/◌, ◌%◌, ◌^◌, not, min, nat_lt, bit_and, ℤ, pos}
-use Rattle.std.specs.Prelude.{List, Bool, true, false, Option, Some, None, is_some, option_map}
+use Rattle.std.specs.Prelude.{List, [], Bool, true, false, Option, Some, None, is_some, option_map}
 use Rattle.std.specs.Prelude.{Result, Ok, Err, if◌then◌else◌}
 use Rattle.model.specs.FiniteMap as map
 use Rattle.ids.specs.declared.call.Call.TheVariants as call

@@ -1,6 +1,7 @@
 // Lists of names as they are told.
-ghost use Rattle.std.specs.Prelude.{◌≡◌, ◌<◌, ◌-◌, ◌^◌, ◌++◌, ◌∷◌, [], slice_get, option_map, list_any};
+ghost use Rattle.std.specs.Prelude.{◌≡◌, ◌<◌, ◌-◌, ◌^◌, ◌++◌, ◌∷◌, [], slice_get, option_map};
 ghost use Rattle.std.specs.Prelude.{IfOk, OnOk};
+ghost use Rattle.std.specs.List.{list_any};
 ghost use Rattle.mount_tables.specs.Numbers.{is_reserved};
 ghost use Rattle.mount_requests.specs.Found.{shown_names};
 ghost use Rattle.mount_requests.specs.Listed.{IsList, added_entry, with_dots};

@@ -1,5 +1,5 @@
 // Requests that open files.
-ghost use Rattle.std.specs.Prelude.{◌≡◌, ◌<◌, is_some, IfOk, Ok};
+ghost use Rattle.std.specs.Prelude.{◌≡◌, ◌<◌, is_some, IfOk, Ok, OnOk};
 ghost use Rattle.course.specs.Course.{Ran};
 ghost use Rattle.course.specs.Hands.{bound};
 ghost use Rattle.mount_requests.specs.Answers.{IsPlanned};
@@ -20,6 +20,7 @@ use fuse::{Errno, Opened, Reply};
 use ids::{Bytes, Fd, Kind, Num, Pid};
 use machine::Machine;
 use mount_tables::PLAIN;
+use std::alloc::AllocError;
 
 // How a file is opened.
 #[derive(Drop)]
@@ -66,6 +67,23 @@ impl Tables {
         }
     }
 
+    // Makes room for one open file more.
+    fn reserve_file(&mut self) -> Result<(), AllocError>
+        ensures seen { seen self.new ≡ seen self.old }
+        ensures room { OnOk result (0 < self.new.files.room) }
+        ensures nodes { self.new.nodes ≡ self.old.nodes }
+    {
+        self.files.reserve()
+    }
+
+    // An open file is opened once more.
+    fn count_open(&mut self, handle: u64)
+        ensures seen { seen self.new ≡ opened_again (seen self.old) handle }
+        ensures nodes { self.new.nodes ≡ self.old.nodes }
+    {
+        self.files.count(handle);
+    }
+
     // Keeps a descriptor that was opened, and gives the number of the open file. A process of the
     // plain tree has one descriptor more.
     fn keep_open(&mut self, view: u64, inode: Num, pid: Pid, fd: Fd) -> u64
@@ -96,7 +114,7 @@ impl Tables {
     {
         cut_if(hand, fd, cut)?;
         self.note_cut(inode, cut);
-        self.files.count(handle);
+        self.count_open(handle);
         Ok(Reply::Opened(opened(handle)))
     }
 
@@ -113,7 +131,7 @@ impl Tables {
             (Ok (First located.view located.path inode)) hand.old.shown hand.new.shown result }
     {
         let Located { view, path } = located;
-        self.files.reserve()?;
+        self.reserve_file()?;
         let fd = open_cut(hand, path, inode, cut)?;
         self.note_cut(inode, cut);
         let handle = self.keep_open(view, inode, hand.pid(), fd);
@@ -223,7 +241,7 @@ impl Tables {
     {
         match self.files.handle_of(view, made.stat.num) {
             Some(handle) => {
-                self.files.count(handle);
+                self.count_open(handle);
                 handle
             }
             None => self.keep_open(view, made.stat.num, pid, made.fd),
@@ -263,7 +281,7 @@ impl Tables {
     {
         let Located { view, path } = self.locate_new(caller.node, name)?;
         let path = twice(path)?;
-        self.files.reserve()?;
+        self.reserve_file()?;
         let spot = self.spot_for(caller.node, name)?;
         let made = self.make_open(hand, view, path, flags)?;
         self.note_opened(caller, &made, mode, cuts(flags));

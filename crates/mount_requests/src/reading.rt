@@ -1,5 +1,5 @@
 // Requests on open directories.
-ghost use Rattle.std.specs.Prelude.{◌≡◌, IfErr, IfOk, IfSome, IsOk, Err, OnErr, OnOk, Ok, Some};
+ghost use Rattle.std.specs.Prelude.{◌≡◌, ◌<◌, Err, IfErr, IfOk, IfSome, IsOk, OnErr, OnOk, Ok, Some};
 ghost use Rattle.course.specs.Course.{Ran};
 ghost use Rattle.course.specs.Hands.{bound};
 ghost use Rattle.fuse.specs.declared.errno.Errno.TheVariants.{ENOMEM};
@@ -8,7 +8,8 @@ ghost use Rattle.mount_requests.specs.Failures.{error};
 ghost use Rattle.mount_requests.specs.Found.{folder_at};
 ghost use Rattle.mount_requests.specs.Requests.{AnswersOpenDir, AnswersReadDir, ListsBy, directory_of};
 ghost use Rattle.mount_requests.specs.Requests.{folder_of, is_stale, listed_by, lists};
-ghost use Rattle.mount_requests.specs.Requests.{kept_names, planned_directory, with_names};
+ghost use Rattle.mount_requests.specs.Requests.{kept_names, planned_directory, with_folder};
+ghost use Rattle.mount_requests.specs.Requests.{with_names};
 ghost use Rattle.mount_requests.specs.Listed.{Lists};
 ghost use Rattle.mount_requests.specs.Seen.{seen};
 
@@ -83,6 +84,40 @@ impl Tables {
         Ok(directory)
     }
 
+    // Makes room for one open directory more.
+    fn reserve_folder(&mut self) -> Result<(), AllocError>
+        ensures seen { seen self.new ≡ seen self.old }
+        ensures room { OnOk result (0 < self.new.folders.room) }
+    {
+        self.folders.reserve()
+    }
+
+    // Keeps a directory that was opened, with the names that its lists show, and gives its number.
+    fn keep_folder(&mut self, node: u64, names: NameList) -> u64
+        requires { 0 < self.old.folders.room }
+        ensures handle { result ≡ (seen self.old).next_folder }
+        ensures seen { seen self.new ≡ with_folder (seen self.old) node names }
+    {
+        self.folders.add(node, names)
+    }
+
+    // The names of an open directory were taken anew, and are read.
+    fn renew_names(&mut self, node: u64, handle: u64, names: NameList)
+        requires { IsOk (folder_of (seen self.old) node handle) }
+        ensures { seen self.new ≡ with_names (seen self.old) node handle names }
+    {
+        self.folders.renew(handle, names);
+    }
+
+    // The names that are kept of an open directory are read.
+    fn mark_names(&mut self, node: u64, handle: u64)
+        requires { IsOk (folder_of (seen self.old) node handle) }
+        ensures { seen self.new ≡ with_names (seen self.old) node handle
+            (kept_names (folder_at (seen self.old) handle)) }
+    {
+        self.folders.mark(handle);
+    }
+
     // Opens a directory, and takes its names.
     pub(crate) fn open_folder<K: Machine>(
         &mut self,
@@ -94,10 +129,10 @@ impl Tables {
             hand.old.shown hand.new.shown result }
     {
         let directory = self.plan_directory(node)?;
-        self.folders.reserve()?;
+        self.reserve_folder()?;
         let list = list_names(hand, self.heap, directory)?;
         let names = names_shown(self.heap, node, list)?;
-        let handle = self.folders.add(node, names);
+        let handle = self.keep_folder(node, names);
         Ok(Reply::Opened(Opened { handle, flags: 0 }))
     }
 
@@ -150,7 +185,7 @@ impl Tables {
         let list = list_names(hand, self.heap, directory)?;
         let names = names_shown(self.heap, node, list)?;
         let listing = list_from(self.heap, names.as_slice(), wanted.offset, wanted.size)?;
-        self.folders.renew(wanted.handle, names);
+        self.renew_names(node, wanted.handle, names);
         Ok(Reply::Directory(listing))
     }
 
@@ -166,7 +201,7 @@ impl Tables {
     {
         let names = self.folders.names(wanted.handle);
         let listing = list_from(self.heap, names, wanted.offset, wanted.size)?;
-        self.folders.mark(wanted.handle);
+        self.mark_names(node, wanted.handle);
         Ok(Reply::Directory(listing))
     }
 
