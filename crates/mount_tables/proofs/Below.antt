@@ -5,6 +5,8 @@ use Rattle.std.specs.Cmp.{nat_cmp_total}
 use Rattle.model.specs.FiniteMap as map
 use Rattle.model.proofs.Laws.{tie}
 use Rattle.mount_tables.specs.Files.{IsBelow, LeadsBelow, is_this, unlinked}
+use Rattle.mount_tables.specs.Folders.{marked}
+use Rattle.mount_tables.specs.declared.folders.Folder.{Folder}
 use Rattle.mount_tables.specs.FileKeys.{key_cmp, key_cmp_total}
 use Rattle.mount_tables.specs.Rows.{replaced}
 use Rattle.mount_tables.specs.declared.file_key.FileKey.{FileKey}
@@ -43,6 +45,13 @@ module _ {X : Type 0} where
 
   pub nothing_next : (m : map.FinMap nat_cmp X) (next : ℕ) → IsBelow next m → map.get m next ≡ None
   nothing_next m next below = nothing_by m next (map.get m next) refl below
+
+marked_by : (m : map.FinMap nat_cmp Folder) (handle next : ℕ) (found : Option Folder) → map.get m handle ≡ found → IsBelow next m → IsBelow next (marked handle found m)
+marked_by m handle next None is below = below
+marked_by m handle next (Some folder) is below = below_insert m handle next next _ below (omega arith) (below handle folder is)
+
+pub below_marked : (m : map.FinMap nat_cmp Folder) (handle next : ℕ) → IsBelow next m → IsBelow next (marked handle (map.get m handle) m)
+below_marked m handle next below = marked_by m handle next (map.get m handle) refl below
 
 pub leads_empty : (next : ℕ) → LeadsBelow next (map.empty {X = ℕ})
 leads_empty next key n is = let e : None ≡ Some n = sym (map.get-empty key_cmp key) ∙ is in absurd cc

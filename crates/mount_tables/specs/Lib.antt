@@ -4,3 +4,6 @@ pub mod Files
 pub mod Processes
 pub mod Views
 pub mod Names
+pub mod Folders
+pub mod Numbers
+pub mod Attributes
