@@ -14,7 +14,7 @@ use course::{Hand, find, stat_path};
 use fuse::{Attr, Entry, Errno, Reply};
 use ids::{Bytes, Stat};
 use machine::Machine;
-use mount_tables::{ROOT, TRANSACTIONS, is_reserved};
+use mount_tables::{AttributeTable, ROOT, TRANSACTIONS, is_reserved};
 use nodes::Spot;
 
 impl Tables {
@@ -98,7 +98,7 @@ impl Tables {
         if self.nodes.is_current(node) {
             self.attributes.attr(stat)
         } else {
-            self.attributes.first_attr(stat)
+            AttributeTable::new(self.heap).attr(stat)
         }
     }
 
