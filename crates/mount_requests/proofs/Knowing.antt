@@ -60,8 +60,8 @@ module _ (s : Seen) (n : Table) (view pid : ℕ) (m : Made) where
 
 -- a file was made and opened, and its name looked up
 module _ (s u v w later : Seen) (view pid process node : ℕ) (name : List ℕ) (p : DirectoryEntry) (m : Made) (entry : Entry) (o : Opened) (handle : ℕ) (a : u ≡ s) (b : p ≡ named node name) (same : process ≡ pid) (noted : v ≡ record u { nodes = born_if m.is_new u.nodes m.stat.num }) (kept : w ≡ with_open v view process m) where
-  n : Table
-  abbrev n = born_if m.is_new s.nodes m.stat.num
+  abbrev pub n : Table
+  n = born_if m.is_new s.nodes m.stat.num
 
   before : v ≡ record s { nodes = n }
   before = noted ∙ ap (λ (x : Seen). record x { nodes = born_if m.is_new x.nodes m.stat.num }) a

@@ -1,5 +1,5 @@
 -- Lists of names that are told one after another, and names that are taken anew.
-use Rattle.std.proofs.Common.{◌≡◌, ℕ, ◌+◌, ◌-◌, ◌^◌, List, length, [], ◌∷◌, ◌++◌, drop, Option, Some, None, Bool, true, false, cond, not, refl, sym, ap, subst, ◌∙◌, append_assoc}
+use Rattle.std.proofs.Common.{◌≡◌, ℕ, ◌+◌, ◌-◌, ◌^◌, List, length, [], ◌∷◌, ◌++◌, drop, Option, Some, None, Bool, true, false, cond, not, ◌||◌, refl, sym, ap, subst, ◌∙◌, append_assoc}
 use Rattle.std.specs.Prelude.{Result, Ok, Err, IfErr, IfOk, OnErr, OnOk, slice_get, if◌then◌else◌}
 use Rattle.std.specs.List.{filter, list_any}
 use Rattle.std.proofs.lemmas.List.{drop_more}
@@ -69,8 +69,8 @@ pub shown_more : (node : ℕ) (name : List ℕ) (names so_far all : List (List �
 shown_more node name names so_far all h = append_assoc so_far (shown_names node (name ∷ [])) (shown_names node names) ∙ ap (λ (n : List (List ℕ)). so_far ++ n) (by_bool (not (is_reserved node name)) name (shown_names node names)) ∙ h
 
 -- a list of these names, which go by another name too
-pub lists_as : (offset size : ℕ) {names other : List (List ℕ)} {list : Listed} → other ≡ names → IsList offset size other list → IsList offset size names list
-lists_as offset size {list = list} e h = subst (λ (n : List (List ℕ)). IsList offset size n list) e h
+pub lists_as : (offset size : ℕ) (list : Listed) {names other : List (List ℕ)} → other ≡ names → IsList offset size other list → IsList offset size names list
+lists_as offset size list e h = subst (λ (n : List (List ℕ)). IsList offset size n list) e h
 
 -- where none of the names is reserved, lists show all of them
 keeps : {A : Type 0} (is any : Bool) (x : A) (ys xs : List A) → (is || any) ≡ false → (any ≡ false → ys ≡ xs) → cond (not is) (x ∷ ys) ys ≡ x ∷ xs

@@ -109,7 +109,7 @@ abbrev pub AnswersName : Seen → Seen → ℕ → ℕ → List ℕ → Shown �
 AnswersName s later pid node name old new result =
     Answers s later old new (located_child s node name) (λ p. stating pid (call.Stat p.path))
     (λ p stat known r. Says (ShowsEntry s.nodes (named node name) stat) r
-        × (known ≡ with_look_up s node name stat)) result
+    × (known ≡ with_look_up s node name stat)) result
 
 abbrev pub AnswersLookUpBy : Bool → Seen → Seen → ℕ → ℕ → List ℕ → Shown → Shown
     → Result Reply Failure → Type 0
@@ -161,7 +161,7 @@ abbrev pub AnswersMkDir : Seen → Seen → ℕ → ℕ → List ℕ → Shown �
 AnswersMkDir s later pid node name old new result =
     Answers s later old new (located_new s node name) (λ p. making pid (call.Mkdir p.path) p.path)
     (λ p stat known r. Says (ShowsEntry (made s.nodes stat.num) (named node name) stat) r
-        × (known ≡ with_made s node name stat)) result
+    × (known ≡ with_made s node name stat)) result
 
 -- only plain files are made, and a mode that tells no kind means them
 abbrev pub plain_kind : ℕ → Result (Unit {0}) Failure
@@ -177,7 +177,7 @@ abbrev pub AnswersMkNod : Seen → Seen → ℕ → ℕ → List ℕ → ℕ →
 AnswersMkNod s later pid node name mode old new result =
     Answers s later old new (planned_file s node name mode) (λ p. making_file pid p.path p.path)
     (λ p stat known r. Says (ShowsEntry (made s.nodes stat.num) (named node name) stat) r
-        × (known ≡ with_made s node name stat)) result
+    × (known ≡ with_made s node name stat)) result
 
 -- two paths in one view
 abbrev pub in_one_view : Located → Located → Result Pair Failure
@@ -201,7 +201,7 @@ AnswersLink s later pid parent node name old new result =
     Answers s later old new (linking_in s parent node name)
     (λ l. linking pid l.from.first l.inode l.to.first)
     (λ l stat known r. Says (ShowsEntry s.nodes (named parent name) stat) r
-        × (known ≡ with_look_up s parent name stat)) result
+    × (known ≡ with_look_up s parent name stat)) result
 
 -- ---- taking names away, and moving them
 
@@ -325,8 +325,8 @@ abbrev pub AnswersCreate : Seen → Seen → ℕ → ℕ → List ℕ → ℕ �
 AnswersCreate s later pid node name flags old new result =
     Answers s later old new (located_new s node name) (making_open s pid flags)
     (λ p made known r. Says (ShowsCreated (born_if made.is_new s.nodes made.stat.num)
-            (named node name) made.stat (handle_made s p.view made)) r
-        × (known ≡ with_created s p.view pid node name made)) result
+    (named node name) made.stat (handle_made s p.view made)) r
+    × (known ≡ with_created s p.view pid node name made)) result
 
 -- ---- open files
 
@@ -398,7 +398,7 @@ abbrev pub AnswersOpenDir : Seen → Seen → ℕ → ℕ → Shown → Shown �
 AnswersOpenDir s later pid node old new result =
     Answers s later old new (planned_directory s node) (listed_by pid)
     (λ d names known r. Says (ShowsHandle s.next_folder) r
-        × (known ≡ with_folder s node (shown_names node names))) result
+    × (known ≡ with_folder s node (shown_names node names))) result
 
 -- an open directory of this node
 abbrev pub if_of_node : ℕ → Opened → Result Opened Failure

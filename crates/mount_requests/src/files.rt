@@ -125,8 +125,8 @@ impl Tables {
         ensures answers { AnswersRead (seen self.old) (seen self.new) hand.old.pid handle offset size
             hand.old.shown hand.new.shown result }
     {
-        let Reading { fd, count, offset } = self.plan_read(hand.pid(), handle, offset, size)?;
-        let bytes = course::read(hand, self.heap, fd, count, offset)?;
+        let reading = self.plan_read(hand.pid(), handle, offset, size)?;
+        let bytes = course::read(hand, self.heap, reading.fd, reading.count, reading.offset)?;
         Ok(Reply::Data(bytes))
     }
 

@@ -21,16 +21,18 @@ const MOST_LISTED: u32 = 1_048_576;
 // The most bytes of a name.
 const NAME_LIMIT: usize = 255;
 
-// Whether one of the names is that of the directory of transactions, which lists do not show.
-fn has_reserved(node: u64, names: &[Name]) -> bool
+// Whether a name is that of the directory of transactions, which lists do not show.
+fn is_hidden(name: &Name, node: u64) -> bool
+    ensures { result ≡ is_reserved node name.now }
+{
+    is_reserved(node, name.as_slice())
+}
+
+// Whether one of these names is.
+fn has_hidden(node: u64, names: &[Name]) -> bool
     ensures { result ≡ list_any (λ name. is_reserved node name) names.now }
 {
-    for name in names {
-        if is_reserved(node, name.as_slice()) {
-            return true;
-        }
-    }
-    false
+    names.iter().any(|name| is_hidden(name, node))
 }
 
 // Puts a copy of a name behind the others, where lists show it.
@@ -38,7 +40,7 @@ fn push_shown(names: &mut Vec<Name, Heap>, node: u64, name: &Name) -> Result<(),
     ensures { OnOk result (names.new.items
         ≡ names.old.items ++ shown_names node (name.now ∷ [])) }
 {
-    if is_reserved(node, name.as_slice()) {
+    if is_hidden(name, node) {
         return Ok(());
     }
     names.push(name.try_clone()?)?;
@@ -60,7 +62,7 @@ fn copies_shown(heap: Heap, node: u64, list: &[Name]) -> Result<Vec<Name, Heap>,
 pub(crate) fn names_shown(heap: Heap, node: u64, list: NameList) -> Result<NameList, AllocError>
     ensures { IfOk result (λ names. names ≡ shown_names node list) }
 {
-    if !has_reserved(node, list.as_slice()) {
+    if !has_hidden(node, list.as_slice()) {
         return Ok(list);
     }
     let names = copies_shown(heap, node, list.as_slice())?;

@@ -23,7 +23,7 @@ impl Tables {
         requires { 0 < self.old.nodes.room }
         ensures entry { IsEntry self.old.nodes.table spot stat.now result }
         ensures seen { seen self.new ≡ record (seen self.old) {
-            nodes = looked_up self.old.nodes.table spot stat.now.num stat.now.kind
+          nodes = looked_up self.old.nodes.table spot stat.now.num stat.now.kind;
         } }
     {
         let looked: Result<_, _> = self.nodes.look_up(spot, stat.num, stat.kind);

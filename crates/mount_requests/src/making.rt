@@ -60,7 +60,7 @@ impl Tables {
     pub(crate) fn note_birth(&mut self, inode: Num)
         requires { 0 < self.old.nodes.birth_room }
         ensures seen { seen self.new ≡ record (seen self.old) {
-            nodes = made self.old.nodes.table inode
+          nodes = made self.old.nodes.table inode;
         } }
         ensures room { self.new.nodes.room ≡ self.old.nodes.room }
         ensures files { self.new.files ≡ self.old.files }
@@ -75,8 +75,8 @@ impl Tables {
         requires birth { 0 < self.old.nodes.birth_room }
         ensures entry { IsEntry (made self.old.nodes.table stat.now.num) spot stat.now result }
         ensures seen { seen self.new ≡ record (seen self.old) {
-            nodes = looked_up (made self.old.nodes.table stat.now.num) spot
-                stat.now.num stat.now.kind
+          nodes = looked_up (made self.old.nodes.table stat.now.num) spot
+              stat.now.num stat.now.kind;
         } }
     {
         self.attributes.create(stat.num, mode, owner);

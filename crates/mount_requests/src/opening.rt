@@ -252,7 +252,7 @@ impl Tables {
     fn note_opened(&mut self, caller: Caller, made: &Made, mode: u32, cut: bool)
         requires { 0 < self.old.nodes.birth_room }
         ensures seen { seen self.new ≡ record (seen self.old) {
-            nodes = born_if made.now.is_new self.old.nodes.table made.now.stat.num
+          nodes = born_if made.now.is_new self.old.nodes.table made.now.stat.num;
         } }
         ensures room { self.new.nodes.room ≡ self.old.nodes.room }
         ensures files { self.new.files ≡ self.old.files }

@@ -55,7 +55,7 @@ impl Tables {
     // A name was taken away.
     fn note_removed(&mut self, removed: &DirectoryEntry)
         ensures { seen self.new ≡ record (seen self.old) {
-            nodes = detached self.old.nodes.table removed.now
+          nodes = detached self.old.nodes.table removed.now;
         } }
     {
         self.nodes.detach(removed);
@@ -66,7 +66,7 @@ impl Tables {
     fn note_moved(&mut self, former: &DirectoryEntry, spot: Spot)
         requires { 0 < self.old.nodes.room }
         ensures { seen self.new ≡ record (seen self.old) {
-            nodes = renamed self.old.nodes.table former.now spot
+          nodes = renamed self.old.nodes.table former.now spot;
         } }
     {
         let new_parent = spot.entry().parent;

@@ -9,8 +9,10 @@ use crate::failure::Failure;
 use fuse::Errno;
 use heap::Heap;
 use ids::{Bytes, Fd, Kind, Num, Pid};
-use mount_tables::{AttributeTable, Folders, OpenFile, OpenFiles, PLAIN, Processes, State, Views};
-use mount_tables::{first_process, view_of};
+use mount_tables::{
+    AttributeTable, Folders, OpenFile, OpenFiles, PLAIN, Processes, State, Views, first_process,
+    view_of,
+};
 use nodes::Nodes;
 use std::alloc::AllocError;
 

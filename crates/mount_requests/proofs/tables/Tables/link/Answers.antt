@@ -19,4 +19,4 @@ returns-in_err-stat-clause-answers g c =
 pub returns-clause-answers : goal.returns-clause-answers
 returns-clause-answers g c =
     told c.in_ok-from.ensures.plan c.in_ok-stat.ensures.ran
-    (looked (seen c.args.self.now) (seen c.note_names.new.self) (seen c.entry.new.self) c.args.parent c.args.name.now _ _ _ (c.note_names.ensures.seen ∙ c.in_ok-spot.ensures.seen) c.in_ok-spot.ensures.entry c.entry.ensures.entry c.entry.ensures.seen)
+    (looked (seen c.args.self.now) (seen c.note_names.new.self) (seen c.entry-entry.new.self) c.args.parent c.args.name.now _ _ _ (c.note_names.ensures.seen ∙ c.in_ok-spot.ensures.seen) c.in_ok-spot.ensures.entry c.entry-entry.ensures.entry c.entry-entry.ensures.seen)

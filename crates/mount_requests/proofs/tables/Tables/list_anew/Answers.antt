@@ -23,6 +23,7 @@ returns-in_err-listing-clause-answers g c =
 pub returns-clause-answers : goal.returns-clause-answers
 returns-clause-answers g c =
     let h = rw c.as_slice.ensures at c.in_ok-listing.ensures in
-    told refl (goes_on (listed_by c.args.hand.now.pid c.args.directory) _ c.in_ok-list.ensures.ran done)
-    (lists_as c.args.wanted.offset c.args.wanted.size c.in_ok-names.ensures h,
-    c.renew_names.ensures ∙ ap (λ (n : List (List ℕ)). with_names (seen c.args.self.now) c.args.node c.args.wanted.handle n) c.in_ok-names.ensures)
+    told refl (goes_on (listed_by c.args.hand.now.pid c.args.directory) _ c.in_ok-list.ensures.ran done) (
+      lists_as c.args.wanted.offset c.args.wanted.size c.in_ok-listing.listing c.in_ok-names.ensures h,
+      c.renew_names.ensures ∙ ap (λ (n : List (List ℕ)). with_names (seen c.args.self.now) c.args.node c.args.wanted.handle n) c.in_ok-names.ensures,
+    )

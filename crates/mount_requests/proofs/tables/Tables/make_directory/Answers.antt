@@ -30,4 +30,4 @@ returns-clause-answers g c =
     let second = ap (λ (p : Twice). p.second) c.in_ok-first.ensures in
     let h = rw (first, second) at c.in_ok-stat.ensures.ran in
     told c.in_ok-path.ensures h
-    (born (seen c.args.self.now) (seen c.spot_for.new.self) (seen c.entry_made.new.self) c.args.caller.node c.args.name.now _ _ _ c.in_ok-spot.ensures.seen c.in_ok-spot.ensures.entry c.entry_made.ensures.entry c.entry_made.ensures.seen)
+    (born (seen c.args.self.now) (seen c.spot_for.new.self) (seen c.entry_made-entry.new.self) c.args.caller.node c.args.name.now _ _ _ c.in_ok-spot.ensures.seen c.in_ok-spot.ensures.entry c.entry_made-entry.ensures.entry c.entry_made-entry.ensures.seen)

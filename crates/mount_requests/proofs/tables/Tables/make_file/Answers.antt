@@ -20,14 +20,12 @@ returns-in_err-spot-clause-answers g c =
 pub returns-in_err-stat-clause-answers : goal.returns-in_err-stat-clause-answers
 returns-in_err-stat-clause-answers g c =
     let first = ap (λ (p : Twice). p.first) c.in_ok-first.ensures in
-    let second = ap (λ (p : Twice). p.second) c.in_ok-first.ensures in
-    let h = rw (first, second) at c.in_err-stat.ensures.ran in
+    let h = rw first at c.in_err-stat.ensures.ran in
     failed _ c.in_ok-path.ensures c.from_residual-in_err-stat.ensures.1 h c.in_ok-spot.ensures.seen
 
 pub returns-clause-answers : goal.returns-clause-answers
 returns-clause-answers g c =
     let first = ap (λ (p : Twice). p.first) c.in_ok-first.ensures in
-    let second = ap (λ (p : Twice). p.second) c.in_ok-first.ensures in
-    let h = rw (first, second) at c.in_ok-stat.ensures.ran in
+    let h = rw first at c.in_ok-stat.ensures.ran in
     told c.in_ok-path.ensures h
-    (born (seen c.args.self.now) (seen c.spot_for.new.self) (seen c.entry_made.new.self) c.args.caller.node c.args.name.now _ _ _ c.in_ok-spot.ensures.seen c.in_ok-spot.ensures.entry c.entry_made.ensures.entry c.entry_made.ensures.seen)
+    (born (seen c.args.self.now) (seen c.spot_for.new.self) (seen c.entry_made-entry.new.self) c.args.caller.node c.args.name.now _ _ _ c.in_ok-spot.ensures.seen c.in_ok-spot.ensures.entry c.entry_made-entry.ensures.entry c.entry_made-entry.ensures.seen)

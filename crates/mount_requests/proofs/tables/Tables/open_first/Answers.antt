@@ -3,7 +3,7 @@ use Rattle.machine.specs.Shown.{Shown}
 use Rattle.mount_requests.specs.Requests.{opened_first}
 use Rattle.mount_requests.specs.Seen.{Seen, seen}
 use Rattle.mount_requests.proofs.Answering.{failed, refused, told}
-use Rattle.mount_requests.proofs.Knowing.{handle_as, opened_as}
+use Rattle.mount_requests.proofs.Knowing.{opened_as}
 use Rattle.mount_requests.proofs.tables.Tables.open_first.Goals as goal
 
 pub returns-in_err-reserve_file-clause-answers : goal.returns-in_err-reserve_file-clause-answers
@@ -18,6 +18,7 @@ pub returns-clause-answers : goal.returns-clause-answers
 returns-clause-answers g c =
     let same = c.note_cut.ensures.seen ∙ c.in_ok-reserve_file.ensures.seen in
     let pid = c.pid.ensures ∙ ap (λ (b : ℕ × Shown). b.0) c.in_ok-fd.ensures.bound in
-    told refl c.in_ok-fd.ensures.ran
-    (c.opened.ensures ∙ c.keep_open.ensures.handle ∙ ap (λ (s : Seen). s.next_file) same,
-    opened_as (seen c.args.self.now) (seen c.note_cut.new.self) (seen c.keep_open.new.self) _ _ _ _ _ same pid c.keep_open.ensures.seen)
+    told refl c.in_ok-fd.ensures.ran (
+      c.opened.ensures ∙ c.keep_open-handle.ensures.handle ∙ ap (λ (s : Seen). s.next_file) same,
+      opened_as (seen c.args.self.now) (seen c.note_cut.new.self) (seen c.keep_open-handle.new.self) _ _ _ _ _ same pid c.keep_open-handle.ensures.seen,
+    )

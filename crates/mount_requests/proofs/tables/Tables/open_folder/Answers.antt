@@ -22,8 +22,9 @@ returns-in_err-names-clause-answers g c =
 
 pub returns-clause-answers : goal.returns-clause-answers
 returns-clause-answers g c =
-    told c.in_ok-directory.ensures.plan c.in_ok-list.ensures.ran
-    (c.keep_folder.ensures.handle ∙ ap (λ (s : Seen). s.next_folder) c.in_ok-reserve_folder.ensures.seen,
-    c.keep_folder.ensures.seen
-    ∙ ap (λ (s : Seen). with_folder s c.args.node c.in_ok-names.names) c.in_ok-reserve_folder.ensures.seen
-    ∙ ap (λ (n : List (List ℕ)). with_folder (seen c.args.self.now) c.args.node n) c.in_ok-names.ensures)
+    told c.in_ok-directory.ensures.plan c.in_ok-list.ensures.ran (
+      c.keep_folder-handle.ensures.handle ∙ ap (λ (s : Seen). s.next_folder) c.in_ok-reserve_folder.ensures.seen,
+      c.keep_folder-handle.ensures.seen
+          ∙ ap (λ (s : Seen). with_folder s c.args.node c.in_ok-names.names) c.in_ok-reserve_folder.ensures.seen
+          ∙ ap (λ (n : List (List ℕ)). with_folder (seen c.args.self.now) c.args.node n) c.in_ok-names.ensures,
+    )
