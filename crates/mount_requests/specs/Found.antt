@@ -12,10 +12,10 @@ use Rattle.nodes.specs.declared.node.Node.{Node}
 use Rattle.course.specs.declared.objects.Object.{Object}
 use Rattle.mount_tables.specs.Folders.{Opened}
 use Rattle.mount_tables.specs.Numbers.{is_reserved, view_of}
-use Rattle.mount_tables.specs.Views.{View}
 use Rattle.mount_tables.specs.declared.open_files.OpenFile.{OpenFile}
 use Rattle.mount_tables.specs.declared.views.State.{State}
 use Rattle.mount_tables.specs.declared.views.State.TheVariants.{Live, Aborted, Committed, GivenUp}
+use Rattle.mount_tables.specs.declared.views.View.{View}
 use Rattle.mount_requests.specs.Failures.{and_then, error, found_or}
 use Rattle.mount_requests.specs.Seen.{Seen}
 use Rattle.mount_requests.specs.declared.failure.Failure.{Failure}

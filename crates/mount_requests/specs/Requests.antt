@@ -1,7 +1,7 @@
 -- The plan of each request about a node of a tree, its course, what its reply shows, and what is known
 -- then of nodes and open files: all that is not told here stands.
 use Rattle.std.specs.Prelude.{◌≡◌, ℕ, ◌+◌, ◌==◌, ◌||◌, ◌&&◌, ◌/◌, ◌%◌, ◌^◌, not, min, nat_lt, bit_and, ℤ, pos}
-use Rattle.std.specs.Prelude.{List, Bool, true, false, Option, Some, None, is_some, option_map}
+use Rattle.std.specs.Prelude.{List, [], Bool, true, false, Option, Some, None, is_some, option_map}
 use Rattle.std.specs.Prelude.{Result, Ok, Err, if◌then◌else◌}
 use Rattle.model.specs.FiniteMap as map
 use Rattle.ids.specs.declared.call.Call.TheVariants as call
@@ -90,12 +90,12 @@ opened_first s view inode pid fd = record s {
       (record { view = view; inode = inode; pid = pid; fd = fd; opens = 1 });
   handles = map.insert s.handles (record { view = view; inode = inode }) s.next_file;
   next_file = s.next_file + 1;
-  roles = if view == 0 then held pid s.roles else s.roles;
+  roles = if view == 0 then held pid (map.get s.roles pid) s.roles else s.roles;
 }
 
 -- or once more under the number that it has
 abbrev pub opened_again : Seen → ℕ → Seen
-opened_again s handle = record s { files = counted handle s.files }
+opened_again s handle = record s { files = counted handle (map.get s.files handle) s.files }
 
 -- ---- looking
 
@@ -109,7 +109,7 @@ abbrev pub AnswersName : Seen → Seen → ℕ → ℕ → List ℕ → Shown �
 AnswersName s later pid node name old new result =
     Answers s later old new (located_child s node name) (λ p. stating pid (call.Stat p.path))
     (λ p stat known r. Says (ShowsEntry s.nodes (named node name) stat) r
-        × (known ≡ with_look_up s node name stat)) result
+    × (known ≡ with_look_up s node name stat)) result
 
 abbrev pub AnswersLookUpBy : Bool → Seen → Seen → ℕ → ℕ → List ℕ → Shown → Shown
     → Result Reply Failure → Type 0
@@ -161,7 +161,7 @@ abbrev pub AnswersMkDir : Seen → Seen → ℕ → ℕ → List ℕ → Shown �
 AnswersMkDir s later pid node name old new result =
     Answers s later old new (located_new s node name) (λ p. making pid (call.Mkdir p.path) p.path)
     (λ p stat known r. Says (ShowsEntry (made s.nodes stat.num) (named node name) stat) r
-        × (known ≡ with_made s node name stat)) result
+    × (known ≡ with_made s node name stat)) result
 
 -- only plain files are made, and a mode that tells no kind means them
 abbrev pub plain_kind : ℕ → Result (Unit {0}) Failure
@@ -177,7 +177,7 @@ abbrev pub AnswersMkNod : Seen → Seen → ℕ → ℕ → List ℕ → ℕ →
 AnswersMkNod s later pid node name mode old new result =
     Answers s later old new (planned_file s node name mode) (λ p. making_file pid p.path p.path)
     (λ p stat known r. Says (ShowsEntry (made s.nodes stat.num) (named node name) stat) r
-        × (known ≡ with_made s node name stat)) result
+    × (known ≡ with_made s node name stat)) result
 
 -- two paths in one view
 abbrev pub in_one_view : Located → Located → Result Pair Failure
@@ -201,7 +201,7 @@ AnswersLink s later pid parent node name old new result =
     Answers s later old new (linking_in s parent node name)
     (λ l. linking pid l.from.first l.inode l.to.first)
     (λ l stat known r. Says (ShowsEntry s.nodes (named parent name) stat) r
-        × (known ≡ with_look_up s parent name stat)) result
+    × (known ≡ with_look_up s parent name stat)) result
 
 -- ---- taking names away, and moving them
 
@@ -325,8 +325,8 @@ abbrev pub AnswersCreate : Seen → Seen → ℕ → ℕ → List ℕ → ℕ �
 AnswersCreate s later pid node name flags old new result =
     Answers s later old new (located_new s node name) (making_open s pid flags)
     (λ p made known r. Says (ShowsCreated (born_if made.is_new s.nodes made.stat.num)
-            (named node name) made.stat (handle_made s p.view made)) r
-        × (known ≡ with_created s p.view pid node name made)) result
+    (named node name) made.stat (handle_made s p.view made)) r
+    × (known ≡ with_created s p.view pid node name made)) result
 
 -- ---- open files
 
@@ -398,7 +398,7 @@ abbrev pub AnswersOpenDir : Seen → Seen → ℕ → ℕ → Shown → Shown �
 AnswersOpenDir s later pid node old new result =
     Answers s later old new (planned_directory s node) (listed_by pid)
     (λ d names known r. Says (ShowsHandle s.next_folder) r
-        × (known ≡ with_folder s node (shown_names node names))) result
+    × (known ≡ with_folder s node (shown_names node names))) result
 
 -- an open directory of this node
 abbrev pub if_of_node : ℕ → Opened → Result Opened Failure
@@ -433,13 +433,17 @@ with_names s node handle names = record s {
   folders = map.insert s.folders handle (record { node = node; names = names; was_read = true });
 }
 
+abbrev pub ListsBy : Seen → Seen → ℕ → ℕ → ℕ → ℕ → ℕ → Result (Option Directory) Failure
+    → Shown → Shown → Result Reply Failure → Type 0
+ListsBy s later pid node handle offset size plan old new result =
+    Answers s later old new plan (listing_anew pid node (kept_names (folder_at s handle)))
+    (λ d names known r. Says (Lists offset size names) r × (known ≡ with_names s node handle names))
+    result
+
 abbrev pub AnswersReadDir : Seen → Seen → ℕ → ℕ → ℕ → ℕ → ℕ → Shown → Shown → Result Reply Failure
     → Type 0
 AnswersReadDir s later pid node handle offset size old new result =
-    Answers s later old new (lists s node handle offset)
-    (listing_anew pid node (kept_names (folder_at s handle)))
-    (λ d names known r. Says (Lists offset size names) r × (known ≡ with_names s node handle names))
-    result
+    ListsBy s later pid node handle offset size (lists s node handle offset) old new result
 
 -- ---- all of them
 

@@ -1,13 +1,14 @@
 -- What requests go by, beside the kernel: nodes, open files and directories, transactions, processes.
 use Rattle.std.specs.Prelude.{ℕ}
+use Rattle.std.specs.Cmp.Lexicographic.{slice_cmp}
 use Rattle.std.specs.Ordering.{nat_cmp}
 use Rattle.model.specs.FiniteMap as map
 use Rattle.nodes.specs.Tables.{Table}
-use Rattle.mount_tables.specs.Files.{key_cmp}
+use Rattle.mount_tables.specs.FileKeys.{key_cmp}
 use Rattle.mount_tables.specs.Folders.{Opened}
-use Rattle.mount_tables.specs.Views.{View, name_cmp}
 use Rattle.mount_tables.specs.declared.open_files.OpenFile.{OpenFile}
 use Rattle.mount_tables.specs.declared.processes.Role.{Role}
+use Rattle.mount_tables.specs.declared.views.View.{View}
 use Rattle.mount_requests.specs.declared.tables.Tables.{Tables}
 
 -- The node of each number; the open file of each number, and the number under which an object is open
@@ -21,7 +22,7 @@ pub record Seen : Type 0 where
   pub folders : map.FinMap nat_cmp Opened
   pub next_folder : ℕ
   pub views : map.FinMap nat_cmp View
-  pub names : map.FinMap name_cmp ℕ
+  pub names : map.FinMap (slice_cmp nat_cmp) ℕ
   pub next_view : ℕ
   pub roles : map.FinMap nat_cmp Role
 

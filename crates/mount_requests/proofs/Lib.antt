@@ -1,0 +1,4 @@
+mod Answering
+mod Knowing
+mod Listing
+mod Ending
