@@ -1,5 +1,5 @@
 // Files that are open no more.
-ghost use Rattle.std.specs.Prelude.{◌≡◌, option_copied};
+ghost use Rattle.std.specs.Prelude.{◌≡◌, option_map};
 ghost use Rattle.course.specs.Hands.{Stand};
 ghost use Rattle.mount_requests.specs.Seen.{seen};
 ghost use Rattle.mounted.specs.Served.{Closes, Releases, ToldBy, closed_by, has_open, is_held};
@@ -28,7 +28,7 @@ fn keeps_open(state: &State) -> bool
 
 // Whether the process of a view has a file open still.
 fn has_open(file: &OpenFile, view: Option<&View>) -> bool
-    ensures { result ≡ has_open file.now (option_copied view) }
+    ensures { result ≡ has_open file.now (option_map (λ v. v.now) view.entry) }
 {
     match view {
         Some(view) => keeps_open(&view.state) && view.pid == file.pid,

@@ -8,6 +8,7 @@ ghost use Rattle.mount_tables.specs.Numbers.{class_of};
 ghost use Rattle.mount_requests.specs.Seen.{seen};
 ghost use Rattle.mounted.specs.First.{IsEmpty};
 ghost use Rattle.mounted.specs.Served.{IsServed, IsToldOf, Serves, ServesAt, ServesPlain, ServesTree};
+ghost use Rattle.mounted.specs.Served.{ToldBy};
 ghost use Rattle.mounted.specs.Served.{ServesView, noted, told, with_forgets};
 ghost use Rattle.mounted.specs.Server.{HasGrown};
 ghost use Rattle.mounted.specs.Sound.{StaysSound};
