@@ -1,8 +1,9 @@
 -- A whole stream: where it begins, one part more, its end, and where it stops.
-use Rattle.std.proofs.Common.{◌≡◌, ℕ, ◌+◌, ◌&&◌, ◌==◌, List, [], ◌∷◌, ◌++◌, Bool, Option, Some, None, Result, Ok, Err, OnOk, OnErr, IfOk, IfErr, length, take, refl, ap, sym, ◌∙◌, subst, append_assoc, append-nil, arith, inl, inr}
+use Rattle.std.proofs.Common.{le_trans, ◌≡◌, ◌<◌, ◌≤◌, ◌-◌, ◌^◌, ℕ, ◌+◌, ◌&&◌, ◌==◌, List, [], ◌∷◌, ◌++◌, Bool, Option, Some, None, Result, Ok, Err, OnOk, OnErr, IfOk, IfErr, length, take, refl, ap, sym, ◌∙◌, subst, append_assoc, append-nil, arith, inl, inr}
 use Rattle.std.specs.Prelude.{option_map, IfSome}
 use Rattle.std.specs.Io.KnownBytes.{append_known, prepend_known, IsAtEnd}
 use Rattle.std.proofs.lemmas.Bool.{ne_eqb}
+use Rattle.std.proofs.lemmas.List.{length-append, length-take}
 use Rattle.device.specs.Device.{IsPart}
 use Rattle.device.proofs.Laws.{append_known-append_known, append_known-nil}
 use Rattle.ids.specs.declared.entry.Entry.{Entry}
@@ -16,7 +17,7 @@ use Rattle.stream.specs.Asked.{Stand, at_end, stand_of, unended_fault}
 use Rattle.stream.specs.Heard.{IsFollowed, StopsAt}
 use Rattle.stream.specs.Parts.{HasCome, IsStopped, IsTaken, IsUnwritten, NotTaken, Seen, TakesUpTo, input_of, position_of}
 use Rattle.stream.specs.States.{IsFresh}
-use Rattle.stream.specs.Streams.{AreAnswered, AreFirstAnswered, HasEnded, HasStopped, IsWhole, StopsBefore, StopsInPart, rest_text, verdict}
+use Rattle.stream.specs.Streams.{AreAnswered, AreFirstAnswered, HasEnded, HasStopped, IsWhole, IsTooLong, StopsBefore, StopsInPart, rest_text, verdict}
 use Rattle.stream.specs.declared.fault.StreamFault.{StreamFault}
 use Rattle.stream.specs.declared.fault.StreamFault.TheVariants.{Read, Write, HistoryFull, NoMemory, Check, Spent}
 use Rattle.stream.specs.declared.state.Setting.{Setting}
@@ -40,7 +41,7 @@ come_none {K} shown setting stream given old fresh = record {
   at = record {
     answered = subst (λ (k : Option K). AreAnswers setting.limits (stand_of []) (option_map shown k) []) (sym fresh.kernel)
         (record { made = tt; asked = refl; entries = refl });
-    followed = subst (λ (k : Option K). IsFollowed setting.check stream.checker (option_map shown k)) (sym fresh.kernel) fresh.checker;
+    followed = subst (λ (k : Option K). IsFollowed setting.check stream.follower (option_map shown k)) (sym fresh.kernel) fresh.follower;
     each = refl;
     last = refl;
     line = fresh.line;
@@ -82,6 +83,22 @@ come_more shown setting mid new given between left old was now_holds part come g
           ∙ ap (λ (all : List (Result Entry ScriptFault)). append_known old (text_of all)) (sym takes.answers);
     }
 
+-- a read that gives some bytes
+pub some_read : (count : ℕ) (buffer : List ℕ) → count ≤ length buffer → (count ≡ 0 → ⊥) → 0 < length (take count buffer)
+some_read count buffer fits some = omega (arith, length-take count buffer)
+
+-- a part more, which is not empty
+pub come_longer : {K : Type 0} (shown : K → Shown) (setting : Setting) (mid new : Stream K) (given between left old was now_holds : Option (List ℕ)) (part : List ℕ) (reads : ℕ)
+    → ((come : HasCome shown setting mid given between old was) × (reads ≤ length (input_of come.seen)))
+    → between ≡ prepend_known part left → IsTaken shown setting part mid new was now_holds → 0 < length part
+    → (come : HasCome shown setting new given left old now_holds) × (reads + 1 ≤ length (input_of come.seen))
+unfolding come_more
+come_longer shown setting mid new given between left old was now_holds part reads so_far gave taken some =
+    let come = so_far.0 in
+    let enough = so_far.1 in
+    let more = ap (λ (bs : List ℕ). length bs) (taken.takes come.seen come.at).input ∙ length-append (input_of come.seen) part in
+    (come_more shown setting mid new given between left old was now_holds part come gave taken, omega arith)
+
 -- all that has come is answered
 pub come_answered : {K : Type 0} (shown : K → Shown) (setting : Setting) (stream : Stream K) (given left old new : Option (List ℕ))
     → HasCome shown setting stream given left old new → AreAnswered setting.limits given left old new
@@ -95,6 +112,15 @@ come_answered shown setting stream given left old new come = record {
   cut = record { whole = refl; each = come.at.each; last = come.at.last };
   answered = come.at.answered;
   written = come.written;
+}
+
+-- an input that is too long to count its reads
+pub come_too_long : {K : Type 0} (shown : K → Shown) (setting : Setting) (stream : Stream K) (given left old new : Option (List ℕ)) (reads : ℕ)
+    → ((come : HasCome shown setting stream given left old new) × (reads ≤ length (input_of come.seen))) → 2 ^ 64 - 1 ≤ reads → IsTooLong setting.limits given left old new
+unfolding come_answered
+come_too_long shown setting stream given left old new reads so_far all = record {
+  answered = come_answered shown setting stream given left old new so_far.0;
+  long = le_trans all so_far.1;
 }
 
 first_answered : {K : Type 0} (shown : K → Shown) (setting : Setting) (mid new : Stream K) (given between left old was : Option (List ℕ)) (part text next : List ℕ) (number : ℕ)

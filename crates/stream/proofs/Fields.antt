@@ -1,35 +1,42 @@
 -- From what is said of a kernel and its checker to what is said of the stream that has them.
-use Rattle.std.proofs.Common.{◌≡◌, ℕ, List, [], Option, Some, None, Result, Ok, Err, refl, sym, ◌∙◌, ap, subst, take, IfErr, IfOk, OnErr, OnOk}
+use Rattle.std.proofs.Common.{arith, ◌≡◌, ℕ, List, [], Option, Some, None, Result, Ok, Err, refl, sym, ◌∙◌, ap, subst, take, IfErr, IfOk, OnErr, OnOk}
 use Rattle.std.specs.Prelude.{is_some, option_map, sum}
 use Rattle.history.specs.Log.{Log}
 use Rattle.machine.specs.Shown.{Shown, Kept, setup_of}
-use Rattle.machine.specs.Steps.{forgetting}
 use Rattle.replay.specs.SoFar.{Checked}
 use Rattle.script.specs.Lines.{first_line_of, further_line_of}
 use Rattle.stream.specs.Answers.{IsKernelOf}
-use Rattle.stream.specs.Heard.{CannotForget, Comes, ComesFirst, ComesFurther, Follows, HasGrown, IsFollowed, StopsAt, StopsFurther, fault_of_refusal}
-use Rattle.stream.specs.States.{CannotSettle, HasBegun, IsCheckerOf, IsHeard, IsNotHeard, IsNotSettled, IsSameLine, IsSettled, StaysAlike}
+use Rattle.stream.specs.Heard.{CannotForget, Comes, ComesFirst, ComesFurther, Follows, Forgets, HasCheckedFirst, HasGrown, IsFollowed, StopsAt, StopsFurther, fault_of_refusal}
+use Rattle.stream.specs.States.{CannotSettle, HasBegun, IsFollowerOf, IsHeard, IsNotHeard, IsNotSettled, IsSameLine, IsSettled, StaysAlike}
 use Rattle.stream.specs.declared.fault.StreamFault.{StreamFault}
 use Rattle.stream.specs.declared.fault.StreamFault.TheVariants.{NoMemory}
+use Rattle.stream.specs.declared.follower.Follower.{Follower}
 use Rattle.stream.specs.declared.heard.Heard.{Heard}
 use Rattle.stream.specs.declared.heard.Heard.TheVariants as heard
 use Rattle.stream.specs.declared.refusal.StepRefusal.{StepRefusal}
 use Rattle.stream.specs.declared.refusal.StepRefusal.TheVariants as refusal
 use Rattle.stream.specs.declared.state.Setting.{Setting}
 use Rattle.stream.specs.declared.state.Stream.{Stream}
-use Rattle.stream.proofs.Forgotten.{grown_forgetting, grown_same}
+use Rattle.stream.proofs.Forgotten.{grown_same, grown_settled}
 
 pub same_line : {K : Type 0} (stream : Stream K) → IsSameLine stream stream
 same_line stream = record { line = refl; number = refl; good = refl }
 
--- a checker of a fresh history follows it
-checker_follows : (setting : Setting) (priorities : List ℕ) (checker : Option Checked) (log : Log)
+-- the follower of a fresh history follows it
+fresh_follows : (setting : Setting) (priorities : List ℕ) (follower : Option Follower) (log : Log)
     → log ≡ record { entries = []; priorities = priorities; limit = setting.limits.entries; forgotten = []; largest = setting.limits.file_bytes }
-    → IsCheckerOf setting priorities checker → (is_some checker ≡ setting.check) × Follows checker log
-checker_follows setting priorities None log e is = (sym is, tt)
-checker_follows setting priorities (Some checked) log e is =
-    let so_far : Log → Checked = λ l. record { root = 0; setup = setup_of l; entries = take (sum l.forgotten) l.entries } in
-    (sym is.0, is.1 ∙ sym (ap so_far e))
+    → IsFollowerOf setting priorities follower → (is_some follower ≡ setting.check) × Follows follower log
+fresh_follows setting priorities None log e is = (sym is, tt)
+fresh_follows setting priorities (Some follower) log e is =
+    let so_far : Log → ℕ → Checked = λ l n. record { root = 0; setup = setup_of l; entries = take n l.entries } in
+    let none : sum log.forgotten ≡ 0 = ap (λ (l : Log). sum l.forgotten) e in
+    let count = is.1 in
+    let first : HasCheckedFirst follower log = record {
+      checked = is.2 ∙ sym (ap (λ (n : ℕ). so_far log n) count ∙ ap (λ (l : Log). so_far l 0) e);
+      forgotten = omega arith;
+      made = omega arith;
+    } in
+    (sym is.0, first)
 
 -- a line before there are priorities that makes no kernel
 pub heard_first : {K : Type 0} (shown : K → Shown) (setting : Setting) (stream : Stream K) (what : Heard)
@@ -64,17 +71,17 @@ heard_begin {K} shown setting priorities old new none gives begun =
     } in
     let from : Comes old.number old.line.items setting.limits (option_map shown old.kernel) (Some kernel) heard.Nothing =
     subst (λ (k : Option K). Comes old.number old.line.items setting.limits (option_map shown k) (Some kernel) heard.Nothing) (sym none) comes in
-    let follows : IsFollowed setting.check new.checker (Some kernel) = checker_follows setting priorities new.checker kernel.log begun.log begun.checker in
+    let follows : IsFollowed setting.check new.follower (Some kernel) = fresh_follows setting priorities new.follower kernel.log begun.log begun.follower in
     record {
       comes = subst (λ (k : Option K). Comes old.number old.line.items setting.limits (option_map shown old.kernel) (option_map shown k) heard.Nothing) (sym begun.made) from;
-      followed = λ _. subst (λ (k : Option K). IsFollowed setting.check new.checker (option_map shown k)) (sym begun.made) follows;
+      followed = λ _. subst (λ (k : Option K). IsFollowed setting.check new.follower (option_map shown k)) (sym begun.made) follows;
       same = begun.same;
     }
 
 -- a further line
 pub heard_further : {K : Type 0} (shown : K → Shown) (setting : Setting) (old new : Stream K) (before after : K) (what : Heard)
     → old.kernel ≡ Some before → new.kernel ≡ Some after → ComesFurther (further_line_of old.number old.line.items) (shown before) (shown after) what
-    → (Follows old.checker (shown before).log → Follows new.checker (shown after).log) → is_some new.checker ≡ is_some old.checker → IsSameLine old new
+    → (Follows old.follower (shown before).log → Follows new.follower (shown after).log) → is_some new.follower ≡ is_some old.follower → IsSameLine old new
     → IsHeard shown setting old new what
 heard_further {K} shown setting old new before after what was is comes follows same line =
     let from : Comes old.number old.line.items setting.limits (option_map shown old.kernel) (Some (shown after)) what =
@@ -82,9 +89,9 @@ heard_further {K} shown setting old new before after what was is comes follows s
     record {
       comes = subst (λ (k : Option K). Comes old.number old.line.items setting.limits (option_map shown old.kernel) (option_map shown k) what) (sym is) from;
       followed = λ f.
-          let here : IsFollowed setting.check old.checker (Some (shown before)) = subst (λ (k : Option K). IsFollowed setting.check old.checker (option_map shown k)) was f in
-          let there : IsFollowed setting.check new.checker (Some (shown after)) = (same ∙ here.0, follows here.1) in
-          subst (λ (k : Option K). IsFollowed setting.check new.checker (option_map shown k)) (sym is) there;
+          let here : IsFollowed setting.check old.follower (Some (shown before)) = subst (λ (k : Option K). IsFollowed setting.check old.follower (option_map shown k)) was f in
+          let there : IsFollowed setting.check new.follower (Some (shown after)) = (same ∙ here.0, follows here.1) in
+          subst (λ (k : Option K). IsFollowed setting.check new.follower (option_map shown k)) (sym is) there;
       same = line;
     }
 
@@ -103,12 +110,12 @@ alike_none {K} shown old new was is =
 
 pub not_heard_further : {K : Type 0} (shown : K → Shown) (setting : Setting) (old new : Stream K) (before after : K) (why : StreamFault)
     → old.kernel ≡ Some before → new.kernel ≡ Some after → HasGrown (shown before) (shown after) []
-    → (Follows old.checker (shown before).log → StopsFurther (further_line_of old.number old.line.items) (shown after) why)
+    → (Follows old.follower (shown before).log → StopsFurther (further_line_of old.number old.line.items) (shown after) why)
     → IsNotHeard shown setting old new why
 not_heard_further {K} shown setting old new before after why was is grown stops = record {
   alike = alike_by shown old new before after was is grown;
   stops = λ f.
-      let here : IsFollowed setting.check old.checker (Some (shown before)) = subst (λ (k : Option K). IsFollowed setting.check old.checker (option_map shown k)) was f in
+      let here : IsFollowed setting.check old.follower (Some (shown before)) = subst (λ (k : Option K). IsFollowed setting.check old.follower (option_map shown k)) was f in
       let there : StopsAt old.number old.line.items (Some (shown after)) why = stops here.1 in
       subst (λ (k : Option K). StopsAt old.number old.line.items (option_map shown k) why) (sym is) there;
 }
@@ -130,14 +137,14 @@ not_heard_first_by {K} shown setting old new refused why was same none is =
 -- what was kept is forgotten
 pub settled_by : {K : Type 0} (shown : K → Shown) (old new : Stream K) (before after : K)
     → old.kernel ≡ Some before → new.kernel ≡ Some after → HasGrown (shown before) (shown after) []
-    → (Follows old.checker (shown before).log → Follows new.checker (shown after).log) → is_some new.checker ≡ is_some old.checker → IsSameLine old new
+    → (Follows old.follower (shown before).log → Follows new.follower (shown after).log) → is_some new.follower ≡ is_some old.follower → IsSameLine old new
     → IsSettled shown old new
 settled_by {K} shown old new before after was is grown follows same line = record {
   alike = alike_by shown old new before after was is grown;
   followed = λ check f.
-      let here : IsFollowed check old.checker (Some (shown before)) = subst (λ (k : Option K). IsFollowed check old.checker (option_map shown k)) was f in
-      let there : IsFollowed check new.checker (Some (shown after)) = (same ∙ here.0, follows here.1) in
-      subst (λ (k : Option K). IsFollowed check new.checker (option_map shown k)) (sym is) there;
+      let here : IsFollowed check old.follower (Some (shown before)) = subst (λ (k : Option K). IsFollowed check old.follower (option_map shown k)) was f in
+      let there : IsFollowed check new.follower (Some (shown after)) = (same ∙ here.0, follows here.1) in
+      subst (λ (k : Option K). IsFollowed check new.follower (option_map shown k)) (sym is) there;
   same = line;
 }
 
@@ -150,11 +157,11 @@ settled_none shown stream none = record {
 
 pub not_settled : {K : Type 0} (shown : K → Shown) (old new : Stream K) (before after : K) (why : StreamFault)
     → old.kernel ≡ Some before → new.kernel ≡ Some after → HasGrown (shown before) (shown after) []
-    → (Follows old.checker (shown before).log → CannotForget (shown after) why) → IsNotSettled shown old new why
+    → (Follows old.follower (shown before).log → CannotForget (shown after).log why) → IsNotSettled shown old new why
 not_settled {K} shown old new before after why was is grown cannot = record {
   alike = alike_by shown old new before after was is grown;
   fault = λ check f.
-      let here : IsFollowed check old.checker (Some (shown before)) = subst (λ (k : Option K). IsFollowed check old.checker (option_map shown k)) was f in
+      let here : IsFollowed check old.follower (Some (shown before)) = subst (λ (k : Option K). IsFollowed check old.follower (option_map shown k)) was f in
       let there : CannotSettle (Some (shown after)) why = cannot here.1 in
       subst (λ (k : Option K). CannotSettle (option_map shown k) why) (sym is) there;
 }
@@ -162,7 +169,7 @@ not_settled {K} shown old new before after why was is grown cannot = record {
 -- a further line, whatever it has come to
 pub heard_further_all : {K : Type 0} (shown : K → Shown) (setting : Setting) (old new : Stream K) (before after : K) (line : List ℕ) (r : Result Heard StreamFault)
     → old.kernel ≡ Some before → new.kernel ≡ Some after → line ≡ old.line.items → IfOk r (ComesFurther (further_line_of old.number line) (shown before) (shown after))
-    → OnOk r (Follows old.checker (shown before).log → Follows new.checker (shown after).log) → OnOk r (is_some new.checker ≡ is_some old.checker) → IsSameLine old new
+    → OnOk r (Follows old.follower (shown before).log → Follows new.follower (shown after).log) → OnOk r (is_some new.follower ≡ is_some old.follower) → IsSameLine old new
     → IfOk r (IsHeard shown setting old new)
 heard_further_all shown setting old new before after line (Ok what) was is e comes follows same lines =
     heard_further shown setting old new before after what was is
@@ -171,7 +178,7 @@ heard_further_all shown setting old new before after line (Err why) was is e com
 
 pub not_heard_further_all : {K : Type 0} (shown : K → Shown) (setting : Setting) (old new : Stream K) (before after : K) (line : List ℕ) (r : Result Heard StreamFault)
     → old.kernel ≡ Some before → new.kernel ≡ Some after → line ≡ old.line.items → OnErr r (HasGrown (shown before) (shown after) [])
-    → IfErr r (λ why. Follows old.checker (shown before).log → StopsFurther (further_line_of old.number line) (shown after) why)
+    → IfErr r (λ why. Follows old.follower (shown before).log → StopsFurther (further_line_of old.number line) (shown after) why)
     → IfErr r (IsNotHeard shown setting old new)
 not_heard_further_all shown setting old new before after line (Ok what) was is e grown stops = tt
 not_heard_further_all shown setting old new before after line (Err why) was is e grown stops =
@@ -180,16 +187,16 @@ not_heard_further_all shown setting old new before after line (Err why) was is e
 
 -- whether what was kept is forgotten, by what the kernel and its checker did
 pub settled_all : {K : Type 0} (shown : K → Shown) (old new : Stream K) (before after : K) (r : Result (Unit {0}) StreamFault)
-    → old.kernel ≡ Some before → new.kernel ≡ Some after → Kept (shown after) → OnOk r (shown after ≡ forgetting (shown before))
-    → OnOk r (Follows old.checker (shown before).log → Follows new.checker (shown after).log) → OnOk r (is_some new.checker ≡ is_some old.checker) → IsSameLine old new
+    → old.kernel ≡ Some before → new.kernel ≡ Some after → Kept (shown after) → OnOk r (Forgets (shown before) (shown after))
+    → OnOk r (Follows old.follower (shown before).log → Follows new.follower (shown after).log) → OnOk r (is_some new.follower ≡ is_some old.follower) → IsSameLine old new
     → OnOk r (IsSettled shown old new)
 settled_all shown old new before after (Ok u) was is sound forgets follows same line =
-    settled_by shown old new before after was is (grown_forgetting (shown before) (shown after) sound forgets) follows same line
+    settled_by shown old new before after was is (grown_settled (shown before) (shown after) sound forgets) follows same line
 settled_all shown old new before after (Err why) was is sound forgets follows same line = tt
 
 pub not_settled_all : {K : Type 0} (shown : K → Shown) (old new : Stream K) (before after : K) (r : Result (Unit {0}) StreamFault)
     → old.kernel ≡ Some before → new.kernel ≡ Some after → Kept (shown after) → OnErr r (shown after ≡ shown before)
-    → IfErr r (λ why. Follows old.checker (shown before).log → CannotForget (shown after) why) → IfErr r (IsNotSettled shown old new)
+    → IfErr r (λ why. Follows old.follower (shown before).log → CannotForget (shown after).log why) → IfErr r (IsNotSettled shown old new)
 not_settled_all shown old new before after (Ok u) was is sound unchanged fault = tt
 not_settled_all shown old new before after (Err why) was is sound unchanged fault =
     not_settled shown old new before after why was is (grown_same (shown before) (shown after) sound unchanged) fault

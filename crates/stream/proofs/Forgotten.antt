@@ -1,7 +1,8 @@
 -- What is forgotten, and what a checker has checked.
-use Rattle.std.proofs.Common.{◌≡◌, ℕ, ◌+◌, ◌-◌, ◌<◌, ◌≤◌, List, [], ◌∷◌, ◌++◌, Option, Some, None, Result, length, take, get_or, refl, ap, ap₂, sym, ◌∙◌, subst, arith, append-nil, slice_get}
+use Rattle.std.proofs.Common.{◌≡◌, ℕ, ◌+◌, ◌-◌, ◌<◌, ◌≤◌, ◌^◌, ◌↔◌, Bool, true, false, List, [], ◌∷◌, ◌++◌, Option, Some, None, Result, length, take, drop, get_or, refl, ap, ap₂, sym, ◌∙◌, subst, arith, append-nil, inl, inr, slice_get}
 use Rattle.std.specs.Prelude.{sum}
-use Rattle.std.proofs.lemmas.List.{drop_all, length-append, length-drop, take-append-drop, take-append-le, take_all, get_or-drop, get_or_at}
+use Rattle.std.proofs.Math.Seq.{drop-append-add}
+use Rattle.std.proofs.lemmas.List.{drop_all, length-append, length-drop, length-take, take-append-drop, take-append-le, take_all, get_or-drop, get_or_at}
 use Rattle.std.proofs.lemmas.List.Sums.{sum_by-append}
 use Rattle.std.proofs.lemmas.Option.{get_or_from_slice_get, slice_get-get_or}
 use Rattle.history.specs.Log.{Log, all_forgotten, kept}
@@ -16,7 +17,8 @@ use Rattle.replay.specs.declared.checking.CheckFault.TheVariants as fault
 use Rattle.script.specs.declared.read.Line.{Line}
 use Rattle.script.specs.declared.faults.ScriptFault.{ScriptFault}
 use Rattle.transcript.specs.Line.{line_of}
-use Rattle.stream.specs.Heard.{CannotForget, ComesFurther, Follows, HasDone, HasFollowed, HasGrown, IsLastLine, Took, fault_of_check}
+use Rattle.stream.specs.Heard.{CannotForget, ComesFurther, Follows, Forgets, HasCheckedAll, HasCheckedFirst, HasDone, HasFollowed, HasGrown, IsLastLine, Took, fault_of_check}
+use Rattle.stream.specs.declared.follower.Follower.{Follower}
 use Rattle.stream.specs.declared.heard.Heard.{Heard}
 use Rattle.stream.specs.declared.heard.Heard.TheVariants as heard
 
@@ -29,19 +31,58 @@ sum_all log forgot =
     let one : sum (n ∷ []) ≡ 0 + n = refl in
     omega arith
 
--- a checker that has checked all entries follows a history of which all are forgotten
-pub follows-forgetting : (checker : Option Checked) (log : Log) → sum log.forgotten ≤ length log.entries → HasFollowed checker log → Follows checker (all_forgotten log)
-follows-forgetting None log forgot h = tt
-follows-forgetting (Some checked) log forgot h =
-    let all : take (sum (all_forgotten log).forgotten) log.entries ≡ log.entries =
-    ap (λ (n : ℕ). take n log.entries) (sum_all log forgot) ∙ take_all (length log.entries) log.entries (omega arith) in
-    h ∙ ap (λ (es : List Entry). let c : Checked = record { root = 0; setup = setup_of log; entries = es } in c) (sym all)
+-- what a check of these entries of a history comes to
+abbrev checked_of : Log → List Entry → Checked
+checked_of log es = record { root = 0; setup = setup_of log; entries = es }
 
--- a checker that has followed has checked all entries, once it has checked those that are kept
-pub followed-more : (checked : Checked) (log : Log) → Follows (Some checked) log → HasFollowed (Some (with_more checked (kept log))) log
-followed-more checked log h =
-    ap (λ (c : Checked). with_more c (kept log)) h
-    ∙ ap (λ (es : List Entry). let c : Checked = record { root = 0; setup = setup_of log; entries = es } in c) (take-append-drop (sum log.forgotten) log.entries)
+-- a follower that has checked all entries has checked the first ones, as many as it counts
+first_of_all : (follower : Follower) (log : Log) → HasCheckedAll follower log → follower.checker ≡ checked_of log (take follower.count log.entries)
+first_of_all follower log h =
+    let count = h.count in
+    h.checked ∙ ap (checked_of log) (sym (take_all follower.count log.entries (omega arith)))
+
+-- it follows the history where all that is kept is forgotten, and where nothing is
+follows-forgetting : (follower : Option Follower) (log : Log) → sum log.forgotten ≤ length log.entries → HasFollowed follower log → Follows follower (all_forgotten log)
+follows-forgetting None log forgot h = tt
+follows-forgetting (Some follower) log forgot h =
+    let count = h.count in
+    let all = sum_all log forgot in
+    let first : HasCheckedFirst follower (all_forgotten log) = record { checked = first_of_all follower log h; forgotten = omega arith; made = omega arith } in
+    first
+
+follows-keeping : (follower : Option Follower) (log : Log) → sum log.forgotten ≤ length log.entries → HasFollowed follower log → Follows follower log
+follows-keeping None log forgot h = tt
+follows-keeping (Some follower) log forgot h =
+    let count = h.count in
+    let first : HasCheckedFirst follower log = record { checked = first_of_all follower log h; forgotten = omega arith; made = omega arith } in
+    first
+
+-- what a kernel that answers whether it has forgotten has done
+pub forgets_by : (old new : Shown) (answer : Bool) → ((answer ≡ true) ↔ (length old.log.entries < 2 ^ 63)) → (answer ≡ true → new ≡ forgetting old)
+    → (answer ≡ false → new ≡ old) → Forgets old new
+forgets_by old new true exactly done same = inl (done refl)
+forgets_by old new false exactly done same =
+    let few : length old.log.entries < 2 ^ 63 → ⊥ = λ less. absurd (cc (exactly.1 less)) in
+    inr (same refl, omega (arith, few))
+
+pub follows-settled : (follower : Option Follower) (old new : Shown) → sum old.log.forgotten ≤ length old.log.entries → Forgets old new → HasFollowed follower old.log → Follows follower new.log
+follows-settled follower old new forgot (inl e) h = subst (λ (k : Shown). Follows follower k.log) (sym e) (follows-forgetting follower old.log forgot h)
+follows-settled follower old new forgot (inr none) h = subst (λ (k : Shown). Follows follower k.log) (sym none.0) (follows-keeping follower old.log forgot h)
+
+-- the entries behind so many, by those that are kept
+behind_in : (gone count : ℕ) (es : List Entry) → gone ≤ count → count ≤ length es → drop (count - gone) (drop gone es) ≡ drop count es
+behind_in gone count es less made =
+    let front : length (take gone es) ≡ gone = length-take gone es ∙ omega arith in
+    let index : length (take gone es) + (count - gone) ≡ count = omega arith in
+    sym (drop-append-add (take gone es) (drop gone es) (count - gone))
+    ∙ ap (λ (n : ℕ). drop n (take gone es ++ drop gone es)) index
+    ∙ ap (drop count) (take-append-drop gone es)
+
+-- the first entries, as many as a follower counts, and those that it has not checked yet, are all
+whole_of : (follower : Follower) (log : Log) → HasCheckedFirst follower log → take follower.count log.entries ++ drop (follower.count - sum log.forgotten) (kept log) ≡ log.entries
+whole_of follower log h =
+    ap (λ (es : List Entry). take follower.count log.entries ++ es) (behind_in (sum log.forgotten) follower.count log.entries h.forgotten h.made)
+    ∙ take-append-drop follower.count log.entries
 
 -- nothing is kept of a history of which all is forgotten
 none_kept : (log : Log) → kept (all_forgotten log) ≡ []
@@ -77,7 +118,7 @@ grown_same old new sound e = record {
 }
 
 -- a kernel that forgets
-pub grown_forgetting : (old new : Shown) → Kept new → new ≡ forgetting old → HasGrown old new []
+grown_forgetting : (old new : Shown) → Kept new → new ≡ forgetting old → HasGrown old new []
 grown_forgetting old new sound e = record {
   sound = sound;
   same_priorities = ap (λ (k : Shown). k.log.priorities) e;
@@ -86,35 +127,55 @@ grown_forgetting old new sound e = record {
   entries = ap (λ (k : Shown). k.log.entries) e ∙ sym (append-nil old.log.entries);
 }
 
--- a checker that follows a history follows it with one entry more
-follows_entry : (checker : Option Checked) (log : Log) (entry : Entry) → sum log.forgotten ≤ length log.entries → Follows checker log → Follows checker (with_entry log entry)
-follows_entry None log entry forgot h = tt
-follows_entry (Some checked) log entry forgot h =
-    h
-    ∙ ap (λ (es : List Entry). let c : Checked = record { root = 0; setup = setup_of log; entries = es } in c)
-    (sym (take-append-le (sum log.forgotten) log.entries (entry ∷ []) forgot))
+-- a kernel that forgets what it keeps, where that can be
+pub grown_settled : (old new : Shown) → Kept new → Forgets old new → HasGrown old new []
+grown_settled old new sound (inl e) = grown_forgetting old new sound e
+grown_settled old new sound (inr none) = grown_same old new sound none.0
 
-pub follows_took : (checker : Option Checked) (old new : Shown) (pid : ℕ) (op : Op) → Kept old → Took old.log new.log pid op → Follows checker old.log → Follows checker new.log
-follows_took checker old new pid op before took h =
+-- a follower of a history follows it with one entry more
+follows_entry : (follower : Option Follower) (log : Log) (entry : Entry) → Follows follower log → Follows follower (with_entry log entry)
+follows_entry None log entry h = tt
+follows_entry (Some follower) log entry h =
+    let made = h.made in
+    let longer = length-append log.entries (entry ∷ []) in
+    let first : HasCheckedFirst follower (with_entry log entry) = record {
+      checked = h.checked ∙ ap (checked_of log) (sym (take-append-le follower.count log.entries (entry ∷ []) made));
+      forgotten = h.forgotten;
+      made = omega arith;
+    } in
+    first
+
+pub follows_took : (follower : Option Follower) (old new : Shown) (pid : ℕ) (op : Op) → Took old.log new.log pid op → Follows follower old.log → Follows follower new.log
+follows_took follower old new pid op took h =
     let entry : Entry = record { pid = pid; op = op; reply = took.reply; chosen = took.added.chosen; doomed = took.added.doomed } in
-    subst (λ (l : Log). Follows checker l) (sym took.added.is) (follows_entry checker old.log entry before.forgot h)
+    subst (λ (l : Log). Follows follower l) (sym took.added.is) (follows_entry follower old.log entry h)
 
-pub follows_same : (checker : Option Checked) (old new : Shown) → new ≡ old → Follows checker old.log → Follows checker new.log
-follows_same checker old new e h = subst (λ (k : Shown). Follows checker k.log) (sym e) h
+pub follows_same : (follower : Option Follower) (old new : Shown) → new ≡ old → Follows follower old.log → Follows follower new.log
+follows_same follower old new e h = subst (λ (k : Shown). Follows follower k.log) (sym e) h
 
--- a checker that has checked what is kept too has checked all
-pub followed_by : (former behind : Checked) (log : Log) (part : List Entry) → Follows (Some former) log → part ≡ kept log → behind ≡ with_more former part → HasFollowed (Some behind) log
-followed_by former behind log part h e is = is ∙ ap (λ (es : List Entry). with_more former es) e ∙ followed-more former log h
+-- a follower that has checked what it had not yet has checked all
+pub followed_by : (former behind : Follower) (log : Log) (part : List Entry)
+    → HasCheckedFirst former log → part ≡ drop (former.count - sum log.forgotten) (kept log) → behind.checker ≡ with_more former.checker part → behind.count ≡ length log.entries
+    → HasCheckedAll behind log
+followed_by former behind log part h e is count = record {
+  checked =
+      is
+      ∙ ap (λ (es : List Entry). with_more former.checker es) e
+      ∙ ap (λ (c : Checked). with_more c (drop (former.count - sum log.forgotten) (kept log))) h.checked
+      ∙ ap (checked_of log) (whole_of former log h);
+  count = count;
+}
 
 -- why what is kept is not forgotten, by the checker's fault
-pub cannot_forget : (former : Checked) (kernel : Shown) (part : List Entry) (why : CheckFault) → Follows (Some former) kernel.log → part ≡ kept kernel.log
-    → IsFaultFor former.root former.setup (former.entries ++ part) why → CannotForget kernel (fault_of_check why)
-cannot_forget former kernel part fault.NoMemory h e wrong = tt
-cannot_forget former kernel part (fault.Wrong position) h e wrong =
-    let log : Log = kernel.log in
-    let first = subst (λ (es : List Entry). IsFaultFor former.root former.setup (former.entries ++ es) (fault.Wrong position)) e wrong in
-    let then_is = subst (λ (c : Checked). IsFaultFor c.root c.setup (c.entries ++ kept log) (fault.Wrong position)) h first in
-    subst (λ (es : List Entry). IsFaultFor 0 (setup_of log) es (fault.Wrong position)) (take-append-drop (sum log.forgotten) log.entries) then_is
+pub cannot_forget : (former : Follower) (log : Log) (part : List Entry) (why : CheckFault)
+    → HasCheckedFirst former log → part ≡ drop (former.count - sum log.forgotten) (kept log)
+    → IsFaultFor former.checker.root former.checker.setup (former.checker.entries ++ part) why → CannotForget log (fault_of_check why)
+cannot_forget former log part fault.NoMemory h e wrong = tt
+cannot_forget former log part (fault.Wrong position) h e wrong =
+    let rest : List Entry = drop (former.count - sum log.forgotten) (kept log) in
+    let first = subst (λ (es : List Entry). IsFaultFor former.checker.root former.checker.setup (former.checker.entries ++ es) (fault.Wrong position)) e wrong in
+    let then_is = subst (λ (c : Checked). IsFaultFor c.root c.setup (c.entries ++ rest) (fault.Wrong position)) h.checked first in
+    subst (λ (es : List Entry). IsFaultFor 0 (setup_of log) es (fault.Wrong position)) (whole_of former log h) then_is
 
 -- no entry, and then some
 grown-then : (a b c : Shown) (more : List Entry) → HasGrown a b [] → HasGrown b c more → HasGrown a c more

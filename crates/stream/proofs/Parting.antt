@@ -7,7 +7,6 @@ use Rattle.std.proofs.lemmas.Bool.{ne_eqb}
 use Rattle.std.proofs.lemmas.List.{length-append}
 use Rattle.ids.specs.declared.entry.Entry.{Entry}
 use Rattle.machine.specs.Shown.{Shown}
-use Rattle.replay.specs.SoFar.{Checked}
 use Rattle.script.specs.Characters.{newline}
 use Rattle.script.specs.declared.faults.ScriptFault.{ScriptFault}
 use Rattle.script.specs.declared.limits.TheConstants.{SCRIPT_LIMIT}
@@ -20,6 +19,7 @@ use Rattle.stream.specs.Parts.{ComesOf, IsAt, IsStopped, IsTaken, IsUnwritten, N
 use Rattle.stream.specs.States.{CannotSettle, IsHeard, IsNotHeard, IsNotSettled, IsSettled, StaysAlike}
 use Rattle.stream.specs.declared.fault.StreamFault.{StreamFault}
 use Rattle.stream.specs.declared.fault.StreamFault.TheVariants.{Read, Write, HistoryFull, NoMemory, Check, Spent}
+use Rattle.stream.specs.declared.follower.Follower.{Follower}
 use Rattle.stream.specs.declared.heard.Heard.{Heard}
 use Rattle.stream.specs.declared.state.Setting.{Setting}
 use Rattle.stream.specs.declared.state.Stream.{Stream}
@@ -101,7 +101,7 @@ Stops-then shown setting seen xs ys zs s t mid new why first second =
 -- what a byte leaves as it was
 pub record SameBut {K : Type 0} (old new : Stream K) : Type 0 where
   pub kernel : new.kernel ≡ old.kernel
-  pub checker : new.checker ≡ old.checker
+  pub follower : new.follower ≡ old.follower
   pub number : new.number ≡ old.number
   pub good : new.good ≡ old.good
 
@@ -114,8 +114,8 @@ Takes-byte {K} shown setting seen b old new at same other line = record {
   more = [];
   at = record {
     answered = subst (λ (k : Option K). AreAnswers setting.limits (stand_of seen.lines) (option_map shown k) seen.answers) (sym same.kernel) at.answered;
-    followed = subst (λ (k : Option K). IsFollowed setting.check new.checker (option_map shown k)) (sym same.kernel)
-        (subst (λ (c : Option Checked). IsFollowed setting.check c (option_map shown old.kernel)) (sym same.checker) at.followed);
+    followed = subst (λ (k : Option K). IsFollowed setting.check new.follower (option_map shown k)) (sym same.kernel)
+        (subst (λ (c : Option Follower). IsFollowed setting.check c (option_map shown old.kernel)) (sym same.follower) at.followed);
     each = at.each;
     last = one_line-byte seen.rest b at.last other;
     line = line;
@@ -158,7 +158,7 @@ Stops-here shown setting seen part old new why at alike stops = record {
 -- the line has ended and is answered; what the stream has then
 pub record Moved {K : Type 0} (mid new : Stream K) (what : Heard) : Type 0 where
   pub kernel : new.kernel ≡ mid.kernel
-  pub checker : new.checker ≡ mid.checker
+  pub follower : new.follower ≡ mid.follower
   pub line : new.line.items ≡ []
   pub number : new.number ≡ next_number mid.number
   pub good : new.good ≡ (mid.good && not (is_fault what))
@@ -180,8 +180,8 @@ Takes-line {K} shown setting seen old mid new what text at heard told moved =
       more = done.more;
       at = record {
         answered = subst (λ (k : Option K). AreAnswers setting.limits (stand_of lines) (option_map shown k) (seen.answers ++ done.more)) (sym moved.kernel) here;
-        followed = subst (λ (k : Option K). IsFollowed setting.check new.checker (option_map shown k)) (sym moved.kernel)
-            (subst (λ (c : Option Checked). IsFollowed setting.check c (option_map shown mid.kernel)) (sym moved.checker) followed);
+        followed = subst (λ (k : Option K). IsFollowed setting.check new.follower (option_map shown k)) (sym moved.kernel)
+            (subst (λ (c : Option Follower). IsFollowed setting.check c (option_map shown mid.kernel)) (sym moved.follower) followed);
         each = each-line seen.lines seen.rest at.each at.last;
         last = refl;
         line = moved.line;
@@ -220,7 +220,7 @@ Stops-byte {K} shown setting seen b old new at same =
 pub Takes-full : {K : Type 0} (shown : K → Shown) (setting : Setting) (seen : Seen) (b : ℕ) (stream : Stream K)
     → IsAt shown setting seen stream → (b ≡ newline → ⊥) → SCRIPT_LIMIT < length stream.line.items → Takes shown setting seen (b ∷ []) [] stream
 Takes-full shown setting seen b stream at other full =
-    Takes-byte shown setting seen b stream stream at (record { kernel = refl; checker = refl; number = refl; good = refl }) (ne_eqb b newline other)
+    Takes-byte shown setting seen b stream stream at (record { kernel = refl; follower = refl; number = refl; good = refl }) (ne_eqb b newline other)
     (kept-full stream.line.items seen.rest b (SCRIPT_LIMIT + 1) at.line (omega arith))
 
 -- a byte that is kept

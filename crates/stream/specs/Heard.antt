@@ -1,15 +1,15 @@
 -- What one line comes to, and why it can stop the stream.
-use Rattle.std.specs.Prelude.{◌≡◌, ◌<◌, ◌+◌, ◌++◌, ◌∷◌, ℕ, List, [], Bool, true, false, ⊤, is_some}
-use Rattle.std.specs.Prelude.{length, sum, take, Option, Some, None, Result, Ok, Err}
+use Rattle.std.specs.Prelude.{◌≡◌, ◌<◌, ◌≤◌, ◌+◌, ◌^◌, ◌++◌, ◌∷◌, ◌==◌, ◌⊎◌, ℕ, List, []}
+use Rattle.std.specs.Prelude.{Bool, true, false, ⊤, is_some, length, sum, take, if◌then◌else◌}
+use Rattle.std.specs.Prelude.{Option, Some, None, Result, Ok, Err}
 use Rattle.history.specs.Log.{Log, kept}
 use Rattle.ids.specs.declared.call.Op.{Op}
 use Rattle.ids.specs.declared.entry.Entry.{Entry}
 use Rattle.ids.specs.declared.limits.Limits.{Limits}
 use Rattle.machine.specs.Shown.{Shown, Kept, setup_of}
-use Rattle.machine.specs.Steps.{Added, has_place}
+use Rattle.machine.specs.Steps.{Added, forgetting, has_place}
 use Rattle.model.specs.Entries.{Reply}
 use Rattle.replay.specs.Checked.{IsFaultFor}
-use Rattle.replay.specs.SoFar.{Checked}
 use Rattle.replay.specs.declared.checking.CheckFault.{CheckFault}
 use Rattle.replay.specs.declared.checking.CheckFault.TheVariants.{Wrong}
 use Rattle.replay.specs.declared.checking.CheckFault.TheVariants.{NoMemory as NoCheckMemory}
@@ -20,6 +20,7 @@ use Rattle.transcript.specs.Line.{line_of}
 use Rattle.stream.specs.Answers.{IsKernelOf, fault_line}
 use Rattle.stream.specs.declared.fault.StreamFault.{StreamFault}
 use Rattle.stream.specs.declared.fault.StreamFault.TheVariants as stop
+use Rattle.stream.specs.declared.follower.Follower.{Follower}
 use Rattle.stream.specs.declared.heard.Heard.{Heard}
 use Rattle.stream.specs.declared.refusal.StepRefusal.{StepRefusal}
 use Rattle.stream.specs.declared.refusal.StepRefusal.TheVariants as refusal
@@ -87,17 +88,22 @@ Comes number line limits (Some old) (Some new) what =
     ComesFurther (further_line_of number line) old new what
 Comes number line limits (Some old) None what = ⊥
 
--- The checker, if there is one, has checked all entries that were forgotten.
-abbrev pub Follows : Option Checked → Log → Type 0
+-- It has checked the first entries, as many as it counts. All that were forgotten are among them.
+pub record HasCheckedFirst (follower : Follower) (log : Log) : Type 0 where
+  pub checked : follower.checker
+      ≡ record { root = 0; setup = setup_of log; entries = take follower.count log.entries }
+  pub forgotten : sum log.forgotten ≤ follower.count
+  pub made : follower.count ≤ length log.entries
+
+-- The follower, if there is one, has checked all entries that were forgotten, and perhaps others.
+abbrev pub Follows : Option Follower → Log → Type 0
 Follows None log = ⊤
-Follows (Some checked) log =
-    checked
-    ≡ record { root = 0; setup = setup_of log; entries = take (sum log.forgotten) log.entries }
+Follows (Some follower) log = HasCheckedFirst follower log
 
 -- There is one where a check is wanted, once there is a kernel.
-abbrev pub IsFollowed : Bool → Option Checked → Option Shown → Type 0
-IsFollowed check checker None = checker ≡ None
-IsFollowed check checker (Some kernel) = (is_some checker ≡ check) × Follows checker kernel.log
+abbrev pub IsFollowed : Bool → Option Follower → Option Shown → Type 0
+IsFollowed check follower None = follower ≡ None
+IsFollowed check follower (Some kernel) = (is_some follower ≡ check) × Follows follower kernel.log
 
 -- The line asks an operation, and its places are not free.
 pub record IsFullFor (said : Result (Option Line) ScriptFault) (kernel : Shown) : Type 0 where
@@ -123,22 +129,30 @@ abbrev pub fault_of_check : CheckFault → StreamFault
 fault_of_check NoCheckMemory = stop.NoMemory
 fault_of_check (Wrong position) = stop.Check position
 
--- why entries are not forgotten: one of them is wrong, memory was refused to the check, or there
--- were too many
-abbrev pub CannotForget : Shown → StreamFault → Type 0
-CannotForget kernel (stop.Check position) =
-    IsFaultFor 0 (setup_of kernel.log) kernel.log.entries (Wrong position)
-CannotForget kernel stop.NoMemory = ⊤
-CannotForget kernel stop.Spent = ⊤
-CannotForget kernel _ = ⊥
+-- why entries are not forgotten that could be: one of them is wrong, or memory was refused to the
+-- check
+abbrev pub CannotForget : Log → StreamFault → Type 0
+CannotForget log (stop.Check position) =
+    IsFaultFor 0 (setup_of log) log.entries (Wrong position)
+CannotForget log stop.NoMemory = ⊤
+CannotForget log _ = ⊥
 
--- Why the stream stops at a line behind the priorities. Where the history is full, nothing is kept
--- in it.
+-- All that was kept is forgotten, or that cannot be: with 2^63 entries or more none can any more.
+abbrev pub Forgets : (old new : Shown) → Type 0
+Forgets old new = (new ≡ forgetting old) ⊎ ((new ≡ old) × (2 ^ 63 ≤ length old.log.entries))
+
+-- why places are missing that a line needs: nothing is kept, or it cannot be forgotten
+abbrev pub fault_of_full : Log → StreamFault
+fault_of_full log = if length (kept log) == 0 then stop.HistoryFull else stop.Spent
+
+-- Why the stream stops at a line behind the priorities. Where its places are missing, nothing is
+-- kept that would have to be forgotten for them, or it cannot be, with 2^63 entries or more.
 abbrev pub StopsFurther : Result (Option Line) ScriptFault → Shown → StreamFault → Type 0
 StopsFurther said kernel stop.HistoryFull = IsFullFor said kernel × (kept kernel.log ≡ [])
-StopsFurther said kernel (stop.Check position) = CannotForget kernel (stop.Check position)
+StopsFurther said kernel (stop.Check position) = CannotForget kernel.log (stop.Check position)
 StopsFurther said kernel stop.NoMemory = ⊤
-StopsFurther said kernel stop.Spent = ⊤
+StopsFurther said kernel stop.Spent =
+    IsFullFor said kernel × (2 ^ 63 ≤ length kernel.log.entries)
 StopsFurther said kernel stop.Read = ⊥
 StopsFurther said kernel stop.Write = ⊥
 
@@ -152,11 +166,16 @@ abbrev pub StopsAt : ℕ → List ℕ → Option Shown → StreamFault → Type 
 StopsAt number line (Some kernel) why = StopsFurther (further_line_of number line) kernel why
 StopsAt number line None why = StopsFirst why
 
--- the checker, if there is one, has checked all entries
-abbrev pub HasFollowed : Option Checked → Log → Type 0
+-- It has checked all entries.
+pub record HasCheckedAll (follower : Follower) (log : Log) : Type 0 where
+  pub checked : follower.checker
+      ≡ record { root = 0; setup = setup_of log; entries = log.entries }
+  pub count : follower.count ≡ length log.entries
+
+-- the follower, if there is one, has checked all entries
+abbrev pub HasFollowed : Option Follower → Log → Type 0
 HasFollowed None log = ⊤
-HasFollowed (Some checked) log =
-    checked ≡ record { root = 0; setup = setup_of log; entries = log.entries }
+HasFollowed (Some follower) log = HasCheckedAll follower log
 
 -- the line of the last entry, where that is kept
 abbrev pub IsLastLine : Log → List ℕ → Type 0

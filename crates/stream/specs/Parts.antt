@@ -37,7 +37,7 @@ pub record IsAt
     : Type 0 where
   pub answered : AreAnswers setting.limits (stand_of seen.lines)
       (option_map shown stream.kernel) seen.answers
-  pub followed : IsFollowed setting.check stream.checker (option_map shown stream.kernel)
+  pub followed : IsFollowed setting.check stream.follower (option_map shown stream.kernel)
   pub each : list_all is_one_line seen.lines ≡ true
   pub last : is_one_line seen.rest ≡ true
   pub line : stream.line.items ≡ take (SCRIPT_LIMIT + 1) seen.rest

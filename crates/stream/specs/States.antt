@@ -2,9 +2,9 @@
 use Rattle.std.specs.Prelude.{◌≡◌, ℕ, List, [], Bool, true, false, ⊤, Option, Some, None}
 use Rattle.std.specs.Prelude.{option_map}
 use Rattle.machine.specs.Shown.{Shown, Kept}
-use Rattle.replay.specs.SoFar.{Checked}
 use Rattle.stream.specs.Heard.{CannotForget, Comes, HasGrown, IsFollowed, StopsAt}
 use Rattle.stream.specs.declared.fault.StreamFault.{StreamFault}
+use Rattle.stream.specs.declared.follower.Follower.{Follower}
 use Rattle.stream.specs.declared.heard.Heard.{Heard}
 use Rattle.stream.specs.declared.state.Setting.{Setting}
 use Rattle.stream.specs.declared.state.Stream.{Stream}
@@ -12,17 +12,18 @@ use Rattle.stream.specs.declared.state.Stream.{Stream}
 -- nothing has come yet
 pub record IsFresh {K : Type 0} (stream : Stream K) : Type 0 where
   pub kernel : stream.kernel ≡ None
-  pub checker : stream.checker ≡ None
+  pub follower : stream.follower ≡ None
   pub line : stream.line.items ≡ []
   pub number : stream.number ≡ 1
   pub good : stream.good ≡ true
 
--- the checker of a fresh kernel's history, if one is wanted
-abbrev pub IsCheckerOf : Setting → List ℕ → Option Checked → Type 0
-IsCheckerOf setting priorities None = setting.check ≡ false
-IsCheckerOf setting priorities (Some checked) =
+-- the follower of a fresh kernel's history, if a check is wanted
+abbrev pub IsFollowerOf : Setting → List ℕ → Option Follower → Type 0
+IsFollowerOf setting priorities None = setting.check ≡ false
+IsFollowerOf setting priorities (Some follower) =
     (setting.check ≡ true)
-    × (checked ≡ record {
+    × (follower.count ≡ 0)
+    × (follower.checker ≡ record {
       root = 0;
       setup = record { priorities = priorities; largest = setting.limits.file_bytes };
       entries = [];
@@ -34,7 +35,7 @@ pub record IsSameLine {K : Type 0} (old new : Stream K) : Type 0 where
   pub number : new.number ≡ old.number
   pub good : new.good ≡ old.good
 
--- A fresh kernel with these priorities and the limits of the setting, and its checker.
+-- A fresh kernel with these priorities and the limits of the setting, and its follower.
 pub record HasBegun
     {K : Type 0} (shown : K → Shown) (setting : Setting) (priorities : List ℕ)
     (old new : Stream K)
@@ -49,7 +50,7 @@ pub record HasBegun
     forgotten = [];
     largest = setting.limits.file_bytes;
   }
-  pub checker : IsCheckerOf setting priorities new.checker
+  pub follower : IsFollowerOf setting priorities new.follower
   pub same : IsSameLine old new
 
 -- The line that the stream has is done, and has come to this.
@@ -58,8 +59,8 @@ pub record IsHeard
     : Type 0 where
   pub comes : Comes old.number old.line.items setting.limits
       (option_map shown old.kernel) (option_map shown new.kernel) what
-  pub followed : IsFollowed setting.check old.checker (option_map shown old.kernel)
-      → IsFollowed setting.check new.checker (option_map shown new.kernel)
+  pub followed : IsFollowed setting.check old.follower (option_map shown old.kernel)
+      → IsFollowed setting.check new.follower (option_map shown new.kernel)
   pub same : IsSameLine old new
 
 -- the kernel, if there is one, has made no entry
@@ -74,25 +75,25 @@ pub record IsNotHeard
     {K : Type 0} (shown : K → Shown) (setting : Setting) (old new : Stream K) (why : StreamFault)
     : Type 0 where
   pub alike : StaysAlike (option_map shown old.kernel) (option_map shown new.kernel)
-  pub stops : IsFollowed setting.check old.checker (option_map shown old.kernel)
+  pub stops : IsFollowed setting.check old.follower (option_map shown old.kernel)
       → StopsAt old.number old.line.items (option_map shown new.kernel) why
 
--- All that was kept is checked, if that is wanted, and forgotten.
+-- All that was kept is checked, if that is wanted, and forgotten, where that can be.
 pub record IsSettled {K : Type 0} (shown : K → Shown) (old new : Stream K) : Type 0 where
   pub alike : StaysAlike (option_map shown old.kernel) (option_map shown new.kernel)
-  pub followed : (check : Bool) → IsFollowed check old.checker (option_map shown old.kernel)
-      → IsFollowed check new.checker (option_map shown new.kernel)
+  pub followed : (check : Bool) → IsFollowed check old.follower (option_map shown old.kernel)
+      → IsFollowed check new.follower (option_map shown new.kernel)
   pub same : IsSameLine old new
 
 -- why what is kept is not forgotten, if there is a kernel
 abbrev pub CannotSettle : Option Shown → StreamFault → Type 0
 CannotSettle None why = ⊥
-CannotSettle (Some kernel) why = CannotForget kernel why
+CannotSettle (Some kernel) why = CannotForget kernel.log why
 
 -- It is not forgotten, and this is why.
 pub record IsNotSettled
     {K : Type 0} (shown : K → Shown) (old new : Stream K) (why : StreamFault)
     : Type 0 where
   pub alike : StaysAlike (option_map shown old.kernel) (option_map shown new.kernel)
-  pub fault : (check : Bool) → IsFollowed check old.checker (option_map shown old.kernel)
+  pub fault : (check : Bool) → IsFollowed check old.follower (option_map shown old.kernel)
       → CannotSettle (option_map shown new.kernel) why

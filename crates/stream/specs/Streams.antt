@@ -1,7 +1,7 @@
 -- What a stream has read, answered and written. `given` and `left` are what the source has to give
 -- before and after, `old` and `new` what the sink holds.
-use Rattle.std.specs.Prelude.{◌≡◌, ◌⊎◌, ◌++◌, ◌∷◌, ◌≤◌, ℕ, List, [], Bool, true, false}
-use Rattle.std.specs.Prelude.{codes, Option, Result, IfSome}
+use Rattle.std.specs.Prelude.{◌≡◌, ◌⊎◌, ◌++◌, ◌∷◌, ◌≤◌, ◌-◌, ◌^◌, ℕ, List, [], Bool, true, false}
+use Rattle.std.specs.Prelude.{codes, length, Option, Result, IfSome}
 use Rattle.std.specs.Io.KnownBytes.{append_known, prepend_known, IsAtEnd}
 use Rattle.device.specs.Device.{IsPart}
 use Rattle.ids.specs.declared.entry.Entry.{Entry}
@@ -44,6 +44,11 @@ pub record AreAnswered (limits : Limits) (given left old new : Option (List ℕ)
   pub cut : AreLines input lines rest
   pub answered : AreAnswers limits (stand_of lines) kernel answers
   pub written : new ≡ append_known old (text_of answers)
+
+-- The same of an input of 2^64 - 1 bytes or more: no more reads can be counted.
+pub record IsTooLong (limits : Limits) (given left old new : Option (List ℕ)) : Type 0 where
+  pub answered : AreAnswered limits given left old new
+  pub long : 2 ^ 64 - 1 ≤ length answered.input
 
 -- The input has come to its end, and these are the answers to all of it.
 pub record IsWhole
@@ -115,7 +120,8 @@ pub record StopsInPart (limits : Limits) (given left old new : Option (List ℕ)
 
 -- What was read, answered and written where a fault has come. A read may fail at any time, and
 -- nothing tells beforehand whether it will: so before each read all whole lines that have come are
--- answered. Spent says that as many reads were made, or entries forgotten, as can be counted.
+-- answered. Spent says that no more reads can be counted, or that at a line whose places are missing
+-- no more entries can be forgotten.
 abbrev pub HasStopped :
     Limits → (check : Bool) → (given left old new : Option (List ℕ)) → StreamFault → Type 0
 HasStopped limits check given left old new stop.Read = AreAnswered limits given left old new
@@ -128,4 +134,4 @@ HasStopped limits check given left old new (stop.Check position) =
 HasStopped limits check given left old new stop.NoMemory =
     StopsBefore limits given left old new stop.NoMemory
 HasStopped limits check given left old new stop.Spent =
-    AreAnswered limits given left old new ⊎ StopsBefore limits given left old new stop.Spent
+    IsTooLong limits given left old new ⊎ StopsBefore limits given left old new stop.Spent

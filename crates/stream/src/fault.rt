@@ -18,12 +18,13 @@ pub enum StreamFault {
     NoMemory,
     /// The check says that the entry at this position, counted from 1, is wrong.
     Check(usize),
-    /// 2^64 - 1 reads or 2^63 entries were made. No more can be counted.
+    /// The places that an operation needs are not free, and no entry can be forgotten any more, as
+    /// 2^63 or more were made. Or 2^64 - 1 reads were made, each of a byte or more.
     Spent,
 }
 
 impl StreamFault {
-    // The fault where an operation is refused and nothing more can be forgotten.
+    // The fault where an operation is refused and nothing is kept.
     pub(crate) fn of_refusal(refusal: StepRefusal) -> StreamFault
         ensures { result ≡ fault_of_refusal refusal }
     {

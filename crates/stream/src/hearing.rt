@@ -1,19 +1,19 @@
 // One line of a stream, as it is done.
 ghost use Rattle.std.specs.Prelude.{◌≡◌, ◌≢◌, [], is_some, IfErr, IfOk, OnErr, OnOk, Option};
 ghost use Rattle.machine.specs.Shown.{Kept};
-ghost use Rattle.replay.specs.SoFar.{Checked};
 ghost use Rattle.script.specs.Lines.{further_line_of};
 ghost use Rattle.stream.specs.Heard.{ComesFurther, Follows, HasDone, HasGrown, IsOfLine};
-ghost use Rattle.stream.specs.Heard.{Refused, Refuses, StopsFurther, Took};
+ghost use Rattle.stream.specs.Heard.{Refused, Refuses, StopsFurther, Took, fault_of_full};
+ghost use Rattle.stream.specs.declared.follower.Follower.{Follower};
 
 use crate::fault::StreamFault;
+use crate::follower::Follower;
 use crate::heard::Heard;
 use crate::refusal::StepRefusal;
 use crate::settling::settle;
 use heap::Heap;
 use ids::{Op, Pid, Reply};
 use machine::Machine;
-use replay::Checker;
 use script::{Line, ScriptFault, read_further_line};
 
 // Executes one operation. Where it is refused nothing has changed.
@@ -49,8 +49,8 @@ fn do_line<K: Machine>(kernel: &mut K, line: Line) -> Result<Heard, StepRefusal>
         (HasDone line.pid line.op (K.shown kernel.old) (K.shown kernel.new)) }
     ensures unchanged { OnErr result (K.shown kernel.new ≡ K.shown kernel.old) }
     ensures refused { IfErr result (Refused (K.shown kernel.old).log line.pid line.op) }
-    ensures followed { (checker : Option Checked)
-        → Follows checker (K.shown kernel.old).log → Follows checker (K.shown kernel.new).log }
+    ensures followed { (follower : Option Follower)
+        → Follows follower (K.shown kernel.old).log → Follows follower (K.shown kernel.new).log }
 {
     let Line { pid, op, number: _ } = line;
     match do_step(kernel, pid, op) {
@@ -85,8 +85,8 @@ fn try_line<K: Machine>(
     ensures unchanged { OnErr result (K.shown kernel.new ≡ K.shown kernel.old) }
     ensures refused { IfErr result
         (Refuses (further_line_of number line.now) (K.shown kernel.new)) }
-    ensures followed { (checker : Option Checked)
-        → Follows checker (K.shown kernel.old).log → Follows checker (K.shown kernel.new).log }
+    ensures followed { (follower : Option Follower)
+        → Follows follower (K.shown kernel.old).log → Follows follower (K.shown kernel.new).log }
 {
     // For the proof: the kernel's history is legal.
     let _history = kernel.history();
@@ -97,56 +97,69 @@ fn try_line<K: Machine>(
     }
 }
 
-// Does a line for which the places were not free: once what is kept is forgotten. The operation was
-// given away, so the line is read again.
+// Why a line whose places are not free stops the stream: nothing is kept, or it cannot be forgotten.
+fn fault_of_full<K: Machine>(kernel: &K) -> StreamFault
+    ensures { result ≡ fault_of_full (K.shown kernel.now).log }
+{
+    if kernel.history().entries().is_empty() {
+        StreamFault::HistoryFull
+    } else {
+        StreamFault::Spent
+    }
+}
+
+// Does a line for which the places were not free: once what is kept is forgotten, where that can
+// be. The operation was given away, so the line is read again.
 fn hear_again<K: Machine>(
     heap: Heap,
     number: usize,
     line: &[u8],
     kernel: &mut K,
-    checker: &mut Option<Checker>,
+    follower: &mut Option<Follower>,
 ) -> Result<Heard, StreamFault>
     ensures comes { IfOk result (ComesFurther
         (further_line_of number line.now) (K.shown kernel.old) (K.shown kernel.new)) }
-    ensures followed { OnOk result (Follows checker.old (K.shown kernel.old).log
-        → Follows checker.new (K.shown kernel.new).log) }
-    ensures same { OnOk result (is_some checker.new ≡ is_some checker.old) }
+    ensures followed { OnOk result (Follows follower.old (K.shown kernel.old).log
+        → Follows follower.new (K.shown kernel.new).log) }
+    ensures same { OnOk result (is_some follower.new ≡ is_some follower.old) }
     ensures grown { OnErr result (HasGrown (K.shown kernel.old) (K.shown kernel.new) []) }
-    ensures stops { IfErr result (λ why. Follows checker.old (K.shown kernel.old).log
+    ensures stops { IfErr result (λ why. Follows follower.old (K.shown kernel.old).log
         → StopsFurther (further_line_of number line.now) (K.shown kernel.new) why) }
     ensures of_line { IfErr result IsOfLine }
 {
-    match settle(kernel, checker) {
+    match settle(kernel, follower) {
         Ok(()) => match try_line(heap, number, line, kernel) {
             Ok(heard) => Ok(heard),
-            Err(refusal) => Err(StreamFault::of_refusal(refusal)),
+            Err(StepRefusal::HistoryFull) => Err(fault_of_full(kernel)),
+            Err(StepRefusal::NoMemory) => Err(StreamFault::NoMemory),
         },
         Err(fault) => Err(fault),
     }
 }
 
 // Does a line behind the priorities, which has this number. Where no place is free, what was done
-// is checked and forgotten first. So the history is full only where nothing is kept in it.
+// is checked and forgotten first. So the history is full only where nothing is kept in it, and the
+// stream is spent only where that cannot be forgotten.
 pub(crate) fn hear_further<K: Machine>(
     heap: Heap,
     number: usize,
     line: &[u8],
     kernel: &mut K,
-    checker: &mut Option<Checker>,
+    follower: &mut Option<Follower>,
 ) -> Result<Heard, StreamFault>
     ensures comes { IfOk result (ComesFurther
         (further_line_of number line.now) (K.shown kernel.old) (K.shown kernel.new)) }
-    ensures followed { OnOk result (Follows checker.old (K.shown kernel.old).log
-        → Follows checker.new (K.shown kernel.new).log) }
-    ensures same { OnOk result (is_some checker.new ≡ is_some checker.old) }
+    ensures followed { OnOk result (Follows follower.old (K.shown kernel.old).log
+        → Follows follower.new (K.shown kernel.new).log) }
+    ensures same { OnOk result (is_some follower.new ≡ is_some follower.old) }
     ensures grown { OnErr result (HasGrown (K.shown kernel.old) (K.shown kernel.new) []) }
-    ensures stops { IfErr result (λ why. Follows checker.old (K.shown kernel.old).log
+    ensures stops { IfErr result (λ why. Follows follower.old (K.shown kernel.old).log
         → StopsFurther (further_line_of number line.now) (K.shown kernel.new) why) }
     ensures of_line { IfErr result IsOfLine }
 {
     match try_line(heap, number, line, kernel) {
         Ok(heard) => Ok(heard),
-        Err(StepRefusal::HistoryFull) => hear_again(heap, number, line, kernel, checker),
+        Err(StepRefusal::HistoryFull) => hear_again(heap, number, line, kernel, follower),
         Err(StepRefusal::NoMemory) => Err(StreamFault::NoMemory),
     }
 }

@@ -3,13 +3,15 @@
 //! The first line that gives priorities makes the kernel, and each line behind it is an operation
 //! of a process. An operation is answered by its line of the transcript, and a line that asks none
 //! by a line that begins with `? `. All whole lines that have come are answered before the next
-//! ones are waited for. What was done is forgotten behind each answer, so a stream can go on for
-//! ever.
+//! ones are waited for. What was done is forgotten behind each answer, so a long stream takes no more
+//! memory than a short one. It is spent only behind 2^64 - 1 reads, or at an operation for which no
+//! place is free, once 2^63 entries were made and no more can be forgotten.
 #![tactic(auto)]
 
 ghost use Rattle.stream.specs.Answers.{FaultLinesAreNoEntries, GoodAnswersAreTranscripts};
 
 mod fault;
+mod follower;
 mod heard;
 mod hearing;
 mod refusal;

@@ -25,7 +25,10 @@ const PART: usize = 8_192;
 /// kept.
 ///
 /// `Read` and `Write` come only where the device has failed. Where another fault comes all lines
-/// before the one that it is for are answered.
+/// before the one that it is for are answered. Of these `HistoryFull` and `Spent` come only at an
+/// operation whose places are missing: `HistoryFull` where nothing is kept, `Spent` where 2^63
+/// entries or more were made, so that no more can be forgotten. Till then the stream goes on. `Spent`
+/// comes behind 2^64 - 1 reads too, when so many bytes at least have come and are answered.
 pub fn run_stream<K: Machine, I: Source, O: Sink>(
     heap: Heap,
     limits: Limits,
@@ -52,7 +55,7 @@ pub fn run_stream<K: Machine, I: Source, O: Sink>(
     let setting = Setting { limits, check };
     let mut stream: Stream<K> = Stream::new(heap);
     let mut buffer = [0u8; PART];
-    'parts: for _ in 0..u64::MAX {
+    'parts: for _reads in 0..u64::MAX {
         let Ok(count) = source.read(&mut buffer) else {
             return Err(StreamFault::Read);
         };

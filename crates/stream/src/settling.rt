@@ -1,41 +1,26 @@
-// What was done is checked, if that is wanted, and forgotten.
+// What was done is checked, if that is wanted, and forgotten, where that can be.
 ghost use Rattle.std.specs.Prelude.{◌≡◌, is_some, IfErr, IfOk, OnErr, OnOk};
 ghost use Rattle.machine.specs.Shown.{Kept};
-ghost use Rattle.machine.specs.Steps.{forgetting};
-ghost use Rattle.stream.specs.Heard.{CannotForget, Follows, HasFollowed, IsOfLine};
+ghost use Rattle.stream.specs.Heard.{CannotForget, Follows, Forgets, HasFollowed, IsOfLine};
 
 use crate::fault::StreamFault;
+use crate::follower::Follower;
 use machine::Machine;
-use replay::Checker;
 
-// The checker, once it has checked the entries that are kept too. At a fault it is gone.
-fn check_kept<K: Machine>(kernel: &K, former: Checker) -> Result<Checker, StreamFault>
-    ensures followed { IfOk result (λ behind. Follows (Some former) (K.shown kernel.now).log
-        → HasFollowed (Some behind) (K.shown kernel.now).log) }
-    ensures fault { IfErr result (λ why. Follows (Some former) (K.shown kernel.now).log
-        → CannotForget (K.shown kernel.now) why) }
+// Has the follower, if there is one, check all entries. At a fault it is gone.
+fn follow<K: Machine>(kernel: &K, follower: &mut Option<Follower>) -> Result<(), StreamFault>
+    ensures followed { OnOk result (Follows follower.old (K.shown kernel.now).log
+        → HasFollowed follower.new (K.shown kernel.now).log) }
+    ensures same { OnOk result (is_some follower.new ≡ is_some follower.old) }
+    ensures fault { IfErr result (λ why. Follows follower.old (K.shown kernel.now).log
+        → CannotForget (K.shown kernel.now).log why) }
     ensures of_line { IfErr result IsOfLine }
 {
-    match former.add(kernel.history().entries()) {
-        Ok(behind) => Ok(behind),
-        Err(fault) => Err(StreamFault::of_check(fault)),
-    }
-}
-
-// Has the checker, if there is one, check the entries that are kept. At a fault it is gone.
-fn follow<K: Machine>(kernel: &K, checker: &mut Option<Checker>) -> Result<(), StreamFault>
-    ensures followed { OnOk result (Follows checker.old (K.shown kernel.now).log
-        → HasFollowed checker.new (K.shown kernel.now).log) }
-    ensures same { OnOk result (is_some checker.new ≡ is_some checker.old) }
-    ensures fault { IfErr result (λ why. Follows checker.old (K.shown kernel.now).log
-        → CannotForget (K.shown kernel.now) why) }
-    ensures of_line { IfErr result IsOfLine }
-{
-    match checker.take() {
+    match follower.take() {
         None => Ok(()),
-        Some(former) => match check_kept(kernel, former) {
+        Some(former) => match former.catch_up(kernel.history()) {
             Ok(behind) => {
-                *checker = Some(behind);
+                *follower = Some(behind);
                 Ok(())
             }
             Err(fault) => Err(fault),
@@ -43,31 +28,29 @@ fn follow<K: Machine>(kernel: &K, checker: &mut Option<Checker>) -> Result<(), S
     }
 }
 
-// Has all that is kept checked, if there is a checker, and forgets it. At a fault nothing is
-// forgotten.
+// Has all that is kept checked, if there is a follower, and forgets it. With 2^63 entries or more it
+// is only checked, for no more can be forgotten. At a fault nothing is forgotten.
 pub(crate) fn settle<K: Machine>(
     kernel: &mut K,
-    checker: &mut Option<Checker>,
+    follower: &mut Option<Follower>,
 ) -> Result<(), StreamFault>
     ensures kept { Kept (K.shown kernel.new) }
-    ensures forgets { OnOk result (K.shown kernel.new ≡ forgetting (K.shown kernel.old)) }
-    ensures followed { OnOk result (Follows checker.old (K.shown kernel.old).log
-        → Follows checker.new (K.shown kernel.new).log) }
-    ensures same { OnOk result (is_some checker.new ≡ is_some checker.old) }
+    ensures forgets { OnOk result (Forgets (K.shown kernel.old) (K.shown kernel.new)) }
+    ensures followed { OnOk result (Follows follower.old (K.shown kernel.old).log
+        → Follows follower.new (K.shown kernel.new).log) }
+    ensures same { OnOk result (is_some follower.new ≡ is_some follower.old) }
     ensures unchanged { OnErr result (K.shown kernel.new ≡ K.shown kernel.old) }
-    ensures fault { IfErr result (λ why. Follows checker.old (K.shown kernel.old).log
-        → CannotForget (K.shown kernel.new) why) }
+    ensures fault { IfErr result (λ why. Follows follower.old (K.shown kernel.old).log
+        → CannotForget (K.shown kernel.new).log why) }
     ensures of_line { IfErr result IsOfLine }
 {
     // For the proof: what was forgotten are entries of the history.
     let _history = kernel.history();
-    match follow(kernel, checker) {
+    match follow(kernel, follower) {
         Ok(()) => {}
         Err(fault) => return Err(fault),
     }
-    if kernel.forget() {
-        Ok(())
-    } else {
-        Err(StreamFault::Spent)
-    }
+    // Where it answers false the stream goes on, as long as there are places.
+    kernel.forget();
+    Ok(())
 }

@@ -8,12 +8,13 @@ ghost use Rattle.script.specs.Contents.{AreValidPriorities};
 ghost use Rattle.transcript.specs.Printer.{CanPrint, Prints};
 ghost use Rattle.stream.specs.Asked.{unended_fault};
 ghost use Rattle.stream.specs.Heard.{IsOfLine};
-ghost use Rattle.stream.specs.States.{HasBegun, IsCheckerOf, IsFresh, IsHeard, IsNotHeard};
+ghost use Rattle.stream.specs.States.{HasBegun, IsFollowerOf, IsFresh, IsHeard, IsNotHeard};
 ghost use Rattle.stream.specs.States.{IsNotSettled, IsSettled};
 ghost use Rattle.stream.specs.Streams.{CanMake, rest_text, verdict};
 ghost use Rattle.stream.specs.Parts.{ComesOf, IsTaken, NotTaken};
 
 use crate::fault::StreamFault;
+use crate::follower::Follower;
 use crate::heard::Heard;
 use crate::hearing::{hear_further, heard_fault};
 use crate::refusal::StepRefusal;
@@ -36,12 +37,12 @@ pub(crate) struct Setting {
 }
 
 // How far a stream has come: where its memory is from; the kernel, once a line has given its
-// priorities, with its checker, if one is wanted; the beginning of the line that has not ended yet,
+// priorities, with the follower of its history, if a check is wanted; the beginning of the line that has not ended yet,
 // and its number; and whether no line so far was a fault.
 pub(crate) struct Stream<K: Machine> {
     heap: Heap,
     kernel: Option<K>,
-    checker: Option<Checker>,
+    follower: Option<Follower>,
     line: Vec<u8, Heap>,
     number: usize,
     good: bool,
@@ -53,7 +54,7 @@ impl<K: Machine> Drop for Stream<K> {
         let Stream {
             heap: _,
             kernel: _,
-            checker: _,
+            follower: _,
             line: _,
             number: _,
             good: _,
@@ -61,21 +62,21 @@ impl<K: Machine> Drop for Stream<K> {
     }
 }
 
-// A checker of the history of a fresh kernel, if it is wanted.
-fn checker_if(
+// A follower of the history of a fresh kernel, if a check is wanted.
+fn follower_if(
     heap: Heap,
     setting: Setting,
     priorities: &[Priority],
-) -> Result<Option<Checker>, AllocError>
+) -> Result<Option<Follower>, AllocError>
     requires { CanMake setting.limits }
-    ensures { IfOk result (λ checker. IsCheckerOf setting priorities.now checker) }
+    ensures { IfOk result (λ follower. IsFollowerOf setting priorities.now follower) }
 {
     if !setting.check {
         return Ok(None);
     }
     let largest = setting.limits.file_bytes;
     let checker = Checker::with_largest_file(heap, Num(0), priorities, largest)?;
-    Ok(Some(checker))
+    Ok(Some(Follower { checker, count: 0 }))
 }
 
 impl<K: Machine> Stream<K> {
@@ -86,29 +87,29 @@ impl<K: Machine> Stream<K> {
         Stream {
             heap,
             kernel: None,
-            checker: None,
+            follower: None,
             line: Vec::new(heap),
             number: 1,
             good: true,
         }
     }
 
-    // Makes the kernel, and its checker, if one is wanted.
+    // Makes the kernel, and its follower, if a check is wanted.
     fn begin(&mut self, setting: Setting, priorities: &[Priority]) -> Result<(), AllocError>
         requires can_make { CanMake setting.limits }
         requires valid { AreValidPriorities priorities.now }
         ensures ok { OnOk result (HasBegun K.shown setting priorities.now self.old self.new) }
         ensures err { OnErr result (self.new ≡ self.old) }
     {
-        let checker = checker_if(self.heap, setting, priorities)?;
+        let follower = follower_if(self.heap, setting, priorities)?;
         match K::with_limits(self.heap, priorities, setting.limits) {
             Ok(kernel) => {
                 self.kernel = Some(kernel);
-                self.checker = checker;
+                self.follower = follower;
                 Ok(())
             }
             Err(refused) => {
-                drop(checker);
+                drop(follower);
                 Err(refused)
             }
         }
@@ -145,7 +146,7 @@ impl<K: Machine> Stream<K> {
                 self.number,
                 self.line.as_slice(),
                 kernel,
-                &mut self.checker,
+                &mut self.follower,
             ),
             None => match self.hear_first(setting) {
                 Ok(heard) => Ok(heard),
@@ -252,20 +253,20 @@ impl<K: Machine> Stream<K> {
         }
     }
 
-    // Has all that is kept checked, if that is wanted, and forgets it.
+    // Has all that is kept checked, if that is wanted, and forgets it, where that can be.
     fn settle_all(&mut self) -> Result<(), StreamFault>
         ensures ok { OnOk result (IsSettled K.shown self.old self.new) }
         ensures err { IfErr result (IsNotSettled K.shown self.old self.new) }
         ensures of_line { IfErr result IsOfLine }
     {
         match &mut self.kernel {
-            Some(kernel) => settle(kernel, &mut self.checker),
+            Some(kernel) => settle(kernel, &mut self.follower),
             None => Ok(()),
         }
     }
 
     // Takes a part more of the input: does all whole lines, writes their answers, and forgets what
-    // was done. Where a line stops the stream and the sink fails too, the fault is Write.
+    // was done, where that can be. Where a line stops the stream and the sink fails too, the fault is Write.
     pub(crate) fn answer<S: Sink>(
         &mut self,
         setting: Setting,

@@ -1,31 +1,40 @@
-use Rattle.std.proofs.Common.{◌∙◌, sym, subst}
+use Rattle.std.proofs.Common.{[], sym, subst}
+use Rattle.machine.specs.Shown.{Shown}
 use Rattle.script.specs.Lines.{further_line_of}
-use Rattle.stream.specs.Heard.{IsOfLine, StopsFurther}
+use Rattle.stream.specs.Heard.{Forgets, HasGrown, Refuses, StopsFurther}
 use Rattle.stream.specs.declared.fault.StreamFault.{StreamFault}
-use Rattle.stream.proofs.Coming.{refusal_of_line, stops_refused, stops_settling}
-use Rattle.stream.proofs.Forgotten.{comes-then, grown_forgetting, grown_same, none_kept_in}
+use Rattle.stream.specs.declared.refusal.StepRefusal.{StepRefusal}
+use Rattle.stream.proofs.Coming.{full_of_line, stops_full, stops_settling}
+use Rattle.stream.proofs.Forgotten.{comes-then, grown_settled, grown_same}
 use Rattle.stream.proofs.hearing.hear_again.Goals as goal
 
 pub returns-in-Ok-try_line-clause-comes : goal.returns-in-Ok-try_line-clause-comes
 returns-in-Ok-try_line-clause-comes g c =
-    comes-then _ _ _ _ _ (grown_forgetting _ _ c.settle.ensures.kept c.in-Ok.ensures.forgets) c.in-Ok-try_line.ensures.comes
+    comes-then _ _ _ _ _ (grown_settled _ _ c.settle.ensures.kept c.in-Ok.ensures.forgets) c.in-Ok-try_line.ensures.comes
 
 pub returns-in-Ok-try_line-clause-followed : goal.returns-in-Ok-try_line-clause-followed
 returns-in-Ok-try_line-clause-followed g c = λ h. c.try_line.ensures.followed _ (c.in-Ok.ensures.followed h)
 
-pub returns-in-Err-try_line-clause-grown : goal.returns-in-Err-try_line-clause-grown
-returns-in-Err-try_line-clause-grown g c =
-    grown_forgetting _ _ c.try_line.ensures.kept (c.in-Err-try_line.ensures.unchanged ∙ c.in-Ok.ensures.forgets)
+pub returns-in-Err-HistoryFull-clause-grown : goal.returns-in-Err-HistoryFull-clause-grown
+returns-in-Err-HistoryFull-clause-grown g c =
+    let old = g.K.Machine.shown c.args.kernel.now in
+    subst (λ (k : Shown). HasGrown old k []) (sym c.in-Err-HistoryFull.ensures.unchanged) (grown_settled _ _ c.settle.ensures.kept c.in-Ok.ensures.forgets)
 
-pub returns-in-Err-try_line-clause-stops : goal.returns-in-Err-try_line-clause-stops
-returns-in-Err-try_line-clause-stops g c = λ _.
+pub returns-in-Err-HistoryFull-clause-stops : goal.returns-in-Err-HistoryFull-clause-stops
+returns-in-Err-HistoryFull-clause-stops g c = λ _.
     let said = further_line_of c.args.number c.args.line.now in
-    let kernel = g.K.Machine.shown c.try_line.new.kernel in
-    let none = none_kept_in _ kernel (c.in-Err-try_line.ensures.unchanged ∙ c.in-Ok.ensures.forgets) in
-    subst (λ (w : StreamFault). StopsFurther said kernel w) (sym c.of_refusal.ensures) (stops_refused c.in-Err-try_line.refusal said kernel none c.in-Err-try_line.ensures.refused)
+    let old = g.K.Machine.shown c.args.kernel.now in
+    let new = g.K.Machine.shown c.try_line.new.kernel in
+    let forgets : Forgets old new = subst (λ (k : Shown). Forgets old k) (sym c.in-Err-HistoryFull.ensures.unchanged) c.in-Ok.ensures.forgets in
+    subst (λ (w : StreamFault). StopsFurther said new w) (sym c.fault_of_full.ensures) (stops_full said old new forgets (subst (λ (r : StepRefusal). Refuses said new r) c.in-Err-HistoryFull.field-0-is c.in-Err-HistoryFull.ensures.refused))
 
-pub returns-in-Err-try_line-clause-of_line : goal.returns-in-Err-try_line-clause-of_line
-returns-in-Err-try_line-clause-of_line g c = subst (λ (w : StreamFault). IsOfLine w) (sym c.of_refusal.ensures) (refusal_of_line c.in-Err-try_line.refusal)
+pub returns-in-Err-HistoryFull-clause-of_line : goal.returns-in-Err-HistoryFull-clause-of_line
+returns-in-Err-HistoryFull-clause-of_line g c = full_of_line _ (g.K.Machine.shown c.try_line.new.kernel).log c.fault_of_full.ensures
+
+pub returns-in-Err-NoMemory-clause-grown : goal.returns-in-Err-NoMemory-clause-grown
+returns-in-Err-NoMemory-clause-grown g c =
+    let old = g.K.Machine.shown c.args.kernel.now in
+    subst (λ (k : Shown). HasGrown old k []) (sym c.in-Err-NoMemory.ensures.unchanged) (grown_settled _ _ c.settle.ensures.kept c.in-Ok.ensures.forgets)
 
 pub returns-in-Err-clause-grown : goal.returns-in-Err-clause-grown
 returns-in-Err-clause-grown g c = grown_same _ _ c.settle.ensures.kept c.in-Err.ensures.unchanged

@@ -17,7 +17,7 @@ returns-in-Err-HistoryFull-clause-comes g c =
 pub returns-in-Err-HistoryFull-clause-followed : goal.returns-in-Err-HistoryFull-clause-followed
 returns-in-Err-HistoryFull-clause-followed g c =
     let new = g.K.Machine.shown c.hear_again.new.kernel in
-    subst (λ (k : Shown). OnOk c.hear_again.result (Follows c.args.checker.now k.log → Follows c.hear_again.new.checker new.log)) c.in-Err-HistoryFull.ensures.unchanged c.hear_again.ensures.followed
+    subst (λ (k : Shown). OnOk c.hear_again.result (Follows c.args.follower.now k.log → Follows c.hear_again.new.follower new.log)) c.in-Err-HistoryFull.ensures.unchanged c.hear_again.ensures.followed
 
 pub returns-in-Err-HistoryFull-clause-grown : goal.returns-in-Err-HistoryFull-clause-grown
 returns-in-Err-HistoryFull-clause-grown g c =
@@ -28,7 +28,7 @@ pub returns-in-Err-HistoryFull-clause-stops : goal.returns-in-Err-HistoryFull-cl
 returns-in-Err-HistoryFull-clause-stops g c =
     let said = further_line_of c.args.number c.args.line.now in
     let new = g.K.Machine.shown c.hear_again.new.kernel in
-    subst (λ (k : Shown). IfErr c.hear_again.result (λ why. Follows c.args.checker.now k.log → StopsFurther said new why)) c.in-Err-HistoryFull.ensures.unchanged c.hear_again.ensures.stops
+    subst (λ (k : Shown). IfErr c.hear_again.result (λ why. Follows c.args.follower.now k.log → StopsFurther said new why)) c.in-Err-HistoryFull.ensures.unchanged c.hear_again.ensures.stops
 
 pub returns-in-Err-NoMemory-clause-grown : goal.returns-in-Err-NoMemory-clause-grown
 returns-in-Err-NoMemory-clause-grown g c = grown_same _ _ c.try_line.ensures.kept c.in-Err-NoMemory.ensures.unchanged

@@ -7,6 +7,6 @@ returns-in-Ok-clause-ok g c = record {
   made = refl;
   kept = c.in-Ok.ensures.kept;
   log = c.in-Ok.ensures.log;
-  checker = c.in_ok-checker.ensures;
+  follower = c.in_ok-follower.ensures;
   same = record { line = refl; number = refl; good = refl };
 }

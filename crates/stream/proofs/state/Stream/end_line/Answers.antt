@@ -10,7 +10,7 @@ returns-in-Ok-clause-answers g c =
       told.1,
       λ seen at.
           Takes-line g.K.Machine.shown c.args.setting seen c.args.self.now c.hear.new.self _ c.in-Ok.heard told.0 at c.in-Ok.ensures.ok told.2
-          (record { kernel = refl; checker = refl; line = c.clear.ensures.items; number = c.saturating_add-self.ensures; good = c.stays_good-self.ensures }),
+          (record { kernel = refl; follower = refl; line = c.clear.ensures.items; number = c.saturating_add-self.ensures; good = c.stays_good-self.ensures }),
     )
 
 pub returns-in-Err-clause-answers : goal.returns-in-Err-clause-answers

@@ -22,7 +22,7 @@ returns-in-Ok-clause-answers g c =
       [],
       Prints-none _ _ _,
       λ seen at.
-          Takes-kept g.K.Machine.shown c.args.setting seen c.args.byte stream _ at (record { kernel = refl; checker = refl; number = refl; good = refl })
+          Takes-kept g.K.Machine.shown c.args.setting seen c.args.byte stream _ at (record { kernel = refl; follower = refl; number = refl; good = refl })
           c.if-byte-eq10.false short (search rules),
     )
 
