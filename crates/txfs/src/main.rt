@@ -4,32 +4,22 @@
 //! `txfs [--limit N] [--file-limit N]`
 #![tactic(auto)]
 
-ghost use Rattle.std.specs.Prelude.{◌≡◌, ◌≤◌, ◌+◌, ◌<◌, ◌^◌, true, length, IfOk, IsTrue};
+ghost use Rattle.std.specs.Prelude.{◌≤◌, IfOk};
 ghost use Rattle.ids.specs.declared.limits.TheConstants.{LARGEST_FILE, MAX_ENTRIES};
-ghost use Rattle.fuse.specs.Replies.{IsShort};
 
-use fuse::{Errno, Reply, parse, put_reply};
+use fuse::{Reply, Request};
 use heap::Heap;
 use ids::{LARGEST_FILE, Limits, MAX_ENTRIES};
 use kernel::Kernel;
 use machine::Machine;
 use mounted::Server;
-use std::alloc::AllocError;
-use std::io::{ErrorKind, Read, Write};
+use session::{Buffers, Service, Streams};
+use std::env;
+use std::io::{Read, Write};
 use std::process::ExitCode;
-use std::{env, io};
-
-// The most bytes of a request: a write of 1 MiB, and what stands before it.
-const REQUEST_LIMIT: usize = 1_048_576 + 4_096;
-
-// The most bytes of a reply behind its header.
-const REPLY_LIMIT: usize = 1_048_576;
 
 // How many entries the history has places for, where no number is given.
 const ENTRIES: usize = 65_536;
-
-// The system's number for a session that has ended.
-const ENDED: i32 = 19;
 
 // How the session ends.
 #[derive(Clone, Copy, Debug)]
@@ -70,107 +60,31 @@ fn main(rt: HostRuntime) -> ExitCode {
     ExitCode::from(ending.status())
 }
 
-// Whether the length of a reply can be told.
-fn is_short(reply: &Reply) -> bool
-    ensures { IsTrue result → IsShort reply.now }
-{
-    match reply {
-        Reply::Data(bytes) => bytes.as_slice().len() <= REPLY_LIMIT,
-        Reply::Directory(list) => list.as_slice().len() <= REPLY_LIMIT,
-        _ => true,
+// A mounted tree, as what serves a session.
+struct Tree<K: Machine> {
+    server: Server<K>,
+}
+
+// By hand: a derived drop is opened at every place where a value goes, this one is called.
+impl<K: Machine> Drop for Tree<K> {
+    fn drop(self) {
+        let Tree { server: _ } = self;
     }
 }
 
-// The bytes of a reply. One whose length cannot be told is an error.
-fn message(heap: Heap, unique: u64, reply: &Reply) -> Result<Vec<u8, Heap>, AllocError> {
-    let mut out = Vec::new(heap);
-    if is_short(reply) {
-        put_reply(&mut out, unique, reply)?;
-    } else {
-        put_reply(&mut out, unique, &Reply::Error(Errno::EIO))?;
-    }
-    Ok(out)
-}
+impl<K: Machine> Service for Tree<K> {
+    ghost use Rattle.std.specs.Prelude.{◌≡◌, true};
+    ghost use Rattle.machine.specs.Shown.{Kept};
+    ghost use Rattle.mounted.specs.Served.{IsServed, is_of_node};
 
-// Writes a reply, all of it at once. What the kernel does not take is an answer to a request that was
-// interrupted, so nothing is done about it.
-fn send<W: Write>(heap: Heap, unique: u64, reply: &Reply, out: &mut W) -> Result<(), AllocError> {
-    let bytes = message(heap, unique, reply)?;
-    let _written = out.write(bytes.as_slice());
-    Ok(())
-}
+    ghost serves = { λ old request reply new. Kept new.server.hand.shown
+        × (is_of_node request.operation ≡ true
+        → IsServed old.server.tables new.server.tables request.node request.operation
+        old.server.hand.shown new.server.hand.shown reply) };
 
-// Serves the request that the bytes are.
-fn answer<K: Machine, W: Write>(
-    heap: Heap,
-    server: &mut Server<K>,
-    bytes: &[u8],
-    out: &mut W,
-) -> Result<(), AllocError> {
-    match parse(heap, bytes) {
-        Ok(request) => {
-            let unique = request.unique;
-            match server.serve(request) {
-                Some(reply) => send(heap, unique, &reply, out),
-                None => Ok(()),
-            }
-        }
-        Err(fault) => refuse(heap, fault.answer(), out),
+    fn serve(&mut self, request: Request) -> Option<Reply> {
+        self.server.serve(request)
     }
-}
-
-// Answers bytes that are no request, where somebody is to be answered.
-fn refuse<W: Write>(
-    heap: Heap,
-    answer: Option<(u64, Errno)>,
-    out: &mut W,
-) -> Result<(), AllocError> {
-    match answer {
-        Some((unique, errno)) => send(heap, unique, &Reply::Error(errno), out),
-        None => Ok(()),
-    }
-}
-
-// How the session goes on after a read that failed: None where another request may come.
-fn ending_of(error: &io::Error) -> Option<Ending> {
-    if error.raw_os_error() == Some(ENDED) {
-        return Some(Ending::Unmounted);
-    }
-    match error.kind() {
-        ErrorKind::NotFound | ErrorKind::Interrupted | ErrorKind::WouldBlock => None,
-        _ => Some(Ending::Read),
-    }
-}
-
-// Serves all requests, up to the end of the session.
-fn serve_all<K: Machine, R: Read, W: Write>(
-    heap: Heap,
-    server: &mut Server<K>,
-    input: &mut R,
-    out: &mut W,
-) -> Ending {
-    let mut buffer = Vec::new(heap);
-    if buffer.resize(REQUEST_LIMIT, 0u8).is_err() {
-        return Ending::NoMemory;
-    }
-    for _ in 0..u64::MAX {
-        match input.read(buffer.as_mut_slice()) {
-            Ok(0) => return Ending::Unmounted,
-            Ok(count) => {
-                let Some(bytes) = buffer.as_slice().get(..count) else {
-                    return Ending::Read;
-                };
-                // Without memory for a reply its request is not answered, and the next may be.
-                let _answered = answer(heap, server, bytes, out);
-            }
-            Err(error) => {
-                if let Some(ending) = ending_of(&error) {
-                    return ending;
-                }
-            }
-        }
-    }
-    Ending::Read
 }
 
 // The number behind an option.
@@ -249,19 +163,32 @@ fn words_of(rt: &HostRuntime) -> Result<Vec<String>, Ending> {
     Ok(texts)
 }
 
-// Makes a mounted tree, and serves the session.
+// How the program ends, where its session has ended so.
+fn ending_of(ending: session::Ending) -> Ending {
+    match ending {
+        session::Ending::Unmounted => Ending::Unmounted,
+        session::Ending::Failed => Ending::Read,
+    }
+}
+
+// Makes a mounted tree and what the session needs, and serves it.
 fn serve<K: Machine, R: Read, W: Write>(
     heap: Heap,
     limits: Limits,
-    input: &mut R,
-    out: &mut W,
+    streams: &mut Streams<R, W>,
 ) -> Ending
     requires entries { limits.entries ≤ MAX_ENTRIES }
     requires files { limits.file_bytes ≤ LARGEST_FILE }
 {
+    let Ok(mut buffers) = Buffers::new(heap) else {
+        return Ending::NoMemory;
+    };
     let made: Result<Server<K>, _> = Server::new(heap, limits);
     match made {
-        Ok(mut server) => serve_all(heap, &mut server, input, out),
+        Ok(server) => {
+            let mut tree = Tree { server };
+            ending_of(session::run(heap, &mut tree, streams, &mut buffers))
+        }
         Err(_) => Ending::NoMemory,
     }
 }
@@ -279,5 +206,9 @@ fn run(rt: &HostRuntime) -> Ending {
     let Ok(heap) = heap::open(rt.alloc()) else {
         return Ending::NoMemory;
     };
-    serve::<Kernel, _, _>(heap, limits, &mut rt.stdin(), &mut rt.stdout())
+    let mut streams = Streams {
+        input: rt.stdin(),
+        output: rt.stdout(),
+    };
+    serve::<Kernel, _, _>(heap, limits, &mut streams)
 }
