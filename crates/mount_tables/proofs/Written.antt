@@ -1,8 +1,13 @@
 -- What is known of the map that entries make, when one of them is changed.
-use Rattle.std.proofs.Common.{◌≡◌, ℕ, List, Option, Some, None, cond, nat_eq, sym, ap, ◌∙◌}
-use Rattle.std.specs.Cmp.{nat_cmp_total, unsigned_ties}
-use Rattle.std.specs.Map.{lookup}
+use Rattle.std.proofs.Common.{◌≡◌, ℕ, ◌+◌, List, [], ◌∷◌, length, Option, Some, None, cond, nat_eq, refl, sym, ap, ◌∙◌, add-one}
+use Rattle.std.specs.Cmp.{nat_cmp_total, nat_eq_equiv, unsigned_ties}
+use Rattle.std.specs.List.{IsDistinct}
+use Rattle.std.specs.Map.{keys_of, lookup}
+use Rattle.std.specs.Option.{is_some}
 use Rattle.std.specs.Ordering.{nat_cmp}
+use Rattle.std.proofs.lemmas.Map.{lookup-none}
+use Rattle.std.proofs.lemmas.Map.Entries.{none_past_head}
+use Rattle.std.proofs.lemmas.Map.Keys.{IsDistinct-tail}
 use Rattle.model.specs.FiniteMap as finite
 use Rattle.mount_tables.specs.Rows.{Rows}
 use Rattle.model.proofs.Laws.{get_at, inserted}
@@ -38,3 +43,19 @@ module _ {X : Type 0} (number : ℕ) (es : List (ℕ × X)) (f : Option X → fi
 
   pub missing_at : None ≡ lookup (nat_eq number) es → f None ≡ f (finite.get {R = nat_cmp} (finite.from_entries es) number)
   missing_at none = ap f (none ∙ sym given)
+
+-- as many as there are entries, since no two have the same key
+len_by : {X : Type 0} (found : Option X) (len : ℕ) → found ≡ None → cond (is_some found) len (len + 1) ≡ len + 1
+len_by None len is = refl
+len_by (Some x) len is = absurd cc
+
+pub counts : {X : Type 0} (es : List (ℕ × X)) → IsDistinct nat_eq (keys_of es) → length es ≡ finite.len (finite.from_entries {R = nat_cmp} es)
+counts {X = X} [] apart = sym (finite.len-empty nat_cmp X)
+counts {X = X} (e ∷ es) apart =
+    let none : finite.get {R = nat_cmp} (finite.from_entries es) e.0 ≡ None
+    = get_at nat_cmp_total finite.nat_cmp-IsAntisymmetric nat_eq unsigned_ties es e.0
+    ∙ lookup-none (nat_eq e.0) es (none_past_head nat_eq_equiv e.0 e es apart (nat_eq_equiv.refl e.0)) in
+    sym (add-one (length es))
+    ∙ ap (λ (n : ℕ). n + 1) (counts es (IsDistinct-tail nat_eq e.0 (keys_of es) apart))
+    ∙ sym (len_by (finite.get {R = nat_cmp} (finite.from_entries es) e.0) (finite.len (finite.from_entries {R = nat_cmp} es)) none)
+    ∙ sym (finite.len-insert nat_cmp_total (finite.from_entries es) e.0 e.1)

@@ -70,7 +70,9 @@ impl<T: Drop> ByNumber<T> {
     }
 
     // How many numbers stand for something.
-    pub(crate) fn len(&self) -> usize {
+    pub(crate) fn len(&self) -> usize
+        ensures { result ≡ map.len self.now.rows }
+    {
         self.rows.len()
     }
 

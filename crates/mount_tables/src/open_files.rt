@@ -160,6 +160,13 @@ impl OpenFiles {
         self.each.get(handle).copied()
     }
 
+    /// How many files are open.
+    pub fn len(&self) -> usize
+        ensures { result ≡ map.len self.now.each }
+    {
+        self.each.len()
+    }
+
     /// The number under which an object is open in a view.
     pub fn handle_of(&self, view: u64, inode: Num) -> Option<u64>
         ensures { result ≡ map.get self.now.handles (key_at view inode) }
