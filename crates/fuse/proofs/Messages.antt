@@ -1,14 +1,18 @@
--- The first number of a message is its length.
+-- Numbers that were put are read again, and the first number of a message is its length.
 use Rattle.std.proofs.Common.{◌≡◌, ℕ, ◌+◌, ◌<◌, ◌^◌, List, ◌++◌, length, sym, ap, ◌∙◌, append_assoc, arith, length-append}
 use Rattle.byteorder.specs.Numbers.{little_number-reads_back}
-use Rattle.fuse.specs.Numbers.{u32_at, u32_bytes, u64_bytes}
+use Rattle.fuse.specs.Numbers.{u32_at, u32_bytes, u64_at, u64_bytes}
 use Rattle.fuse.specs.Replies.{message}
 use Rattle.fuse.proofs.Lengths.{length-u32_bytes, length-u64_bytes}
 
 -- a number that was put is read again, whatever follows
-u32_at-u32_bytes : (n : ℕ) (rest : List ℕ) → n < 2 ^ 32 → u32_at (u32_bytes n ++ rest) 0 ≡ n
+pub u32_at-u32_bytes : (n : ℕ) (rest : List ℕ) → n < 2 ^ 32 → u32_at (u32_bytes n ++ rest) 0 ≡ n
 unfolding u32_at u32_bytes
 u32_at-u32_bytes n rest lt = little_number-reads_back 4 n rest lt
+
+pub u64_at-u64_bytes : (n : ℕ) (rest : List ℕ) → n < 2 ^ 64 → u64_at (u64_bytes n ++ rest) 0 ≡ n
+unfolding u64_at u64_bytes
+u64_at-u64_bytes n rest lt = little_number-reads_back 8 n rest lt
 
 length-message : (unique error : ℕ) (body : List ℕ) → length (message unique error body) ≡ 16 + length body
 unfolding message

@@ -123,10 +123,6 @@ unfoldable pub readdir_in : List ℕ → Option Operation
 readdir_in body =
     of_length 40 body (op.ReadDir (u64_at body 0) (u64_at body 8) (u32_at body 16))
 
-unfoldable pub readdirplus_in : List ℕ → Option Operation
-readdirplus_in body =
-    of_length 40 body (op.ReadDirPlus (u64_at body 0) (u64_at body 8) (u32_at body 16))
-
 -- as of an open file
 unfoldable pub releasedir_in : List ℕ → Option Operation
 releasedir_in body = of_length 24 body (op.ReleaseDir (u64_at body 0))

@@ -5,7 +5,7 @@ use Rattle.fuse.specs.declared.request.Operation.TheVariants as op
 use Rattle.fuse.specs.Bodies.{lookup_in, mknod_in, mkdir_in, unlink_in, rmdir_in, rename_in}
 use Rattle.fuse.specs.Bodies.{rename2_in, link_in, create_in, open_in, read_in, write_in}
 use Rattle.fuse.specs.Bodies.{release_in, fsync_in, flush_in, lseek_in, opendir_in, readdir_in}
-use Rattle.fuse.specs.Bodies.{readdirplus_in, releasedir_in, getattr_in, setattr_in, access_in}
+use Rattle.fuse.specs.Bodies.{releasedir_in, getattr_in, setattr_in, access_in}
 use Rattle.fuse.specs.Bodies.{statfs_in, init_in, destroy_in, interrupt_in, forget_in}
 use Rattle.fuse.specs.Bodies.{batch_forget_in}
 
@@ -27,8 +27,7 @@ node_operation_in opcode body =
     else if opcode == 27 then opendir_in body
     else if opcode == 28 then readdir_in body
     else if opcode == 29 then releasedir_in body
-    else if opcode == 34 then access_in body
-    else if opcode == 44 then readdirplus_in body else session_operation_in opcode body
+    else if opcode == 34 then access_in body else session_operation_in opcode body
 
 -- of open files
 unfoldable pub file_operation_in : ℕ → List ℕ → Option Operation

@@ -8,9 +8,7 @@ use Rattle.fuse.specs.declared.reply.Opened.{Opened}
 use Rattle.fuse.specs.declared.reply.Reply.{Reply}
 use Rattle.fuse.specs.declared.reply.Reply.TheVariants as reply
 use Rattle.fuse.specs.declared.reply.StatFs.{StatFs}
-use Rattle.fuse.specs.declared.listing.DirectoryEntry.{DirectoryEntry}
 use Rattle.fuse.specs.Errors.{number_of}
-use Rattle.fuse.specs.Listings.{directory_entry_bytes}
 use Rattle.fuse.specs.Numbers.{u16s, u32_bytes, u32s, u64_bytes, u64s}
 
 -- inode, size, blocks, the seconds of three times; their nanoseconds, mode, links, uid, gid,
@@ -50,10 +48,6 @@ init_bytes init =
     ++ u16s (init.max_background ∷ init.congestion_threshold ∷ [])
     ++ u32s (init.max_write ∷ init.time_granularity ∷ []) ++ u16s (init.max_pages ∷ 0 ∷ [])
     ++ u32s (0 ∷ 0 ∷ 0 ∷ 0 ∷ 0 ∷ 0 ∷ 0 ∷ 0 ∷ [])
-
--- an entry of a directory with what its name gives before it
-unfoldable pub plus_entry_bytes : Entry → DirectoryEntry → List ℕ
-plus_entry_bytes child entry = entry_bytes child ++ directory_entry_bytes entry
 
 -- what stands behind the header
 abbrev pub body_of : Reply → List ℕ

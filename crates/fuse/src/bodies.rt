@@ -3,7 +3,6 @@ ghost use Rattle.std.specs.Prelude.{◌≡◌, ◌+◌, ◌≤◌, length};
 ghost use Rattle.fuse.specs.Bodies.{access_in, batch_forget_in, changes_in, destroy_in, flush_in};
 ghost use Rattle.fuse.specs.Bodies.{forget_in, fsync_in, getattr_in, init_in, interrupt_in};
 ghost use Rattle.fuse.specs.Bodies.{lseek_in, open_in, opendir_in, read_in, readdir_in};
-ghost use Rattle.fuse.specs.Bodies.{readdirplus_in};
 ghost use Rattle.fuse.specs.Bodies.{release_in, releasedir_in, setattr_in, statfs_in, time_change};
 ghost use Rattle.fuse.specs.Bodies.{whence_of, where_set, write_in};
 ghost use Rattle.fuse.specs.Faults.{Reads};
@@ -151,20 +150,6 @@ pub(crate) fn readdir_in(body: &[u8]) -> Option<Operation>
         return None;
     }
     Some(Operation::ReadDir {
-        handle: u64_at(body, 0),
-        offset: u64_at(body, 8),
-        size: u32_at(body, 16),
-    })
-}
-
-#[tactic(auto, unfolding(crate::specs::Bodies::readdirplus_in))]
-pub(crate) fn readdirplus_in(body: &[u8]) -> Option<Operation>
-    ensures { result ≡ readdirplus_in body.now }
-{
-    if body.len() != 40 {
-        return None;
-    }
-    Some(Operation::ReadDirPlus {
         handle: u64_at(body, 0),
         offset: u64_at(body, 8),
         size: u32_at(body, 16),

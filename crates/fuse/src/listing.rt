@@ -1,10 +1,8 @@
 // Lists of the entries of a directory.
 ghost use Rattle.std.specs.Prelude.{◌≡◌, ◌++◌, ◌<◌, ◌≤◌, ◌^◌, [], length, IfOk, OnErr, OnOk};
 ghost use Rattle.fuse.specs.Listings.{added, directory_entry_bytes, fits, kind_number, padded};
-ghost use Rattle.fuse.specs.Replies.{plus_entry_bytes};
 
-use crate::put::{put_entry, put_u32s, put_u64s};
-use crate::reply::Entry;
+use crate::put::{put_u32s, put_u64s};
 use heap::Heap;
 use std::alloc::AllocError;
 use std::marker::Model;
@@ -90,20 +88,6 @@ fn put_directory_entry(
     Ok(())
 }
 
-#[tactic(auto, unfolding(crate::specs::Replies::plus_entry_bytes))]
-fn put_plus_entry(
-    out: &mut Vec<u8, Heap>,
-    child: &Entry,
-    entry: &DirectoryEntry<'_>,
-) -> Result<(), AllocError>
-    requires { length entry.now.name.now < 2 ^ 32 }
-    ensures { OnOk result (out.new.items ≡ out.old.items ++ plus_entry_bytes child.now entry.now) }
-{
-    put_entry(out, child)?;
-    put_directory_entry(out, entry)?;
-    Ok(())
-}
-
 impl Listing {
     /// No entry, for a request that asks for so many bytes.
     pub fn new(heap: Heap, size: u32) -> Listing
@@ -149,26 +133,6 @@ impl Listing {
     {
         let mut bytes = Vec::new(*self.bytes.allocator());
         put_directory_entry(&mut bytes, entry)?;
-        let fitted = self.add_bytes(&bytes)?;
-        Ok(fitted)
-    }
-
-    /// The same for an entry with what its name gives, as `ReadDirPlus` asks for.
-    pub fn add_plus(
-        &mut self,
-        child: &Entry,
-        entry: &DirectoryEntry<'_>,
-    ) -> Result<bool, AllocError>
-        requires { length entry.now.name.now < 2 ^ 32 }
-        ensures fitted { IfOk result (λ fitted.
-            fitted ≡ fits self.old (plus_entry_bytes child.now entry.now)) }
-        ensures ok { OnOk result
-            (self.new ≡ added self.old (plus_entry_bytes child.now entry.now)) }
-        ensures err { OnErr result (self.new ≡ self.old) }
-        ensures bound { length self.new.bytes ≤ self.new.size }
-    {
-        let mut bytes = Vec::new(*self.bytes.allocator());
-        put_plus_entry(&mut bytes, child, entry)?;
         let fitted = self.add_bytes(&bytes)?;
         Ok(fitted)
     }

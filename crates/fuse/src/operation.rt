@@ -6,8 +6,8 @@ ghost use Rattle.fuse.specs.Operations.{operation_in, session_operation_in};
 
 use crate::bodies::{
     access_in, batch_forget_in, destroy_in, flush_in, forget_in, fsync_in, getattr_in, init_in,
-    interrupt_in, lseek_in, open_in, opendir_in, read_in, readdir_in, readdirplus_in, release_in,
-    releasedir_in, setattr_in, statfs_in, write_in,
+    interrupt_in, lseek_in, open_in, opendir_in, read_in, readdir_in, release_in, releasedir_in,
+    setattr_in, statfs_in, write_in,
 };
 use crate::fault::{BodyFault, asked};
 use crate::named::{
@@ -68,8 +68,6 @@ const DESTROY: u32 = 38;
 
 const BATCH_FORGET: u32 = 42;
 
-const READDIRPLUS: u32 = 44;
-
 const RENAME2: u32 = 45;
 
 const LSEEK: u32 = 46;
@@ -107,7 +105,6 @@ fn node_operation_in(heap: Heap, opcode: u32, body: &[u8]) -> Result<Operation, 
         READDIR => asked(readdir_in(body)),
         RELEASEDIR => asked(releasedir_in(body)),
         ACCESS => asked(access_in(body)),
-        READDIRPLUS => asked(readdirplus_in(body)),
         _ => session_operation_in(heap, opcode, body),
     }
 }

@@ -129,7 +129,7 @@ fn put_attr(out: &mut Vec<u8, Heap>, attr: &Attr) -> Result<(), AllocError>
 }
 
 #[tactic(auto, unfolding(crate::specs::Replies::entry_bytes))]
-pub(crate) fn put_entry(out: &mut Vec<u8, Heap>, entry: &Entry) -> Result<(), AllocError>
+fn put_entry(out: &mut Vec<u8, Heap>, entry: &Entry) -> Result<(), AllocError>
     ensures bytes { OnOk result (out.new.items ≡ out.old.items ++ entry_bytes entry.now) }
     ensures len { OnOk result (vec_len out.new ≡ vec_len out.old + 128) }
     ensures capacity { vec_capacity out.old ≤ vec_capacity out.new }

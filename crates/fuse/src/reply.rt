@@ -122,7 +122,7 @@ pub enum Reply {
     },
     /// Bytes that were read.
     Data(Bytes),
-    /// Entries of a directory, to `ReadDir` or `ReadDirPlus`.
+    /// Entries of a directory, to `ReadDir`.
     Directory(Listing),
     /// About the file system.
     StatFs(StatFs),

@@ -191,15 +191,6 @@ pub enum Operation {
         /// How many bytes the list may have.
         size: u32,
     },
-    /// Lists names of an open directory, and looks each of them up.
-    ReadDirPlus {
-        /// The open directory.
-        handle: u64,
-        /// The offset of the last entry that is known, and 0 for none.
-        offset: u64,
-        /// How many bytes the list may have.
-        size: u32,
-    },
     /// The open directory has no descriptor any more.
     ReleaseDir {
         /// The open directory.

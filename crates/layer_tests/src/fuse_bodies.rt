@@ -2,9 +2,9 @@
 use fuse::{Bytes, Changes, Forgets, Operation, Time, TimeChange, Whence};
 
 // The opcodes that are served.
-pub(crate) const OPCODES: [u8; 29] = [
+pub(crate) const OPCODES: [u8; 28] = [
     1, 2, 3, 4, 8, 9, 10, 11, 12, 13, 14, 15, 16, 17, 18, 20, 25, 26, 27, 28, 29, 34, 35, 36, 38,
-    42, 44, 45, 46,
+    42, 45, 46,
 ];
 
 // A body of this opcode.
@@ -30,7 +30,7 @@ pub(crate) fn body_of(opcode: u8) -> &'static [u8] {
         25 => b"\x07\0\0\0\0\0\0\x01\0\0\0\0\0\0\0\0\x09\0\0\0\0\0\0\0",
         26 => b"\x07\0\0\0\x26\0\0\0\0\0\x02\0\xfb\xff\xff\x73",
         27 => b"\0\x80\x01\0\0\0\0\0",
-        28 | 44 => b"\x07\0\0\0\0\0\0\x01\x03\0\0\0\x01\0\0\0\0\x10\0\0\0\0\0\0\0\0\0\0\0\0\0\0\
+        28 => b"\x07\0\0\0\0\0\0\x01\x03\0\0\0\x01\0\0\0\0\x10\0\0\0\0\0\0\0\0\0\0\0\0\0\0\
             \0\x80\x01\0\0\0\0\0",
         29 => b"\x07\0\0\0\0\0\0\x01\0\x80\x01\0\0\0\0\0\0\0\0\0\0\0\0\0",
         34 => b"\x04\0\0\0\0\0\0\0",
@@ -174,11 +174,6 @@ fn is_of_another(operation: &Operation, opcode: u8) -> bool {
             offset,
             size,
         } => opcode == 28 && *handle == SEVEN && *offset == 0x1_0000_0003 && *size == 4096,
-        Operation::ReadDirPlus {
-            handle,
-            offset,
-            size,
-        } => opcode == 44 && *handle == SEVEN && *offset == 0x1_0000_0003 && *size == 4096,
         Operation::ReleaseDir { handle } => opcode == 29 && *handle == SEVEN,
         Operation::StatFs => opcode == 17,
         Operation::Access { mask } => opcode == 34 && *mask == 4,

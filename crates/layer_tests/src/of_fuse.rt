@@ -1,6 +1,6 @@
 // Requests of a mount: each operation, what is malformed or cut short, and refused memory.
 use crate::fuse_bodies::{OPCODES, body_of, is_asked};
-use fuse::{ParseFault, parse};
+use fuse::{Operation, ParseFault, parse};
 use heap::Heap;
 use std::alloc::AllocError;
 use std::test::Fail;
@@ -76,6 +76,23 @@ fn each_beginning_is_refused(rt: HostRuntime) -> Result<(), Fail> {
                 "{opcode} {length}"
             );
         }
+    }
+    Ok(())
+}
+
+#[test]
+fn other_opcodes_are_told(rt: HostRuntime) -> Result<(), Fail> {
+    let heap = heap::open(rt.alloc())?;
+    // READDIRPLUS, with the body that READDIR has, and an opcode that Linux does not have.
+    for opcode in [44u8, 255] {
+        let bytes = request(heap, opcode, body_of(28))?;
+        let asked = parse(heap, &bytes);
+        let is_other = match &asked {
+            Ok(asked) =>
+                matches!(&asked.operation, Operation::Other { opcode: told } if *told == u32::from(opcode)),
+            Err(_) => false,
+        };
+        assert!(rt; is_other, "{opcode}");
     }
     Ok(())
 }

@@ -10,3 +10,4 @@ pub mod Processes
 pub mod Controls
 pub mod Served
 pub mod Aborts
+pub mod WholeLists

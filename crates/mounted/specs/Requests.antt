@@ -25,7 +25,7 @@ use Rattle.mounted.specs.Answers.{Answers, IsRefusal}
 use Rattle.mounted.specs.Found.{and_then, file_by, folder_at, found_or, handle_of, inode_of}
 use Rattle.mounted.specs.Found.{is_reserved, located_child, located_new, located_own, names_in}
 use Rattle.mounted.specs.Found.{object_of, own_path, path_to, shown_names, stepper_at}
-use Rattle.mounted.specs.Told.{Lists, ListsFully, ShowsAttributes, ShowsBytes, ShowsCount, ShowsCreated}
+use Rattle.mounted.specs.Told.{Lists, ShowsAttributes, ShowsBytes, ShowsCount, ShowsCreated}
 use Rattle.mounted.specs.Told.{ShowsEntry, ShowsFolder, ShowsNothing, ShowsOffset, ShowsOpened}
 use Rattle.mounted.specs.Told.{named, sought}
 use Rattle.mounted.specs.declared.changing.Setting.{Setting}
@@ -301,19 +301,10 @@ abbrev pub Refreshes : Tables → Tables → ℕ → ℕ → ℕ → Option (Lis
 Refreshes t later pid handle node path old new r =
     RefreshesBy later handle old (listing_anew pid (names_in t handle) node path) new r
 
-abbrev pub AnswersList : (List (List ℕ) → Reply → Type 0) → Tables → ℕ → ℕ → ℕ → Shown → Shown
-    → Result Reply Fault → Type 0
-AnswersList Shows t pid handle offset old new result =
+abbrev pub AnswersReadDir : Tables → ℕ → ℕ → ℕ → ℕ → Shown → Shown → Result Reply Fault → Type 0
+AnswersReadDir t pid handle offset size old new result =
     Answers old new (lists t handle offset)
-    (λ l. listing_anew pid (names_in t handle) l.0 l.1) (λ l. Shows) result
-
-abbrev pub AnswersReadDir : Tables → ℕ → ℕ → ℕ → Shown → Shown → Result Reply Fault → Type 0
-AnswersReadDir t pid handle offset old new result =
-    AnswersList (Lists None offset) t pid handle offset old new result
-
-abbrev pub AnswersReadDirPlus : Tables → ℕ → ℕ → ℕ → Shown → Shown → Result Reply Fault → Type 0
-AnswersReadDirPlus t pid handle offset old new result =
-    AnswersList (ListsFully offset) t pid handle offset old new result
+    (λ l. listing_anew pid (names_in t handle) l.0 l.1) (λ l. Lists offset size) result
 
 -- ---- all of them
 
@@ -359,8 +350,6 @@ IsAnswered t later pid node (asked.GetAttr h) old new r = AnswersGetAttr t pid n
 IsAnswered t later pid node (asked.SetAttr c) old new r = AnswersSetAttr t pid node c old new r
 IsAnswered t later pid node asked.OpenDir old new r = AnswersOpenDir t later pid node old new r
 IsAnswered t later pid node (asked.ReadDir handle offset size) old new r =
-    AnswersReadDir t pid handle offset old new r
-IsAnswered t later pid node (asked.ReadDirPlus handle offset size) old new r =
-    AnswersReadDirPlus t pid handle offset old new r
+    AnswersReadDir t pid handle offset size old new r
 IsAnswered t later pid node (asked.Access mask) old new r = Tells (Ok reply.Empty) old new r
 IsAnswered t later pid node operation old new r = IsOfNames t later pid node operation old new r

@@ -1,6 +1,6 @@
 -- What replies show of the kernel's answers.
-use Rattle.std.specs.Prelude.{◌≡◌, ℕ, ◌+◌, ◌-◌, ◌/◌, ◌^◌, ◌++◌, ◌∷◌, [], min, nat_lt, drop, codes}
-use Rattle.std.specs.Prelude.{List, length, Bool, Option, Some, None, option_map}
+use Rattle.std.specs.Prelude.{◌≡◌, ℕ, ◌+◌, ◌-◌, ◌/◌, ◌^◌, ◌++◌, ◌∷◌, [], min, nat_le, nat_lt, drop, codes}
+use Rattle.std.specs.Prelude.{List, length, Option, Some, None, option_map}
 use Rattle.std.specs.Prelude.{Result, Ok, Err, if◌then◌else◌}
 use Rattle.ids.specs.declared.reply.Kind.{Kind}
 use Rattle.ids.specs.declared.reply.Kind.TheVariants.{File, Dir, Pipe}
@@ -21,7 +21,6 @@ use Rattle.course.specs.declared.files.Made.{Made}
 use Rattle.fuse.specs.Listed.{Listed}
 use Rattle.fuse.specs.Listings.{padded}
 use Rattle.fuse.specs.Numbers.{u32s, u64s}
-use Rattle.fuse.specs.Replies.{entry_bytes}
 use Rattle.mounted.specs.Found.{IsAt, file_at, folder_at, handle_of, told_of}
 use Rattle.mounted.specs.declared.tables.Tables.{Tables}
 
@@ -99,47 +98,41 @@ ShowsFolder t node names _ = ⊥
 
 -- ---- lists of directories
 
--- names of a directory from this index on, as they are told
-abbrev pub listed : (ℕ → List ℕ → List ℕ) → ℕ → List (List ℕ) → List ℕ
-listed told index [] = []
-listed told index (name ∷ names) = told index name ++ listed told (index + 1) names
-
 -- an entry: the number and the kind of the object are not told
 abbrev pub plain_entry : ℕ → List ℕ → List ℕ
 plain_entry index name =
     u64s ((2 ^ 32 - 1) ∷ (index + 1) ∷ []) ++ u32s (length name ∷ 0 ∷ []) ++ padded name
 
--- with what a name gives, of which nothing is looked up: its node is 0
-abbrev pub full_entry : Entry → ℕ → List ℕ → List ℕ
-full_entry child index name = entry_bytes child ++ plain_entry index name
+-- how many bytes that are
+abbrev pub entry_size : List ℕ → ℕ
+entry_size name = 24 + length (padded name)
+
+-- names of a directory, of which the first has this index, as they are told
+abbrev pub listed : ℕ → List (List ℕ) → List ℕ
+listed index [] = []
+listed index (name ∷ names) = plain_entry index name ++ listed (index + 1) names
+
+-- the first of these names, as many as fit into so many bytes
+abbrev pub fitting : ℕ → List (List ℕ) → List (List ℕ)
+fitting room [] = []
+fitting room (name ∷ names) =
+    if nat_le (entry_size name) room then name ∷ fitting (room - entry_size name) names else []
 
 -- the two names that each directory has come first
 abbrev pub with_dots : List (List ℕ) → List (List ℕ)
 with_dots names = codes "." ∷ codes ".." ∷ names
 
--- an entry as it is told, with what its name gives, where that is wanted
-abbrev pub told_by : Option Entry → ℕ → List ℕ → List ℕ
-told_by (Some child) = full_entry child
-told_by None = plain_entry
+-- The names that a list of this size gives from an offset on: as many as fit. No list has more than
+-- 1 MiB.
+abbrev pub given : ℕ → ℕ → List (List ℕ) → List (List ℕ)
+given offset size names = fitting (min size 1_048_576) (drop offset (with_dots names))
 
--- a list with an entry more, where that fits
-abbrev pub added_entry : Listed → Option Entry → ℕ → List ℕ → Bool → Listed
-added_entry list child index name fits =
-    if fits then record list { bytes = list.bytes ++ told_by child index name } else list
+abbrev pub IsList : ℕ → ℕ → List (List ℕ) → Listed → Type 0
+IsList offset size names list = list.bytes ≡ listed offset (given offset size names)
 
--- A list is a beginning of the whole one from an offset on, which goes on at another.
-abbrev pub IsList : Option Entry → ℕ → List (List ℕ) → Listed → Type 0
-IsList child offset names list = (next : ℕ)
-    × (list.bytes ++ listed (told_by child) next (drop next (with_dots names))
-    ≡ listed (told_by child) offset (drop offset (with_dots names)))
-
-abbrev pub Lists : Option Entry → ℕ → List (List ℕ) → Reply → Type 0
-Lists child offset names (reply.Directory list) = IsList child offset names list
-Lists child offset names _ = ⊥
-
-abbrev pub ListsFully : ℕ → List (List ℕ) → Reply → Type 0
-ListsFully offset names r =
-    (child : Entry) × (child.node ≡ 0) × Lists (Some child) offset names r
+abbrev pub Lists : ℕ → ℕ → List (List ℕ) → Reply → Type 0
+Lists offset size names (reply.Directory list) = IsList offset size names list
+Lists offset size names _ = ⊥
 
 -- The offset that is looked for in a file of this length, which has no holes.
 abbrev pub within : ℕ → ℕ → ℕ → Result ℕ Fault

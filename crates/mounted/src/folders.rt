@@ -1,6 +1,6 @@
 // The directories that are open, with the names that they had.
 ghost use Rattle.std.specs.Prelude.{◌≡◌, ◌==◌, ◌&&◌, ◌++◌, ◌∷◌, [], None, Some, is_some, true, option_copied, option_map, IfOk};
-ghost use Rattle.std.specs.Prelude.{OnOk};
+ghost use Rattle.std.specs.Prelude.{◌<◌, ◌^◌, length, OnOk};
 ghost use Rattle.std.specs.BTreeMap.{get};
 ghost use Rattle.std.specs.Ordering.{nat_cmp};
 ghost use Rattle.mounted.specs.Found.{StayOthers, WasRead, names_by, shown_names, told_of};
@@ -121,7 +121,8 @@ impl Folders {
 
     // Its names.
     pub(crate) fn names(&self, handle: u64) -> &[Name]
-        ensures { result.now ≡ names_by (get nat_cmp self.now.each handle) }
+        ensures names { result.now ≡ names_by (get nat_cmp self.now.each handle) }
+        ensures bound { length result.now < 2 ^ 63 }
     {
         match self.each.get(&handle) {
             Some(folder) => folder.names.as_slice(),

@@ -29,5 +29,5 @@ mod tables;
 mod transactions;
 mod views;
 
-pub use laws::requests_end_at_aborts;
+pub use laws::{lists_are_whole, requests_end_at_aborts};
 pub use server::Server;

@@ -1,8 +1,10 @@
 // Lists of names as they are told.
-ghost use Rattle.std.specs.Prelude.{◌≡◌, ◌<◌, ◌-◌, ◌^◌, slice_get, option_map, IfOk};
-ghost use Rattle.mounted.specs.Told.{IsList, added_entry, with_dots};
+ghost use Rattle.std.specs.Prelude.{◌≡◌, ◌<◌, ◌≤◌, ◌-◌, ◌^◌, length, slice_get, option_map, IfOk, OnOk};
+ghost use Rattle.fuse.specs.Listings.{added, fits};
+ghost use Rattle.mounted.specs.Told.{IsList, plain_entry, with_dots};
+ghost use Rattle.mounted.specs.declared.lists.TheConstants.{MOST_LISTED};
 
-use fuse::{DirectoryEntry, Entry, Kind, Listing};
+use fuse::{DirectoryEntry, Kind, Listing};
 use heap::Heap;
 use ids::Name;
 use std::alloc::AllocError;
@@ -12,9 +14,6 @@ const UNKNOWN: u64 = 0xffff_ffff;
 
 // The most bytes of one list.
 const MOST_LISTED: u32 = 1_048_576;
-
-// The most bytes of a name.
-const NAME_LIMIT: usize = 255;
 
 // The name of an entry: the two that each directory has come first.
 fn name_at(names: &[Name], index: usize) -> Option<&[u8]>
@@ -30,18 +29,15 @@ fn name_at(names: &[Name], index: usize) -> Option<&[u8]>
     }
 }
 
-// Adds an entry to a list, with what its name gives, where that is wanted. False where it does not
-// fit, or has a longer name than there is.
-fn add_entry(
-    list: &mut Listing,
-    child: Option<Entry>,
-    index: u64,
-    name: &[u8],
-) -> Result<bool, AllocError>
-    requires { index < 2 ^ 64 - 1 }
-    ensures { IfOk result (λ fits. list.new ≡ added_entry list.old child index name.now fits) }
+// Adds an entry to a list where it fits, and returns whether it does.
+fn add_entry(list: &mut Listing, index: u64, name: &[u8]) -> Result<bool, AllocError>
+    requires offset { index < 2 ^ 64 - 1 }
+    requires size { list.old.size ≤ MOST_LISTED }
+    ensures fitted { IfOk result (λ fitted. fitted ≡ fits list.old (plain_entry index name.now)) }
+    ensures ok { OnOk result (list.new ≡ added list.old (plain_entry index name.now)) }
 {
-    if name.len() > NAME_LIMIT {
+    // A name that is longer than any list may be fits into none.
+    if name.len() > MOST_LISTED as usize {
         return Ok(false);
     }
     let entry = DirectoryEntry {
@@ -50,28 +46,25 @@ fn add_entry(
         kind: Kind::Unknown,
         name,
     };
-    match child {
-        Some(child) => list.add_plus(&child, &entry),
-        None => list.add(&entry),
-    }
+    list.add(&entry)
 }
 
 // The names of a directory from this one on, as many as fit.
 pub(crate) fn list_from(
     heap: Heap,
     names: &[Name],
-    child: Option<Entry>,
     offset: u64,
     size: u32,
 ) -> Result<Listing, AllocError>
-    ensures { IfOk result (λ list. IsList child offset names.now list) }
+    requires { length names.now < 2 ^ 63 }
+    ensures { IfOk result (λ list. IsList offset size names.now list) }
 {
     let mut list = Listing::new(heap, size.min(MOST_LISTED));
     for index in offset..u64::MAX {
         let Some(name) = name_at(names, index as usize) else {
             break;
         };
-        if !add_entry(&mut list, child, index, name)? {
+        if !add_entry(&mut list, index, name)? {
             break;
         }
     }

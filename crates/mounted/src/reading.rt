@@ -5,7 +5,7 @@ ghost use Rattle.course.specs.Faults.{error};
 ghost use Rattle.course.specs.Hands.{bound};
 ghost use Rattle.mounted.specs.Answers.{IsPlanned};
 ghost use Rattle.mounted.specs.Found.{WasRead, folder_at, names_in};
-ghost use Rattle.mounted.specs.Requests.{AnswersOpenDir, AnswersReadDir, AnswersReadDirPlus, Refreshes};
+ghost use Rattle.mounted.specs.Requests.{AnswersOpenDir, AnswersReadDir, Refreshes};
 ghost use Rattle.mounted.specs.Requests.{anew, lists};
 ghost use Rattle.mounted.specs.Told.{IsList};
 
@@ -14,12 +14,9 @@ use crate::lists::list_from;
 use crate::planning::Located;
 use crate::tables::Tables;
 use course::{Fault, Hand};
-use fuse::{Entry, Errno, Listing, Opened, Reply};
+use fuse::{Errno, Listing, Opened, Reply};
 use ids::{Bytes, Pid};
 use machine::Machine;
-
-// The number of an object that is not told.
-const UNKNOWN: u64 = 0xffff_ffff;
 
 // An open directory as a request names it, and from where on it is listed.
 #[derive(Clone, Copy)]
@@ -98,13 +95,13 @@ impl Tables {
     }
 
     // Lists the names that are kept of an open directory.
-    pub(crate) fn list(&self, wanted: Wanted, child: Option<Entry>) -> Result<Listing, Fault>
-        ensures ok { IfOk result (λ listing. IsList child wanted.offset
+    pub(crate) fn list(&self, wanted: Wanted) -> Result<Listing, Fault>
+        ensures ok { IfOk result (λ listing. IsList wanted.offset wanted.size
             (names_in self.now wanted.handle) listing) }
         ensures err { IfErr result (λ e. e ≡ error ENOMEM) }
     {
         let names = self.folders.names(wanted.handle);
-        let listing = list_from(self.heap, names, child, wanted.offset, wanted.size)?;
+        let listing = list_from(self.heap, names, wanted.offset, wanted.size)?;
         Ok(listing)
     }
 
@@ -116,37 +113,13 @@ impl Tables {
     ) -> Result<Reply, Fault>
         ensures bound { bound hand.new ≡ bound hand.old }
         ensures answers { AnswersReadDir self.old hand.old.pid wanted.handle wanted.offset
-            hand.old.shown hand.new.shown result }
+            wanted.size hand.old.shown hand.new.shown result }
         ensures read { IfOk result (λ _. WasRead (folder_at self.new wanted.handle)) }
         ensures views { self.new.views ≡ self.old.views }
     {
         let (node, path) = self.plan_list(wanted.handle, wanted.offset)?;
         self.refresh(hand, wanted.handle, node, path)?;
-        let listing = self.list(wanted, None)?;
-        Ok(Reply::Directory(listing))
-    }
-
-    // The same, each name with what it gives. Nothing is looked up for that: no look-up is counted
-    // for an entry whose node is 0, and the kernel asks when a name is used.
-    pub(crate) fn read_folder_plus<K: Machine>(
-        &mut self,
-        hand: &mut Hand<K>,
-        wanted: Wanted,
-    ) -> Result<Reply, Fault>
-        ensures bound { bound hand.new ≡ bound hand.old }
-        ensures answers { AnswersReadDirPlus self.old hand.old.pid wanted.handle wanted.offset
-            hand.old.shown hand.new.shown result }
-        ensures read { IfOk result (λ _. WasRead (folder_at self.new wanted.handle)) }
-        ensures views { self.new.views ≡ self.old.views }
-    {
-        let (node, path) = self.plan_list(wanted.handle, wanted.offset)?;
-        self.refresh(hand, wanted.handle, node, path)?;
-        let child = Entry {
-            node: 0,
-            generation: 0,
-            attr: self.attributes.attr_of_node(UNKNOWN, true),
-        };
-        let listing = self.list(wanted, Some(child))?;
+        let listing = self.list(wanted)?;
         Ok(Reply::Directory(listing))
     }
 

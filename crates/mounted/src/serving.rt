@@ -288,18 +288,6 @@ impl Tables {
                     size,
                 },
             ),
-            Operation::ReadDirPlus {
-                handle,
-                offset,
-                size,
-            } => self.read_folder_plus(
-                hand,
-                Wanted {
-                    handle,
-                    offset,
-                    size,
-                },
-            ),
             operation => self.of_names(hand, caller, operation),
         }
     }

@@ -167,7 +167,7 @@ impl Tables {
             self.folders.renew(wanted.handle, names);
         }
         self.folders.mark(wanted.handle);
-        Ok(Reply::Directory(self.list(wanted, None)?))
+        Ok(Reply::Directory(self.list(wanted)?))
     }
 }
 

@@ -1,17 +1,15 @@
-use Rattle.std.proofs.Common.{Option, refl, sym, ap, ◌∙◌}
-use Rattle.fuse.specs.declared.reply.Entry.{Entry}
-use Rattle.mounted.specs.Told.{told_by}
-use Rattle.mounted.proofs.Telling.{added_if, entry_is, full_is}
+use Rattle.std.proofs.Common.{arith, refl, sym}
+use Rattle.mounted.proofs.Telling.{adds, adds_told, entry_is, too_long}
 use Rattle.mounted.proofs.lists.add_entry.Goals as goal
 
-pub returns-in-Some : goal.returns-in-Some
-returns-in-Some c =
-    added_if c.add_plus.result c.args.list.now c.add_plus.new.self _ (told_by c.args.child c.args.index c.args.name.now)
-    (full_is c.in-Some.child _ _ (entry_is _ c.args.index c.args.name.now refl refl refl refl) ∙ ap (λ (o : Option Entry). told_by o c.args.index c.args.name.now) (sym c.in-Some.is))
-    c.add_plus.ensures.fitted c.add_plus.ensures.ok
+pub returns-then-name-clause-fitted : goal.returns-then-name-clause-fitted
+returns-then-name-clause-fitted c = sym (too_long c.args.list.now c.args.index c.args.name.now (omega (arith, c.if-name.true, c.requires.size)))
 
-pub returns-in-None : goal.returns-in-None
-returns-in-None c =
-    added_if c.add.result c.args.list.now c.add.new.self _ (told_by c.args.child c.args.index c.args.name.now)
-    (entry_is _ c.args.index c.args.name.now refl refl refl refl ∙ ap (λ (o : Option Entry). told_by o c.args.index c.args.name.now) (sym c.in-None.is))
-    c.add.ensures.fitted c.add.ensures.ok
+pub returns-then-name-clause-ok : goal.returns-then-name-clause-ok
+returns-then-name-clause-ok c = sym (adds c.args.list.now _ (too_long c.args.list.now c.args.index c.args.name.now (omega (arith, c.if-name.true, c.requires.size))))
+
+pub returns-clause-fitted : goal.returns-clause-fitted
+returns-clause-fitted c = (adds_told c.add.result c.args.list.now c.add.new.self (entry_is _ c.args.index c.args.name.now refl refl refl refl) c.add.ensures.fitted c.add.ensures.ok).0
+
+pub returns-clause-ok : goal.returns-clause-ok
+returns-clause-ok c = (adds_told c.add.result c.args.list.now c.add.new.self (entry_is _ c.args.index c.args.name.now refl refl refl refl) c.add.ensures.fitted c.add.ensures.ok).1

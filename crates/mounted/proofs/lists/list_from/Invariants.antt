@@ -1,7 +1,10 @@
--- What was told so far, and what comes behind it, is all that was asked for.
-use Rattle.std.proofs.Common.{◌≡◌, ◌++◌, drop}
-use Rattle.mounted.specs.Told.{listed, told_by, with_dots}
+-- What was told so far, and what fits of the names behind it, is what is to be told.
+use Rattle.std.proofs.Common.{◌≡◌, min}
+use Rattle.mounted.specs.Told.{given, listed, with_dots}
+use Rattle.mounted.proofs.Telling.{IsSoFar}
 use Rattle.mounted.proofs.lists.list_from.Given as goal
 
 abbrev pub invariant-loop-index : goal.invariant-loop-index
-invariant-loop-index l = l.list.bytes ++ listed (told_by l.fn.child) l.index (drop l.index (with_dots l.fn.names)) ≡ listed (told_by l.fn.child) l.fn.offset (drop l.fn.offset (with_dots l.fn.names))
+invariant-loop-index l =
+    (l.list.size ≡ min l.fn.size 1_048_576)
+    × IsSoFar (with_dots l.fn.names) l.index l.list (listed l.fn.offset (given l.fn.offset l.fn.size l.fn.names))

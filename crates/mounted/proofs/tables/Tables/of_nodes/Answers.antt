@@ -15,6 +15,3 @@ returns-in-OpenDir-clause-answers g c = of_nodes c.args.self.now c.open_folder.n
 
 pub returns-in-ReadDir-clause-answers : goal.returns-in-ReadDir-clause-answers
 returns-in-ReadDir-clause-answers g c = of_nodes c.args.self.now c.read_folder.new.self c.args.hand.now.pid c.args.caller.node _ _ _ c.in-ReadDir.is c.read_folder.ensures.answers
-
-pub returns-in-ReadDirPlus-clause-answers : goal.returns-in-ReadDirPlus-clause-answers
-returns-in-ReadDirPlus-clause-answers g c = of_nodes c.args.self.now c.read_folder_plus.new.self c.args.hand.now.pid c.args.caller.node _ _ _ c.in-ReadDirPlus.is c.read_folder_plus.ensures.answers
