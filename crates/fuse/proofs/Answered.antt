@@ -4,7 +4,7 @@ use Rattle.std.specs.Prelude.{not, option_map}
 use Rattle.std.proofs.lemmas.Bool.{eqb-true}
 use Rattle.fuse.specs.declared.request.Operation.{Operation}
 use Rattle.fuse.specs.declared.request.Operation.TheVariants as op
-use Rattle.fuse.specs.Bodies.{access_in, batch_forget_in, behind, changes_in, create_in, destroy_in, flush_in, forget_in, forgets_in, fsync_in, getattr_in, init_in, interrupt_in, link_in, lookup_in, lseek_in, mkdir_in, mknod_in, of_length, open_in, opendir_in, read_in, readdir_in, readdirplus_in, release_in, releasedir_in, rename2_in, rename_in, rmdir_in, setattr_in, statfs_in, unlink_in, whence_of, where_set, write_in}
+use Rattle.fuse.specs.Bodies.{access_in, batch_forget_in, behind, changes_in, create_in, destroy_in, flush_in, forget_in, forgets_in, fsync_in, getattr_in, init_in, interrupt_in, link_in, lookup_in, lseek_in, mkdir_in, mknod_in, of_length, open_in, opendir_in, read_in, readdir_in, release_in, releasedir_in, rename2_in, rename_in, rmdir_in, setattr_in, statfs_in, unlink_in, whence_of, where_set, write_in}
 use Rattle.fuse.specs.Names.{name_in, names_in}
 use Rattle.fuse.specs.Numbers.{u32_at, u64_at}
 use Rattle.fuse.specs.Operations.{file_operation_in, is_answered, is_silent, node_operation_in, operation_in, session_operation_in}
@@ -130,10 +130,6 @@ access_tells : (body : List ℕ) → Tells true (access_in body)
 unfolding access_in
 access_tells body = of_length_tells true 8 body (op.Access (u32_at body 0)) refl
 
-readdirplus_tells : (body : List ℕ) → Tells true (readdirplus_in body)
-unfolding readdirplus_in
-readdirplus_tells body = of_length_tells true 40 body (op.ReadDirPlus (u64_at body 0) (u64_at body 8) (u32_at body 16)) refl
-
 forget_tells : (body : List ℕ) → Tells false (forget_in body)
 unfolding forget_in
 forget_tells body = of_length_tells false 8 body (op.Forget (u64_at body 0)) refl
@@ -191,10 +187,9 @@ operation_tells opcode body =
     where_it_is 28 opcode P (eqb opcode 28) refl (readdir_tells body) (λ e28.
     where_it_is 29 opcode P (eqb opcode 29) refl (releasedir_tells body) (λ e29.
     where_it_is 34 opcode P (eqb opcode 34) refl (access_tells body) (λ e34.
-    where_it_is 44 opcode P (eqb opcode 44) refl (readdirplus_tells body) (λ e44.
     where_it_is 2 opcode P (eqb opcode 2) refl (forget_tells body) (λ e2.
     where_it_is 26 opcode P (eqb opcode 26) refl (init_tells body) (λ e26.
     where_it_is 36 opcode P (eqb opcode 36) refl (interrupt_tells body) (λ e36.
     where_it_is 38 opcode P (eqb opcode 38) refl (destroy_tells body) (λ e38.
     where_it_is 42 opcode P (eqb opcode 42) refl (batch_forget_tells body) (λ e42.
-    rw (e1, e8, e9, e10, e11, e12, e13, e35, e45, e14, e15, e16, e18, e20, e25, e46, e3, e4, e17, e27, e28, e29, e34, e44, e2, e26, e36, e38, e42) (some_tells true (op.Other opcode) refl))))))))))))))))))))))))))))))
+    rw (e1, e8, e9, e10, e11, e12, e13, e35, e45, e14, e15, e16, e18, e20, e25, e46, e3, e4, e17, e27, e28, e29, e34, e2, e26, e36, e38, e42) (some_tells true (op.Other opcode) refl)))))))))))))))))))))))))))))
