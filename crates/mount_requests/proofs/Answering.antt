@@ -1,12 +1,12 @@
 -- Plans that are made step by step, and answers by their courses.
-use Rattle.std.proofs.Common.{◌≡◌, Bool, false, true, inl, inr, ℕ, List, Option, Some, None, is_some, refl, sym, ap, subst, ◌∙◌}
+use Rattle.std.proofs.Common.{◌≡◌, Bool, false, inl, inr, ℕ, List, Option, Some, refl, sym, ap, subst, ◌∙◌}
 use Rattle.std.specs.Prelude.{Result, Ok, Err, IsErrAnd, ℤ}
 use Rattle.fuse.specs.declared.errno.Errno.TheVariants.{ENOMEM}
 use Rattle.fuse.specs.declared.reply.Reply.{Reply}
 use Rattle.fuse.specs.declared.request.Operation.{Operation}
 use Rattle.machine.specs.Shown.{Shown}
-use Rattle.course.specs.Course.{Began, Course, Give, Ran, ◌>>=◌}
-use Rattle.course.specs.Courses.{closing_spare, creating_cut, on_ok, writing}
+use Rattle.course.specs.Course.{Course, Give, Ran}
+use Rattle.course.specs.Courses.{closing_spare, creating_cut, writing}
 use Rattle.course.specs.declared.fault.Fault.{Fault}
 use Rattle.course.specs.declared.files.Made.{Made}
 use Rattle.course.proofs.Runs.{ran_began}

@@ -7,7 +7,7 @@ use Rattle.ids.specs.declared.call.Call.TheVariants as call
 use Rattle.ids.specs.declared.flags.OpenFlags.{OpenFlags}
 use Rattle.ids.specs.declared.reply.Kind.{Kind}
 use Rattle.course.specs.Course.{Course, Give, Step, ◌>>=◌}
-use Rattle.course.specs.Courses.{both, by_descriptor, closing, closing_for, closing_spare, creating, creating_cut, cutting, doing, done_with, finding, finding_at, fresh, if_absent, if_cut, if_found, if_listed, if_same, if_seen, if_there, linking, listing, listing_at, looking_for, making, making_file, moving, on_ok, opening, opening_cut, opening_this, reading, resizing, same_or_stale, seeing, sizing, stating, writing}
+use Rattle.course.specs.Courses.{both, by_descriptor, closing, closing_for, closing_spare, creating, creating_cut, cutting, doing, done_with, finding, finding_at, fresh, if_absent, if_cut, if_found, if_listed, if_same, if_seen, if_there, linking, listing, listing_at, looking_for, making, making_file, moving, on_ok, opening, opening_cut, opening_this, reading, same_or_stale, seeing, sizing, stating, writing}
 use Rattle.course.specs.Faults.{gives_none, is_abort, is_missing, is_there}
 use Rattle.course.specs.declared.fault.Fault.{Fault}
 use Rattle.course.specs.declared.fault.Fault.TheVariants.{Aborted, Stale}

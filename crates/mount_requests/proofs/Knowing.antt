@@ -1,6 +1,6 @@
 -- What is known behind a request, by other names of what was known before.
-use Rattle.std.proofs.Common.{◌≡◌, Bool, ℕ, List, refl, sym, ap, subst, ◌∙◌}
-use Rattle.std.specs.Prelude.{Option, Some, None, Result, Ok, Err}
+use Rattle.std.proofs.Common.{◌≡◌, ℕ, List, refl, ap, subst, ◌∙◌}
+use Rattle.std.specs.Prelude.{Option, Some, None, Ok}
 use Rattle.ids.specs.declared.reply.Stat.{Stat}
 use Rattle.fuse.specs.declared.reply.Entry.{Entry}
 use Rattle.fuse.specs.declared.reply.Opened.{Opened}

@@ -15,7 +15,7 @@ use Rattle.fuse.specs.declared.reply.Reply.{Reply}
 use Rattle.machine.specs.Shown.{Shown}
 use Rattle.course.proofs.Runs.{done}
 use Rattle.mount_tables.specs.Numbers.{is_reserved}
-use Rattle.mount_requests.specs.Answers.{Refused, Says}
+use Rattle.mount_requests.specs.Answers.{Refused}
 use Rattle.mount_requests.specs.Failures.{error}
 use Rattle.mount_requests.specs.Found.{folder_at, shown_names}
 use Rattle.mount_requests.specs.Listed.{IsList, Lists, added_entry, listed, plain_entry}

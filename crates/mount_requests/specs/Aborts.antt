@@ -2,7 +2,6 @@
 use Rattle.std.specs.Prelude.{◌≡◌, ℕ, ℤ, List, Bool, Option, Result, Err}
 use Rattle.ids.specs.declared.aspect.Why.{Why}
 use Rattle.ids.specs.declared.call.Call.{Call}
-use Rattle.ids.specs.declared.call.Call.TheVariants as call
 use Rattle.ids.specs.declared.reply.Reply.{Reply}
 use Rattle.ids.specs.declared.reply.Reply.TheVariants as reply
 use Rattle.course.specs.Course.{Course, Give, Step}

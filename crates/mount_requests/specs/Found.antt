@@ -1,5 +1,5 @@
 -- Where a node is, and how its object is found, by what is known of nodes, views and open files.
-use Rattle.std.specs.Prelude.{ℕ, ◌==◌, ◌++◌, ◌∷◌, [], List, Bool}
+use Rattle.std.specs.Prelude.{ℕ, ◌==◌, ◌++◌, ◌∷◌, [], List}
 use Rattle.std.specs.Prelude.{Option, Some, None, option_map, option_and_then, filter, not}
 use Rattle.std.specs.Prelude.{Result, Ok, Err, if◌then◌else◌}
 use Rattle.model.specs.FiniteMap as map

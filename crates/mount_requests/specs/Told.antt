@@ -4,7 +4,6 @@ use Rattle.std.specs.Prelude.{List, Result, Ok, Err, if◌then◌else◌}
 use Rattle.ids.specs.declared.reply.Stat.{Stat}
 use Rattle.fuse.specs.declared.errno.Errno.TheVariants as errno
 use Rattle.fuse.specs.declared.reply.Entry.{Entry}
-use Rattle.fuse.specs.declared.reply.Opened.{Opened}
 use Rattle.fuse.specs.declared.reply.Reply.{Reply}
 use Rattle.fuse.specs.declared.reply.Reply.TheVariants as reply
 use Rattle.fuse.specs.declared.request.Whence.{Whence}

@@ -1,7 +1,5 @@
 use Rattle.std.proofs.Common.{refl, ap, ◌∙◌, List, ℕ}
-use Rattle.std.specs.Prelude.{Ok}
 use Rattle.course.proofs.Runs.{done, goes_on, stops}
-use Rattle.mount_requests.specs.Listed.{Lists}
 use Rattle.mount_requests.specs.Requests.{listed_by, with_names}
 use Rattle.mount_requests.specs.Seen.{seen}
 use Rattle.mount_requests.proofs.Answering.{begun, failed, told}

@@ -1,6 +1,5 @@
 use Rattle.std.proofs.Common.{ap, refl, ◌∙◌, ℕ}
 use Rattle.machine.specs.Shown.{Shown}
-use Rattle.mount_requests.specs.Requests.{opened_first}
 use Rattle.mount_requests.specs.Seen.{Seen, seen}
 use Rattle.mount_requests.proofs.Answering.{failed, refused, told}
 use Rattle.mount_requests.proofs.Knowing.{opened_as}
