@@ -3,6 +3,7 @@ import importlib.machinery
 import importlib.util
 import os
 import shutil
+import subprocess
 import sys
 
 TOP = os.path.dirname(os.path.dirname(os.path.realpath(__file__)))
@@ -24,3 +25,14 @@ def load_rt(path):
     sys.modules["rt"] = module
     loader.exec_module(module)
     return module
+
+
+def of_shell(*words):
+    """Returns what a function of shared.sh prints."""
+    how = {"env": {**os.environ, "top": TOP}, "stdout": subprocess.PIPE, "text": True}
+    return subprocess.run(["bash", "-c", '. "$top/tools/shared.sh"; "$@"', "shared", *words], **how).stdout.strip()
+
+
+def unproved_name(crate, tests):
+    """Returns the name by which the unproved program of a crate, or of its tests, is kept for the sources as they are."""
+    return of_shell("unproved_name", crate, *["--test"] * tests)

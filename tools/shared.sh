@@ -30,8 +30,12 @@ lines_for() {
         }' "$top/crates.txt"
 }
 
-# Makes the folder $room, which is removed when the script ends; in the folder of this name, or where temporary files stand.
+# What stands in the environment under this name is not meant.
+room=
+# Makes the folder $room, if there is none yet, which is removed when the script ends; in the folder of this name, or where temporary
+# files stand.
 make_room() {
+    [ -z "$room" ] || return 0
     room=$(readlink -f "$(mktemp -d "${1:-${TMPDIR:-/tmp}}/room.XXXXXX")")
     trap 'rm -rf "$room"' EXIT
     trap 'exit 130' INT
@@ -66,4 +70,57 @@ is_built() {
     local program=$top/crates/$1/out/$1
     [ -x "$program" ] &&
         [ -z "$(find "$top"/crates/*/{src,specs,proofs} "$top/crates.txt" -newer "$program" -print -quit 2>/dev/null)" ]
+}
+
+# Tells which kit this is, as `rt version` does. To start that takes longer than a short run, so the file that it prints is read,
+# where it is there.
+kit_version() {
+    local kit
+    kit=$(dirname "$(dirname "$(readlink -f "$(command -v rt)")")")
+    cat "$kit/KIT-ID" 2>/dev/null || rt version
+}
+
+# Prints the name under which the unproved program of a crate is kept, or with --test that of its tests: by all sources that it is
+# made of, by the kit and by the tool that makes it.
+unproved_name() {
+    local lines
+    lines=$(lines_for "$1" | LC_ALL=C sort)
+    printf '%s%s-' "$1" "${2:+_tests}"
+    {
+        kit_version
+        echo "$lines"
+        cd "$top"
+        sed 's/[ :].*//; s,.*,crates/&/src,' <<<"$lines" | tr '\n' '\0' | xargs -0 sh -c 'find tools/compile "$@" -type f -print0' find |
+            LC_ALL=C sort -z | xargs -0 sha256sum
+    } | sha256sum | cut -c 1-32
+}
+
+# Prints the file in which the unproved program of a crate, or with --test that of its tests, is kept for these sources; nothing
+# where nothing can be kept.
+unproved_file() {
+    local name folder=${XDG_CACHE_HOME:-${HOME:+$HOME/.cache}}/kagzuvis
+    name=$(unproved_name "$@")
+    [ "$folder" != /kagzuvis ] && mkdir -p "$folder/$name" 2>/dev/null && [ -w "$folder/$name" ] || return 0
+    echo "$folder/$name/$1"
+}
+
+# Sets $program to the unproved program of a crate. It is compiled where it is not kept for these sources; where nothing can be kept
+# it stands in $room. The status is that of tools/compile.
+unproved() {
+    local status
+    while :; do
+        program=$(unproved_file "$1")
+        if [ -z "$program" ]; then
+            make_room
+            program=$room/$(unproved_name "$1")/$1
+        elif [ -x "$program" ]; then
+            # What was not used for long goes first.
+            touch -c "$program" 2>/dev/null || true
+            return 0
+        fi
+        status=0
+        "$top/tools/compile" "$1" "$program" </dev/null >&2 || status=$?
+        # The sources were edited before all of them were read.
+        [ "$status" = 4 ] || return "$status"
+    done
 }

@@ -1,2 +1,3 @@
+mod Processes
 mod Since
 pub mod Runs

@@ -35,6 +35,15 @@ HasRun old (Step pid op next) outcome new =
 pub record Ran {A : Type 0} (old : Shown) (c : Course A) (outcome : A) (new : Shown) : Type 0 where
   pub is : HasRun old c outcome new
 
+-- A beginning of a course was run: no step of it, or some, or all.
+abbrev pub HasBegun : {A : Type 0} → Shown → Course A → Shown → Type 0
+HasBegun old (Give x) new = new ≡ old
+HasBegun old (Step pid op next) new = (new ≡ old)
+    ⊎ ((reply : Reply) × (mid : Shown) × IsTaken old mid pid op reply × HasBegun mid (next reply) new)
+
+pub record Began {A : Type 0} (old : Shown) (c : Course A) (new : Shown) : Type 0 where
+  pub is : HasBegun old c new
+
 -- all steps of a course are of one process
 abbrev pub IsBy : {A : Type 0} → ℕ → Course A → Type 0
 IsBy pid (Give x) = Unit {0}

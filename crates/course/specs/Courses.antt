@@ -1,5 +1,5 @@
 -- The course of each kind of request, below the tables of a mount: paths and descriptors are known.
-use Rattle.std.specs.Prelude.{◌≡◌, ◌⊎◌, ℕ, ◌==◌, ◌&&◌, ◌||◌, not, List, Bool, true, false, ℤ, pos}
+use Rattle.std.specs.Prelude.{◌≡◌, ℕ, ◌==◌, ◌&&◌, ◌||◌, not, List, [], Bool, true, false, ℤ, pos}
 use Rattle.std.specs.Prelude.{Option, Some, None, Result, Ok, Err}
 use Rattle.std.specs.Prelude.{if◌then◌else◌}
 use Rattle.ids.specs.declared.call.Call.TheVariants as call
@@ -7,23 +7,19 @@ use Rattle.ids.specs.declared.call.Op.TheVariants as op
 use Rattle.ids.specs.declared.flags.BeginFlags.{BeginFlags}
 use Rattle.ids.specs.declared.flags.OpenFlags.{OpenFlags}
 use Rattle.ids.specs.declared.call.Call.{Call}
+use Rattle.ids.specs.declared.errno.Errno.TheVariants as errno
+use Rattle.ids.specs.declared.reply.Kind.{Kind}
+use Rattle.ids.specs.declared.reply.Kind.TheVariants as kind
 use Rattle.ids.specs.declared.reply.Reply.{Reply}
 use Rattle.ids.specs.declared.reply.Stat.{Stat}
-use Rattle.fuse.specs.declared.errno.Errno.TheVariants as errno
 use Rattle.course.specs.declared.fault.Fault.{Fault}
 use Rattle.course.specs.declared.fault.Fault.TheVariants as fault
 use Rattle.course.specs.declared.files.Made.{Made}
 use Rattle.course.specs.declared.objects.Object.{Object}
-use Rattle.machine.specs.Shown.{Shown}
-use Rattle.course.specs.Course.{Course, Give, Ran, ◌>>=◌, step}
-use Rattle.course.specs.Faults.{begun_in, bytes_in, child_in, committed_in, count_in, done_in, error}
-use Rattle.course.specs.Faults.{fd_in, given_up_in, is_missing, is_there, names_in, stat_in}
-use Rattle.course.specs.Faults.{unless_aborted}
-
--- a course was run, or memory was refused for its outcome
-abbrev pub RanUnlessRefused : {A : Type 0} → Shown → Course (Result A Fault) → Result A Fault
-    → Shown → Type 0
-RanUnlessRefused old c outcome new = Ran old c outcome new ⊎ (outcome ≡ Err (error errno.ENOMEM))
+use Rattle.course.specs.Course.{Course, Give, ◌>>=◌, step}
+use Rattle.course.specs.Faults.{begun_in, bytes_in, child_in, committed_in, count_in, done_in}
+use Rattle.course.specs.Faults.{fd_in, given_up_in, gives_none, is_abort, is_missing, is_there, names_in}
+use Rattle.course.specs.Faults.{stale_by, stat_in, unless_aborted}
 
 -- a call of a process
 abbrev pub calling : ℕ → Call → Course Reply
@@ -81,9 +77,24 @@ on_ok f (Err e) = Give (Err e)
 abbrev pub making : ℕ → Call → List ℕ → Course (Result Stat Fault)
 making pid c path = doing pid c >>= on_ok (λ done. stating pid (call.Stat path))
 
+-- A path has to give this object, and else it is stale.
+abbrev pub same_or_stale : ℕ → Result Stat Fault → Result (Unit {0}) Fault
+same_or_stale inode (Ok stat) = if stat.num == inode then Ok tt else Err fault.Stale
+same_or_stale inode (Err e) = Err (stale_by e)
+
+abbrev pub looking_for : ℕ → List ℕ → ℕ → Course (Result (Unit {0}) Fault)
+looking_for pid path inode =
+    stating pid (call.Stat path) >>= (λ looked. Give (same_or_stale inode looked))
+
+-- A file gets a further name, by its path.
+abbrev pub linking : ℕ → List ℕ → ℕ → List ℕ → Course (Result Stat Fault)
+linking pid path inode new_path =
+    looking_for pid path inode
+    >>= on_ok (λ same. making pid (call.Link path new_path) new_path)
+
 -- A move that replaces nothing: nothing may stand at the new name.
 abbrev pub if_absent : ℕ → List ℕ → List ℕ → Result Stat Fault → Course (Result (Unit {0}) Fault)
-if_absent pid from to (Ok stat) = Give (Err (error errno.EEXIST))
+if_absent pid from to (Ok stat) = Give (Err (fault.Refused errno.EEXIST))
 if_absent pid from to (Err e) =
     if is_missing e then doing pid (call.Rename from to) else Give (Err e)
 
@@ -106,15 +117,16 @@ appending pid fd bytes =
 
 -- A descriptor is closed, for this error. After an abort there is nothing to close: what a
 -- transaction opened is gone with it.
+abbrev pub closing_for : {A : Type 0} → ℕ → ℕ → Fault → Course (Result A Fault)
+closing_for pid fd e = doing pid (call.Close fd) >>= (λ r. Give (Err (unless_aborted e r)))
+
 abbrev pub closing : {A : Type 0} → ℕ → ℕ → Fault → Course (Result A Fault)
-closing pid fd fault.Aborted = Give (Err fault.Aborted)
-closing pid fd (fault.Errno e) =
-    doing pid (call.Close fd) >>= (λ r. Give (Err (unless_aborted (fault.Errno e) r)))
+closing pid fd e = if is_abort e then Give (Err e) else closing_for pid fd e
 
 -- A file is opened, and it has to be this one: else it is closed again, and the path is stale.
 abbrev pub if_same : ℕ → ℕ → ℕ → Result Stat Fault → Course (Result ℕ Fault)
 if_same pid fd inode (Ok stat) =
-    if stat.num == inode then Give (Ok fd) else closing pid fd (error errno.ESTALE)
+    if stat.num == inode then Give (Ok fd) else closing pid fd fault.Stale
 if_same pid fd inode (Err e) = closing pid fd e
 
 abbrev pub checking : ℕ → ℕ → ℕ → Course (Result ℕ Fault)
@@ -182,30 +194,56 @@ closing_spare pid false made = Give (Ok made)
 
 -- ---- objects, by their paths or their descriptors
 
+-- A directory has one name at most, and stays without it while somebody uses it: then it is empty.
+abbrev pub removed : ℕ → Stat
+removed inode = record { kind = kind.Dir; num = inode; size = 0; links = 0 }
+
+-- what an object is like that no path and no descriptor leads to
+abbrev pub nowhere : Kind → ℕ → Result Stat Fault
+nowhere kind.Dir inode = Ok (removed inode)
+nowhere kind.File inode = Err fault.Stale
+nowhere kind.Pipe inode = Err fault.Stale
+
 -- what the descriptor of an object tells, if it has one
-abbrev pub by_descriptor : ℕ → Option ℕ → Course (Result Stat Fault)
-by_descriptor pid (Some fd) = stating pid (call.Fstat fd)
-by_descriptor pid None = Give (Err (error errno.ESTALE))
+abbrev pub by_descriptor : ℕ → Kind → ℕ → Option ℕ → Course (Result Stat Fault)
+by_descriptor pid kind inode (Some fd) = stating pid (call.Fstat fd)
+by_descriptor pid kind inode None = Give (nowhere kind inode)
 
 -- The path is to give this object. Where it gives another one or none, the descriptor tells.
-abbrev pub if_found : ℕ → ℕ → Option ℕ → Result Stat Fault → Course (Result Stat Fault)
-if_found pid inode fd (Ok stat) =
-    if stat.num == inode then Give (Ok stat) else by_descriptor pid fd
-if_found pid inode fd (Err fault.Aborted) = Give (Err fault.Aborted)
-if_found pid inode fd (Err (fault.Errno e)) = by_descriptor pid fd
+abbrev pub if_found : ℕ → Kind → ℕ → Option ℕ → Result Stat Fault → Course (Result Stat Fault)
+if_found pid kind inode fd (Ok stat) =
+    if stat.num == inode then Give (Ok stat) else by_descriptor pid kind inode fd
+if_found pid kind inode fd (Err e) =
+    if gives_none e then by_descriptor pid kind inode fd else Give (Err e)
 
-abbrev pub finding_at : ℕ → ℕ → Option ℕ → Option (List ℕ) → Course (Result Stat Fault)
-finding_at pid inode fd (Some path) = stating pid (call.Stat path) >>= if_found pid inode fd
-finding_at pid inode fd None = by_descriptor pid fd
+abbrev pub finding_at : ℕ → Kind → ℕ → Option ℕ → Option (List ℕ) → Course (Result Stat Fault)
+finding_at pid kind inode fd (Some path) =
+    stating pid (call.Stat path) >>= if_found pid kind inode fd
+finding_at pid kind inode fd None = by_descriptor pid kind inode fd
 
 abbrev pub finding : ℕ → Object → Course (Result Stat Fault)
-finding pid o = finding_at pid o.inode o.fd o.path
+finding pid o = finding_at pid o.kind o.inode o.fd o.path
 
--- The length is set by the descriptor, if there is one, else by the path.
-abbrev pub sizing : ℕ → Option ℕ → Option (List ℕ) → ℕ → Course (Result (Unit {0}) Fault)
-sizing pid (Some fd) path length = doing pid (call.Ftruncate fd length)
-sizing pid None (Some path) length = doing pid (call.Truncate path length)
-sizing pid None None length = Give (Err (error errno.ESTALE))
+-- The length is set by the descriptor, if there is one, else by the path, where that gives the file.
+abbrev pub sizing : ℕ → ℕ → Option ℕ → Option (List ℕ) → ℕ → Course (Result (Unit {0}) Fault)
+sizing pid inode (Some fd) path length = doing pid (call.Ftruncate fd length)
+sizing pid inode None (Some path) length =
+    looking_for pid path inode >>= on_ok (λ same. doing pid (call.Truncate path length))
+sizing pid inode None None length = Give (Err fault.Stale)
 
 abbrev pub resizing : ℕ → Object → Option (List ℕ) → ℕ → Course (Result Stat Fault)
-resizing pid o path length = sizing pid o.fd path length >>= on_ok (λ done. finding pid o)
+resizing pid o path length =
+    sizing pid o.inode o.fd path length >>= on_ok (λ done. finding pid o)
+
+-- ---- open directories
+
+-- The names of a directory, where the path gives it. One that no path leads to is empty.
+abbrev pub if_listed : ℕ → List ℕ → ℕ → Result Stat Fault → Course (Result (List (List ℕ)) Fault)
+if_listed pid path inode (Ok stat) =
+    if stat.num == inode then listing pid path else Give (Ok [])
+if_listed pid path inode (Err e) = if gives_none e then Give (Ok []) else Give (Err e)
+
+abbrev pub listing_at : ℕ → ℕ → Option (List ℕ) → Course (Result (List (List ℕ)) Fault)
+listing_at pid inode (Some path) =
+    stating pid (call.Stat path) >>= if_listed pid path inode
+listing_at pid inode None = Give (Ok [])

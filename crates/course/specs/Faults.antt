@@ -1,51 +1,21 @@
 -- What replies come to: an answer, or the error that a request fails with.
-use Rattle.std.specs.Prelude.{◌≡◌, ◌⊎◌, ℕ, Bool, true, false, List, Result, Ok, Err}
-use Rattle.ids.specs.declared.errno.Errno.{Errno as Refused}
-use Rattle.ids.specs.declared.errno.Errno.TheVariants as refused
+use Rattle.std.specs.Prelude.{ℕ, Bool, true, false, List, Result, Ok, Err, if◌then◌else◌}
+use Rattle.ids.specs.declared.errno.Errno.TheVariants as errno
 use Rattle.ids.specs.declared.reply.Answer.TheVariants as answer
 use Rattle.ids.specs.declared.reply.Reply.{Reply}
 use Rattle.ids.specs.declared.reply.Reply.TheVariants as reply
 use Rattle.ids.specs.declared.reply.Stat.{Stat}
-use Rattle.fuse.specs.declared.errno.Errno.{Errno}
-use Rattle.fuse.specs.declared.errno.Errno.TheVariants as errno
 use Rattle.course.specs.declared.fault.Fault.{Fault}
 use Rattle.course.specs.declared.fault.Fault.TheVariants as fault
 
-abbrev pub error : Errno → Fault
-error e = fault.Errno e
-
--- it is this, or memory was refused for it
-abbrev pub IsUnlessRefused : {A : Type 0} → Result A Fault → Result A Fault → Type 0
-IsUnlessRefused is r = (r ≡ is) ⊎ (r ≡ Err (error errno.ENOMEM))
-
--- what Linux has for each refusal
-abbrev pub errno_of : Refused → Errno
-errno_of refused.EAGAIN = errno.EAGAIN
-errno_of refused.EBADF = errno.EBADF
-errno_of refused.EBUSY = errno.EBUSY
-errno_of refused.EEXIST = errno.EEXIST
-errno_of refused.EFBIG = errno.EFBIG
-errno_of refused.EINVAL = errno.EINVAL
-errno_of refused.EISDIR = errno.EISDIR
-errno_of refused.EMFILE = errno.EMFILE
-errno_of refused.ENAMETOOLONG = errno.ENAMETOOLONG
-errno_of refused.ENOENT = errno.ENOENT
-errno_of refused.ENOTDIR = errno.ENOTDIR
-errno_of refused.ENOTEMPTY = errno.ENOTEMPTY
-errno_of refused.ENOTSUP = errno.EOPNOTSUPP
-errno_of refused.EPERM = errno.EPERM
-errno_of refused.EPIPE = errno.EPIPE
-errno_of refused.ESPIPE = errno.ESPIPE
-
--- Why a request fails by this reply: EBUSY for a plain call that was put off, ENOMEM for refused
--- memory, EIO for what no call is answered.
+-- Why a request fails by this reply. A full history is told as refused memory.
 abbrev pub fault_in : Reply → Fault
-fault_in (reply.Errno e) = error (errno_of e)
-fault_in (reply.Aborted why again) = fault.Aborted
-fault_in (reply.Busy cause) = error errno.EBUSY
-fault_in reply.NoMemory = error errno.ENOMEM
-fault_in reply.HistoryFull = error errno.ENOMEM
-fault_in _ = error errno.EIO
+fault_in (reply.Errno e) = fault.Refused e
+fault_in (reply.Aborted why again) = fault.Aborted why
+fault_in (reply.Busy cause) = fault.Busy
+fault_in reply.NoMemory = fault.NoMemory
+fault_in reply.HistoryFull = fault.NoMemory
+fault_in _ = fault.Unexpected
 
 -- That a call is done, a descriptor, what an object is like, how many bytes were written, the bytes
 -- that were read, the names of a directory, a child.
@@ -92,14 +62,28 @@ given_up_in r = Err (fault_in r)
 
 -- whether an error says that a name is not there, or that it is
 abbrev pub is_missing : Fault → Bool
-is_missing (fault.Errno errno.ENOENT) = true
+is_missing (fault.Refused errno.ENOENT) = true
 is_missing _ = false
 
 abbrev pub is_there : Fault → Bool
-is_there (fault.Errno errno.EEXIST) = true
+is_there (fault.Refused errno.EEXIST) = true
 is_there _ = false
+
+-- whether an error says that a path gives nothing: a name on it is not there, or is no directory
+abbrev pub gives_none : Fault → Bool
+gives_none (fault.Refused errno.ENOENT) = true
+gives_none (fault.Refused errno.ENOTDIR) = true
+gives_none _ = false
+
+-- A path that gives nothing does not give the object that is meant.
+abbrev pub stale_by : Fault → Fault
+stale_by e = if gives_none e then fault.Stale else e
+
+abbrev pub is_abort : Fault → Bool
+is_abort (fault.Aborted why) = true
+is_abort _ = false
 
 -- the error that is told behind a last step, which may be the one that aborted
 abbrev pub unless_aborted : Fault → Result (Unit {0}) Fault → Fault
-unless_aborted e (Err fault.Aborted) = fault.Aborted
+unless_aborted e (Err (fault.Aborted why)) = fault.Aborted why
 unless_aborted e r = e

@@ -1,185 +1,155 @@
 // What replies come to.
 ghost use Rattle.std.specs.Prelude.{◌≡◌};
-ghost use Rattle.course.specs.Faults.{IsUnlessRefused, begun_in, bytes_in, child_in, committed_in, count_in, done_in};
-ghost use Rattle.course.specs.Faults.{errno_of, error, fault_in, fd_in, given_up_in, names_in, stat_in};
-ghost use Rattle.fuse.specs.declared.errno.Errno.TheVariants.{ENOMEM};
+ghost use Rattle.course.specs.Faults.{begun_in, bytes_in, child_in, committed_in, count_in, done_in};
+ghost use Rattle.course.specs.Faults.{fault_in, fd_in, given_up_in, is_abort, names_in, stat_in};
 
-use fuse::Errno;
-use ids::{Answer, Bytes, Fd, NameList, Pid, Reply, Stat};
-use std::alloc::{AllocError, AllocFailed};
+use heap::Heap;
+use ids::{Answer, Bytes, Errno, Fd, NameList, Pid, Reply, Stat, Why};
+use std::mem::replace;
 
 /// Why a request fails.
-#[derive(Clone, Copy, Debug)]
+#[derive(Debug, Drop)]
 pub enum Fault {
-    /// With this error.
-    Errno(Errno),
-    /// The transaction of its process was aborted. The last entry of the history tells why.
-    Aborted,
-}
-
-impl From<Errno> for Fault {
-    ghost use Rattle.course.specs.declared.fault.Fault.TheVariants.{Errno as Failed};
-
-    ghost from_gives = { λ e f. f ≡ Failed e };
-
-    fn from(errno: Errno) -> Fault {
-        Fault::Errno(errno)
-    }
-}
-
-impl From<AllocError> for Fault {
-    ghost from_gives = { λ _ f. f ≡ error ENOMEM };
-
-    fn from(_e: AllocError) -> Fault {
-        Fault::Errno(Errno::ENOMEM)
-    }
-}
-
-impl<T: Drop> From<AllocFailed<T>> for Fault {
-    ghost from_gives = { λ _ f. f ≡ error ENOMEM };
-
-    fn from(_e: AllocFailed<T>) -> Fault {
-        Fault::Errno(Errno::ENOMEM)
-    }
-}
-
-// What Linux has for a refusal.
-fn errno_of(refused: ids::Errno) -> Errno
-    ensures { result ≡ errno_of refused }
-{
-    match refused {
-        ids::Errno::EAGAIN => Errno::EAGAIN,
-        ids::Errno::EBADF => Errno::EBADF,
-        ids::Errno::EBUSY => Errno::EBUSY,
-        ids::Errno::EEXIST => Errno::EEXIST,
-        ids::Errno::EFBIG => Errno::EFBIG,
-        ids::Errno::EINVAL => Errno::EINVAL,
-        ids::Errno::EISDIR => Errno::EISDIR,
-        ids::Errno::EMFILE => Errno::EMFILE,
-        ids::Errno::ENAMETOOLONG => Errno::ENAMETOOLONG,
-        ids::Errno::ENOENT => Errno::ENOENT,
-        ids::Errno::ENOTDIR => Errno::ENOTDIR,
-        ids::Errno::ENOTEMPTY => Errno::ENOTEMPTY,
-        ids::Errno::ENOTSUP => Errno::EOPNOTSUPP,
-        ids::Errno::EPERM => Errno::EPERM,
-        ids::Errno::EPIPE => Errno::EPIPE,
-        ids::Errno::ESPIPE => Errno::ESPIPE,
-    }
+    /// The kernel refused a call.
+    Refused(Errno),
+    /// A plain call was put off, as it lost a conflict against a transaction.
+    Busy,
+    /// Memory was refused, or no place is left in the history.
+    NoMemory,
+    /// A path gives another object than the one that is meant, or none.
+    Stale,
+    /// The kernel's reply is none that its operation has.
+    Unexpected,
+    /// The transaction of the process was aborted, for this cause.
+    Aborted(Why),
 }
 
 impl Fault {
-    /// Why a request fails by this reply, which is not the one that it hoped for.
-    pub fn of_reply(reply: &Reply) -> Fault
-        ensures { result ≡ fault_in reply.now }
+    // Whether the transaction was aborted.
+    pub(crate) fn is_abort(&self) -> bool
+        ensures { result ≡ is_abort self.now }
     {
-        match reply {
-            Reply::Errno(refused) => Fault::Errno(errno_of(*refused)),
-            Reply::Aborted {
-                why: _,
-                restarted: _,
-            } => Fault::Aborted,
-            Reply::Busy(_) => Fault::Errno(Errno::EBUSY),
-            Reply::NoMemory | Reply::HistoryFull => Fault::Errno(Errno::ENOMEM),
-            _ => Fault::Errno(Errno::EIO),
+        match self {
+            Fault::Aborted(_) => true,
+            _ => false,
+        }
+    }
+
+    // Why a request fails by this reply, which is not the one that it hoped for.
+    fn of_reply(reply: Reply) -> Fault
+        ensures { result ≡ fault_in reply }
+    {
+        let mut reply = reply;
+        match &mut reply {
+            Reply::Errno(refused) => Fault::Refused(*refused),
+            Reply::Aborted { why, restarted: _ } => {
+                // A reply is not taken apart, but its cause can be swapped.
+                Fault::Aborted(replace(why, Why::Unsupported))
+            }
+            Reply::Busy(_) => Fault::Busy,
+            Reply::NoMemory | Reply::HistoryFull => Fault::NoMemory,
+            _ => Fault::Unexpected,
         }
     }
 }
 
 // That a call is done.
-pub(crate) fn done_in(reply: &Reply) -> Result<(), Fault>
-    ensures { result ≡ done_in reply.now }
+pub(crate) fn done_in(reply: Reply) -> Result<(), Fault>
+    ensures { result ≡ done_in reply }
 {
-    match reply {
+    match &reply {
         Reply::Answer(Answer::Done) => Ok(()),
         _ => Err(Fault::of_reply(reply)),
     }
 }
 
 // The descriptor that a call answers.
-pub(crate) fn fd_in(reply: &Reply) -> Result<Fd, Fault>
-    ensures { result ≡ fd_in reply.now }
+pub(crate) fn fd_in(reply: Reply) -> Result<Fd, Fault>
+    ensures { result ≡ fd_in reply }
 {
-    match reply {
+    match &reply {
         Reply::Answer(Answer::Fd(fd)) => Ok(*fd),
         _ => Err(Fault::of_reply(reply)),
     }
 }
 
 // What a call tells of an object.
-pub(crate) fn stat_in(reply: &Reply) -> Result<Stat, Fault>
-    ensures { result ≡ stat_in reply.now }
+pub(crate) fn stat_in(reply: Reply) -> Result<Stat, Fault>
+    ensures { result ≡ stat_in reply }
 {
-    match reply {
+    match &reply {
         Reply::Answer(Answer::Stat(stat)) => Ok(*stat),
         _ => Err(Fault::of_reply(reply)),
     }
 }
 
 // How many bytes were written.
-pub(crate) fn count_in(reply: &Reply) -> Result<u32, Fault>
-    ensures { result ≡ count_in reply.now }
+pub(crate) fn count_in(reply: Reply) -> Result<u32, Fault>
+    ensures { result ≡ count_in reply }
 {
-    match reply {
+    match &reply {
         Reply::Answer(Answer::Count(count)) => Ok(*count),
         _ => Err(Fault::of_reply(reply)),
     }
 }
 
-// The bytes that were read, copied.
-pub(crate) fn bytes_in(reply: &Reply) -> Result<Bytes, Fault>
-    ensures { IsUnlessRefused (bytes_in reply.now) result }
+// The bytes that were read.
+pub(crate) fn bytes_in(heap: Heap, reply: Reply) -> Result<Bytes, Fault>
+    ensures { result ≡ bytes_in reply }
 {
-    match reply {
-        Reply::Answer(Answer::Bytes(bytes)) => Ok(bytes.try_clone()?),
+    let mut reply = reply;
+    match &mut reply {
+        Reply::Answer(Answer::Bytes(bytes)) => Ok(replace(bytes, Bytes::new(Vec::new(heap)))),
         _ => Err(Fault::of_reply(reply)),
     }
 }
 
-// The names of a directory, copied.
-pub(crate) fn names_in(reply: &Reply) -> Result<NameList, Fault>
-    ensures { IsUnlessRefused (names_in reply.now) result }
+// The names of a directory.
+pub(crate) fn names_in(heap: Heap, reply: Reply) -> Result<NameList, Fault>
+    ensures { result ≡ names_in reply }
 {
-    match reply {
-        Reply::Answer(Answer::Names(names)) => Ok(names.try_clone()?),
+    let mut reply = reply;
+    match &mut reply {
+        Reply::Answer(Answer::Names(names)) => Ok(replace(names, NameList::new(Vec::new(heap)))),
         _ => Err(Fault::of_reply(reply)),
     }
 }
 
 // The child that was made.
-pub(crate) fn child_in(reply: &Reply) -> Result<Pid, Fault>
-    ensures { result ≡ child_in reply.now }
+pub(crate) fn child_in(reply: Reply) -> Result<Pid, Fault>
+    ensures { result ≡ child_in reply }
 {
-    match reply {
+    match &reply {
         Reply::Answer(Answer::Child(pid)) => Ok(*pid),
         _ => Err(Fault::of_reply(reply)),
     }
 }
 
 // That a transaction has begun.
-pub(crate) fn begun_in(reply: &Reply) -> Result<(), Fault>
-    ensures { result ≡ begun_in reply.now }
+pub(crate) fn begun_in(reply: Reply) -> Result<(), Fault>
+    ensures { result ≡ begun_in reply }
 {
-    match reply {
+    match &reply {
         Reply::Begun => Ok(()),
         _ => Err(Fault::of_reply(reply)),
     }
 }
 
 // That a transaction is committed.
-pub(crate) fn committed_in(reply: &Reply) -> Result<(), Fault>
-    ensures { result ≡ committed_in reply.now }
+pub(crate) fn committed_in(reply: Reply) -> Result<(), Fault>
+    ensures { result ≡ committed_in reply }
 {
-    match reply {
+    match &reply {
         Reply::Committed => Ok(()),
         _ => Err(Fault::of_reply(reply)),
     }
 }
 
 // That a transaction was given up.
-pub(crate) fn given_up_in(reply: &Reply) -> Result<(), Fault>
-    ensures { result ≡ given_up_in reply.now }
+pub(crate) fn given_up_in(reply: Reply) -> Result<(), Fault>
+    ensures { result ≡ given_up_in reply }
 {
-    match reply {
+    match &reply {
         Reply::GivenUp { restarted: _ } => Ok(()),
         _ => Err(Fault::of_reply(reply)),
     }

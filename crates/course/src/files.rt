@@ -5,13 +5,13 @@ ghost use Rattle.course.specs.Hands.{bound};
 ghost use Rattle.course.specs.Course.{Ran};
 ghost use Rattle.course.specs.Courses.{appending, both, checking, closing, creating, doing};
 ghost use Rattle.course.specs.Courses.{IsOffset, fresh, if_there, opening, opening_this, reading, seeing};
-ghost use Rattle.course.specs.Courses.{RanUnlessRefused, stating, writing};
+ghost use Rattle.course.specs.Courses.{closing_for, stating, writing};
 ghost use Rattle.course.specs.Faults.{is_there, unless_aborted};
 
 use crate::fault::{Fault, bytes_in, count_in, fd_in};
 use crate::hand::Hand;
-use fuse::Errno;
-use ids::{Bytes, Call, Fd, Num, OpenFlags, Stat};
+use heap::Heap;
+use ids::{Bytes, Call, Errno, Fd, Num, OpenFlags, Stat};
 use machine::Machine;
 
 /// A file that was opened.
@@ -32,7 +32,7 @@ fn open<K: Machine>(hand: &mut Hand<K>, path: Bytes, flags: OpenFlags) -> Result
         (opening hand.old.pid path flags) result hand.new.shown }
 {
     let reply = hand.ask(Call::Open(path, flags));
-    fd_in(&reply)
+    fd_in(reply)
 }
 
 /// Closes a descriptor.
@@ -49,23 +49,32 @@ fn unless_aborted(fault: Fault, last: Result<(), Fault>) -> Fault
     ensures { result ≡ unless_aborted fault last }
 {
     match last {
-        Err(Fault::Aborted) => Fault::Aborted,
+        Err(Fault::Aborted(why)) => Fault::Aborted(why),
         _ => fault,
     }
 }
 
-/// Closes a descriptor for this error. After an abort there is nothing to close: what a transaction
-/// opened is gone with it, and a step would be a plain one.
-pub fn close_for<T, K: Machine>(hand: &mut Hand<K>, fd: Fd, fault: Fault) -> Result<T, Fault>
+// Closes a descriptor for this error, which is no abort.
+fn close_by<T, K: Machine>(hand: &mut Hand<K>, fd: Fd, fault: Fault) -> Result<T, Fault>
+    ensures bound { bound hand.new ≡ bound hand.old }
+    ensures ran { Ran hand.old.shown
+        (closing_for hand.old.pid fd fault) result hand.new.shown }
+{
+    let closed = close(hand, fd);
+    Err(unless_aborted(fault, closed))
+}
+
+// Closes a descriptor for this error. After an abort there is nothing to close: what a transaction
+// opened is gone with it, and a step would be a plain one.
+pub(crate) fn close_for<T, K: Machine>(hand: &mut Hand<K>, fd: Fd, fault: Fault) -> Result<T, Fault>
     ensures bound { bound hand.new ≡ bound hand.old }
     ensures ran { Ran hand.old.shown
         (closing hand.old.pid fd fault) result hand.new.shown }
 {
-    if let Fault::Aborted = fault {
+    if fault.is_abort() {
         return Err(fault);
     }
-    let closed = close(hand, fd);
-    Err(unless_aborted(fault, closed))
+    close_by(hand, fd, fault)
 }
 
 // For reading and writing.
@@ -93,7 +102,7 @@ fn check_open<K: Machine>(hand: &mut Hand<K>, fd: Fd, inode: Num) -> Result<Fd, 
             if stat.num == inode {
                 Ok(fd)
             } else {
-                close_for(hand, fd, Fault::Errno(Errno::ESTALE))
+                close_for(hand, fd, Fault::Stale)
             }
         }
         Err(fault) => close_for(hand, fd, fault),
@@ -128,12 +137,12 @@ fn see<K: Machine>(hand: &mut Hand<K>, fd: Fd, is_new: bool) -> Result<Made, Fau
 }
 
 // Whether an error says that the name is there.
-fn is_there(fault: Fault) -> bool
-    ensures { result ≡ is_there fault }
+fn is_there(fault: &Fault) -> bool
+    ensures { result ≡ is_there fault.now }
 {
     match fault {
-        Fault::Errno(errno) => errno == Errno::EEXIST,
-        Fault::Aborted => false,
+        Fault::Refused(errno) => *errno == Errno::EEXIST,
+        _ => false,
     }
 }
 
@@ -152,7 +161,7 @@ fn go_on<K: Machine>(
     match opened {
         Ok(fd) => see(hand, fd, true),
         Err(fault) => {
-            if exclusive || !is_there(fault) {
+            if exclusive || !is_there(&fault) {
                 return Err(fault);
             }
             let fd = open(hand, path, both())?;
@@ -200,13 +209,19 @@ pub(crate) fn set_length_at<K: Machine>(
 }
 
 /// So many bytes of the file of a descriptor, from an offset on, or those that there are.
-pub fn read<K: Machine>(hand: &mut Hand<K>, fd: Fd, count: u32, offset: i64) -> Result<Bytes, Fault>
+pub fn read<K: Machine>(
+    hand: &mut Hand<K>,
+    heap: Heap,
+    fd: Fd,
+    count: u32,
+    offset: i64,
+) -> Result<Bytes, Fault>
     ensures bound { bound hand.new ≡ bound hand.old }
-    ensures ran { RanUnlessRefused hand.old.shown
+    ensures ran { Ran hand.old.shown
         (reading hand.old.pid fd count offset) result hand.new.shown }
 {
     let reply = hand.ask(Call::Pread(fd, count, offset));
-    bytes_in(&reply)
+    bytes_in(heap, reply)
 }
 
 /// What the file of a descriptor is like.
@@ -231,7 +246,7 @@ pub fn write<K: Machine>(
         (writing hand.old.pid fd bytes offset) result hand.new.shown }
 {
     let reply = hand.ask(Call::Pwrite(fd, bytes.shared(), offset));
-    count_in(&reply)
+    count_in(reply)
 }
 
 // A length as an offset.

@@ -1,11 +1,12 @@
 // A process of a kernel, with which a request steps.
 ghost use Rattle.std.specs.Prelude.{◌≡◌, ◌<◌, ◌^◌, ◌↔◌, length, true, false};
+ghost use Rattle.ids.specs.declared.call.Op.TheVariants as op;
 ghost use Rattle.machine.specs.Shown.{Kept, limit_of, setup_of};
 ghost use Rattle.machine.specs.Steps.{forgetting};
 ghost use Rattle.history_laws.specs.Headline.{IsSerializable};
 ghost use Rattle.course.specs.Course.{IsTaken, Ran};
 ghost use Rattle.course.specs.Courses.{calling, doing, stating};
-ghost use Rattle.course.specs.Hands.{IsSince, bound};
+ghost use Rattle.course.specs.Hands.{IsSince, Stand, bound, is_ending};
 
 use crate::fault::{Fault, done_in, stat_in};
 use crate::step::take_step;
@@ -16,7 +17,7 @@ use std::marker::Model;
 use std::snapshot::Snapshot;
 
 /// A kernel, and the process by which a request steps there. All entries that its history has since
-/// the request began are of that process.
+/// the request began are of that process, and no process has ended since.
 pub struct Hand<K: Machine> {
     kernel: K,
     pid: Pid,
@@ -79,13 +80,14 @@ impl<K: Machine> Hand<K> {
         self.pid
     }
 
-    /// The history: since the request began all entries are of the process.
+    /// The history: since the request began all entries are of the process, and no process has ended.
     pub fn history(&self) -> &History
         ensures value { result.now ≡ self.now.shown.log }
         ensures kept { Kept self.now.shown }
         ensures serial { let s = self.now.shown in
             IsSerializable 0 (setup_of s.log) (limit_of s.log) s.log.entries s.state }
         ensures since { IsSince self.now.pid self.now.since.log.entries self.now.shown.log.entries }
+        ensures stand { Stand self.now.since self.now.shown }
     {
         self.kernel.history()
     }
@@ -102,17 +104,23 @@ impl<K: Machine> Hand<K> {
         self.kernel.forget()
     }
 
-    /// One step of the process.
-    pub fn step(&mut self, op: Op) -> Reply
+    // One step of the process, which does not end it.
+    pub(crate) fn step(&mut self, op: Op) -> Reply
+        requires { is_ending op ≡ false }
         ensures bound { bound self.new ≡ bound self.old }
+        ensures was { Kept self.old.shown }
+        ensures kept { Kept self.new.shown }
         ensures taken { IsTaken self.old.shown self.new.shown self.old.pid op result }
     {
         take_step(&mut self.kernel, self.pid, op)
     }
 
-    /// One call of the process.
-    pub fn ask(&mut self, call: Call) -> Reply
+    // One call of the process, which does not end it.
+    pub(crate) fn ask(&mut self, call: Call) -> Reply
+        requires { is_ending (op.Call call) ≡ false }
         ensures bound { bound self.new ≡ bound self.old }
+        ensures was { Kept self.old.shown }
+        ensures kept { Kept self.new.shown }
         ensures ran { Ran self.old.shown (calling self.old.pid call) result self.new.shown }
     {
         self.step(Op::Call(call))
@@ -120,19 +128,21 @@ impl<K: Machine> Hand<K> {
 
     // One call that is only done.
     pub(crate) fn do_call(&mut self, call: Call) -> Result<(), Fault>
+        requires { is_ending (op.Call call) ≡ false }
         ensures bound { bound self.new ≡ bound self.old }
         ensures ran { Ran self.old.shown (doing self.old.pid call) result self.new.shown }
     {
         let reply = self.ask(call);
-        done_in(&reply)
+        done_in(reply)
     }
 
     // One call that tells about an object.
     pub(crate) fn stat_call(&mut self, call: Call) -> Result<Stat, Fault>
+        requires { is_ending (op.Call call) ≡ false }
         ensures bound { bound self.new ≡ bound self.old }
         ensures ran { Ran self.old.shown (stating self.old.pid call) result self.new.shown }
     {
         let reply = self.ask(call);
-        stat_in(&reply)
+        stat_in(reply)
     }
 }

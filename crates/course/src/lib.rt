@@ -15,9 +15,11 @@ mod step;
 mod transactions;
 
 pub use fault::Fault;
-pub use files::{Made, append, close, close_for, read, stat_file, write};
+pub use files::{Made, append, close, read, stat_file, write};
 pub use hand::Hand;
 pub use made::{close_spare, create_cut, cut_if, make_file, open_cut};
-pub use names::{link, list, make_directory, move_name, remove_directory, stat_path, unlink};
-pub use objects::{Object, find, resize};
+pub use names::{
+    Twice, link, list, make_directory, move_name, remove_directory, stat_path, unlink,
+};
+pub use objects::{Object, find, list_at, resize};
 pub use transactions::{begin, end, fork, give_up, look_nowhere};

@@ -3,13 +3,14 @@ ghost use Rattle.std.specs.Prelude.{◌≡◌, IfSome, is_some, true};
 ghost use Rattle.ids.specs.declared.call.Call.TheVariants as asked;
 ghost use Rattle.course.specs.Hands.{bound};
 ghost use Rattle.course.specs.Course.{Ran};
-ghost use Rattle.course.specs.Courses.{RanUnlessRefused, doing, listing, making, moving, stating};
-ghost use Rattle.course.specs.Faults.{is_missing};
+ghost use Rattle.course.specs.Courses.{doing, linking, listing, looking_for, making, moving};
+ghost use Rattle.course.specs.Courses.{same_or_stale, stating};
+ghost use Rattle.course.specs.Faults.{gives_none, is_missing, stale_by};
 
 use crate::fault::{Fault, names_in};
 use crate::hand::Hand;
-use fuse::Errno;
-use ids::{Bytes, Call, NameList, Stat};
+use heap::Heap;
+use ids::{Bytes, Call, Errno, NameList, Num, Stat};
 use machine::Machine;
 
 /// What a path gives.
@@ -22,13 +23,13 @@ pub fn stat_path<K: Machine>(hand: &mut Hand<K>, path: Bytes) -> Result<Stat, Fa
 }
 
 /// The names of a directory.
-pub fn list<K: Machine>(hand: &mut Hand<K>, path: Bytes) -> Result<NameList, Fault>
+pub fn list<K: Machine>(hand: &mut Hand<K>, heap: Heap, path: Bytes) -> Result<NameList, Fault>
     ensures bound { bound hand.new ≡ bound hand.old }
-    ensures ran { RanUnlessRefused hand.old.shown
+    ensures ran { Ran hand.old.shown
         (listing hand.old.pid path) result hand.new.shown }
 {
     let reply = hand.ask(Call::List(path));
-    names_in(&reply)
+    names_in(heap, reply)
 }
 
 /// Makes a directory, and tells about it. The two paths are the same.
@@ -45,9 +46,55 @@ pub fn make_directory<K: Machine>(
     stat_path(hand, again)
 }
 
-/// Gives the file of the first path the second path too, and tells about it. The last path is the
-/// second one once more.
-pub fn link<K: Machine>(
+// Whether an error says that a path gives nothing.
+pub(crate) fn gives_none(fault: &Fault) -> bool
+    ensures { result ≡ gives_none fault.now }
+{
+    match fault {
+        Fault::Refused(errno) => *errno == Errno::ENOENT || *errno == Errno::ENOTDIR,
+        _ => false,
+    }
+}
+
+// A path that gives nothing does not give the object that is meant.
+fn stale_by(fault: Fault) -> Fault
+    ensures { result ≡ stale_by fault }
+{
+    if gives_none(&fault) {
+        Fault::Stale
+    } else {
+        fault
+    }
+}
+
+// Whether what a path gives is this object.
+fn same_or_stale(inode: Num, looked: Result<Stat, Fault>) -> Result<(), Fault>
+    ensures { result ≡ same_or_stale inode looked }
+{
+    match looked {
+        Ok(stat) => {
+            if stat.num == inode {
+                Ok(())
+            } else {
+                Err(Fault::Stale)
+            }
+        }
+        Err(fault) => Err(stale_by(fault)),
+    }
+}
+
+// Looks whether a path gives this object.
+pub(crate) fn look_for<K: Machine>(hand: &mut Hand<K>, path: Bytes, inode: Num) -> Result<(), Fault>
+    ensures bound { bound hand.new ≡ bound hand.old }
+    ensures ran { Ran hand.old.shown
+        (looking_for hand.old.pid path inode) result hand.new.shown }
+{
+    let looked = stat_path(hand, path);
+    same_or_stale(inode, looked)
+}
+
+// Makes a link, and tells about it.
+fn link_to<K: Machine>(
     hand: &mut Hand<K>,
     path: Bytes,
     new_path: Bytes,
@@ -59,6 +106,33 @@ pub fn link<K: Machine>(
 {
     hand.do_call(Call::Link(path, new_path))?;
     stat_path(hand, again)
+}
+
+/// A path as it is used once and then again.
+#[derive(Drop)]
+pub struct Twice {
+    /// For the first use.
+    pub first: Bytes,
+    /// For the second one.
+    pub second: Bytes,
+}
+
+/// Gives a file the second path too, by the first one, where that gives this file, and tells about
+/// it. Where it gives another one the path is stale.
+pub fn link<K: Machine>(
+    hand: &mut Hand<K>,
+    from: Twice,
+    inode: Num,
+    to: Twice,
+) -> Result<Stat, Fault>
+    requires from { from.second ≡ from.first }
+    requires to { to.second ≡ to.first }
+    ensures bound { bound hand.new ≡ bound hand.old }
+    ensures ran { Ran hand.old.shown
+        (linking hand.old.pid from.first inode to.first) result hand.new.shown }
+{
+    look_for(hand, from.first, inode)?;
+    link_to(hand, from.second, to.first, to.second)
 }
 
 /// Takes a name of a file away.
@@ -80,12 +154,12 @@ pub fn remove_directory<K: Machine>(hand: &mut Hand<K>, path: Bytes) -> Result<(
 }
 
 // Whether an error says that a name is not there.
-fn is_missing(fault: Fault) -> bool
-    ensures { result ≡ is_missing fault }
+fn is_missing(fault: &Fault) -> bool
+    ensures { result ≡ is_missing fault.now }
 {
     match fault {
-        Fault::Errno(errno) => errno == Errno::ENOENT,
-        Fault::Aborted => false,
+        Fault::Refused(errno) => *errno == Errno::ENOENT,
+        _ => false,
     }
 }
 
@@ -102,9 +176,9 @@ fn move_if_absent<K: Machine>(
         (moving hand.old.pid from to true) result hand.new.shown }
 {
     match stat_path(hand, again) {
-        Ok(_) => Err(Fault::Errno(Errno::EEXIST)),
+        Ok(_) => Err(Fault::Refused(Errno::EEXIST)),
         Err(fault) => {
-            if is_missing(fault) {
+            if is_missing(&fault) {
                 hand.do_call(Call::Rename(from, to))
             } else {
                 Err(fault)

@@ -1,14 +1,16 @@
 // Requests on objects that are found by their paths or their descriptors.
-ghost use Rattle.std.specs.Prelude.{◌≡◌};
+ghost use Rattle.std.specs.Prelude.{◌≡◌, IfSome, None, Some, option_map};
 ghost use Rattle.course.specs.Hands.{bound};
 ghost use Rattle.course.specs.Course.{Ran};
-ghost use Rattle.course.specs.Courses.{by_descriptor, finding, if_found, resizing, sizing};
+ghost use Rattle.course.specs.Courses.{by_descriptor, finding, if_found, if_listed, listing_at, nowhere};
+ghost use Rattle.course.specs.Courses.{removed, resizing, sizing};
 
 use crate::fault::Fault;
 use crate::files::{set_length, set_length_at};
 use crate::hand::Hand;
-use fuse::Errno;
-use ids::{Bytes, Call, Fd, Num, Stat};
+use crate::names::{Twice, gives_none, list, look_for};
+use heap::Heap;
+use ids::{Bytes, Call, Fd, Kind, NameList, Num, Stat};
 use machine::Machine;
 
 /// An object, and how it is found.
@@ -16,95 +18,209 @@ use machine::Machine;
 pub struct Object {
     /// Its number.
     pub inode: Num,
+    /// What it is.
+    pub kind: Kind,
     /// The path that led to it last, if there is one.
     pub path: Option<Bytes>,
     /// The descriptor of the process, where it has the object open.
     pub fd: Option<Fd>,
 }
 
+// What a directory is like to which no name leads any more.
+fn removed(inode: Num) -> Stat
+    ensures { result ≡ removed inode }
+{
+    Stat {
+        kind: Kind::Dir,
+        num: inode,
+        size: 0,
+        links: 0,
+    }
+}
+
+// What an object is like that no path and no descriptor leads to.
+fn nowhere(kind: Kind, inode: Num) -> Result<Stat, Fault>
+    ensures { result ≡ nowhere kind inode }
+{
+    match kind {
+        Kind::Dir => Ok(removed(inode)),
+        Kind::File | Kind::Pipe => Err(Fault::Stale),
+    }
+}
+
 // What the descriptor of an object tells, if it has one.
-fn by_descriptor<K: Machine>(hand: &mut Hand<K>, fd: Option<Fd>) -> Result<Stat, Fault>
+fn by_descriptor<K: Machine>(
+    hand: &mut Hand<K>,
+    kind: Kind,
+    inode: Num,
+    fd: Option<Fd>,
+) -> Result<Stat, Fault>
     ensures bound { bound hand.new ≡ bound hand.old }
     ensures ran { Ran hand.old.shown
-        (by_descriptor hand.old.pid fd) result hand.new.shown }
+        (by_descriptor hand.old.pid kind inode fd) result hand.new.shown }
 {
     match fd {
         Some(fd) => hand.stat_call(Call::Fstat(fd)),
-        None => Err(Fault::Errno(Errno::ESTALE)),
+        None => nowhere(kind, inode),
     }
 }
 
 // The path is to give this object. Where it gives another one or none, the descriptor tells.
 fn if_found<K: Machine>(
     hand: &mut Hand<K>,
+    kind: Kind,
     inode: Num,
     fd: Option<Fd>,
     looked: Result<Stat, Fault>,
 ) -> Result<Stat, Fault>
     ensures bound { bound hand.new ≡ bound hand.old }
     ensures ran { Ran hand.old.shown
-        (if_found hand.old.pid inode fd looked) result hand.new.shown }
+        (if_found hand.old.pid kind inode fd looked) result hand.new.shown }
 {
     match looked {
         Ok(stat) => {
             if stat.num == inode {
                 Ok(stat)
             } else {
-                by_descriptor(hand, fd)
+                by_descriptor(hand, kind, inode, fd)
             }
         }
-        Err(Fault::Aborted) => Err(Fault::Aborted),
-        Err(Fault::Errno(_)) => by_descriptor(hand, fd),
+        Err(fault) => {
+            if gives_none(&fault) {
+                by_descriptor(hand, kind, inode, fd)
+            } else {
+                Err(fault)
+            }
+        }
     }
 }
 
-/// What an object is like: by its path, where that leads to it still, else by its descriptor.
+/// What an object is like: by its path, where that leads to it still, else by its descriptor. A
+/// directory that has neither is there without a name, and empty; another object is stale.
 pub fn find<K: Machine>(hand: &mut Hand<K>, object: Object) -> Result<Stat, Fault>
     ensures bound { bound hand.new ≡ bound hand.old }
     ensures ran { Ran hand.old.shown
         (finding hand.old.pid object) result hand.new.shown }
 {
-    let Object { inode, path, fd } = object;
+    let Object {
+        inode,
+        kind,
+        path,
+        fd,
+    } = object;
     match path {
         Some(path) => {
             let looked = hand.stat_call(Call::Stat(path));
-            if_found(hand, inode, fd, looked)
+            if_found(hand, kind, inode, fd, looked)
         }
-        None => by_descriptor(hand, fd),
+        None => by_descriptor(hand, kind, inode, fd),
     }
+}
+
+// Sets a length by the path, where that gives this object.
+fn set_length_there<K: Machine>(
+    hand: &mut Hand<K>,
+    inode: Num,
+    path: Twice,
+    length: u32,
+) -> Result<(), Fault>
+    requires { path.second ≡ path.first }
+    ensures bound { bound hand.new ≡ bound hand.old }
+    ensures ran { Ran hand.old.shown
+        (sizing hand.old.pid inode None (Some path.first) length) result hand.new.shown }
+{
+    look_for(hand, path.first, inode)?;
+    set_length_at(hand, path.second, length)
 }
 
 // Sets a length by the descriptor, if there is one, else by the path.
 fn set_length_by<K: Machine>(
     hand: &mut Hand<K>,
+    inode: Num,
     fd: Option<Fd>,
-    path: Option<Bytes>,
+    path: Option<Twice>,
     length: u32,
 ) -> Result<(), Fault>
+    requires { IfSome path (λ p. p.second ≡ p.first) }
     ensures bound { bound hand.new ≡ bound hand.old }
     ensures ran { Ran hand.old.shown
-        (sizing hand.old.pid fd path length) result hand.new.shown }
+        (sizing hand.old.pid inode fd (option_map (λ p. p.first) path) length)
+        result hand.new.shown }
 {
     match fd {
         Some(fd) => set_length(hand, fd, length),
         None => match path {
-            Some(path) => set_length_at(hand, path, length),
-            None => Err(Fault::Errno(Errno::ESTALE)),
+            Some(path) => set_length_there(hand, inode, path, length),
+            None => Err(Fault::Stale),
         },
     }
 }
 
-/// Cuts or grows a file, by its descriptor, else by this path, and tells what it is like then.
+/// Cuts or grows a file, by its descriptor, else by this path, where that gives it, and tells what
+/// it is like then. Where the path gives another object it is stale.
 pub fn resize<K: Machine>(
     hand: &mut Hand<K>,
     object: Object,
-    path: Option<Bytes>,
+    path: Option<Twice>,
     length: u32,
 ) -> Result<Stat, Fault>
+    requires { IfSome path (λ p. p.second ≡ p.first) }
     ensures bound { bound hand.new ≡ bound hand.old }
     ensures ran { Ran hand.old.shown
-        (resizing hand.old.pid object path length) result hand.new.shown }
+        (resizing hand.old.pid object (option_map (λ p. p.first) path) length)
+        result hand.new.shown }
 {
-    set_length_by(hand, object.fd, path, length)?;
+    set_length_by(hand, object.inode, object.fd, path, length)?;
     find(hand, object)
+}
+
+// What comes behind the look whether a path gives a directory.
+fn if_listed<K: Machine>(
+    hand: &mut Hand<K>,
+    heap: Heap,
+    path: Bytes,
+    inode: Num,
+    looked: Result<Stat, Fault>,
+) -> Result<NameList, Fault>
+    ensures bound { bound hand.new ≡ bound hand.old }
+    ensures ran { Ran hand.old.shown
+        (if_listed hand.old.pid path inode looked) result hand.new.shown }
+{
+    match looked {
+        Ok(stat) => {
+            if stat.num == inode {
+                list(hand, heap, path)
+            } else {
+                Ok(NameList::new(Vec::new(heap)))
+            }
+        }
+        Err(fault) => {
+            if gives_none(&fault) {
+                Ok(NameList::new(Vec::new(heap)))
+            } else {
+                Err(fault)
+            }
+        }
+    }
+}
+
+/// The names of a directory, by this path, where that gives it. One that no path leads to is empty.
+pub fn list_at<K: Machine>(
+    hand: &mut Hand<K>,
+    heap: Heap,
+    inode: Num,
+    path: Option<Twice>,
+) -> Result<NameList, Fault>
+    requires { IfSome path (λ p. p.second ≡ p.first) }
+    ensures bound { bound hand.new ≡ bound hand.old }
+    ensures ran { Ran hand.old.shown
+        (listing_at hand.old.pid inode (option_map (λ p. p.first) path)) result hand.new.shown }
+{
+    match path {
+        Some(path) => {
+            let looked = hand.stat_call(Call::Stat(path.first));
+            if_listed(hand, heap, path.second, inode, looked)
+        }
+        None => Ok(NameList::new(Vec::new(heap))),
+    }
 }

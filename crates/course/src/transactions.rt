@@ -1,8 +1,8 @@
 // Processes and their transactions.
-ghost use Rattle.std.specs.Prelude.{◌≡◌};
+ghost use Rattle.std.specs.Prelude.{◌≡◌, IfOk};
 ghost use Rattle.ids.specs.declared.call.Call.TheVariants as asked;
 ghost use Rattle.ids.specs.declared.limits.TheConstants.{DESCRIPTORS};
-ghost use Rattle.course.specs.Hands.{bound};
+ghost use Rattle.course.specs.Hands.{IsChild, bound};
 ghost use Rattle.course.specs.Course.{Ran};
 ghost use Rattle.course.specs.Courses.{beginning, calling, ending, forking, giving_up};
 
@@ -11,14 +11,16 @@ use crate::hand::Hand;
 use ids::{BeginFlags, Call, DESCRIPTORS, Fd, Op, Pid, Reply};
 use machine::Machine;
 
-/// Makes a process with the same descriptors and priority.
+/// Makes a process with the same descriptors and priority. Its number is the next one.
 pub fn fork<K: Machine>(hand: &mut Hand<K>) -> Result<Pid, Fault>
     ensures bound { bound hand.new ≡ bound hand.old }
     ensures ran { Ran hand.old.shown
         (forking hand.old.pid) result hand.new.shown }
+    ensures child { IfOk result (λ child.
+        IsChild hand.old.shown hand.old.pid child hand.new.shown) }
 {
     let reply = hand.ask(Call::Fork);
-    child_in(&reply)
+    child_in(reply)
 }
 
 /// Begins a transaction that does not begin anew after an abort.
@@ -28,7 +30,7 @@ pub fn begin<K: Machine>(hand: &mut Hand<K>) -> Result<(), Fault>
         (beginning hand.old.pid) result hand.new.shown }
 {
     let reply = hand.step(Op::Begin(BeginFlags::none()));
-    begun_in(&reply)
+    begun_in(reply)
 }
 
 /// Commits the transaction of a process.
@@ -38,7 +40,7 @@ pub fn end<K: Machine>(hand: &mut Hand<K>) -> Result<(), Fault>
         (ending hand.old.pid) result hand.new.shown }
 {
     let reply = hand.step(Op::End);
-    committed_in(&reply)
+    committed_in(reply)
 }
 
 /// Gives the transaction of a process up.
@@ -48,7 +50,7 @@ pub fn give_up<K: Machine>(hand: &mut Hand<K>) -> Result<(), Fault>
         (giving_up hand.old.pid) result hand.new.shown }
 {
     let reply = hand.step(Op::Abort { no_restart: true });
-    given_up_in(&reply)
+    given_up_in(reply)
 }
 
 /// Looks at a descriptor that is never open. It touches nothing, and a process whose transaction was

@@ -128,3 +128,14 @@ fn a_refused_request_is_told(rt: HostRuntime) -> Result<(), Fail> {
     assert!(rt; matches!(parse(heap, &bytes), Ok(_)));
     Ok(())
 }
+
+#[test]
+fn a_refused_forget_is_not_answered(rt: HostRuntime) -> Result<(), Fail> {
+    let heap = heap::open(rt.alloc())?;
+    let body = b"\x01\0\0\0\0\0\0\0\x05\0\0\0\0\0\0\0\x02\0\0\0\0\0\0\0";
+    let bytes = request(heap, 42, body)?;
+    heap.refuse(1);
+    assert!(rt; matches!(parse(heap, &bytes), Err(ParseFault::Unanswered)));
+    assert!(rt; matches!(parse(heap, &bytes), Ok(_)));
+    Ok(())
+}

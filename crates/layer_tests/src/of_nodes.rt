@@ -4,6 +4,7 @@ use crate::trees::{
     ROOT, assert_no_path, assert_path, detach, entry, looked_up, lookups, move_entry, number_at,
     spot,
 };
+use ids::Num;
 use nodes::{FIRST_NUMBER, Nodes};
 
 const SECOND_ROOT: u64 = 2;
@@ -152,4 +153,21 @@ fn a_move_onto_a_taken_name(rt: HostRuntime) {
     assert_eq!(rt; number_at(&rt, heap, &nodes, ROOT, b"b"), None);
     assert_no_path(&rt, heap, &nodes, moved);
     drop(nodes);
+}
+
+#[test]
+fn a_number_that_is_used_again_is_another_object(rt: HostRuntime) {
+    let heap = heap::open(rt.alloc()).expect(&rt, "memory");
+    let mut nodes = Nodes::new(heap);
+    let first = looked_up(&rt, heap, &mut nodes, ROOT, b"a", 5);
+    let other = looked_up(&rt, heap, &mut nodes, ROOT, b"b", 6);
+    nodes.note_made(Num(5)).expect(&rt, "memory");
+    let current = [nodes.is_current(first), nodes.is_current(other)];
+    // The same name and the same number, and not the same object.
+    let second = looked_up(&rt, heap, &mut nodes, ROOT, b"a", 5);
+    let later = [nodes.is_current(first), nodes.is_current(second)];
+    drop(nodes);
+    assert_eq!(rt; [first, other, second], [16, 17, 18]);
+    assert_eq!(rt; current, [false, true]);
+    assert_eq!(rt; later, [false, true]);
 }

@@ -3,7 +3,7 @@
 use crate::refused::is_refused;
 use crate::trees::{ROOT, chain, detach, entry, looked_up, lookups, number_at, path_length, spot};
 use heap::Heap;
-use ids::Num;
+use ids::{Kind, Num};
 use nodes::{DirectoryEntry, FIRST_NUMBER, Nodes, Spot};
 use std::process::Abort;
 
@@ -22,6 +22,8 @@ enum Step {
     Reserve,
     // `A` gets another name.
     Move,
+    // Another object is made with the number of `A`'s.
+    Make,
 }
 
 // The number of the node of a name.
@@ -45,6 +47,7 @@ fn assert_filled(rt: &impl Abort, heap: Heap, nodes: &Nodes, end: u8) {
         assert_eq!(rt; number_at(rt, heap, nodes, ROOT, &[name]), Some(number));
         assert_eq!(rt; lookups(nodes, number), Some(1));
         assert_eq!(rt; path_length(rt, heap, nodes, number), Some(2));
+        assert!(rt; nodes.is_current(number));
     }
     assert_eq!(rt; number_at(rt, heap, nodes, ROOT, LONG), None);
     assert_eq!(rt; lookups(nodes, number_of(end)), None);
@@ -54,7 +57,7 @@ fn assert_filled(rt: &impl Abort, heap: Heap, nodes: &Nodes, end: u8) {
 fn is_looked_up(rt: &impl Abort, heap: Heap, nodes: &mut Nodes, request: u64) -> bool {
     let spot = spot(rt, heap, ROOT, LONG);
     heap.refuse(request);
-    let done = nodes.look_up(spot, Num(9)).is_ok();
+    let done = nodes.look_up(spot, Num(9), Kind::File).is_ok();
     heap.refuse(0);
     done
 }
@@ -62,6 +65,13 @@ fn is_looked_up(rt: &impl Abort, heap: Heap, nodes: &mut Nodes, request: u64) ->
 fn is_reserved(heap: Heap, nodes: &mut Nodes, request: u64) -> bool {
     heap.refuse(request);
     let done = nodes.reserve().is_ok();
+    heap.refuse(0);
+    done
+}
+
+fn is_made(heap: Heap, nodes: &mut Nodes, request: u64) -> bool {
+    heap.refuse(request);
+    let done = nodes.note_made(Num(b'A' as usize)).is_ok();
     heap.refuse(0);
     done
 }
@@ -81,6 +91,7 @@ fn is_step_done(rt: &impl Abort, heap: Heap, nodes: &mut Nodes, step: Step, requ
         Step::LookUp => is_looked_up(rt, heap, nodes, request),
         Step::Reserve => is_reserved(heap, nodes, request),
         Step::Move => is_moved(rt, heap, nodes, request),
+        Step::Make => is_made(heap, nodes, request),
     }
 }
 
@@ -97,6 +108,10 @@ fn assert_done(rt: &impl Abort, heap: Heap, nodes: &Nodes, step: Step, end: u8) 
             assert_eq!(rt; found, Some(FIRST_NUMBER));
             assert_eq!(rt; number_at(rt, heap, nodes, ROOT, b"A"), None);
             assert_eq!(rt; path_length(rt, heap, nodes, FIRST_NUMBER), Some(27));
+        }
+        Step::Make => {
+            assert!(rt; !nodes.is_current(FIRST_NUMBER));
+            assert_eq!(rt; number_at(rt, heap, nodes, ROOT, b"A"), Some(FIRST_NUMBER));
         }
     }
 }
@@ -140,12 +155,13 @@ fn each_request_of_a_step_is_refused_once(rt: HostRuntime) {
     let looked_up = most_refused(&rt, heap, Step::LookUp, b'A');
     let reserved = most_refused(&rt, heap, Step::Reserve, b'A');
     let moved = most_refused(&rt, heap, Step::Move, b'B');
-    // One table grows for a move, and both at once for a look-up.
+    let made = most_refused(&rt, heap, Step::Make, b'B');
+    // One table grows for a move, both at once for a look-up, and those of births beside them for room.
     assert!(rt;
-        moved > 1 && moved < looked_up && looked_up < 20,
-        "{moved} {looked_up}"
+        moved > 1 && moved < looked_up && looked_up < reserved && reserved < 20,
+        "{moved} {looked_up} {reserved}"
     );
-    assert_eq!(rt; reserved, looked_up);
+    assert_eq!(rt; looked_up.wrapping_add(made), reserved);
 }
 
 // The step is done in room that was made, although the first request is refused.
@@ -164,6 +180,7 @@ fn room_that_was_made_is_enough(rt: HostRuntime) {
         assert_done_in_room(&rt, heap, Step::LookUp, end);
         assert_done_in_room(&rt, heap, Step::Reserve, end);
         assert_done_in_room(&rt, heap, Step::Move, end);
+        assert_done_in_room(&rt, heap, Step::Make, end);
     }
 }
 

@@ -1,6 +1,6 @@
 // Nodes of a mount that are looked up, moved and taken away by hand.
 use heap::Heap;
-use ids::Num;
+use ids::{Kind, Num};
 use nodes::{DirectoryEntry, Nodes, Spot};
 use std::process::Abort;
 
@@ -25,7 +25,9 @@ pub(crate) fn looked_up(
     inode: usize,
 ) -> u64 {
     let spot = spot(rt, heap, parent, name);
-    nodes.look_up(spot, Num(inode)).expect(rt, "memory")
+    nodes
+        .look_up(spot, Num(inode), Kind::File)
+        .expect(rt, "memory")
 }
 
 // The number to which an entry leads.

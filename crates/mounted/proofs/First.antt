@@ -1,18 +1,56 @@
--- A kernel of which nothing was asked yet, by its log.
-use Rattle.std.proofs.Common.{◌≡◌, [], Result, Ok, Err, IfOk, ap, ◌∙◌}
-use Rattle.history.specs.Log.{Log}
-use Rattle.ids.specs.declared.limits.Limits.{Limits}
-use Rattle.machine.specs.Shown.{Shown}
-use Rattle.mounted.specs.First.{IsFirst}
+-- A kernel with a process of each priority, of which nothing was asked yet, is sound.
+use Rattle.std.proofs.Common.{◌≡◌, ℕ, zero, suc, ◌+◌, ◌<◌, arith, List, [], ◌∷◌, refl, sym, ap, subst, ◌∙◌}
+use Rattle.std.specs.Prelude.{Some, None}
+use Rattle.std.specs.Ordering.{nat_cmp}
+use Rattle.model.specs.Changes.{process_of}
+use Rattle.model.specs.FiniteMap as map
+use Rattle.model.specs.Moments.{after, start}
+use Rattle.model.specs.State.{Kernel}
+use Rattle.ids.specs.declared.entry.Entry.{Entry}
+use Rattle.machine.specs.Shown.{Kept, Shown, setup_of}
+use Rattle.course.specs.Hands.{made_in}
+use Rattle.mount_requests.specs.Seen.{IsUnknown, Seen}
+use Rattle.mounted.specs.Sound.{IsSound}
 
--- what follows of what was made
-pub if_so : {A E : Type 0} (r : Result A E) (P Q : A → Type 0) → ((x : A) → P x → Q x) → IfOk r P → IfOk r Q
-if_so (Ok x) P Q f h = f x h
-if_so (Err e) P Q f h = tt
+abbrev levels : List ℕ
+levels = 0 ∷ 1 ∷ 2 ∷ 3 ∷ 4 ∷ 5 ∷ 6 ∷ 7 ∷ []
 
-pub first : (v : Shown) (limits : Limits) (log : Log) → log.entries ≡ [] → log.limit ≡ limits.entries → log.largest ≡ limits.file_bytes → v.log ≡ log → IsFirst limits v
-first v limits log a b d is = record {
-  entries = ap (λ (l : Log). l.entries) is ∙ a;
-  limit = ap (λ (l : Log). l.limit) is ∙ b;
-  files = ap (λ (l : Log). l.largest) is ∙ d;
-}
+abbrev first_state : ℕ → Kernel
+first_state largest = start 0 (record { priorities = levels; largest = largest })
+
+state_is : (v : Shown) → Kept v → v.log.entries ≡ [] → v.log.priorities ≡ levels → v.state ≡ first_state v.log.largest
+state_is v kept none eight =
+    kept.state
+    ∙ ap (λ (es : List Entry). (after 0 (setup_of v.log) es).committed) none
+    ∙ ap (λ (ps : List ℕ). start 0 (record { priorities = ps; largest = v.log.largest })) eight
+
+-- the first process of each priority
+first_levels : (largest level : ℕ) → level < 8 → (process_of (first_state largest) (level + 1)).priority ≡ level
+unfolding map.computes
+first_levels largest zero low = refl
+first_levels largest (suc zero) low = refl
+first_levels largest (suc (suc zero)) low = refl
+first_levels largest (suc (suc (suc zero))) low = refl
+first_levels largest (suc (suc (suc (suc zero)))) low = refl
+first_levels largest (suc (suc (suc (suc (suc zero))))) low = refl
+first_levels largest (suc (suc (suc (suc (suc (suc zero)))))) low = refl
+first_levels largest (suc (suc (suc (suc (suc (suc (suc zero))))))) low = refl
+first_levels largest (suc (suc (suc (suc (suc (suc (suc (suc level)))))))) low = absurd (omega (arith, low))
+
+nothing : {X : Type 0} {m : map.FinMap nat_cmp X} (q : ℕ) (x : X) → m ≡ map.empty → map.get m q ≡ Some x → ⊥
+nothing {X} {m} q x none there = let is : None ≡ Some x = sym (map.get-empty nat_cmp q) ∙ (sym (ap (λ (n : map.FinMap nat_cmp X). map.get n q) none) ∙ there) in cc
+
+pub first_sound : (s : Seen) (v : Shown) → IsUnknown s → Kept v → v.log.entries ≡ [] → v.log.priorities ≡ levels → IsSound s v
+first_sound s v unknown kept none eight =
+    let is = state_is v kept none eight in record {
+      views = λ number view there. absurd (nothing number view unknown.views there);
+      levels = λ number view there. absurd (nothing number view unknown.views there);
+      made = λ pid role there. absurd (nothing pid role unknown.roles there);
+      waiting = λ pid level there. absurd (nothing pid _ unknown.roles there);
+      numbers = λ number view there. absurd (nothing number view unknown.views there);
+      first = (let made : made_in v ≡ 8 = ap (λ (k : Kernel). k.made) is in omega (arith, made));
+      levels_first = λ level low. ap (λ (k : Kernel). (process_of k (level + 1)).priority) is ∙ first_levels v.log.largest level low;
+    }
+
+pub first_at : (s : Seen) {v w : Shown} → w ≡ v → IsUnknown s → Kept v → v.log.entries ≡ [] → v.log.priorities ≡ levels → IsSound s w
+first_at s {v} same unknown kept none eight = subst (λ (x : Shown). IsSound s x) (sym same) (first_sound s v unknown kept none eight)

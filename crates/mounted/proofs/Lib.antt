@@ -1,9 +1,15 @@
-mod Answering
+pub mod Sound
+mod Maps
+mod Closing
+mod Staying
 mod Beginning
-mod Ending
-mod First
-mod Ordering
-mod Reaching
-mod Replying
 mod Stepping
-mod Telling
+mod Choosing
+mod Ordering
+mod Releases
+mod Viewing
+mod Answered
+mod First
+mod Leaving
+mod Asking
+mod Outcomes

@@ -1,136 +1,53 @@
--- Who steps for a request, by the view of its node.
-use Rattle.std.proofs.Common.{◌≡◌, ◌≢◌, ◌⊎◌, ◌==◌, ℕ, Bool, true, false, List, Option, Some, None, inl, inr, refl, sym, ap, subst, ◌∙◌, ne_eqb}
-use Rattle.std.specs.Prelude.{if◌then◌else◌}
-use Rattle.std.specs.Prelude.{Result, Ok, Err, IfErr, IfOk, IsErrAnd}
+-- What a process has done since it was bound, and what was done by several.
+use Rattle.std.proofs.Common.{◌≡◌, ℕ, List, [], ◌++◌, sym, ap, subst, ◌∙◌, append_assoc}
+use Rattle.std.proofs.lemmas.List.{append-nil}
 use Rattle.ids.specs.declared.entry.Entry.{Entry}
-use Rattle.fuse.specs.declared.errno.Errno.TheVariants.{ESTALE}
-use Rattle.fuse.specs.declared.reply.Reply.{Reply}
-use Rattle.fuse.specs.declared.request.Operation.{Operation}
 use Rattle.machine.specs.Shown.{Shown}
-use Rattle.machine.specs.Steps.{forgetting}
-use Rattle.nodes.specs.Tables.{root_of}
-use Rattle.course.specs.Course.{Ran}
-use Rattle.course.specs.Courses.{forking}
-use Rattle.course.specs.Faults.{error}
-use Rattle.course.specs.Hands.{Held, IsSince}
+use Rattle.course.specs.Course.{Course, Ran}
+use Rattle.course.specs.Hands.{Held, IsChild, IsSince, Stand}
 use Rattle.course.specs.declared.fault.Fault.{Fault}
-use Rattle.std.specs.BTreeMap.{BTreeMap}
-use Rattle.mounted.specs.Views.{numbered}
-use Rattle.mounted.specs.Found.{and_then, found_or, stepper_at, stepper_by, stepper_in, stepper_of}
-use Rattle.mounted.specs.Numbers.{class_of, view_of}
-use Rattle.mounted.specs.Requests.{IsAnswered}
-use Rattle.mounted.specs.Processes.{IsLackingBy, IsReadyBy}
-use Rattle.mounted.specs.Served.{IsChosen, IsLacking, IsNoted, IsReady, IsToldOf, Lacking, Ready, ServesAt, ServesBy, ServesIn, ServesPlain, ServesTree, ServesView, chosen, is_of_node}
-use Rattle.mounted.specs.Served as served
-use Rattle.mounted.specs.Steppers.{IsStepper, StaysInView, is_release}
-use Rattle.mounted.specs.declared.tables.Stepper.{Stepper}
-use Rattle.mounted.specs.declared.tables.Tables.{Tables}
-use Rattle.mounted.specs.declared.views.State.{State}
-use Rattle.mounted.specs.declared.views.State.TheVariants.{Live, Aborted, Committed, GivenUp}
-use Rattle.mounted.specs.declared.views.View.{View}
-use Rattle.mounted.proofs.Answering.{answered_as, is_err}
+use Rattle.std.specs.Prelude.{IfOk, Ok, Result}
+use Rattle.mounted.specs.Server.{HasGrown}
 
-same_ok : {A : Type 0} (r : Result A Fault) {x y : A} → r ≡ Ok x → r ≡ Ok y → x ≡ y
-same_ok r a b = cc
+-- since when, by what stays while a process is bound
+module _ {p q : ℕ} {a b v : Shown} (kept : ◌≡◌ {A = ℕ × Shown} (p, a) (q, b)) (since : b ≡ v) where
+  began : a ≡ v
+  began = ap (λ (h : ℕ × Shown). h.1) kept ∙ since
 
-no_error : {A : Type 0} (r : Result A Fault) {x : A} {e : Fault} → r ≡ Ok x → r ≡ Err e → ⊥
-no_error r a b = cc
+  pub stands_since : {w : Shown} → Stand a w → Stand v w
+  stands_since {w} stand = subst (λ (x : Shown). Stand x w) began stand
 
--- a process that steps in this view
-pub record Steps (views : BTreeMap ℕ View) (view : ℕ) (s : Stepper) : Type 0 where
-  pub here : s.view ≡ view
-  pub steps : IsStepper views view s.pid
+  pub grown_since : {w : Shown} → IsSince p a.log.entries w.log.entries → HasGrown v w
+  grown_since s = record { more = s.more; is = s.is ∙ ap (λ (x : Shown). x.log.entries ++ s.more) began }
 
-live : (views : BTreeMap ℕ View) (view : ℕ) (v : View) (state : State) (s : Stepper) → numbered views view ≡ Some v → v.state ≡ state → Ok s ≡ stepper_by view v.pid state → Steps views view s
-live views view v Live s is state h = record {
-  here = ap (λ (z : Stepper). z.view) (same_ok _ refl h);
-  steps = record { found = v; is = is; live = state; pid = sym (ap (λ (z : Stepper). z.pid) (same_ok _ refl h)) };
-}
-live views view v Aborted s is state h = absurd (no_error _ refl h)
-live views view v Committed s is state h = absurd (no_error _ refl h)
-live views view v GivenUp s is state h = absurd (no_error _ refl h)
+pub grown_same : (v : Shown) → HasGrown v v
+grown_same v = record { more = []; is = sym (append-nil v.log.entries) }
 
-of_view : (views : BTreeMap ℕ View) (view : ℕ) (o : Option View) (s : Stepper) → numbered views view ≡ o → Ok s ≡ stepper_of view o → Steps views view s
-of_view views view (Some v) s is h = live views view v v.state s is refl h
-of_view views view None s is h = absurd (no_error _ refl h)
+pub grown_is : {v w : Shown} → w ≡ v → HasGrown v w
+grown_is {v} e = subst (λ (x : Shown). HasGrown v x) (sym e) (grown_same v)
 
--- the process of another view than that of the plain tree
-other : (views : BTreeMap ℕ View) (view : ℕ) (s : Stepper) (b : Bool) → (view == 0) ≡ b → b ≡ false → Ok s ≡ stepper_in views view → Steps views view s
-other views view s true is apart h = absurd cc
-other views view s false is apart h = of_view views view (numbered views view) s refl (h ∙ ap (λ (b : Bool). if b then Ok (record { view = 0; pid = 1 }) else stepper_of view (numbered views view)) is)
+pub grown_then : {u v w : Shown} → HasGrown u v → HasGrown v w → HasGrown u w
+grown_then {u} a b = record { more = a.more ++ b.more; is = b.is ∙ ap (λ (es : List Entry). es ++ b.more) a.is ∙ append_assoc u.log.entries a.more b.more }
 
--- what is told of a node below this view
-told : (t : Tables) (node view : ℕ) (s : Stepper) → view_of (root_of t.nodes.table node) ≡ Some view → view ≢ 0 → Ok s ≡ stepper_at t node → Steps t.views.each view s
-told t node view s is apart h =
-    other t.views.each view s (view == 0) refl (ne_eqb view 0 apart)
-    (h ∙ ap (λ (o : Option ℕ). and_then (found_or (error ESTALE) o) (stepper_in t.views.each)) is)
+-- a course of a process that goes by another name too, from a state that does
+pub ran_by : {A : Type 0} (c : ℕ → Course A) {p pid : ℕ} {u v w : Shown} {r : A} → p ≡ pid → u ≡ v → Ran u (c p) r w → Ran v (c pid) r w
+ran_by c {p} {pid} {u} {v} {w} {r} is same h = subst (λ (x : Shown). Ran x (c pid) r w) same (subst (λ (q : ℕ). Ran u (c q) r w) is h)
 
--- nobody steps
-pub nobody : (t : Tables) (node : ℕ) {old new : List Entry} → new ≡ old → StaysInView t.nodes.table t.views.each node old new
-nobody t node same tree view is apart = inl same
+-- the same, with an outcome that goes by another name
+pub ran_as : {A : Type 0} (c : ℕ → Course A) {p pid : ℕ} {u v w : Shown} {r q : A} → p ≡ pid → u ≡ v → r ≡ q → Ran u (c p) r w → Ran v (c pid) q w
+ran_as {A} c {p} {pid} {u} {v} {w} {r} {q} is same told h = subst (λ (x : A). Ran v (c pid) x w) told (ran_by c is same h)
 
--- the process of the view's transaction steps
-pub in_view : (t : Tables) (node : ℕ) (s : Stepper) {old new : List Entry} → Ok s ≡ stepper_at t node → IsSince s.pid old new → StaysInView t.nodes.table t.views.each node old new
-in_view t node s h since tree view is apart = inr (s.pid, (told t node view s is apart h).steps, since)
+-- a child of a process that goes by another name too
+pub child_as : {p maker pid : ℕ} {u v w : Shown} {r : Result ℕ Fault} → IfOk r (λ child. IsChild u p child w) → r ≡ Ok pid → p ≡ maker → u ≡ v → IsChild v maker pid w
+child_as {p} {maker} {pid} {u} {v} {w} h told is same = subst (λ (x : Shown). IsChild x maker pid w) same (subst (λ (q : ℕ). IsChild u q pid w) is (subst (λ (z : Result ℕ Fault). IfOk z (λ child. IsChild u p child w)) told h))
 
--- the node is in the plain tree
-pub in_plain : (t : Tables) (node : ℕ) (s : Stepper) {old new : List Entry} → Ok s ≡ stepper_at t node → s.view ≡ 0 → StaysInView t.nodes.table t.views.each node old new
-in_plain t node s h zero tree view is apart = absurd (apart (sym (told t node view s is apart h).here ∙ zero))
+-- nothing is done behind it
+module _ {h k : Held} (same : h ≡ k) where
+  pub ran_into : {A : Type 0} (c : ℕ → Course A) {p pid : ℕ} {u v : Shown} {r : A} → p ≡ pid → u ≡ v → Ran u (c p) r k.shown → Ran v (c pid) r h.shown
+  ran_into c {p} {pid} {u} {v} {r} is at ran = subst (λ (x : Held). Ran v (c pid) r x.shown) (sym same) (ran_by c is at ran)
 
--- ---- how a request is served then
+  pub stands_into : {v : Shown} → Stand v k.shown → Stand v h.shown
+  stands_into {v} stand = subst (λ (x : Held). Stand v x.shown) (sym same) stand
 
-pub refuses : (t later : Tables) (node : ℕ) (operation : Operation) {e : Fault} (old new : Shown) (r : Result Reply Fault) → Err e ≡ stepper_at t node → new ≡ old → r ≡ Err e → ServesTree t later node operation old new r
-refuses t later node operation {e} old new r h same is = subst (λ (z : Result Stepper Fault). ServesBy z t later node operation old new r) h (is, same)
-
-pub serves_plain : (t later : Tables) (node : ℕ) (operation : Operation) (s : Stepper) (old new : Shown) (r : Result Reply Fault) → Ok s ≡ stepper_at t node → (s.view == 0) ≡ true → ServesPlain t later node operation old new r → ServesTree t later node operation old new r
-serves_plain t later node operation s old new r h is served =
-    subst (λ (z : Result Stepper Fault). ServesBy z t later node operation old new r) h
-    (subst (λ (b : Bool). ServesIn b t later s node operation old new r) (sym is) served)
-
-pub serves_view : (t later : Tables) (node : ℕ) (operation : Operation) (s : Stepper) (old new : Shown) (r : Result Reply Fault) → Ok s ≡ stepper_at t node → (s.view == 0) ≡ false → ServesView t later s.view s.pid node operation old new r → ServesTree t later node operation old new r
-serves_view t later node operation s old new r h is served =
-    subst (λ (z : Result Stepper Fault). ServesBy z t later node operation old new r) h
-    (subst (λ (b : Bool). ServesIn b t later s node operation old new r) (sym is) served)
-
--- the process of a view served it, and what that came to was noted
-pub serves_in : (t served later : Tables) (view node : ℕ) {pid process : ℕ} (operation : Operation) {old before : Shown} {h k : Held} (r : Result Reply Fault) → process ≡ pid → before ≡ old → k ≡ h → IsAnswered t served process node operation before h.shown r → IsNoted served later view r → ServesView t later view pid node operation old k.shown r
-serves_in t served later view node {pid} operation {old} {h = h} r a b same answers noted = record {
-  served = served;
-  answers = subst (λ (x : Held). IsAnswered t served pid node operation old x.shown r) (sym same) (answered_as t served node operation h.shown r a b answers);
-  noted = noted;
-}
-
--- ---- processes
-
-pub ready : (maker : ℕ) {old new : Shown} (r : Result ℕ Fault) → Ran old (forking maker) r new → IfOk r (λ pid. IsReadyBy maker old pid new)
-ready maker (Ok pid) h = inr h
-ready maker (Err e) h = tt
-
-pub lacking : (maker : ℕ) {old new : Shown} (r : Result ℕ Fault) → Ran old (forking maker) r new → IfErr r (λ e. IsLackingBy maker old e new)
-lacking maker (Ok pid) h = tt
-lacking maker (Err e) h = inl h
-
--- a request of the plain tree, by the tables as they were
-pub by_process : (t u later : Tables) {pid process : ℕ} (node : ℕ) (operation : Operation) {old mid before new : Shown} (r : Result Reply Fault) → u ≡ record t { pool = u.pool } → process ≡ pid → before ≡ mid → IsChosen (chosen t node operation) pid → IsReady old pid mid → IsAnswered u later process node operation before new r → ServesPlain t later node operation old new r
-by_process t u later {pid} {process} node operation {old} {mid} {before} {new} r same a b is_chosen is_ready h =
-    Ready pid u.pool mid is_chosen is_ready
-    (answered_as (record t { pool = u.pool }) later node operation new r a b (subst (λ (x : Tables). IsAnswered x later process node operation before new r) same h))
-
-pub without_process : (t later : Tables) (node : ℕ) (operation : Operation) {e : Fault} {old new : Shown} (r : Result Reply Fault) → IsErrAnd r (λ y. y ≡ e) → IsLacking old e new → ServesPlain t later node operation old new r
-without_process t later node operation {e} r is h = Lacking e h (is_err r is)
-
--- ---- what was told
-
-pub in_view_by : (t : Tables) (node : ℕ) {old new : List Entry} {o p : Operation} → o ≡ p → (is_release o ≡ false → StaysInView t.nodes.table t.views.each node old new) → is_release p ≡ false → StaysInView t.nodes.table t.views.each node old new
-in_view_by t node {old} {new} {o} {p} is stays = subst (λ (x : Operation). is_release x ≡ false → StaysInView t.nodes.table t.views.each node old new) is stays
-
-pub told_of : (t later : Tables) (node : ℕ) {old new : Shown} {o p : Operation} (outcome : Result Reply Fault) (r : Reply) → o ≡ p → r ≡ served.told outcome → (is_of_node o ≡ true → ServesAt (class_of node) t later node o old new outcome) → is_of_node p ≡ true → IsToldOf t later node p old new (Some r)
-told_of t later node {old} {new} {o} {p} outcome r is told serves of_node = record {
-  outcome = outcome;
-  serves = subst (λ (x : Operation). is_of_node x ≡ true → ServesAt (class_of node) t later node x old new outcome) is serves of_node;
-  tells = ap Some told;
-}
-
-pub if_forgotten : (r : Bool) {old new : Shown} → (r ≡ true → new ≡ forgetting old) → (r ≡ false → new ≡ old) → (new ≡ old) ⊎ (new ≡ forgetting old)
-if_forgotten true all none = inr (all refl)
-if_forgotten false all none = inl (none refl)
+  pub grown_into : {v : Shown} → HasGrown v k.shown → HasGrown v h.shown
+  grown_into {v} grown = subst (λ (x : Held). HasGrown v x.shown) (sym same) grown

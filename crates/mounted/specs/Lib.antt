@@ -1,13 +1,6 @@
-pub mod First
-pub mod Numbers
-pub mod Views
-pub mod Found
-pub mod Answers
-pub mod Told
-pub mod Requests
-pub mod Steppers
-pub mod Processes
 pub mod Controls
+pub mod First
 pub mod Served
-pub mod Aborts
-pub mod WholeLists
+pub mod Server
+pub mod Sound
+pub mod Steppers

@@ -1,147 +1,288 @@
--- How a request about a node is served.
-use Rattle.std.specs.Prelude.{◌≡◌, ◌⊎◌, ℕ, ◌==◌, Bool, true, false, Option, Some, None}
-use Rattle.std.specs.Prelude.{option_map, option_and_then, Result, Ok, Err, if◌then◌else◌}
+-- How each request is served: by which process, and what is known then.
+use Rattle.std.specs.Prelude.{◌≡◌, ◌⊎◌, ℕ, ◌==◌, ◌<◌, ◌^◌, ◌&&◌, nat_lt, length, Bool, true, false}
+use Rattle.std.specs.Prelude.{Option, Some, None}
+use Rattle.std.specs.Prelude.{option_map, option_and_then, Result, Ok, Err, if◌then◌else◌, List, [], ◌∷◌}
+use Rattle.model.specs.FiniteMap as map
+use Rattle.ids.specs.declared.call.Call.TheVariants as call
+use Rattle.ids.specs.declared.limits.TheConstants.{DESCRIPTORS}
 use Rattle.fuse.specs.declared.errno.Errno.TheVariants as errno
+use Rattle.fuse.specs.declared.forgets.Forget.{Forget}
 use Rattle.fuse.specs.declared.reply.Reply.{Reply}
 use Rattle.fuse.specs.declared.reply.Reply.TheVariants as reply
 use Rattle.fuse.specs.declared.request.Operation.{Operation}
 use Rattle.fuse.specs.declared.request.Operation.TheVariants as asked
 use Rattle.machine.specs.Shown.{Shown}
 use Rattle.machine.specs.Steps.{forgetting}
+use Rattle.nodes.specs.Tables.{forgotten}
+use Rattle.course.specs.Course.{Ran}
+use Rattle.course.specs.Courses.{doing, forking}
+use Rattle.course.specs.Hands.{IsChild}
 use Rattle.course.specs.declared.fault.Fault.{Fault}
 use Rattle.course.specs.declared.fault.Fault.TheVariants as fault
-use Rattle.mounted.specs.Found.{file_at, handle_of, inode_of, stepper_at}
-use Rattle.mounted.specs.Controls.{ServesControl, ServesTransactions}
-use Rattle.mounted.specs.Numbers.{class_of}
-use Rattle.mounted.specs.Processes.{IsLackingBy, IsReadyBy}
-use Rattle.mounted.specs.Requests.{IsAnswered, Tells}
-use Rattle.mounted.specs.Views.{IsOver}
-use Rattle.mounted.specs.declared.numbers.Class.{Class}
-use Rattle.mounted.specs.declared.numbers.Class.TheVariants.{Tree, Transactions, Control}
-use Rattle.mounted.specs.declared.open_files.OpenFile.{OpenFile}
-use Rattle.mounted.specs.declared.pool.Pool.{Pool}
-use Rattle.mounted.specs.declared.tables.Stepper.{Stepper}
-use Rattle.mounted.specs.declared.tables.Tables.{Tables}
+use Rattle.mount_tables.specs.Files.{closed_once, key_of, unlinked}
+use Rattle.mount_tables.specs.Numbers.{class_of}
+use Rattle.mount_tables.specs.Processes.{let_go}
+use Rattle.mount_tables.specs.declared.views.View.{View}
+use Rattle.mount_tables.specs.declared.numbers.Class.{Class}
+use Rattle.mount_tables.specs.declared.numbers.Class.TheVariants.{Tree, Transactions, Control}
+use Rattle.mount_tables.specs.declared.open_files.OpenFile.{OpenFile}
+use Rattle.mount_tables.specs.declared.processes.Role.{Role}
+use Rattle.mount_tables.specs.declared.processes.Role.TheVariants.{Holder}
+use Rattle.mount_tables.specs.declared.views.State.{State}
+use Rattle.mount_tables.specs.declared.views.State.TheVariants as state
+use Rattle.mount_requests.specs.Failures.{error, failure_of}
+use Rattle.mount_requests.specs.Found.{file_at, handle_at, stepper_at}
+use Rattle.mount_requests.specs.Requests.{IsAnswered, Tells}
+use Rattle.mount_requests.specs.Seen.{Seen}
+use Rattle.mount_requests.specs.declared.failure.Failure.{Failure}
+use Rattle.mount_requests.specs.declared.failure.Failure.TheVariants as failure
+use Rattle.mount_requests.specs.declared.tables.Stepper.{Stepper}
+use Rattle.mounted.specs.Controls.{ServesControl, ServesTransactions, with_aborted}
 
 -- ---- the plain tree
 
 -- the process that has a file of the plain tree open, and else the first one
-abbrev pub process_by : Option OpenFile → ℕ
-process_by (Some file) = if file.view == 0 then file.pid else 1
-process_by None = 1
+abbrev pub is_holder : Option Role → Bool
+is_holder (Some (Holder used)) = true
+is_holder _ = false
+
+abbrev pub process_by : Seen → Option OpenFile → ℕ
+process_by s (Some file) =
+    if file.view == 0 && is_holder (map.get s.roles file.pid) then file.pid else 1
+process_by s None = 1
 
 -- a file of the plain tree that is open
-abbrev pub plain_file : Tables → ℕ → Option OpenFile
-plain_file t node = option_and_then (file_at t) (handle_of t 0 (inode_of t node))
+abbrev pub plain_file : Seen → ℕ → Option OpenFile
+plain_file s node = option_and_then (file_at s) (handle_at s 0 node)
 
 -- The process by which a request steps in the plain tree: one that has the file open, or the first
 -- one. Where a file is to be opened it is any that has a descriptor free.
-abbrev pub chosen : Tables → ℕ → Operation → Option ℕ
-chosen t node (asked.Open flags) = option_map (λ (f : OpenFile). f.pid) (plain_file t node)
-chosen t node (asked.Create name flags mode) = None
-chosen t node (asked.MkNod name mode) = None
-chosen t node (asked.GetAttr handle) = Some (process_by (plain_file t node))
-chosen t node (asked.SetAttr changes) = Some (process_by (plain_file t node))
-chosen t node (asked.Read handle offset size flags) = Some (process_by (file_at t handle))
-chosen t node (asked.Write handle offset how flags bytes) = Some (process_by (file_at t handle))
-chosen t node (asked.Lseek handle offset whence) = Some (process_by (file_at t handle))
-chosen t node _ = Some 1
+abbrev pub chosen : Seen → ℕ → Operation → Option ℕ
+chosen s node (asked.Open flags) =
+    option_map (λ (f : OpenFile). process_by s (Some f)) (plain_file s node)
+chosen s node (asked.Create name flags mode) = None
+chosen s node (asked.MkNod name mode) = None
+chosen s node (asked.GetAttr handle) = Some (process_by s (plain_file s node))
+chosen s node (asked.SetAttr changes) = Some (process_by s (plain_file s node))
+chosen s node (asked.Read handle offset size flags) = Some (process_by s (file_at s handle))
+chosen s node (asked.Write handle offset how flags bytes) = Some (process_by s (file_at s handle))
+chosen s node (asked.Lseek handle offset whence) = Some (process_by s (file_at s handle))
+chosen s node _ = Some 1
 
-abbrev pub IsChosen : Option ℕ → ℕ → Type 0
-IsChosen (Some process) pid = pid ≡ process
-IsChosen None pid = Unit {0}
+-- A process was there that holds files of the plain tree and has a descriptor free, or the first one
+-- made one.
+pub data IsHolder (s : Seen) (old : Shown) (pid : ℕ) (known : Seen) (new : Shown) : Type 0 where
+  Free : (used : ℕ) → map.get s.roles pid ≡ Some (Holder used) → used < DESCRIPTORS → known ≡ s
+      → new ≡ old → IsHolder s old pid known new
+  Made : Ran old (forking 1) (Ok pid) new → IsChild old 1 pid new
+      → known ≡ record s { roles = map.insert s.roles pid (Holder 0) } → IsHolder s old pid known new
 
--- the first one makes those of the plain tree
-abbrev pub IsReady : Shown → ℕ → Shown → Type 0
-IsReady old pid new = IsReadyBy 1 old pid new
+-- no process could be made
+abbrev pub Lacks : ℕ → Seen → Seen → Shown → Shown → Failure → Type 0
+Lacks maker s later old new e = (f : Fault) × Ran old (forking maker) (Err f) new × (later ≡ s)
+    × (e ≡ failure_of f)
 
-abbrev pub IsLacking : Shown → Fault → Shown → Type 0
-IsLacking old e new = IsLackingBy 1 old e new
+-- or memory was refused before
+abbrev pub IsLacking : Seen → Seen → Shown → Shown → Failure → Type 0
+IsLacking s later old new e =
+    ((new ≡ old) × (later ≡ s) × (e ≡ error errno.ENOMEM)) ⊎ Lacks 1 s later old new e
 
-pub data ServesPlain (t later : Tables) (node : ℕ) (operation : Operation) (old new : Shown)
-    (result : Result Reply Fault) : Type 0 where
-  Lacking : (e : Fault) → IsLacking old e new → result ≡ Err e
-      → ServesPlain t later node operation old new result
-  Ready : (pid : ℕ) (pool : Pool) (mid : Shown) → IsChosen (chosen t node operation) pid
-      → IsReady old pid mid
-      → IsAnswered (record t { pool = pool }) later pid node operation mid new result
-      → ServesPlain t later node operation old new result
+abbrev pub IsReady : Option ℕ → Seen → Shown → ℕ → Seen → Shown → Type 0
+IsReady (Some process) s old pid known new = (pid ≡ process) × (known ≡ s) × (new ≡ old)
+IsReady None s old pid known new = IsHolder s old pid known new
+
+pub data ServesPlain (s later : Seen) (node : ℕ) (operation : Operation) (old new : Shown)
+    (result : Result Reply Failure) : Type 0 where
+  Refused : new ≡ old → later ≡ s → result ≡ Err (error errno.ENOMEM)
+      → ServesPlain s later node operation old new result
+  Lacking : (e : Fault) → chosen s node operation ≡ None → Ran old (forking 1) (Err e) new → later ≡ s
+      → result ≡ Err (failure_of e) → ServesPlain s later node operation old new result
+  Ready : (pid : ℕ) (known : Seen) (mid : Shown) → IsReady (chosen s node operation) s old pid known mid
+      → IsAnswered known later pid node operation mid new result
+      → ServesPlain s later node operation old new result
 
 -- ---- all trees
 
--- After an abort nobody steps in the view any more.
-abbrev pub IsNoted : Tables → Tables → ℕ → Result Reply Fault → Type 0
-IsNoted served later view (Err fault.Aborted) =
-    (later ≡ record served { views = later.views }) × IsOver later.views.each view
-IsNoted served later view (Err (fault.Errno e)) = later ≡ served
-IsNoted served later view (Ok r) = later ≡ served
+-- After an abort nobody steps in the view any more, and its cause is kept.
+abbrev pub noted : Seen → ℕ → Result Reply Failure → Seen
+noted s view (Err (failure.Aborted why)) = with_aborted s view why
+noted s view (Err (failure.Error e)) = s
+noted s view (Ok r) = s
 
-pub record ServesView (t later : Tables) (view pid node : ℕ) (operation : Operation)
-    (old new : Shown) (r : Result Reply Fault) : Type 0 where
-  pub served : Tables
-  pub answers : IsAnswered t served pid node operation old new r
-  pub noted : IsNoted served later view r
+pub record ServesView (s later : Seen) (view pid node : ℕ) (operation : Operation) (old new : Shown)
+    (r : Result Reply Failure) : Type 0 where
+  pub served : Seen
+  pub answers : IsAnswered s served pid node operation old new r
+  pub noted_is : later ≡ noted served view r
 
 -- In the plain tree, or by the process of a view's transaction.
-abbrev pub ServesIn : Bool → Tables → Tables → Stepper → ℕ → Operation → Shown → Shown
-    → Result Reply Fault → Type 0
-ServesIn true t later s node operation old new r =
-    ServesPlain t later node operation old new r
-ServesIn false t later s node operation old new r =
-    ServesView t later s.view s.pid node operation old new r
+abbrev pub ServesIn : Bool → Seen → Seen → Stepper → ℕ → Operation → Shown → Shown
+    → Result Reply Failure → Type 0
+ServesIn true s later st node operation old new r =
+    ServesPlain s later node operation old new r
+ServesIn false s later st node operation old new r =
+    ServesView s later st.view st.pid node operation old new r
 
-abbrev pub ServesBy : Result Stepper Fault → Tables → Tables → ℕ → Operation → Shown → Shown
-    → Result Reply Fault → Type 0
-ServesBy (Err e) t later node operation old new r = Tells (Err e) old new r
-ServesBy (Ok s) t later node operation old new r =
-    ServesIn (s.view == 0) t later s node operation old new r
+abbrev pub ServesBy : Result Stepper Failure → Seen → Seen → ℕ → Operation → Shown → Shown
+    → Result Reply Failure → Type 0
+ServesBy (Err e) s later node operation old new r = Tells (Err e) s later old new r
+ServesBy (Ok st) s later node operation old new r =
+    ServesIn (st.view == 0) s later st node operation old new r
 
 -- A request about a node: where nobody may step there it is refused.
-abbrev pub ServesTree : Tables → Tables → ℕ → Operation → Shown → Shown → Result Reply Fault
+abbrev pub ServesTree : Seen → Seen → ℕ → Operation → Shown → Shown → Result Reply Failure → Type 0
+ServesTree s later node operation old new r =
+    ServesBy (stepper_at s node) s later node operation old new r
+
+-- ---- requests about nodes
+
+abbrev pub ServesAt : Class → Seen → Seen → ℕ → Operation → Shown → Shown → Result Reply Failure
     → Type 0
-ServesTree t later node operation old new r =
-    ServesBy (stepper_at t node) t later node operation old new r
+ServesAt Tree s later node operation old new r = ServesTree s later node operation old new r
+ServesAt Transactions s later node operation old new r =
+    ServesTransactions s later operation old new r
+ServesAt (Control view) s later node operation old new r =
+    ServesControl s later view operation old new r
 
--- ---- all requests about nodes
+-- ---- files that are closed
 
-abbrev pub ServesAt : Class → Tables → Tables → ℕ → Operation → Shown → Shown
-    → Result Reply Fault → Type 0
-ServesAt Tree t later node operation old new r = ServesTree t later node operation old new r
-ServesAt Transactions t later node operation old new r =
-    ServesTransactions t later operation old new r
-ServesAt (Control view) t later node operation old new r =
-    ServesControl t later view operation old new r
+-- A file that is open no more is closed by the process that has it, where that has it still: a holder
+-- of the plain tree, or the process of a view whose transaction goes on or was committed. After an abort
+-- all that was opened in it is gone.
+abbrev pub keeps_open : State → Bool
+keeps_open state.Live = true
+keeps_open (state.Aborted why) = false
+keeps_open state.Committed = true
+keeps_open state.GivenUp = false
+
+abbrev pub has_open : OpenFile → Option View → Bool
+has_open file (Some view) = keeps_open view.state && view.pid == file.pid
+has_open file None = false
+
+abbrev pub is_held : Seen → OpenFile → Bool
+is_held s file =
+    if file.view == 0 then is_holder (map.get s.roles file.pid)
+    else has_open file (map.get s.views file.view)
+
+-- what is known then: a holder of the plain tree has one descriptor less, and a view may be aborted
+abbrev pub closed_by : Seen → OpenFile → Result (Unit {0}) Fault → Seen
+closed_by s file (Ok done) =
+    if file.view == 0 then record s { roles = let_go file.pid (map.get s.roles file.pid) s.roles } else s
+closed_by s file (Err (fault.Aborted why)) = with_aborted s file.view why
+closed_by s file (Err e) = s
+
+-- what is told where it was closed
+abbrev pub told_closed : Result (Unit {0}) Fault → Result Reply Failure
+told_closed (Ok done) = Ok reply.Empty
+told_closed (Err e) = Err (failure_of e)
+
+pub record Closes (s later : Seen) (file : OpenFile) (old new : Shown) (r : Result Reply Failure)
+    : Type 0 where
+  pub closed : Result (Unit {0}) Fault
+  pub ran : Ran old (doing file.pid (call.Close file.fd)) closed new
+  pub known : later ≡ closed_by s file closed
+  pub is : r ≡ told_closed closed
+
+abbrev pub ClosesIf : Bool → Seen → Seen → OpenFile → Shown → Shown → Result Reply Failure → Type 0
+ClosesIf true s later file old new r = Closes s later file old new r
+ClosesIf false s later file old new r = Tells (Ok reply.Empty) s later old new r
+
+-- A file is open once less. Where that was the last time, it is closed.
+abbrev pub ReleasesBy : Option OpenFile → Seen → Seen → Shown → Shown → Result Reply Failure → Type 0
+ReleasesBy None s later old new r = Tells (Ok reply.Empty) s later old new r
+ReleasesBy (Some file) s later old new r = ClosesIf (is_held s file) s later file old new r
+
+-- what is known of a file that is open once less, and the file where it is open no more
+abbrev pub released_by : Seen → ℕ → Option OpenFile → Seen × Option OpenFile
+released_by s handle None = (s, None)
+released_by s handle (Some file) =
+    if nat_lt 1 file.opens
+    then (record s { files = map.insert s.files handle (closed_once file) }, None)
+    else (
+      record s {
+        files = map.remove s.files handle;
+        handles = unlinked handle (key_of file) s.handles;
+      },
+      Some file,
+    )
+
+abbrev pub ReleasesAs : Seen × Option OpenFile → Seen → Shown → Shown → Result Reply Failure → Type 0
+ReleasesAs known later old new r = ReleasesBy known.1 known.0 later old new r
+
+abbrev pub Releases : Seen → Seen → ℕ → Shown → Shown → Result Reply Failure → Type 0
+Releases s later handle old new r = ReleasesAs (released_by s handle (file_at s handle)) later old new r
+
+-- ---- all requests
+
+-- look-ups of nodes are forgotten
+abbrev pub with_forget : Seen → ℕ → ℕ → Seen
+with_forget s node lookups = record s { nodes = forgotten s.nodes node lookups }
+
+abbrev pub with_forgets : Seen → List Forget → Seen
+with_forgets s [] = s
+with_forgets s (f ∷ fs) = with_forgets (with_forget s f.node f.lookups) fs
+
+-- a directory is closed
+abbrev pub without_folder : Seen → ℕ → Seen
+without_folder s handle = record s { folders = map.remove s.folders handle }
+
+-- A reply of one kind, whatever it tells: how a session begins, and what the whole tree is like.
+abbrev pub IsBeginning : Result Reply Failure → Type 0
+IsBeginning (Ok (reply.Init init)) = Unit {0}
+IsBeginning _ = ⊥
+
+abbrev pub IsStatus : Result Reply Failure → Type 0
+IsStatus (Ok (reply.StatFs status)) = Unit {0}
+IsStatus _ = ⊥
+
+-- Requests that are about no node make no step; a release may close a file.
+abbrev pub Serves : Seen → Seen → ℕ → Operation → Shown → Shown → Result Reply Failure → Type 0
+Serves s later node (asked.Init major minor ahead flags) old new r =
+    IsBeginning r × (new ≡ old) × (later ≡ s)
+Serves s later node asked.Destroy old new r = Tells (Ok reply.Empty) s later old new r
+Serves s later node asked.StatFs old new r = IsStatus r × (new ≡ old) × (later ≡ s)
+Serves s later node (asked.Flush handle) old new r = Tells (Ok reply.Empty) s later old new r
+Serves s later node (asked.Fsync handle) old new r = Tells (Ok reply.Empty) s later old new r
+Serves s later node (asked.Release handle flags) old new r = Releases s later handle old new r
+Serves s later node (asked.ReleaseDir handle) old new r =
+    Tells (Ok reply.Empty) (without_folder s handle) later old new r
+Serves s later node operation old new r = ServesAt (class_of node) s later node operation old new r
 
 -- the reply to an outcome
-abbrev pub told : Result Reply Fault → Reply
+abbrev pub told : Result Reply Failure → Reply
 told (Ok r) = r
-told (Err (fault.Errno e)) = reply.Error e
-told (Err fault.Aborted) = reply.Error errno.ECANCELED
+told (Err (failure.Error e)) = reply.Error e
+told (Err (failure.Aborted why)) = reply.Error errno.ECANCELED
 
--- The request was served by what its node is, and its outcome told.
-pub record IsToldOf (t later : Tables) (node : ℕ) (operation : Operation) (old new : Shown)
+-- What is told of an outcome by which a request was served.
+pub record ToldBy (Served : Result Reply Failure → Type 0) (answer : Reply) : Type 0 where
+  pub outcome : Result Reply Failure
+  pub served : Served outcome
+  pub is : answer ≡ told outcome
+
+-- A request was served, and this is told.
+pub record Answered (s later : Seen) (node : ℕ) (operation : Operation) (old new : Shown)
     (answer : Option Reply) : Type 0 where
-  pub outcome : Result Reply Fault
-  pub serves : ServesAt (class_of node) t later node operation old new outcome
+  pub outcome : Result Reply Failure
+  pub serves : Serves s later node operation old new outcome
   pub tells : answer ≡ Some (told outcome)
 
--- The same, and then what was done is forgotten, so a session can go on for ever.
-pub record IsServed (t later : Tables) (node : ℕ) (operation : Operation) (old new : Shown)
+-- What is forgotten of nodes has no answer, nor has the wish that a request ends early.
+abbrev pub IsToldOf : Seen → Seen → ℕ → Operation → Shown → Shown → Option Reply → Type 0
+IsToldOf s later node (asked.Forget lookups) old new answer =
+    (answer ≡ None) × (new ≡ old) × (later ≡ with_forget s node lookups)
+IsToldOf s later node (asked.BatchForget forgets) old new answer =
+    (answer ≡ None) × (new ≡ old) × (later ≡ with_forgets s forgets)
+IsToldOf s later node (asked.Interrupt unique) old new answer =
+    (answer ≡ None) × (new ≡ old) × (later ≡ s)
+IsToldOf s later node operation old new answer =
+    Answered s later node operation old new answer
+
+-- The same, and then what was done is forgotten, unless 2^63 entries or more were made. So a session
+-- goes on as long as there is anything to forget.
+pub record IsServed (s later : Seen) (node : ℕ) (operation : Operation) (old new : Shown)
     (answer : Option Reply) : Type 0 where
   pub mid : Shown
-  pub is : IsToldOf t later node operation old mid answer
-  pub forgot : (new ≡ mid) ⊎ (new ≡ forgetting mid)
-
--- requests that are about no node, or only note what is forgotten or closed
-abbrev pub is_of_node : Operation → Bool
-is_of_node (asked.Init major minor ahead flags) = false
-is_of_node asked.Destroy = false
-is_of_node asked.StatFs = false
-is_of_node (asked.Release handle flags) = false
-is_of_node (asked.ReleaseDir handle) = false
-is_of_node (asked.Flush handle) = false
-is_of_node (asked.Fsync handle) = false
-is_of_node (asked.Forget lookups) = false
-is_of_node (asked.BatchForget forgets) = false
-is_of_node (asked.Interrupt unique) = false
-is_of_node _ = true
+  pub is : IsToldOf s later node operation old mid answer
+  pub forgot : length mid.log.entries < 2 ^ 63 → new ≡ forgetting mid
+  pub kept : (length mid.log.entries < 2 ^ 63 → ⊥) → new ≡ mid

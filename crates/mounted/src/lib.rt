@@ -6,28 +6,12 @@
 //! it. Modes, owners and times are kept beside the kernel, the same for all views.
 #![tactic(auto)]
 
-mod attributes;
-mod changing;
 mod control;
-mod files;
-mod folders;
-mod laws;
-mod lists;
-mod looking;
-mod making;
-mod numbers;
-mod open_files;
-mod opening;
-mod planning;
-mod pool;
-mod reading;
-mod removing;
+mod processes;
+mod releasing;
 mod server;
 mod serving;
 mod starting;
-mod tables;
 mod transactions;
-mod views;
 
-pub use laws::{lists_are_whole, requests_end_at_aborts};
 pub use server::Server;

@@ -1,41 +1,59 @@
-// A mounted tree, and which process serves a request.
-ghost use Rattle.std.specs.Prelude.{◌≡◌, ◌≤◌, ◌+◌, option_map, IfErr, IfOk};
-ghost use Rattle.machine.specs.Shown.{Kept};
+// A mounted tree.
+ghost use Rattle.std.specs.Prelude.{◌≡◌, ◌≤◌, ◌∷◌, [], false, is_some, IfOk};
 ghost use Rattle.ids.specs.declared.limits.TheConstants.{LARGEST_FILE, MAX_ENTRIES};
+ghost use Rattle.machine.specs.Shown.{Kept, limit_of, setup_of};
+ghost use Rattle.history_laws.specs.Headline.{IsSerializable};
+ghost use Rattle.fuse.specs.Operations.{is_answered};
+ghost use Rattle.mount_requests.specs.Seen.{IsUnknown};
 ghost use Rattle.mounted.specs.First.{IsFirst};
-ghost use Rattle.mounted.specs.Processes.{IsLackingBy, IsReadyBy};
-ghost use Rattle.mounted.specs.Served.{IsChosen, IsLacking, IsReady};
-ghost use Rattle.mounted.specs.Served.{chosen, plain_file, process_by};
-ghost use Rattle.mounted.specs.Views.{KeepsViews};
+ghost use Rattle.mounted.specs.Served.{IsServed};
+ghost use Rattle.mounted.specs.Server.{HasGrown};
+ghost use Rattle.mounted.specs.Sound.{IsSound};
+ghost use Rattle.mounted.specs.Steppers.{StaysInView, is_release};
 
-use crate::numbers::PLAIN;
-use crate::open_files::OpenFile;
-use crate::pool::first_process;
-use crate::tables::Tables;
-use crate::views::State;
-use course::{Fault, Hand, close, fork};
-use fuse::{Operation, Reply};
+use crate::serving::Serving;
+use fuse::{Reply, Request};
 use heap::Heap;
-use ids::{Limits, Pid, Priority};
+use ids::{Limits, Priority};
 use machine::Machine;
+use mount_requests::{Caller, Tables};
+use mount_tables::{Owner, first_process};
 use std::alloc::AllocError;
+use std::marker::Model;
 
-/// A mounted tree: a kernel, and what is known of its nodes, transactions and open files.
+/// A mounted tree: a kernel, and what is known of its nodes, transactions and open files. Contracts see
+/// what is known, and the kernel. Each process has one role at most: to wait for a transaction, to have
+/// files of the plain tree open, or to serve one view, with the view's priority in the kernel.
 pub struct Server<K: Machine> {
-    pub(crate) hand: Hand<K>,
-    pub(crate) tables: Tables,
+    serving: Serving<K>,
 }
 
 // By hand: a derived drop is opened at every place where a value goes, this one is called.
 impl<K: Machine> Drop for Server<K> {
     fn drop(self) {
-        let Server { hand: _, tables: _ } = self;
+        let Server { serving: _ } = self;
     }
+}
+
+impl<K: Machine> Model for Server<K> {
+    ghost use Rattle.mount_requests.specs.Seen.{seen};
+    ghost use Rattle.mounted.specs.Server.{Served};
+    ghost use Rattle.mounted.specs.Sound.{IsSound};
+
+    ghost Value = { Served };
+
+    ghost view = { λ s. record {
+      seen = seen s.serving.tables;
+      shown = s.serving.hand.shown;
+    } };
+
+    ghost invariant = { λ s. IsSound (seen s.serving.tables) s.serving.hand.shown };
 }
 
 // A priority that there is.
 fn priority(level: u8) -> Priority
     requires { level ≤ 7 }
+    ensures { result ≡ level }
 {
     match Priority::new(level) {
         Some(priority) => priority,
@@ -49,6 +67,8 @@ fn kernel_with<K: Machine>(heap: Heap, limits: Limits) -> Result<K, AllocError>
     requires files { limits.file_bytes ≤ LARGEST_FILE }
     ensures kept { IfOk result (λ kernel. Kept (K.shown kernel)) }
     ensures first { IfOk result (λ kernel. IsFirst limits (K.shown kernel)) }
+    ensures priorities { IfOk result (λ kernel.
+        (K.shown kernel).log.priorities ≡ 0 ∷ 1 ∷ 2 ∷ 3 ∷ 4 ∷ 5 ∷ 6 ∷ 7 ∷ []) }
 {
     let priorities = [
         priority(0),
@@ -63,175 +83,53 @@ fn kernel_with<K: Machine>(heap: Heap, limits: Limits) -> Result<K, AllocError>
     K::with_limits(heap, &priorities, limits)
 }
 
-// Whether a process has open still what was opened in its transaction. After an abort all of it is
-// gone, and a step would be a plain one.
-fn keeps_open(state: State) -> bool {
-    match state {
-        State::Live | State::Committed => true,
-        State::Aborted | State::GivenUp => false,
-    }
-}
-
-// The process that has a file of the plain tree open, and else the first one.
-fn process_by(file: Option<OpenFile>) -> Pid
-    ensures { result ≡ process_by file }
-{
-    match file {
-        Some(file) => {
-            if file.view == PLAIN {
-                file.pid
-            } else {
-                first_process(0)
-            }
-        }
-        None => first_process(0),
-    }
-}
-
 impl<K: Machine> Server<K> {
     /// A mounted tree with no names, on a kernel with these limits, of which nothing was asked yet.
     /// Refused memory gives nothing.
     pub fn new(heap: Heap, limits: Limits) -> Result<Server<K>, AllocError>
         requires limited { limits.entries ≤ MAX_ENTRIES }
         requires files { limits.file_bytes ≤ LARGEST_FILE }
-        ensures kept { IfOk result (λ s. Kept s.hand.shown) }
-        ensures first { IfOk result (λ s. IsFirst limits s.hand.shown) }
+        ensures kept { IfOk result (λ s. Kept s.shown) }
+        ensures first { IfOk result (λ s. IsFirst limits s.shown) }
+        ensures unknown { IfOk result (λ s. IsUnknown s.seen) }
     {
         let kernel = kernel_with(heap, limits)?;
         Ok(Server {
-            hand: Hand::new(kernel, first_process(0)),
-            tables: Tables::new(heap),
+            serving: Serving::new(heap, kernel),
         })
     }
 
-    // A process of this priority without descriptors: one that waits, or a new one.
-    pub(crate) fn take_process(&mut self, level: u8) -> Result<Pid, Fault>
-        ensures ready { IfOk result (λ pid.
-            IsReadyBy (level + 1) self.old.hand.shown pid self.new.hand.shown) }
-        ensures lacking { IfErr result (λ e.
-            IsLackingBy (level + 1) self.old.hand.shown e self.new.hand.shown) }
-        ensures tables { self.new.tables ≡ record self.old.tables { pool = self.new.tables.pool } }
+    /// What is answered to a request; None where no answer is due, which is so for what is forgotten and
+    /// for the wish that a request ends early. The kernel's history stays legal and strictly
+    /// serializable, and only grows. Each request is served by its definition: by which process, by
+    /// which steps, what its reply tells, and what is known then of nodes, open files and transactions;
+    /// all else stands. For a request about a node below a view only the process of its transaction
+    /// steps, while that goes on, and nothing is done where it does not.
+    pub fn serve(&mut self, request: Request) -> Option<Reply>
+        ensures kept { Kept self.new.shown }
+        ensures serial { let s = self.new.shown in
+            IsSerializable 0 (setup_of s.log) (limit_of s.log) s.log.entries s.state }
+        ensures grows { HasGrown self.old.shown self.new.shown }
+        ensures sound { IsSound self.new.seen self.new.shown }
+        ensures answered { is_some result ≡ is_answered request.operation }
+        ensures in_view { is_release request.operation ≡ false
+            → StaysInView self.old.seen request.node
+            self.old.shown.log.entries self.new.shown.log.entries }
+        ensures served { IsServed self.old.seen self.new.seen request.node request.operation
+            self.old.shown self.new.shown result }
     {
-        match self.tables.pool.take(level) {
-            Some(pid) => Ok(pid),
-            None => {
-                self.hand.bind(first_process(level));
-                fork(&mut self.hand)
-            }
-        }
-    }
-
-    // A process of the plain tree that has a descriptor free.
-    fn holder(&mut self) -> Result<Pid, Fault>
-        ensures ready { IfOk result (λ pid. IsReady self.old.hand.shown pid self.new.hand.shown) }
-        ensures lacking { IfErr result (λ e. IsLacking self.old.hand.shown e self.new.hand.shown) }
-        ensures tables { self.new.tables ≡ record self.old.tables { pool = self.new.tables.pool } }
-    {
-        match self.tables.pool.free_holder() {
-            Some(pid) => Ok(pid),
-            None => {
-                let pid = self.take_process(0)?;
-                self.tables.pool.add_holder(pid)?;
-                Ok(pid)
-            }
-        }
-    }
-
-    // The process that serves an open of the plain tree.
-    fn opener(&mut self, node: u64) -> Result<Pid, Fault>
-        ensures chosen { IfOk result (λ pid.
-            IsChosen (option_map (λ f. f.pid) (plain_file self.old.tables node)) pid) }
-        ensures ready { IfOk result (λ pid. IsReady self.old.hand.shown pid self.new.hand.shown) }
-        ensures lacking { IfErr result (λ e. IsLacking self.old.hand.shown e self.new.hand.shown) }
-        ensures tables { self.new.tables ≡ record self.old.tables { pool = self.new.tables.pool } }
-    {
-        match self.tables.plain_file(node) {
-            Some(file) => Ok(file.pid),
-            None => self.holder(),
-        }
-    }
-
-    // The process that serves a request of the plain tree.
-    pub(crate) fn choose_plain(&mut self, node: u64, operation: &Operation) -> Result<Pid, Fault>
-        ensures chosen { IfOk result (λ pid.
-            IsChosen (chosen self.old.tables node operation.now) pid) }
-        ensures ready { IfOk result (λ pid. IsReady self.old.hand.shown pid self.new.hand.shown) }
-        ensures lacking { IfErr result (λ e. IsLacking self.old.hand.shown e self.new.hand.shown) }
-        ensures tables { self.new.tables ≡ record self.old.tables { pool = self.new.tables.pool } }
-    {
-        match operation {
-            Operation::Open { flags: _ } => self.opener(node),
-            Operation::Create {
-                name: _,
-                flags: _,
-                mode: _,
-            }
-            | Operation::MkNod { name: _, mode: _ } => self.holder(),
-            Operation::GetAttr { handle: _ } | Operation::SetAttr { changes: _ } => {
-                Ok(process_by(self.tables.plain_file(node)))
-            }
-            Operation::Read {
-                handle,
-                offset: _,
-                size: _,
-                open_flags: _,
-            }
-            | Operation::Write {
-                handle,
-                offset: _,
-                write_flags: _,
-                open_flags: _,
-                bytes: _,
-            }
-            | Operation::Lseek {
-                handle,
-                offset: _,
-                whence: _,
-            } => Ok(process_by(self.tables.files.get(*handle))),
-            _ => Ok(first_process(0)),
-        }
-    }
-
-    // A descriptor of a view's process is closed.
-    fn close_in(&mut self, file: &OpenFile) -> Result<(), Fault>
-        ensures { KeepsViews self.old.tables.views.each self.new.tables.views.each }
-    {
-        let outcome = close(&mut self.hand, file.fd);
-        if let Err(Fault::Aborted) = &outcome {
-            self.note_abort(file.view);
-        }
-        outcome
-    }
-
-    // The descriptor of a file that is not open any more is closed.
-    fn close_file(&mut self, file: &OpenFile) -> Result<(), Fault>
-        ensures { KeepsViews self.old.tables.views.each self.new.tables.views.each }
-    {
-        if file.view == PLAIN {
-            self.hand.bind(file.pid);
-            close(&mut self.hand, file.fd)?;
-            self.tables.pool.release(file.pid);
-            return Ok(());
-        }
-        match self.tables.views.standing(file.view) {
-            Some(standing) => {
-                if keeps_open(standing.state) && standing.pid == file.pid {
-                    self.hand.bind(file.pid);
-                    self.close_in(file)?;
-                }
-                Ok(())
-            }
-            None => Ok(()),
-        }
-    }
-
-    // A file is open once less.
-    pub(crate) fn release(&mut self, handle: u64) -> Result<Reply, Fault>
-        ensures { KeepsViews self.old.tables.views.each self.new.tables.views.each }
-    {
-        if let Some(file) = self.tables.files.release(handle) {
-            self.close_file(&file)?;
-        }
-        Ok(Reply::Empty)
+        let Request {
+            unique: _,
+            node,
+            uid,
+            gid,
+            pid: _,
+            operation,
+        } = request;
+        let caller = Caller {
+            node,
+            owner: Owner { uid, gid },
+        };
+        self.serving.serve(caller, operation)
     }
 }

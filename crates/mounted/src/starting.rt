@@ -1,9 +1,13 @@
 // How a session begins, and what is told of the whole tree.
+ghost use Rattle.mounted.specs.Served.{IsBeginning, IsStatus};
+ghost use Rattle.std.specs.Prelude.{Ok};
+
+use fuse::bits::{INIT_BIG_WRITES, INIT_DROPS_CHANGED, INIT_MAX_PAGES, INIT_OPEN_TRUNCATES};
 use fuse::{Init, Reply, StatFs};
 
 // What is asked of the kernel, where it can: opens that cut, writes of more than a page, requests of
 // many pages, and that cached pages go where a file has changed.
-const WANTED: u32 = 1 << 3 | 1 << 5 | 1 << 12 | 1 << 22;
+const WANTED: u32 = INIT_OPEN_TRUNCATES | INIT_BIG_WRITES | INIT_DROPS_CHANGED | INIT_MAX_PAGES;
 
 // The most bytes of one write.
 const MOST_WRITTEN: u32 = 1_048_576;
@@ -23,7 +27,9 @@ const BLOCKS: u64 = 1 << 28;
 const NAME_LENGTH: u32 = 255;
 
 // The session begins.
-pub(crate) fn start(max_readahead: u32, flags: u32) -> Reply {
+pub(crate) fn start(max_readahead: u32, flags: u32) -> Reply
+    ensures { IsBeginning (Ok result) }
+{
     Reply::Init(Init {
         max_readahead,
         flags: flags & WANTED,
@@ -36,7 +42,9 @@ pub(crate) fn start(max_readahead: u32, flags: u32) -> Reply {
 }
 
 // What is told of the whole tree.
-pub(crate) fn status() -> Reply {
+pub(crate) fn status() -> Reply
+    ensures { IsStatus (Ok result) }
+{
     Reply::StatFs(StatFs {
         blocks: BLOCKS,
         free_blocks: BLOCKS,

@@ -1,21 +1,28 @@
 // Requests about the directory of transactions.
-ghost use Rattle.std.specs.Prelude.{◌≡◌, ◌≤◌, false, IfOk, None, option_map};
-ghost use Rattle.course.specs.Hands.{bound};
-ghost use Rattle.mounted.specs.Controls.{Begins, BeginsBy, GivesUp, IsFreed, Leaves, Removes};
-ghost use Rattle.mounted.specs.Controls.{ServesTransactions, ShowsNode, control_of, level_by, level_of};
-ghost use Rattle.mounted.specs.Controls.{level_planned, node_in};
-ghost use Rattle.mounted.specs.Views.{KeepsViews, number_in, standing_in};
+ghost use Rattle.std.specs.Prelude.{◌≡◌, ◌≤◌, ◌<◌, ◌==◌, ◌&&◌, Result, Some, IfErr, IfOk, option_map};
+ghost use Rattle.course.specs.Course.{Ran};
+ghost use Rattle.course.specs.Courses.{giving_up};
+ghost use Rattle.course.specs.Hands.{Stand, bound};
+ghost use Rattle.mount_requests.specs.Seen.{seen};
+ghost use Rattle.mounted.specs.Controls.{AsksTransactions, BeganBy, Begins, Closed, ClosedIf};
+ghost use Rattle.mounted.specs.Controls.{IsWithoutFiles, LeavesAs, Left, ListsSome, NotBegun, OnlyFiles, Opens, Removes};
+ghost use Rattle.mounted.specs.Controls.{ServesTransactions, ShowsNode, control_of, gone, leaving_in};
+ghost use Rattle.mounted.specs.Controls.{level_by, level_of, level_planned, node_in, standing_of};
+ghost use Rattle.mounted.specs.Controls.{with_roles};
+ghost use Rattle.course.specs.declared.fault.Fault.{Fault};
+ghost use Rattle.mounted.specs.Server.{HasGrown};
+ghost use Rattle.mounted.specs.Sound.{RolesStaySound, StaysSound};
 
-use crate::numbers::{TRANSACTIONS, control_node, root_node, view_of};
-use crate::reading::Wanted;
-use crate::server::Server;
-use crate::tables::Tables;
-use crate::views::{Standing, State};
+use crate::serving::Serving;
 use course::{Fault, begin, close, give_up};
-use fuse::{Errno, Opened, Operation, Reply};
+use fuse::{Entry, Errno, Opened, Operation, Reply};
 use heap::Heap;
-use ids::{Bytes, NAME_LIMIT, Name, Pid};
+use ids::{Bytes, NAME_LIMIT, Name, NameList, Pid};
 use machine::Machine;
+use mount_requests::{Failure, Tables, list_from};
+use mount_tables::{
+    OpenFile, Role, State, TRANSACTIONS, control_node, first_process, root_node, view_of,
+};
 use std::alloc::AllocError;
 
 // What stands before the end of the name of a file by which a transaction is ended.
@@ -59,255 +66,360 @@ fn name_of_control(heap: Heap, name: &[u8]) -> Result<Name, AllocError> {
     Name::copy(heap, bytes.as_slice())
 }
 
-impl Tables {
-    // The names of all transactions, and of the files by which they are ended.
-    pub(crate) fn names_of_transactions(&self) -> Result<Vec<Name, Heap>, AllocError> {
-        let mut names = Vec::new(self.heap);
-        for name in self.views.numbers().keys() {
-            names.push(Name::copy(self.heap, name.as_slice())?)?;
-            names.push(name_of_control(self.heap, name.as_slice())?)?;
-        }
-        Ok(names)
+// The names of all transactions, and of the files by which they are ended.
+fn names_of_transactions(tables: &Tables) -> Result<NameList, AllocError> {
+    let mut names = Vec::new(tables.heap);
+    for name in tables.views.numbers().keys() {
+        names.push(Name::copy(tables.heap, name.as_slice())?)?;
+        names.push(name_of_control(tables.heap, name.as_slice())?)?;
     }
+    Ok(NameList::new(names))
+}
 
-    // The node of a name.
-    fn node_in(&self, name: &[u8]) -> Result<u64, Fault>
-        ensures { result ≡ node_in self.now.views name.now }
-    {
-        if let Some(view) = self.views.named(name) {
-            return Ok(root_node(view));
-        }
-        if let Some(front) = control_name(name) {
-            if let Some(view) = self.views.named(front) {
-                return Ok(control_node(view));
-            }
-        }
-        Err(Fault::Errno(Errno::ENOENT))
-    }
-
-    // What a name gives.
-    fn look_up_transaction(&self, name: &Bytes) -> Result<Reply, Fault>
-        ensures { ShowsNode (node_in self.now.views name.now) result }
-    {
-        let node = self.node_in(name.as_slice())?;
-        Ok(Reply::Entry(self.entry_of_node(node, view_of(node).is_some())))
-    }
-
-    // How the view of a name stands.
-    fn standing_by(&self, name: &[u8]) -> Option<Standing>
-        ensures { result ≡ standing_in self.now.views name.now }
-    {
-        let number = self.views.named(name)?;
-        self.views.standing(number)
-    }
-
-    // The priority with which a transaction of this name may begin.
-    fn plan_level(&self, name: &[u8]) -> Result<u8, Fault>
-        ensures planned { result ≡ level_planned self.now.views name.now }
-        ensures within { IfOk result (λ level. level ≤ 7) }
-    {
-        if name.len() > NAME_LIMIT - 4 {
-            return Err(Fault::Errno(Errno::ENAMETOOLONG));
-        }
-        if control_name(name).is_some() {
-            return Err(Fault::Errno(Errno::EINVAL));
-        }
-        if self.views.named(name).is_some() {
-            return Err(Fault::Errno(Errno::EEXIST));
-        }
-        Ok(level_of(name))
-    }
-
-    // Requests about the directory that change no transaction.
-    fn about_transactions(&mut self, operation: Operation) -> Result<Reply, Fault>
-        ensures { self.new.views ≡ self.old.views }
-    {
-        match operation {
-            Operation::GetAttr { handle: _ } => Ok(self.attr_of_transactions()),
-            Operation::SetAttr { changes } => {
-                self.attributes.hear_changes(&changes);
-                Ok(self.attr_of_transactions())
-            }
-            Operation::Access { mask: _ } => Ok(Reply::Empty),
-            Operation::OpenDir => self.open_transactions(),
-            Operation::ReadDir {
-                handle,
-                offset,
-                size,
-            } => self.list_transactions(Wanted {
-                handle,
-                offset,
-                size,
-            }),
-            Operation::Other { opcode: _ } => Err(Fault::Errno(Errno::ENOSYS)),
-            _ => Err(Fault::Errno(Errno::EPERM)),
-        }
-    }
-
-    // The attributes of the directory of transactions.
-    fn attr_of_transactions(&self) -> Reply {
-        Reply::Attr(self.attributes.attr_of_node(TRANSACTIONS, true))
-    }
-
-    // Opens the directory.
-    fn open_transactions(&mut self) -> Result<Reply, Fault>
-        ensures { self.new.views ≡ self.old.views }
-    {
-        let names = self.names_of_transactions()?;
-        let handle = self.folders.add(TRANSACTIONS, names)?;
-        Ok(Reply::Opened(Opened { handle, flags: 0 }))
-    }
-
-    // Lists it.
-    fn list_transactions(&mut self, wanted: Wanted) -> Result<Reply, Fault>
-        ensures { self.new.views ≡ self.old.views }
-    {
-        if self.folders.is_stale(wanted.handle, wanted.offset) {
-            let names = self.names_of_transactions()?;
-            self.folders.renew(wanted.handle, names);
-        }
-        self.folders.mark(wanted.handle);
-        Ok(Reply::Directory(self.list(wanted)?))
+// What is told of a node that is no object of the kernel.
+fn entry_of_node(tables: &Tables, node: u64) -> Entry
+    ensures { result.node ≡ node }
+{
+    let is_directory = view_of(node).is_some();
+    Entry {
+        node,
+        generation: 0,
+        attr: tables.attributes.attr_of_node(node, is_directory),
     }
 }
 
-impl<K: Machine> Server<K> {
-    // A process begins a transaction, and the view has this name. Where memory is refused for the
-    // view, the transaction is given up.
-    fn begin_by(&mut self, pid: Pid, level: u8, name: Vec<u8, Heap>) -> Result<u64, Fault>
-        ensures begins { BeginsBy self.new.tables.views name.entry.items pid
-            self.old.hand.shown self.new.hand.shown result }
-        ensures keeps { KeepsViews self.old.tables.views.each self.new.tables.views.each }
+// The node of a name.
+fn node_in(tables: &Tables, name: &[u8]) -> Result<u64, Failure>
+    ensures { result ≡ node_in (seen tables.now) name.now }
+{
+    if let Some(view) = tables.views.named(name) {
+        return Ok(root_node(view));
+    }
+    if let Some(front) = control_name(name) {
+        if let Some(view) = tables.views.named(front) {
+            return Ok(control_node(view));
+        }
+    }
+    Err(Failure::Error(Errno::ENOENT))
+}
+
+// What a name gives.
+fn look_up(tables: &Tables, name: &Bytes) -> Result<Reply, Failure>
+    ensures { ShowsNode (node_in (seen tables.now) name.now) result }
+{
+    let node = node_in(tables, name.as_slice())?;
+    Ok(Reply::Entry(entry_of_node(tables, node)))
+}
+
+// The priority with which a transaction of this name may begin.
+fn plan_level(tables: &Tables, name: &[u8]) -> Result<u8, Failure>
+    ensures planned { result ≡ level_planned (seen tables.now) name.now }
+    ensures within { IfOk result (λ level. level ≤ 7) }
+{
+    if name.len() > NAME_LIMIT - 4 {
+        return Err(Failure::Error(Errno::ENAMETOOLONG));
+    }
+    if control_name(name).is_some() {
+        return Err(Failure::Error(Errno::EINVAL));
+    }
+    if tables.views.named(name).is_some() {
+        return Err(Failure::Error(Errno::EEXIST));
+    }
+    Ok(level_of(name))
+}
+
+// The attributes of the directory.
+fn attr(tables: &Tables) -> Reply {
+    Reply::Attr(tables.attributes.attr_of_node(TRANSACTIONS, true))
+}
+
+// How a view stands that is taken away: its transaction goes on, or was committed, or is over without
+// anything that is open.
+#[derive(Clone, Copy, Debug)]
+enum Standing {
+    Live,
+    Committed,
+    Over,
+}
+
+// A view that is taken away.
+#[derive(Clone, Copy, Debug)]
+struct Leaving {
+    number: u64,
+    pid: Pid,
+    level: u8,
+    standing: Standing,
+}
+
+fn standing_of(state: &State) -> Standing
+    ensures { result ≡ standing_of state.now }
+{
+    match state {
+        State::Live => Standing::Live,
+        State::Committed => Standing::Committed,
+        State::Aborted(_) | State::GivenUp => Standing::Over,
+    }
+}
+
+// A transaction that was doomed is over as well.
+fn gone(given_up: Result<(), Fault>) -> Result<(), Failure>
+    ensures { result ≡ gone given_up }
+{
+    match given_up {
+        Ok(()) | Err(Fault::Aborted(_)) => Ok(()),
+        Err(fault) => Err(Failure::from(fault)),
+    }
+}
+
+// What is known of the view of a name.
+fn find_leaving(tables: &Tables, name: &[u8]) -> Option<Leaving>
+    ensures { result ≡ leaving_in (seen tables.now) name.now }
+{
+    let number = tables.views.named(name)?;
+    let view = tables.views.get(number)?;
+    Some(Leaving {
+        number,
+        pid: view.pid,
+        level: view.level,
+        standing: standing_of(&view.state),
+    })
+}
+
+// Opens the directory.
+fn open(tables: &mut Tables) -> Result<Reply, Failure>
+    ensures { Opens (seen tables.old) (seen tables.new) result }
+{
+    tables.folders.reserve()?;
+    let names = names_of_transactions(tables)?;
+    let handle = tables.folders.add(TRANSACTIONS, names);
+    Ok(Reply::Opened(Opened { handle, flags: 0 }))
+}
+
+// Lists it, where the open directory is of it.
+fn list(tables: &mut Tables, handle: u64, offset: u64, size: u32) -> Result<Reply, Failure>
+    ensures { ListsSome (seen tables.old) (seen tables.new) handle }
+{
+    let Some(folder) = tables.folders.get(handle) else {
+        return Err(Failure::Error(Errno::EBADF));
+    };
+    if folder.node != TRANSACTIONS {
+        return Err(Failure::Error(Errno::EBADF));
+    }
+    let names = if folder.was_read && offset == 0 {
+        names_of_transactions(tables)?
+    } else {
+        folder.names.try_clone()?
+    };
+    let listing = list_from(tables.heap, names.as_slice(), offset, size)?;
+    tables.folders.renew(handle, names);
+    Ok(Reply::Directory(listing))
+}
+
+impl<K: Machine> Serving<K> {
+    // A process of this priority begins a transaction; there is room for one that is made for it.
+    fn begin_by(&mut self, level: u8) -> Result<Pid, Failure>
+        requires room { 0 < self.old.tables.processes.room }
+        requires level { level ≤ 7 }
+        ensures begun { IfOk result (λ pid. BeganBy level (seen self.old.tables).roles
+            (seen self.new.tables).roles self.old.hand.shown self.new.hand.shown pid) }
+        ensures not_begun { IfErr result (λ f. NotBegun level (seen self.old.tables).roles
+            (seen self.new.tables).roles self.old.hand.shown self.new.hand.shown f) }
+        ensures rest { seen self.new.tables
+            ≡ with_roles (seen self.old.tables) (seen self.new.tables).roles }
+        ensures stand { Stand self.old.hand.shown self.new.hand.shown }
+        ensures grows { HasGrown self.old.hand.shown self.new.hand.shown }
+        ensures sound { RolesStaySound (seen self.old.tables).roles self.old.hand.shown
+            (seen self.new.tables).roles self.new.hand.shown }
     {
+        let pid = self.take_idle(level)?;
         self.hand.bind(pid);
-        begin(&mut self.hand)?;
-        match self.tables.views.add(name, pid, level) {
-            Ok(view) => Ok(view),
-            Err(refused) => {
-                let _given_up = give_up(&mut self.hand);
-                Err(Fault::from(refused))
-            }
+        let begun = begin(&mut self.hand);
+        // For the proof: since then the history has grown, and no process has ended.
+        let _history = self.hand.history();
+        match begun {
+            Ok(()) => Ok(pid),
+            Err(fault) => Err(Failure::from(fault)),
         }
     }
 
-    // Begins a transaction.
-    fn begin_transaction(&mut self, name: &Bytes) -> Result<Reply, Fault>
-        ensures begins { Begins self.old.tables self.new.tables name.now
+    // Begins a transaction. What may be refused memory comes first: the view is there before.
+    fn begin_transaction(&mut self, name: &Bytes) -> Result<Reply, Failure>
+        ensures begins { Begins (seen self.old.tables) (seen self.new.tables) name.now
             self.old.hand.shown self.new.hand.shown result }
-        ensures keeps { KeepsViews self.old.tables.views.each self.new.tables.views.each }
+        ensures stand { Stand self.old.hand.shown self.new.hand.shown }
+        ensures grows { HasGrown self.old.hand.shown self.new.hand.shown }
+        ensures sound { StaysSound (seen self.old.tables) self.old.hand.shown
+            (seen self.new.tables) self.new.hand.shown }
     {
-        let level = self.tables.plan_level(name.as_slice())?;
+        let level = plan_level(&self.tables, name.as_slice())?;
         let own_name = Vec::from_slice(self.tables.heap, name.as_slice())?;
-        let pid = self.take_process(level)?;
-        match self.begin_by(pid, level, own_name) {
-            Ok(view) => {
-                let entry = self.tables.entry_of_node(root_node(view), true);
-                Ok(Reply::Entry(entry))
+        self.tables.processes.reserve()?;
+        let view = self
+            .tables
+            .views
+            .add(own_name, first_process(level), level)?;
+        match self.begin_by(level) {
+            Ok(pid) => {
+                self.tables.views.start(view, pid);
+                self.tables.processes.assign(pid, Role::Of(view));
+                Ok(Reply::Entry(entry_of_node(&self.tables, root_node(view))))
             }
-            Err(fault) => {
-                self.tables.pool.give_back(pid, level);
-                Err(fault)
+            Err(failure) => {
+                let _number = self.tables.views.remove(name.as_slice());
+                Err(failure)
             }
         }
     }
 
-    // Takes all files of a view out of the table, and closes them where they are open still. Whether
-    // nothing is left open.
-    fn close_all(&mut self, view: u64, pid: Pid, is_open: bool) -> bool
+    // Closes a file of a view, where its process has it open still. Whether it is not left open.
+    fn close_in(&mut self, file: &OpenFile, pid: Pid, is_open: bool) -> bool
+        ensures closed { ClosedIf (is_open && file.now.pid == pid) self.old.hand.pid file.now.fd result
+            self.old.hand.shown self.new.hand.shown }
+        ensures tables { self.new.tables ≡ self.old.tables }
         ensures bound { bound self.new.hand ≡ bound self.old.hand }
-        ensures closed { is_open ≡ false → self.new.hand ≡ self.old.hand }
-        ensures tables { self.new.tables ≡ record self.old.tables { files = self.new.tables.files } }
+    {
+        if is_open && file.pid == pid {
+            close(&mut self.hand, file.fd).is_ok()
+        } else {
+            true
+        }
+    }
+
+    // Takes all files of a view out of the table, and closes those that its process has open still.
+    // Whether nothing is left open.
+    fn close_all(&mut self, view: u64, pid: Pid, is_open: bool) -> bool
+        ensures closed { Closed is_open (seen self.old.tables) view pid self.old.hand.pid result
+            self.old.hand.shown self.new.hand.shown }
+        ensures files { IsWithoutFiles (seen self.old.tables) (seen self.new.tables) view }
+        ensures rest { OnlyFiles (seen self.old.tables) (seen self.new.tables) }
+        ensures bound { bound self.new.hand ≡ bound self.old.hand }
     {
         let mut all = true;
-        for _ in 0..self.tables.files.len() {
-            let Some(file) = self.tables.files.take_in(view) else {
-                break;
-            };
-            if is_open && file.pid == pid && close(&mut self.hand, file.fd).is_err() {
-                all = false;
-            }
+        while let Some((_handle, file)) = self.tables.files.take_in(view) {
+            let is_closed = self.close_in(&file, pid, is_open);
+            all = all && is_closed;
         }
         all
     }
 
-    // Gives a transaction up. One that was doomed is over as well.
-    fn give_up_view(&mut self) -> Result<(), Fault>
-        ensures bound { bound self.new.hand ≡ bound self.old.hand }
-        ensures gave { GivesUp self.old.hand.pid self.old.hand.shown self.new.hand.shown result }
-        ensures tables { self.new.tables ≡ self.old.tables }
+    // A view goes, whose process closes what is open still. It waits again, unless something could not
+    // be closed.
+    fn drop_view(&mut self, name: &[u8], leaving: Leaving, is_open: bool) -> Result<Reply, Failure>
+        requires found { leaving_in (seen self.old.tables) name.now ≡ Some leaving }
+        ensures left { Left is_open (seen self.old.tables) (seen self.new.tables) name.now leaving
+            self.old.hand.shown self.new.hand.shown result }
+        ensures stand { Stand self.old.hand.shown self.new.hand.shown }
+        ensures grows { HasGrown self.old.hand.shown self.new.hand.shown }
+        ensures sound { StaysSound (seen self.old.tables) self.old.hand.shown
+            (seen self.new.tables) self.new.hand.shown }
     {
-        match give_up(&mut self.hand) {
-            Ok(()) | Err(Fault::Aborted) => Ok(()),
-            Err(Fault::Errno(errno)) => Err(Fault::Errno(errno)),
-        }
-    }
-
-    // A view goes. Its process is used again, unless something could not be closed.
-    fn drop_view(&mut self, name: &[u8], standing: Standing, is_open: bool)
-        ensures bound { bound self.new.hand ≡ bound self.old.hand }
-        ensures closed { is_open ≡ false → self.new.hand ≡ self.old.hand }
-        ensures freed { number_in self.new.tables.views name.now ≡ None }
-        ensures keeps { KeepsViews self.old.tables.views.each self.new.tables.views.each }
-    {
-        let Standing {
+        let Leaving {
             number,
             pid,
             level,
-            state: _,
-        } = standing;
+            standing: _,
+        } = leaving;
+        self.hand.bind(pid);
         let is_closed = self.close_all(number, pid, is_open);
-        self.tables.views.remove(name);
+        // For the proof: since then the history has grown, and no process has ended.
+        let _history = self.hand.history();
+        let _number = self.tables.views.remove(name);
         if is_closed {
-            self.tables.pool.give_back(pid, level);
-        }
-    }
-
-    // Takes a view away. A transaction that goes on is given up first.
-    fn remove_view(&mut self, name: &[u8], standing: Standing) -> Result<Reply, Fault>
-        ensures leaves { Leaves standing.state standing.pid
-            self.old.hand.shown self.new.hand.shown result }
-        ensures freed { IsFreed self.new.tables.views name.now result }
-        ensures keeps { KeepsViews self.old.tables.views.each self.new.tables.views.each }
-    {
-        self.hand.bind(standing.pid);
-        match standing.state {
-            State::Live => {
-                self.give_up_view()?;
-                self.drop_view(name, standing, false);
-            }
-            State::Committed => {
-                self.drop_view(name, standing, true);
-                // For the proof: since then all entries are of the process.
-                let _history = self.hand.history();
-            }
-            State::Aborted | State::GivenUp => self.drop_view(name, standing, false),
+            self.tables.processes.assign(pid, Role::Idle(level));
         }
         Ok(Reply::Empty)
     }
 
-    // Takes the view of a name away.
-    fn remove_transaction(&mut self, name: &Bytes) -> Result<Reply, Fault>
-        ensures removes { Removes self.old.tables self.new.tables name.now
-            self.old.hand.shown self.new.hand.shown result }
-        ensures keeps { KeepsViews self.old.tables.views.each self.new.tables.views.each }
+    // Gives a transaction up. One that was doomed is over as well.
+    fn give_up_by(&mut self, pid: Pid) -> Result<(), Failure>
+        ensures gave { (given_up : Result (Unit {0}) Fault)
+            × Ran self.old.hand.shown (giving_up pid) given_up self.new.hand.shown
+            × (result ≡ gone given_up) }
+        ensures tables { self.new.tables ≡ self.old.tables }
+        ensures stand { Stand self.old.hand.shown self.new.hand.shown }
+        ensures grows { HasGrown self.old.hand.shown self.new.hand.shown }
+        ensures sound { StaysSound (seen self.old.tables) self.old.hand.shown
+            (seen self.new.tables) self.new.hand.shown }
     {
-        match self.tables.standing_by(name.as_slice()) {
-            Some(standing) => self.remove_view(name.as_slice(), standing),
-            None => Err(Fault::Errno(Errno::ENOENT)),
+        self.hand.bind(pid);
+        let given_up = give_up(&mut self.hand);
+        // For the proof: since then the history has grown, and no process has ended.
+        let _history = self.hand.history();
+        gone(given_up)
+    }
+
+    // Takes a view away. A transaction that goes on is given up first.
+    fn remove_view(&mut self, name: &[u8], leaving: Leaving) -> Result<Reply, Failure>
+        requires found { leaving_in (seen self.old.tables) name.now ≡ Some leaving }
+        ensures leaves { LeavesAs leaving.standing (seen self.old.tables) (seen self.new.tables)
+            name.now leaving self.old.hand.shown self.new.hand.shown result }
+        ensures stand { Stand self.old.hand.shown self.new.hand.shown }
+        ensures grows { HasGrown self.old.hand.shown self.new.hand.shown }
+        ensures sound { StaysSound (seen self.old.tables) self.old.hand.shown
+            (seen self.new.tables) self.new.hand.shown }
+    {
+        match leaving.standing {
+            Standing::Live => {
+                self.give_up_by(leaving.pid)?;
+                self.drop_view(name, leaving, false)
+            }
+            Standing::Committed => self.drop_view(name, leaving, true),
+            Standing::Over => self.drop_view(name, leaving, false),
+        }
+    }
+
+    // Takes the view of a name away.
+    fn remove_transaction(&mut self, name: &Bytes) -> Result<Reply, Failure>
+        ensures removes { Removes (seen self.old.tables) (seen self.new.tables) name.now
+            self.old.hand.shown self.new.hand.shown result }
+        ensures stand { Stand self.old.hand.shown self.new.hand.shown }
+        ensures grows { HasGrown self.old.hand.shown self.new.hand.shown }
+        ensures sound { StaysSound (seen self.old.tables) self.old.hand.shown
+            (seen self.new.tables) self.new.hand.shown }
+    {
+        match find_leaving(&self.tables, name.as_slice()) {
+            Some(leaving) => self.remove_view(name.as_slice(), leaving),
+            None => Err(Failure::Error(Errno::ENOENT)),
+        }
+    }
+
+    // Requests about the directory that change no transaction.
+    fn about_transactions(&mut self, operation: Operation) -> Result<Reply, Failure>
+        ensures hand { self.new.hand ≡ self.old.hand }
+        ensures seen { AsksTransactions (seen self.old.tables) (seen self.new.tables) operation result }
+    {
+        match operation {
+            Operation::GetAttr { handle: _ } => Ok(attr(&self.tables)),
+            Operation::SetAttr { changes } => {
+                self.tables.attributes.hear_changes(&changes);
+                Ok(attr(&self.tables))
+            }
+            Operation::Access { mask: _ } => Ok(Reply::Empty),
+            Operation::OpenDir => open(&mut self.tables),
+            Operation::ReadDir {
+                handle,
+                offset,
+                size,
+            } => list(&mut self.tables, handle, offset, size),
+            Operation::Other { opcode: _ } => Err(Failure::Error(Errno::ENOSYS)),
+            _ => Err(Failure::Error(Errno::EPERM)),
         }
     }
 
     // Requests about the directory of transactions.
-    pub(crate) fn in_transactions(&mut self, operation: Operation) -> Result<Reply, Fault>
-        ensures serves { ServesTransactions self.old.tables self.new.tables operation
+    pub(crate) fn in_transactions(&mut self, operation: Operation) -> Result<Reply, Failure>
+        ensures serves { ServesTransactions (seen self.old.tables) (seen self.new.tables) operation
             self.old.hand.shown self.new.hand.shown result }
-        ensures keeps { KeepsViews self.old.tables.views.each self.new.tables.views.each }
+        ensures stand { Stand self.old.hand.shown self.new.hand.shown }
+        ensures grows { HasGrown self.old.hand.shown self.new.hand.shown }
+        ensures sound { StaysSound (seen self.old.tables) self.old.hand.shown
+            (seen self.new.tables) self.new.hand.shown }
     {
         match operation {
             Operation::MkDir { name, mode: _ } => self.begin_transaction(&name),
             Operation::RmDir { name } => self.remove_transaction(&name),
-            Operation::Lookup { name } => self.tables.look_up_transaction(&name),
-            operation => self.tables.about_transactions(operation),
+            Operation::Lookup { name } => look_up(&self.tables, &name),
+            operation => self.about_transactions(operation),
         }
     }
 }

@@ -1,2 +1,7 @@
 mod Written
 mod Ways
+mod Found
+mod Orderly
+mod Known
+mod Numbers
+mod Gone

@@ -1,34 +1,94 @@
 -- What the numbers of nodes stand for, and how that changes.
-use Rattle.std.specs.Prelude.{ℕ, ◌+◌, ◌-◌, ◌^◌, ◌==◌, nat_le, min, Bool, false, refl}
+use Rattle.std.specs.Prelude.{◌≡◌, ℕ, zero, suc, ◌+◌, ◌-◌, ◌^◌, ◌==◌, ◌&&◌, nat_le, min, Bool, true, false}
+use Rattle.std.specs.Prelude.{refl}
 use Rattle.std.specs.Prelude.{Option, Some, None, if◌then◌else◌}
 use Rattle.std.specs.Coded.{Coded, code_by, coded×, coded_ℕ}
 use Rattle.std.specs.Ordering.{nat_cmp}
+use Rattle.ids.specs.declared.reply.Kind.{Kind}
+use Rattle.ids.specs.declared.reply.Kind.TheVariants.{File, Dir, Pipe}
 use Rattle.model.specs.FiniteMap as map
 use Rattle.nodes.specs.DirectoryEntries.{entry_cmp, coded_entry}
 use Rattle.nodes.specs.declared.node.Node.{Node}
 use Rattle.nodes.specs.declared.directory_entry.DirectoryEntry.{DirectoryEntry}
 
--- The node of each number, the number to which each entry leads, and the number that is next. No
--- rule ties the two maps together: what an entry leads to is what the second one says.
+-- The node of each number, the number to which each entry leads, how often an object was made with
+-- each object's number, and the number that is next. No rule ties the first two maps together: what an
+-- entry leads to is what the second one says.
 pub record Table : Type 0 where
   pub nodes : map.FinMap nat_cmp Node
   pub numbers : map.FinMap entry_cmp ℕ
+  pub births : map.FinMap nat_cmp ℕ
   pub next : ℕ
 
+-- a kind as a number, and back
+abbrev kind_code : Kind → ℕ
+kind_code File = 0
+kind_code Dir = 1
+kind_code Pipe = 2
+
+abbrev kind_from : ℕ → Kind
+kind_from zero = File
+kind_from (suc zero) = Dir
+kind_from (suc (suc n)) = Pipe
+
+pub same_kind : (kind : Kind) → kind_from (kind_code kind) ≡ kind
+same_kind File = refl
+same_kind Dir = refl
+same_kind Pipe = refl
+
+abbrev pub coded_kind : Coded Kind
+coded_kind = code_by ℕ coded_ℕ kind_code kind_from same_kind
+
 abbrev pub coded_node : Coded Node
-coded_node = code_by (DirectoryEntry × (ℕ × (ℕ × ℕ))) (coded× coded_entry (coded× coded_ℕ (coded× coded_ℕ coded_ℕ)))
-    (λ n. (n.entry, (n.root, (n.inode, n.lookups))))
-    (λ q. record { entry = q.0; root = q.1.0; inode = q.1.1.0; lookups = q.1.1.1 }) (λ _. refl)
+coded_node = code_by (DirectoryEntry × (ℕ × (ℕ × (ℕ × (Kind × ℕ)))))
+    (coded× coded_entry (coded× coded_ℕ (coded× coded_ℕ (coded× coded_ℕ (coded× coded_kind coded_ℕ)))))
+    (λ n. (n.entry, (n.root, (n.inode, (n.birth, (n.kind, n.lookups))))))
+    (λ q. record {
+      entry = q.0;
+      root = q.1.0;
+      inode = q.1.1.0;
+      birth = q.1.1.1.0;
+      kind = q.1.1.1.1.0;
+      lookups = q.1.1.1.1.1;
+    }) (λ _. refl)
 
 abbrev pub table_code : Coded Table
-table_code = code_by (map.FinMap nat_cmp Node × (map.FinMap entry_cmp ℕ × ℕ))
-    (coded× (map.code coded_ℕ coded_node) (coded× (map.code coded_entry coded_ℕ) coded_ℕ))
-    (λ t. (t.nodes, (t.numbers, t.next)))
-    (λ q. record { nodes = q.0; numbers = q.1.0; next = q.1.1 }) (λ _. refl)
+table_code = code_by
+    (map.FinMap nat_cmp Node × (map.FinMap entry_cmp ℕ × (map.FinMap nat_cmp ℕ × ℕ)))
+    (coded× (map.code coded_ℕ coded_node)
+    (coded× (map.code coded_entry coded_ℕ) (coded× (map.code coded_ℕ coded_ℕ) coded_ℕ)))
+    (λ t. (t.nodes, (t.numbers, (t.births, t.next))))
+    (λ q. record { nodes = q.0; numbers = q.1.0; births = q.1.1.0; next = q.1.1.1 }) (λ _. refl)
 
--- one look-up more, as far as 64 bits count
+-- one more, as far as 64 bits count
 abbrev pub more : ℕ → ℕ
-more lookups = min (lookups + 1) (2 ^ 64 - 1)
+more count = min (count + 1) (2 ^ 64 - 1)
+
+-- ---- objects that are made
+
+-- how often an object was made with a number: never, where nothing is noted
+abbrev pub births_by : Option ℕ → ℕ
+births_by (Some births) = births
+births_by None = 0
+
+abbrev pub births_of : Table → ℕ → ℕ
+births_of t inode = births_by (map.get t.births inode)
+
+-- one more was made with it
+abbrev pub with_birth : ℕ → map.FinMap nat_cmp ℕ → map.FinMap nat_cmp ℕ
+with_birth inode births = map.insert births inode (more (births_by (map.get births inode)))
+
+abbrev pub made : Table → ℕ → Table
+made t inode = record t { births = with_birth inode t.births }
+
+-- A node stands for what its object's number means as long as none was made with that number since it
+-- was looked up. A number that is no node is a root's, and that stays.
+abbrev pub is_current_by : Table → Option Node → Bool
+is_current_by t (Some node) = node.birth == births_of t node.inode
+is_current_by t None = true
+
+abbrev pub is_current : Table → ℕ → Bool
+is_current t number = is_current_by t (map.get t.nodes number)
 
 -- ---- one node
 
@@ -70,13 +130,14 @@ root_of t number = root_by number (map.get t.nodes number)
 
 -- ---- looking up
 
--- the number, where its node stands for this object
-abbrev pub if_of : ℕ → ℕ → Option Node → Option ℕ
-if_of inode number (Some node) = if node.inode == inode then Some number else None
-if_of inode number None = None
+-- the number, where its node stands for this object: the one of this number that was made last
+abbrev pub if_of : ℕ → ℕ → ℕ → Option Node → Option ℕ
+if_of inode births number (Some node) =
+    if node.inode == inode && node.birth == births then Some number else None
+if_of inode births number None = None
 
 abbrev pub if_known : Table → ℕ → Option ℕ → Option ℕ
-if_known t inode (Some number) = if_of inode number (map.get t.nodes number)
+if_known t inode (Some number) = if_of inode (births_of t inode) number (map.get t.nodes number)
 if_known t inode None = None
 
 -- the number to which an entry leads, where that stands for this object
@@ -92,26 +153,28 @@ abbrev pub number_for : Table → DirectoryEntry → ℕ → ℕ
 number_for t entry inode = number_by t (known t entry inode)
 
 -- a new node, to which its entry leads from now on
-abbrev pub added : Table → DirectoryEntry → ℕ → Table
-added t entry inode = record {
+abbrev pub added : Table → DirectoryEntry → ℕ → Kind → Table
+added t entry inode kind = record t {
   nodes = map.insert t.nodes t.next (record {
     entry = entry;
     root = root_of t entry.parent;
     inode = inode;
+    birth = births_of t inode;
+    kind = kind;
     lookups = 1;
   });
   numbers = map.insert t.numbers entry t.next;
   next = t.next + 1;
 }
 
-abbrev pub looked_up_as : Table → DirectoryEntry → ℕ → Option ℕ → Table
-looked_up_as t entry inode (Some number) =
+abbrev pub looked_up_as : Table → DirectoryEntry → ℕ → Kind → Option ℕ → Table
+looked_up_as t entry inode kind (Some number) =
     record t { nodes = counted number (map.get t.nodes number) t.nodes }
-looked_up_as t entry inode None = added t entry inode
+looked_up_as t entry inode kind None = added t entry inode kind
 
--- after a look-up of an entry that gave this object
-abbrev pub looked_up : Table → DirectoryEntry → ℕ → Table
-looked_up t entry inode = looked_up_as t entry inode (known t entry inode)
+-- after a look-up of an entry that gave this object, which is of this kind
+abbrev pub looked_up : Table → DirectoryEntry → ℕ → Kind → Table
+looked_up t entry inode kind = looked_up_as t entry inode kind (known t entry inode)
 
 -- ---- forgetting
 

@@ -3,7 +3,7 @@ ghost use Rattle.std.specs.Prelude.{◌≡◌, ◌-◌};
 ghost use Rattle.nodes.specs.Tables.{more};
 
 use crate::directory_entry::DirectoryEntry;
-use ids::Num;
+use ids::{Kind, Num};
 
 /// What the number of a node stands for.
 #[derive(Debug)]
@@ -12,8 +12,12 @@ pub struct Node {
     pub entry: DirectoryEntry,
     /// The node of the root below which that is.
     pub root: u64,
-    /// The object.
+    /// The object's number.
     pub inode: Num,
+    /// Which of the objects that had this number it is: how many were made with it by then.
+    pub birth: u64,
+    /// What it was when it was looked up. An object does not change its kind.
+    pub kind: Kind,
     /// How many look-ups are not forgotten.
     pub lookups: u64,
 }
@@ -25,6 +29,8 @@ impl Drop for Node {
             entry: _,
             root: _,
             inode: _,
+            birth: _,
+            kind: _,
             lookups: _,
         } = self;
     }

@@ -1,17 +1,21 @@
 // All nodes of a mount.
-ghost use Rattle.std.specs.Prelude.{◌≡◌, ◌<◌, IfOk, IsOk, OnErr, OnOk, option_copied, option_map};
+ghost use Rattle.std.specs.Prelude.{◌≡◌, ◌<◌, ◌≤◌, IfOk, IfSome, IsOk, OnErr, OnOk};
+ghost use Rattle.std.specs.Prelude.{option_copied, option_map};
 ghost use Rattle.model.specs.FiniteMap as map;
-ghost use Rattle.nodes.specs.Tables.{added, detached, forgotten, if_of, is_this, known, looked_up};
-ghost use Rattle.nodes.specs.Tables.{moved, number_for, root_by, root_of, unlinked, without};
+ghost use Rattle.nodes.specs.Tables.{added, detached, forgotten, if_of, is_current, is_this, known};
+ghost use Rattle.nodes.specs.Tables.{looked_up, made, moved, number_for, root_by, root_of, unlinked};
+ghost use Rattle.nodes.specs.Tables.{without};
+ghost use Rattle.nodes.specs.Numbers.{IsFresh, IsGivenFor};
 ghost use Rattle.nodes.specs.Parts.{room_of};
 ghost use Rattle.nodes.specs.Paths.{IsAdded, path_of, way_to};
 
+use crate::births::Births;
 use crate::directory_entry::{DirectoryEntry, Spot};
 use crate::index::Index;
 use crate::list::NodeList;
 use crate::node::Node;
 use heap::Heap;
-use ids::{Bytes, Num, PATH_LIMIT};
+use ids::{Bytes, Kind, Num, PATH_LIMIT};
 use std::alloc::AllocError;
 use std::marker::Model;
 
@@ -28,6 +32,7 @@ pub const NAMES_LIMIT: u32 = 513;
 pub struct Nodes {
     list: NodeList,
     index: Index,
+    births: Births,
     next: u64,
 }
 
@@ -37,6 +42,7 @@ impl Drop for Nodes {
         let Nodes {
             list: _,
             index: _,
+            births: _,
             next: _,
         } = self;
     }
@@ -45,18 +51,21 @@ impl Drop for Nodes {
 impl Model for Nodes {
     ghost use Rattle.nodes.specs.declared.nodes.TheConstants.{LAST_NUMBER};
     ghost use Rattle.std.specs.Prelude.{◌≤◌};
-    ghost use Rattle.nodes.specs.Parts.{Stored, stored_code, room_of};
+    ghost use Rattle.nodes.specs.Parts.{Stored, stored_code, room_of, table_of};
+    ghost use Rattle.nodes.specs.Numbers.{IsOrderly};
 
     ghost Value = { Stored };
 
     ghost coded = { stored_code };
 
     ghost view = { λ n. record {
-      table = record { nodes = n.list.nodes; numbers = n.index.numbers; next = n.next };
+      table = table_of n.list.nodes n.index.numbers n.births.counts n.next;
       room = room_of LAST_NUMBER n.next n.list.room n.index.room;
+      birth_room = n.births.room;
     } };
 
-    ghost invariant = { λ n. n.next ≤ LAST_NUMBER };
+    ghost invariant = { λ n. (n.next ≤ LAST_NUMBER)
+        × IsOrderly (table_of n.list.nodes n.index.numbers n.births.counts n.next) };
 }
 
 // The root below which a node is, or the number itself where it is a root's.
@@ -79,12 +88,12 @@ fn lookups_of(list: &NodeList, number: u64) -> Option<u64>
     }
 }
 
-// The number, where its node stands for this object.
-fn if_of(list: &NodeList, number: u64, inode: Num) -> Option<u64>
-    ensures { result ≡ if_of inode number (map.get list.now.nodes number) }
+// The number, where its node stands for this object: the last that was made with its number.
+fn if_of(list: &NodeList, number: u64, inode: Num, births: u64) -> Option<u64>
+    ensures { result ≡ if_of inode births number (map.get list.now.nodes number) }
 {
     let node = list.get(number)?;
-    if node.inode == inode {
+    if node.inode == inode && node.birth == births {
         Some(number)
     } else {
         None
@@ -101,7 +110,7 @@ fn leads_to(index: &Index, number: u64, entry: &DirectoryEntry) -> bool
     }
 }
 
-// Makes room in both tables for one node more. It is refused also where no number is left.
+// Makes room in both tables of nodes for one more. It is refused also where no number is left.
 fn reserve_both(next: u64, list: &mut NodeList, index: &mut Index) -> Result<(), AllocError>
     ensures nodes { list.new.nodes ≡ list.old.nodes }
     ensures numbers { index.new.numbers ≡ index.old.numbers }
@@ -143,11 +152,13 @@ impl Nodes {
     pub fn new(heap: Heap) -> Nodes
         ensures nodes { result.table.nodes ≡ map.empty }
         ensures numbers { result.table.numbers ≡ map.empty }
+        ensures births { result.table.births ≡ map.empty }
         ensures next { result.table.next ≡ 16 }
     {
         Nodes {
             list: NodeList::new(heap),
             index: Index::new(heap),
+            births: Births::new(heap),
             next: FIRST_NUMBER,
         }
     }
@@ -173,28 +184,58 @@ impl Nodes {
         root_in(&self.list, number)
     }
 
-    /// Makes room for one node more, so that the next look-up or move takes no memory. It is refused
-    /// also where no number is left. Nothing changes.
+    /// Whether a node stands for the object that its object's number means now. After another was made
+    /// with that number it does no more. A number that is no node is a root's, which always does.
+    pub fn is_current(&self, number: u64) -> bool
+        ensures { result ≡ is_current self.now.table number }
+    {
+        match self.list.get(number) {
+            Some(node) => node.birth == self.births.get(node.inode),
+            None => true,
+        }
+    }
+
+    /// Makes room for one object that is made, and for one node more, so that it can be noted and the
+    /// look-up or move behind that takes no memory. It is refused also where no number is left. Nothing
+    /// changes.
     pub fn reserve(&mut self) -> Result<(), AllocError>
         ensures table { self.new.table ≡ self.old.table }
         ensures ok { OnOk result (0 < self.new.room) }
-        ensures succeeds { 0 < self.old.room → IsOk result }
+        ensures birth { OnOk result (0 < self.new.birth_room) }
+        ensures succeeds { 0 < self.old.room → 0 < self.old.birth_room → IsOk result }
     {
-        reserve_both(self.next, &mut self.list, &mut self.index)
+        reserve_both(self.next, &mut self.list, &mut self.index)?;
+        self.births.reserve()
+    }
+
+    /// An object was made with this number: nodes of the one that had it before stand for that still,
+    /// and not for the new one. The room for nodes stays. Refused memory changes nothing.
+    pub fn note_made(&mut self, inode: Num) -> Result<(), AllocError>
+        ensures ok { OnOk result (self.new.table ≡ made self.old.table inode) }
+        ensures err { OnErr result (self.new.table ≡ self.old.table) }
+        ensures next { self.new.table.next ≡ self.old.table.next }
+        ensures room { self.new.room ≡ self.old.room }
+        ensures succeeds { 0 < self.old.birth_room → IsOk result }
+    {
+        self.births.note(inode)
     }
 
     // The number to which an entry leads, where that stands for this object.
     fn known(&self, entry: &DirectoryEntry, inode: Num) -> Option<u64>
-        ensures { result ≡ known self.now.table entry.now inode }
+        ensures known { result ≡ known self.now.table entry.now inode }
+        ensures range { IfSome result (λ number.
+            (FIRST_NUMBER ≤ number) × (number < LAST_NUMBER)) }
     {
         let number = self.index.get(entry)?;
-        if_of(&self.list, number, inode)
+        if_of(&self.list, number, inode, self.births.get(inode))
     }
 
     // An entry leads to a new node.
-    fn add(&mut self, spot: Spot, inode: Num) -> Result<u64, AllocError>
-        ensures ok { OnOk result (self.new.table ≡ added self.old.table spot inode) }
+    fn add(&mut self, spot: Spot, inode: Num, kind: Kind) -> Result<u64, AllocError>
+        ensures ok { OnOk result (self.new.table ≡ added self.old.table spot inode kind) }
         ensures number { IfOk result (λ number. number ≡ self.old.table.next) }
+        ensures fresh { IfOk result (IsFresh self.old.table self.new.table) }
+        ensures range { IfOk result (λ number. (FIRST_NUMBER ≤ number) × (number < LAST_NUMBER)) }
         ensures err { OnErr result (self.new.table ≡ self.old.table) }
         ensures succeeds { 0 < self.old.room → IsOk result }
     {
@@ -206,6 +247,8 @@ impl Nodes {
             entry,
             root,
             inode,
+            birth: self.births.get(inode),
+            kind,
             lookups: 1,
         };
         let listed: Result<_, _> = self.list.insert(number, node);
@@ -216,12 +259,15 @@ impl Nodes {
         Ok(number)
     }
 
-    /// A name was looked up and gave this object. It gives the number of its node: the one to which
-    /// the entry leads, where that stands for this object, and else a new one, to which it leads from
-    /// now on. Refused memory changes nothing.
-    pub fn look_up(&mut self, spot: Spot, inode: Num) -> Result<u64, AllocError>
-        ensures ok { OnOk result (self.new.table ≡ looked_up self.old.table spot inode) }
+    /// A name was looked up and gave this object, which is of this kind. It gives the number of its
+    /// node: the one to which the entry leads, where that stands for this object, and else a new one
+    /// that none had before, to which it leads from now on. Refused memory changes nothing.
+    pub fn look_up(&mut self, spot: Spot, inode: Num, kind: Kind) -> Result<u64, AllocError>
+        ensures ok { OnOk result (self.new.table ≡ looked_up self.old.table spot inode kind) }
         ensures number { IfOk result (λ number. number ≡ number_for self.old.table spot inode) }
+        ensures fresh { IfOk result
+            (IsGivenFor (known self.old.table spot inode) self.old.table self.new.table) }
+        ensures range { IfOk result (λ number. (FIRST_NUMBER ≤ number) × (number < LAST_NUMBER)) }
         ensures err { OnErr result (self.new.table ≡ self.old.table) }
         ensures succeeds { 0 < self.old.room → IsOk result }
     {
@@ -230,13 +276,14 @@ impl Nodes {
                 self.list.count(number);
                 Ok(number)
             }
-            None => self.add(spot, inode),
+            None => self.add(spot, inode, kind),
         }
     }
 
     /// So many look-ups of a node are forgotten. With the last one it goes. It takes no memory.
     pub fn forget(&mut self, number: u64, count: u64)
-        ensures { self.new.table ≡ forgotten self.old.table number count }
+        ensures table { self.new.table ≡ forgotten self.old.table number count }
+        ensures next { self.new.table.next ≡ self.old.table.next }
     {
         let Some(lookups) = lookups_of(&self.list, number) else {
             return;
@@ -250,7 +297,8 @@ impl Nodes {
 
     /// A name was taken away: its entry leads nowhere any more. It takes no memory.
     pub fn detach(&mut self, entry: &DirectoryEntry)
-        ensures { self.new.table ≡ detached self.old.table entry.now }
+        ensures table { self.new.table ≡ detached self.old.table entry.now }
+        ensures next { self.new.table.next ≡ self.old.table.next }
     {
         self.index.remove(entry);
     }
@@ -260,6 +308,7 @@ impl Nodes {
     pub fn move_entry(&mut self, from: &DirectoryEntry, to: Spot) -> Result<(), AllocError>
         ensures ok { OnOk result (self.new.table ≡ moved self.old.table from.now to) }
         ensures err { OnErr result (self.new.table ≡ self.old.table) }
+        ensures next { self.new.table.next ≡ self.old.table.next }
         ensures succeeds { 0 < self.old.room → IsOk result }
     {
         let Some(number) = self.index.get(from) else {

@@ -1,11 +1,11 @@
 use Rattle.ids.specs.declared.call.Call.TheVariants as call
 use Rattle.course.specs.Courses.{calling}
 use Rattle.course.specs.Faults.{bytes_in}
-use Rattle.course.proofs.Runs.{gives_or_not}
+use Rattle.course.proofs.Runs.{gives}
 use Rattle.std.proofs.lemmas.Int.{to_z-of_z}
 use Rattle.course.proofs.files.read.Goals as goal
 
 pub returns-clause-ran : goal.returns-clause-ran
 returns-clause-ran g c =
     let h = rw (to_z-of_z _ _ c.ranges.offset) at c.ask-reply.ensures.ran in
-    gives_or_not (calling c.args.hand.now.pid (call.Pread c.args.fd c.args.count c.args.offset)) bytes_in h c.bytes_in.ensures
+    gives (calling c.args.hand.now.pid (call.Pread c.args.fd c.args.count c.args.offset)) bytes_in h c.bytes_in.ensures

@@ -1,8 +1,8 @@
 use Rattle.ids.specs.declared.call.Call.TheVariants as call
 use Rattle.course.specs.Courses.{calling}
 use Rattle.course.specs.Faults.{names_in}
-use Rattle.course.proofs.Runs.{gives_or_not}
+use Rattle.course.proofs.Runs.{gives}
 use Rattle.course.proofs.names.list.Goals as goal
 
 pub returns-clause-ran : goal.returns-clause-ran
-returns-clause-ran g c = gives_or_not (calling c.args.hand.now.pid (call.List c.args.path)) names_in c.ask-reply.ensures.ran c.names_in.ensures
+returns-clause-ran g c = gives (calling c.args.hand.now.pid (call.List c.args.path)) names_in c.ask-reply.ensures.ran c.names_in.ensures

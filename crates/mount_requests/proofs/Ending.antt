@@ -1,0 +1,200 @@
+-- Each course ends at an abort.
+use Rattle.std.proofs.Common.{◌≡◌, ◌==◌, ◌&&◌, ◌||◌, ℕ, ℤ, pos, List, [], Bool, true, false, not, Option, Some, None, is_some, refl, ap, ◌∙◌}
+use Rattle.std.specs.Prelude.{Result, Ok, Err, if◌then◌else◌}
+use Rattle.ids.specs.declared.aspect.Why.{Why}
+use Rattle.ids.specs.declared.call.Call.{Call}
+use Rattle.ids.specs.declared.call.Call.TheVariants as call
+use Rattle.ids.specs.declared.flags.OpenFlags.{OpenFlags}
+use Rattle.ids.specs.declared.reply.Kind.{Kind}
+use Rattle.ids.specs.declared.reply.Kind.TheVariants.{Dir, File, Pipe}
+use Rattle.course.specs.Course.{Course, Give, Step, ◌>>=◌}
+use Rattle.course.specs.Courses.{both, by_descriptor, closing, closing_for, closing_spare, creating, creating_cut, cutting, doing, done_with, finding, finding_at, fresh, if_absent, if_cut, if_found, if_listed, if_same, if_seen, if_there, linking, listing, listing_at, looking_for, making, making_file, moving, on_ok, opening, opening_cut, opening_this, reading, same_or_stale, seeing, sizing, stating, writing}
+use Rattle.course.specs.Faults.{done_in, gives_none, is_abort, is_missing, is_there, unless_aborted}
+use Rattle.course.specs.declared.fault.Fault.{Fault}
+use Rattle.course.specs.declared.fault.Fault.TheVariants.{Aborted, Busy, NoMemory, Refused, Stale, Unexpected}
+use Rattle.course.specs.declared.files.Made.{Made}
+use Rattle.course.specs.declared.objects.Object.{Object}
+use Rattle.mount_requests.specs.Aborts.{EndsAtAborts, IsNoAbort}
+use Rattle.mount_requests.proofs.NoAborts.{bytes_no_abort, count_no_abort, done_no_abort, fd_no_abort, names_no_abort, stat_no_abort}
+use Rattle.mount_requests.specs.Found.{handle_of}
+use Rattle.mount_requests.specs.Requests.{cuts, is_exclusive, listed_by, listing_anew, making_open, once, opened_by, setting_by, written_by}
+use Rattle.mount_requests.specs.Seen.{Seen}
+use Rattle.mount_requests.specs.declared.changing.Setting.{Setting}
+use Rattle.mount_requests.specs.declared.opening.Opening.{Opening}
+use Rattle.mount_requests.specs.declared.opening.Opening.TheVariants.{Again, First}
+use Rattle.mount_requests.specs.declared.planning.Located.{Located}
+use Rattle.mount_requests.specs.declared.reading.Directory.{Directory}
+
+-- what comes behind a course gives an abort on, and ends at aborts itself
+behind : {A B : Type 0} (m : Course (Result A Fault)) (f : Result A Fault → Course (Result B Fault)) → EndsAtAborts m → ((why : Why) → f (Err (Aborted why)) ≡ Give (Err (Aborted why))) → ((x : A) → EndsAtAborts (f (Ok x))) → ((e : Fault) → is_abort e ≡ false → EndsAtAborts (f (Err e))) → EndsAtAborts (m >>= f)
+behind (Give (Ok x)) f h abort ok err = ok x
+behind (Give (Err e)) f h abort ok err = err e h
+behind (Step pid op next) f h abort ok err = (λ why again. ap (λ c. c >>= f) (h.0 why again) ∙ abort why, λ r other. behind (next r) f (h.1 r other) abort ok err)
+
+-- what needs its success
+then_on : {A B : Type 0} (m : Course (Result A Fault)) (f : A → Course (Result B Fault)) → EndsAtAborts m → ((x : A) → EndsAtAborts (f x)) → EndsAtAborts (m >>= on_ok f)
+then_on m f h ok = behind m (on_ok f) h (λ why. refl) ok (λ e other. other)
+
+-- either way
+either : {A : Type 0} (b : Bool) (c d : Course (Result A Fault)) → EndsAtAborts c → EndsAtAborts d → EndsAtAborts (if b then c else d)
+either true c d h k = h
+either false c d h k = k
+
+doing_ends : (pid : ℕ) (c : Call) → EndsAtAborts (doing pid c)
+doing_ends pid c = (λ why again. refl, done_no_abort)
+
+stating_ends : (pid : ℕ) (c : Call) → EndsAtAborts (stating pid c)
+stating_ends pid c = (λ why again. refl, stat_no_abort)
+
+opening_ends : (pid : ℕ) (path : List ℕ) (flags : OpenFlags) → EndsAtAborts (opening pid path flags)
+opening_ends pid path flags = (λ why again. refl, fd_no_abort)
+
+writing_ends : (pid fd : ℕ) (bytes : List ℕ) (offset : ℤ) → EndsAtAborts (writing pid fd bytes offset)
+writing_ends pid fd bytes offset = (λ why again. refl, count_no_abort)
+
+listing_ends : (pid : ℕ) (path : List ℕ) → EndsAtAborts (listing pid path)
+listing_ends pid path = (λ why again. refl, names_no_abort)
+
+-- another object is no abort
+same_no_abort : (same : Bool) → IsNoAbort {A = Unit {0}} (if same then Ok tt else Err Stale)
+same_no_abort true = tt
+same_no_abort false = refl
+
+stale_no_abort : (none : Bool) (e : Fault) → is_abort e ≡ false → is_abort (if none then Stale else e) ≡ false
+stale_no_abort true e other = refl
+stale_no_abort false e other = other
+
+looking_for_ends : (pid : ℕ) (path : List ℕ) (inode : ℕ) → EndsAtAborts (looking_for pid path inode)
+looking_for_ends pid path inode = behind (stating pid (call.Stat path)) (λ looked. Give (same_or_stale inode looked)) (stating_ends pid (call.Stat path)) (λ why. refl) (λ stat. same_no_abort (stat.num == inode)) (λ e other. stale_no_abort (gives_none e) e other)
+
+-- the last step of all may be the one that aborted
+closed_no_abort : (e : Fault) → is_abort e ≡ false → (r : Result (Unit {0}) Fault) → IsNoAbort r → is_abort (unless_aborted e r) ≡ false
+closed_no_abort e other (Ok done) h = other
+closed_no_abort e other (Err (Refused x)) h = other
+closed_no_abort e other (Err Busy) h = other
+closed_no_abort e other (Err NoMemory) h = other
+closed_no_abort e other (Err Stale) h = other
+closed_no_abort e other (Err Unexpected) h = other
+closed_no_abort e other (Err (Aborted why)) h = absurd cc
+
+closing_for_ends : (A : Type 0) (pid fd : ℕ) (e : Fault) → is_abort e ≡ false → EndsAtAborts (closing_for {A = A} pid fd e)
+closing_for_ends A pid fd e other = (λ why again. refl, λ r none. closed_no_abort e other (done_in r) (done_no_abort r none))
+
+closing_ends : (A : Type 0) (pid fd : ℕ) (e : Fault) → is_abort e ≡ false → EndsAtAborts (closing {A = A} pid fd e)
+closing_ends A pid fd e other = by (is_abort e) other
+  where
+    by : (b : Bool) → b ≡ false → EndsAtAborts (if b then Give (Err e) else closing_for {A = A} pid fd e)
+    by true is = absurd cc
+    by false is = closing_for_ends A pid fd e other
+
+done_with_ends : {A : Type 0} (pid fd : ℕ) (x : A) → EndsAtAborts (done_with pid fd x)
+done_with_ends pid fd x = then_on (doing pid (call.Close fd)) _ (doing_ends pid (call.Close fd)) (λ done. tt)
+
+cutting_ends : (pid fd : ℕ) (cut : Bool) → EndsAtAborts (cutting pid fd cut)
+cutting_ends pid fd true = doing_ends pid (call.Ftruncate fd 0)
+cutting_ends pid fd false = tt
+
+if_cut_ends : {A : Type 0} (pid fd : ℕ) (cut : Bool) (x : A) → EndsAtAborts (cutting pid fd cut >>= if_cut pid fd x)
+if_cut_ends pid fd cut x = behind (cutting pid fd cut) (if_cut pid fd x) (cutting_ends pid fd cut) (λ why. refl) (λ done. tt) (λ e other. closing_ends _ pid fd e other)
+
+checked_ends : (pid fd inode : ℕ) → EndsAtAborts (stating pid (call.Fstat fd) >>= if_same pid fd inode)
+checked_ends pid fd inode = behind (stating pid (call.Fstat fd)) (if_same pid fd inode) (stating_ends pid (call.Fstat fd)) (λ why. refl) (λ stat. either (stat.num == inode) (Give (Ok fd)) (closing pid fd Stale) tt (closing_ends _ pid fd Stale refl)) (λ e other. closing_ends _ pid fd e other)
+
+opening_this_ends : (pid : ℕ) (path : List ℕ) (inode : ℕ) → EndsAtAborts (opening_this pid path inode)
+opening_this_ends pid path inode = then_on (opening pid path both) _ (opening_ends pid path both) (λ fd. checked_ends pid fd inode)
+
+opening_cut_ends : (pid : ℕ) (path : List ℕ) (inode : ℕ) (cut : Bool) → EndsAtAborts (opening_cut pid path inode cut)
+opening_cut_ends pid path inode cut = then_on (opening_this pid path inode) _ (opening_this_ends pid path inode) (λ fd. if_cut_ends pid fd cut fd)
+
+seeing_ends : (pid : ℕ) (is_new : Bool) (fd : ℕ) → EndsAtAborts (seeing pid is_new fd)
+seeing_ends pid is_new fd = behind (stating pid (call.Fstat fd)) (if_seen pid fd is_new) (stating_ends pid (call.Fstat fd)) (λ why. refl) (λ stat. tt) (λ e other. closing_ends _ pid fd e other)
+
+not_there : (pid : ℕ) (path : List ℕ) (exclusive : Bool) (why : Why) → if_there pid path exclusive (Err (Aborted why)) ≡ Give (Err (Aborted why))
+not_there pid path true why = refl
+not_there pid path false why = refl
+
+creating_ends : (pid : ℕ) (path again : List ℕ) (exclusive : Bool) → EndsAtAborts (creating pid path again exclusive)
+creating_ends pid path again exclusive =
+    behind (opening pid path fresh) (if_there pid again exclusive) (opening_ends pid path fresh) (not_there pid again exclusive) (λ fd. seeing_ends pid true fd)
+    (λ e other. either (exclusive || not (is_there e)) (Give (Err e)) (opening pid again both >>= on_ok (seeing pid false)) other (then_on (opening pid again both) (seeing pid false) (opening_ends pid again both) (seeing_ends pid false)))
+
+creating_cut_ends : (pid : ℕ) (path again : List ℕ) (exclusive cut : Bool) → EndsAtAborts (creating_cut pid path again exclusive cut)
+creating_cut_ends pid path again exclusive cut = then_on (creating pid path again exclusive) _ (creating_ends pid path again exclusive) (λ made. if_cut_ends pid made.fd (cut && not made.is_new) made)
+
+closing_spare_ends : (pid : ℕ) (is_open : Bool) (made : Made) → EndsAtAborts (closing_spare pid is_open made)
+closing_spare_ends pid true made = done_with_ends pid made.fd made
+closing_spare_ends pid false made = tt
+
+by_descriptor_ends : (pid : ℕ) (kind : Kind) (inode : ℕ) (fd : Option ℕ) → EndsAtAborts (by_descriptor pid kind inode fd)
+by_descriptor_ends pid kind inode (Some fd) = stating_ends pid (call.Fstat fd)
+by_descriptor_ends pid Dir inode None = tt
+by_descriptor_ends pid File inode None = refl
+by_descriptor_ends pid Pipe inode None = refl
+
+finding_at_ends : (pid : ℕ) (kind : Kind) (inode : ℕ) (fd : Option ℕ) (path : Option (List ℕ)) → EndsAtAborts (finding_at pid kind inode fd path)
+finding_at_ends pid kind inode fd (Some path) =
+    behind (stating pid (call.Stat path)) (if_found pid kind inode fd) (stating_ends pid (call.Stat path)) (λ why. refl)
+    (λ stat. either (stat.num == inode) (Give (Ok stat)) (by_descriptor pid kind inode fd) tt (by_descriptor_ends pid kind inode fd))
+    (λ e other. either (gives_none e) (by_descriptor pid kind inode fd) (Give (Err e)) (by_descriptor_ends pid kind inode fd) other)
+finding_at_ends pid kind inode fd None = by_descriptor_ends pid kind inode fd
+
+sizing_ends : (pid inode : ℕ) (fd : Option ℕ) (path : Option (List ℕ)) (length : ℕ) → EndsAtAborts (sizing pid inode fd path length)
+sizing_ends pid inode (Some fd) path length = doing_ends pid (call.Ftruncate fd length)
+sizing_ends pid inode None (Some path) length = then_on (looking_for pid path inode) _ (looking_for_ends pid path inode) (λ same. doing_ends pid (call.Truncate path length))
+sizing_ends pid inode None None length = refl
+
+listing_at_ends : (pid inode : ℕ) (path : Option (List ℕ)) → EndsAtAborts (listing_at pid inode path)
+listing_at_ends pid inode (Some path) =
+    behind (stating pid (call.Stat path)) (if_listed pid path inode) (stating_ends pid (call.Stat path)) (λ why. refl)
+    (λ stat. either (stat.num == inode) (listing pid path) (Give (Ok [])) (listing_ends pid path) tt)
+    (λ e other. either (gives_none e) (Give (Ok [])) (Give (Err e)) tt other)
+listing_at_ends pid inode None = tt
+
+-- ---- the courses of requests
+
+pub look : (pid : ℕ) (c : Call) → EndsAtAborts (stating pid c)
+look pid c = stating_ends pid c
+
+pub find : (pid : ℕ) (o : Object) → EndsAtAborts (finding pid o)
+find pid o = finding_at_ends pid o.kind o.inode o.fd o.path
+
+pub set : (pid : ℕ) (s : Setting) (length : Option ℕ) → EndsAtAborts (setting_by pid s length)
+set pid s (Some length) = then_on (sizing pid s.object.inode s.object.fd (once s.path) length) _ (sizing_ends pid s.object.inode s.object.fd (once s.path) length) (λ done. find pid s.object)
+set pid s None = find pid s.object
+
+pub make : (pid : ℕ) (c : Call) (path : List ℕ) → EndsAtAborts (making pid c path)
+make pid c path = then_on (doing pid c) _ (doing_ends pid c) (λ done. stating_ends pid (call.Stat path))
+
+pub make_file : (pid : ℕ) (path : List ℕ) → EndsAtAborts (making_file pid path path)
+make_file pid path = then_on (creating pid path path true) _ (creating_ends pid path path true) (λ made. done_with_ends pid made.fd made.stat)
+
+pub link : (pid : ℕ) (path : List ℕ) (inode : ℕ) (new_path : List ℕ) → EndsAtAborts (linking pid path inode new_path)
+link pid path inode new_path = then_on (looking_for pid path inode) _ (looking_for_ends pid path inode) (λ same. make pid (call.Link path new_path) new_path)
+
+pub remove : (pid : ℕ) (c : Call) → EndsAtAborts (doing pid c)
+remove pid c = doing_ends pid c
+
+pub move_name : (pid : ℕ) (from to : List ℕ) (absent : Bool) → EndsAtAborts (moving pid from to absent)
+move_name pid from to false = doing_ends pid (call.Rename from to)
+move_name pid from to true = behind (stating pid (call.Stat to)) (if_absent pid from to) (stating_ends pid (call.Stat to)) (λ why. refl) (λ stat. refl) (λ e other. either (is_missing e) (doing pid (call.Rename from to)) (Give (Err e)) (doing_ends pid (call.Rename from to)) other)
+
+pub open_file : (pid : ℕ) (cut : Bool) (how : Opening) → EndsAtAborts (opened_by pid cut how)
+open_file pid cut (Again inode handle fd) = then_on (cutting pid fd cut) _ (cutting_ends pid fd cut) (λ done. tt)
+open_file pid cut (First view path inode) = opening_cut_ends pid path inode cut
+
+pub create : (s : Seen) (pid flags : ℕ) (p : Located) → EndsAtAborts (making_open s pid flags p)
+create s pid flags p = then_on (creating_cut pid p.path p.path (is_exclusive flags) (cuts flags)) _ (creating_cut_ends pid p.path p.path (is_exclusive flags) (cuts flags)) (λ made. closing_spare_ends pid (is_some (handle_of s p.view made.stat.num)) made)
+
+pub read : (pid fd count : ℕ) (offset : ℤ) → EndsAtAborts (reading pid fd count offset)
+read pid fd count offset = (λ why again. refl, bytes_no_abort)
+
+pub write : (pid : ℕ) (bytes : List ℕ) (fd : ℕ) (offset : Option ℤ) → EndsAtAborts (written_by pid bytes fd offset)
+write pid bytes fd (Some offset) = writing_ends pid fd bytes offset
+write pid bytes fd None = then_on (stating pid (call.Fstat fd)) _ (stating_ends pid (call.Fstat fd)) (λ stat. writing_ends pid fd bytes (pos stat.size))
+
+pub list : (pid : ℕ) (d : Directory) → EndsAtAborts (listed_by pid d)
+list pid d = listing_at_ends pid d.inode (once d.paths)
+
+pub list_anew : (pid node : ℕ) (names : List (List ℕ)) (d : Option Directory) → EndsAtAborts (listing_anew pid node names d)
+list_anew pid node names (Some d) = then_on (listed_by pid d) _ (list pid d) (λ taken. tt)
+list_anew pid node names None = tt

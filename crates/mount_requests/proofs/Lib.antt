@@ -1,0 +1,8 @@
+mod Answering
+mod Knowing
+mod Listing
+mod Ending
+mod Telling
+mod Reaching
+mod NoAborts
+pub mod Keeping

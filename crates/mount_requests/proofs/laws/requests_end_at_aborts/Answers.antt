@@ -1,0 +1,20 @@
+use Rattle.mount_requests.proofs.Ending.{create, find, link, list, list_anew, look, make, make_file, move_name, open_file, read, remove, set, write}
+use Rattle.mount_requests.proofs.laws.requests_end_at_aborts.Goals as goal
+
+pub returns : goal.returns
+returns c = record {
+  look = look;
+  find = find;
+  set = set;
+  make = make;
+  make_file = make_file;
+  link = link;
+  remove = remove;
+  move = move_name;
+  open_file = open_file;
+  create = create;
+  read = read;
+  write = write;
+  list = list;
+  list_anew = list_anew;
+}

@@ -1,0 +1,22 @@
+use Rattle.std.proofs.Common.{refl}
+use Rattle.mount_requests.specs.Seen.{seen}
+use Rattle.mount_requests.proofs.Answering.{failed, refused, told, unplanned}
+use Rattle.mount_requests.proofs.Knowing.{taken_away}
+use Rattle.mount_requests.proofs.tables.Tables.unlink.Goals as goal
+
+pub returns-in_err-path-clause-answers : goal.returns-in_err-path-clause-answers
+returns-in_err-path-clause-answers g c =
+    unplanned _ c.from_residual.ensures.1 c.in_err-path.ensures refl refl
+
+pub returns-in_err-removed-clause-answers : goal.returns-in_err-removed-clause-answers
+returns-in_err-removed-clause-answers g c =
+    refused _ c.from_residual-in_err-removed.ensures.1 refl refl
+
+pub returns-in_err-unlink-clause-answers : goal.returns-in_err-unlink-clause-answers
+returns-in_err-unlink-clause-answers g c =
+    failed _ c.in_ok-path.ensures c.from_residual-in_err-unlink.ensures.1 c.in_err-unlink.ensures.ran refl
+
+pub returns-clause-answers : goal.returns-clause-answers
+returns-clause-answers g c =
+    told c.in_ok-path.ensures c.in_ok-unlink.ensures.ran
+    (tt, taken_away (seen c.args.self.now) (seen c.note_removed.new.self) c.args.node c.args.name.now _ c.in_ok-removed.ensures c.note_removed.ensures)

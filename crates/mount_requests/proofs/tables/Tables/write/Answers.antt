@@ -1,0 +1,18 @@
+use Rattle.std.proofs.Common.{refl}
+use Rattle.mount_requests.proofs.Answering.{failed, told, unplanned}
+use Rattle.mount_requests.proofs.tables.Tables.write.Goals as goal
+
+pub returns-in_err-writing-clause-answers : goal.returns-in_err-writing-clause-answers
+returns-in_err-writing-clause-answers g c =
+    let h = rw c.pid.ensures at c.in_err-writing.ensures in
+    unplanned _ c.from_residual.ensures.1 h refl refl
+
+pub returns-in_err-size-clause-answers : goal.returns-in_err-size-clause-answers
+returns-in_err-size-clause-answers g c =
+    let h = rw c.pid.ensures at c.in_ok-writing.ensures in
+    failed _ h c.from_residual-in_err-size.ensures.1 c.in_err-size.ensures.ran refl
+
+pub returns-clause-answers : goal.returns-clause-answers
+returns-clause-answers g c =
+    let h = rw c.pid.ensures at c.in_ok-writing.ensures in
+    told h c.in_ok-size.ensures.ran (refl, refl)

@@ -1,0 +1,58 @@
+-- Behind an abort nothing of a request steps: a further step of the process would be a plain call.
+use Rattle.std.specs.Prelude.{◌≡◌, ℕ, ℤ, List, Bool, true, false, Option, Result, Ok, Err}
+use Rattle.ids.specs.declared.aspect.Why.{Why}
+use Rattle.ids.specs.declared.call.Call.{Call}
+use Rattle.ids.specs.declared.reply.Reply.{Reply}
+use Rattle.ids.specs.declared.reply.Reply.TheVariants as reply
+use Rattle.course.specs.Course.{Course, Give, Step}
+use Rattle.course.specs.Courses.{doing, finding, linking, making, making_file, moving, reading}
+use Rattle.course.specs.Courses.{stating}
+use Rattle.course.specs.Faults.{is_abort}
+use Rattle.course.specs.declared.fault.Fault.{Fault}
+use Rattle.course.specs.declared.fault.Fault.TheVariants.{Aborted}
+use Rattle.course.specs.declared.objects.Object.{Object}
+use Rattle.mount_requests.specs.Requests.{listed_by, listing_anew, making_open, opened_by, setting_by}
+use Rattle.mount_requests.specs.Requests.{written_by}
+use Rattle.mount_requests.specs.Seen.{Seen}
+use Rattle.mount_requests.specs.declared.changing.Setting.{Setting}
+use Rattle.mount_requests.specs.declared.opening.Opening.{Opening}
+use Rattle.mount_requests.specs.declared.planning.Located.{Located}
+use Rattle.mount_requests.specs.declared.reading.Directory.{Directory}
+
+-- whether a reply tells of an abort
+abbrev pub tells_abort : Reply → Bool
+tells_abort (reply.Aborted why again) = true
+tells_abort _ = false
+
+-- an outcome that is no abort
+abbrev pub IsNoAbort : {A : Type 0} → Result A Fault → Type 0
+IsNoAbort (Ok x) = Unit {0}
+IsNoAbort (Err e) = is_abort e ≡ false
+
+-- Where a step is answered with an abort the course is at its end, and that is its outcome: it has the
+-- cause that the step was told. No other outcome is an abort.
+abbrev pub EndsAtAborts : {A : Type 0} → Course (Result A Fault) → Type 0
+EndsAtAborts (Give r) = IsNoAbort r
+EndsAtAborts (Step pid op next) =
+    ((why : Why) (again : Bool) → next (reply.Aborted why again) ≡ Give (Err (Aborted why)))
+    × ((r : Reply) → tells_abort r ≡ false → EndsAtAborts (next r))
+
+-- the courses of all requests about nodes
+pub record RequestsEndAtAborts : Type 0 where
+  pub look : (pid : ℕ) (c : Call) → EndsAtAborts (stating pid c)
+  pub find : (pid : ℕ) (o : Object) → EndsAtAborts (finding pid o)
+  pub set : (pid : ℕ) (s : Setting) (length : Option ℕ) → EndsAtAborts (setting_by pid s length)
+  pub make : (pid : ℕ) (c : Call) (path : List ℕ) → EndsAtAborts (making pid c path)
+  pub make_file : (pid : ℕ) (path : List ℕ) → EndsAtAborts (making_file pid path path)
+  pub link : (pid : ℕ) (path : List ℕ) (inode : ℕ) (new_path : List ℕ)
+      → EndsAtAborts (linking pid path inode new_path)
+  pub remove : (pid : ℕ) (c : Call) → EndsAtAborts (doing pid c)
+  pub move : (pid : ℕ) (from to : List ℕ) (absent : Bool) → EndsAtAborts (moving pid from to absent)
+  pub open_file : (pid : ℕ) (cut : Bool) (how : Opening) → EndsAtAborts (opened_by pid cut how)
+  pub create : (s : Seen) (pid flags : ℕ) (p : Located) → EndsAtAborts (making_open s pid flags p)
+  pub read : (pid fd count : ℕ) (offset : ℤ) → EndsAtAborts (reading pid fd count offset)
+  pub write : (pid : ℕ) (bytes : List ℕ) (fd : ℕ) (offset : Option ℤ)
+      → EndsAtAborts (written_by pid bytes fd offset)
+  pub list : (pid : ℕ) (d : Directory) → EndsAtAborts (listed_by pid d)
+  pub list_anew : (pid node : ℕ) (names : List (List ℕ)) (d : Option Directory)
+      → EndsAtAborts (listing_anew pid node names d)

@@ -1,0 +1,498 @@
+-- The plan of each request about a node of a tree, its course, what its reply shows, and what is known
+-- then of nodes and open files: all that is not told here stands.
+use Rattle.std.specs.Prelude.{◌≡◌, ℕ, ◌+◌, ◌==◌, ◌||◌, ◌&&◌, ◌/◌, ◌%◌, ◌^◌, not, min, nat_lt, bit_and, ℤ, pos}
+use Rattle.std.specs.Prelude.{List, [], Bool, true, false, Option, Some, None, is_some, option_map}
+use Rattle.std.specs.Prelude.{Result, Ok, Err, if◌then◌else◌}
+use Rattle.model.specs.FiniteMap as map
+use Rattle.ids.specs.declared.call.Call.TheVariants as call
+use Rattle.ids.specs.declared.limits.TheConstants.{MOST_MOVED}
+use Rattle.ids.specs.declared.reply.Stat.{Stat}
+use Rattle.fuse.specs.declared.errno.Errno.TheVariants as errno
+use Rattle.fuse.specs.declared.reply.Reply.{Reply}
+use Rattle.fuse.specs.declared.reply.Reply.TheVariants as reply
+use Rattle.fuse.specs.declared.request.Changes.{Changes}
+use Rattle.fuse.specs.declared.request.Operation.{Operation}
+use Rattle.fuse.specs.declared.request.Operation.TheVariants as asked
+use Rattle.fuse.specs.declared.request.Whence.{Whence}
+use Rattle.machine.specs.Shown.{Shown}
+use Rattle.nodes.specs.Tables.{detached, looked_up, made}
+use Rattle.nodes.specs.Tables.{moved as renamed}
+use Rattle.nodes.specs.Tables.{Table}
+use Rattle.course.specs.Course.{Course, Give, ◌>>=◌}
+use Rattle.course.specs.Courses.{appending, closing_spare, creating_cut, cutting, doing, finding}
+use Rattle.course.specs.Courses.{linking, listing_at, making, making_file, moving, on_ok, opening_cut}
+use Rattle.course.specs.Courses.{reading, resizing, stating, writing}
+use Rattle.course.specs.declared.fault.Fault.{Fault}
+use Rattle.course.specs.declared.files.Made.{Made}
+use Rattle.course.specs.declared.names.Twice.{Twice}
+use Rattle.mount_tables.specs.Files.{counted}
+use Rattle.mount_tables.specs.Folders.{Opened}
+use Rattle.mount_tables.specs.Numbers.{is_reserved}
+use Rattle.mount_tables.specs.Processes.{held}
+use Rattle.mount_tables.specs.declared.open_files.OpenFile.{OpenFile}
+use Rattle.mount_requests.specs.Answers.{Answers, AnswersIfRoom, Says}
+use Rattle.mount_requests.specs.Failures.{and_then, error, found_or}
+use Rattle.mount_requests.specs.Found.{file_by, folder_at, handle_at, handle_of, inode_of, located_child}
+use Rattle.mount_requests.specs.Found.{located_new, located_own, object_of, own_path, path_to}
+use Rattle.mount_requests.specs.Found.{shown_names, stepper_at}
+use Rattle.mount_requests.specs.Listed.{Lists}
+use Rattle.mount_requests.specs.Seen.{Seen}
+use Rattle.mount_requests.specs.Told.{ShowsAttributes, ShowsBytes, ShowsCount, ShowsCreated, ShowsEntry}
+use Rattle.mount_requests.specs.Told.{ShowsHandle, ShowsNothing, ShowsSought, named, sought}
+use Rattle.mount_requests.specs.declared.changing.Setting.{Setting}
+use Rattle.mount_requests.specs.declared.failure.Failure.{Failure}
+use Rattle.mount_requests.specs.declared.files.Reading.{Reading}
+use Rattle.mount_requests.specs.declared.files.Writing.{Writing}
+use Rattle.mount_requests.specs.declared.making.Linking.{Linking}
+use Rattle.mount_requests.specs.declared.opening.Opening.{Opening}
+use Rattle.mount_requests.specs.declared.opening.Opening.TheVariants.{Again, First}
+use Rattle.mount_requests.specs.declared.planning.Located.{Located}
+use Rattle.mount_requests.specs.declared.planning.Pair.{Pair}
+use Rattle.mount_requests.specs.declared.reading.Directory.{Directory}
+
+-- whether a flag is among these
+abbrev pub has_flag : ℕ → ℕ → Bool
+has_flag flags flag = not (bit_and flags flag == 0)
+
+-- a path that is used twice
+abbrev pub twice : List ℕ → Twice
+twice path = record { first = path; second = path }
+
+abbrev pub own_paths : Seen → ℕ → Option Twice
+own_paths s node = option_map twice (option_map own_path (path_to s node))
+
+-- the first use of it
+abbrev pub once : Option Twice → Option (List ℕ)
+once paths = option_map (λ (p : Twice). p.first) paths
+
+-- ---- what is known then
+
+-- a name was looked up, and gave an object
+abbrev pub with_look_up : Seen → ℕ → List ℕ → Stat → Seen
+with_look_up s node name stat =
+    record s { nodes = looked_up s.nodes (named node name) stat.num stat.kind }
+
+-- an object was made, and what its number meant before is gone
+abbrev pub with_birth : Seen → Stat → Seen
+with_birth s stat = record s { nodes = made s.nodes stat.num }
+
+abbrev pub with_made : Seen → ℕ → List ℕ → Stat → Seen
+with_made s node name stat = with_look_up (with_birth s stat) node name stat
+
+-- a name was taken away
+abbrev pub without_name : Seen → ℕ → List ℕ → Seen
+without_name s node name = record s { nodes = detached s.nodes (named node name) }
+
+-- a file was opened by a descriptor of a process, which has one more in the plain tree
+abbrev pub opened_first : Seen → ℕ → ℕ → ℕ → ℕ → Seen
+opened_first s view inode pid fd = record s {
+  files = map.insert s.files s.next_file
+      (record { view = view; inode = inode; pid = pid; fd = fd; opens = 1 });
+  handles = map.insert s.handles (record { view = view; inode = inode }) s.next_file;
+  next_file = s.next_file + 1;
+  roles = if view == 0 then held pid (map.get s.roles pid) s.roles else s.roles;
+}
+
+-- or once more under the number that it has
+abbrev pub opened_again : Seen → ℕ → Seen
+opened_again s handle = record s { files = counted handle (map.get s.files handle) s.files }
+
+-- ---- looking
+
+-- The directory of transactions stands in the root of the plain tree alone.
+abbrev pub IsReserved : ℕ → Result Reply Failure → Type 0
+IsReserved node (Ok (reply.Entry entry)) = (node ≡ 1) × (entry.node ≡ 2)
+IsReserved node (Ok r) = ⊥
+IsReserved node (Err e) = e ≡ error errno.ENOENT
+
+abbrev pub AnswersName : Seen → Seen → ℕ → ℕ → List ℕ → Shown → Shown → Result Reply Failure → Type 0
+AnswersName s later pid node name old new result =
+    Answers s later old new (located_child s node name) (λ p. stating pid (call.Stat p.path))
+    (λ p stat known r. Says (ShowsEntry s.nodes (named node name) stat) r
+    × (known ≡ with_look_up s node name stat)) result
+
+abbrev pub AnswersLookUpBy : Bool → Seen → Seen → ℕ → ℕ → List ℕ → Shown → Shown
+    → Result Reply Failure → Type 0
+AnswersLookUpBy true s later pid node name old new result =
+    IsReserved node result × (new ≡ old) × (later ≡ s)
+AnswersLookUpBy false s later pid node name old new result =
+    AnswersName s later pid node name old new result
+
+abbrev pub AnswersLookUp : Seen → Seen → ℕ → ℕ → List ℕ → Shown → Shown → Result Reply Failure
+    → Type 0
+AnswersLookUp s later pid node name old new result =
+    AnswersLookUpBy (is_reserved node name) s later pid node name old new result
+
+abbrev pub AnswersGetAttr : Seen → Seen → ℕ → ℕ → Shown → Shown → Result Reply Failure → Type 0
+AnswersGetAttr s later pid node old new result =
+    Answers s later old new (object_of s pid node) (finding pid)
+    (λ o stat known r. Says (ShowsAttributes stat) r × (known ≡ s)) result
+
+-- ---- setting
+
+-- a length that is set, which files may have
+abbrev pub length_in : Option ℕ → Result (Option ℕ) Failure
+length_in (Some size) =
+    if nat_lt size (2 ^ 32) then Ok (Some size) else Err (error errno.EFBIG)
+length_in None = Ok None
+
+abbrev pub setting : Seen → ℕ → ℕ → Option ℕ → Result Setting Failure
+setting s pid node size = and_then (length_in size) (λ length.
+    and_then (object_of s pid node) (λ o. Ok (record {
+      object = o;
+      length = length;
+      path = own_paths s node;
+    })))
+
+abbrev pub setting_by : ℕ → Setting → Option ℕ → Course (Result Stat Fault)
+setting_by pid s (Some length) = resizing pid s.object (once s.path) length
+setting_by pid s None = finding pid s.object
+
+abbrev pub AnswersSetAttr : Seen → Seen → ℕ → ℕ → Changes → Shown → Shown → Result Reply Failure
+    → Type 0
+AnswersSetAttr s later pid node changes old new result =
+    Answers s later old new (setting s pid node changes.size) (λ p. setting_by pid p p.length)
+    (λ p stat known r. Says (ShowsAttributes stat) r × (known ≡ s)) result
+
+-- ---- making names
+
+abbrev pub AnswersMkDir : Seen → Seen → ℕ → ℕ → List ℕ → Shown → Shown → Result Reply Failure
+    → Type 0
+AnswersMkDir s later pid node name old new result =
+    Answers s later old new (located_new s node name) (λ p. making pid (call.Mkdir p.path) p.path)
+    (λ p stat known r. Says (ShowsEntry (made s.nodes stat.num) (named node name) stat) r
+    × (known ≡ with_made s node name stat)) result
+
+-- only plain files are made, and a mode that tells no kind means them
+abbrev pub plain_kind : ℕ → Result (Unit {0}) Failure
+plain_kind mode =
+    if mode / 4096 % 16 == 8 || mode / 4096 % 16 == 0 then Ok tt
+    else Err (error errno.EOPNOTSUPP)
+
+abbrev pub planned_file : Seen → ℕ → List ℕ → ℕ → Result Located Failure
+planned_file s node name mode = and_then (plain_kind mode) (λ plain. located_new s node name)
+
+abbrev pub AnswersMkNod : Seen → Seen → ℕ → ℕ → List ℕ → ℕ → Shown → Shown → Result Reply Failure
+    → Type 0
+AnswersMkNod s later pid node name mode old new result =
+    Answers s later old new (planned_file s node name mode) (λ p. making_file pid p.path p.path)
+    (λ p stat known r. Says (ShowsEntry (made s.nodes stat.num) (named node name) stat) r
+    × (known ≡ with_made s node name stat)) result
+
+-- two paths in one view
+abbrev pub in_one_view : Located → Located → Result Pair Failure
+in_one_view from to =
+    if from.view == to.view then Ok (record { from = from.path; to = to.path })
+    else Err (error errno.EXDEV)
+
+-- the file of a node, by its path, and its further name
+abbrev pub linking_in : Seen → ℕ → ℕ → List ℕ → Result Linking Failure
+linking_in s parent node name = and_then (located_new s parent name) (λ to.
+    and_then (located_own s node) (λ from.
+    and_then (in_one_view from to) (λ paths. Ok (record {
+      from = twice paths.from;
+      inode = inode_of s node;
+      to = twice paths.to;
+    }))))
+
+abbrev pub AnswersLink : Seen → Seen → ℕ → ℕ → ℕ → List ℕ → Shown → Shown → Result Reply Failure
+    → Type 0
+AnswersLink s later pid parent node name old new result =
+    Answers s later old new (linking_in s parent node name)
+    (λ l. linking pid l.from.first l.inode l.to.first)
+    (λ l stat known r. Says (ShowsEntry s.nodes (named parent name) stat) r
+    × (known ≡ with_look_up s parent name stat)) result
+
+-- ---- taking names away, and moving them
+
+abbrev pub AnswersUnlink : Seen → Seen → ℕ → ℕ → List ℕ → Shown → Shown → Result Reply Failure
+    → Type 0
+AnswersUnlink s later pid node name old new result =
+    Answers s later old new (located_new s node name) (λ p. doing pid (call.Unlink p.path))
+    (λ p done known r. Says ShowsNothing r × (known ≡ without_name s node name)) result
+
+abbrev pub removing : Seen → ℕ → List ℕ → Result Located Failure
+removing s node name =
+    if is_reserved node name then Err (error errno.EBUSY) else located_child s node name
+
+abbrev pub AnswersRmDir : Seen → Seen → ℕ → ℕ → List ℕ → Shown → Shown → Result Reply Failure
+    → Type 0
+AnswersRmDir s later pid node name old new result =
+    Answers s later old new (removing s node name) (λ p. doing pid (call.Rmdir p.path))
+    (λ p done known r. Says ShowsNothing r × (known ≡ without_name s node name)) result
+
+-- a move may replace nothing, by its flag 1, and there is no other flag
+abbrev pub absent_in : ℕ → Result Bool Failure
+absent_in flags = if nat_lt 1 flags then Err (error errno.EINVAL) else Ok (flags == 1)
+
+abbrev pub moved : Seen → ℕ → List ℕ → ℕ → List ℕ → ℕ → Result (Pair × Bool) Failure
+moved s node name new_node new_name flags = and_then (absent_in flags) (λ absent.
+    and_then (located_new s node name) (λ from.
+    and_then (located_new s new_node new_name) (λ to.
+    and_then (in_one_view from to) (λ paths. Ok (paths, absent)))))
+
+abbrev pub with_move : Seen → ℕ → List ℕ → ℕ → List ℕ → Seen
+with_move s node name new_node new_name =
+    record s { nodes = renamed s.nodes (named node name) (named new_node new_name) }
+
+abbrev pub AnswersRename : Seen → Seen → ℕ → ℕ → List ℕ → ℕ → List ℕ → ℕ → Shown → Shown
+    → Result Reply Failure → Type 0
+AnswersRename s later pid node name new_node new_name flags old new result =
+    Answers s later old new (moved s node name new_node new_name flags)
+    (λ m. moving pid m.0.from m.0.to m.1)
+    (λ m done known r. Says ShowsNothing r × (known ≡ with_move s node name new_node new_name)) result
+
+-- ---- opening
+
+abbrev pub is_node : Seen → ℕ → Bool
+is_node s node = is_some (map.get s.nodes.nodes node)
+
+-- a file that is open in the view already is opened once more
+abbrev pub opening_by : Seen → ℕ → ℕ → Option ℕ → Result Opening Failure
+opening_by s pid node (Some handle) =
+    and_then (file_by s pid handle) (λ file. Ok (Again (inode_of s node) handle file.fd))
+opening_by s pid node None =
+    and_then (located_own s node) (λ p. Ok (First p.view p.path (inode_of s node)))
+
+abbrev pub opening : Seen → ℕ → ℕ → Result Opening Failure
+opening s pid node = and_then (stepper_at s node) (λ st.
+    if is_node s node then opening_by s pid node (handle_at s st.view node)
+    else Err (error errno.EISDIR))
+
+abbrev pub opened_by : ℕ → Bool → Opening → Course (Result ℕ Fault)
+opened_by pid cut (Again inode handle fd) = cutting pid fd cut >>= on_ok (λ done. Give (Ok fd))
+opened_by pid cut (First view path inode) = opening_cut pid path inode cut
+
+-- what is known then, and under which number the file is open
+abbrev pub with_opening : Seen → ℕ → Opening → ℕ → Seen
+with_opening s pid (Again inode handle fd) given = opened_again s handle
+with_opening s pid (First view path inode) given = opened_first s view inode pid given
+
+abbrev pub handle_by : Seen → Opening → ℕ
+handle_by s (Again inode handle fd) = handle
+handle_by s (First view path inode) = s.next_file
+
+-- the flags of an open that cuts the file, and of one that has to make it
+abbrev pub cuts : ℕ → Bool
+cuts flags = has_flag flags 512
+
+abbrev pub is_exclusive : ℕ → Bool
+is_exclusive flags = has_flag flags 128
+
+abbrev pub OpensAs : Seen → Seen → ℕ → Bool → Result Opening Failure → Shown → Shown
+    → Result Reply Failure → Type 0
+OpensAs s later pid cut plan old new result =
+    Answers s later old new plan (opened_by pid cut)
+    (λ o fd known r. Says (ShowsHandle (handle_by s o)) r × (known ≡ with_opening s pid o fd)) result
+
+abbrev pub AnswersOpen : Seen → Seen → ℕ → ℕ → ℕ → Shown → Shown → Result Reply Failure → Type 0
+AnswersOpen s later pid node flags old new result =
+    OpensAs s later pid (cuts flags) (opening s pid node) old new result
+
+-- a file is made, or the one of that name is opened, unless it is open already
+abbrev pub making_open : Seen → ℕ → ℕ → Located → Course (Result Made Fault)
+making_open s pid flags p =
+    creating_cut pid p.path p.path (is_exclusive flags) (cuts flags)
+    >>= on_ok (λ made. closing_spare pid (is_some (handle_of s p.view made.stat.num)) made)
+
+-- A file that was made is open under the number that it had, where it was open already.
+abbrev pub handle_made_by : Seen → Option ℕ → ℕ
+handle_made_by s (Some handle) = handle
+handle_made_by s None = s.next_file
+
+abbrev pub handle_made : Seen → ℕ → Made → ℕ
+handle_made s view made = handle_made_by s (handle_of s view made.stat.num)
+
+abbrev pub with_open_by : Seen → ℕ → ℕ → Made → Option ℕ → Seen
+with_open_by s view pid made (Some handle) = opened_again s handle
+with_open_by s view pid made None = opened_first s view made.stat.num pid made.fd
+
+abbrev pub with_open : Seen → ℕ → ℕ → Made → Seen
+with_open s view pid made = with_open_by s view pid made (handle_of s view made.stat.num)
+
+abbrev pub born_if : Bool → Table → ℕ → Table
+born_if true t inode = made t inode
+born_if false t inode = t
+
+abbrev pub with_created : Seen → ℕ → ℕ → ℕ → List ℕ → Made → Seen
+with_created s view pid node name made = record (with_open s view pid made) {
+  nodes = looked_up (born_if made.is_new s.nodes made.stat.num) (named node name)
+      made.stat.num made.stat.kind;
+}
+
+abbrev pub AnswersCreate : Seen → Seen → ℕ → ℕ → List ℕ → ℕ → Shown → Shown
+    → Result Reply Failure → Type 0
+AnswersCreate s later pid node name flags old new result =
+    Answers s later old new (located_new s node name) (making_open s pid flags)
+    (λ p made known r. Says (ShowsCreated (born_if made.is_new s.nodes made.stat.num)
+    (named node name) made.stat (handle_made s p.view made)) r
+    × (known ≡ with_created s p.view pid node name made)) result
+
+-- ---- open files
+
+-- an offset as the kernel takes it
+abbrev pub offset_in : ℕ → Result ℤ Failure
+offset_in offset =
+    if nat_lt offset (2 ^ 63) then Ok (pos offset) else Err (error errno.EINVAL)
+
+abbrev pub reads : Seen → ℕ → ℕ → ℕ → ℕ → Result Reading Failure
+reads s pid handle offset size = and_then (file_by s pid handle) (λ file.
+    and_then (offset_in offset) (λ from.
+    Ok (record { fd = file.fd; count = min size MOST_MOVED; offset = from })))
+
+abbrev pub AnswersRead : Seen → Seen → ℕ → ℕ → ℕ → ℕ → Shown → Shown → Result Reply Failure → Type 0
+AnswersRead s later pid handle offset size old new result =
+    Answers s later old new (reads s pid handle offset size)
+    (λ p. reading pid p.fd p.count p.offset)
+    (λ p bytes known r. Says (ShowsBytes bytes) r × (known ≡ s)) result
+
+-- A write whose flags say O_APPEND goes to the end, whatever offset came with it.
+abbrev pub offset_by : ℕ → ℕ → Result (Option ℤ) Failure
+offset_by flags offset =
+    if has_flag flags 1024 then Ok None else and_then (offset_in offset) (λ from. Ok (Some from))
+
+abbrev pub writes : Seen → ℕ → ℕ → ℕ → ℕ → Result Writing Failure
+writes s pid handle offset flags = and_then (file_by s pid handle) (λ file.
+    and_then (offset_by flags offset) (λ from.
+    Ok (record { inode = file.inode; fd = file.fd; offset = from })))
+
+abbrev pub written_by : ℕ → List ℕ → ℕ → Option ℤ → Course (Result ℕ Fault)
+written_by pid bytes fd (Some offset) = writing pid fd bytes offset
+written_by pid bytes fd None = appending pid fd bytes
+
+abbrev pub AnswersWrite : Seen → Seen → ℕ → ℕ → ℕ → ℕ → List ℕ → Shown → Shown
+    → Result Reply Failure → Type 0
+AnswersWrite s later pid handle offset flags bytes old new result =
+    Answers s later old new (writes s pid handle offset flags)
+    (λ w. written_by pid bytes w.fd w.offset)
+    (λ w count known r. Says (ShowsCount count) r × (known ≡ s)) result
+
+abbrev pub AnswersSeek : Seen → Seen → ℕ → ℕ → ℕ → Whence → Shown → Shown → Result Reply Failure
+    → Type 0
+AnswersSeek s later pid handle offset whence old new result =
+    Answers s later old new (file_by s pid handle)
+    (λ (file : OpenFile). stating pid (call.Fstat file.fd))
+    (λ file stat known r. ShowsSought (sought offset whence stat.size) r × (known ≡ s)) result
+
+-- ---- directories
+
+-- a directory, by its path, if there is one
+abbrev pub directory_of : Seen → ℕ → Directory
+directory_of s node = record { inode = inode_of s node; paths = own_paths s node }
+
+abbrev pub listed_by : ℕ → Directory → Course (Result (List (List ℕ)) Fault)
+listed_by pid d = listing_at pid d.inode (once d.paths)
+
+abbrev pub planned_directory : Seen → ℕ → Result Directory Failure
+planned_directory s node = and_then (stepper_at s node) (λ st. Ok (directory_of s node))
+
+-- a directory was opened, and its lists show these names
+abbrev pub with_folder : Seen → ℕ → List (List ℕ) → Seen
+with_folder s node names = record s {
+  folders = map.insert s.folders s.next_folder
+      (record { node = node; names = names; was_read = false });
+  next_folder = s.next_folder + 1;
+}
+
+abbrev pub AnswersOpenDir : Seen → Seen → ℕ → ℕ → Shown → Shown → Result Reply Failure → Type 0
+AnswersOpenDir s later pid node old new result =
+    AnswersIfRoom s later old new (planned_directory s node) (listed_by pid)
+    (λ d names known r. Says (ShowsHandle s.next_folder) r
+    × (known ≡ with_folder s node (shown_names node names))) result
+
+-- an open directory of this node
+abbrev pub if_of_node : ℕ → Opened → Result Opened Failure
+if_of_node node folder = if folder.node == node then Ok folder else Err (error errno.EBADF)
+
+abbrev pub folder_of : Seen → ℕ → ℕ → Result Opened Failure
+folder_of s node handle = and_then (found_or errno.EBADF (folder_at s handle)) (if_of_node node)
+
+-- Its names are taken anew where they were read since and are read from the start again.
+abbrev pub is_stale : Opened → ℕ → Bool
+is_stale folder offset = folder.was_read && offset == 0
+
+-- the directory whose names are taken anew, where they are
+abbrev pub lists : Seen → ℕ → ℕ → ℕ → Result (Option Directory) Failure
+lists s node handle offset = and_then (folder_of s node handle) (λ folder.
+    Ok (if is_stale folder offset then Some (directory_of s node) else None))
+
+-- the names that are listed: those that were kept, or new ones
+abbrev pub kept_names : Option Opened → List (List ℕ)
+kept_names (Some folder) = folder.names
+kept_names None = []
+
+abbrev pub listing_anew : ℕ → ℕ → List (List ℕ) → Option Directory
+    → Course (Result (List (List ℕ)) Fault)
+listing_anew pid node kept (Some d) =
+    listed_by pid d >>= on_ok (λ taken. Give (Ok (shown_names node taken)))
+listing_anew pid node kept None = Give (Ok kept)
+
+-- an open directory has these names, which are read
+abbrev pub with_names : Seen → ℕ → ℕ → List (List ℕ) → Seen
+with_names s node handle names = record s {
+  folders = map.insert s.folders handle (record { node = node; names = names; was_read = true });
+}
+
+abbrev pub ListsBy : Seen → Seen → ℕ → ℕ → ℕ → ℕ → ℕ → Result (Option Directory) Failure
+    → Shown → Shown → Result Reply Failure → Type 0
+ListsBy s later pid node handle offset size plan old new result =
+    AnswersIfRoom s later old new plan (listing_anew pid node (kept_names (folder_at s handle)))
+    (λ d names known r. Says (Lists offset size names) r × (known ≡ with_names s node handle names))
+    result
+
+abbrev pub AnswersReadDir : Seen → Seen → ℕ → ℕ → ℕ → ℕ → ℕ → Shown → Shown → Result Reply Failure
+    → Type 0
+AnswersReadDir s later pid node handle offset size old new result =
+    ListsBy s later pid node handle offset size (lists s node handle offset) old new result
+
+-- ---- all of them
+
+-- no step is made, this is told, and nothing else is known then
+abbrev pub Tells : Result Reply Failure → Seen → Seen → Shown → Shown → Result Reply Failure → Type 0
+Tells told s later old new result = (result ≡ told) × (new ≡ old) × (later ≡ s)
+
+-- Requests on open files were answered; others are not served.
+abbrev pub IsOfFiles : Seen → Seen → ℕ → ℕ → Operation → Shown → Shown → Result Reply Failure
+    → Type 0
+IsOfFiles s later pid node (asked.Open flags) old new r =
+    AnswersOpen s later pid node flags old new r
+IsOfFiles s later pid node (asked.Read handle offset size flags) old new r =
+    AnswersRead s later pid handle offset size old new r
+IsOfFiles s later pid node (asked.Write handle offset how flags bytes) old new r =
+    AnswersWrite s later pid handle offset flags bytes old new r
+IsOfFiles s later pid node (asked.Lseek handle offset whence) old new r =
+    AnswersSeek s later pid handle offset whence old new r
+IsOfFiles s later pid node _ old new r = Tells (Err (error errno.ENOSYS)) s later old new r
+
+-- or requests that change names
+abbrev pub IsOfNames : Seen → Seen → ℕ → ℕ → Operation → Shown → Shown → Result Reply Failure
+    → Type 0
+IsOfNames s later pid node (asked.MkNod name mode) old new r =
+    AnswersMkNod s later pid node name mode old new r
+IsOfNames s later pid node (asked.MkDir name mode) old new r =
+    AnswersMkDir s later pid node name old new r
+IsOfNames s later pid node (asked.Unlink name) old new r =
+    AnswersUnlink s later pid node name old new r
+IsOfNames s later pid node (asked.RmDir name) old new r =
+    AnswersRmDir s later pid node name old new r
+IsOfNames s later pid node (asked.Rename name new_node new_name flags) old new r =
+    AnswersRename s later pid node name new_node new_name flags old new r
+IsOfNames s later pid node (asked.Link of name) old new r =
+    AnswersLink s later pid node of name old new r
+IsOfNames s later pid node (asked.Create name flags mode) old new r =
+    AnswersCreate s later pid node name flags old new r
+IsOfNames s later pid node operation old new r = IsOfFiles s later pid node operation old new r
+
+-- A request about a node was answered, by the steps of a process.
+abbrev pub IsAnswered : Seen → Seen → ℕ → ℕ → Operation → Shown → Shown → Result Reply Failure
+    → Type 0
+IsAnswered s later pid node (asked.Lookup name) old new r =
+    AnswersLookUp s later pid node name old new r
+IsAnswered s later pid node (asked.GetAttr h) old new r = AnswersGetAttr s later pid node old new r
+IsAnswered s later pid node (asked.SetAttr c) old new r = AnswersSetAttr s later pid node c old new r
+IsAnswered s later pid node asked.OpenDir old new r = AnswersOpenDir s later pid node old new r
+IsAnswered s later pid node (asked.ReadDir handle offset size) old new r =
+    AnswersReadDir s later pid node handle offset size old new r
+IsAnswered s later pid node (asked.Access mask) old new r =
+    Tells (Ok reply.Empty) s later old new r
+IsAnswered s later pid node operation old new r = IsOfNames s later pid node operation old new r

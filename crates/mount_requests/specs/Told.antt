@@ -1,0 +1,71 @@
+-- What replies show of what the kernel answered.
+use Rattle.std.specs.Prelude.{◌≡◌, ℕ, ◌+◌, ◌-◌, ◌^◌, min, nat_lt}
+use Rattle.std.specs.Prelude.{List, Result, Ok, Err, if◌then◌else◌}
+use Rattle.ids.specs.declared.reply.Stat.{Stat}
+use Rattle.fuse.specs.declared.errno.Errno.TheVariants as errno
+use Rattle.fuse.specs.declared.reply.Entry.{Entry}
+use Rattle.fuse.specs.declared.reply.Reply.{Reply}
+use Rattle.fuse.specs.declared.reply.Reply.TheVariants as reply
+use Rattle.fuse.specs.declared.request.Whence.{Whence}
+use Rattle.fuse.specs.declared.request.Whence.TheVariants as whence
+use Rattle.nodes.specs.Tables.{Table, number_for}
+use Rattle.nodes.specs.declared.directory_entry.DirectoryEntry.{DirectoryEntry}
+use Rattle.mount_tables.specs.Attributes.{IsLike}
+use Rattle.mount_requests.specs.Failures.{error}
+use Rattle.mount_requests.specs.declared.failure.Failure.{Failure}
+
+abbrev pub named : ℕ → List ℕ → DirectoryEntry
+named parent name = record { parent = parent; name = name }
+
+-- what a name gave: its node, and the object's attributes
+pub record IsEntry (t : Table) (p : DirectoryEntry) (stat : Stat) (entry : Entry) : Type 0 where
+  pub node : entry.node ≡ number_for t p stat.num
+  pub like : IsLike stat entry.attr
+
+abbrev pub ShowsNothing : Reply → Type 0
+ShowsNothing reply.Empty = Unit {0}
+ShowsNothing _ = ⊥
+
+abbrev pub ShowsEntry : Table → DirectoryEntry → Stat → Reply → Type 0
+ShowsEntry t p stat (reply.Entry entry) = IsEntry t p stat entry
+ShowsEntry t p stat _ = ⊥
+
+abbrev pub ShowsAttributes : Stat → Reply → Type 0
+ShowsAttributes stat (reply.Attr attr) = IsLike stat attr
+ShowsAttributes stat _ = ⊥
+
+abbrev pub ShowsBytes : List ℕ → Reply → Type 0
+ShowsBytes bytes (reply.Data read) = read ≡ bytes
+ShowsBytes bytes _ = ⊥
+
+abbrev pub ShowsCount : ℕ → Reply → Type 0
+ShowsCount count (reply.Written size) = size ≡ count
+ShowsCount count _ = ⊥
+
+-- an open file or directory, by this number
+abbrev pub ShowsHandle : ℕ → Reply → Type 0
+ShowsHandle handle (reply.Opened opened) = opened.handle ≡ handle
+ShowsHandle handle _ = ⊥
+
+abbrev pub ShowsCreated : Table → DirectoryEntry → Stat → ℕ → Reply → Type 0
+ShowsCreated t p stat handle (reply.Created entry opened) =
+    IsEntry t p stat entry × (opened.handle ≡ handle)
+ShowsCreated t p stat handle _ = ⊥
+
+-- The offset that is looked for in a file of this length, which has no holes.
+abbrev pub within : ℕ → ℕ → ℕ → Result ℕ Failure
+within offset size found =
+    if nat_lt offset size then Ok found else Err (error errno.ENXIO)
+
+abbrev pub sought : ℕ → Whence → ℕ → Result ℕ Failure
+sought offset whence.Start size = Ok offset
+sought offset whence.Current size = Err (error errno.EINVAL)
+sought offset whence.End size = Ok (min (size + offset) (2 ^ 64 - 1))
+sought offset whence.NextData size = within offset size offset
+sought offset whence.NextHole size = within offset size size
+
+-- it is told, or why there is none
+abbrev pub ShowsSought : Result ℕ Failure → Result Reply Failure → Type 0
+ShowsSought (Ok offset) (Ok (reply.Lseek found)) = found ≡ offset
+ShowsSought (Ok offset) _ = ⊥
+ShowsSought (Err e) r = r ≡ Err e

@@ -1,0 +1,184 @@
+// Requests on open files.
+ghost use Rattle.std.specs.Prelude.{◌≡◌};
+ghost use Rattle.course.specs.Course.{Ran};
+ghost use Rattle.course.specs.Hands.{bound};
+ghost use Rattle.mount_requests.specs.Answers.{IsPlanned};
+ghost use Rattle.mount_requests.specs.Requests.{AnswersRead, AnswersSeek, AnswersWrite, offset_by};
+ghost use Rattle.mount_requests.specs.Requests.{offset_in, reads, writes, written_by};
+ghost use Rattle.mount_requests.specs.Seen.{seen};
+ghost use Rattle.mount_requests.specs.Told.{ShowsSought, sought};
+
+use crate::failure::Failure;
+use crate::tables::Tables;
+use course::{Fault, Hand, append, stat_file, write};
+use fuse::bits::OPEN_APPEND;
+use fuse::{Errno, Reply, Whence};
+use ids::{Bytes, Fd, Kind, MOST_MOVED, Num, Pid};
+use machine::Machine;
+use mount_tables::OpenFile;
+
+// What is read: so many bytes from an offset on.
+#[derive(Clone, Copy)]
+pub(crate) struct Reading {
+    fd: Fd,
+    count: u32,
+    offset: i64,
+}
+
+// Where bytes are written: from an offset on, or behind the last one.
+#[derive(Clone, Copy)]
+pub(crate) struct Writing {
+    inode: Num,
+    fd: Fd,
+    offset: Option<i64>,
+}
+
+// An offset as the kernel takes it.
+fn offset_in(offset: u64) -> Result<i64, Failure>
+    ensures { result ≡ offset_in offset }
+{
+    match i64::try_from(offset) {
+        Ok(offset) => Ok(offset),
+        Err(_) => Err(Failure::Error(Errno::EINVAL)),
+    }
+}
+
+// Where a write goes, whose flags may say that it goes to the end.
+fn offset_by(open_flags: u32, offset: u64) -> Result<Option<i64>, Failure>
+    ensures { result ≡ offset_by open_flags offset }
+{
+    if open_flags & OPEN_APPEND != 0 {
+        return Ok(None);
+    }
+    let offset = offset_in(offset)?;
+    Ok(Some(offset))
+}
+
+// The offset that is looked for in a file of this length, which has no holes.
+fn sought(offset: u64, whence: Whence, size: u64) -> Result<u64, Failure>
+    ensures { result ≡ sought offset whence size }
+{
+    match whence {
+        Whence::Start => Ok(offset),
+        Whence::Current => Err(Failure::Error(Errno::EINVAL)),
+        Whence::End => Ok(size.saturating_add(offset)),
+        Whence::NextData => {
+            if offset < size {
+                Ok(offset)
+            } else {
+                Err(Failure::Error(Errno::ENXIO))
+            }
+        }
+        Whence::NextHole => {
+            if offset < size {
+                Ok(size)
+            } else {
+                Err(Failure::Error(Errno::ENXIO))
+            }
+        }
+    }
+}
+
+// It is told, or why there is none.
+fn sought_in(offset: u64, whence: Whence, size: u64) -> Result<Reply, Failure>
+    ensures { ShowsSought (sought offset whence size) result }
+{
+    let offset = sought(offset, whence, size)?;
+    Ok(Reply::Lseek { offset })
+}
+
+// Puts bytes into a file.
+fn put<K: Machine>(hand: &mut Hand<K>, writing: Writing, bytes: Bytes) -> Result<u32, Fault>
+    ensures bound { bound hand.new ≡ bound hand.old }
+    ensures ran { Ran hand.old.shown
+        (written_by hand.old.pid bytes writing.fd writing.offset) result hand.new.shown }
+{
+    match writing.offset {
+        Some(offset) => write(hand, writing.fd, bytes, offset),
+        None => append(hand, writing.fd, bytes),
+    }
+}
+
+impl Tables {
+    // What is read of an open file.
+    fn plan_read(&self, pid: Pid, handle: u64, offset: u64, size: u32) -> Result<Reading, Failure>
+        ensures { IsPlanned (reads (seen self.now) pid handle offset size) result }
+    {
+        let file = self.open_file(handle, pid)?;
+        let offset = offset_in(offset)?;
+        Ok(Reading {
+            fd: file.fd,
+            count: size.min(MOST_MOVED as u32),
+            offset,
+        })
+    }
+
+    // Bytes of an open file.
+    pub(crate) fn read<K: Machine>(
+        &mut self,
+        hand: &mut Hand<K>,
+        handle: u64,
+        offset: u64,
+        size: u32,
+    ) -> Result<Reply, Failure>
+        ensures bound { bound hand.new ≡ bound hand.old }
+        ensures answers { AnswersRead (seen self.old) (seen self.new) hand.old.pid handle offset size
+            hand.old.shown hand.new.shown result }
+    {
+        let reading = self.plan_read(hand.pid(), handle, offset, size)?;
+        let bytes = course::read(hand, self.heap, reading.fd, reading.count, reading.offset)?;
+        Ok(Reply::Data(bytes))
+    }
+
+    // Where bytes are written.
+    fn plan_write(
+        &self,
+        pid: Pid,
+        handle: u64,
+        offset: u64,
+        open_flags: u32,
+    ) -> Result<Writing, Failure>
+        ensures { IsPlanned (writes (seen self.now) pid handle offset open_flags) result }
+    {
+        let OpenFile { inode, fd, .. } = self.open_file(handle, pid)?;
+        let offset = offset_by(open_flags, offset)?;
+        Ok(Writing { inode, fd, offset })
+    }
+
+    // Puts bytes into an open file.
+    pub(crate) fn write<K: Machine>(
+        &mut self,
+        hand: &mut Hand<K>,
+        handle: u64,
+        offset: u64,
+        open_flags: u32,
+        bytes: Bytes,
+    ) -> Result<Reply, Failure>
+        ensures bound { bound hand.new ≡ bound hand.old }
+        ensures answers { AnswersWrite (seen self.old) (seen self.new) hand.old.pid handle offset
+            open_flags bytes hand.old.shown hand.new.shown result }
+    {
+        let writing = self.plan_write(hand.pid(), handle, offset, open_flags)?;
+        let inode = writing.inode;
+        let size = put(hand, writing, bytes)?;
+        self.attributes.modify(inode, Kind::File);
+        Ok(Reply::Written { size })
+    }
+
+    // Finds an offset of an open file, by its length.
+    pub(crate) fn seek<K: Machine>(
+        &mut self,
+        hand: &mut Hand<K>,
+        handle: u64,
+        offset: u64,
+        whence: Whence,
+    ) -> Result<Reply, Failure>
+        ensures bound { bound hand.new ≡ bound hand.old }
+        ensures answers { AnswersSeek (seen self.old) (seen self.new) hand.old.pid handle offset whence
+            hand.old.shown hand.new.shown result }
+    {
+        let file = self.open_file(handle, hand.pid())?;
+        let stat = stat_file(hand, file.fd)?;
+        sought_in(offset, whence, u64::from(stat.size))
+    }
+}

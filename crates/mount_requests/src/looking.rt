@@ -1,0 +1,119 @@
+// Requests that look at nodes.
+ghost use Rattle.std.specs.Prelude.{◌≡◌, ◌<◌};
+ghost use Rattle.nodes.specs.Tables.{looked_up};
+ghost use Rattle.course.specs.Hands.{bound};
+ghost use Rattle.mount_tables.specs.Attributes.{IsLike};
+ghost use Rattle.mount_requests.specs.Requests.{AnswersGetAttr, AnswersLookUp, AnswersName, IsReserved};
+ghost use Rattle.mount_requests.specs.Seen.{seen};
+ghost use Rattle.mount_requests.specs.Told.{IsEntry};
+
+use crate::failure::Failure;
+use crate::planning::Located;
+use crate::tables::Tables;
+use course::{Hand, find, stat_path};
+use fuse::{Attr, Entry, Errno, Reply};
+use ids::{Bytes, Stat};
+use machine::Machine;
+use mount_tables::{AttributeTable, ROOT, TRANSACTIONS, is_reserved};
+use nodes::Spot;
+
+impl Tables {
+    // What is told of a node that was looked up, or made, under this name: its look-up is counted.
+    pub(crate) fn entry(&mut self, spot: Spot, stat: &Stat) -> Entry
+        requires { 0 < self.old.nodes.room }
+        ensures entry { IsEntry self.old.nodes.table spot stat.now result }
+        ensures seen { seen self.new ≡ record (seen self.old) {
+          nodes = looked_up self.old.nodes.table spot stat.now.num stat.now.kind;
+        } }
+    {
+        let looked: Result<_, _> = self.nodes.look_up(spot, stat.num, stat.kind);
+        Entry {
+            node: looked.unwrap(),
+            generation: 0,
+            attr: self.attributes.attr(stat),
+        }
+    }
+
+    /// What is told of a node that is no object of the kernel.
+    pub fn entry_of_node(&self, node: u64, is_directory: bool) -> Entry
+        ensures { result.node ≡ node }
+    {
+        Entry {
+            node,
+            generation: 0,
+            attr: self.attributes.attr_of_node(node, is_directory),
+        }
+    }
+
+    // The directory of transactions, in the root of the plain tree alone.
+    fn look_up_reserved(&self, node: u64) -> Result<Reply, Failure>
+        ensures { IsReserved node result }
+    {
+        if node == ROOT {
+            Ok(Reply::Entry(self.entry_of_node(TRANSACTIONS, true)))
+        } else {
+            Err(Failure::Error(Errno::ENOENT))
+        }
+    }
+
+    // What another name gives.
+    fn look_up_name<K: Machine>(
+        &mut self,
+        hand: &mut Hand<K>,
+        node: u64,
+        name: &Bytes,
+    ) -> Result<Reply, Failure>
+        ensures bound { bound hand.new ≡ bound hand.old }
+        ensures answers { AnswersName (seen self.old) (seen self.new) hand.old.pid node name.now
+            hand.old.shown hand.new.shown result }
+    {
+        let Located { view: _, path } = self.locate_child(node, name)?;
+        let spot = self.spot_for(node, name)?;
+        let stat = stat_path(hand, path)?;
+        Ok(Reply::Entry(self.entry(spot, &stat)))
+    }
+
+    // What a name of a directory gives.
+    pub(crate) fn look_up<K: Machine>(
+        &mut self,
+        hand: &mut Hand<K>,
+        node: u64,
+        name: &Bytes,
+    ) -> Result<Reply, Failure>
+        ensures bound { bound hand.new ≡ bound hand.old }
+        ensures answers { AnswersLookUp (seen self.old) (seen self.new) hand.old.pid node name.now
+            hand.old.shown hand.new.shown result }
+    {
+        if is_reserved(node, name.as_slice()) {
+            return self.look_up_reserved(node);
+        }
+        self.look_up_name(hand, node, name)
+    }
+
+    // What is told of the object of a node. Of one that is gone nothing is told that is kept under
+    // its number, since that may be of another.
+    pub(crate) fn attr_at(&self, node: u64, stat: &Stat) -> Attr
+        ensures { IsLike stat.now result }
+    {
+        if self.nodes.is_current(node) {
+            self.attributes.attr(stat)
+        } else {
+            AttributeTable::new(self.heap).attr(stat)
+        }
+    }
+
+    // The attributes of a node.
+    pub(crate) fn get_attr<K: Machine>(
+        &mut self,
+        hand: &mut Hand<K>,
+        node: u64,
+    ) -> Result<Reply, Failure>
+        ensures bound { bound hand.new ≡ bound hand.old }
+        ensures answers { AnswersGetAttr (seen self.old) (seen self.new) hand.old.pid node
+            hand.old.shown hand.new.shown result }
+    {
+        let object = self.find_object(hand.pid(), node)?;
+        let stat = find(hand, object)?;
+        Ok(Reply::Attr(self.attr_at(node, &stat)))
+    }
+}

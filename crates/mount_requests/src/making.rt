@@ -1,0 +1,173 @@
+// Requests that make names.
+ghost use Rattle.std.specs.Prelude.{◌≡◌, ◌<◌, IfOk};
+ghost use Rattle.nodes.specs.Tables.{looked_up, made};
+ghost use Rattle.course.specs.Hands.{bound};
+ghost use Rattle.mount_requests.specs.Answers.{IsPlanned};
+ghost use Rattle.mount_requests.specs.Requests.{AnswersLink, AnswersMkDir, AnswersMkNod};
+ghost use Rattle.mount_requests.specs.Requests.{linking_in, plain_kind, planned_file};
+ghost use Rattle.mount_requests.specs.Seen.{seen};
+ghost use Rattle.mount_requests.specs.Told.{IsEntry};
+
+use crate::failure::Failure;
+use crate::planning::{Located, Pair, in_one_view, twice};
+use crate::requests::Caller;
+use crate::tables::Tables;
+use course::{Hand, Twice};
+use fuse::bits::{MODE_FILE, MODE_PERMISSIONS};
+use fuse::{Entry, Errno, Reply};
+use ids::{Bytes, Kind, Num, Stat};
+use machine::Machine;
+use mount_tables::Owner;
+use nodes::Spot;
+
+// The file of a node, by its path, and its further name, each as it is used twice.
+#[derive(Drop)]
+pub(crate) struct Linking {
+    from: Twice,
+    inode: Num,
+    to: Twice,
+}
+
+// By this a kind stands above the permissions of a mode.
+const KIND: u32 = MODE_PERMISSIONS + 1;
+
+// Only plain files are made, and a mode that tells no kind means them.
+fn plain_kind(mode: u32) -> Result<(), Failure>
+    ensures { result ≡ plain_kind mode }
+{
+    let kind = mode / KIND % 0o20;
+    if kind == MODE_FILE / KIND || kind == 0 {
+        Ok(())
+    } else {
+        Err(Failure::Error(Errno::EOPNOTSUPP))
+    }
+}
+
+impl Tables {
+    // The names of a directory were changed.
+    pub(crate) fn note_names(&mut self, node: u64)
+        ensures seen { seen self.new ≡ seen self.old }
+        ensures nodes { self.new.nodes ≡ self.old.nodes }
+        ensures files { self.new.files ≡ self.old.files }
+    {
+        if self.nodes.is_current(node) {
+            let parent = self.inode_of(node);
+            self.attributes.modify(parent, Kind::Dir);
+        }
+    }
+
+    // An object was made: nodes of the one that had its number before do not stand for it.
+    pub(crate) fn note_birth(&mut self, inode: Num)
+        requires { 0 < self.old.nodes.birth_room }
+        ensures seen { seen self.new ≡ record (seen self.old) {
+          nodes = made self.old.nodes.table inode;
+        } }
+        ensures room { self.new.nodes.room ≡ self.old.nodes.room }
+        ensures files { self.new.files ≡ self.old.files }
+    {
+        let noted: Result<_, _> = self.nodes.note_made(inode);
+        noted.unwrap();
+    }
+
+    // What is kept and told of an object that was made.
+    fn entry_made(&mut self, spot: Spot, stat: &Stat, mode: u32, owner: Owner) -> Entry
+        requires room { 0 < self.old.nodes.room }
+        requires birth { 0 < self.old.nodes.birth_room }
+        ensures entry { IsEntry (made self.old.nodes.table stat.now.num) spot stat.now result }
+        ensures seen { seen self.new ≡ record (seen self.old) {
+          nodes = looked_up (made self.old.nodes.table stat.now.num) spot
+              stat.now.num stat.now.kind;
+        } }
+    {
+        self.attributes.create(stat.num, mode, owner);
+        self.note_names(spot.entry().parent);
+        self.note_birth(stat.num);
+        self.entry(spot, stat)
+    }
+
+    // Makes a directory.
+    pub(crate) fn make_directory<K: Machine>(
+        &mut self,
+        hand: &mut Hand<K>,
+        caller: Caller,
+        name: &Bytes,
+        mode: u32,
+    ) -> Result<Reply, Failure>
+        ensures bound { bound hand.new ≡ bound hand.old }
+        ensures answers { AnswersMkDir (seen self.old) (seen self.new) hand.old.pid caller.node
+            name.now hand.old.shown hand.new.shown result }
+    {
+        let Located { view: _, path } = self.locate_new(caller.node, name)?;
+        let Twice { first, second } = twice(path)?;
+        let spot = self.spot_for(caller.node, name)?;
+        let stat = course::make_directory(hand, first, second)?;
+        let entry = self.entry_made(spot, &stat, mode, caller.owner);
+        Ok(Reply::Entry(entry))
+    }
+
+    // Where a plain file is to be made.
+    fn plan_file(&self, node: u64, name: &Bytes, mode: u32) -> Result<Located, Failure>
+        ensures { IsPlanned (planned_file (seen self.now) node name.now mode) result }
+    {
+        plain_kind(mode)?;
+        self.locate_new(node, name)
+    }
+
+    // Makes a plain file that is not opened.
+    pub(crate) fn make_file<K: Machine>(
+        &mut self,
+        hand: &mut Hand<K>,
+        caller: Caller,
+        name: &Bytes,
+        mode: u32,
+    ) -> Result<Reply, Failure>
+        ensures bound { bound hand.new ≡ bound hand.old }
+        ensures answers { AnswersMkNod (seen self.old) (seen self.new) hand.old.pid caller.node
+            name.now mode hand.old.shown hand.new.shown result }
+    {
+        let Located { view: _, path } = self.plan_file(caller.node, name, mode)?;
+        let Twice { first, second } = twice(path)?;
+        let spot = self.spot_for(caller.node, name)?;
+        let stat = course::make_file(hand, first, second)?;
+        let entry = self.entry_made(spot, &stat, mode, caller.owner);
+        Ok(Reply::Entry(entry))
+    }
+
+    // The paths of a file and of its further name, which are in one view.
+    fn plan_link(&self, parent: u64, node: u64, name: &Bytes) -> Result<Linking, Failure>
+        ensures plan { IsPlanned (linking_in (seen self.now) parent node name.now) result }
+        ensures from { IfOk result (λ l. l.from.second ≡ l.from.first) }
+        ensures to { IfOk result (λ l. l.to.second ≡ l.to.first) }
+    {
+        let to = self.locate_new(parent, name)?;
+        let from = self.locate_own(node)?;
+        let Pair { from, to } = in_one_view(from, to)?;
+        let from = twice(from)?;
+        let to = twice(to)?;
+        Ok(Linking {
+            from,
+            inode: self.inode_of(node),
+            to,
+        })
+    }
+
+    // Gives a file a further name, in the same view.
+    pub(crate) fn link<K: Machine>(
+        &mut self,
+        hand: &mut Hand<K>,
+        parent: u64,
+        node: u64,
+        name: &Bytes,
+    ) -> Result<Reply, Failure>
+        ensures bound { bound hand.new ≡ bound hand.old }
+        ensures answers { AnswersLink (seen self.old) (seen self.new) hand.old.pid parent node name.now
+            hand.old.shown hand.new.shown result }
+    {
+        let Linking { from, inode, to } = self.plan_link(parent, node, name)?;
+        let spot = self.spot_for(parent, name)?;
+        let stat = course::link(hand, from, inode, to)?;
+        self.note_names(parent);
+        let entry = self.entry(spot, &stat);
+        Ok(Reply::Entry(entry))
+    }
+}

@@ -1,0 +1,295 @@
+// Requests that open files.
+ghost use Rattle.std.specs.Prelude.{◌≡◌, ◌<◌, is_some, IfOk, Ok, OnOk};
+ghost use Rattle.course.specs.Course.{Ran};
+ghost use Rattle.course.specs.Hands.{bound};
+ghost use Rattle.mount_requests.specs.Answers.{IsPlanned};
+ghost use Rattle.mount_requests.specs.Found.{at, handle_of};
+ghost use Rattle.mount_requests.specs.Requests.{AnswersCreate, AnswersOpen, OpensAs, born_if, cuts};
+ghost use Rattle.mount_requests.specs.Requests.{handle_made, is_exclusive, making_open, opened_again};
+ghost use Rattle.mount_requests.specs.Requests.{opened_first, opening, opening_by, with_open};
+ghost use Rattle.mount_requests.specs.Seen.{seen};
+ghost use Rattle.mount_requests.specs.declared.opening.Opening.TheVariants.{Again, First};
+
+use crate::failure::Failure;
+use crate::planning::{Located, twice};
+use crate::requests::Caller;
+use crate::tables::{Stepper, Tables};
+use course::{Fault, Hand, Made, Twice, close_spare, create_cut, cut_if, open_cut};
+use fuse::bits::{OPEN_EXCLUSIVE, OPEN_TRUNCATE, OPENED_DIRECT};
+use fuse::{Errno, Opened, Reply};
+use ids::{Bytes, Fd, Kind, Num, Pid};
+use machine::Machine;
+use mount_tables::PLAIN;
+use std::alloc::AllocError;
+
+// How a file is opened.
+#[derive(Drop)]
+pub(crate) enum Opening {
+    // It is open in the view already, and is opened once more.
+    Again { inode: Num, handle: u64, fd: Fd },
+    // By its path, where that gives this object.
+    First { view: u64, path: Bytes, inode: Num },
+}
+
+// An open file as it is told: reads and writes go past the cache.
+fn opened(handle: u64) -> Opened
+    ensures { result.handle ≡ handle }
+{
+    Opened {
+        handle,
+        flags: OPENED_DIRECT,
+    }
+}
+
+// Whether the file is cut to nothing.
+fn cuts(flags: u32) -> bool
+    ensures { result ≡ cuts flags }
+{
+    flags & OPEN_TRUNCATE != 0
+}
+
+// Whether it has to be a new one.
+fn is_exclusive(flags: u32) -> bool
+    ensures { result ≡ is_exclusive flags }
+{
+    flags & OPEN_EXCLUSIVE != 0
+}
+
+impl Tables {
+    // The bytes of an object went, where it was cut.
+    fn note_cut(&mut self, inode: Num, cut: bool)
+        ensures seen { seen self.new ≡ seen self.old }
+        ensures nodes { self.new.nodes ≡ self.old.nodes }
+        ensures files { self.new.files ≡ self.old.files }
+    {
+        if cut {
+            self.attributes.modify(inode, Kind::File);
+        }
+    }
+
+    // Makes room for one open file more.
+    fn reserve_file(&mut self) -> Result<(), AllocError>
+        ensures seen { seen self.new ≡ seen self.old }
+        ensures room { OnOk result (0 < self.new.files.room) }
+        ensures nodes { self.new.nodes ≡ self.old.nodes }
+    {
+        self.files.reserve()
+    }
+
+    // An open file is opened once more.
+    fn count_open(&mut self, handle: u64)
+        ensures seen { seen self.new ≡ opened_again (seen self.old) handle }
+        ensures nodes { self.new.nodes ≡ self.old.nodes }
+    {
+        self.files.count(handle);
+    }
+
+    // Keeps a descriptor that was opened, and gives the number of the open file. A process of the
+    // plain tree has one descriptor more.
+    fn keep_open(&mut self, view: u64, inode: Num, pid: Pid, fd: Fd) -> u64
+        requires { 0 < self.old.files.room }
+        ensures handle { result ≡ (seen self.old).next_file }
+        ensures seen { seen self.new ≡ opened_first (seen self.old) view inode pid fd }
+        ensures nodes { self.new.nodes ≡ self.old.nodes }
+    {
+        let handle = self.files.add(view, inode, pid, fd);
+        if view == PLAIN {
+            self.processes.hold(pid);
+        }
+        handle
+    }
+
+    // A file that is open already is opened once more.
+    fn open_again<K: Machine>(
+        &mut self,
+        hand: &mut Hand<K>,
+        inode: Num,
+        handle: u64,
+        fd: Fd,
+        cut: bool,
+    ) -> Result<Reply, Failure>
+        ensures bound { bound hand.new ≡ bound hand.old }
+        ensures answers { OpensAs (seen self.old) (seen self.new) hand.old.pid cut
+            (Ok (Again inode handle fd)) hand.old.shown hand.new.shown result }
+    {
+        cut_if(hand, fd, cut)?;
+        self.note_cut(inode, cut);
+        self.count_open(handle);
+        Ok(Reply::Opened(opened(handle)))
+    }
+
+    // A file is opened by its path.
+    fn open_first<K: Machine>(
+        &mut self,
+        hand: &mut Hand<K>,
+        located: Located,
+        inode: Num,
+        cut: bool,
+    ) -> Result<Reply, Failure>
+        ensures bound { bound hand.new ≡ bound hand.old }
+        ensures answers { OpensAs (seen self.old) (seen self.new) hand.old.pid cut
+            (Ok (First located.view located.path inode)) hand.old.shown hand.new.shown result }
+    {
+        let Located { view, path } = located;
+        self.reserve_file()?;
+        let fd = open_cut(hand, path, inode, cut)?;
+        self.note_cut(inode, cut);
+        let handle = self.keep_open(view, inode, hand.pid(), fd);
+        Ok(Reply::Opened(opened(handle)))
+    }
+
+    fn open_as<K: Machine>(
+        &mut self,
+        hand: &mut Hand<K>,
+        opening: Opening,
+        cut: bool,
+    ) -> Result<Reply, Failure>
+        ensures bound { bound hand.new ≡ bound hand.old }
+        ensures answers { OpensAs (seen self.old) (seen self.new) hand.old.pid cut (Ok opening)
+            hand.old.shown hand.new.shown result }
+    {
+        match opening {
+            Opening::Again { inode, handle, fd } => self.open_again(hand, inode, handle, fd, cut),
+            Opening::First { view, path, inode } => {
+                self.open_first(hand, Located { view, path }, inode, cut)
+            }
+        }
+    }
+
+    // How the object of a node is opened, where it is open under this number, or not.
+    fn plan_opening_by(&self, pid: Pid, node: u64, handle: Option<u64>) -> Result<Opening, Failure>
+        ensures { IsPlanned (opening_by (seen self.now) pid node handle) result }
+    {
+        let inode = self.inode_of(node);
+        match handle {
+            Some(handle) => {
+                let file = self.open_file(handle, pid)?;
+                Ok(Opening::Again {
+                    inode,
+                    handle,
+                    fd: file.fd,
+                })
+            }
+            None => {
+                let Located { view, path } = self.locate_own(node)?;
+                Ok(Opening::First { view, path, inode })
+            }
+        }
+    }
+
+    // How the file of a node is opened.
+    fn plan_opening(&self, pid: Pid, node: u64) -> Result<Opening, Failure>
+        ensures { IsPlanned (opening (seen self.now) pid node) result }
+    {
+        let Stepper { view, pid: _ } = self.stepper_at(node)?;
+        if self.nodes.get(node).is_none() {
+            return Err(Failure::Error(Errno::EISDIR));
+        }
+        self.plan_opening_by(pid, node, self.handle_at(view, node))
+    }
+
+    // Opens the file of a node.
+    pub(crate) fn open<K: Machine>(
+        &mut self,
+        hand: &mut Hand<K>,
+        node: u64,
+        flags: u32,
+    ) -> Result<Reply, Failure>
+        ensures bound { bound hand.new ≡ bound hand.old }
+        ensures answers { AnswersOpen (seen self.old) (seen self.new) hand.old.pid node flags
+            hand.old.shown hand.new.shown result }
+    {
+        let opening = self.plan_opening(hand.pid(), node)?;
+        self.open_as(hand, opening, cuts(flags))
+    }
+
+    // Whether a file is open in a view.
+    fn is_open(&self, view: u64, made: &Made) -> bool
+        ensures { result ≡ is_some (handle_of (seen self.now) view made.now.stat.num) }
+    {
+        self.files.handle_of(view, made.stat.num).is_some()
+    }
+
+    // Makes a file and opens it, or opens the one that is there. Where that is open in the view
+    // already the new descriptor is closed.
+    fn make_open<K: Machine>(
+        &self,
+        hand: &mut Hand<K>,
+        view: u64,
+        path: Twice,
+        flags: u32,
+    ) -> Result<Made, Fault>
+        requires { path.second ≡ path.first }
+        ensures bound { bound hand.new ≡ bound hand.old }
+        ensures ran { Ran hand.old.shown
+            (making_open (seen self.now) hand.old.pid flags (at view path.first))
+            result hand.new.shown }
+    {
+        let exclusive = is_exclusive(flags);
+        let cut = cuts(flags);
+        let made = create_cut(hand, path.first, path.second, exclusive, cut)?;
+        let is_open = self.is_open(view, &made);
+        close_spare(hand, is_open, made)
+    }
+
+    // Keeps a file that was opened by its name, and gives the number of the open file.
+    fn keep_made(&mut self, view: u64, pid: Pid, made: &Made) -> u64
+        requires { 0 < self.old.files.room }
+        ensures handle { result ≡ handle_made (seen self.old) view made.now }
+        ensures seen { seen self.new ≡ with_open (seen self.old) view pid made.now }
+        ensures nodes { self.new.nodes ≡ self.old.nodes }
+    {
+        match self.files.handle_of(view, made.stat.num) {
+            Some(handle) => {
+                self.count_open(handle);
+                handle
+            }
+            None => self.keep_open(view, made.stat.num, pid, made.fd),
+        }
+    }
+
+    // What is kept of a file that was made, or of one that was there and may be cut.
+    fn note_opened(&mut self, caller: Caller, made: &Made, mode: u32, cut: bool)
+        requires { 0 < self.old.nodes.birth_room }
+        ensures seen { seen self.new ≡ record (seen self.old) {
+          nodes = born_if made.now.is_new self.old.nodes.table made.now.stat.num;
+        } }
+        ensures room { self.new.nodes.room ≡ self.old.nodes.room }
+        ensures files { self.new.files ≡ self.old.files }
+    {
+        if made.is_new {
+            self.attributes.create(made.stat.num, mode, caller.owner);
+            self.note_names(caller.node);
+            self.note_birth(made.stat.num);
+        } else {
+            self.note_cut(made.stat.num, cut);
+        }
+    }
+
+    // Makes a file and opens it.
+    pub(crate) fn create<K: Machine>(
+        &mut self,
+        hand: &mut Hand<K>,
+        caller: Caller,
+        name: &Bytes,
+        flags: u32,
+        mode: u32,
+    ) -> Result<Reply, Failure>
+        ensures bound { bound hand.new ≡ bound hand.old }
+        ensures answers { AnswersCreate (seen self.old) (seen self.new) hand.old.pid caller.node
+            name.now flags hand.old.shown hand.new.shown result }
+    {
+        let Located { view, path } = self.locate_new(caller.node, name)?;
+        let path = twice(path)?;
+        self.reserve_file()?;
+        let spot = self.spot_for(caller.node, name)?;
+        let made = self.make_open(hand, view, path, flags)?;
+        self.note_opened(caller, &made, mode, cuts(flags));
+        let handle = self.keep_made(view, hand.pid(), &made);
+        let entry = self.entry(spot, &made.stat);
+        Ok(Reply::Created {
+            entry,
+            opened: opened(handle),
+        })
+    }
+}

@@ -1,0 +1,166 @@
+// Requests that take names away, or move them.
+ghost use Rattle.std.specs.Prelude.{◌≡◌, ◌<◌, is_some, IfOk, IfSome};
+ghost use Rattle.nodes.specs.Tables.{detached};
+ghost use Rattle.nodes.specs.Tables.{moved as renamed};
+ghost use Rattle.course.specs.Hands.{bound};
+ghost use Rattle.mount_requests.specs.Answers.{IsPlanned};
+ghost use Rattle.mount_requests.specs.Requests.{AnswersRename, AnswersRmDir, AnswersUnlink, absent_in};
+ghost use Rattle.mount_requests.specs.Requests.{moved, removing};
+ghost use Rattle.mount_requests.specs.Seen.{seen};
+ghost use Rattle.mount_requests.specs.Told.{named};
+
+use crate::failure::Failure;
+use crate::planning::{Located, Pair, in_one_view};
+use crate::tables::Tables;
+use course::Hand;
+use fuse::bits::RENAME_NO_REPLACE;
+use fuse::{Errno, Reply};
+use ids::Bytes;
+use machine::Machine;
+use mount_tables::is_reserved;
+use nodes::{DirectoryEntry, Spot};
+use std::alloc::AllocError;
+
+// A copy, where it is wanted.
+fn copy_if(wanted: bool, bytes: &Bytes) -> Result<Option<Bytes>, AllocError>
+    ensures same { IfOk result (λ copy. IfSome copy (λ b. b ≡ bytes.now)) }
+    ensures wanted { IfOk result (λ copy. is_some copy ≡ wanted) }
+{
+    if wanted {
+        Ok(Some(bytes.try_clone()?))
+    } else {
+        Ok(None)
+    }
+}
+
+// Whether a move may replace nothing. There is no other flag.
+fn absent_in(flags: u32) -> Result<bool, Failure>
+    ensures { result ≡ absent_in flags }
+{
+    if flags > RENAME_NO_REPLACE {
+        Err(Failure::Error(Errno::EINVAL))
+    } else {
+        Ok(flags == RENAME_NO_REPLACE)
+    }
+}
+
+impl Tables {
+    // A name of a directory.
+    fn entry_of_name(&self, node: u64, name: &Bytes) -> Result<DirectoryEntry, AllocError>
+        ensures { IfOk result (λ entry. entry ≡ named node name.now) }
+    {
+        DirectoryEntry::new(self.heap, node, name.as_slice())
+    }
+
+    // A name was taken away.
+    fn note_removed(&mut self, removed: &DirectoryEntry)
+        ensures { seen self.new ≡ record (seen self.old) {
+          nodes = detached self.old.nodes.table removed.now;
+        } }
+    {
+        self.nodes.detach(removed);
+        self.note_names(removed.parent);
+    }
+
+    // A name was moved.
+    fn note_moved(&mut self, former: &DirectoryEntry, spot: Spot)
+        requires { 0 < self.old.nodes.room }
+        ensures { seen self.new ≡ record (seen self.old) {
+          nodes = renamed self.old.nodes.table former.now spot;
+        } }
+    {
+        let new_parent = spot.entry().parent;
+        let noted: Result<_, _> = self.nodes.move_entry(former, spot);
+        noted.unwrap();
+        self.note_names(former.parent);
+        self.note_names(new_parent);
+    }
+
+    // Takes a name of a file away.
+    pub(crate) fn unlink<K: Machine>(
+        &mut self,
+        hand: &mut Hand<K>,
+        node: u64,
+        name: &Bytes,
+    ) -> Result<Reply, Failure>
+        ensures bound { bound hand.new ≡ bound hand.old }
+        ensures answers { AnswersUnlink (seen self.old) (seen self.new) hand.old.pid node name.now
+            hand.old.shown hand.new.shown result }
+    {
+        let Located { view: _, path } = self.locate_new(node, name)?;
+        let removed = self.entry_of_name(node, name)?;
+        course::unlink(hand, path)?;
+        self.note_removed(&removed);
+        Ok(Reply::Empty)
+    }
+
+    // Where a directory is that is to be removed. That of transactions stays.
+    fn plan_removal(&self, node: u64, name: &Bytes) -> Result<Located, Failure>
+        ensures { IsPlanned (removing (seen self.now) node name.now) result }
+    {
+        if is_reserved(node, name.as_slice()) {
+            return Err(Failure::Error(Errno::EBUSY));
+        }
+        self.locate_child(node, name)
+    }
+
+    // Removes an empty directory.
+    pub(crate) fn remove_directory<K: Machine>(
+        &mut self,
+        hand: &mut Hand<K>,
+        node: u64,
+        name: &Bytes,
+    ) -> Result<Reply, Failure>
+        ensures bound { bound hand.new ≡ bound hand.old }
+        ensures answers { AnswersRmDir (seen self.old) (seen self.new) hand.old.pid node name.now
+            hand.old.shown hand.new.shown result }
+    {
+        let Located { view: _, path } = self.plan_removal(node, name)?;
+        let removed = self.entry_of_name(node, name)?;
+        course::remove_directory(hand, path)?;
+        self.note_removed(&removed);
+        Ok(Reply::Empty)
+    }
+
+    // The paths of a move, in one view, and whether it may replace nothing.
+    fn plan_move(
+        &self,
+        node: u64,
+        name: &Bytes,
+        new_parent: u64,
+        new_name: &Bytes,
+        flags: u32,
+    ) -> Result<(Pair, bool), Failure>
+        ensures { IsPlanned (moved (seen self.now) node name.now new_parent new_name.now flags)
+            result }
+    {
+        let absent = absent_in(flags)?;
+        let from = self.locate_new(node, name)?;
+        let to = self.locate_new(new_parent, new_name)?;
+        let paths = in_one_view(from, to)?;
+        Ok((paths, absent))
+    }
+
+    // Moves what a name gives to another name, in the same view.
+    pub(crate) fn move_name<K: Machine>(
+        &mut self,
+        hand: &mut Hand<K>,
+        node: u64,
+        name: &Bytes,
+        new_parent: u64,
+        new_name: &Bytes,
+        flags: u32,
+    ) -> Result<Reply, Failure>
+        ensures bound { bound hand.new ≡ bound hand.old }
+        ensures answers { AnswersRename (seen self.old) (seen self.new) hand.old.pid node name.now
+            new_parent new_name.now flags hand.old.shown hand.new.shown result }
+    {
+        let (Pair { from, to }, absent) = self.plan_move(node, name, new_parent, new_name, flags)?;
+        let again = copy_if(absent, &to)?;
+        let former = self.entry_of_name(node, name)?;
+        let spot = self.spot_for(new_parent, new_name)?;
+        course::move_name(hand, from, to, again)?;
+        self.note_moved(&former, spot);
+        Ok(Reply::Empty)
+    }
+}

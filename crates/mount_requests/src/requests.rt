@@ -1,0 +1,92 @@
+// Requests about nodes of a tree.
+ghost use Rattle.std.specs.Prelude.{◌≡◌};
+ghost use Rattle.course.specs.Hands.{bound};
+ghost use Rattle.mount_requests.specs.Requests.{IsAnswered};
+ghost use Rattle.mount_requests.specs.Seen.{seen};
+
+use crate::failure::Failure;
+use crate::reading::Wanted;
+use crate::tables::Tables;
+use course::Hand;
+use fuse::{Errno, Operation, Reply};
+use machine::Machine;
+use mount_tables::Owner;
+
+/// About which node a request is, and who asks.
+#[derive(Clone, Copy, Debug)]
+pub struct Caller {
+    /// The node.
+    pub node: u64,
+    /// The user and the group.
+    pub owner: Owner,
+}
+
+impl Tables {
+    /// Answers a request about a node, by the steps of a process. The reply shows what its course came
+    /// to, and what is known then is what that changes.
+    pub fn answer<K: Machine>(
+        &mut self,
+        hand: &mut Hand<K>,
+        caller: Caller,
+        operation: Operation,
+    ) -> Result<Reply, Failure>
+        ensures bound { bound hand.new ≡ bound hand.old }
+        ensures answers { IsAnswered (seen self.old) (seen self.new) hand.old.pid caller.node operation
+            hand.old.shown hand.new.shown result }
+    {
+        let node = caller.node;
+        match operation {
+            Operation::Lookup { name } => self.look_up(hand, node, &name),
+            Operation::GetAttr { handle: _ } => self.get_attr(hand, node),
+            Operation::SetAttr { changes } => self.set_attr(hand, node, &changes),
+            Operation::Access { mask: _ } => Ok(Reply::Empty),
+            Operation::OpenDir => self.open_folder(hand, node),
+            Operation::ReadDir {
+                handle,
+                offset,
+                size,
+            } => {
+                let wanted = Wanted {
+                    handle,
+                    offset,
+                    size,
+                };
+                self.read_folder(hand, node, wanted)
+            }
+            Operation::MkNod { name, mode } => self.make_file(hand, caller, &name, mode),
+            Operation::MkDir { name, mode } => self.make_directory(hand, caller, &name, mode),
+            Operation::Create { name, flags, mode } => {
+                self.create(hand, caller, &name, flags, mode)
+            }
+            Operation::Link { node: of, new_name } => self.link(hand, node, of, &new_name),
+            Operation::Unlink { name } => self.unlink(hand, node, &name),
+            Operation::RmDir { name } => self.remove_directory(hand, node, &name),
+            Operation::Rename {
+                name,
+                new_parent,
+                new_name,
+                flags,
+            } => self.move_name(hand, node, &name, new_parent, &new_name, flags),
+            Operation::Open { flags } => self.open(hand, node, flags),
+            Operation::Read {
+                handle,
+                offset,
+                size,
+                open_flags: _,
+            } => self.read(hand, handle, offset, size),
+            Operation::Write {
+                handle,
+                offset,
+                write_flags: _,
+                open_flags,
+                bytes,
+            } => self.write(hand, handle, offset, open_flags, bytes),
+            Operation::Lseek {
+                handle,
+                offset,
+                whence,
+            } => self.seek(hand, handle, offset, whence),
+            _ => Err(Failure::Error(Errno::ENOSYS)),
+        }
+    }
+}

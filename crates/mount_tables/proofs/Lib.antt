@@ -1,0 +1,3 @@
+mod Written
+mod Below
+mod Named

@@ -1,0 +1,20 @@
+-- What is told of an object's attributes.
+use Rattle.std.specs.Prelude.{◌≡◌, ℕ, ◌+◌, ◌-◌, ◌/◌, ◌^◌, min}
+use Rattle.ids.specs.declared.reply.Kind.{Kind}
+use Rattle.ids.specs.declared.reply.Kind.TheVariants.{File, Dir, Pipe}
+use Rattle.ids.specs.declared.reply.Stat.{Stat}
+use Rattle.fuse.specs.declared.reply.Attr.{Attr}
+
+-- the number of a kind in a mode (sys/stat.h), whose lower 12 bits are permissions
+abbrev pub kind_number : Kind → ℕ
+kind_number File = 8
+kind_number Dir = 4
+kind_number Pipe = 1
+
+-- The attributes are those of an object, but for what is kept beside the kernel: permissions, owners
+-- and times. Its number is one more, since some programs take 0 for none.
+pub record IsLike (stat : Stat) (attr : Attr) : Type 0 where
+  pub inode : attr.inode ≡ min (stat.num + 1) (2 ^ 64 - 1)
+  pub size : attr.size ≡ stat.size
+  pub links : attr.links ≡ stat.links
+  pub kind : attr.mode / 4096 ≡ kind_number stat.kind

@@ -1,0 +1,9 @@
+pub mod Rows
+pub mod FileKeys
+pub mod Files
+pub mod Processes
+pub mod Views
+pub mod Names
+pub mod Folders
+pub mod Numbers
+pub mod Attributes

@@ -1,8 +1,0 @@
-use Rattle.mounted.proofs.Answering.{opens_as}
-use Rattle.mounted.proofs.tables.Tables.open_as.Goals as goal
-
-pub returns-in-Again-clause-answers : goal.returns-in-Again-clause-answers
-returns-in-Again-clause-answers g c = opens_as c.open_again.new.self c.args.hand.now.pid c.args.cut c.in-Again.is c.open_again.ensures.answers
-
-pub returns-in-First-clause-answers : goal.returns-in-First-clause-answers
-returns-in-First-clause-answers g c = opens_as c.open_first.new.self c.args.hand.now.pid c.args.cut c.in-First.is c.open_first.ensures.answers
