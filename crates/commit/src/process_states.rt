@@ -27,7 +27,6 @@ pub struct ProcessStates {
     within: usize,
 }
 
-// By hand: a derived drop is opened at every place where a value goes, this one is called.
 impl Drop for ProcessStates {
     fn drop(self) {
         let ProcessStates { all: _, within: _ } = self;

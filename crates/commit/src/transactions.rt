@@ -37,7 +37,6 @@ pub struct Transactions {
     stable: Stable,
 }
 
-// By hand: a derived drop is opened at every place where a value goes, this one is called.
 impl Drop for Transactions {
     fn drop(self) {
         let Transactions {

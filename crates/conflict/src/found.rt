@@ -30,7 +30,6 @@ pub struct Clash {
     pub other: Pid,
 }
 
-// By hand: a derived drop is opened at every place where a value goes, this one is called.
 impl Drop for Clash {
     fn drop(self) {
         let Clash {

@@ -1,10 +1,10 @@
 -- Where no other process has touched anything, nobody loses and nobody is doomed.
-use Rattle.std.proofs.Common.{◌≡◌, ℕ, zero, suc, refl, sym, ap, ◌∙◌, List, [], length, map, None, false}
+use Rattle.std.proofs.Common.{◌≡◌, ℕ, zero, suc, refl, sym, ap, ◌∙◌, List, [], length, map, false}
 use Rattle.ids.specs.declared.entry.Rank.{Rank}
 use Rattle.model.specs.Moments.{Moment, all_below}
 use Rattle.model.specs.Steps.{Touch}
 use Rattle.conflict.specs.Clashing.{AreClashes}
-use Rattle.contention.specs.Contenders.{Contender, AreContendersOf}
+use Rattle.contention.specs.Contenders.{AreContendersOf}
 use Rattle.contention.specs.Losses.{told}
 use Rattle.contention.specs.Policy.{IsVerdictAmong}
 use Rattle.contention.specs.Ranks.{ranked_list}

@@ -50,7 +50,6 @@ pub struct Contenders {
     records: MarkedRecords,
 }
 
-// By hand: a derived drop is opened at every place where a value goes, this one is called.
 impl Drop for Contenders {
     fn drop(self) {
         let Contenders {

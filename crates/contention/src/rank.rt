@@ -14,7 +14,6 @@ pub struct Ranks {
     ranks: Vec<Rank, Heap>,
 }
 
-// By hand: a derived drop is opened at every place where a value goes, this one is called.
 impl Drop for Ranks {
     fn drop(self) {
         let Ranks { ranks: _ } = self;

@@ -24,7 +24,6 @@ pub struct Hand<K: Machine> {
     since: Snapshot<K>,
 }
 
-// By hand: a derived drop is opened at every place where a value goes, this one is called.
 impl<K: Machine> Drop for Hand<K> {
     fn drop(self) {
         let Hand {

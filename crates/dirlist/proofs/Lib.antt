@@ -3,5 +3,4 @@ mod Entries
 mod Ordered
 mod Laid
 mod Noted
-mod Emptied
 pub mod Laws

@@ -31,7 +31,6 @@ pub struct Dir {
     promised: usize,
 }
 
-// By hand: a derived drop is opened at every place where a value goes, this one is called.
 impl Drop for Dir {
     fn drop(self) {
         let Dir {

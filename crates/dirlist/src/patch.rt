@@ -29,7 +29,6 @@ pub struct NamePatch {
     given: NoteTable,
 }
 
-// By hand: a derived drop is opened at every place where a value goes, this one is called.
 impl Drop for NamePatch {
     fn drop(self) {
         let NamePatch { given: _ } = self;

@@ -26,7 +26,6 @@ pub struct History {
     limits: Limits,
 }
 
-// By hand: a derived drop is opened at every place where a value goes, this one is called.
 impl Drop for History {
     fn drop(self) {
         let History {

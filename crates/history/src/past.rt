@@ -14,7 +14,6 @@ pub(crate) enum Past {
     Then(Snapshot<Past>, Snapshot<Vec<Entry, Heap>>),
 }
 
-// By hand: a derived drop is opened at every place where a value goes, this one is called.
 impl Drop for Past {
     fn drop(self) {
         match self {

@@ -38,7 +38,6 @@ pub enum Aspect {
     Back(Num),
 }
 
-// By hand: a derived drop is opened at every place where a value goes, this one is called.
 impl Drop for Aspect {
     fn drop(self) {
         match self {
@@ -236,7 +235,6 @@ pub struct Touch {
     pub write: bool,
 }
 
-// By hand: a derived drop is opened at every place where a value goes, this one is called.
 impl Drop for Touch {
     fn drop(self) {
         let Touch {
@@ -267,7 +265,6 @@ pub struct Cause {
     pub other: Pid,
 }
 
-// By hand: a derived drop is opened at every place where a value goes, this one is called.
 impl Drop for Cause {
     fn drop(self) {
         let Cause { touch: _, other: _ } = self;
@@ -295,7 +292,6 @@ pub enum Why {
     Unsupported,
 }
 
-// By hand: a derived drop is opened at every place where a value goes, this one is called.
 impl Drop for Why {
     fn drop(self) {
         match self {

@@ -38,7 +38,6 @@ pub struct Bytes {
     form: Form,
 }
 
-// By hand: a derived drop is opened at every place where a value goes, this one is called.
 impl Drop for Bytes {
     fn drop(self) {
         let Bytes { form: _ } = self;
@@ -257,7 +256,6 @@ pub struct Name {
     bytes: SmallVec<u8, SHORT, Heap>,
 }
 
-// By hand: a derived drop is opened at every place where a value goes, this one is called.
 impl Drop for Name {
     fn drop(self) {
         let Name { bytes: _ } = self;
@@ -320,7 +318,6 @@ pub struct NameList {
     names: Names,
 }
 
-// By hand: a derived drop is opened at every place where a value goes, this one is called.
 impl Drop for NameList {
     fn drop(self) {
         let NameList { names: _ } = self;

@@ -66,7 +66,6 @@ pub enum Call {
     Exit,
 }
 
-// By hand: a derived drop is opened at every place where a value goes, this one is called.
 impl Drop for Call {
     fn drop(self) {
         match self {

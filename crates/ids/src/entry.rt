@@ -22,7 +22,6 @@ pub struct Entry {
     pub doomed: Pids,
 }
 
-// By hand: a derived drop is opened at every place where a value goes, this one is called.
 impl Drop for Entry {
     fn drop(self) {
         let Entry {

@@ -54,7 +54,6 @@ pub enum Answer {
     Child(Pid),
 }
 
-// By hand: a derived drop is opened at every place where a value goes, this one is called.
 impl Drop for Answer {
     fn drop(self) {
         match self {
@@ -139,7 +138,6 @@ pub enum Reply {
     NoProcess,
 }
 
-// By hand: a derived drop is opened at every place where a value goes, this one is called.
 impl Drop for Reply {
     fn drop(self) {
         match self {

@@ -34,7 +34,6 @@ pub struct Kernel {
     state: State,
 }
 
-// By hand: a derived drop is opened at every place where a value goes, this one is called.
 impl Drop for Kernel {
     fn drop(self) {
         let Kernel { state: _ } = self;

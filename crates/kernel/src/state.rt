@@ -23,7 +23,6 @@ pub struct State {
     pub transactions: Transactions,
 }
 
-// By hand: a derived drop is opened at every place where a value goes, this one is called.
 impl Drop for State {
     fn drop(self) {
         let State {

@@ -1,2 +1,1 @@
-mod Bare
 mod Root

@@ -57,7 +57,6 @@ pub struct Holders {
     counts: Tallies,
 }
 
-// By hand: a derived drop is opened at every place where a value goes, this one is called.
 impl Drop for Holders {
     fn drop(self) {
         let Holders {

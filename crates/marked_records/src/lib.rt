@@ -33,7 +33,6 @@ pub struct MarkedRecords {
     holders: Holders,
 }
 
-// By hand: a derived drop is opened at every place where a value goes, this one is called.
 impl Drop for MarkedRecords {
     fn drop(self) {
         let MarkedRecords {

@@ -34,7 +34,6 @@ pub struct Tables {
     pub processes: Processes,
 }
 
-// By hand: a derived drop is opened at every place where a value goes, this one is called.
 impl Drop for Tables {
     fn drop(self) {
         let Tables {

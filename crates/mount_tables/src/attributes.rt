@@ -63,7 +63,6 @@ pub struct AttributeTable {
     now: Time,
 }
 
-// By hand: a derived drop is opened at every place where a value goes, this one is called.
 impl Drop for AttributeTable {
     fn drop(self) {
         let AttributeTable { each: _, now: _ } = self;

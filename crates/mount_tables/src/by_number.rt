@@ -16,7 +16,6 @@ pub(crate) struct ByNumber<T> {
     pub(crate) rows: HashMap<u64, T, BuildHasherDefault<FoldHasher>, Heap>,
 }
 
-// By hand: a derived drop is opened at every place where a value goes, this one is called.
 impl<T: Drop> Drop for ByNumber<T> {
     fn drop(self) {
         let ByNumber { rows: _ } = self;

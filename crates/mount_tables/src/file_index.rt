@@ -15,7 +15,6 @@ pub(crate) struct FileIndex {
     handles: HashMap<FileKey, u64, BuildHasherDefault<FoldHasher>, Heap>,
 }
 
-// By hand: a derived drop is opened at every place where a value goes, this one is called.
 impl Drop for FileIndex {
     fn drop(self) {
         let FileIndex { handles: _ } = self;

@@ -24,7 +24,6 @@ pub struct Folder {
     pub was_read: bool,
 }
 
-// By hand: a derived drop is opened at every place where a value goes, this one is called.
 impl Drop for Folder {
     fn drop(self) {
         let Folder {
@@ -50,7 +49,6 @@ pub struct Folders {
     next: u64,
 }
 
-// By hand: a derived drop is opened at every place where a value goes, this one is called.
 impl Drop for Folders {
     fn drop(self) {
         let Folders { each: _, next: _ } = self;

@@ -12,7 +12,6 @@ pub(crate) struct Hints {
     pub(crate) has_missed: bool,
 }
 
-// By hand: a derived drop is opened at every place where a value goes, this one is called.
 impl Drop for Hints {
     fn drop(self) {
         let Hints {

@@ -13,7 +13,6 @@ pub(crate) struct NameIndex {
     numbers: BTreeMap<Vec<u8, Heap>, u64, Heap>,
 }
 
-// By hand: a derived drop is opened at every place where a value goes, this one is called.
 impl Drop for NameIndex {
     fn drop(self) {
         let NameIndex { numbers: _ } = self;

@@ -34,7 +34,6 @@ pub struct OpenFiles {
     next: u64,
 }
 
-// By hand: a derived drop is opened at every place where a value goes, this one is called.
 impl Drop for OpenFiles {
     fn drop(self) {
         let OpenFiles {

@@ -37,7 +37,6 @@ pub struct Processes {
     free: Hints,
 }
 
-// By hand: a derived drop is opened at every place where a value goes, this one is called.
 impl Drop for Processes {
     fn drop(self) {
         let Processes {

@@ -26,7 +26,6 @@ pub enum State {
     GivenUp,
 }
 
-// By hand: a derived drop is opened at every place where a value goes, this one is called.
 impl Drop for State {
     fn drop(self) {
         match self {
@@ -49,7 +48,6 @@ pub struct View {
     pub state: State,
 }
 
-// By hand: a derived drop is opened at every place where a value goes, this one is called.
 impl Drop for View {
     fn drop(self) {
         let View {
@@ -68,7 +66,6 @@ pub struct Views {
     next: u64,
 }
 
-// By hand: a derived drop is opened at every place where a value goes, this one is called.
 impl Drop for Views {
     fn drop(self) {
         let Views {

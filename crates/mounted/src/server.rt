@@ -28,7 +28,6 @@ pub struct Server<K: Machine> {
     serving: Serving<K>,
 }
 
-// By hand: a derived drop is opened at every place where a value goes, this one is called.
 impl<K: Machine> Drop for Server<K> {
     fn drop(self) {
         let Server { serving: _ } = self;

@@ -27,7 +27,6 @@ pub(crate) struct Serving<K: Machine> {
     pub(crate) tables: Tables,
 }
 
-// By hand: a derived drop is opened at every place where a value goes, this one is called.
 impl<K: Machine> Drop for Serving<K> {
     fn drop(self) {
         let Serving { hand: _, tables: _ } = self;

@@ -19,7 +19,6 @@ pub(crate) struct Births {
     counts: Counts,
 }
 
-// By hand: a derived drop is opened at every place where a value goes, this one is called.
 impl Drop for Births {
     fn drop(self) {
         let Births { counts: _ } = self;

@@ -21,7 +21,6 @@ pub struct DirectoryEntry {
     pub name: Name,
 }
 
-// By hand: a derived drop is opened at every place where a value goes, this one is called.
 impl Drop for DirectoryEntry {
     fn drop(self) {
         let DirectoryEntry { parent: _, name: _ } = self;
@@ -121,7 +120,6 @@ impl Model for Spot {
     ghost invariant = { λ s. s.copy ≡ s.entry };
 }
 
-// By hand: a derived drop is opened at every place where a value goes, this one is called.
 impl Drop for Spot {
     fn drop(self) {
         let Spot { entry: _, copy: _ } = self;

@@ -17,7 +17,6 @@ pub(crate) struct Index {
     numbers: Numbers,
 }
 
-// By hand: a derived drop is opened at every place where a value goes, this one is called.
 impl Drop for Index {
     fn drop(self) {
         let Index { numbers: _ } = self;

@@ -21,7 +21,6 @@ pub(crate) struct NodeList {
     nodes: ByNumber,
 }
 
-// By hand: a derived drop is opened at every place where a value goes, this one is called.
 impl Drop for NodeList {
     fn drop(self) {
         let NodeList { nodes: _ } = self;

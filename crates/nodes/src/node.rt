@@ -22,7 +22,6 @@ pub struct Node {
     pub lookups: u64,
 }
 
-// By hand: a derived drop is opened at every place where a value goes, this one is called.
 impl Drop for Node {
     fn drop(self) {
         let Node {

@@ -36,7 +36,6 @@ pub struct Nodes {
     next: u64,
 }
 
-// By hand: a derived drop is opened at every place where a value goes, this one is called.
 impl Drop for Nodes {
     fn drop(self) {
         let Nodes {

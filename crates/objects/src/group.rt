@@ -26,7 +26,6 @@ pub(crate) struct Group {
     pieces: Vec<Run, Heap>,
 }
 
-// By hand: a derived drop is opened at every place where a value goes, this one is called.
 impl Drop for Group {
     fn drop(self) {
         let Group { heap: _, pieces: _ } = self;

@@ -17,7 +17,6 @@ pub(crate) struct Pieces {
     groups: Vec<Group, Heap>,
 }
 
-// By hand: a derived drop is opened at every place where a value goes, this one is called.
 impl Drop for Pieces {
     fn drop(self) {
         let Pieces { heap: _, groups: _ } = self;

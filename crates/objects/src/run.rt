@@ -23,7 +23,6 @@ pub struct Run {
     bytes: Vec<u8, Heap>,
 }
 
-// By hand: a derived drop is opened at every place where a value goes, this one is called.
 impl Drop for Run {
     fn drop(self) {
         let Run { bytes: _ } = self;

@@ -24,7 +24,6 @@ pub struct Path {
     names: Names,
 }
 
-// By hand: a derived drop is opened at every place where a value goes, this one is called.
 impl Drop for Path {
     fn drop(self) {
         let Path { names: _ } = self;

@@ -24,7 +24,6 @@ pub struct PipeShadow {
     appended: Vec<u8, Heap>,
 }
 
-// By hand: a derived drop is opened at every place where a value goes, this one is called.
 impl Drop for PipeShadow {
     fn drop(self) {
         let PipeShadow {

@@ -32,7 +32,6 @@ pub struct Index {
     pub written: Entries,
 }
 
-// By hand: a derived drop is opened at every place where a value goes, this one is called.
 impl Drop for Index {
     fn drop(self) {
         let Index {

@@ -12,7 +12,6 @@ pub struct Journal {
     touches: Vec<Touch, Heap>,
 }
 
-// By hand: a derived drop is opened at every place where a value goes, this one is called.
 impl Drop for Journal {
     fn drop(self) {
         let Journal { touches: _ } = self;

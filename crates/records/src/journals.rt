@@ -19,7 +19,6 @@ pub struct Journals {
     active: usize,
 }
 
-// By hand: a derived drop is opened at every place where a value goes, this one is called.
 impl Drop for Journals {
     fn drop(self) {
         let Journals { list: _, active: _ } = self;

@@ -23,7 +23,6 @@ pub struct Records {
     index: Index,
 }
 
-// By hand: a derived drop is opened at every place where a value goes, this one is called.
 impl Drop for Records {
     fn drop(self) {
         let Records {

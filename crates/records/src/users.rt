@@ -17,7 +17,6 @@ pub struct Users {
     pub readers: Pids,
 }
 
-// By hand: a derived drop is opened at every place where a value goes, this one is called.
 impl Drop for Users {
     fn drop(self) {
         let Users {

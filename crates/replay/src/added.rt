@@ -16,7 +16,6 @@ pub(crate) enum Added {
     Entry(Snapshot<Added>, Snapshot<Listed>),
 }
 
-// By hand: a derived drop is opened at every place where a value goes, this one is called.
 impl Drop for Added {
     fn drop(self) {
         match self {

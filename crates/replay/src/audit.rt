@@ -198,7 +198,6 @@ pub(crate) struct Audit {
     pub(crate) transactions: Table<Transaction>,
 }
 
-// By hand: a derived drop is opened at every place where a value goes, this one is called.
 impl Drop for Audit {
     fn drop(self) {
         let Audit {

@@ -41,7 +41,6 @@ pub(crate) struct Reached {
     kept: Tree<Entry>,
 }
 
-// By hand: a derived drop is opened at every place where a value goes, this one is called.
 impl Drop for Checker {
     fn drop(self) {
         let Checker {
@@ -53,7 +52,6 @@ impl Drop for Checker {
     }
 }
 
-// By hand: a derived drop is opened at every place where a value goes, this one is called.
 impl Drop for Reached {
     fn drop(self) {
         let Reached {

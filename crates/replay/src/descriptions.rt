@@ -19,7 +19,6 @@ pub(crate) struct Descriptions {
     openings: Tree<usize>,
 }
 
-// By hand: a derived drop is opened at every place where a value goes, this one is called.
 impl Drop for Descriptions {
     fn drop(self) {
         let Descriptions {

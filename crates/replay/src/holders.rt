@@ -22,7 +22,6 @@ pub(crate) struct Holders {
     pub(crate) writing: Tree<usize>,
 }
 
-// By hand: a derived drop is opened at every place where a value goes, this one is called.
 impl Drop for Holders {
     fn drop(self) {
         let Holders {

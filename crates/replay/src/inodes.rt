@@ -22,7 +22,6 @@ pub(crate) struct Inodes {
     counts: Tree<usize>,
 }
 
-// By hand: a derived drop is opened at every place where a value goes, this one is called.
 impl Drop for Inodes {
     fn drop(self) {
         let Inodes { each: _, counts: _ } = self;

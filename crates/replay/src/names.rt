@@ -18,7 +18,6 @@ pub(crate) struct Names {
     given: BTreeMap<Name, Num, Heap>,
 }
 
-// By hand: a derived drop is opened at every place where a value goes, this one is called.
 impl Drop for Names {
     fn drop(self) {
         let Names { given: _ } = self;

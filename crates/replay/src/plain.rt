@@ -58,7 +58,6 @@ pub(crate) struct Process {
     pub(crate) priority: u8,
 }
 
-// By hand: a derived drop is opened at every place where a value goes, this one is called.
 impl Drop for Process {
     fn drop(self) {
         let Process {
@@ -90,7 +89,6 @@ pub(crate) struct PlainKernel {
     pub(crate) largest: u32,
 }
 
-// By hand: a derived drop is opened at every place where a value goes, this one is called.
 impl Drop for PlainKernel {
     fn drop(self) {
         let PlainKernel {

@@ -15,7 +15,6 @@ pub(crate) struct Table<T> {
     slots: Vec<(Num, T), Heap>,
 }
 
-// By hand: a derived drop is opened at every place where a value goes, this one is called.
 impl<T: Drop> Drop for Table<T> {
     fn drop(self) {
         let Table { slots: _ } = self;

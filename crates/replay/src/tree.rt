@@ -15,7 +15,6 @@ pub(crate) struct Tree<T> {
     slots: BTreeMap<Num, T, Heap>,
 }
 
-// By hand: a derived drop is opened at every place where a value goes, this one is called.
 impl<T: Drop> Drop for Tree<T> {
     fn drop(self) {
         let Tree { slots: _ } = self;

@@ -1,3 +1,2 @@
 mod Stepping
 mod Ending
-mod Whole

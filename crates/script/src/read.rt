@@ -40,7 +40,6 @@ pub struct Script {
     lines: Vec<Line, Heap>,
 }
 
-// By hand: a derived drop is opened at every place where a value goes, this one is called.
 impl Drop for Script {
     fn drop(self) {
         let Script {

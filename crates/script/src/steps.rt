@@ -24,7 +24,6 @@ struct Queue {
     ops: VecDeque<Op, Heap>,
 }
 
-// By hand: a derived drop is opened at every place where a value goes, this one is called.
 impl Drop for Queue {
     fn drop(self) {
         let Queue { ops: _ } = self;

@@ -15,7 +15,6 @@ pub(crate) enum Log {
     Then(Snapshot<Log>, Snapshot<Nums>, Snapshot<Vec<Edit, Heap>>),
 }
 
-// By hand: a derived drop is opened at every place where a value goes, this one is called.
 impl Drop for Log {
     fn drop(self) {
         match self {

@@ -34,7 +34,6 @@ pub struct Shadow {
     pub(crate) patches: Patches,
 }
 
-// By hand: a derived drop is opened at every place where a value goes, this one is called.
 impl Drop for Shadow {
     fn drop(self) {
         let Shadow { log: _, patches: _ } = self;

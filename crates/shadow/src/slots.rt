@@ -23,7 +23,6 @@ pub(crate) struct Slots {
     pub(crate) each: Vec<(Pid, SlotPatch), Heap>,
 }
 
-// By hand: a derived drop is opened at every place where a value goes, this one is called.
 impl Drop for Slots {
     fn drop(self) {
         let Slots { each: _ } = self;

@@ -39,7 +39,6 @@ pub(crate) struct Process {
     pub(crate) priority: Priority,
 }
 
-// By hand: a derived drop is opened at every place where a value goes, this one is called.
 impl Drop for Process {
     fn drop(self) {
         let Process {
@@ -67,7 +66,6 @@ pub(crate) struct Processes {
     largest: u32,
 }
 
-// By hand: a derived drop is opened at every place where a value goes, this one is called.
 impl Drop for Processes {
     fn drop(self) {
         let Processes {
@@ -96,7 +94,6 @@ pub struct Stable {
     pub(crate) store: Store,
 }
 
-// By hand: a derived drop is opened at every place where a value goes, this one is called.
 impl Drop for Stable {
     fn drop(self) {
         let Stable {

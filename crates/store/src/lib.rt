@@ -40,7 +40,6 @@ pub struct OpenFile {
     pub openings: u128,
 }
 
-// By hand: a derived drop is opened at every place where a value goes, this one is called.
 impl Drop for OpenFile {
     fn drop(self) {
         let OpenFile {
@@ -60,7 +59,6 @@ pub struct OpenPipe {
     pub writer: Num,
 }
 
-// By hand: a derived drop is opened at every place where a value goes, this one is called.
 impl Drop for OpenPipe {
     fn drop(self) {
         let OpenPipe {
@@ -79,7 +77,6 @@ pub struct Opened {
     pub holders: u128,
 }
 
-// By hand: a derived drop is opened at every place where a value goes, this one is called.
 impl Drop for Opened {
     fn drop(self) {
         let Opened {
@@ -103,7 +100,6 @@ pub enum Object {
     Nothing,
 }
 
-// By hand: a derived drop is opened at every place where a value goes, this one is called.
 impl Drop for Object {
     fn drop(self) {
         match self {
@@ -135,7 +131,6 @@ pub struct Place {
     pub object: Object,
 }
 
-// By hand: a derived drop is opened at every place where a value goes, this one is called.
 impl Drop for Place {
     fn drop(self) {
         let Place {
@@ -154,7 +149,6 @@ struct Header {
     links: u128,
 }
 
-// By hand: a derived drop is opened at every place where a value goes, this one is called.
 impl Drop for Header {
     fn drop(self) {
         let Header { place: _, links: _ } = self;
@@ -169,7 +163,6 @@ pub struct Store {
     root: Num,
 }
 
-// By hand: a derived drop is opened at every place where a value goes, this one is called.
 impl Drop for Store {
     fn drop(self) {
         let Store {

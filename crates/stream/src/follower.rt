@@ -15,7 +15,6 @@ pub(crate) struct Follower {
     pub(crate) count: u64,
 }
 
-// By hand: a derived drop is opened at every place where a value goes, this one is called.
 impl Drop for Follower {
     fn drop(self) {
         let Follower {

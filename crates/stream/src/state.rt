@@ -48,7 +48,6 @@ pub(crate) struct Stream<K: Machine> {
     good: bool,
 }
 
-// By hand: a derived drop is opened at every place where a value goes, this one is called.
 impl<K: Machine> Drop for Stream<K> {
     fn drop(self) {
         let Stream {

@@ -16,7 +16,6 @@ pub struct Reads {
     touches: Vec<Touch, Heap>,
 }
 
-// By hand: a derived drop is opened at every place where a value goes, this one is called.
 impl Drop for Reads {
     fn drop(self) {
         let Reads {

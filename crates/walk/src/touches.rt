@@ -12,7 +12,6 @@ pub struct Touches {
     pub(crate) touches: Vec<Touch, Heap>,
 }
 
-// By hand: a derived drop is opened at every place where a value goes, this one is called.
 impl Drop for Touches {
     fn drop(self) {
         let Touches { touches: _ } = self;

@@ -38,7 +38,6 @@ pub enum Way {
     Threads,
 }
 
-// By hand: a derived drop is opened at every place where a value goes, this one is called.
 impl Drop for Way {
     fn drop(self) {
         match self {
@@ -83,7 +82,6 @@ pub struct Job {
     pub file: String<Heap>,
 }
 
-// By hand: a derived drop is opened at every place where a value goes, this one is called.
 impl Drop for Job {
     fn drop(self) {
         let Job {

@@ -13,7 +13,6 @@ pub(crate) enum Act {
     Write(Fd, Content),
 }
 
-// By hand: a derived drop is opened at every place where a value goes, this one is called.
 impl Drop for Act {
     fn drop(self) {
         match self {
@@ -40,7 +39,6 @@ pub(crate) struct Actor {
     pub(crate) begun: usize,
 }
 
-// By hand: a derived drop is opened at every place where a value goes, this one is called.
 impl Drop for Actor {
     fn drop(self) {
         let Actor {

@@ -21,7 +21,6 @@ pub(crate) struct Room {
     pool: Vec<u8, Heap>,
 }
 
-// By hand: a derived drop is opened at every place where a value goes, this one is called.
 impl Drop for Room {
     fn drop(self) {
         let Room {

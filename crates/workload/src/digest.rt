@@ -16,7 +16,6 @@ pub(crate) struct Digest {
     numbers: u64,
 }
 
-// By hand: a derived drop is opened at every place where a value goes, this one is called.
 impl Drop for Digest {
     fn drop(self) {
         let Digest {

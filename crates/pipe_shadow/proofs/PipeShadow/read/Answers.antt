@@ -1,4 +1,4 @@
-use Rattle.std.proofs.Common.{◌≡◌, ◌-◌, ℕ, List, ◌++◌, length, take, drop, sym, ap, ◌∙◌, arith}
+use Rattle.std.proofs.Common.{◌≡◌, ◌-◌, ℕ, List, ◌++◌, length, take, drop, sym, ap, ◌∙◌}
 use Rattle.objects.proofs.Laws.{drop_append, take_append}
 use Rattle.pipe_shadow.specs.View.{PipeChanges, view_over}
 use Rattle.pipe_shadow.proofs.PipeShadow.read.Goals as goal
