@@ -14,10 +14,11 @@ use Rattle.transcript.specs.Line.{transcript}
 use Rattle.script.specs.Contents.{ScriptContents}
 use Rattle.script.specs.Steps.{steps as steps_in}
 use Rattle.runner.specs.Runs.{Ended, GivesBoth}
-use Rattle.runner.specs.Steps.{operations, Halted, HasDone, Took, Refused, StopsWriting, Stops}
+use Rattle.runner.specs.Steps.{operations, Halted, HasDone, StopsWriting, Stops}
+use Rattle.stream.specs.Doing.{Refused, Took}
 use Rattle.runner.specs.Faults.{fault_of_refusal}
-use Rattle.runner.specs.declared.refusal.StepRefusal.{StepRefusal}
-use Rattle.runner.specs.declared.refusal.StepRefusal.TheVariants as refusal
+use Rattle.stream.specs.declared.doing.StepRefusal.{StepRefusal}
+use Rattle.stream.specs.declared.doing.StepRefusal.TheVariants as refusal
 use Rattle.runner.specs.declared.fault.RunFault.{RunFault}
 use Rattle.runner.specs.declared.fault.RunFault.TheVariants.{Script, Schedule, Read, Write, HistoryFull, NoMemory, Check}
 

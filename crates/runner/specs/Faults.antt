@@ -4,8 +4,8 @@ use Rattle.runner.specs.declared.fault.RunFault.{RunFault}
 use Rattle.runner.specs.declared.fault.RunFault.TheVariants.{Script, Schedule, Read}
 use Rattle.runner.specs.declared.fault.RunFault.TheVariants.{Write, HistoryFull, NoMemory}
 use Rattle.runner.specs.declared.fault.RunFault.TheVariants.{Check}
-use Rattle.runner.specs.declared.refusal.StepRefusal.{StepRefusal}
-use Rattle.runner.specs.declared.refusal.StepRefusal.TheVariants as refusal
+use Rattle.stream.specs.declared.doing.StepRefusal.{StepRefusal}
+use Rattle.stream.specs.declared.doing.StepRefusal.TheVariants as refusal
 use Rattle.replay.specs.declared.checking.CheckFault.{CheckFault}
 use Rattle.replay.specs.declared.checking.CheckFault.TheVariants.{Wrong}
 use Rattle.replay.specs.declared.checking.CheckFault.TheVariants.{NoMemory as NoCheckMemory}

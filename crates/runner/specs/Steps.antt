@@ -1,20 +1,17 @@
 -- How far a run has come with its steps.
-use Rattle.std.specs.Prelude.{◌≡◌, ◌≢◌, ℕ, List, []}
-use Rattle.std.specs.Prelude.{map, take, slice_get, true, false, Option, Some}
+use Rattle.std.specs.Prelude.{◌≡◌, ℕ, List, []}
+use Rattle.std.specs.Prelude.{map, take, slice_get, Option, Some}
 use Rattle.std.specs.Io.KnownBytes.{append_known}
 use Rattle.device.specs.Device.{IsPart}
 use Rattle.ids.specs.declared.call.Op.{Op}
 use Rattle.ids.specs.declared.entry.Entry.{Entry}
 use Rattle.ids.specs.declared.limits.Limits.{Limits}
-use Rattle.machine.specs.Shown.{Shown, Kept, moment}
+use Rattle.machine.specs.Shown.{Shown, Kept}
 use Rattle.history.specs.Log.{Log}
-use Rattle.machine.specs.Steps.{Added, has_place}
-use Rattle.model.specs.Entries.{Reply}
-use Rattle.model.specs.Moments.{status}
-use Rattle.model.specs.Replies.{needed}
 use Rattle.transcript.specs.Line.{transcript}
-use Rattle.runner.specs.declared.refusal.StepRefusal.{StepRefusal}
-use Rattle.runner.specs.declared.refusal.StepRefusal.TheVariants as refusal
+use Rattle.stream.specs.Doing.{Refused}
+use Rattle.stream.specs.declared.doing.StepRefusal.{StepRefusal}
+use Rattle.stream.specs.declared.doing.StepRefusal.TheVariants as refusal
 use Rattle.runner.specs.declared.fault.RunFault.{RunFault}
 use Rattle.runner.specs.declared.fault.RunFault.TheVariants.{Write, HistoryFull, NoMemory}
 
@@ -37,18 +34,6 @@ pub record HasDone
   pub same_largest : kernel.log.largest ≡ limits.file_bytes
   pub whole : kernel.log.forgotten ≡ []
   pub done : operations kernel.log.entries ≡ steps
-
--- One entry more, of this process and this operation.
-pub record Took (old new : Log) (pid : ℕ) (op : Op) : Type 0 where
-  pub reply : Reply
-  pub added : Added old new pid op reply
-
--- Why a step was refused: its places are not free, or they are, and it needs one, and memory was
--- refused.
-abbrev pub Refused : Log → ℕ → Op → StepRefusal → Type 0
-Refused log pid op refusal.HistoryFull = has_place log pid op ≡ false
-Refused log pid op refusal.NoMemory =
-    (has_place log pid op ≡ true) × (needed (status (moment log) pid) op ≢ 0)
 
 -- The first `count` steps are done, and the next one was refused.
 pub record Halted

@@ -4,10 +4,9 @@ ghost use Rattle.runner.specs.Faults.{fault_of_check, fault_of_refusal, fault_of
 ghost use Rattle.runner.specs.Faults.{fault_of_script, fault_of_work, status_of};
 ghost use Rattle.runner.specs.Streaming.{fault_of_stream};
 
-use crate::refusal::StepRefusal;
 use replay::CheckFault;
 use script::{ScheduleFault, ScriptFault};
-use stream::StreamFault;
+use stream::{StepRefusal, StreamFault};
 use thiserror::Error;
 use workers::WorkFault;
 

@@ -8,7 +8,6 @@ mod fault;
 mod job;
 mod printing;
 mod reading;
-mod refusal;
 mod reporting;
 mod run;
 mod steps;

@@ -1,42 +1,18 @@
 // The steps of a run.
-ghost use Rattle.std.specs.Prelude.{◌≡◌, ◌≢◌, ◌<◌, [], IfErr, OnErr, OnOk};
+ghost use Rattle.std.specs.Prelude.{◌≡◌, ◌≢◌, ◌<◌, [], IfErr, OnOk};
 ghost use Rattle.std.specs.Io.KnownBytes.{append_known};
 ghost use Rattle.device.specs.Device.{CanCount};
 ghost use Rattle.machine.specs.Shown.{Kept};
 ghost use Rattle.transcript.specs.Line.{transcript};
-ghost use Rattle.runner.specs.Steps.{Halted, HasDone, Refused, Stops, Took, limits_of};
+ghost use Rattle.runner.specs.Steps.{Halted, HasDone, Stops, limits_of};
 
 use crate::RunFault;
 use crate::printing::print_whole;
-use crate::refusal::StepRefusal;
 use device::Sink;
 use heap::Heap;
-use ids::{Op, Pid, Reply};
+use ids::{Op, Pid};
 use machine::Machine;
-
-// Executes one step. Where it is refused nothing has changed.
-fn do_step<K: Machine>(kernel: &mut K, pid: Pid, op: Op) -> Result<(), StepRefusal>
-    ensures kept { Kept (K.shown kernel.new) }
-    ensures ok { OnOk result (Took (K.shown kernel.old).log (K.shown kernel.new).log pid op) }
-    ensures unchanged { OnErr result (K.shown kernel.new ≡ K.shown kernel.old) }
-    ensures refused { IfErr result (Refused (K.shown kernel.old).log pid op) }
-{
-    let reply = kernel.step(pid, op);
-    match &reply {
-        Reply::HistoryFull => {
-            drop(reply);
-            Err(StepRefusal::HistoryFull)
-        }
-        Reply::NoMemory => {
-            drop(reply);
-            Err(StepRefusal::NoMemory)
-        }
-        _ => {
-            drop(reply);
-            Ok(())
-        }
-    }
-}
+use stream::{StepRefusal, do_step};
 
 // Executes steps in a row on a kernel whose history is empty, up to the first that is refused.
 fn make_steps<K: Machine>(kernel: &mut K, steps: Vec<(Pid, Op), Heap>) -> Result<(), StepRefusal>

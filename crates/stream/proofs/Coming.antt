@@ -11,13 +11,14 @@ use Rattle.script.specs.Scripts.{IsFault}
 use Rattle.script.specs.declared.read.Line.{Line}
 use Rattle.script.specs.declared.faults.ScriptFault.{ScriptFault}
 use Rattle.script.specs.declared.faults.ScriptFault.TheVariants as fault
-use Rattle.stream.specs.Heard.{CannotForget, ComesFirst, ComesFurther, DoesLine, HasDone, HasGrown, Forgets, IsFullFor, IsOfLine, Refused, Refuses, StopsFurther, fault_of_check, fault_of_full, fault_of_refusal}
+use Rattle.stream.specs.Doing.{Refused}
+use Rattle.stream.specs.Heard.{CannotForget, ComesFirst, ComesFurther, DoesLine, HasDone, HasGrown, Forgets, IsFullFor, IsOfLine, Refuses, StopsFurther, fault_of_check, fault_of_full, fault_of_refusal}
 use Rattle.stream.specs.declared.fault.StreamFault.{StreamFault}
 use Rattle.stream.specs.declared.fault.StreamFault.TheVariants as stop
 use Rattle.stream.specs.declared.heard.Heard.{Heard}
 use Rattle.stream.specs.declared.heard.Heard.TheVariants as heard
-use Rattle.stream.specs.declared.refusal.StepRefusal.{StepRefusal}
-use Rattle.stream.specs.declared.refusal.StepRefusal.TheVariants as refusal
+use Rattle.stream.specs.declared.doing.StepRefusal.{StepRefusal}
+use Rattle.stream.specs.declared.doing.StepRefusal.TheVariants as refusal
 use Rattle.stream.proofs.Forgotten.{none_kept_in}
 
 does_line : (said : Result (Option Line) ScriptFault) (old new : Shown) (line : Line) (what : Heard)

@@ -13,8 +13,8 @@ use Rattle.stream.specs.declared.fault.StreamFault.TheVariants.{NoMemory}
 use Rattle.stream.specs.declared.follower.Follower.{Follower}
 use Rattle.stream.specs.declared.heard.Heard.{Heard}
 use Rattle.stream.specs.declared.heard.Heard.TheVariants as heard
-use Rattle.stream.specs.declared.refusal.StepRefusal.{StepRefusal}
-use Rattle.stream.specs.declared.refusal.StepRefusal.TheVariants as refusal
+use Rattle.stream.specs.declared.doing.StepRefusal.{StepRefusal}
+use Rattle.stream.specs.declared.doing.StepRefusal.TheVariants as refusal
 use Rattle.stream.specs.declared.state.Setting.{Setting}
 use Rattle.stream.specs.declared.state.Stream.{Stream}
 use Rattle.stream.proofs.Forgotten.{grown_same, grown_settled}

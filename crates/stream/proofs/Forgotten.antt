@@ -17,7 +17,8 @@ use Rattle.replay.specs.declared.checking.CheckFault.TheVariants as fault
 use Rattle.script.specs.declared.read.Line.{Line}
 use Rattle.script.specs.declared.faults.ScriptFault.{ScriptFault}
 use Rattle.transcript.specs.Line.{line_of}
-use Rattle.stream.specs.Heard.{CannotForget, ComesFurther, Follows, Forgets, HasCheckedAll, HasCheckedFirst, HasDone, HasFollowed, HasGrown, IsLastLine, Took, fault_of_check}
+use Rattle.stream.specs.Doing.{Took}
+use Rattle.stream.specs.Heard.{CannotForget, ComesFurther, Follows, Forgets, HasCheckedAll, HasCheckedFirst, HasDone, HasFollowed, HasGrown, IsLastLine, fault_of_check}
 use Rattle.stream.specs.declared.follower.Follower.{Follower}
 use Rattle.stream.specs.declared.heard.Heard.{Heard}
 use Rattle.stream.specs.declared.heard.Heard.TheVariants as heard

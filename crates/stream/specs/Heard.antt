@@ -7,8 +7,7 @@ use Rattle.ids.specs.declared.call.Op.{Op}
 use Rattle.ids.specs.declared.entry.Entry.{Entry}
 use Rattle.ids.specs.declared.limits.Limits.{Limits}
 use Rattle.machine.specs.Shown.{Shown, Kept, setup_of}
-use Rattle.machine.specs.Steps.{Added, forgetting, has_place}
-use Rattle.model.specs.Entries.{Reply}
+use Rattle.machine.specs.Steps.{forgetting, has_place}
 use Rattle.replay.specs.Checked.{IsFaultFor}
 use Rattle.replay.specs.declared.checking.CheckFault.{CheckFault}
 use Rattle.replay.specs.declared.checking.CheckFault.TheVariants.{Wrong}
@@ -22,8 +21,8 @@ use Rattle.stream.specs.declared.fault.StreamFault.{StreamFault}
 use Rattle.stream.specs.declared.fault.StreamFault.TheVariants as stop
 use Rattle.stream.specs.declared.follower.Follower.{Follower}
 use Rattle.stream.specs.declared.heard.Heard.{Heard}
-use Rattle.stream.specs.declared.refusal.StepRefusal.{StepRefusal}
-use Rattle.stream.specs.declared.refusal.StepRefusal.TheVariants as refusal
+use Rattle.stream.specs.declared.doing.StepRefusal.{StepRefusal}
+use Rattle.stream.specs.declared.doing.StepRefusal.TheVariants as refusal
 use Rattle.stream.specs.declared.heard.Heard.TheVariants as heard
 
 -- A kernel has made these entries more, and is otherwise the same to a reader of its history. Some
@@ -34,11 +33,6 @@ pub record HasGrown (old new : Shown) (more : List Entry) : Type 0 where
   pub same_limit : new.log.limit ≡ old.log.limit
   pub same_largest : new.log.largest ≡ old.log.largest
   pub entries : new.log.entries ≡ old.log.entries ++ more
-
--- One entry more, of this process and this operation.
-pub record Took (old new : Log) (pid : ℕ) (op : Op) : Type 0 where
-  pub reply : Reply
-  pub added : Added old new pid op reply
 
 -- A kernel has done an operation: one entry more, which is kept.
 pub record HasDone (pid : ℕ) (op : Op) (old new : Shown) : Type 0 where
@@ -115,11 +109,6 @@ pub record IsFullFor (said : Result (Option Line) ScriptFault) (kernel : Shown) 
 abbrev pub Refuses : Result (Option Line) ScriptFault → Shown → StepRefusal → Type 0
 Refuses said kernel refusal.HistoryFull = IsFullFor said kernel
 Refuses said kernel refusal.NoMemory = ⊤
-
--- why an operation is not done
-abbrev pub Refused : Log → ℕ → Op → StepRefusal → Type 0
-Refused log pid op refusal.HistoryFull = has_place log pid op ≡ false
-Refused log pid op refusal.NoMemory = ⊤
 
 abbrev pub fault_of_refusal : StepRefusal → StreamFault
 fault_of_refusal refusal.HistoryFull = stop.HistoryFull

@@ -1,5 +1,6 @@
 pub mod Answers
 pub mod Asked
+pub mod Doing
 pub mod Heard
 pub mod Input
 pub mod Parts

@@ -2,7 +2,7 @@
 ghost use Rattle.std.specs.Prelude.{◌≡◌};
 ghost use Rattle.stream.specs.Heard.{fault_of_check, fault_of_refusal};
 
-use crate::refusal::StepRefusal;
+use crate::doing::StepRefusal;
 use replay::CheckFault;
 
 /// Why a stream has stopped before the end of its input.

@@ -2,43 +2,19 @@
 ghost use Rattle.std.specs.Prelude.{◌≡◌, ◌≢◌, [], is_some, IfErr, IfOk, OnErr, OnOk, Option};
 ghost use Rattle.machine.specs.Shown.{Kept};
 ghost use Rattle.script.specs.Lines.{further_line_of};
+ghost use Rattle.stream.specs.Doing.{Refused};
 ghost use Rattle.stream.specs.Heard.{ComesFurther, Follows, HasDone, HasGrown, IsOfLine};
-ghost use Rattle.stream.specs.Heard.{Refused, Refuses, StopsFurther, Took, fault_of_full};
+ghost use Rattle.stream.specs.Heard.{Refuses, StopsFurther, fault_of_full};
 ghost use Rattle.stream.specs.declared.follower.Follower.{Follower};
 
+use crate::doing::{StepRefusal, do_step};
 use crate::fault::StreamFault;
 use crate::follower::Follower;
 use crate::heard::Heard;
-use crate::refusal::StepRefusal;
 use crate::settling::settle;
 use heap::Heap;
-use ids::{Op, Pid, Reply};
 use machine::Machine;
 use script::{Line, ScriptFault, read_further_line};
-
-// Executes one operation. Where it is refused nothing has changed.
-fn do_step<K: Machine>(kernel: &mut K, pid: Pid, op: Op) -> Result<(), StepRefusal>
-    ensures kept { Kept (K.shown kernel.new) }
-    ensures ok { OnOk result (Took (K.shown kernel.old).log (K.shown kernel.new).log pid op) }
-    ensures unchanged { OnErr result (K.shown kernel.new ≡ K.shown kernel.old) }
-    ensures refused { IfErr result (Refused (K.shown kernel.old).log pid op) }
-{
-    let reply = kernel.step(pid, op);
-    match &reply {
-        Reply::HistoryFull => {
-            drop(reply);
-            Err(StepRefusal::HistoryFull)
-        }
-        Reply::NoMemory => {
-            drop(reply);
-            Err(StepRefusal::NoMemory)
-        }
-        _ => {
-            drop(reply);
-            Ok(())
-        }
-    }
-}
 
 // Executes the operation of a line.
 fn do_line<K: Machine>(kernel: &mut K, line: Line) -> Result<Heard, StepRefusal>

@@ -10,16 +10,17 @@
 
 ghost use Rattle.stream.specs.Answers.{FaultLinesAreNoEntries, GoodAnswersAreTranscripts};
 
+mod doing;
 mod fault;
 mod follower;
 mod heard;
 mod hearing;
-mod refusal;
 mod run;
 mod settling;
 mod state;
 mod telling;
 
+pub use doing::{StepRefusal, do_step};
 pub use fault::StreamFault;
 pub use run::run_stream;
 

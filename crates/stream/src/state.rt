@@ -13,11 +13,11 @@ ghost use Rattle.stream.specs.States.{IsNotSettled, IsSettled};
 ghost use Rattle.stream.specs.Streams.{CanMake, rest_text, verdict};
 ghost use Rattle.stream.specs.Parts.{ComesOf, IsTaken, NotTaken};
 
+use crate::doing::StepRefusal;
 use crate::fault::StreamFault;
 use crate::follower::Follower;
 use crate::heard::Heard;
 use crate::hearing::{hear_further, heard_fault};
-use crate::refusal::StepRefusal;
 use crate::settling::settle;
 use crate::telling::{put_fault_line, put_verdict, tell};
 use device::Sink;

@@ -3,7 +3,7 @@ use Rattle.machine.specs.Shown.{Shown}
 use Rattle.script.specs.Lines.{further_line_of}
 use Rattle.stream.specs.Heard.{Forgets, HasGrown, Refuses, StopsFurther}
 use Rattle.stream.specs.declared.fault.StreamFault.{StreamFault}
-use Rattle.stream.specs.declared.refusal.StepRefusal.{StepRefusal}
+use Rattle.stream.specs.declared.doing.StepRefusal.{StepRefusal}
 use Rattle.stream.proofs.Coming.{full_of_line, stops_full, stops_settling}
 use Rattle.stream.proofs.Forgotten.{comes-then, grown_settled, grown_same}
 use Rattle.stream.proofs.hearing.hear_again.Goals as goal
