@@ -69,9 +69,14 @@ abbrev pub counted : ℕ → Option OpenFile → map.FinMap nat_cmp OpenFile →
 counted handle None each = each
 counted handle (Some file) each = map.insert each handle (opened_again file)
 
--- open once less
+-- open once less, and none less than none
 abbrev pub closed_once : OpenFile → OpenFile
 closed_once file = record file { opens = file.opens - 1 }
+
+-- the files where this one is open once less, and stays
+abbrev pub counted_down : ℕ → Option OpenFile → map.FinMap nat_cmp OpenFile → map.FinMap nat_cmp OpenFile
+counted_down handle None each = each
+counted_down handle (Some file) each = map.insert each handle (closed_once file)
 
 -- ---- files that go
 

@@ -1,8 +1,8 @@
 // The files that are open: all opens of one file in one view share a descriptor.
 ghost use Rattle.std.specs.Prelude.{◌≡◌, ◌+◌, ◌-◌, ◌^◌, ◌<◌, ◌≤◌, None, Some, IsOk, OnOk, IsSome};
 ghost use Rattle.model.specs.FiniteMap as map;
-ghost use Rattle.mount_tables.specs.Files.{IsSomeIn, IsTaken, counted, file_for, is_this, key_at, key_of};
-ghost use Rattle.mount_tables.specs.Files.{released, room_of, unlinked};
+ghost use Rattle.mount_tables.specs.Files.{IsSomeIn, IsTaken, counted, counted_down, file_for, is_this};
+ghost use Rattle.mount_tables.specs.Files.{key_at, key_of, released, room_of, unlinked};
 
 use crate::by_number::ByNumber;
 use crate::file_index::FileIndex;
@@ -23,7 +23,7 @@ pub struct OpenFile {
     pub pid: Pid,
     /// Its descriptor there.
     pub fd: Fd,
-    /// How often it is open.
+    /// How often it is open: not at all, where it could not be closed.
     pub opens: u64,
 }
 
@@ -183,6 +183,21 @@ impl OpenFiles {
     {
         if let Some(file) = self.get(handle) {
             let opens = file.opens.saturating_add(1);
+            self.each.set(handle, OpenFile { opens, ..file });
+        }
+    }
+
+    /// A file is open once less, and stays, also where that was the last time: a file that could not be
+    /// closed, which the next one that opens it uses again. It takes no memory.
+    pub fn count_down(&mut self, handle: u64)
+        ensures each { self.new.each
+            ≡ counted_down handle (map.get self.old.each handle) self.old.each }
+        ensures handles { self.new.handles ≡ self.old.handles }
+        ensures next { self.new.next ≡ self.old.next }
+        ensures room { self.new.room ≡ self.old.room }
+    {
+        if let Some(file) = self.get(handle) {
+            let opens = file.opens.saturating_sub(1);
             self.each.set(handle, OpenFile { opens, ..file });
         }
     }

@@ -21,7 +21,9 @@ use Rattle.mount_requests.specs.declared.failure.Failure.{Failure}
 use Rattle.mount_requests.specs.declared.failure.Failure.TheVariants as failure
 use Rattle.mounted.specs.declared.control.Order.{Order}
 use Rattle.mounted.specs.Controls.{ended, state_by, with_roles}
-use Rattle.mounted.specs.Served.{closed_by, noted}
+use Rattle.mount_tables.specs.Files.{closed_once, key_of, unlinked}
+use Rattle.mount_requests.specs.Found.{file_at}
+use Rattle.mounted.specs.Served.{closed_by, kept_by, less_held, noted, released_by}
 use Rattle.mounted.specs.Sound.{IsFor, IsSound, RolesStaySound, StaysSound}
 use Rattle.mount_requests.specs.Keeping.{Keeps}
 use Rattle.mount_requests.proofs.Keeping.{let_go_kept}
@@ -123,18 +125,31 @@ sound_from {later = later} {v = v} {w = w} is h = subst (λ (z : Seen). StaysSou
 
 -- ---- files that were closed, orders that were obeyed
 
-closed_plain : (b : Bool) (s : Seen) (pid : ℕ) {v w : Shown} → Stand v w → StaysSound s v (if b then record s { roles = let_go pid (map.get s.roles pid) s.roles } else s) w
+-- files may be any
+released_if : (b : Bool) (s : Seen) (handle : ℕ) (file : OpenFile) {v w : Shown} → Stand v w
+    → StaysSound s v (if b then record s { files = map.insert s.files handle (closed_once file) } else record s { files = map.remove s.files handle; handles = unlinked handle (key_of file) s.handles }) w
+released_if true s handle file {v} {w} stand was = sound_kept s (record s { files = map.insert s.files handle (closed_once file) }) v w was (there_same refl) refl (kept_is refl) stand
+released_if false s handle file {v} {w} stand was = sound_kept s (record s { files = map.remove s.files handle; handles = unlinked handle (key_of file) s.handles }) v w was (there_same refl) refl (kept_is refl) stand
+
+pub sound_released : (s : Seen) (handle : ℕ) (o : Option OpenFile) {v w : Shown} → Stand v w → StaysSound s v (released_by s handle o) w
+sound_released s handle None stand was = sound_stands s _ _ was stand
+sound_released s handle (Some file) stand = released_if (nat_lt 1 file.opens) s handle file stand
+
+sound_left : (s : Seen) (handle : ℕ) (o : Option OpenFile) {v w : Shown} → Stand v w → StaysSound s v (kept_by s handle o) w
+sound_left s handle o {v} {w} stand was = sound_kept s (kept_by s handle o) v w was (there_same refl) refl (kept_is refl) stand
+
+closed_plain : (b : Bool) (s : Seen) (pid : ℕ) {v w : Shown} → Stand v w → StaysSound s v (less_held b pid s) w
 closed_plain true s pid {v} {w} stand was = sound_kept s (record s { roles = let_go pid (map.get s.roles pid) s.roles }) v w was (there_same refl) refl (let_go_kept pid s.roles) stand
 closed_plain false s pid stand was = sound_stands s _ _ was stand
 
-pub sound_closed : (s : Seen) (file : OpenFile) (r : Result (Unit {0}) Fault) {v w : Shown} → Stand v w → StaysSound s v (closed_by s file r) w
-sound_closed s file (Ok done) stand = closed_plain (file.view == 0) s file.pid stand
-sound_closed s file (Err (fault.Aborted why)) stand = sound_aborted s why file.view stand
-sound_closed s file (Err (fault.Refused e)) stand = sound_same refl stand
-sound_closed s file (Err fault.Busy) stand = sound_same refl stand
-sound_closed s file (Err fault.NoMemory) stand = sound_same refl stand
-sound_closed s file (Err fault.Stale) stand = sound_same refl stand
-sound_closed s file (Err fault.Unexpected) stand = sound_same refl stand
+pub sound_closed : (s : Seen) (handle : ℕ) (file : OpenFile) (r : Result (Unit {0}) Fault) {v w : Shown} → Stand v w → StaysSound s v (closed_by s handle file r) w
+sound_closed s handle file (Ok done) {v} {w} stand was = closed_plain (file.view == 0) (released_by s handle (file_at s handle)) file.pid (stand_same w) (sound_released s handle (file_at s handle) stand was)
+sound_closed s handle file (Err (fault.Aborted why)) {v} {w} stand was = sound_aborted (released_by s handle (file_at s handle)) why file.view (stand_same w) (sound_released s handle (file_at s handle) stand was)
+sound_closed s handle file (Err (fault.Refused e)) stand = sound_left s handle (file_at s handle) stand
+sound_closed s handle file (Err fault.Busy) stand = sound_left s handle (file_at s handle) stand
+sound_closed s handle file (Err fault.NoMemory) stand = sound_left s handle (file_at s handle) stand
+sound_closed s handle file (Err fault.Stale) stand = sound_left s handle (file_at s handle) stand
+sound_closed s handle file (Err fault.Unexpected) stand = sound_left s handle (file_at s handle) stand
 
 pub sound_ended : (s : Seen) (view : ℕ) (order : Order) (r : Result (Unit {0}) Fault) {v w : Shown} → Stand v w → StaysSound s v (ended s view order r) w
 sound_ended s view order (Ok done) stand = sound_standing s (state_by order) view stand

@@ -19,7 +19,7 @@ use Rattle.course.specs.Courses.{doing, forking}
 use Rattle.course.specs.Hands.{IsChild}
 use Rattle.course.specs.declared.fault.Fault.{Fault}
 use Rattle.course.specs.declared.fault.Fault.TheVariants as fault
-use Rattle.mount_tables.specs.Files.{closed_once, key_of, unlinked}
+use Rattle.mount_tables.specs.Files.{closed_once, counted_down, key_of, unlinked}
 use Rattle.mount_tables.specs.Numbers.{class_of}
 use Rattle.mount_tables.specs.Processes.{let_go}
 use Rattle.mount_tables.specs.declared.views.View.{View}
@@ -164,53 +164,62 @@ is_held s file =
     if file.view == 0 then is_holder (map.get s.roles file.pid)
     else has_open file (map.get s.views file.view)
 
--- what is known then: a holder of the plain tree has one descriptor less, and a view may be aborted
-abbrev pub closed_by : Seen → OpenFile → Result (Unit {0}) Fault → Seen
-closed_by s file (Ok done) =
-    if file.view == 0 then record s { roles = let_go file.pid (map.get s.roles file.pid) s.roles } else s
-closed_by s file (Err (fault.Aborted why)) = with_aborted s file.view why
-closed_by s file (Err e) = s
+-- what is known of a file that is open once less: with the last time it goes
+abbrev pub released_by : Seen → ℕ → Option OpenFile → Seen
+released_by s handle None = s
+released_by s handle (Some file) =
+    if nat_lt 1 file.opens
+    then record s { files = map.insert s.files handle (closed_once file) }
+    else record s {
+      files = map.remove s.files handle;
+      handles = unlinked handle (key_of file) s.handles;
+    }
+
+-- one that could not be closed stays, though it is open no more, and the next that opens it uses it
+abbrev pub kept_by : Seen → ℕ → Option OpenFile → Seen
+kept_by s handle found = record s { files = counted_down handle found s.files }
+
+-- a holder of the plain tree has one descriptor less
+abbrev pub less_held : Bool → ℕ → Seen → Seen
+less_held true pid s = record s { roles = let_go pid (map.get s.roles pid) s.roles }
+less_held false pid s = s
+
+-- what is known once it was to be closed; a view may be aborted then
+abbrev pub closed_by : Seen → ℕ → OpenFile → Result (Unit {0}) Fault → Seen
+closed_by s handle file (Ok done) =
+    less_held (file.view == 0) file.pid (released_by s handle (file_at s handle))
+closed_by s handle file (Err (fault.Aborted why)) =
+    with_aborted (released_by s handle (file_at s handle)) file.view why
+closed_by s handle file (Err e) = kept_by s handle (file_at s handle)
 
 -- what is told where it was closed
 abbrev pub told_closed : Result (Unit {0}) Fault → Result Reply Failure
 told_closed (Ok done) = Ok reply.Empty
 told_closed (Err e) = Err (failure_of e)
 
-pub record Closes (s later : Seen) (file : OpenFile) (old new : Shown) (r : Result Reply Failure)
-    : Type 0 where
+pub record Closes (s later : Seen) (handle : ℕ) (file : OpenFile) (old new : Shown)
+    (r : Result Reply Failure) : Type 0 where
   pub closed : Result (Unit {0}) Fault
   pub ran : Ran old (doing file.pid (call.Close file.fd)) closed new
-  pub known : later ≡ closed_by s file closed
+  pub known : later ≡ closed_by s handle file closed
   pub is : r ≡ told_closed closed
 
-abbrev pub ClosesIf : Bool → Seen → Seen → OpenFile → Shown → Shown → Result Reply Failure → Type 0
-ClosesIf true s later file old new r = Closes s later file old new r
-ClosesIf false s later file old new r = Tells (Ok reply.Empty) s later old new r
+-- the file that is to be closed: it is open for the last time, and a process has it open still
+abbrev pub last_open : Seen → Option OpenFile → Option OpenFile
+last_open s None = None
+last_open s (Some file) =
+    if nat_lt 1 file.opens then None else (if is_held s file then Some file else None)
 
 -- A file is open once less. Where that was the last time, it is closed.
-abbrev pub ReleasesBy : Option OpenFile → Seen → Seen → Shown → Shown → Result Reply Failure → Type 0
-ReleasesBy None s later old new r = Tells (Ok reply.Empty) s later old new r
-ReleasesBy (Some file) s later old new r = ClosesIf (is_held s file) s later file old new r
-
--- what is known of a file that is open once less, and the file where it is open no more
-abbrev pub released_by : Seen → ℕ → Option OpenFile → Seen × Option OpenFile
-released_by s handle None = (s, None)
-released_by s handle (Some file) =
-    if nat_lt 1 file.opens
-    then (record s { files = map.insert s.files handle (closed_once file) }, None)
-    else (
-      record s {
-        files = map.remove s.files handle;
-        handles = unlinked handle (key_of file) s.handles;
-      },
-      Some file,
-    )
-
-abbrev pub ReleasesAs : Seen × Option OpenFile → Seen → Shown → Shown → Result Reply Failure → Type 0
-ReleasesAs known later old new r = ReleasesBy known.1 known.0 later old new r
+abbrev pub ReleasesBy : Option OpenFile → Seen → Seen → ℕ → Shown → Shown → Result Reply Failure
+    → Type 0
+ReleasesBy None s later handle old new r =
+    Tells (Ok reply.Empty) (released_by s handle (file_at s handle)) later old new r
+ReleasesBy (Some file) s later handle old new r = Closes s later handle file old new r
 
 abbrev pub Releases : Seen → Seen → ℕ → Shown → Shown → Result Reply Failure → Type 0
-Releases s later handle old new r = ReleasesAs (released_by s handle (file_at s handle)) later old new r
+Releases s later handle old new r =
+    ReleasesBy (last_open s (file_at s handle)) s later handle old new r
 
 -- ---- all requests
 

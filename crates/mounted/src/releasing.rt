@@ -2,8 +2,9 @@
 ghost use Rattle.std.specs.Prelude.{◌≡◌, option_map};
 ghost use Rattle.course.specs.Hands.{Stand};
 ghost use Rattle.mount_requests.specs.Seen.{seen};
+ghost use Rattle.mount_requests.specs.Found.{file_at};
 ghost use Rattle.mounted.specs.Served.{Closes, Releases, ToldBy, closed_by, has_open, is_held};
-ghost use Rattle.mounted.specs.Served.{keeps_open, told, told_closed};
+ghost use Rattle.mounted.specs.Served.{keeps_open, kept_by, last_open, released_by, told, told_closed};
 ghost use Rattle.mounted.specs.Server.{HasGrown};
 ghost use Rattle.mounted.specs.Sound.{StaysSound};
 
@@ -47,31 +48,65 @@ fn is_held(tables: &Tables, file: &OpenFile) -> bool
     }
 }
 
+// The file that is open under this number for the last time, where a process has it open still.
+fn last_open(tables: &Tables, handle: u64) -> Option<OpenFile>
+    ensures { result ≡ last_open (seen tables.now) (file_at (seen tables.now) handle) }
+{
+    let file = tables.files.get(handle)?;
+    if file.opens > 1 || !is_held(tables, &file) {
+        None
+    } else {
+        Some(file)
+    }
+}
+
+// A file is open once less, and goes with the last time.
+fn count_down(tables: &mut Tables, handle: u64)
+    ensures { seen tables.new
+        ≡ released_by (seen tables.old) handle (file_at (seen tables.old) handle) }
+{
+    let _file = tables.files.release(handle);
+}
+
+// A file is open once less, and stays.
+fn keep(tables: &mut Tables, handle: u64)
+    ensures { seen tables.new
+        ≡ kept_by (seen tables.old) handle (file_at (seen tables.old) handle) }
+{
+    tables.files.count_down(handle);
+}
+
 impl<K: Machine> Serving<K> {
-    // What came of closing a file.
-    fn note_closed(&mut self, file: &OpenFile, closed: Result<(), Fault>) -> Reply
+    // What came of closing a file. It stays where it could not be closed.
+    fn note_closed(&mut self, handle: u64, file: &OpenFile, closed: Result<(), Fault>) -> Reply
         ensures hand { self.new.hand ≡ self.old.hand }
-        ensures known { seen self.new.tables ≡ closed_by (seen self.old.tables) file.now closed }
+        ensures known { seen self.new.tables
+            ≡ closed_by (seen self.old.tables) handle file.now closed }
         ensures told { result ≡ told (told_closed closed) }
     {
         match closed {
             Ok(()) => {
+                count_down(&mut self.tables, handle);
                 if file.view == PLAIN {
                     self.tables.processes.release(file.pid);
                 }
                 Reply::Empty
             }
             Err(Fault::Aborted(why)) => {
+                count_down(&mut self.tables, handle);
                 self.tables.views.abort(file.view, why);
                 Reply::Error(Errno::ECANCELED)
             }
-            Err(fault) => reply_of(Err(Failure::from(fault))),
+            Err(fault) => {
+                keep(&mut self.tables, handle);
+                reply_of(Err(Failure::from(fault)))
+            }
         }
     }
 
     // A file is closed by the process that has it open.
-    fn close_file(&mut self, file: &OpenFile) -> Reply
-        ensures closes { ToldBy (Closes (seen self.old.tables) (seen self.new.tables) file.now
+    fn close_file(&mut self, handle: u64, file: &OpenFile) -> Reply
+        ensures closes { ToldBy (Closes (seen self.old.tables) (seen self.new.tables) handle file.now
             self.old.hand.shown self.new.hand.shown) result }
         ensures stand { Stand self.old.hand.shown self.new.hand.shown }
         ensures grows { HasGrown self.old.hand.shown self.new.hand.shown }
@@ -82,7 +117,7 @@ impl<K: Machine> Serving<K> {
         let closed = close(&mut self.hand, file.fd);
         // For the proof: since then the history has grown, and no process has ended.
         let _history = self.hand.history();
-        self.note_closed(file, closed)
+        self.note_closed(handle, file, closed)
     }
 
     // A file is open once less. Where that was the last time it is closed.
@@ -94,15 +129,12 @@ impl<K: Machine> Serving<K> {
         ensures sound { StaysSound (seen self.old.tables) self.old.hand.shown
             (seen self.new.tables) self.new.hand.shown }
     {
-        match self.tables.files.release(handle) {
-            Some(file) => {
-                if is_held(&self.tables, &file) {
-                    self.close_file(&file)
-                } else {
-                    Reply::Empty
-                }
+        match last_open(&self.tables, handle) {
+            Some(file) => self.close_file(handle, &file),
+            None => {
+                count_down(&mut self.tables, handle);
+                Reply::Empty
             }
-            None => Reply::Empty,
         }
     }
 }

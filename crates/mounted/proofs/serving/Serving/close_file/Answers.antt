@@ -22,5 +22,5 @@ returns-clause-closes g c = record {
 pub returns-clause-sound : goal.returns-clause-sound
 returns-clause-sound g c =
     sound_into c.note_closed.ensures.known
-    (sound_closed (seen c.args.self.now.tables) c.args.file.now c.close-closed.result
+    (sound_closed (seen c.args.self.now.tables) c.args.handle c.args.file.now c.close-closed.result
     (stands_into c.note_closed.ensures.hand (stands_since c.close-closed.ensures.bound c.bind.ensures.since c.history-history.ensures.stand)))

@@ -1,16 +1,11 @@
-use Rattle.std.proofs.Common.{refl, sym, ◌∙◌}
 use Rattle.mount_requests.specs.Seen.{seen}
-use Rattle.mounted.proofs.Releases.{is_closed, is_not_held, stays_open}
+use Rattle.mounted.proofs.Releases.{is_closed, is_not_closed}
 use Rattle.mounted.proofs.serving.Serving.release.Goals as goal
 
-pub returns-then-is_held-clause-releases : goal.returns-then-is_held-clause-releases
-returns-then-is_held-clause-releases g c =
-    is_closed (seen c.args.self.now.tables) c.args.self.now.tables.files.room c.args.handle c.release.ensures.each c.release.ensures.handles c.release.ensures.next c.release.ensures.file (seen c.close_file.new.self.tables) _ _ c.in-Some.file c.in-Some.is (sym c.is_held.ensures ∙ c.if-is_held.true) c.close_file.ensures.closes
-
-pub returns-else-is_held-clause-releases : goal.returns-else-is_held-clause-releases
-returns-else-is_held-clause-releases g c =
-    is_not_held (seen c.args.self.now.tables) c.args.self.now.tables.files.room c.args.handle c.release.ensures.each c.release.ensures.handles c.release.ensures.next c.release.ensures.file _ _ c.in-Some.file c.in-Some.is (sym c.is_held.ensures ∙ c.if-is_held.false) refl
+pub returns-in-Some-clause-releases : goal.returns-in-Some-clause-releases
+returns-in-Some-clause-releases g c =
+    is_closed (seen c.args.self.now.tables) (seen c.close_file.new.self.tables) c.args.handle c.in-Some.file _ _ c.last_open.ensures c.in-Some.is c.close_file.ensures.closes
 
 pub returns-in-None-clause-releases : goal.returns-in-None-clause-releases
 returns-in-None-clause-releases g c =
-    stays_open (seen c.args.self.now.tables) c.args.self.now.tables.files.room c.args.handle c.release.ensures.each c.release.ensures.handles c.release.ensures.next c.release.ensures.file _ _ c.in-None.is refl
+    is_not_closed (seen c.args.self.now.tables) (seen c.count_down.new.tables) c.args.handle _ c.last_open.ensures c.in-None.is c.count_down.ensures
