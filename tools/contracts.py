@@ -146,3 +146,17 @@ def digest_of(name, known):
     for it in below(name, lines):
         sum.update(f"{it} {contract_of(it, known)}\n".encode())
     return sum.hexdigest()
+
+
+def record_of(name):
+    """Returns the file that tells that a crate's edits were refused."""
+    return CRATES.joinpath(name, "more-edits", "refused")
+
+
+def why_to_try(name, known):
+    """Returns why a crate's edits have to be tried, or '' where they were refused as all stands now."""
+    if not record_of(name).is_file():
+        return "no record says that they were refused"
+    found = re.search(r"^sha256 (\w+)$", record_of(name).read_text(), re.M)
+    is_same = found and found[1] == digest_of(name, known)
+    return "" if is_same else "the crate's text, or a contract below it, is another than when they were refused"

@@ -11,6 +11,7 @@ import contextlib
 import os
 import pathlib
 import re
+import signal
 import subprocess
 import sys
 
@@ -50,10 +51,10 @@ def crates_at_work(process):
 
 
 class Gate:
-    """One run of the gate's command. `count` is how many crates it proves."""
+    """One run of the gate's command. `count` is how many crates it proves, `children` a set that has its process while it runs."""
 
-    def __init__(self, folder, words=()):
-        self.folder, self.words = folder, words
+    def __init__(self, folder, words=(), children=None):
+        self.folder, self.words, self.children = folder, words, set() if children is None else children
         lines = pathlib.Path(folder, "crates.txt").read_text().splitlines()
         self.count = sum(bool(line) and not line.startswith("#") for line in lines)
         self.done, self.edits, self.said, self.child = [], 0, [], None
@@ -72,7 +73,8 @@ class Gate:
         how = {"stdin": subprocess.DEVNULL, "stdout": subprocess.PIPE, "stderr": subprocess.STDOUT, "text": True, "errors": "replace"}
         # What the command says under CI is meant for the top of a repository, and this is a copy.
         how["env"] = {name: value for name, value in os.environ.items() if name != "CI"}
-        self.child = subprocess.Popen(["rt", "ci", *self.words], cwd=self.folder, **how)
+        self.child = subprocess.Popen(["rt", "ci", *self.words], cwd=self.folder, start_new_session=True, **how)
+        self.children.add(self.child)
         try:
             for line in self.child.stdout:
                 line = line.rstrip("\n").replace(f"{self.folder}/", "")
@@ -85,8 +87,9 @@ class Gate:
                 hear(line)
             return self.child.wait()
         finally:
+            self.children.discard(self.child)
             if self.child.poll() is None:
-                self.child.terminate()
+                os.killpg(self.child.pid, signal.SIGTERM)
 
     def counts(self):
         """Returns how many proofs and edits passed, and how many things failed, as the last line says; where there is none, that one failed."""
@@ -120,6 +123,8 @@ def main():
     if len(words) not in (2, 3) or words[2:] not in ([], ["--anew"]):
         sys.exit(__doc__)
     rt_of(words[0])
+    for it in (signal.SIGTERM, signal.SIGHUP, signal.SIGINT):
+        signal.signal(it, lambda number, _: sys.exit(128 + number))
     gate = Gate(os.path.realpath(words[1]), words[2:])
     with Clock(words[0], lambda: (text := gate.text()) and f"{text}, for {span(clock.seconds())}") as clock:
         status = gate.run(heard(gate, clock))
