@@ -3,6 +3,7 @@ import contextlib
 import os
 import signal
 import subprocess
+import sys
 import threading
 import time
 from concurrent.futures import ThreadPoolExecutor
@@ -45,7 +46,7 @@ class Trials:
     def __init__(self, name):
         self.lanes = lanes()
         self.pool, self.change, self.left = ThreadPoolExecutor(self.lanes), threading.Condition(), 0
-        self.groups, self.at_work, self.left_out, self.children, self.counts = [], {}, [], set(), {}
+        self.groups, self.at_work, self.left_out, self.children, self.is_ending = [], {}, [], set(), False
         self.clock = Clock(name, self.text)
 
     def __enter__(self):
@@ -65,8 +66,9 @@ class Trials:
                 os.killpg(child.pid, signal.SIGTERM)
 
     def _end(self, number, _):
+        self.is_ending = True
         self._kill()
-        os._exit(128 + number)
+        sys.exit(128 + number)
 
     def text(self):
         """Returns what goes on just now: how many tests have ended, then what is at work and for how long."""
@@ -76,7 +78,7 @@ class Trials:
             now, told = time.monotonic(), {}
             for what, begin in self.at_work.values():
                 told.setdefault(what, []).append(now - begin)
-            tests = [f"{it.name}, {it.passed + it.failed} of {it.count} tests" for it in groups if not it.is_done()]
+            tests = [f"{it.name}, {it.passed + it.failed} of {it.count} tests, for {span(now - it.begin)}" for it in groups if not it.is_done()]
         told = [f"{what() if callable(what) else what}, for {span(max(times))}" for what, times in told.items() if what]
         return "; ".join([f"{ended} of {sum(it.count for it in groups)} tests have ended after {span(self.clock.seconds())}", *told, *tests])
 
@@ -93,6 +95,8 @@ class Trials:
                 self.at_work[key] = what, time.monotonic()
             call(*words)
         except BaseException as error:
+            if self.is_ending:
+                return
             # A fault of this program: nothing that it was to try counts as passed.
             self.end(self.group(what if isinstance(what, str) else call.__name__, 1), "", False, f"{type(error).__name__}: {error}")
         finally:
@@ -134,6 +138,8 @@ class Trials:
 
     def run(self, words, **how):
         """Runs a command to its end, and returns its status and what it has printed; with `apart` standard error apart, behind it."""
+        if self.is_ending:
+            sys.exit(1)
         apart = how.pop("apart", False)
         how = {"stdin": subprocess.DEVNULL, "text": True, "errors": "replace", "start_new_session": True, **how}
         child = subprocess.Popen(words, stdout=subprocess.PIPE, stderr=subprocess.PIPE if apart else subprocess.STDOUT, **how)
