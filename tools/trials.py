@@ -34,10 +34,17 @@ class Group:
     """Tests that are told of together: how many there are, and how they ended."""
 
     def __init__(self, name):
-        self.name, self.count, self.passed, self.failed, self.begin = name, 0, 0, 0, time.monotonic()
+        self.name, self.count, self.passed, self.failed, self.begin = name, 0, 0, 0, None
 
     def is_done(self):
         return self.passed + self.failed == self.count
+
+    def start(self):
+        """Notes that a test of it is at work."""
+        self.begin = self.begin or time.monotonic()
+
+    def seconds(self):
+        return time.monotonic() - (self.begin or time.monotonic())
 
 
 class Trials:
@@ -78,7 +85,7 @@ class Trials:
             now, told = time.monotonic(), {}
             for what, begin in self.at_work.values():
                 told.setdefault(what, []).append(now - begin)
-            tests = [f"{it.name}, {it.passed + it.failed} of {it.count} tests, for {span(now - it.begin)}" for it in groups if not it.is_done()]
+            tests = [f"{it.name}, {it.passed + it.failed} of {it.count}, for {span(it.seconds())}" for it in groups if it.begin and not it.is_done()]
         told = [f"{what() if callable(what) else what}, for {span(max(times))}" for what, times in told.items() if what]
         return "; ".join([f"{ended} of {sum(it.count for it in groups)} tests have ended after {span(self.clock.seconds())}", *told, *tests])
 
@@ -122,6 +129,7 @@ class Trials:
     def end(self, group, name, is_well, said=""):
         """Notes how a test ended. What one that failed has said is shown."""
         with self.change:
+            group.start()
             group.passed, group.failed = group.passed + is_well, group.failed + (not is_well)
             is_done = group.is_done()
         if not is_well:
@@ -129,7 +137,7 @@ class Trials:
             self.clock.tell(f"FAILED: {group.name}{name and ': ' + name}\n{lines}".rstrip())
         if is_done:
             failed = f", {group.failed} FAILED" if group.failed else ""
-            self.clock.tell(f"{'ok' if not failed else 'FAILED'}: {group.name}: {group.passed} passed{failed}, {span(time.monotonic() - group.begin)}")
+            self.clock.tell(f"{'ok' if not failed else 'FAILED'}: {group.name}: {group.passed} passed{failed}, {span(group.seconds())}")
 
     def leave_out(self, text):
         """Notes what is not tried, and why."""
