@@ -92,9 +92,11 @@ class Gate:
                 os.killpg(self.child.pid, signal.SIGTERM)
 
     def counts(self):
-        """Returns how many proofs and edits passed, and how many things failed, as the last line says; where there is none, that one failed."""
+        """Returns how many proofs and edits passed, and how many things failed, as the last line says; where there is none, that one failed. An
+        edit that says nothing of a contract has failed too, though it fails no run of that command."""
         last = LAST.match(self.said[-1]) if self.said else None
-        return (int(last[1]), int(last[2])) if last else (0, 1)
+        bad = sum(bool(re.match("^rt: .*: BAD EDIT:", line)) for line in self.said)
+        return (int(last[1]), int(last[2]) + bad) if last else (0, 1)
 
     def refused(self):
         """Returns how many edits were refused."""
