@@ -26,6 +26,10 @@ class Clock:
         with self.lock:
             self._clear()
 
+    def restart(self):
+        """Counts from now on."""
+        self.begin = time.monotonic()
+
     def seconds(self):
         return round(time.monotonic() - self.begin)
 
