@@ -21,10 +21,7 @@ pub struct Place {
 
 // Looks whether a directory is where it was, if it is one that can be moved. Where another one stands
 // there it is stale.
-pub(crate) fn check_place<K: Machine>(
-    hand: &mut Hand<K>,
-    place: Option<Place>,
-) -> Result<(), Fault>
+pub(crate) fn check_place<K: Machine>(hand: &mut Hand<K>, place: Option<Place>) -> Result<(), Fault>
     ensures bound { bound hand.new ≡ bound hand.old }
     ensures ran { Ran hand.old.shown
         (staying hand.old.pid place) result hand.new.shown }

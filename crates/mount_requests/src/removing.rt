@@ -171,8 +171,7 @@ impl Tables {
         ensures answers { AnswersRename (seen self.old) (seen self.new) hand.old.pid node name.now
             new_parent new_name.now flags hand.old.shown hand.new.shown result }
     {
-        let Moving { from, to, absent } =
-            self.plan_move(node, name, new_parent, new_name, flags)?;
+        let Moving { from, to, absent } = self.plan_move(node, name, new_parent, new_name, flags)?;
         let again = copy_if(absent, &to.path)?;
         let former = self.entry_of_name(node, name)?;
         let spot = self.spot_for(new_parent, new_name)?;
