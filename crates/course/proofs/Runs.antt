@@ -10,8 +10,9 @@ use Rattle.course.specs.declared.fault.Fault.{Fault}
 use Rattle.course.specs.declared.fault.Fault.TheVariants as fault
 use Rattle.course.specs.declared.files.Made.{Made}
 use Rattle.course.specs.declared.names.Twice.{Twice}
+use Rattle.course.specs.declared.place.Place.{Place}
 use Rattle.course.specs.Course.{Began, Course, Give, Step, ◌>>=◌, HasBegun, HasRun, IsTaken, Ran, step}
-use Rattle.course.specs.Courses.{both, by_descriptor, closing, closing_for, closing_spare, doing, done_with, finding_at, if_absent, if_found, if_listed, if_same, if_there, listing, listing_at, on_ok, opening, seeing, stating}
+use Rattle.course.specs.Courses.{both, by_descriptor, closing, closing_for, closing_spare, doing, done_with, finding_at, if_absent, if_found, if_listed, if_same, if_there, inside, listing, listing_at, on_ok, opening, seeing, stating, staying}
 use Rattle.course.specs.Faults.{gives_none, is_abort, is_missing, is_there}
 
 -- nothing is done
@@ -46,6 +47,14 @@ stops m f (Ok y) is h = absurd is
 -- a course that succeeds, and what comes behind it
 pub goes_on : {A B : Type 0} (m : Course (Result A Fault)) (f : A → Course (Result B Fault)) {old mid new : Shown} {x : A} {r : Result B Fault} → Ran old m (Ok x) mid → Ran mid (f x) r new → Ran old (m >>= on_ok f) r new
 goes_on m f h k = goes m (on_ok f) h k
+
+-- a directory is not where it was
+pub moved_off : {A : Type 0} (pid : ℕ) (place : Option Place) (named : Course (Result A Fault)) {old new : Shown} {e : Fault} (r : Result A Fault) → IsErrAnd r (λ y. y ≡ e) → Ran old (staying pid place) (Err e) new → Ran old (inside pid place named) r new
+moved_off pid place named r is h = stops (staying pid place) (λ stays. named) r is h
+
+-- it is there, and what is done in it, by another name of the process
+pub stays_there : {A : Type 0} (place : Option Place) (named : ℕ → Course (Result A Fault)) {p q : ℕ} {old mid new : Shown} {x : Unit {0}} {r : Result A Fault} → p ≡ q → Ran old (staying q place) (Ok x) mid → Ran mid (named p) r new → Ran old (inside q place (named q)) r new
+stays_there place named {p} {q} e h k = goes_on (staying q place) (λ stays. named q) h (by_pid named e k)
 
 -- a descriptor is closed, for an error that is no abort, or it is an abort
 pub closed : {A : Type 0} (pid fd : ℕ) (e : Fault) {old new : Shown} {outcome : Result A Fault} → is_abort e ≡ false → Ran old (closing_for pid fd e) outcome new → Ran old (closing pid fd e) outcome new

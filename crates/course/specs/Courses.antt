@@ -16,6 +16,7 @@ use Rattle.course.specs.declared.fault.Fault.{Fault}
 use Rattle.course.specs.declared.fault.Fault.TheVariants as fault
 use Rattle.course.specs.declared.files.Made.{Made}
 use Rattle.course.specs.declared.objects.Object.{Object}
+use Rattle.course.specs.declared.place.Place.{Place}
 use Rattle.course.specs.Course.{Course, Give, ◌>>=◌, step}
 use Rattle.course.specs.Faults.{begun_in, bytes_in, child_in, committed_in, count_in, done_in}
 use Rattle.course.specs.Faults.{fd_in, given_up_in, gives_none, is_abort, is_missing, is_there, names_in}
@@ -85,6 +86,17 @@ same_or_stale inode (Err e) = Err (stale_by e)
 abbrev pub looking_for : ℕ → List ℕ → ℕ → Course (Result (Unit {0}) Fault)
 looking_for pid path inode =
     stating pid (call.Stat path) >>= (λ looked. Give (same_or_stale inode looked))
+
+-- A directory has to be where it was, if it is one that can be moved.
+abbrev pub staying : ℕ → Option Place → Course (Result (Unit {0}) Fault)
+staying pid (Some place) = looking_for pid place.path place.inode
+staying pid None = Give (Ok tt)
+
+-- what is done to a name of a directory, by its path, where the directory is still the one that is
+-- meant
+abbrev pub inside : {A : Type 0} → ℕ → Option Place → Course (Result A Fault)
+    → Course (Result A Fault)
+inside pid place named = staying pid place >>= on_ok (λ stays. named)
 
 -- A file gets a further name, by its path.
 abbrev pub linking : ℕ → List ℕ → ℕ → List ℕ → Course (Result Stat Fault)

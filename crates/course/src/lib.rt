@@ -11,6 +11,7 @@ mod hand;
 mod made;
 mod names;
 mod objects;
+mod place;
 mod step;
 mod transactions;
 
@@ -18,8 +19,7 @@ pub use fault::Fault;
 pub use files::{Made, append, close, read, stat_file, write};
 pub use hand::Hand;
 pub use made::{close_spare, create_cut, cut_if, make_file, open_cut};
-pub use names::{
-    Twice, link, list, make_directory, move_name, remove_directory, stat_path, unlink,
-};
+pub use names::{Twice, link, list, look_up, make_directory, move_name, remove_directory, unlink};
 pub use objects::{Object, find, list_at, resize};
+pub use place::Place;
 pub use transactions::{begin, end, fork, give_up, look_nowhere};

@@ -3,11 +3,12 @@ ghost use Rattle.std.specs.Prelude.{◌≡◌, ◌&&◌, not};
 ghost use Rattle.course.specs.Hands.{bound};
 ghost use Rattle.course.specs.Course.{Ran};
 ghost use Rattle.course.specs.Courses.{closing_spare, creating_cut, cut_made, cut_opened, cutting};
-ghost use Rattle.course.specs.Courses.{done_with, making_file, opening_cut};
+ghost use Rattle.course.specs.Courses.{done_with, inside, making_file, opening_cut};
 
 use crate::fault::Fault;
 use crate::files::{Made, close, close_for, create, open_this, set_length};
 use crate::hand::Hand;
+use crate::place::{Place, check_place};
 use ids::{Bytes, Fd, Num, Stat};
 use machine::Machine;
 
@@ -68,10 +69,8 @@ fn cut_made<K: Machine>(hand: &mut Hand<K>, made: Made, cut: bool) -> Result<Mad
     }
 }
 
-/// Makes a file and opens it for reading and writing. Where the name is there already the file of
-/// that name is opened, unless `exclusive` is true, and cut to nothing, where that is wanted. The two
-/// paths are the same.
-pub fn create_cut<K: Machine>(
+// Makes a file and opens it, or opens the one that is there and cuts it, where that is wanted.
+fn create_cut_at<K: Machine>(
     hand: &mut Hand<K>,
     path: Bytes,
     again: Bytes,
@@ -86,6 +85,26 @@ pub fn create_cut<K: Machine>(
     cut_made(hand, made, cut)
 }
 
+/// Makes a file in this directory and opens it for reading and writing. Where the name is there already
+/// the file of that name is opened, unless `exclusive` is true, and cut to nothing, where that is
+/// wanted. The two paths are the same. Where the directory is not where it was it is stale.
+pub fn create_cut<K: Machine>(
+    hand: &mut Hand<K>,
+    place: Option<Place>,
+    path: Bytes,
+    again: Bytes,
+    exclusive: bool,
+    cut: bool,
+) -> Result<Made, Fault>
+    ensures bound { bound hand.new ≡ bound hand.old }
+    ensures ran { Ran hand.old.shown
+        (inside hand.old.pid place (creating_cut hand.old.pid path again exclusive cut))
+        result hand.new.shown }
+{
+    check_place(hand, place)?;
+    create_cut_at(hand, path, again, exclusive, cut)
+}
+
 // Closes the descriptor of a file that was made, and tells what it is like.
 fn close_made<K: Machine>(hand: &mut Hand<K>, made: Made) -> Result<Stat, Fault>
     ensures bound { bound hand.new ≡ bound hand.old }
@@ -96,14 +115,30 @@ fn close_made<K: Machine>(hand: &mut Hand<K>, made: Made) -> Result<Stat, Fault>
     Ok(made.stat)
 }
 
-/// Makes a file that is not left open. The two paths are the same.
-pub fn make_file<K: Machine>(hand: &mut Hand<K>, path: Bytes, again: Bytes) -> Result<Stat, Fault>
+// Makes a file that is not left open.
+fn make_file_at<K: Machine>(hand: &mut Hand<K>, path: Bytes, again: Bytes) -> Result<Stat, Fault>
     ensures bound { bound hand.new ≡ bound hand.old }
     ensures ran { Ran hand.old.shown
         (making_file hand.old.pid path again) result hand.new.shown }
 {
     let made = create(hand, path, again, true)?;
     close_made(hand, made)
+}
+
+/// Makes a file in this directory that is not left open. The two paths are the same. Where the
+/// directory is not where it was it is stale.
+pub fn make_file<K: Machine>(
+    hand: &mut Hand<K>,
+    place: Option<Place>,
+    path: Bytes,
+    again: Bytes,
+) -> Result<Stat, Fault>
+    ensures bound { bound hand.new ≡ bound hand.old }
+    ensures ran { Ran hand.old.shown
+        (inside hand.old.pid place (making_file hand.old.pid path again)) result hand.new.shown }
+{
+    check_place(hand, place)?;
+    make_file_at(hand, path, again)
 }
 
 /// Closes the descriptor of a file that was made, where that is open already.

@@ -3,23 +3,40 @@ ghost use Rattle.std.specs.Prelude.{◌≡◌, IfSome, is_some, true};
 ghost use Rattle.ids.specs.declared.call.Call.TheVariants as asked;
 ghost use Rattle.course.specs.Hands.{bound};
 ghost use Rattle.course.specs.Course.{Ran};
-ghost use Rattle.course.specs.Courses.{doing, linking, listing, looking_for, making, moving};
+ghost use Rattle.course.specs.Courses.{doing, inside, linking, listing, looking_for, making, moving};
 ghost use Rattle.course.specs.Courses.{same_or_stale, stating};
 ghost use Rattle.course.specs.Faults.{gives_none, is_missing, stale_by};
 
 use crate::fault::{Fault, names_in};
 use crate::hand::Hand;
+use crate::place::{Place, check_place};
 use heap::Heap;
 use ids::{Bytes, Call, Errno, NameList, Num, Stat};
 use machine::Machine;
 
-/// What a path gives.
-pub fn stat_path<K: Machine>(hand: &mut Hand<K>, path: Bytes) -> Result<Stat, Fault>
+// What a path gives.
+fn stat_path<K: Machine>(hand: &mut Hand<K>, path: Bytes) -> Result<Stat, Fault>
     ensures bound { bound hand.new ≡ bound hand.old }
     ensures ran { Ran hand.old.shown
         (stating hand.old.pid (asked.Stat path)) result hand.new.shown }
 {
     hand.stat_call(Call::Stat(path))
+}
+
+/// What a name of this directory gives, by its path. Where the directory is not where it was it is
+/// stale.
+pub fn look_up<K: Machine>(
+    hand: &mut Hand<K>,
+    place: Option<Place>,
+    path: Bytes,
+) -> Result<Stat, Fault>
+    ensures bound { bound hand.new ≡ bound hand.old }
+    ensures ran { Ran hand.old.shown
+        (inside hand.old.pid place (stating hand.old.pid (asked.Stat path)))
+        result hand.new.shown }
+{
+    check_place(hand, place)?;
+    stat_path(hand, path)
 }
 
 /// The names of a directory.
@@ -32,8 +49,8 @@ pub fn list<K: Machine>(hand: &mut Hand<K>, heap: Heap, path: Bytes) -> Result<N
     names_in(heap, reply)
 }
 
-/// Makes a directory, and tells about it. The two paths are the same.
-pub fn make_directory<K: Machine>(
+// Makes a directory, and tells about it. The two paths are the same.
+fn make_directory_at<K: Machine>(
     hand: &mut Hand<K>,
     path: Bytes,
     again: Bytes,
@@ -44,6 +61,23 @@ pub fn make_directory<K: Machine>(
 {
     hand.do_call(Call::Mkdir(path))?;
     stat_path(hand, again)
+}
+
+/// Makes a directory in this one, and tells about it. The two paths are the same. Where the directory
+/// in which it is to be is not where it was it is stale.
+pub fn make_directory<K: Machine>(
+    hand: &mut Hand<K>,
+    place: Option<Place>,
+    path: Bytes,
+    again: Bytes,
+) -> Result<Stat, Fault>
+    ensures bound { bound hand.new ≡ bound hand.old }
+    ensures ran { Ran hand.old.shown
+        (inside hand.old.pid place (making hand.old.pid (asked.Mkdir path) again))
+        result hand.new.shown }
+{
+    check_place(hand, place)?;
+    make_directory_at(hand, path, again)
 }
 
 // Whether an error says that a path gives nothing.
@@ -117,9 +151,8 @@ pub struct Twice {
     pub second: Bytes,
 }
 
-/// Gives a file the second path too, by the first one, where that gives this file, and tells about
-/// it. Where it gives another one the path is stale.
-pub fn link<K: Machine>(
+// Gives a file the second path too, by the first one, where that gives this file, and tells about it.
+fn link_at<K: Machine>(
     hand: &mut Hand<K>,
     from: Twice,
     inode: Num,
@@ -135,21 +168,55 @@ pub fn link<K: Machine>(
     link_to(hand, from.second, to.first, to.second)
 }
 
-/// Takes a name of a file away.
-pub fn unlink<K: Machine>(hand: &mut Hand<K>, path: Bytes) -> Result<(), Fault>
+/// Gives a file a name in this directory too, by the path that it has, where that gives this file, and
+/// tells about it. Where the path gives another one, or the directory is not where it was, it is stale.
+pub fn link<K: Machine>(
+    hand: &mut Hand<K>,
+    from: Twice,
+    inode: Num,
+    place: Option<Place>,
+    to: Twice,
+) -> Result<Stat, Fault>
+    requires from { from.second ≡ from.first }
+    requires to { to.second ≡ to.first }
     ensures bound { bound hand.new ≡ bound hand.old }
     ensures ran { Ran hand.old.shown
-        (doing hand.old.pid (asked.Unlink path)) result hand.new.shown }
+        (inside hand.old.pid place (linking hand.old.pid from.first inode to.first))
+        result hand.new.shown }
 {
+    check_place(hand, place)?;
+    link_at(hand, from, inode, to)
+}
+
+/// Takes a name of a file away from this directory. Where the directory is not where it was it is
+/// stale.
+pub fn unlink<K: Machine>(
+    hand: &mut Hand<K>,
+    place: Option<Place>,
+    path: Bytes,
+) -> Result<(), Fault>
+    ensures bound { bound hand.new ≡ bound hand.old }
+    ensures ran { Ran hand.old.shown
+        (inside hand.old.pid place (doing hand.old.pid (asked.Unlink path)))
+        result hand.new.shown }
+{
+    check_place(hand, place)?;
     hand.do_call(Call::Unlink(path))
 }
 
-/// Removes an empty directory.
-pub fn remove_directory<K: Machine>(hand: &mut Hand<K>, path: Bytes) -> Result<(), Fault>
+/// Removes an empty directory from this one. Where the one in which it is is not where it was it is
+/// stale.
+pub fn remove_directory<K: Machine>(
+    hand: &mut Hand<K>,
+    place: Option<Place>,
+    path: Bytes,
+) -> Result<(), Fault>
     ensures bound { bound hand.new ≡ bound hand.old }
     ensures ran { Ran hand.old.shown
-        (doing hand.old.pid (asked.Rmdir path)) result hand.new.shown }
+        (inside hand.old.pid place (doing hand.old.pid (asked.Rmdir path)))
+        result hand.new.shown }
 {
+    check_place(hand, place)?;
     hand.do_call(Call::Rmdir(path))
 }
 
@@ -187,9 +254,9 @@ fn move_if_absent<K: Machine>(
     }
 }
 
-/// Moves what the first path gives to the second one. The last path is the second one once more:
-/// where it is given, nothing may stand there.
-pub fn move_name<K: Machine>(
+// Moves what the first path gives to the second one. The last path is the second one once more: where
+// it is given, nothing may stand there.
+fn move_at<K: Machine>(
     hand: &mut Hand<K>,
     from: Bytes,
     to: Bytes,
@@ -204,4 +271,44 @@ pub fn move_name<K: Machine>(
         Some(again) => move_if_absent(hand, from, to, again),
         None => hand.do_call(Call::Rename(from, to)),
     }
+}
+
+// The same into this directory.
+fn move_into<K: Machine>(
+    hand: &mut Hand<K>,
+    from: Bytes,
+    place: Option<Place>,
+    to: Bytes,
+    absent: Option<Bytes>,
+) -> Result<(), Fault>
+    requires { IfSome absent (λ again. again ≡ to) }
+    ensures bound { bound hand.new ≡ bound hand.old }
+    ensures ran { Ran hand.old.shown
+        (inside hand.old.pid place (moving hand.old.pid from to (is_some absent)))
+        result hand.new.shown }
+{
+    check_place(hand, place)?;
+    move_at(hand, from, to, absent)
+}
+
+/// Moves what a name of the first directory gives to a name of the second one, by their paths. The last
+/// path is the second one once more: where it is given, nothing may stand there. Where one of the two
+/// directories is not where it was it is stale.
+pub fn move_name<K: Machine>(
+    hand: &mut Hand<K>,
+    place: Option<Place>,
+    from: Bytes,
+    new_place: Option<Place>,
+    to: Bytes,
+    absent: Option<Bytes>,
+) -> Result<(), Fault>
+    requires { IfSome absent (λ again. again ≡ to) }
+    ensures bound { bound hand.new ≡ bound hand.old }
+    ensures ran { Ran hand.old.shown
+        (inside hand.old.pid place
+        (inside hand.old.pid new_place (moving hand.old.pid from to (is_some absent))))
+        result hand.new.shown }
+{
+    check_place(hand, place)?;
+    move_into(hand, from, new_place, to, absent)
 }

@@ -6,13 +6,14 @@ use Rattle.fuse.specs.declared.reply.Reply.{Reply}
 use Rattle.fuse.specs.declared.request.Operation.{Operation}
 use Rattle.machine.specs.Shown.{Shown}
 use Rattle.course.specs.Course.{Course, Give, Ran}
-use Rattle.course.specs.Courses.{closing_spare, creating_cut, writing}
+use Rattle.course.specs.Courses.{closing_spare, creating_cut, inside, writing}
 use Rattle.course.specs.declared.fault.Fault.{Fault}
 use Rattle.course.specs.declared.files.Made.{Made}
+use Rattle.course.specs.declared.place.Place.{Place}
 use Rattle.mount_tables.specs.Numbers.{is_reserved}
 use Rattle.mount_requests.specs.Answers.{Answers, AnswersIfRoom, Failed, IsPlanned, NoRoom, Refused, Told, Unplanned}
 use Rattle.mount_requests.specs.Failures.{and_then, error, failure_of}
-use Rattle.mount_requests.specs.Found.{at}
+use Rattle.mount_requests.specs.Found.{name_at}
 use Rattle.mount_requests.specs.Requests.{AnswersLookUp, AnswersLookUpBy, AnswersName, IsAnswered, OpensAs, making_open, written_by}
 use Rattle.mount_requests.specs.Seen.{Seen}
 use Rattle.mount_requests.specs.declared.failure.Failure.{Failure}
@@ -93,16 +94,16 @@ pub answered_as : (s later : Seen) {pid process : ℕ} (node : ℕ) (operation :
 answered_as s later {pid} {process} node operation {old} {before} new r a b h = subst (λ (p : ℕ). IsAnswered s later p node operation old new r) a (subst (λ (v : Shown). IsAnswered s later process node operation v new r) b h)
 
 -- a file that is made, by other names of the second path and the flags
-pub made_by : (pid : ℕ) (path again : List ℕ) (exclusive is_exclusive cut is_cut : Bool) {old new : Shown} {r : Result Made Fault} → again ≡ path → exclusive ≡ is_exclusive → cut ≡ is_cut → Ran old (creating_cut pid path again exclusive cut) r new → Ran old (creating_cut pid path path is_exclusive is_cut) r new
-made_by pid path again exclusive is_exclusive cut is_cut {old} {new} {r} a b d h =
-    subst (λ (z : Bool). Ran old (creating_cut pid path path is_exclusive z) r new) d
-    (subst (λ (z : Bool). Ran old (creating_cut pid path path z cut) r new) b
-    (subst (λ (z : List ℕ). Ran old (creating_cut pid path z exclusive cut) r new) a h))
+pub made_by : (pid : ℕ) (place : Option Place) (path again : List ℕ) (exclusive is_exclusive cut is_cut : Bool) {old new : Shown} {r : Result Made Fault} → again ≡ path → exclusive ≡ is_exclusive → cut ≡ is_cut → Ran old (inside pid place (creating_cut pid path again exclusive cut)) r new → Ran old (inside pid place (creating_cut pid path path is_exclusive is_cut)) r new
+made_by pid place path again exclusive is_exclusive cut is_cut {old} {new} {r} a b d h =
+    subst (λ (z : Bool). Ran old (inside pid place (creating_cut pid path path is_exclusive z)) r new) d
+    (subst (λ (z : Bool). Ran old (inside pid place (creating_cut pid path path z cut)) r new) b
+    (subst (λ (z : List ℕ). Ran old (inside pid place (creating_cut pid path z exclusive cut)) r new) a h))
 
 pub spare_by : (pid : ℕ) (is_open was_open : Bool) (made : Made) {old new : Shown} {r : Result Made Fault} → is_open ≡ was_open → Ran old (closing_spare pid is_open made) r new → Ran old (closing_spare pid was_open made) r new
 spare_by pid is_open was_open made {old} {new} {r} e h = subst (λ (z : Bool). Ran old (closing_spare pid z made) r new) e h
 
-pub making_as : (s u : Seen) (pid flags view : ℕ) {path again : List ℕ} {old new : Shown} {r : Result Made Fault} → u ≡ s → again ≡ path → Ran old (making_open u pid flags (at view again)) r new → Ran old (making_open s pid flags (at view path)) r new
-making_as s u pid flags view {path} {again} {old} {new} {r} a b h =
-    subst (λ (q : List ℕ). Ran old (making_open s pid flags (at view q)) r new) b
-    (subst (λ (v : Seen). Ran old (making_open v pid flags (at view again)) r new) a h)
+pub making_as : (s u : Seen) (pid flags view : ℕ) (place : Option Place) {path again : List ℕ} {old new : Shown} {r : Result Made Fault} → u ≡ s → again ≡ path → Ran old (making_open u pid flags (name_at view again place)) r new → Ran old (making_open s pid flags (name_at view path place)) r new
+making_as s u pid flags view place {path} {again} {old} {new} {r} a b h =
+    subst (λ (q : List ℕ). Ran old (making_open s pid flags (name_at view q place)) r new) b
+    (subst (λ (v : Seen). Ran old (making_open v pid flags (name_at view again place)) r new) a h)

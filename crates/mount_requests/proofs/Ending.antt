@@ -8,22 +8,24 @@ use Rattle.ids.specs.declared.flags.OpenFlags.{OpenFlags}
 use Rattle.ids.specs.declared.reply.Kind.{Kind}
 use Rattle.ids.specs.declared.reply.Kind.TheVariants.{Dir, File, Pipe}
 use Rattle.course.specs.Course.{Course, Give, Step, ◌>>=◌}
-use Rattle.course.specs.Courses.{both, by_descriptor, closing, closing_for, closing_spare, creating, creating_cut, cutting, doing, done_with, finding, finding_at, fresh, if_absent, if_cut, if_found, if_listed, if_same, if_seen, if_there, linking, listing, listing_at, looking_for, making, making_file, moving, on_ok, opening, opening_cut, opening_this, reading, same_or_stale, seeing, sizing, stating, writing}
+use Rattle.course.specs.Courses.{both, by_descriptor, closing, closing_for, closing_spare, creating, creating_cut, cutting, doing, done_with, finding, finding_at, fresh, if_absent, if_cut, if_found, if_listed, if_same, if_seen, if_there, inside, linking, listing, listing_at, looking_for, making, making_file, moving, on_ok, opening, opening_cut, opening_this, reading, same_or_stale, seeing, sizing, stating, writing}
 use Rattle.course.specs.Faults.{done_in, gives_none, is_abort, is_missing, is_there, unless_aborted}
 use Rattle.course.specs.declared.fault.Fault.{Fault}
 use Rattle.course.specs.declared.fault.Fault.TheVariants.{Aborted, Busy, NoMemory, Refused, Stale, Unexpected}
 use Rattle.course.specs.declared.files.Made.{Made}
 use Rattle.course.specs.declared.objects.Object.{Object}
+use Rattle.course.specs.declared.place.Place.{Place}
 use Rattle.mount_requests.specs.Aborts.{EndsAtAborts, IsNoAbort}
 use Rattle.mount_requests.proofs.NoAborts.{bytes_no_abort, count_no_abort, done_no_abort, fd_no_abort, names_no_abort, stat_no_abort}
 use Rattle.mount_requests.specs.Found.{handle_of}
-use Rattle.mount_requests.specs.Requests.{cuts, is_exclusive, listed_by, listing_anew, making_open, once, opened_by, setting_by, written_by}
+use Rattle.mount_requests.specs.Requests.{cuts, is_exclusive, listed_by, listing_anew, making_open, moving_by, once, opened_by, setting_by, written_by}
 use Rattle.mount_requests.specs.Seen.{Seen}
 use Rattle.mount_requests.specs.declared.changing.Setting.{Setting}
 use Rattle.mount_requests.specs.declared.opening.Opening.{Opening}
 use Rattle.mount_requests.specs.declared.opening.Opening.TheVariants.{Again, First}
-use Rattle.mount_requests.specs.declared.planning.Located.{Located}
+use Rattle.mount_requests.specs.declared.planning.LocatedName.{LocatedName}
 use Rattle.mount_requests.specs.declared.reading.Directory.{Directory}
+use Rattle.mount_requests.specs.declared.removing.Moving.{Moving}
 
 -- what comes behind a course gives an abort on, and ends at aborts itself
 behind : {A B : Type 0} (m : Course (Result A Fault)) (f : Result A Fault → Course (Result B Fault)) → EndsAtAborts m → ((why : Why) → f (Err (Aborted why)) ≡ Give (Err (Aborted why))) → ((x : A) → EndsAtAborts (f (Ok x))) → ((e : Fault) → is_abort e ≡ false → EndsAtAborts (f (Err e))) → EndsAtAborts (m >>= f)
@@ -66,6 +68,11 @@ stale_no_abort false e other = other
 
 looking_for_ends : (pid : ℕ) (path : List ℕ) (inode : ℕ) → EndsAtAborts (looking_for pid path inode)
 looking_for_ends pid path inode = behind (stating pid (call.Stat path)) (λ looked. Give (same_or_stale inode looked)) (stating_ends pid (call.Stat path)) (λ why. refl) (λ stat. same_no_abort (stat.num == inode)) (λ e other. stale_no_abort (gives_none e) e other)
+
+-- what is done in a directory, which is looked for first
+inside_ends : {A : Type 0} (pid : ℕ) (d : Option Place) (named : Course (Result A Fault)) → EndsAtAborts named → EndsAtAborts (inside pid d named)
+inside_ends pid (Some place) named h = then_on (looking_for pid place.path place.inode) (λ stays. named) (looking_for_ends pid place.path place.inode) (λ stays. h)
+inside_ends pid None named h = h
 
 -- the last step of all may be the one that aborted
 closed_no_abort : (e : Fault) → is_abort e ≡ false → (r : Result (Unit {0}) Fault) → IsNoAbort r → is_abort (unless_aborted e r) ≡ false
@@ -155,6 +162,9 @@ listing_at_ends pid inode None = tt
 pub look : (pid : ℕ) (c : Call) → EndsAtAborts (stating pid c)
 look pid c = stating_ends pid c
 
+pub look_up : (pid : ℕ) (d : Option Place) (c : Call) → EndsAtAborts (inside pid d (stating pid c))
+look_up pid d c = inside_ends pid d (stating pid c) (stating_ends pid c)
+
 pub find : (pid : ℕ) (o : Object) → EndsAtAborts (finding pid o)
 find pid o = finding_at_ends pid o.kind o.inode o.fd o.path
 
@@ -162,28 +172,44 @@ pub set : (pid : ℕ) (s : Setting) (length : Option ℕ) → EndsAtAborts (sett
 set pid s (Some length) = then_on (sizing pid s.object.inode s.object.fd (once s.path) length) _ (sizing_ends pid s.object.inode s.object.fd (once s.path) length) (λ done. find pid s.object)
 set pid s None = find pid s.object
 
-pub make : (pid : ℕ) (c : Call) (path : List ℕ) → EndsAtAborts (making pid c path)
-make pid c path = then_on (doing pid c) _ (doing_ends pid c) (λ done. stating_ends pid (call.Stat path))
+making_ends : (pid : ℕ) (c : Call) (path : List ℕ) → EndsAtAborts (making pid c path)
+making_ends pid c path = then_on (doing pid c) _ (doing_ends pid c) (λ done. stating_ends pid (call.Stat path))
 
-pub make_file : (pid : ℕ) (path : List ℕ) → EndsAtAborts (making_file pid path path)
-make_file pid path = then_on (creating pid path path true) _ (creating_ends pid path path true) (λ made. done_with_ends pid made.fd made.stat)
+pub make : (pid : ℕ) (d : Option Place) (c : Call) (path : List ℕ) → EndsAtAborts (inside pid d (making pid c path))
+make pid d c path = inside_ends pid d (making pid c path) (making_ends pid c path)
 
-pub link : (pid : ℕ) (path : List ℕ) (inode : ℕ) (new_path : List ℕ) → EndsAtAborts (linking pid path inode new_path)
-link pid path inode new_path = then_on (looking_for pid path inode) _ (looking_for_ends pid path inode) (λ same. make pid (call.Link path new_path) new_path)
+making_file_ends : (pid : ℕ) (path : List ℕ) → EndsAtAborts (making_file pid path path)
+making_file_ends pid path = then_on (creating pid path path true) _ (creating_ends pid path path true) (λ made. done_with_ends pid made.fd made.stat)
 
-pub remove : (pid : ℕ) (c : Call) → EndsAtAborts (doing pid c)
-remove pid c = doing_ends pid c
+pub make_file : (pid : ℕ) (d : Option Place) (path : List ℕ) → EndsAtAborts (inside pid d (making_file pid path path))
+make_file pid d path = inside_ends pid d (making_file pid path path) (making_file_ends pid path)
 
-pub move_name : (pid : ℕ) (from to : List ℕ) (absent : Bool) → EndsAtAborts (moving pid from to absent)
-move_name pid from to false = doing_ends pid (call.Rename from to)
-move_name pid from to true = behind (stating pid (call.Stat to)) (if_absent pid from to) (stating_ends pid (call.Stat to)) (λ why. refl) (λ stat. refl) (λ e other. either (is_missing e) (doing pid (call.Rename from to)) (Give (Err e)) (doing_ends pid (call.Rename from to)) other)
+linking_ends : (pid : ℕ) (path : List ℕ) (inode : ℕ) (new_path : List ℕ) → EndsAtAborts (linking pid path inode new_path)
+linking_ends pid path inode new_path = then_on (looking_for pid path inode) _ (looking_for_ends pid path inode) (λ same. making_ends pid (call.Link path new_path) new_path)
+
+pub link : (pid : ℕ) (d : Option Place) (path : List ℕ) (inode : ℕ) (new_path : List ℕ) → EndsAtAborts (inside pid d (linking pid path inode new_path))
+link pid d path inode new_path = inside_ends pid d (linking pid path inode new_path) (linking_ends pid path inode new_path)
+
+pub remove : (pid : ℕ) (d : Option Place) (c : Call) → EndsAtAborts (inside pid d (doing pid c))
+remove pid d c = inside_ends pid d (doing pid c) (doing_ends pid c)
+
+moving_ends : (pid : ℕ) (from to : List ℕ) (absent : Bool) → EndsAtAborts (moving pid from to absent)
+moving_ends pid from to false = doing_ends pid (call.Rename from to)
+moving_ends pid from to true = behind (stating pid (call.Stat to)) (if_absent pid from to) (stating_ends pid (call.Stat to)) (λ why. refl) (λ stat. refl) (λ e other. either (is_missing e) (doing pid (call.Rename from to)) (Give (Err e)) (doing_ends pid (call.Rename from to)) other)
+
+pub move_name : (pid : ℕ) (m : Moving) → EndsAtAborts (moving_by pid m)
+move_name pid m =
+    let move : Course (Result (Unit {0}) Fault) = moving pid m.from.path m.to.path m.absent in
+    inside_ends pid m.from.place (inside pid m.to.place move) (inside_ends pid m.to.place move (moving_ends pid m.from.path m.to.path m.absent))
 
 pub open_file : (pid : ℕ) (cut : Bool) (how : Opening) → EndsAtAborts (opened_by pid cut how)
 open_file pid cut (Again inode handle fd) = then_on (cutting pid fd cut) _ (cutting_ends pid fd cut) (λ done. tt)
 open_file pid cut (First view path inode) = opening_cut_ends pid path inode cut
 
-pub create : (s : Seen) (pid flags : ℕ) (p : Located) → EndsAtAborts (making_open s pid flags p)
-create s pid flags p = then_on (creating_cut pid p.path p.path (is_exclusive flags) (cuts flags)) _ (creating_cut_ends pid p.path p.path (is_exclusive flags) (cuts flags)) (λ made. closing_spare_ends pid (is_some (handle_of s p.view made.stat.num)) made)
+pub create : (s : Seen) (pid flags : ℕ) (p : LocatedName) → EndsAtAborts (making_open s pid flags p)
+create s pid flags p =
+    let course : Course (Result Made Fault) = creating_cut pid p.path p.path (is_exclusive flags) (cuts flags) in
+    then_on (inside pid p.place course) _ (inside_ends pid p.place course (creating_cut_ends pid p.path p.path (is_exclusive flags) (cuts flags))) (λ made. closing_spare_ends pid (is_some (handle_of s p.view made.stat.num)) made)
 
 pub read : (pid fd count : ℕ) (offset : ℤ) → EndsAtAborts (reading pid fd count offset)
 read pid fd count offset = (λ why again. refl, bytes_no_abort)

@@ -5,19 +5,21 @@ use Rattle.ids.specs.declared.call.Call.{Call}
 use Rattle.ids.specs.declared.reply.Reply.{Reply}
 use Rattle.ids.specs.declared.reply.Reply.TheVariants as reply
 use Rattle.course.specs.Course.{Course, Give, Step}
-use Rattle.course.specs.Courses.{doing, finding, linking, making, making_file, moving, reading}
+use Rattle.course.specs.Courses.{doing, finding, inside, linking, making, making_file, reading}
 use Rattle.course.specs.Courses.{stating}
 use Rattle.course.specs.Faults.{is_abort}
 use Rattle.course.specs.declared.fault.Fault.{Fault}
 use Rattle.course.specs.declared.fault.Fault.TheVariants.{Aborted}
 use Rattle.course.specs.declared.objects.Object.{Object}
-use Rattle.mount_requests.specs.Requests.{listed_by, listing_anew, making_open, opened_by, setting_by}
-use Rattle.mount_requests.specs.Requests.{written_by}
+use Rattle.course.specs.declared.place.Place.{Place}
+use Rattle.mount_requests.specs.Requests.{listed_by, listing_anew, making_open, moving_by, opened_by}
+use Rattle.mount_requests.specs.Requests.{setting_by, written_by}
 use Rattle.mount_requests.specs.Seen.{Seen}
 use Rattle.mount_requests.specs.declared.changing.Setting.{Setting}
 use Rattle.mount_requests.specs.declared.opening.Opening.{Opening}
-use Rattle.mount_requests.specs.declared.planning.Located.{Located}
+use Rattle.mount_requests.specs.declared.planning.LocatedName.{LocatedName}
 use Rattle.mount_requests.specs.declared.reading.Directory.{Directory}
+use Rattle.mount_requests.specs.declared.removing.Moving.{Moving}
 
 -- whether a reply tells of an abort
 abbrev pub tells_abort : Reply → Bool
@@ -40,16 +42,19 @@ EndsAtAborts (Step pid op next) =
 -- the courses of all requests about nodes
 pub record RequestsEndAtAborts : Type 0 where
   pub look : (pid : ℕ) (c : Call) → EndsAtAborts (stating pid c)
+  pub look_up : (pid : ℕ) (d : Option Place) (c : Call) → EndsAtAborts (inside pid d (stating pid c))
   pub find : (pid : ℕ) (o : Object) → EndsAtAborts (finding pid o)
   pub set : (pid : ℕ) (s : Setting) (length : Option ℕ) → EndsAtAborts (setting_by pid s length)
-  pub make : (pid : ℕ) (c : Call) (path : List ℕ) → EndsAtAborts (making pid c path)
-  pub make_file : (pid : ℕ) (path : List ℕ) → EndsAtAborts (making_file pid path path)
-  pub link : (pid : ℕ) (path : List ℕ) (inode : ℕ) (new_path : List ℕ)
-      → EndsAtAborts (linking pid path inode new_path)
-  pub remove : (pid : ℕ) (c : Call) → EndsAtAborts (doing pid c)
-  pub move : (pid : ℕ) (from to : List ℕ) (absent : Bool) → EndsAtAborts (moving pid from to absent)
+  pub make : (pid : ℕ) (d : Option Place) (c : Call) (path : List ℕ)
+      → EndsAtAborts (inside pid d (making pid c path))
+  pub make_file : (pid : ℕ) (d : Option Place) (path : List ℕ)
+      → EndsAtAborts (inside pid d (making_file pid path path))
+  pub link : (pid : ℕ) (d : Option Place) (path : List ℕ) (inode : ℕ) (new_path : List ℕ)
+      → EndsAtAborts (inside pid d (linking pid path inode new_path))
+  pub remove : (pid : ℕ) (d : Option Place) (c : Call) → EndsAtAborts (inside pid d (doing pid c))
+  pub move : (pid : ℕ) (m : Moving) → EndsAtAborts (moving_by pid m)
   pub open_file : (pid : ℕ) (cut : Bool) (how : Opening) → EndsAtAborts (opened_by pid cut how)
-  pub create : (s : Seen) (pid flags : ℕ) (p : Located) → EndsAtAborts (making_open s pid flags p)
+  pub create : (s : Seen) (pid flags : ℕ) (p : LocatedName) → EndsAtAborts (making_open s pid flags p)
   pub read : (pid fd count : ℕ) (offset : ℤ) → EndsAtAborts (reading pid fd count offset)
   pub write : (pid : ℕ) (bytes : List ℕ) (fd : ℕ) (offset : Option ℤ)
       → EndsAtAborts (written_by pid bytes fd offset)

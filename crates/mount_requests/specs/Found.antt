@@ -10,6 +10,7 @@ use Rattle.nodes.specs.Paths.{Way, path_of}
 use Rattle.nodes.specs.Tables.{is_current, root_of}
 use Rattle.nodes.specs.declared.node.Node.{Node}
 use Rattle.course.specs.declared.objects.Object.{Object}
+use Rattle.course.specs.declared.place.Place.{Place}
 use Rattle.mount_tables.specs.Folders.{Opened}
 use Rattle.mount_tables.specs.Numbers.{is_reserved, view_of}
 use Rattle.mount_tables.specs.declared.open_files.OpenFile.{OpenFile}
@@ -20,6 +21,7 @@ use Rattle.mount_requests.specs.Failures.{and_then, error, found_or}
 use Rattle.mount_requests.specs.Seen.{Seen}
 use Rattle.mount_requests.specs.declared.failure.Failure.{Failure}
 use Rattle.mount_requests.specs.declared.planning.Located.{Located}
+use Rattle.mount_requests.specs.declared.planning.LocatedName.{LocatedName}
 use Rattle.mount_requests.specs.declared.tables.Stepper.{Stepper}
 
 -- ---- views
@@ -74,17 +76,6 @@ own_path (byte ∷ bytes) = byte ∷ bytes
 abbrev pub located_own : Seen → ℕ → Result Located Failure
 located_own s node = and_then (located s node) (λ p. Ok (at p.view (own_path p.path)))
 
--- where a name of a directory is
-abbrev pub located_child : Seen → ℕ → List ℕ → Result Located Failure
-located_child s node name =
-    and_then (located s node) (λ p. Ok (at p.view (p.path ++ 47 ∷ name)))
-
--- where a name is to be made, moved or taken away: that of the directory of transactions is not for
--- others
-abbrev pub located_new : Seen → ℕ → List ℕ → Result Located Failure
-located_new s node name =
-    if is_reserved node name then Err (error errno.EPERM) else located_child s node name
-
 -- the object of a node, and what it is; that of a root is the first of all
 abbrev pub inode_by : Option Node → ℕ
 inode_by (Some node) = node.inode
@@ -99,6 +90,28 @@ kind_by None = Dir
 
 abbrev pub kind_of : Seen → ℕ → Kind
 kind_of s node = kind_by (map.get s.nodes.nodes node)
+
+-- ---- names
+
+abbrev pub name_at : ℕ → List ℕ → Option Place → LocatedName
+name_at view path place = record { view = view; path = path; place = place }
+
+-- The directory of a name has to be this object, at this path. That of a root is empty, and a root is
+-- never moved.
+abbrev pub place_of : ℕ → List ℕ → Option Place
+place_of inode [] = None
+place_of inode (byte ∷ bytes) = Some (record { path = byte ∷ bytes; inode = inode })
+
+-- where a name of a directory is
+abbrev pub located_child : Seen → ℕ → List ℕ → Result LocatedName Failure
+located_child s node name = and_then (located s node) (λ p.
+    Ok (name_at p.view (p.path ++ 47 ∷ name) (place_of (inode_of s node) p.path)))
+
+-- where a name is to be made, moved or taken away: that of the directory of transactions is not for
+-- others
+abbrev pub located_new : Seen → ℕ → List ℕ → Result LocatedName Failure
+located_new s node name =
+    if is_reserved node name then Err (error errno.EPERM) else located_child s node name
 
 -- ---- open files
 

@@ -20,8 +20,8 @@ use Rattle.nodes.specs.Tables.{moved as renamed}
 use Rattle.nodes.specs.Tables.{Table}
 use Rattle.course.specs.Course.{Course, Give, ◌>>=◌}
 use Rattle.course.specs.Courses.{appending, closing_spare, creating_cut, cutting, doing, finding}
-use Rattle.course.specs.Courses.{linking, listing_at, making, making_file, moving, on_ok, opening_cut}
-use Rattle.course.specs.Courses.{reading, resizing, stating, writing}
+use Rattle.course.specs.Courses.{inside, linking, listing_at, making, making_file, moving, on_ok}
+use Rattle.course.specs.Courses.{opening_cut, reading, resizing, stating, writing}
 use Rattle.course.specs.declared.fault.Fault.{Fault}
 use Rattle.course.specs.declared.files.Made.{Made}
 use Rattle.course.specs.declared.names.Twice.{Twice}
@@ -46,9 +46,9 @@ use Rattle.mount_requests.specs.declared.files.Writing.{Writing}
 use Rattle.mount_requests.specs.declared.making.Linking.{Linking}
 use Rattle.mount_requests.specs.declared.opening.Opening.{Opening}
 use Rattle.mount_requests.specs.declared.opening.Opening.TheVariants.{Again, First}
-use Rattle.mount_requests.specs.declared.planning.Located.{Located}
-use Rattle.mount_requests.specs.declared.planning.Pair.{Pair}
+use Rattle.mount_requests.specs.declared.planning.LocatedName.{LocatedName}
 use Rattle.mount_requests.specs.declared.reading.Directory.{Directory}
+use Rattle.mount_requests.specs.declared.removing.Moving.{Moving}
 
 -- whether a flag is among these
 abbrev pub has_flag : ℕ → ℕ → Bool
@@ -107,7 +107,8 @@ IsReserved node (Err e) = e ≡ error errno.ENOENT
 
 abbrev pub AnswersName : Seen → Seen → ℕ → ℕ → List ℕ → Shown → Shown → Result Reply Failure → Type 0
 AnswersName s later pid node name old new result =
-    Answers s later old new (located_child s node name) (λ p. stating pid (call.Stat p.path))
+    Answers s later old new (located_child s node name)
+    (λ p. inside pid p.place (stating pid (call.Stat p.path)))
     (λ p stat known r. Says (ShowsEntry s.nodes (named node name) stat) r
     × (known ≡ with_look_up s node name stat)) result
 
@@ -159,7 +160,8 @@ AnswersSetAttr s later pid node changes old new result =
 abbrev pub AnswersMkDir : Seen → Seen → ℕ → ℕ → List ℕ → Shown → Shown → Result Reply Failure
     → Type 0
 AnswersMkDir s later pid node name old new result =
-    Answers s later old new (located_new s node name) (λ p. making pid (call.Mkdir p.path) p.path)
+    Answers s later old new (located_new s node name)
+    (λ p. inside pid p.place (making pid (call.Mkdir p.path) p.path))
     (λ p stat known r. Says (ShowsEntry (made s.nodes stat.num) (named node name) stat) r
     × (known ≡ with_made s node name stat)) result
 
@@ -169,37 +171,37 @@ plain_kind mode =
     if mode / 4096 % 16 == 8 || mode / 4096 % 16 == 0 then Ok tt
     else Err (error errno.EOPNOTSUPP)
 
-abbrev pub planned_file : Seen → ℕ → List ℕ → ℕ → Result Located Failure
+abbrev pub planned_file : Seen → ℕ → List ℕ → ℕ → Result LocatedName Failure
 planned_file s node name mode = and_then (plain_kind mode) (λ plain. located_new s node name)
 
 abbrev pub AnswersMkNod : Seen → Seen → ℕ → ℕ → List ℕ → ℕ → Shown → Shown → Result Reply Failure
     → Type 0
 AnswersMkNod s later pid node name mode old new result =
-    Answers s later old new (planned_file s node name mode) (λ p. making_file pid p.path p.path)
+    Answers s later old new (planned_file s node name mode)
+    (λ p. inside pid p.place (making_file pid p.path p.path))
     (λ p stat known r. Says (ShowsEntry (made s.nodes stat.num) (named node name) stat) r
     × (known ≡ with_made s node name stat)) result
 
--- two paths in one view
-abbrev pub in_one_view : Located → Located → Result Pair Failure
-in_one_view from to =
-    if from.view == to.view then Ok (record { from = from.path; to = to.path })
-    else Err (error errno.EXDEV)
+-- nothing is linked or moved from one view to another
+abbrev pub in_one_view : ℕ → ℕ → Result (Unit {0}) Failure
+in_one_view from to = if from == to then Ok tt else Err (error errno.EXDEV)
 
 -- the file of a node, by its path, and its further name
 abbrev pub linking_in : Seen → ℕ → ℕ → List ℕ → Result Linking Failure
 linking_in s parent node name = and_then (located_new s parent name) (λ to.
     and_then (located_own s node) (λ from.
-    and_then (in_one_view from to) (λ paths. Ok (record {
-      from = twice paths.from;
+    and_then (in_one_view from.view to.view) (λ one. Ok (record {
+      from = twice from.path;
       inode = inode_of s node;
-      to = twice paths.to;
+      place = to.place;
+      to = twice to.path;
     }))))
 
 abbrev pub AnswersLink : Seen → Seen → ℕ → ℕ → ℕ → List ℕ → Shown → Shown → Result Reply Failure
     → Type 0
 AnswersLink s later pid parent node name old new result =
     Answers s later old new (linking_in s parent node name)
-    (λ l. linking pid l.from.first l.inode l.to.first)
+    (λ l. inside pid l.place (linking pid l.from.first l.inode l.to.first))
     (λ l stat known r. Says (ShowsEntry s.nodes (named parent name) stat) r
     × (known ≡ with_look_up s parent name stat)) result
 
@@ -208,28 +210,36 @@ AnswersLink s later pid parent node name old new result =
 abbrev pub AnswersUnlink : Seen → Seen → ℕ → ℕ → List ℕ → Shown → Shown → Result Reply Failure
     → Type 0
 AnswersUnlink s later pid node name old new result =
-    Answers s later old new (located_new s node name) (λ p. doing pid (call.Unlink p.path))
+    Answers s later old new (located_new s node name)
+    (λ p. inside pid p.place (doing pid (call.Unlink p.path)))
     (λ p done known r. Says ShowsNothing r × (known ≡ without_name s node name)) result
 
-abbrev pub removing : Seen → ℕ → List ℕ → Result Located Failure
+abbrev pub removing : Seen → ℕ → List ℕ → Result LocatedName Failure
 removing s node name =
     if is_reserved node name then Err (error errno.EBUSY) else located_child s node name
 
 abbrev pub AnswersRmDir : Seen → Seen → ℕ → ℕ → List ℕ → Shown → Shown → Result Reply Failure
     → Type 0
 AnswersRmDir s later pid node name old new result =
-    Answers s later old new (removing s node name) (λ p. doing pid (call.Rmdir p.path))
+    Answers s later old new (removing s node name)
+    (λ p. inside pid p.place (doing pid (call.Rmdir p.path)))
     (λ p done known r. Says ShowsNothing r × (known ≡ without_name s node name)) result
 
 -- a move may replace nothing, by its flag 1, and there is no other flag
 abbrev pub absent_in : ℕ → Result Bool Failure
 absent_in flags = if nat_lt 1 flags then Err (error errno.EINVAL) else Ok (flags == 1)
 
-abbrev pub moved : Seen → ℕ → List ℕ → ℕ → List ℕ → ℕ → Result (Pair × Bool) Failure
+abbrev pub moved : Seen → ℕ → List ℕ → ℕ → List ℕ → ℕ → Result Moving Failure
 moved s node name new_node new_name flags = and_then (absent_in flags) (λ absent.
     and_then (located_new s node name) (λ from.
     and_then (located_new s new_node new_name) (λ to.
-    and_then (in_one_view from to) (λ paths. Ok (paths, absent)))))
+    and_then (in_one_view from.view to.view) (λ one.
+    Ok (record { from = from; to = to; absent = absent })))))
+
+-- each of the two directories has to be where it was
+abbrev pub moving_by : ℕ → Moving → Course (Result (Unit {0}) Fault)
+moving_by pid m =
+    inside pid m.from.place (inside pid m.to.place (moving pid m.from.path m.to.path m.absent))
 
 abbrev pub with_move : Seen → ℕ → List ℕ → ℕ → List ℕ → Seen
 with_move s node name new_node new_name =
@@ -238,8 +248,7 @@ with_move s node name new_node new_name =
 abbrev pub AnswersRename : Seen → Seen → ℕ → ℕ → List ℕ → ℕ → List ℕ → ℕ → Shown → Shown
     → Result Reply Failure → Type 0
 AnswersRename s later pid node name new_node new_name flags old new result =
-    Answers s later old new (moved s node name new_node new_name flags)
-    (λ m. moving pid m.0.from m.0.to m.1)
+    Answers s later old new (moved s node name new_node new_name flags) (moving_by pid)
     (λ m done known r. Says ShowsNothing r × (known ≡ with_move s node name new_node new_name)) result
 
 -- ---- opening
@@ -290,9 +299,9 @@ AnswersOpen s later pid node flags old new result =
     OpensAs s later pid (cuts flags) (opening s pid node) old new result
 
 -- a file is made, or the one of that name is opened, unless it is open already
-abbrev pub making_open : Seen → ℕ → ℕ → Located → Course (Result Made Fault)
+abbrev pub making_open : Seen → ℕ → ℕ → LocatedName → Course (Result Made Fault)
 making_open s pid flags p =
-    creating_cut pid p.path p.path (is_exclusive flags) (cuts flags)
+    inside pid p.place (creating_cut pid p.path p.path (is_exclusive flags) (cuts flags))
     >>= on_ok (λ made. closing_spare pid (is_some (handle_of s p.view made.stat.num)) made)
 
 -- A file that was made is open under the number that it had, where it was open already.

@@ -8,9 +8,9 @@ ghost use Rattle.mount_requests.specs.Seen.{seen};
 ghost use Rattle.mount_requests.specs.Told.{IsEntry};
 
 use crate::failure::Failure;
-use crate::planning::Located;
+use crate::planning::LocatedName;
 use crate::tables::Tables;
-use course::{Hand, find, stat_path};
+use course::{Hand, find};
 use fuse::{Attr, Entry, Errno, Reply};
 use ids::{Bytes, Stat};
 use machine::Machine;
@@ -67,9 +67,13 @@ impl Tables {
         ensures answers { AnswersName (seen self.old) (seen self.new) hand.old.pid node name.now
             hand.old.shown hand.new.shown result }
     {
-        let Located { view: _, path } = self.locate_child(node, name)?;
+        let LocatedName {
+            view: _,
+            path,
+            place,
+        } = self.locate_child(node, name)?;
         let spot = self.spot_for(node, name)?;
-        let stat = stat_path(hand, path)?;
+        let stat = course::look_up(hand, place, path)?;
         Ok(Reply::Entry(self.entry(spot, &stat)))
     }
 

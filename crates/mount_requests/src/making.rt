@@ -9,10 +9,10 @@ ghost use Rattle.mount_requests.specs.Seen.{seen};
 ghost use Rattle.mount_requests.specs.Told.{IsEntry};
 
 use crate::failure::Failure;
-use crate::planning::{Located, Pair, in_one_view, twice};
+use crate::planning::{Located, LocatedName, in_one_view, twice};
 use crate::requests::Caller;
 use crate::tables::Tables;
-use course::{Hand, Twice};
+use course::{Hand, Place, Twice};
 use fuse::bits::{MODE_FILE, MODE_PERMISSIONS};
 use fuse::{Entry, Errno, Reply};
 use ids::{Bytes, Kind, Num, Stat};
@@ -20,11 +20,13 @@ use machine::Machine;
 use mount_tables::Owner;
 use nodes::Spot;
 
-// The file of a node, by its path, and its further name, each as it is used twice.
+// The file of a node, by its path, and its further name with the directory of that, each path as it is
+// used twice.
 #[derive(Drop)]
 pub(crate) struct Linking {
     from: Twice,
     inode: Num,
+    place: Option<Place>,
     to: Twice,
 }
 
@@ -97,16 +99,20 @@ impl Tables {
         ensures answers { AnswersMkDir (seen self.old) (seen self.new) hand.old.pid caller.node
             name.now hand.old.shown hand.new.shown result }
     {
-        let Located { view: _, path } = self.locate_new(caller.node, name)?;
+        let LocatedName {
+            view: _,
+            path,
+            place,
+        } = self.locate_new(caller.node, name)?;
         let Twice { first, second } = twice(path)?;
         let spot = self.spot_for(caller.node, name)?;
-        let stat = course::make_directory(hand, first, second)?;
+        let stat = course::make_directory(hand, place, first, second)?;
         let entry = self.entry_made(spot, &stat, mode, caller.owner);
         Ok(Reply::Entry(entry))
     }
 
     // Where a plain file is to be made.
-    fn plan_file(&self, node: u64, name: &Bytes, mode: u32) -> Result<Located, Failure>
+    fn plan_file(&self, node: u64, name: &Bytes, mode: u32) -> Result<LocatedName, Failure>
         ensures { IsPlanned (planned_file (seen self.now) node name.now mode) result }
     {
         plain_kind(mode)?;
@@ -125,10 +131,14 @@ impl Tables {
         ensures answers { AnswersMkNod (seen self.old) (seen self.new) hand.old.pid caller.node
             name.now mode hand.old.shown hand.new.shown result }
     {
-        let Located { view: _, path } = self.plan_file(caller.node, name, mode)?;
+        let LocatedName {
+            view: _,
+            path,
+            place,
+        } = self.plan_file(caller.node, name, mode)?;
         let Twice { first, second } = twice(path)?;
         let spot = self.spot_for(caller.node, name)?;
-        let stat = course::make_file(hand, first, second)?;
+        let stat = course::make_file(hand, place, first, second)?;
         let entry = self.entry_made(spot, &stat, mode, caller.owner);
         Ok(Reply::Entry(entry))
     }
@@ -139,14 +149,19 @@ impl Tables {
         ensures from { IfOk result (λ l. l.from.second ≡ l.from.first) }
         ensures to { IfOk result (λ l. l.to.second ≡ l.to.first) }
     {
-        let to = self.locate_new(parent, name)?;
-        let from = self.locate_own(node)?;
-        let Pair { from, to } = in_one_view(from, to)?;
+        let LocatedName {
+            view: new_view,
+            path: to,
+            place,
+        } = self.locate_new(parent, name)?;
+        let Located { view, path: from } = self.locate_own(node)?;
+        in_one_view(view, new_view)?;
         let from = twice(from)?;
         let to = twice(to)?;
         Ok(Linking {
             from,
             inode: self.inode_of(node),
+            place,
             to,
         })
     }
@@ -163,9 +178,14 @@ impl Tables {
         ensures answers { AnswersLink (seen self.old) (seen self.new) hand.old.pid parent node name.now
             hand.old.shown hand.new.shown result }
     {
-        let Linking { from, inode, to } = self.plan_link(parent, node, name)?;
+        let Linking {
+            from,
+            inode,
+            place,
+            to,
+        } = self.plan_link(parent, node, name)?;
         let spot = self.spot_for(parent, name)?;
-        let stat = course::link(hand, from, inode, to)?;
+        let stat = course::link(hand, from, inode, place, to)?;
         self.note_names(parent);
         let entry = self.entry(spot, &stat);
         Ok(Reply::Entry(entry))

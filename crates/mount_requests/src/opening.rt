@@ -3,7 +3,7 @@ ghost use Rattle.std.specs.Prelude.{◌≡◌, ◌<◌, is_some, IfOk, Ok, OnOk}
 ghost use Rattle.course.specs.Course.{Ran};
 ghost use Rattle.course.specs.Hands.{bound};
 ghost use Rattle.mount_requests.specs.Answers.{IsPlanned};
-ghost use Rattle.mount_requests.specs.Found.{at, handle_of};
+ghost use Rattle.mount_requests.specs.Found.{handle_of, name_at};
 ghost use Rattle.mount_requests.specs.Requests.{AnswersCreate, AnswersOpen, OpensAs, born_if, cuts};
 ghost use Rattle.mount_requests.specs.Requests.{handle_made, is_exclusive, making_open, opened_again};
 ghost use Rattle.mount_requests.specs.Requests.{opened_first, opening, opening_by, with_open};
@@ -11,10 +11,10 @@ ghost use Rattle.mount_requests.specs.Seen.{seen};
 ghost use Rattle.mount_requests.specs.declared.opening.Opening.TheVariants.{Again, First};
 
 use crate::failure::Failure;
-use crate::planning::{Located, twice};
+use crate::planning::{Located, LocatedName, twice};
 use crate::requests::Caller;
 use crate::tables::{Stepper, Tables};
-use course::{Fault, Hand, Made, Twice, close_spare, create_cut, cut_if, open_cut};
+use course::{Fault, Hand, Made, Place, Twice, close_spare, create_cut, cut_if, open_cut};
 use fuse::bits::{OPEN_EXCLUSIVE, OPEN_TRUNCATE, OPENED_DIRECT};
 use fuse::{Errno, Opened, Reply};
 use ids::{Bytes, Fd, Kind, Num, Pid};
@@ -217,17 +217,18 @@ impl Tables {
         hand: &mut Hand<K>,
         view: u64,
         path: Twice,
+        place: Option<Place>,
         flags: u32,
     ) -> Result<Made, Fault>
         requires { path.second ≡ path.first }
         ensures bound { bound hand.new ≡ bound hand.old }
         ensures ran { Ran hand.old.shown
-            (making_open (seen self.now) hand.old.pid flags (at view path.first))
+            (making_open (seen self.now) hand.old.pid flags (name_at view path.first place))
             result hand.new.shown }
     {
         let exclusive = is_exclusive(flags);
         let cut = cuts(flags);
-        let made = create_cut(hand, path.first, path.second, exclusive, cut)?;
+        let made = create_cut(hand, place, path.first, path.second, exclusive, cut)?;
         let is_open = self.is_open(view, &made);
         close_spare(hand, is_open, made)
     }
@@ -279,11 +280,11 @@ impl Tables {
         ensures answers { AnswersCreate (seen self.old) (seen self.new) hand.old.pid caller.node
             name.now flags hand.old.shown hand.new.shown result }
     {
-        let Located { view, path } = self.locate_new(caller.node, name)?;
+        let LocatedName { view, path, place } = self.locate_new(caller.node, name)?;
         let path = twice(path)?;
         self.reserve_file()?;
         let spot = self.spot_for(caller.node, name)?;
-        let made = self.make_open(hand, view, path, flags)?;
+        let made = self.make_open(hand, view, path, place, flags)?;
         self.note_opened(caller, &made, mode, cuts(flags));
         let handle = self.keep_made(view, hand.pid(), &made);
         let entry = self.entry(spot, &made.stat);

@@ -2,17 +2,17 @@
 ghost use Rattle.std.specs.Prelude.{◌≡◌, ◌<◌, ◌++◌, ◌∷◌, option_map, IfOk, IfSome, OnOk};
 ghost use Rattle.mount_requests.specs.Answers.{IsPlanned};
 ghost use Rattle.mount_requests.specs.Found.{located, located_child, located_new, located_own};
-ghost use Rattle.mount_requests.specs.Found.{object_of, own_path, path_to};
+ghost use Rattle.mount_requests.specs.Found.{object_of, own_path, path_to, place_of};
 ghost use Rattle.mount_requests.specs.Requests.{in_one_view, own_paths, twice};
 ghost use Rattle.mount_requests.specs.Seen.{seen};
 ghost use Rattle.mount_requests.specs.Told.{named};
 
 use crate::failure::Failure;
 use crate::tables::{Stepper, Tables};
-use course::{Object, Twice};
+use course::{Object, Place, Twice};
 use fuse::Errno;
 use heap::Heap;
-use ids::{Bytes, Pid};
+use ids::{Bytes, Num, Pid};
 use mount_tables::is_reserved;
 use nodes::Spot;
 use std::alloc::AllocError;
@@ -24,11 +24,12 @@ pub(crate) struct Located {
     pub(crate) path: Bytes,
 }
 
-// Two paths in one view.
+// Where a name of a directory is: its view, its path, and the directory, if it is no root.
 #[derive(Drop)]
-pub(crate) struct Pair {
-    pub(crate) from: Bytes,
-    pub(crate) to: Bytes,
+pub(crate) struct LocatedName {
+    pub(crate) view: u64,
+    pub(crate) path: Bytes,
+    pub(crate) place: Option<Place>,
 }
 
 // The path of a root is a slash.
@@ -52,6 +53,17 @@ fn child_path(heap: Heap, path: &Bytes, name: &Bytes) -> Result<Bytes, AllocErro
     Ok(Bytes::new(bytes))
 }
 
+// The directory of a name, by its path and its object. That of a root is empty, and needs no look.
+fn place_of(inode: Num, path: Bytes) -> Option<Place>
+    ensures { result ≡ place_of inode path }
+{
+    if path.as_slice().is_empty() {
+        None
+    } else {
+        Some(Place { path, inode })
+    }
+}
+
 // A path, to be used twice.
 pub(crate) fn twice(path: Bytes) -> Result<Twice, AllocError>
     ensures { IfOk result (λ paths. paths ≡ twice path) }
@@ -63,19 +75,15 @@ pub(crate) fn twice(path: Bytes) -> Result<Twice, AllocError>
     })
 }
 
-// Two paths in one view.
-pub(crate) fn in_one_view(from: Located, to: Located) -> Result<Pair, Failure>
+// Nothing is linked or moved from one view to another.
+pub(crate) fn in_one_view(from: u64, to: u64) -> Result<(), Failure>
     ensures { result ≡ in_one_view from to }
 {
-    if from.view != to.view {
-        return Err(Failure::Error(Errno::EXDEV));
+    if from == to {
+        Ok(())
+    } else {
+        Err(Failure::Error(Errno::EXDEV))
     }
-    let Located {
-        view: _,
-        path: from,
-    } = from;
-    let Located { view: _, path: to } = to;
-    Ok(Pair { from, to })
 }
 
 impl Tables {
@@ -100,17 +108,21 @@ impl Tables {
     }
 
     // Where a name of a directory is.
-    pub(crate) fn locate_child(&self, node: u64, name: &Bytes) -> Result<Located, Failure>
+    pub(crate) fn locate_child(&self, node: u64, name: &Bytes) -> Result<LocatedName, Failure>
         ensures { IsPlanned (located_child (seen self.now) node name.now) result }
     {
         let Located { view, path } = self.locate(node)?;
         let child = child_path(self.heap, &path, name)?;
-        Ok(Located { view, path: child })
+        Ok(LocatedName {
+            view,
+            path: child,
+            place: place_of(self.inode_of(node), path),
+        })
     }
 
     // Where a name is to be made, moved or taken away. That of the directory of transactions is not
     // for others.
-    pub(crate) fn locate_new(&self, node: u64, name: &Bytes) -> Result<Located, Failure>
+    pub(crate) fn locate_new(&self, node: u64, name: &Bytes) -> Result<LocatedName, Failure>
         ensures { IsPlanned (located_new (seen self.now) node name.now) result }
     {
         if is_reserved(node, name.as_slice()) {

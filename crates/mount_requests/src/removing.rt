@@ -10,7 +10,7 @@ ghost use Rattle.mount_requests.specs.Seen.{seen};
 ghost use Rattle.mount_requests.specs.Told.{named};
 
 use crate::failure::Failure;
-use crate::planning::{Located, Pair, in_one_view};
+use crate::planning::{LocatedName, in_one_view};
 use crate::tables::Tables;
 use course::Hand;
 use fuse::bits::RENAME_NO_REPLACE;
@@ -20,6 +20,14 @@ use machine::Machine;
 use mount_tables::is_reserved;
 use nodes::{DirectoryEntry, Spot};
 use std::alloc::AllocError;
+
+// The two names of a move, and whether it may replace nothing.
+#[derive(Drop)]
+pub(crate) struct Moving {
+    from: LocatedName,
+    to: LocatedName,
+    absent: bool,
+}
 
 // A copy, where it is wanted.
 fn copy_if(wanted: bool, bytes: &Bytes) -> Result<Option<Bytes>, AllocError>
@@ -87,15 +95,19 @@ impl Tables {
         ensures answers { AnswersUnlink (seen self.old) (seen self.new) hand.old.pid node name.now
             hand.old.shown hand.new.shown result }
     {
-        let Located { view: _, path } = self.locate_new(node, name)?;
+        let LocatedName {
+            view: _,
+            path,
+            place,
+        } = self.locate_new(node, name)?;
         let removed = self.entry_of_name(node, name)?;
-        course::unlink(hand, path)?;
+        course::unlink(hand, place, path)?;
         self.note_removed(&removed);
         Ok(Reply::Empty)
     }
 
     // Where a directory is that is to be removed. That of transactions stays.
-    fn plan_removal(&self, node: u64, name: &Bytes) -> Result<Located, Failure>
+    fn plan_removal(&self, node: u64, name: &Bytes) -> Result<LocatedName, Failure>
         ensures { IsPlanned (removing (seen self.now) node name.now) result }
     {
         if is_reserved(node, name.as_slice()) {
@@ -115,14 +127,18 @@ impl Tables {
         ensures answers { AnswersRmDir (seen self.old) (seen self.new) hand.old.pid node name.now
             hand.old.shown hand.new.shown result }
     {
-        let Located { view: _, path } = self.plan_removal(node, name)?;
+        let LocatedName {
+            view: _,
+            path,
+            place,
+        } = self.plan_removal(node, name)?;
         let removed = self.entry_of_name(node, name)?;
-        course::remove_directory(hand, path)?;
+        course::remove_directory(hand, place, path)?;
         self.note_removed(&removed);
         Ok(Reply::Empty)
     }
 
-    // The paths of a move, in one view, and whether it may replace nothing.
+    // The names of a move, in one view, and whether it may replace nothing.
     fn plan_move(
         &self,
         node: u64,
@@ -130,15 +146,15 @@ impl Tables {
         new_parent: u64,
         new_name: &Bytes,
         flags: u32,
-    ) -> Result<(Pair, bool), Failure>
+    ) -> Result<Moving, Failure>
         ensures { IsPlanned (moved (seen self.now) node name.now new_parent new_name.now flags)
             result }
     {
         let absent = absent_in(flags)?;
         let from = self.locate_new(node, name)?;
         let to = self.locate_new(new_parent, new_name)?;
-        let paths = in_one_view(from, to)?;
-        Ok((paths, absent))
+        in_one_view(from.view, to.view)?;
+        Ok(Moving { from, to, absent })
     }
 
     // Moves what a name gives to another name, in the same view.
@@ -155,11 +171,11 @@ impl Tables {
         ensures answers { AnswersRename (seen self.old) (seen self.new) hand.old.pid node name.now
             new_parent new_name.now flags hand.old.shown hand.new.shown result }
     {
-        let (Pair { from, to }, absent) = self.plan_move(node, name, new_parent, new_name, flags)?;
-        let again = copy_if(absent, &to)?;
+        let Moving { from, to, absent } = self.plan_move(node, name, new_parent, new_name, flags)?;
+        let again = copy_if(absent, &to.path)?;
         let former = self.entry_of_name(node, name)?;
         let spot = self.spot_for(new_parent, new_name)?;
-        course::move_name(hand, from, to, again)?;
+        course::move_name(hand, from.place, from.path, to.place, to.path, again)?;
         self.note_moved(&former, spot);
         Ok(Reply::Empty)
     }

@@ -1,9 +1,10 @@
-use Rattle.mount_requests.proofs.Ending.{create, find, link, list, list_anew, look, make, make_file, move_name, open_file, read, remove, set, write}
+use Rattle.mount_requests.proofs.Ending.{create, find, link, list, list_anew, look, look_up, make, make_file, move_name, open_file, read, remove, set, write}
 use Rattle.mount_requests.proofs.laws.requests_end_at_aborts.Goals as goal
 
 pub returns : goal.returns
 returns c = record {
   look = look;
+  look_up = look_up;
   find = find;
   set = set;
   make = make;
