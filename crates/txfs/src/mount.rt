@@ -1,5 +1,5 @@
 // A mounted tree serves a session.
-ghost use Rattle.std.specs.Prelude.{◌≡◌, ◌≤◌, ◌×◌, IfErr, IfOk};
+ghost use Rattle.std.specs.Prelude.{◌≡◌, ◌≤◌, IfErr, IfOk};
 ghost use Rattle.ids.specs.declared.limits.TheConstants.{LARGEST_FILE, MAX_ENTRIES};
 ghost use Rattle.mounted.specs.Server.{HasServed};
 ghost use Rattle.txfs.specs.Sessions.{IsSession};
