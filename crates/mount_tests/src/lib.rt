@@ -1,0 +1,20 @@
+//! Tests of a mounted tree where memory is refused: each request for memory of each row once. They
+//! stand here so that no layer is proved a second time for its tests.
+#![tactic(auto)]
+
+#[cfg(test)]
+mod client;
+#[cfg(test)]
+mod of_plain_files;
+#[cfg(test)]
+mod of_plain_names;
+#[cfg(test)]
+mod of_transactions;
+#[cfg(test)]
+mod of_view_files;
+#[cfg(test)]
+mod of_view_names;
+#[cfg(test)]
+mod refused;
+#[cfg(test)]
+mod texts;
