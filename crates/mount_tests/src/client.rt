@@ -1,5 +1,5 @@
 // Requests on a server, by lines of words: a verb, a path, and what else the verb wants.
-use crate::texts::{Text, told};
+use crate::texts::{Text, owned, told};
 use fuse::bits::{OPEN_APPEND, OPEN_EXCLUSIVE, OPEN_TRUNCATE, RENAME_NO_REPLACE};
 use fuse::{Changes, Operation, Reply, Request, Whence};
 use heap::Heap;
@@ -90,10 +90,6 @@ fn line_of(text: &str) -> Line<'_> {
     Line { verb, path, other }
 }
 
-fn owned(rt: &impl Abort, heap: Heap, name: &str) -> Bytes {
-    Bytes::copy(heap, name.as_bytes()).expect(rt, "memory")
-}
-
 fn serve<K: Machine>(client: &mut Client<K>, asked: Asked) -> Option<Reply> {
     let Asked { node, operation } = asked;
     client.server.serve(Request {
@@ -127,11 +123,7 @@ fn look_up<K: Machine>(rt: &impl Abort, client: &mut Client<K>, place: Place<'_>
 }
 
 // Where the last name of a path is. The names before it are looked up.
-fn place_of<'a, K: Machine>(
-    rt: &impl Abort,
-    client: &mut Client<K>,
-    path: &'a str,
-) -> Place<'a> {
+fn place_of<'a, K: Machine>(rt: &impl Abort, client: &mut Client<K>, path: &'a str) -> Place<'a> {
     let mut place = Place {
         parent: ROOT,
         name: "",
@@ -302,7 +294,13 @@ fn on_names<K: Machine>(rt: &impl Abort, client: &mut Client<K>, line: Line<'_>)
 fn asked_by<K: Machine>(rt: &impl Abort, client: &mut Client<K>, line: Line<'_>) -> Asked {
     match line.verb {
         "link" | "rename" | "move" => on_names(rt, client, line),
-        "lookup" | "mkdir" | "mknod" | "create" | "create_new" | "create_cut" | "unlink"
+        "lookup"
+        | "mkdir"
+        | "mknod"
+        | "create"
+        | "create_new"
+        | "create_cut"
+        | "unlink"
         | "rmdir" => on_name(rt, client, line),
         _ => on_node(rt, client, line),
     }
@@ -345,7 +343,13 @@ pub(crate) fn ask<K: Machine>(
 
 // What is asked of each path that is shown.
 static LOOKS: [&str; 7] = [
-    "getattr", "opendir", "readdir", "releasedir", "open", "read", "release",
+    "getattr",
+    "opendir",
+    "readdir",
+    "releasedir",
+    "open",
+    "read",
+    "release",
 ];
 
 // All paths that rows name. What is below the view comes first, since a look at the plain tree may

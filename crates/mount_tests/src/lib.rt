@@ -3,11 +3,25 @@
 #![tactic(auto)]
 
 #[cfg(test)]
+mod acts;
+#[cfg(test)]
 mod client;
+#[cfg(test)]
+mod courses;
+#[cfg(test)]
+mod messages;
+#[cfg(test)]
+mod of_courses_of_files;
+#[cfg(test)]
+mod of_courses_of_names;
+#[cfg(test)]
+mod of_courses_of_objects;
 #[cfg(test)]
 mod of_plain_files;
 #[cfg(test)]
 mod of_plain_names;
+#[cfg(test)]
+mod of_session;
 #[cfg(test)]
 mod of_transactions;
 #[cfg(test)]

@@ -1,6 +1,6 @@
 // A row: requests of a session, and one more, of which each request for memory is refused in turn.
 use crate::client::{Client, ask, client, shown};
-use crate::texts::Text;
+use crate::texts::{Text, is_same};
 use heap::Heap;
 use machine::Machine;
 use std::process::Abort;
@@ -74,10 +74,6 @@ fn run_on<K: Machine>(
 fn run<K: Machine>(rt: &impl Abort, heap: Heap, row: &Row, times: u64, request: u64) -> Ran {
     let mut made: Client<K> = client(rt, heap);
     run_on(rt, heap, &mut made, row, times, request)
-}
-
-fn is_same(first: &Text, second: &Text) -> bool {
-    first.as_str() == second.as_str()
 }
 
 // Whether the row stands as where its request was not made: the same one is served as the first.

@@ -1,11 +1,25 @@
 // Texts of what is answered, to compare.
+ghost use Rattle.std.specs.Prelude.{◌≡◌};
+
 use fuse::bits::MODE_KIND;
 use fuse::{Attr, Reply};
 use heap::Heap;
+use ids::Bytes;
 use std::alloc::AllocError;
 use std::process::Abort;
 
 pub(crate) type Text = String<Heap>;
+
+// A name or a path. Up to 24 bytes take no memory.
+pub(crate) fn owned(rt: &impl Abort, heap: Heap, text: &str) -> Bytes
+    ensures { result ≡ text.now }
+{
+    Bytes::copy(heap, text.as_bytes()).expect(rt, "memory")
+}
+
+pub(crate) fn is_same(first: &Text, second: &Text) -> bool {
+    first.as_str() == second.as_str()
+}
 
 // Of attributes all but permissions, owners and times, which are kept beside the kernel.
 fn put_attr(text: &mut Text, attr: &Attr) -> Result<(), AllocError> {
