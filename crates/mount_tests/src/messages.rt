@@ -12,8 +12,11 @@ const VIEW: u64 = (1 << 62) + 2;
 
 const CONTROL: u64 = VIEW + 1;
 
+// How many messages there are.
+pub(crate) const COUNT: usize = 37;
+
 // Nodes get the numbers from 16 on, and what is opened those from 1 on, as they come.
-static MESSAGES: [Message; 37] = [
+static MESSAGES: [Message; COUNT] = [
     // INIT.
     (26, 0, "\x07\0\0\0\x1f\0\0\0\0\0\x02\0\x08\0\0\0"),
     // MKDIR, once more, and LOOKUP.
@@ -106,9 +109,6 @@ static MESSAGES: [Message; 37] = [
     (38, 0, ""),
     (3, 1, "\0\0\0\0\0\0\0\0\0\0\0\0\0\0\0\0"),
 ];
-
-// How many messages there are.
-pub(crate) const COUNT: usize = MESSAGES.len();
 
 fn put_header(header: &mut [u8; 40], length: u32, unique: u64, opcode: u32, node: u64) {
     let bytes: &mut [u8] = header;

@@ -48,7 +48,7 @@ release /a",
         before: "create /a
 write /a first",
         ask: "open /a",
-        is_refused: true,
+        is_refused: false,
     },
     Row {
         before: "create /a
@@ -65,7 +65,7 @@ write /a first",
     },
 ];
 
-static FILES: [Row; 11] = [
+static FILES: [Row; 12] = [
     Row {
         before: "create /a
 write /a first",
@@ -88,7 +88,7 @@ write /a first",
         before: "create /a
 write /a first",
         ask: "seek /a",
-        is_refused: true,
+        is_refused: false,
     },
     Row {
         before: "create /a
@@ -107,30 +107,37 @@ release /a",
         before: "create /a
 write /a first",
         ask: "flush /a",
-        is_refused: true,
+        is_refused: false,
     },
     Row {
         before: "create /a
 write /a first",
         ask: "release /a",
-        is_refused: true,
+        is_refused: false,
+    },
+    Row {
+        before: "create /a
+write /a first
+unlink /a",
+        ask: "release /a",
+        is_refused: false,
     },
     Row {
         before: "create /a
 open /a",
         ask: "release /a",
-        is_refused: true,
+        is_refused: false,
     },
     Row {
         before: "create /a
 write /a first",
         ask: "forget /a",
-        is_refused: true,
+        is_refused: false,
     },
     Row {
         before: "",
         ask: "statfs /",
-        is_refused: true,
+        is_refused: false,
     },
 ];
 
@@ -166,7 +173,7 @@ mknod /b",
         before: "mkdir /a
 opendir /a",
         ask: "releasedir /a",
-        is_refused: true,
+        is_refused: false,
     },
 ];
 

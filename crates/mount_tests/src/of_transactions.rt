@@ -92,14 +92,14 @@ read /.tx/v.ctl",
 create /.tx/v/a
 write /.tx/v/a first",
         ask: "write /.tx/v.ctl end",
-        is_refused: true,
+        is_refused: false,
     },
     Row {
         before: "mkdir /.tx/v
 create /.tx/v/a
 write /.tx/v/a first",
         ask: "write /.tx/v.ctl abort",
-        is_refused: true,
+        is_refused: false,
     },
     Row {
         before: "mkdir /.tx/v
@@ -116,7 +116,7 @@ write /.tx/v/a second
 open /a
 write /a third",
         ask: "write /.tx/v.ctl end",
-        is_refused: true,
+        is_refused: false,
     },
     Row {
         before: "create /a
@@ -126,7 +126,7 @@ write /.tx/v/a second
 open /a
 write /a third",
         ask: "write /.tx/v.ctl abort",
-        is_refused: true,
+        is_refused: false,
     },
     Row {
         before: "create /a
@@ -136,7 +136,7 @@ write /.tx/v/a second
 open /a
 write /a third",
         ask: "getattr /.tx/v/a",
-        is_refused: true,
+        is_refused: false,
     },
     Row {
         before: "create /a
@@ -146,7 +146,7 @@ write /.tx/v/a second
 open /a
 write /a third",
         ask: "release /.tx/v/a",
-        is_refused: true,
+        is_refused: false,
     },
 ];
 
@@ -154,14 +154,14 @@ static GONE: [Row; 7] = [
     Row {
         before: "mkdir /.tx/v",
         ask: "rmdir /.tx/v",
-        is_refused: true,
+        is_refused: false,
     },
     Row {
         before: "mkdir /.tx/v
 create /.tx/v/a
 write /.tx/v/a first",
         ask: "rmdir /.tx/v",
-        is_refused: true,
+        is_refused: false,
     },
     Row {
         before: "mkdir /.tx/v
@@ -169,7 +169,7 @@ create /.tx/v/a
 write /.tx/v/a first
 write /.tx/v.ctl end",
         ask: "rmdir /.tx/v",
-        is_refused: true,
+        is_refused: false,
     },
     Row {
         before: "mkdir /.tx/v
@@ -177,14 +177,14 @@ create /.tx/v/a
 write /.tx/v/a first
 write /.tx/v.ctl end",
         ask: "release /.tx/v/a",
-        is_refused: true,
+        is_refused: false,
     },
     Row {
         before: "mkdir /.tx/v
 create /.tx/v/a
 write /.tx/v.ctl abort",
         ask: "rmdir /.tx/v",
-        is_refused: true,
+        is_refused: false,
     },
     Row {
         before: "create /a
@@ -194,7 +194,7 @@ write /.tx/v/a second
 open /a
 write /a third",
         ask: "rmdir /.tx/v",
-        is_refused: true,
+        is_refused: false,
     },
     Row {
         before: "create /a
@@ -205,7 +205,7 @@ open /a
 write /a third
 read /.tx/v.ctl",
         ask: "rmdir /.tx/v",
-        is_refused: true,
+        is_refused: false,
     },
 ];
 

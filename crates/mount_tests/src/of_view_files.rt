@@ -122,28 +122,28 @@ release /.tx/v/a",
 create /.tx/v/a
 write /.tx/v/a first",
         ask: "flush /.tx/v/a",
-        is_refused: true,
+        is_refused: false,
     },
     Row {
         before: "mkdir /.tx/v
 create /.tx/v/a
 write /.tx/v/a first",
         ask: "release /.tx/v/a",
-        is_refused: true,
+        is_refused: false,
     },
     Row {
         before: "mkdir /.tx/v
 create /.tx/v/a
 open /.tx/v/a",
         ask: "release /.tx/v/a",
-        is_refused: true,
+        is_refused: false,
     },
     Row {
         before: "mkdir /.tx/v
 create /.tx/v/a
 write /.tx/v/a first",
         ask: "forget /.tx/v/a",
-        is_refused: true,
+        is_refused: false,
     },
 ];
 
@@ -184,11 +184,11 @@ mknod /.tx/v/b",
 mkdir /.tx/v/a
 opendir /.tx/v/a",
         ask: "releasedir /.tx/v/a",
-        is_refused: true,
+        is_refused: false,
     },
 ];
 
-static OVER: [Row; 6] = [
+static OVER: [Row; 8] = [
     Row {
         before: "create /a
 write /a first
@@ -213,6 +213,25 @@ open /.tx/v/a",
         is_refused: true,
     },
     Row {
+        before: "create /a
+write /a first
+release /a
+mkdir /.tx/v
+open /.tx/v/a",
+        ask: "release /.tx/v/a",
+        is_refused: true,
+    },
+    Row {
+        before: "create /a
+write /a first
+release /a
+mkdir /.tx/v
+open /.tx/v/a
+unlink /.tx/v/a",
+        ask: "release /.tx/v/a",
+        is_refused: true,
+    },
+    Row {
         before: "mknod /a
 mkdir /.tx/v",
         ask: "unlink /.tx/v/a",
@@ -228,7 +247,7 @@ mkdir /.tx/v",
     Row {
         before: "mkdir /.tx/v",
         ask: "link /a /.tx/v/b",
-        is_refused: false,
+        is_refused: true,
     },
 ];
 

@@ -21,17 +21,17 @@ pub(crate) fn is_same(first: &Text, second: &Text) -> bool {
     first.as_str() == second.as_str()
 }
 
-// Of attributes all but permissions, owners and times, which are kept beside the kernel.
+// Of attributes the kind, the length and how many names there are. An object's number may be another
+// one behind a refusal, and the others are kept beside the kernel.
 fn put_attr(text: &mut Text, attr: &Attr) -> Result<(), AllocError> {
     let Attr {
-        inode,
         size,
         links,
         mode,
         ..
     } = *attr;
     let kind = mode & MODE_KIND;
-    write!(text, "{inode} size {size} links {links} kind {kind}")
+    write!(text, "kind {kind} size {size} links {links}")
 }
 
 // Numbers of nodes and of open files are not told, since they are drawn from counters.
