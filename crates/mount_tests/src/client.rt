@@ -352,15 +352,18 @@ static LOOKS: [&str; 7] = [
     "release",
 ];
 
-// All paths that rows name. What is below the view comes first, since a look at the plain tree may
-// doom its transaction.
-static SHOWN: [&str; 12] = [
+// The paths that rows name below the view.
+static VIEW: [&str; 6] = [
     "/.tx/v.ctl",
     "/.tx/v",
     "/.tx/v/a",
     "/.tx/v/b",
     "/.tx/v/a/b",
     "/.tx/v/long-name-of-26-bytes-here",
+];
+
+// Those in the plain tree, and the directory of transactions.
+static PLAIN: [&str; 6] = [
     "/.tx",
     "/",
     "/a",
@@ -386,10 +389,15 @@ fn show_path<K: Machine>(rt: &impl Abort, client: &mut Client<K>, text: &mut Tex
 }
 
 // What all requests about these paths show: which are there, their kinds, lengths, links, names and
-// bytes.
+// bytes. The transaction of the view is ended between, so its changes are shown in the plain tree too.
 pub(crate) fn shown<K: Machine>(rt: &impl Abort, client: &mut Client<K>) -> Text {
     let mut text = String::new(client.heap);
-    for path in SHOWN {
+    for path in VIEW {
+        show_path(rt, client, &mut text, path);
+    }
+    let ended = ask(rt, client, "write /.tx/v.ctl end", 0).told;
+    write!(&mut text, "{ended}\n").expect(rt, "memory");
+    for path in PLAIN {
         show_path(rt, client, &mut text, path);
     }
     text

@@ -2,7 +2,7 @@
 use crate::refused::{Row, check_all};
 use kernel::Kernel;
 
-static OPENS: [Row; 10] = [
+static OPENS: [Row; 11] = [
     Row {
         before: "",
         ask: "create /a",
@@ -11,6 +11,11 @@ static OPENS: [Row; 10] = [
     Row {
         before: "",
         ask: "create /long-name-of-26-bytes-here",
+        is_refused: true,
+    },
+    Row {
+        before: "create /a",
+        ask: "create /b",
         is_refused: true,
     },
     Row {
