@@ -61,6 +61,27 @@ pub(crate) struct Outcome {
     pub(crate) made: u64,
 }
 
+// What an object is like, but for its number, which may be another one behind a refusal.
+pub(crate) type Seen = (Kind, u32, u32);
+
+pub(crate) fn seen(looked: Result<Stat, Fault>) -> Result<Seen, Fault> {
+    match looked {
+        Ok(stat) => Ok((stat.kind, stat.size, stat.links)),
+        Err(fault) => Err(fault),
+    }
+}
+
+// The same of a file that was opened.
+fn seen_made(made: Result<Made, Fault>) -> Result<(Fd, bool, Seen), Fault> {
+    match made {
+        Ok(made) => {
+            let stat = made.stat;
+            Ok((made.fd, made.is_new, (stat.kind, stat.size, stat.links)))
+        }
+        Err(fault) => Err(fault),
+    }
+}
+
 // No further request is refused.
 fn told<T: Debug + Drop>(rt: &impl Abort, heap: Heap, outcome: T) -> Outcome {
     let made = heap.made();
@@ -111,10 +132,10 @@ fn on_file<K: Machine>(
     match act {
         Act::Append => told(rt, heap, append(hand, Fd(0), owned(rt, heap, "more"))),
         Act::Close => told(rt, heap, close(hand, Fd(0))),
-        Act::CloseSpare => told(rt, heap, close_spare(hand, true, made(inode))),
+        Act::CloseSpare => told(rt, heap, seen_made(close_spare(hand, true, made(inode)))),
         Act::CutIf => told(rt, heap, cut_if(hand, Fd(0), true)),
         Act::Read => told(rt, heap, read(hand, heap, Fd(0), 100, 1)),
-        Act::StatFile => told(rt, heap, stat_file(hand, Fd(0))),
+        Act::StatFile => told(rt, heap, seen(stat_file(hand, Fd(0)))),
         _ => told(rt, heap, write(hand, Fd(0), owned(rt, heap, "other"), 2)),
     }
 }
@@ -129,9 +150,17 @@ fn on_opening<K: Machine>(
     let first = owned(rt, heap, "/a");
     let second = owned(rt, heap, "/a");
     match act {
-        Act::CreateCut => told(rt, heap, create_cut(hand, first, second, false, true)),
-        Act::CreateNew => told(rt, heap, create_cut(hand, first, second, true, false)),
-        Act::MakeFile => told(rt, heap, make_file(hand, first, second)),
+        Act::CreateCut => told(
+            rt,
+            heap,
+            seen_made(create_cut(hand, first, second, false, true)),
+        ),
+        Act::CreateNew => told(
+            rt,
+            heap,
+            seen_made(create_cut(hand, first, second, true, false)),
+        ),
+        Act::MakeFile => told(rt, heap, seen(make_file(hand, first, second))),
         Act::OpenCut => told(rt, heap, open_cut(hand, first, inode, true)),
         _ => told(
             rt,
@@ -146,9 +175,9 @@ fn on_path<K: Machine>(rt: &impl Abort, heap: Heap, hand: &mut Hand<K>, act: Act
     let second = owned(rt, heap, "/a");
     match act {
         Act::List => told(rt, heap, list(hand, heap, first)),
-        Act::MakeDirectory => told(rt, heap, make_directory(hand, first, second)),
+        Act::MakeDirectory => told(rt, heap, seen(make_directory(hand, first, second))),
         Act::RemoveDirectory => told(rt, heap, remove_directory(hand, first)),
-        Act::StatPath => told(rt, heap, stat_path(hand, first)),
+        Act::StatPath => told(rt, heap, seen(stat_path(hand, first))),
         _ => told(rt, heap, unlink(hand, first)),
     }
 }
@@ -163,7 +192,7 @@ fn on_paths<K: Machine>(
     let from = twice(rt, heap, "/a");
     let to = twice(rt, heap, "/b");
     match act {
-        Act::Link => told(rt, heap, link(hand, from, inode, to)),
+        Act::Link => told(rt, heap, seen(link(hand, from, inode, to))),
         Act::Move => told(rt, heap, move_name(hand, from.first, to.first, None)),
         _ => told(
             rt,
@@ -184,11 +213,11 @@ fn on_object<K: Machine>(
     let by_descriptor = object(rt, heap, inode, "/b", Some(Fd(0)));
     let paths = Some(twice(rt, heap, "/a"));
     match act {
-        Act::Find => told(rt, heap, find(hand, by_path)),
-        Act::FindOpen => told(rt, heap, find(hand, by_descriptor)),
+        Act::Find => told(rt, heap, seen(find(hand, by_path))),
+        Act::FindOpen => told(rt, heap, seen(find(hand, by_descriptor))),
         Act::ListAt => told(rt, heap, list_at(hand, heap, inode, paths)),
-        Act::Resize => told(rt, heap, resize(hand, by_path, paths, 3)),
-        _ => told(rt, heap, resize(hand, by_descriptor, paths, 3)),
+        Act::Resize => told(rt, heap, seen(resize(hand, by_path, paths, 3))),
+        _ => told(rt, heap, seen(resize(hand, by_descriptor, paths, 3))),
     }
 }
 

@@ -1,12 +1,13 @@
 // A row: what was done on a kernel, and a function of `course`, of which each request for memory is
 // refused in turn.
-use crate::acts::{Act, Outcome, act_on};
+use crate::acts::{Act, Outcome, act_on, seen};
 use crate::texts::{Text, is_same, owned};
-use course::{Hand, close, list, open_cut, read, stat_file, stat_path};
+use course::{Fault, Hand, close, list, open_cut, read, stat_file, stat_path};
 use heap::Heap;
-use ids::{Answer, Call, Fd, Num, Op, Pid, Priority, Reply};
+use ids::{Answer, Call, Fd, Num, Op, Pid, Priority, Reply, Stat};
 use machine::Machine;
 use script::read_further_line;
+use std::fmt::Debug;
 use std::process::Abort;
 
 // More requests for memory than any row makes.
@@ -21,7 +22,7 @@ pub(crate) struct Course {
     // The steps of a course that is told by another error, although memory was refused.
     pub(crate) told: Option<&'static str>,
     // The steps of courses that end with NoMemory. Each of all these comes.
-    pub(crate) refused: [Option<&'static str>; 3],
+    pub(crate) refused: [Option<&'static str>; 4],
 }
 
 // What a function came to, and what is shown then, and behind the same call once more.
@@ -66,8 +67,22 @@ fn number_of<K: Machine>(rt: &impl Abort, heap: Heap, kernel: &mut K) -> Num {
     number_in(&reply)
 }
 
-fn put<T: std::fmt::Debug>(rt: &impl Abort, text: &mut Text, outcome: &T) {
+fn put<T: Debug + Drop>(rt: &impl Abort, text: &mut Text, outcome: T) {
     write!(text, "{outcome:?}\n").expect(rt, "memory");
+}
+
+fn number_by(looked: &Result<Stat, Fault>) -> Num {
+    match looked {
+        Ok(stat) => stat.num,
+        Err(_) => Num(0),
+    }
+}
+
+fn opened_by(opened: &Result<Fd, Fault>) -> Option<Fd> {
+    match opened {
+        Ok(fd) => Some(*fd),
+        Err(_) => None,
+    }
 }
 
 // Shows what is at a path: its kind, length and links, its names or its bytes.
@@ -79,28 +94,28 @@ fn show_path<K: Machine>(
     path: &str,
 ) {
     let looked = stat_path(hand, owned(rt, heap, path));
-    put(rt, text, &looked);
-    put(rt, text, &list(hand, heap, owned(rt, heap, path)));
-    if let Ok(stat) = &looked {
-        let opened = open_cut(hand, owned(rt, heap, path), stat.num, false);
-        put(rt, text, &opened);
-        if let Ok(fd) = &opened {
-            put(rt, text, &read(hand, heap, *fd, 100, 0));
-            put(rt, text, &close(hand, *fd));
-        }
+    let inode = number_by(&looked);
+    put(rt, text, seen(looked));
+    put(rt, text, list(hand, heap, owned(rt, heap, path)));
+    let opened = open_cut(hand, owned(rt, heap, path), inode, false);
+    let fd = opened_by(&opened);
+    put(rt, text, opened);
+    if let Some(fd) = fd {
+        put(rt, text, read(hand, heap, fd, 100, 0));
+        put(rt, text, close(hand, fd));
     }
 }
 
 // Shows how many entries there are, what is at each path, and which descriptors are open.
 fn show<K: Machine>(rt: &impl Abort, heap: Heap, hand: &mut Hand<K>, text: &mut Text) {
     let count = hand.history().count();
-    put(rt, text, &count);
+    put(rt, text, count);
     for path in ["/", "/a", "/b", "/a/b"] {
         show_path(rt, heap, hand, text, path);
     }
     for number in 0..4u32 {
-        put(rt, text, &stat_file(hand, Fd(number)));
-        put(rt, text, &read(hand, heap, Fd(number), 100, 0));
+        put(rt, text, seen(stat_file(hand, Fd(number))));
+        put(rt, text, read(hand, heap, Fd(number), 100, 0));
     }
 }
 
@@ -115,7 +130,7 @@ fn show_all<K: Machine>(
     let mut text = String::new(heap);
     show(rt, heap, hand, &mut text);
     let again = act_on(rt, heap, hand, act, inode, 0);
-    put(rt, &mut text, &again.told);
+    put(rt, &mut text, again.told);
     show(rt, heap, hand, &mut text);
     hand.bind(Pid(2));
     show(rt, heap, hand, &mut text);
@@ -184,7 +199,7 @@ fn is_refused(ran: &Ran) -> bool {
 #[derive(Clone, Copy)]
 struct Counts {
     told: u64,
-    refused: [u64; 3],
+    refused: [u64; 4],
 }
 
 // Counts the course to which a function came. Whether it was one.
@@ -202,17 +217,13 @@ fn count<K: Machine>(
         return is_same(&ran.outcome.told, &whole.outcome.told)
             && (told > 0 || is_same(&ran.shown, &whole.shown));
     }
-    let [first, second, third] = row.refused;
-    let [one, two, three] = counts.refused;
-    let first = came::<K>(rt, heap, row, first, ran);
-    let second = came::<K>(rt, heap, row, second, ran);
-    let third = came::<K>(rt, heap, row, third, ran);
-    counts.refused = [
-        one.wrapping_add(first),
-        two.wrapping_add(second),
-        three.wrapping_add(third),
-    ];
-    first > 0 || second > 0 || third > 0
+    let mut is_one = false;
+    for index in 0..4usize {
+        let came = came::<K>(rt, heap, row, row.refused[index], ran);
+        counts.refused[index] = counts.refused[index].wrapping_add(came);
+        is_one = is_one || came > 0;
+    }
+    is_one
 }
 
 // Refuses each request for memory of a row in turn, and tells what is wrong.
@@ -225,7 +236,7 @@ fn refuse_each<K: Machine>(
 ) -> Counts {
     let mut counts = Counts {
         told: 0,
-        refused: [0; 3],
+        refused: [0; 4],
     };
     for request in 1..MOST {
         let ran = run::<K>(rt, heap, row, request);
@@ -247,21 +258,14 @@ fn check<K: Machine>(rt: &impl Abort, heap: Heap, row: &Course, wrong: &mut Text
     let whole = run::<K>(rt, heap, row, 0);
     let is_whole = is_same(&whole.shown, &left_by::<K>(rt, heap, row, row.whole));
     let counts = refuse_each::<K>(rt, heap, row, &whole, wrong);
-    let [first, second, third] = row.refused;
-    let [one, two, three] = counts.refused;
-    let is_right = is_whole
-        && (counts.told > 0) == row.told.is_some()
-        && (one > 0) == first.is_some()
-        && (two > 0) == second.is_some()
-        && (three > 0) == third.is_some();
+    let Counts { told, refused } = counts;
+    let mut is_right = is_whole && (told > 0) == row.told.is_some();
+    for index in 0..4usize {
+        is_right = is_right && (refused[index] > 0) == row.refused[index].is_some();
+    }
     if !is_right {
-        let told = counts.told;
-        write!(
-            wrong,
-            "{}; {}: {is_whole} {told} {one} {two} {three}\n",
-            row.before, row.whole
-        )
-        .expect(rt, "memory");
+        let Course { before, whole, .. } = row;
+        write!(wrong, "{before}; {whole}: {is_whole} {told} {refused:?}\n").expect(rt, "memory");
     }
 }
 

@@ -11,7 +11,7 @@ static FILES: [Course; 11] = [
         whole: "1 fstat 0
 1 pwrite 0 more 5",
         told: None,
-        refused: [Some(""), Some("1 fstat 0"), None],
+        refused: [Some("1 fstat 0"), None, None, None],
     },
     Course {
         act: Act::Append,
@@ -23,7 +23,7 @@ static FILES: [Course; 11] = [
         whole: "1 fstat 0
 1 pwrite 0 more 5",
         told: None,
-        refused: [Some(""), Some("1 fstat 0"), None],
+        refused: [Some(""), Some("1 fstat 0"), None, None],
     },
     Course {
         act: Act::Close,
@@ -31,7 +31,7 @@ static FILES: [Course; 11] = [
 1 write 0 first",
         whole: "1 close 0",
         told: None,
-        refused: [Some(""), None, None],
+        refused: [Some(""), None, None, None],
     },
     Course {
         act: Act::CloseSpare,
@@ -39,7 +39,7 @@ static FILES: [Course; 11] = [
 1 write 0 first",
         whole: "1 close 0",
         told: None,
-        refused: [Some(""), None, None],
+        refused: [Some(""), None, None, None],
     },
     Course {
         act: Act::CutIf,
@@ -47,7 +47,7 @@ static FILES: [Course; 11] = [
 1 write 0 first",
         whole: "1 ftruncate 0 0",
         told: None,
-        refused: [Some(""), None, None],
+        refused: [Some(""), None, None, None],
     },
     Course {
         act: Act::Read,
@@ -55,7 +55,7 @@ static FILES: [Course; 11] = [
 1 write 0 first",
         whole: "1 pread 0 100 1",
         told: None,
-        refused: [Some(""), None, None],
+        refused: [Some(""), None, None, None],
     },
     Course {
         act: Act::Read,
@@ -66,7 +66,7 @@ static FILES: [Course; 11] = [
 1 open /a RDWR",
         whole: "1 pread 0 100 1",
         told: None,
-        refused: [Some(""), None, None],
+        refused: [Some(""), None, None, None],
     },
     Course {
         act: Act::StatFile,
@@ -74,7 +74,7 @@ static FILES: [Course; 11] = [
 1 write 0 first",
         whole: "1 fstat 0",
         told: None,
-        refused: [Some(""), None, None],
+        refused: [None, None, None, None],
     },
     Course {
         act: Act::StatFile,
@@ -85,7 +85,7 @@ static FILES: [Course; 11] = [
 1 open /a RDWR",
         whole: "1 fstat 0",
         told: None,
-        refused: [Some(""), None, None],
+        refused: [Some(""), None, None, None],
     },
     Course {
         act: Act::Write,
@@ -93,7 +93,7 @@ static FILES: [Course; 11] = [
 1 write 0 first",
         whole: "1 pwrite 0 other 2",
         told: None,
-        refused: [Some(""), None, None],
+        refused: [Some(""), None, None, None],
     },
     Course {
         act: Act::Write,
@@ -104,7 +104,7 @@ static FILES: [Course; 11] = [
 1 open /a RDWR",
         whole: "1 pwrite 0 other 2",
         told: None,
-        refused: [Some(""), None, None],
+        refused: [Some(""), None, None, None],
     },
 ];
 
@@ -115,14 +115,7 @@ static OPENS: [Course; 12] = [
         whole: "1 open /a RDWR,CREAT,EXCL
 1 fstat 0",
         told: None,
-        refused: [
-            Some(""),
-            Some(
-                "1 open /a RDWR,CREAT,EXCL
-1 close 0",
-            ),
-            None,
-        ],
+        refused: [Some(""), None, None, None],
     },
     Course {
         act: Act::CreateCut,
@@ -135,7 +128,6 @@ static OPENS: [Course; 12] = [
 1 ftruncate 0 0",
         told: None,
         refused: [
-            Some(""),
             Some("1 open /a RDWR,CREAT,EXCL"),
             Some(
                 "1 open /a RDWR,CREAT,EXCL
@@ -143,6 +135,8 @@ static OPENS: [Course; 12] = [
 1 fstat 0
 1 close 0",
             ),
+            None,
+            None,
         ],
     },
     Course {
@@ -162,6 +156,11 @@ static OPENS: [Course; 12] = [
             Some(
                 "1 open /a RDWR,CREAT,EXCL
 1 open /a RDWR
+1 close 0",
+            ),
+            Some(
+                "1 open /a RDWR,CREAT,EXCL
+1 open /a RDWR
 1 fstat 0
 1 close 0",
             ),
@@ -173,14 +172,7 @@ static OPENS: [Course; 12] = [
         whole: "1 open /a RDWR,CREAT,EXCL
 1 fstat 0",
         told: None,
-        refused: [
-            Some(""),
-            Some(
-                "1 open /a RDWR,CREAT,EXCL
-1 close 0",
-            ),
-            None,
-        ],
+        refused: [Some(""), None, None, None],
     },
     Course {
         act: Act::CreateNew,
@@ -194,6 +186,7 @@ static OPENS: [Course; 12] = [
                 "1 open /a RDWR,CREAT,EXCL
 1 close 0",
             ),
+            None,
             None,
         ],
     },
@@ -204,7 +197,7 @@ static OPENS: [Course; 12] = [
 1 close 0",
         whole: "1 open /a RDWR,CREAT,EXCL",
         told: None,
-        refused: [Some(""), None, None],
+        refused: [None, None, None, None],
     },
     Course {
         act: Act::MakeFile,
@@ -213,17 +206,7 @@ static OPENS: [Course; 12] = [
 1 fstat 0
 1 close 0",
         told: None,
-        refused: [
-            Some(""),
-            Some(
-                "1 open /a RDWR,CREAT,EXCL
-1 close 0",
-            ),
-            Some(
-                "1 open /a RDWR,CREAT,EXCL
-1 fstat 0",
-            ),
-        ],
+        refused: [Some(""), None, None, None],
     },
     Course {
         act: Act::MakeFile,
@@ -242,6 +225,7 @@ static OPENS: [Course; 12] = [
                 "1 open /a RDWR,CREAT,EXCL
 1 fstat 0",
             ),
+            None,
         ],
     },
     Course {
@@ -257,13 +241,11 @@ static OPENS: [Course; 12] = [
             Some(""),
             Some(
                 "1 open /a RDWR
-1 close 0",
-            ),
-            Some(
-                "1 open /a RDWR
 1 fstat 0
 1 close 0",
             ),
+            None,
+            None,
         ],
     },
     Course {
@@ -287,6 +269,7 @@ static OPENS: [Course; 12] = [
 1 fstat 0
 1 close 0",
             ),
+            None,
         ],
     },
     Course {
@@ -296,6 +279,23 @@ static OPENS: [Course; 12] = [
 1 close 0
 1 open /b RDWR,CREAT
 1 close 0",
+        whole: "1 open /b RDWR
+1 fstat 0
+1 close 0",
+        told: Some(
+            "1 open /b RDWR
+1 fstat 0",
+        ),
+        refused: [Some(""), None, None, None],
+    },
+    Course {
+        act: Act::OpenOther,
+        before: "1 open /a RDWR,CREAT
+1 write 0 first
+1 close 0
+1 open /b RDWR,CREAT
+1 close 0
+1 begin",
         whole: "1 open /b RDWR
 1 fstat 0
 1 close 0",
@@ -310,29 +310,6 @@ static OPENS: [Course; 12] = [
 1 close 0",
             ),
             None,
-        ],
-    },
-    Course {
-        act: Act::OpenOther,
-        before: "1 open /a RDWR,CREAT
-1 write 0 first
-1 close 0
-1 open /b RDWR,CREAT
-1 close 0
-1 begin",
-        whole: "1 open /b RDWR
-1 fstat 0
-1 close 0",
-        told: Some(
-            "1 open /b RDWR
-1 fstat 0",
-        ),
-        refused: [
-            Some(""),
-            Some(
-                "1 open /b RDWR
-1 close 0",
-            ),
             None,
         ],
     },

@@ -13,14 +13,7 @@ static NAMES: [Course; 16] = [
 1 link /a /b
 1 stat /b",
         told: None,
-        refused: [
-            Some(""),
-            Some("1 stat /a"),
-            Some(
-                "1 stat /a
-1 link /a /b",
-            ),
-        ],
+        refused: [Some("1 stat /a"), None, None, None],
     },
     Course {
         act: Act::Link,
@@ -39,6 +32,7 @@ static NAMES: [Course; 16] = [
                 "1 stat /a
 1 link /a /b",
             ),
+            None,
         ],
     },
     Course {
@@ -47,7 +41,7 @@ static NAMES: [Course; 16] = [
 1 mkdir /a/b",
         whole: "1 list /a",
         told: None,
-        refused: [Some(""), None, None],
+        refused: [Some(""), None, None, None],
     },
     Course {
         act: Act::MakeDirectory,
@@ -55,7 +49,7 @@ static NAMES: [Course; 16] = [
         whole: "1 mkdir /a
 1 stat /a",
         told: None,
-        refused: [Some(""), Some("1 mkdir /a"), None],
+        refused: [Some(""), None, None, None],
     },
     Course {
         act: Act::MakeDirectory,
@@ -63,7 +57,7 @@ static NAMES: [Course; 16] = [
         whole: "1 mkdir /a
 1 stat /a",
         told: None,
-        refused: [Some(""), Some("1 mkdir /a"), None],
+        refused: [Some(""), Some("1 mkdir /a"), None, None],
     },
     Course {
         act: Act::Move,
@@ -72,7 +66,7 @@ static NAMES: [Course; 16] = [
 1 close 0",
         whole: "1 rename /a /b",
         told: None,
-        refused: [Some(""), None, None],
+        refused: [Some(""), None, None, None],
     },
     Course {
         act: Act::Move,
@@ -82,7 +76,7 @@ static NAMES: [Course; 16] = [
 1 begin",
         whole: "1 rename /a /b",
         told: None,
-        refused: [Some(""), None, None],
+        refused: [Some(""), None, None, None],
     },
     Course {
         act: Act::MoveIfAbsent,
@@ -92,7 +86,7 @@ static NAMES: [Course; 16] = [
         whole: "1 stat /b
 1 rename /a /b",
         told: None,
-        refused: [Some(""), Some("1 stat /b"), None],
+        refused: [Some("1 stat /b"), None, None, None],
     },
     Course {
         act: Act::MoveIfAbsent,
@@ -103,7 +97,7 @@ static NAMES: [Course; 16] = [
         whole: "1 stat /b
 1 rename /a /b",
         told: None,
-        refused: [Some(""), Some("1 stat /b"), None],
+        refused: [Some(""), Some("1 stat /b"), None, None],
     },
     Course {
         act: Act::MoveIfAbsent,
@@ -114,14 +108,14 @@ static NAMES: [Course; 16] = [
 1 close 0",
         whole: "1 stat /b",
         told: None,
-        refused: [Some(""), None, None],
+        refused: [None, None, None, None],
     },
     Course {
         act: Act::RemoveDirectory,
         before: "1 mkdir /a",
         whole: "1 rmdir /a",
         told: None,
-        refused: [Some(""), None, None],
+        refused: [Some(""), None, None, None],
     },
     Course {
         act: Act::RemoveDirectory,
@@ -129,14 +123,14 @@ static NAMES: [Course; 16] = [
 1 begin",
         whole: "1 rmdir /a",
         told: None,
-        refused: [Some(""), None, None],
+        refused: [Some(""), None, None, None],
     },
     Course {
         act: Act::StatPath,
         before: "1 mkdir /a",
         whole: "1 stat /a",
         told: None,
-        refused: [Some(""), None, None],
+        refused: [None, None, None, None],
     },
     Course {
         act: Act::StatPath,
@@ -144,7 +138,7 @@ static NAMES: [Course; 16] = [
 1 begin",
         whole: "1 stat /a",
         told: None,
-        refused: [Some(""), None, None],
+        refused: [Some(""), None, None, None],
     },
     Course {
         act: Act::Unlink,
@@ -153,7 +147,7 @@ static NAMES: [Course; 16] = [
 1 close 0",
         whole: "1 unlink /a",
         told: None,
-        refused: [Some(""), None, None],
+        refused: [Some(""), None, None, None],
     },
     Course {
         act: Act::Unlink,
@@ -163,7 +157,7 @@ static NAMES: [Course; 16] = [
 1 begin",
         whole: "1 unlink /a",
         told: None,
-        refused: [Some(""), None, None],
+        refused: [Some(""), None, None, None],
     },
 ];
 

@@ -11,7 +11,7 @@ static OBJECTS: [Course; 9] = [
 1 close 0",
         whole: "1 stat /a",
         told: None,
-        refused: [Some(""), None, None],
+        refused: [None, None, None, None],
     },
     Course {
         act: Act::FindOpen,
@@ -20,7 +20,7 @@ static OBJECTS: [Course; 9] = [
         whole: "1 stat /b
 1 fstat 0",
         told: None,
-        refused: [Some(""), Some("1 stat /b"), None],
+        refused: [None, None, None, None],
     },
     Course {
         act: Act::FindOpen,
@@ -32,7 +32,7 @@ static OBJECTS: [Course; 9] = [
         whole: "1 stat /b
 1 fstat 0",
         told: None,
-        refused: [Some(""), Some("1 stat /b"), None],
+        refused: [Some(""), Some("1 stat /b"), None, None],
     },
     Course {
         act: Act::ListAt,
@@ -41,7 +41,7 @@ static OBJECTS: [Course; 9] = [
         whole: "1 stat /a
 1 list /a",
         told: None,
-        refused: [Some(""), Some("1 stat /a"), None],
+        refused: [Some("1 stat /a"), None, None, None],
     },
     Course {
         act: Act::ListAt,
@@ -51,7 +51,7 @@ static OBJECTS: [Course; 9] = [
         whole: "1 stat /a
 1 list /a",
         told: None,
-        refused: [Some(""), Some("1 stat /a"), None],
+        refused: [Some(""), Some("1 stat /a"), None, None],
     },
     Course {
         act: Act::Resize,
@@ -62,14 +62,7 @@ static OBJECTS: [Course; 9] = [
 1 truncate /a 3
 1 stat /a",
         told: None,
-        refused: [
-            Some(""),
-            Some("1 stat /a"),
-            Some(
-                "1 stat /a
-1 truncate /a 3",
-            ),
-        ],
+        refused: [Some("1 stat /a"), None, None, None],
     },
     Course {
         act: Act::Resize,
@@ -88,6 +81,7 @@ static OBJECTS: [Course; 9] = [
                 "1 stat /a
 1 truncate /a 3",
             ),
+            None,
         ],
     },
     Course {
@@ -98,14 +92,7 @@ static OBJECTS: [Course; 9] = [
 1 stat /b
 1 fstat 0",
         told: None,
-        refused: [
-            Some(""),
-            Some("1 ftruncate 0 3"),
-            Some(
-                "1 ftruncate 0 3
-1 stat /b",
-            ),
-        ],
+        refused: [Some(""), None, None, None],
     },
     Course {
         act: Act::ResizeOpen,
@@ -125,6 +112,7 @@ static OBJECTS: [Course; 9] = [
                 "1 ftruncate 0 3
 1 stat /b",
             ),
+            None,
         ],
     },
 ];
@@ -135,7 +123,7 @@ static PROCESSES: [Course; 8] = [
         before: "",
         whole: "1 begin",
         told: None,
-        refused: [Some(""), None, None],
+        refused: [None, None, None, None],
     },
     Course {
         act: Act::End,
@@ -143,7 +131,7 @@ static PROCESSES: [Course; 8] = [
 1 mkdir /a",
         whole: "1 end",
         told: None,
-        refused: [None, None, None],
+        refused: [None, None, None, None],
     },
     Course {
         act: Act::End,
@@ -157,7 +145,7 @@ static PROCESSES: [Course; 8] = [
 2 pwrite 0 y 0",
         whole: "1 end",
         told: None,
-        refused: [None, None, None],
+        refused: [None, None, None, None],
     },
     Course {
         act: Act::Fork,
@@ -165,7 +153,7 @@ static PROCESSES: [Course; 8] = [
 1 write 0 first",
         whole: "1 fork",
         told: None,
-        refused: [Some(""), None, None],
+        refused: [Some(""), None, None, None],
     },
     Course {
         act: Act::GiveUp,
@@ -173,14 +161,14 @@ static PROCESSES: [Course; 8] = [
 1 mkdir /a",
         whole: "1 abort no_restart",
         told: None,
-        refused: [None, None, None],
+        refused: [None, None, None, None],
     },
     Course {
         act: Act::LookNowhere,
         before: "1 begin",
         whole: "1 fstat 64",
         told: None,
-        refused: [Some(""), None, None],
+        refused: [None, None, None, None],
     },
     Course {
         act: Act::LookNowhere,
@@ -194,7 +182,7 @@ static PROCESSES: [Course; 8] = [
 2 pwrite 0 y 0",
         whole: "1 fstat 64",
         told: None,
-        refused: [None, None, None],
+        refused: [None, None, None, None],
     },
     Course {
         act: Act::Append,
@@ -208,7 +196,7 @@ static PROCESSES: [Course; 8] = [
 2 pwrite 0 y 0",
         whole: "1 fstat 0",
         told: None,
-        refused: [None, None, None],
+        refused: [None, None, None, None],
     },
 ];
 
