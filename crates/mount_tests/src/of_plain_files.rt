@@ -118,14 +118,14 @@ write /a first",
         before: "create /a
 write /a first",
         ask: "release /a",
-        is_refused: false,
+        is_refused: true,
     },
     Row {
         before: "create /a
 write /a first
 unlink /a",
         ask: "release /a",
-        is_refused: false,
+        is_refused: true,
     },
     Row {
         before: "create /a

@@ -177,7 +177,7 @@ create /.tx/v/a
 write /.tx/v/a first
 write /.tx/v.ctl end",
         ask: "release /.tx/v/a",
-        is_refused: false,
+        is_refused: true,
     },
     Row {
         before: "mkdir /.tx/v

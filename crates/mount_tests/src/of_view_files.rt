@@ -54,7 +54,7 @@ release /.tx/v/a",
 create /.tx/v/a
 write /.tx/v/a first",
         ask: "open /.tx/v/a",
-        is_refused: true,
+        is_refused: false,
     },
     Row {
         before: "mkdir /.tx/v
@@ -129,7 +129,7 @@ write /.tx/v/a first",
 create /.tx/v/a
 write /.tx/v/a first",
         ask: "release /.tx/v/a",
-        is_refused: false,
+        is_refused: true,
     },
     Row {
         before: "mkdir /.tx/v
