@@ -1,5 +1,6 @@
-//! Tests of a mounted tree where memory is refused: each request for memory of each row once. They
-//! stand here so that no layer is proved a second time for its tests.
+//! Tests of a mounted tree where memory is refused: each request for memory that a request of a
+//! session, a function of `course` or a whole session makes is refused once. They stand here so that
+//! no layer is proved a second time for its tests.
 #![tactic(auto)]
 
 #[cfg(test)]
