@@ -206,7 +206,15 @@ static OPENS: [Course; 12] = [
 1 fstat 0
 1 close 0",
         told: None,
-        refused: [Some(""), None, None, None],
+        refused: [
+            Some(""),
+            Some(
+                "1 open /a RDWR,CREAT,EXCL
+1 fstat 0",
+            ),
+            None,
+            None,
+        ],
     },
     Course {
         act: Act::MakeFile,
