@@ -109,7 +109,7 @@ fn object(rt: &impl Abort, heap: Heap, inode: Num, path: &str, fd: Option<Fd>) -
     }
 }
 
-fn made(inode: Num) -> Made {
+fn spare(inode: Num) -> Made {
     Made {
         fd: Fd(0),
         stat: Stat {
@@ -132,7 +132,7 @@ fn on_file<K: Machine>(
     match act {
         Act::Append => told(rt, heap, append(hand, Fd(0), owned(rt, heap, "more"))),
         Act::Close => told(rt, heap, close(hand, Fd(0))),
-        Act::CloseSpare => told(rt, heap, seen_made(close_spare(hand, true, made(inode)))),
+        Act::CloseSpare => told(rt, heap, seen_made(close_spare(hand, true, spare(inode)))),
         Act::CutIf => told(rt, heap, cut_if(hand, Fd(0), true)),
         Act::Read => told(rt, heap, read(hand, heap, Fd(0), 100, 1)),
         Act::StatFile => told(rt, heap, seen(stat_file(hand, Fd(0)))),

@@ -66,7 +66,7 @@ pub(crate) struct Answer {
 }
 
 // A server of which nothing was asked.
-pub(crate) fn client<K: Machine>(rt: &impl Abort, heap: Heap) -> Client<K> {
+pub(crate) fn new_client<K: Machine>(rt: &impl Abort, heap: Heap) -> Client<K> {
     let made: Result<Server<K>, _> = Server::new(heap, Limits::of_entries(16));
     Client {
         server: made.expect(rt, "memory"),

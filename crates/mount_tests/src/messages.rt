@@ -5,7 +5,7 @@ use heap::Heap;
 use std::process::Abort;
 
 // A request: its opcode, its node, and its body.
-type Message = (u32, u64, &'static str);
+type Asked = (u32, u64, &'static str);
 
 // The root of the first view, and the file by which its transaction is ended.
 const VIEW: u64 = (1 << 62) + 2;
@@ -16,7 +16,7 @@ const CONTROL: u64 = VIEW + 1;
 pub(crate) const COUNT: usize = 37;
 
 // Nodes get the numbers from 16 on, and what is opened those from 1 on, as they come.
-static MESSAGES: [Message; COUNT] = [
+static MESSAGES: [Asked; COUNT] = [
     // INIT.
     (26, 0, "\x07\0\0\0\x1f\0\0\0\0\0\x02\0\x08\0\0\0"),
     // MKDIR, once more, and LOOKUP.

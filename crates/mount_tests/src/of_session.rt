@@ -92,7 +92,7 @@ impl Channel for Wire {
     }
 }
 
-fn wire(rt: &impl Abort, heap: Heap) -> Wire {
+fn new_wire(rt: &impl Abort, heap: Heap) -> Wire {
     let mut heard = Vec::new(heap);
     for place in 0..COUNT {
         heard.push(message(rt, heap, place)).expect(rt, "memory");
@@ -120,7 +120,7 @@ fn is_answered_whole(wire: &Wire) -> bool {
     wire.is_whole && wire.next == COUNT && wire.count == count
 }
 
-fn tree<K: Machine>(rt: &impl Abort, heap: Heap) -> Tree<K> {
+fn new_tree<K: Machine>(rt: &impl Abort, heap: Heap) -> Tree<K> {
     let made: Result<Server<K>, _> = Server::new(heap, Limits::of_entries(16));
     Tree {
         server: made.expect(rt, "memory"),
@@ -135,7 +135,7 @@ fn serve<K: Machine>(
     buffers: &mut Buffers,
     request: u64,
 ) -> u64 {
-    let mut wire = wire(rt, heap);
+    let mut wire = new_wire(rt, heap);
     heap.refuse(request);
     let ending = run(heap, tree, &mut wire, buffers);
     let made = heap.made();
@@ -146,7 +146,7 @@ fn serve<K: Machine>(
 }
 
 fn serve_anew<K: Machine>(rt: &impl Abort, heap: Heap, buffers: &mut Buffers, request: u64) -> u64 {
-    let mut tree: Tree<K> = tree(rt, heap);
+    let mut tree: Tree<K> = new_tree(rt, heap);
     serve(rt, heap, &mut tree, buffers, request)
 }
 

@@ -1,5 +1,5 @@
 // A row: requests of a session, and one more, of which each request for memory is refused in turn.
-use crate::client::{Client, ask, client, shown};
+use crate::client::{Client, ask, new_client, shown};
 use crate::texts::{Text, is_same};
 use heap::Heap;
 use machine::Machine;
@@ -72,8 +72,8 @@ fn run_on<K: Machine>(
 }
 
 fn run<K: Machine>(rt: &impl Abort, heap: Heap, row: &Row, times: u64, request: u64) -> Ran {
-    let mut made: Client<K> = client(rt, heap);
-    run_on(rt, heap, &mut made, row, times, request)
+    let mut client: Client<K> = new_client(rt, heap);
+    run_on(rt, heap, &mut client, row, times, request)
 }
 
 // Whether the row stands as where its request was not made: the same one is served as the first.
