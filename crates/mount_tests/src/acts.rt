@@ -83,12 +83,19 @@ fn seen_made(made: Result<Made, Fault>) -> Result<(Fd, bool, Seen), Fault> {
 }
 
 // No further request is refused.
-fn told<T: Debug + Drop>(rt: &impl Abort, heap: Heap, outcome: T) -> Outcome {
+fn told_as<T: Debug + Drop>(rt: &impl Abort, heap: Heap, outcome: T) -> Outcome {
     let made = heap.made();
     heap.refuse(0);
     let mut told = String::new(heap);
     write!(&mut told, "{outcome:?}").expect(rt, "memory");
     Outcome { told, made }
+}
+
+fn told<T: Debug + Drop>(rt: &impl Abort, heap: Heap, outcome: Result<T, Fault>) -> Outcome {
+    match outcome {
+        Ok(value) => told_as(rt, heap, value),
+        Err(fault) => told_as(rt, heap, fault),
+    }
 }
 
 fn twice(rt: &impl Abort, heap: Heap, path: &str) -> Twice
@@ -227,7 +234,7 @@ fn on_process<K: Machine>(rt: &impl Abort, heap: Heap, hand: &mut Hand<K>, act: 
         Act::End => told(rt, heap, end(hand)),
         Act::Fork => told(rt, heap, fork(hand)),
         Act::GiveUp => told(rt, heap, give_up(hand)),
-        _ => told(rt, heap, look_nowhere(hand)),
+        _ => told_as(rt, heap, look_nowhere(hand)),
     }
 }
 

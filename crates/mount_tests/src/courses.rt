@@ -67,8 +67,15 @@ fn number_of<K: Machine>(rt: &impl Abort, heap: Heap, kernel: &mut K) -> Num {
     number_in(&reply)
 }
 
-fn put<T: Debug + Drop>(rt: &impl Abort, text: &mut Text, outcome: T) {
+fn put_as<T: Debug + Drop>(rt: &impl Abort, text: &mut Text, outcome: T) {
     write!(text, "{outcome:?}\n").expect(rt, "memory");
+}
+
+fn put<T: Debug + Drop>(rt: &impl Abort, text: &mut Text, outcome: Result<T, Fault>) {
+    match outcome {
+        Ok(value) => put_as(rt, text, value),
+        Err(fault) => put_as(rt, text, fault),
+    }
 }
 
 fn number_by(looked: &Result<Stat, Fault>) -> Num {
@@ -109,7 +116,7 @@ fn show_path<K: Machine>(
 // Shows how many entries there are, what is at each path, and which descriptors are open.
 fn show<K: Machine>(rt: &impl Abort, heap: Heap, hand: &mut Hand<K>, text: &mut Text) {
     let count = hand.history().count();
-    put(rt, text, count);
+    put_as(rt, text, count);
     for path in ["/", "/a", "/b", "/a/b"] {
         show_path(rt, heap, hand, text, path);
     }
@@ -130,7 +137,7 @@ fn show_all<K: Machine>(
     let mut text = String::new(heap);
     show(rt, heap, hand, &mut text);
     let again = act_on(rt, heap, hand, act, inode, 0);
-    put(rt, &mut text, again.told);
+    put_as(rt, &mut text, again.told);
     show(rt, heap, hand, &mut text);
     hand.bind(Pid(2));
     show(rt, heap, hand, &mut text);
@@ -191,8 +198,7 @@ fn came<K: Machine>(
 }
 
 fn is_refused(ran: &Ran) -> bool {
-    let told = ran.outcome.told.as_str();
-    told == "Err(NoMemory)" || told == "NoMemory"
+    ran.outcome.told.as_str() == "NoMemory"
 }
 
 // How often each course of a row came, first the whole one.
@@ -275,5 +281,5 @@ pub(crate) fn check_courses<K: Machine>(rt: &impl Abort, heap: Heap, rows: &[Cou
     for row in rows {
         check::<K>(rt, heap, row, &mut wrong);
     }
-    assert_eq!(rt; wrong.as_str(), "");
+    assert!(rt; wrong.is_empty(), "{wrong}");
 }

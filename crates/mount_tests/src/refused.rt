@@ -145,5 +145,5 @@ pub(crate) fn check_all<K: Machine>(rt: &impl Abort, heap: Heap, rows: &[Row]) {
     for row in rows {
         check::<K>(rt, heap, row, &mut wrong);
     }
-    assert_eq!(rt; wrong.as_str(), "");
+    assert!(rt; wrong.is_empty(), "{wrong}");
 }
