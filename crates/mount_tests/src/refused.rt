@@ -1,5 +1,5 @@
 // A row: requests of a session, and one more, of which each request for memory is refused in turn.
-use crate::client::{Client, ask, new_client, shown};
+use crate::client::{Answer, Client, ask, new_client, shown};
 use crate::texts::{Text, is_same};
 use heap::Heap;
 use machine::Machine;
@@ -42,6 +42,24 @@ fn prepare<K: Machine>(rt: &impl Abort, client: &mut Client<K>, row: &Row) {
     }
 }
 
+// Asks what a row asks, where it is to be asked.
+fn ask_if<K: Machine>(
+    rt: &impl Abort,
+    heap: Heap,
+    client: &mut Client<K>,
+    row: &Row,
+    is_asked: bool,
+    request: u64,
+) -> Answer {
+    if is_asked {
+        return ask(rt, client, row.ask, request);
+    }
+    Answer {
+        told: String::new(heap),
+        made: 0,
+    }
+}
+
 // The row is run with so many times its request, the first of which is refused this request for
 // memory.
 fn run_on<K: Machine>(
@@ -52,23 +70,21 @@ fn run_on<K: Machine>(
     times: u64,
     request: u64,
 ) -> Ran {
-    let mut ran = Ran {
-        told: String::new(heap),
-        again: String::new(heap),
-        shown: String::new(heap),
-        made: 0,
-    };
     prepare(rt, client, row);
-    if times > 0 {
-        let answer = ask(rt, client, row.ask, request);
-        ran.made = answer.made;
-        ran.told = answer.told;
+    let first = ask_if(rt, heap, client, row, times > 0, request);
+    let second = ask_if(rt, heap, client, row, times > 1, 0);
+    let shown = shown(rt, client);
+    let Answer { told, made } = first;
+    let Answer {
+        told: again,
+        made: _,
+    } = second;
+    Ran {
+        told,
+        again,
+        shown,
+        made,
     }
-    if times > 1 {
-        ran.again = ask(rt, client, row.ask, 0).told;
-    }
-    ran.shown = shown(rt, client);
-    ran
 }
 
 fn run<K: Machine>(rt: &impl Abort, heap: Heap, row: &Row, times: u64, request: u64) -> Ran {
