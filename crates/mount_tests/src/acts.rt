@@ -1,0 +1,273 @@
+// What the functions of `course` do with the file `/a`, open as descriptor 0 where it is open, and with
+// the path `/b`. No argument takes memory.
+ghost use Rattle.std.specs.Prelude.{◌≡◌};
+
+use crate::texts::{Text, owned};
+use course::{
+    Fault, Hand, Made, Object, Twice, append, begin, close, close_spare, create_cut, cut_if, end,
+    find, fork, give_up, link, list, list_at, look_nowhere, make_directory, make_file, move_name,
+    open_cut, read, remove_directory, resize, stat_file, stat_path, unlink, write,
+};
+use heap::Heap;
+use ids::{Fd, Kind, Num, Stat};
+use machine::Machine;
+use std::fmt::Debug;
+use std::process::Abort;
+
+#[derive(Clone, Copy)]
+pub(crate) enum Act {
+    Append,
+    Begin,
+    Close,
+    CloseSpare,
+    // The file is cut, where it is there.
+    CreateCut,
+    // It has to be a new one.
+    CreateNew,
+    CutIf,
+    End,
+    // By the path, and by the descriptor, where the path leads elsewhere.
+    Find,
+    FindOpen,
+    Fork,
+    GiveUp,
+    Link,
+    List,
+    ListAt,
+    LookNowhere,
+    MakeDirectory,
+    MakeFile,
+    // With and without taking the place of what is there.
+    Move,
+    MoveIfAbsent,
+    OpenCut,
+    // By a path that leads to another file.
+    OpenOther,
+    Read,
+    RemoveDirectory,
+    // By the path, and by the descriptor.
+    Resize,
+    ResizeOpen,
+    StatFile,
+    StatPath,
+    Unlink,
+    Write,
+}
+
+// What a function came to, and how many requests for memory it made.
+#[derive(Drop)]
+pub(crate) struct Outcome {
+    pub(crate) told: Text,
+    pub(crate) made: u64,
+}
+
+// What an object is like, but for its number, which may be another one behind a refusal.
+pub(crate) type Seen = (Kind, u32, u32);
+
+pub(crate) fn seen(looked: Result<Stat, Fault>) -> Result<Seen, Fault> {
+    match looked {
+        Ok(stat) => Ok((stat.kind, stat.size, stat.links)),
+        Err(fault) => Err(fault),
+    }
+}
+
+// The same of a file that was opened.
+fn seen_made(made: Result<Made, Fault>) -> Result<(Fd, bool, Seen), Fault> {
+    match made {
+        Ok(made) => {
+            let stat = made.stat;
+            Ok((made.fd, made.is_new, (stat.kind, stat.size, stat.links)))
+        }
+        Err(fault) => Err(fault),
+    }
+}
+
+// No further request is refused.
+fn told_as<T: Debug + Drop>(rt: &impl Abort, heap: Heap, outcome: T) -> Outcome {
+    let made = heap.made();
+    heap.refuse(0);
+    let mut told = String::new(heap);
+    write!(&mut told, "{outcome:?}").expect(rt, "memory");
+    Outcome { told, made }
+}
+
+fn told<T: Debug + Drop>(rt: &impl Abort, heap: Heap, outcome: Result<T, Fault>) -> Outcome {
+    match outcome {
+        Ok(value) => told_as(rt, heap, value),
+        Err(fault) => told_as(rt, heap, fault),
+    }
+}
+
+fn twice(rt: &impl Abort, heap: Heap, path: &str) -> Twice
+    ensures { result.second ≡ result.first }
+{
+    Twice {
+        first: owned(rt, heap, path),
+        second: owned(rt, heap, path),
+    }
+}
+
+fn object(rt: &impl Abort, heap: Heap, inode: Num, path: &str, fd: Option<Fd>) -> Object {
+    Object {
+        inode,
+        kind: Kind::File,
+        path: Some(owned(rt, heap, path)),
+        fd,
+    }
+}
+
+fn spare(inode: Num) -> Made {
+    Made {
+        fd: Fd(0),
+        stat: Stat {
+            kind: Kind::File,
+            num: inode,
+            size: 0,
+            links: 1,
+        },
+        is_new: false,
+    }
+}
+
+fn on_file<K: Machine>(
+    rt: &impl Abort,
+    heap: Heap,
+    hand: &mut Hand<K>,
+    act: Act,
+    inode: Num,
+) -> Outcome {
+    match act {
+        Act::Append => told(rt, heap, append(hand, Fd(0), owned(rt, heap, "more"))),
+        Act::Close => told(rt, heap, close(hand, Fd(0))),
+        Act::CloseSpare => told(rt, heap, seen_made(close_spare(hand, true, spare(inode)))),
+        Act::CutIf => told(rt, heap, cut_if(hand, Fd(0), true)),
+        Act::Read => told(rt, heap, read(hand, heap, Fd(0), 100, 1)),
+        Act::StatFile => told(rt, heap, seen(stat_file(hand, Fd(0)))),
+        _ => told(rt, heap, write(hand, Fd(0), owned(rt, heap, "other"), 2)),
+    }
+}
+
+fn on_opening<K: Machine>(
+    rt: &impl Abort,
+    heap: Heap,
+    hand: &mut Hand<K>,
+    act: Act,
+    inode: Num,
+) -> Outcome {
+    let first = owned(rt, heap, "/a");
+    let second = owned(rt, heap, "/a");
+    match act {
+        Act::CreateCut => told(
+            rt,
+            heap,
+            seen_made(create_cut(hand, first, second, false, true)),
+        ),
+        Act::CreateNew => told(
+            rt,
+            heap,
+            seen_made(create_cut(hand, first, second, true, false)),
+        ),
+        Act::MakeFile => told(rt, heap, seen(make_file(hand, first, second))),
+        Act::OpenCut => told(rt, heap, open_cut(hand, first, inode, true)),
+        _ => told(
+            rt,
+            heap,
+            open_cut(hand, owned(rt, heap, "/b"), inode, false),
+        ),
+    }
+}
+
+fn on_path<K: Machine>(rt: &impl Abort, heap: Heap, hand: &mut Hand<K>, act: Act) -> Outcome {
+    let first = owned(rt, heap, "/a");
+    let second = owned(rt, heap, "/a");
+    match act {
+        Act::List => told(rt, heap, list(hand, heap, first)),
+        Act::MakeDirectory => told(rt, heap, seen(make_directory(hand, first, second))),
+        Act::RemoveDirectory => told(rt, heap, remove_directory(hand, first)),
+        Act::StatPath => told(rt, heap, seen(stat_path(hand, first))),
+        _ => told(rt, heap, unlink(hand, first)),
+    }
+}
+
+fn on_paths<K: Machine>(
+    rt: &impl Abort,
+    heap: Heap,
+    hand: &mut Hand<K>,
+    act: Act,
+    inode: Num,
+) -> Outcome {
+    let from = twice(rt, heap, "/a");
+    let to = twice(rt, heap, "/b");
+    match act {
+        Act::Link => told(rt, heap, seen(link(hand, from, inode, to))),
+        Act::Move => told(rt, heap, move_name(hand, from.first, to.first, None)),
+        _ => told(
+            rt,
+            heap,
+            move_name(hand, from.first, to.first, Some(to.second)),
+        ),
+    }
+}
+
+fn on_object<K: Machine>(
+    rt: &impl Abort,
+    heap: Heap,
+    hand: &mut Hand<K>,
+    act: Act,
+    inode: Num,
+) -> Outcome {
+    let by_path = object(rt, heap, inode, "/a", None);
+    let by_descriptor = object(rt, heap, inode, "/b", Some(Fd(0)));
+    let paths = Some(twice(rt, heap, "/a"));
+    match act {
+        Act::Find => told(rt, heap, seen(find(hand, by_path))),
+        Act::FindOpen => told(rt, heap, seen(find(hand, by_descriptor))),
+        Act::ListAt => told(rt, heap, list_at(hand, heap, inode, paths)),
+        Act::Resize => told(rt, heap, seen(resize(hand, by_path, paths, 3))),
+        _ => told(rt, heap, seen(resize(hand, by_descriptor, paths, 3))),
+    }
+}
+
+fn on_process<K: Machine>(rt: &impl Abort, heap: Heap, hand: &mut Hand<K>, act: Act) -> Outcome {
+    match act {
+        Act::Begin => told(rt, heap, begin(hand)),
+        Act::End => told(rt, heap, end(hand)),
+        Act::Fork => told(rt, heap, fork(hand)),
+        Act::GiveUp => told(rt, heap, give_up(hand)),
+        _ => told_as(rt, heap, look_nowhere(hand)),
+    }
+}
+
+// Calls a function where this request for memory is refused, and none at 0. The file has this number.
+pub(crate) fn act_on<K: Machine>(
+    rt: &impl Abort,
+    heap: Heap,
+    hand: &mut Hand<K>,
+    act: Act,
+    inode: Num,
+    request: u64,
+) -> Outcome {
+    heap.refuse(request);
+    match act {
+        Act::Append
+        | Act::Close
+        | Act::CloseSpare
+        | Act::CutIf
+        | Act::Read
+        | Act::StatFile
+        | Act::Write => on_file(rt, heap, hand, act, inode),
+        Act::CreateCut | Act::CreateNew | Act::MakeFile | Act::OpenCut | Act::OpenOther => {
+            on_opening(rt, heap, hand, act, inode)
+        }
+        Act::List | Act::MakeDirectory | Act::RemoveDirectory | Act::StatPath | Act::Unlink => {
+            on_path(rt, heap, hand, act)
+        }
+        Act::Link | Act::Move | Act::MoveIfAbsent => on_paths(rt, heap, hand, act, inode),
+        Act::Find | Act::FindOpen | Act::ListAt | Act::Resize | Act::ResizeOpen => {
+            on_object(rt, heap, hand, act, inode)
+        }
+        Act::Begin | Act::End | Act::Fork | Act::GiveUp | Act::LookNowhere => {
+            on_process(rt, heap, hand, act)
+        }
+    }
+}

@@ -1,0 +1,213 @@
+// Courses on objects, and on processes.
+use crate::acts::Act;
+use crate::courses::{Course, check_courses};
+use kernel::Kernel;
+
+static OBJECTS: [Course; 9] = [
+    Course {
+        act: Act::Find,
+        before: "1 open /a RDWR,CREAT
+1 write 0 first
+1 close 0",
+        whole: "1 stat /a",
+        told: None,
+        refused: [None, None, None, None],
+    },
+    Course {
+        act: Act::FindOpen,
+        before: "1 open /a RDWR,CREAT
+1 write 0 first",
+        whole: "1 stat /b
+1 fstat 0",
+        told: None,
+        refused: [None, None, None, None],
+    },
+    Course {
+        act: Act::FindOpen,
+        before: "1 open /a RDWR,CREAT
+1 write 0 first
+1 close 0
+1 begin
+1 open /a RDWR",
+        whole: "1 stat /b
+1 fstat 0",
+        told: None,
+        refused: [Some(""), Some("1 stat /b"), None, None],
+    },
+    Course {
+        act: Act::ListAt,
+        before: "1 mkdir /a
+1 mkdir /a/b",
+        whole: "1 stat /a
+1 list /a",
+        told: None,
+        refused: [Some("1 stat /a"), None, None, None],
+    },
+    Course {
+        act: Act::ListAt,
+        before: "1 mkdir /a
+1 mkdir /a/b
+1 begin",
+        whole: "1 stat /a
+1 list /a",
+        told: None,
+        refused: [Some(""), Some("1 stat /a"), None, None],
+    },
+    Course {
+        act: Act::Resize,
+        before: "1 open /a RDWR,CREAT
+1 write 0 first
+1 close 0",
+        whole: "1 stat /a
+1 truncate /a 3
+1 stat /a",
+        told: None,
+        refused: [Some("1 stat /a"), None, None, None],
+    },
+    Course {
+        act: Act::Resize,
+        before: "1 open /a RDWR,CREAT
+1 write 0 first
+1 close 0
+1 begin",
+        whole: "1 stat /a
+1 truncate /a 3
+1 stat /a",
+        told: None,
+        refused: [
+            Some(""),
+            Some("1 stat /a"),
+            Some(
+                "1 stat /a
+1 truncate /a 3",
+            ),
+            None,
+        ],
+    },
+    Course {
+        act: Act::ResizeOpen,
+        before: "1 open /a RDWR,CREAT
+1 write 0 first",
+        whole: "1 ftruncate 0 3
+1 stat /b
+1 fstat 0",
+        told: None,
+        refused: [Some(""), None, None, None],
+    },
+    Course {
+        act: Act::ResizeOpen,
+        before: "1 open /a RDWR,CREAT
+1 write 0 first
+1 close 0
+1 begin
+1 open /a RDWR",
+        whole: "1 ftruncate 0 3
+1 stat /b
+1 fstat 0",
+        told: None,
+        refused: [
+            Some(""),
+            Some("1 ftruncate 0 3"),
+            Some(
+                "1 ftruncate 0 3
+1 stat /b",
+            ),
+            None,
+        ],
+    },
+];
+
+static PROCESSES: [Course; 8] = [
+    Course {
+        act: Act::Begin,
+        before: "",
+        whole: "1 begin",
+        told: None,
+        refused: [None, None, None, None],
+    },
+    Course {
+        act: Act::End,
+        before: "1 begin
+1 mkdir /a",
+        whole: "1 end",
+        told: None,
+        refused: [None, None, None, None],
+    },
+    Course {
+        act: Act::End,
+        before: "1 open /a RDWR,CREAT
+1 write 0 first
+1 close 0
+1 begin
+1 open /a RDWR
+1 pwrite 0 x 0
+2 open /a RDWR
+2 pwrite 0 y 0",
+        whole: "1 end",
+        told: None,
+        refused: [None, None, None, None],
+    },
+    Course {
+        act: Act::Fork,
+        before: "1 open /a RDWR,CREAT
+1 write 0 first",
+        whole: "1 fork",
+        told: None,
+        refused: [Some(""), None, None, None],
+    },
+    Course {
+        act: Act::GiveUp,
+        before: "1 begin
+1 mkdir /a",
+        whole: "1 abort no_restart",
+        told: None,
+        refused: [None, None, None, None],
+    },
+    Course {
+        act: Act::LookNowhere,
+        before: "1 begin",
+        whole: "1 fstat 64",
+        told: None,
+        refused: [None, None, None, None],
+    },
+    Course {
+        act: Act::LookNowhere,
+        before: "1 open /a RDWR,CREAT
+1 write 0 first
+1 close 0
+1 begin
+1 open /a RDWR
+1 pwrite 0 x 0
+2 open /a RDWR
+2 pwrite 0 y 0",
+        whole: "1 fstat 64",
+        told: None,
+        refused: [None, None, None, None],
+    },
+    Course {
+        act: Act::Append,
+        before: "1 open /a RDWR,CREAT
+1 write 0 first
+1 close 0
+1 begin
+1 open /a RDWR
+1 pwrite 0 x 0
+2 open /a RDWR
+2 pwrite 0 y 0",
+        whole: "1 fstat 0",
+        told: None,
+        refused: [None, None, None, None],
+    },
+];
+
+#[test]
+fn courses_of_objects(rt: HostRuntime) {
+    let heap = heap::open(rt.alloc()).expect(&rt, "memory");
+    check_courses::<Kernel>(&rt, heap, &OBJECTS);
+}
+
+#[test]
+fn courses_of_processes(rt: HostRuntime) {
+    let heap = heap::open(rt.alloc()).expect(&rt, "memory");
+    check_courses::<Kernel>(&rt, heap, &PROCESSES);
+}
