@@ -5,8 +5,8 @@ ghost use Rattle.std.specs.Prelude.{◌≡◌};
 use crate::texts::{Text, owned};
 use course::{
     Fault, Hand, Made, Object, Twice, append, begin, close, close_spare, create_cut, cut_if, end,
-    find, fork, give_up, link, list, list_at, look_nowhere, make_directory, make_file, move_name,
-    open_cut, read, remove_directory, resize, stat_file, stat_path, unlink, write,
+    find, fork, give_up, link, list, list_at, look_nowhere, look_up, make_directory, make_file,
+    move_name, open_cut, read, remove_directory, resize, stat_file, unlink, write,
 };
 use heap::Heap;
 use ids::{Fd, Kind, Num, Stat};
@@ -35,6 +35,7 @@ pub(crate) enum Act {
     List,
     ListAt,
     LookNowhere,
+    LookUp,
     MakeDirectory,
     MakeFile,
     // With and without taking the place of what is there.
@@ -49,7 +50,6 @@ pub(crate) enum Act {
     Resize,
     ResizeOpen,
     StatFile,
-    StatPath,
     Unlink,
     Write,
 }
@@ -160,14 +160,14 @@ fn on_opening<K: Machine>(
         Act::CreateCut => told(
             rt,
             heap,
-            seen_made(create_cut(hand, first, second, false, true)),
+            seen_made(create_cut(hand, None, first, second, false, true)),
         ),
         Act::CreateNew => told(
             rt,
             heap,
-            seen_made(create_cut(hand, first, second, true, false)),
+            seen_made(create_cut(hand, None, first, second, true, false)),
         ),
-        Act::MakeFile => told(rt, heap, seen(make_file(hand, first, second))),
+        Act::MakeFile => told(rt, heap, seen(make_file(hand, None, first, second))),
         Act::OpenCut => told(rt, heap, open_cut(hand, first, inode, true)),
         _ => told(
             rt,
@@ -182,10 +182,10 @@ fn on_path<K: Machine>(rt: &impl Abort, heap: Heap, hand: &mut Hand<K>, act: Act
     let second = owned(rt, heap, "/a");
     match act {
         Act::List => told(rt, heap, list(hand, heap, first)),
-        Act::MakeDirectory => told(rt, heap, seen(make_directory(hand, first, second))),
-        Act::RemoveDirectory => told(rt, heap, remove_directory(hand, first)),
-        Act::StatPath => told(rt, heap, seen(stat_path(hand, first))),
-        _ => told(rt, heap, unlink(hand, first)),
+        Act::MakeDirectory => told(rt, heap, seen(make_directory(hand, None, first, second))),
+        Act::RemoveDirectory => told(rt, heap, remove_directory(hand, None, first)),
+        Act::LookUp => told(rt, heap, seen(look_up(hand, None, first))),
+        _ => told(rt, heap, unlink(hand, None, first)),
     }
 }
 
@@ -199,12 +199,16 @@ fn on_paths<K: Machine>(
     let from = twice(rt, heap, "/a");
     let to = twice(rt, heap, "/b");
     match act {
-        Act::Link => told(rt, heap, seen(link(hand, from, inode, to))),
-        Act::Move => told(rt, heap, move_name(hand, from.first, to.first, None)),
+        Act::Link => told(rt, heap, seen(link(hand, from, inode, None, to))),
+        Act::Move => told(
+            rt,
+            heap,
+            move_name(hand, None, from.first, None, to.first, None),
+        ),
         _ => told(
             rt,
             heap,
-            move_name(hand, from.first, to.first, Some(to.second)),
+            move_name(hand, None, from.first, None, to.first, Some(to.second)),
         ),
     }
 }
@@ -259,7 +263,7 @@ pub(crate) fn act_on<K: Machine>(
         Act::CreateCut | Act::CreateNew | Act::MakeFile | Act::OpenCut | Act::OpenOther => {
             on_opening(rt, heap, hand, act, inode)
         }
-        Act::List | Act::MakeDirectory | Act::RemoveDirectory | Act::StatPath | Act::Unlink => {
+        Act::List | Act::MakeDirectory | Act::RemoveDirectory | Act::LookUp | Act::Unlink => {
             on_path(rt, heap, hand, act)
         }
         Act::Link | Act::Move | Act::MoveIfAbsent => on_paths(rt, heap, hand, act, inode),

@@ -2,7 +2,7 @@
 // refused in turn.
 use crate::acts::{Act, Outcome, act_on, seen};
 use crate::texts::{Text, is_same, owned};
-use course::{Fault, Hand, close, list, open_cut, read, stat_file, stat_path};
+use course::{Fault, Hand, close, list, look_up, open_cut, read, stat_file};
 use heap::Heap;
 use ids::{Answer, Call, Fd, Num, Op, Pid, Priority, Reply, Stat};
 use machine::Machine;
@@ -100,7 +100,7 @@ fn show_path<K: Machine>(
     text: &mut Text,
     path: &str,
 ) {
-    let looked = stat_path(hand, owned(rt, heap, path));
+    let looked = look_up(hand, None, owned(rt, heap, path));
     let inode = number_by(&looked);
     put(rt, text, seen(looked));
     put(rt, text, list(hand, heap, owned(rt, heap, path)));

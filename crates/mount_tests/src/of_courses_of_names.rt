@@ -126,14 +126,14 @@ static NAMES: [Course; 16] = [
         refused: [Some(""), None, None, None],
     },
     Course {
-        act: Act::StatPath,
+        act: Act::LookUp,
         before: "1 mkdir /a",
         whole: "1 stat /a",
         told: None,
         refused: [None, None, None, None],
     },
     Course {
-        act: Act::StatPath,
+        act: Act::LookUp,
         before: "1 mkdir /a
 1 begin",
         whole: "1 stat /a",
