@@ -8,6 +8,9 @@ import sys
 
 TOP = os.path.dirname(os.path.dirname(os.path.realpath(__file__)))
 
+# The programs that only measure: they are proved when they are built to measure, and no part of the gate.
+MEASURES = ("bench", "workload")
+
 
 def rt_of(tool):
     """Returns the path of the kit's command, and ends the tool of this name where there is none."""
@@ -36,3 +39,9 @@ def of_shell(*words):
 def unproved_name(crate, tests):
     """Returns the name by which the unproved program of a crate, or of its tests, is kept for the sources as they are."""
     return of_shell("unproved_name", crate, *["--test"] * tests)
+
+
+def is_built(crate):
+    """Whether the proved program of a crate is built and no source is newer."""
+    how = {"env": {**os.environ, "top": TOP}, "stdin": subprocess.DEVNULL}
+    return subprocess.run(["bash", "-c", '. "$top/tools/shared.sh"; is_built "$1"', "shared", crate], **how).returncode == 0

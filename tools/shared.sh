@@ -58,10 +58,31 @@ say_machine() {
     echo "Measured on $(nproc) processors, ${model:-of an unknown model}, with a load of $(cut -d ' ' -f 1 /proc/loadavg) at the end."
 }
 
-# Copies these folders and files of the repository into $room, without what was built and without the edits that have to be refused.
-copy_into_room() {
+# Copies into a folder these folders and files of the repository, without what was built and without the edits that have to be refused.
+copy_into() {
+    local to=$1
+    shift
     (cd "$top" && tar -cf - --exclude='crates/*/out' --exclude='crates/*/must-fail' --exclude='crates/*/more-edits' "$@") |
-        tar -xf - -C "$room"
+        tar -xf - -C "$to"
+}
+
+# Proves a program and all below it, builds it, and puts it to crates/NAME/out/NAME, for the script of the first name. Further words are
+# those of the gate's command, which does it on a copy that has only these crates and none of their must-fail edits. It tells which
+# crates are done, how many of how many, and which are at work and for how long; all that the command says where something failed.
+build_proved() {
+    local script=$1 program=$2 started out folders
+    shift 2
+    out=$top/crates/$program/out
+    make_room
+    mkdir -p "$room/$program" "$out" || return
+    lines_for "$program" >"$room/$program/crates.txt" || return
+    mapfile -t folders < <(sed 's/[ :].*//; s,^,crates/,' "$room/$program/crates.txt")
+    # What is edited from now on is newer than the program.
+    started=$(date +@%s.%N)
+    copy_into "$room/$program" HANDLES "${folders[@]}" || return
+    python3 "$top/tools/gate.py" "$script" "$room/$program" "$@" || return
+    cp "$room/$program/crates/$program/out/$program" "$out/$program.new" && touch -d "$started" "$out/$program.new" &&
+        mv "$out/$program.new" "$out/$program"
 }
 
 # Whether the proved program of a crate is built and no source is newer. Folders count as well, since theirs is the time of a file

@@ -3,7 +3,7 @@ use crate::random::Random;
 use crate::tally::Tally;
 use heap::Heap;
 
-#[derive(Clone, Copy)]
+#[derive(Drop)]
 pub(crate) struct Trials {
     pub(crate) heap: Heap,
     pub(crate) random: Random,

@@ -1,6 +1,6 @@
 -- What each request does to processes and views leaves them sound.
 use Rattle.std.proofs.Common.{◌≡◌, ◌≢◌, ℕ, ◌+◌, ◌≤◌, arith, Bool, true, false, refl, sym, ap, subst, ◌∙◌}
-use Rattle.std.specs.Prelude.{Option, Some, None, Result, Ok, Err, ◌==◌, if◌then◌else◌}
+use Rattle.std.specs.Prelude.{Option, Some, None, Result, Ok, Err, nat_lt, ◌==◌, if◌then◌else◌}
 use Rattle.model.specs.FiniteMap as map
 use Rattle.ids.specs.declared.aspect.Why.{Why}
 use Rattle.machine.specs.Shown.{Shown}
@@ -132,7 +132,7 @@ released_if true s handle file {v} {w} stand was = sound_kept s (record s { file
 released_if false s handle file {v} {w} stand was = sound_kept s (record s { files = map.remove s.files handle; handles = unlinked handle (key_of file) s.handles }) v w was (there_same refl) refl (kept_is refl) stand
 
 pub sound_released : (s : Seen) (handle : ℕ) (o : Option OpenFile) {v w : Shown} → Stand v w → StaysSound s v (released_by s handle o) w
-sound_released s handle None stand was = sound_stands s _ _ was stand
+sound_released s handle None stand = λ was. sound_stands s _ _ was stand
 sound_released s handle (Some file) stand = released_if (nat_lt 1 file.opens) s handle file stand
 
 sound_left : (s : Seen) (handle : ℕ) (o : Option OpenFile) {v w : Shown} → Stand v w → StaysSound s v (kept_by s handle o) w
@@ -143,8 +143,8 @@ closed_plain true s pid {v} {w} stand was = sound_kept s (record s { roles = let
 closed_plain false s pid stand was = sound_stands s _ _ was stand
 
 pub sound_closed : (s : Seen) (handle : ℕ) (file : OpenFile) (r : Result (Unit {0}) Fault) {v w : Shown} → Stand v w → StaysSound s v (closed_by s handle file r) w
-sound_closed s handle file (Ok done) {v} {w} stand was = closed_plain (file.view == 0) (released_by s handle (file_at s handle)) file.pid (stand_same w) (sound_released s handle (file_at s handle) stand was)
-sound_closed s handle file (Err (fault.Aborted why)) {v} {w} stand was = sound_aborted (released_by s handle (file_at s handle)) why file.view (stand_same w) (sound_released s handle (file_at s handle) stand was)
+sound_closed s handle file (Ok done) {v} {w} stand = λ was. closed_plain (file.view == 0) (released_by s handle (file_at s handle)) file.pid (stand_same w) (sound_released s handle (file_at s handle) stand was)
+sound_closed s handle file (Err (fault.Aborted why)) {v} {w} stand = λ was. sound_aborted (released_by s handle (file_at s handle)) why file.view (stand_same w) (sound_released s handle (file_at s handle) stand was)
 sound_closed s handle file (Err (fault.Refused e)) stand = sound_left s handle (file_at s handle) stand
 sound_closed s handle file (Err fault.Busy) stand = sound_left s handle (file_at s handle) stand
 sound_closed s handle file (Err fault.NoMemory) stand = sound_left s handle (file_at s handle) stand
