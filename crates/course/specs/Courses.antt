@@ -87,13 +87,12 @@ abbrev pub looking_for : ℕ → List ℕ → ℕ → Course (Result (Unit {0}) 
 looking_for pid path inode =
     stating pid (call.Stat path) >>= (λ looked. Give (same_or_stale inode looked))
 
--- A directory has to be where it was, if it is one that can be moved.
+-- The path of a directory has to give it still. A root is not looked at.
 abbrev pub staying : ℕ → Option Place → Course (Result (Unit {0}) Fault)
 staying pid (Some place) = looking_for pid place.path place.inode
 staying pid None = Give (Ok tt)
 
--- what is done to a name of a directory, by its path, where the directory is still the one that is
--- meant
+-- what is done to a name, by its path, where its directory's path gives that directory still
 abbrev pub inside : {A : Type 0} → ℕ → Option Place → Course (Result A Fault)
     → Course (Result A Fault)
 inside pid place named = staying pid place >>= on_ok (λ stays. named)

@@ -87,7 +87,8 @@ fn create_cut_at<K: Machine>(
 
 /// Makes a file in this directory and opens it for reading and writing. Where the name is there already
 /// the file of that name is opened, unless `exclusive` is true, and cut to nothing, where that is
-/// wanted. The two paths are the same. Where the directory is not where it was it is stale.
+/// wanted. The two paths are the same. It is `Stale`, and nothing is made or opened, where the
+/// directory's own path gives another object, or none.
 pub fn create_cut<K: Machine>(
     hand: &mut Hand<K>,
     place: Option<Place>,
@@ -125,8 +126,8 @@ fn make_file_at<K: Machine>(hand: &mut Hand<K>, path: Bytes, again: Bytes) -> Re
     close_made(hand, made)
 }
 
-/// Makes a file in this directory that is not left open. The two paths are the same. Where the
-/// directory is not where it was it is stale.
+/// Makes a file in this directory that is not left open. The two paths are the same. It is `Stale`, and
+/// nothing is made, where the directory's own path gives another object, or none.
 pub fn make_file<K: Machine>(
     hand: &mut Hand<K>,
     place: Option<Place>,

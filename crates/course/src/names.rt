@@ -23,8 +23,8 @@ fn stat_path<K: Machine>(hand: &mut Hand<K>, path: Bytes) -> Result<Stat, Fault>
     hand.stat_call(Call::Stat(path))
 }
 
-/// What a name of this directory gives, by its path. Where the directory is not where it was it is
-/// stale.
+/// What a name of this directory gives, by its path. It is `Stale` where the directory's own path
+/// gives another object, or none.
 pub fn look_up<K: Machine>(
     hand: &mut Hand<K>,
     place: Option<Place>,
@@ -63,8 +63,8 @@ fn make_directory_at<K: Machine>(
     stat_path(hand, again)
 }
 
-/// Makes a directory in this one, and tells about it. The two paths are the same. Where the directory
-/// in which it is to be is not where it was it is stale.
+/// Makes a directory in the one of `place`, and tells about it. The two paths are the same. It is
+/// `Stale`, and nothing is made, where the path of `place` gives another object, or none.
 pub fn make_directory<K: Machine>(
     hand: &mut Hand<K>,
     place: Option<Place>,
@@ -169,7 +169,8 @@ fn link_at<K: Machine>(
 }
 
 /// Gives a file a name in this directory too, by the path that it has, where that gives this file, and
-/// tells about it. Where the path gives another one, or the directory is not where it was, it is stale.
+/// tells about it. It is `Stale`, and nothing is linked, where the path of the file or that of the
+/// directory gives another object, or none.
 pub fn link<K: Machine>(
     hand: &mut Hand<K>,
     from: Twice,
@@ -188,8 +189,8 @@ pub fn link<K: Machine>(
     link_at(hand, from, inode, to)
 }
 
-/// Takes a name of a file away from this directory. Where the directory is not where it was it is
-/// stale.
+/// Takes a name of a file away from this directory. It is `Stale`, and the name stays, where the
+/// directory's own path gives another object, or none.
 pub fn unlink<K: Machine>(
     hand: &mut Hand<K>,
     place: Option<Place>,
@@ -204,8 +205,8 @@ pub fn unlink<K: Machine>(
     hand.do_call(Call::Unlink(path))
 }
 
-/// Removes an empty directory from this one. Where the one in which it is is not where it was it is
-/// stale.
+/// Removes an empty directory from the one of `place`. It is `Stale`, and the name stays, where the
+/// path of `place` gives another object, or none.
 pub fn remove_directory<K: Machine>(
     hand: &mut Hand<K>,
     place: Option<Place>,
@@ -292,8 +293,8 @@ fn move_into<K: Machine>(
 }
 
 /// Moves what a name of the first directory gives to a name of the second one, by their paths. The last
-/// path is the second one once more: where it is given, nothing may stand there. Where one of the two
-/// directories is not where it was it is stale.
+/// path is the second one once more: where it is given, nothing may stand there. It is `Stale`, and
+/// nothing is moved, where the path of one of the two directories gives another object, or none.
 pub fn move_name<K: Machine>(
     hand: &mut Hand<K>,
     place: Option<Place>,

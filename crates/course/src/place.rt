@@ -10,7 +10,7 @@ use crate::names::look_for;
 use ids::{Bytes, Num};
 use machine::Machine;
 
-/// The directory in which a name is. A root needs none: no path leads to it but its own.
+/// The directory in which a name is, where that is no root. A root is never moved.
 #[derive(Drop)]
 pub struct Place {
     /// The path that led to it last.
@@ -19,8 +19,8 @@ pub struct Place {
     pub inode: Num,
 }
 
-// Looks whether a directory is where it was, if it is one that can be moved. Where another one stands
-// there it is stale.
+// Looks whether the path of a directory gives it still: it is `Stale` where that gives another object,
+// or none. A root is not looked at.
 pub(crate) fn check_place<K: Machine>(hand: &mut Hand<K>, place: Option<Place>) -> Result<(), Fault>
     ensures bound { bound hand.new ≡ bound hand.old }
     ensures ran { Ran hand.old.shown

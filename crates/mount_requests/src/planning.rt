@@ -53,7 +53,8 @@ fn child_path(heap: Heap, path: &Bytes, name: &Bytes) -> Result<Bytes, AllocErro
     Ok(Bytes::new(bytes))
 }
 
-// The directory of a name, by its path and its object. That of a root is empty, and needs no look.
+// The directory of a name, by its path and its object. The path of a root is empty, and a root is never
+// moved.
 fn place_of(inode: Num, path: Bytes) -> Option<Place>
     ensures { result ≡ place_of inode path }
 {
