@@ -21,8 +21,8 @@ pub(crate) struct Course {
     pub(crate) whole: &'static str,
     // The steps of a course that is told by another error, although memory was refused.
     pub(crate) told: Option<&'static str>,
-    // The steps of courses that end with NoMemory. Each of all these comes.
-    pub(crate) refused: [Option<&'static str>; 4],
+    // The steps of courses that end with NoMemory, at most four. Each of all these comes.
+    pub(crate) refused: &'static [&'static str],
 }
 
 // What a function came to, and what is shown then, and behind the same call once more.
@@ -208,6 +208,14 @@ struct Counts {
     refused: [u64; 4],
 }
 
+// The steps of a row's course of this number, where it has one.
+fn refused_at(row: &Course, index: usize) -> Option<&'static str> {
+    match row.refused.get(index) {
+        Some(steps) => Some(*steps),
+        None => None,
+    }
+}
+
 // Counts the course to which a function came. Whether it was one.
 fn count<K: Machine>(
     rt: &impl Abort,
@@ -225,7 +233,7 @@ fn count<K: Machine>(
     }
     let mut is_one = false;
     for index in 0..4usize {
-        let came = came::<K>(rt, heap, row, row.refused[index], ran);
+        let came = came::<K>(rt, heap, row, refused_at(row, index), ran);
         counts.refused[index] = counts.refused[index].wrapping_add(came);
         is_one = is_one || came > 0;
     }
@@ -267,7 +275,7 @@ fn check<K: Machine>(rt: &impl Abort, heap: Heap, row: &Course, wrong: &mut Text
     let Counts { told, refused } = counts;
     let mut is_right = is_whole && (told > 0) == row.told.is_some();
     for index in 0..4usize {
-        is_right = is_right && (refused[index] > 0) == row.refused[index].is_some();
+        is_right = is_right && (refused[index] > 0) == refused_at(row, index).is_some();
     }
     if !is_right {
         let Course { before, whole, .. } = row;

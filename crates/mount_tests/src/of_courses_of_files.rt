@@ -11,7 +11,7 @@ static FILES: [Course; 11] = [
         whole: "1 fstat 0
 1 pwrite 0 more 5",
         told: None,
-        refused: [Some("1 fstat 0"), None, None, None],
+        refused: &["1 fstat 0"],
     },
     Course {
         act: Act::Append,
@@ -23,7 +23,7 @@ static FILES: [Course; 11] = [
         whole: "1 fstat 0
 1 pwrite 0 more 5",
         told: None,
-        refused: [Some(""), Some("1 fstat 0"), None, None],
+        refused: &["", "1 fstat 0"],
     },
     Course {
         act: Act::Close,
@@ -31,7 +31,7 @@ static FILES: [Course; 11] = [
 1 write 0 first",
         whole: "1 close 0",
         told: None,
-        refused: [Some(""), None, None, None],
+        refused: &[""],
     },
     Course {
         act: Act::CloseSpare,
@@ -39,7 +39,7 @@ static FILES: [Course; 11] = [
 1 write 0 first",
         whole: "1 close 0",
         told: None,
-        refused: [Some(""), None, None, None],
+        refused: &[""],
     },
     Course {
         act: Act::CutIf,
@@ -47,7 +47,7 @@ static FILES: [Course; 11] = [
 1 write 0 first",
         whole: "1 ftruncate 0 0",
         told: None,
-        refused: [Some(""), None, None, None],
+        refused: &[""],
     },
     Course {
         act: Act::Read,
@@ -55,7 +55,7 @@ static FILES: [Course; 11] = [
 1 write 0 first",
         whole: "1 pread 0 100 1",
         told: None,
-        refused: [Some(""), None, None, None],
+        refused: &[""],
     },
     Course {
         act: Act::Read,
@@ -66,7 +66,7 @@ static FILES: [Course; 11] = [
 1 open /a RDWR",
         whole: "1 pread 0 100 1",
         told: None,
-        refused: [Some(""), None, None, None],
+        refused: &[""],
     },
     Course {
         act: Act::StatFile,
@@ -74,7 +74,7 @@ static FILES: [Course; 11] = [
 1 write 0 first",
         whole: "1 fstat 0",
         told: None,
-        refused: [None, None, None, None],
+        refused: &[],
     },
     Course {
         act: Act::StatFile,
@@ -85,7 +85,7 @@ static FILES: [Course; 11] = [
 1 open /a RDWR",
         whole: "1 fstat 0",
         told: None,
-        refused: [Some(""), None, None, None],
+        refused: &[""],
     },
     Course {
         act: Act::Write,
@@ -93,7 +93,7 @@ static FILES: [Course; 11] = [
 1 write 0 first",
         whole: "1 pwrite 0 other 2",
         told: None,
-        refused: [Some(""), None, None, None],
+        refused: &[""],
     },
     Course {
         act: Act::Write,
@@ -104,7 +104,7 @@ static FILES: [Course; 11] = [
 1 open /a RDWR",
         whole: "1 pwrite 0 other 2",
         told: None,
-        refused: [Some(""), None, None, None],
+        refused: &[""],
     },
 ];
 
@@ -115,7 +115,7 @@ static OPENS: [Course; 12] = [
         whole: "1 open /a RDWR,CREAT,EXCL
 1 fstat 0",
         told: None,
-        refused: [Some(""), None, None, None],
+        refused: &[""],
     },
     Course {
         act: Act::CreateCut,
@@ -127,16 +127,12 @@ static OPENS: [Course; 12] = [
 1 fstat 0
 1 ftruncate 0 0",
         told: None,
-        refused: [
-            Some("1 open /a RDWR,CREAT,EXCL"),
-            Some(
-                "1 open /a RDWR,CREAT,EXCL
+        refused: &[
+            "1 open /a RDWR,CREAT,EXCL",
+            "1 open /a RDWR,CREAT,EXCL
 1 open /a RDWR
 1 fstat 0
 1 close 0",
-            ),
-            None,
-            None,
         ],
     },
     Course {
@@ -150,20 +146,16 @@ static OPENS: [Course; 12] = [
 1 fstat 0
 1 ftruncate 0 0",
         told: None,
-        refused: [
-            Some(""),
-            Some("1 open /a RDWR,CREAT,EXCL"),
-            Some(
-                "1 open /a RDWR,CREAT,EXCL
+        refused: &[
+            "",
+            "1 open /a RDWR,CREAT,EXCL",
+            "1 open /a RDWR,CREAT,EXCL
 1 open /a RDWR
 1 close 0",
-            ),
-            Some(
-                "1 open /a RDWR,CREAT,EXCL
+            "1 open /a RDWR,CREAT,EXCL
 1 open /a RDWR
 1 fstat 0
 1 close 0",
-            ),
         ],
     },
     Course {
@@ -172,7 +164,7 @@ static OPENS: [Course; 12] = [
         whole: "1 open /a RDWR,CREAT,EXCL
 1 fstat 0",
         told: None,
-        refused: [Some(""), None, None, None],
+        refused: &[""],
     },
     Course {
         act: Act::CreateNew,
@@ -180,14 +172,10 @@ static OPENS: [Course; 12] = [
         whole: "1 open /a RDWR,CREAT,EXCL
 1 fstat 0",
         told: None,
-        refused: [
-            Some(""),
-            Some(
-                "1 open /a RDWR,CREAT,EXCL
+        refused: &[
+            "",
+            "1 open /a RDWR,CREAT,EXCL
 1 close 0",
-            ),
-            None,
-            None,
         ],
     },
     Course {
@@ -197,7 +185,7 @@ static OPENS: [Course; 12] = [
 1 close 0",
         whole: "1 open /a RDWR,CREAT,EXCL",
         told: None,
-        refused: [None, None, None, None],
+        refused: &[],
     },
     Course {
         act: Act::MakeFile,
@@ -206,14 +194,10 @@ static OPENS: [Course; 12] = [
 1 fstat 0
 1 close 0",
         told: None,
-        refused: [
-            Some(""),
-            Some(
-                "1 open /a RDWR,CREAT,EXCL
+        refused: &[
+            "",
+            "1 open /a RDWR,CREAT,EXCL
 1 fstat 0",
-            ),
-            None,
-            None,
         ],
     },
     Course {
@@ -223,17 +207,12 @@ static OPENS: [Course; 12] = [
 1 fstat 0
 1 close 0",
         told: None,
-        refused: [
-            Some(""),
-            Some(
-                "1 open /a RDWR,CREAT,EXCL
+        refused: &[
+            "",
+            "1 open /a RDWR,CREAT,EXCL
 1 close 0",
-            ),
-            Some(
-                "1 open /a RDWR,CREAT,EXCL
+            "1 open /a RDWR,CREAT,EXCL
 1 fstat 0",
-            ),
-            None,
         ],
     },
     Course {
@@ -245,15 +224,11 @@ static OPENS: [Course; 12] = [
 1 fstat 0
 1 ftruncate 0 0",
         told: None,
-        refused: [
-            Some(""),
-            Some(
-                "1 open /a RDWR
+        refused: &[
+            "",
+            "1 open /a RDWR
 1 fstat 0
 1 close 0",
-            ),
-            None,
-            None,
         ],
     },
     Course {
@@ -266,18 +241,13 @@ static OPENS: [Course; 12] = [
 1 fstat 0
 1 ftruncate 0 0",
         told: None,
-        refused: [
-            Some(""),
-            Some(
-                "1 open /a RDWR
+        refused: &[
+            "",
+            "1 open /a RDWR
 1 close 0",
-            ),
-            Some(
-                "1 open /a RDWR
+            "1 open /a RDWR
 1 fstat 0
 1 close 0",
-            ),
-            None,
         ],
     },
     Course {
@@ -294,7 +264,7 @@ static OPENS: [Course; 12] = [
             "1 open /b RDWR
 1 fstat 0",
         ),
-        refused: [Some(""), None, None, None],
+        refused: &[""],
     },
     Course {
         act: Act::OpenOther,
@@ -311,14 +281,10 @@ static OPENS: [Course; 12] = [
             "1 open /b RDWR
 1 fstat 0",
         ),
-        refused: [
-            Some(""),
-            Some(
-                "1 open /b RDWR
+        refused: &[
+            "",
+            "1 open /b RDWR
 1 close 0",
-            ),
-            None,
-            None,
         ],
     },
 ];

@@ -13,7 +13,7 @@ static NAMES: [Course; 16] = [
 1 link /a /b
 1 stat /b",
         told: None,
-        refused: [Some("1 stat /a"), None, None, None],
+        refused: &["1 stat /a"],
     },
     Course {
         act: Act::Link,
@@ -25,14 +25,11 @@ static NAMES: [Course; 16] = [
 1 link /a /b
 1 stat /b",
         told: None,
-        refused: [
-            Some(""),
-            Some("1 stat /a"),
-            Some(
-                "1 stat /a
+        refused: &[
+            "",
+            "1 stat /a",
+            "1 stat /a
 1 link /a /b",
-            ),
-            None,
         ],
     },
     Course {
@@ -41,7 +38,7 @@ static NAMES: [Course; 16] = [
 1 mkdir /a/b",
         whole: "1 list /a",
         told: None,
-        refused: [Some(""), None, None, None],
+        refused: &[""],
     },
     Course {
         act: Act::MakeDirectory,
@@ -49,7 +46,7 @@ static NAMES: [Course; 16] = [
         whole: "1 mkdir /a
 1 stat /a",
         told: None,
-        refused: [Some(""), None, None, None],
+        refused: &[""],
     },
     Course {
         act: Act::MakeDirectory,
@@ -57,7 +54,7 @@ static NAMES: [Course; 16] = [
         whole: "1 mkdir /a
 1 stat /a",
         told: None,
-        refused: [Some(""), Some("1 mkdir /a"), None, None],
+        refused: &["", "1 mkdir /a"],
     },
     Course {
         act: Act::Move,
@@ -66,7 +63,7 @@ static NAMES: [Course; 16] = [
 1 close 0",
         whole: "1 rename /a /b",
         told: None,
-        refused: [Some(""), None, None, None],
+        refused: &[""],
     },
     Course {
         act: Act::Move,
@@ -76,7 +73,7 @@ static NAMES: [Course; 16] = [
 1 begin",
         whole: "1 rename /a /b",
         told: None,
-        refused: [Some(""), None, None, None],
+        refused: &[""],
     },
     Course {
         act: Act::MoveIfAbsent,
@@ -86,7 +83,7 @@ static NAMES: [Course; 16] = [
         whole: "1 stat /b
 1 rename /a /b",
         told: None,
-        refused: [Some("1 stat /b"), None, None, None],
+        refused: &["1 stat /b"],
     },
     Course {
         act: Act::MoveIfAbsent,
@@ -97,7 +94,7 @@ static NAMES: [Course; 16] = [
         whole: "1 stat /b
 1 rename /a /b",
         told: None,
-        refused: [Some(""), Some("1 stat /b"), None, None],
+        refused: &["", "1 stat /b"],
     },
     Course {
         act: Act::MoveIfAbsent,
@@ -108,14 +105,14 @@ static NAMES: [Course; 16] = [
 1 close 0",
         whole: "1 stat /b",
         told: None,
-        refused: [None, None, None, None],
+        refused: &[],
     },
     Course {
         act: Act::RemoveDirectory,
         before: "1 mkdir /a",
         whole: "1 rmdir /a",
         told: None,
-        refused: [Some(""), None, None, None],
+        refused: &[""],
     },
     Course {
         act: Act::RemoveDirectory,
@@ -123,14 +120,14 @@ static NAMES: [Course; 16] = [
 1 begin",
         whole: "1 rmdir /a",
         told: None,
-        refused: [Some(""), None, None, None],
+        refused: &[""],
     },
     Course {
         act: Act::LookUp,
         before: "1 mkdir /a",
         whole: "1 stat /a",
         told: None,
-        refused: [None, None, None, None],
+        refused: &[],
     },
     Course {
         act: Act::LookUp,
@@ -138,7 +135,7 @@ static NAMES: [Course; 16] = [
 1 begin",
         whole: "1 stat /a",
         told: None,
-        refused: [Some(""), None, None, None],
+        refused: &[""],
     },
     Course {
         act: Act::Unlink,
@@ -147,7 +144,7 @@ static NAMES: [Course; 16] = [
 1 close 0",
         whole: "1 unlink /a",
         told: None,
-        refused: [Some(""), None, None, None],
+        refused: &[""],
     },
     Course {
         act: Act::Unlink,
@@ -157,7 +154,7 @@ static NAMES: [Course; 16] = [
 1 begin",
         whole: "1 unlink /a",
         told: None,
-        refused: [Some(""), None, None, None],
+        refused: &[""],
     },
 ];
 

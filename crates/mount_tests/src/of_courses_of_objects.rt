@@ -11,7 +11,7 @@ static OBJECTS: [Course; 9] = [
 1 close 0",
         whole: "1 stat /a",
         told: None,
-        refused: [None, None, None, None],
+        refused: &[],
     },
     Course {
         act: Act::FindOpen,
@@ -20,7 +20,7 @@ static OBJECTS: [Course; 9] = [
         whole: "1 stat /b
 1 fstat 0",
         told: None,
-        refused: [None, None, None, None],
+        refused: &[],
     },
     Course {
         act: Act::FindOpen,
@@ -32,7 +32,7 @@ static OBJECTS: [Course; 9] = [
         whole: "1 stat /b
 1 fstat 0",
         told: None,
-        refused: [Some(""), Some("1 stat /b"), None, None],
+        refused: &["", "1 stat /b"],
     },
     Course {
         act: Act::ListAt,
@@ -41,7 +41,7 @@ static OBJECTS: [Course; 9] = [
         whole: "1 stat /a
 1 list /a",
         told: None,
-        refused: [Some("1 stat /a"), None, None, None],
+        refused: &["1 stat /a"],
     },
     Course {
         act: Act::ListAt,
@@ -51,7 +51,7 @@ static OBJECTS: [Course; 9] = [
         whole: "1 stat /a
 1 list /a",
         told: None,
-        refused: [Some(""), Some("1 stat /a"), None, None],
+        refused: &["", "1 stat /a"],
     },
     Course {
         act: Act::Resize,
@@ -62,7 +62,7 @@ static OBJECTS: [Course; 9] = [
 1 truncate /a 3
 1 stat /a",
         told: None,
-        refused: [Some("1 stat /a"), None, None, None],
+        refused: &["1 stat /a"],
     },
     Course {
         act: Act::Resize,
@@ -74,14 +74,11 @@ static OBJECTS: [Course; 9] = [
 1 truncate /a 3
 1 stat /a",
         told: None,
-        refused: [
-            Some(""),
-            Some("1 stat /a"),
-            Some(
-                "1 stat /a
+        refused: &[
+            "",
+            "1 stat /a",
+            "1 stat /a
 1 truncate /a 3",
-            ),
-            None,
         ],
     },
     Course {
@@ -92,7 +89,7 @@ static OBJECTS: [Course; 9] = [
 1 stat /b
 1 fstat 0",
         told: None,
-        refused: [Some(""), None, None, None],
+        refused: &[""],
     },
     Course {
         act: Act::ResizeOpen,
@@ -105,14 +102,11 @@ static OBJECTS: [Course; 9] = [
 1 stat /b
 1 fstat 0",
         told: None,
-        refused: [
-            Some(""),
-            Some("1 ftruncate 0 3"),
-            Some(
-                "1 ftruncate 0 3
+        refused: &[
+            "",
+            "1 ftruncate 0 3",
+            "1 ftruncate 0 3
 1 stat /b",
-            ),
-            None,
         ],
     },
 ];
@@ -123,7 +117,7 @@ static PROCESSES: [Course; 8] = [
         before: "",
         whole: "1 begin",
         told: None,
-        refused: [None, None, None, None],
+        refused: &[],
     },
     Course {
         act: Act::End,
@@ -131,7 +125,7 @@ static PROCESSES: [Course; 8] = [
 1 mkdir /a",
         whole: "1 end",
         told: None,
-        refused: [None, None, None, None],
+        refused: &[],
     },
     Course {
         act: Act::End,
@@ -145,7 +139,7 @@ static PROCESSES: [Course; 8] = [
 2 pwrite 0 y 0",
         whole: "1 end",
         told: None,
-        refused: [None, None, None, None],
+        refused: &[],
     },
     Course {
         act: Act::Fork,
@@ -153,7 +147,7 @@ static PROCESSES: [Course; 8] = [
 1 write 0 first",
         whole: "1 fork",
         told: None,
-        refused: [Some(""), None, None, None],
+        refused: &[""],
     },
     Course {
         act: Act::GiveUp,
@@ -161,14 +155,14 @@ static PROCESSES: [Course; 8] = [
 1 mkdir /a",
         whole: "1 abort no_restart",
         told: None,
-        refused: [None, None, None, None],
+        refused: &[],
     },
     Course {
         act: Act::LookNowhere,
         before: "1 begin",
         whole: "1 fstat 64",
         told: None,
-        refused: [None, None, None, None],
+        refused: &[],
     },
     Course {
         act: Act::LookNowhere,
@@ -182,7 +176,7 @@ static PROCESSES: [Course; 8] = [
 2 pwrite 0 y 0",
         whole: "1 fstat 64",
         told: None,
-        refused: [None, None, None, None],
+        refused: &[],
     },
     Course {
         act: Act::Append,
@@ -196,7 +190,7 @@ static PROCESSES: [Course; 8] = [
 2 pwrite 0 y 0",
         whole: "1 fstat 0",
         told: None,
-        refused: [None, None, None, None],
+        refused: &[],
     },
 ];
 

@@ -10,7 +10,7 @@ use ids::Limits;
 use kernel::Kernel;
 use machine::Machine;
 use mounted::Server;
-use session::{Buffers, Channel, Ending, Service, Silence, run};
+use session::{Channel, Ending, Room, Service, Silence, serve_in};
 use std::process::Abort;
 
 // More requests for memory than the session makes.
@@ -132,12 +132,12 @@ fn serve<K: Machine>(
     rt: &impl Abort,
     heap: Heap,
     tree: &mut Tree<K>,
-    buffers: &mut Buffers,
+    room: &mut Room,
     request: u64,
 ) -> u64 {
     let mut wire = new_wire(rt, heap);
     heap.refuse(request);
-    let ending = run(heap, tree, &mut wire, buffers);
+    let ending = serve_in(tree, &mut wire, room);
     let made = heap.made();
     heap.refuse(0);
     assert!(rt; is_answered_whole(&wire), "request {request}");
@@ -145,16 +145,16 @@ fn serve<K: Machine>(
     made
 }
 
-fn serve_anew<K: Machine>(rt: &impl Abort, heap: Heap, buffers: &mut Buffers, request: u64) -> u64 {
+fn serve_anew<K: Machine>(rt: &impl Abort, heap: Heap, room: &mut Room, request: u64) -> u64 {
     let mut tree: Tree<K> = new_tree(rt, heap);
-    serve(rt, heap, &mut tree, buffers, request)
+    serve(rt, heap, &mut tree, room, request)
 }
 
 // Refuses each request for memory in turn, and tells how many there are.
 fn refuse_each<K: Machine>(rt: &impl Abort, heap: Heap) -> u64 {
-    let mut buffers = Buffers::new(heap).expect(rt, "memory");
+    let mut room = Room::new(heap).expect(rt, "memory");
     for request in 1..MOST {
-        if serve_anew::<K>(rt, heap, &mut buffers, request) < request {
+        if serve_anew::<K>(rt, heap, &mut room, request) < request {
             return request.wrapping_sub(1);
         }
     }

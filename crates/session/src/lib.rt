@@ -7,6 +7,7 @@
 mod buffers;
 mod channel;
 mod ending;
+mod room;
 mod service;
 mod serving;
 mod streams;
@@ -15,6 +16,7 @@ mod turns;
 pub use buffers::Buffers;
 pub use channel::{Channel, Silence};
 pub use ending::Ending;
+pub use room::{Room, Turns, serve_in};
 pub use service::Service;
 pub use streams::Streams;
 pub use turns::run;

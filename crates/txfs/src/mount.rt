@@ -9,7 +9,7 @@ use heap::Heap;
 use ids::Limits;
 use machine::Machine;
 use mounted::Server;
-use session::{Buffers, Channel, Ending, Service, run};
+use session::{Channel, Ending, Room, Service, serve_in};
 use std::alloc::AllocError;
 use std::marker::Model;
 
@@ -55,6 +55,6 @@ pub(crate) fn serve<K: Machine, C: Channel>(
 {
     let server = Server::new(heap, limits)?;
     let mut mount: Mount<K> = Mount { server };
-    let mut buffers = Buffers::new(heap)?;
-    Ok(run(heap, &mut mount, channel, &mut buffers))
+    let mut room = Room::new(heap)?;
+    Ok(serve_in(&mut mount, channel, &mut room))
 }
