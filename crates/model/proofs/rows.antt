@@ -1,5 +1,6 @@
 mod Files
 mod Directories
 mod Pipes
+mod Fixed
 mod Touches
 mod Transactions

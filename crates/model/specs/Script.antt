@@ -1,7 +1,8 @@
 -- Operations in a row on a fresh kernel, to check worked rows by. All of it computes.
 use Rattle.std.specs.Prelude.{ℕ, List, [], ◌∷◌, Result, ⊤}
 use Rattle.model.specs.FiniteMap.{computes}
-use Rattle.model.specs.State.{Kernel, A_file, A_directory, A_pipe, links, ends}
+use Rattle.model.specs.State.{Kernel, A_file, A_directory, A_pipe, A_link, A_fifo, A_socket, links}
+use Rattle.model.specs.State.{ends}
 use Rattle.model.specs.Plan.{Errno}
 use Rattle.model.specs.Changes.{all_applied, applied, tidy, holders, openings}
 use Rattle.model.specs.Calls.{OpenFlags, Call, Answer, Stated}
@@ -59,7 +60,8 @@ wronly_creat = flags 6
 abbrev pub rdwr_creat : OpenFlags
 rdwr_creat = flags 7
 
--- what `stat` tells of a file, a directory and a pipe
+-- what `stat` tells of a file, a directory and a pipe, and `lstat` of a symbolic link, a FIFO and a
+-- socket
 abbrev pub a_file : ℕ → ℕ → ℕ → Answer
 a_file n size links = Stated (record { kind = A_file; num = n; size = size; links = links })
 
@@ -68,3 +70,12 @@ a_directory n = Stated (record { kind = A_directory; num = n; size = 0; links = 
 
 abbrev pub a_pipe : ℕ → Answer
 a_pipe n = Stated (record { kind = A_pipe; num = n; size = 0; links = 0 })
+
+abbrev pub a_link : ℕ → ℕ → ℕ → Answer
+a_link n size links = Stated (record { kind = A_link; num = n; size = size; links = links })
+
+abbrev pub a_fifo : ℕ → ℕ → Answer
+a_fifo n links = Stated (record { kind = A_fifo; num = n; size = 0; links = links })
+
+abbrev pub a_socket : ℕ → ℕ → Answer
+a_socket n links = Stated (record { kind = A_socket; num = n; size = 0; links = links })
