@@ -15,14 +15,12 @@ ghost use Rattle.calls.specs.Parts.{some_to_file};
 ghost use Rattle.look.specs.Asked.{Comes, Tells, TellsIn};
 ghost use Rattle.look.specs.Shown.{own_in};
 
-use crate::asking::{ends, fit, offset, read_file, read_pipe, size};
-use crate::change::{Change, Edits, changed, changed_by, unchanged};
+use crate::asking::{ends, fit, offset, read_file, read_pipe};
 use crate::checks::{
     must_be_below, must_be_new, must_create_to_exclude, must_fit, must_not_be_pipe,
     must_read_or_write, must_write_to_truncate, refusal_of_root,
 };
 use crate::own::{free_from, is_pipe, slot};
-use crate::steps::{must_not_be_directory, parsed, refuse_if};
 use heap::Heap;
 use ids::{
     Answer, Bytes, Edit, Errno, Fd, Kind, MOST_MOVED, Mode, Num, OpenFlags, Pid, Refusal, Slot,
@@ -30,8 +28,12 @@ use ids::{
 };
 use look::Look;
 use path::Path;
+use path_calls::{
+    Change, Edits, changed, changed_by, cut_to, must_not_be_directory, must_not_be_special, parsed,
+    refuse_if, size, unchanged,
+};
 use std::alloc::AllocError;
-use walk::{Last, Reads, walk_to_last};
+use walk::{Last, Reads, must_not_be_link, walk_to_last};
 
 pub(crate) fn open<L: Look>(
     look: &L,
@@ -109,6 +111,8 @@ fn opened_old<L: Look>(
 {
     must_be_new(flags)?;
     must_not_be_directory(&place, Errno::EISDIR)?;
+    must_not_be_link(&place)?;
+    must_not_be_special(&place, Errno::ENXIO)?;
     let cut = cut_if(look, flags, place.0, reads)?;
     let edits = cut.with(Edit::OpenInode {
         index: 0,
@@ -146,24 +150,6 @@ fn cut_if<L: Look>(
     } else {
         Ok(Edits::new(reads.heap()))
     }
-}
-
-// A file's new length.
-pub(crate) fn cut_to<L: Look>(
-    look: &L,
-    file: Num,
-    length: u32,
-    reads: &mut Reads,
-) -> Result<Edits, Refusal>
-    ensures { Comes (L.state look.now) (cut_to file length) reads.old result reads.new }
-{
-    let size = size(look, file, reads)?;
-    let edits = Edits::new(reads.heap()).with(Edit::Cut {
-        file,
-        length_before: size,
-        length,
-    })?;
-    Ok(edits)
 }
 
 pub(crate) fn ftruncate<L: Look>(

@@ -52,6 +52,8 @@ fn part_of(aspect: &Aspect, write: bool) -> u8
         (Aspect::Front(_), false) => 15,
         (Aspect::Back(_), true) => 16,
         (Aspect::Back(_), false) => 17,
+        (Aspect::Target(_), true) => 18,
+        (Aspect::Target(_), false) => 19,
     }
 }
 
