@@ -329,6 +329,15 @@ impl PlainKernel {
                 let inode = Inode::file(FileData::new(heap));
                 self.make(heap, *parent, name, made(chosen, *index as usize), inode)
             }
+            Edit::MakeFixed {
+                parent,
+                name,
+                fixed,
+                index,
+            } => {
+                let inode = Inode::fixed(fixed.try_clone()?);
+                self.make(heap, *parent, name, made(chosen, *index as usize), inode)
+            }
             Edit::NameFile { parent, name, file } => self.set_name(heap, *parent, name, *file),
             Edit::UnnameFile { parent, name, .. } => self.clear_name(heap, *parent, name),
             Edit::UnnameDirectory { parent, name, .. } => self.clear_name(heap, *parent, name),

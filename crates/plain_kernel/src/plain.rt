@@ -11,7 +11,7 @@ ghost use Rattle.plain_kernel.specs.Counts.{given_by};
 
 use crate::descriptions::Descriptions;
 use crate::holders::Holders;
-use crate::inode::{given_in, is_empty_in, kind_in, names_in, pipe_in, read_in, size_in};
+use crate::inode::{given_in, is_empty_in, kind_in, names_in, pipe_in, read_in, size_in, target_in};
 use crate::inodes::Inodes;
 use crate::table::Table;
 use crate::tree::Tree;
@@ -285,6 +285,10 @@ impl Look for PlainKernel {
     fn fit(&self, pipe: Num, count: usize) -> Result<u32, AllocError> {
         let room = PIPE_CAPACITY.saturating_sub(pipe_in(self.inodes.get(pipe)).len());
         Ok(count.min(room) as u32)
+    }
+
+    fn target(&self, heap: Heap, link: Num) -> Result<Bytes, AllocError> {
+        Bytes::copy(heap, target_in(self.inodes.get(link)))
     }
 
     fn slot(&self, pid: Pid, fd: Fd) -> Option<Slot> {

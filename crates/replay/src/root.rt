@@ -1,4 +1,4 @@
-// The number of the root, which a history tells by a `stat` of it alone.
+// The number of the root, which a history tells by a `stat` or an `lstat` of it alone.
 ghost use Rattle.std.specs.Prelude.{◌≡◌, ◌≢◌, ◌∷◌, ℕ, List, [], All, IfOk, Some};
 ghost use Rattle.std.specs.List.{AllByRecursion};
 ghost use Rattle.std.specs.List.Sorted.{IsNonDecreasing};
@@ -49,13 +49,13 @@ fn first_missing(rising: &[usize]) -> usize
     missing
 }
 
-// What an entry tells of the root's number, if it is an executed `stat` of it.
+// What an entry tells of the root's number, if it is an executed `stat` or `lstat` of it.
 pub(crate) fn told_root(entries: &[Entry], position: usize) -> Option<Num>
     ensures { (root : ℕ) → TellsAt root entries.now position → result ≡ Some root }
 {
     let entry = entries.get(position)?;
     match (&entry.op, &entry.reply) {
-        (Op::Call(Call::Stat(path)), Reply::Answer(Answer::Stat(stat)))
+        (Op::Call(Call::Stat(path) | Call::Lstat(path)), Reply::Answer(Answer::Stat(stat)))
             if path.as_slice() == b"/".as_slice() => { Some(stat.num) }
         _ => None,
     }
