@@ -124,12 +124,7 @@ impl PlainKernel {
     }
 
     /// The edits of a call, each with what it lets go freed.
-    pub fn edit_all(
-        &mut self,
-        heap: Heap,
-        edits: &[Edit],
-        chosen: &[Num],
-    ) -> Result<(), AllocError>
+    pub fn edit_all(&mut self, heap: Heap, edits: &[Edit], chosen: &[Num]) -> Result<(), AllocError>
         requires { AllByRecursion EndsWithin edits.now }
         ensures { OnOk result (self.new ≡ all_freed chosen.now edits.now self.old) }
     {

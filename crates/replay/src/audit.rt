@@ -1,14 +1,13 @@
 // A run of a history's committed calls on a plain kernel.
-ghost use Rattle.std.specs.Prelude.{◌≡◌, ◌<◌, ◌+◌, ◌^◌, ◌==◌, ℕ, List, [], length};
+ghost use Rattle.std.specs.Prelude.{◌≡◌, ◌<◌, ◌+◌, ◌==◌, ℕ, List, length};
 ghost use Rattle.std.specs.Prelude.{IfOk, MatchBool, MatchOption, MatchResult, OnOk, true, false};
 ghost use Rattle.std.specs.Prelude.{if◌then◌else◌, get_or, option_copied};
 ghost use Rattle.std.specs.List.{AllByRecursion};
-ghost use Rattle.model.specs.FiniteMap.{empty, get, insert};
-ghost use Rattle.model.specs.State.{Directory as A_directory};
+ghost use Rattle.model.specs.FiniteMap.{empty, get};
 ghost use Rattle.calls.specs.Planned.{IsPlan};
 ghost use Rattle.model.specs.Calls.{Call as Made};
 ghost use Rattle.model.specs.Entries.{Do, Entry as Listed};
-ghost use Rattle.model.specs.Moments.{Setup, is_in, start, with_processes};
+ghost use Rattle.model.specs.Moments.{Setup, is_in, start};
 ghost use Rattle.freeing_laws.specs.Sweep.{IsTidied};
 ghost use Rattle.model.specs.Passing.{Passes};
 ghost use Rattle.plain_kernel.specs.Edits.{EndsWithin};
@@ -104,7 +103,12 @@ fn step_by(
 }
 
 // The call of an entry, if it was executed, as one of this process.
-fn run_entry(kernel: &mut PlainKernel, heap: Heap, pid: Pid, entry: &Entry) -> Result<bool, AllocError>
+fn run_entry(
+    kernel: &mut PlainKernel,
+    heap: Heap,
+    pid: Pid,
+    entry: &Entry,
+) -> Result<bool, AllocError>
     requires { IsTidied kernel.old }
     ensures { IfOk result (λ right. MatchBool right
         (Ran kernel.old pid (call_of entry.now) kernel.new)
@@ -115,7 +119,14 @@ fn run_entry(kernel: &mut PlainKernel, heap: Heap, pid: Pid, entry: &Entry) -> R
             if !is_executed(&entry.reply) {
                 return Ok(true);
             }
-            step(kernel, heap, pid, call, &entry.reply, entry.chosen.as_slice())
+            step(
+                kernel,
+                heap,
+                pid,
+                call,
+                &entry.reply,
+                entry.chosen.as_slice(),
+            )
         }
         Op::Begin(_) => Ok(true),
         Op::End => Ok(true),
