@@ -43,9 +43,9 @@ pub use Rattle.call_laws.proofs.Tidying.{either_of, get_tidy, held_by, named_in,
 pub use Rattle.call_laws.proofs.Trees.{directories_are_a_tree_lem}
 pub use Rattle.call_laws.proofs.calls.ContentsFit.{put_at, write_pipe}
 pub use Rattle.call_laws.proofs.calls.Rules.{after_bind, allowed, either_given, weaken, whatever}
-pub use Rattle.call_laws.proofs.edits.Contents.{HasBytes, has_bytes, no_names_file, no_names_pipe}
+pub use Rattle.call_laws.proofs.edits.Contents.{HasBytes, has_bytes, no_names_file, no_names_pipe, no_target_file, no_target_pipe}
 pub use Rattle.call_laws.proofs.edits.Ends.{end_count, ends-open_at, ends-set_process, ends-without_process, held, held-alike, held-insert, held-remove, without_process}
-pub use Rattle.call_laws.proofs.edits.InodeMarks.{keeps_on, keeps_self, not_counted, other_old, still_gives}
+pub use Rattle.call_laws.proofs.edits.InodeMarks.{keeps_on, keeps_self, linked_is_other, linked_named, not_counted, other_old, some_linked, still_gives}
 pub use Rattle.call_laws.proofs.edits.Names.{counted, has_names, links_named, links_unnamed, one}
 pub use Rattle.call_laws.proofs.edits.NamesAlike.{IsNew, is_new, kept_kind}
 pub use Rattle.call_laws.proofs.edits.NamesWell.{none_count, same_links}

@@ -197,12 +197,12 @@ EditMarks chosen k e =
     Fits chosen k e → (a : Aspect) → IsThere k a → AllByRecursion (λ w. LeavesAlone w a) (marks e)
     → Keeps k (applied chosen e k) a
 
--- what an edit gives one more name is such a number
+-- an edit gives one more name to such a number alone
 abbrev pub LinksOnly : (ℕ → Type 0) → Edit → Type 0
 LinksOnly P (Name_file d x n) = P n
 LinksOnly P _ = ⊤
 
--- the same of edits in a row, of which the first alone may give one
+-- edits in a row, of which the first alone gives one more name
 abbrev pub LinksFirst : (ℕ → Type 0) → List Edit → Type 0
 LinksFirst P [] = ⊤
 LinksFirst P (e ∷ es) = LinksOnly P e × AllByRecursion (LinksOnly (λ n. ⊥)) es
