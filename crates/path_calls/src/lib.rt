@@ -10,12 +10,12 @@ mod asking;
 mod change;
 mod fixed;
 mod paths;
-mod status;
+mod stats;
 mod steps;
 
 pub use asking::size;
 pub use change::{Change, Edits, changed, changed_by, unchanged};
 pub use fixed::{mknod, readlink, symlink};
 pub use paths::{cut_to, link, list, mkdir, rename, rmdir, truncate, unlink};
-pub use status::{lstat, stat, status};
+pub use stats::{lstat, stat, status};
 pub use steps::{must_not_be_directory, must_not_be_special, parsed, refuse_if};
