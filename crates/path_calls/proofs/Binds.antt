@@ -52,8 +52,14 @@ three_then false false c g = refl
 pub tested_then : {B : Type 0} (target : List ℕ) (g : Plan B) → (refuse_if (is_empty target) ENOENT >> (refuse_if (nat_lt target_limit (length target)) ENAMETOOLONG >> (refuse_if (list_any (λ b. b == 0) target) EINVAL >> g))) ≡ (target_tested target >> g)
 tested_then target g = three_then (is_empty target) (nat_lt target_limit (length target)) (list_any (λ b. b == 0) target) g
 
--- what a symbolic link is like, by its target's length
-pub link_by : (n : ℕ) → status (n, Some A_link) ≡ (target_length n >>= (λ size. ask (Count_links n) >>= (λ links. unchanged (Stated (record { kind = A_link; num = n; size = size; links = links })))))
+-- what a symbolic link is like, by its target's length and by how many names it has
+abbrev pub link_with : ℕ → ℕ → ℕ → Plan Change
+link_with n size links = unchanged (Stated (record { kind = A_link; num = n; size = size; links = links }))
+
+abbrev pub link_of : ℕ → ℕ → Plan Change
+link_of n size = ask (Count_links n) >>= link_with n size
+
+pub link_by : (n : ℕ) → status (n, Some A_link) ≡ (target_length n >>= link_of n)
 link_by n = refl
 
 two_then : {A B : Type 0} (a b : Bool) (m : Plan A) (g : A → Plan B) → (refuse_if a EISDIR >> (refuse_if b ENOTDIR >> (m >>= g))) ≡ ((refuse_if a EISDIR >> (refuse_if b ENOTDIR >> m)) >>= g)

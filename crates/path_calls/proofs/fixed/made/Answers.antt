@@ -1,4 +1,3 @@
-use Rattle.std.proofs.Common.{[], ◌∷◌, ap}
 use Rattle.model.specs.Plan.{EEXIST}
 use Rattle.walk.proofs.Laws.{goes, stops}
 use Rattle.path_calls.proofs.Binds.{last_go, last_stop}
