@@ -50,6 +50,10 @@ enum Op {
     Truncate(Vec<u8>, usize),
     Rename(Vec<u8>, Vec<u8>),
     Unlink(Vec<u8>),
+    Symlink(Vec<u8>, Vec<u8>),
+    Readlink(Vec<u8>),
+    Lstat(Vec<u8>),
+    Mknod(Vec<u8>),
     Pipe,
     Fork,
     Exit,
@@ -84,6 +88,8 @@ enum Inode {
     Directory(Names),
     File { bytes: Vec<u8>, links: usize, openings: usize },
     Pipe { bytes: VecDeque<u8>, readers: usize, writers: usize },
+    /// A symbolic link with its target, or a FIFO without one.
+    Fixed { target: Option<Vec<u8>>, links: usize },
     Gone,
 }
 
@@ -179,6 +185,10 @@ impl Kernel {
             Op::Truncate(path, length) => self.truncate(path, *length),
             Op::Rename(old, new) => self.rename(old, new),
             Op::Unlink(path) => self.unlink(path),
+            Op::Symlink(target, path) => self.symlink(target, path),
+            Op::Readlink(path) => self.readlink(path),
+            Op::Lstat(path) => self.lstat(path),
+            Op::Mknod(path) => self.mknod(path),
             Op::Pipe => self.pipe(process),
             Op::Fork => self.fork(process),
             Op::Exit => self.exit(process),
@@ -270,6 +280,38 @@ impl Kernel {
             _ => (0, 1),
         };
         Ok(Reply::Stat { number, size, links })
+    }
+
+    /// A walk goes on by no symbolic link, so this is `stat` where it does not end at one.
+    fn lstat(&self, path: &[u8]) -> Answer {
+        let number = self.find(path)?;
+        match &self.inodes[number] {
+            Inode::Fixed { target, links } => {
+                let size = target.as_ref().map_or(0, Vec::len);
+                Ok(Reply::Stat { number, size, links: *links })
+            }
+            _ => self.stat(path),
+        }
+    }
+
+    fn symlink(&mut self, target: &[u8], path: &[u8]) -> Answer {
+        let (directory, name) = self.parent(path)?;
+        let target = Some(target.to_vec());
+        self.create(directory, name, Inode::Fixed { target, links: 1 })?;
+        Ok(Reply::Done)
+    }
+
+    fn readlink(&self, path: &[u8]) -> Answer {
+        match &self.inodes[self.find(path)?] {
+            Inode::Fixed { target: Some(target), .. } => Ok(Reply::Bytes(target.clone())),
+            _ => Err(Errno::Invalid),
+        }
+    }
+
+    fn mknod(&mut self, path: &[u8]) -> Answer {
+        let (directory, name) = self.parent(path)?;
+        self.create(directory, name, Inode::Fixed { target: None, links: 1 })?;
+        Ok(Reply::Done)
     }
 
     fn rmdir(&mut self, path: &[u8]) -> Answer {
@@ -457,18 +499,31 @@ impl Kernel {
 
     /// One name less gives the file.
     fn drop_link(&mut self, number: usize) {
-        if let Inode::File { links, openings, .. } = &mut self.inodes[number] {
-            *links -= 1;
-            if *links + *openings == 0 {
-                self.remove_inode(number);
+        let left = match &mut self.inodes[number] {
+            Inode::File { links, openings, .. } => {
+                *links -= 1;
+                *links + *openings
             }
+            Inode::Fixed { links, .. } => {
+                *links -= 1;
+                *links
+            }
+            _ => return,
+        };
+        if left == 0 {
+            self.remove_inode(number);
         }
+    }
+
+    /// Whether names can be taken from it one by one: it is no directory.
+    fn has_links(&self, number: usize) -> bool {
+        matches!(&self.inodes[number], Inode::File { .. } | Inode::Fixed { .. })
     }
 
     fn unlink(&mut self, path: &[u8]) -> Answer {
         let (directory, name) = self.parent(path)?;
         let number = self.look(directory, name)?;
-        if !matches!(&self.inodes[number], Inode::File { .. }) {
+        if !self.has_links(number) {
             return Err(Errno::IsDirectory);
         }
         self.names_mut(directory)?.remove(name);
@@ -481,15 +536,13 @@ impl Kernel {
         let (from, old_name) = self.parent(old)?;
         let (to, new_name) = self.parent(new)?;
         let moved = self.look(from, old_name)?;
-        let is_file = matches!(&self.inodes[moved], Inode::File { .. });
+        let is_file = self.has_links(moved);
         if !is_file && new.starts_with(old) && new.get(old.len()) == Some(&b'/') {
             return Err(Errno::Invalid);
         }
         let replaced = self.names(to)?.get(new_name).copied();
-        match replaced.map(|number| &self.inodes[number]) {
-            None => {}
-            Some(Inode::File { .. }) if is_file => {}
-            Some(_) => return Err(Errno::Exists),
+        if replaced.is_some_and(|number| !is_file || !self.has_links(number)) {
+            return Err(Errno::Exists);
         }
         if replaced == Some(moved) {
             return Ok(Reply::Done);
@@ -539,6 +592,8 @@ impl Kernel {
 }
 
 const DEEP: &[u8] = b"/p/p/p/p/p/p/p/p";
+
+const TARGET: &[u8] = b"../some/where";
 
 /// The number of the i-th new name: as in crates/bench/src/paths.rt.
 fn scattered(i: u64) -> u64 {
@@ -658,6 +713,28 @@ fn print_opened(kernel: &mut Kernel) {
     step(kernel, 1, Op::Unlink(b"/o".to_vec()));
 }
 
+/// The rows of symbolic links and of FIFOs.
+fn print_fixed(kernel: &mut Kernel) {
+    new_names(kernel, "symlink of 1000 names", 1000, |kernel, number| {
+        step(kernel, 1, Op::Symlink(TARGET.to_vec(), path(b'l', number)));
+    });
+    old_names(kernel, "readlink", 1000, |kernel, number| {
+        step(kernel, 1, Op::Readlink(path(b'l', number)));
+    });
+    old_names(kernel, "lstat of a symbolic link", 1000, |kernel, number| {
+        step(kernel, 1, Op::Lstat(path(b'l', number)));
+    });
+    old_names(kernel, "unlink of a symbolic link", 1000, |kernel, number| {
+        step(kernel, 1, Op::Unlink(path(b'l', number)));
+    });
+    new_names(kernel, "mknod of 1000 FIFOs", 1000, |kernel, number| {
+        step(kernel, 1, Op::Mknod(path(b'l', number)));
+    });
+    old_names(kernel, "unlink of a FIFO", 1000, |kernel, number| {
+        step(kernel, 1, Op::Unlink(path(b'l', number)));
+    });
+}
+
 fn print_small() {
     let kernel = &mut prepared();
     for _ in 0..8 {
@@ -685,6 +762,7 @@ fn print_small() {
         old_names(kernel, "unlink", 1000, |kernel, number| {
             step(kernel, 1, Op::Unlink(path(b'g', number)));
         });
+        print_fixed(kernel);
         old_names(kernel, "pipe, write and read 64 bytes", 1000, |kernel, _| pass(kernel));
         old_names(kernel, "fork and exit", 400, |kernel, _| fork(kernel));
         print_opened(kernel);

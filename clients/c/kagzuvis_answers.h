@@ -12,7 +12,7 @@ enum form { DONE, NUMBER, BYTES, STAT, NAMES, PAIR, CHILD, BEGUN, COMMITTED, GIV
 
 enum operation {
     OPEN, CLOSE, READ, PREAD, WRITE, PWRITE, LSEEK, FTRUNCATE, TRUNCATE, STAT_PATH, FSTAT, LINK, UNLINK, RENAME, MKDIR, RMDIR,
-    LIST, DUP, DUP2, PIPE, FORK, EXIT, BEGIN, END, ABORT
+    LIST, SYMLINK, READLINK, LSTAT, MKNOD, DUP, DUP2, PIPE, FORK, EXIT, BEGIN, END, ABORT
 };
 
 /* The word of each operation, how many words stand behind it (a begin and an abort may have one), and its answer. */
@@ -24,18 +24,19 @@ static const struct {
     {"open", 2, NUMBER}, {"close", 1, DONE}, {"read", 2, BYTES}, {"pread", 3, BYTES}, {"write", 2, NUMBER},
     {"pwrite", 3, NUMBER}, {"lseek", 3, NUMBER}, {"ftruncate", 2, DONE}, {"truncate", 2, DONE}, {"stat", 1, STAT},
     {"fstat", 1, STAT}, {"link", 2, DONE}, {"unlink", 1, DONE}, {"rename", 2, DONE}, {"mkdir", 1, DONE}, {"rmdir", 1, DONE},
-    {"list", 1, NAMES}, {"dup", 1, NUMBER}, {"dup2", 2, NUMBER}, {"pipe", 0, PAIR}, {"fork", 0, CHILD}, {"exit", 0, DONE},
-    {"begin", 0, BEGUN}, {"end", 0, COMMITTED}, {"abort", 0, GIVEN_UP},
+    {"list", 1, NAMES}, {"symlink", 2, DONE}, {"readlink", 1, BYTES}, {"lstat", 1, STAT}, {"mknod", 2, DONE}, {"dup", 1, NUMBER},
+    {"dup2", 2, NUMBER}, {"pipe", 0, PAIR}, {"fork", 0, CHILD}, {"exit", 0, DONE}, {"begin", 0, BEGUN}, {"end", 0, COMMITTED},
+    {"abort", 0, GIVEN_UP},
 };
 
 static const char *const error_names[] = {
-    "OK", "EAGAIN", "EBADF", "EBUSY", "EEXIST", "EFBIG", "EINVAL", "EISDIR", "EMFILE", "ENAMETOOLONG", "ENOENT", "ENOTDIR",
-    "ENOTEMPTY", "ENOTSUP", "EPERM", "EPIPE", "ESPIPE", "InTransaction", "NotInTransaction", "HistoryFull", "NoMemory",
-    "NoProcess", "Busy", "Aborted", "BadLine", "BadAnswer", "StreamEnded", "Misused", "System",
+    "OK", "EAGAIN", "EBADF", "EBUSY", "EEXIST", "EFBIG", "EINVAL", "EISDIR", "ELOOP", "EMFILE", "ENAMETOOLONG", "ENOENT",
+    "ENOTDIR", "ENOTEMPTY", "ENOTSUP", "ENXIO", "EPERM", "EPIPE", "ESPIPE", "InTransaction", "NotInTransaction", "HistoryFull",
+    "NoMemory", "NoProcess", "Busy", "Aborted", "BadLine", "BadAnswer", "StreamEnded", "Misused", "System",
 };
 
-static const char *const aspect_names[] = {"entry", "names", "size", "block", "links", "ends", "offset", "front", "back"};
-static const char *const kind_names[] = {"file", "dir", "pipe"};
+static const char *const aspect_names[] = {"entry", "names", "size", "block", "links", "ends", "offset", "front", "back", "target"};
+static const char *const kind_names[] = {"file", "dir", "pipe", "link", "fifo", "socket"};
 
 #define COUNT(table) (sizeof(table) / sizeof *(table))
 

@@ -127,6 +127,28 @@ static void test_calls_of_names(void)
     stop(kernel, 0);
 }
 
+static void test_links_fifos_and_sockets(void)
+{
+    kagzuvis *kernel = start("0");
+    struct kagzuvis_stat stat;
+    char target[8];
+
+    CHECK(kagzuvis_symlink(kernel, 1, "../a\xff ", "/l") == 0);
+    CHECK(kagzuvis_readlink(kernel, 1, "/l", target, sizeof target) == 6 && memcmp(target, "../a\xff ", 6) == 0);
+    CHECK(kagzuvis_readlink(kernel, 1, "/l", target, 2) == 2 && kagzuvis_last(kernel)->length == 6);
+    CHECK(kagzuvis_lstat(kernel, 1, "/l", &stat) == 0);
+    CHECK(stat.kind == KAGZUVIS_LINK && stat.size == 6 && stat.links == 1);
+    CHECK(kagzuvis_mknod(kernel, 1, "/f", KAGZUVIS_FIFO) == 0 && kagzuvis_mknod(kernel, 1, "/s", KAGZUVIS_SOCKET) == 0);
+    CHECK(kagzuvis_stat(kernel, 1, "/f", &stat) == 0 && stat.kind == KAGZUVIS_FIFO && stat.links == 1);
+    CHECK(kagzuvis_lstat(kernel, 1, "/s", &stat) == 0 && stat.kind == KAGZUVIS_SOCKET);
+    FAILS(kernel, "ELOOP", kagzuvis_stat(kernel, 1, "/l", &stat));
+    FAILS(kernel, "ENXIO", kagzuvis_open(kernel, 1, "/f", KAGZUVIS_RDONLY));
+    FAILS(kernel, "EINVAL", kagzuvis_readlink(kernel, 1, "/f", target, sizeof target));
+    FAILS(kernel, "ENOENT", kagzuvis_symlink(kernel, 1, "", "/k"));
+    FAILS(kernel, "Misused", kagzuvis_mknod(kernel, 1, "/k", KAGZUVIS_PIPE));
+    stop(kernel, 0);
+}
+
 static void test_pipes_and_processes(void)
 {
     kagzuvis *kernel = start("0");
@@ -420,7 +442,8 @@ static const char *const hostile[] = {
     "1 P1 mkdir /a /b -> ok", "1 P1 mkdir  -> ok", "1 1 mkdir /a -> ok", "x P1 mkdir /a -> ok", "1 P1 frob /a -> ok", "1 P1 read 0 9 -> 2 a",
     "1 P1 read 0 9 -> 1", "1 P1 read 0 9 -> 1 \\", "1 P1 read 0 9 -> 1 \\x4", "1 P1 read 0 9 -> 1 \\xAA",
     "1 P1 open /a RDONLY -> -1", "1 P1 open /a RDONLY -> 4294967296", "1 P1 stat /a -> file size 1 links",
-    "1 P1 stat /a -> link size 1 links 1", "1 P1 list / -> names 2 a", "1 P1 list / -> names 4294967295 a",
+    "1 P1 stat /a -> door size 1 links 1", "1 P1 readlink /a -> ok", "1 P1 symlink a -> ok", "1 P1 list / -> names 2 a",
+    "1 P1 list / -> names 4294967295 a",
     "1 P1 list / -> names 99999999999999999999 a", "1 P1 list / -> names 1 a b", "1 P1 list / -> names 1 \\x00",
     "1 P1 pipe -> 0", "1 P1 begin RESTART RESTART -> begun", "1 P1 end -> aborted", "1 P1 end -> aborted entry",
     "1 P1 end -> aborted entry a read by 2", "1 P1 end -> aborted block a read by P2", "1 P1 end -> busy names seen by P2",
@@ -487,6 +510,7 @@ int main(int argc, char **argv)
     program = argv[1];
     test_calls_of_a_file();
     test_calls_of_names();
+    test_links_fifos_and_sockets();
     test_pipes_and_processes();
     test_refusals();
     test_odd_bytes();

@@ -69,6 +69,19 @@ class Calls(TestCase):
         self.assertIsNone(process.rmdir("/d"))
         self.assertEqual(process.stat("/"), Stat("dir", 0, 1))
 
+    def test_each_call_of_links_fifos_and_sockets(self):
+        process = self.kernel().processes[0]
+        self.assertIsNone(process.symlink(b"../a\xff ", "/l"))
+        self.assertEqual(process.readlink("/l"), b"../a\xff ")
+        self.assertEqual(process.lstat("/l"), Stat("link", 6, 1))
+        self.assertIsNone(process.link("/l", "/k"))
+        self.assertEqual(process.lstat("/k"), Stat("link", 6, 2))
+        self.assertIsNone(process.mknod("/f", "fifo"))
+        self.assertIsNone(process.mknod("/s", "socket"))
+        self.assertEqual(process.stat("/f"), Stat("fifo", 0, 1))
+        self.assertEqual(process.lstat("/s"), Stat("socket", 0, 1))
+        self.assertEqual(process.list("/"), [b"f", b"k", b"l", b"s"])
+
     def test_pipes_and_processes(self):
         parent = self.kernel().processes[0]
         self.assertEqual(parent.pipe(), (0, 1))
@@ -106,6 +119,8 @@ class Calls(TestCase):
         process.mkdir("/d")
         process.open("/d/a", RDONLY | CREAT)
         process.pipe()
+        process.symlink("d", "/l")
+        process.mknod("/f", "fifo")
         for name, call, *given in (
             ("EBADF", process.close, 9),
             ("EBADF", process.write, 0, b"a"),
@@ -121,6 +136,10 @@ class Calls(TestCase):
             ("EBUSY", process.rmdir, "/"),
             ("ESPIPE", process.lseek, 1, 0),
             ("EFBIG", process.truncate, "/d/a", 2**32 - 1),
+            ("ELOOP", process.stat, "/l"),
+            ("ENXIO", process.open, "/f", RDONLY),
+            ("EINVAL", process.readlink, "/f"),
+            ("ENOENT", process.symlink, "", "/k"),
             ("NotInTransaction", process.end),
             ("NotInTransaction", process.abort),
         ):
@@ -138,6 +157,7 @@ class Calls(TestCase):
             (process.open, "/a", 64),
             (process.lseek, 0, 2**63),
             (process.fill, 0, 1, 256),
+            (process.mknod, "/f", "pipe"),
             (kernel.send, b""),
             (kernel.send, b"# 1 end"),
             (kernel.send, b"1 end\n1 end"),
@@ -502,7 +522,9 @@ class HostileAnswers(TestCase):
         b"1 P1 open /a RDONLY -> -1",
         b"1 P1 open /a RDONLY -> 4294967296",
         b"1 P1 stat /a -> file size 1 links",
-        b"1 P1 stat /a -> link size 1 links 1",
+        b"1 P1 stat /a -> door size 1 links 1",
+        b"1 P1 readlink /a -> ok",
+        b"1 P1 symlink a -> ok",
         b"1 P1 list / -> names 2 a",
         b"1 P1 list / -> names 99999999999999999999 a",
         b"1 P1 list / -> names 1 a b",

@@ -46,8 +46,8 @@ macro_rules! refusals {
 }
 
 refusals! {
-    EAGAIN EBADF EBUSY EEXIST EFBIG EINVAL EISDIR EMFILE ENAMETOOLONG ENOENT ENOTDIR ENOTEMPTY ENOTSUP EPERM EPIPE ESPIPE
-    InTransaction NotInTransaction HistoryFull NoMemory NoProcess
+    EAGAIN EBADF EBUSY EEXIST EFBIG EINVAL EISDIR ELOOP EMFILE ENAMETOOLONG ENOENT ENOTDIR ENOTEMPTY ENOTSUP ENXIO EPERM
+    EPIPE ESPIPE InTransaction NotInTransaction HistoryFull NoMemory NoProcess
 }
 
 /// A part of the state that a conflict is about.
@@ -62,6 +62,7 @@ pub enum Aspect {
     Offset,
     Front,
     Back,
+    Target,
 }
 
 /// The touch by which a process lost a conflict, and the process that won.
@@ -109,9 +110,19 @@ pub enum Kind {
     File,
     Dir,
     Pipe,
+    Link,
+    Fifo,
+    Socket,
 }
 
-/// What stat and fstat tell.
+/// What mknod makes.
+#[derive(Clone, Copy, Debug, PartialEq, Eq)]
+pub enum Special {
+    Fifo,
+    Socket,
+}
+
+/// What stat, lstat and fstat tell.
 #[derive(Clone, Copy, Debug, PartialEq, Eq)]
 pub struct Stat {
     pub kind: Kind,
@@ -269,8 +280,8 @@ fn process_in(word: &[u8]) -> Option<u32> {
 fn arguments_of(operation: &[u8]) -> Option<usize> {
     match operation {
         b"pipe" | b"fork" | b"exit" | b"begin" | b"end" | b"abort" => Some(0),
-        b"close" | b"stat" | b"fstat" | b"unlink" | b"mkdir" | b"rmdir" | b"list" | b"dup" => Some(1),
-        b"open" | b"read" | b"write" | b"ftruncate" | b"truncate" | b"link" | b"rename" | b"dup2" => Some(2),
+        b"close" | b"stat" | b"fstat" | b"unlink" | b"mkdir" | b"rmdir" | b"list" | b"readlink" | b"lstat" | b"dup" => Some(1),
+        b"open" | b"read" | b"write" | b"ftruncate" | b"truncate" | b"link" | b"rename" | b"symlink" | b"mknod" | b"dup2" => Some(2),
         b"pread" | b"pwrite" | b"lseek" => Some(3),
         _ => None,
     }
@@ -286,6 +297,9 @@ fn read_stat(words: &mut Words<'_>) -> Option<Stat> {
         b"file" => Kind::File,
         b"dir" => Kind::Dir,
         b"pipe" => Kind::Pipe,
+        b"link" => Kind::Link,
+        b"fifo" => Kind::Fifo,
+        b"socket" => Kind::Socket,
         _ => return None,
     };
     words.expect("size")?;
@@ -302,8 +316,8 @@ fn read_names(words: &mut Words<'_>) -> Option<Vec<Vec<u8>>> {
 fn read_value(words: &mut Words<'_>, operation: &[u8]) -> Option<Value> {
     match operation {
         b"open" | b"write" | b"pwrite" | b"lseek" | b"dup" | b"dup2" => words.number().map(Value::Number),
-        b"read" | b"pread" => read_bytes(words).map(Value::Bytes),
-        b"stat" | b"fstat" => read_stat(words).map(Value::Stat),
+        b"read" | b"pread" | b"readlink" => read_bytes(words).map(Value::Bytes),
+        b"stat" | b"fstat" | b"lstat" => read_stat(words).map(Value::Stat),
         b"list" => read_names(words).map(Value::Names),
         b"pipe" => Some(Value::Pair(words.number()?, words.number()?)),
         b"fork" => words.expect("child").and_then(|()| words.number()).map(Value::Number),
@@ -329,6 +343,7 @@ fn read_cause(words: &mut Words<'_>) -> Option<Cause> {
         b"offset" => Aspect::Offset,
         b"front" => Aspect::Front,
         b"back" => Aspect::Back,
+        b"target" => Aspect::Target,
         _ => return None,
     };
     let write = words.take_if("write");
@@ -742,6 +757,14 @@ impl<'k> Process<'k> {
     pub fn rmdir(&self, path: impl AsRef<[u8]>) -> Result<()> { self.done(format!("rmdir {}", spell(path))) }
     pub fn list(&self, path: impl AsRef<[u8]>) -> Result<Vec<Vec<u8>>> {
         given!(self.ask(&format!("list {}", spell(path))), Value::Names(names) => names)
+    }
+    pub fn symlink(&self, target: impl AsRef<[u8]>, path: impl AsRef<[u8]>) -> Result<()> {
+        self.done(format!("symlink {} {}", spell(target), spell(path)))
+    }
+    pub fn readlink(&self, path: impl AsRef<[u8]>) -> Result<Vec<u8>> { self.bytes_of(format!("readlink {}", spell(path))) }
+    pub fn lstat(&self, path: impl AsRef<[u8]>) -> Result<Stat> { self.stat_of(format!("lstat {}", spell(path))) }
+    pub fn mknod(&self, path: impl AsRef<[u8]>, special: Special) -> Result<()> {
+        self.done(format!("mknod {} {}", spell(path), ["fifo", "socket"][special as usize]))
     }
     pub fn dup(&self, fd: u32) -> Result<u32> { self.number_of(format!("dup {fd}")) }
     pub fn dup2(&self, old: u32, new: u32) -> Result<u32> { self.number_of(format!("dup2 {old} {new}")) }

@@ -5,7 +5,7 @@ mod kagzuvis;
 
 use kagzuvis::Error::{Aborted, BadAnswer, BadLine, Busy, GivenUp, Misused, Refused, StreamEnded};
 use kagzuvis::Refusal::*;
-use kagzuvis::{Aspect, Cause, End, Error, Kernel, Kind, Options, Process, Stat, Value, Whence};
+use kagzuvis::{Aspect, Cause, End, Error, Kernel, Kind, Options, Process, Special, Stat, Value, Whence};
 use kagzuvis::{ABORT_UNSUPPORTED, APPEND, CREAT, EXCL, LINE_LIMIT, RDONLY, RDWR, RESTART, WRONLY, parse, spell, unspell};
 use std::io;
 use std::panic::{AssertUnwindSafe, catch_unwind, resume_unwind};
@@ -66,6 +66,23 @@ impl Tests {
         assert_eq!(process.list("/d")?, Vec::<Vec<u8>>::new());
         process.rmdir("/d")?;
         assert_eq!(process.stat("/")?.kind, Kind::Dir);
+        Ok(())
+    }
+
+    fn links_fifos_and_sockets(&self) -> kagzuvis::Result<()> {
+        let kernel = self.kernel(&[0]);
+        let process = kernel.process(1);
+        process.symlink(b"../a\xff ", "/l")?;
+        assert_eq!(process.readlink("/l")?, b"../a\xff ");
+        assert_eq!(process.lstat("/l"), Ok(Stat { kind: Kind::Link, size: 6, links: 1 }));
+        process.mknod("/f", Special::Fifo)?;
+        process.mknod("/s", Special::Socket)?;
+        assert_eq!(process.stat("/f")?.kind, Kind::Fifo);
+        assert_eq!(process.lstat("/s"), Ok(Stat { kind: Kind::Socket, size: 0, links: 1 }));
+        assert_eq!(process.stat("/l"), refused(ELOOP));
+        assert_eq!(process.open("/f", RDONLY), refused(ENXIO));
+        assert_eq!(process.readlink("/f"), refused(EINVAL));
+        assert_eq!(process.symlink("", "/k"), refused(ENOENT));
         Ok(())
     }
 
@@ -316,13 +333,14 @@ fn add(process: &Process<'_>, other: Process<'_>, tries: u32, work: Work) -> kag
     if work.gives_up { Err(Error::GivenUp) } else { Ok(number) }
 }
 
-const HOSTILE: [&str; 41] = [
+const HOSTILE: [&str; 43] = [
     "", " ", "?", "1", "1 P1", "1 P1 mkdir", "1 P1 mkdir /a", "1 P1 mkdir /a ->", "1 P1 mkdir /a -> ", "1 P1 mkdir /a -> okay",
     "1 P1 mkdir /a -> ok ", "1 P1 mkdir /a -> ok dooms", "1 P1 mkdir /a -> ok dooms P", "1 P1 mkdir /a -> ok dooms P2,",
     "1 P1 mkdir /a /b -> ok", "1 P1 mkdir  -> ok", "1 1 mkdir /a -> ok", "x P1 mkdir /a -> ok", "1 P1 frob /a -> ok", "1 P1 read 0 9 -> 2 a",
     "1 P1 read 0 9 -> 1", "1 P1 read 0 9 -> 1 \\", "1 P1 read 0 9 -> 1 \\x4", "1 P1 read 0 9 -> 1 \\xAA",
     "1 P1 open /a RDONLY -> -1", "1 P1 open /a RDONLY -> 4294967296", "1 P1 stat /a -> file size 1 links",
-    "1 P1 stat /a -> link size 1 links 1", "1 P1 list / -> names 2 a", "1 P1 list / -> names 4294967295 a",
+    "1 P1 stat /a -> door size 1 links 1", "1 P1 readlink /a -> ok", "1 P1 symlink a -> ok", "1 P1 list / -> names 2 a",
+    "1 P1 list / -> names 4294967295 a",
     "1 P1 list / -> names 99999999999999999999 a", "1 P1 list / -> names 1 a b", "1 P1 pipe -> 0",
     "1 P1 begin RESTART RESTART -> begun", "1 P1 end -> aborted", "1 P1 end -> aborted entry",
     "1 P1 end -> aborted entry a read by 2", "1 P1 end -> aborted block a read by P2", "1 P1 end -> busy names seen by P2",
@@ -335,6 +353,7 @@ fn main() {
     let all = [
         Tests::calls_of_a_file,
         Tests::calls_of_names,
+        Tests::links_fifos_and_sockets,
         Tests::pipes_and_processes,
         Tests::refusals,
         Tests::odd_bytes,

@@ -114,7 +114,7 @@ fn is_op(alloc: Global, heap: Heap, words: &str, op: &str) -> bool {
     }
 }
 
-static OPERATIONS: [(&str, &str); 36] = [
+static OPERATIONS: [(&str, &str); 43] = [
     (
         "open /a -",
         "Call(Open(Bytes { bytes: [47, 97] }, OpenFlags(0)))",
@@ -187,6 +187,25 @@ static OPERATIONS: [(&str, &str); 36] = [
     ("mkdir /a", "Call(Mkdir(Bytes { bytes: [47, 97] }))"),
     ("rmdir /a", "Call(Rmdir(Bytes { bytes: [47, 97] }))"),
     ("list /a", "Call(List(Bytes { bytes: [47, 97] }))"),
+    (
+        "symlink ../a /b",
+        "Call(Symlink(Bytes { bytes: [46, 46, 47, 97] }, Bytes { bytes: [47, 98] }))",
+    ),
+    (
+        "symlink \\e /b",
+        "Call(Symlink(Bytes { bytes: [] }, Bytes { bytes: [47, 98] }))",
+    ),
+    (
+        "symlink \\x00\\xff\\x20 \\e",
+        "Call(Symlink(Bytes { bytes: [0, 255, 32] }, Bytes { bytes: [] }))",
+    ),
+    ("readlink /a", "Call(Readlink(Bytes { bytes: [47, 97] }))"),
+    ("lstat /a", "Call(Lstat(Bytes { bytes: [47, 97] }))"),
+    ("mknod /a fifo", "Call(Mknod(Bytes { bytes: [47, 97] }, Fifo))"),
+    (
+        "mknod \\e socket",
+        "Call(Mknod(Bytes { bytes: [] }, Socket))",
+    ),
     ("dup 0", "Call(Dup(Fd(0)))"),
     ("dup2 0 1", "Call(Dup2(Fd(0), Fd(1)))"),
     ("pipe", "Call(Pipe)"),
@@ -199,7 +218,7 @@ static OPERATIONS: [(&str, &str); 36] = [
 ];
 
 // Operations with arguments that they do not take.
-static REFUSED: [&str; 53] = [
+static REFUSED: [&str; 72] = [
     "read 0 1048577",
     "read 00 1",
     "read +0 1",
@@ -247,6 +266,25 @@ static REFUSED: [&str; 53] = [
     "dup2 0",
     "link /a",
     "link /a /b /c",
+    "symlink",
+    "symlink a",
+    "symlink  /b",
+    "symlink a ",
+    "symlink a /b /c",
+    "symlink a\\x0 /b",
+    "symlink \\ea /b",
+    "symlink a b\\",
+    "readlink",
+    "readlink /a /b",
+    "readlink \\x",
+    "lstat",
+    "lstat /a /b",
+    "mknod",
+    "mknod /a",
+    "mknod /a pipe",
+    "mknod /a FIFO",
+    "mknod fifo /a",
+    "mknod /a fifo socket",
     "pipe 0",
     "end 0",
     "abort restart",

@@ -49,8 +49,18 @@ static SCRIPT: &str = "priorities 0
 3 end
 3 end
 3 end
+3 symlink ../a /\\x20
+3 symlink \\e /a
+3 lstat /a
+3 lstat /b
+3 stat /c
+3 mknod /a fifo
+3 mknod /b socket
+3 open /a RDONLY
+3 end
 3 read 0 5
 3 pread 0 5 9223372036854775807
+3 readlink /a
 3 list /a
 4096 end
 ";
@@ -91,10 +101,20 @@ static TRANSCRIPT: &str = "1 P1 begin -> begun
 33 P3 end -> busy names read by P9
 34 P3 end -> busy front write by P9
 35 P3 end -> aborted block 1023 read by P9 restarted
-36 P3 read 0 5 -> 2 a\\x0a
-37 P3 pread 0 5 9223372036854775807 -> 0 \\e
-38 P3 list /a -> names 2 a b\\x20c
-39 P4096 end -> busy entry a write by P9 dooms P1,P4096
+36 P3 symlink ../a /\\x20 -> ok
+37 P3 symlink \\e /a -> ENOENT
+38 P3 lstat /a -> link size 4095 links 2
+39 P3 lstat /b -> fifo size 0 links 1
+40 P3 stat /c -> socket size 0 links 1
+41 P3 mknod /a fifo -> ELOOP
+42 P3 mknod /b socket -> EEXIST
+43 P3 open /a RDONLY -> ENXIO
+44 P3 end -> busy target read by P9
+45 P3 read 0 5 -> 2 a\\x0a
+46 P3 pread 0 5 9223372036854775807 -> 0 \\e
+47 P3 readlink /a -> 4 ../a
+48 P3 list /a -> names 2 a b\\x20c
+49 P4096 end -> busy entry a write by P9 dooms P1,P4096
 ";
 
 fn stat(kind: Kind, size: u32, links: u32) -> Reply {
@@ -114,7 +134,7 @@ fn cause(aspect: Aspect, write: bool) -> Cause {
 }
 
 // The replies that hold no memory.
-fn plain_replies() -> [Reply; 35] {
+fn plain_replies() -> [Reply; 44] {
     [
         Reply::Begun,
         Reply::Answer(Answer::Done),
@@ -157,6 +177,15 @@ fn plain_replies() -> [Reply; 35] {
             why: Why::Clash(cause(Aspect::Block(Num(1), 1023), false)),
             restarted: true,
         },
+        Reply::Answer(Answer::Done),
+        Reply::Errno(Errno::ENOENT),
+        stat(Kind::Link, 4095, 2),
+        stat(Kind::Fifo, 0, 1),
+        stat(Kind::Socket, 0, 1),
+        Reply::Errno(Errno::ELOOP),
+        Reply::Errno(Errno::EEXIST),
+        Reply::Errno(Errno::ENXIO),
+        Reply::Busy(cause(Aspect::Target(Num(1)), false)),
     ]
 }
 
@@ -168,13 +197,15 @@ fn names(heap: Heap) -> Result<NameList, AllocError> {
 }
 
 // The other replies.
-fn replies_with_memory(heap: Heap) -> Result<[Reply; 4], AllocError> {
+fn replies_with_memory(heap: Heap) -> Result<[Reply; 5], AllocError> {
     let bytes = Bytes::copy(heap, b"a\n")?;
+    let target = Bytes::copy(heap, b"../a")?;
     let names = names(heap)?;
     let entry = Aspect::Entry(Num(1), Name::copy(heap, b"a")?);
     Ok([
         Reply::Answer(Answer::Bytes(bytes)),
         Reply::Answer(Answer::Bytes(Bytes::new(Vec::new(heap)))),
+        Reply::Answer(Answer::Bytes(target)),
         Reply::Answer(Answer::Names(names)),
         Reply::Busy(cause(entry, true)),
     ])

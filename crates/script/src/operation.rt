@@ -5,10 +5,10 @@ ghost use Rattle.script.specs.Operations.{begin_of, fd_arguments, fd_in, four, o
 ghost use Rattle.script.specs.Operations.{one, path_arguments, paths_arguments, three, two};
 ghost use Rattle.script.specs.Numbers.{byte_in, decimal_in, offset_in};
 ghost use Rattle.script.specs.Texts.{text_in};
-ghost use Rattle.script.specs.Flags.{flags_in, whence_in};
+ghost use Rattle.script.specs.Flags.{flags_in, special_in, whence_in};
 ghost use Rattle.script.specs.Words.{Reads};
 
-use crate::flags::{begin_flags_in, flags_in, whence_in};
+use crate::flags::{begin_flags_in, flags_in, special_in, whence_in};
 use crate::limits::TRANSFER_LIMIT;
 use crate::number::{byte_in, number_in, offset_in};
 use crate::pieces::Pieces;
@@ -37,7 +37,7 @@ fn one_text(heap: Heap, args: &mut Pieces<'_>) -> Result<Bytes, WordFault>
     }
 }
 
-// The two texts of an operation on two paths.
+// The two texts of an operation on two paths, or on a target and a path.
 fn two_texts(heap: Heap, args: &mut Pieces<'_>) -> Result<(Bytes, Bytes), WordFault>
     ensures { Reads (two text_in text_in args.old) result }
 {
@@ -173,6 +173,8 @@ fn on_path(verb: PathVerb, path: Bytes) -> Call
         PathVerb::Mkdir => Call::Mkdir(path),
         PathVerb::Rmdir => Call::Rmdir(path),
         PathVerb::List => Call::List(path),
+        PathVerb::Readlink => Call::Readlink(path),
+        PathVerb::Lstat => Call::Lstat(path),
     }
 }
 
@@ -184,7 +186,7 @@ fn path_arguments(heap: Heap, verb: PathVerb, args: &mut Pieces<'_>) -> Result<O
     Ok(Op::Call(on_path(verb, path)))
 }
 
-// The operation of a word on two paths.
+// The operation of a word on two paths, or on a target, which edits can share, and a path.
 fn paths_arguments(heap: Heap, verb: PathsVerb, args: &mut Pieces<'_>) -> Result<Op, WordFault>
     ensures { Reads (paths_arguments verb args.old) result }
 {
@@ -192,6 +194,7 @@ fn paths_arguments(heap: Heap, verb: PathsVerb, args: &mut Pieces<'_>) -> Result
     Ok(Op::Call(match verb {
         PathsVerb::Link => Call::Link(old, new),
         PathsVerb::Rename => Call::Rename(old, new),
+        PathsVerb::Symlink => Call::Symlink(old.shared(), new),
     }))
 }
 
@@ -298,6 +301,19 @@ fn truncate_arguments(heap: Heap, args: &mut Pieces<'_>) -> Result<Op, WordFault
     Ok(Op::Call(Call::Truncate(text_in(heap, path)?, length)))
 }
 
+// The path of a mknod and what it makes.
+fn mknod_arguments(heap: Heap, args: &mut Pieces<'_>) -> Result<Op, WordFault>
+    ensures { Reads (arguments Verb.Mknod args.old) result }
+{
+    let Some((path, special)) = args.two() else {
+        return Err(WordFault::Malformed);
+    };
+    let Some(special) = special_in(special) else {
+        return Err(WordFault::Malformed);
+    };
+    Ok(Op::Call(Call::Mknod(text_in(heap, path)?, special)))
+}
+
 // The operation of a word with these arguments.
 pub(crate) fn arguments(heap: Heap, verb: Verb, args: &mut Pieces<'_>) -> Result<Op, WordFault>
     ensures { Reads (arguments verb args.old) result }
@@ -309,6 +325,7 @@ pub(crate) fn arguments(heap: Heap, verb: Verb, args: &mut Pieces<'_>) -> Result
         Verb::Fill => fill_arguments(heap, args),
         Verb::Pfill => pfill_arguments(heap, args),
         Verb::Truncate => truncate_arguments(heap, args),
+        Verb::Mknod => mknod_arguments(heap, args),
         Verb::OnFd(verb) => op_spelled(fd_arguments(verb, args)),
         Verb::OnPath(verb) => path_arguments(heap, verb, args),
         Verb::OnPaths(verb) => paths_arguments(heap, verb, args),

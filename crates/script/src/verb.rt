@@ -13,6 +13,7 @@ pub(crate) enum Verb {
     Fill,
     Pfill,
     Truncate,
+    Mknod,
     OnFd(FdVerb),
     OnPath(PathVerb),
     OnPaths(PathsVerb),
@@ -40,13 +41,16 @@ pub(crate) enum PathVerb {
     Mkdir,
     Rmdir,
     List,
+    Readlink,
+    Lstat,
 }
 
-// The word of an operation on two paths.
+// The word of an operation on two paths, or on a target and a path.
 #[derive(Clone, Copy)]
 pub(crate) enum PathsVerb {
     Link,
     Rename,
+    Symlink,
 }
 
 // The word of an operation on neither.
@@ -61,7 +65,7 @@ pub(crate) enum BareVerb {
 }
 
 // The words, and what each names.
-static VERBS: [(&str, Verb); 27] = [
+static VERBS: [(&str, Verb); 31] = [
     ("open", Verb::Open),
     ("close", Verb::OnFd(FdVerb::Close)),
     ("fstat", Verb::OnFd(FdVerb::Fstat)),
@@ -76,13 +80,17 @@ static VERBS: [(&str, Verb); 27] = [
     ("ftruncate", Verb::OnFd(FdVerb::Ftruncate)),
     ("truncate", Verb::Truncate),
     ("dup2", Verb::OnFd(FdVerb::Dup2)),
+    ("mknod", Verb::Mknod),
     ("stat", Verb::OnPath(PathVerb::Stat)),
     ("unlink", Verb::OnPath(PathVerb::Unlink)),
     ("mkdir", Verb::OnPath(PathVerb::Mkdir)),
     ("rmdir", Verb::OnPath(PathVerb::Rmdir)),
     ("list", Verb::OnPath(PathVerb::List)),
+    ("readlink", Verb::OnPath(PathVerb::Readlink)),
+    ("lstat", Verb::OnPath(PathVerb::Lstat)),
     ("link", Verb::OnPaths(PathsVerb::Link)),
     ("rename", Verb::OnPaths(PathsVerb::Rename)),
+    ("symlink", Verb::OnPaths(PathsVerb::Symlink)),
     ("pipe", Verb::Bare(BareVerb::Pipe)),
     ("fork", Verb::Bare(BareVerb::Fork)),
     ("exit", Verb::Bare(BareVerb::Exit)),

@@ -26,6 +26,7 @@ aspect_text (aspect.Ends pipe) = codes "ends"
 aspect_text (aspect.Offset description) = codes "offset"
 aspect_text (aspect.Front pipe) = codes "front"
 aspect_text (aspect.Back pipe) = codes "back"
+aspect_text (aspect.Target link) = codes "target"
 
 abbrev pub access_text : Bool → List ℕ
 access_text write = if write then codes " write" else codes " read"
@@ -46,6 +47,9 @@ abbrev pub kind_text : Kind → List ℕ
 kind_text kind.File = codes "file"
 kind_text kind.Dir = codes "dir"
 kind_text kind.Pipe = codes "pipe"
+kind_text kind.Link = codes "link"
+kind_text kind.Fifo = codes "fifo"
+kind_text kind.Socket = codes "socket"
 
 abbrev pub stat_text : Stat → List ℕ
 stat_text stat =

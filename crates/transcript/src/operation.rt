@@ -3,7 +3,7 @@ ghost use Rattle.std.specs.Prelude.{◌≡◌, ◌++◌, codes, decimal};
 ghost use Rattle.std.specs.Fmt.{signed_decimal};
 ghost use Rattle.transcript.specs.Flags.{begin_flags_text, flags_text};
 ghost use Rattle.transcript.specs.Operation.{bytes_text, call_text, numbers_text, op_text};
-ghost use Rattle.transcript.specs.Operation.{path_text, paths_text, whence_text};
+ghost use Rattle.transcript.specs.Operation.{path_text, paths_text, special_text, whence_text};
 ghost use Rattle.transcript.specs.Printer.{CanPrint, Prints};
 ghost use Rattle.transcript.specs.Text.{text_of};
 
@@ -11,7 +11,7 @@ use crate::flags::{begin_flags_text, put_flags};
 use crate::printer::Printer;
 use crate::text::put_text;
 use device::Sink;
-use ids::{BeginFlags, Bytes, Call, Op, OpenFlags, Whence};
+use ids::{BeginFlags, Bytes, Call, Op, OpenFlags, Special, Whence};
 
 fn whence_text(whence: Whence) -> &'static [u8]
     ensures { result.now ≡ whence_text whence }
@@ -20,6 +20,15 @@ fn whence_text(whence: Whence) -> &'static [u8]
         Whence::Set => b"SET",
         Whence::Cur => b"CUR",
         Whence::End => b"END",
+    }
+}
+
+fn special_text(special: Special) -> &'static [u8]
+    ensures { result.now ≡ special_text special }
+{
+    match special {
+        Special::Fifo => b"fifo",
+        Special::Socket => b"socket",
     }
 }
 
@@ -123,6 +132,16 @@ fn put_truncate<S: Sink>(out: &mut Printer<'_, S>, path: &Bytes, size: u32)
     out.put_number(b" ", size);
 }
 
+fn put_mknod<S: Sink>(out: &mut Printer<'_, S>, path: &Bytes, special: Special)
+    requires { CanPrint S.failures out.old }
+    ensures { Prints S.written S.failures out.old out.new
+        (codes "mknod " ++ text_of path.now ++ codes " " ++ special_text special) }
+{
+    put_path(out, b"mknod ", path);
+    out.put_word(b" ");
+    out.put(special_text(special));
+}
+
 fn put_call<S: Sink>(out: &mut Printer<'_, S>, call: &Call)
     requires { CanPrint S.failures out.old }
     ensures { Prints S.written S.failures out.old out.new (call_text call.now) }
@@ -145,6 +164,10 @@ fn put_call<S: Sink>(out: &mut Printer<'_, S>, call: &Call)
         Call::Mkdir(path) => put_path(out, b"mkdir ", path),
         Call::Rmdir(path) => put_path(out, b"rmdir ", path),
         Call::List(path) => put_path(out, b"list ", path),
+        Call::Symlink(target, path) => put_paths(out, b"symlink ", target, path),
+        Call::Readlink(path) => put_path(out, b"readlink ", path),
+        Call::Lstat(path) => put_path(out, b"lstat ", path),
+        Call::Mknod(path, special) => put_mknod(out, path, *special),
         Call::Dup(fd) => out.put_number(b"dup ", fd.0),
         Call::Dup2(old, new) => put_numbers(out, b"dup2 ", old.0, new.0),
         Call::Pipe => out.put_word(b"pipe"),

@@ -33,6 +33,7 @@ fn put_aspect<S: Sink>(out: &mut Printer<'_, S>, aspect: &Aspect)
         Aspect::Offset(_) => out.put_word(b"offset"),
         Aspect::Front(_) => out.put_word(b"front"),
         Aspect::Back(_) => out.put_word(b"back"),
+        Aspect::Target(_) => out.put_word(b"target"),
     }
 }
 
@@ -75,6 +76,9 @@ fn put_kind<S: Sink>(out: &mut Printer<'_, S>, kind: Kind)
         Kind::File => out.put_word(b"file"),
         Kind::Dir => out.put_word(b"dir"),
         Kind::Pipe => out.put_word(b"pipe"),
+        Kind::Link => out.put_word(b"link"),
+        Kind::Fifo => out.put_word(b"fifo"),
+        Kind::Socket => out.put_word(b"socket"),
     }
 }
 

@@ -2,6 +2,8 @@
 #![tactic(auto)]
 
 #[cfg(test)]
+mod beside_links;
+#[cfg(test)]
 mod beside_offsets;
 #[cfg(test)]
 mod beside_truncates;
@@ -14,9 +16,15 @@ mod capacity;
 #[cfg(test)]
 mod changed;
 #[cfg(test)]
+mod errors_at_links;
+#[cfg(test)]
 mod errors_at_offsets;
 #[cfg(test)]
+mod errors_of_links;
+#[cfg(test)]
 mod errors_of_truncates;
+#[cfg(test)]
+mod fifos;
 #[cfg(test)]
 mod files;
 #[cfg(test)]
@@ -81,6 +89,10 @@ mod rows;
 mod shared;
 #[cfg(test)]
 mod shown;
+#[cfg(test)]
+mod symbolic_links;
+#[cfg(test)]
+mod targets;
 #[cfg(test)]
 mod tests;
 #[cfg(test)]

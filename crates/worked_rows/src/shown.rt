@@ -20,6 +20,18 @@ fn show_file<L: Look>(heap: Heap, text: &mut Text, view: &L, file: Num) -> Resul
     write!(text, " {size} {links} {bytes:?}")
 }
 
+// What a name gives that never changes: by how many names, and the target of a symbolic link.
+fn show_fixed<L: Look>(
+    heap: Heap,
+    text: &mut Text,
+    view: &L,
+    fixed: Num,
+) -> Result<(), AllocError> {
+    let links = view.links(fixed)?;
+    let target = view.target(heap, fixed)?;
+    write!(text, " {links} {target:?}")
+}
+
 // Shows the names of a directory, and puts the directories among them behind the others.
 fn show_names<L: Look>(
     heap: Heap,
@@ -49,6 +61,9 @@ fn show_each<L: Look>(
         match found {
             Some((num, Some(Kind::Dir))) => dirs.push(num)?,
             Some((num, Some(Kind::File))) => show_file(heap, text, view, num)?,
+            Some((num, Some(Kind::Link)))
+            | Some((num, Some(Kind::Fifo)))
+            | Some((num, Some(Kind::Socket))) => show_fixed(heap, text, view, num)?,
             _ => (),
         }
     }
