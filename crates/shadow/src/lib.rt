@@ -11,6 +11,7 @@ mod inodes;
 mod laying;
 mod log;
 mod opening;
+mod overlay;
 mod patches;
 mod processes;
 mod reslotting;

@@ -3,7 +3,7 @@ use Rattle.model.specs.FiniteMap.{get, get-empty}
 use Rattle.model.specs.State.{name_cmp, names_of_inode}
 use Rattle.shadow.specs.Patches.{names_before, patched}
 use Rattle.shadow.proofs.viewing.LookLemmas.{given_told}
-use Rattle.shadow.proofs.view.given_over.Goals as goal
+use Rattle.shadow.proofs.overlay.given_over.Goals as goal
 
 pub returns-in-Bytes : goal.returns-in-Bytes
 returns-in-Bytes c = λ o same. sym (get-empty name_cmp c.args.name.now) ∙ ap (λ t. get (names_of_inode (patched t o)) c.args.name.now) (sym c.in-Bytes.is)

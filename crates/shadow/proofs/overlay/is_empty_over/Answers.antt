@@ -5,7 +5,7 @@ use Rattle.model.specs.Paths.{is_empty}
 use Rattle.shadow.specs.Patches.{patched}
 use Rattle.shadow.specs.declared.change.Contents.TheVariants.{Names}
 use Rattle.shadow.proofs.viewing.LookLemmas.{empty_has_none, empty_told, no_keys}
-use Rattle.shadow.proofs.view.is_empty_over.Goals as goal
+use Rattle.shadow.proofs.overlay.is_empty_over.Goals as goal
 
 pub returns-in-Same : goal.returns-in-Same
 returns-in-Same c = λ o same.
