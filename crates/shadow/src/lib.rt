@@ -10,6 +10,7 @@ mod closing;
 mod inodes;
 mod laying;
 mod log;
+mod new_object;
 mod opening;
 mod overlay;
 mod patches;

@@ -16,7 +16,7 @@ ghost use Rattle.shadow.specs.Patches.{net_of};
 use crate::change::InodeChange;
 use crate::overlay::{
     bytes_over, count_over, front_of, front_over, given_over, is_empty_over, kind_over, len_over,
-    names_over, new_ends, pipe_len_of, pipe_len_over, small,
+    names_over, new_ends, pipe_len_of, pipe_len_over, small, target_over,
 };
 use crate::shadow::Shadow;
 use crate::stable::Stable;
@@ -397,6 +397,14 @@ impl<'a> Look for View<'a> {
     fn fit(&self, pipe: Num, count: usize) -> Result<u32, AllocError> {
         let room = PIPE_CAPACITY.saturating_sub(self.pipe_len(pipe));
         Ok(count.min(room) as u32)
+    }
+
+    fn target(&self, link: Num) -> &[u8] {
+        let stored = self.stable.target(link);
+        match change(self.shadow, link) {
+            Some(change) => target_over(&change.contents, stored),
+            None => stored,
+        }
     }
 
     fn slot(&self, pid: Pid, fd: Fd) -> Option<Slot> {
