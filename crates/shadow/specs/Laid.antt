@@ -6,14 +6,14 @@ use Rattle.std.specs.Prelude.{if◌then◌else◌}
 use Rattle.std.specs.Ordering.{nat_cmp}
 use Rattle.std.specs.List.{AllByRecursion, flat_map}
 use Rattle.model.specs.FiniteMap.{FinMap, entries, get}
-use Rattle.model.specs.State.{A_directory as Directory_kind, Description, Kernel, Name, Process, kind_of}
-use Rattle.model.specs.State.{names_of}
+use Rattle.model.specs.State.{Description, Kernel, Kind, Name, Process, kind_of, names_of}
 use Rattle.model.specs.Changes.{holders, openings, or_new}
 use Rattle.dirlist.specs.Listing.{Listing}
 use Rattle.dirlist.specs.Patches.{Notes}
 use Rattle.fdtable.specs.Patches.{Given}
 use Rattle.file_shadow.specs.View.{FileChanges, view_over}
 use Rattle.pipe_shadow.specs.View.{PipeChanges, view_over as pipe_over}
+use Rattle.call_laws.specs.WellFormed.{CanBeOpened}
 use Rattle.freeing_laws.specs.Counts.{listed, times}
 use Rattle.freeing_laws.specs.Sweep.{AreParented}
 use Rattle.objects.specs.Pieces.{FileContent}
@@ -24,12 +24,14 @@ use Rattle.store.specs.Shown.{chosen, descriptions, inodes}
 use Rattle.store.specs.declared.Place.{Place}
 use Rattle.store.specs.declared.Object.TheVariants.{Directory as A_directory, File as A_file, Pipe as A_pipe}
 use Rattle.store.specs.declared.Object.TheVariants.{Description as A_description, Nothing}
+use Rattle.store.specs.declared.Object.TheVariants.{Fixed as A_fixed}
 use Rattle.store.specs.declared.OpenFile.{OpenFile}
 use Rattle.store.specs.declared.Opened.{Opened}
 use Rattle.store.specs.declared.OpenPipe.{OpenPipe}
 use Rattle.shadow.specs.declared.change.InodeChange.{InodeChange}
 use Rattle.shadow.specs.declared.change.Contents.{Contents}
 use Rattle.shadow.specs.declared.change.Contents.TheVariants.{Same, Names, Bytes, Pipe as Piped}
+use Rattle.shadow.specs.declared.change.Contents.TheVariants.{Fixed as As_fixed}
 use Rattle.shadow.specs.declared.opening.Opening.{Opening}
 use Rattle.shadow.specs.declared.opening.Opening.TheVariants.{New}
 use Rattle.shadow.specs.Claims.{Claim, reserved}
@@ -80,6 +82,7 @@ IsCarriedBy c (Bytes fresh bytes) before after = IsWrittenOver bytes before afte
 IsCarriedBy c (Piped (Some new) changes) before after =
     after ≡ Some (present (A_pipe (record new { bytes = pipe_over changes new.bytes })))
 IsCarriedBy c (Piped None changes) before after = IsPassedOver changes before after
+IsCarriedBy c (As_fixed fixed) before after = after ≡ Some (present (A_fixed fixed))
 
 abbrev pub IsCarried : Option InodeChange → Option Place → Option Place → Type 0
 IsCarried (Some c) before after = IsCarriedBy c c.contents before after
@@ -116,6 +119,7 @@ IsReadyContents s n c Same = c.made ≡ None
 IsReadyContents s n c (Names fresh notes) = IsReadyDirectory s n c notes
 IsReadyContents s n c (Bytes fresh bytes) = IsReadyFile (is_some c.made) (get s.places n)
 IsReadyContents s n c (Piped fresh changes) = IsReadyPipe fresh changes (get s.places n)
+IsReadyContents s n c (As_fixed fixed) = get s.places n ≡ Some (coming Nothing)
 
 abbrev pub IsReady : Numbers → ℕ → InodeChange → Type 0
 IsReady s n c = IsReadyContents s n c c.contents
@@ -211,14 +215,15 @@ pub record AreReslotted (slots former : List (ℕ × Given)) (ps qs : Processes)
       → 0 < times d (given_in former)
 
 -- The store holds, on the way: its root is number 0, names stand in directories that have one and
--- give no description, no directory is open, what is to come is empty, and the counts are right.
+-- give no description, nothing is open that cannot be opened, what is to come is empty, and the
+-- counts are right.
 pub record Holds (ps : Processes) (s : Numbers) : Type 0 where
   pub root : s.root ≡ 0
   pub parented : AreParented (state_of ps s)
   pub unnamed : (d n : ℕ) (x : Name) → get (descriptions s) d ≢ None
       → get (names_of (state_of ps s) n) x ≢ Some d
-  pub unopened : (n : ℕ) → kind_of (state_of ps s) n ≡ Some Directory_kind
-      → openings (state_of ps s) n ≡ 0
+  pub unopened : (n : ℕ) (what : Kind) → kind_of (state_of ps s) n ≡ Some what
+      → (CanBeOpened (Some what) → ⊥) → openings (state_of ps s) n ≡ 0
   pub staged : (n : ℕ) → IsStaged (get s.places n)
   pub counted : AreCounted ps s
 

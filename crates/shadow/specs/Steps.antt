@@ -5,11 +5,12 @@ use Rattle.std.specs.Prelude.{List, [], ◌∷◌, ◌++◌, map, length, Option
 use Rattle.std.specs.List.{flat_map}
 use Rattle.model.specs.FiniteMap.{get, empty}
 use Rattle.model.specs.Moments.{is_in}
-use Rattle.model.specs.State.{Name, Kernel, Inode, File, Directory, Pipe, Description, Process}
+use Rattle.model.specs.State.{Name, Kernel, Inode, File, Directory, Pipe, Fixed, Description}
+use Rattle.model.specs.State.{Process}
 use Rattle.model.specs.State.{A_pipe as Pipe_kind, kind, mapped, names_of_inode, file_of_inode}
 use Rattle.model.specs.State.{pipe_of_inode}
 use Rattle.model.specs.Changes.{Edit, Which, There, Made, number, news, Make_directory, Make_file}
-use Rattle.model.specs.Changes.{Name_file, Unname_file, Unname_directory, Move, Put_bytes, Cut}
+use Rattle.model.specs.Changes.{Make_fixed, Name_file, Unname_file, Unname_directory, Move, Put_bytes, Cut}
 use Rattle.model.specs.Changes.{Append, Make_pipe, Set_offset, Take, to_read, to_write}
 use Rattle.model.specs.Changes.{Open_inode, Share_slot, Clear_slot, applied, sized, written, at_start, at_offset}
 use Rattle.model.specs.Changes.{with_slot, without_slot, or_new}
@@ -21,9 +22,14 @@ use Rattle.freeing_laws.specs.Counts.{named, times, unnamed}
 use Rattle.freeing_laws.specs.Sweep.{loses}
 use Rattle.store.specs.Laid.{with_note}
 use Rattle.shadow.specs.declared.change.Made.{Made as What}
-use Rattle.shadow.specs.declared.change.Made.TheVariants.{Directory as A_directory, File as A_file, Pipe as A_pipe}
+use Rattle.shadow.specs.declared.change.Made.TheVariants.{Directory as A_directory, File as A_file}
+use Rattle.shadow.specs.declared.change.Made.TheVariants.{Pipe as A_pipe, Fixed as A_fixed}
+use Rattle.shadow.specs.declared.new_object.NewObject.{NewObject}
+use Rattle.shadow.specs.declared.new_object.NewObject.TheVariants.{Directory as New_directory}
+use Rattle.shadow.specs.declared.new_object.NewObject.TheVariants.{File as New_file, Fixed as New_fixed}
 use Rattle.shadow.specs.declared.change.Contents.{Contents}
-use Rattle.shadow.specs.Patches.{AllReach, Form, no_change, of_names, of_bytes, of_pipe, Patches, new_ends}
+use Rattle.shadow.specs.Patches.{AllReach, Form, no_change, of_names, of_bytes, of_pipe, of_fixed}
+use Rattle.shadow.specs.Patches.{Patches, new_ends}
 use Rattle.shadow.specs.Patches.{added_by, form_of, kept_at, net_at, opening_at, patched, reopened}
 use Rattle.shadow.specs.Patches.{is_new, numbers_in, reslotted}
 
@@ -59,6 +65,7 @@ new_in chosen i = number chosen (Made i)
 abbrev pub IsFirst : Edit → Type 0
 IsFirst (Make_directory d x i) = i ≡ 0
 IsFirst (Make_file d x i) = i ≡ 0
+IsFirst (Make_fixed d x fixed i) = i ≡ 0
 IsFirst (Name_file d x n) = ⊤
 IsFirst (Unname_file d x n) = ⊤
 IsFirst (Unname_directory d x n) = ⊤
@@ -121,13 +128,19 @@ bytes_taken count o = Some (Pipe (drop count (pipe_of_inode o)))
 abbrev pub bytes_appended : List ℕ → Option Inode → Option Inode
 bytes_appended bytes o = Some (Pipe (pipe_of_inode o ++ bytes))
 
-abbrev pub new_inode : What → Inode
-new_inode A_directory = Directory empty
-new_inode A_file = File []
-new_inode A_pipe = Pipe []
+-- a new object that comes with its name: its inode, and what the transaction made with it
+abbrev pub new_inode : NewObject → Inode
+new_inode New_directory = Directory empty
+new_inode New_file = File []
+new_inode (New_fixed fixed) = Fixed fixed
 
--- a new object with its name
-abbrev pub made_at : What → ℕ → Name → ℕ → ℕ → Option Inode → Option Inode
+abbrev pub made_of : NewObject → What
+made_of New_directory = A_directory
+made_of New_file = A_file
+made_of (New_fixed fixed) = A_fixed
+
+-- what stands at a number where such an object comes
+abbrev pub made_at : NewObject → ℕ → Name → ℕ → ℕ → Option Inode → Option Inode
 made_at what d x m n o =
     if n == d then name_noted x (Some m) (if n == m then Some (new_inode what) else o)
     else if n == m then Some (new_inode what) else o
@@ -138,8 +151,10 @@ named_at d x given n o = if n == d then name_noted x given o else o
 
 -- what stands at a number after an edit, by what stood there
 abbrev pub inode_after : List ℕ → Edit → ℕ → Option Inode → Option Inode
-inode_after chosen (Make_directory d x i) n o = made_at A_directory d x (new_in chosen i) n o
-inode_after chosen (Make_file d x i) n o = made_at A_file d x (new_in chosen i) n o
+inode_after chosen (Make_directory d x i) n o = made_at New_directory d x (new_in chosen i) n o
+inode_after chosen (Make_file d x i) n o = made_at New_file d x (new_in chosen i) n o
+inode_after chosen (Make_fixed d x fixed i) n o =
+    made_at (New_fixed fixed) d x (new_in chosen i) n o
 inode_after chosen (Name_file d x m) n o = named_at d x (Some m) n o
 inode_after chosen (Unname_file d x m) n o = named_at d x None n o
 inode_after chosen (Unname_directory d x m) n o = named_at d x None n o
@@ -194,6 +209,7 @@ directories_in chosen _ = []
 
 abbrev pub files_in : List ℕ → Edit → List ℕ
 files_in chosen (Make_file d x i) = new_in chosen i ∷ []
+files_in chosen (Make_fixed d x fixed i) = new_in chosen i ∷ []
 files_in chosen (Make_pipe i pid f g) = new_in chosen i ∷ []
 files_in chosen _ = []
 
@@ -206,6 +222,7 @@ opened_in chosen _ = []
 abbrev pub parents_in : Edit → List ℕ
 parents_in (Make_directory d x i) = d ∷ []
 parents_in (Make_file d x i) = d ∷ []
+parents_in (Make_fixed d x fixed i) = d ∷ []
 parents_in (Name_file d x n) = d ∷ []
 parents_in (Move d x e y n replaced) = e ∷ []
 parents_in _ = []
@@ -216,25 +233,28 @@ listed no_change = of_names false
 listed (of_names fresh) = of_names fresh
 listed (of_bytes fresh) = of_names true
 listed (of_pipe fresh) = of_names true
+listed of_fixed = of_names true
 
 abbrev pub filed : Form → Form
 filed no_change = of_bytes false
 filed (of_bytes fresh) = of_bytes fresh
 filed (of_names fresh) = of_bytes true
 filed (of_pipe fresh) = of_bytes true
+filed of_fixed = of_bytes true
 
 abbrev pub piped : Form → Form
 piped no_change = of_pipe false
 piped (of_pipe fresh) = of_pipe fresh
 piped (of_names fresh) = of_names fresh
 piped (of_bytes fresh) = of_bytes fresh
+piped of_fixed = of_fixed
 
-abbrev pub new_form : What → Form
-new_form A_directory = of_names true
-new_form A_file = of_bytes true
-new_form A_pipe = of_pipe true
+abbrev pub new_form : NewObject → Form
+new_form New_directory = of_names true
+new_form New_file = of_bytes true
+new_form (New_fixed fixed) = of_fixed
 
-abbrev pub made_form : What → ℕ → ℕ → ℕ → Form → Form
+abbrev pub made_form : NewObject → ℕ → ℕ → ℕ → Form → Form
 made_form what d m n form =
     if n == d then listed (if n == m then new_form what else form)
     else if n == m then new_form what else form
@@ -243,8 +263,11 @@ abbrev pub listed_at : ℕ → ℕ → Form → Form
 listed_at d n form = if n == d then listed form else form
 
 abbrev pub form_after : List ℕ → Edit → ℕ → Form → Form
-form_after chosen (Make_directory d x i) n form = made_form A_directory d (new_in chosen i) n form
-form_after chosen (Make_file d x i) n form = made_form A_file d (new_in chosen i) n form
+form_after chosen (Make_directory d x i) n form =
+    made_form New_directory d (new_in chosen i) n form
+form_after chosen (Make_file d x i) n form = made_form New_file d (new_in chosen i) n form
+form_after chosen (Make_fixed d x fixed i) n form =
+    made_form (New_fixed fixed) d (new_in chosen i) n form
 form_after chosen (Name_file d x m) n form = listed_at d n form
 form_after chosen (Unname_file d x m) n form = listed_at d n form
 form_after chosen (Unname_directory d x m) n form = listed_at d n form
@@ -262,6 +285,8 @@ abbrev pub made_after : List ℕ → Edit → ℕ → Option What → Option Wha
 made_after chosen (Make_directory d x i) n made =
     if n == new_in chosen i then Some A_directory else made
 made_after chosen (Make_file d x i) n made = if n == new_in chosen i then Some A_file else made
+made_after chosen (Make_fixed d x fixed i) n made =
+    if n == new_in chosen i then Some A_fixed else made
 made_after chosen (Make_pipe i pid f g) n made =
     if n == new_in chosen i then Some A_pipe else made
 made_after chosen _ n made = made
@@ -280,6 +305,8 @@ abbrev pub numbers_kept : List ℕ → Edit → ℕ → List ℕ → List ℕ
 numbers_kept chosen (Make_directory d x i) n bs =
     if (n == d) || (n == new_in chosen i) then [] else bs
 numbers_kept chosen (Make_file d x i) n bs =
+    if (n == d) || (n == new_in chosen i) then [] else bs
+numbers_kept chosen (Make_fixed d x fixed i) n bs =
     if (n == d) || (n == new_in chosen i) then [] else bs
 numbers_kept chosen (Make_pipe i pid f g) n bs = kept_beside (new_in chosen i) n bs
 numbers_kept chosen (Name_file d x m) n bs = kept_beside d n bs
@@ -342,20 +369,22 @@ pub record TakesIn (chosen : List ℕ) (e : Edit) (old new : Patches) : Type 0 w
 abbrev pub AreApart : List ℕ → Edit → Type 0
 AreApart chosen (Make_directory d x i) = new_in chosen i ≢ d
 AreApart chosen (Make_file d x i) = new_in chosen i ≢ d
+AreApart chosen (Make_fixed d x fixed i) = new_in chosen i ≢ d
 AreApart chosen (Make_pipe i pid f g) = new_in chosen (i + 1) ≢ new_in chosen (i + 2)
 AreApart chosen _ = ⊤
 
--- an edit that makes a directory, or a file
-abbrev pub making : What → ℕ → Name → Edit
-making A_directory d x = Make_directory d x 0
-making _ d x = Make_file d x 0
+-- an edit that makes such an object
+abbrev pub making : NewObject → ℕ → Name → Edit
+making New_directory d x = Make_directory d x 0
+making New_file d x = Make_file d x 0
+making (New_fixed fixed) d x = Make_fixed d x fixed 0
 
 -- an edit after which a slot gives this
 abbrev pub slotting : Option ℕ → ℕ → ℕ → List ℕ → Edit
 slotting (Some d) pid f pipes = Share_slot pid f d pipes
 slotting None pid f pipes = Clear_slot pid f pipes
 
--- an edit that takes the name of a directory, or of a file
+-- an edit that takes the name of a directory, or of anything else
 abbrev pub unnaming : What → ℕ → Name → ℕ → Edit
 unnaming A_directory d x n = Unname_directory d x n
 unnaming _ d x n = Unname_file d x n

@@ -4,9 +4,9 @@ ghost use Rattle.std.specs.Prelude.{length};
 ghost use Rattle.std.specs.List.{sum_by};
 ghost use Rattle.ids.specs.declared.limits.TheConstants.{DESCRIPTORS, LARGEST_FILE};
 ghost use Rattle.model.specs.State.{A_file, kind_of};
-ghost use Rattle.model.specs.Changes.{Append, Cut, Make_directory, Make_file, Make_pipe, Open_inode};
-ghost use Rattle.model.specs.Changes.{Move, Name_file, Put_bytes, Set_offset, Take, There, all_applied};
-ghost use Rattle.model.specs.Changes.{applied, news, tidy};
+ghost use Rattle.model.specs.Changes.{Append, Cut, Make_directory, Make_file, Make_fixed, Make_pipe};
+ghost use Rattle.model.specs.Changes.{Move, Name_file, Open_inode, Put_bytes, Set_offset, Take, There};
+ghost use Rattle.model.specs.Changes.{all_applied, applied, news, tidy};
 ghost use Rattle.call_laws.specs.Fits.{Fits, FitsAll};
 ghost use Rattle.shadow.specs.Claims.{AreUnused, Claim, Covers, HaveParents, KeepsMore, KeepsSame};
 ghost use Rattle.shadow.specs.Claims.{claimed_by, claimed_by_one, reserved};
@@ -22,7 +22,7 @@ use crate::patches::{at_start, end_of, inode_replaced, is_last, number};
 use crate::reslotting::lay_slot;
 use crate::stable::Stable;
 use heap::Heap;
-use ids::{Edit, Fd, Mode, Name, Num, Nums, Pid, Replaced};
+use ids::{Edit, Fd, Fixed, Mode, Name, Num, Nums, Pid, Replaced};
 use objects::{FileData, PipeData};
 use std::alloc::AllocError;
 use store::{Object, OpenFile, OpenPipe};
@@ -197,6 +197,12 @@ impl Stable {
                 self.make_directory(parent, name, chosen[0]);
             }
             Edit::MakeFile { parent, name, .. } => self.make_file(parent, name, chosen[0]),
+            Edit::MakeFixed {
+                parent,
+                name,
+                fixed,
+                ..
+            } => self.make_fixed(parent, name, fixed, chosen[0]),
             Edit::NameFile { parent, name, file } => self.link(parent, name, file),
             Edit::UnnameFile { parent, name, file } => {
                 self.unname(parent, &name, file);
@@ -293,6 +299,20 @@ impl Stable {
         self.store.add_name(parent, name, num);
     }
 
+    // The new object of a reserved number, which never changes, is there, with its name.
+    fn make_fixed(&mut self, parent: Num, name: Name, fixed: Fixed, num: Num)
+        requires fits { Fits (num ∷ []) self.old.state (Make_fixed parent name fixed 0) }
+        requires covers { (c : Claim)
+            → claimed_by_one c (num ∷ []) (Make_fixed parent name fixed 0) ≤ reserved self.old c }
+        ensures state { self.new.state
+            ≡ tidy (applied (num ∷ []) (Make_fixed parent name fixed 0) self.old.state) }
+        ensures kept { KeepsMore self.new self.old
+            (λ c. claimed_by_one c (num ∷ []) (Make_fixed parent name fixed 0)) }
+    {
+        self.store.install_as(num, Object::Fixed(fixed));
+        self.store.add_name(parent, name, num);
+    }
+
     // The new pipe of a reserved number is there, with the descriptors and the descriptions of its two
     // ends. Refused memory changes nothing.
     fn make_pipe(
@@ -336,7 +356,8 @@ impl Stable {
         Ok(())
     }
 
-    // One more name for a file, in the room that is kept for it.
+    // One more name for a file, or for anything else that is no directory, in the room that is kept
+    // for it.
     fn link(&mut self, parent: Num, name: Name, file: Num)
         requires fits { Fits [] self.old.state (Name_file parent name file) }
         requires covers { (c : Claim)

@@ -71,6 +71,7 @@ fn lay_inode(store: &mut Store, heap: Heap, num: Num, change: InodeChange)
                 None => lay_pipe(store, num, &changes),
             }
         }
+        Contents::Fixed(fixed) => store.install_as(num, Object::Fixed(fixed)),
     }
 }
 

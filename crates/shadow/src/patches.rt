@@ -9,14 +9,13 @@ ghost use Rattle.freeing_laws.specs.Counts.{listed};
 ghost use Rattle.shadow.specs.Notes.{SamePatches};
 ghost use Rattle.shadow.specs.Openings.{AtOpening, AtSlots, IsOpened, SameOpenings, SameSlots};
 ghost use Rattle.shadow.specs.Patches.{kept_at};
-ghost use Rattle.shadow.specs.declared.change.Made.TheVariants as Made;
 ghost use Rattle.std.specs.List.{AllByRecursion, sum_by};
 ghost use Rattle.shadow.specs.Steps.{AreApart, CanEdit, HasPlaces, IsBelow, IsFirst, IsLast};
 ghost use Rattle.shadow.specs.Steps.{IsNaming, TakesAll, TakesIn, is_last, making, unnaming};
 ghost use Rattle.shadow.specs.declared.change.Made.{Made as What};
 
-use crate::change::Made;
 use crate::inodes::Inodes;
+use crate::new_object::NewObject;
 use crate::opening::Openings;
 use crate::slots::Slots;
 use heap::Heap;
@@ -218,11 +217,17 @@ impl Patches {
     {
         match edit {
             Edit::MakeDirectory { parent, name, .. } => {
-                self.make(Made::Directory, parent, name, chosen[0])
+                self.make(NewObject::Directory, parent, name, chosen[0])
             }
             Edit::MakeFile { parent, name, .. } => {
-                self.make(Made::File, parent, name, chosen[0])
+                self.make(NewObject::File, parent, name, chosen[0])
             }
+            Edit::MakeFixed {
+                parent,
+                name,
+                fixed,
+                ..
+            } => self.make(NewObject::Fixed(fixed), parent, name, chosen[0]),
             Edit::NameFile { parent, name, file } => self.link(parent, name, file),
             Edit::UnnameFile { parent, name, file } => self.unname(parent, name, file),
             Edit::UnnameDirectory {
@@ -247,9 +252,14 @@ impl Patches {
     }
 
     // A new object with its name.
-    fn make(&mut self, what: Made, parent: Num, name: Name, num: Num) -> Result<(), AllocError>
-        requires apart { num ≢ parent }
-        requires named { what ≢ Made.Pipe }
+    fn make(
+        &mut self,
+        what: NewObject,
+        parent: Num,
+        name: Name,
+        num: Num,
+    ) -> Result<(), AllocError>
+        requires { num ≢ parent }
         ensures ok { OnOk result (TakesIn (num ∷ []) (making what parent name) self.old self.new) }
         ensures err { OnErr result (SamePatches self.old self.new) }
         ensures openings { self.new.openings ≡ self.old.openings }
@@ -262,7 +272,7 @@ impl Patches {
         Ok(())
     }
 
-    // One more name for a file.
+    // One more name for a file, or for anything else that is no directory.
     fn link(&mut self, parent: Num, name: Name, file: Num) -> Result<(), AllocError>
         ensures ok { OnOk result ((chosen : List ℕ)
             → TakesIn chosen (Name_file parent name file) self.old self.new) }

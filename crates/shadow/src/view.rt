@@ -1,23 +1,23 @@
 // What a process sees.
-ghost use Rattle.std.specs.Prelude.{ℕ, ◌≡◌, ◌+◌, ◌-◌, ◌≤◌, [], IfOk, IfSome, IsSome, Option, drop};
-ghost use Rattle.std.specs.Prelude.{false, if◌then◌else◌, length, option_copied, option_map, take, true};
-ghost use Rattle.model.specs.FiniteMap.{get, keys};
-ghost use Rattle.model.specs.Paths.{is_empty};
-ghost use Rattle.model.specs.State.{Inode, file_of, file_of_inode, kind, kind_of, mapped, names_of};
-ghost use Rattle.model.specs.State.{Pipe as A_pipe, names_of_inode, pipe_of, pipe_of_inode};
+ghost use Rattle.std.specs.Prelude.{◌≡◌, ◌≤◌, IfOk, IfSome, drop};
+ghost use Rattle.std.specs.Prelude.{if◌then◌else◌, length, option_copied, option_map, take};
+ghost use Rattle.model.specs.FiniteMap.{get};
+ghost use Rattle.model.specs.State.{file_of, kind_of, names_of, pipe_of, target_of};
 ghost use Rattle.model.specs.Changes.{holders, process_of};
 ghost use Rattle.model.specs.Calls.{slot_of};
 ghost use Rattle.model.specs.Effects.{all_done};
 ghost use Rattle.freeing_laws.specs.Pipes.{ArePair, holders_if, reads, writes};
 ghost use Rattle.freeing_laws.specs.Sweep.{AllFit};
-ghost use Rattle.store.specs.Shown.{pipe_inode};
 ghost use Rattle.objects.specs.declared.run.TheConstants.{LARGEST_RUN};
 ghost use Rattle.shadow.specs.Claims.{Covers};
 ghost use Rattle.shadow.specs.Looks.{DirectoriesAreKept, IsNet, KeepsRest, changes_of};
-ghost use Rattle.shadow.specs.Patches.{form_of, net_of, of_pipe, patched};
-ghost use Rattle.shadow.specs.Patches as Patches;
+ghost use Rattle.shadow.specs.Patches.{net_of};
 
-use crate::change::{Contents, InodeChange};
+use crate::change::InodeChange;
+use crate::overlay::{
+    bytes_over, count_over, front_of, front_over, given_over, is_empty_over, kind_over, len_over,
+    names_over, new_ends, pipe_len_of, pipe_len_over, small, target_over,
+};
 use crate::shadow::Shadow;
 use crate::stable::Stable;
 use dirlist::Dir;
@@ -29,7 +29,6 @@ use look::Look;
 use objects::{Description, FileData};
 use std::alloc::AllocError;
 use std::marker::Model;
-use store::OpenPipe;
 
 /// The committed state with a transaction's changes on top.
 #[derive(Drop)]
@@ -261,6 +260,17 @@ impl<'a> View<'a> {
         }
     }
 
+    // The target of a symbolic link, empty for what is none.
+    fn link_target(&self, link: Num) -> &[u8]
+        ensures { result.now ≡ target_of self.now.state link }
+    {
+        let stored = self.stable.target(link);
+        match change(self.shadow, link) {
+            Some(change) => target_over(&change.contents, stored),
+            None => stored,
+        }
+    }
+
     // The descriptions of a pipe, to read and to write, which may be gone.
     fn pair(&self, pipe: Num) -> Option<(Num, Num)>
         ensures { IfSome result (λ ends.
@@ -305,232 +315,6 @@ impl<'a> View<'a> {
             }
             _ => Ok(0),
         }
-    }
-}
-
-// The kind of an inode, with changes of its contents.
-fn kind_over(contents: &Contents, stored: Option<Kind>) -> Option<Kind>
-    ensures { (o : Option Inode) → mapped kind o ≡ stored
-        → result ≡ mapped kind (patched contents.now o) }
-{
-    match contents {
-        Contents::Same => stored,
-        Contents::Names { .. } => Some(Kind::Dir),
-        Contents::Bytes { .. } => Some(Kind::File),
-        Contents::Pipe { .. } => Some(Kind::Pipe),
-    }
-}
-
-// What a name gives, with changes of the contents of its directory.
-fn given_over(contents: &Contents, name: &Name, stored: Option<Num>) -> Option<Num>
-    ensures { (o : Option Inode) → get (names_of_inode o) name.now ≡ stored
-        → result ≡ get (names_of_inode (patched contents.now o)) name.now }
-{
-    match contents {
-        Contents::Same => stored,
-        Contents::Bytes { .. } => None,
-        Contents::Pipe { .. } => None,
-        Contents::Names { is_fresh, names } => match names.look(name) {
-            Some(given) => given,
-            None if *is_fresh => None,
-            None => stored,
-        },
-    }
-}
-
-// All names, with changes of the contents of their directory.
-fn names_over(heap: Heap, contents: &Contents, stored: &Dir) -> Result<NameList, AllocError>
-    ensures { IfOk result (λ list. (o : Option Inode) → names_of_inode o ≡ stored.now.names
-        → list ≡ keys (names_of_inode (patched contents.now o))) }
-{
-    match contents {
-        Contents::Same => stored.names(heap),
-        Contents::Bytes { .. } => Dir::new(heap).names(heap),
-        Contents::Pipe { .. } => Dir::new(heap).names(heap),
-        Contents::Names {
-            is_fresh: true,
-            names,
-        } => names.names_over(heap, &Dir::new(heap)),
-        Contents::Names {
-            is_fresh: false,
-            names,
-        } => names.names_over(heap, stored),
-    }
-}
-
-// Whether there are no names, with changes of the contents of their directory.
-fn is_empty_over(heap: Heap, contents: &Contents, stored: &Dir) -> bool
-    ensures { (o : Option Inode) → names_of_inode o ≡ stored.now.names
-        → result ≡ is_empty (keys (names_of_inode (patched contents.now o))) }
-{
-    match contents {
-        Contents::Same => stored.is_empty(),
-        Contents::Bytes { .. } => true,
-        Contents::Pipe { .. } => true,
-        Contents::Names {
-            is_fresh: true,
-            names,
-        } => names.is_empty_over(&Dir::new(heap)),
-        Contents::Names {
-            is_fresh: false,
-            names,
-        } => names.is_empty_over(stored),
-    }
-}
-
-// How many bytes there are, with changes of the file's contents.
-fn len_over(heap: Heap, contents: &Contents, stored: &FileData) -> usize
-    ensures { (o : Option Inode) → file_of_inode o ≡ stored.now.bytes
-        → result ≡ length (file_of_inode (patched contents.now o)) }
-{
-    match contents {
-        Contents::Same => stored.len(),
-        Contents::Names { .. } => 0,
-        Contents::Pipe { .. } => 0,
-        Contents::Bytes {
-            is_fresh: true,
-            bytes,
-        } => bytes.len(&FileData::new(heap)),
-        Contents::Bytes {
-            is_fresh: false,
-            bytes,
-        } => bytes.len(stored),
-    }
-}
-
-// Bytes from an offset on, with changes of the file's contents.
-fn bytes_over(
-    heap: Heap,
-    contents: &Contents,
-    stored: &FileData,
-    offset: usize,
-    count: usize,
-) -> Result<Bytes, AllocError>
-    requires { count ≤ LARGEST_RUN }
-    ensures { IfOk result (λ bytes. (o : Option Inode) → file_of_inode o ≡ stored.now.bytes
-        → bytes ≡ take count (drop offset (file_of_inode (patched contents.now o)))) }
-{
-    match contents {
-        Contents::Same => stored.read_at(heap, offset, count),
-        Contents::Names { .. } => Ok(Bytes::new(Vec::new(heap))),
-        Contents::Pipe { .. } => Ok(Bytes::new(Vec::new(heap))),
-        Contents::Bytes {
-            is_fresh: true,
-            bytes,
-        } => bytes.read(heap, &FileData::new(heap), offset, count),
-        Contents::Bytes {
-            is_fresh: false,
-            bytes,
-        } => bytes.read(heap, stored, offset, count),
-    }
-}
-
-// A count that plans know with 32 bits.
-fn small(count: u128) -> Result<u32, AllocError>
-    ensures { IfOk result (λ n. n ≡ count) }
-{
-    if count > u32::MAX as u128 {
-        return Err(AllocError);
-    }
-    Ok(count as u32)
-}
-
-// A count, with what changes added to it and took from it.
-fn count_over(stored: u128, added: u128, taken: u128) -> Result<u32, AllocError>
-    ensures { IfOk result (λ n. n ≡ stored + added - taken) }
-{
-    match stored.checked_add(added) {
-        Some(count) => small(count.saturating_sub(taken)),
-        None => Err(AllocError),
-    }
-}
-
-// The descriptions of a pipe that is new.
-fn new_ends(contents: &Contents) -> Option<(Num, Num)>
-    ensures { result ≡ Patches.new_ends contents.now }
-{
-    match contents {
-        Contents::Pipe {
-            new: Some(pipe),
-            ..
-        } => Some((pipe.reader, pipe.writer)),
-        Contents::Pipe { new: None, .. } => None,
-        Contents::Same => None,
-        Contents::Names { .. } => None,
-        Contents::Bytes { .. } => None,
-    }
-}
-
-// Bytes from the front of a pipe, if there is one.
-fn front_of(heap: Heap, stored: Option<&OpenPipe>, count: usize) -> Result<Bytes, AllocError>
-    ensures { IfOk result (λ bytes. (o : Option Inode)
-        → pipe_inode o ≡ mapped (λ pipe. A_pipe pipe.bytes) (option_copied stored.entry)
-        → bytes ≡ take count (pipe_of_inode o)) }
-{
-    match stored {
-        Some(pipe) => pipe.bytes.read(heap, 0, count),
-        None => Ok(Bytes::new(Vec::new(heap))),
-    }
-}
-
-// The same, with changes of its contents.
-fn front_over(
-    heap: Heap,
-    contents: &Contents,
-    stored: Option<&OpenPipe>,
-    count: usize,
-) -> Result<Bytes, AllocError>
-    requires { form_of contents.now ≡ of_pipe false → IsSome (option_copied stored) }
-    ensures { IfOk result (λ bytes. (o : Option Inode)
-        → pipe_inode o ≡ mapped (λ pipe. A_pipe pipe.bytes) (option_copied stored.entry)
-        → bytes ≡ take count (pipe_of_inode (patched contents.now o))) }
-{
-    match contents {
-        Contents::Same => front_of(heap, stored, count),
-        Contents::Names { .. } => Ok(Bytes::new(Vec::new(heap))),
-        Contents::Bytes { .. } => Ok(Bytes::new(Vec::new(heap))),
-        Contents::Pipe {
-            new: Some(pipe),
-            changes,
-        } => changes.read(heap, &pipe.bytes, count),
-        Contents::Pipe { new: None, changes } => match stored {
-            Some(pipe) => changes.read(heap, &pipe.bytes, count),
-            None => unreachable!(),
-        },
-    }
-}
-
-// How many bytes a pipe has, if there is one.
-fn pipe_len_of(stored: Option<&OpenPipe>) -> usize
-    ensures { (o : Option Inode)
-        → pipe_inode o ≡ mapped (λ pipe. A_pipe pipe.bytes) (option_copied stored.entry)
-        → result ≡ length (pipe_of_inode o) }
-{
-    match stored {
-        Some(pipe) => pipe.bytes.len(),
-        None => 0,
-    }
-}
-
-// The same, with changes of its contents.
-fn pipe_len_over(contents: &Contents, stored: Option<&OpenPipe>) -> usize
-    requires { form_of contents.now ≡ of_pipe false → IsSome (option_copied stored) }
-    ensures { (o : Option Inode)
-        → pipe_inode o ≡ mapped (λ pipe. A_pipe pipe.bytes) (option_copied stored.entry)
-        → result ≡ length (pipe_of_inode (patched contents.now o)) }
-{
-    match contents {
-        Contents::Same => pipe_len_of(stored),
-        Contents::Names { .. } => 0,
-        Contents::Bytes { .. } => 0,
-        Contents::Pipe {
-            new: Some(pipe),
-            changes,
-        } => changes.len(&pipe.bytes),
-        Contents::Pipe { new: None, changes } => match stored {
-            Some(pipe) => changes.len(&pipe.bytes),
-            None => unreachable!(),
-        },
     }
 }
 
@@ -624,6 +408,10 @@ impl<'a> Look for View<'a> {
     fn fit(&self, pipe: Num, count: usize) -> Result<u32, AllocError> {
         let room = PIPE_CAPACITY.saturating_sub(self.pipe_len(pipe));
         Ok(count.min(room) as u32)
+    }
+
+    fn target(&self, heap: Heap, link: Num) -> Result<Bytes, AllocError> {
+        Bytes::copy(heap, self.link_target(link))
     }
 
     fn slot(&self, pid: Pid, fd: Fd) -> Option<Slot> {

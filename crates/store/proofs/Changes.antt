@@ -18,7 +18,7 @@ use Rattle.store.specs.declared.Place.{Place}
 use Rattle.store.specs.declared.Stage.{Stage}
 use Rattle.store.specs.declared.Stage.TheVariants.{Coming, Held, Removed}
 use Rattle.store.specs.declared.Object.{Object}
-use Rattle.store.specs.declared.Object.TheVariants.{Directory as Kept_directory, File as Kept_file, Pipe as Kept_pipe, Description as Kept_description, Nothing as Kept_nothing}
+use Rattle.store.specs.declared.Object.TheVariants.{Directory as Kept_directory, File as Kept_file, Pipe as Kept_pipe, Fixed as Kept_fixed, Description as Kept_description, Nothing as Kept_nothing}
 use Rattle.store.proofs.Chosen.{get-chosen, chosen-insert, chosen-insert-none, chosen-remove, chosen-empty, remove-absent, insert-held}
 
 abbrev pub with_place : Numbers → ℕ → Place → Numbers
@@ -183,6 +183,7 @@ module _ (f : Listing → Listing) (g : FinMap name_cmp ℕ → FinMap name_cmp 
       by_stage Held (Kept_directory listing) is = ap (λ m. insert (inodes s) n (Directory m)) (names listing)
       by_stage Held (Kept_file file) is = with_value-held (inodes s) n _ (get-inodes_by s n _ is)
       by_stage Held (Kept_pipe pipe) is = with_value-held (inodes s) n _ (get-inodes_by s n _ is)
+      by_stage Held (Kept_fixed fixed) is = with_value-held (inodes s) n _ (get-inodes_by s n _ is)
       by_stage Held (Kept_description opened) is = remove-absent (inodes s) n (get-inodes_by s n _ is)
       by_stage Held Kept_nothing is = remove-absent (inodes s) n (get-inodes_by s n _ is)
       by_stage Coming object is = remove-absent (inodes s) n (get-inodes_by s n _ is)
@@ -216,6 +217,7 @@ pub description-listed : (f : Listing → Listing) (object : Object) → descrip
 description-listed f (Kept_directory listing) = refl
 description-listed f (Kept_file file) = refl
 description-listed f (Kept_pipe pipe) = refl
+description-listed f (Kept_fixed fixed) = refl
 description-listed f (Kept_description opened) = refl
 description-listed f Kept_nothing = refl
 
@@ -223,6 +225,7 @@ pub description-filed : (f : OpenFile → OpenFile) (object : Object) → descri
 description-filed f (Kept_directory listing) = refl
 description-filed f (Kept_file file) = refl
 description-filed f (Kept_pipe pipe) = refl
+description-filed f (Kept_fixed fixed) = refl
 description-filed f (Kept_description opened) = refl
 description-filed f Kept_nothing = refl
 
@@ -230,6 +233,7 @@ pub description-piped : (f : OpenPipe → OpenPipe) (object : Object) → descri
 description-piped f (Kept_directory listing) = refl
 description-piped f (Kept_file file) = refl
 description-piped f (Kept_pipe pipe) = refl
+description-piped f (Kept_fixed fixed) = refl
 description-piped f (Kept_description opened) = refl
 description-piped f Kept_nothing = refl
 
@@ -250,6 +254,7 @@ pub inode-opened : (f : Opened → Opened) (object : Object) → inode_of (chang
 inode-opened f (Kept_directory listing) = refl
 inode-opened f (Kept_file file) = refl
 inode-opened f (Kept_pipe pipe) = refl
+inode-opened f (Kept_fixed fixed) = refl
 inode-opened f (Kept_description opened) = refl
 inode-opened f Kept_nothing = refl
 
@@ -261,6 +266,7 @@ pub inode-filed : (f : OpenFile → OpenFile) → ((file : OpenFile) → (f file
 inode-filed f same (Kept_directory listing) = refl
 inode-filed f same (Kept_file file) = ap (λ (content : FileContent). Some (File content.bytes)) (same file)
 inode-filed f same (Kept_pipe pipe) = refl
+inode-filed f same (Kept_fixed fixed) = refl
 inode-filed f same (Kept_description opened) = refl
 inode-filed f same Kept_nothing = refl
 
@@ -271,6 +277,7 @@ pub description-opened : (f : Opened → Opened) → ((opened : Opened) → (f o
 description-opened f same (Kept_directory listing) = refl
 description-opened f same (Kept_file file) = refl
 description-opened f same (Kept_pipe pipe) = refl
+description-opened f same (Kept_fixed fixed) = refl
 description-opened f same (Kept_description opened) = ap (λ (it : Description). Some it) (same opened)
 description-opened f same Kept_nothing = refl
 
@@ -284,6 +291,7 @@ inodes-swapped content s n = by_place (get s.places n) refl
     by_stage : (t : Stage) (object : Object) → get s.places n ≡ Some (record { stage = t; object = object }) → IsSome (option_and_then file_of (if_held t object)) → with_inode (inodes s) n (shown_at t (inode_of (changed_file (with_bytes content) object))) ≡ insert (inodes s) n (File content.bytes)
     by_stage Held (Kept_file file) is some = refl
     by_stage Held (Kept_pipe pipe) is some = absurd cc
+    by_stage Held (Kept_fixed fixed) is some = absurd cc
     by_stage Held (Kept_directory listing) is some = absurd cc
     by_stage Held (Kept_description opened) is some = absurd cc
     by_stage Held Kept_nothing is some = absurd cc
@@ -301,6 +309,7 @@ bytes-shown s n some = by_place (get s.places n) some ∙ ap file_of_inode (sym 
     by_stage : (t : Stage) (object : Object) → IsSome (option_and_then file_of (if_held t object)) → (content_of (file_of object)).bytes ≡ file_of_inode (shown_at t (inode_of object))
     by_stage Held (Kept_file file) some = refl
     by_stage Held (Kept_pipe pipe) some = absurd cc
+    by_stage Held (Kept_fixed fixed) some = absurd cc
     by_stage Held (Kept_directory listing) some = absurd cc
     by_stage Held (Kept_description opened) some = absurd cc
     by_stage Held Kept_nothing some = absurd cc
@@ -319,6 +328,7 @@ inodes-passed taken appended s n roomy = by_place (get s.places n) refl roomy
   where
     by_stage : (t : Stage) (object : Object) → IsRoomy taken appended (option_and_then pipe_of (if_held t object)) → with_inode (inodes s) n (shown_at t (inode_of (changed_pipe (passed taken appended) object))) ≡ insert (inodes s) n (Pipe (drop taken (pipe_of_inode (shown_at t (inode_of object))) ++ appended))
     by_stage Held (Kept_pipe pipe) some = refl
+    by_stage Held (Kept_fixed fixed) some = absurd some
     by_stage Held (Kept_directory listing) some = absurd some
     by_stage Held (Kept_file file) some = absurd some
     by_stage Held (Kept_description opened) some = absurd some
@@ -339,6 +349,7 @@ descriptions-moved offset s n = by_place (get s.places n) refl ∙ ap (λ (o : O
     by_stage Held (Kept_directory listing) is = remove-absent (descriptions s) n (get-descriptions_by s n _ is)
     by_stage Held (Kept_file file) is = remove-absent (descriptions s) n (get-descriptions_by s n _ is)
     by_stage Held (Kept_pipe pipe) is = remove-absent (descriptions s) n (get-descriptions_by s n _ is)
+    by_stage Held (Kept_fixed fixed) is = remove-absent (descriptions s) n (get-descriptions_by s n _ is)
     by_stage Held Kept_nothing is = remove-absent (descriptions s) n (get-descriptions_by s n _ is)
     by_stage Coming object is = remove-absent (descriptions s) n (get-descriptions_by s n _ is)
     by_stage Removed object is = remove-absent (descriptions s) n (get-descriptions_by s n _ is)

@@ -15,7 +15,7 @@ use Rattle.store.specs.Places.{hidden, installed, changed_file, changed_object, 
 use Rattle.store.specs.Shown.{chosen, inode_in, inode_of, shown_at, with_inode}
 use Rattle.store.specs.declared.Header.{Header}
 use Rattle.store.specs.declared.Object.{Object}
-use Rattle.store.specs.declared.Object.TheVariants.{Directory, File, Pipe, Description, Nothing}
+use Rattle.store.specs.declared.Object.TheVariants.{Directory, File, Pipe, Fixed, Description, Nothing}
 use Rattle.store.specs.declared.OpenFile.{OpenFile}
 use Rattle.store.specs.declared.Opened.{Opened}
 use Rattle.store.specs.declared.OpenPipe.{OpenPipe}
@@ -129,6 +129,7 @@ kept-room f same = kept-names (changed_object f) by_object
     by_object (Directory listing) = same listing
     by_object (File file) = refl
     by_object (Pipe pipe) = refl
+    by_object (Fixed fixed) = refl
     by_object (Description opened) = refl
     by_object Nothing = refl
 
@@ -139,6 +140,7 @@ kept-file f = kept-names (changed_file f) by_object
     by_object (Directory listing) = refl
     by_object (File file) = refl
     by_object (Pipe pipe) = refl
+    by_object (Fixed fixed) = refl
     by_object (Description opened) = refl
     by_object Nothing = refl
 
@@ -149,6 +151,7 @@ kept-pipe f = kept-names (changed_pipe f) by_object
     by_object (Directory listing) = refl
     by_object (File file) = refl
     by_object (Pipe pipe) = refl
+    by_object (Fixed fixed) = refl
     by_object (Description opened) = refl
     by_object Nothing = refl
 
@@ -159,6 +162,7 @@ kept-opened f = kept-names (changed_opened f) by_object
     by_object (Directory listing) = refl
     by_object (File file) = refl
     by_object (Pipe pipe) = refl
+    by_object (Fixed fixed) = refl
     by_object (Description opened) = refl
     by_object Nothing = refl
 

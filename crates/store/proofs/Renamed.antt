@@ -20,7 +20,7 @@ use Rattle.store.specs.Numbers.{if_held}
 use Rattle.store.specs.Shown.{chosen, chosen_entries, in_front, inode_in, inode_of, shown_at}
 use Rattle.store.specs.declared.Header.{Header}
 use Rattle.store.specs.declared.Object.{Object}
-use Rattle.store.specs.declared.Object.TheVariants.{Directory, File, Pipe, Description, Nothing}
+use Rattle.store.specs.declared.Object.TheVariants.{Directory, File, Pipe, Fixed, Description, Nothing}
 use Rattle.store.specs.declared.Place.{Place}
 use Rattle.store.specs.declared.Stage.{Stage}
 use Rattle.store.specs.declared.Stage.TheVariants.{Coming, Held, Removed}
@@ -41,6 +41,7 @@ given-named name n (Some header) q = by_object header.place.stage header.place.o
     by_object Held (Directory listing) = given-insert listing.names name n q
     by_object Held (File file) = refl
     by_object Held (Pipe pipe) = refl
+    by_object Held (Fixed fixed) = refl
     by_object Held (Description opened) = refl
     by_object Held Nothing = refl
     by_object Coming object = refl
@@ -54,6 +55,7 @@ given-unnamed name (Some header) q = by_object header.place.stage header.place.o
     by_object Held (Directory listing) = let less : given_in q (remove listing.names name) + given_by (get listing.names name) q ≡ given_in q listing.names = given-remove listing.names name q in omega arith
     by_object Held (File file) = refl
     by_object Held (Pipe pipe) = refl
+    by_object Held (Fixed fixed) = refl
     by_object Held (Description opened) = refl
     by_object Held Nothing = refl
     by_object Coming object = refl
@@ -72,6 +74,7 @@ former-counted headers was d name n is =
     by_object Held (Directory listing) e = given-some listing.names name n e
     by_object Held (File file) e = absurd cc
     by_object Held (Pipe pipe) e = absurd cc
+    by_object Held (Fixed fixed) e = absurd cc
     by_object Held (Description opened) e = absurd cc
     by_object Held Nothing e = absurd cc
     by_object Coming object e = absurd cc
@@ -185,6 +188,7 @@ sound-unnamed name header sound = by_object header.place.stage header.place.obje
     }
     by_object t (File file) links sound = sound
     by_object t (Pipe pipe) links sound = sound
+    by_object t (Fixed fixed) links sound = sound
     by_object t (Description opened) links sound = sound
     by_object t Nothing links sound = sound
 
@@ -203,6 +207,7 @@ sound-named name n header sound = by_object header.place.stage header.place.obje
     }
     by_object t (File file) links sound away few = sound
     by_object t (Pipe pipe) links sound away few = sound
+    by_object t (Fixed fixed) links sound away few = sound
     by_object t (Description opened) links sound away few = sound
     by_object t Nothing links sound away few = sound
 
@@ -287,6 +292,7 @@ module _ (f : Listing → Listing) (old named : Slab Header) (d : ℕ) (u : Upda
       by_object Held (Directory listing) = refl
       by_object Held (File file) = refl
       by_object Held (Pipe pipe) = refl
+      by_object Held (Fixed fixed) = refl
       by_object Held (Description opened) = refl
       by_object Held Nothing = refl
       by_object Coming object = refl

@@ -48,6 +48,7 @@ pub fn shows_names_at(headers: &Slab<Header, Heap>, key: usize) -> bool
         Some(Object::Directory(_)) => true,
         Some(Object::File(_)) => false,
         Some(Object::Pipe(_)) => false,
+        Some(Object::Fixed(_)) => false,
         Some(Object::Description(_)) => false,
         Some(Object::Nothing) => false,
         None => false,
@@ -71,6 +72,7 @@ fn is_promised_in(object: &Object) -> bool
         Object::Directory(dir) => dir.is_promised(),
         Object::File(_) => false,
         Object::Pipe(_) => false,
+        Object::Fixed(_) => false,
         Object::Description(_) => false,
         Object::Nothing => false,
     }
@@ -145,6 +147,7 @@ fn promise_in(object: &mut Object) -> Result<(), AllocError>
         Object::Directory(dir) => dir.promise(),
         Object::File(_) => Ok(()),
         Object::Pipe(_) => Ok(()),
+        Object::Fixed(_) => Ok(()),
         Object::Description(_) => Ok(()),
         Object::Nothing => Ok(()),
     }
@@ -167,6 +170,7 @@ fn release_in(object: &mut Object)
         Object::Directory(dir) => release_one(dir),
         Object::File(_) => (),
         Object::Pipe(_) => (),
+        Object::Fixed(_) => (),
         Object::Description(_) => (),
         Object::Nothing => (),
     }
@@ -213,6 +217,7 @@ fn add_name_in(object: &mut Object, name: Name, num: Num) -> Option<Num>
         Object::Directory(dir) => put_name(dir, name, num),
         Object::File(_) => None,
         Object::Pipe(_) => None,
+        Object::Fixed(_) => None,
         Object::Description(_) => None,
         Object::Nothing => None,
     }
@@ -252,6 +257,7 @@ fn remove_name_in(object: &mut Object, name: &Name) -> Option<Num>
         Object::Directory(dir) => dir.remove(name),
         Object::File(_) => None,
         Object::Pipe(_) => None,
+        Object::Fixed(_) => None,
         Object::Description(_) => None,
         Object::Nothing => None,
     }

@@ -8,6 +8,7 @@ ghost use Rattle.model.specs.Changes.{written};
 ghost use Rattle.std.specs.Prelude.{option_and_then, option_copied, option_map, IsSome};
 ghost use Rattle.model.specs.FiniteMap as map;
 ghost use Rattle.model.specs.State.{file_of_inode, kind, mapped, names_of_inode, pipe_of_inode};
+ghost use Rattle.model.specs.State.{target_of_inode};
 ghost use Rattle.model.specs.State.{Directory as A_directory, File as A_file, Pipe as A_pipe};
 ghost use Rattle.store.specs.Numbers.{coming, object_at, present, IsFirstRoot};
 ghost use Rattle.store.specs.Places.{altered, installed, lost, swept, listing_of, file_in, file_of};
@@ -26,7 +27,7 @@ mod naming;
 
 use dirlist::Dir;
 use heap::Heap;
-use ids::{Kind, Num};
+use ids::{Fixed, Kind, Num};
 use objects::{Description, FileData, PipeData};
 use slab::Slab;
 use std::alloc::AllocError;
@@ -94,9 +95,11 @@ pub enum Object {
     File(OpenFile),
     /// A pipe.
     Pipe(OpenPipe),
+    /// A symbolic link, a FIFO or a socket.
+    Fixed(Fixed),
     /// An open file description.
     Description(Opened),
-    /// Not settled yet: a file, a pipe or a description is to come.
+    /// Not settled yet: an object that is no directory is to come.
     Nothing,
 }
 
@@ -106,6 +109,7 @@ impl Drop for Object {
             Object::Directory(_) => {}
             Object::File(_) => {}
             Object::Pipe(_) => {}
+            Object::Fixed(_) => {}
             Object::Description(_) => {}
             Object::Nothing => {}
         }
@@ -317,6 +321,7 @@ impl Store {
             Some(Object::Directory(dir)) => Some(dir),
             Some(Object::File(_)) => None,
             Some(Object::Pipe(_)) => None,
+            Some(Object::Fixed(_)) => None,
             Some(Object::Description(_)) => None,
             Some(Object::Nothing) => None,
             None => None,
@@ -333,6 +338,7 @@ impl Store {
         match self.get(num) {
             Some(Object::File(file)) => Some(&file.bytes),
             Some(Object::Pipe(_)) => None,
+            Some(Object::Fixed(_)) => None,
             Some(Object::Directory(_)) => None,
             Some(Object::Description(_)) => None,
             Some(Object::Nothing) => None,
@@ -348,11 +354,27 @@ impl Store {
     {
         match self.get(num) {
             Some(Object::Pipe(pipe)) => Some(pipe),
+            Some(Object::Fixed(_)) => None,
             Some(Object::Directory(_)) => None,
             Some(Object::File(_)) => None,
             Some(Object::Description(_)) => None,
             Some(Object::Nothing) => None,
             None => None,
+        }
+    }
+
+    /// The target of the symbolic link of a number, where one is shown; else no bytes.
+    pub fn target(&self, num: Num) -> &[u8]
+        ensures { result.now ≡ target_of_inode (map.get (inodes self.now) num) }
+    {
+        match self.get(num) {
+            Some(Object::Fixed(fixed)) => fixed.target(),
+            Some(Object::Directory(_)) => &[],
+            Some(Object::File(_)) => &[],
+            Some(Object::Pipe(_)) => &[],
+            Some(Object::Description(_)) => &[],
+            Some(Object::Nothing) => &[],
+            None => &[],
         }
     }
 
@@ -365,6 +387,7 @@ impl Store {
             Some(Object::Directory(_)) => None,
             Some(Object::File(_)) => None,
             Some(Object::Pipe(_)) => None,
+            Some(Object::Fixed(_)) => None,
             Some(Object::Nothing) => None,
             None => None,
         }
@@ -378,6 +401,7 @@ impl Store {
             Some(Object::Directory(_)) => Some(Kind::Dir),
             Some(Object::File(_)) => Some(Kind::File),
             Some(Object::Pipe(_)) => Some(Kind::Pipe),
+            Some(Object::Fixed(fixed)) => Some(fixed.kind()),
             Some(Object::Description(_)) => None,
             Some(Object::Nothing) => None,
             None => None,

@@ -5,8 +5,8 @@ use Rattle.std.proofs.Common.{List, [], ◌∷◌, ◌++◌, append-nil, refl, s
 use Rattle.std.proofs.Common.{arith, inl, inr, ◌⊎◌}
 use Rattle.std.proofs.lemmas.List.Sums.{sum_by-cons}
 use Rattle.ids.specs.declared.edit.Mode.{Mode}
-use Rattle.model.specs.State.{Kernel, Name}
-use Rattle.model.specs.Changes.{Append, Clear_slot, Cut, Edit, Make_directory, Make_file, Make_pipe, Open_inode, Take}
+use Rattle.model.specs.State.{Fixed_content, Kernel, Name}
+use Rattle.model.specs.Changes.{Append, Clear_slot, Cut, Edit, Make_directory, Make_file, Make_fixed, Make_pipe, Open_inode, Take}
 use Rattle.model.specs.Changes.{Move, Name_file, Replaced, Share_slot, Unname_file}
 use Rattle.model.specs.Changes.{Put_bytes, Set_offset, Unname_directory, Which, all_applied}
 use Rattle.model.specs.Changes.{applied, news, tidy}
@@ -62,7 +62,7 @@ all_others (m ∷ ms) n =
 -- the claims of one edit
 claimed_alone : (chosen : List ℕ) (e : Edit) → IsOne e → ClaimsAlone chosen e
 claimed_alone chosen e one =
-    by_one (ClaimsAlone chosen) directory file unnaming linking unlinking renaming put cut opening
+    by_one (ClaimsAlone chosen) directory file never_changing unnaming linking unlinking renaming put cut opening
     moving clearing sharing taking appending piping e one
   where
     unnaming : (d : ℕ) (x : Name) (m : ℕ) → ClaimsAlone chosen (Unname_directory d x m)
@@ -136,6 +136,12 @@ claimed_alone chosen e one =
     file d x i (Room r) = refl
     file d x i (New_directory n) = and_false (new_in chosen i == n)
     file d x i (Number n) = and_true (new_in chosen i == n)
+
+    never_changing : (d : ℕ) (x : Name) (fixed : Fixed_content) (i : ℕ)
+        → ClaimsAlone chosen (Make_fixed d x fixed i)
+    never_changing d x fixed i (Room r) = refl
+    never_changing d x fixed i (New_directory n) = and_false (new_in chosen i == n)
+    never_changing d x fixed i (Number n) = and_true (new_in chosen i == n)
 
     opening : (i : ℕ) (inode : Which) (mode : Mode) (pid f : ℕ)
         → ClaimsAlone chosen (Open_inode i inode mode pid f)

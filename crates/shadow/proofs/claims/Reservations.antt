@@ -23,7 +23,7 @@ use Rattle.store.specs.declared.Place.{Place}
 use Rattle.store.specs.declared.Stage.{Stage}
 use Rattle.store.specs.declared.Stage.TheVariants.{Coming, Held, Removed}
 use Rattle.store.specs.declared.Object.{Object}
-use Rattle.store.specs.declared.Object.TheVariants.{Directory as Kept_directory, File as Kept_file, Pipe as Kept_pipe, Description as Kept_description, Nothing}
+use Rattle.store.specs.declared.Object.TheVariants.{Directory as Kept_directory, File as Kept_file, Pipe as Kept_pipe, Fixed as Kept_fixed, Description as Kept_description, Nothing}
 use Rattle.freeing_laws.specs.Pipes.{ArePair}
 use Rattle.shadow.specs.Stored.{FitsStage, IsBare, IsStaged, IsUnsettled, Processes, Sound, state_of, stored}
 use Rattle.shadow.proofs.shared.PlaceLemmas.{get_chosen, remove_absent, place_altered, place_other, place_over, place_swept_other, swept_stays, without_place}
@@ -88,6 +88,7 @@ IsSomething Nothing = ⊥
 IsSomething (Kept_directory l) = ⊤
 IsSomething (Kept_file file) = ⊤
 IsSomething (Kept_pipe pipe) = ⊤
+IsSomething (Kept_fixed fixed) = ⊤
 IsSomething (Kept_description opened) = ⊤
 
 something : (l : Listing) → Kept_directory l ≢ Nothing
@@ -104,6 +105,7 @@ more_staged (Some place) fits = by_stage place.stage place.object fits
     by_stage Removed (Kept_directory l) fits = lt-ltb 0 (l.promised + 1) (omega arith)
     by_stage t (Kept_file file) fits = fits
     by_stage t (Kept_pipe pipe) fits = fits
+    by_stage t (Kept_fixed fixed) fits = fits
     by_stage t (Kept_description opened) fits = fits
     by_stage t Nothing fits = fits
 
@@ -118,6 +120,7 @@ less_staged (Some place) fits left = by_stage place.stage place.object fits left
     by_stage Removed (Kept_directory l) fits left = not_false (has_room (listing_of (changed_object less_room (Kept_directory l)))) left
     by_stage t (Kept_file file) fits left = fits
     by_stage t (Kept_pipe pipe) fits left = fits
+    by_stage t (Kept_fixed fixed) fits left = fits
     by_stage t (Kept_description opened) fits left = fits
     by_stage t Nothing fits left = fits
 
@@ -145,6 +148,7 @@ shows_in f s d n object none is = elim (cases_eq n d) [
     by_stage Held (Kept_directory l) is = absurd (no_listing (f l) object (some_object (Kept_directory (f l)) object is) none)
     by_stage Held (Kept_file file) is = is
     by_stage Held (Kept_pipe pipe) is = is
+    by_stage Held (Kept_fixed fixed) is = is
     by_stage Held (Kept_description opened) is = is
     by_stage Held Nothing is = is
     by_stage Coming o is = is
@@ -237,6 +241,7 @@ bare_names (Kept_directory l) bare = bare.0
 bare_names Nothing bare = refl
 bare_names (Kept_file file) bare = absurd bare
 bare_names (Kept_pipe pipe) bare = absurd bare
+bare_names (Kept_fixed fixed) bare = absurd bare
 bare_names (Kept_description opened) bare = absurd bare
 
 unsettled : (object : Object) → IsBare object → IsUnsettled object
@@ -244,6 +249,7 @@ unsettled (Kept_directory l) bare = λ x. ap (λ (ns : FinMap name_cmp ℕ). get
 unsettled Nothing bare = tt
 unsettled (Kept_file file) bare = absurd bare
 unsettled (Kept_pipe pipe) bare = absurd bare
+unsettled (Kept_fixed fixed) bare = absurd bare
 unsettled (Kept_description opened) bare = absurd bare
 
 shows_coming : (s : Numbers) (n : ℕ) (o : Object) → ShowsNoMore s (with_place s n (coming o))

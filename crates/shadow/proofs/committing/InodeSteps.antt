@@ -19,7 +19,7 @@ use Rattle.store.specs.declared.Object.TheVariants.{Directory as A_directory}
 use Rattle.store.proofs.Laws.{MayBeNamed, altered-alike, altered-same, left-altered, place-altered, place-other}
 use Rattle.shadow.specs.declared.change.InodeChange.{InodeChange}
 use Rattle.shadow.specs.declared.change.Contents.{Contents}
-use Rattle.shadow.specs.declared.change.Contents.TheVariants.{Same, Names, Bytes, Pipe as Piped}
+use Rattle.shadow.specs.declared.change.Contents.TheVariants.{Same, Names, Bytes, Pipe as Piped, Fixed as As_fixed}
 use Rattle.shadow.specs.Patches.{kept_at}
 use Rattle.shadow.specs.Laid.{AreReady, IsCarried, IsCarriedBy, IsReady, IsReadyContents, IsReadyDirectory, IsReadyFile, IsReadyPipe, named_by, shown_if}
 use Rattle.shadow.proofs.shared.SortedKeys.{first_absent, first_kept, later_kept, not_first, rest_sorted}
@@ -108,6 +108,7 @@ carried_named c (Names fresh notes) before after is named = ap may_be_named is �
 carried_named c (Bytes fresh bytes) before after is named = ap may_be_named is.place
 carried_named c (Piped (Some new) changes) before after is named = ap may_be_named is
 carried_named c (Piped None changes) before after is named = ap may_be_named is.is
+carried_named c (As_fixed fixed) before after is named = ap may_be_named is
 
 -- the changes of the first inode are made
 module _ (n : ℕ) (c : InodeChange) (rest : List (ℕ × InodeChange)) (sorted : IsStrictlySortedBy nat_cmp (keys_of ((n, c) ∷ rest)))
@@ -156,6 +157,7 @@ module _ (n : ℕ) (c : InodeChange) (rest : List (ℕ × InodeChange)) (sorted 
       }
       by_contents (Bytes fresh bytes) h = subst (λ (o : Option Place). IsReadyFile (is_some d.made) o) (sym (others m away)) h
       by_contents (Piped fresh changes) h = subst (IsReadyPipe fresh changes) (sym (others m away)) h
+      by_contents (As_fixed fixed) h = others m away ∙ h
 
 pub first_ready : (n : ℕ) (c : InodeChange) (rest : List (ℕ × InodeChange)) (s : Numbers) → AreReady ((n, c) ∷ rest) s → IsReady s n c
 first_ready n c rest s ready = ready n c (first_kept n c rest)

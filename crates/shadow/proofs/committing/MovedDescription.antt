@@ -15,7 +15,7 @@ use Rattle.store.specs.declared.Place.{Place}
 use Rattle.store.specs.declared.Stage.{Stage}
 use Rattle.store.specs.declared.Stage.TheVariants.{Coming, Held, Removed}
 use Rattle.store.specs.declared.Object.{Object}
-use Rattle.store.specs.declared.Object.TheVariants.{Directory as A_directory, File as A_file, Pipe as A_pipe}
+use Rattle.store.specs.declared.Object.TheVariants.{Directory as A_directory, File as A_file, Pipe as A_pipe, Fixed as A_fixed}
 use Rattle.store.specs.declared.Object.TheVariants.{Description as A_description, Nothing}
 use Rattle.store.proofs.Laws.{descriptions-moved, inodes-opened, left-altered, place-other}
 use Rattle.shadow.specs.Stored.{AreCounted, Processes, reserve_in, state_of, stored}
@@ -38,6 +38,7 @@ module _ (f : Opened → Opened) where
       by_object (A_directory listing) = refl
       by_object (A_file file) = refl
       by_object (A_pipe pipe) = refl
+      by_object (A_fixed fixed) = refl
       by_object (A_description opened) = refl
       by_object Nothing = refl
 
@@ -53,6 +54,7 @@ module _ (f : Opened → Opened) where
       by_stage Held (A_directory listing) = refl
       by_stage Held (A_file file) = refl
       by_stage Held (A_pipe pipe) = refl
+      by_stage Held (A_fixed fixed) = refl
       by_stage Held (A_description opened) = refl
       by_stage Held Nothing = refl
 
@@ -69,6 +71,7 @@ module _ (f : Opened → Opened) where
       by_stage Held (A_directory listing) = refl
       by_stage Held (A_file file) = refl
       by_stage Held (A_pipe pipe) = refl
+      by_stage Held (A_fixed fixed) = refl
       by_stage Held (A_description opened) = ap (λ (c : ℕ). Some c) (same opened)
       by_stage Held Nothing = refl
 

@@ -17,7 +17,7 @@ use Rattle.store.specs.declared.Opened.{Opened}
 use Rattle.store.specs.declared.OpenPipe.{OpenPipe}
 use Rattle.store.specs.declared.Place.{Place}
 use Rattle.store.specs.declared.Object.{Object}
-use Rattle.store.specs.declared.Object.TheVariants.{Directory as A_directory, File as A_file, Pipe as A_pipe}
+use Rattle.store.specs.declared.Object.TheVariants.{Directory as A_directory, File as A_file, Pipe as A_pipe, Fixed as A_fixed}
 use Rattle.store.specs.declared.Object.TheVariants.{Description as A_description, Nothing}
 use Rattle.store.proofs.Laws.{descriptions-filed, descriptions-set, get-descriptions_by}
 use Rattle.store.proofs.Laws.{get-inodes_by, inodes-filed, inodes-set, place-altered, place-other}
@@ -46,6 +46,7 @@ not_counted place = by_object place.object
     by_object (A_directory listing) = refl
     by_object (A_file file) = refl
     by_object (A_pipe pipe) = refl
+    by_object (A_fixed fixed) = refl
     by_object (A_description opened) = refl
     by_object Nothing = refl
 

@@ -6,7 +6,7 @@ use Rattle.std.specs.Option.{option_and_then}
 use Rattle.std.specs.Cmp.{nat_cmp_total}
 use Rattle.fdtable.specs.Patches.{Given}
 use Rattle.model.specs.FiniteMap.{get, nat_cmp-IsAntisymmetric, same_map}
-use Rattle.model.specs.State.{A_directory, Description, Kernel, Name, is_end, kind, kind_of}
+use Rattle.model.specs.State.{Description, Kernel, Kind, Name, is_end, kind, kind_of}
 use Rattle.model.specs.State.{mapped, names_of}
 use Rattle.model.specs.Changes.{holders, openings}
 use Rattle.model.specs.Effects.{Effect, all_done}
@@ -21,7 +21,7 @@ use Rattle.store.specs.declared.Stage.{Stage}
 use Rattle.store.specs.declared.Stage.TheVariants.{Coming, Held, Removed}
 use Rattle.store.specs.declared.Object.{Object}
 use Rattle.store.specs.declared.Object.TheVariants.{Directory as Kept_directory}
-use Rattle.store.specs.declared.Object.TheVariants.{File as Kept_file, Pipe as Kept_pipe}
+use Rattle.store.specs.declared.Object.TheVariants.{File as Kept_file, Pipe as Kept_pipe, Fixed as Kept_fixed}
 use Rattle.store.specs.declared.Object.TheVariants.{Description as Kept_description, Nothing}
 use Rattle.store.proofs.Laws.{get-chosen, get-descriptions_by, get-inodes_by}
 use Rattle.shadow.specs.Claims.{Claim, Room, New_directory, Number, as_count, claim_in, claimed}
@@ -63,6 +63,7 @@ no_inode (Some place) there = by_stage place.stage place.object there
     by_stage Held (Kept_directory listing) there = absurd (there refl)
     by_stage Held (Kept_file file) there = absurd (there refl)
     by_stage Held (Kept_pipe pipe) there = absurd (there refl)
+    by_stage Held (Kept_fixed fixed) there = absurd (there refl)
     by_stage Held (Kept_description opened) there = refl
     by_stage Held Nothing there = refl
 
@@ -106,12 +107,12 @@ same_kernel k l root inodes descriptions processes made largest = λ i. record {
   largest = largest i;
 }
 
--- a description is of no directory, so none opens one
-not_opened : (k : Kernel) → WellFormed k → (n : ℕ) → kind_of k n ≡ Some A_directory
-    → openings k n ≡ 0
-not_opened k well n is =
+-- a description is of what can be opened, so none opens anything else
+not_opened : (k : Kernel) → WellFormed k → (n : ℕ) (what : Kind) → kind_of k n ≡ Some what
+    → (CanBeOpened (Some what) → ⊥) → openings k n ≡ 0
+not_opened k well n what is never =
     openings_change_lem.unopened k n (λ d it there same.
-    subst CanBeOpened (ap (kind_of k) same ∙ is) (well.descriptions d it there))
+    never (subst CanBeOpened (ap (kind_of k) same ∙ is) (well.descriptions d it there)))
 
 -- what a name gives is an inode, and so no description
 not_named : (ps : Processes) (s : Numbers) → WellFormed (state_of ps s) → (d n : ℕ) (x : Name)

@@ -12,7 +12,7 @@ use Rattle.store.specs.declared.Place.{Place}
 use Rattle.store.specs.declared.Stage.{Stage}
 use Rattle.store.specs.declared.Stage.TheVariants.{Coming, Held, Removed}
 use Rattle.store.specs.declared.Object.{Object}
-use Rattle.store.specs.declared.Object.TheVariants.{Directory as Kept_directory, File as Kept_file, Pipe as Kept_pipe, Description as Kept_description, Nothing}
+use Rattle.store.specs.declared.Object.TheVariants.{Directory as Kept_directory, File as Kept_file, Pipe as Kept_pipe, Fixed as Kept_fixed, Description as Kept_description, Nothing}
 use Rattle.store.proofs.Laws.{get-chosen, get-inodes, get-descriptions, left-altered, place-altered, place-other, place-over, place-swept-other, swept-stays, without_place}
 use Rattle.shadow.specs.Claims.{Claim, Room, New_directory, Number, number_of, or_zero, room_of, coming_directory, coming_other}
 use Rattle.shadow.specs.Laid.{kept_in}
@@ -97,6 +97,7 @@ no_room : (object : Object) → has_room (listing_of object) ≡ false → kept_
 no_room (Kept_directory l) e = let low : l.promised ≤ 0 = ltb-false 0 l.promised e in omega arith
 no_room (Kept_file file) e = refl
 no_room (Kept_pipe pipe) e = refl
+no_room (Kept_fixed fixed) e = refl
 no_room (Kept_description opened) e = refl
 no_room Nothing e = refl
 
@@ -162,6 +163,7 @@ file_claims f (Room r) t (Kept_file file) = refl
 file_claims f (New_directory m) t (Kept_file file) = refl
 file_claims f (Number m) t (Kept_file file) = refl
 file_claims f c t (Kept_pipe pipe) = refl
+file_claims f c t (Kept_fixed fixed) = refl
 file_claims f c t (Kept_description opened) = refl
 file_claims f c t Nothing = refl
 
@@ -174,6 +176,7 @@ file_fits f Coming (Kept_file file) fits = absurd fits
 file_fits f Held (Kept_file file) fits = λ e. cc
 file_fits f Removed (Kept_file file) fits = absurd cc
 file_fits f t (Kept_pipe pipe) fits = fits
+file_fits f t (Kept_fixed fixed) fits = fits
 file_fits f t (Kept_description opened) fits = fits
 file_fits f t Nothing fits = fits
 
@@ -181,6 +184,7 @@ opened_fits : (f : Opened → Opened) (t : Stage) (object : Object) → FitsStag
 opened_fits f t (Kept_directory l) fits = fits
 opened_fits f t (Kept_file file) fits = fits
 opened_fits f t (Kept_pipe pipe) fits = fits
+opened_fits f t (Kept_fixed fixed) fits = fits
 opened_fits f Coming (Kept_description opened) fits = absurd fits
 opened_fits f Held (Kept_description opened) fits = λ e. cc
 opened_fits f Removed (Kept_description opened) fits = absurd cc

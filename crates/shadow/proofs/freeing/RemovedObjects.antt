@@ -4,7 +4,7 @@ use Rattle.std.specs.Option.{option_map, option_and_then}
 use Rattle.std.specs.Cmp.Lexicographic.{nat_list_cmp_total}
 use Rattle.std.proofs.lemmas.Bool.{cases_eq, or_left, or_right}
 use Rattle.model.specs.FiniteMap.{get, remove, empty, same_map, get-empty}
-use Rattle.model.specs.State.{Name, Kernel, Inode, Description, A_directory, name_cmp, kind, kind_of, mapped, names_of, names_of_inode, links}
+use Rattle.model.specs.State.{Name, Kernel, Inode, Description, Kind, name_cmp, kind, kind_of, mapped, names_of, names_of_inode, links}
 use Rattle.model.specs.Changes.{holders, is_held, is_reached, openings}
 use Rattle.model.proofs.Laws.{name_exact, removed_same, removed_other}
 use Rattle.call_laws.proofs.Laws.{empty_gives, none_count, not_none, true_is_false}
@@ -23,7 +23,7 @@ use Rattle.store.specs.declared.Place.{Place}
 use Rattle.store.specs.declared.Stage.{Stage}
 use Rattle.store.specs.declared.Stage.TheVariants.{Coming, Held, Removed}
 use Rattle.store.specs.declared.Object.{Object}
-use Rattle.store.specs.declared.Object.TheVariants.{Directory as Kept_directory, File as Kept_file, Pipe as Kept_pipe, Description as Kept_description, Nothing}
+use Rattle.store.specs.declared.Object.TheVariants.{Directory as Kept_directory, File as Kept_file, Pipe as Kept_pipe, Fixed as Kept_fixed, Description as Kept_description, Nothing}
 use Rattle.store.proofs.Laws.{get-inodes, get-descriptions, inodes-lost, descriptions-lost, links-links_in, place-altered, place-other, remove-absent}
 use Rattle.shadow.specs.Laid.{Frees, Holds}
 use Rattle.shadow.specs.Stored.{Processes, state_of, stored}
@@ -60,6 +60,7 @@ one_kind s d there = get-inodes s d ∙ by_object (object_at s d) (λ none. ther
     by_object (Some (Kept_directory l)) there = absurd (there refl)
     by_object (Some (Kept_file file)) there = absurd (there refl)
     by_object (Some (Kept_pipe pipe)) there = absurd (there refl)
+    by_object (Some (Kept_fixed fixed)) there = absurd (there refl)
     by_object (Some (Kept_description opened)) there = refl
     by_object (Some Nothing) there = absurd (there refl)
 
@@ -71,6 +72,7 @@ not_described s n there = get-descriptions s n ∙ by_object (object_at s n) (λ
     by_object (Some (Kept_directory l)) there = refl
     by_object (Some (Kept_file file)) there = refl
     by_object (Some (Kept_pipe pipe)) there = refl
+    by_object (Some (Kept_fixed fixed)) there = refl
     by_object (Some (Kept_description opened)) there = absurd (there refl)
     by_object (Some Nothing) there = absurd (there refl)
 
@@ -139,11 +141,11 @@ module _ (ps : Processes) (s : Numbers) (n : ℕ) (holds : Holds ps s) where
         by_inode None e gives = absurd (empty_gives name_cmp x d gives)
         by_inode (Some i) e gives = ap (λ o. get (names_of_inode o) x) (inode_before m i e) ∙ gives
 
-    kind_before : (m : ℕ) → mapped kind (get (inodes (lost s n)) m) ≡ Some A_directory → mapped kind (get (inodes s) m) ≡ Some A_directory
-    kind_before m is = by_inode (get (inodes t) m) refl is
+    kind_before : (m : ℕ) (what : Kind) → mapped kind (get (inodes (lost s n)) m) ≡ Some what → mapped kind (get (inodes s) m) ≡ Some what
+    kind_before m what is = by_inode (get (inodes t) m) refl is
       where
-        by_inode : (o : Option Inode) → get (inodes t) m ≡ o → mapped kind o ≡ Some A_directory → mapped kind (get (inodes s) m) ≡ Some A_directory
-        by_inode None e is = absurd (not_none A_directory (sym is))
+        by_inode : (o : Option Inode) → get (inodes t) m ≡ o → mapped kind o ≡ Some what → mapped kind (get (inodes s) m) ≡ Some what
+        by_inode None e is = absurd (not_none what (sym is))
         by_inode (Some i) e is = ap (mapped kind) (inode_before m i e) ∙ is
 
     same_openings : (m : ℕ) → openings (state_of ps (lost s n)) m ≡ openings (state_of ps s) m
@@ -156,7 +158,7 @@ module _ (ps : Processes) (s : Numbers) (n : ℕ) (holds : Holds ps s) where
         root = lost_root s n ∙ holds.root;
         parented = subst AreParented (sym state) (sweep_is_tidy_lem.turn k n holds.parented);
         unnamed = λ d m x there gives. holds.unnamed d m x (λ none. there (ap (λ q. get q d) same_descriptions ∙ none)) (name_before m x d gives);
-        unopened = λ m is. same_openings m ∙ holds.unopened m (kind_before m is);
+        unopened = λ m what is never. same_openings m ∙ holds.unopened m what (kind_before m what is) never;
         staged = lost_staged s n holds.staged;
         counted = record {
           openings = λ m file is. holds.counted.openings m file (lost_before s n m (Kept_file file) is) ∙ sym (same_openings m);
@@ -188,6 +190,7 @@ shown_description s d it is = by_place (get s.places d) refl (sym (get-descripti
     by_object (Kept_directory l) at is = absurd (not_none it (sym is))
     by_object (Kept_file file) at is = absurd (not_none it (sym is))
     by_object (Kept_pipe pipe) at is = absurd (not_none it (sym is))
+    by_object (Kept_fixed fixed) at is = absurd (not_none it (sym is))
     by_object Nothing at is = absurd (not_none it (sym is))
 
     by_place : (o : Option Place) → get s.places d ≡ o → option_and_then description_of (held o) ≡ Some it → IsShown s d it
@@ -218,6 +221,7 @@ file_before (Some place) file is = by_stage place.stage place.object is
         count _ = 0
     by_object (Kept_directory l) is = absurd cc
     by_object (Kept_pipe pipe) is = absurd cc
+    by_object (Kept_fixed fixed) is = absurd cc
     by_object (Kept_description opened) is = absurd cc
     by_object Nothing is = absurd cc
 
@@ -233,6 +237,7 @@ opened_before (Some place) opened is = by_stage place.stage place.object is
     by_object : (object : Object) → Some (changed_file less_openings object) ≡ Some (Kept_description opened) → Some object ≡ Some (Kept_description opened)
     by_object (Kept_file before) is = absurd cc
     by_object (Kept_pipe pipe) is = absurd cc
+    by_object (Kept_fixed fixed) is = absurd cc
     by_object (Kept_directory l) is = absurd cc
     by_object (Kept_description opened) is = is
     by_object Nothing is = absurd cc
@@ -332,7 +337,7 @@ module _ (ps : Processes) (s : Numbers) (d : ℕ) (it : Description) (holds : Ho
           root = lost_root s d ∙ holds.root;
           parented = subst AreParented (sym left_state) parented;
           unnamed = λ e n x there gives. holds.unnamed e n x (there_before e there) (ap (λ (k : Kernel). get (names_of k n) x) (sym left_state) ∙ gives);
-          unopened = λ n is. ap (λ (k : Kernel). openings k n) left_state ∙ none_more n (holds.unopened n (ap (λ (k : Kernel). kind_of k n) (sym left_state) ∙ is));
+          unopened = λ n what is never. ap (λ (k : Kernel). openings k n) left_state ∙ none_more n (holds.unopened n what (ap (λ (k : Kernel). kind_of k n) (sym left_state) ∙ is) never);
           staged = file_staged less_openings hid it.inode (lost_staged s d holds.staged);
           counted = record {
             openings = λ n file at. file_counted n file at ∙ ap (λ (k : Kernel). openings k n) (sym left_state);

@@ -15,7 +15,7 @@ use Rattle.freeing_laws.proofs.Pipes.{pipes_keep_their_ends_lem}
 use Rattle.freeing_laws.specs.Counts.{named, times, unnamed}
 use Rattle.freeing_laws.specs.Left.{all_named, all_unnamed}
 use Rattle.shadow.specs.declared.change.Contents.{Contents}
-use Rattle.shadow.specs.declared.change.Contents.TheVariants.{Same, Names, Bytes, Pipe as Piped}
+use Rattle.shadow.specs.declared.change.Contents.TheVariants.{Same, Names, Bytes, Pipe as Piped, Fixed as As_fixed}
 use Rattle.shadow.specs.Agrees.{IsOver, IsOverDescription}
 use Rattle.shadow.specs.Patches.{AllReach, new_ends, no_change, Patches, added_by, form_of, kept_at, net_at, numbers_in, opening_at, patched, reopened, reslotted, reslotted_by, slots_in}
 use Rattle.shadow.specs.Steps.{CanPass, MakesPipe, Applies, AreApart, IsOne, TakesAll, TakesIn, blocks_by, description_after, inode_after, made_after, new_in, numbers_kept, opened_in, parents_in, process_after}
@@ -65,6 +65,7 @@ shows_pipe Same ends is o = absurd cc
 shows_pipe (Names fresh notes) ends is o = absurd cc
 shows_pipe (Bytes fresh bytes) ends is o = absurd cc
 shows_pipe (Piped fresh changes) ends is o = refl
+shows_pipe (As_fixed fixed) ends is o = absurd cc
 
 made_pair : (chosen : List ℕ) (e : Edit) (mid : Kernel) → WellFormed mid → Fits chosen mid e → (n : ℕ) (ends : ℕ × ℕ) → MakesPipe chosen e n ends → ArePair (applied chosen e mid).descriptions n ends.0 ends.1
 made_pair chosen (Make_pipe i pid f g) mid well fit n ends is =

@@ -15,4 +15,4 @@ returns-clause-ok c =
     subst (λ (p : Patches). TakesIn (c.args.num ∷ []) edit p new) c.self.view_is
     (same_then_takes (c.args.num ∷ []) edit old mid new
     (only_inodes old mid (same_inodes was.inodes c.make_named.new.self c.make_place.new.self c.make_named.ensures.same c.make_place.ensures.same) refl refl refl)
-    (making_takes c.args.what c.requires.named c.args.parent c.args.num c.args.name c.note_name.new.self mid new c.requires.apart c.in_ok-note_name.ensures.ok c.note_made.ensures refl refl refl))
+    (making_takes c.args.what c.args.parent c.args.num c.args.name c.note_name.new.self mid new c.requires c.in_ok-note_name.ensures.ok c.note_made.ensures refl refl refl))

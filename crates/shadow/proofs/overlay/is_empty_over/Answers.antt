@@ -5,7 +5,7 @@ use Rattle.model.specs.Paths.{is_empty}
 use Rattle.shadow.specs.Patches.{patched}
 use Rattle.shadow.specs.declared.change.Contents.TheVariants.{Names}
 use Rattle.shadow.proofs.viewing.LookLemmas.{empty_has_none, empty_told, no_keys}
-use Rattle.shadow.proofs.view.is_empty_over.Goals as goal
+use Rattle.shadow.proofs.overlay.is_empty_over.Goals as goal
 
 pub returns-in-Same : goal.returns-in-Same
 returns-in-Same c = λ o same.
@@ -17,6 +17,9 @@ returns-in-Bytes c = λ o same. empty_has_none ∙ ap (λ t. is_empty (keys (nam
 
 pub returns-in-Pipe : goal.returns-in-Pipe
 returns-in-Pipe c = λ o same. empty_has_none ∙ ap (λ t. is_empty (keys (names_of_inode (patched t o)))) (sym c.in-Pipe.is)
+
+pub returns-in-Fixed : goal.returns-in-Fixed
+returns-in-Fixed c = λ o same. empty_has_none ∙ ap (λ t. is_empty (keys (names_of_inode (patched t o)))) (sym c.in-Fixed.is)
 
 pub returns-in-Names-true-default : goal.returns-in-Names-true-default
 returns-in-Names-true-default c =

@@ -1,7 +1,7 @@
 use Rattle.std.proofs.Common.{◌≡◌, true, false, sym, rules}
 use Rattle.shadow.specs.declared.change.Contents.TheVariants.{Names}
 use Rattle.shadow.proofs.viewing.LookLemmas.{keys_told}
-use Rattle.shadow.proofs.view.names_over.Goals as goal
+use Rattle.shadow.proofs.overlay.names_over.Goals as goal
 
 pub returns-in-Names-true-default : goal.returns-in-Names-true-default
 returns-in-Names-true-default c =
