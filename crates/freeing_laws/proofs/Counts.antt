@@ -1,8 +1,8 @@
 -- By how much each edit changes the counts.
 use Rattle.std.proofs.Common.{◌≡◌, ◌≢◌, ℕ, ◌+◌, ◌==◌, Bool, cond, ◌&&◌, List, Option, [], ◌∷◌, ◌++◌, drop, Some, None, refl, sym, ap, ◌∙◌, arith, nat_cmp}
 use Rattle.model.specs.FiniteMap.{FinMap, get, empty, insert, remove, values}
-use Rattle.model.specs.State.{Name, name_cmp, A_directory, A_pipe, Kernel, Inode, File, Directory, Pipe, Description, Process, kind, names_of, file_of, pipe_of, kind_of, links, ends, is_end}
-use Rattle.model.specs.Changes.{Edit, Made, number, Make_directory, Make_file, Name_file, Unname_file, Unname_directory, Move, Put_bytes, Cut, Take, Append, Set_offset, Open_inode, Make_pipe, Share_slot, Clear_slot, New_process, End_process, Mode, to_read, to_write, applied, process_of, set_inode, set_name, clear_name, at_offset, at_start, open_at, set_offset, set_process, without_slot, sized, written, holders, openings}
+use Rattle.model.specs.State.{Name, name_cmp, A_directory, A_pipe, Kernel, Inode, File, Directory, Pipe, Fixed, Description, Process, kind, names_of, file_of, pipe_of, kind_of, links, ends, is_end}
+use Rattle.model.specs.Changes.{Edit, Made, number, Make_directory, Make_file, Make_fixed, Name_file, Unname_file, Unname_directory, Move, Put_bytes, Cut, Take, Append, Set_offset, Open_inode, Make_pipe, Share_slot, Clear_slot, New_process, End_process, Mode, to_read, to_write, applied, process_of, set_inode, set_name, clear_name, at_offset, at_start, open_at, set_offset, set_process, without_slot, sized, written, holders, openings}
 use Rattle.model.proofs.Laws.{get_same, get_other}
 use Rattle.call_laws.specs.Fits.{Fits, CanBeReplaced, CanMove, CanPipe, IsUnused, table_of}
 use Rattle.model.specs.Changes.{Replaced, Over_nothing, Over_file, Over_directory, inode_replaced}
@@ -233,6 +233,8 @@ counts_change chosen k (Make_directory d x i) f = by_inodes chosen k (Make_direc
     (made_links k d x (number chosen (Made i)) (Directory empty) f.1.inode (is_new k _ (Directory empty) f.1.inode refl refl refl) f.0.parent.directory f.0.free)
 counts_change chosen k (Make_file d x i) f = by_inodes chosen k (Make_file d x i) _ refl refl refl refl
     (made_links k d x (number chosen (Made i)) (File []) f.1.inode (is_new k _ (File []) f.1.inode refl refl refl) f.0.parent.directory f.0.free)
+counts_change chosen k (Make_fixed d x fixed i) f = by_inodes chosen k (Make_fixed d x fixed i) _ refl refl refl refl
+    (made_links k d x (number chosen (Made i)) (Fixed fixed) f.1.inode (is_new k _ (Fixed fixed) f.1.inode refl refl refl) f.0.parent.directory f.0.free)
 counts_change chosen k (Name_file d x n) f = by_inodes chosen k (Name_file d x n) _ refl refl refl refl (named_links k d x n f.0.parent.directory f.0.free)
 counts_change chosen k (Unname_file d x n) f = by_inodes chosen k (Unname_file d x n) _ refl refl refl refl (unnamed_links k d x n f.parent.directory f.gives)
 counts_change chosen k (Unname_directory d x n) f = by_inodes chosen k (Unname_directory d x n) _ refl refl refl refl (unnamed_links k d x n f.0.parent.directory f.0.gives)

@@ -4,8 +4,8 @@ use Rattle.std.proofs.lemmas.Bool.{cases_eq, false≢true}
 use Rattle.std.proofs.lemmas.List.Sums.{sum_by-cons}
 use Rattle.model.specs.FiniteMap.{FinMap, get, values, insert, empty}
 use Rattle.model.specs.Limits.{capacity}
-use Rattle.model.specs.State.{A_file, A_pipe, Description, Directory, File, Inode, Kernel, Kind, Pipe, Process, ends, is_end, kind, kind_of, mapped, pipe_of, pipe_of_inode}
-use Rattle.model.specs.Changes.{Edit, Made, Make_directory, Make_file, Name_file, Unname_file, Unname_directory, Move, Put_bytes, Cut, Take, Append, Set_offset, Open_inode, Make_pipe, Share_slot, Clear_slot, New_process, End_process, all_applied, applied, at_offset, at_start, clear_name, holders, number, openings, set_inode, to_read, to_write}
+use Rattle.model.specs.State.{A_file, A_pipe, Description, Directory, File, Fixed, Inode, Kernel, Kind, Pipe, Process, ends, is_end, kind, kind_of, mapped, pipe_of, pipe_of_inode}
+use Rattle.model.specs.Changes.{Edit, Made, Make_directory, Make_file, Make_fixed, Name_file, Unname_file, Unname_directory, Move, Put_bytes, Cut, Take, Append, Set_offset, Open_inode, Make_pipe, Share_slot, Clear_slot, New_process, End_process, all_applied, applied, at_offset, at_start, clear_name, holders, number, openings, set_inode, to_read, to_write}
 use Rattle.model.specs.Effects.{Effect, all_done}
 use Rattle.model.proofs.Laws.{get_same, get_other}
 use Rattle.call_laws.specs.Fits.{Fits, FitsAll}
@@ -71,6 +71,7 @@ keeps : (chosen : List ℕ) (k : Kernel) (e : Edit) → Fits chosen k e → (p r
 unfolding applied
 keeps chosen k (Make_directory d x i) f p r w is pair = pair
 keeps chosen k (Make_file d x i) f p r w is pair = pair
+keeps chosen k (Make_fixed d x fixed i) f p r w is pair = pair
 keeps chosen k (Name_file d x n) f p r w is pair = pair
 keeps chosen k (Unname_file d x n) f p r w is pair = pair
 keeps chosen k (Unname_directory d x n) f p r w is pair = pair
@@ -214,6 +215,7 @@ one_short : (chosen : List ℕ) (k : Kernel) (e : Edit) → Fits chosen k e → 
 unfolding applied
 one_short chosen k (Make_directory d x i) f short = set_short (set_inode (number chosen (Made i)) (Directory empty) k) d _ (no_bytes k) (set_short k (number chosen (Made i)) (Directory empty) (no_bytes k) short)
 one_short chosen k (Make_file d x i) f short = set_short (set_inode (number chosen (Made i)) (File []) k) d _ (no_bytes k) (set_short k (number chosen (Made i)) (File []) (no_bytes k) short)
+one_short chosen k (Make_fixed d x fixed i) f short = set_short (set_inode (number chosen (Made i)) (Fixed fixed) k) d _ (no_bytes k) (set_short k (number chosen (Made i)) (Fixed fixed) (no_bytes k) short)
 one_short chosen k (Name_file d x n) f short = set_short k d _ (no_bytes k) short
 one_short chosen k (Unname_file d x n) f short = set_short k d _ (no_bytes k) short
 one_short chosen k (Unname_directory d x n) f short = set_short k d _ (no_bytes k) short

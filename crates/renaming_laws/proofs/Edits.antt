@@ -5,8 +5,8 @@ use Rattle.std.specs.Cmp.{nat_cmp_total}
 use Rattle.std.specs.Cmp.Lexicographic.{nat_list_cmp_total}
 use Rattle.std.proofs.lemmas.List.{get_or-map}
 use Rattle.model.specs.FiniteMap.{get, empty, insert, remove, nat_cmp-IsAntisymmetric}
-use Rattle.model.specs.State.{Name, Kernel, Inode, File, Directory, Pipe, Description, Process, mapped, names_of, file_of, pipe_of}
-use Rattle.model.specs.Changes.{Which, There, Made, Mode, Edit, Make_directory, Make_file, Name_file, Unname_file, Unname_directory, Move, Put_bytes, Cut, Take, Append, Set_offset, Open_inode, Make_pipe, Share_slot, Clear_slot, New_process, End_process, number, sized, written, set_inode, set_name, clear_name, set_process, set_offset, process_of, with_slot, without_slot, at_start, set_description, open_at, to_read, to_write, applied, all_applied, is_held, is_reached, without_descriptions, without_inodes, tidy}
+use Rattle.model.specs.State.{Name, Kernel, Inode, File, Directory, Pipe, Fixed, Description, Process, mapped, names_of, file_of, pipe_of}
+use Rattle.model.specs.Changes.{Which, There, Made, Mode, Edit, Make_directory, Make_file, Make_fixed, Name_file, Unname_file, Unname_directory, Move, Put_bytes, Cut, Take, Append, Set_offset, Open_inode, Make_pipe, Share_slot, Clear_slot, New_process, End_process, number, sized, written, set_inode, set_name, clear_name, set_process, set_offset, process_of, with_slot, without_slot, at_start, set_description, open_at, to_read, to_write, applied, all_applied, is_held, is_reached, without_descriptions, without_inodes, tidy}
 use Rattle.model.proofs.Laws.{name_exact}
 use Rattle.renaming_laws.specs.Renaming.{IsRenaming, renamed_inode, renamed_description, renamed_process, renamed}
 use Rattle.renaming_laws.specs.Renamed.{renamed_which, renamed_edit}
@@ -76,6 +76,7 @@ module _ (f : ℕ → ℕ) (r : IsRenaming f) where
   edit_renamed k chosen (Make_directory d x i) h =
       named_new d x (get_or chosen i 0) (get_or (map f chosen) i 0) (Directory empty) (Directory empty) k (number_at chosen (Made i) h) (ap Directory (sym (renamed-empty nat_list_cmp_total name_exact (λ x. x) (λ x. refl) f)))
   edit_renamed k chosen (Make_file d x i) h = named_new d x (get_or chosen i 0) (get_or (map f chosen) i 0) (File []) (File []) k (number_at chosen (Made i) h) refl
+  edit_renamed k chosen (Make_fixed d x fixed i) h = named_new d x (get_or chosen i 0) (get_or (map f chosen) i 0) (Fixed fixed) (Fixed fixed) k (number_at chosen (Made i) h) refl
   edit_renamed k chosen (Name_file d x n) h = name_set d x n k
   edit_renamed k chosen (Unname_file d x n) h = name_cleared d x k
   edit_renamed k chosen (Unname_directory d x n) h = name_cleared d x k

@@ -6,7 +6,7 @@ use Rattle.std.proofs.lemmas.List.{length-map}
 use Rattle.std.proofs.lemmas.List.Sums.{sum_by-cons}
 use Rattle.model.specs.FiniteMap.{get, nat_cmp-IsAntisymmetric}
 use Rattle.model.specs.State.{Kernel, Process, mapped, names_of}
-use Rattle.model.specs.Changes.{Edit, Make_directory, Make_file, Name_file, Unname_file, Unname_directory, Move, Put_bytes, Cut, Take, Append, Set_offset, Open_inode, Make_pipe, Share_slot, Clear_slot, New_process, End_process, news, all_applied, tidy, process_of}
+use Rattle.model.specs.Changes.{Edit, Make_directory, Make_file, Make_fixed, Name_file, Unname_file, Unname_directory, Move, Put_bytes, Cut, Take, Append, Set_offset, Open_inode, Make_pipe, Share_slot, Clear_slot, New_process, End_process, news, all_applied, tidy, process_of}
 use Rattle.model.specs.Steps.{outcome, edits, IsNowhere, AllDifferent, CanBeChosen, Step, Item, Run}
 use Rattle.call_laws.proofs.Laws.{not_none, some_same}
 use Rattle.renaming_laws.specs.Renaming.{IsRenaming, renamed_inode, renamed_description, renamed}
@@ -53,6 +53,7 @@ module _ (f : ℕ → ℕ) (r : IsRenaming f) where
   news_still : (e : Edit) → news (renamed_edit f e) ≡ news e
   news_still (Make_directory d x i) = refl
   news_still (Make_file d x i) = refl
+  news_still (Make_fixed d x fixed i) = refl
   news_still (Name_file d x n) = refl
   news_still (Unname_file d x n) = refl
   news_still (Unname_directory d x n) = refl

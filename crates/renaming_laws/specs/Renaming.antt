@@ -2,7 +2,7 @@
 use Rattle.std.specs.Prelude.{◌≡◌, ℕ, ◌==◌, if◌then◌else◌, map}
 use Rattle.std.specs.declared.cmp.Ordering.{Ordering}
 use Rattle.model.specs.FiniteMap.{FinMap, entries, from_entries}
-use Rattle.model.specs.State.{Kernel, Inode, File, Directory, Pipe, Description, Process}
+use Rattle.model.specs.State.{Kernel, Inode, File, Directory, Pipe, Fixed, Description, Process}
 
 -- A renaming is its own inverse, so that no two numbers get one.
 pub record IsRenaming (f : ℕ → ℕ) : Type 0 where
@@ -25,6 +25,7 @@ abbrev pub renamed_inode : (ℕ → ℕ) → Inode → Inode
 renamed_inode f (File bytes) = File bytes
 renamed_inode f (Directory names) = Directory (with_values f names)
 renamed_inode f (Pipe bytes) = Pipe bytes
+renamed_inode f (Fixed fixed) = Fixed fixed
 
 abbrev pub renamed_description : (ℕ → ℕ) → Description → Description
 renamed_description f d = record d { inode = f d.inode }

@@ -4,11 +4,12 @@ use Rattle.std.specs.Ordering.{eq_by_cmp}
 use Rattle.std.specs.Cmp.Lexicographic.{nat_list_cmp_total}
 use Rattle.model.specs.FiniteMap.{FinMap, get, empty, insert, remove, keys, get-insert, get-remove}
 use Rattle.std.proofs.lemmas.Bool.{cases_eq}
-use Rattle.model.specs.State.{Name, name_cmp, Kind, A_directory, Kernel, Inode, kind, names_of, file_of, pipe_of, kind_of, entry_of, links, ends, mapped, names_of_inode, file_of_inode, pipe_of_inode}
-use Rattle.model.specs.Aspects.{Aspect, Entry, Names, Size, Block, Links, Ends, Offset, Front, Back, Keeps}
+use Rattle.model.specs.State.{Name, name_cmp, Kind, A_directory, Kernel, Inode, kind, names_of, file_of, pipe_of, kind_of, entry_of, links, ends, mapped, names_of_inode, file_of_inode, pipe_of_inode, target_of_inode}
+use Rattle.model.specs.Aspects.{Aspect, Entry, Names, Size, Block, Links, Ends, Offset, Front, Back, Target, Keeps}
 use Rattle.model.specs.Changes.{set_inode, set_name, clear_name}
 use Rattle.model.proofs.Laws.{keys-insert, keys-remove, name_exact, get_same, get_other, unchanged_by, given_in, links-set_inode}
 use Rattle.call_laws.proofs.edits.Names.{with_kind, same_rest, has_names, one, counted, links_named, links_unnamed}
+use Rattle.call_laws.proofs.edits.Contents.{here_by, there_by}
 use Rattle.call_laws.proofs.Maps.{not_none}
 
 given_named : (k : Kernel) (names : FinMap name_cmp ℕ) (x : Name) (n : ℕ) (y : Name) → with_kind k (get (insert names x n) y) ≡ cond (eq_by_cmp name_cmp y x) (Some (n, kind_of k n)) (with_kind k (get names y))
@@ -62,7 +63,7 @@ unnamed_keeps now later d x f g alike = same_rest now later d (remove (names_of 
     let o : counted m (get (names_of later d) x) ≡ counted m (get (names_of now d) x) = ap (counted m) (same_given now later (get (names_of now d) x) (get (names_of later d) x) alike) in
     omega arith)
 
--- an inode of no content that is new
+-- a new inode of no bytes and no names
 pub record IsNew (k after : Kernel) (n : ℕ) (what : Kind) : Type 0 where
   pub names : (t : ℕ) → names_of after t ≡ names_of k t
   pub files : (t : ℕ) → file_of after t ≡ file_of k t
@@ -112,6 +113,11 @@ new_keeps now later n new f g (Ends p) h = h
 new_keeps now later n new f g (Offset d) h = h
 new_keeps now later n new f g (Front p) h = (h.0, g.pipes p ∙ h.1 ∙ ap (λ bytes. bytes ++ h.0) (sym (f.pipes p)))
 new_keeps now later n new f g (Back p) h = (h.0, f.pipes p ∙ h.1 ∙ ap (λ bytes. h.0 ++ bytes) (sym (g.pipes p)))
+new_keeps now later n new f g (Target m) h =
+    elim (cases_eq m n) [
+      | inl is ↦ here_by target_of_inode later n new m is ∙ sym (here_by target_of_inode now n new m is)
+      | inr away ↦ there_by target_of_inode later n new m away ∙ h ∙ sym (there_by target_of_inode now n new m away)
+    ]
 
 -- a new inode with its name
 pub made_keeps : (now later : Kernel) (d : ℕ) (x : Name) (n : ℕ) (new : Inode) → IsNew now (set_inode n new now) n (kind new) → IsNew later (set_inode n new later) n (kind new)

@@ -3,7 +3,7 @@ use Rattle.std.proofs.Common.{List, ◌≡◌, ◌≢◌, ℕ, ◌+◌, Bool, co
 use Rattle.model.specs.FiniteMap.{FinMap, get, insert, remove, get-empty}
 use Rattle.std.proofs.lemmas.Bool.{cases_eq}
 use Rattle.model.specs.State.{Kernel, Pipe, Description, Process, links, ends, offset_in}
-use Rattle.model.specs.Aspects.{Aspect, Entry, Names, Size, Block, Links, Ends, Offset, Front, Back, Keeps}
+use Rattle.model.specs.Aspects.{Aspect, Entry, Names, Size, Block, Links, Ends, Offset, Front, Back, Target, Keeps}
 use Rattle.model.specs.Changes.{Mode, to_read, to_write, process_of, with_slot, set_inode, set_process, set_description, at_start, open_at}
 use Rattle.call_laws.specs.Fits.{table_of, IsUnused, CanPipe, OwnAlike, fixed_of}
 use Rattle.model.proofs.Laws.{get_same, get_other}
@@ -31,6 +31,7 @@ tables_keep now later ds es ps qs m n offsets ended (Ends p) h = ended p h
 tables_keep now later ds es ps qs m n offsets ended (Offset d) h = offsets d h
 tables_keep now later ds es ps qs m n offsets ended (Front p) h = h
 tables_keep now later ds es ps qs m n offsets ended (Back p) h = h
+tables_keep now later ds es ps qs m n offsets ended (Target t) h = h
 
 pub open_keeps : (now later : Kernel) (d n : ℕ) (how : Mode) (pid f : ℕ) → IsUnused now d → IsUnused later d → get (table_of now pid) f ≡ None → get (table_of later pid) f ≡ None → (a : Aspect) → Keeps now later a → Keeps (open_at d n how pid f now) (open_at d n how pid f later) a
 open_keeps now later d n how pid f one two free free_later = tables_keep now later _ _ _ _ now.made later.made

@@ -3,9 +3,9 @@ use Rattle.std.proofs.Common.{◌≡◌, ◌≢◌, ℕ, ◌+◌, List, [], ◌+
 use Rattle.std.specs.List.{AllByRecursion}
 use Rattle.std.proofs.lemmas.List.{take-append-drop}
 use Rattle.model.specs.FiniteMap.{get, empty, insert, remove, get-empty}
-use Rattle.model.specs.State.{A_file, A_pipe, Kernel, File, Directory, kind_of, pipe_of, links}
+use Rattle.model.specs.State.{A_file, A_pipe, Kernel, File, Directory, Fixed, kind_of, pipe_of, links}
 use Rattle.model.specs.Aspects.{Links, Ends}
-use Rattle.model.specs.Changes.{Edit, Make_directory, Make_file, Name_file, Unname_file, Unname_directory, Move, Put_bytes, Cut, Take, Append, Set_offset, Open_inode, Make_pipe, Share_slot, Clear_slot, New_process, End_process, applied, process_of, set_name, clear_name, with_slot, without_slot}
+use Rattle.model.specs.Changes.{Edit, Make_directory, Make_file, Make_fixed, Name_file, Unname_file, Unname_directory, Move, Put_bytes, Cut, Take, Append, Set_offset, Open_inode, Make_pipe, Share_slot, Clear_slot, New_process, End_process, applied, process_of, set_name, clear_name, with_slot, without_slot}
 use Rattle.call_laws.specs.Objects.{IsThere, LeavesAlone}
 use Rattle.call_laws.specs.Fits.{table_of, EditMarks}
 use Rattle.model.proofs.Laws.{weight}
@@ -14,19 +14,20 @@ use Rattle.call_laws.proofs.edits.Offsets.{offset_marks}
 use Rattle.call_laws.proofs.edits.NamesAlike.{is_new}
 use Rattle.call_laws.proofs.edits.Processes.{table_in}
 use Rattle.call_laws.proofs.edits.Ends.{end_count, held, held-insert, held-remove, held-none}
-use Rattle.call_laws.proofs.edits.InodeMarks.{made_marks, named_mark, unnamed_mark, for_links, same_when_named, same_when_unnamed, file_is_other, moved_marks, still_gives, other_old, put_marks, cut_marks, pipe_marks}
+use Rattle.call_laws.proofs.edits.InodeMarks.{made_marks, named_mark, unnamed_mark, for_links, same_when_named, same_when_unnamed, linked_is_other, moved_marks, still_gives, other_old, put_marks, cut_marks, pipe_marks}
 use Rattle.call_laws.proofs.edits.SlotMarks.{open_marks, offset_apart, made_pipe_marks, no_end, not_marked, process_marks, end_marks, slot_counts}
 
 pub edit_marks : (chosen : List ℕ) (k : Kernel) (e : Edit) → EditMarks chosen k e
 unfolding applied
 edit_marks chosen k (Make_directory d x i) f a there alone = made_marks k d x _ (Directory empty) f.1 (is_new k _ (Directory empty) f.1.inode refl refl refl) f.0.parent.directory f.0.free a there alone.0
 edit_marks chosen k (Make_file d x i) f a there alone = made_marks k d x _ (File []) f.1 (is_new k _ (File []) f.1.inode refl refl refl) f.0.parent.directory f.0.free a there alone.0
+edit_marks chosen k (Make_fixed d x fixed i) f a there alone = made_marks k d x _ (Fixed fixed) f.1 (is_new k _ (Fixed fixed) f.1.inode refl refl refl) f.0.parent.directory f.0.free a there alone.0
 edit_marks chosen k (Name_file d x n) f a there alone = named_mark k d x n f.0.parent.directory a
     (for_links a (λ m. links (set_name d x n k) m ≡ links k m) (λ m e. same_when_named k d x n m f.0.parent.directory f.0.free (λ same. alone.1.0 (ap Links same ∙ sym e)))) alone.0
 edit_marks chosen k (Unname_file d x n) f a there alone = unnamed_mark k d x f.parent.directory a
     (for_links a (λ m. links (clear_name d x k) m ≡ links k m) (λ m e. same_when_unnamed k d x n m f.parent.directory f.gives (λ same. alone.1.0 (ap Links same ∙ sym e)))) alone.0
 edit_marks chosen k (Unname_directory d x n) f a there alone = unnamed_mark k d x f.0.parent.directory a
-    (for_links a (λ m. links (clear_name d x k) m ≡ links k m) (λ m e. same_when_unnamed k d x n m f.0.parent.directory f.0.gives (file_is_other k n m f.0.kind (subst (IsThere k) e there)))) alone.0
+    (for_links a (λ m. links (clear_name d x k) m ≡ links k m) (λ m e. same_when_unnamed k d x n m f.0.parent.directory f.0.gives (linked_is_other k n m f.0.kind (subst (IsThere k) e there)))) alone.0
 edit_marks chosen k (Move d x e y n replaced) f a there alone = moved_marks k d x e y n f.old replaced f.from.parent.directory f.onto.directory f.from.gives
     (still_gives k d x e y n f.old f.from.parent.directory f.from.gives f.gives (other_old k n f.old replaced f.replaces)) f.replaces a there alone.0 alone.1.0 alone.1.1
 edit_marks chosen k (Put_bytes n place bytes before) f a there alone = put_marks k n place bytes before f.0 f.1 a alone

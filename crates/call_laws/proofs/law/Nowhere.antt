@@ -2,8 +2,8 @@
 use Rattle.std.proofs.Common.{◌≡◌, ℕ, Bool, false, ◌&&◌, List, [], length, get_or, Option, Some, None, count_by, refl, sym, ap, subst, ◌∙◌, ne_eqb, append-nil, inl, inr}
 use Rattle.std.specs.Cmp.{nat_cmp_total}
 use Rattle.model.specs.FiniteMap.{FinMap, get, empty, keys, values, get-empty}
-use Rattle.model.specs.State.{Name, name_cmp, Kernel, Inode, Description, kind, mapped, kind_of, names_of, file_of, pipe_of, names_of_inode, file_of_inode, pipe_of_inode, entry_of, links, ends, is_end, offset_in}
-use Rattle.model.specs.Aspects.{Aspect, Entry, Names, Size, Block, Links, Ends, Offset, Front, Back, Keeps}
+use Rattle.model.specs.State.{Name, name_cmp, Kernel, Inode, Description, kind, mapped, kind_of, names_of, file_of, pipe_of, target_of, names_of_inode, file_of_inode, pipe_of_inode, target_of_inode, entry_of, links, ends, is_end, offset_in}
+use Rattle.model.specs.Aspects.{Aspect, Entry, Names, Size, Block, Links, Ends, Offset, Front, Back, Target, Keeps}
 use Rattle.model.specs.Steps.{IsNowhere}
 use Rattle.model.specs.Moments.{is_in}
 use Rattle.call_laws.specs.WellFormed.{CanBeNamed, CanBeOpened, WellFormed}
@@ -64,6 +64,9 @@ no_file k n nowhere = ap file_of_inode nowhere.inode
 no_pipe : (k : Kernel) (n : ℕ) → IsNowhere k n → pipe_of k n ≡ []
 no_pipe k n nowhere = ap pipe_of_inode nowhere.inode
 
+no_target : (k : Kernel) (n : ℕ) → IsNowhere k n → target_of k n ≡ []
+no_target k n nowhere = ap target_of_inode nowhere.inode
+
 no_entry : (k : Kernel) (d : ℕ) (x : Name) → IsNowhere k d → entry_of k d x ≡ None
 no_entry k d x nowhere = ap (with_kind k) (ap (λ (ns : FinMap name_cmp ℕ). get ns x) (no_names k d nowhere) ∙ get-empty name_cmp x)
 
@@ -80,3 +83,4 @@ nowhere_alike k l (Ends p) well well_too f g = (
 nowhere_alike k l (Offset d) well well_too f g = ap offset_in (g.description ∙ sym f.description)
 nowhere_alike k l (Front p) well well_too f g = ([], no_pipe l p g ∙ sym (no_pipe k p f) ∙ sym (append-nil (pipe_of k p)))
 nowhere_alike k l (Back p) well well_too f g = ([], no_pipe k p f ∙ sym (no_pipe l p g))
+nowhere_alike k l (Target n) well well_too f g = no_target l n g ∙ sym (no_target k n f)

@@ -2,17 +2,19 @@
 use Rattle.std.proofs.Common.{◌≡◌, ◌≢◌, ◌⊎◌, ℕ, ◌+◌, true, List, [], ◌∷◌, Some, None, sym, ap, subst, ◌∙◌, inl, inr}
 use Rattle.std.proofs.lemmas.Bool.{cases_eq}
 use Rattle.model.specs.FiniteMap.{FinMap, get, empty, remove}
-use Rattle.model.specs.State.{name_cmp, Kind, A_file, A_directory, A_pipe, Kernel, Inode, File, Directory, Pipe, Description, kind, mapped, names_of, kind_of}
-use Rattle.model.specs.Aspects.{Aspect, Entry, Names, Size, Block, Links, Ends, Offset, Front, Back}
-use Rattle.model.specs.Changes.{Edit, Made, number, Mode, Make_directory, Make_file, Name_file, Unname_file, Unname_directory, Move, Put_bytes, Cut, Take, Append, Set_offset, Open_inode, Make_pipe, Share_slot, Clear_slot, New_process, End_process, applied, all_applied, set_inode, set_name, clear_name, at_offset, at_start, set_description, open_at, to_read, to_write}
+use Rattle.model.specs.State.{name_cmp, Kind, A_file, A_directory, A_pipe, A_link, Kernel, Inode, File, Directory, Pipe, Fixed, Description, kind, mapped, names_of, kind_of}
+use Rattle.model.specs.Aspects.{Aspect, Entry, Names, Size, Block, Links, Ends, Offset, Front, Back, Target}
+use Rattle.model.specs.Changes.{Edit, Made, number, Mode, Make_directory, Make_file, Make_fixed, Name_file, Unname_file, Unname_directory, Move, Put_bytes, Cut, Take, Append, Set_offset, Open_inode, Make_pipe, Share_slot, Clear_slot, New_process, End_process, applied, all_applied, set_inode, set_name, clear_name, at_offset, at_start, set_description, open_at, to_read, to_write}
 use Rattle.model.specs.Moments.{is_in}
 use Rattle.call_laws.specs.Objects.{IsThere}
+use Rattle.call_laws.specs.WellFormed.{CanBeLinked}
 use Rattle.call_laws.specs.CallLaws.{object_of}
 use Rattle.call_laws.specs.Fits.{Fits, FitsAll}
 use Rattle.model.proofs.Laws.{get_other, unchanged_by}
 use Rattle.call_laws.proofs.Maps.{not_none, stays_inserted}
 use Rattle.call_laws.proofs.edits.Names.{has_names}
 use Rattle.call_laws.proofs.edits.NamesAlike.{kept_kind}
+use Rattle.call_laws.proofs.edits.InodeMarks.{some_linked}
 use Rattle.call_laws.proofs.edits.Offsets.{set_there}
 
 pub record Grows (chosen : List ℕ) (k after : Kernel) : Type 0 where
@@ -79,6 +81,7 @@ pub edit_grows : (chosen : List ℕ) (k : Kernel) (e : Edit) → Fits chosen k e
 unfolding applied
 edit_grows chosen k (Make_directory d x i) f = made_grows chosen k d _ (number chosen (Made i)) (Directory empty) f.1.inode f.2 f.0.parent.directory
 edit_grows chosen k (Make_file d x i) f = made_grows chosen k d _ (number chosen (Made i)) (File []) f.1.inode f.2 f.0.parent.directory
+edit_grows chosen k (Make_fixed d x fixed i) f = made_grows chosen k d _ (number chosen (Made i)) (Fixed fixed) f.1.inode f.2 f.0.parent.directory
 edit_grows chosen k (Name_file d x n) f = same_grows chosen k d _ f.0.parent.directory
 edit_grows chosen k (Unname_file d x n) f = same_grows chosen k d _ f.parent.directory
 edit_grows chosen k (Unname_directory d x n) f = same_grows chosen k d _ f.0.parent.directory
@@ -112,7 +115,10 @@ of_object k after P kinds descriptions (Entry d x) is = kinds d A_directory is
 of_object k after P kinds descriptions (Names d) is = kinds d A_directory is
 of_object k after P kinds descriptions (Size n) is = kinds n A_file is
 of_object k after P kinds descriptions (Block n block) is = kinds n A_file is
-of_object k after P kinds descriptions (Links n) is = kinds n A_file is
+of_object k after P kinds descriptions (Links n) is =
+    let some = some_linked (kind_of k n) is in
+    elim (kinds n some.0 some.1) [ inl e ↦ inl (subst CanBeLinked (some.1 ∙ sym e) is) | inr new ↦ inr new ]
+of_object k after P kinds descriptions (Target n) is = kinds n A_link is
 of_object k after P kinds descriptions (Ends p) is = kinds p A_pipe is
 of_object k after P kinds descriptions (Front p) is = kinds p A_pipe is
 of_object k after P kinds descriptions (Back p) is = kinds p A_pipe is

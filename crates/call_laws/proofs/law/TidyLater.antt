@@ -3,8 +3,8 @@ use Rattle.std.proofs.Common.{◌≡◌, ◌≢◌, ℕ, ◌+◌, ◌≤◌, ◌
 use Rattle.std.specs.Cmp.{nat_cmp_total}
 use Rattle.model.specs.FiniteMap.{FinMap, get, empty, insert, remove, values, retain_keys, nat_cmp-IsAntisymmetric, same_map}
 use Rattle.std.proofs.lemmas.Bool.{cases_eq, or_left, or_right}
-use Rattle.model.specs.State.{Name, name_cmp, A_directory, Kernel, Inode, File, Directory, Pipe, Description, Process, kind, names_of, names_of_inode, file_of, file_of_inode, pipe_of, pipe_of_inode, kind_of, links}
-use Rattle.model.specs.Changes.{Edit, Make_directory, Make_file, Name_file, Unname_file, Unname_directory, Move, Put_bytes, Cut, Take, Append, Set_offset, Open_inode, Make_pipe, Share_slot, Clear_slot, New_process, End_process, Mode, number, to_read, to_write, at_offset, at_start, open_at, set_process, with_slot, without_slot, process_of, or_new, applied, all_applied, set_inode, set_name, clear_name, set_offset, sized, written, holders, openings, is_held, without_descriptions, tidy}
+use Rattle.model.specs.State.{Name, name_cmp, A_directory, Kernel, Inode, File, Directory, Pipe, Fixed, Description, Process, kind, names_of, names_of_inode, file_of, file_of_inode, pipe_of, pipe_of_inode, kind_of, links}
+use Rattle.model.specs.Changes.{Edit, Make_directory, Make_file, Make_fixed, Name_file, Unname_file, Unname_directory, Move, Put_bytes, Cut, Take, Append, Set_offset, Open_inode, Make_pipe, Share_slot, Clear_slot, New_process, End_process, Mode, number, to_read, to_write, at_offset, at_start, open_at, set_process, with_slot, without_slot, process_of, or_new, applied, all_applied, set_inode, set_name, clear_name, set_offset, sized, written, holders, openings, is_held, without_descriptions, tidy}
 use Rattle.call_laws.specs.Fits.{Fits, FitsAll, table_of}
 use Rattle.call_laws.specs.WellFormed.{IsRooted, WellFormed}
 use Rattle.model.proofs.Laws.{weight, sum-insert, sum-remove, get_same, get_other}
@@ -301,6 +301,7 @@ pub stays_alike : (chosen : List ℕ) (a b : Kernel) (e : Edit) → Alike a b �
 unfolding applied
 stays_alike chosen a b (Make_directory d x i) al f g = made_alike a b d x _ (Directory empty) al f.1.inode g.1.inode (is_new a _ (Directory empty) f.1.inode refl refl refl) (is_new b _ (Directory empty) g.1.inode refl refl refl) f.0.parent g.0.parent
 stays_alike chosen a b (Make_file d x i) al f g = made_alike a b d x _ (File []) al f.1.inode g.1.inode (is_new a _ (File []) f.1.inode refl refl refl) (is_new b _ (File []) g.1.inode refl refl refl) f.0.parent g.0.parent
+stays_alike chosen a b (Make_fixed d x fixed i) al f g = made_alike a b d x _ (Fixed fixed) al f.1.inode g.1.inode (is_new a _ (Fixed fixed) f.1.inode refl refl refl) (is_new b _ (Fixed fixed) g.1.inode refl refl refl) f.0.parent g.0.parent
 stays_alike chosen a b (Name_file d x n) al f g = named_alike a b d x n al f.0.parent.directory g.0.parent.directory (rooted_names a b al d f.0.parent) (al.inodes n (rooted_reached a n (λ none. absurd (f.2 none))))
 stays_alike chosen a b (Unname_file d x n) al f g = unnamed_alike a b d x al f.parent.directory g.parent.directory (rooted_names a b al d f.parent)
 stays_alike chosen a b (Unname_directory d x n) al f g = unnamed_alike a b d x al f.0.parent.directory g.0.parent.directory (rooted_names a b al d f.0.parent)

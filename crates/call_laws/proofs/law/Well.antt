@@ -3,10 +3,11 @@ use Rattle.std.proofs.Common.{◌≡◌, ◌≢◌, ◌⊎◌, ℕ, suc, ◌<◌
 use Rattle.std.specs.Cmp.Lexicographic.{nat_list_cmp_total}
 use Rattle.std.proofs.lemmas.Bool.{cases_eq}
 use Rattle.model.specs.FiniteMap.{FinMap, get, empty, insert, remove}
-use Rattle.model.specs.State.{Name, Kind, A_file, A_directory, A_pipe, Kernel, Inode, File, Directory, Pipe, Description, Process, kind_of, names_of, file_of, pipe_of, links}
+use Rattle.model.specs.State.{Name, Kind, A_file, A_directory, A_pipe, Kernel, Inode, File, Directory, Pipe, Fixed, Description, Process, Fixed_content, Link_to, Fifo, Socket, kind_of, names_of, file_of, pipe_of, links}
+use Rattle.ids.specs.Fixed.{fixed_kind}
 use Rattle.model.specs.Moments.{is_alive}
-use Rattle.model.specs.Changes.{Edit, Made, number, Mode, Make_directory, Make_file, Name_file, Unname_file, Unname_directory, Move, Put_bytes, Cut, Take, Append, Set_offset, Open_inode, Make_pipe, Share_slot, Clear_slot, New_process, End_process, applied, all_applied, process_of, set_inode, set_name, clear_name, set_process, set_description, at_offset, at_start, with_slot, without_slot, open_at, to_read, to_write, sized, written}
-use Rattle.call_laws.specs.WellFormed.{WellFormed, CanBeOpened, descriptor_limit}
+use Rattle.model.specs.Changes.{Edit, Made, number, Mode, Make_directory, Make_file, Make_fixed, Name_file, Unname_file, Unname_directory, Move, Put_bytes, Cut, Take, Append, Set_offset, Open_inode, Make_pipe, Share_slot, Clear_slot, New_process, End_process, applied, all_applied, process_of, set_inode, set_name, clear_name, set_process, set_description, at_offset, at_start, with_slot, without_slot, open_at, to_read, to_write, sized, written}
+use Rattle.call_laws.specs.WellFormed.{WellFormed, CanBeNamed, CanBeOpened, descriptor_limit}
 use Rattle.call_laws.specs.Fits.{Fits, FitsAll, table_of, IsAlive, CanPipe}
 use Rattle.model.proofs.Laws.{get_same, get_other}
 use Rattle.call_laws.proofs.Maps.{not_none, from_insert, from_remove, removed_same, removed_other, empty_gives, none_by_keys}
@@ -17,7 +18,7 @@ use Rattle.call_laws.proofs.edits.Offsets.{set_there}
 use Rattle.call_laws.proofs.edits.Processes.{table_in, table_here, table_there}
 use Rattle.call_laws.proofs.edits.Ends.{without_process}
 use Rattle.call_laws.proofs.edits.SlotsAlike.{with_tables, pipe_at}
-use Rattle.call_laws.proofs.edits.InodeMarks.{file_is_other, still_gives, other_old}
+use Rattle.call_laws.proofs.edits.InodeMarks.{linked_is_other, still_gives, other_old}
 use Rattle.call_laws.proofs.law.There.{edit_grows}
 use Rattle.call_laws.proofs.edits.NamesWell.{NamesAreWell, bytes_names, made_names, linked_names, unnamed_names, moved_names, new_names, has_names_in}
 use Rattle.call_laws.proofs.edits.Tree.{HasPaths, same_tree, made_tree, linked_tree, unnamed_tree, bytes_tree, moved_tree, new_tree}
@@ -172,6 +173,12 @@ names_here k well = record { root_unnamed = well.root_unnamed; named = well.name
 well_over : (k : Kernel) (ds : FinMap nat_cmp Description) (ps : FinMap nat_cmp Process) (made : ℕ) → WellFormed k → TablesAreWell (with_tables k ds ps made) → WellFormed (with_tables k ds ps made)
 well_over k ds ps made well tables = well_by k (with_tables k ds ps made) refl (λ t what is. is) well (names_over k k ds ps made (names_here k well)) (tree_over k ds ps made (tree_of k well)) tables
 
+-- what never changes may be named
+fixed_named : (fixed : Fixed_content) → CanBeNamed (Some (fixed_kind fixed))
+fixed_named (Link_to target) = tt
+fixed_named Fifo = tt
+fixed_named Socket = tt
+
 -- a new inode with its name
 well_made : (chosen : List ℕ) (k : Kernel) (d : ℕ) (x : Name) (n : ℕ) (new : Inode) → WellFormed k → KindsStay k (set_name d x n (set_inode n new k)) → NamesAreWell k (set_name d x n (set_inode n new k)) → HasPaths (set_name d x n (set_inode n new k))
     → get k.inodes n ≡ None → kind_of k d ≡ Some A_directory → WellFormed (set_name d x n (set_inode n new k))
@@ -195,12 +202,17 @@ well_stays chosen k (Make_file d x i) well f =
     let stay : KindsStay k (applied chosen (Make_file d x i) k) = (edit_grows chosen k (Make_file d x i) f).kinds in
     let new : IsNew k (set_inode n (File []) k) n A_file = is_new k n (File []) f.1.inode refl refl refl in
     well_made chosen k d x n (File []) well stay (made_names k d x n (File []) well stay f.1 new tt f.0.parent f.0.free) (made_tree k d x n (File []) f.1.inode new f.0.parent f.0.free (tree_of k well)) f.1.inode f.0.parent.directory
+well_stays chosen k (Make_fixed d x fixed i) well f =
+    let n : ℕ = number chosen (Made i) in
+    let stay : KindsStay k (applied chosen (Make_fixed d x fixed i) k) = (edit_grows chosen k (Make_fixed d x fixed i) f).kinds in
+    let new : IsNew k (set_inode n (Fixed fixed) k) n (fixed_kind fixed) = is_new k n (Fixed fixed) f.1.inode refl refl refl in
+    well_made chosen k d x n (Fixed fixed) well stay (made_names k d x n (Fixed fixed) well stay f.1 new (fixed_named fixed) f.0.parent f.0.free) (made_tree k d x n (Fixed fixed) f.1.inode new f.0.parent f.0.free (tree_of k well)) f.1.inode f.0.parent.directory
 well_stays chosen k (Name_file d x n) well f =
     let stay : KindsStay k (set_name d x n k) = (edit_grows chosen k (Name_file d x n) f).kinds in
     well_by k (set_name d x n k) refl stay well (linked_names k d x n well f.0.parent f.0.free f.1) (linked_tree k d x n f.0.parent f.0.free f.1 (tree_of k well)) (inode_tables k d _ stay (tables_of k well))
 well_stays chosen k (Unname_file d x n) well f =
     let stay : KindsStay k (clear_name d x k) = (edit_grows chosen k (Unname_file d x n) f).kinds in
-    let bare : (y : Name) (m : ℕ) → get (names_of k n) y ≢ Some m = λ y m e. file_is_other k n n (has_names_in k n y m e) f.kind refl in
+    let bare : (y : Name) (m : ℕ) → get (names_of k n) y ≢ Some m = λ y m e. linked_is_other k n n (has_names_in k n y m e) f.kind refl in
     well_by k (clear_name d x k) refl stay well (unnamed_names k d x n well f.parent.directory f.gives bare) (unnamed_tree k d x n well f.parent.directory f.gives bare (well.one_name n) (tree_of k well)) (inode_tables k d _ stay (tables_of k well))
 well_stays chosen k (Unname_directory d x n) well f =
     let stay : KindsStay k (clear_name d x k) = (edit_grows chosen k (Unname_directory d x n) f).kinds in
