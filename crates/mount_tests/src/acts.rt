@@ -172,11 +172,7 @@ fn on_opening<K: Machine>(
             heap,
             seen_made(create_cut(hand, None, first, second, true, false)),
         ),
-        Act::MakeFile => told(
-            rt,
-            heap,
-            seen(make_node(hand, None, first, second, None)),
-        ),
+        Act::MakeFile => told(rt, heap, seen(make_node(hand, None, first, second, None))),
         Act::OpenCut => told(rt, heap, open_cut(hand, first, inode, true)),
         _ => told(
             rt,
@@ -200,13 +196,7 @@ fn on_path<K: Machine>(rt: &impl Abort, heap: Heap, hand: &mut Hand<K>, act: Act
         Act::MakeLink => told(
             rt,
             heap,
-            seen(make_link(
-                hand,
-                None,
-                owned(rt, heap, "/b"),
-                first,
-                second,
-            )),
+            seen(make_link(hand, None, owned(rt, heap, "/b"), first, second)),
         ),
         Act::RemoveDirectory => told(rt, heap, remove_directory(hand, None, first)),
         Act::LookUp => told(rt, heap, seen(look_up(hand, None, first))),
@@ -301,12 +291,8 @@ pub(crate) fn act_on<K: Machine>(
         | Act::LookUp
         | Act::Unlink => on_path(rt, heap, hand, act),
         Act::Link | Act::Move | Act::MoveIfAbsent => on_paths(rt, heap, hand, act, inode),
-        Act::Find
-        | Act::FindOpen
-        | Act::ListAt
-        | Act::ReadLink
-        | Act::Resize
-        | Act::ResizeOpen => on_object(rt, heap, hand, act, inode),
+        Act::Find | Act::FindOpen | Act::ListAt | Act::ReadLink | Act::Resize | Act::ResizeOpen =>
+            on_object(rt, heap, hand, act, inode),
         Act::Begin | Act::End | Act::Fork | Act::GiveUp | Act::LookNowhere => {
             on_process(rt, heap, hand, act)
         }
