@@ -1,4 +1,6 @@
 -- The course of each kind of request, below the tables of a mount: paths and descriptors are known.
+-- Linux follows symbolic links itself, so what a path gives is told by `lstat`, which leaves a link in
+-- the last place alone; and a path that leads through a link leads no more where it led.
 use Rattle.std.specs.Prelude.{◌≡◌, ℕ, ◌==◌, ◌&&◌, ◌||◌, not, List, [], Bool, true, false, ℤ, pos}
 use Rattle.std.specs.Prelude.{Option, Some, None, Result, Ok, Err}
 use Rattle.std.specs.Prelude.{if◌then◌else◌}
@@ -8,6 +10,7 @@ use Rattle.ids.specs.declared.flags.BeginFlags.{BeginFlags}
 use Rattle.ids.specs.declared.flags.OpenFlags.{OpenFlags}
 use Rattle.ids.specs.declared.call.Call.{Call}
 use Rattle.ids.specs.declared.errno.Errno.TheVariants as errno
+use Rattle.ids.specs.declared.fixed.Special.{Special}
 use Rattle.ids.specs.declared.reply.Kind.{Kind}
 use Rattle.ids.specs.declared.reply.Kind.TheVariants as kind
 use Rattle.ids.specs.declared.reply.Reply.{Reply}
@@ -20,7 +23,7 @@ use Rattle.course.specs.declared.place.Place.{Place}
 use Rattle.course.specs.Course.{Course, Give, ◌>>=◌, step}
 use Rattle.course.specs.Faults.{begun_in, bytes_in, child_in, committed_in, count_in, done_in}
 use Rattle.course.specs.Faults.{fd_in, given_up_in, gives_none, is_abort, is_missing, is_there, names_in}
-use Rattle.course.specs.Faults.{stale_by, stat_in, unless_aborted}
+use Rattle.course.specs.Faults.{stale_by, stat_in, unless_aborted, unless_special}
 
 -- a call of a process
 abbrev pub calling : ℕ → Call → Course Reply
@@ -52,6 +55,10 @@ abbrev pub reading : ℕ → ℕ → ℕ → ℤ → Course (Result (List ℕ) F
 reading pid fd count offset =
     calling pid (call.Pread fd count offset) >>= (λ r. Give (bytes_in r))
 
+-- the target of the symbolic link of a path
+abbrev pub reading_target : ℕ → List ℕ → Course (Result (List ℕ) Fault)
+reading_target pid path = calling pid (call.Readlink path) >>= (λ r. Give (bytes_in r))
+
 abbrev pub listing : ℕ → List ℕ → Course (Result (List (List ℕ)) Fault)
 listing pid path = calling pid (call.List path) >>= (λ r. Give (names_in r))
 
@@ -76,7 +83,7 @@ on_ok f (Err e) = Give (Err e)
 
 -- a call, and then what its path gives
 abbrev pub making : ℕ → Call → List ℕ → Course (Result Stat Fault)
-making pid c path = doing pid c >>= on_ok (λ done. stating pid (call.Stat path))
+making pid c path = doing pid c >>= on_ok (λ done. stating pid (call.Lstat path))
 
 -- A path has to give this object, and else it is stale.
 abbrev pub same_or_stale : ℕ → Result Stat Fault → Result (Unit {0}) Fault
@@ -85,7 +92,7 @@ same_or_stale inode (Err e) = Err (stale_by e)
 
 abbrev pub looking_for : ℕ → List ℕ → ℕ → Course (Result (Unit {0}) Fault)
 looking_for pid path inode =
-    stating pid (call.Stat path) >>= (λ looked. Give (same_or_stale inode looked))
+    stating pid (call.Lstat path) >>= (λ looked. Give (same_or_stale inode looked))
 
 -- The path of a directory has to give it still. A root is not looked at.
 abbrev pub staying : ℕ → Option Place → Course (Result (Unit {0}) Fault)
@@ -97,7 +104,12 @@ abbrev pub inside : {A : Type 0} → ℕ → Option Place → Course (Result A F
     → Course (Result A Fault)
 inside pid place named = staying pid place >>= on_ok (λ stays. named)
 
--- A file gets a further name, by its path.
+-- The target of a link is read, by its path, where that gives this link still.
+abbrev pub reading_link : ℕ → List ℕ → ℕ → Course (Result (List ℕ) Fault)
+reading_link pid path inode =
+    looking_for pid path inode >>= on_ok (λ same. reading_target pid path)
+
+-- What is no directory gets a further name, by its path.
 abbrev pub linking : ℕ → List ℕ → ℕ → List ℕ → Course (Result Stat Fault)
 linking pid path inode new_path =
     looking_for pid path inode
@@ -111,7 +123,7 @@ if_absent pid from to (Err e) =
 
 abbrev pub moving : ℕ → List ℕ → List ℕ → Bool → Course (Result (Unit {0}) Fault)
 moving pid from to false = doing pid (call.Rename from to)
-moving pid from to true = stating pid (call.Stat to) >>= if_absent pid from to
+moving pid from to true = stating pid (call.Lstat to) >>= if_absent pid from to
 
 -- Bytes are put at the end as it is now.
 abbrev pub writing : ℕ → ℕ → List ℕ → ℤ → Course (Result ℕ Fault)
@@ -143,8 +155,13 @@ if_same pid fd inode (Err e) = closing pid fd e
 abbrev pub checking : ℕ → ℕ → ℕ → Course (Result ℕ Fault)
 checking pid fd inode = stating pid (call.Fstat fd) >>= if_same pid fd inode
 
+-- A file is opened that was there. Where a link, a FIFO or a socket stands in its place, the path is
+-- stale: Linux opens none of them by a request.
+abbrev pub opening_file : ℕ → List ℕ → Course (Result ℕ Fault)
+opening_file pid path = opening pid path both >>= (λ opened. Give (unless_special opened))
+
 abbrev pub opening_this : ℕ → List ℕ → ℕ → Course (Result ℕ Fault)
-opening_this pid path inode = opening pid path both >>= on_ok (λ fd. checking pid fd inode)
+opening_this pid path inode = opening_file pid path >>= on_ok (λ fd. checking pid fd inode)
 
 -- A file is opened and looked at. Where the look fails it is closed again.
 abbrev pub if_seen : ℕ → ℕ → Bool → Result Stat Fault → Course (Result Made Fault)
@@ -159,7 +176,7 @@ abbrev pub if_there : ℕ → List ℕ → Bool → Result ℕ Fault → Course 
 if_there pid path exclusive (Ok fd) = seeing pid true fd
 if_there pid path exclusive (Err e) =
     if exclusive || not (is_there e) then Give (Err e)
-    else opening pid path both >>= on_ok (seeing pid false)
+    else opening_file pid path >>= on_ok (seeing pid false)
 
 abbrev pub creating : ℕ → List ℕ → List ℕ → Bool → Course (Result Made Fault)
 creating pid path again exclusive = opening pid path fresh >>= if_there pid again exclusive
@@ -198,6 +215,11 @@ abbrev pub making_file : ℕ → List ℕ → List ℕ → Course (Result Stat F
 making_file pid path again =
     creating pid path again true >>= on_ok (λ made. done_with pid made.fd made.stat)
 
+-- a file is made so, or a FIFO or a socket
+abbrev pub making_node : ℕ → Option Special → List ℕ → List ℕ → Course (Result Stat Fault)
+making_node pid None path again = making_file pid path again
+making_node pid (Some special) path again = making pid (call.Mknod path special) again
+
 -- A file that was made was open already: the new descriptor is closed.
 abbrev pub closing_spare : ℕ → Bool → Made → Course (Result Made Fault)
 closing_spare pid true made = done_with pid made.fd made
@@ -205,15 +227,19 @@ closing_spare pid false made = Give (Ok made)
 
 -- ---- objects, by their paths or their descriptors
 
--- A directory has one name at most, and stays without it while somebody uses it: then it is empty.
-abbrev pub removed : ℕ → Stat
-removed inode = record { kind = kind.Dir; num = inode; size = 0; links = 0 }
+-- What is told of an object without a name that somebody uses still. A directory has one name at
+-- most, and is empty then; a FIFO and a socket, which Linux opens by itself, have no content ever.
+abbrev pub removed : Kind → ℕ → Stat
+removed k inode = record { kind = k; num = inode; size = 0; links = 0 }
 
 -- what an object is like that no path and no descriptor leads to
 abbrev pub nowhere : Kind → ℕ → Result Stat Fault
-nowhere kind.Dir inode = Ok (removed inode)
+nowhere kind.Dir inode = Ok (removed kind.Dir inode)
+nowhere kind.Fifo inode = Ok (removed kind.Fifo inode)
+nowhere kind.Socket inode = Ok (removed kind.Socket inode)
 nowhere kind.File inode = Err fault.Stale
 nowhere kind.Pipe inode = Err fault.Stale
+nowhere kind.Link inode = Err fault.Stale
 
 -- what the descriptor of an object tells, if it has one
 abbrev pub by_descriptor : ℕ → Kind → ℕ → Option ℕ → Course (Result Stat Fault)
@@ -229,7 +255,7 @@ if_found pid kind inode fd (Err e) =
 
 abbrev pub finding_at : ℕ → Kind → ℕ → Option ℕ → Option (List ℕ) → Course (Result Stat Fault)
 finding_at pid kind inode fd (Some path) =
-    stating pid (call.Stat path) >>= if_found pid kind inode fd
+    stating pid (call.Lstat path) >>= if_found pid kind inode fd
 finding_at pid kind inode fd None = by_descriptor pid kind inode fd
 
 abbrev pub finding : ℕ → Object → Course (Result Stat Fault)
@@ -256,5 +282,5 @@ if_listed pid path inode (Err e) = if gives_none e then Give (Ok []) else Give (
 
 abbrev pub listing_at : ℕ → ℕ → Option (List ℕ) → Course (Result (List (List ℕ)) Fault)
 listing_at pid inode (Some path) =
-    stating pid (call.Stat path) >>= if_listed pid path inode
+    stating pid (call.Lstat path) >>= if_listed pid path inode
 listing_at pid inode None = Give (Ok [])

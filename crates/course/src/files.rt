@@ -4,9 +4,10 @@ ghost use Rattle.ids.specs.declared.call.Call.TheVariants as asked;
 ghost use Rattle.course.specs.Hands.{bound};
 ghost use Rattle.course.specs.Course.{Ran};
 ghost use Rattle.course.specs.Courses.{appending, both, checking, closing, creating, doing};
-ghost use Rattle.course.specs.Courses.{IsOffset, fresh, if_there, opening, opening_this, reading, seeing};
+ghost use Rattle.course.specs.Courses.{IsOffset, fresh, if_there, opening, opening_file, opening_this};
+ghost use Rattle.course.specs.Courses.{reading, seeing};
 ghost use Rattle.course.specs.Courses.{closing_for, stating, writing};
-ghost use Rattle.course.specs.Faults.{is_there, unless_aborted};
+ghost use Rattle.course.specs.Faults.{is_special, is_there, unless_aborted, unless_special};
 
 use crate::fault::{Fault, bytes_in, count_in, fd_in};
 use crate::hand::Hand;
@@ -33,6 +34,43 @@ fn open<K: Machine>(hand: &mut Hand<K>, path: Bytes, flags: OpenFlags) -> Result
 {
     let reply = hand.ask(Call::Open(path, flags));
     fd_in(reply)
+}
+
+// Whether an error says that no file is there to be opened, but a link, a FIFO or a socket.
+fn is_special(fault: &Fault) -> bool
+    ensures { result ≡ is_special fault.now }
+{
+    match fault {
+        Fault::Refused(errno) => *errno == Errno::ELOOP || *errno == Errno::ENXIO,
+        _ => false,
+    }
+}
+
+// Where one of these stands, the path does not give the file that is meant.
+fn unless_special(opened: Result<Fd, Fault>) -> Result<Fd, Fault>
+    ensures { result ≡ unless_special opened }
+{
+    match opened {
+        Ok(fd) => Ok(fd),
+        Err(fault) => {
+            if is_special(&fault) {
+                Err(Fault::Stale)
+            } else {
+                Err(fault)
+            }
+        }
+    }
+}
+
+// Opens the file of a path that was there, for reading and writing. Where it is a link, a FIFO or a
+// socket now, or leads through a link, the path is stale.
+fn open_file<K: Machine>(hand: &mut Hand<K>, path: Bytes) -> Result<Fd, Fault>
+    ensures bound { bound hand.new ≡ bound hand.old }
+    ensures ran { Ran hand.old.shown
+        (opening_file hand.old.pid path) result hand.new.shown }
+{
+    let opened = open(hand, path, both());
+    unless_special(opened)
 }
 
 /// Closes a descriptor.
@@ -120,7 +158,7 @@ pub(crate) fn open_this<K: Machine>(
     ensures ran { Ran hand.old.shown
         (opening_this hand.old.pid path inode) result hand.new.shown }
 {
-    let fd = open(hand, path, both())?;
+    let fd = open_file(hand, path)?;
     check_open(hand, fd, inode)
 }
 
@@ -164,7 +202,7 @@ fn go_on<K: Machine>(
             if exclusive || !is_there(&fault) {
                 return Err(fault);
             }
-            let fd = open(hand, path, both())?;
+            let fd = open_file(hand, path)?;
             see(hand, fd, false)
         }
     }

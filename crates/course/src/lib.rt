@@ -18,8 +18,11 @@ mod transactions;
 pub use fault::Fault;
 pub use files::{Made, append, close, read, stat_file, write};
 pub use hand::Hand;
-pub use made::{close_spare, create_cut, cut_if, make_file, open_cut};
-pub use names::{Twice, link, list, look_up, make_directory, move_name, remove_directory, unlink};
+pub use made::{close_spare, create_cut, cut_if, make_node, open_cut};
+pub use names::{
+    Twice, link, list, look_up, make_directory, make_link, move_name, read_link, remove_directory,
+    unlink,
+};
 pub use objects::{Object, find, list_at, resize};
 pub use place::Place;
 pub use transactions::{begin, end, fork, give_up, look_nowhere};

@@ -3,13 +3,14 @@ ghost use Rattle.std.specs.Prelude.{◌≡◌, ◌&&◌, not};
 ghost use Rattle.course.specs.Hands.{bound};
 ghost use Rattle.course.specs.Course.{Ran};
 ghost use Rattle.course.specs.Courses.{closing_spare, creating_cut, cut_made, cut_opened, cutting};
-ghost use Rattle.course.specs.Courses.{done_with, inside, making_file, opening_cut};
+ghost use Rattle.course.specs.Courses.{done_with, inside, making_file, making_node, opening_cut};
 
 use crate::fault::Fault;
 use crate::files::{Made, close, close_for, create, open_this, set_length};
 use crate::hand::Hand;
+use crate::names::make_at;
 use crate::place::{Place, check_place};
-use ids::{Bytes, Fd, Num, Stat};
+use ids::{Bytes, Call, Fd, Num, Special, Stat};
 use machine::Machine;
 
 /// Cuts the file of a descriptor to nothing, where that is wanted.
@@ -126,20 +127,40 @@ fn make_file_at<K: Machine>(hand: &mut Hand<K>, path: Bytes, again: Bytes) -> Re
     close_made(hand, made)
 }
 
-/// Makes a file in this directory that is not left open. The two paths are the same. It is `Stale`, and
-/// nothing is made, where the directory's own path gives another object, or none.
-pub fn make_file<K: Machine>(
+// Makes a file that is not left open, or a FIFO or a socket.
+fn make_node_at<K: Machine>(
+    hand: &mut Hand<K>,
+    path: Bytes,
+    again: Bytes,
+    special: Option<Special>,
+) -> Result<Stat, Fault>
+    ensures bound { bound hand.new ≡ bound hand.old }
+    ensures ran { Ran hand.old.shown
+        (making_node hand.old.pid special path again) result hand.new.shown }
+{
+    match special {
+        Some(special) => make_at(hand, Call::Mknod(path, special), again),
+        None => make_file_at(hand, path, again),
+    }
+}
+
+/// Makes a file in this directory that is not left open, or a FIFO or a socket, and tells about it. The
+/// two paths are the same. It is `Stale`, and nothing is made, where the directory's own path gives
+/// another object, or none.
+pub fn make_node<K: Machine>(
     hand: &mut Hand<K>,
     place: Option<Place>,
     path: Bytes,
     again: Bytes,
+    special: Option<Special>,
 ) -> Result<Stat, Fault>
     ensures bound { bound hand.new ≡ bound hand.old }
     ensures ran { Ran hand.old.shown
-        (inside hand.old.pid place (making_file hand.old.pid path again)) result hand.new.shown }
+        (inside hand.old.pid place (making_node hand.old.pid special path again))
+        result hand.new.shown }
 {
     check_place(hand, place)?;
-    make_file_at(hand, path, again)
+    make_node_at(hand, path, again, special)
 }
 
 /// Closes the descriptor of a file that was made, where that is open already.

@@ -26,12 +26,12 @@ pub struct Object {
     pub fd: Option<Fd>,
 }
 
-// What a directory is like to which no name leads any more.
-fn removed(inode: Num) -> Stat
-    ensures { result ≡ removed inode }
+// What is told of an object to which no name leads any more, and which is empty.
+fn removed(kind: Kind, inode: Num) -> Stat
+    ensures { result ≡ removed kind inode }
 {
     Stat {
-        kind: Kind::Dir,
+        kind,
         num: inode,
         size: 0,
         links: 0,
@@ -43,8 +43,8 @@ fn nowhere(kind: Kind, inode: Num) -> Result<Stat, Fault>
     ensures { result ≡ nowhere kind inode }
 {
     match kind {
-        Kind::Dir => Ok(removed(inode)),
-        Kind::File | Kind::Pipe => Err(Fault::Stale),
+        Kind::Dir | Kind::Fifo | Kind::Socket => Ok(removed(kind, inode)),
+        Kind::File | Kind::Pipe | Kind::Link => Err(Fault::Stale),
     }
 }
 
@@ -96,7 +96,8 @@ fn if_found<K: Machine>(
 }
 
 /// What an object is like: by its path, where that leads to it still, else by its descriptor. A
-/// directory that has neither is there without a name, and empty; another object is stale.
+/// directory, a FIFO or a socket that has neither is there without a name, and empty; another object is
+/// stale.
 pub fn find<K: Machine>(hand: &mut Hand<K>, object: Object) -> Result<Stat, Fault>
     ensures bound { bound hand.new ≡ bound hand.old }
     ensures ran { Ran hand.old.shown
@@ -110,7 +111,7 @@ pub fn find<K: Machine>(hand: &mut Hand<K>, object: Object) -> Result<Stat, Faul
     } = object;
     match path {
         Some(path) => {
-            let looked = hand.stat_call(Call::Stat(path));
+            let looked = hand.stat_call(Call::Lstat(path));
             if_found(hand, kind, inode, fd, looked)
         }
         None => by_descriptor(hand, kind, inode, fd),
@@ -218,7 +219,7 @@ pub fn list_at<K: Machine>(
 {
     match path {
         Some(path) => {
-            let looked = hand.stat_call(Call::Stat(path.first));
+            let looked = hand.stat_call(Call::Lstat(path.first));
             if_listed(hand, heap, path.second, inode, looked)
         }
         None => Ok(NameList::new(Vec::new(heap))),

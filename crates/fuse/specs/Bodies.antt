@@ -11,7 +11,7 @@ use Rattle.fuse.specs.declared.request.TimeChange.{TimeChange}
 use Rattle.fuse.specs.declared.request.TimeChange.TheVariants as time
 use Rattle.fuse.specs.declared.request.Whence.{Whence}
 use Rattle.fuse.specs.declared.request.Whence.TheVariants as whence
-use Rattle.fuse.specs.Names.{name_in, names_in}
+use Rattle.fuse.specs.Names.{name_and_text_in, name_in, names_in}
 use Rattle.fuse.specs.Numbers.{u32_at, u64_at}
 
 -- the value, where there are exactly so many bytes
@@ -30,6 +30,10 @@ where_set mask bit x = if bit_and mask bit == 0 then None else Some x
 
 unfoldable pub lookup_in : List ℕ → Option Operation
 lookup_in body = option_map (λ name. op.Lookup name) (name_in body)
+
+-- the name, and the target of the link (fs/fuse/dir.c, fuse_symlink: in this order)
+unfoldable pub symlink_in : List ℕ → Option Operation
+symlink_in body = option_map (λ texts. op.SymLink texts.0 texts.1) (name_and_text_in body)
 
 -- mode, device, umask and padding, and the name
 unfoldable pub mknod_in : List ℕ → Option Operation
@@ -113,6 +117,9 @@ lseek_in body =
     else None
 
 -- ---- directories and nodes
+
+unfoldable pub readlink_in : List ℕ → Option Operation
+readlink_in body = of_length 0 body op.ReadLink
 
 -- as of an open file
 unfoldable pub opendir_in : List ℕ → Option Operation

@@ -42,7 +42,7 @@ pub const MODE_KIND: u32 = 0o170_000;
 /// The bits below these: permissions, and three more that go with them.
 pub const MODE_PERMISSIONS: u32 = 0o7_777;
 
-/// A pipe with a name.
+/// A FIFO, which is a pipe with a name.
 pub const MODE_PIPE: u32 = 0o010_000;
 
 /// A directory.
@@ -50,6 +50,12 @@ pub const MODE_DIRECTORY: u32 = 0o040_000;
 
 /// A file.
 pub const MODE_FILE: u32 = 0o100_000;
+
+/// A symbolic link.
+pub const MODE_LINK: u32 = 0o120_000;
+
+/// A socket.
+pub const MODE_SOCKET: u32 = 0o140_000;
 
 // ---- the flags of a rename (RENAME_ in linux/fs.h)
 

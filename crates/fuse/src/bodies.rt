@@ -2,7 +2,7 @@
 ghost use Rattle.std.specs.Prelude.{◌≡◌, ◌+◌, ◌≤◌, length};
 ghost use Rattle.fuse.specs.Bodies.{access_in, batch_forget_in, changes_in, destroy_in, flush_in};
 ghost use Rattle.fuse.specs.Bodies.{forget_in, fsync_in, getattr_in, init_in, interrupt_in};
-ghost use Rattle.fuse.specs.Bodies.{lseek_in, open_in, opendir_in, read_in, readdir_in};
+ghost use Rattle.fuse.specs.Bodies.{lseek_in, open_in, opendir_in, read_in, readdir_in, readlink_in};
 ghost use Rattle.fuse.specs.Bodies.{release_in, releasedir_in, setattr_in, statfs_in, time_change};
 ghost use Rattle.fuse.specs.Bodies.{whence_of, where_set, write_in};
 ghost use Rattle.fuse.specs.Faults.{Reads};
@@ -130,6 +130,17 @@ pub(crate) fn lseek_in(body: &[u8]) -> Option<Operation>
 }
 
 // ---- directories and nodes
+
+#[tactic(auto, unfolding(crate::specs::Bodies::readlink_in))]
+pub(crate) fn readlink_in(body: &[u8]) -> Option<Operation>
+    ensures { result ≡ readlink_in body.now }
+{
+    if body.is_empty() {
+        Some(Operation::ReadLink)
+    } else {
+        None
+    }
+}
 
 #[tactic(auto, unfolding(crate::specs::Bodies::opendir_in))]
 pub(crate) fn opendir_in(body: &[u8]) -> Option<Operation>

@@ -83,11 +83,20 @@ pub enum Operation {
         /// Which ones, and to what.
         changes: Changes,
     },
-    /// Makes a file that is not opened.
+    /// Tells the target of the symbolic link.
+    ReadLink,
+    /// Makes a symbolic link.
+    SymLink {
+        /// Its name in the directory.
+        name: Bytes,
+        /// Its target: any text without a zero byte.
+        target: Bytes,
+    },
+    /// Makes what is not opened: a file, a FIFO, a socket or a device, as its mode tells.
     MkNod {
         /// Its name in the directory.
         name: Bytes,
-        /// Its kind and permissions.
+        /// Its kind and permissions: the kind is among the bits `MODE_KIND`.
         mode: u32,
     },
     /// Makes an empty directory.
@@ -97,7 +106,7 @@ pub enum Operation {
         /// Its permissions.
         mode: u32,
     },
-    /// Takes a name of a file away.
+    /// Takes a name away that gives no directory.
     Unlink {
         /// The name in the directory.
         name: Bytes,
@@ -118,9 +127,9 @@ pub enum Operation {
         /// The flags of `renameat2`: 1 to replace nothing, 2 to exchange the two.
         flags: u32,
     },
-    /// Gives a file a further name in the directory.
+    /// Gives what is no directory a further name in the directory.
     Link {
-        /// The file.
+        /// What gets it.
         node: u64,
         /// The further name.
         new_name: Bytes,

@@ -4,12 +4,13 @@ use Rattle.std.specs.Prelude.{Result, Ok, Err, if◌then◌else◌}
 use Rattle.ids.specs.declared.aspect.Why.{Why}
 use Rattle.ids.specs.declared.call.Call.{Call}
 use Rattle.ids.specs.declared.call.Call.TheVariants as call
+use Rattle.ids.specs.declared.fixed.Special.{Special}
 use Rattle.ids.specs.declared.flags.OpenFlags.{OpenFlags}
 use Rattle.ids.specs.declared.reply.Kind.{Kind}
-use Rattle.ids.specs.declared.reply.Kind.TheVariants.{Dir, File, Pipe}
+use Rattle.ids.specs.declared.reply.Kind.TheVariants.{Dir, Fifo, File, Link, Pipe, Socket}
 use Rattle.course.specs.Course.{Course, Give, Step, ◌>>=◌}
-use Rattle.course.specs.Courses.{both, by_descriptor, closing, closing_for, closing_spare, creating, creating_cut, cutting, doing, done_with, finding, finding_at, fresh, if_absent, if_cut, if_found, if_listed, if_same, if_seen, if_there, inside, linking, listing, listing_at, looking_for, making, making_file, moving, on_ok, opening, opening_cut, opening_this, reading, same_or_stale, seeing, sizing, stating, writing}
-use Rattle.course.specs.Faults.{done_in, gives_none, is_abort, is_missing, is_there, unless_aborted}
+use Rattle.course.specs.Courses.{both, by_descriptor, closing, closing_for, closing_spare, creating, creating_cut, cutting, doing, done_with, finding, finding_at, fresh, if_absent, if_cut, if_found, if_listed, if_same, if_seen, if_there, inside, linking, listing, listing_at, looking_for, making, making_file, making_node, moving, on_ok, opening, opening_cut, opening_file, opening_this, reading, reading_link, reading_target, same_or_stale, seeing, sizing, stating, writing}
+use Rattle.course.specs.Faults.{done_in, gives_none, is_abort, is_missing, is_special, is_there, unless_aborted, unless_special}
 use Rattle.course.specs.declared.fault.Fault.{Fault}
 use Rattle.course.specs.declared.fault.Fault.TheVariants.{Aborted, Busy, NoMemory, Refused, Stale, Unexpected}
 use Rattle.course.specs.declared.files.Made.{Made}
@@ -67,7 +68,7 @@ stale_no_abort true e other = refl
 stale_no_abort false e other = other
 
 looking_for_ends : (pid : ℕ) (path : List ℕ) (inode : ℕ) → EndsAtAborts (looking_for pid path inode)
-looking_for_ends pid path inode = behind (stating pid (call.Stat path)) (λ looked. Give (same_or_stale inode looked)) (stating_ends pid (call.Stat path)) (λ why. refl) (λ stat. same_no_abort (stat.num == inode)) (λ e other. stale_no_abort (gives_none e) e other)
+looking_for_ends pid path inode = behind (stating pid (call.Lstat path)) (λ looked. Give (same_or_stale inode looked)) (stating_ends pid (call.Lstat path)) (λ why. refl) (λ stat. same_no_abort (stat.num == inode)) (λ e other. stale_no_abort (gives_none e) e other)
 
 -- what is done in a directory, which is looked for first
 inside_ends : {A : Type 0} (pid : ℕ) (d : Option Place) (named : Course (Result A Fault)) → EndsAtAborts named → EndsAtAborts (inside pid d named)
@@ -107,8 +108,15 @@ if_cut_ends pid fd cut x = behind (cutting pid fd cut) (if_cut pid fd x) (cuttin
 checked_ends : (pid fd inode : ℕ) → EndsAtAborts (stating pid (call.Fstat fd) >>= if_same pid fd inode)
 checked_ends pid fd inode = behind (stating pid (call.Fstat fd)) (if_same pid fd inode) (stating_ends pid (call.Fstat fd)) (λ why. refl) (λ stat. either (stat.num == inode) (Give (Ok fd)) (closing pid fd Stale) tt (closing_ends _ pid fd Stale refl)) (λ e other. closing_ends _ pid fd e other)
 
+special_no_abort : (special : Bool) (e : Fault) → is_abort e ≡ false → IsNoAbort {A = ℕ} (if special then Err Stale else Err e)
+special_no_abort true e other = refl
+special_no_abort false e other = other
+
+opening_file_ends : (pid : ℕ) (path : List ℕ) → EndsAtAborts (opening_file pid path)
+opening_file_ends pid path = behind (opening pid path both) (λ opened. Give (unless_special opened)) (opening_ends pid path both) (λ why. refl) (λ fd. tt) (λ e other. special_no_abort (is_special e) e other)
+
 opening_this_ends : (pid : ℕ) (path : List ℕ) (inode : ℕ) → EndsAtAborts (opening_this pid path inode)
-opening_this_ends pid path inode = then_on (opening pid path both) _ (opening_ends pid path both) (λ fd. checked_ends pid fd inode)
+opening_this_ends pid path inode = then_on (opening_file pid path) _ (opening_file_ends pid path) (λ fd. checked_ends pid fd inode)
 
 opening_cut_ends : (pid : ℕ) (path : List ℕ) (inode : ℕ) (cut : Bool) → EndsAtAborts (opening_cut pid path inode cut)
 opening_cut_ends pid path inode cut = then_on (opening_this pid path inode) _ (opening_this_ends pid path inode) (λ fd. if_cut_ends pid fd cut fd)
@@ -123,7 +131,7 @@ not_there pid path false why = refl
 creating_ends : (pid : ℕ) (path again : List ℕ) (exclusive : Bool) → EndsAtAborts (creating pid path again exclusive)
 creating_ends pid path again exclusive =
     behind (opening pid path fresh) (if_there pid again exclusive) (opening_ends pid path fresh) (not_there pid again exclusive) (λ fd. seeing_ends pid true fd)
-    (λ e other. either (exclusive || not (is_there e)) (Give (Err e)) (opening pid again both >>= on_ok (seeing pid false)) other (then_on (opening pid again both) (seeing pid false) (opening_ends pid again both) (seeing_ends pid false)))
+    (λ e other. either (exclusive || not (is_there e)) (Give (Err e)) (opening_file pid again >>= on_ok (seeing pid false)) other (then_on (opening_file pid again) (seeing pid false) (opening_file_ends pid again) (seeing_ends pid false)))
 
 creating_cut_ends : (pid : ℕ) (path again : List ℕ) (exclusive cut : Bool) → EndsAtAborts (creating_cut pid path again exclusive cut)
 creating_cut_ends pid path again exclusive cut = then_on (creating pid path again exclusive) _ (creating_ends pid path again exclusive) (λ made. if_cut_ends pid made.fd (cut && not made.is_new) made)
@@ -137,10 +145,13 @@ by_descriptor_ends pid kind inode (Some fd) = stating_ends pid (call.Fstat fd)
 by_descriptor_ends pid Dir inode None = tt
 by_descriptor_ends pid File inode None = refl
 by_descriptor_ends pid Pipe inode None = refl
+by_descriptor_ends pid Link inode None = refl
+by_descriptor_ends pid Fifo inode None = tt
+by_descriptor_ends pid Socket inode None = tt
 
 finding_at_ends : (pid : ℕ) (kind : Kind) (inode : ℕ) (fd : Option ℕ) (path : Option (List ℕ)) → EndsAtAborts (finding_at pid kind inode fd path)
 finding_at_ends pid kind inode fd (Some path) =
-    behind (stating pid (call.Stat path)) (if_found pid kind inode fd) (stating_ends pid (call.Stat path)) (λ why. refl)
+    behind (stating pid (call.Lstat path)) (if_found pid kind inode fd) (stating_ends pid (call.Lstat path)) (λ why. refl)
     (λ stat. either (stat.num == inode) (Give (Ok stat)) (by_descriptor pid kind inode fd) tt (by_descriptor_ends pid kind inode fd))
     (λ e other. either (gives_none e) (by_descriptor pid kind inode fd) (Give (Err e)) (by_descriptor_ends pid kind inode fd) other)
 finding_at_ends pid kind inode fd None = by_descriptor_ends pid kind inode fd
@@ -152,7 +163,7 @@ sizing_ends pid inode None None length = refl
 
 listing_at_ends : (pid inode : ℕ) (path : Option (List ℕ)) → EndsAtAborts (listing_at pid inode path)
 listing_at_ends pid inode (Some path) =
-    behind (stating pid (call.Stat path)) (if_listed pid path inode) (stating_ends pid (call.Stat path)) (λ why. refl)
+    behind (stating pid (call.Lstat path)) (if_listed pid path inode) (stating_ends pid (call.Lstat path)) (λ why. refl)
     (λ stat. either (stat.num == inode) (listing pid path) (Give (Ok [])) (listing_ends pid path) tt)
     (λ e other. either (gives_none e) (Give (Ok [])) (Give (Err e)) tt other)
 listing_at_ends pid inode None = tt
@@ -173,7 +184,7 @@ set pid s (Some length) = then_on (sizing pid s.object.inode s.object.fd (once s
 set pid s None = find pid s.object
 
 making_ends : (pid : ℕ) (c : Call) (path : List ℕ) → EndsAtAborts (making pid c path)
-making_ends pid c path = then_on (doing pid c) _ (doing_ends pid c) (λ done. stating_ends pid (call.Stat path))
+making_ends pid c path = then_on (doing pid c) _ (doing_ends pid c) (λ done. stating_ends pid (call.Lstat path))
 
 pub make : (pid : ℕ) (d : Option Place) (c : Call) (path : List ℕ) → EndsAtAborts (inside pid d (making pid c path))
 make pid d c path = inside_ends pid d (making pid c path) (making_ends pid c path)
@@ -181,8 +192,18 @@ make pid d c path = inside_ends pid d (making pid c path) (making_ends pid c pat
 making_file_ends : (pid : ℕ) (path : List ℕ) → EndsAtAborts (making_file pid path path)
 making_file_ends pid path = then_on (creating pid path path true) _ (creating_ends pid path path true) (λ made. done_with_ends pid made.fd made.stat)
 
-pub make_file : (pid : ℕ) (d : Option Place) (path : List ℕ) → EndsAtAborts (inside pid d (making_file pid path path))
-make_file pid d path = inside_ends pid d (making_file pid path path) (making_file_ends pid path)
+making_node_ends : (pid : ℕ) (special : Option Special) (path : List ℕ) → EndsAtAborts (making_node pid special path path)
+making_node_ends pid None path = making_file_ends pid path
+making_node_ends pid (Some special) path = making_ends pid (call.Mknod path special) path
+
+pub make_node : (pid : ℕ) (d : Option Place) (special : Option Special) (path : List ℕ) → EndsAtAborts (inside pid d (making_node pid special path path))
+make_node pid d special path = inside_ends pid d (making_node pid special path path) (making_node_ends pid special path)
+
+reading_target_ends : (pid : ℕ) (path : List ℕ) → EndsAtAborts (reading_target pid path)
+reading_target_ends pid path = (λ why again. refl, bytes_no_abort)
+
+pub read_link : (pid : ℕ) (path : List ℕ) (inode : ℕ) → EndsAtAborts (reading_link pid path inode)
+read_link pid path inode = then_on (looking_for pid path inode) _ (looking_for_ends pid path inode) (λ same. reading_target_ends pid path)
 
 linking_ends : (pid : ℕ) (path : List ℕ) (inode : ℕ) (new_path : List ℕ) → EndsAtAborts (linking pid path inode new_path)
 linking_ends pid path inode new_path = then_on (looking_for pid path inode) _ (looking_for_ends pid path inode) (λ same. making_ends pid (call.Link path new_path) new_path)
@@ -195,7 +216,7 @@ remove pid d c = inside_ends pid d (doing pid c) (doing_ends pid c)
 
 moving_ends : (pid : ℕ) (from to : List ℕ) (absent : Bool) → EndsAtAborts (moving pid from to absent)
 moving_ends pid from to false = doing_ends pid (call.Rename from to)
-moving_ends pid from to true = behind (stating pid (call.Stat to)) (if_absent pid from to) (stating_ends pid (call.Stat to)) (λ why. refl) (λ stat. refl) (λ e other. either (is_missing e) (doing pid (call.Rename from to)) (Give (Err e)) (doing_ends pid (call.Rename from to)) other)
+moving_ends pid from to true = behind (stating pid (call.Lstat to)) (if_absent pid from to) (stating_ends pid (call.Lstat to)) (λ why. refl) (λ stat. refl) (λ e other. either (is_missing e) (doing pid (call.Rename from to)) (Give (Err e)) (doing_ends pid (call.Rename from to)) other)
 
 pub move_name : (pid : ℕ) (m : Moving) → EndsAtAborts (moving_by pid m)
 move_name pid m =

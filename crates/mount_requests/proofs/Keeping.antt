@@ -112,9 +112,11 @@ pub answered_keeps : (s later : Seen) (pid node : ℕ) (o : Operation) (old new 
 answered_keeps s later pid node (asked.Lookup name) old new r h = look_up_keeps (is_reserved node name) s later pid node name old new r h
 answered_keeps s later pid node (asked.GetAttr x) old new r h = answers_keep (λ p x known told k. keeps_is k.1) h
 answered_keeps s later pid node (asked.SetAttr x) old new r h = answers_keep (λ p x known told k. keeps_is k.1) h
+answered_keeps s later pid node asked.ReadLink old new r h = answers_keep (λ p x known told k. keeps_is k.1) h
 answered_keeps s later pid node asked.OpenDir old new r h = looks_keep (λ p x known told k. keeps_to k.1 (stands _ refl refl refl refl)) h
 answered_keeps s later pid node (asked.ReadDir x y z) old new r h = looks_keep (λ p x known told k. keeps_to k.1 (stands _ refl refl refl refl)) h
 answered_keeps s later pid node (asked.Access x) old new r h = keeps_is h.2
+answered_keeps s later pid node (asked.SymLink x y) old new r h = answers_keep (λ p x known told k. keeps_to k.1 (stands _ refl refl refl refl)) h
 answered_keeps s later pid node (asked.MkNod x y) old new r h = answers_keep (λ p x known told k. keeps_to k.1 (stands _ refl refl refl refl)) h
 answered_keeps s later pid node (asked.MkDir x y) old new r h = answers_keep (λ p x known told k. keeps_to k.1 (stands _ refl refl refl refl)) h
 answered_keeps s later pid node (asked.Unlink x) old new r h = answers_keep (λ p x known told k. keeps_to k.1 (stands _ refl refl refl refl)) h

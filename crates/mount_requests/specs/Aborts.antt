@@ -2,11 +2,12 @@
 use Rattle.std.specs.Prelude.{◌≡◌, ℕ, ℤ, List, Bool, true, false, Option, Result, Ok, Err}
 use Rattle.ids.specs.declared.aspect.Why.{Why}
 use Rattle.ids.specs.declared.call.Call.{Call}
+use Rattle.ids.specs.declared.fixed.Special.{Special}
 use Rattle.ids.specs.declared.reply.Reply.{Reply}
 use Rattle.ids.specs.declared.reply.Reply.TheVariants as reply
 use Rattle.course.specs.Course.{Course, Give, Step}
-use Rattle.course.specs.Courses.{doing, finding, inside, linking, making, making_file, reading}
-use Rattle.course.specs.Courses.{stating}
+use Rattle.course.specs.Courses.{doing, finding, inside, linking, making, making_node, reading}
+use Rattle.course.specs.Courses.{reading_link, stating}
 use Rattle.course.specs.Faults.{is_abort}
 use Rattle.course.specs.declared.fault.Fault.{Fault}
 use Rattle.course.specs.declared.fault.Fault.TheVariants.{Aborted}
@@ -44,11 +45,12 @@ pub record RequestsEndAtAborts : Type 0 where
   pub look : (pid : ℕ) (c : Call) → EndsAtAborts (stating pid c)
   pub look_up : (pid : ℕ) (d : Option Place) (c : Call) → EndsAtAborts (inside pid d (stating pid c))
   pub find : (pid : ℕ) (o : Object) → EndsAtAborts (finding pid o)
+  pub read_link : (pid : ℕ) (path : List ℕ) (inode : ℕ) → EndsAtAborts (reading_link pid path inode)
   pub set : (pid : ℕ) (s : Setting) (length : Option ℕ) → EndsAtAborts (setting_by pid s length)
   pub make : (pid : ℕ) (d : Option Place) (c : Call) (path : List ℕ)
       → EndsAtAborts (inside pid d (making pid c path))
-  pub make_file : (pid : ℕ) (d : Option Place) (path : List ℕ)
-      → EndsAtAborts (inside pid d (making_file pid path path))
+  pub make_node : (pid : ℕ) (d : Option Place) (special : Option Special) (path : List ℕ)
+      → EndsAtAborts (inside pid d (making_node pid special path path))
   pub link : (pid : ℕ) (d : Option Place) (path : List ℕ) (inode : ℕ) (new_path : List ℕ)
       → EndsAtAborts (inside pid d (linking pid path inode new_path))
   pub remove : (pid : ℕ) (d : Option Place) (c : Call) → EndsAtAborts (inside pid d (doing pid c))

@@ -5,6 +5,8 @@ use Rattle.std.specs.Prelude.{List, [], Bool, true, false, Option, Some, None, i
 use Rattle.std.specs.Prelude.{Result, Ok, Err, if◌then◌else◌}
 use Rattle.model.specs.FiniteMap as map
 use Rattle.ids.specs.declared.call.Call.TheVariants as call
+use Rattle.ids.specs.declared.fixed.Special.{Special}
+use Rattle.ids.specs.declared.fixed.Special.TheVariants as special
 use Rattle.ids.specs.declared.limits.TheConstants.{MOST_MOVED}
 use Rattle.ids.specs.declared.reply.Stat.{Stat}
 use Rattle.fuse.specs.declared.errno.Errno.TheVariants as errno
@@ -20,8 +22,8 @@ use Rattle.nodes.specs.Tables.{moved as renamed}
 use Rattle.nodes.specs.Tables.{Table}
 use Rattle.course.specs.Course.{Course, Give, ◌>>=◌}
 use Rattle.course.specs.Courses.{appending, closing_spare, creating_cut, cutting, doing, finding}
-use Rattle.course.specs.Courses.{inside, linking, listing_at, making, making_file, moving, on_ok}
-use Rattle.course.specs.Courses.{opening_cut, reading, resizing, stating, writing}
+use Rattle.course.specs.Courses.{inside, linking, listing_at, making, making_node, moving, on_ok}
+use Rattle.course.specs.Courses.{opening_cut, reading, reading_link, resizing, stating, writing}
 use Rattle.course.specs.declared.fault.Fault.{Fault}
 use Rattle.course.specs.declared.files.Made.{Made}
 use Rattle.course.specs.declared.names.Twice.{Twice}
@@ -43,7 +45,9 @@ use Rattle.mount_requests.specs.declared.changing.Setting.{Setting}
 use Rattle.mount_requests.specs.declared.failure.Failure.{Failure}
 use Rattle.mount_requests.specs.declared.files.Reading.{Reading}
 use Rattle.mount_requests.specs.declared.files.Writing.{Writing}
+use Rattle.mount_requests.specs.declared.looking.Linked.{Linked}
 use Rattle.mount_requests.specs.declared.making.Linking.{Linking}
+use Rattle.mount_requests.specs.declared.making.NewNode.{NewNode}
 use Rattle.mount_requests.specs.declared.opening.Opening.{Opening}
 use Rattle.mount_requests.specs.declared.opening.Opening.TheVariants.{Again, First}
 use Rattle.mount_requests.specs.declared.planning.LocatedName.{LocatedName}
@@ -108,7 +112,7 @@ IsReserved node (Err e) = e ≡ error errno.ENOENT
 abbrev pub AnswersName : Seen → Seen → ℕ → ℕ → List ℕ → Shown → Shown → Result Reply Failure → Type 0
 AnswersName s later pid node name old new result =
     Answers s later old new (located_child s node name)
-    (λ p. inside pid p.place (stating pid (call.Stat p.path)))
+    (λ p. inside pid p.place (stating pid (call.Lstat p.path)))
     (λ p stat known r. Says (ShowsEntry s.nodes (named node name) stat) r
     × (known ≡ with_look_up s node name stat)) result
 
@@ -128,6 +132,16 @@ abbrev pub AnswersGetAttr : Seen → Seen → ℕ → ℕ → Shown → Shown �
 AnswersGetAttr s later pid node old new result =
     Answers s later old new (object_of s pid node) (finding pid)
     (λ o stat known r. Says (ShowsAttributes stat) r × (known ≡ s)) result
+
+-- the object of a node, by its path: a symbolic link, if its target is told
+abbrev pub linked : Seen → ℕ → Result Linked Failure
+linked s node = and_then (located_own s node) (λ p.
+    Ok (record { paths = twice p.path; inode = inode_of s node }))
+
+abbrev pub AnswersReadLink : Seen → Seen → ℕ → ℕ → Shown → Shown → Result Reply Failure → Type 0
+AnswersReadLink s later pid node old new result =
+    Answers s later old new (linked s node) (λ l. reading_link pid l.paths.first l.inode)
+    (λ l target known r. Says (ShowsBytes target) r × (known ≡ s)) result
 
 -- ---- setting
 
@@ -165,20 +179,35 @@ AnswersMkDir s later pid node name old new result =
     (λ p stat known r. Says (ShowsEntry (made s.nodes stat.num) (named node name) stat) r
     × (known ≡ with_made s node name stat)) result
 
--- only plain files are made, and a mode that tells no kind means them
-abbrev pub plain_kind : ℕ → Result (Unit {0}) Failure
-plain_kind mode =
-    if mode / 4096 % 16 == 8 || mode / 4096 % 16 == 0 then Ok tt
-    else Err (error errno.EOPNOTSUPP)
+abbrev pub AnswersSymLink : Seen → Seen → ℕ → ℕ → List ℕ → List ℕ → Shown → Shown
+    → Result Reply Failure → Type 0
+AnswersSymLink s later pid node name target old new result =
+    Answers s later old new (located_new s node name)
+    (λ p. inside pid p.place (making pid (call.Symlink target p.path) p.path))
+    (λ p stat known r. Says (ShowsEntry (made s.nodes stat.num) (named node name) stat) r
+    × (known ≡ with_made s node name stat)) result
 
-abbrev pub planned_file : Seen → ℕ → List ℕ → ℕ → Result LocatedName Failure
-planned_file s node name mode = and_then (plain_kind mode) (λ plain. located_new s node name)
+-- What is made by the kind of a mode (sys/stat.h): a plain file, which no kind means too, a FIFO or a
+-- socket. There are no devices (mknod: EPERM).
+abbrev pub special_by : ℕ → Result (Option Special) Failure
+special_by kind =
+    if kind == 8 || kind == 0 then Ok None
+    else if kind == 1 then Ok (Some special.Fifo)
+    else if kind == 12 then Ok (Some special.Socket)
+    else Err (error errno.EPERM)
+
+abbrev pub special_in : ℕ → Result (Option Special) Failure
+special_in mode = special_by (mode / 4096 % 16)
+
+abbrev pub planned_node : Seen → ℕ → List ℕ → ℕ → Result NewNode Failure
+planned_node s node name mode = and_then (special_in mode) (λ special.
+    and_then (located_new s node name) (λ at. Ok (record { at = at; special = special })))
 
 abbrev pub AnswersMkNod : Seen → Seen → ℕ → ℕ → List ℕ → ℕ → Shown → Shown → Result Reply Failure
     → Type 0
 AnswersMkNod s later pid node name mode old new result =
-    Answers s later old new (planned_file s node name mode)
-    (λ p. inside pid p.place (making_file pid p.path p.path))
+    Answers s later old new (planned_node s node name mode)
+    (λ p. inside pid p.at.place (making_node pid p.special p.at.path p.at.path))
     (λ p stat known r. Says (ShowsEntry (made s.nodes stat.num) (named node name) stat) r
     × (known ≡ with_made s node name stat)) result
 
@@ -186,7 +215,7 @@ AnswersMkNod s later pid node name mode old new result =
 abbrev pub in_one_view : ℕ → ℕ → Result (Unit {0}) Failure
 in_one_view from to = if from == to then Ok tt else Err (error errno.EXDEV)
 
--- the file of a node, by its path, and its further name
+-- the object of a node, which is no directory, by its path, and its further name
 abbrev pub linking_in : Seen → ℕ → ℕ → List ℕ → Result Linking Failure
 linking_in s parent node name = and_then (located_new s parent name) (λ to.
     and_then (located_own s node) (λ from.
@@ -476,6 +505,8 @@ IsOfFiles s later pid node _ old new r = Tells (Err (error errno.ENOSYS)) s late
 -- or requests that change names
 abbrev pub IsOfNames : Seen → Seen → ℕ → ℕ → Operation → Shown → Shown → Result Reply Failure
     → Type 0
+IsOfNames s later pid node (asked.SymLink name target) old new r =
+    AnswersSymLink s later pid node name target old new r
 IsOfNames s later pid node (asked.MkNod name mode) old new r =
     AnswersMkNod s later pid node name mode old new r
 IsOfNames s later pid node (asked.MkDir name mode) old new r =
@@ -499,6 +530,7 @@ IsAnswered s later pid node (asked.Lookup name) old new r =
     AnswersLookUp s later pid node name old new r
 IsAnswered s later pid node (asked.GetAttr h) old new r = AnswersGetAttr s later pid node old new r
 IsAnswered s later pid node (asked.SetAttr c) old new r = AnswersSetAttr s later pid node c old new r
+IsAnswered s later pid node asked.ReadLink old new r = AnswersReadLink s later pid node old new r
 IsAnswered s later pid node asked.OpenDir old new r = AnswersOpenDir s later pid node old new r
 IsAnswered s later pid node (asked.ReadDir handle offset size) old new r =
     AnswersReadDir s later pid node handle offset size old new r

@@ -3,8 +3,8 @@ ghost use Rattle.std.specs.Prelude.{◌≡◌, ◌<◌, IfOk};
 ghost use Rattle.nodes.specs.Tables.{looked_up, made};
 ghost use Rattle.course.specs.Hands.{bound};
 ghost use Rattle.mount_requests.specs.Answers.{IsPlanned};
-ghost use Rattle.mount_requests.specs.Requests.{AnswersLink, AnswersMkDir, AnswersMkNod};
-ghost use Rattle.mount_requests.specs.Requests.{linking_in, plain_kind, planned_file};
+ghost use Rattle.mount_requests.specs.Requests.{AnswersLink, AnswersMkDir, AnswersMkNod, AnswersSymLink};
+ghost use Rattle.mount_requests.specs.Requests.{linking_in, planned_node, special_in};
 ghost use Rattle.mount_requests.specs.Seen.{seen};
 ghost use Rattle.mount_requests.specs.Told.{IsEntry};
 
@@ -13,15 +13,22 @@ use crate::planning::{Located, LocatedName, in_one_view, twice};
 use crate::requests::Caller;
 use crate::tables::Tables;
 use course::{Hand, Place, Twice};
-use fuse::bits::{MODE_FILE, MODE_PERMISSIONS};
+use fuse::bits::{MODE_FILE, MODE_PERMISSIONS, MODE_PIPE, MODE_SOCKET};
 use fuse::{Entry, Errno, Reply};
-use ids::{Bytes, Kind, Num, Stat};
+use ids::{Bytes, Kind, Num, Special, Stat};
 use machine::Machine;
-use mount_tables::Owner;
+use mount_tables::{LINK_MODE, Owner};
 use nodes::Spot;
 
-// The file of a node, by its path, and its further name with the directory of that, each path as it is
-// used twice.
+// What is to be made, and where: a plain file, a FIFO or a socket.
+#[derive(Drop)]
+pub(crate) struct NewNode {
+    at: LocatedName,
+    special: Option<Special>,
+}
+
+// The object of a node, by its path, and its further name with the directory of that, each path as it
+// is used twice.
 #[derive(Drop)]
 pub(crate) struct Linking {
     from: Twice,
@@ -33,15 +40,20 @@ pub(crate) struct Linking {
 // By this a kind stands above the permissions of a mode.
 const KIND: u32 = MODE_PERMISSIONS + 1;
 
-// Only plain files are made, and a mode that tells no kind means them.
-fn plain_kind(mode: u32) -> Result<(), Failure>
-    ensures { result ≡ plain_kind mode }
+// What a mode asks to be made: a plain file, which no kind means too, a FIFO or a socket. There are no
+// devices.
+fn special_in(mode: u32) -> Result<Option<Special>, Failure>
+    ensures { result ≡ special_in mode }
 {
     let kind = mode / KIND % 0o20;
     if kind == MODE_FILE / KIND || kind == 0 {
-        Ok(())
+        Ok(None)
+    } else if kind == MODE_PIPE / KIND {
+        Ok(Some(Special::Fifo))
+    } else if kind == MODE_SOCKET / KIND {
+        Ok(Some(Special::Socket))
     } else {
-        Err(Failure::Error(Errno::EOPNOTSUPP))
+        Err(Failure::Error(Errno::EPERM))
     }
 }
 
@@ -111,16 +123,41 @@ impl Tables {
         Ok(Reply::Entry(entry))
     }
 
-    // Where a plain file is to be made.
-    fn plan_file(&self, node: u64, name: &Bytes, mode: u32) -> Result<LocatedName, Failure>
-        ensures { IsPlanned (planned_file (seen self.now) node name.now mode) result }
+    // Makes a symbolic link to this target.
+    pub(crate) fn make_link<K: Machine>(
+        &mut self,
+        hand: &mut Hand<K>,
+        caller: Caller,
+        name: &Bytes,
+        target: Bytes,
+    ) -> Result<Reply, Failure>
+        ensures bound { bound hand.new ≡ bound hand.old }
+        ensures answers { AnswersSymLink (seen self.old) (seen self.new) hand.old.pid caller.node
+            name.now target hand.old.shown hand.new.shown result }
     {
-        plain_kind(mode)?;
-        self.locate_new(node, name)
+        let LocatedName {
+            view: _,
+            path,
+            place,
+        } = self.locate_new(caller.node, name)?;
+        let Twice { first, second } = twice(path)?;
+        let spot = self.spot_for(caller.node, name)?;
+        let stat = course::make_link(hand, place, target, first, second)?;
+        let entry = self.entry_made(spot, &stat, LINK_MODE, caller.owner);
+        Ok(Reply::Entry(entry))
     }
 
-    // Makes a plain file that is not opened.
-    pub(crate) fn make_file<K: Machine>(
+    // What is to be made, and where.
+    fn plan_node(&self, node: u64, name: &Bytes, mode: u32) -> Result<NewNode, Failure>
+        ensures { IsPlanned (planned_node (seen self.now) node name.now mode) result }
+    {
+        let special = special_in(mode)?;
+        let at = self.locate_new(node, name)?;
+        Ok(NewNode { at, special })
+    }
+
+    // Makes a plain file that is not opened, a FIFO or a socket.
+    pub(crate) fn make_node<K: Machine>(
         &mut self,
         hand: &mut Hand<K>,
         caller: Caller,
@@ -131,19 +168,20 @@ impl Tables {
         ensures answers { AnswersMkNod (seen self.old) (seen self.new) hand.old.pid caller.node
             name.now mode hand.old.shown hand.new.shown result }
     {
+        let NewNode { at, special } = self.plan_node(caller.node, name, mode)?;
         let LocatedName {
             view: _,
             path,
             place,
-        } = self.plan_file(caller.node, name, mode)?;
+        } = at;
         let Twice { first, second } = twice(path)?;
         let spot = self.spot_for(caller.node, name)?;
-        let stat = course::make_file(hand, place, first, second)?;
+        let stat = course::make_node(hand, place, first, second, special)?;
         let entry = self.entry_made(spot, &stat, mode, caller.owner);
         Ok(Reply::Entry(entry))
     }
 
-    // The paths of a file and of its further name, which are in one view.
+    // The paths of an object and of its further name, which are in one view.
     fn plan_link(&self, parent: u64, node: u64, name: &Bytes) -> Result<Linking, Failure>
         ensures plan { IsPlanned (linking_in (seen self.now) parent node name.now) result }
         ensures from { IfOk result (λ l. l.from.second ≡ l.from.first) }
@@ -166,7 +204,7 @@ impl Tables {
         })
     }
 
-    // Gives a file a further name, in the same view.
+    // Gives what is no directory a further name, in the same view.
     pub(crate) fn link<K: Machine>(
         &mut self,
         hand: &mut Hand<K>,

@@ -40,6 +40,7 @@ impl Tables {
             Operation::GetAttr { handle: _ } => self.get_attr(hand, node),
             Operation::SetAttr { changes } => self.set_attr(hand, node, &changes),
             Operation::Access { mask: _ } => Ok(Reply::Empty),
+            Operation::ReadLink => self.read_link(hand, node),
             Operation::OpenDir => self.open_folder(hand, node),
             Operation::ReadDir {
                 handle,
@@ -53,7 +54,8 @@ impl Tables {
                 };
                 self.read_folder(hand, node, wanted)
             }
-            Operation::MkNod { name, mode } => self.make_file(hand, caller, &name, mode),
+            Operation::SymLink { name, target } => self.make_link(hand, caller, &name, target),
+            Operation::MkNod { name, mode } => self.make_node(hand, caller, &name, mode),
             Operation::MkDir { name, mode } => self.make_directory(hand, caller, &name, mode),
             Operation::Create { name, flags, mode } => {
                 self.create(hand, caller, &name, flags, mode)

@@ -1,15 +1,19 @@
 -- What is told of an object's attributes.
 use Rattle.std.specs.Prelude.{◌≡◌, ℕ, ◌+◌, ◌-◌, ◌/◌, ◌^◌, min}
 use Rattle.ids.specs.declared.reply.Kind.{Kind}
-use Rattle.ids.specs.declared.reply.Kind.TheVariants.{File, Dir, Pipe}
+use Rattle.ids.specs.declared.reply.Kind.TheVariants.{File, Dir, Pipe, Link, Fifo, Socket}
 use Rattle.ids.specs.declared.reply.Stat.{Stat}
 use Rattle.fuse.specs.declared.reply.Attr.{Attr}
 
--- the number of a kind in a mode (sys/stat.h), whose lower 12 bits are permissions
+-- The number of a kind in a mode (sys/stat.h), whose lower 12 bits are permissions. A FIFO is a pipe
+-- with a name.
 abbrev pub kind_number : Kind → ℕ
 kind_number File = 8
 kind_number Dir = 4
 kind_number Pipe = 1
+kind_number Link = 10
+kind_number Fifo = 1
+kind_number Socket = 12
 
 -- The attributes are those of an object, but for what is kept beside the kernel: permissions, owners
 -- and times. Its number is one more, since some programs take 0 for none.

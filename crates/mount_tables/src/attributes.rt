@@ -13,6 +13,9 @@ const FILE_MODE: u32 = 0o644;
 
 const DIRECTORY_MODE: u32 = 0o755;
 
+/// The permissions of a symbolic link. Nobody looks at them, and nobody changes them.
+pub const LINK_MODE: u32 = 0o777;
+
 // The bits of a mode above permissions tell a kind.
 const KINDS: u32 = 0o10000;
 
@@ -22,6 +25,10 @@ const DIRECTORY: u32 = 0o040_000;
 const FILE: u32 = 0o100_000;
 
 const PIPE: u32 = 0o010_000;
+
+const LINK: u32 = 0o120_000;
+
+const SOCKET: u32 = 0o140_000;
 
 // How many bytes are best read or written at once.
 const BEST_SIZE: u32 = 131_072;
@@ -105,7 +112,9 @@ fn kind_bits(kind: Kind) -> u32
     match kind {
         Kind::File => FILE,
         Kind::Dir => DIRECTORY,
-        Kind::Pipe => PIPE,
+        Kind::Pipe | Kind::Fifo => PIPE,
+        Kind::Link => LINK,
+        Kind::Socket => SOCKET,
     }
 }
 
@@ -120,6 +129,7 @@ fn mode_of(kind: Kind, permissions: u32) -> u32
 fn first_mode(kind: Kind) -> u32 {
     match kind {
         Kind::Dir => DIRECTORY_MODE,
+        Kind::Link => LINK_MODE,
         _ => FILE_MODE,
     }
 }

@@ -17,7 +17,7 @@ mod open_files;
 mod processes;
 mod views;
 
-pub use attributes::{AttributeTable, Owner};
+pub use attributes::{AttributeTable, LINK_MODE, Owner};
 pub use file_key::FileKey;
 pub use folders::{Folder, Folders};
 pub use numbers::{

@@ -5,11 +5,12 @@ ghost use Rattle.std.specs.Prelude.{◌≡◌};
 use crate::texts::{Text, owned};
 use course::{
     Fault, Hand, Made, Object, Twice, append, begin, close, close_spare, create_cut, cut_if, end,
-    find, fork, give_up, link, list, list_at, look_nowhere, look_up, make_directory, make_file,
-    move_name, open_cut, read, remove_directory, resize, stat_file, unlink, write,
+    find, fork, give_up, link, list, list_at, look_nowhere, look_up, make_directory, make_link,
+    make_node, move_name, open_cut, read, read_link, remove_directory, resize, stat_file, unlink,
+    write,
 };
 use heap::Heap;
-use ids::{Fd, Kind, Num, Stat};
+use ids::{Fd, Kind, Num, Special, Stat};
 use machine::Machine;
 use std::fmt::Debug;
 use std::process::Abort;
@@ -37,7 +38,10 @@ pub(crate) enum Act {
     LookNowhere,
     LookUp,
     MakeDirectory,
+    MakeFifo,
     MakeFile,
+    // To the target `/b`.
+    MakeLink,
     // With and without taking the place of what is there.
     Move,
     MoveIfAbsent,
@@ -45,6 +49,7 @@ pub(crate) enum Act {
     // By a path that leads to another file.
     OpenOther,
     Read,
+    ReadLink,
     RemoveDirectory,
     // By the path, and by the descriptor.
     Resize,
@@ -167,7 +172,7 @@ fn on_opening<K: Machine>(
             heap,
             seen_made(create_cut(hand, None, first, second, true, false)),
         ),
-        Act::MakeFile => told(rt, heap, seen(make_file(hand, None, first, second))),
+        Act::MakeFile => told(rt, heap, seen(make_node(hand, None, first, second, None))),
         Act::OpenCut => told(rt, heap, open_cut(hand, first, inode, true)),
         _ => told(
             rt,
@@ -183,6 +188,16 @@ fn on_path<K: Machine>(rt: &impl Abort, heap: Heap, hand: &mut Hand<K>, act: Act
     match act {
         Act::List => told(rt, heap, list(hand, heap, first)),
         Act::MakeDirectory => told(rt, heap, seen(make_directory(hand, None, first, second))),
+        Act::MakeFifo => told(
+            rt,
+            heap,
+            seen(make_node(hand, None, first, second, Some(Special::Fifo))),
+        ),
+        Act::MakeLink => told(
+            rt,
+            heap,
+            seen(make_link(hand, None, owned(rt, heap, "/b"), first, second)),
+        ),
         Act::RemoveDirectory => told(rt, heap, remove_directory(hand, None, first)),
         Act::LookUp => told(rt, heap, seen(look_up(hand, None, first))),
         _ => told(rt, heap, unlink(hand, None, first)),
@@ -227,6 +242,11 @@ fn on_object<K: Machine>(
         Act::Find => told(rt, heap, seen(find(hand, by_path))),
         Act::FindOpen => told(rt, heap, seen(find(hand, by_descriptor))),
         Act::ListAt => told(rt, heap, list_at(hand, heap, inode, paths)),
+        Act::ReadLink => told(
+            rt,
+            heap,
+            read_link(hand, heap, twice(rt, heap, "/a"), inode),
+        ),
         Act::Resize => told(rt, heap, seen(resize(hand, by_path, paths, 3))),
         _ => told(rt, heap, seen(resize(hand, by_descriptor, paths, 3))),
     }
@@ -263,13 +283,16 @@ pub(crate) fn act_on<K: Machine>(
         Act::CreateCut | Act::CreateNew | Act::MakeFile | Act::OpenCut | Act::OpenOther => {
             on_opening(rt, heap, hand, act, inode)
         }
-        Act::List | Act::MakeDirectory | Act::RemoveDirectory | Act::LookUp | Act::Unlink => {
-            on_path(rt, heap, hand, act)
-        }
+        Act::List
+        | Act::MakeDirectory
+        | Act::MakeFifo
+        | Act::MakeLink
+        | Act::RemoveDirectory
+        | Act::LookUp
+        | Act::Unlink => on_path(rt, heap, hand, act),
         Act::Link | Act::Move | Act::MoveIfAbsent => on_paths(rt, heap, hand, act, inode),
-        Act::Find | Act::FindOpen | Act::ListAt | Act::Resize | Act::ResizeOpen => {
-            on_object(rt, heap, hand, act, inode)
-        }
+        Act::Find | Act::FindOpen | Act::ListAt | Act::ReadLink | Act::Resize | Act::ResizeOpen =>
+            on_object(rt, heap, hand, act, inode),
         Act::Begin | Act::End | Act::Fork | Act::GiveUp | Act::LookNowhere => {
             on_process(rt, heap, hand, act)
         }

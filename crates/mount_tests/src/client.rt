@@ -1,6 +1,6 @@
 // Requests on a server, by lines of words: a verb, a path, and what else the verb wants.
 use crate::texts::{Text, owned, told};
-use fuse::bits::{OPEN_APPEND, OPEN_EXCLUSIVE, OPEN_TRUNCATE, RENAME_NO_REPLACE};
+use fuse::bits::{MODE_PIPE, OPEN_APPEND, OPEN_EXCLUSIVE, OPEN_TRUNCATE, RENAME_NO_REPLACE};
 use fuse::{Changes, Operation, Reply, Request, Whence};
 use heap::Heap;
 use ids::{Bytes, Limits};
@@ -152,6 +152,10 @@ fn of_name(verb: &str, name: Bytes) -> Operation {
         "lookup" => Operation::Lookup { name },
         "mkdir" => Operation::MkDir { name, mode: 0o700 },
         "mknod" => Operation::MkNod { name, mode: 0o600 },
+        "mkfifo" => Operation::MkNod {
+            name,
+            mode: MODE_PIPE | 0o600,
+        },
         "create" => Operation::Create {
             name,
             flags: BOTH,
@@ -243,6 +247,7 @@ fn of_node(verb: &str) -> Option<Operation> {
         "cut" => Some(Operation::Open {
             flags: BOTH | OPEN_TRUNCATE,
         }),
+        "readlink" => Some(Operation::ReadLink),
         "opendir" => Some(Operation::OpenDir),
         "forget" => Some(Operation::Forget { lookups: 1 }),
         "statfs" => Some(Operation::StatFs),
@@ -261,6 +266,17 @@ fn on_node<K: Machine>(rt: &impl Abort, client: &mut Client<K>, line: Line<'_>) 
         },
     };
     Asked { node, operation }
+}
+
+// A link, of which a line says the target behind its path.
+fn symlink<K: Machine>(rt: &impl Abort, client: &mut Client<K>, line: Line<'_>) -> Asked {
+    let place = place_of(rt, client, line.path);
+    let name = owned(rt, client.heap, place.name);
+    let target = owned(rt, client.heap, line.other);
+    Asked {
+        node: place.parent,
+        operation: Operation::SymLink { name, target },
+    }
 }
 
 fn on_name<K: Machine>(rt: &impl Abort, client: &mut Client<K>, line: Line<'_>) -> Asked {
@@ -294,8 +310,10 @@ fn on_names<K: Machine>(rt: &impl Abort, client: &mut Client<K>, line: Line<'_>)
 fn asked_by<K: Machine>(rt: &impl Abort, client: &mut Client<K>, line: Line<'_>) -> Asked {
     match line.verb {
         "link" | "rename" | "move" => on_names(rt, client, line),
+        "symlink" => symlink(rt, client, line),
         "lookup"
         | "mkdir"
+        | "mkfifo"
         | "mknod"
         | "create"
         | "create_new"
@@ -342,8 +360,9 @@ pub(crate) fn ask<K: Machine>(
 }
 
 // What is asked of each path that is shown.
-static LOOKS: [&str; 7] = [
+static LOOKS: [&str; 8] = [
     "getattr",
+    "readlink",
     "opendir",
     "readdir",
     "releasedir",

@@ -63,7 +63,7 @@ fn number_in(reply: &Reply) -> Num {
 
 // The number of what is at the path `/a`.
 fn number_of<K: Machine>(rt: &impl Abort, heap: Heap, kernel: &mut K) -> Num {
-    let reply = kernel.step(Pid(1), Op::Call(Call::Stat(owned(rt, heap, "/a"))));
+    let reply = kernel.step(Pid(1), Op::Call(Call::Lstat(owned(rt, heap, "/a"))));
     number_in(&reply)
 }
 

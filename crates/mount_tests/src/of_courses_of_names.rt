@@ -3,17 +3,17 @@ use crate::acts::Act;
 use crate::courses::{Course, check_courses};
 use kernel::Kernel;
 
-static NAMES: [Course; 16] = [
+static NAMES: [Course; 20] = [
     Course {
         act: Act::Link,
         before: "1 open /a RDWR,CREAT
 1 write 0 first
 1 close 0",
-        whole: "1 stat /a
+        whole: "1 lstat /a
 1 link /a /b
-1 stat /b",
+1 lstat /b",
         told: None,
-        refused: &["1 stat /a"],
+        refused: &["1 lstat /a"],
     },
     Course {
         act: Act::Link,
@@ -21,14 +21,14 @@ static NAMES: [Course; 16] = [
 1 write 0 first
 1 close 0
 1 begin",
-        whole: "1 stat /a
+        whole: "1 lstat /a
 1 link /a /b
-1 stat /b",
+1 lstat /b",
         told: None,
         refused: &[
             "",
-            "1 stat /a",
-            "1 stat /a
+            "1 lstat /a",
+            "1 lstat /a
 1 link /a /b",
         ],
     },
@@ -44,7 +44,7 @@ static NAMES: [Course; 16] = [
         act: Act::MakeDirectory,
         before: "",
         whole: "1 mkdir /a
-1 stat /a",
+1 lstat /a",
         told: None,
         refused: &[""],
     },
@@ -52,11 +52,43 @@ static NAMES: [Course; 16] = [
         act: Act::MakeDirectory,
         before: "1 begin",
         whole: "1 mkdir /a
-1 stat /a",
+1 lstat /a",
         told: None,
         refused: &["", "1 mkdir /a"],
     },
     Course {
+        act: Act::MakeFifo,
+        before: "",
+        whole: "1 mknod /a fifo
+1 lstat /a",
+        told: None,
+        refused: &[""],
+    },
+    Course {
+        act: Act::MakeFifo,
+        before: "1 begin",
+        whole: "1 mknod /a fifo
+1 lstat /a",
+        told: None,
+        refused: &["", "1 mknod /a fifo"],
+    },
+    Course {
+        act: Act::MakeLink,
+        before: "",
+        whole: "1 symlink /b /a
+1 lstat /a",
+        told: None,
+        refused: &[""],
+    },
+    Course {
+        act: Act::MakeLink,
+        before: "1 begin",
+        whole: "1 symlink /b /a
+1 lstat /a",
+        told: None,
+        refused: &["", "1 symlink /b /a"],
+    },
+    Course {
         act: Act::Move,
         before: "1 open /a RDWR,CREAT
 1 write 0 first
@@ -80,10 +112,10 @@ static NAMES: [Course; 16] = [
         before: "1 open /a RDWR,CREAT
 1 write 0 first
 1 close 0",
-        whole: "1 stat /b
+        whole: "1 lstat /b
 1 rename /a /b",
         told: None,
-        refused: &["1 stat /b"],
+        refused: &["1 lstat /b"],
     },
     Course {
         act: Act::MoveIfAbsent,
@@ -91,10 +123,10 @@ static NAMES: [Course; 16] = [
 1 write 0 first
 1 close 0
 1 begin",
-        whole: "1 stat /b
+        whole: "1 lstat /b
 1 rename /a /b",
         told: None,
-        refused: &["", "1 stat /b"],
+        refused: &["", "1 lstat /b"],
     },
     Course {
         act: Act::MoveIfAbsent,
@@ -103,7 +135,7 @@ static NAMES: [Course; 16] = [
 1 close 0
 1 open /b RDWR,CREAT
 1 close 0",
-        whole: "1 stat /b",
+        whole: "1 lstat /b",
         told: None,
         refused: &[],
     },
@@ -125,7 +157,7 @@ static NAMES: [Course; 16] = [
     Course {
         act: Act::LookUp,
         before: "1 mkdir /a",
-        whole: "1 stat /a",
+        whole: "1 lstat /a",
         told: None,
         refused: &[],
     },
@@ -133,7 +165,7 @@ static NAMES: [Course; 16] = [
         act: Act::LookUp,
         before: "1 mkdir /a
 1 begin",
-        whole: "1 stat /a",
+        whole: "1 lstat /a",
         told: None,
         refused: &[""],
     },

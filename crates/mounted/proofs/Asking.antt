@@ -28,9 +28,11 @@ pub asks_keep : (s later : Seen) (operation : Operation) (r : Result Reply Failu
 asks_keep s later (asked.Lookup a) r h = keeps_is h
 asks_keep s later (asked.GetAttr a) r h = keeps_is h
 asks_keep s later (asked.SetAttr a) r h = keeps_is h
+asks_keep s later asked.ReadLink r h = keeps_is h
 asks_keep s later asked.OpenDir r h = opens_keep s later r h
 asks_keep s later (asked.ReadDir a b d) r h = lists_keep s later a h
 asks_keep s later (asked.Access a) r h = keeps_is h
+asks_keep s later (asked.SymLink a b) r h = keeps_is h
 asks_keep s later (asked.MkNod a b) r h = keeps_is h
 asks_keep s later (asked.MkDir a b) r h = keeps_is h
 asks_keep s later (asked.Unlink a) r h = keeps_is h
@@ -60,9 +62,11 @@ pub serves_other : (s later : Seen) (operation : Operation) (old new : Shown) (r
 serves_other s later (asked.Lookup a) old new r look make remove h same = absurd (look a refl)
 serves_other s later (asked.GetAttr a) old new r look make remove h same = (h, same)
 serves_other s later (asked.SetAttr a) old new r look make remove h same = (h, same)
+serves_other s later asked.ReadLink old new r look make remove h same = (h, same)
 serves_other s later asked.OpenDir old new r look make remove h same = (h, same)
 serves_other s later (asked.ReadDir a b d) old new r look make remove h same = (h, same)
 serves_other s later (asked.Access a) old new r look make remove h same = (h, same)
+serves_other s later (asked.SymLink a b) old new r look make remove h same = (h, same)
 serves_other s later (asked.MkNod a b) old new r look make remove h same = (h, same)
 serves_other s later (asked.MkDir a b) old new r look make remove h same = absurd (make a b refl)
 serves_other s later (asked.Unlink a) old new r look make remove h same = (h, same)
@@ -92,9 +96,11 @@ pub controls_other : (s later : Seen) (view : ℕ) (operation : Operation) (old 
 controls_other s later view (asked.Lookup a) old new r read write same known = (same, known)
 controls_other s later view (asked.GetAttr a) old new r read write same known = (same, known)
 controls_other s later view (asked.SetAttr a) old new r read write same known = (same, known)
+controls_other s later view asked.ReadLink old new r read write same known = (same, known)
 controls_other s later view asked.OpenDir old new r read write same known = (same, known)
 controls_other s later view (asked.ReadDir a b d) old new r read write same known = (same, known)
 controls_other s later view (asked.Access a) old new r read write same known = (same, known)
+controls_other s later view (asked.SymLink a b) old new r read write same known = (same, known)
 controls_other s later view (asked.MkNod a b) old new r read write same known = (same, known)
 controls_other s later view (asked.MkDir a b) old new r read write same known = (same, known)
 controls_other s later view (asked.Unlink a) old new r read write same known = (same, known)

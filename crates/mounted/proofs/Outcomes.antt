@@ -56,9 +56,11 @@ pub answered_other : (o : Operation) → ((lookups : ℕ) → o ≡ asked.Forget
 answered_other (asked.Lookup a) one many early = refl
 answered_other (asked.GetAttr a) one many early = refl
 answered_other (asked.SetAttr a) one many early = refl
+answered_other asked.ReadLink one many early = refl
 answered_other asked.OpenDir one many early = refl
 answered_other (asked.ReadDir a b d) one many early = refl
 answered_other (asked.Access a) one many early = refl
+answered_other (asked.SymLink a b) one many early = refl
 answered_other (asked.MkNod a b) one many early = refl
 answered_other (asked.MkDir a b) one many early = refl
 answered_other (asked.Unlink a) one many early = refl
@@ -87,9 +89,11 @@ pub told_other : (s later : Seen) (node : ℕ) (o : Operation) (old new : Shown)
 told_other s later node (asked.Lookup a) old new r one many early h = h
 told_other s later node (asked.GetAttr a) old new r one many early h = h
 told_other s later node (asked.SetAttr a) old new r one many early h = h
+told_other s later node asked.ReadLink old new r one many early h = h
 told_other s later node asked.OpenDir old new r one many early h = h
 told_other s later node (asked.ReadDir a b d) old new r one many early h = h
 told_other s later node (asked.Access a) old new r one many early h = h
+told_other s later node (asked.SymLink a b) old new r one many early h = h
 told_other s later node (asked.MkNod a b) old new r one many early h = h
 told_other s later node (asked.MkDir a b) old new r one many early h = h
 told_other s later node (asked.Unlink a) old new r one many early h = h

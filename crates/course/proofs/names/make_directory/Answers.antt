@@ -9,4 +9,4 @@ pub returns-in_err-check_place-clause-ran : goal.returns-in_err-check_place-clau
 returns-in_err-check_place-clause-ran g c = moved_off c.args.hand.now.pid c.args.place (making c.args.hand.now.pid (call.Mkdir c.args.path) c.args.again) _ c.from_residual.ensures.1 c.in_err-check_place.ensures.ran
 
 pub returns-clause-ran : goal.returns-clause-ran
-returns-clause-ran g c = stays_there c.args.place (λ p. making p (call.Mkdir c.args.path) c.args.again) (ap (λ (b : ℕ × Shown). b.0) c.in_ok-check_place.ensures.bound) c.in_ok-check_place.ensures.ran c.make_directory_at.ensures.ran
+returns-clause-ran g c = stays_there c.args.place (λ p. making p (call.Mkdir c.args.path) c.args.again) (ap (λ (b : ℕ × Shown). b.0) c.in_ok-check_place.ensures.bound) c.in_ok-check_place.ensures.ran c.make_at.ensures.ran

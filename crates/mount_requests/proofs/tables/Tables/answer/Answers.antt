@@ -18,7 +18,13 @@ pub returns-in-ReadDir-clause-answers : goal.returns-in-ReadDir-clause-answers
 returns-in-ReadDir-clause-answers g c = answers (seen c.args.self.now) (seen c.read_folder.new.self) c.args.hand.now.pid c.args.caller.node _ _ _ c.in-ReadDir.is c.read_folder.ensures.answers
 
 pub returns-in-MkNod-clause-answers : goal.returns-in-MkNod-clause-answers
-returns-in-MkNod-clause-answers g c = answers (seen c.args.self.now) (seen c.make_file.new.self) c.args.hand.now.pid c.args.caller.node _ _ _ c.in-MkNod.is c.make_file.ensures.answers
+returns-in-MkNod-clause-answers g c = answers (seen c.args.self.now) (seen c.make_node.new.self) c.args.hand.now.pid c.args.caller.node _ _ _ c.in-MkNod.is c.make_node.ensures.answers
+
+pub returns-in-SymLink-clause-answers : goal.returns-in-SymLink-clause-answers
+returns-in-SymLink-clause-answers g c = answers (seen c.args.self.now) (seen c.make_link.new.self) c.args.hand.now.pid c.args.caller.node _ _ _ c.in-SymLink.is c.make_link.ensures.answers
+
+pub returns-in-ReadLink-clause-answers : goal.returns-in-ReadLink-clause-answers
+returns-in-ReadLink-clause-answers g c = answers (seen c.args.self.now) (seen c.read_link.new.self) c.args.hand.now.pid c.args.caller.node _ _ _ c.in-ReadLink.is c.read_link.ensures.answers
 
 pub returns-in-MkDir-clause-answers : goal.returns-in-MkDir-clause-answers
 returns-in-MkDir-clause-answers g c = answers (seen c.args.self.now) (seen c.make_directory.new.self) c.args.hand.now.pid c.args.caller.node _ _ _ c.in-MkDir.is c.make_directory.ensures.answers
