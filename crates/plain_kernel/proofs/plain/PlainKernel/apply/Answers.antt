@@ -10,8 +10,8 @@ returns-in-MakeDirectory c = if_ok c.make.result c.make.ensures (λ h. edited _ 
 pub returns-in-MakeFile : goal.returns-in-MakeFile
 returns-in-MakeFile c = if_ok c.make-in-MakeFile.result c.make-in-MakeFile.ensures (λ h. edited _ _ _ _ _ c.in-MakeFile.is (makes_file _ _ _ _ _ _ _ _ _ c.made-in-MakeFile.ensures c.file-inode.ensures c.new-in-MakeFile.ensures h))
 
-pub returns-in_ok-try_clone : goal.returns-in_ok-try_clone
-returns-in_ok-try_clone c = if_ok c.make-in-MakeFixed.result c.make-in-MakeFixed.ensures (λ h. edited _ _ _ _ _ c.in-MakeFixed.is (makes_fixed _ _ _ _ _ _ _ c.made-in-MakeFixed.ensures c.fixed-inode.ensures c.in_ok-try_clone.ensures h))
+pub returns-in_ok-try_clone-in-MakeFixed : goal.returns-in_ok-try_clone-in-MakeFixed
+returns-in_ok-try_clone-in-MakeFixed c = if_ok c.make-in-MakeFixed.result c.make-in-MakeFixed.ensures (λ h. edited _ _ _ _ _ c.in-MakeFixed.is (makes_fixed _ _ _ _ _ _ _ _ _ _ c.made-in-MakeFixed.ensures c.fixed-inode.ensures c.in_ok-try_clone-in-MakeFixed.ensures h))
 
 pub returns-in-NameFile : goal.returns-in-NameFile
 returns-in-NameFile c = if_ok c.set_name.result c.set_name.ensures (λ h. edited _ _ _ _ _ c.in-NameFile.is (names_file _ _ _ _ _ _ h))
