@@ -28,18 +28,18 @@ use Rattle.call_laws.proofs.calls.SlotsFit.{close_at, dup_with, dup2_at, pipe_wi
 revised_fits : (k : Kernel) (pid : ℕ) (chosen : List ℕ) (n : ℕ) (change : Rights → Rights) → kind_of k n ≢ None → IfOk (given k (revised n change)) (WillFit k pid true chosen)
 revised_fits k pid chosen n change there = record { fits = λ can. (there, tt); by = (tt, tt); there = (there, tt) }
 
-pub named_there : (o : Option Kind) → CanBeNamed o → o ≢ None
+named_there : (o : Option Kind) → CanBeNamed o → o ≢ None
 named_there None h e = h
 named_there (Some what) h e = absurd cc
 
-pub opened_there : (o : Option Kind) → CanBeOpened o → o ≢ None
+opened_there : (o : Option Kind) → CanBeOpened o → o ≢ None
 opened_there None h e = h
 opened_there (Some what) h e = absurd cc
 
-pub place_there : (k : Kernel) (place : Place) → IsPlace k place → kind_of k place.0 ≢ None
+place_there : (k : Kernel) (place : Place) → IsPlace k place → kind_of k place.0 ≢ None
 place_there k place r none = named_there place.1 r.can_be_named (r.right ∙ none)
 
-pub slot_there : (k : Kernel) (s : Slot) → IsOpen k s → kind_of k s.inode ≢ None
+slot_there : (k : Kernel) (s : Slot) → IsOpen k s → kind_of k s.inode ≢ None
 slot_there k s held none = opened_there s.kind held.can_be_opened (held.kind ∙ none)
 
 -- the plan's change fits, whatever call it is
