@@ -2,7 +2,7 @@
 use Rattle.std.proofs.Common.{◌≡◌, ◌≢◌, ℕ, ◌+◌, ◌-◌, ◌/◌, ◌<◌, ◌≤◌, max, List, ◌++◌, length, get_or, Some, refl, sym, ap, subst, ◌∙◌, arith, inl, inr}
 use Rattle.std.proofs.lemmas.Bool.{cases_eq, cases_lt}
 use Rattle.std.proofs.lemmas.List.{get_or_past}
-use Rattle.model.specs.FiniteMap.{keys}
+use Rattle.model.specs.FiniteMap.{get, keys}
 use Rattle.model.specs.State.{A_file, Kernel, File, file_of, pipe_of, target_of, kind_of, ends, file_of_inode, pipe_of_inode, target_of_inode, rights_or}
 use Rattle.model.specs.Aspects.{Aspect, Entry, Names, Size, Block, Links, Ends, Offset, Front, Back, Target, Rights, SameBlock, Keeps}
 use Rattle.model.specs.Changes.{set_inode, sized, written}

@@ -1,6 +1,6 @@
 -- The rights of an inode are set.
 use Rattle.std.proofs.Common.{◌≡◌, ◌≢◌, ℕ, [], Option, Some, None, refl, sym, ap, ◌∙◌, append-nil, inl, inr}
-use Rattle.model.specs.FiniteMap.{get, insert}
+use Rattle.model.specs.FiniteMap.{get}
 use Rattle.std.proofs.lemmas.Bool.{cases_eq}
 use Rattle.model.specs.State.{Rights as Rights_of_inode, Kernel, kind, mapped, kind_of, pipe_of, rights_or, rights_of, links, ends}
 use Rattle.model.specs.Aspects.{Aspect, Entry, Names, Size, Block, Links, Ends, Offset, Front, Back, Target, Rights, Keeps}

@@ -92,10 +92,13 @@ set_alike a b n new other al named here there set = record {
   made = al.made;
   held = al.held;
   links = named;
-  inodes = λ m e. (elim (cases_eq m n) [
-    | inl same ↦ ap (get (insert b.inodes n other)) same ∙ get_same b.inodes n other ∙ ap Some (here (subst (λ m. reached (set_inode n new a) m ≡ true) same e)) ∙ sym (ap (get (insert a.inodes n new)) same ∙ get_same a.inodes n new)
-    | inr away ↦ get_other b.inodes n m other away ∙ there m away e ∙ sym (get_other a.inodes n m new away)
-  ], set m e);
+  inodes = λ m e. (
+    elim (cases_eq m n) [
+      | inl same ↦ ap (get (insert b.inodes n other)) same ∙ get_same b.inodes n other ∙ ap Some (here (subst (λ m. reached (set_inode n new a) m ≡ true) same e)) ∙ sym (ap (get (insert a.inodes n new)) same ∙ get_same a.inodes n new)
+      | inr away ↦ get_other b.inodes n m other away ∙ there m away e ∙ sym (get_other a.inodes n m new away)
+    ],
+    set m e,
+  );
 }
 
 bytes_alike : (a b : Kernel) (n : ℕ) (new other : Inode) → Alike a b → HasBytes a (set_inode n new a) → HasBytes b (set_inode n other b) → (get b.inodes n ≡ get a.inodes n → other ≡ new) → Alike (set_inode n new a) (set_inode n other b)
@@ -165,11 +168,13 @@ moved_alike a b d x e y n al r s r' s' gives =
     (elim (cases_eq e d) [
       | inl same ↦ ap (names_of (clear_name d x b)) same ∙ two.here ∙ ap (λ (ns : FinMap name_cmp ℕ). remove ns x) names ∙ sym (ap (names_of (clear_name d x a)) same ∙ one.here)
       | inr away ↦ two.there e away ∙ rooted_names a b al e r' ∙ sym (one.there e away)
-    ])
-    (elim (cases_eq n d) [
-      | inl same ↦ ap (get (clear_name d x b).inodes) same ∙ get_same b.inodes d _ ∙ ap (λ (ns : FinMap name_cmp ℕ). Some (Directory (remove ns x))) names ∙ sym (ap (get (clear_name d x a).inodes) same ∙ get_same a.inodes d _)
-      | inr away ↦ get_other b.inodes d n _ away ∙ (al.inodes n (named_reached a d x n gives)).0 ∙ sym (get_other a.inodes d n _ away)
-    ], (al.inodes n (named_reached a d x n gives)).1)
+    ]) (
+      elim (cases_eq n d) [
+        | inl same ↦ ap (get (clear_name d x b).inodes) same ∙ get_same b.inodes d _ ∙ ap (λ (ns : FinMap name_cmp ℕ). Some (Directory (remove ns x))) names ∙ sym (ap (get (clear_name d x a).inodes) same ∙ get_same a.inodes d _)
+        | inr away ↦ get_other b.inodes d n _ away ∙ (al.inodes n (named_reached a d x n gives)).0 ∙ sym (get_other a.inodes d n _ away)
+      ],
+      (al.inodes n (named_reached a d x n gives)).1,
+    )
 
 -- an offset is in no test of what is reached
 open_count : (k : Kernel) (d place : ℕ) (it : Description) → get k.descriptions d ≡ Some it → (n : ℕ) → openings (without_descriptions (with_offset d place it k)) n ≡ openings (without_descriptions k) n
@@ -325,10 +330,13 @@ rights_alike a b n rights al = record {
   made = al.made;
   held = al.held;
   links = al.links;
-  inodes = λ m e. ((al.inodes m e).0, elim (cases_eq m n) [
-    | inl same ↦ ap (get (insert b.rights n rights)) same ∙ get_same b.rights n rights ∙ sym (ap (get (insert a.rights n rights)) same ∙ get_same a.rights n rights)
-    | inr away ↦ get_other b.rights n m rights away ∙ (al.inodes m e).1 ∙ sym (get_other a.rights n m rights away)
-  ]);
+  inodes = λ m e. (
+    (al.inodes m e).0,
+    elim (cases_eq m n) [
+      | inl same ↦ ap (get (insert b.rights n rights)) same ∙ get_same b.rights n rights ∙ sym (ap (get (insert a.rights n rights)) same ∙ get_same a.rights n rights)
+      | inr away ↦ get_other b.rights n m rights away ∙ (al.inodes m e).1 ∙ sym (get_other a.rights n m rights away)
+    ],
+  );
 }
 
 -- What is alike stays alike through one edit of both.
