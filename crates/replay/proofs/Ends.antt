@@ -14,14 +14,7 @@ use Rattle.model.specs.Plans.{Change, changed, duplicated, plan, status as told_
 use Rattle.model.specs.Steps.{edits, edits_of}
 use Rattle.ids.specs.Flags.{is_reading, is_writing, is_creating, is_exclusive, is_truncating}
 use Rattle.call_laws.proofs.Laws.{after_bind, allowed, either_given, whatever}
-use Rattle.replay.specs.Edits.{EndsWithin}
-
--- a write or a cut among edits that end so
-pub put_ends : (e : Edit) (n offset : ℕ) (bytes old : List ℕ) (before : ℕ) → e ≡ Put_bytes n offset bytes before → old ≡ bytes → EndsWithin e → offset + length old ≤ largest_file
-put_ends e n offset bytes old before is same h = subst (λ (bs : List ℕ). offset + length bs ≤ largest_file) (sym same) (subst EndsWithin is h)
-
-pub cut_ends : (e : Edit) (n before len : ℕ) → e ≡ Cut n before len → EndsWithin e → len ≤ largest_file
-cut_ends e n before len is h = subst EndsWithin is h
+use Rattle.plain_kernel.specs.Edits.{EndsWithin}
 
 -- the edits of what a plan gives end so
 abbrev Within : Change → Type 0

@@ -18,12 +18,6 @@ use Rattle.replay.specs.declared.transaction.Transaction.{Transaction}
 use Rattle.replay.specs.declared.transaction.Transaction.TheVariants.{Live, Doomed}
 use Rattle.replay.specs.declared.window.Window.{Window}
 
--- one of a list of which each has a property
-pub all_at : {X : Type 0} (P : X → Type 0) (xs : List X) (i : ℕ) (d : X) → AllByRecursion P xs → i < length xs → P (get_or xs i d)
-all_at P [] i d all low = absurd (omega arith)
-all_at P (x ∷ xs) zero d all low = all.0
-all_at P (x ∷ xs) (suc i) d all low = all_at P xs i d all.1 (omega arith)
-
 -- what is found before the part
 pub seen_before : (es : List Entry) (w : Window) (position : ℕ) → Shows es w → CanSee w position → position < w.offset → (found : Option Entry) → found ≡ get w.kept.now position → Finds es position found
 seen_before es w position shows sees before None is = absurd (lost sees) where

@@ -1,11 +1,5 @@
-pub mod Indices
-pub mod Content
-pub mod Counts
-pub mod Holders
-pub mod Edits
 pub mod Transactions
 pub mod Ran
-pub mod Chosen
 pub mod Faults
 pub mod Failing
 pub mod Windows

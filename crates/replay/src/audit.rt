@@ -1,17 +1,16 @@
 // A run of a history's committed calls on a plain kernel.
-ghost use Rattle.std.specs.Prelude.{◌≡◌, ◌<◌, ◌+◌, ◌^◌, ◌==◌, ℕ, List, [], length};
+ghost use Rattle.std.specs.Prelude.{◌≡◌, ◌<◌, ◌+◌, ◌==◌, ℕ, List, length};
 ghost use Rattle.std.specs.Prelude.{IfOk, MatchBool, MatchOption, MatchResult, OnOk, true, false};
 ghost use Rattle.std.specs.Prelude.{if◌then◌else◌, get_or, option_copied};
 ghost use Rattle.std.specs.List.{AllByRecursion};
-ghost use Rattle.model.specs.FiniteMap.{empty, get, insert};
-ghost use Rattle.model.specs.State.{Directory as A_directory};
+ghost use Rattle.model.specs.FiniteMap.{empty, get};
 ghost use Rattle.calls.specs.Planned.{IsPlan};
 ghost use Rattle.model.specs.Calls.{Call as Made};
 ghost use Rattle.model.specs.Entries.{Do, Entry as Listed};
-ghost use Rattle.model.specs.Moments.{Setup, is_in, start, with_processes};
+ghost use Rattle.model.specs.Moments.{Setup, is_in, start};
 ghost use Rattle.freeing_laws.specs.Sweep.{IsTidied};
 ghost use Rattle.model.specs.Passing.{Passes};
-ghost use Rattle.replay.specs.Edits.{EndsWithin};
+ghost use Rattle.plain_kernel.specs.Edits.{EndsWithin};
 ghost use Rattle.replay.specs.Failing.{IsStop};
 ghost use Rattle.replay.specs.Ran.{CannotRun, Follows, Ran, RanAt, StopsHere, StopsIn};
 ghost use Rattle.replay.specs.Ran.{StopsNow};
@@ -23,19 +22,12 @@ ghost use Rattle.replay.specs.declared.audit.Stop.TheVariants.{NoMemory};
 
 use crate::answers::is_reply;
 use crate::beginning::Beginning;
-use crate::descriptions::Descriptions;
-use crate::holders::Holders;
-use crate::inode::Inode;
-use crate::inodes::Inodes;
-use crate::names::Names;
-use crate::plain::{PlainKernel, Process, key_of, small};
-use crate::table::Table;
 use crate::transaction::{Transaction, doomed_kept, is_executed, own_kept, suits};
-use crate::tree::Tree;
 use crate::window::Window;
 use calls::{Plan, plan_of};
 use heap::Heap;
-use ids::{Call, Entry, Num, Op, Pid, Priority, Reply};
+use ids::{Call, Entry, Num, Op, Pid, Reply};
+use plain_kernel::{PlainKernel, Table, Tree, key_of};
 use std::alloc::AllocError;
 
 /// Why a replay stops.
@@ -60,135 +52,145 @@ impl From<AllocError> for Stop {
     }
 }
 
-impl PlainKernel {
-    // A call of a process. It is right where it is answered so, with these new numbers.
-    fn step(
-        &mut self,
-        heap: Heap,
-        pid: Pid,
-        call: &Call,
-        reply: &Reply,
-        chosen: &[Num],
-    ) -> Result<bool, AllocError>
-        requires tidied { IsTidied self.old }
-        requires executed { is_executed reply.now ≡ true }
-        ensures { IfOk result (λ right. MatchBool right
-            (Ran self.old pid (call_in (Do call.now) reply.now chosen.now) self.new)
-            (CannotRun self.old pid (call_in (Do call.now) reply.now chosen.now))) }
-    {
-        // For the proof: the largest file of a state is one that can be.
-        let _largest = self.largest;
-        let plan = plan_of(heap, self, pid, call, false)?;
-        let right = self.step_by(heap, pid, &plan, reply, chosen);
-        drop(plan);
-        right
-    }
+// A call of a process. It is right where it is answered so, with these new numbers.
+fn step(
+    kernel: &mut PlainKernel,
+    heap: Heap,
+    pid: Pid,
+    call: &Call,
+    reply: &Reply,
+    chosen: &[Num],
+) -> Result<bool, AllocError>
+    requires tidied { IsTidied kernel.old }
+    requires executed { is_executed reply.now ≡ true }
+    ensures { IfOk result (λ right. MatchBool right
+        (Ran kernel.old pid (call_in (Do call.now) reply.now chosen.now) kernel.new)
+        (CannotRun kernel.old pid (call_in (Do call.now) reply.now chosen.now))) }
+{
+    // For the proof: the largest file of a state is one that can be.
+    let _largest = kernel.largest_file();
+    let plan = plan_of(heap, kernel, pid, call, false)?;
+    let right = step_by(kernel, heap, pid, &plan, reply, chosen);
+    drop(plan);
+    right
+}
 
-    // A call that comes to this. It is right where it is answered so, with these new numbers.
-    fn step_by(
-        &mut self,
-        heap: Heap,
-        pid: Pid,
-        plan: &Plan,
-        reply: &Reply,
-        chosen: &[Num],
-    ) -> Result<bool, AllocError>
-        requires tidied { IsTidied self.old }
-        requires executed { is_executed reply.now ≡ true }
-        requires within { AllByRecursion EndsWithin plan.now.edits.items }
-        ensures { (call : Made) → IsPlan self.old pid call false plan.now
-            → IfOk result (λ right. MatchBool right
-            (Ran self.old pid (call_in (Do call) reply.now chosen.now) self.new)
-            (CannotRun self.old pid (call_in (Do call) reply.now chosen.now))) }
+// A call that comes to this. It is right where it is answered so, with these new numbers.
+fn step_by(
+    kernel: &mut PlainKernel,
+    heap: Heap,
+    pid: Pid,
+    plan: &Plan,
+    reply: &Reply,
+    chosen: &[Num],
+) -> Result<bool, AllocError>
+    requires tidied { IsTidied kernel.old }
+    requires executed { is_executed reply.now ≡ true }
+    requires within { AllByRecursion EndsWithin plan.now.edits.items }
+    ensures { (call : Made) → IsPlan kernel.old pid call false plan.now
+        → IfOk result (λ right. MatchBool right
+        (Ran kernel.old pid (call_in (Do call) reply.now chosen.now) kernel.new)
+        (CannotRun kernel.old pid (call_in (Do call) reply.now chosen.now))) }
+{
+    if !is_reply(&plan.answer, reply)
+        || !kernel.is_living(pid)
+        || !kernel.can_be_chosen(plan.edits.as_slice(), chosen)
     {
-        if !is_reply(&plan.answer, reply)
-            || !self.is_living(pid)
-            || !self.can_be_chosen(plan.edits.as_slice(), chosen)
-        {
-            return Ok(false);
-        }
-        self.edit_all(heap, plan.edits.as_slice(), chosen)?;
-        Ok(true)
+        return Ok(false);
     }
+    kernel.edit_all(heap, plan.edits.as_slice(), chosen)?;
+    Ok(true)
+}
 
-    // The call of an entry, if it was executed, as one of this process.
-    fn run_entry(&mut self, heap: Heap, pid: Pid, entry: &Entry) -> Result<bool, AllocError>
-        requires { IsTidied self.old }
-        ensures { IfOk result (λ right. MatchBool right
-            (Ran self.old pid (call_of entry.now) self.new)
-            (CannotRun self.old pid (call_of entry.now))) }
-    {
-        match &entry.op {
-            Op::Call(call) => {
-                if !is_executed(&entry.reply) {
-                    return Ok(true);
-                }
-                self.step(heap, pid, call, &entry.reply, entry.chosen.as_slice())
+// The call of an entry, if it was executed, as one of this process.
+fn run_entry(
+    kernel: &mut PlainKernel,
+    heap: Heap,
+    pid: Pid,
+    entry: &Entry,
+) -> Result<bool, AllocError>
+    requires { IsTidied kernel.old }
+    ensures { IfOk result (λ right. MatchBool right
+        (Ran kernel.old pid (call_of entry.now) kernel.new)
+        (CannotRun kernel.old pid (call_of entry.now))) }
+{
+    match &entry.op {
+        Op::Call(call) => {
+            if !is_executed(&entry.reply) {
+                return Ok(true);
             }
-            Op::Begin(_) => Ok(true),
-            Op::End => Ok(true),
-            Op::Abort { no_restart: _ } => Ok(true),
+            step(
+                kernel,
+                heap,
+                pid,
+                call,
+                &entry.reply,
+                entry.chosen.as_slice(),
+            )
+        }
+        Op::Begin(_) => Ok(true),
+        Op::End => Ok(true),
+        Op::Abort { no_restart: _ } => Ok(true),
+    }
+}
+
+// The executed calls at these positions; where one is wrong, its position.
+fn run_all(
+    kernel: &mut PlainKernel,
+    heap: Heap,
+    pid: Pid,
+    window: &Window<'_>,
+    positions: &[usize],
+) -> Result<Option<usize>, AllocError>
+    ghost es: { List Listed }
+    requires tidied { IsTidied kernel.old }
+    requires shows { Shows es window.now }
+    requires sees { CanSeeAll window.now positions.now }
+    ensures { IfOk result (λ wrong. MatchOption wrong
+        (Ran kernel.old pid (calls_at_positions es positions.now) kernel.new)
+        (StopsIn kernel.old pid es positions.now)) }
+{
+    for position in positions {
+        if let Some(entry) = window.entry(*position) {
+            let right = run_entry(kernel, heap, pid, entry)?;
+            if !right {
+                return Ok(Some(*position));
+            }
         }
     }
+    Ok(None)
+}
 
-    // The executed calls at these positions; where one is wrong, its position.
-    fn run_all(
-        &mut self,
-        heap: Heap,
-        pid: Pid,
-        window: &Window<'_>,
-        positions: &[usize],
-    ) -> Result<Option<usize>, AllocError>
-        ghost es: { List Listed }
-        requires tidied { IsTidied self.old }
-        requires shows { Shows es window.now }
-        requires sees { CanSeeAll window.now positions.now }
-        ensures { IfOk result (λ wrong. MatchOption wrong
-            (Ran self.old pid (calls_at_positions es positions.now) self.new)
-            (StopsIn self.old pid es positions.now)) }
-    {
-        for position in positions {
-            if let Some(entry) = window.entry(*position) {
-                let right = self.run_entry(heap, pid, entry)?;
-                if !right {
-                    return Ok(Some(*position));
-                }
-            }
+// The calls of an entry that take effect now, by what is kept of a living process.
+fn run_kept(
+    kernel: &mut PlainKernel,
+    heap: Heap,
+    kept: Option<&Transaction>,
+    window: &Window<'_>,
+    entry: &Entry,
+    position: usize,
+) -> Result<Option<usize>, AllocError>
+    ghost es: { List Listed }
+    requires tidied { IsTidied kernel.old }
+    requires shows { Shows es window.now }
+    requires sees { CanSeeEach window.now (option_copied kept) }
+    ensures { IfOk result (λ wrong. MatchOption wrong (Ran kernel.old entry.now.pid
+        (run_kept true (option_copied kept.entry) es entry.now.op entry.now.reply
+        entry.now.chosen) kernel.new)
+        (StopsHere kernel.old (option_copied kept.entry) es position entry.now)) }
+{
+    match kept {
+        None => {
+            let right = run_entry(kernel, heap, entry.pid, entry)?;
+            if right { Ok(None) } else { Ok(Some(position)) }
         }
-        Ok(None)
-    }
-
-    // The calls of an entry that take effect now, by what is kept of a living process.
-    fn run_kept(
-        &mut self,
-        heap: Heap,
-        kept: Option<&Transaction>,
-        window: &Window<'_>,
-        entry: &Entry,
-        position: usize,
-    ) -> Result<Option<usize>, AllocError>
-        ghost es: { List Listed }
-        requires tidied { IsTidied self.old }
-        requires shows { Shows es window.now }
-        requires sees { CanSeeEach window.now (option_copied kept) }
-        ensures { IfOk result (λ wrong. MatchOption wrong (Ran self.old entry.now.pid
-            (run_kept true (option_copied kept.entry) es entry.now.op entry.now.reply
-            entry.now.chosen) self.new)
-            (StopsHere self.old (option_copied kept.entry) es position entry.now)) }
-    {
-        match kept {
-            None => {
-                let right = self.run_entry(heap, entry.pid, entry)?;
-                if right { Ok(None) } else { Ok(Some(position)) }
+        Some(Transaction::Live(_, positions)) => {
+            if !matches!(entry.op, Op::End) {
+                return Ok(None);
             }
-            Some(Transaction::Live(_, positions)) => {
-                if !matches!(entry.op, Op::End) {
-                    return Ok(None);
-                }
-                self.run_all(heap, entry.pid, window, positions.as_slice())
-            }
-            Some(Transaction::Doomed(_)) => Ok(None),
+            run_all(kernel, heap, entry.pid, window, positions.as_slice())
         }
+        Some(Transaction::Doomed(_)) => Ok(None),
     }
 }
 
@@ -227,7 +229,7 @@ fn run(
         (StopsNow es position (option_copied kept.entry) kernel.old)) }
 {
     if kernel.is_living(entry.pid) {
-        kernel.run_kept(heap, kept, window, entry, position)
+        run_kept(kernel, heap, kept, window, entry, position)
     } else {
         Ok(None)
     }
@@ -278,65 +280,16 @@ fn keep_all(
     doom_all(transactions, entry.doomed.as_slice())
 }
 
-// A process without descriptors for each of these priorities.
-fn first_processes(heap: Heap, priorities: &[Priority]) -> Result<Tree<Process>, AllocError>
-    requires { length priorities.now < 2 ^ 32 }
-    ensures { IfOk result (λ all. all ≡ with_processes 0 priorities.now empty) }
-{
-    let mut processes = Tree::new(heap);
-    for (index, priority) in priorities.iter().enumerate() {
-        let process = Process {
-            table: Table::new(heap),
-            priority: priority.level(),
-        };
-        processes.set(Num(index + 1), process)?;
-    }
-    Ok(processes)
-}
-
-// The empty root alone.
-fn first_inodes(heap: Heap, root: Num) -> Result<Inodes, AllocError>
-    ensures { IfOk result (λ inodes. inodes ≡ insert empty root (A_directory empty)) }
-{
-    let mut inodes = Inodes::new(heap);
-    match inodes.insert(root, Inode::directory(Names::new(heap))) {
-        Ok(before) => {
-            drop(before);
-            Ok(inodes)
-        }
-        Err(refused) => {
-            drop(inodes);
-            Err(refused)
-        }
-    }
-}
-
 impl Audit {
     // The empty root, and the first processes, none in a transaction.
     pub(crate) fn new(heap: Heap, root: Num, beginning: &Beginning<'_>) -> Result<Audit, AllocError>
         ensures kernel { IfOk result (λ r. r.kernel ≡ start root beginning.now) }
         ensures transactions { IfOk result (λ r. r.transactions ≡ empty) }
     {
-        let made = small(beginning.priorities.len())?;
-        let processes = first_processes(heap, beginning.priorities)?;
-        match first_inodes(heap, root) {
-            Ok(inodes) => Ok(Audit {
-                kernel: PlainKernel {
-                    root,
-                    inodes,
-                    descriptions: Descriptions::new(heap),
-                    processes,
-                    holders: Holders::new(heap),
-                    made,
-                    largest: beginning.largest,
-                },
-                transactions: Table::new(heap),
-            }),
-            Err(refused) => {
-                drop(processes);
-                Err(refused)
-            }
-        }
+        Ok(Audit {
+            kernel: PlainKernel::new(heap, root, beginning.priorities, beginning.largest)?,
+            transactions: Table::new(heap),
+        })
     }
 
     // The entry at a position, which is one of the part, behind those before it.

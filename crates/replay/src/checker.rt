@@ -16,12 +16,11 @@ use crate::added::Added;
 use crate::audit::{Audit, Stop};
 use crate::beginning::Beginning;
 use crate::checking::CheckFault;
-use crate::table::Table;
 use crate::transaction::Transaction;
-use crate::tree::Tree;
 use crate::window::Window;
 use heap::Heap;
 use ids::{DEFAULT_LARGEST_FILE, Entry, Num, Priority};
+use plain_kernel::{Table, Tree};
 use std::alloc::AllocError;
 use std::marker::Model;
 

@@ -8,25 +8,12 @@ ghost use Rattle.replay.specs.Faults.{LegalHistoriesHaveNoFault};
 
 mod added;
 mod answers;
-mod apply;
 mod audit;
 mod beginning;
 mod checker;
 mod checking;
-mod counts;
-mod descriptions;
-mod free;
-mod holders;
-mod inode;
-mod inodes;
-mod names;
-mod numbers;
-mod plain;
-mod processes;
 mod root;
-mod table;
 mod transaction;
-mod tree;
 mod window;
 
 pub use checker::Checker;

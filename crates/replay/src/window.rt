@@ -4,8 +4,8 @@ ghost use Rattle.std.specs.Prelude.{List, option_copied};
 ghost use Rattle.model.specs.Entries.{Entry as Listed};
 ghost use Rattle.replay.specs.Windows.{CanSee, Finds, Shows};
 
-use crate::tree::Tree;
 use ids::{Entry, Num};
+use plain_kernel::Tree;
 
 /// A part of a history, and what is kept of the entries before it, by their positions.
 #[derive(Clone, Copy)]

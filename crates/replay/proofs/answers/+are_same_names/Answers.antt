@@ -2,7 +2,7 @@ use Rattle.std.proofs.Common.{◌≡◌, true, false, ◌∷◌, ◌∙◌, List
 use Rattle.std.proofs.lemmas.Bool.Decides.{Decides-at, Decides-eqb}
 use Rattle.std.proofs.lemmas.Slice.Eq.{slice_eq-Decides}
 use Rattle.model.specs.State.{Name}
-use Rattle.replay.proofs.Choosing.{front, none_are, rest_of, same_first}
+use Rattle.plain_kernel.proofs.Laws.{front, none_are, rest_of, same_first}
 use Rattle.replay.proofs.answers.+are_same_names.Goals as goal
 
 pub returns-then-eq : goal.returns-then-eq

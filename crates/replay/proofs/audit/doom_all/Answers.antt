@@ -4,7 +4,8 @@ use Rattle.std.proofs.lemmas.List.{take_all}
 use Rattle.model.specs.FiniteMap.{get}
 use Rattle.model.specs.Moments.{is_in}
 use Rattle.replay.specs.Transactions.{doomed_kept}
-use Rattle.replay.proofs.Keeping.{doom_more, gone, put_back}
+use Rattle.plain_kernel.proofs.Laws.{gone, put_back}
+use Rattle.replay.proofs.Keeping.{doom_more}
 use Rattle.replay.proofs.audit.doom_all.Goals as goal
 
 pub keep-requires : goal.keep-requires

@@ -1,8 +1,7 @@
 use Rattle.std.proofs.Common.{sym, ap, ◌∙◌}
 use Rattle.std.specs.Prelude.{if◌then◌else◌, ◌==◌}
 use Rattle.model.specs.FiniteMap.{get}
-use Rattle.replay.proofs.Keeping.{at_none, at_set}
-use Rattle.replay.proofs.Setting.{if_ok}
+use Rattle.plain_kernel.proofs.Laws.{at_none, at_set, if_ok}
 use Rattle.replay.proofs.audit.keep.Goals as goal
 
 pub returns-in-Some : goal.returns-in-Some

@@ -1,6 +1,6 @@
 use Rattle.replay.specs.Transactions.{own_kept}
-use Rattle.replay.proofs.Setting.{if_ok}
-use Rattle.replay.proofs.Keeping.{gone, kept_next, put_back}
+use Rattle.plain_kernel.proofs.Laws.{gone, if_ok, put_back}
+use Rattle.replay.proofs.Keeping.{kept_next}
 use Rattle.replay.proofs.audit.keep_all.Goals as goal
 
 pub keep-requires : goal.keep-requires

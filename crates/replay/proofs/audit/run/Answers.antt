@@ -1,6 +1,6 @@
 use Rattle.std.proofs.Common.{sym, ◌∙◌}
 use Rattle.replay.proofs.Following.{gone_at, ran_at}
-use Rattle.replay.proofs.Setting.{ok_then}
+use Rattle.plain_kernel.proofs.Laws.{ok_then}
 use Rattle.replay.proofs.Stopping.{match_some, stops_now}
 use Rattle.replay.proofs.audit.run.Goals as goal
 

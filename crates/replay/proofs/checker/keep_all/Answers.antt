@@ -7,7 +7,8 @@ use Rattle.model.specs.FiniteMap.{FinMap, get}
 use Rattle.replay.specs.Checked.{AreHeld, Grows}
 use Rattle.replay.specs.Faults.{HoldsEntry}
 use Rattle.replay.specs.Windows.{Finds}
-use Rattle.replay.proofs.Seen.{all_at, all_more, all_so, grows_more, held_more, there_more}
+use Rattle.plain_kernel.proofs.Laws.{all_at}
+use Rattle.replay.proofs.Seen.{all_more, all_so, grows_more, held_more, there_more}
 use Rattle.replay.proofs.checker.keep_all.Goals as goal
 use Rattle.replay.proofs.checker.keep_all.Goals.{in-Some+in_ok-try_clone+in_ok-set, in_default}
 

@@ -2,7 +2,7 @@ use Rattle.std.proofs.Common.{List, ap₂, subst}
 use Rattle.model.specs.Entries.{Entry}
 use Rattle.model.specs.Moments.{Setup}
 use Rattle.model.specs.Passing.{PassesForSome}
-use Rattle.replay.proofs.Setting.{if_ok}
+use Rattle.plain_kernel.proofs.Laws.{if_ok}
 use Rattle.replay.proofs.checking.check.Goals as goal
 
 pub returns-in-Ok-clause-ok : goal.returns-in-Ok-clause-ok

@@ -1,0 +1,20 @@
+mod Kept
+mod Halved
+mod Orders
+mod Counted
+mod Maps
+mod Trees
+mod Keyed
+mod Linked
+mod Opened
+mod Holding
+mod Slots
+mod Setting
+mod Starting
+mod Freed
+mod Edited
+mod Empties
+mod Looking
+mod Pieces
+mod Choosing
+pub mod Laws

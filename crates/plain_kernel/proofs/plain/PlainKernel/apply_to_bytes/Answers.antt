@@ -1,0 +1,21 @@
+use Rattle.plain_kernel.proofs.Edited.{appends, cut_ends, cuts, edited, put_ends, puts, takes}
+use Rattle.plain_kernel.proofs.Setting.{if_ok}
+use Rattle.plain_kernel.proofs.plain.PlainKernel.apply_to_bytes.Goals as goal
+
+pub returns-in-PutBytes : goal.returns-in-PutBytes
+returns-in-PutBytes c = if_ok c.put.result c.put.ensures (λ h. edited _ _ _ _ _ c.in-PutBytes.is (puts _ _ _ _ _ _ _ _ c.as_slice.ensures h))
+
+pub returns-in-Cut : goal.returns-in-Cut
+returns-in-Cut c = if_ok c.cut.result c.cut.ensures (λ h. edited _ _ _ _ _ c.in-Cut.is (cuts _ _ _ _ _ _ h))
+
+pub returns-in-Take : goal.returns-in-Take
+returns-in-Take c = if_ok c.take.result c.take.ensures (λ h. edited _ _ _ _ _ c.in-Take.is (takes _ _ _ _ _ h))
+
+pub returns-in-Append : goal.returns-in-Append
+returns-in-Append c = if_ok c.append.result c.append.ensures (λ h. edited _ _ _ _ _ c.in-Append.is (appends _ _ _ _ _ _ c.as_slice-in-Append.ensures h))
+
+pub put-requires : goal.put-requires
+put-requires c = put_ends _ _ _ _ _ _ c.in-PutBytes.is c.as_slice.ensures c.requires.within
+
+pub cut-requires : goal.cut-requires
+cut-requires c = cut_ends _ _ _ _ c.in-Cut.is c.requires.within

@@ -1,4 +1,0 @@
-use Rattle.replay.proofs.plain.PlainKernel.run_kept.Given as goal
-
-abbrev pub ghost-run_all : goal.ghost-run_all
-ghost-run_all g a = g.es
