@@ -4,4 +4,3 @@ pub mod Blocks
 pub mod Ends
 pub mod Seeks
 pub mod Offsets
-pub mod Binds

@@ -1,14 +1,13 @@
-// The questions that a plan asks, each with what it reads.
+// The questions about files, pipes and descriptions, each with what it reads.
 ghost use Rattle.std.specs.Prelude.{◌≡◌, ◌+◌, ◌<◌, ◌≤◌};
 ghost use Rattle.std.specs.Prelude.{◌^◌, IfOk, OnOk, length, map};
 ghost use Rattle.ids.specs.declared.limits.TheConstants.{MOST_MOVED};
 ghost use Rattle.model.specs.Aspects.{Block};
-ghost use Rattle.calls.specs.Parts.{has_no_names};
-ghost use Rattle.model.specs.Plan.{ask, List_names, Measure, Read_file, Count_links, Count_ends};
-ghost use Rattle.model.specs.Plan.{Find_offset, Read_pipe, Fit, blocks, rising};
+ghost use Rattle.model.specs.Plan.{ask, Read_file, Count_ends, Find_offset, Read_pipe, Fit};
+ghost use Rattle.model.specs.Plan.{blocks, rising};
 ghost use Rattle.look.specs.Asked.{Comes, noting};
 
-use ids::{Aspect, BLOCK_LEN, Bytes, NameList, Num, Refusal};
+use ids::{Aspect, BLOCK_LEN, Bytes, Num, Refusal};
 use look::Look;
 use std::alloc::AllocError;
 use walk::Reads;
@@ -37,38 +36,6 @@ fn read_blocks(reads: &mut Reads, file: Num, offset: u32, count: u32) -> Result<
         reads.add(Aspect::Block(file, first + more))?;
     }
     Ok(())
-}
-
-// All names of a directory.
-pub(crate) fn names<L: Look>(look: &L, dir: Num, reads: &mut Reads) -> Result<NameList, Refusal>
-    ensures { Comes (L.state look.now) (ask (List_names dir)) reads.old result reads.new }
-{
-    reads.add(Aspect::Names(dir))?;
-    Ok(look.names(reads.heap(), dir)?)
-}
-
-// Whether a directory has no names. It reads all of them, as they would be if they were listed.
-pub(crate) fn has_no_names<L: Look>(look: &L, dir: Num, reads: &mut Reads) -> Result<bool, Refusal>
-    ensures { Comes (L.state look.now) (has_no_names dir) reads.old result reads.new }
-{
-    reads.add(Aspect::Names(dir))?;
-    Ok(look.is_empty(dir))
-}
-
-// A file's length.
-pub(crate) fn size<L: Look>(look: &L, file: Num, reads: &mut Reads) -> Result<u32, Refusal>
-    ensures { Comes (L.state look.now) (ask (Measure file)) reads.old result reads.new }
-{
-    reads.add(Aspect::Size(file))?;
-    Ok(look.size(file)?)
-}
-
-// How many names give a file.
-pub(crate) fn links<L: Look>(look: &L, file: Num, reads: &mut Reads) -> Result<u32, Refusal>
-    ensures { Comes (L.state look.now) (ask (Count_links file)) reads.old result reads.new }
-{
-    reads.add(Aspect::Links(file))?;
-    Ok(look.links(file)?)
 }
 
 // How many descriptors are open on a pipe.

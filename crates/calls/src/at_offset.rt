@@ -6,15 +6,14 @@ ghost use Rattle.model.specs.Calls.{Count, Pread, Pwrite};
 ghost use Rattle.look.specs.Asked.{Comes, Tells};
 ghost use Rattle.look.specs.Shown.{own_in};
 
-use crate::asking::{read_file, size};
-use crate::change::{Change, changed_by, unchanged};
+use crate::asking::read_file;
 use crate::checks::{must_be_below, must_not_be_pipe};
 use crate::files::{at_most_moved, first_bytes, is_empty, no_bytes, room};
 use crate::own::slot;
-use crate::steps::refuse_if;
 use heap::Heap;
 use ids::{Answer, Bytes, Edit, Errno, Fd, Num, Pid, Refusal, Slot};
 use look::Look;
+use path_calls::{Change, changed_by, refuse_if, size, unchanged};
 use walk::{Reads, or_refuse};
 
 pub(crate) fn pread<L: Look>(

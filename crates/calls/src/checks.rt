@@ -6,8 +6,8 @@ ghost use Rattle.ids.specs.Flags.{is_reading, is_writing, is_creating, is_exclus
 ghost use Rattle.model.specs.Plans.{is_pipe, whole_write};
 ghost use Rattle.look.specs.Asked.{Tells};
 
-use crate::steps::refuse_if;
 use ids::{Bytes, Errno, Kind, OpenFlags, Refusal, WHOLE_WRITE};
+use path_calls::refuse_if;
 
 pub(crate) fn must_read_or_write(flags: OpenFlags) -> Result<(), Refusal>
     ensures { Tells (refuse_if (not (is_reading flags || is_writing flags)) EINVAL) result }

@@ -4,14 +4,12 @@ ghost use Rattle.model.specs.Calls.{own, Close, Fstat, Dup, Dup2, Open_pipe, For
 ghost use Rattle.look.specs.Asked.{Comes, TellsIn};
 ghost use Rattle.look.specs.Shown.{own_in};
 
-use crate::change::{Change, changed_by, unchanged};
 use crate::checks::must_be_below;
 use crate::own::{free_from, pipe_in, pipes, slot, two_of};
-use crate::paths::status;
-use crate::steps::refuse_if;
 use heap::Heap;
 use ids::{Answer, Edit, Errno, Fd, MAX_PROCESSES, Pid, Refusal};
 use look::Look;
+use path_calls::{Change, changed_by, refuse_if, status, unchanged};
 use walk::Reads;
 
 pub(crate) fn close<L: Look>(heap: Heap, look: &L, pid: Pid, fd: Fd) -> Result<Change, Refusal>

@@ -15,14 +15,12 @@ ghost use Rattle.calls.specs.Parts.{some_to_file};
 ghost use Rattle.look.specs.Asked.{Comes, Tells, TellsIn};
 ghost use Rattle.look.specs.Shown.{own_in};
 
-use crate::asking::{ends, fit, offset, read_file, read_pipe, size};
-use crate::change::{Change, Edits, changed, changed_by, unchanged};
+use crate::asking::{ends, fit, offset, read_file, read_pipe};
 use crate::checks::{
     must_be_below, must_be_new, must_create_to_exclude, must_fit, must_not_be_pipe,
     must_read_or_write, must_write_to_truncate, refusal_of_root,
 };
 use crate::own::{free_from, is_pipe, slot};
-use crate::steps::{must_not_be_directory, parsed, refuse_if};
 use heap::Heap;
 use ids::{
     Answer, Bytes, Edit, Errno, Fd, Kind, MOST_MOVED, Mode, Num, OpenFlags, Pid, Refusal, Slot,
@@ -30,6 +28,10 @@ use ids::{
 };
 use look::Look;
 use path::Path;
+use path_calls::{
+    Change, Edits, changed, changed_by, cut_to, must_not_be_directory, parsed, refuse_if, size,
+    unchanged,
+};
 use std::alloc::AllocError;
 use walk::{Last, Reads, walk_to_last};
 
@@ -146,24 +148,6 @@ fn cut_if<L: Look>(
     } else {
         Ok(Edits::new(reads.heap()))
     }
-}
-
-// A file's new length.
-pub(crate) fn cut_to<L: Look>(
-    look: &L,
-    file: Num,
-    length: u32,
-    reads: &mut Reads,
-) -> Result<Edits, Refusal>
-    ensures { Comes (L.state look.now) (cut_to file length) reads.old result reads.new }
-{
-    let size = size(look, file, reads)?;
-    let edits = Edits::new(reads.heap()).with(Edit::Cut {
-        file,
-        length_before: size,
-        length,
-    })?;
-    Ok(edits)
 }
 
 pub(crate) fn ftruncate<L: Look>(

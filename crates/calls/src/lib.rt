@@ -7,15 +7,12 @@
 
 mod asking;
 mod at_offset;
-mod change;
 mod checks;
 mod descriptors;
 mod files;
 mod marks;
 mod own;
-mod paths;
 mod plan;
 mod seek;
-mod steps;
 
 pub use plan::{Plan, plan_of, plan_without_touches};

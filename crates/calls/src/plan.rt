@@ -6,15 +6,14 @@ ghost use Rattle.look.specs.Asked.{Comes};
 ghost use Rattle.calls.specs.Planned.{IsPlan, IsPlanWithoutTouches};
 
 use crate::at_offset::{pread, pwrite};
-use crate::change::Change;
 use crate::descriptors::{close, dup, dup2, exit, fork, fstat, pipe};
 use crate::files::{ftruncate, open, read, write};
 use crate::marks::mark_all;
-use crate::paths::{link, list, mkdir, rename, rmdir, stat, truncate, unlink};
 use crate::seek::lseek;
 use heap::Heap;
 use ids::{Answer, Call, Edit, Errno, Pid, Refusal, Touch};
 use look::Look;
+use path_calls::{Change, link, list, mkdir, rename, rmdir, stat, truncate, unlink};
 use std::alloc::AllocError;
 use walk::Reads;
 

@@ -6,13 +6,13 @@ ghost use Rattle.look.specs.Asked.{Comes, Tells};
 ghost use Rattle.look.specs.Shown.{own_in};
 ghost use Rattle.calls.specs.Parts.{offset_in};
 
-use crate::asking::{offset, size};
-use crate::change::{Change, changed_by};
+use crate::asking::offset;
 use crate::checks::must_not_be_pipe;
 use crate::own::slot;
 use heap::Heap;
 use ids::{Answer, Edit, Errno, Fd, Pid, Refusal, Slot, Whence};
 use look::Look;
+use path_calls::{Change, changed_by, size};
 use walk::Reads;
 
 pub(crate) fn lseek<L: Look>(

@@ -1,8 +1,0 @@
-use Rattle.walk.proofs.Laws.{goes, stops}
-use Rattle.calls.proofs.paths.last_at.Goals as goal
-
-pub returns-in_err-path : goal.returns-in_err-path
-returns-in_err-path g c = stops _ c.from_residual.ensures.1 (c.in_err-path.ensures _ _)
-
-pub returns : goal.returns
-returns g c = goes _ (c.in_ok-path.ensures _ _) c.walk_to_last.ensures
