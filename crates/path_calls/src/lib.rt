@@ -9,11 +9,11 @@
 mod asking;
 mod change;
 mod paths;
-mod status;
+mod stats;
 mod steps;
 
 pub use asking::size;
 pub use change::{Change, Edits, changed, changed_by, unchanged};
 pub use paths::{cut_to, link, list, mkdir, rename, rmdir, truncate, unlink};
-pub use status::{stat, status};
+pub use stats::{stat, status};
 pub use steps::{must_not_be_directory, parsed, refuse_if};

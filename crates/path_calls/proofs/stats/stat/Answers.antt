@@ -1,5 +1,5 @@
 use Rattle.path_calls.proofs.Binds.{place_go, place_stop}
-use Rattle.path_calls.proofs.status.stat.Goals as goal
+use Rattle.path_calls.proofs.stats.stat.Goals as goal
 
 pub returns-in_err-place : goal.returns-in_err-place
 returns-in_err-place g c pid = place_stop c.args.path.now _ c.from_residual.ensures.1 c.in_err-place.ensures
