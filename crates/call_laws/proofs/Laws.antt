@@ -4,7 +4,7 @@ use Rattle.std.specs.List.{AllByRecursion}
 use Rattle.model.specs.State.{Kernel}
 use Rattle.model.specs.Aspects.{Aspect, Keeps, KeepsAll}
 use Rattle.model.specs.Plan.{Errno}
-use Rattle.model.specs.Changes.{Edit, Make_directory, Make_file, Make_fixed, Name_file, Unname_file, Unname_directory, Move, Put_bytes, Cut, Take, Append, Set_offset, Open_inode, Make_pipe, Share_slot, Clear_slot, New_process, End_process, news, marks, applied, all_applied, tidy}
+use Rattle.model.specs.Changes.{Edit, Make_directory, Make_file, Make_fixed, Name_file, Unname_file, Unname_directory, Move, Put_bytes, Cut, Take, Append, Set_offset, Set_rights, Open_inode, Make_pipe, Share_slot, Clear_slot, New_process, End_process, news, marks, applied, all_applied, tidy}
 use Rattle.model.specs.Calls.{Call, Done, own}
 use Rattle.model.specs.Plans.{Change}
 use Rattle.model.specs.Steps.{reads, outcome, edits, edits_of}
@@ -51,6 +51,7 @@ pub use Rattle.call_laws.proofs.edits.NamesAlike.{IsNew, is_new, kept_kind}
 pub use Rattle.call_laws.proofs.edits.NamesWell.{none_count, same_links}
 pub use Rattle.call_laws.proofs.edits.Offsets.{ends_unmoved, set_there, with_offset}
 pub use Rattle.call_laws.proofs.edits.Processes.{table_in}
+pub use Rattle.call_laws.proofs.edits.Rights.{unset}
 pub use Rattle.call_laws.proofs.edits.SlotsAlike.{free_after, pipe_at, unused_after, with_tables}
 pub use Rattle.call_laws.proofs.law.Alive.{alive_tidy}
 pub use Rattle.call_laws.proofs.law.There.{edit_grows}
@@ -97,6 +98,7 @@ no_link P (Cut n before after) h = tt
 no_link P (Take p count) h = tt
 no_link P (Append p bytes) h = tt
 no_link P (Set_offset d place) h = tt
+no_link P (Set_rights n rights) h = tt
 no_link P (Open_inode i inode how q f) h = tt
 no_link P (Make_pipe i q f g) h = tt
 no_link P (Share_slot q f d pipes) h = tt

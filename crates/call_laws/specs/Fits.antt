@@ -14,7 +14,7 @@ use Rattle.model.specs.Limits.{capacity}
 use Rattle.model.specs.Moments.{is_in}
 use Rattle.model.specs.Changes.{Made, number, Edit, Make_directory, Make_file, Make_fixed}
 use Rattle.model.specs.Changes.{Name_file, Unname_file, Unname_directory, Move, Put_bytes, Cut, Take, Append}
-use Rattle.model.specs.Changes.{Set_offset, Open_inode, Make_pipe, Share_slot, Clear_slot}
+use Rattle.model.specs.Changes.{Set_offset, Set_rights, Open_inode, Make_pipe, Share_slot, Clear_slot}
 use Rattle.model.specs.Changes.{New_process, End_process, marks, applied, process_of}
 use Rattle.model.specs.Changes.{Replaced, Over_nothing, Over_file, Over_directory}
 use Rattle.call_laws.specs.Objects.{IsThere, LeavesAlone}
@@ -154,6 +154,7 @@ Fits chosen k (Take p count) = (kind_of k p ≡ Some A_pipe) × (count ≤ lengt
 Fits chosen k (Append p bytes) =
     (kind_of k p ≡ Some A_pipe) × (length (pipe_of k p) + length bytes ≤ capacity)
 Fits chosen k (Set_offset d place) = (it : Description) × (get k.descriptions d ≡ Some it)
+Fits chosen k (Set_rights n rights) = kind_of k n ≢ None
 Fits chosen k (Open_inode i inode mode pid f) =
     CanOpen chosen k (number chosen (Made i)) (number chosen inode) pid f
 Fits chosen k (Make_pipe i pid f g) =

@@ -3,7 +3,7 @@ use Rattle.std.specs.Prelude.{◌≡◌, ◌≢◌, Some, None}
 use Rattle.model.specs.FiniteMap.{get}
 use Rattle.model.specs.State.{A_file, A_directory, A_pipe, A_link, Kernel, kind_of}
 use Rattle.model.specs.Aspects.{Aspect, Entry, Names, Size, Block, Links, Ends, Offset, Front, Back}
-use Rattle.model.specs.Aspects.{Target}
+use Rattle.model.specs.Aspects.{Target, Rights}
 use Rattle.call_laws.specs.WellFormed.{CanBeLinked}
 
 -- an aspect of an object that is there
@@ -18,6 +18,7 @@ IsThere k (Front p) = kind_of k p ≡ Some A_pipe
 IsThere k (Back p) = kind_of k p ≡ Some A_pipe
 IsThere k (Offset d) = get k.descriptions d ≢ None
 IsThere k (Target n) = kind_of k n ≡ Some A_link
+IsThere k (Rights n) = kind_of k n ≢ None
 
 -- a write of the first leaves the second alone
 abbrev pub LeavesAlone : Aspect → Aspect → Type 0

@@ -1,9 +1,9 @@
 -- A well-formed state of the plain kernel.
-use Rattle.std.specs.Prelude.{◌≡◌, ℕ, ◌≤◌, ◌<◌, List, [], ◌∷◌, Option, Some, ⊤, true}
+use Rattle.std.specs.Prelude.{◌≡◌, ◌≢◌, ℕ, ◌≤◌, ◌<◌, List, [], ◌∷◌, Option, Some, None, ⊤, true}
 use Rattle.model.specs.FiniteMap.{get}
 pub use Rattle.model.specs.Limits.{descriptor_limit}
 use Rattle.model.specs.State.{Name, Kind, Kernel, Description, A_file, A_directory, A_pipe, A_link}
-use Rattle.model.specs.State.{A_fifo, A_socket, kind_of, names_of, links}
+use Rattle.model.specs.State.{A_fifo, A_socket, Rights, kind_of, names_of, links}
 use Rattle.model.specs.Changes.{process_of}
 use Rattle.model.specs.Moments.{is_alive}
 
@@ -61,5 +61,7 @@ pub record WellFormed (k : Kernel) : Type 0 where
   -- each description is of a file or a pipe
   pub descriptions : (d : ℕ) (it : Description) → get k.descriptions d ≡ Some it
       → CanBeOpened (kind_of k it.inode)
+  -- rights are set of inodes that are there
+  pub rights : (n : ℕ) (set : Rights) → get k.rights n ≡ Some set → kind_of k n ≢ None
   -- no process has a number above the count of those made
   pub counted : (pid : ℕ) → is_alive k pid ≡ true → pid ≤ k.made

@@ -6,8 +6,8 @@ use Rattle.model.specs.State.{A_file, A_directory, A_pipe, A_link, A_fifo, A_soc
 use Rattle.model.specs.Plan.{Errno, EAGAIN, EBADF, EBUSY, EEXIST, EFBIG, EINVAL, EISDIR, ELOOP, ENXIO, ENAMETOOLONG, ENOENT, ENOTDIR, ENOTEMPTY, EPERM, EPIPE, ESPIPE, Plan, Give, given, answer, or_refuse, List_names, Read_file, Count_ends, Find_offset, Read_pipe, Fit, ◌>>=◌, refuse_if}
 use Rattle.model.specs.Paths.{is_empty, is_below}
 use Rattle.model.specs.Walks.{Last, Place, parsed, walk, last_of, is_directory, is_link}
-use Rattle.model.specs.Changes.{Edit, Unname_file, Unname_directory, Move, Share_slot, Clear_slot, End_process, Make_directory, Make_file, Make_fixed, Name_file, Put_bytes, Cut, Take, Append, Set_offset, Open_inode, Make_pipe, New_process}
-use Rattle.model.specs.Calls.{Call, Open, Close, Read, Pread, Write, Pwrite, Lseek, Ftruncate, Truncate, Stat, Fstat, Link, Unlink, Rename, Mkdir, Rmdir, List_directory, Symlink, Readlink, Lstat, Mknod, Dup, Dup2, Open_pipe, Fork, Exit, OpenFlags, Slot, Own, own}
+use Rattle.model.specs.Changes.{Edit, Unname_file, Unname_directory, Move, Share_slot, Clear_slot, End_process, Make_directory, Make_file, Make_fixed, Name_file, Put_bytes, Cut, Take, Append, Set_offset, Set_rights, Open_inode, Make_pipe, New_process}
+use Rattle.model.specs.Calls.{Call, Open, Close, Read, Pread, Write, Pwrite, Lseek, Ftruncate, Truncate, Stat, Fstat, Link, Unlink, Rename, Mkdir, Rmdir, List_directory, Symlink, Readlink, Lstat, Mknod, Chmod, Chown, Fchmod, Fchown, Dup, Dup2, Open_pipe, Fork, Exit, OpenFlags, Slot, Own, own}
 use Rattle.ids.specs.Flags.{is_reading, is_writing, is_creating, is_exclusive, is_truncating}
 use Rattle.model.specs.Plans.{Change, target_limit, is_special, is_pipe, most_moved, status, slot, opened, cut_to, read_pipe, read_some, place_to_write, write_some, offset_named, sought, base, replaced_by_name, moved, absent, duplicated, piped, forked, first_of_free, free, plan}
 use Rattle.model.specs.Steps.{edits, edits_of, outcome}
@@ -24,6 +24,7 @@ loses_nothing k (Cut n before after) lasts = refl
 loses_nothing k (Take p count) lasts = refl
 loses_nothing k (Append p bytes) lasts = refl
 loses_nothing k (Set_offset d place) lasts = refl
+loses_nothing k (Set_rights n rights) lasts = refl
 loses_nothing k (Open_inode i inode how q f) lasts = refl
 loses_nothing k (Make_pipe i q f g) lasts = refl
 loses_nothing k (New_process child parent pipes) lasts = refl
@@ -134,6 +135,10 @@ module _ (k : Kernel) where
   plan_fine me (Readlink path) = pass (parsed path) _ (λ names. pass (walk (me.root, Some A_directory) names) _ (λ place. pass (refuse_if (not (is_link place)) EINVAL) _ (λ _. tt)))
   plan_fine me (Lstat path) = pass (parsed path) _ (λ names. pass (walk (me.root, Some A_directory) names) _ (λ place. status_fine place))
   plan_fine me (Mknod path special) = pass (parsed path) _ (λ names. pass (last_of me.root EEXIST names) _ (λ at. pass (absent at.found) _ (λ _. tt)))
+  plan_fine me (Chmod path permissions) = pass (parsed path) _ (λ names. pass (walk (me.root, Some A_directory) names) _ (λ place. pass (refuse_if (is_link place) ELOOP) _ (λ _. tt)))
+  plan_fine me (Chown path owner) = pass (parsed path) _ (λ names. pass (walk (me.root, Some A_directory) names) _ (λ place. tt))
+  plan_fine me (Fchmod f permissions) = pass (slot me f) _ (λ it. tt)
+  plan_fine me (Fchown f owner) = pass (slot me f) _ (λ it. tt)
   plan_fine me (Dup f) = pass (slot me f) _ (λ it. dup_fine me it (free me))
   plan_fine me (Dup2 f g) = pass (slot me f) _ (λ it. pass (refuse_if (nat_lt 63 g) EBADF) _ (λ _. either_given k Fine (f == g) _ _ (λ _. tt) (λ _. tt)))
   plan_fine me Open_pipe = pipe_fine me (free me)

@@ -87,9 +87,11 @@ unfoldable pub free_description : ℕ → Kernel → Kernel
 free_description d k =
     if is_held k d then k else record k { descriptions = remove k.descriptions d }
 
--- an inode goes if its counts of names and of openings are 0, and it is not the root
+-- an inode goes with its rights if its counts of names and of openings are 0, and it is not the root
 unfoldable pub free_inode : ℕ → Kernel → Kernel
-free_inode n k = if is_reached k n then k else record k { inodes = remove k.inodes n }
+free_inode n k =
+    if is_reached k n then k
+    else record k { inodes = remove k.inodes n; rights = remove k.rights n }
 
 -- how many of the openings of n a description has
 abbrev pub opens : ℕ → Option Description → ℕ

@@ -8,10 +8,10 @@ use Rattle.model.specs.State.{A_file, A_directory, A_pipe, A_link, A_fifo, A_soc
 use Rattle.model.specs.Plan.{Errno, Plan, Give, given, ◌>>=◌, answer, capacity, Fit, Count_ends, List_names, or_refuse, ENOENT, ENOTDIR, ENOTEMPTY, EEXIST, EBUSY, EPERM, EINVAL, EISDIR, EBADF, EAGAIN, EPIPE, EFBIG, ESPIPE, ELOOP, ENXIO, ENAMETOOLONG}
 use Rattle.model.specs.Paths.{is_empty, is_below}
 use Rattle.model.specs.Walks.{Place, parsed, walk, is_directory, is_link, Last, last_of}
-use Rattle.model.specs.Changes.{Mode, There, Made, Edit, Make_directory, Make_file, Make_fixed, Name_file, Unname_file, Unname_directory, Move, Put_bytes, Cut, Take, Append, Set_offset, Open_inode, Make_pipe, Share_slot, Clear_slot, New_process, End_process, number, applied, all_applied, set_inode, clear_name, set_description, set_offset, at_offset, at_start, open_at, to_read, to_write, written, sized, is_held, tidy}
+use Rattle.model.specs.Changes.{Mode, There, Made, Edit, Make_directory, Make_file, Make_fixed, Name_file, Unname_file, Unname_directory, Move, Put_bytes, Cut, Take, Append, Set_offset, Set_rights, Open_inode, Make_pipe, Share_slot, Clear_slot, New_process, End_process, number, applied, all_applied, set_inode, clear_name, set_description, set_offset, at_offset, at_start, open_at, to_read, to_write, written, sized, is_held, tidy}
 use Rattle.ids.specs.Fixed.{fixed_target, special_object}
 use Rattle.ids.specs.Flags.{is_reading, is_writing, is_creating, is_exclusive, is_truncating}
-use Rattle.model.specs.Calls.{OpenFlags, Call, Open, Close, Read, Pread, Write, Pwrite, Lseek, Ftruncate, Truncate, Stat, Fstat, Link, Unlink, Rename, Mkdir, Rmdir, List_directory, Symlink, Readlink, Lstat, Mknod, Dup, Dup2, Open_pipe, Fork, Exit, Answer, Done, Descriptor, Count, New_place, Bytes, Slot, Special, Special_fifo, Special_socket, Own, own}
+use Rattle.model.specs.Calls.{OpenFlags, Call, Open, Close, Read, Pread, Write, Pwrite, Lseek, Ftruncate, Truncate, Stat, Fstat, Link, Unlink, Rename, Mkdir, Rmdir, List_directory, Symlink, Readlink, Lstat, Mknod, Chmod, Chown, Fchmod, Fchown, Dup, Dup2, Open_pipe, Fork, Exit, Answer, Done, Descriptor, Count, New_place, Bytes, Slot, Special, Special_fifo, Special_socket, Own, own}
 use Rattle.model.specs.Plans.{Change, changed, unchanged, absent, status, is_special, slot, is_pipe, read_pipe, read_some, place_to_write, write_some, most_moved, room, offset_named, read_from, write_from, base, sought, replaced_by_name, moved, free, first_of_free, duplicated, piped, opened, mode, cut_to}
 use Rattle.model.specs.Steps.{outcome, edits, edits_of, Step, Item, Run}
 use Rattle.model.specs.Moments.{Setup, start, after}
@@ -105,6 +105,7 @@ edit_within chosen k (Append p bytes) w h =
     let low : length (pipe_of k p) + length bytes ≤ capacity = h in
     set_within k p (Pipe (pipe_of k p ++ bytes)) (omega arith) (omega (arith, length-append (pipe_of k p) bytes)) (omega arith) w
 edit_within chosen k (Set_offset d place) w h = offset_within k d place (get k.descriptions d) h w
+edit_within chosen k (Set_rights n rights) w h = record { made = w.made; files = w.files; pipes = w.pipes; targets = w.targets; offsets = w.offsets }
 edit_within chosen k (Open_inode i inode mode pid f) w h = open_within k (number chosen (Made i)) (number chosen inode) mode pid f w
 edit_within chosen k (Make_pipe i pid f g) w h =
     let made : Kernel = set_inode (number chosen (Made i)) (Pipe []) k in
@@ -368,6 +369,10 @@ module _ (k : Kernel) (w : IsWithinLimits k) (chosen : List ℕ) where
   call_within pid (Mknod path special) =
       goes_on (parsed path) _ (λ names.
       goes_on (last_of k.root EEXIST names) _ (λ at. absent_within at.found _ (special_within special, tt)))
+  call_within pid (Chmod path permissions) = goes_on (parsed path) _ (λ names. goes_on (walk (k.root, Some A_directory) names) _ (λ place. allowed k Fine (is_link place) ELOOP _ (λ _. (tt, tt))))
+  call_within pid (Chown path owner) = goes_on (parsed path) _ (λ names. goes_on (walk (k.root, Some A_directory) names) _ (λ place. (tt, tt)))
+  call_within pid (Fchmod f permissions) = goes_on (slot (own k pid (Fchmod f permissions)) f) _ (λ s. (tt, tt))
+  call_within pid (Fchown f owner) = goes_on (slot (own k pid (Fchown f owner)) f) _ (λ s. (tt, tt))
   call_within pid (Dup f) = goes_on (slot (own k pid (Dup f)) f) _ (λ s. duplicated_within (own k pid (Dup f)) s (free (own k pid (Dup f))))
   call_within pid (Dup2 f g) = goes_on (slot (own k pid (Dup2 f g)) f) _ (λ s.
       allowed k Fine (nat_lt 63 g) EBADF _ (λ _.

@@ -3,3 +3,4 @@ pub mod Fixed
 pub mod Flags
 pub mod Forms
 pub mod Order
+pub mod Rights

@@ -38,6 +38,8 @@ pub enum Aspect {
     Back(Num),
     /// The target of a symbolic link.
     Target(Num),
+    /// The permissions and the owner of an object.
+    Rights(Num),
 }
 
 impl Drop for Aspect {
@@ -53,6 +55,7 @@ impl Drop for Aspect {
             Aspect::Front(_) => {}
             Aspect::Back(_) => {}
             Aspect::Target(_) => {}
+            Aspect::Rights(_) => {}
         }
     }
 }
@@ -73,6 +76,7 @@ impl Aspect {
             Aspect::Front(pipe) => Ok(Aspect::Front(*pipe)),
             Aspect::Back(pipe) => Ok(Aspect::Back(*pipe)),
             Aspect::Target(link) => Ok(Aspect::Target(*link)),
+            Aspect::Rights(inode) => Ok(Aspect::Rights(*inode)),
         }
     }
 
@@ -91,6 +95,7 @@ impl Aspect {
             Aspect::Front(pipe) => pipe.0,
             Aspect::Back(pipe) => pipe.0,
             Aspect::Target(link) => link.0,
+            Aspect::Rights(inode) => inode.0,
         }
     }
 
@@ -109,6 +114,7 @@ impl Aspect {
             Aspect::Front(_) => 7,
             Aspect::Back(_) => 8,
             Aspect::Target(_) => 9,
+            Aspect::Rights(_) => 10,
         }
     }
 

@@ -5,6 +5,7 @@ use crate::bytes::Bytes;
 use crate::fixed::Special;
 use crate::flags::{BeginFlags, OpenFlags};
 use crate::number::Fd;
+use crate::rights::{NewOwner, Permissions};
 use std::alloc::AllocError;
 
 /// From where `lseek` counts.
@@ -19,7 +20,8 @@ pub enum Whence {
 }
 
 /// A call (POSIX.1-2017, by the function of each name). Paths are bytes as they were given. No walk
-/// goes on by a symbolic link: where one is in the way, the call is refused.
+/// goes on by a symbolic link: where one is in the way, the call is refused. Nothing is refused by
+/// permissions: whoever has the kernel is its superuser.
 #[derive(Debug)]
 pub enum Call {
     /// Opens the file of a path.
@@ -64,6 +66,14 @@ pub enum Call {
     Lstat(Bytes),
     /// Makes a FIFO or a socket.
     Mknod(Bytes, Special),
+    /// Sets the permissions of the object of a path, which is no symbolic link.
+    Chmod(Bytes, Permissions),
+    /// Sets the owner of the object of a path, also of a symbolic link (`lchown`).
+    Chown(Bytes, NewOwner),
+    /// Sets the permissions of the object of a descriptor.
+    Fchmod(Fd, Permissions),
+    /// Sets the owner of the object of a descriptor.
+    Fchown(Fd, NewOwner),
     /// Shares a description with the lowest free descriptor.
     Dup(Fd),
     /// Shares the first one's description with the second.
@@ -100,6 +110,10 @@ impl Drop for Call {
             Call::Readlink(_) => {}
             Call::Lstat(_) => {}
             Call::Mknod(_, _) => {}
+            Call::Chmod(_, _) => {}
+            Call::Chown(_, _) => {}
+            Call::Fchmod(_, _) => {}
+            Call::Fchown(_, _) => {}
             Call::Dup(_) => {}
             Call::Dup2(_, _) => {}
             Call::Pipe => {}
@@ -145,6 +159,10 @@ impl Call {
             Call::Readlink(path) => Ok(Call::Readlink(path.try_clone()?)),
             Call::Lstat(path) => Ok(Call::Lstat(path.try_clone()?)),
             Call::Mknod(path, special) => Ok(Call::Mknod(path.try_clone()?, *special)),
+            Call::Chmod(path, permissions) => Ok(Call::Chmod(path.try_clone()?, *permissions)),
+            Call::Chown(path, owner) => Ok(Call::Chown(path.try_clone()?, *owner)),
+            Call::Fchmod(fd, permissions) => Ok(Call::Fchmod(*fd, *permissions)),
+            Call::Fchown(fd, owner) => Ok(Call::Fchown(*fd, *owner)),
             Call::Dup(fd) => Ok(Call::Dup(*fd)),
             Call::Dup2(old, new) => Ok(Call::Dup2(*old, *new)),
             Call::Pipe => Ok(Call::Pipe),

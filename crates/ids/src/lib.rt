@@ -17,6 +17,7 @@ mod limits;
 mod lists;
 mod number;
 mod reply;
+mod rights;
 
 pub use aspect::{Aspect, Cause, Touch, Why};
 pub use bytes::{Bytes, Name, NameList};
@@ -33,3 +34,4 @@ pub use limits::{
 pub use lists::{Nums, Pids};
 pub use number::{Age, Fd, Num, Pid, Priority};
 pub use reply::{Answer, Kind, Reply, Stat};
+pub use rights::{NewOwner, Owner, Permissions, Rights};

@@ -5,6 +5,7 @@ use crate::aspect::{Cause, Why};
 use crate::bytes::{Bytes, NameList};
 use crate::errno::Errno;
 use crate::number::{Fd, Num, Pid};
+use crate::rights::Rights;
 use std::alloc::AllocError;
 
 /// What kind of object a number stands for.
@@ -35,6 +36,8 @@ pub struct Stat {
     pub size: u32,
     /// How many names give it; 1 for a directory, 0 for a pipe.
     pub links: u32,
+    /// Its permissions and its owner.
+    pub rights: Rights,
 }
 
 /// What a call answers that is not refused.

@@ -2,5 +2,6 @@ mod Files
 mod Directories
 mod Pipes
 mod Fixed
+mod Rights
 mod Touches
 mod Transactions

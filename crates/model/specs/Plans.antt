@@ -8,26 +8,28 @@ use Rattle.std.specs.Map.{lookup}
 pub use Rattle.model.specs.Limits.{most_moved, descriptor_limit, most_processes, whole_write}
 pub use Rattle.model.specs.Limits.{target_limit}
 use Rattle.model.specs.State.{Kind, A_file, A_directory, A_pipe, A_link, A_fifo, A_socket}
-use Rattle.model.specs.State.{Link_to}
+use Rattle.model.specs.State.{Link_to, Rights}
 use Rattle.model.specs.Plan.{EAGAIN, EBADF, EBUSY, EEXIST, EFBIG, EINVAL, EISDIR, ELOOP, EMFILE}
 use Rattle.model.specs.Plan.{ENAMETOOLONG, ENOENT, ENOTDIR, ENOTEMPTY, ENXIO, EPERM, EPIPE, ESPIPE}
 use Rattle.model.specs.Plan.{List_names, Measure, Read_file, Count_links, Count_ends, Find_offset}
-use Rattle.model.specs.Plan.{Read_pipe, Fit, Read_target, Plan, Give, Refuse, ◌>>=◌, ◌>>◌, ask}
-use Rattle.model.specs.Plan.{refuse_if, or_refuse}
+use Rattle.model.specs.Plan.{Read_pipe, Fit, Read_target, Find_rights, Plan, Give, Refuse, ◌>>=◌}
+use Rattle.model.specs.Plan.{◌>>◌, ask, refuse_if, or_refuse}
 use Rattle.model.specs.Paths.{is_empty, is_below}
 use Rattle.model.specs.Walks.{parsed, walk, last_of, Last, Place, is_directory, is_link}
 use Rattle.model.specs.Changes.{There, Made, Mode, Edit, Make_directory, Make_file, Make_fixed}
 use Rattle.model.specs.Changes.{Name_file, Unname_file, Unname_directory, Move, Put_bytes, Cut, Take, Append}
 use Rattle.model.specs.Changes.{Replaced, Over_nothing, Over_file, Over_directory}
-use Rattle.model.specs.Changes.{Set_offset, Open_inode, Make_pipe, Share_slot, Clear_slot}
+use Rattle.model.specs.Changes.{Set_offset, Set_rights, Open_inode, Make_pipe, Share_slot, Clear_slot}
 use Rattle.model.specs.Changes.{New_process, End_process}
 use Rattle.ids.specs.Fixed.{special_object}
+use Rattle.ids.specs.Rights.{permitted, owned}
 use Rattle.ids.specs.Flags.{is_reading, is_writing, is_creating, is_exclusive, is_truncating}
 use Rattle.ids.specs.Flags.{is_appending}
 use Rattle.model.specs.Calls.{OpenFlags, Whence, From_start, From_offset, From_end, Call, Open}
 use Rattle.model.specs.Calls.{Close, Read, Pread, Write, Pwrite, Lseek, Ftruncate, Truncate, Stat}
 use Rattle.model.specs.Calls.{Fstat, Link, Unlink, Rename, Mkdir, Rmdir, List_directory, Symlink}
-use Rattle.model.specs.Calls.{Readlink, Lstat, Mknod, Dup, Dup2, Open_pipe, Fork, Exit, Answer, Done, Descriptor, Count, New_place}
+use Rattle.model.specs.Calls.{Readlink, Lstat, Mknod, Chmod, Chown, Fchmod, Fchown, Dup, Dup2}
+use Rattle.model.specs.Calls.{Open_pipe, Fork, Exit, Answer, Done, Descriptor, Count, New_place}
 use Rattle.model.specs.Calls.{Bytes, Pair, Stated, Listing, Child, Slot, Own}
 
 -- what a call answers and changes
@@ -79,27 +81,39 @@ each_once before (n ∷ ns) =
 abbrev pub pipes_in : Own → List ℕ
 pipes_in own = each_once [] (flat_map (λ e. pipe_in (Some e.1)) own.table)
 
+-- with its rights, which are asked for last
+abbrev pub stated : Kind → ℕ → ℕ → ℕ → Plan Change
+stated kind n size links = do
+  rights ← ask (Find_rights n)
+  unchanged
+      (Stated (record { kind = kind; num = n; size = size; links = links; rights = rights }))
+
 abbrev pub status : Place → Plan Change
 status (n, Some A_file) = do
   size ← ask (Measure n)
   links ← ask (Count_links n)
-  unchanged (Stated (record { kind = A_file; num = n; size = size; links = links }))
-status (n, Some A_directory) =
-    unchanged (Stated (record { kind = A_directory; num = n; size = 0; links = 1 }))
-status (n, Some A_pipe) =
-    unchanged (Stated (record { kind = A_pipe; num = n; size = 0; links = 0 }))
+  stated A_file n size links
+status (n, Some A_directory) = stated A_directory n 0 1
+status (n, Some A_pipe) = stated A_pipe n 0 0
 status (n, Some A_link) = do
   target ← ask (Read_target n)
   links ← ask (Count_links n)
-  unchanged (Stated (record { kind = A_link; num = n; size = length target; links = links }))
+  stated A_link n (length target) links
 status (n, Some A_fifo) = do
   links ← ask (Count_links n)
-  unchanged (Stated (record { kind = A_fifo; num = n; size = 0; links = links }))
+  stated A_fifo n 0 links
 status (n, Some A_socket) = do
   links ← ask (Count_links n)
-  unchanged (Stated (record { kind = A_socket; num = n; size = 0; links = links }))
+  stated A_socket n 0 links
 -- a number that stands for nothing, which no well-formed state has
 status (n, None) = Refuse ENOENT
+
+-- An inode's rights are made others. No permission is checked, here or in any plan: whoever has the
+-- kernel is its superuser (POSIX.1-2017, 4.5 File Access Permissions: appropriate privileges).
+abbrev pub revised : ℕ → (Rights → Rights) → Plan Change
+revised n change = do
+  rights ← ask (Find_rights n)
+  changed Done (Set_rights n (change rights) ∷ [])
 
 abbrev pub mode : OpenFlags → Mode
 mode flags = record {
@@ -374,6 +388,23 @@ plan own (Mknod path special) = do
   at ← last_of own.root EEXIST names
   absent at.found
   changed Done (Make_fixed at.parent at.name (special_object special) 0 ∷ [])
+-- a symbolic link in the last place is refused by chmod, which would follow it, and is itself what
+-- this chown is about (POSIX.1-2017, chmod, lchown)
+plan own (Chmod path permissions) = do
+  names ← parsed path
+  place ← walk (own.root, Some A_directory) names
+  refuse_if (is_link place) ELOOP
+  revised place.0 (permitted permissions)
+plan own (Chown path owner) = do
+  names ← parsed path
+  place ← walk (own.root, Some A_directory) names
+  revised place.0 (owned place.1 owner)
+plan own (Fchmod f permissions) = do
+  it ← slot own f
+  revised it.inode (permitted permissions)
+plan own (Fchown f owner) = do
+  it ← slot own f
+  revised it.inode (owned it.kind owner)
 plan own (Dup f) = do
   it ← slot own f
   duplicated own it (free own)

@@ -11,6 +11,8 @@ pub use Rattle.ids.specs.declared.reply.Kind.TheVariants.{Fifo as A_fifo, Socket
 pub use Rattle.ids.specs.declared.fixed.Fixed.{Fixed as Fixed_content}
 pub use Rattle.ids.specs.declared.fixed.Fixed.TheVariants.{Link as Link_to, Fifo, Socket}
 use Rattle.ids.specs.Fixed.{fixed_kind, fixed_target}
+pub use Rattle.ids.specs.declared.rights.Rights.{Rights}
+use Rattle.ids.specs.Rights.{first_rights}
 use Rattle.std.specs.declared.cmp.Ordering.{Ordering}
 use Rattle.std.specs.Cmp.Lexicographic.{slice_cmp}
 use Rattle.std.specs.List.{sum_by, count_by}
@@ -44,12 +46,14 @@ pub record Process : Type 0 where
   pub table : FinMap nat_cmp ℕ
   pub priority : ℕ
 
--- inodes and descriptions have their numbers from one range;
+-- inodes and descriptions have their numbers from one range; `rights` are those of the inodes whose
+-- permissions or owner were set;
 -- `made` is how many processes were ever made; `largest` is the most bytes of a file, which
 -- nothing changes (POSIX.1-2017, limits.h: the implementation's maximum file size)
 pub record Kernel : Type 0 where
   pub root : ℕ
   pub inodes : FinMap nat_cmp Inode
+  pub rights : FinMap nat_cmp Rights
   pub descriptions : FinMap nat_cmp Description
   pub processes : FinMap nat_cmp Process
   pub made : ℕ
@@ -96,6 +100,14 @@ target_of k n = target_of_inode (get k.inodes n)
 
 abbrev pub kind_of : Kernel → ℕ → Option Kind
 kind_of k n = mapped kind (get k.inodes n)
+
+-- the rights that were set, or else the first ones of the kind
+abbrev pub rights_or : Option Rights → Option Kind → Rights
+rights_or (Some rights) kind = rights
+rights_or None kind = first_rights kind
+
+abbrev pub rights_of : Kernel → ℕ → Rights
+rights_of k n = rights_or (get k.rights n) (kind_of k n)
 
 -- the number that a name gives, and its kind
 abbrev pub entry_of : Kernel → ℕ → Name → Option (ℕ × Option Kind)

@@ -7,7 +7,7 @@ use Rattle.std.specs.Cmp.Lexicographic.{nat_list_cmp_total}
 use Rattle.std.proofs.lemmas.Bool.{cases_eq}
 use Rattle.model.specs.FiniteMap.{get, empty, insert, remove, get-empty, get-insert, get-remove}
 use Rattle.model.specs.State.{Name, name_cmp, Kernel, Inode, File, Directory, Pipe, Fixed, Fixed_content, Description, names_of_inode, names_of, file_of, pipe_of}
-use Rattle.model.specs.Changes.{Edit, There, Made, Mode, Make_directory, Make_file, Make_fixed, Name_file, Unname_file, Unname_directory, Move, Put_bytes, Cut, Take, Append, Set_offset, Open_inode, Make_pipe, Share_slot, Clear_slot, New_process, End_process, number, sized, written, set_inode, set_name, clear_name, set_offset, set_description, at_start, open_at, to_read, to_write, is_held, applied, all_applied, tidy}
+use Rattle.model.specs.Changes.{Edit, There, Made, Mode, Make_directory, Make_file, Make_fixed, Name_file, Unname_file, Unname_directory, Move, Put_bytes, Cut, Take, Append, Set_offset, Set_rights, Open_inode, Make_pipe, Share_slot, Clear_slot, New_process, End_process, number, sized, written, set_inode, set_name, clear_name, set_offset, set_description, at_start, open_at, to_read, to_write, is_held, applied, all_applied, tidy}
 use Rattle.model.specs.Moments.{Setup, start}
 use Rattle.model.proofs.Laws.{get_same, get_other}
 use Rattle.call_laws.proofs.Laws.{empty_gives, get_tidy, reached, retained_some, some_same}
@@ -112,6 +112,7 @@ module _ (root : ℕ) where
   edit_keeps chosen k (Take p count) away low give h = pipe_put p (drop count (pipe_of k p)) k h
   edit_keeps chosen k (Append p bytes) away low give h = pipe_put p (pipe_of k p ++ bytes) k h
   edit_keeps chosen k (Set_offset d place) away low give h = offset_put d place (get k.descriptions d) k refl h
+  edit_keeps chosen k (Set_rights n set) away low give h = record { unnamed = h.unnamed; unopened = h.unopened }
   edit_keeps chosen k (Open_inode i (There n) mode pid fd) away low give h = opened (number chosen (Made i)) n mode pid fd k give h
   edit_keeps chosen k (Open_inode i (Made j) mode pid fd) away low give h = opened (number chosen (Made i)) (number chosen (Made j)) mode pid fd k (at_place root chosen j away low.1) h
   edit_keeps chosen k (Make_pipe i pid reader writer) away low give h =

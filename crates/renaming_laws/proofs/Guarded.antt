@@ -4,13 +4,13 @@ use Rattle.std.specs.List.{AllByRecursion, list_any}
 use Rattle.std.specs.Cmp.{nat_cmp_total}
 use Rattle.ids.specs.Flags.{is_reading, is_writing, is_creating, is_exclusive, is_truncating}
 use Rattle.model.specs.FiniteMap.{get, entries}
-use Rattle.model.specs.State.{Name, Kind, A_file, A_directory, A_pipe, A_link, A_fifo, A_socket, Kernel, Description, mapped, kind_of, names_of, entry_of}
+use Rattle.model.specs.State.{Name, Kind, A_file, A_directory, A_pipe, A_link, A_fifo, A_socket, Kernel, Description, mapped, kind_of, rights_of, names_of, entry_of}
 use Rattle.model.specs.Plan.{Errno, EAGAIN, EBADF, EBUSY, EEXIST, EFBIG, EINVAL, EISDIR, ELOOP, ENXIO, ENAMETOOLONG, ENOENT, ENOTDIR, ENOTEMPTY, EPERM, EPIPE, ESPIPE, Look, List_names, Read_pipe, Count_ends, Find_offset, Read_file, Fit, Plan, Give, given, ◌>>=◌, ◌>>◌, ask, refuse_if, or_refuse, answer}
 use Rattle.model.specs.Paths.{is_empty, is_below, is_no_name, in_front, pieces, with_first, names_in, names_behind, absolute_names, path_names}
 use Rattle.model.specs.Limits.{path_limit, name_limit}
 use Rattle.model.specs.Walks.{told, parsed, look, walk, Last, last, last_of, Place, is_directory, is_link}
 use Rattle.model.specs.Changes.{There, Open_inode, Set_offset, process_of}
-use Rattle.model.specs.Calls.{OpenFlags, Call, Open, Close, Read, Pread, Write, Pwrite, Lseek, Ftruncate, Truncate, Stat, Fstat, Link, Unlink, Rename, Mkdir, Rmdir, List_directory, Symlink, Readlink, Lstat, Mknod, Dup, Dup2, Open_pipe, Fork, Exit, Descriptor, Bytes, Slot, Own, slot_of, own}
+use Rattle.model.specs.Calls.{OpenFlags, Call, Open, Close, Read, Pread, Write, Pwrite, Lseek, Ftruncate, Truncate, Stat, Fstat, Link, Unlink, Rename, Mkdir, Rmdir, List_directory, Symlink, Readlink, Lstat, Mknod, Chmod, Chown, Fchmod, Fchown, Dup, Dup2, Open_pipe, Fork, Exit, Descriptor, Bytes, Slot, Own, slot_of, own}
 use Rattle.model.specs.Plans.{Change, changed, free, first_of_free, slot, is_pipe, status, is_special, target_limit, mode, cut_to, opened, read_pipe, read_some, place_to_write, write_some, offset_named, sought, base, moved, replaced_by_name, absent, duplicated, piped, forked, most_moved, whole_write, most_processes}
 use Rattle.model.specs.Steps.{outcome}
 use Rattle.model.proofs.Laws.{all_entries}
@@ -217,13 +217,13 @@ module _ (root : ℕ) (k : Kernel) (apart : IsApart root k) where
 
   stat_fine : (path : List ℕ) (names : Result (List Name) Errno) → path_names path ≡ names → IfOk (given k (told names >>= (λ names. walk (root, Some A_directory) names >>= followed))) (IsGuarded root (Stat path))
   stat_fine path (Err e) is = tt
-  stat_fine path (Ok []) is = record { tells = inr (record { is_stat = inl (ap Stat (root_path path is)); tells = refl }); gives = tt }
+  stat_fine path (Ok []) is = record { tells = inr (record { is_stat = inl (ap Stat (root_path path is)); rights = rights_of k root; tells = refl }); gives = tt }
   stat_fine path (Ok (x ∷ xs)) is = then_given (Stat path) (λ place. place.0 ≢ root) (walk (root, Some A_directory) (x ∷ xs)) followed (walk_some (root, Some A_directory) x xs) (λ place other.
       unless (Stat path) (is_link place) ELOOP (status place) (status_fine (Stat path) place.0 place.1 other))
 
   lstat_fine : (path : List ℕ) (names : Result (List Name) Errno) → path_names path ≡ names → IfOk (given k (told names >>= (λ names. walk (root, Some A_directory) names >>= status))) (IsGuarded root (Lstat path))
   lstat_fine path (Err e) is = tt
-  lstat_fine path (Ok []) is = record { tells = inr (record { is_stat = inr (ap Lstat (root_path path is)); tells = refl }); gives = tt }
+  lstat_fine path (Ok []) is = record { tells = inr (record { is_stat = inr (ap Lstat (root_path path is)); rights = rights_of k root; tells = refl }); gives = tt }
   lstat_fine path (Ok (x ∷ xs)) is = then_given (Lstat path) (λ place. place.0 ≢ root) (walk (root, Some A_directory) (x ∷ xs)) status (walk_some (root, Some A_directory) x xs) (λ place other. status_fine (Lstat path) place.0 place.1 other)
 
   pub call_guarded : k.root ≡ root → SlotsAreThere k → (pid : ℕ) (call : Call) → IfOk (outcome k pid call) (IsGuarded root call)
@@ -277,6 +277,11 @@ module _ (root : ℕ) (k : Kernel) (apart : IsApart root k) where
       unless (Readlink path) (not (is_link place)) EINVAL _ (record { tells = inl tt; gives = tt })))
   call_guarded is slots pid (Lstat path) = subst (λ n. IfOk (given k (parsed path >>= (λ names. walk (n, Some A_directory) names >>= status))) (IsGuarded root (Lstat path))) (sym is) (lstat_fine path (path_names path) refl)
   call_guarded is slots pid (Mknod path special) = then_whatever (Mknod path special) (parsed path) _ (λ names. then_whatever (Mknod path special) (last_of k.root EEXIST names) _ (λ at. then_whatever (Mknod path special) (absent at.found) _ (λ _. record { tells = inl tt; gives = (tt, tt) })))
+  call_guarded is slots pid (Chmod path permissions) = then_whatever (Chmod path permissions) (parsed path) _ (λ names. then_whatever (Chmod path permissions) (walk (k.root, Some A_directory) names) _ (λ place.
+      unless (Chmod path permissions) (is_link place) ELOOP _ (record { tells = inl tt; gives = (tt, tt) })))
+  call_guarded is slots pid (Chown path owner) = then_whatever (Chown path owner) (parsed path) _ (λ names. then_whatever (Chown path owner) (walk (k.root, Some A_directory) names) _ (λ place. record { tells = inl tt; gives = (tt, tt) }))
+  call_guarded is slots pid (Fchmod fd permissions) = then_whatever (Fchmod fd permissions) (slot (own k pid (Fchmod fd permissions)) fd) _ (λ it. record { tells = inl tt; gives = (tt, tt) })
+  call_guarded is slots pid (Fchown fd owner) = then_whatever (Fchown fd owner) (slot (own k pid (Fchown fd owner)) fd) _ (λ it. record { tells = inl tt; gives = (tt, tt) })
   call_guarded is slots pid (Dup fd) = then_whatever (Dup fd) (slot (own k pid (Dup fd)) fd) _ (λ it. duplicated_fine (Dup fd) (own k pid (Dup fd)) it (free (own k pid (Dup fd))))
   call_guarded is slots pid (Dup2 fd other) = then_whatever (Dup2 fd other) (slot (own k pid (Dup2 fd other)) fd) _ (λ it.
       unless (Dup2 fd other) (nat_lt 63 other) EBADF _ (either (Dup2 fd other) (fd == other) _ _ (record { tells = inl tt; gives = tt }) (record { tells = inl tt; gives = (tt, tt) })))

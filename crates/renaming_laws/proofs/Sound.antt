@@ -11,7 +11,7 @@ use Rattle.model.specs.Plan.{Errno, EAGAIN, EBADF, EBUSY, EEXIST, EFBIG, EINVAL,
 use Rattle.model.specs.Paths.{is_empty, is_below}
 use Rattle.model.specs.Walks.{parsed, walk, Last, last_of, Place, is_directory, is_link}
 use Rattle.model.specs.Changes.{There, Edit, Open_inode, Set_offset, Share_slot, news, process_of}
-use Rattle.model.specs.Calls.{OpenFlags, Call, Open, Close, Read, Pread, Write, Pwrite, Lseek, Ftruncate, Truncate, Stat, Fstat, Link, Unlink, Rename, Mkdir, Rmdir, List_directory, Symlink, Readlink, Lstat, Mknod, Dup, Dup2, Open_pipe, Fork, Exit, Answer, Done, Descriptor, Count, Bytes, Listing, Slot, Own, slot_of, own}
+use Rattle.model.specs.Calls.{OpenFlags, Call, Open, Close, Read, Pread, Write, Pwrite, Lseek, Ftruncate, Truncate, Stat, Fstat, Link, Unlink, Rename, Mkdir, Rmdir, List_directory, Symlink, Readlink, Lstat, Mknod, Chmod, Chown, Fchmod, Fchown, Dup, Dup2, Open_pipe, Fork, Exit, Answer, Done, Descriptor, Count, Bytes, Listing, Slot, Own, slot_of, own}
 use Rattle.model.specs.Plans.{Change, changed, free, first_of_free, slot, is_pipe, status, is_special, target_limit, mode, cut_to, opened, read_pipe, read_some, place_to_write, write_some, offset_named, sought, base, moved, replaced_by_name, absent, duplicated, piped, forked, most_moved, whole_write, most_processes}
 use Rattle.model.specs.Steps.{outcome, edits_of}
 use Rattle.model.proofs.Laws.{all_entries}
@@ -166,6 +166,10 @@ module _ (k : Kernel) where
       unless (not (is_link place)) EINVAL _ (unchanged_sound (Bytes (answer k (Read_target place.0))))))
   call_sound slots pid (Lstat path) = then_whatever (parsed path) _ (λ names. then_whatever (walk (k.root, Some A_directory) names) _ (λ place. status_sound place))
   call_sound slots pid (Mknod path special) = then_whatever (parsed path) _ (λ names. then_whatever (last_of k.root EEXIST names) _ (λ at. then_whatever (absent at.found) _ (λ _. record { numbers = (omega arith, tt); shares = (tt, tt) })))
+  call_sound slots pid (Chmod path permissions) = then_whatever (parsed path) _ (λ names. then_whatever (walk (k.root, Some A_directory) names) _ (λ place. unless (is_link place) ELOOP _ (record { numbers = (tt, tt); shares = (tt, tt) })))
+  call_sound slots pid (Chown path owner) = then_whatever (parsed path) _ (λ names. then_whatever (walk (k.root, Some A_directory) names) _ (λ place. record { numbers = (tt, tt); shares = (tt, tt) }))
+  call_sound slots pid (Fchmod fd permissions) = then_whatever (slot (own k pid (Fchmod fd permissions)) fd) _ (λ it. record { numbers = (tt, tt); shares = (tt, tt) })
+  call_sound slots pid (Fchown fd owner) = then_whatever (slot (own k pid (Fchown fd owner)) fd) _ (λ it. record { numbers = (tt, tt); shares = (tt, tt) })
   call_sound slots pid (Dup fd) = with_slot slots pid fd (Dup fd) _ (λ it there. duplicated_sound (own k pid (Dup fd)) it there (free (own k pid (Dup fd))))
   call_sound slots pid (Dup2 fd other) = with_slot slots pid fd (Dup2 fd other) _ (λ it there.
       unless (nat_lt 63 other) EBADF _ (either (fd == other) _ _ (unchanged_sound (Descriptor fd)) (record { numbers = (tt, tt); shares = (there, tt) })))

@@ -4,8 +4,8 @@ use Rattle.std.specs.declared.cmp.Ordering.{Ordering}
 use Rattle.std.specs.Cmp.{IsTotalOrder, nat_cmp_total}
 use Rattle.std.specs.Cmp.Lexicographic.{nat_list_cmp_total}
 use Rattle.model.specs.FiniteMap.{FinMap, get, empty, keys, values, nat_cmp-IsAntisymmetric, IsAntisymmetric}
-use Rattle.model.specs.State.{Name, name_cmp, Kind, Kernel, Inode, File, Directory, Pipe, Fixed, Description, Process, kind, mapped, names_of_inode, file_of_inode, pipe_of_inode, target_of_inode, names_of, file_of, pipe_of, target_of, kind_of, entry_of, offset_in, offset_of, links, ends, is_end}
-use Rattle.model.specs.Plan.{Look, List_names, Measure, Read_file, Count_links, Count_ends, Find_offset, Read_pipe, Fit, Read_target, capacity}
+use Rattle.model.specs.State.{Name, name_cmp, Kind, Kernel, Inode, File, Directory, Pipe, Fixed, Description, Process, Rights, kind, mapped, names_of_inode, file_of_inode, pipe_of_inode, target_of_inode, names_of, file_of, pipe_of, target_of, kind_of, rights_or, rights_of, entry_of, offset_in, offset_of, links, ends, is_end}
+use Rattle.model.specs.Plan.{Look, List_names, Measure, Read_file, Count_links, Count_ends, Find_offset, Read_pipe, Fit, Read_target, Find_rights, capacity}
 use Rattle.model.specs.Changes.{or_new, process_of, holders, openings}
 use Rattle.model.proofs.Laws.{name_exact}
 use Rattle.call_laws.proofs.Laws.{sum-empty}
@@ -82,6 +82,16 @@ module _ (f : ℕ → ℕ) (r : IsRenaming f) where
 
   pub kind_at : (k : Kernel) (n : ℕ) → kind_of (renamed f k) (f n) ≡ kind_of k n
   kind_at k n = ap (mapped kind) (inode_at k n) ∙ kind_renamed (get k.inodes n)
+
+  mapped_same : {A : Type 0} (o : Option A) → mapped (λ (x : A). x) o ≡ o
+  mapped_same None = refl
+  mapped_same (Some x) = refl
+
+  pub set_at : (k : Kernel) (n : ℕ) → get (renamed f k).rights (f n) ≡ get k.rights n
+  set_at k n = get_at nat_cmp_total nat_cmp-IsAntisymmetric f r.again (λ (set : Rights). set) k.rights n ∙ mapped_same (get k.rights n)
+
+  rights_at : (k : Kernel) (n : ℕ) → rights_of (renamed f k) (f n) ≡ rights_of k n
+  rights_at k n = ap (λ o. rights_or o (kind_of (renamed f k) (f n))) (set_at k n) ∙ ap (rights_or (get k.rights n)) (kind_at k n)
 
   -- the number that a name gives
   pub given_at : (k : Kernel) (d : ℕ) (x : Name) → get (names_of (renamed f k) (f d)) x ≡ mapped f (get (names_of k d) x)
@@ -171,3 +181,4 @@ questions_are_renamed f r k (Find_offset d) = offset_at f r k d
 questions_are_renamed f r k (Read_pipe p count) = ap (take count) (pipe_at f r k p)
 questions_are_renamed f r k (Fit p count) = ap (λ (bytes : List ℕ). min count (capacity - length bytes)) (pipe_at f r k p)
 questions_are_renamed f r k (Read_target n) = target_at f r k n
+questions_are_renamed f r k (Find_rights n) = rights_at f r k n

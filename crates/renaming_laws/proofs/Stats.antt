@@ -1,7 +1,7 @@
 -- Of a run's calls only the status of the path `/` tells the root.
 use Rattle.std.proofs.Common.{◌≡◌, ◌≢◌, ◌⊎◌, ℕ, List, [], ◌∷◌, length, Result, Ok, Err, IfOk, inl, inr, refl, sym, ap, subst, ◌∙◌}
 use Rattle.std.specs.List.{AllByRecursion}
-use Rattle.model.specs.State.{Kernel, A_directory}
+use Rattle.model.specs.State.{Kernel, A_directory, rights_of}
 use Rattle.model.specs.Plan.{Errno}
 use Rattle.model.specs.Changes.{Edit, all_applied, tidy}
 use Rattle.model.specs.Calls.{Call, Stat, Lstat, Stated}
@@ -52,13 +52,13 @@ tells root k h (it ∷ items) after run =
     )
 
 -- and it tells it in every state
-pub root_is_told : (k : Kernel) (pid : ℕ) → reply k pid (Stat (47 ∷ [])) ≡ Ok (Stated (record { kind = A_directory; num = k.root; size = 0; links = 1 }))
+pub root_is_told : (k : Kernel) (pid : ℕ) → reply k pid (Stat (47 ∷ [])) ≡ Ok (Stated (record { kind = A_directory; num = k.root; size = 0; links = 1; rights = rights_of k k.root }))
 root_is_told k pid = refl
 
-pub root_is_told_by_lstat : (k : Kernel) (pid : ℕ) → reply k pid (Lstat (47 ∷ [])) ≡ Ok (Stated (record { kind = A_directory; num = k.root; size = 0; links = 1 }))
+pub root_is_told_by_lstat : (k : Kernel) (pid : ℕ) → reply k pid (Lstat (47 ∷ [])) ≡ Ok (Stated (record { kind = A_directory; num = k.root; size = 0; links = 1; rights = rights_of k k.root }))
 root_is_told_by_lstat k pid = refl
 
-told_by_either : (k : Kernel) (pid : ℕ) (call : Call) → IsStatOfRoot call → reply k pid call ≡ Ok (Stated (record { kind = A_directory; num = k.root; size = 0; links = 1 }))
+told_by_either : (k : Kernel) (pid : ℕ) (call : Call) → IsStatOfRoot call → reply k pid call ≡ Ok (Stated (record { kind = A_directory; num = k.root; size = 0; links = 1; rights = rights_of k k.root }))
 told_by_either k pid call (inl is) = ap (reply k pid) is ∙ root_is_told k pid
 told_by_either k pid call (inr is) = ap (reply k pid) is ∙ root_is_told_by_lstat k pid
 
@@ -70,7 +70,8 @@ told_by_stats root k h (it ∷ items) after run =
     let mid : HasRoot root run.0 = subst (HasRoot root) (sym step.changed) (chosen.tidying_keeps root (all_applied it.chosen (edits k it.pid it.call) k) (chosen.edits_keep root it.chosen k (edits k it.pid it.call) h)) in (
       λ is. record {
         is_stat = is;
-        tells = step.replied ∙ told_by_either k it.pid it.call is ∙ ap (λ n. Ok (Stated (record { kind = A_directory; num = n; size = 0; links = 1 }))) h.is;
+        rights = rights_of k k.root;
+        tells = step.replied ∙ told_by_either k it.pid it.call is ∙ ap (λ n. Ok (Stated (record { kind = A_directory; num = n; size = 0; links = 1; rights = rights_of k k.root }))) h.is;
       },
       told_by_stats root run.0 mid items after run.2,
     )

@@ -3,7 +3,7 @@ use Rattle.std.specs.Prelude.{◌≡◌, ◌≢◌, ◌⊎◌, ℕ, ◌+◌, ◌
 use Rattle.std.specs.Prelude.{Result, Ok, ⊤}
 use Rattle.std.specs.List.{AllByRecursion}
 use Rattle.model.specs.FiniteMap.{get}
-use Rattle.model.specs.State.{Kernel, A_directory}
+use Rattle.model.specs.State.{Kernel, Rights, A_directory}
 use Rattle.model.specs.Plan.{Errno, Question, answer}
 use Rattle.model.specs.Changes.{Which, There, Made, Edit, Make_directory, Make_file, Make_fixed}
 use Rattle.model.specs.Changes.{Open_inode, Make_pipe, applied, all_applied, tidy, process_of}
@@ -116,7 +116,15 @@ IsStatOfRoot call = (call ≡ Stat (47 ∷ [])) ⊎ (call ≡ Lstat (47 ∷ []))
 -- Only the status of the path `/` tells the root.
 pub record TellsRoot (root : ℕ) (call : Call) (answer : Result Answer Errno) : Type 0 where
   pub is_stat : IsStatOfRoot call
-  pub tells : answer ≡ Ok (Stated (record { kind = A_directory; num = root; size = 0; links = 1 }))
+  pub rights : Rights
+  pub tells : answer
+      ≡ Ok (Stated (record {
+        kind = A_directory;
+        num = root;
+        size = 0;
+        links = 1;
+        rights = rights;
+      }))
 
 abbrev pub StatTellsTheRoot : Type 0
 StatTellsTheRoot =

@@ -33,12 +33,14 @@ renamed_description f d = record d { inode = f d.inode }
 abbrev pub renamed_process : (ℕ → ℕ) → Process → Process
 renamed_process f process = record process { table = with_values f process.table }
 
--- Inodes and descriptions get other numbers, wherever the state gives them. The numbers of processes
--- and of descriptors stay.
+-- Inodes and descriptions get other numbers, wherever the state gives them, and an inode has its
+-- rights under its other number. The numbers of processes and of descriptors stay, as do those of
+-- users and groups.
 abbrev pub renamed : (ℕ → ℕ) → Kernel → Kernel
 renamed f k = record {
   root = f k.root;
   inodes = renamed_map f (renamed_inode f) k.inodes;
+  rights = renamed_map f (λ set. set) k.rights;
   descriptions = renamed_map f (renamed_description f) k.descriptions;
   processes = with_values (renamed_process f) k.processes;
   made = k.made;

@@ -10,7 +10,7 @@ use Rattle.model.specs.Changes.{Mode, There, Name_file, Unname_directory, Append
 use Rattle.model.specs.Paths.{is_empty, is_below, path_names}
 use Rattle.model.specs.Walks.{Place, Last, told, parsed, walk, last_of, is_directory, is_link}
 use Rattle.ids.specs.Flags.{is_reading, is_writing, is_creating, is_exclusive, is_truncating}
-use Rattle.model.specs.Calls.{OpenFlags, Call, Open, Close, Read, Pread, Write, Pwrite, Lseek, Ftruncate, Truncate, Stat, Fstat, Link, Unlink, Rename, Mkdir, Rmdir, List_directory, Symlink, Readlink, Lstat, Mknod, Dup, Dup2, Open_pipe, Fork, Exit, Done, Descriptor, Count, Bytes, Slot, Own, own}
+use Rattle.model.specs.Calls.{OpenFlags, Call, Open, Close, Read, Pread, Write, Pwrite, Lseek, Ftruncate, Truncate, Stat, Fstat, Link, Unlink, Rename, Mkdir, Rmdir, List_directory, Symlink, Readlink, Lstat, Mknod, Chmod, Chown, Fchmod, Fchown, Dup, Dup2, Open_pipe, Fork, Exit, Done, Descriptor, Count, Bytes, Slot, Own, own}
 use Rattle.model.specs.Plans.{Change, changed, unchanged, target_limit, most_processes, mode, cut_to, absent, status, is_special, slot, is_pipe, read_pipe, read_some, place_to_write, write_some, offset_named, base, sought, replaced_by_name, moved, opened, free, first_of_free, duplicated, piped}
 use Rattle.model.specs.Steps.{outcome, reads, edits_of, edits}
 use Rattle.model.proofs.Laws.{all-append, append-all, goes_the_same_way}
@@ -171,6 +171,10 @@ module _ (k : Kernel) (P : ℕ → Type 0) where
   links_first pid (Readlink path) h = with_path path _ (λ names _. with_any (walk (k.root, Some A_directory) names) _ (λ place. allowed k (Fine P) (not (is_link place)) EINVAL _ (λ _. tt)))
   links_first pid (Lstat path) h = with_path path _ (λ names _. with_any (walk (k.root, Some A_directory) names) _ (λ place. status_links place))
   links_first pid (Mknod path special) h = with_path path _ (λ names _. with_any (last_of k.root EEXIST names) _ (λ at. absent_links at.found _ (tt, tt)))
+  links_first pid (Chmod path permissions) h = with_path path _ (λ names _. with_any (walk (k.root, Some A_directory) names) _ (λ place. allowed k (Fine P) (is_link place) ELOOP _ (λ _. (tt, tt))))
+  links_first pid (Chown path owner) h = with_path path _ (λ names _. with_any (walk (k.root, Some A_directory) names) _ (λ place. (tt, tt)))
+  links_first pid (Fchmod f permissions) h = with_any (slot (own k pid (Fchmod f permissions)) f) _ (λ s. (tt, tt))
+  links_first pid (Fchown f owner) h = with_any (slot (own k pid (Fchown f owner)) f) _ (λ s. (tt, tt))
   links_first pid (Dup f) h = with_any (slot (own k pid (Dup f)) f) _ (λ s. duplicated_links (own k pid (Dup f)) s (free (own k pid (Dup f))))
   links_first pid (Dup2 f g) h = with_any (slot (own k pid (Dup2 f g)) f) _ (λ s.
       allowed k (Fine P) (nat_lt 63 g) EBADF _ (λ _. either_given k (Fine P) (f == g) _ _ (λ _. tt) (λ _. (tt, tt))))

@@ -3,18 +3,18 @@ use Rattle.std.proofs.Common.{◌≡◌, ◌≢◌, ℕ, ◌+◌, Bool, true, fa
 use Rattle.std.specs.List.{AllByRecursion, list_any}
 use Rattle.model.specs.FiniteMap.{get, keys}
 use Rattle.model.specs.State.{Name, Kind, A_file, A_directory, A_pipe, A_link, A_fifo, A_socket, Kernel, names_of, kind_of, entry_of}
-use Rattle.model.specs.Aspects.{Aspect, Entry, Names, Size, Block, Links, Ends, Offset, Front, Back, Target}
+use Rattle.model.specs.Aspects.{Aspect, Entry, Names, Size, Block, Links, Ends, Offset, Front, Back, Target, Rights}
 use Rattle.model.specs.Plan.{Errno, EINVAL, ENOENT, EEXIST, EBUSY, EBADF, EPERM, ENOTDIR, ENOTEMPTY, EISDIR, EFBIG, ESPIPE, EPIPE, EAGAIN, ELOOP, ENXIO, ENAMETOOLONG, Plan, Give, Refuse, Ask, Count_ends, Find_offset, Read_file, Read_pipe, Fit, answer, shown, given, seen, ◌>>=◌, ◌>>◌, ask, refuse_if, or_refuse}
 use Rattle.model.specs.Paths.{is_empty, is_below, path_names}
 use Rattle.model.specs.Walks.{Place, told, parsed, is_directory, is_link, walk, last, last_of, Last}
 use Rattle.model.specs.Changes.{Mode, There, Move, Set_offset, Append, Open_inode, is_held, Replaced, Over_directory}
 use Rattle.ids.specs.Flags.{is_reading, is_writing, is_creating, is_exclusive, is_truncating}
-use Rattle.model.specs.Calls.{OpenFlags, Whence, From_start, From_offset, From_end, Call, Open, Close, Read, Pread, Write, Pwrite, Lseek, Ftruncate, Truncate, Stat, Fstat, Link, Unlink, Rename, Mkdir, Rmdir, List_directory, Symlink, Readlink, Lstat, Mknod, Dup, Dup2, Open_pipe, Fork, Exit, Done, Descriptor, Count, New_place, Bytes, Slot, own}
+use Rattle.model.specs.Calls.{OpenFlags, Whence, From_start, From_offset, From_end, Call, Open, Close, Read, Pread, Write, Pwrite, Lseek, Ftruncate, Truncate, Stat, Fstat, Link, Unlink, Rename, Mkdir, Rmdir, List_directory, Symlink, Readlink, Lstat, Mknod, Chmod, Chown, Fchmod, Fchown, Dup, Dup2, Open_pipe, Fork, Exit, Done, Descriptor, Count, New_place, Bytes, Slot, own}
 use Rattle.model.specs.Plans.{Change, target_limit, absent, status, is_special, changed, unchanged, slot, slot_at, is_pipe, read_pipe, read_some, place_to_write, write_some, most_moved, offset_named, read_from, write_from, base, sought, replaced_by_name, moved, cut_to, opened, mode, free, first_of_free, duplicated, piped}
 use Rattle.model.specs.Steps.{reads}
 use Rattle.model.proofs.Laws.{all-append, append-all}
 use Rattle.call_laws.specs.Objects.{IsThere}
-use Rattle.call_laws.specs.WellFormed.{CanBeLinked, WellFormed}
+use Rattle.call_laws.specs.WellFormed.{CanBeLinked, CanBeOpened, WellFormed}
 use Rattle.call_laws.proofs.Maps.{not_none}
 use Rattle.call_laws.proofs.calls.Rules.{whatever, weaken, IsPlace, IsLast, root_place, entry_place, last_of_right, walk_right}
 use Rattle.call_laws.proofs.calls.OwnSlots.{held_at}
@@ -33,6 +33,11 @@ pub record StaysLinked (k : Kernel) (n : ℕ) : Type 0 where
   pub linked : CanBeLinked (kind_of k n)
   pub left : reached k n ≡ true
 
+-- an inode of some kind which tidying leaves
+pub record StaysThere (k : Kernel) (n : ℕ) : Type 0 where
+  pub there : kind_of k n ≢ None
+  pub left : reached k n ≡ true
+
 pub record StaysOpen (k : Kernel) (d : ℕ) : Type 0 where
   pub there : get k.descriptions d ≢ None
   pub held : is_held k d ≡ true
@@ -49,6 +54,7 @@ IsLeft k (Offset d) = StaysOpen k d
 IsLeft k (Front p) = Stays k p A_pipe
 IsLeft k (Back p) = Stays k p A_pipe
 IsLeft k (Target n) = Stays k n A_link
+IsLeft k (Rights n) = StaysThere k n
 
 abbrev pub AllLeft : Kernel → List Aspect → Type 0
 AllLeft k = AllByRecursion (IsLeft k)
@@ -64,6 +70,7 @@ left_there k (Offset d) h = h.there
 left_there k (Front p) h = h.kind
 left_there k (Back p) h = h.kind
 left_there k (Target n) h = h.kind
+left_there k (Rights n) h = h.there
 
 -- composed plans
 seen_bind : {A B : Type 0} (k : Kernel) (m : Plan A) (f : A → Plan B) → AllLeft k (seen k m) → IfOk (given k m) (λ x. AllLeft k (seen k (f x))) → AllLeft k (seen k (m >>= f))
@@ -171,14 +178,29 @@ module _ (k : Kernel) (well : WellFormed k) where
   absent_seen None c = tt
   absent_seen (Some place) c = tt
 
+  -- an inode whose rights are told
+  some_stays : (n : ℕ) (what : Kind) → Some what ≡ kind_of k n → reached k n ≡ true → StaysThere k n
+  some_stays n what right e = record { there = λ none. not_none what (right ∙ none); left = e }
+
+  place_there : (place : Place) → IsPlace k place → StaysThere k place.0
+  place_there (n, None) r = absurd r.can_be_named
+  place_there (n, Some what) r = some_stays n what r.right (rooted_reached k n r.rooted)
+
+  slot_there : (s : Slot) → IsOpen k s → StaysThere k s.inode
+  slot_there s held = by_kind s.kind held.kind held.can_be_opened
+    where
+      by_kind : (o : Option Kind) → o ≡ kind_of k s.inode → CanBeOpened o → StaysThere k s.inode
+      by_kind None e h = absurd h
+      by_kind (Some what) e h = some_stays s.inode what e held.reached
+
   status_seen : (place : Place) → place.1 ≡ kind_of k place.0 → reached k place.0 ≡ true → AllLeft k (seen k (status place))
   status_seen (n, None) right e = tt
-  status_seen (n, Some A_file) right e = (record { kind = sym right; left = e }, (record { linked = subst CanBeLinked right tt; left = e }, tt))
-  status_seen (n, Some A_directory) right e = tt
-  status_seen (n, Some A_pipe) right e = tt
-  status_seen (n, Some A_link) right e = (record { kind = sym right; left = e }, (record { linked = subst CanBeLinked right tt; left = e }, tt))
-  status_seen (n, Some A_fifo) right e = (record { linked = subst CanBeLinked right tt; left = e }, tt)
-  status_seen (n, Some A_socket) right e = (record { linked = subst CanBeLinked right tt; left = e }, tt)
+  status_seen (n, Some A_file) right e = (record { kind = sym right; left = e }, (record { linked = subst CanBeLinked right tt; left = e }, (some_stays n A_file right e, tt)))
+  status_seen (n, Some A_directory) right e = (some_stays n A_directory right e, tt)
+  status_seen (n, Some A_pipe) right e = (some_stays n A_pipe right e, tt)
+  status_seen (n, Some A_link) right e = (record { kind = sym right; left = e }, (record { linked = subst CanBeLinked right tt; left = e }, (some_stays n A_link right e, tt)))
+  status_seen (n, Some A_fifo) right e = (record { linked = subst CanBeLinked right tt; left = e }, (some_stays n A_fifo right e, tt))
+  status_seen (n, Some A_socket) right e = (record { linked = subst CanBeLinked right tt; left = e }, (some_stays n A_socket right e, tt))
 
   moved_seen : (at : Last) (what : Place) (onto : Last) → IsLast k onto → (o : Option Place) → onto.found ≡ o → AllLeft k (seen k (moved at what onto o))
   moved_seen at what onto last None e = tt
@@ -340,6 +362,10 @@ calls_see k pid (Symlink target path) well =
 calls_see k pid (Readlink path) well = with_path k path _ (λ names. with_walk k well names _ (λ place r. refusal k (not (is_link place)) EINVAL _ (λ link. (link_stays k well place r (not-false (is_link place) link), tt))))
 calls_see k pid (Lstat path) well = with_path k path _ (λ names. with_walk k well names _ (λ place r. status_seen k well place r.right (rooted_reached k place.0 r.rooted)))
 calls_see k pid (Mknod path special) well = with_path k path _ (λ names. with_last k well EEXIST names _ (λ at last. absent_seen k well at.found _))
+calls_see k pid (Chmod path permissions) well = with_path k path _ (λ names. with_walk k well names _ (λ place r. refusal k (is_link place) ELOOP _ (λ _. (place_there k well place r, tt))))
+calls_see k pid (Chown path owner) well = with_path k path _ (λ names. with_walk k well names _ (λ place r. (place_there k well place r, tt)))
+calls_see k pid (Fchmod f permissions) well = with_slot k well pid (Fchmod f permissions) f _ (λ s held. (slot_there k well s held, tt))
+calls_see k pid (Fchown f owner) well = with_slot k well pid (Fchown f owner) f _ (λ s held. (slot_there k well s held, tt))
 calls_see k pid (Dup f) well = with_slot k well pid (Dup f) f _ (λ s held. duplicated_seen k well pid (Dup f) s (free (own k pid (Dup f))))
 calls_see k pid (Dup2 f g) well = with_slot k well pid (Dup2 f g) f _ (λ s held. refusal k (nat_lt 63 g) EBADF _ (λ _. either k (f == g) (unchanged (Descriptor f)) _ (λ _. tt) (λ _. tt)))
 calls_see k pid Open_pipe well = piped_seen k well pid Open_pipe (free (own k pid Open_pipe))

@@ -2,9 +2,9 @@
 use Rattle.std.proofs.Common.{◌≡◌, ◌≢◌, ℕ, ◌+◌, ◌-◌, ◌/◌, ◌<◌, ◌≤◌, max, List, ◌++◌, length, get_or, Some, refl, sym, ap, subst, ◌∙◌, arith, inl, inr}
 use Rattle.std.proofs.lemmas.Bool.{cases_eq, cases_lt}
 use Rattle.std.proofs.lemmas.List.{get_or_past}
-use Rattle.model.specs.FiniteMap.{keys}
-use Rattle.model.specs.State.{A_file, Kernel, File, file_of, pipe_of, target_of, kind_of, ends, file_of_inode, pipe_of_inode, target_of_inode}
-use Rattle.model.specs.Aspects.{Aspect, Entry, Names, Size, Block, Links, Ends, Offset, Front, Back, Target, SameBlock, Keeps}
+use Rattle.model.specs.FiniteMap.{get, keys}
+use Rattle.model.specs.State.{A_file, Kernel, File, file_of, pipe_of, target_of, kind_of, ends, file_of_inode, pipe_of_inode, target_of_inode, rights_or}
+use Rattle.model.specs.Aspects.{Aspect, Entry, Names, Size, Block, Links, Ends, Offset, Front, Back, Target, Rights, SameBlock, Keeps}
 use Rattle.model.specs.Changes.{set_inode, sized, written}
 use Rattle.model.proofs.Laws.{unchanged_by, length-sized, sized_at, length-written, written_before, written_in, written_behind}
 use Rattle.call_laws.proofs.edits.Contents.{HasBytes, has_bytes, here_by, there_by, entry_same, no_names_file, no_pipe_file, no_target_file}
@@ -63,6 +63,7 @@ file_keeps now later n new other e f long blocks a = by_aspect a
     by_aspect (Ends q) h = h
     by_aspect (Offset d) h = h
     by_aspect (Target m) h = targets_two m ∙ h ∙ sym (targets_one m)
+    by_aspect (Rights m) h = ap (rights_or (get later.rights m)) (two.kinds m) ∙ h ∙ sym (ap (rights_or (get now.rights m)) (one.kinds m))
     by_aspect (Front q) h = (h.0, pipes_two q ∙ h.1 ∙ ap (λ b. b ++ h.0) (sym (pipes_one q)))
     by_aspect (Back q) h = (h.0, pipes_one q ∙ h.1 ∙ ap (λ b. h.0 ++ b) (sym (pipes_two q)))
     by_aspect (Size m) h = elim (cases_eq m n) [

@@ -3,8 +3,8 @@ use Rattle.std.proofs.Common.{◌≡◌, ◌≢◌, ℕ, ◌+◌, ◌≤◌, Lis
 use Rattle.model.specs.FiniteMap.{FinMap, get, empty, keys}
 use Rattle.std.proofs.lemmas.Bool.{cases_eq}
 use Rattle.std.proofs.lemmas.List.{drop-append-le}
-use Rattle.model.specs.State.{Name, name_cmp, A_file, A_pipe, Kernel, Inode, File, Directory, Pipe, Fixed, Link_to, Fifo, Socket, kind, names_of, file_of, pipe_of, target_of, kind_of, entry_of, links, ends, mapped, names_of_inode, file_of_inode, pipe_of_inode, target_of_inode}
-use Rattle.model.specs.Aspects.{Aspect, Entry, Names, Size, Block, Links, Ends, Offset, Front, Back, Target, Keeps}
+use Rattle.model.specs.State.{Name, name_cmp, A_file, A_pipe, Kernel, Inode, File, Directory, Pipe, Fixed, Link_to, Fifo, Socket, kind, names_of, file_of, pipe_of, target_of, kind_of, entry_of, links, ends, mapped, names_of_inode, file_of_inode, pipe_of_inode, target_of_inode, rights_or}
+use Rattle.model.specs.Aspects.{Aspect, Entry, Names, Size, Block, Links, Ends, Offset, Front, Back, Target, Rights, Keeps}
 use Rattle.model.specs.Changes.{set_inode}
 use Rattle.model.proofs.Laws.{same_by_ends, get_same, get_other, unchanged_by, given_in, links-set_inode}
 use Rattle.call_laws.proofs.edits.Names.{with_kind, same_kinds}
@@ -116,6 +116,7 @@ pipe_keeps now later p new other e f front back a = by_aspect a
     by_aspect (Ends q) h = h
     by_aspect (Offset d) h = h
     by_aspect (Target n) h = targets_two n ∙ h ∙ sym (targets_one n)
+    by_aspect (Rights n) h = ap (rights_or (get later.rights n)) (two.kinds n) ∙ h ∙ sym (ap (rights_or (get now.rights n)) (one.kinds n))
     by_aspect (Front q) h = elim (cases_eq q p) [
       | inl is ↦
           let kept = front (subst (λ q. Keeps now later (Front q)) is h) in

@@ -7,8 +7,8 @@ use Rattle.model.specs.FiniteMap.{FinMap, get, keys, insert, remove, get-remove}
 use Rattle.std.specs.Cmp.Lexicographic.{nat_list_cmp_total}
 use Rattle.std.proofs.lemmas.Bool.{cases_eq, cases_lt, false_from_ne_true}
 use Rattle.std.proofs.lemmas.List.{get_or_past}
-use Rattle.model.specs.State.{Name, name_cmp, Kind, A_file, A_directory, A_pipe, A_link, A_fifo, A_socket, Kernel, Inode, File, Directory, Pipe, kind, mapped, names_of, file_of, pipe_of, target_of, kind_of, entry_of, links, ends, file_of_inode, pipe_of_inode, target_of_inode}
-use Rattle.model.specs.Aspects.{Aspect, Entry, Names, Size, Block, Links, Ends, Offset, Front, Back, Target, SameBlock, Keeps}
+use Rattle.model.specs.State.{Name, name_cmp, Kind, A_file, A_directory, A_pipe, A_link, A_fifo, A_socket, Kernel, Inode, File, Directory, Pipe, kind, mapped, names_of, file_of, pipe_of, target_of, kind_of, entry_of, links, ends, file_of_inode, pipe_of_inode, target_of_inode, rights_or}
+use Rattle.model.specs.Aspects.{Aspect, Entry, Names, Size, Block, Links, Ends, Offset, Front, Back, Target, Rights, SameBlock, Keeps}
 use Rattle.model.specs.Plan.{blocks}
 use Rattle.model.specs.Changes.{Put_bytes, Cut, marks, set_inode, set_name, clear_name, sized, written, file_replaced}
 use Rattle.model.specs.Changes.{Replaced, Over_nothing, Over_file, Over_directory}
@@ -34,6 +34,7 @@ keeps_on k mid after (Offset d) f g = g ∙ f
 keeps_on k mid after (Front p) f g = (f.0 ++ g.0, g.1 ∙ ap (λ bytes. bytes ++ g.0) f.1 ∙ append_assoc (pipe_of k p) f.0 g.0)
 keeps_on k mid after (Back p) f g = (f.0 ++ g.0, f.1 ∙ ap (λ bytes. f.0 ++ bytes) g.1 ∙ sym (append_assoc f.0 g.0 (pipe_of after p)))
 keeps_on k mid after (Target n) f g = g ∙ f
+keeps_on k mid after (Rights n) f g = g ∙ f
 
 -- a state keeps all aspects of its own
 pub keeps_self : (k : Kernel) (a : Aspect) → Keeps k k a
@@ -47,6 +48,7 @@ keeps_self k (Offset d) = refl
 keeps_self k (Front p) = ([], sym (append-nil (pipe_of k p)))
 keeps_self k (Back p) = ([], refl)
 keeps_self k (Target n) = refl
+keeps_self k (Rights n) = refl
 
 -- kinds alone differ, and not of what is named
 kinds_alike : (k after : Kernel) (n : ℕ) → ((t : ℕ) → t ≢ n → kind_of after t ≡ kind_of k t) → (o : Option ℕ) → (o ≢ Some n) → with_kind after o ≡ with_kind k o
@@ -65,6 +67,7 @@ new_marks k n new nowhere f (Offset d) there = refl
 new_marks k n new nowhere f (Front p) there = ([], f.pipes p ∙ sym (append-nil (pipe_of k p)))
 new_marks k n new nowhere f (Back p) there = ([], sym (f.pipes p))
 new_marks k n new nowhere f (Target m) there = there_by target_of_inode k n new m (not_new k n m A_link nowhere.inode there)
+new_marks k n new nowhere f (Rights m) there = ap (rights_or (get k.rights m)) (f.there m (λ same. there (ap (kind_of k) same ∙ ap (mapped kind) nowhere.inode)))
 
 -- what is asked where the aspect is of links
 abbrev pub ForLinks : Aspect → (ℕ → Type 0) → Type 0
@@ -94,6 +97,7 @@ names_mark k d x names is other (Offset t) counts alone = refl
 names_mark k d x names is other (Front p) counts alone = ([], (has_names k d names is).pipes p ∙ sym (append-nil (pipe_of k p)))
 names_mark k d x names is other (Back p) counts alone = ([], sym ((has_names k d names is).pipes p))
 names_mark k d x names is other (Target m) counts alone = (has_names k d names is).targets m
+names_mark k d x names is other (Rights m) counts alone = ap (rights_or (get k.rights m)) ((has_names k d names is).kinds m)
 
 -- a test of two names that differ
 pub names_apart : (y x : Name) → y ≢ x → eq_by_cmp name_cmp y x ≡ false
@@ -211,6 +215,7 @@ file_marks k n new is a long same = by_aspect a long same
     by_aspect (Ends q) long same = (refl, refl)
     by_aspect (Offset d) long same = refl
     by_aspect (Target m) long same = targets m
+    by_aspect (Rights m) long same = ap (rights_or (get k.rights m)) (has.kinds m)
     by_aspect (Front q) long same = ([], pipes q ∙ sym (append-nil (pipe_of k q)))
     by_aspect (Back q) long same = ([], sym (pipes q))
     by_aspect (Size m) long same = elim (cases_eq m n) [
@@ -244,6 +249,7 @@ pipe_marks k p new is a front back = by_aspect a front back
     by_aspect (Ends q) front back = (refl, refl)
     by_aspect (Offset d) front back = refl
     by_aspect (Target m) front back = targets m
+    by_aspect (Rights m) front back = ap (rights_or (get k.rights m)) (has.kinds m)
     by_aspect (Size m) front back = ap length (files m)
     by_aspect (Block m block) front back = λ i at. ap (λ b. get_or b i 0) (files m)
     by_aspect (Front q) front back = elim (cases_eq q p) [

@@ -5,8 +5,8 @@ use Rattle.std.specs.Cmp.Lexicographic.{nat_list_cmp_total}
 use Rattle.model.specs.FiniteMap.{FinMap, get, insert, remove, keys, values, get-insert, get-remove, nat_cmp-IsAntisymmetric}
 use Rattle.std.specs.Cmp.{nat_cmp_total}
 use Rattle.std.proofs.lemmas.Bool.{cases_eq}
-use Rattle.model.specs.State.{Name, name_cmp, Kind, A_directory, Kernel, Inode, File, Directory, Pipe, Fixed, Link_to, Fifo, Socket, kind, names_of, file_of, pipe_of, target_of, kind_of, entry_of, links, ends, mapped, names_of_inode, file_of_inode, pipe_of_inode, target_of_inode}
-use Rattle.model.specs.Aspects.{Aspect, Entry, Names, Size, Block, Links, Ends, Offset, Front, Back, Target, Keeps}
+use Rattle.model.specs.State.{Name, name_cmp, Kind, A_directory, Kernel, Inode, File, Directory, Pipe, Fixed, Link_to, Fifo, Socket, kind, names_of, file_of, pipe_of, target_of, kind_of, entry_of, links, ends, mapped, names_of_inode, file_of_inode, pipe_of_inode, target_of_inode, rights_or}
+use Rattle.model.specs.Aspects.{Aspect, Entry, Names, Size, Block, Links, Ends, Offset, Front, Back, Target, Rights, Keeps}
 use Rattle.model.specs.Changes.{set_inode, set_name, clear_name}
 use Rattle.model.proofs.Laws.{weight, sum-insert, sum-remove, name_exact, get_same, get_other, unchanged_by, given_in, weighed, links-set_inode}
 
@@ -145,3 +145,4 @@ same_rest now later d names other e f entry listed counted (Offset t) h = h
 same_rest now later d names other e f entry listed counted (Front p) h = (h.0, (has_names later d other f).pipes p ∙ h.1 ∙ ap (λ bytes. bytes ++ h.0) (sym ((has_names now d names e).pipes p)))
 same_rest now later d names other e f entry listed counted (Back p) h = (h.0, (has_names now d names e).pipes p ∙ h.1 ∙ ap (λ bytes. h.0 ++ bytes) (sym ((has_names later d other f).pipes p)))
 same_rest now later d names other e f entry listed counted (Target n) h = (has_names later d other f).targets n ∙ h ∙ sym ((has_names now d names e).targets n)
+same_rest now later d names other e f entry listed counted (Rights n) h = ap (rights_or (get later.rights n)) ((has_names later d other f).kinds n) ∙ h ∙ sym (ap (rights_or (get now.rights n)) ((has_names now d names e).kinds n))

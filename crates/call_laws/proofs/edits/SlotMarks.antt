@@ -3,7 +3,7 @@ use Rattle.std.proofs.Common.{◌≡◌, ◌≢◌, ℕ, ◌+◌, Bool, false, c
 use Rattle.std.specs.List.{AllByRecursion}
 use Rattle.model.specs.FiniteMap.{FinMap, get, insert}
 use Rattle.model.specs.State.{Kind, A_pipe, Kernel, Pipe, Description, Process, kind, pipe_of, kind_of, mapped, is_end, links, ends, offset_in, offset_of}
-use Rattle.model.specs.Aspects.{Aspect, Entry, Names, Size, Block, Links, Ends, Offset, Front, Back, Target, Keeps}
+use Rattle.model.specs.Aspects.{Aspect, Entry, Names, Size, Block, Links, Ends, Offset, Front, Back, Target, Rights, Keeps}
 use Rattle.model.specs.Changes.{Mode, to_read, to_write, set_inode, set_process, open_at, at_start}
 use Rattle.call_laws.specs.Objects.{IsThere, LeavesAlone}
 use Rattle.call_laws.specs.Fits.{table_of, IsUnused, ListsPipe, CanPipe}
@@ -32,6 +32,7 @@ tables_mark k ds ps m (Offset d) offsets ended = offsets d refl
 tables_mark k ds ps m (Front p) offsets ended = ([], sym (append-nil (pipe_of k p)))
 tables_mark k ds ps m (Back p) offsets ended = ([], refl)
 tables_mark k ds ps m (Target t) offsets ended = refl
+tables_mark k ds ps m (Rights t) offsets ended = refl
 
 pub open_marks : (k : Kernel) (d n : ℕ) (how : Mode) (pid f : ℕ) → IsUnused k d → get (table_of k pid) f ≡ None → (a : Aspect)
     → ((e : ℕ) → a ≡ Offset e → e ≢ d) → ((p : ℕ) → a ≡ Ends p → n ≢ p) → Keeps k (open_at d n how pid f k) a

@@ -5,12 +5,13 @@ use Rattle.std.proofs.lemmas.List.{take-append-drop}
 use Rattle.model.specs.FiniteMap.{get, empty, insert, remove, get-empty}
 use Rattle.model.specs.State.{A_file, A_pipe, Kernel, File, Directory, Fixed, kind_of, pipe_of, links}
 use Rattle.model.specs.Aspects.{Links, Ends}
-use Rattle.model.specs.Changes.{Edit, Make_directory, Make_file, Make_fixed, Name_file, Unname_file, Unname_directory, Move, Put_bytes, Cut, Take, Append, Set_offset, Open_inode, Make_pipe, Share_slot, Clear_slot, New_process, End_process, applied, process_of, set_name, clear_name, with_slot, without_slot}
+use Rattle.model.specs.Changes.{Edit, Make_directory, Make_file, Make_fixed, Name_file, Unname_file, Unname_directory, Move, Put_bytes, Cut, Take, Append, Set_offset, Set_rights, Open_inode, Make_pipe, Share_slot, Clear_slot, New_process, End_process, applied, process_of, set_name, clear_name, with_slot, without_slot}
 use Rattle.call_laws.specs.Objects.{IsThere, LeavesAlone}
 use Rattle.call_laws.specs.Fits.{table_of, EditMarks}
 use Rattle.model.proofs.Laws.{weight}
 use Rattle.call_laws.proofs.Maps.{not_none}
 use Rattle.call_laws.proofs.edits.Offsets.{offset_marks}
+use Rattle.call_laws.proofs.edits.Rights.{rights_mark}
 use Rattle.call_laws.proofs.edits.NamesAlike.{is_new}
 use Rattle.call_laws.proofs.edits.Processes.{table_in}
 use Rattle.call_laws.proofs.edits.Ends.{end_count, held, held-insert, held-remove, held-none}
@@ -35,6 +36,7 @@ edit_marks chosen k (Cut n before after) f a there alone = cut_marks k n before 
 edit_marks chosen k (Take p count) f a there alone = pipe_marks k p (drop count (pipe_of k p)) f.0 a (λ e. absurd (alone.0 (sym e))) (λ e. (take count (pipe_of k p), sym (take-append-drop count (pipe_of k p))))
 edit_marks chosen k (Append p bytes) f a there alone = pipe_marks k p (pipe_of k p ++ bytes) f.0 a (λ e. (bytes, refl)) (λ e. absurd (alone.0 (sym e)))
 edit_marks chosen k (Set_offset d place) f a there alone = offset_marks k d place f.0 f.1 a alone.0
+edit_marks chosen k (Set_rights n rights) f a there alone = rights_mark k n rights a alone.0
 edit_marks chosen k (Open_inode i inode how q f) can a there alone = open_marks k _ _ how q f can.unused can.slot.free a
     (offset_apart k _ a can.unused.description there)
     (λ p is same. differ (sym can.kind ∙ ap (kind_of k) same ∙ subst (IsThere k) is there))

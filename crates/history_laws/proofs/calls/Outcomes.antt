@@ -11,7 +11,7 @@ use Rattle.model.specs.Paths.{is_empty, is_below, is_no_name, with_first, names_
 use Rattle.model.specs.Walks.{told, parsed, Place, is_directory, is_link, look, walk, Last, last, last_of}
 use Rattle.model.specs.Changes.{Edit, Replaced, Open_inode, Make_pipe, Share_slot, Clear_slot, New_process, End_process}
 use Rattle.ids.specs.Flags.{is_reading, is_writing, is_creating, is_exclusive, is_truncating}
-use Rattle.model.specs.Calls.{own, Call, Open, Close, Read, Pread, Write, Pwrite, Lseek, Ftruncate, Truncate, Stat, Fstat, Link, Unlink, Rename, Mkdir, Rmdir, List_directory, Symlink, Readlink, Lstat, Mknod, Dup, Dup2, Open_pipe, Fork, Exit, Whence, From_start, From_offset, From_end, OpenFlags, Answer, Child, Slot, Own}
+use Rattle.model.specs.Calls.{own, Call, Open, Close, Read, Pread, Write, Pwrite, Lseek, Ftruncate, Truncate, Stat, Fstat, Link, Unlink, Rename, Mkdir, Rmdir, List_directory, Symlink, Readlink, Lstat, Mknod, Chmod, Chown, Fchmod, Fchown, Dup, Dup2, Open_pipe, Fork, Exit, Whence, From_start, From_offset, From_end, OpenFlags, Answer, Child, Slot, Own}
 use Rattle.model.specs.Plans.{Change, plan, target_limit, is_pipe, status, is_special, cut_to, opened, read_pipe, read_some, place_to_write, write_some, offset_named, write_from, sought, base, replaced_by_name, move_onto, moved, absent, duplicated, piped, forked, first_of_free, slot, slot_at, free}
 use Rattle.model.specs.Entries.{is_unsupported, is_inside, answer_in}
 use Rattle.model.specs.Replies.{answered}
@@ -118,12 +118,12 @@ pub record Tame (pid : ℕ) (c : Change) : Type 0 where
   pub childless : is_child c.reply ≡ false
 
 tame_status : (pid : ℕ) (place : Place) → Ends (Tame pid) (status place)
-tame_status pid (n, Some A_file) = λ a b. record { edits = tt; childless = refl }
-tame_status pid (n, Some A_directory) = record { edits = tt; childless = refl }
-tame_status pid (n, Some A_pipe) = record { edits = tt; childless = refl }
-tame_status pid (n, Some A_link) = λ a b. record { edits = tt; childless = refl }
-tame_status pid (n, Some A_fifo) = λ a. record { edits = tt; childless = refl }
-tame_status pid (n, Some A_socket) = λ a. record { edits = tt; childless = refl }
+tame_status pid (n, Some A_file) = λ a b c. record { edits = tt; childless = refl }
+tame_status pid (n, Some A_directory) = λ a. record { edits = tt; childless = refl }
+tame_status pid (n, Some A_pipe) = λ a. record { edits = tt; childless = refl }
+tame_status pid (n, Some A_link) = λ a b c. record { edits = tt; childless = refl }
+tame_status pid (n, Some A_fifo) = λ a b. record { edits = tt; childless = refl }
+tame_status pid (n, Some A_socket) = λ a b. record { edits = tt; childless = refl }
 tame_status pid (n, None) = refl
 
 cut_by : (pid : ℕ) (n len : ℕ) → Ends (AllByRecursion (IsOf pid)) (cut_to n len)
@@ -315,6 +315,13 @@ tame_plan own (Mknod path special) is =
     then_any (Tame own.pid) (parsed path) _ (parsed_any path) (λ names.
     then_any (Tame own.pid) (last_of own.root EEXIST names) _ (last_of_any own.root EEXIST names refl) (λ at.
     then_any (Tame own.pid) (absent at.found) _ (absent_any at.found) (λ _. record { edits = (tt, tt); childless = refl })))
+tame_plan own (Chmod path permissions) is = then_any (Tame own.pid) (parsed path) _ (parsed_any path) (λ names.
+    then_any (Tame own.pid) (walk (own.root, Some A_directory) names) _ (walk_any _ names) (λ place.
+    then_any (Tame own.pid) (refuse_if (is_link place) ELOOP) _ (tested _ ELOOP refl) (λ _ rights. record { edits = (tt, tt); childless = refl })))
+tame_plan own (Chown path owner) is = then_any (Tame own.pid) (parsed path) _ (parsed_any path) (λ names.
+    then_any (Tame own.pid) (walk (own.root, Some A_directory) names) _ (walk_any _ names) (λ place rights. record { edits = (tt, tt); childless = refl }))
+tame_plan own (Fchmod f permissions) is = then_any (Tame own.pid) (slot own f) _ (slot_any own f) (λ it rights. record { edits = (tt, tt); childless = refl })
+tame_plan own (Fchown f owner) is = then_any (Tame own.pid) (slot own f) _ (slot_any own f) (λ it rights. record { edits = (tt, tt); childless = refl })
 tame_plan own (Dup f) is = then_any (Tame own.pid) (slot own f) _ (slot_any own f) (λ it. tame_duplicated own it (free own))
 tame_plan own (Dup2 f g) is = then_any (Tame own.pid) (slot own f) _ (slot_any own f) (λ it.
     then_any (Tame own.pid) (refuse_if (nat_lt 63 g) EBADF) _ (tested _ EBADF refl) (λ _. either (Tame own.pid) (f == g) _ _ (record { edits = tt; childless = refl }) (record { edits = (refl, tt); childless = refl })))

@@ -2,7 +2,7 @@
 use Rattle.std.proofs.Common.{◌≡◌, List, [], ◌∷◌, ◌++◌, Ok, Err, refl, replicate}
 use Rattle.std.specs.Prelude.{codes}
 use Rattle.model.specs.FiniteMap.{keys}
-use Rattle.model.specs.Aspects.{Entry, Links, Target}
+use Rattle.model.specs.Aspects.{Entry, Links, Target, Rights}
 use Rattle.model.specs.Plan.{EEXIST, EINVAL, EISDIR, ELOOP, ENAMETOOLONG, ENOENT, ENOTDIR, ENXIO}
 use Rattle.model.specs.Calls.{Open, Truncate, Stat, Fstat, Link, Unlink, Rename, Mkdir, Rmdir, List_directory, Symlink, Readlink, Lstat, Mknod, Special_fifo, Special_socket, Done, Bytes, Listing, Descriptor}
 use Rattle.model.specs.Steps.{reads, writes}
@@ -90,11 +90,11 @@ link_read : reads (last_state fresh made_all) 1 (Readlink (codes "/l")) ≡ Entr
 unfolding runs
 link_read = refl
 
-status_of_a_link : reads (last_state fresh made_all) 1 (Lstat (codes "/d/m")) ≡ Entry 0 (codes "d") ∷ Entry 1 (codes "m") ∷ Target 3 ∷ Links 3 ∷ []
+status_of_a_link : reads (last_state fresh made_all) 1 (Lstat (codes "/d/m")) ≡ Entry 0 (codes "d") ∷ Entry 1 (codes "m") ∷ Target 3 ∷ Links 3 ∷ Rights 3 ∷ []
 unfolding runs
 status_of_a_link = refl
 
-status_of_a_fifo : reads (last_state fresh made_all) 1 (Lstat (codes "/f")) ≡ Entry 0 (codes "f") ∷ Links 4 ∷ []
+status_of_a_fifo : reads (last_state fresh made_all) 1 (Lstat (codes "/f")) ≡ Entry 0 (codes "f") ∷ Links 4 ∷ Rights 4 ∷ []
 unfolding runs
 status_of_a_fifo = refl
 
