@@ -4,12 +4,13 @@ use Rattle.std.proofs.Common.{◌≡◌, ℕ, Bool, true, false, cond, Option, S
 use Rattle.std.specs.Prelude.{IsSome}
 use Rattle.std.specs.Option.{option_and_then}
 use Rattle.model.specs.FiniteMap.{FinMap, get, insert, remove, empty, get-empty}
+use Rattle.model.proofs.Laws.{removed_same}
 use Rattle.model.specs.State.{Inode, Description, Directory, File, Pipe, name_cmp, file_of_inode, pipe_of_inode}
 use Rattle.model.specs.Changes.{at_offset}
 use Rattle.dirlist.specs.Listing.{Listing}
 use Rattle.objects.specs.Pieces.{FileContent}
 use Rattle.store.specs.Numbers.{Numbers, coming, present, object_at, held, if_held, no_names, IsFirstRoot}
-use Rattle.store.specs.Places.{altered_by, altered, installed, hidden, is_over, is_over_by, has_room, file_of, listing_of, IsRoomy, changed_file, changed_object, changed_opened, changed_pipe, passed, pipe_of, with_pipe, with_bytes, with_file, with_listing, with_opened, moved_to, swept, lost, content_of, file_in}
+use Rattle.store.specs.Places.{altered_by, altered, installed, hidden, is_over, is_over_by, has_room, file_of, listing_of, IsRoomy, changed_file, changed_object, changed_opened, changed_pipe, passed, pipe_of, with_pipe, with_bytes, with_file, with_listing, with_opened, moved_to, swept, lost, unset, content_of, file_in}
 use Rattle.store.specs.Shown.{chosen, inodes, inode_of, inode_in, descriptions, description_of, description_in, shown_at, with_inode, with_value, with_names, with_names_by, with_offset, with_offset_by}
 use Rattle.store.specs.declared.OpenFile.{OpenFile}
 use Rattle.store.specs.declared.Opened.{Opened}
@@ -25,7 +26,7 @@ abbrev pub with_place : Numbers → ℕ → Place → Numbers
 with_place s n place = record s { places = insert s.places n place }
 
 abbrev pub without_place : Numbers → ℕ → Numbers
-without_place s n = record s { places = remove s.places n }
+without_place s n = record s { places = remove s.places n; rights = remove s.rights n }
 
 -- a number that is not in use does not change
 pub altered-none : (f : Place → Place) (s : Numbers) (n : ℕ) → get s.places n ≡ None → altered f s n ≡ s
@@ -161,10 +162,29 @@ pub descriptions-swept : (s : Numbers) (n : ℕ) → descriptions (swept s n) �
 descriptions-swept s n = seen-swept description_in s n (over_hidden description_of)
 
 pub inodes-lost : (s : Numbers) (n : ℕ) → inodes (lost s n) ≡ remove (inodes s) n
-inodes-lost s n = inodes-swept (altered hidden s n) n ∙ inodes-hidden s n
+inodes-lost s n = inodes-swept (altered hidden (unset s n) n) n ∙ inodes-hidden (unset s n) n
 
 pub descriptions-lost : (s : Numbers) (n : ℕ) → descriptions (lost s n) ≡ remove (descriptions s) n
-descriptions-lost s n = descriptions-swept (altered hidden s n) n ∙ descriptions-hidden s n
+descriptions-lost s n = descriptions-swept (altered hidden (unset s n) n) n ∙ descriptions-hidden (unset s n) n
+
+-- the rights that were set of a number go with it
+pub rights-lost : (s : Numbers) (n : ℕ) → (lost s n).rights ≡ remove s.rights n
+rights-lost s n = by_test (is_over (get (altered hidden (unset s n) n).places n))
+  where
+    gone : get (remove s.rights n) n ≡ None
+    gone = removed_same s.rights n
+
+    by_test : (b : Bool) → (cond b (without_place (altered hidden (unset s n) n) n) (altered hidden (unset s n) n)).rights ≡ remove s.rights n
+    by_test true = remove-absent (remove s.rights n) n gone
+    by_test false = refl
+
+-- and where none were, a number that is given up takes none with it
+pub rights-swept : (s : Numbers) (n : ℕ) → (is_over (get s.places n) ≡ true → get s.rights n ≡ None) → (swept s n).rights ≡ s.rights
+rights-swept s n none = by_test (is_over (get s.places n)) refl
+  where
+    by_test : (b : Bool) → is_over (get s.places n) ≡ b → (cond b (without_place s n) s).rights ≡ s.rights
+    by_test true is = remove-absent s.rights n (none is)
+    by_test false is = refl
 
 pub inodes-first : (s : Numbers) → IsFirstRoot s → inodes s ≡ insert empty s.root (Directory empty)
 inodes-first s first = ap (λ places. inodes (record s { places = places })) first ∙ chosen-insert inode_in empty s.root (present (Kept_directory no_names)) (Directory empty) refl ∙ ap (λ (m : FinMap nat_cmp Inode). insert m s.root (Directory empty)) (chosen-empty inode_in)

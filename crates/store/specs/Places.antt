@@ -255,13 +255,20 @@ abbrev pub is_over : Option Place → Bool
 is_over (Some place) = is_over_by place.stage (has_room (listing_of place.object))
 is_over None = false
 
+-- no rights are set of a number any more
+abbrev pub unset : Numbers → ℕ → Numbers
+unset s n = record s { rights = remove s.rights n }
+
 -- the number of a removed object with no promised room is given up
 abbrev pub swept : Numbers → ℕ → Numbers
-swept s n = if is_over (get s.places n) then record s { places = remove s.places n } else s
+swept s n =
+    if is_over (get s.places n)
+    then record s { places = remove s.places n; rights = remove s.rights n }
+    else s
 
--- an object is removed
+-- an object is removed, with its rights
 abbrev pub lost : Numbers → ℕ → Numbers
-lost s n = swept (altered hidden s n) n
+lost s n = swept (altered hidden (unset s n) n) n
 
 -- one promise is given up
 abbrev pub released : Numbers → ℕ → Numbers

@@ -1,7 +1,7 @@
 //! Objects under their numbers, and objects to come, which are not shown before they are installed.
 #![tactic(auto)]
 
-ghost use Rattle.std.specs.Prelude.{◌≡◌, ◌<◌, ◌≤◌, ◌+◌, ◌++◌, ◌^◌, drop, length, Some, None};
+ghost use Rattle.std.specs.Prelude.{◌≡◌, ◌≢◌, ◌<◌, ◌≤◌, ◌+◌, ◌++◌, ◌^◌, drop, length, Some, None};
 ghost use Rattle.std.specs.Prelude.{IfOk, OnOk, OnErr};
 ghost use Rattle.ids.specs.declared.limits.TheConstants.{LARGEST_FILE};
 ghost use Rattle.model.specs.Changes.{written};
@@ -27,7 +27,7 @@ mod naming;
 
 use dirlist::Dir;
 use heap::Heap;
-use ids::{Fixed, Kind, Num};
+use ids::{Fixed, Kind, Num, Rights};
 use objects::{Description, FileData, PipeData};
 use slab::Slab;
 use std::alloc::AllocError;
@@ -144,18 +144,23 @@ impl Drop for Place {
     }
 }
 
-/// What is kept of a number that is in use: its place, and how many names of shown directories give
-/// the number.
+/// What is kept of a number that is in use: its place, how many names of shown directories give the
+/// number, and the permissions and the owner of an inode, where they were set.
 ///
 /// A `usize` can count the directories, and the names of each. So a `u128` can count all names.
 struct Header {
     place: Place,
     links: u128,
+    rights: Option<Rights>,
 }
 
 impl Drop for Header {
     fn drop(self) {
-        let Header { place: _, links: _ } = self;
+        let Header {
+            place: _,
+            links: _,
+            rights: _,
+        } = self;
     }
 }
 
@@ -178,7 +183,7 @@ impl Drop for Store {
 
 impl Model for Store {
     ghost use Rattle.store.specs.contracts.Place as place;
-    ghost use Rattle.store.specs.Headers.{AreCounted, places_of};
+    ghost use Rattle.store.specs.Headers.{AreCounted, places_of, rights_of};
     ghost use Rattle.store.specs.Numbers.{Numbers, numbers_code};
 
     ghost Value = { Numbers };
@@ -187,6 +192,7 @@ impl Model for Store {
 
     ghost view = { λ s. record {
       places = places_of s.headers;
+      rights = rights_of s.headers;
       root = s.root;
     } };
 
@@ -201,6 +207,7 @@ impl Store {
         ensures shown { IfOk result
             (λ s. inodes s ≡ map.insert map.empty s.root (A_directory map.empty)) }
         ensures open { IfOk result (λ s. descriptions s ≡ map.empty) }
+        ensures unset { IfOk result (λ s. s.rights ≡ map.empty) }
     {
         let mut headers = Slab::new(heap);
         let root = headers.insert(Header {
@@ -209,6 +216,7 @@ impl Store {
                 object: Object::Directory(Dir::new(heap)),
             },
             links: 0,
+            rights: None,
         })?;
         Ok(Store {
             headers,
@@ -242,6 +250,7 @@ impl Store {
                 object,
             },
             links: 0,
+            rights: None,
         })?;
         Ok(Num(num))
     }
@@ -276,9 +285,9 @@ impl Store {
         contents::settle_at(&mut self.headers, num.0, object);
     }
 
-    /// The object of a number is shown no more. The number is given up with it, unless room in it
-    /// is still promised: then it goes with the last promise. Where the number is not in use,
-    /// nothing changes. It takes no memory.
+    /// The object of a number is shown no more, and the rights that were set of it go. The number is
+    /// given up with it, unless room in it is still promised: then it goes with the last promise.
+    /// Where the number is not in use, nothing changes. It takes no memory.
     ///
     /// No name gives the number, and a directory has no names.
     pub fn lose(&mut self, num: Num)
@@ -287,7 +296,9 @@ impl Store {
         ensures lost { self.new ≡ lost self.old num }
         ensures shown { inodes self.new ≡ map.remove (inodes self.old) num }
         ensures open { descriptions self.new ≡ map.remove (descriptions self.old) num }
+        ensures unset { self.new.rights ≡ map.remove self.old.rights num }
     {
+        headers::set_rights_at(&mut self.headers, num.0, None);
         headers::hide_at(&mut self.headers, num.0);
         self.sweep(num);
     }
@@ -406,6 +417,23 @@ impl Store {
             Some(Object::Nothing) => None,
             None => None,
         }
+    }
+
+    /// The permissions and the owner of a number's inode, where they were set. It takes no memory.
+    pub fn rights(&self, num: Num) -> Option<Rights>
+        ensures { result ≡ map.get self.now.rights num }
+    {
+        headers::rights_at(&self.headers, num.0)
+    }
+
+    /// Sets the permissions and the owner of an inode, which is shown. It takes no memory.
+    pub fn set_rights(&mut self, num: Num, rights: Rights)
+        requires { map.get (inodes self.old) num ≢ None }
+        ensures { self.new ≡ record self.old {
+          rights = map.insert self.old.rights num rights;
+        } }
+    {
+        headers::set_rights_at(&mut self.headers, num.0, Some(rights));
     }
 
     /// Puts other bytes in the place of a file's, which are answered. The file is shown. It takes
