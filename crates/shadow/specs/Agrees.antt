@@ -19,7 +19,7 @@ use Rattle.shadow.specs.Claims.{Claim, claimed, claim_in}
 use Rattle.shadow.specs.Patches.{AllReach, Form, no_change, of_names, of_bytes, of_pipe, of_fixed}
 use Rattle.shadow.specs.Patches.{Patches, new_ends}
 use Rattle.shadow.specs.Patches.{added_by, form_of, kept_at, net_at, opening_at, patched, reopened}
-use Rattle.shadow.specs.Patches.{numbers_in, reslotted, slots_in}
+use Rattle.shadow.specs.Patches.{numbers_in, reslotted, rights_over, slots_in}
 use Rattle.shadow.specs.Steps.{blocks_by}
 
 -- The kind of what stands below changes: an object that is new was made so, and any other is of
@@ -52,6 +52,8 @@ pub record Agrees (ds : List Effect) (p : Patches) : Type 0 where
   pub largest : (k : Kernel) → (all_done ds k).largest ≡ k.largest
   pub inodes : (k : Kernel) (n : ℕ) → AllFit ds k
       → get (all_done ds k).inodes n ≡ patched (net_at p.inodes n).contents (get k.inodes n)
+  pub rights : (k : Kernel) (n : ℕ)
+      → get (all_done ds k).rights n ≡ rights_over (kept_at p.rights n) (get k.rights n)
   pub descriptions : (k : Kernel) (d : ℕ)
       → get (all_done ds k).descriptions d ≡ reopened (opening_at p.openings d) (get k.descriptions d)
   pub processes : (k : Kernel) (pid : ℕ)

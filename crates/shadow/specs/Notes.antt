@@ -2,7 +2,7 @@
 use Rattle.std.specs.Prelude.{◌≡◌, ◌≢◌, ◌↔◌, ℕ, ◌+◌, ◌≤◌, List, [], ◌++◌, Contains, drop, length, true}
 use Rattle.std.specs.Prelude.{Option, Some, None}
 use Rattle.dirlist.specs.Patches.{noted_back}
-use Rattle.model.specs.State.{Name, Inode, Pipe, Process, pipe_of_inode}
+use Rattle.model.specs.State.{Name, Inode, Pipe, Process, Rights, pipe_of_inode}
 use Rattle.model.specs.Plan.{blocks}
 use Rattle.shadow.specs.declared.change.InodeChange.{InodeChange}
 use Rattle.shadow.specs.declared.change.Contents.{Contents}
@@ -143,9 +143,15 @@ pub record SameInodes (old new : List (ℕ × InodeChange)) : Type 0 where
   pub nets : (n : ℕ) → net_at new n ≡ net_at old n
   pub places : (n : ℕ) → kept_at old n ≢ None → kept_at new n ≢ None
 
+-- These rights are set of one number, and those of all others are as before.
+pub record AtRights (n : ℕ) (rights : Rights) (old new : List (ℕ × Rights)) : Type 0 where
+  pub here : kept_at new n ≡ Some rights
+  pub others : (m : ℕ) → m ≢ n → kept_at new m ≡ kept_at old m
+
 -- Patches after which all shows as before.
 pub record SamePatches (old new : Patches) : Type 0 where
   pub inodes : SameInodes old.inodes new.inodes
+  pub rights : (n : ℕ) → kept_at new.rights n ≡ kept_at old.rights n
   pub openings : (d : ℕ) → opening_at new.openings d ≡ opening_at old.openings d
   pub processes : (pid : ℕ) (o : Option Process)
       → reslotted (kept_at new.slots pid) o ≡ reslotted (kept_at old.slots pid) o

@@ -5,6 +5,7 @@ use Rattle.std.specs.Ordering.{is_eq, nat_cmp}
 use Rattle.std.specs.Map.{lookup}
 use Rattle.model.specs.FiniteMap.{FinMap, entries, empty}
 use Rattle.model.specs.State.{name_cmp, Inode, File, Directory, Pipe, Fixed, Description, Process}
+use Rattle.model.specs.State.{Rights}
 use Rattle.model.specs.State.{mapped}
 use Rattle.model.specs.State.{names_of_inode, file_of_inode, pipe_of_inode}
 use Rattle.model.specs.Changes.{at_offset, or_new}
@@ -60,6 +61,11 @@ new_ends Same = None
 new_ends (Names fresh notes) = None
 new_ends (Bytes fresh bytes) = None
 new_ends (As_fixed fixed) = None
+
+-- the same of the rights that were set of an inode
+abbrev pub rights_over : Option Rights → Option Rights → Option Rights
+rights_over (Some rights) o = Some rights
+rights_over None o = o
 
 -- the same of a description
 abbrev pub reopened : Opening → Option Description → Option Description
@@ -167,10 +173,11 @@ or_kept None = Kept
 abbrev pub opening_at : List (ℕ × Opening) → ℕ → Opening
 opening_at openings d = or_kept (kept_at openings d)
 
--- All that a transaction has changed, by the numbers of inodes, of descriptions and of processes,
--- and what has lost a name.
+-- All that a transaction has changed, by the numbers of inodes, with the rights that it set of them,
+-- of descriptions and of processes, and what has lost a name.
 pub record Patches : Type 0 where
   pub inodes : List (ℕ × InodeChange)
+  pub rights : List (ℕ × Rights)
   pub openings : List (ℕ × Opening)
   pub slots : List (ℕ × Given)
   pub unnamed_inodes : List ℕ

@@ -8,10 +8,10 @@ use Rattle.model.specs.Moments.{is_in}
 use Rattle.model.specs.State.{Name, Kernel, Inode, File, Directory, Pipe, Fixed, Description}
 use Rattle.model.specs.State.{Process}
 use Rattle.model.specs.State.{A_pipe as Pipe_kind, kind, mapped, names_of_inode, file_of_inode}
-use Rattle.model.specs.State.{pipe_of_inode}
+use Rattle.model.specs.State.{Rights, pipe_of_inode}
 use Rattle.model.specs.Changes.{Edit, Which, There, Made, number, news, Make_directory, Make_file}
 use Rattle.model.specs.Changes.{Make_fixed, Name_file, Unname_file, Unname_directory, Move, Put_bytes, Cut}
-use Rattle.model.specs.Changes.{Append, Make_pipe, Set_offset, Take, to_read, to_write}
+use Rattle.model.specs.Changes.{Append, Make_pipe, Set_offset, Set_rights, Take, to_read, to_write}
 use Rattle.model.specs.Changes.{Open_inode, Share_slot, Clear_slot, applied, sized, written, at_start, at_offset}
 use Rattle.model.specs.Changes.{with_slot, without_slot, or_new}
 use Rattle.model.specs.Effects.{Effect}
@@ -31,7 +31,7 @@ use Rattle.shadow.specs.declared.change.Contents.{Contents}
 use Rattle.shadow.specs.Patches.{AllReach, Form, no_change, of_names, of_bytes, of_pipe, of_fixed}
 use Rattle.shadow.specs.Patches.{Patches, new_ends}
 use Rattle.shadow.specs.Patches.{added_by, form_of, kept_at, net_at, opening_at, patched, reopened}
-use Rattle.shadow.specs.Patches.{is_new, numbers_in, reslotted}
+use Rattle.shadow.specs.Patches.{is_new, numbers_in, reslotted, rights_over}
 
 pub record Step : Type 0 where
   pub chosen : List ℕ
@@ -59,9 +59,9 @@ StepsFit (s ∷ ss) k = Fits s.chosen k s.edit × StepsFit ss (one_done s k)
 abbrev pub new_in : List ℕ → ℕ → ℕ
 new_in chosen i = number chosen (Made i)
 
--- What a call of a transaction may change: first a name, or bytes of a file or of a pipe, or a new
--- pipe, and then a description or a slot. Writes and cuts end where a file can end at all, and
--- descriptors are below the limit.
+-- What a call of a transaction may change: first a name, or bytes of a file or of a pipe, or the
+-- rights of an inode, or a new pipe, and then a description or a slot. Writes and cuts end where a
+-- file can end at all, and descriptors are below the limit.
 abbrev pub IsFirst : Edit → Type 0
 IsFirst (Make_directory d x i) = i ≡ 0
 IsFirst (Make_file d x i) = i ≡ 0
@@ -74,6 +74,7 @@ IsFirst (Put_bytes n place bytes before) = place + length bytes ≤ largest_file
 IsFirst (Cut n before after) = after ≤ largest_file
 IsFirst (Take p count) = ⊤
 IsFirst (Append p bytes) = ⊤
+IsFirst (Set_rights n rights) = ⊤
 IsFirst (Make_pipe i pid f g) = (i ≡ 0) × (f < descriptor_limit) × (g < descriptor_limit)
 IsFirst _ = ⊥
 
@@ -89,6 +90,7 @@ abbrev pub IsNaming : Edit → Type 0
 IsNaming (Cut n before after) = ⊥
 IsNaming (Take p count) = ⊥
 IsNaming (Append p bytes) = ⊥
+IsNaming (Set_rights n rights) = ⊥
 IsNaming e = TakesNoMemory e
 
 abbrev pub IsBelow : ℕ → Which → Type 0
@@ -168,6 +170,11 @@ inode_after chosen (Append p bytes) n o = if n == p then bytes_appended bytes o 
 inode_after chosen (Make_pipe i pid f g) n o = if n == new_in chosen i then Some (Pipe []) else o
 inode_after chosen _ n o = o
 
+-- the rights that are set of a number after an edit
+abbrev pub rights_after : Edit → ℕ → Option Rights → Option Rights
+rights_after (Set_rights m rights) n o = if n == m then Some rights else o
+rights_after _ n o = o
+
 abbrev pub description_after : List ℕ → Edit → ℕ → Option Description → Option Description
 description_after chosen (Open_inode i inode mode pid f) d o =
     if d == new_in chosen i then Some (at_start (number chosen inode) mode) else o
@@ -197,6 +204,7 @@ pub record Applies (chosen : List ℕ) (e : Edit) (k after : Kernel) : Type 0 wh
   pub made : after.made ≡ k.made
   pub largest : after.largest ≡ k.largest
   pub inodes : (n : ℕ) → get after.inodes n ≡ inode_after chosen e n (get k.inodes n)
+  pub rights : (n : ℕ) → get after.rights n ≡ rights_after e n (get k.rights n)
   pub descriptions : (d : ℕ)
       → get after.descriptions d ≡ description_after chosen e d (get k.descriptions d)
   pub processes : (pid : ℕ)
@@ -342,6 +350,8 @@ pub record TakesIn (chosen : List ℕ) (e : Edit) (old new : Patches) : Type 0 w
       → AllReach (net_at old.inodes n).contents o → AllReach (net_at new.inodes n).contents o
   pub pipes : (n : ℕ) (ends : ℕ × ℕ) → new_ends (net_at new.inodes n).contents ≡ Some ends
       → (new_ends (net_at old.inodes n).contents ≡ Some ends) ⊎ MakesPipe chosen e n ends
+  pub rights : (n : ℕ) (o : Option Rights) → rights_over (kept_at new.rights n) o
+      ≡ rights_after e n (rights_over (kept_at old.rights n) o)
   pub descriptions : (d : ℕ) (o : Option Description) → reopened (opening_at new.openings d) o
       ≡ description_after chosen e d (reopened (opening_at old.openings d) o)
   pub processes : (pid : ℕ) (o : Option Process) → reslotted (kept_at new.slots pid) o

@@ -5,7 +5,8 @@ ghost use Rattle.std.specs.List.{sum_by};
 ghost use Rattle.ids.specs.declared.limits.TheConstants.{DESCRIPTORS, LARGEST_FILE};
 ghost use Rattle.model.specs.State.{A_file, kind_of};
 ghost use Rattle.model.specs.Changes.{Append, Cut, Make_directory, Make_file, Make_fixed, Make_pipe};
-ghost use Rattle.model.specs.Changes.{Move, Name_file, Open_inode, Put_bytes, Set_offset, Take, There};
+ghost use Rattle.model.specs.Changes.{Move, Name_file, Open_inode, Put_bytes, Set_offset, Set_rights};
+ghost use Rattle.model.specs.Changes.{Take, There};
 ghost use Rattle.model.specs.Changes.{all_applied, applied, news, tidy};
 ghost use Rattle.call_laws.specs.Fits.{Fits, FitsAll};
 ghost use Rattle.shadow.specs.Claims.{AreUnused, Claim, Covers, HaveParents, KeepsMore, KeepsSame};
@@ -22,7 +23,7 @@ use crate::patches::{at_start, end_of, inode_replaced, is_last, number};
 use crate::reslotting::lay_slot;
 use crate::stable::Stable;
 use heap::Heap;
-use ids::{Edit, Fd, Fixed, Mode, Name, Num, Nums, Pid, Replaced};
+use ids::{Edit, Fd, Fixed, Mode, Name, Num, Nums, Pid, Replaced, Rights};
 use objects::{FileData, PipeData};
 use std::alloc::AllocError;
 use store::{Object, OpenFile, OpenPipe};
@@ -123,7 +124,7 @@ impl Stable {
         Ok(())
     }
 
-    // An edit of a name or of bytes, or a new pipe. Refused memory changes nothing.
+    // An edit of a name, of bytes or of rights, or a new pipe. Refused memory changes nothing.
     fn perform_first(&mut self, chosen: &[Num], edit: Edit) -> Result<(), AllocError>
         requires first { IsFirst edit }
         requires count { news edit ≤ length chosen.now }
@@ -161,7 +162,7 @@ impl Stable {
         }
     }
 
-    // An edit of a name, of a file's length or of a pipe's bytes. It takes no memory.
+    // An edit of a name, of a file's length, of a pipe's bytes or of rights. It takes no memory.
     fn perform_without_memory(&mut self, chosen: &[Num], edit: Edit)
         requires first { TakesNoMemory edit }
         requires count { news edit ≤ length chosen.now }
@@ -179,6 +180,7 @@ impl Stable {
                 self.append(pipe, bytes.as_slice());
                 drop(bytes);
             }
+            Edit::SetRights { inode, rights } => self.set_rights(inode, rights),
             other => self.perform_naming(chosen, other),
         }
     }
@@ -444,6 +446,15 @@ impl Stable {
         ensures kept { KeepsSame self.old self.new }
     {
         self.store.change_pipe(pipe, 0, bytes);
+    }
+
+    // The permissions and the owner of an inode are set.
+    fn set_rights(&mut self, inode: Num, rights: Rights)
+        requires { Fits [] self.old.state (Set_rights inode rights) }
+        ensures state { self.new.state ≡ applied [] (Set_rights inode rights) self.old.state }
+        ensures kept { KeepsSame self.old self.new }
+    {
+        self.store.set_rights(inode, rights);
     }
 
     // The new description of a reserved number is there, with its slot.

@@ -11,6 +11,7 @@ mod inodes;
 mod laying;
 mod log;
 mod new_object;
+mod new_rights;
 mod opening;
 mod overlay;
 mod patches;

@@ -3,7 +3,7 @@ ghost use Rattle.std.specs.Prelude.{◌≡◌, ◌≢◌, ◌+◌, ◌≤◌, �
 ghost use Rattle.std.specs.Prelude.{◌<◌, None, Some, if◌then◌else◌, true};
 ghost use Rattle.ids.specs.declared.limits.TheConstants.{LARGEST_FILE};
 ghost use Rattle.model.specs.Changes.{Name_file, Move, Put_bytes, Cut, news, number, at_start};
-ghost use Rattle.model.specs.Changes.{Append, Make_pipe, Take, inode_replaced, to_read, to_write};
+ghost use Rattle.model.specs.Changes.{Append, Make_pipe, Set_rights, Take, inode_replaced, to_read, to_write};
 ghost use Rattle.model.specs.Limits.{descriptor_limit};
 ghost use Rattle.freeing_laws.specs.Counts.{listed};
 ghost use Rattle.shadow.specs.Notes.{SamePatches};
@@ -16,20 +16,22 @@ ghost use Rattle.shadow.specs.declared.change.Made.{Made as What};
 
 use crate::inodes::Inodes;
 use crate::new_object::NewObject;
+use crate::new_rights::NewRights;
 use crate::opening::Openings;
 use crate::slots::Slots;
 use heap::Heap;
-use ids::{Bytes, Edit, Fd, Mode, Name, Num, Nums, Pid, Replaced, Which};
+use ids::{Bytes, Edit, Fd, Mode, Name, Num, Nums, Pid, Replaced, Rights, Which};
 use objects::{Description, PipeData};
 use std::alloc::AllocError;
 use std::marker::Model;
 use store::OpenPipe;
 
-/// All that a transaction has changed, by the numbers of inodes, of descriptions and of processes,
-/// and what has lost a name, in order.
+/// All that a transaction has changed, by the numbers of inodes, with the rights that it set of them,
+/// of descriptions and of processes, and what has lost a name, in order.
 #[derive(Drop)]
 pub(crate) struct Patches {
     pub(crate) inodes: Inodes,
+    pub(crate) rights: NewRights,
     pub(crate) openings: Openings,
     pub(crate) slots: Slots,
     pub(crate) unnamed_inodes: Vec<Num, Heap>,
@@ -42,6 +44,7 @@ impl Model for Patches {
 
     ghost view = { λ p. record {
       inodes = p.inodes;
+      rights = p.rights;
       openings = p.openings;
       slots = p.slots;
       unnamed_inodes = p.unnamed_inodes.items;
@@ -99,10 +102,17 @@ pub(crate) fn inode_replaced(replaced: Replaced) -> Option<Num>
 impl Patches {
     /// Nothing is changed. It takes no memory.
     pub(crate) fn new(heap: Heap) -> Patches
-        ensures { result ≡ record { inodes = []; openings = []; slots = []; unnamed_inodes = [] } }
+        ensures { result ≡ record {
+          inodes = [];
+          rights = [];
+          openings = [];
+          slots = [];
+          unnamed_inodes = [];
+        } }
     {
         Patches {
             inodes: Inodes::new(heap),
+            rights: NewRights::new(heap),
             openings: Openings::new(heap),
             slots: Slots::new(heap),
             unnamed_inodes: Vec::new(heap),
@@ -165,7 +175,8 @@ impl Patches {
         }
     }
 
-    /// Notes an edit of a name or of bytes, or a new pipe. Refused memory changes nothing that shows.
+    /// Notes an edit of a name, of bytes or of rights, or a new pipe. Refused memory changes nothing
+    /// that shows.
     pub(crate) fn note_first(&mut self, chosen: &[Num], edit: Edit) -> Result<(), AllocError>
         requires first { IsFirst edit }
         requires count { news edit ≤ length chosen.now }
@@ -195,6 +206,7 @@ impl Patches {
                 drop(bytes);
                 noted
             }
+            Edit::SetRights { inode, rights } => self.set_rights(inode, rights),
             Edit::MakePipe {
                 process,
                 reader,
@@ -382,6 +394,17 @@ impl Patches {
     {
         self.inodes.make_place(pipe)?;
         self.inodes.append(pipe, bytes.as_slice())
+    }
+
+    // The permissions and the owner of an inode are set.
+    fn set_rights(&mut self, inode: Num, rights: Rights) -> Result<(), AllocError>
+        ensures ok { OnOk result ((chosen : List ℕ)
+            → TakesIn chosen (Set_rights inode rights) self.old self.new) }
+        ensures err { OnErr result (SamePatches self.old self.new) }
+        ensures openings { self.new.openings ≡ self.old.openings }
+        ensures slots { self.new.slots ≡ self.old.slots }
+    {
+        self.rights.set(inode, rights)
     }
 
     // A new pipe, with the descriptors and the descriptions of its two ends.

@@ -25,7 +25,7 @@ use crate::shadow::Shadow;
 use dirlist::Dir;
 use fdtable::FdTable;
 use heap::Heap;
-use ids::{Edit, Fd, Kind, Name, Num, Nums, Pid, Priority};
+use ids::{Edit, Fd, Kind, Name, Num, Nums, Pid, Priority, Rights};
 use objects::{Description, FileData};
 use std::alloc::AllocError;
 use std::marker::Model;
@@ -331,6 +331,13 @@ impl Stable {
         ensures { result.now ≡ target_of self.now.state link }
     {
         self.store.target(link)
+    }
+
+    /// The permissions and the owner that were set of an inode, if any were.
+    pub(crate) fn rights(&self, inode: Num) -> Option<Rights>
+        ensures { result ≡ get self.now.state.rights inode }
+    {
+        self.store.rights(inode)
     }
 
     /// An open file description.

@@ -24,7 +24,7 @@ use dirlist::Dir;
 use fdtable::FdTable;
 use freeing_laws::{left_is_tidy, pipes_keep_their_ends};
 use heap::Heap;
-use ids::{Bytes, DESCRIPTORS, Fd, Kind, Name, NameList, Num, PIPE_CAPACITY, Pid, Slot};
+use ids::{Bytes, DESCRIPTORS, Fd, Kind, Name, NameList, Num, PIPE_CAPACITY, Pid, Rights, Slot};
 use look::Look;
 use objects::{Description, FileData};
 use std::alloc::AllocError;
@@ -271,6 +271,17 @@ impl<'a> View<'a> {
         }
     }
 
+    // The permissions and the owner that were set of an inode, if any were.
+    fn rights_set(&self, inode: Num) -> Option<Rights>
+        ensures { result ≡ get self.now.state.rights inode }
+    {
+        let stored = self.stable.rights(inode);
+        match self.shadow {
+            Some(shadow) => shadow.patches.rights.over(inode, stored),
+            None => stored,
+        }
+    }
+
     // The descriptions of a pipe, to read and to write, which may be gone.
     fn pair(&self, pipe: Num) -> Option<(Num, Num)>
         ensures { IfSome result (λ ends.
@@ -412,6 +423,13 @@ impl<'a> Look for View<'a> {
 
     fn target(&self, heap: Heap, link: Num) -> Result<Bytes, AllocError> {
         Bytes::copy(heap, self.link_target(link))
+    }
+
+    fn rights(&self, inode: Num) -> Rights {
+        match self.rights_set(inode) {
+            Some(rights) => rights,
+            None => Rights::first(self.kind(inode)),
+        }
     }
 
     fn slot(&self, pid: Pid, fd: Fd) -> Option<Slot> {
