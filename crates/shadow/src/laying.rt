@@ -52,8 +52,8 @@ fn lay_rights(store: &mut Store, rights: &NewRights)
     requires { CanBeSet rights.now store.old }
     ensures { AreRevised rights.now store.old store.new }
 {
-    for (num, set) in &rights.each {
-        store.set_rights(*num, *set);
+    for (num, given) in &rights.each {
+        store.set_rights(*num, *given);
     }
 }
 

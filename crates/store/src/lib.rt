@@ -242,6 +242,7 @@ impl Store {
         ensures ready { IfOk result (λ num. map.get self.new.places num ≡ Some (coming object)) }
         ensures shown { OnOk result (inodes self.new ≡ inodes self.old) }
         ensures open { OnOk result (descriptions self.new ≡ descriptions self.old) }
+        ensures rights { OnOk result (self.new.rights ≡ self.old.rights) }
         ensures err { OnErr result (self.new ≡ self.old) }
     {
         let num = self.headers.insert(Header {

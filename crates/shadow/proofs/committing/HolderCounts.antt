@@ -57,7 +57,7 @@ module _ (R : ℕ → ℕ → ℕ → Type 0) where
   -- where the counts are as they should be already, nothing changes
   pub held_still : (s : Numbers) → ((d : ℕ) (opened : Opened) → object_at s d ≡ Some (A_description opened) → R d opened.holders opened.holders) → AreHeld R s s
   held_still s each = record {
-    same = record { root = refl; inodes = refl; staged = λ h n. h n };
+    same = record { root = refl; inodes = refl; rights = refl; staged = λ h n. h n };
     descriptions = refl;
     reserves = λ n. refl;
     files = λ n file is. is;
@@ -150,7 +150,7 @@ module _ (g : Opened → Opened) where
 
     pub held_at : AreHeld R s after
     held_at = record {
-      same = record { root = refl; inodes = inodes-opened g s d; staged = staged_after };
+      same = record { root = refl; inodes = inodes-opened g s d; rights = refl; staged = staged_after };
       descriptions = descriptions-opened g same s d;
       reserves = λ n. get-chosen reserve_in after.places n ∙ left-altered (λ o. option_and_then reserve_in o) (with_opened g) reserve_opened s d n ∙ sym (get-chosen reserve_in s.places n);
       files = λ n file is. file_of_object (object_at s n) file (sym (left-altered (λ o. shown_file (held o)) (with_opened g) file_opened s d n) ∙ ap shown_file is);

@@ -97,6 +97,9 @@ module _ {ps : Processes} {s after : Numbers} {ds : List Effect} {p : Patches} (
   inodes_after = same_map nat_cmp_total nat_cmp-IsAntisymmetric (inodes after) (all_done ds k).inodes (λ n.
       get-inodes after n ∙ (becomes_at n).inode ∙ ap (patched (net_at p.inodes n).contents) (sym (get-inodes s n)) ∙ sym (can.agrees.inodes k n can.fits))
 
+  rights_after : after.rights ≡ (all_done ds k).rights
+  rights_after = same_map nat_cmp_total nat_cmp-IsAntisymmetric after.rights (all_done ds k).rights (λ n. are.rights n ∙ sym (can.agrees.rights k n))
+
   descriptions_after : descriptions after ≡ descriptions s
   descriptions_after = same_map nat_cmp_total nat_cmp-IsAntisymmetric (descriptions after) (descriptions s) (λ n.
       get-descriptions after n ∙ (becomes_at n).description ∙ sym (get-descriptions s n))
@@ -148,6 +151,7 @@ module _ {ps : Processes} {s after : Numbers} {ds : List Effect} {p : Patches} (
   has_inodes new = record {
     root = are.root;
     inodes = inodes_after;
+    rights = rights_after;
     descriptions = descriptions_after;
     staged = λ n. (becomes_at n).staged;
     counted = counted_after;

@@ -97,12 +97,12 @@ pub offset_state : (ps : Processes) (s : Numbers) (d place : ℕ)
     → state_of ps (altered (with_opened (moved_to place)) s d)
     ≡ set_offset d place (get (descriptions s) d) (state_of ps s)
 offset_state ps s d place =
-    ap (λ m. stored ps m (descriptions (altered (with_opened (moved_to place)) s d)))
+    ap (λ m. stored ps m s.rights (descriptions (altered (with_opened (moved_to place)) s d)))
     (inodes-opened (moved_to place) s d)
-    ∙ ap (stored ps (inodes s)) (descriptions-moved place s d) ∙ by_old (get (descriptions s) d)
+    ∙ ap (stored ps (inodes s) s.rights) (descriptions-moved place s d) ∙ by_old (get (descriptions s) d)
   where
     by_old : (o : Option Description)
-        → stored ps (inodes s) (with_offset_by place o (descriptions s) d)
+        → stored ps (inodes s) s.rights (with_offset_by place o (descriptions s) d)
         ≡ set_offset d place o (state_of ps s)
     by_old (Some it) = refl
     by_old None = refl
@@ -141,6 +141,7 @@ opening_moved s d place t is = subst (IsReopened d (Moved place) s) (sym is) (re
   same = record {
     root = refl;
     inodes = inodes-opened (moved_to place) s d;
+    rights = refl;
     staged = opened_staged (moved_to place) s d;
   };
   here = ap (λ m. get m d) (descriptions-moved place s d) ∙ offset_here place (descriptions s) d;

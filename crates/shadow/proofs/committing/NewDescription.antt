@@ -156,8 +156,9 @@ module _ (s : Numbers) (d : ℕ) (it : Description) (b : Bool) (t : Numbers)
     k = state_of ps s
 
     state_is : state_of ps t ≡ set_description d it k
-    state_is = ap (λ m. stored ps m (descriptions t)) same_inodes
-        ∙ ap (stored ps (inodes s)) one_more
+    state_is = ap (λ m. stored ps m t.rights (descriptions t)) same_inodes
+        ∙ ap (λ r. stored ps (inodes s) r (descriptions t)) (ap (λ (t : Numbers). t.rights) is)
+        ∙ ap (stored ps (inodes s) s.rights) one_more
 
     comes : (n : ℕ) → openings (state_of ps t) n ≡ openings k n + cond (i == n) 1 0
     comes n = ap (λ (k : Kernel). openings k n) state_is
@@ -237,6 +238,7 @@ module _ (s : Numbers) (d : ℕ) (it : Description) (b : Bool) (t : Numbers)
     same = record {
       root = ap (λ (t : Numbers). t.root) is;
       inodes = same_inodes;
+      rights = ap (λ (t : Numbers). t.rights) is;
       staged = still_staged;
     };
     here = ap (λ m. get m d) one_more ∙ get_same (descriptions s) d it;

@@ -95,12 +95,13 @@ unheld_new {ps} {s} {ds} {p} can d new =
         ∙ comes_unopened (get s.places d) d claims_one
 
 -- states with the same parts
-same_kernel : (k l : Kernel) → k.root ≡ l.root → k.inodes ≡ l.inodes
+same_kernel : (k l : Kernel) → k.root ≡ l.root → k.inodes ≡ l.inodes → k.rights ≡ l.rights
     → k.descriptions ≡ l.descriptions → k.processes ≡ l.processes → k.made ≡ l.made
     → k.largest ≡ l.largest → k ≡ l
-same_kernel k l root inodes descriptions processes made largest = λ i. record {
+same_kernel k l root inodes rights descriptions processes made largest = λ i. record {
   root = root i;
   inodes = inodes i;
+  rights = rights i;
   descriptions = descriptions i;
   processes = processes i;
   made = made i;
@@ -209,6 +210,7 @@ module _ {ps qs : Processes} {s mid after last : Numbers} {ds : List Effect} {p 
       same_kernel (state_of qs last) (all_done ds (state_of ps s))
       (sym (can.agrees.root (state_of ps s)))
       (slotted.stay.same.inodes ∙ opened.same.inodes ∙ made.inodes)
+      (slotted.stay.same.rights ∙ opened.same.rights ∙ made.rights)
       (same_map nat_cmp_total nat_cmp-IsAntisymmetric _ _ description)
       (same_map nat_cmp_total nat_cmp-IsAntisymmetric _ _ process)
       (slotted.stay.count ∙ sym (can.agrees.count (state_of ps s)))
@@ -247,6 +249,7 @@ module _ {ps qs : Processes} {s mid after last : Numbers} {ds : List Effect} {p 
   holds = record {
     root = slotted.stay.same.root ∙ opened.same.root ∙ made.root ∙ can.sound.root;
     parented = sweep_is_tidy_lem.parented (state_of qs last) well;
+    set = sweep_is_tidy_lem.set (state_of qs last) well;
     unnamed = not_named qs last well;
     unopened = not_opened (state_of qs last) well;
     staged = slotted.stay.same.staged (opened.same.staged made.staged);

@@ -98,7 +98,7 @@ module _ (ps : Processes) (s : Numbers) (n : ℕ) (b : FileContent) (sound : Sou
 
   -- the state with other bytes
   pub swapped_state : state_of ps (swapped b s n) ≡ set_inode n (File b.bytes) k
-  swapped_state = ap (λ m. stored ps m (descriptions (swapped b s n))) (inodes-swapped b s n there) ∙ ap (stored ps (insert (inodes s) n (File b.bytes))) (descriptions-filed (with_bytes b) s n)
+  swapped_state = ap (λ m. stored ps m s.rights (descriptions (swapped b s n))) (inodes-swapped b s n there) ∙ ap (stored ps (insert (inodes s) n (File b.bytes)) s.rights) (descriptions-filed (with_bytes b) s n)
 
   pub swapped_counted : AreCounted ps (swapped b s n)
   swapped_counted = counted_by ps (swapped b s n) (subst (λ (l : Kernel). Counts l (swapped b s n)) (sym swapped_state)
@@ -128,7 +128,7 @@ module _ (ps : Processes) (s : Numbers) (n : ℕ) (b : FileContent) (sound : Sou
 
   -- the same bytes
   pub unswapped_state : get (inodes s) n ≡ Some (File b.bytes) → state_of ps (swapped b s n) ≡ k
-  unswapped_state same = swapped_state ∙ ap (λ m. stored ps m (descriptions s)) (insert-held (inodes s) n (File b.bytes) same)
+  unswapped_state same = swapped_state ∙ ap (λ m. stored ps m s.rights (descriptions s)) (insert-held (inodes s) n (File b.bytes) same)
 
   pub unswapped_sound : get (inodes s) n ≡ Some (File b.bytes) → Sound ps (swapped b s n)
   unswapped_sound same = record {

@@ -223,8 +223,8 @@ module _ (ps : Processes) (s : Numbers) (d : ℕ) (x : Name) (n : ℕ) (was obje
 
   made_state : state_of ps made ≡ applied (n ∷ []) e k
   made_state =
-      ap (λ m. stored ps m (descriptions made)) (inodes-set first d after ∙ ap (λ m. insert m d (Directory (insert l.names x n))) inodes_first ∙ ap (λ ns. insert (insert (inodes s) n new) d (Directory (insert ns x n))) (sym names_are))
-      ∙ ap (stored ps (set_name d x n (set_inode n new k)).inodes) (descriptions-set first d after ∙ remove-absent (descriptions first) d (not_described) ∙ descriptions_first)
+      ap (λ m. stored ps m s.rights (descriptions made)) (inodes-set first d after ∙ ap (λ m. insert m d (Directory (insert l.names x n))) inodes_first ∙ ap (λ ns. insert (insert (inodes s) n new) d (Directory (insert ns x n))) (sym names_are))
+      ∙ ap (stored ps (set_name d x n (set_inode n new k)).inodes s.rights) (descriptions-set first d after ∙ remove-absent (descriptions first) d (not_described) ∙ descriptions_first)
       ∙ sym makes
     where
       not_described : get (descriptions first) d ≡ None

@@ -112,7 +112,10 @@ module _ (ps : Processes) (s : Numbers) (n taken : ℕ) (appended : List ℕ) (v
   fits = subst (λ (v : Committed). Fits [] v.state e) (sym is) fit
 
   made : state_of ps t ≡ applied [] e k
-  made = ap (λ m. stored ps m (descriptions t)) shown ∙ ap (stored ps (insert (inodes s) n (Pipe (drop taken (pipe_of_inode (get (inodes s) n)) ++ appended)))) same ∙ sym makes
+  made =
+      ap (λ m. stored ps m t.rights (descriptions t)) shown
+      ∙ ap (λ r. stored ps (insert (inodes s) n (Pipe (drop taken (pipe_of_inode (get (inodes s) n)) ++ appended))) r (descriptions t)) (ap (λ (t : Numbers). t.rights) changed)
+      ∙ ap (stored ps (insert (inodes s) n (Pipe (drop taken (pipe_of_inode (get (inodes s) n)) ++ appended))) s.rights) same ∙ sym makes
 
   counts : Counts k (altered (with_pipe (passed taken appended)) s n)
   counts = counts_stay k s (altered (with_pipe (passed taken appended)) s n)

@@ -10,7 +10,7 @@ use Rattle.model.proofs.Laws.{name_exact, removed_same, removed_other}
 use Rattle.call_laws.proofs.Laws.{empty_gives, none_count, not_none, true_is_false}
 use Rattle.freeing_laws.specs.Counts.{free_description, free_inode, opens}
 use Rattle.freeing_laws.specs.Pipes.{ArePair}
-use Rattle.freeing_laws.specs.Sweep.{AreParented, closed, free_inodes, inode_in as opened_in}
+use Rattle.freeing_laws.specs.Sweep.{AreParented, AreSet, closed, free_inodes, inode_in as opened_in}
 use Rattle.freeing_laws.proofs.Laws.{sweep_is_tidy_lem}
 use Rattle.freeing_laws.proofs.Openings.{openings_change_lem}
 use Rattle.store.specs.Links.{links_in}
@@ -24,7 +24,7 @@ use Rattle.store.specs.declared.Stage.{Stage}
 use Rattle.store.specs.declared.Stage.TheVariants.{Coming, Held, Removed}
 use Rattle.store.specs.declared.Object.{Object}
 use Rattle.store.specs.declared.Object.TheVariants.{Directory as Kept_directory, File as Kept_file, Pipe as Kept_pipe, Fixed as Kept_fixed, Description as Kept_description, Nothing}
-use Rattle.store.proofs.Laws.{get-inodes, get-descriptions, inodes-lost, descriptions-lost, links-links_in, place-altered, place-other, remove-absent}
+use Rattle.store.proofs.Laws.{get-inodes, get-descriptions, inodes-lost, descriptions-lost, rights-lost, links-links_in, place-altered, place-other, remove-absent}
 use Rattle.shadow.specs.Laid.{Frees, Holds}
 use Rattle.shadow.specs.Stored.{Processes, state_of, stored}
 use Rattle.shadow.proofs.shared.PipePairLemmas.{pair_removed, pipe_by_file, pipe_stood, same_pairs}
@@ -107,15 +107,15 @@ module _ (ps : Processes) (s : Numbers) (n : ℕ) (holds : Holds ps s) where
 
   pub stays_reached : is_reached (state_of ps s) n ≡ true → Frees (free_inode n) ps s s
   unfolding free_inode openings links
-  stays_reached is = record { state = sym (ap (λ b. cond b k (record k { inodes = remove (inodes s) n })) is); holds = holds; kept = λ c. refl }
+  stays_reached is = record { state = sym (ap (λ b. cond b k (record k { inodes = remove (inodes s) n; rights = remove s.rights n })) is); holds = holds; kept = λ c. refl }
 
   pub stays_absent : get (inodes s) n ≡ None → Frees (free_inode n) ps s s
   unfolding free_inode openings links
   stays_absent none = record { state = by_test (is_reached k n); holds = holds; kept = λ c. refl }
     where
-      by_test : (b : Bool) → k ≡ cond b k (record k { inodes = remove (inodes s) n })
+      by_test : (b : Bool) → k ≡ cond b k (record k { inodes = remove (inodes s) n; rights = remove s.rights n })
       by_test true = refl
-      by_test false = sym (ap (λ m. stored ps m (descriptions s)) (remove-absent (inodes s) n none))
+      by_test false = sym (ap (λ m. stored ps m (remove s.rights n) (descriptions s)) (remove-absent (inodes s) n none) ∙ ap (λ r. stored ps (inodes s) r (descriptions s)) (remove-absent s.rights n (holds.set n none)))
 
   module _ (there : get (inodes s) n ≢ None) (is : is_reached (state_of ps s) n ≡ false) where
     abbrev t : Numbers
@@ -126,7 +126,16 @@ module _ (ps : Processes) (s : Numbers) (n : ℕ) (holds : Holds ps s) where
 
     state : state_of ps (lost s n) ≡ free_inode n (state_of ps s)
     unfolding free_inode openings links
-    state = ap (λ m. stored ps m (descriptions t)) (inodes-lost s n) ∙ ap (stored ps (remove (inodes s) n)) same_descriptions ∙ sym (ap (λ b. cond b k (record k { inodes = remove (inodes s) n })) is)
+    state =
+        ap (λ m. stored ps m t.rights (descriptions t)) (inodes-lost s n) ∙ ap (λ r. stored ps (remove (inodes s) n) r (descriptions t)) (rights-lost s n)
+        ∙ ap (stored ps (remove (inodes s) n) (remove s.rights n)) same_descriptions ∙ sym (ap (λ b. cond b k (record k { inodes = remove (inodes s) n; rights = remove s.rights n })) is)
+
+    -- rights are set of what is left alone
+    still_set : AreSet (state_of ps (lost s n))
+    still_set m none = ap (λ r. get r m) (rights-lost s n) ∙ elim (cases_eq m n) [
+      | inl same ↦ ap (get (remove s.rights n)) same ∙ removed_same s.rights n
+      | inr away ↦ removed_other s.rights n m away ∙ holds.set m (sym (removed_other (inodes s) n m away) ∙ ap (λ q. get q m) (sym (inodes-lost s n)) ∙ none)
+    ]
 
     inode_before : (m : ℕ) (i : Inode) → get (inodes (lost s n)) m ≡ Some i → get (inodes s) m ≡ Some i
     inode_before m i gives = elim (cases_eq m n) [
@@ -157,6 +166,7 @@ module _ (ps : Processes) (s : Numbers) (n : ℕ) (holds : Holds ps s) where
       holds = record {
         root = lost_root s n ∙ holds.root;
         parented = subst AreParented (sym state) (sweep_is_tidy_lem.turn k n holds.parented);
+        set = still_set;
         unnamed = λ d m x there gives. holds.unnamed d m x (λ none. there (ap (λ q. get q d) same_descriptions ∙ none)) (name_before m x d gives);
         unopened = λ m what is never. same_openings m ∙ holds.unopened m what (kind_before m what is) never;
         staged = lost_staged s n holds.staged;
@@ -291,11 +301,16 @@ module _ (ps : Processes) (s : Numbers) (d : ℕ) (it : Description) (holds : Ho
     goes : (n : ℕ) → openings after n + opens n (Some it) ≡ openings (state_of ps s) n
     goes n = ap (λ o. openings after n + opens n o) (sym is) ∙ openings_change_lem.goes (state_of ps s) d n
 
+    -- of a description none are set
+    same_rights : left.rights ≡ s.rights
+    same_rights = rights-lost s d ∙ remove-absent s.rights d (holds.set d (one_kind s d there))
+
     module _ (same_inodes : inodes left ≡ inodes hid) (same_descriptions : descriptions left ≡ descriptions hid) where
       left_state : state_of ps left ≡ after
       left_state =
-          ap (λ m. stored ps m (descriptions left)) (same_inodes ∙ inodes-lost s d ∙ remove-absent (inodes s) d (one_kind s d there))
-          ∙ ap (stored ps (inodes s)) (same_descriptions ∙ descriptions-lost s d)
+          ap (λ m. stored ps m left.rights (descriptions left)) (same_inodes ∙ inodes-lost s d ∙ remove-absent (inodes s) d (one_kind s d there))
+          ∙ ap (λ r. stored ps (inodes s) r (descriptions left)) same_rights
+          ∙ ap (stored ps (inodes s) s.rights) (same_descriptions ∙ descriptions-lost s d)
 
       there_before : (e : ℕ) → get (descriptions left) e ≢ None → get (descriptions s) e ≢ None
       there_before e there none = there (ap (λ (k : Kernel). get k.descriptions e) left_state ∙ elim (cases_eq e d) [
@@ -336,6 +351,7 @@ module _ (ps : Processes) (s : Numbers) (d : ℕ) (it : Description) (holds : Ho
         holds = record {
           root = lost_root s d ∙ holds.root;
           parented = subst AreParented (sym left_state) parented;
+          set = subst AreSet (sym left_state) holds.set;
           unnamed = λ e n x there gives. holds.unnamed e n x (there_before e there) (ap (λ (k : Kernel). get (names_of k n) x) (sym left_state) ∙ gives);
           unopened = λ n what is never. ap (λ (k : Kernel). openings k n) left_state ∙ none_more n (holds.unopened n what (ap (λ (k : Kernel). kind_of k n) (sym left_state) ∙ is) never);
           staged = file_staged less_openings hid it.inode (lost_staged s d holds.staged);
@@ -376,4 +392,4 @@ closes_nothing ps s d holds none = record {
   where
     by_test : (b : Bool) → state_of ps s ≡ cond b (state_of ps s) (record (state_of ps s) { descriptions = remove (descriptions s) d })
     by_test true = refl
-    by_test false = sym (ap (stored ps (inodes s)) (remove-absent (descriptions s) d none))
+    by_test false = sym (ap (stored ps (inodes s) s.rights) (remove-absent (descriptions s) d none))

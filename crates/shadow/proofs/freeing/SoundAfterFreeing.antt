@@ -5,7 +5,7 @@ use Rattle.model.specs.State.{Kernel, Kind, Name, kind, kind_of, mapped, names_o
 use Rattle.model.specs.Changes.{Edit, applied, openings, tidy}
 use Rattle.call_laws.specs.WellFormed.{CanBeNamed, CanBeOpened, WellFormed}
 use Rattle.call_laws.specs.Fits.{Fits}
-use Rattle.call_laws.proofs.Laws.{well_stays}
+use Rattle.call_laws.proofs.Laws.{unset, well_stays}
 use Rattle.freeing_laws.proofs.Openings.{openings_change_lem}
 use Rattle.store.specs.Numbers.{Numbers}
 use Rattle.store.specs.Shown.{descriptions}
@@ -31,6 +31,7 @@ module _ (ps : Processes) (s : Numbers) (root : s.root ≡ 0) (well : WellFormed
     holds_well staged counted = record {
       root = root;
       parented = well.parents;
+      set = λ n none. unset (state_of ps s) n well none;
       unnamed = unnamed;
       unopened = unopened;
       staged = staged;
