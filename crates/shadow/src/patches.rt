@@ -444,6 +444,7 @@ impl Patches {
     // Makes places for two new descriptions and their descriptors. Refused memory changes nothing.
     fn make_ends(&mut self, pid: Pid, reader: Num, writer: Num) -> Result<(), AllocError>
         ensures inodes { self.new.inodes ≡ self.old.inodes }
+        ensures rights { self.new.rights ≡ self.old.rights }
         ensures unnamed_inodes { self.new.unnamed_inodes ≡ self.old.unnamed_inodes }
         ensures openings { SameOpenings self.old.openings self.new.openings }
         ensures slots { SameSlots self.old.slots self.new.slots }
@@ -461,6 +462,7 @@ impl Patches {
             × (kept_at self.old.slots pid ≢ None) }
         requires low { end.0 < descriptor_limit }
         ensures inodes { self.new.inodes ≡ self.old.inodes }
+        ensures rights { self.new.rights ≡ self.old.rights }
         ensures unnamed_inodes { self.new.unnamed_inodes ≡ self.old.unnamed_inodes }
         ensures openings { AtOpening end.1 (IsOpened description) self.old.openings
             self.new.openings }

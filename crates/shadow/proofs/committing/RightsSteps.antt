@@ -6,7 +6,7 @@ use Rattle.std.specs.Map.{keys_of}
 use Rattle.std.specs.Option.{option_map}
 use Rattle.std.proofs.lemmas.Bool.{cases_eq}
 use Rattle.model.specs.FiniteMap.{entries, get, insert}
-use Rattle.model.specs.State.{Directory, File, Fixed, Kernel, Pipe, Rights}
+use Rattle.model.specs.State.{Directory, File, Fixed, Pipe, Rights}
 use Rattle.model.specs.Effects.{Effect, all_done}
 use Rattle.model.proofs.Laws.{get_other, get_same}
 use Rattle.call_laws.proofs.Laws.{not_none}
@@ -160,11 +160,9 @@ pub can_set : {ps : Processes} {s : Numbers} {ds : List Effect} {p : Patches}
     → CanCommit ps s ds p → CanBeSetThen p.inodes p.rights s
 can_set {ps} {s} {ds} {p} can n kept none =
     some_set (kept_at p.rights n) (get s.rights n) kept
-    (sym (can.agrees.rights k n)
-    ∙ sweep_is_tidy_lem.set (all_done ds k) well n (can.agrees.inodes k n can.fits ∙ none))
+    (sym (can.agrees.rights (state_of ps s) n)
+    ∙ sweep_is_tidy_lem.set (all_done ds (state_of ps s)) well n
+    (can.agrees.inodes (state_of ps s) n can.fits ∙ none))
   where
-    abbrev k : Kernel
-    k = state_of ps s
-
     well : WellFormed (all_done ds (state_of ps s))
     well = sweep_is_tidy_lem.well ds (state_of ps s) can.sound.well can.fits

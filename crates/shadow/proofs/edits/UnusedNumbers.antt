@@ -3,11 +3,11 @@
 -- what it says of the state before.
 use Rattle.std.proofs.Common.{◌≡◌, ℕ, ◌+◌, List, [], ◌∷◌, Option, Some, None, false, refl, sym, ap, ◌∙◌}
 use Rattle.ids.specs.declared.edit.Mode.{Mode}
-use Rattle.model.specs.State.{Directory, File, Fixed, Fixed_content, Kernel, Name, Pipe}
+use Rattle.model.specs.State.{Directory, File, Fixed, Fixed_content, Kernel, Name, Pipe, Rights}
 use Rattle.model.specs.FiniteMap.{empty}
 use Rattle.model.specs.Changes.{Append, Cut, Edit, Make_directory, Make_file, Make_fixed, Make_pipe, Open_inode}
 use Rattle.model.specs.Changes.{Move, Name_file, Put_bytes, Replaced, There, Which, applied, number}
-use Rattle.model.specs.Changes.{Take, open_at, to_read, to_write}
+use Rattle.model.specs.Changes.{Set_rights, Take, open_at, to_read, to_write}
 use Rattle.model.specs.Changes.{set_inode, set_name, tidy}
 use Rattle.call_laws.specs.Fits.{Fits}
 use Rattle.freeing_laws.specs.Sweep.{IsTidied, loses}
@@ -95,6 +95,11 @@ module _ (chosen : List ℕ) (k : Kernel) where
       → applied [] (Append n bytes) k ≡ applied chosen (Append n bytes) k
   unfolding applied
   same_append n bytes = refl
+
+  pub same_set_rights : (n : ℕ) (rights : Rights)
+      → applied [] (Set_rights n rights) k ≡ applied chosen (Set_rights n rights) k
+  unfolding applied
+  same_set_rights n rights = refl
 
   pub same_slotting : (given : Option ℕ) (pid f : ℕ) (pipes : List ℕ)
       → applied [] (slotting given pid f pipes) k ≡ applied chosen (slotting given pid f pipes) k

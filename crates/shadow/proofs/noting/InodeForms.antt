@@ -157,6 +157,7 @@ over_after chosen e one = by_one (OverAfter chosen)
     (λ p count apart mid f. piped_at p mid f.0)
     (λ p bytes apart mid f. piped_at p mid f.0)
     (λ i pid s g apart mid f n o made c is over. pipe_made (new_in chosen i) n (mapped kind o) made (form_of c) over)
+    (λ m rights apart mid f n o made c is over. over)
     e one
 
 -- what was written before an edit is kept
@@ -207,6 +208,7 @@ kept_same chosen e one = by_one (KeptSame chosen)
     (λ p count mid f n o c is. refl)
     (λ p bytes mid f n o c is. refl)
     (λ i pid s g mid f. new_kept (new_in chosen i) mid f.pipe.inode)
+    (λ m rights mid f n o c is. refl)
     e one
 
 -- what has changes after an edit, or gets a name by it, had changes before
@@ -290,4 +292,5 @@ still_before chosen e one = by_one (StillBefore chosen)
     (λ p count n form none. changed_before p n (piped form) form (piped_some form) none)
     (λ p bytes n form none. changed_before p n (piped form) form (piped_some form) none)
     (λ i pid s g n form none. changed_before (new_in chosen i) n (of_pipe true) form (λ e. absurd cc) none)
+    (λ m rights n form none. (none, refl))
     e one

@@ -141,16 +141,16 @@ making_taken (New_fixed fixed) d num x n s t r = let unnamed : t.unnamed ≡ s.u
 }
 
 pub making_takes : (what : NewObject) (d num : ℕ) (x : Name) (m : Changes) (old new : Patches) → num ≢ d → At d (IsNamed x (Some num)) old.inodes m → At num (IsMade what) m new.inodes
-    → new.openings ≡ old.openings → new.slots ≡ old.slots → new.unnamed_inodes ≡ old.unnamed_inodes → TakesIn (num ∷ []) (making what d x) old new
-making_takes New_directory d num x m old new apart named made openings slots unnamed_inodes =
+    → new.rights ≡ old.rights → new.openings ≡ old.openings → new.slots ≡ old.slots → new.unnamed_inodes ≡ old.unnamed_inodes → TakesIn (num ∷ []) (making what d x) old new
+making_takes New_directory d num x m old new apart named made rights openings slots unnamed_inodes =
     takes_first (num ∷ []) (making New_directory d x) old new (λ n. making_taken New_directory d num x n (net_at old.inodes n) (net_at new.inodes n) (making_each New_directory d num x old.inodes m new.inodes apart named made n))
-    openings slots (unnamed_inodes ∙ sym (append-nil old.unnamed_inodes)) (λ d o. refl) (λ pid o. refl) refl
-making_takes New_file d num x m old new apart named made openings slots unnamed_inodes =
+    rights openings slots (unnamed_inodes ∙ sym (append-nil old.unnamed_inodes)) (λ n o. refl) (λ d o. refl) (λ pid o. refl) refl
+making_takes New_file d num x m old new apart named made rights openings slots unnamed_inodes =
     takes_first (num ∷ []) (making New_file d x) old new (λ n. making_taken New_file d num x n (net_at old.inodes n) (net_at new.inodes n) (making_each New_file d num x old.inodes m new.inodes apart named made n))
-    openings slots (unnamed_inodes ∙ sym (append-nil old.unnamed_inodes)) (λ d o. refl) (λ pid o. refl) refl
-making_takes (New_fixed fixed) d num x m old new apart named made openings slots unnamed_inodes =
+    rights openings slots (unnamed_inodes ∙ sym (append-nil old.unnamed_inodes)) (λ n o. refl) (λ d o. refl) (λ pid o. refl) refl
+making_takes (New_fixed fixed) d num x m old new apart named made rights openings slots unnamed_inodes =
     takes_first (num ∷ []) (making (New_fixed fixed) d x) old new (λ n. making_taken (New_fixed fixed) d num x n (net_at old.inodes n) (net_at new.inodes n) (making_each (New_fixed fixed) d num x old.inodes m new.inodes apart named made n))
-    openings slots (unnamed_inodes ∙ sym (append-nil old.unnamed_inodes)) (λ d o. refl) (λ pid o. refl) refl
+    rights openings slots (unnamed_inodes ∙ sym (append-nil old.unnamed_inodes)) (λ n o. refl) (λ d o. refl) (λ pid o. refl) refl
 
 -- A name of a directory gives something else, or nothing: to the directory it adds a name where it gives something,
 abbrev came : ℕ → Option ℕ → List ℕ
@@ -270,10 +270,10 @@ linking_taken chosen d num x n s m t g l =
     }
 
 pub linking_takes : (chosen : List ℕ) (d num : ℕ) (x : Name) (m : Changes) (old new : Patches) → At d (IsNamed x (Some num)) old.inodes m → At num IsGiven m new.inodes
-    → new.openings ≡ old.openings → new.slots ≡ old.slots → new.unnamed_inodes ≡ old.unnamed_inodes → TakesIn chosen (Name_file d x num) old new
-linking_takes chosen d num x m old new named given openings slots unnamed_inodes =
+    → new.rights ≡ old.rights → new.openings ≡ old.openings → new.slots ≡ old.slots → new.unnamed_inodes ≡ old.unnamed_inodes → TakesIn chosen (Name_file d x num) old new
+linking_takes chosen d num x m old new named given rights openings slots unnamed_inodes =
     takes_first chosen (Name_file d x num) old new (λ n. linking_taken chosen d num x n (net_at old.inodes n) (net_at m n) (net_at new.inodes n) (naming_at d x (Some num) old.inodes m named n) (gaining_at num m new.inodes given n))
-    openings slots (unnamed_inodes ∙ sym (append-nil old.unnamed_inodes)) (λ d o. refl) (λ pid o. refl) refl
+    rights openings slots (unnamed_inodes ∙ sym (append-nil old.unnamed_inodes)) (λ n o. refl) (λ d o. refl) (λ pid o. refl) refl
 
 -- A name goes.
 unnaming_taken : (what : What) (chosen : List ℕ) (d num : ℕ) (x : Name) (n : ℕ) (s m t : Net) → Naming d x None n s m → Losing (num ∷ []) n m t → Taken chosen (unnaming what d x num) n s t
@@ -326,17 +326,17 @@ unnaming_taken what chosen d num x n s m t g l = by_what what
     by_what A_file = as_file
 
 pub unnaming_takes : (what : What) (chosen : List ℕ) (d num : ℕ) (x : Name) (m : Changes) (old new : Patches) → At d (IsNamed x None) old.inodes m → At num IsUnnamed m new.inodes
-    → new.openings ≡ old.openings → new.slots ≡ old.slots → new.unnamed_inodes ≡ old.unnamed_inodes ++ (num ∷ []) → TakesIn chosen (unnaming what d x num) old new
-unnaming_takes what chosen d num x m old new named unnamed openings slots unnamed_inodes = by_what what
+    → new.rights ≡ old.rights → new.openings ≡ old.openings → new.slots ≡ old.slots → new.unnamed_inodes ≡ old.unnamed_inodes ++ (num ∷ []) → TakesIn chosen (unnaming what d x num) old new
+unnaming_takes what chosen d num x m old new named unnamed rights openings slots unnamed_inodes = by_what what
   where
     each : (what : What) (n : ℕ) → Taken chosen (unnaming what d x num) n (net_at old.inodes n) (net_at new.inodes n)
     each what n = unnaming_taken what chosen d num x n (net_at old.inodes n) (net_at m n) (net_at new.inodes n) (naming_at d x None old.inodes m named n) (losing_at num m new.inodes unnamed n)
 
     as_file : TakesIn chosen (Unname_file d x num) old new
-    as_file = takes_first chosen (unnaming A_file d x num) old new (each A_file) openings slots unnamed_inodes (λ d o. refl) (λ pid o. refl) refl
+    as_file = takes_first chosen (unnaming A_file d x num) old new (each A_file) rights openings slots unnamed_inodes (λ n o. refl) (λ d o. refl) (λ pid o. refl) refl
 
     by_what : (what : What) → TakesIn chosen (unnaming what d x num) old new
-    by_what A_directory = takes_first chosen (unnaming A_directory d x num) old new (each A_directory) openings slots unnamed_inodes (λ d o. refl) (λ pid o. refl) refl
+    by_what A_directory = takes_first chosen (unnaming A_directory d x num) old new (each A_directory) rights openings slots unnamed_inodes (λ n o. refl) (λ d o. refl) (λ pid o. refl) refl
     by_what A_pipe = as_file
     by_what A_fixed = as_file
     by_what A_file = as_file
@@ -370,11 +370,11 @@ moving_taken chosen d x e y num replaced n s a b t g h l =
     }
 
 pub moving_takes : (chosen : List ℕ) (d : ℕ) (x : Name) (e : ℕ) (y : Name) (num : ℕ) (replaced : Replaced) (m : Changes) (old new : Patches) → AreNamed d x e y num old.inodes m → ((n : ℕ) → Losing (inode_replaced replaced) n (net_at m n) (net_at new.inodes n))
-    → new.openings ≡ old.openings → new.slots ≡ old.slots → new.unnamed_inodes ≡ old.unnamed_inodes ++ inode_replaced replaced → TakesIn chosen (Move d x e y num replaced) old new
-moving_takes chosen d x e y num replaced m old new moved loses openings slots unnamed_inodes =
+    → new.rights ≡ old.rights → new.openings ≡ old.openings → new.slots ≡ old.slots → new.unnamed_inodes ≡ old.unnamed_inodes ++ inode_replaced replaced → TakesIn chosen (Move d x e y num replaced) old new
+moving_takes chosen d x e y num replaced m old new moved loses rights openings slots unnamed_inodes =
     takes_first chosen (Move d x e y num replaced) old new (λ n. moving_taken chosen d x e y num replaced n (net_at old.inodes n) (net_at moved.mid n) (net_at m n) (net_at new.inodes n)
     (naming_at d x None old.inodes moved.mid moved.gone n) (naming_at e y (Some num) moved.mid m moved.come n) (loses n))
-    openings slots unnamed_inodes (λ d o. refl) (λ pid o. refl) refl
+    rights openings slots unnamed_inodes (λ n o. refl) (λ d o. refl) (λ pid o. refl) refl
 
 -- that a name moves takes no name from an inode
 pub moved_count : (d : ℕ) (x : Name) (e : ℕ) (y : Name) (num : ℕ) (s t : Changes) → AreNamed d x e y num s t → (n : ℕ) → (net_at t n).unnamed ≡ (net_at s n).unnamed

@@ -11,6 +11,7 @@ module _ (chosen : List ℕ) (p q : Patches) where
     inodes = t.inodes;
     reach = t.reach;
     pipes = t.pipes;
+    rights = t.rights;
     descriptions = t.descriptions;
     processes = t.processes;
     made = t.made;
@@ -32,6 +33,7 @@ module _ (chosen : List ℕ) (p q : Patches) where
     inodes = t.inodes;
     reach = t.reach;
     pipes = t.pipes;
+    rights = t.rights;
     descriptions = t.descriptions;
     processes = t.processes;
     made = t.made;
@@ -53,6 +55,7 @@ module _ (chosen : List ℕ) (p q : Patches) where
     inodes = t.inodes;
     reach = t.reach;
     pipes = t.pipes;
+    rights = t.rights;
     descriptions = t.descriptions;
     processes = t.processes;
     made = t.made;
@@ -74,6 +77,7 @@ module _ (chosen : List ℕ) (p q : Patches) where
     inodes = t.inodes;
     reach = t.reach;
     pipes = t.pipes;
+    rights = t.rights;
     descriptions = t.descriptions;
     processes = t.processes;
     made = t.made;
@@ -92,6 +96,7 @@ module _ (chosen : List ℕ) (p q : Patches) where
     inodes = t.inodes;
     reach = t.reach;
     pipes = t.pipes;
+    rights = t.rights;
     descriptions = t.descriptions;
     processes = t.processes;
     made = t.made;
@@ -110,6 +115,7 @@ module _ (chosen : List ℕ) (p q : Patches) where
     inodes = t.inodes;
     reach = t.reach;
     pipes = t.pipes;
+    rights = t.rights;
     descriptions = t.descriptions;
     processes = t.processes;
     made = t.made;
@@ -128,6 +134,7 @@ module _ (chosen : List ℕ) (p q : Patches) where
     inodes = t.inodes;
     reach = t.reach;
     pipes = t.pipes;
+    rights = t.rights;
     descriptions = t.descriptions;
     processes = t.processes;
     made = t.made;
@@ -146,6 +153,7 @@ module _ (chosen : List ℕ) (p q : Patches) where
     inodes = t.inodes;
     reach = t.reach;
     pipes = t.pipes;
+    rights = t.rights;
     descriptions = t.descriptions;
     processes = t.processes;
     made = t.made;
